@@ -1,0 +1,39 @@
+ghost use Rattle.std.specs.Prelude.{◌≡◌, IfOk};
+
+use std::alloc::{AllocError, Global};
+use std::marker::Model;
+use std::ops::Deref;
+
+/// An owned value that contracts see as the value itself.
+#[derive(Drop)]
+pub struct Box<T> {
+    inner: std::boxed::Box<T>,
+}
+
+impl<T> Model for Box<T> {
+    ghost Value = { T };
+
+    ghost coded = { T.code };
+
+    ghost view = { λ owner. owner.inner.value };
+}
+
+impl<T> Box<T> {
+    pub fn into_inner(self) -> T
+        ensures { result ≡ self }
+    {
+        let Box { inner } = self;
+        std::boxed::Box::into_inner(inner)
+    }
+}
+
+impl<T: Drop> Box<T> {
+    /// Fails only for want of memory, and the value is dropped then.
+    pub fn new(alloc: Global, value: T) -> Result<Box<T>, AllocError>
+        ensures { IfOk result (λ owner. owner ≡ value) }
+    {
+        Ok(Box {
+            inner: std::boxed::Box::new(alloc, value)?,
+        })
+    }
+}

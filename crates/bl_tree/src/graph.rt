@@ -1,0 +1,33 @@
+use crate::place::Place;
+
+/// What a node of a tick graph stands for (docs/LANGUAGE.md, "Tick graphs").
+#[derive(Clone, Copy, PartialEq, Eq, Debug)]
+pub enum NodeKind {
+    Act,
+    Test,
+    Pause,
+    Resume,
+    Start,
+    Head,
+    Check,
+    SurfaceEnd,
+    DepthEnd,
+    Fork,
+    SurfaceJoin,
+    DepthJoin,
+}
+
+#[derive(Clone, Copy, PartialEq, Eq, Debug)]
+pub struct Node {
+    pub place: Place,
+    pub kind: NodeKind,
+}
+
+/// 'The second node may act after the first in one tick'.
+#[derive(Clone, Copy, PartialEq, Eq, Debug)]
+pub struct Edge {
+    pub from: u32,
+    pub to: u32,
+    /// Whether the first writes what the second, in another branch, reads.
+    pub by_data: bool,
+}

@@ -1,0 +1,21 @@
+//! What every other crate speaks of: whole-number types and their arithmetic, rows and traces, and the trees
+//! of source programs and C texts. Contracts see all of it as plain data.
+#![tactic(auto)]
+
+mod boxed;
+mod list;
+mod text;
+
+pub mod c;
+pub mod graph;
+pub mod place;
+pub mod row;
+pub mod scalar;
+pub mod token;
+pub mod tree;
+
+pub use boxed::Box;
+pub use list::List;
+pub use place::{Place, Refusal};
+pub use scalar::{Op, Scalar, Width};
+pub use text::Text;

@@ -1,0 +1,164 @@
+//! The typed tree of a source program. Numbers in it are positions: of a struct or unit in the program's
+//! lists, of a field in its struct, of a variable in its unit (docs/LANGUAGE.md, "Programs").
+
+use crate::place::Place;
+use crate::scalar::{Op, Scalar};
+use crate::{Box, List, Text};
+
+#[cycle(types)]
+#[derive(Drop)]
+pub enum Ty {
+    Scalar(Scalar),
+    /// The struct at this position.
+    Struct(u32),
+    /// How many elements, and their type.
+    Array(u32, Box<Ty>),
+}
+
+#[derive(Drop)]
+pub struct StructDef {
+    pub name: Text,
+    /// That of the name.
+    pub place: Place,
+    pub fields: List<Field>,
+}
+
+#[derive(Drop)]
+pub struct Field {
+    pub name: Text,
+    pub ty: Ty,
+}
+
+#[derive(Clone, Copy, PartialEq, Eq, Debug)]
+pub enum UnitKind {
+    Function,
+    Activity,
+}
+
+/// What a variable of a unit is for.
+#[derive(Clone, Copy, PartialEq, Eq, Debug)]
+pub enum Role {
+    Input,
+    Output,
+    /// Declared by `var`.
+    Variable,
+    /// Declared by `let`.
+    Fixed,
+}
+
+#[derive(Drop)]
+pub struct Var {
+    pub name: Text,
+    /// That of the name.
+    pub place: Place,
+    pub ty: Ty,
+    pub role: Role,
+}
+
+/// A function or an activity.
+#[derive(Drop)]
+pub struct Unit {
+    pub name: Text,
+    /// That of the name.
+    pub place: Place,
+    pub kind: UnitKind,
+    /// The inputs, the outputs, then each `var` and `let` in source order.
+    pub vars: List<Var>,
+    /// How many of `vars` are inputs.
+    pub inputs: u32,
+    /// How many of `vars`, after the inputs, are outputs.
+    pub outputs: u32,
+    pub result: Option<Scalar>,
+    pub body: List<Stmt>,
+}
+
+#[cycle(expressions)]
+#[derive(Drop)]
+pub enum Part {
+    Field(u32),
+    Index(Expr),
+}
+
+/// A variable with the parts that lead into it.
+#[cycle(expressions)]
+#[derive(Drop)]
+pub struct Path {
+    pub root: u32,
+    pub parts: List<Part>,
+    /// The type of what the path names.
+    pub ty: Ty,
+}
+
+#[cycle(expressions)]
+#[derive(Drop)]
+pub struct Expr {
+    pub place: Place,
+    pub what: ExprKind,
+}
+
+#[cycle(expressions)]
+#[derive(Drop)]
+pub enum ExprKind {
+    /// A number of its type; `true` is 1 and `false` is 0.
+    Literal(i128, Scalar),
+    Read(Path),
+    /// The value that the variable had at the end of the previous tick.
+    Prev(u32),
+    One(Op, Box<Expr>),
+    Two(Op, Box<Expr>, Box<Expr>),
+    /// The target type comes first.
+    Cast(Scalar, Box<Expr>),
+    /// A function and its inputs.
+    Call(u32, List<Expr>),
+}
+
+/// One test of an `if` and what is done where it is true.
+#[cycle(statements)]
+#[derive(Drop)]
+pub struct Arm {
+    pub test: Expr,
+    pub body: List<Stmt>,
+}
+
+#[cycle(statements)]
+#[derive(Drop)]
+pub struct Branch {
+    pub weak: bool,
+    pub body: List<Stmt>,
+}
+
+/// What a `when` does where its condition is true.
+#[derive(Clone, Copy, PartialEq, Eq, Debug)]
+pub enum Guard {
+    Abort,
+    Reset,
+}
+
+#[cycle(statements)]
+#[derive(Drop)]
+pub struct Stmt {
+    pub place: Place,
+    pub what: StmtKind,
+}
+
+#[cycle(statements)]
+#[derive(Drop)]
+pub enum StmtKind {
+    /// A variable and its initial value.
+    Declare(u32, Option<Expr>),
+    Assign(Path, Expr),
+    /// A function, its inputs and its outputs.
+    Call(u32, List<Expr>, List<Path>),
+    Await(Expr),
+    /// The target, the activity, its inputs and its outputs.
+    Run(Option<Path>, u32, List<Expr>, List<Path>),
+    /// The arms in order, and what is done where no test is true.
+    If(List<Arm>, List<Stmt>),
+    Cobegin(List<Branch>),
+    When(Guard, Expr, List<Stmt>),
+    Repeat(List<Stmt>),
+    /// A loop that ends where the condition is true after its body.
+    Until(List<Stmt>, Expr),
+    While(Expr, List<Stmt>),
+    Return(Option<Expr>),
+}
