@@ -37,3 +37,13 @@ impl<T: Drop> Box<T> {
         })
     }
 }
+
+impl<T> Deref for Box<T> {
+    type Target = T;
+
+    ghost deref_gives = { λ owner value. value ≡ owner };
+
+    fn deref(&self) -> &T {
+        &self.inner
+    }
+}

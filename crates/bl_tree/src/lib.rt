@@ -4,6 +4,7 @@
 
 mod boxed;
 mod list;
+mod memory;
 mod text;
 
 pub mod c;
@@ -16,6 +17,7 @@ pub mod tree;
 
 pub use boxed::Box;
 pub use list::List;
+pub use memory::NoMemory;
 pub use place::{Place, Refusal};
 pub use scalar::{Op, Scalar, Width};
 pub use text::Text;

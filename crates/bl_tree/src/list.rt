@@ -2,6 +2,7 @@ ghost use Rattle.std.specs.Prelude.{◌≡◌, [], ◌∷◌, ◌++◌, ◌<◌,
 
 use std::alloc::{AllocError, Global};
 use std::marker::Model;
+use std::ops::DerefSlice;
 
 /// A growing list that contracts see as its elements in order, and never as pointers and capacities.
 #[derive(Drop)]
@@ -77,5 +78,15 @@ impl<T: Drop> List<T> {
         ensures { self.new ≡ slice_set self.old at element }
     {
         self.elements[at] = element;
+    }
+}
+
+impl<T> DerefSlice for List<T> {
+    type Elem = T;
+
+    ghost deref_gives = { λ list elements. elements ≡ list };
+
+    fn deref(&self) -> &[T] {
+        self.elements.as_slice()
     }
 }

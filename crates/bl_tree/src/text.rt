@@ -2,6 +2,7 @@ ghost use Rattle.std.specs.Prelude.{◌≡◌, ℕ, List, string_bytes, IfOk};
 
 use std::alloc::{AllocError, Global};
 use std::marker::Model;
+use std::ops::DerefStr;
 
 /// Text that contracts see as its bytes.
 #[derive(Drop)]
@@ -34,6 +35,14 @@ impl Text {
     pub fn as_str(&self) -> &str
         ensures { result.now ≡ self.now }
     {
+        self.text.as_str()
+    }
+}
+
+impl DerefStr for Text {
+    ghost deref_gives = { λ owner text. text ≡ owner };
+
+    fn deref(&self) -> &str {
         self.text.as_str()
     }
 }

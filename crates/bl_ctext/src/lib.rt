@@ -1,0 +1,6 @@
+//! Texts of the C subset: their trees, how they are spelled, and what they mean (docs/C_SUBSET.md).
+#![tactic(auto)]
+
+pub mod file;
+
+pub use file::CFile;
