@@ -12,7 +12,7 @@ use Rattle.bl_tree.specs.Apart.{is_apart}
 use Rattle.bl_tree.specs.Depths.{is_shallow}
 use Rattle.bl_tree.specs.Returns.{unit_returns}
 use Rattle.bl_tree.specs.Types.{type_stands, scalar_in}
-use Rattle.bl_tree.specs.Typing.{Site, fits, is_activity, is_fixed, is_inhabited, is_variable, inputs_of, outputs_of}
+use Rattle.bl_tree.specs.Typing.{fits, site_of, is_activity, is_fixed, is_inhabited, is_variable, inputs_of, outputs_of}
 use Rattle.bl_tree.specs.Words.{are_distinct, is_name}
 
 -- ---- structs
@@ -63,7 +63,7 @@ abbrev pub unit_stands : List StructDef → List UnitDef → UnitDef → Bool
 unit_stands structs earlier unit =
     (roles_stand unit && (list_all is_name (names_of unit.vars) && are_distinct (names_of (parameters_of unit))))
     && (list_all (λ var. type_stands (length structs) var.ty) unit.vars
-    && (list_all (fits (record { structs = structs; earlier = earlier; unit = unit })) unit.body
+    && (list_all (fits (site_of structs earlier unit)) unit.body
     && (unit_returns unit && (is_shallow unit.body && list_all is_apart unit.body))))
 
 -- each unit sees those before it

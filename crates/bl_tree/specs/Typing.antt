@@ -23,11 +23,17 @@ use Rattle.bl_tree.specs.Reduce.{all_of}
 use Rattle.bl_tree.specs.Scalar.{in_range, is_whole, is_bool}
 use Rattle.bl_tree.specs.Types.{same_scalar, same_type, scalar, scalar_in}
 
--- what a statement sees: the structs, the units before its own, and its own
+-- what a statement sees: the structs, the units before its own, and the kind, the variables and the result of its own
 pub record Site : Type 0 where
   pub structs : List StructDef
   pub earlier : List UnitDef
-  pub unit : UnitDef
+  pub kind : UnitKind
+  pub vars : List Var
+  pub result : Option ScalarType
+
+-- what the statements of a unit's body see
+abbrev pub site_of : List StructDef → List UnitDef → UnitDef → Site
+site_of structs earlier unit = record { structs = structs; earlier = earlier; kind = unit.kind; vars = unit.vars; result = unit.result }
 
 abbrev pub is_activity : UnitKind → Bool
 is_activity Function = false
@@ -53,7 +59,7 @@ is_fixed Fixed = true
 is_fixed _ = false
 
 abbrev pub var_at : Site → ℕ → Option Var
-var_at site k = slice_get site.unit.vars k
+var_at site k = slice_get site.vars k
 
 abbrev pub inputs_of : UnitDef → List Var
 inputs_of unit = take unit.inputs unit.vars
@@ -124,7 +130,7 @@ literal_type s fits = if fits then Some (scalar s) else None
 abbrev pub kind_type : Site → ExprKind-F (Option Ty) (Ty → Option Ty) (Option Ty) (Option Ty) → Option Ty
 kind_type site (ExprKind-F.Literal n s) = literal_type s (in_range s n)
 kind_type site (ExprKind-F.Read path) = path
-kind_type site (ExprKind-F.Prev k) = option_and_then (prev_type site.unit.kind) (var_at site k)
+kind_type site (ExprKind-F.Prev k) = option_and_then (prev_type site.kind) (var_at site k)
 kind_type site (ExprKind-F.One op a) = option_and_then (one_type op) (option_and_then scalar_in a)
 kind_type site (ExprKind-F.Two op a b) =
     option_and_then (λ s. option_and_then (two_type op s) (option_and_then scalar_in b)) (option_and_then scalar_in a)
@@ -197,7 +203,7 @@ target_fits site None (Some path) = false
 
 abbrev pub run_fits : Site → Option Path → List Expr → List Path → Option UnitDef → Bool
 run_fits site target inputs outputs (Some callee) =
-    (is_activity site.unit.kind && is_activity callee.kind)
+    (is_activity site.kind && is_activity callee.kind)
     && (target_fits site callee.result target && arguments_fit site inputs outputs callee)
 run_fits site target inputs outputs None = false
 
@@ -220,15 +226,15 @@ abbrev pub kind_fits : Site → StmtKind-F Bool Bool Bool Bool → Bool
 kind_fits site (StmtKind-F.Declare k initial) = declaration_fits site initial (var_at site k)
 kind_fits site (StmtKind-F.Assign path e) = is_assignable site path && are_same (type_of_path site path) (type_of site e)
 kind_fits site (StmtKind-F.Call f inputs outputs) = call_fits site inputs outputs (slice_get site.earlier f)
-kind_fits site (StmtKind-F.Await e) = is_activity site.unit.kind && is_truth (type_of site e)
+kind_fits site (StmtKind-F.Await e) = is_activity site.kind && is_truth (type_of site e)
 kind_fits site (StmtKind-F.Run target a inputs outputs) = run_fits site target inputs outputs (slice_get site.earlier a)
 kind_fits site (StmtKind-F.If arms other) = is_inhabited arms && (all_of arms && all_of other)
-kind_fits site (StmtKind-F.Cobegin branches) = is_activity site.unit.kind && (is_inhabited branches && all_of branches)
-kind_fits site (StmtKind-F.When guard e body) = is_activity site.unit.kind && (is_truth (type_of site e) && all_of body)
+kind_fits site (StmtKind-F.Cobegin branches) = is_activity site.kind && (is_inhabited branches && all_of branches)
+kind_fits site (StmtKind-F.When guard e body) = is_activity site.kind && (is_truth (type_of site e) && all_of body)
 kind_fits site (StmtKind-F.Repeat body) = all_of body
 kind_fits site (StmtKind-F.Until body e) = all_of body && is_truth (type_of site e)
 kind_fits site (StmtKind-F.While e body) = is_truth (type_of site e) && all_of body
-kind_fits site (StmtKind-F.Return e) = return_fits site e site.unit.result
+kind_fits site (StmtKind-F.Return e) = return_fits site e site.result
 
 abbrev pub arm_fits : Site → Arm-F Bool Bool Bool Bool → Bool
 arm_fits site arm = is_truth (type_of site arm.test) && all_of arm.body
