@@ -1,0 +1,3 @@
+pub mod Count
+pub mod Held
+pub mod Left
