@@ -4,10 +4,21 @@
 
 mod fault;
 mod files;
+mod mem_files;
+mod mem_sink;
 mod pieces;
+mod plan;
+mod rest;
 mod sink;
+mod store;
+mod sure_files;
+mod sure_sink;
 
 pub use fault::{IoFault, NoMemory};
 pub use files::Files;
+pub use mem_files::MemFiles;
+pub use mem_sink::MemSink;
 pub use pieces::{PIECE, read_up_to, write_all};
 pub use sink::Sink;
+pub use sure_files::SureFiles;
+pub use sure_sink::SureSink;
