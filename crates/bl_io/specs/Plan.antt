@@ -1,9 +1,9 @@
 -- Which calls of an object over memory fail, and what was counted so far.
-use Rattle.std.specs.Prelude.{ℕ, ◌+◌, ◌-◌, ◌^◌, min, Bool, refl}
+use Rattle.std.specs.Prelude.{ℕ, ◌-◌, ◌^◌, Bool, refl}
 use Rattle.std.specs.Coded.{Coded, code_by, coded×, coded_ℕ}
 use Rattle.std.specs.FinSet as set
 use Rattle.std.specs.Ordering.{nat_cmp}
-use Rattle.bl_io.specs.Count.{last_count}
+use Rattle.bl_io.specs.Count.{count_up}
 
 -- the numbers of the calls that fail, the calls and the faults so far, and the most bytes of a call
 pub record FaultPlan : Type 0 where
@@ -27,10 +27,6 @@ no_limit = 2 ^ 64 - 1
 -- no call was made, none fails, and each moves as much as it is asked for
 abbrev pub no_plan : FaultPlan
 no_plan = record { failing = set.empty; calls = 0; most = no_limit; faults = 0 }
-
--- a counter of 64 bits goes up by one, and stays at its end
-abbrev pub count_up : ℕ → ℕ
-count_up n = min (n + 1) last_count
 
 -- whether the next call is one of those that fail
 abbrev pub fails_next : FaultPlan → Bool

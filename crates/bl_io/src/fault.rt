@@ -1,6 +1,4 @@
 // Why a call on a file or a sink gave nothing.
-ghost use Rattle.std.specs.Prelude.{◌≡◌};
-
 use std::alloc::{AllocError, AllocFailed};
 use thiserror::Error;
 
@@ -20,11 +18,23 @@ pub enum IoFault {
 pub struct NoMemory;
 
 impl From<AllocError> for IoFault {
+    ghost use Rattle.std.specs.Prelude.{◌≡◌};
     ghost use Rattle.bl_io.specs.declared.fault.IoFault.TheVariants.{NoMemory};
 
     ghost from_gives = { λ _ e. e ≡ NoMemory };
 
     fn from(_e: AllocError) -> IoFault {
+        IoFault::NoMemory
+    }
+}
+
+impl<T: Drop> From<AllocFailed<T>> for IoFault {
+    ghost use Rattle.std.specs.Prelude.{◌≡◌};
+    ghost use Rattle.bl_io.specs.declared.fault.IoFault.TheVariants.{NoMemory};
+
+    ghost from_gives = { λ _ e. e ≡ NoMemory };
+
+    fn from(_e: AllocFailed<T>) -> IoFault {
         IoFault::NoMemory
     }
 }

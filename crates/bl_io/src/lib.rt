@@ -4,6 +4,8 @@
 
 mod fault;
 mod files;
+mod host_files;
+mod host_sink;
 mod mem_files;
 mod mem_sink;
 mod pieces;
@@ -16,9 +18,14 @@ mod sure_sink;
 
 pub use fault::{IoFault, NoMemory};
 pub use files::Files;
+pub use host_files::HostFiles;
+pub use host_sink::HostSink;
 pub use mem_files::MemFiles;
 pub use mem_sink::MemSink;
 pub use pieces::{PIECE, read_up_to, write_all};
 pub use sink::Sink;
 pub use sure_files::SureFiles;
 pub use sure_sink::SureSink;
+
+#[cfg(test)]
+mod tests;
