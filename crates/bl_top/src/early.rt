@@ -55,7 +55,7 @@ fn looping_body(alloc: Global, cursor: &mut Cursor, params: &Params) -> Result<S
     let end = cursor.word(word::END)?.end;
     Ok(Stmt {
         place: Place { start, end },
-        what: StmtKind::Repeat(List::from_vec(body)),
+        what: StmtKind::Repeat(body),
     })
 }
 
@@ -78,7 +78,7 @@ fn activity(
         name,
         place,
         kind: UnitKind::Activity,
-        vars: List::from_vec(vars),
+        vars,
         inputs,
         outputs,
         result: None,

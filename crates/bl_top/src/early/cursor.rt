@@ -3,6 +3,7 @@ use bl_tree::place::Place;
 use bl_tree::token::{Token, TokenKind};
 
 /// The tokens of a text, from one of them on. A call that doesn't find what it looks for ends the recognition.
+#[derive(Drop)]
 pub struct Cursor<'a> {
     text: &'a [u8],
     tokens: &'a [Token],

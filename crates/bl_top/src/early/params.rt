@@ -1,7 +1,7 @@
 use super::cursor::{Cursor, Name};
 use crate::stop::Stop;
 use bl_lex::{sign, word};
-use bl_tree::Text;
+use bl_tree::{List, Text};
 use bl_tree::scalar::{Scalar, Width};
 use bl_tree::token::TokenKind;
 use bl_tree::tree::{Role, Ty, Var};
@@ -16,7 +16,7 @@ const MOST: usize = 1_000;
 pub struct Params {
     /// The names of `vars` in order.
     pub names: IndexSet<String>,
-    pub vars: Vec<Var>,
+    pub vars: List<Var>,
     pub inputs: u32,
     pub outputs: u32,
 }
@@ -25,7 +25,7 @@ impl Params {
     pub fn read(alloc: Global, cursor: &mut Cursor) -> Result<Params, Stop> {
         let mut params = Params {
             names: IndexSet::new(alloc),
-            vars: Vec::new(alloc),
+            vars: List::new(alloc),
             inputs: 0,
             outputs: 0,
         };

@@ -3,7 +3,7 @@ use super::items::{self, Item, variable};
 use super::params::Params;
 use crate::stop::Stop;
 use bl_lex::{sign, word};
-use bl_tree::Box;
+use bl_tree::{Box, List};
 use bl_tree::place::Place;
 use bl_tree::scalar::{Op, Scalar, Width};
 use bl_tree::token::TokenKind;
@@ -14,8 +14,8 @@ use std::alloc::Global;
 const MOST: usize = 1_000;
 
 /// Reads the sets and awaits of the loop, up to its `end`.
-pub fn read(alloc: Global, cursor: &mut Cursor, params: &Params) -> Result<Vec<Stmt>, Stop> {
-    let mut statements = Vec::new(alloc);
+pub fn read(alloc: Global, cursor: &mut Cursor, params: &Params) -> Result<List<Stmt>, Stop> {
+    let mut statements = List::new(alloc);
     let mut awaits = false;
     while let Some(token) = cursor.peek() {
         if statements.len() >= MOST || token.kind == TokenKind::Word(word::END) {

@@ -1,0 +1,22 @@
+-- The line on `notes` that goes with each status.
+use Rattle.std.specs.Prelude.{◌≡◌, ℕ, List, [], ◌∷◌, ◌++◌, Option, codes}
+use Rattle.bl_io.specs.Held.{Appends, AppendsPart}
+use Rattle.bl_top.specs.declared.status.Status.{Status}
+use Rattle.bl_top.specs.declared.status.Status.TheVariants as status
+use Rattle.bl_words.specs.Usage.{usage_line}
+
+-- the line of a status, with its line feed; none where it has none of its own
+abbrev pub line_of : Status → List ℕ
+line_of status.Ok = []
+line_of status.Usage = usage_line
+line_of status.ReadFault = codes "read fault" ++ 10 ∷ []
+line_of status.WriteFault = []
+line_of status.NoMemory = codes "no memory" ++ 10 ∷ []
+line_of status.Unbuilt = codes "not built" ++ 10 ∷ []
+
+-- what `notes` hold after a call that ended with the status: the status's line, or, where a line could not be written
+-- whole, a front of it
+pub data Noted : Option (List ℕ) → Status → Option (List ℕ) → Type 0 where
+  whole : (before after : Option (List ℕ)) (ended : Status) → Appends before (line_of ended) after → Noted before ended after
+  fault : (before after : Option (List ℕ)) (meant : Status) → AppendsPart before (line_of meant) after → Noted before status.WriteFault after
+  refused : (before after : Option (List ℕ)) (meant : Status) → AppendsPart before (line_of meant) after → Noted before status.NoMemory after
