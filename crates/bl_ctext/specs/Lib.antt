@@ -1,3 +1,4 @@
+pub mod Cut
 pub mod Names
 pub mod Prelude
 pub mod Spellable

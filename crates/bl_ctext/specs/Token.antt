@@ -21,7 +21,7 @@ is_sign_byte b = any_of (map (λ s. b == s) (40 ∷ 41 ∷ 91 ∷ 93 ∷ 123 ∷
 
 -- whether the two bytes are one of `== != <= >= && ||`
 abbrev pub is_double_sign : ℕ → ℕ → Bool
-is_double_sign a b = b == 61 && (a == 61 || a == 33 || a == 60 || a == 62) || (a == 38 && b == 38 || a == 124 && b == 124)
+is_double_sign a b = (a == 61 || a == 33 || a == 60 || a == 62) && b == 61 || (a == 38 && b == 38 || a == 124 && b == 124)
 
 -- a run of letters, digits and `_`
 abbrev pub is_word : Token → Bool

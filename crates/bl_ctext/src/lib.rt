@@ -2,7 +2,10 @@
 #![tactic(auto)]
 
 pub mod file;
-mod prelude;
+mod prelude_text;
+mod printer;
+mod writer;
 
 pub use file::CFile;
-pub use prelude::PRELUDE;
+pub use prelude_text::PRELUDE;
+pub use printer::print;
