@@ -1,5 +1,6 @@
 -- The line on `notes` that goes with each status.
 use Rattle.std.specs.Prelude.{◌≡◌, ℕ, List, [], ◌∷◌, ◌++◌, Option, codes}
+use Rattle.bl_io.specs.Count.{Rose}
 use Rattle.bl_io.specs.Held.{Appends, AppendsPart}
 use Rattle.bl_top.specs.declared.status.Status.{Status}
 use Rattle.bl_top.specs.declared.status.Status.TheVariants as status
@@ -20,3 +21,9 @@ pub data Noted : Option (List ℕ) → Status → Option (List ℕ) → Type 0 w
   whole : (before after : Option (List ℕ)) (ended : Status) → Appends before (line_of ended) after → Noted before ended after
   fault : (before after : Option (List ℕ)) (meant : Status) → AppendsPart before (line_of meant) after → Noted before status.WriteFault after
   refused : (before after : Option (List ℕ)) (meant : Status) → AppendsPart before (line_of meant) after → Noted before status.NoMemory after
+
+-- the status after its line was to be written: the same, or, where a write failed, that of the write
+pub data IsEndOf (old new : ℕ) : Status → Status → Type 0 where
+  same : (ended : Status) → IsEndOf old new ended ended
+  failed : (meant : Status) → Rose old new → IsEndOf old new meant status.WriteFault
+  refused : (meant : Status) → IsEndOf old new meant status.NoMemory
