@@ -10,7 +10,11 @@ pub fn with_note<N: Sink>(status: Status, notes: &mut N) -> Status
     ensures ends { IsEndOf (N.faults notes.old) (N.faults notes.new) status result }
     ensures count { N.faults notes.old ≤ N.faults notes.new }
 {
-    match write_all(notes, line_of(status).as_bytes()) {
+    let line = line_of(status);
+    if line.is_empty() {
+        return status;
+    }
+    match write_all(notes, line.as_bytes()) {
         Ok(()) => status,
         Err(IoFault::Failed) => Status::WriteFault,
         Err(IoFault::NoMemory) => Status::NoMemory,
