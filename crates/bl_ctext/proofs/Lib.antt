@@ -2,3 +2,4 @@ pub mod Bytes
 pub mod Cutting
 pub mod Longest
 pub mod Texts
+pub mod Words

@@ -3,6 +3,7 @@ use Rattle.std.proofs.Common.{◌≡◌, ℕ, ◌+◌, ◌-◌, ◌≤◌, ◌<�
 use Rattle.std.proofs.lemmas.List.{drop-append-le}
 use Rattle.bl_tree.specs.Reduce.{all_of}
 use Rattle.bl_ctext.specs.Prelude.{prelude}
+use Rattle.bl_ctext.specs.declared.prelude_text.TheConstants.{PRELUDE}
 use Rattle.bl_ctext.specs.Token.{Token, is_token, SpacedC}
 use Rattle.bl_ctext.specs.Cut.{tokens_in, meets, are_tokens, parted, behind_prelude, IsText}
 use Rattle.bl_ctext.proofs.Bytes.{both, and-fst, and-snd}
@@ -79,3 +80,32 @@ same_text bytes front text e = let P : List ℕ → Type 0 = λ xs. IsText xs in
 
 pub text_spells : (bytes : List ℕ) → IsText bytes → (text : List ℕ) × ((bytes ≡ prelude ++ text) × SpacedC (tokens_in (behind_prelude bytes)) text)
 text_spells bytes text = (behind_prelude bytes, (text.begins, spaced (behind_prelude bytes) text.tokens))
+
+nothing_behind : (xs : List ℕ) → drop (length xs) xs ≡ []
+nothing_behind [] = refl
+nothing_behind (x ∷ xs) = nothing_behind xs
+
+behind_itself : behind_prelude prelude ≡ []
+unfolding behind_prelude
+behind_itself = nothing_behind prelude
+
+no_tokens : (bytes : List ℕ) → bytes ≡ prelude → tokens_in (behind_prelude bytes) ≡ []
+no_tokens bytes e = ap (λ (xs : List ℕ). tokens_in (behind_prelude xs)) e ∙ ap tokens_in behind_itself
+
+-- the prelude alone is a text without tokens
+pub record Fresh (bytes : List ℕ) : Type 0 where
+  pub text : IsText bytes
+  pub tokens : tokens_in (behind_prelude bytes) ≡ []
+
+pub fresh : (bytes : List ℕ) → bytes ≡ prelude → Fresh bytes
+fresh bytes e =
+    let P : List Token → Type 0 = λ ts. are_tokens ts ≡ true in
+    record {
+      text = record {
+        begins = e ∙ (sym (append-nil prelude) ∙ ap (λ (xs : List ℕ). prelude ++ xs) (sym (ap behind_prelude e ∙ behind_itself)));
+        tokens = subst P (sym (no_tokens bytes e)) refl };
+      tokens = no_tokens bytes e }
+
+pub prelude_bytes : PRELUDE.now ≡ prelude
+unfolding prelude
+prelude_bytes = refl
