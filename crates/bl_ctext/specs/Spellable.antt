@@ -192,9 +192,13 @@ abbrev pub most_open : ℕ → List Token → ℕ
 most_open n [] = n
 most_open n (token ∷ tokens) = max n (most_open (open_behind n token) tokens)
 
+-- at most 2,000 brackets are open at once
+abbrev pub shallow : List CStruct → List CFunc → Bool
+shallow structs funcs = nat_le (most_open 0 (tokens_of structs funcs)) 2000
+
 -- Whether a text of these structs and functions has a spelling: it has a struct and a function, each struct has a member,
 -- all names, literals, types, operators and lengths are some of the subset's, and at most 2,000 brackets are open at once.
 abbrev pub is_spellable : List CStruct → List CFunc → Bool
 is_spellable structs funcs =
     has_any structs && (has_any funcs && (all_of (map spells_struct structs) && (all_of (map spells_func funcs) &&
-      nat_le (most_open 0 (tokens_of structs funcs)) 2000)))
+      shallow structs funcs)))

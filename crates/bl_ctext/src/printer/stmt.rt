@@ -108,12 +108,19 @@ fn declare_turn(out: &mut Writer, turn: &Text, level: u8) -> Result<(), NoMemory
     ensures { OnOk result (out.new ≡ out.old ++ turn_declared turn.now) }
 {
     out.write("{")?;
-    out.line(level.saturating_add(1))?;
-    out.write("uint32_t ")?;
-    name::turn_name(out, turn.as_str())?;
-    out.write(" = 0;")?;
+    first_turn(out, turn.as_str(), level.saturating_add(1))?;
     out.line(level.saturating_add(1))?;
     out.write("while ")
+}
+
+fn first_turn(out: &mut Writer, turn: &str, level: u8) -> Result<(), NoMemory>
+    requires { IsTrue (is_turn_name turn.now) }
+    ensures { OnOk result (out.new ≡ out.old ++ codes "uint32_t" ∷ turn.now ∷ codes "=" ∷ codes "0" ∷ codes ";" ∷ []) }
+{
+    out.line(level)?;
+    out.write("uint32_t ")?;
+    name::turn_name(out, turn)?;
+    out.write(" = 0;")
 }
 
 fn count_turn(out: &mut Writer, turn: &Text, level: u8) -> Result<(), NoMemory>
@@ -122,9 +129,16 @@ fn count_turn(out: &mut Writer, turn: &Text, level: u8) -> Result<(), NoMemory>
 {
     out.write("{")?;
     out.line(level.saturating_add(2))?;
-    name::turn_name(out, turn.as_str())?;
+    next_turn(out, turn.as_str())
+}
+
+fn next_turn(out: &mut Writer, turn: &str) -> Result<(), NoMemory>
+    requires { IsTrue (is_turn_name turn.now) }
+    ensures { OnOk result (out.new ≡ out.old ++ turn.now ∷ codes "=" ∷ codes "bl_turn" ∷ codes "(" ∷ turn.now ∷ codes ")" ∷ codes ";" ∷ []) }
+{
+    name::turn_name(out, turn)?;
     out.write(" = bl_turn(")?;
-    name::turn_name(out, turn.as_str())?;
+    name::turn_name(out, turn)?;
     out.write(");")
 }
 
