@@ -3,7 +3,7 @@ use Rattle.std.proofs.Common.{◌≡◌, ℕ, ◌+◌, ◌-◌, ◌≤◌, ◌<�
 use Rattle.std.proofs.lemmas.List.{drop-append-le}
 use Rattle.bl_tree.specs.Reduce.{all_of}
 use Rattle.bl_ctext.specs.Prelude.{prelude}
-use Rattle.bl_ctext.specs.declared.prelude_text.TheConstants.{PRELUDE}
+use Rattle.bl_ctext.specs.declared.prelude.TheConstants.{PRELUDE}
 use Rattle.bl_ctext.specs.Token.{Token, is_token, SpacedC}
 use Rattle.bl_ctext.specs.Cut.{tokens_in, meets, are_tokens, parted, behind_prelude, IsText}
 use Rattle.bl_ctext.proofs.Bytes.{both, and-fst, and-snd}

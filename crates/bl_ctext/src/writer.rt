@@ -3,7 +3,7 @@ ghost use Rattle.bl_ctext.specs.Prelude.{prelude};
 ghost use Rattle.bl_ctext.specs.Token.{is_token, is_word_byte as word_byte, is_double_sign as double_sign, SpacedC};
 ghost use Rattle.bl_ctext.specs.Cut.{joins, meets, tokens_in, are_tokens, parted};
 
-use crate::prelude_text::PRELUDE;
+use crate::prelude::PRELUDE;
 use bl_tree::NoMemory;
 use std::alloc::{AllocError, Global};
 use std::marker::Model;
