@@ -1,9 +1,8 @@
 -- Which bytes may stand side by side in one token.
-use Rattle.std.proofs.Common.{◌≡◌, ◌⊎◌, ℕ, suc, ◌+◌, ◌≤◌, ◌<◌, Bool, true, false, ◌&&◌, ◌||◌, ◌==◌, List, [], ◌∷◌, ◌++◌, length, map, refl, sym, ◌∙◌, ap, subst, inl, inr, arith}
+use Rattle.std.proofs.Common.{◌≡◌, ◌⊎◌, ℕ, Bool, true, false, ◌&&◌, ◌||◌, refl, inl, inr, arith}
 use Rattle.std.proofs.Math.Bool.{and-false}
 use Rattle.std.proofs.lemmas.Bool.Decides.{nat_tests}
-use Rattle.bl_tree.specs.Reduce.{all_of}
-use Rattle.bl_ctext.specs.Token.{is_blank, is_word_byte, is_double_sign, is_sign_byte, is_word, is_sign, is_token}
+use Rattle.bl_ctext.specs.Token.{is_blank, is_word_byte, is_sign_byte}
 use Rattle.bl_ctext.specs.Cut.{joins}
 
 pub and-fst : (a b : Bool) → (a && b) ≡ true → a ≡ true
@@ -49,9 +48,10 @@ not_true true h = absurd (h refl)
 not_true false h = refl
 
 pub joined-not_blank : (a b : ℕ) → joins a b ≡ true → (is_blank a ≡ false) × (is_blank b ≡ false)
-joined-not_blank a b h =
-    (not_true (is_blank a) (λ (k : is_blank a ≡ true). let e = blank-joins a b k in cc),
-      not_true (is_blank b) (λ (k : is_blank b ≡ true). let e = joins-blank a b k in cc))
+joined-not_blank a b h = (
+  not_true (is_blank a) (λ (k : is_blank a ≡ true). let e = blank-joins a b k in cc),
+  not_true (is_blank b) (λ (k : is_blank b ≡ true). let e = joins-blank a b k in cc),
+)
 
 no_word : (a : ℕ) → is_blank a ≡ true → is_word_byte a ≡ false
 no_word a h = elim (blank_is a h) [ inl e ↦ rw e refl | inr e ↦ rw e refl ]

@@ -1,10 +1,10 @@
 -- What becomes of the tokens where bytes are put together.
-use Rattle.std.proofs.Common.{◌≡◌, ◌⊎◌, ℕ, zero, suc, ◌+◌, ◌-◌, ◌≤◌, ◌<◌, Bool, true, false, ◌&&◌, ◌||◌, ◌==◌, List, [], ◌∷◌, ◌++◌, length, map, drop, Option, Some, None, cond, refl, append-nil, sym, ◌∙◌, ap, subst, inl, inr, arith}
+use Rattle.std.proofs.Common.{◌≡◌, ℕ, zero, suc, ◌-◌, Bool, true, false, List, [], ◌∷◌, ◌++◌, length, map, drop, Some, None, refl, append-nil, ◌∙◌, ap, inl, inr}
 use Rattle.std.specs.Prelude.{slice_get}
 use native.Mathlib.Numerals.{unary_clauses}
 use Rattle.bl_tree.specs.Reduce.{all_of}
 use Rattle.bl_ctext.specs.Token.{Token, is_blank, is_word_byte, is_word, is_sign, is_token}
-use Rattle.bl_ctext.specs.Cut.{joins, goes_on, put_before, cut_before, tokens_in, meets}
+use Rattle.bl_ctext.specs.Cut.{joins, goes_on, cut_before, tokens_in, meets}
 use Rattle.bl_ctext.proofs.Bytes.{joined-not_blank, joins-blank, word_byte-not_blank, sign_byte-not_blank, and-fst, and-snd, both, either, or-fst, or-snd}
 
 -- whether the last byte of the first and the first of the second join

@@ -1,5 +1,5 @@
 -- How deep brackets stand in a list of tokens.
-use Rattle.std.proofs.Common.{◌≡◌, ℕ, suc, ◌+◌, ◌-◌, max, ◌≤◌, ◌<◌, Bool, true, false, cond, List, [], ◌∷◌, ◌++◌, length, refl, arith}
+use Rattle.std.proofs.Common.{ℕ, ◌+◌, ◌-◌, ◌≤◌, Bool, true, false, cond, List, [], ◌∷◌, length, arith}
 use Rattle.bl_ctext.specs.Token.{Token}
 use Rattle.bl_ctext.specs.Spellable.{is_opening, is_closing, open_behind, most_open}
 

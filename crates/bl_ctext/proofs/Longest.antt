@@ -1,7 +1,7 @@
 -- Bytes are spaced tokens, each the longest at its place, where they are cut as the writer cuts them.
-use Rattle.std.proofs.Common.{◌≡◌, ◌⊎◌, ℕ, zero, suc, ◌+◌, ◌≤◌, ◌<◌, Bool, true, false, ◌&&◌, ◌||◌, IsTrue, List, [], ◌∷◌, ◌++◌, length, map, refl, append-nil, sym, ◌∙◌, ap, subst, inl, inr, arith}
+use Rattle.std.proofs.Common.{◌≡◌, ◌⊎◌, ℕ, ◌≤◌, Bool, true, false, ◌&&◌, List, [], ◌∷◌, ◌++◌, length, map, refl, sym, ap, subst, inl, inr, arith}
 use Rattle.bl_tree.specs.Reduce.{all_of}
-use Rattle.bl_ctext.specs.Token.{Token, is_blank, is_word_byte, is_double_sign, is_word, is_sign, is_token, IsLongest, Begins, SpacedC}
+use Rattle.bl_ctext.specs.Token.{Token, is_blank, is_word_byte, is_double_sign, is_word, is_sign, is_token, IsLongest, SpacedC}
 use Rattle.bl_ctext.specs.Cut.{joins, goes_on, put_before, cut_before, tokens_in, meets, are_tokens}
 use Rattle.bl_ctext.proofs.Bytes.{and-fst, and-snd, both, either, or-fst, or-snd, joined-not_blank}
 use Rattle.bl_ctext.proofs.Cutting.{first_token}
@@ -92,18 +92,20 @@ beyond (a ∷ t) (x ∷ xs) behind after e =
     let same : x ≡ a = cc in
     let tails : xs ++ behind ≡ t ++ after = cc in
     elim (beyond t xs behind after tails) [
-      inl short ↦ inl (omega arith)
-    | inr on ↦ inr (record { c = on.c; more = on.more; rest = on.rest; long = rw (same, on.long) refl; next = on.next }) ]
+      | inl short ↦ inl (omega arith)
+      | inr on ↦ inr (record { c = on.c; more = on.more; rest = on.rest; long = rw (same, on.long) refl; next = on.next })
+    ]
 
 longest : (t after : List ℕ) (first : ℕ) (others : List ℕ) → t ≡ first ∷ others → meets t after ≡ false → IsLongest t after
 longest t after first others e apart longer behind same token =
     elim (beyond t longer behind after same) [
-      inl short ↦ short
-    | inr on ↦
-        let whole : is_token (t ++ (on.c ∷ on.more)) ≡ true = rw on.long at token in
-        let met : meets t (on.c ∷ on.rest) ≡ true = longer_meets t on.c on.more on.rest whole first others e in
-        let not_met : meets t (on.c ∷ on.rest) ≡ false = rw on.next at apart in
-        cc ]
+      | inl short ↦ short
+      | inr on ↦
+          let whole : is_token (t ++ (on.c ∷ on.more)) ≡ true = rw on.long at token in
+          let met : meets t (on.c ∷ on.rest) ≡ true = longer_meets t on.c on.more on.rest whole first others e in
+          let not_met : meets t (on.c ∷ on.rest) ≡ false = rw on.next at apart in
+          cc
+    ]
 
 spaced_cuts : (ts : List Token) (bs : List ℕ) → are_tokens ts ≡ true → Cuts ts bs → SpacedC ts bs
 spaced_cuts [] bs h cuts = cuts

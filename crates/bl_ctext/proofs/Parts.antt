@@ -16,9 +16,9 @@ at_most a b h = grind (arith, nat_tests)
 pub spellable-funcs : (structs : List CStruct) (funcs : List CFunc) → is_spellable structs funcs ≡ true → all_of (map spells_func funcs) ≡ true
 spellable-funcs structs funcs h =
     let behind_structs : (has_any funcs && (all_of (map spells_struct structs) && (all_of (map spells_func funcs) && shallow structs funcs))) ≡ true =
-      and-snd (has_any structs) _ h in
+    and-snd (has_any structs) _ h in
     let behind_any : (all_of (map spells_struct structs) && (all_of (map spells_func funcs) && shallow structs funcs)) ≡ true =
-      and-snd (has_any funcs) _ behind_structs in
+    and-snd (has_any funcs) _ behind_structs in
     let both_left : (all_of (map spells_func funcs) && shallow structs funcs) ≡ true = and-snd (all_of (map spells_struct structs)) _ behind_any in
     and-fst (all_of (map spells_func funcs)) (shallow structs funcs) both_left
 

@@ -1,13 +1,12 @@
 -- The writer's text: the prelude, and tokens behind it.
-use Rattle.std.proofs.Common.{◌≡◌, ℕ, ◌+◌, ◌-◌, ◌≤◌, ◌<◌, Bool, true, false, cond, ◌&&◌, IsTrue, List, [], ◌∷◌, ◌++◌, length, drop, map, refl, append-nil, append_assoc, length-append, sym, ◌∙◌, ap, subst, arith}
+use Rattle.std.proofs.Common.{◌≡◌, ℕ, ◌≤◌, Bool, true, false, cond, List, [], ◌∷◌, ◌++◌, length, drop, refl, append-nil, append_assoc, length-append, sym, ◌∙◌, ap, subst, arith}
 use Rattle.std.proofs.lemmas.List.{drop-append-le}
-use Rattle.bl_tree.specs.Reduce.{all_of}
 use Rattle.bl_ctext.specs.Prelude.{prelude}
 use Rattle.bl_ctext.specs.declared.prelude.TheConstants.{PRELUDE}
-use Rattle.bl_ctext.specs.Token.{Token, is_token, SpacedC}
+use Rattle.bl_ctext.specs.Token.{Token, SpacedC}
 use Rattle.bl_ctext.specs.Cut.{tokens_in, meets, are_tokens, parted, behind_prelude, IsText}
 use Rattle.bl_ctext.proofs.Bytes.{both, and-fst, and-snd}
-use Rattle.bl_ctext.proofs.Cutting.{meets-space, before_a_space, meets-drop, tokens_in-append, tokens_in-space}
+use Rattle.bl_ctext.proofs.Cutting.{meets-space, before_a_space, meets-drop, tokens_in-append}
 use Rattle.bl_ctext.proofs.Longest.{spaced}
 
 are_tokens-append : (xs ys : List Token) → are_tokens xs ≡ true → are_tokens ys ≡ true → are_tokens (xs ++ ys) ≡ true
@@ -31,11 +30,14 @@ grows_by : (bytes next : List ℕ) → IsText bytes → meets bytes next ≡ fal
 grows_by bytes next text apart tokens =
     let behind : behind_prelude (bytes ++ next) ≡ behind_prelude bytes ++ next = behind-append bytes next text in
     let sum : tokens_in (behind_prelude (bytes ++ next)) ≡ tokens_in (behind_prelude bytes) ++ tokens_in next =
-      ap tokens_in behind ∙ tokens_in-append (behind_prelude bytes) next (apart_behind bytes next apart) in
-    let P : List Token → Type 0 = λ ts. are_tokens ts ≡ true in
-    (sum, record {
-      begins = ap (λ (xs : List ℕ). xs ++ next) text.begins ∙ (append_assoc prelude (behind_prelude bytes) next ∙ ap (λ (xs : List ℕ). prelude ++ xs) (sym behind));
-      tokens = subst P (sym sum) (are_tokens-append (tokens_in (behind_prelude bytes)) (tokens_in next) text.tokens tokens) })
+    ap tokens_in behind ∙ tokens_in-append (behind_prelude bytes) next (apart_behind bytes next apart) in
+    let P : List Token → Type 0 = λ ts. are_tokens ts ≡ true in (
+      sum,
+      record {
+        begins = ap (λ (xs : List ℕ). xs ++ next) text.begins ∙ (append_assoc prelude (behind_prelude bytes) next ∙ ap (λ (xs : List ℕ). prelude ++ xs) (sym behind));
+        tokens = subst P (sym sum) (are_tokens-append (tokens_in (behind_prelude bytes)) (tokens_in next) text.tokens tokens);
+      },
+    )
 
 -- after a space, where it is wanted, the text is one still, has the same tokens, and the next bytes go on none of them
 pub record Parted (bytes next front : List ℕ) : Type 0 where
@@ -103,8 +105,10 @@ fresh bytes e =
     record {
       text = record {
         begins = e ∙ (sym (append-nil prelude) ∙ ap (λ (xs : List ℕ). prelude ++ xs) (sym (ap behind_prelude e ∙ behind_itself)));
-        tokens = subst P (sym (no_tokens bytes e)) refl };
-      tokens = no_tokens bytes e }
+        tokens = subst P (sym (no_tokens bytes e)) refl;
+      };
+      tokens = no_tokens bytes e;
+    }
 
 pub prelude_bytes : PRELUDE.now ≡ prelude
 unfolding prelude

@@ -1,16 +1,14 @@
 -- Names and numbers are words.
-use Rattle.std.proofs.Common.{◌≡◌, ◌⊎◌, ℕ, ◌+◌, ◌*◌, ◌/◌, ◌%◌, ◌^◌, ◌≤◌, ◌<◌, Bool, true, false, ◌&&◌, ◌||◌, ◌==◌, nat_eq, List, [], ◌∷◌, ◌++◌, map, refl, sym, ◌∙◌, ap, subst, inl, inr, arith}
-use Rattle.std.proofs.Math.Nat.{mod-lt}
+use Rattle.std.proofs.Common.{◌≡◌, ℕ, ◌+◌, ◌%◌, ◌^◌, ◌≤◌, ◌<◌, true, nat_eq, List, [], ◌∷◌, ◌++◌, map, refl, subst, inl, inr, arith}
 use Rattle.std.proofs.lemmas.Bool.Decides.{nat_tests}
 use Rattle.std.proofs.lemmas.Fmt.{decimal_by_steps}
 use Rattle.std.specs.Cmp.Lexicographic.{pointwise}
-use Rattle.std.specs.Char.{is_ascii_digit}
 use Rattle.std.specs.Fmt.{decimal}
-use Rattle.bl_tree.specs.Reduce.{all_of, any_of}
+use Rattle.bl_tree.specs.Reduce.{all_of}
 use Rattle.bl_ctext.specs.Token.{Token, is_word_byte, is_word, is_sign, is_token}
 use Rattle.bl_ctext.specs.Names.{is_among, is_name, is_struct_name, is_function_name, is_callee, is_turn_name, prelude_functions}
 use Rattle.bl_ctext.specs.Cut.{tokens_in, are_tokens}
-use Rattle.bl_ctext.proofs.Bytes.{and-fst, and-snd, both, either, or-fst, or-snd}
+use Rattle.bl_ctext.proofs.Bytes.{and-fst, and-snd, both, either, or-fst}
 use Rattle.bl_ctext.proofs.Cutting.{tokens_in-token}
 
 pub are_tokens-one : (t : Token) → is_token t ≡ true → are_tokens (tokens_in t) ≡ true
@@ -33,8 +31,9 @@ unfolding is_among
 among-token word [] h k = cc
 among-token word (w ∷ words) h k =
     elim (either (pointwise nat_eq w word) (is_among word words) h) [
-      inl same ↦ subst (λ (t : Token). is_token t ≡ true) (same_bytes w word same) (and-fst _ _ k)
-    | inr other ↦ among-token word words other (and-snd _ _ k) ]
+      | inl same ↦ subst (λ (t : Token). is_token t ≡ true) (same_bytes w word same) (and-fst _ _ k)
+      | inr other ↦ among-token word words other (and-snd _ _ k)
+    ]
 
 pub name-token : (word : Token) → is_name word ≡ true → is_token word ≡ true
 unfolding is_name
@@ -81,8 +80,8 @@ last_digit m = omega arith
 decimal-word : (n : ℕ) → n < 2 ^ 64 → is_word (decimal n) ≡ true
 decimal-word n h =
     decimal_by_steps (λ (m : ℕ) (digits : List ℕ). is_word digits ≡ true)
-      (λ (m : ℕ) (small : m < 10). both (is_word_byte (48 + m)) true (digit-word_byte m small) refl)
-      (λ (m : ℕ) (digits : List ℕ) (big : 10 ≤ m) (word : is_word digits ≡ true). word-append digits (48 + m % 10) word (digit-word_byte (m % 10) (last_digit m))) n h
+    (λ (m : ℕ) (small : m < 10). both (is_word_byte (48 + m)) true (digit-word_byte m small) refl)
+    (λ (m : ℕ) (digits : List ℕ) (big : 10 ≤ m) (word : is_word digits ≡ true). word-append digits (48 + m % 10) word (digit-word_byte (m % 10) (last_digit m))) n h
 
 pub decimal-token : (n : ℕ) → n < 2 ^ 64 → is_token (decimal n) ≡ true
 decimal-token n h = or-fst (is_word (decimal n)) (is_sign (decimal n)) (decimal-word n h)

@@ -5,11 +5,10 @@ ghost use Rattle.bl_ctext.specs.Names.{is_name};
 ghost use Rattle.bl_ctext.specs.Spelling.{comma_before, operator_sign, root_tokens, index_front, expr_tokens, kind_tokens, place_tokens, step_tokens, index_tokens, ccall_tokens, arg_tokens};
 ghost use Rattle.bl_ctext.specs.Spellable.{is_c_operator, spells_expr, spells_place, spells_step, spells_index, spells_call, spells_arg};
 
-use crate::printer::literal;
-use crate::printer::name;
+use crate::printer::{literal, name};
 use crate::writer::Writer;
-use bl_tree::{NoMemory, Op};
 use bl_tree::c::{CArg, CCall, CExpr, CExprKind, CIndex, CPlace, CStep};
+use bl_tree::{NoMemory, Op};
 
 #[cycle(expressions)]
 pub fn expr(out: &mut Writer, e: &CExpr) -> Result<(), NoMemory>

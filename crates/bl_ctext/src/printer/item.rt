@@ -5,10 +5,7 @@ ghost use Rattle.bl_tree.specs.Reduce.{all_of, joined};
 ghost use Rattle.bl_ctext.specs.Spelling.{with_commas, scalar_word, type_tokens, length_tokens, member_tokens, struct_tokens, param_tokens, zero_tokens, local_tokens, returned_tokens, func_front, func_rest, func_tokens};
 ghost use Rattle.bl_ctext.specs.Spellable.{is_c_scalar, spells_type, spells_length, spells_member, spells_struct, spells_param, spells_local, spells_returned, spells_func};
 
-use crate::printer::expr;
-use crate::printer::literal;
-use crate::printer::name;
-use crate::printer::stmt;
+use crate::printer::{expr, literal, name, stmt};
 use crate::writer::Writer;
 use bl_tree::c::{CFunc, CLocal, CMember, CParam, CStruct, CType};
 use bl_tree::{List, NoMemory, Scalar};

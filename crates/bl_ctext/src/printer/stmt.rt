@@ -6,8 +6,7 @@ ghost use Rattle.bl_ctext.specs.Names.{is_struct_name, is_turn_name};
 ghost use Rattle.bl_ctext.specs.Spelling.{expr_tokens, place_tokens, stmt_tokens, braced, condition_tokens, result_tokens, zeros_tokens, turn_declared, turn_counted};
 ghost use Rattle.bl_ctext.specs.Spellable.{spells_expr, spells_place, spells_stmt, spells_result};
 
-use crate::printer::expr;
-use crate::printer::name;
+use crate::printer::{expr, name};
 use crate::writer::Writer;
 use bl_tree::c::{CExpr, CPlace, CStmt, CStmtKind};
 use bl_tree::{List, NoMemory, Text};

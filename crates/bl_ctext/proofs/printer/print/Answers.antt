@@ -1,4 +1,3 @@
-use Rattle.std.proofs.Common.{◌≡◌, true}
 use Rattle.bl_ctext.proofs.Parts.{spellable-funcs}
 use Rattle.bl_ctext.proofs.printer.print.Goals as goal
 

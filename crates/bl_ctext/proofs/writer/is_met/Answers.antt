@@ -1,5 +1,5 @@
 use Rattle.std.proofs.Common.{rules, sym, ◌∙◌}
-use Rattle.bl_ctext.proofs.Cutting.{meets-last, meets-nothing_before, meets-nothing_behind}
+use Rattle.bl_ctext.proofs.Cutting.{meets-last, meets-nothing_behind}
 use Rattle.bl_ctext.proofs.writer.is_met.Goals as goal
 
 pub returns : goal.returns

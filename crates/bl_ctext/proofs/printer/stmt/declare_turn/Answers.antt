@@ -1,4 +1,4 @@
-use Rattle.std.proofs.Common.{◌≡◌, append_assoc}
+use Rattle.std.proofs.Common.{append_assoc}
 use Rattle.bl_ctext.proofs.printer.stmt.declare_turn.Goals as goal
 
 pub returns : goal.returns

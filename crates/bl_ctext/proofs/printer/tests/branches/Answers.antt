@@ -1,5 +1,4 @@
-use Rattle.std.proofs.Common.{◌∙◌, ◌≡◌, rules, arith, ap, length, length-append}
-use Rattle.bl_ctext.specs.Spelling.{stmt_tokens}
+use Rattle.std.proofs.Common.{◌∙◌, arith, ap, length, length-append}
 use Rattle.bl_ctext.proofs.Branches.{spells-If, tokens-If}
 use Rattle.bl_ctext.proofs.printer.tests.branches.Goals as goal
 

@@ -1,5 +1,4 @@
-use Rattle.std.proofs.Common.{◌≡◌, ◌∙◌}
-use Rattle.bl_ctext.specs.Prelude.{prelude}
+use Rattle.std.proofs.Common.{◌∙◌}
 use Rattle.bl_ctext.proofs.Texts.{fresh, prelude_bytes}
 use Rattle.bl_ctext.proofs.writer.Writer.new.Goals as goal
 

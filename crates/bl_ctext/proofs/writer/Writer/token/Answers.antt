@@ -1,5 +1,3 @@
-use Rattle.std.proofs.Common.{◌≡◌, true}
-use Rattle.bl_ctext.specs.Token.{is_token}
 use Rattle.bl_ctext.proofs.Cutting.{tokens_in-token}
 use Rattle.bl_ctext.proofs.Words.{are_tokens-one}
 use Rattle.bl_ctext.proofs.writer.Writer.token.Goals as goal

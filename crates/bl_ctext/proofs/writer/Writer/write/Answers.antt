@@ -1,5 +1,4 @@
-use Rattle.std.proofs.Common.{rules, ◌≡◌, ◌++◌, true, List, ℕ, subst}
-use Rattle.bl_ctext.specs.Cut.{tokens_in, are_tokens, parted}
+use Rattle.std.proofs.Common.{rules}
 use Rattle.bl_ctext.proofs.Texts.{Grown, grown, parted_text, same_text}
 use Rattle.bl_ctext.proofs.writer.Writer.write.Goals as goal
 
@@ -10,7 +9,7 @@ after c = grown c.self.inside.text.items c.args.text.now c.part.new.text.items c
 pub invariant_of-self-in_err-extend_from_slice : goal.invariant_of-self-in_err-extend_from_slice
 invariant_of-self-in_err-extend_from_slice c =
     same_text c.part.new.text.items c.extend_from_slice.new.self.items
-      (parted_text c.self.inside.text.items c.args.text.now c.part.new.text.items c.self.invariant (search rules)) (search rules)
+    (parted_text c.self.inside.text.items c.args.text.now c.part.new.text.items c.self.invariant (search rules)) (search rules)
 
 pub invariant_of-self-2 : goal.invariant_of-self-2
 invariant_of-self-2 c = (after c).text
