@@ -39,12 +39,7 @@ pub fn blechc<F: Files, O: Sink, N: Sink>(
 }
 
 /// The status of the job itself, before its line is written.
-fn answer<F: Files, O: Sink>(
-    alloc: Global,
-    words: &[String],
-    files: &mut F,
-    out: &mut O,
-) -> Status
+fn answer<F: Files, O: Sink>(alloc: Global, words: &[String], files: &mut F, out: &mut O) -> Status
     ensures causes { AnswerCauses (map string_bytes words.now)
         (λ name. record { before = F.faults files.old name; after = F.faults files.new name })
         (record { before = O.faults out.old; after = O.faults out.new }) result }

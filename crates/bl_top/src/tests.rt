@@ -3,12 +3,17 @@ use bl_io::{MemFiles, MemSink, SureSink};
 use std::alloc::{AllocError, Global};
 use std::test::Fail;
 
-const LAMP: &str = "@[EntryPoint] activity M ()(on: bool) repeat on = true await true on = false await true end end";
+const LAMP: &str =
+    "@[EntryPoint] activity M ()(on: bool) repeat on = true await true on = false await true end end";
 
-const TWO_BRANCHES: &str = "@[EntryPoint] activity M (i: int32)(o: int32) var x: int32 var y: int32 cobegin repeat x = i + 1 o = y await true end with repeat y = x * 2 await true end end end";
+const TWO_BRANCHES: &str =
+    "@[EntryPoint] activity M (i: int32)(o: int32) var x: int32 var y: int32 cobegin repeat x = i + 1 o = y await true end with repeat y = x * 2 await true end end end";
 
 fn words(alloc: Global, texts: &[&str]) -> Result<Vec<String>, AllocError> {
-    texts.iter().map(|text| String::from_str(alloc, text)).try_collect(alloc)
+    texts
+        .iter()
+        .map(|text| String::from_str(alloc, text))
+        .try_collect(alloc)
 }
 
 fn lamp_file(alloc: Global, text: &str) -> Result<MemFiles, Fail> {

@@ -22,10 +22,7 @@ pub fn function(alloc: Global, unit: &Unit, body: &[Stmt]) -> Result<CFunc, Stop
 
 fn params(alloc: Global, unit: &Unit) -> Result<List<CParam>, Stop> {
     let mut params = List::new(alloc);
-    params.push(pointer(
-        prefixed(alloc, "f_", &unit.name)?,
-        text(alloc, "p_f")?,
-    ))?;
+    params.push(pointer(prefixed(alloc, "f_", &unit.name)?, text(alloc, "p_f")?))?;
     params.push(pointer(text(alloc, "bl_in")?, text(alloc, "p_i")?))?;
     params.push(pointer(text(alloc, "bl_out")?, text(alloc, "p_o")?))?;
     Ok(params)
@@ -39,10 +36,7 @@ fn locals(alloc: Global) -> Result<List<CLocal>, Stop> {
 
 fn statements(alloc: Global, unit: &Unit, body: &[Stmt]) -> Result<List<CStmt>, Stop> {
     let mut all = List::new(alloc);
-    all.push(set(
-        variable(alloc, text(alloc, "l_0")?),
-        read(counter(alloc)?),
-    ))?;
+    all.push(set(variable(alloc, text(alloc, "l_0")?), read(counter(alloc)?)))?;
     for statement in stretches(alloc, unit, body)?.into_vec() {
         all.push(statement)?;
     }

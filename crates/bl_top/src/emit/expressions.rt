@@ -1,12 +1,10 @@
-use super::parts::{call, expr, literal, read, through};
+use super::parts::{call, expr, literal, prefixed, read, through};
 use crate::stop::Stop;
+use bl_tree::List;
 use bl_tree::c::{CArg, CExpr, CExprKind, CPlace};
 use bl_tree::scalar::{Op, Scalar, Width};
 use bl_tree::tree::{Expr, ExprKind, Path, Role, Unit};
-use bl_tree::List;
 use std::alloc::Global;
-
-use super::parts::prefixed;
 
 /// The C place of a parameter of the activity: a member of the inputs or of the outputs.
 pub fn place(alloc: Global, unit: &Unit, path: &Path) -> Result<CPlace, Stop> {

@@ -46,10 +46,7 @@ fn state(alloc: Global, unit: &Unit) -> Result<CStruct, Stop> {
 /// The struct of the inputs or of the outputs: `pad`, then a member for each.
 fn row(alloc: Global, name: &str, prefix: &str, role: Role, unit: &Unit) -> Result<CStruct, Stop> {
     let mut members = List::new(alloc);
-    members.push(member(
-        CType::Scalar(Scalar::Nat(Width::W8)),
-        text(alloc, "pad")?,
-    ))?;
+    members.push(member(CType::Scalar(Scalar::Nat(Width::W8)), text(alloc, "pad")?))?;
     for var in unit.vars.iter() {
         if var.role == role {
             members.push(column(alloc, prefix, var)?)?;
@@ -61,7 +58,10 @@ fn row(alloc: Global, name: &str, prefix: &str, role: Role, unit: &Unit) -> Resu
 fn column(alloc: Global, prefix: &str, var: &Var) -> Result<CMember, Stop> {
     match &var.ty {
         Ty::Scalar(Scalar::Bool) => {
-            Ok(member(CType::Scalar(Scalar::Bool), prefixed(alloc, prefix, &var.name)?))
+            Ok(member(
+                CType::Scalar(Scalar::Bool),
+                prefixed(alloc, prefix, &var.name)?,
+            ))
         }
         Ty::Scalar(Scalar::Int(Width::W32)) => Ok(member(
             CType::Scalar(Scalar::Int(Width::W32)),
