@@ -39,9 +39,9 @@ meets [] next = false
 meets (b ∷ []) next = goes_on b next
 meets (b ∷ c ∷ bs) next = meets (c ∷ bs) next
 
--- the bytes, a space where the next ones would go on their last token, and the next ones
-unfoldable pub appended : List ℕ → List ℕ → List ℕ
-appended bytes next = cond (meets bytes next) (bytes ++ 32 ∷ []) bytes ++ next
+-- the bytes, and a space where the next ones would go on their last token
+unfoldable pub parted : List ℕ → List ℕ → List ℕ
+parted bytes next = cond (meets bytes next) (bytes ++ 32 ∷ []) bytes
 
 -- what stands behind the prelude
 unfoldable pub behind_prelude : List ℕ → List ℕ

@@ -1,5 +1,5 @@
 -- The tokens that spell a text of the C subset, by cases on its tree. White space aside a tree has one spelling.
-use Rattle.std.specs.Prelude.{ℕ, suc, ◌+◌, ◌==◌, ◌^◌, ℤ, pos, negsuc, Bool, true, false, cond, List, [], ◌∷◌, ◌++◌, map, Option, Some, None, codes}
+use Rattle.std.specs.Prelude.{ℕ, suc, ◌==◌, ◌^◌, ℤ, pos, negsuc, Bool, true, false, cond, List, [], ◌∷◌, ◌++◌, map, Option, Some, None, codes}
 use Rattle.std.specs.Fmt.{decimal}
 use Rattle.bl_tree.specs.declared.scalar.Width.{Width}
 use Rattle.bl_tree.specs.declared.scalar.Width.TheVariants.{W8, W16, W32, W64}
@@ -251,11 +251,15 @@ abbrev pub static_if : Bool → List Token
 static_if true = codes "static" ∷ []
 static_if false = []
 
+-- a function up to its parameters, and behind the brace of its body
+abbrev pub func_front : CFunc → List Token
+func_front f = static_if f.fixed ++ (returned_tokens f.result ++ (f.name ∷ codes "(" ∷ []))
+
+abbrev pub func_rest : CFunc → List Token
+func_rest f = joined (map local_tokens f.locals) ++ (joined (map stmt_tokens f.body) ++ codes "}" ∷ [])
+
 abbrev pub func_tokens : CFunc → List Token
-func_tokens f =
-    static_if f.fixed ++ (returned_tokens f.result ++
-      (f.name ∷ codes "(" ∷ (with_commas (map param_tokens f.params) ++ (codes ")" ∷
-        braced (map local_tokens f.locals ++ map stmt_tokens f.body)))))
+func_tokens f = func_front f ++ (with_commas (map param_tokens f.params) ++ (codes ")" ∷ codes "{" ∷ func_rest f))
 
 -- the tokens of a text behind its prelude
 abbrev pub tokens_of : List CStruct → List CFunc → List Token

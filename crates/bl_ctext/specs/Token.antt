@@ -1,5 +1,5 @@
 -- The tokens of a text of the C subset, and how bytes are cut into them.
-use Rattle.std.specs.Prelude.{◌≡◌, ℕ, ◌≤◌, Bool, true, false, not, ◌&&◌, ◌||◌, ◌==◌, IsTrue, List, [], ◌∷◌, ◌++◌, length, map}
+use Rattle.std.specs.Prelude.{◌≡◌, ℕ, ◌≤◌, Bool, false, ◌&&◌, ◌||◌, ◌==◌, IsTrue, List, [], ◌∷◌, ◌++◌, length, map}
 use Rattle.std.specs.Char.{is_ascii_alphanumeric}
 use Rattle.bl_tree.specs.Reduce.{all_of, any_of}
 

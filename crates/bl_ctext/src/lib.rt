@@ -2,10 +2,10 @@
 #![tactic(auto)]
 
 pub mod file;
-mod prelude_text;
+mod prelude;
 mod printer;
 mod writer;
 
 pub use file::CFile;
-pub use prelude_text::PRELUDE;
+pub use prelude::PRELUDE;
 pub use printer::print;

@@ -1,9 +1,9 @@
-ghost use Rattle.std.specs.Prelude.{◌≡◌, ℕ, List, [], ◌∷◌, ◌++◌, IsTrue, IfOk, OnOk};
+ghost use Rattle.std.specs.Prelude.{◌≡◌, ℕ, List, [], ◌∷◌, ◌++◌, IsTrue, IfOk, OnOk, OnErr};
 ghost use Rattle.bl_ctext.specs.Prelude.{prelude};
 ghost use Rattle.bl_ctext.specs.Token.{is_token, is_word_byte as word_byte, is_double_sign as double_sign, SpacedC};
-ghost use Rattle.bl_ctext.specs.Cut.{joins, meets, tokens_in, are_tokens, appended};
+ghost use Rattle.bl_ctext.specs.Cut.{joins, meets, tokens_in, are_tokens, parted};
 
-use crate::prelude_text::PRELUDE;
+use crate::prelude::PRELUDE;
 use bl_tree::NoMemory;
 use std::alloc::{AllocError, Global};
 use std::marker::Model;
@@ -41,7 +41,9 @@ impl Writer {
         requires { IsTrue (are_tokens (tokens_in text.now)) }
         ensures { OnOk result (self.new ≡ self.old ++ tokens_in text.now) }
     {
-        append(&mut self.text, text.as_bytes())?;
+        let next = text.as_bytes();
+        part(&mut self.text, next)?;
+        self.text.extend_from_slice(next)?;
         Ok(())
     }
 
@@ -71,24 +73,28 @@ impl Writer {
     }
 }
 
-/// Appends the bytes, behind a space where their first would go on the last token.
-fn append(text: &mut Vec<u8>, next: &[u8]) -> Result<(), AllocError>
-    ensures { OnOk result (text.new.items ≡ appended text.old.items next.now) }
+/// Writes a space where the next bytes would go on the last token.
+fn part(text: &mut Vec<u8>, next: &[u8]) -> Result<(), AllocError>
+    ensures ok { OnOk result (text.new.items ≡ parted text.old.items next.now) }
+    ensures err { OnErr result (text.new.items ≡ text.old.items) }
 {
     if is_met(text.as_slice(), next) {
         text.push(b' ')?;
     }
-    text.extend_from_slice(next)
+    Ok(())
 }
 
 /// Whether the last byte and the first of the next ones may stand in one token.
 fn is_met(text: &[u8], next: &[u8]) -> bool
     ensures { result ≡ meets text.now next.now }
 {
-    match (text.last(), next.first()) {
-        (Some(last), Some(first)) => is_joined(*last, *first),
-        _ => false,
-    }
+    let Some(last) = text.last() else {
+        return false;
+    };
+    let Some(first) = next.first() else {
+        return false;
+    };
+    is_joined(*last, *first)
 }
 
 fn is_joined(a: u8, b: u8) -> bool

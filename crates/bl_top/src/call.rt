@@ -1,7 +1,7 @@
 ghost use Rattle.std.specs.Prelude.{◌≤◌, ◌≡◌, map, string_bytes};
 ghost use Rattle.bl_io.specs.Count.{NeverFell};
 ghost use Rattle.bl_top.specs.Build.{Leaves, ReadsNamed};
-ghost use Rattle.bl_top.specs.Causes.{Causes};
+ghost use Rattle.bl_top.specs.Causes.{AnswerCauses, Causes};
 ghost use Rattle.bl_top.specs.Notes.{Noted};
 ghost use Rattle.bl_words.specs.Jobs.{job_of};
 
@@ -39,12 +39,15 @@ pub fn blechc<F: Files, O: Sink, N: Sink>(
 }
 
 /// The status of the job itself, before its line is written.
-fn answer<F: Files, O: Sink>(
-    alloc: Global,
-    words: &[String],
-    files: &mut F,
-    out: &mut O,
-) -> Status {
+fn answer<F: Files, O: Sink>(alloc: Global, words: &[String], files: &mut F, out: &mut O) -> Status
+    ensures causes { AnswerCauses (map string_bytes words.now)
+        (λ name. record { before = F.faults files.old name; after = F.faults files.new name })
+        (record { before = O.faults out.old; after = O.faults out.new }) result }
+    ensures out { Leaves (O.held out.old) result (O.held out.new) }
+    ensures files { ReadsNamed (job_of (map string_bytes words.now)) (F.left files.old) (F.left files.new) }
+    ensures file_counts { NeverFell (F.faults files.old) (F.faults files.new) }
+    ensures out_count { O.faults out.old ≤ O.faults out.new }
+{
     match bl_words::job_of(alloc, words) {
         Ok(Some(Job::Build { source })) => build(alloc, source, files, out),
         Ok(None) => Status::Usage,

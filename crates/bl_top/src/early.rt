@@ -26,7 +26,13 @@ pub fn recognise(alloc: Global, text: &[u8], tokens: &[Token]) -> Result<Program
     let body = looping_body(alloc, &mut cursor, &params)?;
     cursor.word(word::END)?;
     cursor.end()?;
-    let unit = activity(alloc, Text::copy_of(alloc, name.text)?, name.place, params, body)?;
+    let unit = activity(
+        alloc,
+        Text::copy_of(alloc, name.text)?,
+        name.place,
+        params,
+        body,
+    )?;
     let mut units = List::new(alloc);
     units.push(unit)?;
     Ok(Program {

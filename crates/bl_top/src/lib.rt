@@ -11,3 +11,6 @@ mod stop;
 
 pub use call::blechc;
 pub use status::Status;
+
+#[cfg(test)]
+mod tests;

@@ -1,15 +1,14 @@
 //! Expressions, places and calls.
 
-ghost use Rattle.std.specs.Prelude.{◌≡◌, ◌++◌, IsTrue, OnOk};
+ghost use Rattle.std.specs.Prelude.{◌≡◌, [], ◌∷◌, ◌++◌, codes, IsTrue, OnOk};
 ghost use Rattle.bl_ctext.specs.Names.{is_name};
-ghost use Rattle.bl_ctext.specs.Spelling.{comma_before, root_tokens, index_front, expr_tokens, kind_tokens, place_tokens, step_tokens, index_tokens, ccall_tokens, arg_tokens};
-ghost use Rattle.bl_ctext.specs.Spellable.{spells_expr, spells_place, spells_step, spells_index, spells_call, spells_arg};
+ghost use Rattle.bl_ctext.specs.Spelling.{comma_before, operator_sign, root_tokens, index_front, expr_tokens, kind_tokens, place_tokens, step_tokens, index_tokens, ccall_tokens, arg_tokens};
+ghost use Rattle.bl_ctext.specs.Spellable.{is_c_operator, spells_expr, spells_place, spells_step, spells_index, spells_call, spells_arg};
 
-use crate::printer::literal;
-use crate::printer::name;
+use crate::printer::{literal, name};
 use crate::writer::Writer;
-use bl_tree::NoMemory;
 use bl_tree::c::{CArg, CCall, CExpr, CExprKind, CIndex, CPlace, CStep};
+use bl_tree::{NoMemory, Op};
 
 #[cycle(expressions)]
 pub fn expr(out: &mut Writer, e: &CExpr) -> Result<(), NoMemory>
@@ -22,19 +21,34 @@ pub fn expr(out: &mut Writer, e: &CExpr) -> Result<(), NoMemory>
         CExprKind::Call(called) => call(out, called),
         CExprKind::Not(operand) => {
             out.write("(!")?;
-            expr(out, operand)?;
-            out.write(")")
+            closed(out, operand)
         }
         CExprKind::Two(op, left, right) => {
-            out.write("(")?;
-            expr(out, left)?;
-            out.write(" ")?;
-            out.token(literal::operator_name(*op))?;
-            out.write(" ")?;
-            expr(out, right)?;
-            out.write(")")
+            opened(out, left)?;
+            operator(out, *op)?;
+            closed(out, right)
         }
     }
+}
+
+/// The first operand of two, behind their `(`.
+#[cycle(expressions)]
+fn opened(out: &mut Writer, operand: &CExpr) -> Result<(), NoMemory>
+    requires { IsTrue (spells_expr operand.now) }
+    ensures { OnOk result (out.new ≡ out.old ++ codes "(" ∷ expr_tokens operand.now) }
+{
+    out.write("(")?;
+    expr(out, operand)
+}
+
+/// The last operand, before its `)`.
+#[cycle(expressions)]
+fn closed(out: &mut Writer, operand: &CExpr) -> Result<(), NoMemory>
+    requires { IsTrue (spells_expr operand.now) }
+    ensures { OnOk result (out.new ≡ out.old ++ (expr_tokens operand.now ++ codes ")" ∷ [])) }
+{
+    expr(out, operand)?;
+    out.write(")")
 }
 
 #[cycle(expressions)]
@@ -102,6 +116,16 @@ fn argument(out: &mut Writer, arg: &CArg) -> Result<(), NoMemory>
             place(out, at)
         }
     }
+}
+
+/// The sign between two operands, with a space on either side.
+fn operator(out: &mut Writer, op: Op) -> Result<(), NoMemory>
+    requires { IsTrue (is_c_operator op) }
+    ensures { OnOk result (out.new ≡ out.old ++ operator_sign op ∷ []) }
+{
+    out.write(" ")?;
+    out.token(literal::operator_name(op))?;
+    out.write(" ")
 }
 
 /// What a place begins with.

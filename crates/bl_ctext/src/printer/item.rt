@@ -2,13 +2,10 @@
 
 ghost use Rattle.std.specs.Prelude.{◌≡◌, [], ◌∷◌, ◌++◌, map, codes, IsTrue, OnOk};
 ghost use Rattle.bl_tree.specs.Reduce.{all_of, joined};
-ghost use Rattle.bl_ctext.specs.Spelling.{with_commas, scalar_word, type_tokens, length_tokens, member_tokens, struct_tokens, param_tokens, zero_tokens, local_tokens, returned_tokens, func_tokens};
+ghost use Rattle.bl_ctext.specs.Spelling.{with_commas, scalar_word, type_tokens, length_tokens, member_tokens, struct_tokens, param_tokens, zero_tokens, local_tokens, returned_tokens, func_front, func_rest, func_tokens};
 ghost use Rattle.bl_ctext.specs.Spellable.{is_c_scalar, spells_type, spells_length, spells_member, spells_struct, spells_param, spells_local, spells_returned, spells_func};
 
-use crate::printer::expr;
-use crate::printer::literal;
-use crate::printer::name;
-use crate::printer::stmt;
+use crate::printer::{expr, literal, name, stmt};
 use crate::writer::Writer;
 use bl_tree::c::{CFunc, CLocal, CMember, CParam, CStruct, CType};
 use bl_tree::{List, NoMemory, Scalar};
@@ -103,13 +100,29 @@ fn func(out: &mut Writer, f: &CFunc) -> Result<(), NoMemory>
     requires { IsTrue (spells_func f.now) }
     ensures { OnOk result (out.new ≡ out.old ++ func_tokens f.now) }
 {
+    func_head(out, f)?;
+    params(out, &f.params)?;
+    out.write(") {")?;
+    func_body(out, f)
+}
+
+/// The function up to its parameters.
+fn func_head(out: &mut Writer, f: &CFunc) -> Result<(), NoMemory>
+    requires { IsTrue (spells_func f.now) }
+    ensures { OnOk result (out.new ≡ out.old ++ func_front f.now) }
+{
     out.write(if f.fixed { "\nstatic " } else { "\n" })?;
     returned(out, f.result)?;
     out.write(" ")?;
     name::function_name(out, f.name.as_str())?;
-    out.write("(")?;
-    params(out, &f.params)?;
-    out.write(") {")?;
+    out.write("(")
+}
+
+/// The locals and statements, and the brace behind them.
+fn func_body(out: &mut Writer, f: &CFunc) -> Result<(), NoMemory>
+    requires { IsTrue (spells_func f.now) }
+    ensures { OnOk result (out.new ≡ out.old ++ func_rest f.now) }
+{
     locals(out, &f.locals)?;
     stmt::stmts(out, &f.body, 1)?;
     out.write("\n}\n")

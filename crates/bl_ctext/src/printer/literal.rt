@@ -1,6 +1,6 @@
 //! Words, signs, numbers and literals.
 
-ghost use Rattle.std.specs.Prelude.{◌≡◌, ℕ, List, ◌∷◌, ◌++◌, codes, IsTrue, OnOk};
+ghost use Rattle.std.specs.Prelude.{◌≡◌, ℕ, List, [], ◌∷◌, ◌++◌, codes, IsTrue, OnOk};
 ghost use Rattle.std.specs.Fmt.{decimal};
 ghost use Rattle.bl_ctext.specs.Token.{is_token};
 ghost use Rattle.bl_ctext.specs.Spelling.{scalar_word, constant_word, width_digits, negatives, negative_tokens, literal_tokens, constant_tokens, operator_sign};

@@ -6,8 +6,7 @@ ghost use Rattle.bl_ctext.specs.Names.{is_struct_name, is_turn_name};
 ghost use Rattle.bl_ctext.specs.Spelling.{expr_tokens, place_tokens, stmt_tokens, braced, condition_tokens, result_tokens, zeros_tokens, turn_declared, turn_counted};
 ghost use Rattle.bl_ctext.specs.Spellable.{spells_expr, spells_place, spells_stmt, spells_result};
 
-use crate::printer::expr;
-use crate::printer::name;
+use crate::printer::{expr, name};
 use crate::writer::Writer;
 use bl_tree::c::{CExpr, CPlace, CStmt, CStmtKind};
 use bl_tree::{List, NoMemory, Text};
@@ -108,12 +107,19 @@ fn declare_turn(out: &mut Writer, turn: &Text, level: u8) -> Result<(), NoMemory
     ensures { OnOk result (out.new ≡ out.old ++ turn_declared turn.now) }
 {
     out.write("{")?;
-    out.line(level.saturating_add(1))?;
-    out.write("uint32_t ")?;
-    name::turn_name(out, turn.as_str())?;
-    out.write(" = 0;")?;
+    first_turn(out, turn.as_str(), level.saturating_add(1))?;
     out.line(level.saturating_add(1))?;
     out.write("while ")
+}
+
+fn first_turn(out: &mut Writer, turn: &str, level: u8) -> Result<(), NoMemory>
+    requires { IsTrue (is_turn_name turn.now) }
+    ensures { OnOk result (out.new ≡ out.old ++ codes "uint32_t" ∷ turn.now ∷ codes "=" ∷ codes "0" ∷ codes ";" ∷ []) }
+{
+    out.line(level)?;
+    out.write("uint32_t ")?;
+    name::turn_name(out, turn)?;
+    out.write(" = 0;")
 }
 
 fn count_turn(out: &mut Writer, turn: &Text, level: u8) -> Result<(), NoMemory>
@@ -122,9 +128,16 @@ fn count_turn(out: &mut Writer, turn: &Text, level: u8) -> Result<(), NoMemory>
 {
     out.write("{")?;
     out.line(level.saturating_add(2))?;
-    name::turn_name(out, turn.as_str())?;
+    next_turn(out, turn.as_str())
+}
+
+fn next_turn(out: &mut Writer, turn: &str) -> Result<(), NoMemory>
+    requires { IsTrue (is_turn_name turn.now) }
+    ensures { OnOk result (out.new ≡ out.old ++ turn.now ∷ codes "=" ∷ codes "bl_turn" ∷ codes "(" ∷ turn.now ∷ codes ")" ∷ codes ";" ∷ []) }
+{
+    name::turn_name(out, turn)?;
     out.write(" = bl_turn(")?;
-    name::turn_name(out, turn.as_str())?;
+    name::turn_name(out, turn)?;
     out.write(");")
 }
 

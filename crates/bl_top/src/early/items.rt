@@ -2,11 +2,11 @@ use super::cursor::Cursor;
 use super::params::Params;
 use crate::stop::Stop;
 use bl_lex::word;
+use bl_tree::List;
 use bl_tree::place::Place;
 use bl_tree::scalar::{Scalar, Width};
 use bl_tree::token::{Token, TokenKind};
 use bl_tree::tree::{Expr, ExprKind, Path, Ty};
-use bl_tree::List;
 use std::alloc::Global;
 
 /// The greatest number that an item may be.

@@ -1,10 +1,10 @@
 use super::cursor::{Cursor, Name};
 use crate::stop::Stop;
 use bl_lex::{sign, word};
-use bl_tree::{List, Text};
 use bl_tree::scalar::{Scalar, Width};
 use bl_tree::token::TokenKind;
 use bl_tree::tree::{Role, Ty, Var};
+use bl_tree::{List, Text};
 use indexmap::IndexSet;
 use std::alloc::Global;
 
@@ -62,7 +62,11 @@ impl Params {
         if self.vars.len() >= MOST || self.names.get_index_of(name.text).is_some() {
             return Err(Stop::Unbuilt);
         }
-        if self.names.insert(String::from_str(alloc, name.text)?).is_err() {
+        if self
+            .names
+            .insert(String::from_str(alloc, name.text)?)
+            .is_err()
+        {
             return Err(Stop::NoMemory);
         }
         self.vars.push(Var {

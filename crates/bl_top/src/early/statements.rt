@@ -3,11 +3,11 @@ use super::items::{self, Item, variable};
 use super::params::Params;
 use crate::stop::Stop;
 use bl_lex::{sign, word};
-use bl_tree::{Box, List};
 use bl_tree::place::Place;
 use bl_tree::scalar::{Op, Scalar, Width};
 use bl_tree::token::TokenKind;
 use bl_tree::tree::{Expr, ExprKind, Role, Stmt, StmtKind};
+use bl_tree::{Box, List};
 use std::alloc::Global;
 
 /// The most sets and awaits that the form has.
