@@ -23,7 +23,8 @@ use Rattle.bl_ctext.specs.Spelling.{constant_word, constant_tokens, negatives, n
 use Rattle.bl_ctext.specs.Spellable.{is_c_operator, is_literal, is_length, spells_expr, spells_kind, spells_place, spells_step, spells_index, spells_call, spells_arg}
 use Rattle.bl_ctext.specs.Depths.{expr_depth, kind_depth, place_depth, step_depth, index_depth, call_depth, arg_depth}
 use Rattle.bl_ctext.proofs.Nesting.{is_bracket, Closes, Nests, EachNests, closes-nil, closes-open, closes-close, closes-plain, closes-append, nests-append, nests-more, nests-joined, nests-with_commas}
-use Rattle.bl_ctext.proofs.PlainWords.{and-fst, and-snd, name-plain, callee-plain, decimal-plain}
+use Rattle.bl_ctext.proofs.Bytes.{and-fst, and-snd}
+use Rattle.bl_ctext.proofs.PlainWords.{name-plain, callee-plain, decimal-plain}
 
 -- every part of a list, where each is shown with it
 pub each_shown : {A : Type 0} (depth : A → ℕ) (tokens : A → List Token) (spells : A → Bool)

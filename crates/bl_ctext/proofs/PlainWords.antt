@@ -7,19 +7,8 @@ use Rattle.std.specs.Fmt.{decimal}
 use Rattle.bl_tree.specs.Reduce.{all_of}
 use Rattle.bl_ctext.specs.Token.{Token, is_word_byte, is_word}
 use Rattle.bl_ctext.specs.Names.{is_among, is_name, is_struct_name, is_function_name, is_callee, is_turn_name, prelude_functions}
+use Rattle.bl_ctext.proofs.Bytes.{and-fst, and-snd, either}
 use Rattle.bl_ctext.proofs.Nesting.{is_bracket}
-
-pub and-fst : (a b : Bool) → (a && b) ≡ true → a ≡ true
-and-fst true b h = refl
-and-fst false b h = h
-
-pub and-snd : (a b : Bool) → (a && b) ≡ true → b ≡ true
-and-snd true b h = h
-and-snd false b h = cc
-
-either : (a b : Bool) → (a || b) ≡ true → (a ≡ true) ⊎ (b ≡ true)
-either true b h = inl refl
-either false b h = inr h
 
 same_number : (x y : ℕ) → nat_eq x y ≡ true → x ≡ y
 same_number x y h = grind (arith, nat_tests)

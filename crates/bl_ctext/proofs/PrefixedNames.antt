@@ -9,7 +9,7 @@ use Rattle.bl_tree.specs.Reduce.{all_of}
 use Rattle.bl_ctext.specs.Token.{is_word_byte}
 use Rattle.bl_ctext.specs.Names.{is_among, grammar_words, c_keywords, is_name, is_struct_name, is_function_name, is_callee}
 use Rattle.bl_ctext.specs.Prefixes.{is_prefix, is_source_name}
-use Rattle.bl_ctext.proofs.PlainWords.{and-fst, and-snd}
+use Rattle.bl_ctext.proofs.Bytes.{and-fst, and-snd}
 
 -- whether `_` isn't the second byte
 abbrev pub has_other_second : List ℕ → Bool

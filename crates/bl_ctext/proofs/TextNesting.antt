@@ -1,5 +1,5 @@
 -- Statements, structs and functions that have a spelling close each bracket that they open. So a text of shallow functions has a spelling.
-use Rattle.std.proofs.Common.{◌≡◌, ℕ, ◌+◌, ◌≤◌, max, Bool, true, false, ◌&&◌, nat_le, List, [], ◌∷◌, ◌++◌, map, Option, Some, None, refl, subst, arith, codes}
+use Rattle.std.proofs.Common.{◌≡◌, ℕ, ◌+◌, ◌≤◌, max, Bool, true, false, ◌&&◌, nat_le, List, [], ◌∷◌, ◌++◌, map, Option, Some, None, refl, subst, arith, codes, append_assoc, sym, ap, ◌∙◌}
 use Rattle.std.proofs.lemmas.Bool.Decides.{nat_tests}
 use Rattle.std.specs.Fmt.{decimal}
 use Rattle.bl_tree.specs.declared.place.Place.{Place as TextPlace}
@@ -20,12 +20,13 @@ use Rattle.bl_tree.specs.declared.c.CFunc.{CFunc}
 use Rattle.bl_tree.specs.Reduce.{all_of, joined, greatest}
 use Rattle.bl_ctext.specs.Token.{Token}
 use Rattle.bl_ctext.specs.Names.{is_struct_name, is_function_name, is_turn_name}
-use Rattle.bl_ctext.specs.Spelling.{scalar_word, type_tokens, expr_tokens, place_tokens, ccall_tokens, braced, condition_tokens, zeros_tokens, turn_declared, turn_counted, stmt_tokens, stmt_kind_tokens, result_tokens, length_tokens, member_tokens, struct_tokens, star_if, param_tokens, zero_tokens, local_tokens, returned_tokens, static_if, func_tokens, with_commas, tokens_of}
+use Rattle.bl_ctext.specs.Spelling.{scalar_word, type_tokens, expr_tokens, place_tokens, ccall_tokens, braced, condition_tokens, zeros_tokens, turn_declared, turn_counted, stmt_tokens, stmt_kind_tokens, result_tokens, length_tokens, member_tokens, struct_tokens, star_if, param_tokens, zero_tokens, local_tokens, returned_tokens, static_if, func_tokens, func_front, func_rest, with_commas, tokens_of}
 use Rattle.bl_ctext.specs.Spellable.{has_any, is_spellable, most_open, spells_expr, spells_place, spells_result, spells_stmt, spells_stmt_kind, spells_type, spells_member, spells_struct, spells_param, spells_local, spells_func, spells_length}
 use Rattle.bl_ctext.specs.Depths.{expr_depth, place_depth, call_depth, result_depth, stmt_depth, stmt_kind_depth, func_depth}
 use Rattle.bl_ctext.proofs.ExprNesting.{each_shown, expr-nests, place-nests, ccall-nests}
 use Rattle.bl_ctext.proofs.Nesting.{is_bracket, Closes, Nests, EachNests, closes-nil, closes-open, closes-close, closes-plain, closes-append, nests-append, nests-more, nests-joined, nests-with_commas, each_nests-append, nests-most_open}
-use Rattle.bl_ctext.proofs.PlainWords.{and-fst, and-snd, name-plain, struct_name-plain, function_name-plain, turn_name-plain, decimal-plain}
+use Rattle.bl_ctext.proofs.Bytes.{and-fst, and-snd}
+use Rattle.bl_ctext.proofs.PlainWords.{name-plain, struct_name-plain, function_name-plain, turn_name-plain, decimal-plain}
 
 -- statements in braces
 pub braced-nests : (d : ℕ) (parts : List (List Token)) → EachNests d parts → Nests (d + 1) (braced parts)
@@ -223,22 +224,38 @@ static-nests : (b : Bool) → Nests 0 (static_if b)
 static-nests true = closes-plain 0 0 _ _ refl (omega arith) (closes-nil 0)
 static-nests false = closes-nil 0
 
+-- what follows a function's front closes the bracket that the front leaves open
+front-closes : (d : ℕ) (f : CFunc) (rest : List Token) → 1 ≤ d → is_function_name f.name ≡ true → Closes 1 d rest → Closes 0 d (func_front f ++ rest)
+front-closes d f rest le named c =
+    let apart : func_front f ++ rest ≡ static_if f.fixed ++ (returned_tokens f.result ++ (f.name ∷ codes "(" ∷ rest)) =
+      append_assoc (static_if f.fixed) (returned_tokens f.result ++ (f.name ∷ codes "(" ∷ [])) rest
+      ∙ ap (λ (ts : List Token). static_if f.fixed ++ ts) (append_assoc (returned_tokens f.result) (f.name ∷ codes "(" ∷ []) rest) in
+    subst (λ (ts : List Token). Closes 0 d ts) (sym apart)
+      (closes-append 0 d 0 (static_if f.fixed) _ (static-nests f.fixed) (omega arith)
+        (closes-append 0 d 0 (returned_tokens f.result) _ (returned-nests f.result) (omega arith)
+          (closes-plain 0 d f.name _ (function_name-plain f.name named) (omega arith) (closes-open 0 d _ _ refl (omega arith) c))))
+
+-- and closes its own braces
+rest-closes : (d b : ℕ) (f : CFunc) → b + 1 ≤ d → 1 ≤ b → all_of (map spells_local f.locals) ≡ true → EachNests b (map stmt_tokens f.body) → Closes 1 d (func_rest f)
+rest-closes d b f le le' locals body =
+    closes-append 1 d 1 (joined (map local_tokens f.locals)) _ (nests-joined 1 _ (each_within 1 local_tokens spells_local local-nests f.locals locals)) (omega arith)
+      (closes-append 1 d b (joined (map stmt_tokens f.body)) _ (nests-joined b _ body) (omega arith)
+        (closes-close 0 d _ _ refl refl (omega arith) (closes-nil d)))
+
 each_more : (d e : ℕ) (parts : List (List Token)) → d ≤ e → EachNests d parts → EachNests e parts
 each_more d e [] le each = tt
 each_more d e (part ∷ parts) le (one, each) = (nests-more d e part le one, each_more d e parts le each)
 
-func_parts-nests : (f : CFunc) → is_function_name f.name ≡ true → all_of (map spells_param f.params) ≡ true → all_of (map spells_local f.locals) ≡ true → all_of (map spells_stmt f.body) ≡ true → Nests (func_depth f) (func_tokens f)
+func_parts-nests : (f : CFunc) → is_function_name f.name ≡ true → all_of (map spells_param f.params) ≡ true → all_of (map spells_local f.locals) ≡ true →
+    all_of (map spells_stmt f.body) ≡ true → Nests (func_depth f) (func_tokens f)
 func_parts-nests f named params locals body =
     let b : ℕ = max 1 (greatest (map stmt_depth f.body)) in
     let d : ℕ = b + 1 in
-    let parts : EachNests b (map local_tokens f.locals ++ map stmt_tokens f.body) =
-    each_nests-append b (map local_tokens f.locals) (map stmt_tokens f.body)
-    (each_more 1 b _ (omega arith) (each_within 1 local_tokens spells_local local-nests f.locals locals))
-    (each_of stmt_depth stmt_tokens spells_stmt stmt-nests f.body b (omega arith) body) in
-    closes-append 0 d 0 (static_if f.fixed) _ (static-nests f.fixed) (omega arith) (closes-append 0 d 0 (returned_tokens f.result) _ (returned-nests f.result) (omega arith)
-    (closes-plain 0 d f.name _ (function_name-plain f.name named) (omega arith) (closes-open 0 d _ _ refl (omega arith)
-    (closes-append 1 d 0 (with_commas (map param_tokens f.params)) _ (nests-with_commas 0 _ (each_within 0 param_tokens spells_param param-nests f.params params)) (omega arith)
-    (closes-close 0 d _ _ refl refl (omega arith) (braced-nests b _ parts))))))
+    let each : EachNests b (map stmt_tokens f.body) = each_of stmt_depth stmt_tokens spells_stmt stmt-nests f.body b (omega arith) body in
+    front-closes d f _ (omega arith) named
+      (closes-append 1 d 0 (with_commas (map param_tokens f.params)) _
+        (nests-with_commas 0 _ (each_within 0 param_tokens spells_param param-nests f.params params)) (omega arith)
+        (closes-close 0 d _ _ refl refl (omega arith) (closes-open 0 d _ _ refl (omega arith) (rest-closes d b f (omega arith) (omega arith) locals each))))
 
 pub func-nests : (f : CFunc) → spells_func f ≡ true → Nests (func_depth f) (func_tokens f)
 func-nests f h =

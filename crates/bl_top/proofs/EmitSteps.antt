@@ -13,7 +13,7 @@ use Rattle.bl_ctext.specs.Names.{is_among, is_name, is_struct_name, is_function_
 use Rattle.bl_ctext.specs.Prefixes.{is_source_name}
 use Rattle.bl_ctext.specs.Fits.{place_fits, expr_fits, stmt_fits, stmts_fit}
 use Rattle.bl_ctext.specs.Spellable.{has_any}
-use Rattle.bl_ctext.proofs.PlainWords.{and-fst, and-snd}
+use Rattle.bl_ctext.proofs.Bytes.{and-fst, and-snd}
 pub use Rattle.bl_ctext.proofs.PrefixedNames.{name-with_prefix, name-struct, name-function, name-callee}
 pub use Rattle.bl_ctext.proofs.Fitting.{list_all-push, step-fits, place-fits, place_fits-more, expr_fits-more, stmt_fits-more, stmts_fit-more, literal-fits, read-fits, called-fits, two-fits, value-fits, address-fits, call-fits, set-fits, call_stmt-fits, return-fits, if-fits}
 use Rattle.bl_top.specs.Emitted.{is_named, is_named_var}
