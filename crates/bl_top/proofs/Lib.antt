@@ -1,2 +1,3 @@
+pub mod EmitSteps
 pub mod Ends
 pub mod Lines
