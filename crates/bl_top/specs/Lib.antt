@@ -1,3 +1,4 @@
 pub mod Build
 pub mod Causes
+pub mod Early
 pub mod Notes
