@@ -1,3 +1,4 @@
+pub mod EarlyLemmas
 pub mod EmitSteps
 pub mod Ends
 pub mod Lines
