@@ -7,7 +7,6 @@ use std::alloc::Global;
 use std::env::{self, Env};
 use std::io::ErrorKind;
 use std::process::ExitCode;
-use std::rt::Alloc;
 
 /// The words after the program's name. Words that aren't text ask for no job, as none at all.
 fn words<R: Env + Alloc<A = Global>>(rt: &R) -> Result<Vec<String>, Status> {
