@@ -1,0 +1,6 @@
+pub mod Tables
+pub mod Numbers
+pub mod ReservedWords
+pub mod Signs
+pub mod WordLaws
+pub mod PieceLaws

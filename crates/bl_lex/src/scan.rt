@@ -2,7 +2,7 @@
 
 ghost use Rattle.std.specs.Prelude.{◌≡◌, ◌≤◌, length, OnOk};
 
-use crate::piece::{Form, Piece, fault_at, piece_at};
+use crate::piece::{Form, Piece, piece_at, place_between};
 use crate::sign;
 use bl_tree::token::{Token, TokenKind};
 use bl_tree::{List, Place, Refusal};
@@ -27,8 +27,9 @@ pub fn lex(alloc: Global, text: &[u8]) -> Result<Vec<Token>, Refusal> {
     let mut scan = Scan::new(alloc);
     let mut at: usize = 0;
     while at < text.len() {
-        let Some(piece) = piece_at(text, at) else {
-            return Err(failed(alloc, 2, fault_at(text, at)));
+        let piece = match piece_at(text, at) {
+            Ok(piece) => piece,
+            Err(place) => return Err(failed(alloc, 2, place)),
         };
         if scan.take(text, at, piece).is_err() {
             return Err(Refusal::NoMemory);
@@ -83,10 +84,7 @@ impl Scan {
         requires few_lines { self.old.line ≤ start }
         ensures { OnOk result (self.new.line ≤ piece.end) }
     {
-        let place = Place {
-            start: start as u32,
-            end: piece.end as u32,
-        };
+        let place = place_between(start, piece.end);
         let bytes = &text[start..piece.end];
         if self.left_out.is_none() && is_left_out(bytes, piece.form, self.before) {
             self.left_out = Some(place);
