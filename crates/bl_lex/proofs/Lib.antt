@@ -4,3 +4,5 @@ pub mod ReservedWords
 pub mod Signs
 pub mod WordLaws
 pub mod PieceLaws
+pub mod Ends
+pub mod WalkLaws

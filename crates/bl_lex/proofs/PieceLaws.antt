@@ -107,12 +107,12 @@ module _ (text : List ℕ) (start : ℕ) where
   slash_alone : (end k : ℕ) → get_or text start 0 ≡ 47 → IsSign text start end k → end ≡ start + 1
   slash_alone end k b s = ⊎_elim (λ one. one) (λ two. absurd (no_two two)) (sign_ends _ _ _ _ s)
     where
-    no_two : end ≡ start + 2 → ⊥
-    no_two e =
-        let inside : start + 1 < length text = omega (arith, s.inside) in
-        let at_two : slice_get signs k ≡ Some (slice_range text start (start + 2)) = subst (λ (x : ℕ). slice_get signs k ≡ Some (slice_range text start x)) e s.spelled in
-        let bytes : slice_get signs k ≡ Some (get_or text start 0 ∷ get_or text (start + 1) 0 ∷ []) = at_two ∙ ap Some (range_two text start inside) in
-        clash false (subst (λ (x : ℕ). is_two_bytes x (get_or text (start + 1) 0) ≡ true) b (two_bytes_known (get_or text start 0) (get_or text (start + 1) 0) k bytes)) refl
+      no_two : end ≡ start + 2 → ⊥
+      no_two e =
+          let inside : start + 1 < length text = omega (arith, s.inside) in
+          let at_two : slice_get signs k ≡ Some (slice_range text start (start + 2)) = subst (λ (x : ℕ). slice_get signs k ≡ Some (slice_range text start x)) e s.spelled in
+          let bytes : slice_get signs k ≡ Some (get_or text start 0 ∷ get_or text (start + 1) 0 ∷ []) = at_two ∙ ap Some (range_two text start inside) in
+          clash false (subst (λ (x : ℕ). is_two_bytes x (get_or text (start + 1) 0) ≡ true) b (two_bytes_known (get_or text start 0) (get_or text (start + 1) 0) k bytes)) refl
 
   pub longest_slash : (k : ℕ) → get_or text start 0 ≡ 47 → get_or text (start + 1) 0 ≢ 47 → get_or text (start + 1) 0 ≢ 42 → IsSign text start (start + 1) k → IsLongest text (record { start = start; end = start + 1; form = Token (Sign k) })
   longest_slash k b no_slash no_star s = record {

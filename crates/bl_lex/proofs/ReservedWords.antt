@@ -30,9 +30,9 @@ found_by : {X : Type 0} (p : X → Bool) (xs : List X) → list_any p xs ≡ tru
 found_by p [] is = cc
 found_by {X} p (x ∷ xs) is = first (p x) refl is (found_by p xs)
   where
-  first : (b : Bool) → p x ≡ b → (b || list_any p xs) ≡ true → (list_any p xs ≡ true → (k : ℕ) × ((y : X) × (slice_get xs k ≡ Some y) × (p y ≡ true))) → (k : ℕ) × ((y : X) × (slice_get (x ∷ xs) k ≡ Some y) × (p y ≡ true))
-  first true e either later = (0, (x, refl, e))
-  first false e either later = let h = later either in (suc h.0, h.1)
+    first : (b : Bool) → p x ≡ b → (b || list_any p xs) ≡ true → (list_any p xs ≡ true → (k : ℕ) × ((y : X) × (slice_get xs k ≡ Some y) × (p y ≡ true))) → (k : ℕ) × ((y : X) × (slice_get (x ∷ xs) k ≡ Some y) × (p y ≡ true))
+    first true e either later = (0, (x, refl, e))
+    first false e either later = let h = later either in (suc h.0, h.1)
 
 -- the meaning is that of the text
 abbrev pub means : List ℕ → Meaning → Bool

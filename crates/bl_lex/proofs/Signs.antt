@@ -49,7 +49,6 @@ sign_first text start end k is =
     let both : not (is_blank (get_or text start 0)) && not (is_word_byte (get_or text start 0)) ≡ true = subst (λ (b : ℕ). not (is_blank b) && not (is_word_byte b) ≡ true) first h in
     not_both _ _ both
 
-
 -- where no two bytes are a sign, a sign has one byte
 pub at_most_one : (text : List ℕ) (at end k : ℕ) → ((k : ℕ) → ¬ IsSign text at (at + 2) k) → IsSign text at end k → end ≤ at + 1
 at_most_one text at end k no_two is = ⊎_elim (λ one. omega arith) (λ two. absurd (no_two k (subst (λ (e : ℕ). IsSign text at e k) two is))) (sign_ends text at end k is)

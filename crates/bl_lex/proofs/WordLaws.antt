@@ -27,9 +27,9 @@ found [] k w is = cc
 found (x ∷ xs) zero w is = let e : w ≡ x = cc in let same = (bytes_eq-Decides w x).1 e in grind (arith, same)
 found (x ∷ xs) (suc k) w is = let later = found xs k w is in either_way _ _ later
   where
-  either_way : (a b : Bool) → b ≡ true → (a || b) ≡ true
-  either_way true b e = refl
-  either_way false b e = e
+    either_way : (a b : Bool) → b ≡ true → (a || b) ≡ true
+    either_way true b e = refl
+    either_way false b e = e
 
 both_true : (a b : Bool) → not a && b ≡ true → (a ≡ false) × (b ≡ true)
 both_true true b is = cc
@@ -69,9 +69,9 @@ pub keyword_not_outside : (k j : ℕ) (w : List ℕ) → slice_get keywords k �
 unfolding is_inside
 keyword_not_outside k j w a b = clash (list_any (bytes_eq w) words_outside) (found words_outside j w b) (pass_at is_inside keywords k w keywords_inside a)
   where
-  clash : (b : Bool) → b ≡ true → not b ≡ true → ⊥
-  clash true is isnt = cc
-  clash false is isnt = cc
+    clash : (b : Bool) → b ≡ true → not b ≡ true → ⊥
+    clash true is isnt = cc
+    clash false is isnt = cc
 
 -- a reserved word doesn't begin with a digit
 begins_otherwise : List ℕ → Bool
@@ -101,8 +101,8 @@ outside_begins k w is = not_true _ (pass_at begins_otherwise words_outside k w w
 pub decimal_begins : (w : List ℕ) → IsDigits 10 w → begins_with_digit w ≡ true
 decimal_begins w is = digit_small (get_or w 0 0) (is.each 0 0 is.nonempty)
   where
-  digit_small : (c : ℕ) → digit_value c < 10 → begins_with_digit (c ∷ []) ≡ true
-  digit_small c small = grind (arith, nat_tests)
+    digit_small : (c : ℕ) → digit_value c < 10 → begins_with_digit (c ∷ []) ≡ true
+    digit_small c small = grind (arith, nat_tests)
 
 pub number_begins : {w : List ℕ} {n : ℕ} → IsNumber w n → begins_with_digit w ≡ true
 number_begins {w} is = ⊎_elim (λ d. decimal_begins w d.0) (⊎_elim (λ h. rw h.1 refl) (λ h. rw h.1 refl)) (number_cases is)
@@ -119,15 +119,15 @@ pub one_number : {w : List ℕ} {n m : ℕ} → IsNumber w n → IsNumber w m �
 one_number {w} a b = ⊎_elim
     (λ d. ⊎_elim (λ e. cc) (⊎_elim (λ h. absurd (not_marked 120 h.0 h.1 (omega arith) d.0)) (λ h. absurd (not_marked 98 h.0 h.1 (omega arith) d.0))) (number_cases b))
     (⊎_elim
-      (λ g. ⊎_elim (λ d. absurd (not_marked 120 g.0 g.1 (omega arith) d.0)) (⊎_elim (λ h. let e : g.0 ≡ h.0 = cc in cc) (λ h. absurd (two_marks g.1 h.1))) (number_cases b))
-      (λ g. ⊎_elim (λ d. absurd (not_marked 98 g.0 g.1 (omega arith) d.0)) (⊎_elim (λ h. absurd (two_marks h.1 g.1)) (λ h. let e : g.0 ≡ h.0 = cc in cc)) (number_cases b)))
+    (λ g. ⊎_elim (λ d. absurd (not_marked 120 g.0 g.1 (omega arith) d.0)) (⊎_elim (λ h. let e : g.0 ≡ h.0 = cc in cc) (λ h. absurd (two_marks g.1 h.1))) (number_cases b))
+    (λ g. ⊎_elim (λ d. absurd (not_marked 98 g.0 g.1 (omega arith) d.0)) (⊎_elim (λ h. absurd (two_marks h.1 g.1)) (λ h. let e : g.0 ≡ h.0 = cc in cc)) (number_cases b)))
     (number_cases a)
   where
-  two_marks : {g h : List ℕ} → w ≡ 48 ∷ 120 ∷ g → w ≡ 48 ∷ 98 ∷ h → ⊥
-  two_marks a b = let e : ◌≡◌ {A = ℕ} 120 98 = cc in omega arith
+    two_marks : {g h : List ℕ} → w ≡ 48 ∷ 120 ∷ g → w ≡ 48 ∷ 98 ∷ h → ⊥
+    two_marks a b = let e : ◌≡◌ {A = ℕ} 120 98 = cc in omega arith
 
 pub number_not_octal : {w : List ℕ} {n : ℕ} → IsNumber w n → ¬ IsOctal w
 number_not_octal {w} a b = ⊎_elim (λ d. not_marked 111 b.0 b.1 (omega arith) d.0) (⊎_elim (λ h. two_marks 120 h.1 b.1 (inr (omega arith))) (λ h. two_marks 98 h.1 b.1 (inl (omega arith)))) (number_cases a)
   where
-  two_marks : (mark : ℕ) {g h : List ℕ} → w ≡ 48 ∷ mark ∷ g → w ≡ 48 ∷ 111 ∷ h → (mark < 111) ⊎ (111 < mark) → ⊥
-  two_marks mark a b other = let e : ◌≡◌ {A = ℕ} mark 111 = cc in omega arith
+    two_marks : (mark : ℕ) {g h : List ℕ} → w ≡ 48 ∷ mark ∷ g → w ≡ 48 ∷ 111 ∷ h → (mark < 111) ⊎ (111 < mark) → ⊥
+    two_marks mark a b other = let e : ◌≡◌ {A = ℕ} mark 111 = cc in omega arith

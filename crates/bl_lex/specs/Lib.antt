@@ -3,3 +3,4 @@ pub mod Pieces
 pub mod Tokens
 pub mod Rules
 pub mod Steps
+pub mod Walk
