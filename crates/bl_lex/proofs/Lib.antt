@@ -6,3 +6,4 @@ pub mod WordLaws
 pub mod PieceLaws
 pub mod Ends
 pub mod WalkLaws
+pub mod RuleLaws

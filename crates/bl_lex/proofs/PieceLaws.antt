@@ -24,7 +24,7 @@ use Rattle.bl_lex.proofs.WordLaws.{one_keyword, one_sign, keyword_not_outside, k
 blank_no_word : (b : ℕ) → is_blank b ≡ true → is_word_byte b ≡ false
 blank_no_word b is = grind (arith, nat_tests)
 
-clash : (b : Bool) → b ≡ true → b ≡ false → ⊥
+pub clash : (b : Bool) → b ≡ true → b ≡ false → ⊥
 clash b is isnt = cc
 
 -- two ends of one kind are the same, where the lesser end would be inside the other

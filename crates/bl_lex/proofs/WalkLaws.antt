@@ -72,14 +72,14 @@ left_out_after text before tokens part ends (attribute front at bracket stands i
 
 left_out_by : (text : List ℕ) (before : Before) (tokens : List Part) (part : Part) → IsBefore before tokens → IsLeftOutAfter before part.form (slice_range text part.start part.end) → IsLeftOut text tokens part
 left_out_by text before tokens part ends is = ⊎_elim (λ e. outside e) (⊎_elim (λ e. open_brace e) (⊎_elim (λ e. close_brace e)
-  (λ a. let b : EndsAtBracket tokens = subst (λ (x : Before). IsBefore x tokens) a.0 ends in attribute b.front b.at b.bracket b.stands b.is_at b.is_bracket a.1 a.2))) is
+    (λ a. let b : EndsAtBracket tokens = subst (λ (x : Before). IsBefore x tokens) a.0 ends in attribute b.front b.at b.bracket b.stands b.is_at b.is_bracket a.1 a.2))) is
 
 none_push : (text : List ℕ) (tokens : List Part) (part : Part) → NoneLeftOut text tokens → ¬ IsLeftOut text tokens part → NoneLeftOut text (tokens ++ part ∷ [])
 none_push text tokens part none kept before p after stands left_out =
     ⊎_elim
-      (λ l. kept (subst (λ (q : Part). IsLeftOut text tokens q) (sym l.2) (subst (λ (ts : List Part). IsLeftOut text ts p) (sym l.1) left_out)))
-      (λ r. none before p r.0 r.2 left_out)
-      (where_in tokens before part p after stands)
+    (λ l. kept (subst (λ (q : Part). IsLeftOut text tokens q) (sym l.2) (subst (λ (ts : List Part). IsLeftOut text ts p) (sym l.1) left_out)))
+    (λ r. none before p r.0 r.2 left_out)
+    (where_in tokens before part p after stands)
 
 first_push : (text : List ℕ) (tokens : List Part) (part : Part) (place : Place) → IsFirstLeftOut text tokens place → IsFirstLeftOut text (tokens ++ part ∷ []) place
 first_push text tokens part place is = record {
@@ -123,9 +123,9 @@ earlier_kept None false other not_out = refl
 pub left_out_next : (text : List ℕ) (before : Before) (tokens : List Part) (part : Part) (found : Option Place) (left_out : Bool) → IsBefore before tokens → (IsTrue left_out ↔ IsLeftOutAfter before part.form (slice_range text part.start part.end)) → IsLeftOutPlace text tokens found → IsLeftOutPlace text (tokens ++ without_between (part ∷ [])) (earlier found left_out (place_of part))
 left_out_next text before tokens part found left_out ends is was = by_form (is_between part.form) refl
   where
-  by_form : (b : Bool) → is_between part.form ≡ b → IsLeftOutPlace text (tokens ++ without_between (part ∷ [])) (earlier found left_out (place_of part))
-  by_form true between = rw (between, append-nil tokens, earlier_kept found left_out (place_of part) (λ t. between_left_in before part.form (slice_range text part.start part.end) between (is.0 t))) was
-  by_form false token = rw token (left_out_push text before tokens part found left_out ends is was)
+    by_form : (b : Bool) → is_between part.form ≡ b → IsLeftOutPlace text (tokens ++ without_between (part ∷ [])) (earlier found left_out (place_of part))
+    by_form true between = rw (between, append-nil tokens, earlier_kept found left_out (place_of part) (λ t. between_left_in before part.form (slice_range text part.start part.end) between (is.0 t))) was
+    by_form false token = rw token (left_out_push text before tokens part found left_out ends is was)
 
 -- the parts and what covers them
 
@@ -163,12 +163,12 @@ module _ (text : List ℕ) (start end : ℕ) (form : Form) (scan next : Scan) (l
   part = record { start = start; end = end; form = form }
 
   pub scanned_next : IsScanned text start scan → IsLongest text (record { start = start; end = end; form = form })
-    → next.tokens.items ≡ scan.tokens.items ++ token_with form (record { start = start; end = end }) scan.line
-    → next.line ≡ scan.line + count_by (λ byte. byte == line_feed) (slice_range text start end)
-    → NextBefore scan.before form next.before
-    → (IsTrue left_out ↔ IsLeftOutAfter scan.before form (slice_range text start end))
-    → next.left_out ≡ earlier scan.left_out left_out (record { start = start; end = end })
-    → IsScanned text end next
+      → next.tokens.items ≡ scan.tokens.items ++ token_with form (record { start = start; end = end }) scan.line
+      → next.line ≡ scan.line + count_by (λ byte. byte == line_feed) (slice_range text start end)
+      → NextBefore scan.before form next.before
+      → (IsTrue left_out ↔ IsLeftOutAfter scan.before form (slice_range text start end))
+      → next.left_out ≡ earlier scan.left_out left_out (record { start = start; end = end })
+      → IsScanned text end next
   unfolding part
   scanned_next is longest tokens line before out found = record {
     parts = is.parts ++ part ∷ [];
