@@ -1,8 +1,10 @@
 -- What covers a text is one list of parts; so the first rule that fails is one, at one place.
-use Rattle.std.proofs.Common.{◌≡◌, ◌≢◌, ℕ, zero, suc, ◌+◌, ◌-◌, ◌<◌, ◌≤◌, Bool, true, false, cond, not, List, [], ◌∷◌, ◌++◌, ◌⊎◌, inl, inr, ⊎_elim, length, get_or, refl, ap, sym, ◌∙◌, subst, arith, append_assoc}
+use Rattle.std.proofs.Common.{◌≡◌, ◌≢◌, ℕ, zero, suc, ◌+◌, ◌-◌, ◌<◌, ◌≤◌, Bool, true, false, cond, not, List, [], ◌∷◌, ◌++◌, ◌⊎◌, inl, inr, ⊎_elim, length, get_or, refl, ap, sym, ◌∙◌, subst, arith, append_assoc, add-one}
 use Rattle.std.proofs.Math.ListN.{get_or-eq_default}
 use Rattle.std.proofs.str.Laws.{order}
-use Rattle.std.specs.Prelude.{Option, Some, None, slice_index, slice_range, All, ⊤}
+use Rattle.std.specs.Prelude.{Option, Some, None, option_map, slice_index, slice_range, All, ⊤}
+use Rattle.std.specs.List.{cons_option}
+use Rattle.bl_tree.specs.declared.token.TokenKind.{TokenKind}
 use Rattle.bl_tree.specs.declared.place.Place.{Place}
 use Rattle.bl_tree.specs.declared.token.Token.{Token}
 use Rattle.bl_lex.specs.declared.piece.Form.{Form}
@@ -10,9 +12,9 @@ use Rattle.bl_lex.specs.declared.piece.Form.TheVariants.{Outside}
 use Rattle.bl_lex.specs.declared.scan.Scan.{Scan}
 use Rattle.bl_lex.specs.Spelling.{is_word_byte, begins_with_digit, IsDigits, IsNumber, IsOctal}
 use Rattle.bl_lex.specs.Spelling.IsNumber.{decimal}
-use Rattle.bl_lex.specs.Pieces.{FractionAt, IsLineComment, IsBlockComment, IsWord, WordIs, IsSign, IsPiece, NoPieceAt, is_between}
+use Rattle.bl_lex.specs.Pieces.{FractionAt, IsLineComment, IsBlockComment, IsWord, WordIs, IsSign, IsPiece, NoPieceAt, kind_of, is_between}
 use Rattle.bl_lex.specs.Pieces.WordIs.{keyword, name, number, outside, octal, fraction}
-use Rattle.bl_lex.specs.Tokens.{Part, place_of, IsLongest, Covers, tokens_of, without_between, Lexes}
+use Rattle.bl_lex.specs.Tokens.{Part, place_of, IsLongest, Covers, line_at, tokens_of, without_between, Lexes}
 use Rattle.bl_lex.specs.Rules.{FailsSize, FailsLex, FailsProfile, IsStrayByte, IsUnclosedComment, IsMalformedNumber, IsFault, IsLeftOut, Fails, FailsFirst, IsNoLater, Passes}
 use Rattle.bl_lex.specs.Rules.IsLeftOut.{outside as left_outside}
 use Rattle.bl_lex.specs.Walk.{NoneLeftOut, IsFirstLeftOut, IsScanned, IsLeftOutPlace}
@@ -252,6 +254,43 @@ one_failure text rule other place elsewhere a b =
     same_place : (p q : Place) → IsNoLater p q → IsNoLater q p → p ≡ q
     same_place p q before after = let start : p.start ≡ q.start = omega arith in let end : p.end ≡ q.end = omega arith in λ i. record { start = start i; end = end i }
 
--- a token stands inside the text
-IsPlaced : List ℕ → ℕ → Token → Type 0
-IsPlaced text low token = (low ≤ token.place.start) × (token.place.start < token.place.end) × (token.place.end ≤ length text)
+-- tokens that stand one after the other in a text of this length
+ArePlaced : ℕ → ℕ → List Token → Type 0
+ArePlaced size low [] = Unit {0}
+ArePlaced size low (t ∷ ts) = (low ≤ t.place.start) × (t.place.start < t.place.end) × (t.place.end ≤ size) × ArePlaced size t.place.end ts
+
+placed_from : (size low more : ℕ) (ts : List Token) → low ≤ more → ArePlaced size more ts → ArePlaced size low ts
+unfolding ArePlaced
+placed_from size low more [] less a = tt
+placed_from size low more (t ∷ ts) less a = (omega (arith, a.0), a.1, a.2, a.3)
+
+tokens_placed : (text : List ℕ) (start : ℕ) (parts : List Part) (end : ℕ) → Covers text start parts end → ArePlaced (length text) start (tokens_of text parts)
+unfolding ArePlaced
+tokens_placed text start [] end c = tt
+tokens_placed text start (p ∷ ps) end c = by_kind (kind_of p.form) (tokens_placed text p.end ps end c.2)
+  where
+    by_kind : (kind : Option TokenKind) → ArePlaced (length text) p.end (tokens_of text ps)
+        → ArePlaced (length text) start (cons_option (option_map (λ k. record { kind = k; place = place_of p; line = line_at text p.start }) kind) (tokens_of text ps))
+    by_kind (Some kind) rest = (omega (arith, c.0), piece_forward text p.start c.1.piece, piece_inside text p.start c.1.piece, rest)
+    by_kind None rest = let forward = piece_forward text p.start c.1.piece in placed_from (length text) start p.end (tokens_of text ps) (omega (arith, c.0)) rest
+
+placed_at : (size low : ℕ) (ts : List Token) (k : ℕ) (d : Token) → ArePlaced size low ts → k < length ts → (low ≤ (get_or ts k d).place.start) × ((get_or ts k d).place.start < (get_or ts k d).place.end) × ((get_or ts k d).place.end ≤ size)
+unfolding ArePlaced
+placed_at size low [] k d a inside = absurd (omega arith)
+placed_at size low (t ∷ ts) zero d a inside = (a.0, a.1, a.2)
+placed_at size low (t ∷ ts) (suc k) d a inside = let h = placed_at size t.place.end ts k d a.3 (omega arith) in (omega (arith, h.0, a.0, a.1), h.1, h.2)
+
+placed_in_order : (size low : ℕ) (ts : List Token) (k : ℕ) (d : Token) → ArePlaced size low ts → suc k < length ts → (get_or ts k d).place.end ≤ (get_or ts (suc k) d).place.start
+unfolding ArePlaced
+placed_in_order size low [] k d a inside = absurd (omega arith)
+placed_in_order size low (t ∷ ts) zero d a inside = (placed_at size t.place.end ts zero d a.3 (omega arith)).0
+placed_in_order size low (t ∷ ts) (suc k) d a inside = placed_in_order size t.place.end ts k d a.3 (omega arith)
+
+lexed_placed : (text : List ℕ) (tokens : List Token) → Lexes text tokens → ArePlaced (length text) 0 tokens
+lexed_placed text tokens is = rw is.are_tokens (tokens_placed text 0 is.parts (length text) is.covers)
+
+pub tokens_inside : (text : List ℕ) (tokens : List Token) → Lexes text tokens → (k : ℕ) (d : Token) → k < length tokens → ((get_or tokens k d).place.start < (get_or tokens k d).place.end) × ((get_or tokens k d).place.end ≤ length text)
+tokens_inside text tokens is k d inside = let h = placed_at (length text) 0 tokens k d (lexed_placed text tokens is) inside in (h.1, h.2)
+
+pub tokens_in_order : (text : List ℕ) (tokens : List Token) → Lexes text tokens → (k : ℕ) (d : Token) → k + 1 < length tokens → (get_or tokens k d).place.end ≤ (get_or tokens (k + 1) d).place.start
+tokens_in_order text tokens is k d inside = rw add-one (placed_in_order (length text) 0 tokens k d (lexed_placed text tokens is) (omega arith))
