@@ -58,11 +58,3 @@ IsNoNumeral-marked mark digits not_decimal no_hex no_binary no_octal = record {
 -- a word whose second byte is no decimal digit isn't decimal
 pub not_decimal-mark : (mark : ℕ) (digits : List ℕ) → IsDigits 10 (48 ∷ mark ∷ digits) → digit_value mark < 10
 not_decimal-mark mark digits is = is.each 1 0 (omega arith)
-
-pub IsNoNumeral-short : (word : List ℕ) → ¬ IsDigits 10 word → (length word < 2) ⊎ (get_or word 0 0 ≢ 48) → IsNoNumeral word
-IsNoNumeral-short word not_decimal other = record {
-  no_number = λ n is. ⊎_elim (λ d. not_decimal d.0) (⊎_elim (λ h. marked_is_long h.1) (λ h. marked_is_long h.1)) (number_cases is);
-  not_octal = λ h. marked_is_long h.1;
-} where
-  marked_is_long : {mark : ℕ} {digits : List ℕ} → word ≡ 48 ∷ mark ∷ digits → ⊥
-  marked_is_long e = ⊎_elim (λ short. let n = ap length e in omega arith) (λ no_zero. no_zero (ap (λ l. get_or l 0 0) e)) other

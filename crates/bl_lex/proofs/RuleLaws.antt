@@ -115,19 +115,8 @@ fault_end text p q a b at =
 no_size : (text : List ℕ) → length text ≤ 1048576 → (place : Place) → ¬ FailsSize text place
 no_size text short place is = let long = is.too_long in omega arith
 
--- rule 1
-
 same_place_no_later : (p q : Place) → p.start ≡ q.start → p.end ≡ q.end → IsNoLater p q
 same_place_no_later p q s e = inr (s, omega arith)
-
-pub first_size : (text : List ℕ) → 1048576 < length text → FailsFirst text 1 (here 1048576 1048577)
-first_size text long = record {
-  fails = inl (refl, record { too_long = long; at = refl });
-  least_rule = λ other elsewhere fails. ⊎_elim (λ f. omega (arith, f.0)) (⊎_elim (λ f. omega (arith, f.0)) (λ f. omega (arith, f.0))) fails;
-  least_place = λ elsewhere fails. ⊎_elim
-      (λ f. let same = f.1.at in same_place_no_later (here 1048576 1048577) elsewhere (sym (ap (λ (p : Place). p.start) same)) (sym (ap (λ (p : Place). p.end) same)))
-      (⊎_elim (λ f. absurd (omega (arith, f.0))) (λ f. absurd (omega (arith, f.0)))) fails;
-}
 
 -- rule 2
 

@@ -40,10 +40,6 @@ not_both_ends tokens a b =
     let e = last_two a.front a.at (record { front = b.front; at = b.at; bracket = b.bracket; stands = sym a.stands ∙ b.stands; is_at = b.is_at; is_bracket = b.is_bracket }) in
     at_no_bracket (sym a.is_at ∙ e.1)
 
--- a token that is neither
-pub next_other : (before : Before) (tokens : List Part) (part : Part) → is_between part.form ≡ false → part.form ≢ Token (Sign 25) → part.form ≢ Token (Sign 2) → IsBefore Other (tokens ++ without_between (part ∷ []))
-next_other before tokens part token no_at no_bracket = rw token (λ ends. no_at (last_at tokens part ends), λ ends. no_bracket (last_two tokens part ends).1)
-
 -- `[` after no `@`
 pub next_bracket : (before : Before) (tokens : List Part) (part : Part) → part.form ≡ Token (Sign 2) → before ≢ At → IsBefore before tokens → IsBefore Other (tokens ++ without_between (part ∷ []))
 next_bracket before tokens part is no_at ends = let token : is_between part.form ≡ false = ap is_between is in rw token (

@@ -69,7 +69,7 @@ pub record IsSign (text : List ℕ) (start end k : ℕ) : Type 0 where
   pub spelled : slice_get signs k ≡ Some (slice_range text start end)
   pub no_comment : ¬ OpensComment text start
 
--- a piece of this form stands from `start` up to `end`
+-- a piece of this form stands from `start` up to `end`: a byte of white space, a comment, a word or a sign
 pub data IsPiece (text : List ℕ) (start end : ℕ) : Form → Type 0 where
   blank : start < length text → end ≡ start + 1 → is_blank (slice_index text start) ≡ true → IsPiece text start end Blank
   line_comment : IsLineComment text start end → IsPiece text start end Comment
