@@ -1,5 +1,5 @@
 -- Lists that end in one element more.
-use Rattle.std.proofs.Common.{◌≡◌, ◌≢◌, ℕ, zero, suc, List, [], ◌∷◌, ◌++◌, ◌⊎◌, inl, inr, ⊎_elim, refl, ap, sym, ◌∙◌, append_assoc}
+use Rattle.std.proofs.Common.{◌≡◌, List, [], ◌∷◌, ◌++◌, ◌⊎◌, inl, inr, ⊎_elim, refl}
 
 module _ {X : Type 0} where
   pub never_empty : (ys : List X) (y : X) (zs : List X) → [] ≡ ys ++ y ∷ zs → ⊥

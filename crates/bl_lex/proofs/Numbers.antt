@@ -1,11 +1,11 @@
 -- The kept value of digits, as one digit more is read, and how words spell numbers.
-use Rattle.std.proofs.Common.{◌≡◌, ◌≢◌, subst, ℕ, zero, suc, ◌+◌, ◌*◌, ◌^◌, ◌<◌, ◌≤◌, min, List, [], ◌∷◌, ◌++◌, ◌⊎◌, inl, inr, ⊎_elim, length, get_or, take, refl, ap, sym, ◌∙◌, arith, rules, length-append, add-one, true, false}
-use Rattle.std.proofs.Math.Nat.{pow-suc, min-eq_left, min-eq_right, mul-le-mul_left, mul-le-mul_right, pow-zero}
+use Rattle.std.proofs.Common.{◌≡◌, subst, ℕ, ◌+◌, ◌*◌, ◌^◌, ◌<◌, ◌≤◌, min, List, [], ◌∷◌, ◌++◌, ◌⊎◌, inl, inr, ⊎_elim, length, get_or, take, refl, arith, length-append, add-one}
+use Rattle.std.proofs.Math.Nat.{pow-suc, min-eq_right, mul-le-mul_left, mul-le-mul_right, pow-zero}
 use Rattle.std.proofs.Math.Seq.{take-suc}
 use Rattle.std.proofs.lemmas.List.{get_or_default}
 use Rattle.std.proofs.str.Laws.{order}
 use Rattle.std.specs.Char.{digit_value}
-use Rattle.bl_lex.specs.Spelling.{digits_value, IsDigits, IsNumber, IsOctal}
+use Rattle.bl_lex.specs.Spelling.{digits_value, IsDigits, IsNumber}
 use Rattle.bl_lex.specs.Spelling.IsNumber.{decimal, hexadecimal, binary}
 use Rattle.bl_lex.specs.Steps.{IsNoNumeral}
 

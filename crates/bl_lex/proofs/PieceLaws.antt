@@ -1,23 +1,22 @@
 -- What stands at a place, by its first byte; a piece has one form and one end; a fault begins no piece.
-use Rattle.std.proofs.Common.{◌≡◌, ◌≢◌, ℕ, zero, suc, ◌+◌, ◌-◌, ◌<◌, ◌≤◌, ◌^◌, min, Bool, true, false, List, [], ◌∷◌, ◌⊎◌, inl, inr, ⊎_elim, length, get_or, refl, ap, sym, ◌∙◌, subst, arith}
+use Rattle.std.proofs.Common.{◌≡◌, ◌≢◌, ℕ, ◌+◌, ◌-◌, ◌<◌, ◌≤◌, ◌^◌, min, Bool, true, false, List, [], ◌∷◌, ◌⊎◌, inl, inr, ⊎_elim, length, get_or, refl, ap, sym, ◌∙◌, subst, arith}
 use Rattle.std.proofs.lemmas.Bool.Decides.{nat_tests}
 use Rattle.std.proofs.str.Laws.{order}
-use Rattle.std.specs.Prelude.{slice_get, slice_index, slice_range, Option, Some, None, Result, Ok, Err, MatchResult}
+use Rattle.std.specs.Prelude.{slice_get, slice_range, Some, Result, Ok, Err, MatchResult}
 use Rattle.bl_tree.specs.declared.place.Place.{Place}
-use Rattle.bl_tree.specs.declared.token.TokenKind.TheVariants.{Name, Number, Word, Sign}
+use Rattle.bl_tree.specs.declared.token.TokenKind.TheVariants.{Number, Word, Sign}
 use Rattle.bl_lex.specs.declared.piece.Form.{Form}
-use Rattle.bl_lex.specs.declared.piece.Form.TheVariants.{Blank, Comment, Token, Outside}
-use Rattle.bl_lex.specs.Spelling.{signs, is_blank, is_word_byte, begins_with_digit, IsDigits, IsNumber, IsOctal}
-use Rattle.bl_lex.specs.Spelling.IsNumber.{decimal}
-use Rattle.bl_lex.specs.Pieces.{slash, star, OpensComment, ClosesComment, FractionAt, IsLineComment, IsBlockComment, IsWord, WordIs, IsSign, IsPiece, NoPieceAt}
+use Rattle.bl_lex.specs.declared.piece.Form.TheVariants.{Blank, Comment, Token}
+use Rattle.bl_lex.specs.Spelling.{signs, is_blank, is_word_byte}
+use Rattle.bl_lex.specs.Pieces.{IsLineComment, IsBlockComment, IsWord, WordIs, IsSign, IsPiece, NoPieceAt}
 use Rattle.bl_lex.specs.Pieces.WordIs.{keyword, name, number, outside, octal, fraction}
 use Rattle.bl_lex.specs.Pieces.IsPiece.{blank, line_comment, block_comment, word, sign}
-use Rattle.bl_lex.specs.Tokens.{Part, IsLongest}
+use Rattle.bl_lex.specs.Tokens.{IsLongest}
 use Rattle.bl_lex.specs.declared.piece.Piece.{Piece}
 use Rattle.bl_lex.specs.Steps.{IsWordPiece, IsLongestAt}
-use Rattle.bl_lex.specs.Rules.{IsStrayByte, IsUnclosedComment, IsMalformedNumber, IsFault}
+use Rattle.bl_lex.specs.Rules.{IsMalformedNumber, IsFault}
 use Rattle.bl_lex.proofs.Tables.{is_two_bytes, two_bytes_known}
-use Rattle.bl_lex.proofs.Signs.{sign_ends, sign_first, range_first, range_two}
+use Rattle.bl_lex.proofs.Signs.{sign_ends, sign_first, range_two}
 use Rattle.bl_lex.proofs.WordLaws.{one_keyword, one_sign, keyword_not_outside, keyword_begins, outside_begins, decimal_begins, number_begins, octal_begins, one_number, number_not_octal}
 
 -- no byte of words is white space

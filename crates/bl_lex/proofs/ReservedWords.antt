@@ -1,19 +1,19 @@
 -- A table of reserved words is right and whole if tests say so, which compute for each table.
 use Rattle.std.proofs.str.Laws.{order}
 use Rattle.std.proofs.lemmas.List.{get_or_default}
-use Rattle.std.proofs.Common.{ap, ◌≡◌, ◌≢◌, ℕ, suc, ◌+◌, ◌<◌, get_or, ⊎_elim, ◌≤◌, Bool, true, false, not, ◌&&◌, ◌||◌, ◌==◌, List, [], ◌∷◌, ◌⊎◌, inl, inr, length, refl, sym, ◌∙◌, arith, leb-true, rules}
-use Rattle.std.proofs.lemmas.Bool.{eq-eqb, eqb-true}
+use Rattle.std.proofs.Common.{ap, ◌≡◌, ◌≢◌, ℕ, suc, ◌+◌, ◌<◌, get_or, ⊎_elim, ◌≤◌, Bool, true, false, not, ◌&&◌, ◌||◌, ◌==◌, List, [], ◌∷◌, length, refl, sym, ◌∙◌, arith, leb-true}
+use Rattle.std.proofs.lemmas.Bool.{eq-eqb}
 use Rattle.std.proofs.lemmas.List.Sums.{AllPass-from_list_all}
 use Rattle.std.proofs.lemmas.List.Folds.{list_any_none}
 use Rattle.std.proofs.lemmas.Slice.Eq.{bytes_eq-Decides}
-use Rattle.std.specs.Prelude.{Option, Some, None, slice_get, nat_le, All}
+use Rattle.std.specs.Prelude.{Option, Some, None, slice_get, nat_le}
 use Rattle.std.specs.List.{list_all, list_any}
 use Rattle.std.specs.Str.{bytes_eq}
 use Rattle.bl_lex.specs.declared.reserved.Meaning.{Meaning}
 use Rattle.bl_lex.specs.declared.reserved.Meaning.TheVariants.{Keyword, Outside}
 use Rattle.bl_lex.specs.declared.reserved.Reserved.{Reserved}
 use Rattle.bl_lex.specs.Spelling.{keywords, words_outside}
-use Rattle.bl_lex.specs.Steps.{IsMeaningOf, IsUnreserved, AreReservedOf}
+use Rattle.bl_lex.specs.Steps.{IsMeaningOf, AreReservedOf}
 use Rattle.bl_lex.proofs.Tables.{pass_at}
 
 -- the word there is this text

@@ -1,24 +1,22 @@
 -- What covers a text is one list of parts; so the first rule that fails is one, at one place.
-use Rattle.std.proofs.Common.{◌≡◌, ◌≢◌, ℕ, zero, suc, ◌+◌, ◌-◌, ◌<◌, ◌≤◌, Bool, true, false, cond, not, List, [], ◌∷◌, ◌++◌, ◌⊎◌, inl, inr, ⊎_elim, length, get_or, refl, ap, sym, ◌∙◌, subst, arith, append_assoc, add-one}
+use Rattle.std.proofs.Common.{◌≡◌, ◌≢◌, ℕ, zero, suc, ◌+◌, ◌-◌, ◌<◌, ◌≤◌, Bool, true, false, cond, not, List, [], ◌∷◌, ◌++◌, ◌⊎◌, inl, inr, ⊎_elim, length, get_or, refl, ap, sym, ◌∙◌, subst, arith, add-one}
 use Rattle.std.proofs.Math.ListN.{get_or-eq_default}
 use Rattle.std.proofs.str.Laws.{order}
-use Rattle.std.specs.Prelude.{Option, Some, None, option_map, slice_index, slice_range, All, ⊤}
+use Rattle.std.specs.Prelude.{Option, Some, None, option_map, slice_range, All}
 use Rattle.std.specs.List.{cons_option}
 use Rattle.bl_tree.specs.declared.token.TokenKind.{TokenKind}
 use Rattle.bl_tree.specs.declared.place.Place.{Place}
 use Rattle.bl_tree.specs.declared.token.Token.{Token}
 use Rattle.bl_lex.specs.declared.piece.Form.{Form}
 use Rattle.bl_lex.specs.declared.piece.Form.TheVariants.{Outside}
-use Rattle.bl_lex.specs.declared.scan.Scan.{Scan}
-use Rattle.bl_lex.specs.Spelling.{is_word_byte, begins_with_digit, IsDigits, IsNumber, IsOctal}
+use Rattle.bl_lex.specs.Spelling.{is_word_byte}
 use Rattle.bl_lex.specs.Spelling.IsNumber.{decimal}
-use Rattle.bl_lex.specs.Pieces.{FractionAt, IsLineComment, IsBlockComment, IsWord, WordIs, IsSign, IsPiece, NoPieceAt, kind_of, is_between}
+use Rattle.bl_lex.specs.Pieces.{WordIs, IsPiece, NoPieceAt, kind_of, is_between}
 use Rattle.bl_lex.specs.Pieces.WordIs.{keyword, name, number, outside, octal, fraction}
 use Rattle.bl_lex.specs.Tokens.{Part, place_of, IsLongest, Covers, line_at, tokens_of, without_between, Lexes}
-use Rattle.bl_lex.specs.Rules.{FailsSize, FailsLex, FailsProfile, IsStrayByte, IsUnclosedComment, IsMalformedNumber, IsFault, IsLeftOut, Fails, FailsFirst, IsNoLater, Passes}
+use Rattle.bl_lex.specs.Rules.{FailsSize, FailsLex, FailsProfile, IsStrayByte, IsUnclosedComment, IsMalformedNumber, IsFault, Fails, FailsFirst, IsNoLater, Passes}
 use Rattle.bl_lex.specs.Rules.IsLeftOut.{outside as left_outside}
-use Rattle.bl_lex.specs.Walk.{NoneLeftOut, IsFirstLeftOut, IsScanned, IsLeftOutPlace}
-use Rattle.bl_lex.proofs.Signs.{range_first}
+use Rattle.bl_lex.specs.Walk.{NoneLeftOut, IsFirstLeftOut}
 use Rattle.bl_lex.proofs.WordLaws.{keyword_begins, outside_begins}
 use Rattle.bl_lex.proofs.PieceLaws.{clash, one_word, one_form, of_slash, of_word, piece_forward, piece_inside}
 

@@ -1,9 +1,8 @@
 -- What holds of each word and sign of the lists, found by computing it for all of them.
-use Rattle.std.proofs.Common.{◌≡◌, ◌≢◌, ℕ, zero, suc, Bool, true, false, cond, not, ◌&&◌, ◌||◌, ◌==◌, List, [], ◌∷◌, length, ◌≤◌, ◌⊎◌, inl, inr, refl, ap, sym, ◌∙◌, arith, leb-true}
-use Rattle.std.proofs.lemmas.Bool.Decides.{nat_tests}
-use Rattle.std.specs.Prelude.{slice_get, slice_index, Some, None, nat_le}
+use Rattle.std.proofs.Common.{◌≡◌, ℕ, zero, suc, Bool, true, false, not, ◌&&◌, ◌||◌, ◌==◌, List, [], ◌∷◌, refl, arith}
+use Rattle.std.specs.Prelude.{slice_get, slice_index, Some}
 use Rattle.std.specs.List.{list_all}
-use Rattle.bl_lex.specs.Spelling.{keywords, words_outside, signs, is_blank, is_word_byte, begins_with_digit}
+use Rattle.bl_lex.specs.Spelling.{signs, is_blank, is_word_byte}
 
 -- a test that all elements pass holds of the one at an index
 pub pass_at : {X : Type 0} (p : X → Bool) (xs : List X) (k : ℕ) (x : X) → list_all p xs ≡ true → slice_get xs k ≡ Some x → p x ≡ true

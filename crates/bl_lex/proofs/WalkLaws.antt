@@ -1,12 +1,12 @@
 -- One part more, in the walk over a text.
-use Rattle.std.proofs.Common.{◌≡◌, ◌≢◌, ℕ, zero, suc, ◌+◌, ◌-◌, ◌<◌, ◌≤◌, Bool, true, false, cond, not, List, [], ◌∷◌, ◌++◌, ◌⊎◌, inl, inr, ⊎_elim, length, get_or, take, drop, refl, ap, sym, ◌∙◌, subst, arith, append_assoc, take-add}
+use Rattle.std.proofs.Common.{◌≡◌, ◌≢◌, ℕ, ◌+◌, ◌-◌, ◌≤◌, Bool, true, false, List, [], ◌∷◌, ◌++◌, inl, inr, ⊎_elim, take, refl, ap, sym, ◌∙◌, subst, arith, append_assoc, take-add}
 use Rattle.std.proofs.lemmas.List.{append-nil}
 use Rattle.std.proofs.lemmas.List.Sums.{sum_by-append}
 use Rattle.std.proofs.lemmas.List.Elements.{filter-append, filter_map-append}
-use Rattle.std.specs.Prelude.{Option, Some, None, slice_range, count_by, ◌==◌, codes, filter, IsTrue, ◌↔◌, option_to_list}
+use Rattle.std.specs.Prelude.{Option, Some, None, slice_range, count_by, ◌==◌, IsTrue, ◌↔◌, option_to_list}
 use Rattle.std.specs.List.{cons_option}
 use Rattle.bl_tree.specs.declared.place.Place.{Place}
-use Rattle.bl_tree.specs.declared.token.TokenKind.TheVariants.{Name, Number, Word, Sign}
+use Rattle.bl_tree.specs.declared.token.TokenKind.TheVariants.{Sign}
 use Rattle.bl_lex.specs.declared.piece.Form.{Form}
 use Rattle.bl_lex.specs.declared.piece.Form.TheVariants.{Blank, Comment, Token, Outside}
 use Rattle.bl_lex.specs.declared.scan.Before.{Before}

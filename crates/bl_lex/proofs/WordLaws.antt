@@ -1,18 +1,12 @@
 -- A word is one thing: the lists of reserved words have each word once, and no word spells two numbers.
-use Rattle.std.proofs.Common.{◌≡◌, ◌≢◌, ℕ, zero, suc, ◌+◌, ◌<◌, ◌≤◌, ◌^◌, min, Bool, true, false, not, ◌&&◌, ◌||◌, List, [], ◌∷◌, ◌⊎◌, inl, inr, ⊎_elim, length, get_or, refl, ap, sym, ◌∙◌, subst, arith}
+use Rattle.std.proofs.Common.{◌≡◌, ℕ, zero, suc, ◌<◌, ◌≤◌, Bool, true, false, not, ◌&&◌, ◌||◌, List, [], ◌∷◌, ◌⊎◌, inl, inr, ⊎_elim, get_or, refl, ap, subst, arith}
 use Rattle.std.proofs.lemmas.Bool.Decides.{nat_tests}
 use Rattle.std.proofs.lemmas.Slice.Eq.{bytes_eq-Decides}
-use Rattle.std.specs.Prelude.{slice_get, slice_index, Option, Some, None}
+use Rattle.std.specs.Prelude.{slice_get, Some}
 use Rattle.std.specs.List.{list_all, list_any}
 use Rattle.std.specs.Str.{bytes_eq}
 use Rattle.std.specs.Char.{digit_value}
-use Rattle.bl_tree.specs.declared.token.TokenKind.TheVariants.{Name, Number, Word}
-use Rattle.bl_lex.specs.declared.piece.Form.{Form}
-use Rattle.bl_lex.specs.declared.piece.Form.TheVariants.{Token, Outside}
-use Rattle.bl_lex.specs.Spelling.{keywords, words_outside, signs, begins_with_digit, digits_value, IsDigits, IsNumber, IsOctal}
-use Rattle.bl_lex.specs.Spelling.IsNumber.{decimal}
-use Rattle.bl_lex.specs.Pieces.{FractionAt, WordIs}
-use Rattle.bl_lex.specs.Pieces.WordIs.{keyword, name, number, outside, octal, fraction}
+use Rattle.bl_lex.specs.Spelling.{keywords, words_outside, signs, begins_with_digit, IsDigits, IsNumber, IsOctal}
 use Rattle.bl_lex.proofs.Tables.{pass_at}
 use Rattle.bl_lex.proofs.Numbers.{number_cases, not_decimal-mark}
 

@@ -1,6 +1,5 @@
 -- How a text fails the rules Size, Lex and Profile, which are the rules 1 to 3, and at which place.
 use Rattle.std.specs.Prelude.{◌≡◌, ◌≢◌, ℕ, ◌+◌, ◌<◌, ◌≤◌, ◌⊎◌, true, false, List, [], ◌∷◌, ◌++◌, length, slice_index, slice_range, codes, ⊤}
-use Rattle.std.specs.Char.{is_ascii_digit}
 use Rattle.bl_tree.specs.declared.place.Place.{Place}
 use Rattle.bl_tree.specs.declared.place.Refusal.{Refusal}
 use Rattle.bl_tree.specs.declared.place.Refusal.TheVariants.{Rule, NoMemory}

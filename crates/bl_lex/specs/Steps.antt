@@ -10,7 +10,7 @@ use Rattle.bl_lex.specs.declared.reserved.Reserved.{Reserved}
 use Rattle.bl_lex.specs.declared.reserved.Meaning.TheVariants.{Keyword, Outside}
 use Rattle.bl_lex.specs.Spelling.{keywords, words_outside, digits_value, IsDigits, IsNumber, IsOctal}
 use Rattle.bl_lex.specs.Pieces.{IsWord, WordIs, IsSign}
-use Rattle.bl_lex.specs.Tokens.{Part, IsLongest}
+use Rattle.bl_lex.specs.Tokens.{IsLongest}
 
 -- the word is reserved, and means this
 abbrev pub IsMeaningOf : List ℕ → Meaning → Type 0

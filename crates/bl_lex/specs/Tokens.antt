@@ -2,7 +2,6 @@
 use Rattle.std.specs.Prelude.{◌≡◌, ◌≢◌, ℕ, ◌≤◌, ◌==◌, not, List, [], ◌∷◌, length, take, count_by, filter, filter_map, All, Option, option_map}
 use Rattle.bl_tree.specs.declared.place.Place.{Place}
 use Rattle.bl_tree.specs.declared.token.Token.{Token}
-use Rattle.bl_tree.specs.declared.token.TokenKind.{TokenKind}
 use Rattle.bl_lex.specs.declared.piece.Form.{Form}
 use Rattle.bl_lex.specs.declared.piece.Form.TheVariants.{Outside}
 use Rattle.bl_lex.specs.Pieces.{line_feed, IsPiece, kind_of, is_between}

@@ -1,7 +1,6 @@
-use Rattle.std.proofs.Common.{◌≡◌, ℕ, ◌<◌, refl, arith}
-use Rattle.std.specs.Char.{digit_value}
+use Rattle.std.proofs.Common.{refl, arith}
 use Rattle.bl_lex.specs.Spelling.IsNumber.{hexadecimal, binary}
-use Rattle.bl_lex.proofs.Numbers.{IsNoNumeral-marked, not_decimal-mark}
+use Rattle.bl_lex.proofs.Numbers.{IsNoNumeral-marked}
 use Rattle.bl_lex.proofs.number.marked.Goals as goal
 
 pub returns-in_err-value_of-in-120 : goal.returns-in_err-value_of-in-120

@@ -1,8 +1,6 @@
-use Rattle.std.proofs.Common.{◌≡◌, ℕ, ◌+◌, ◌*◌, ◌^◌, ◌<◌, min, take, length, get_or, arith, sym, ap, ◌∙◌, add-one, below_more, take_all, false-eqb}
-use Rattle.std.proofs.Math.Seq.{take-suc}
-use Rattle.std.specs.Char.{digit_value}
+use Rattle.std.proofs.Common.{◌≡◌, ◌^◌, min, take, arith, ap, ◌∙◌, below_more, take_all, false-eqb}
 use Rattle.bl_lex.specs.Spelling.{digits_value}
-use Rattle.bl_lex.proofs.Numbers.{kept-take, IsDigits-all, IsDigits-at}
+use Rattle.bl_lex.proofs.Numbers.{kept-take, IsDigits-all}
 use Rattle.bl_lex.proofs.number.value_of.Goals as goal
 
 pub loop-byte-preserved : goal.loop-byte-preserved

@@ -1,9 +1,6 @@
-use Rattle.std.proofs.Common.{◌≡◌, ℕ, ◌^◌, min, List, refl, rules}
-use Rattle.bl_lex.specs.Spelling.{digits_value, IsDigits, IsNumber}
+use Rattle.std.proofs.Common.{rules}
 use Rattle.bl_lex.specs.Spelling.IsNumber.{decimal}
-use Rattle.bl_lex.specs.Pieces.{FractionAt}
 use Rattle.bl_lex.specs.Pieces.WordIs.{number, octal, fraction}
-use Rattle.bl_lex.specs.Steps.{IsNumeral}
 use Rattle.bl_lex.proofs.piece.number_form.Goals as goal
 
 pub returns-then-before_fraction : goal.returns-then-before_fraction

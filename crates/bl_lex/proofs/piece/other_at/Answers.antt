@@ -1,4 +1,4 @@
-use Rattle.std.proofs.Common.{◌≡◌, ℕ, refl}
+use Rattle.std.proofs.Common.{refl}
 use Rattle.bl_lex.proofs.PieceLaws.{longest_sign, no_piece}
 use Rattle.bl_lex.proofs.piece.other_at.Goals as goal
 

@@ -1,4 +1,4 @@
-use Rattle.std.proofs.Common.{◌≡◌, ℕ, ◌∙◌, sym}
+use Rattle.std.proofs.Common.{sym}
 use Rattle.bl_lex.proofs.PieceLaws.{longest_blank, word_or_fault}
 use Rattle.bl_lex.proofs.piece.piece_at.Goals as goal
 

@@ -1,5 +1,4 @@
-use Rattle.std.proofs.Common.{◌≡◌, ℕ, ◌+◌, ◌≤◌, refl, arith}
-use Rattle.bl_lex.specs.Pieces.{IsSign}
+use Rattle.std.proofs.Common.{refl, arith}
 use Rattle.bl_lex.proofs.Signs.{sign_ends, only_ends, at_most_one}
 use Rattle.bl_lex.proofs.piece.sign_at.Goals as goal
 

@@ -1,7 +1,4 @@
-use Rattle.std.proofs.Common.{◌≡◌, ℕ, ◌+◌, ◌<◌, ◌≤◌, refl, rules, arith}
-use Rattle.std.specs.Prelude.{slice_get, Some}
-use Rattle.bl_lex.specs.Spelling.{signs}
-use Rattle.bl_lex.specs.Pieces.{IsSign}
+use Rattle.std.proofs.Common.{rules}
 use Rattle.bl_lex.proofs.Signs.{slash_sign}
 use Rattle.bl_lex.proofs.PieceLaws.{longest_line_comment, longest_slash}
 use Rattle.bl_lex.proofs.piece.slash_at.Goals as goal

@@ -1,4 +1,4 @@
-use Rattle.std.proofs.Common.{◌≡◌, ℕ, subst}
+use Rattle.std.proofs.Common.{subst}
 use Rattle.bl_lex.specs.Pieces.WordIs.{keyword, name, outside}
 use Rattle.bl_lex.specs.Steps.{IsMeaningOf}
 use Rattle.bl_lex.proofs.piece.word_form.Goals as goal

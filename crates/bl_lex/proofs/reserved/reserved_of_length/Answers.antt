@@ -1,4 +1,4 @@
-use Rattle.std.proofs.Common.{◌≡◌, ℕ, ◌<◌, ◌≤◌, refl, arith}
+use Rattle.std.proofs.Common.{refl, arith}
 use Rattle.bl_lex.specs.Spelling.{keywords, words_outside}
 use Rattle.bl_lex.proofs.ReservedWords.{is_right, is_listed, are_reserved, none_reserved}
 use Rattle.bl_lex.proofs.reserved.reserved_of_length.Goals as goal

@@ -1,9 +1,7 @@
-use Rattle.std.proofs.Common.{◌≡◌, ℕ, List, subst, refl}
+use Rattle.std.proofs.Common.{subst, refl}
 use Rattle.std.specs.Prelude.{Option}
 use Rattle.bl_tree.specs.declared.place.Place.{Place}
-use Rattle.bl_tree.specs.declared.place.Refusal.{Refusal}
-use Rattle.bl_lex.specs.Tokens.{Part, without_between}
-use Rattle.bl_lex.specs.Rules.{IsRefusalOf}
+use Rattle.bl_lex.specs.Tokens.{without_between}
 use Rattle.bl_lex.specs.Walk.{IsLeftOutPlace}
 use Rattle.bl_lex.proofs.RuleLaws.{first_profile, passes, each_has_a_kind}
 use Rattle.bl_lex.proofs.scan.Scan.finish.Goals as goal

@@ -1,4 +1,4 @@
-use Rattle.std.proofs.Common.{◌≡◌, ℕ, ◌+◌, ◌<◌, ◌≤◌, ◌++◌, length, arith, ap, ◌∙◌}
+use Rattle.std.proofs.Common.{◌+◌, ◌++◌, arith, ap, ◌∙◌}
 use Rattle.bl_tree.specs.declared.place.Place.{Place}
 use Rattle.bl_lex.specs.Walk.{earlier, token_with}
 use Rattle.bl_lex.proofs.PieceLaws.{piece_forward, piece_inside}
