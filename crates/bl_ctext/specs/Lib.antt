@@ -1,0 +1,7 @@
+pub mod Cut
+pub mod Names
+pub mod Prelude
+pub mod Spellable
+pub mod Spelling
+pub mod SpellsC
+pub mod Token

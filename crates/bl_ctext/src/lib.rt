@@ -2,5 +2,10 @@
 #![tactic(auto)]
 
 pub mod file;
+mod prelude;
+mod printer;
+mod writer;
 
 pub use file::CFile;
+pub use prelude::PRELUDE;
+pub use printer::print;
