@@ -7,14 +7,21 @@ use Rattle.bl_lex.specs.declared.piece.Form.{Form}
 use Rattle.bl_lex.specs.declared.piece.Form.TheVariants.{Blank, Comment, Token, Outside}
 use Rattle.bl_lex.specs.Spelling.{keywords, words_outside, signs, is_blank, is_word_byte, begins_with_digit, IsDigits, IsNumber, IsOctal}
 
+-- the byte that ends a line
 abbrev pub line_feed : ℕ
 line_feed = 10
 
+-- `/`
 abbrev pub slash : ℕ
 slash = 47
 
+-- `*`
 abbrev pub star : ℕ
 star = 42
+
+-- `.`
+abbrev pub point : ℕ
+point = 46
 
 -- `/*` stands here
 abbrev pub OpensComment : List ℕ → ℕ → Type 0
@@ -26,7 +33,7 @@ ClosesComment text at = (slice_index text at ≡ star) × (slice_index text (at 
 
 -- a `.` and a digit stand here
 abbrev pub FractionAt : List ℕ → ℕ → Type 0
-FractionAt text at = (slice_index text at ≡ 46) × (is_ascii_digit (slice_index text (at + 1)) ≡ true)
+FractionAt text at = (slice_index text at ≡ point) × (is_ascii_digit (slice_index text (at + 1)) ≡ true)
 
 -- `//` and what follows it on its line
 pub record IsLineComment (text : List ℕ) (start end : ℕ) : Type 0 where
@@ -52,7 +59,7 @@ pub record IsWord (text : List ℕ) (start end : ℕ) : Type 0 where
   pub each : (i : ℕ) → start ≤ i → i < end → is_word_byte (slice_index text i) ≡ true
   pub stops : end < length text → is_word_byte (slice_index text end) ≡ false
 
--- what a word is that ends here
+-- what a word is that ends here: a keyword, a name, a number, or what the profile leaves out
 pub data WordIs (text : List ℕ) (end : ℕ) (word : List ℕ) : Form → Type 0 where
   keyword : {k : ℕ} → slice_get keywords k ≡ Some word → WordIs text end word (Token (Word k))
   name : begins_with_digit word ≡ false → ((k : ℕ) → slice_get keywords k ≢ Some word) → ((k : ℕ) → slice_get words_outside k ≢ Some word) → WordIs text end word (Token Name)

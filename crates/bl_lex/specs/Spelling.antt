@@ -1,24 +1,16 @@
 -- How words, numbers and signs are spelled.
 use Rattle.std.specs.Prelude.{◌≡◌, ℕ, ◌+◌, ◌*◌, ◌^◌, ◌<◌, Bool, ◌||◌, ◌==◌, List, [], ◌∷◌, ◌++◌, length, slice_index, codes, All}
-use Rattle.std.specs.Char.{digit_value, is_ascii_digit, is_ascii_alphanumeric}
+use Rattle.std.specs.Char.{digit_value, is_ascii_digit}
+pub use Rattle.bl_tree.specs.Words.{is_word_byte}
+use Rattle.bl_tree.specs.Words
 
 -- the keywords, in the order of their positions
 unfoldable pub keywords : List (List ℕ)
-keywords =
-    codes "function" ∷ codes "activity" ∷ codes "returns" ∷ codes "return" ∷ codes "struct" ∷
-    codes "var" ∷ codes "let" ∷ codes "const" ∷ codes "if" ∷ codes "then" ∷ codes "elseif" ∷
-    codes "else" ∷ codes "end" ∷ codes "await" ∷ codes "run" ∷ codes "cobegin" ∷ codes "weak" ∷
-    codes "with" ∷ codes "when" ∷ codes "abort" ∷ codes "reset" ∷ codes "repeat" ∷
-    codes "until" ∷ codes "while" ∷ codes "prev" ∷ codes "as" ∷ codes "not" ∷ codes "and" ∷
-    codes "or" ∷ codes "true" ∷ codes "false" ∷ codes "bool" ∷ codes "int8" ∷ codes "int16" ∷
-    codes "int32" ∷ codes "int64" ∷ codes "nat8" ∷ codes "nat16" ∷ codes "nat32" ∷
-    codes "nat64" ∷ codes "bits8" ∷ codes "bits16" ∷ codes "bits32" ∷ codes "bits64" ∷ []
+keywords = Words.keywords
 
 -- the words of the whole language that the profile leaves out
 unfoldable pub words_outside : List (List ℕ)
-words_outside =
-    codes "float32" ∷ codes "float64" ∷ codes "param" ∷ codes "extern" ∷ codes "singleton" ∷
-    codes "unit" ∷ codes "import" ∷ codes "module" ∷ codes "enum" ∷ codes "suspend" ∷ []
+words_outside = Words.outside_words
 
 -- the signs, in the order of their positions
 unfoldable pub signs : List (List ℕ)
@@ -31,10 +23,6 @@ signs =
 -- white space: space, tab, carriage return and line feed
 abbrev pub is_blank : ℕ → Bool
 is_blank byte = byte == 32 || byte == 9 || byte == 13 || byte == 10
-
--- a byte of words: an ASCII letter, a digit or `_`
-abbrev pub is_word_byte : ℕ → Bool
-is_word_byte byte = is_ascii_alphanumeric byte || byte == 95
 
 -- the first byte of a word is a digit
 abbrev pub begins_with_digit : List ℕ → Bool

@@ -12,6 +12,7 @@ pub record Part : Type 0 where
   pub end : ℕ
   pub form : Form
 
+-- where a part stands
 abbrev pub place_of : Part → Place
 place_of part = record { start = part.start; end = part.end }
 
@@ -33,6 +34,7 @@ line_at text at = count_by (λ byte. byte == line_feed) (take at text)
 abbrev pub token_of : List ℕ → Part → Option Token
 token_of text part = option_map (λ kind. record { kind = kind; place = place_of part; line = line_at text part.start }) (kind_of part.form)
 
+-- the tokens among the parts, in order
 abbrev pub tokens_of : List ℕ → List Part → List Token
 tokens_of text parts = filter_map (token_of text) parts
 

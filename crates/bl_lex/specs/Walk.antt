@@ -58,6 +58,7 @@ pub record IsFirstLeftOut (text : List ℕ) (tokens : List Part) (place : Place)
   pub at : place ≡ place_of part
   pub first : NoneLeftOut text before
 
+-- the first token that the profile leaves out, if there is one, stands at this place
 abbrev pub IsLeftOutPlace : List ℕ → List Part → Option Place → Type 0
 IsLeftOutPlace text tokens None = NoneLeftOut text tokens
 IsLeftOutPlace text tokens (Some place) = IsFirstLeftOut text tokens place
