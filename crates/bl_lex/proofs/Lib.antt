@@ -7,3 +7,4 @@ pub mod PieceLaws
 pub mod Ends
 pub mod WalkLaws
 pub mod RuleLaws
+pub mod NameLaws

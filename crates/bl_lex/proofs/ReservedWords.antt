@@ -26,7 +26,7 @@ Some-is_spelled None text is = cc
 Some-is_spelled (Some word) text is = let e = (bytes_eq-Decides word text).0 is in cc
 
 -- a word of the list passes the test
-found_by : {X : Type 0} (p : X → Bool) (xs : List X) → list_any p xs ≡ true → (k : ℕ) × ((x : X) × (slice_get xs k ≡ Some x) × (p x ≡ true))
+pub found_by : {X : Type 0} (p : X → Bool) (xs : List X) → list_any p xs ≡ true → (k : ℕ) × ((x : X) × (slice_get xs k ≡ Some x) × (p x ≡ true))
 found_by p [] is = cc
 found_by {X} p (x ∷ xs) is = first (p x) refl is (found_by p xs)
   where
@@ -50,7 +50,7 @@ is_right entry = means entry.text.now entry.meaning
 unfoldable pub is_listed : ℕ → List Reserved → List ℕ → Bool
 is_listed n entries word = not (length word == n) || list_any (λ entry. bytes_eq entry.text.now word) entries
 
-false_unless : (b : Bool) → (b ≡ true → ⊥) → b ≡ false
+pub false_unless : (b : Bool) → (b ≡ true → ⊥) → b ≡ false
 false_unless true never = absurd (never refl)
 false_unless false never = refl
 
