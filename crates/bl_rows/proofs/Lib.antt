@@ -1,0 +1,4 @@
+pub mod Csv
+pub mod Numbers
+pub mod Seq
+pub mod Traces

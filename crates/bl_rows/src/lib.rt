@@ -1,0 +1,18 @@
+//! Rows of numbers read from bytes in any cut, and traces printed.
+#![tactic(auto)]
+
+mod fault;
+mod found;
+mod number;
+mod record;
+mod rows;
+mod trace;
+mod verdict;
+
+#[cfg(test)]
+mod tests;
+
+pub use fault::RowFault;
+pub use rows::Rows;
+pub use trace::{header, line};
+pub use verdict::{Place, Verdict};
