@@ -1,4 +1,5 @@
 pub mod Csv
 pub mod Numbers
+pub mod Records
 pub mod Seq
 pub mod Traces

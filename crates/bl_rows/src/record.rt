@@ -1,6 +1,8 @@
-ghost use Rattle.std.specs.Prelude.{◌≡◌, ◌+◌, ◌<◌, ◌^◌, length, IfOk, ℕ, Some, drop};
+ghost use Rattle.std.specs.Prelude.{◌≡◌, ◌+◌, ◌<◌, ◌^◌, length, ℕ, Some, drop, IfOk, List, option_map, get_or, []};
 ghost use Rattle.csv.specs.Records.{fields_of};
-ghost use Rattle.bl_rows.specs.Fields.{is_header, row_of, values_of, records_in};
+ghost use Rattle.bl_rows.specs.Fields.{is_header, row_of, value_of, values_of, records_in};
+ghost use Rattle.std.specs.List.{slice_get};
+ghost use Rattle.bl_rows.specs.Found.{is_word, starts_with_tick};
 ghost use Rattle.bl_rows.specs.Reading as spec;
 
 use crate::fault::RowFault;
@@ -8,7 +10,7 @@ use crate::found::{Found, read_records};
 use crate::number::{is_tick, value};
 use crate::verdict::{Place, Verdict};
 use bl_tree::row::{Column, Row};
-use bl_tree::{List, NoMemory};
+use bl_tree::{List, NoMemory, Scalar};
 use csv::ByteRecord;
 use std::alloc::Global;
 
@@ -90,14 +92,36 @@ fn judge_record(
     }
 }
 
+// The field at a place.
+#[tactic(auto, using(crate::proofs::Records::field_get))]
+fn field(fields: &ByteRecord, k: usize) -> Option<&[u8]>
+    ensures { option_map (λ f. f.now) result ≡ slice_get (fields_of fields.now) k }
+{
+    fields.get(k)
+}
+
+// Whether the field at a place is this word.
+fn field_is(fields: &ByteRecord, k: usize, word: &[u8]) -> bool
+    ensures { result ≡ is_word word.now (slice_get (fields_of fields.now) k) }
+{
+    match field(fields, k) {
+        Some(field) => field == word,
+        None => false,
+    }
+}
+
 fn header_matches(columns: &List<Column>, fields: &ByteRecord) -> bool
+    requires { length columns.now < 2 ^ 32 }
     ensures { result ≡ is_header columns.now (fields_of fields.now) }
 {
-    if fields.len() != columns.len() + 1 || fields.get(0) != Some(b"tick") {
+    if fields.len() != columns.len() + 1 {
+        return false;
+    }
+    if !field_is(fields, 0, b"tick") {
         return false;
     }
     'columns: for k in 0..columns.len() {
-        if fields.get(k + 1) != Some(columns[k].name.as_str().as_bytes()) {
+        if !field_is(fields, k + 1, columns[k].name.as_str().as_bytes()) {
             return false;
         }
     }
@@ -114,18 +138,23 @@ fn row(
     requires { length columns.now < 2 ^ 32 }
     ensures { IfOk result (λ row. row ≡ row_of columns.now tick (fields_of fields.now)) }
 {
-    match fields.get(0) {
-        Some(field) => {
-            if !is_tick(tick, field) {
-                return Ok(None);
-            }
-        }
-        None => return Ok(None),
-    }
     if fields.len() != columns.len() + 1 {
         return Ok(None);
     }
+    if !has_tick(tick, fields) {
+        return Ok(None);
+    }
     values(alloc, columns, fields)
+}
+
+// Whether the first field is the number of this tick.
+fn has_tick(tick: u32, fields: &ByteRecord) -> bool
+    ensures { result ≡ starts_with_tick tick (fields_of fields.now) }
+{
+    match field(fields, 0) {
+        Some(field) => is_tick(tick, field),
+        None => false,
+    }
 }
 
 // The numbers that the fields after the first give the columns.
@@ -140,13 +169,18 @@ fn values(
 {
     let mut row = Row::new(alloc, columns.len() as u32)?;
     'columns: for k in 0..columns.len() {
-        let Some(field) = fields.get(k + 1) else {
-            return Ok(None);
-        };
-        let Some(n) = value(columns[k].ty, field) else {
+        let Some(n) = value_at(columns[k].ty, fields, k + 1) else {
             return Ok(None);
         };
         row.set(k as u32, n);
     }
     Ok(Some(row))
+}
+
+// The number that the field at a place gives an input of this type.
+fn value_at(ty: Scalar, fields: &ByteRecord, k: usize) -> Option<i128>
+    requires { k < length (fields_of fields.now) }
+    ensures { result ≡ value_of ty (get_or (fields_of fields.now) k []) }
+{
+    value(ty, field(fields, k)?)
 }
