@@ -1,5 +1,8 @@
-ghost use Rattle.std.specs.Prelude.{◌≡◌, ◌++◌, Bool, true, false, Option, Some, None, List, Ok, Err, IfOk, IfErr, IfSome, OnOk, OnErr};
-ghost use Rattle.bl_rows.specs.Reading.{begun, read_on, rows_in, rows_after, fault_in, answer_of, Unrefused, Front, led_by_rows};
+ghost use Rattle.std.specs.Prelude.{◌≡◌, ◌++◌, ◌+◌, ◌<◌, ◌≤◌, ◌^◌, [], Bool, true, false, Option, Some, None, List, ℕ, length, position, ◌==◌, ◌∷◌, MatchOption, Ok, Err, IfOk, IfErr, IfSome, OnOk, OnErr};
+ghost use Rattle.bl_rows.specs.Lines.{has_feed};
+ghost use Rattle.bl_rows.specs.Fields.{records_in};
+ghost use Rattle.bl_rows.specs.Reading.{begun, read_on, rows_in, rows_after, fault_in, answer_of, overrun, over_limit as past_limit_at, Unrefused, Front, led_by_rows, judged, after, next_tick as tick_after, verdict as verdict_on};
+ghost use Rattle.bl_rows.specs.Steps.{fault_of, rows_by};
 
 use crate::fault::RowFault;
 use crate::record::{judge, over_limit};
@@ -60,6 +63,14 @@ impl Rows {
     /// feed, or already at the first byte past a limit. It comes again at every later call, want of memory too.
     pub fn feed(&mut self, piece: &[u8], into: &mut Vec<Row>) -> Result<(), RowFault>
         requires { self.old.ended ≡ false }
+        ensures answer { Unrefused result (result ≡ answer_of (fault_in self.old piece.now)) }
+        ensures rows { Unrefused result (into.new.items ≡ into.old.items ++ rows_in self.old piece.now) }
+        ensures front { Front into.old.items into.new.items (rows_in self.old piece.now) }
+        ensures state { OnOk result (self.new ≡ read_on self.old piece.now) }
+        ensures any_cut { (rest : List ℕ) → Unrefused result (rows_after self.old (piece.now ++ rest) ≡ led_by_rows (rows_in self.old piece.now) (rows_after self.new rest)) }
+        ensures stop { IfErr result (λ fault. self.new.stop ≡ Some fault) }
+        ensures repeats { IfSome self.old.stop (λ fault. (result ≡ Err fault) × (self.new ≡ self.old)) }
+        ensures open { self.new.ended ≡ false }
     {
         if let Some(fault) = self.stop {
             return Err(fault);
@@ -77,6 +88,13 @@ impl Rows {
     /// made again.
     pub fn finish(&mut self, into: &mut Vec<Row>) -> Result<(), RowFault>
         requires { self.old.ended ≡ false }
+        ensures answer { Unrefused result (result ≡ answer_of (rows_after self.old []).fault) }
+        ensures rows { Unrefused result (into.new.items ≡ into.old.items ++ (rows_after self.old []).rows) }
+        ensures front { Front into.old.items into.new.items (rows_after self.old []).rows }
+        ensures stop { IfErr result (λ fault. self.new.stop ≡ Some fault) }
+        ensures repeats { IfSome self.old.stop (λ fault. (result ≡ Err fault) × (self.new ≡ self.old)) }
+        ensures open { IfErr result (λ fault. self.new.ended ≡ false) }
+        ensures ended { OnOk result (self.new.ended ≡ true) }
     {
         if let Some(fault) = self.stop {
             return Err(fault);
@@ -94,14 +112,22 @@ impl Rows {
     }
 
     // Takes the whole lines of a piece, and keeps the rest.
-    fn take_lines(&mut self, piece: &[u8], into: &mut Vec<Row>) -> Result<(), NoMemory> {
+    fn take_lines(&mut self, piece: &[u8], into: &mut Vec<Row>) -> Result<(), NoMemory>
+        requires { self.old.stop ≡ None }
+        ensures stop { OnOk result (self.new.stop ≡ fault_in self.old piece.now) }
+        ensures rows { OnOk result (into.new.items ≡ into.old.items ++ rows_in self.old piece.now) }
+        ensures front { Front into.old.items into.new.items (rows_in self.old piece.now) }
+        ensures state { OnOk result (self.new.stop ≡ None → self.new ≡ read_on self.old piece.now) }
+        ensures columns { self.new.columns ≡ self.old.columns }
+        ensures ended { self.new.ended ≡ self.old.ended }
+    {
         let mut fields = ByteRecord::new(self.alloc);
         let mut rest = piece;
         'lines: while self.stop.is_none() {
-            match rest.iter().position(|b| *b == b'\n') {
-                Some(end) => {
-                    self.take_line(&rest[..end], &mut fields, into)?;
-                    rest = &rest[end + 1..];
+            match first_line(rest) {
+                Some((line, after)) => {
+                    self.take_line(line, &mut fields, into)?;
+                    rest = after;
                 }
                 None => return self.keep(rest),
             }
@@ -110,26 +136,61 @@ impl Rows {
     }
 
     // Keeps the bytes of an unfinished line, or stops where they are too many.
-    fn keep(&mut self, rest: &[u8]) -> Result<(), NoMemory> {
-        let size = self.line.len() + rest.len();
-        if size > 0 {
-            self.stop = over_limit(self.at, size);
+    #[tactic(auto, using(crate::proofs::Verdicts::kept_short, crate::proofs::Cuts::feedless_append))]
+    fn keep(&mut self, rest: &[u8]) -> Result<(), NoMemory>
+        requires stop { self.old.stop ≡ None }
+        requires rest { has_feed rest.now ≡ false }
+        ensures stop { OnOk result (self.new.stop ≡ overrun self.old.at (self.old.line ++ rest.now)) }
+        ensures line { OnOk result (self.new.stop ≡ None → self.new.line ≡ self.old.line ++ rest.now) }
+        ensures at { self.new.at ≡ self.old.at }
+        ensures columns { self.new.columns ≡ self.old.columns }
+        ensures ended { self.new.ended ≡ self.old.ended }
+    {
+        if let Some(fault) = self.overrun(rest) {
+            self.stop = Some(fault);
+            return Ok(());
         }
-        if self.stop.is_none() {
-            self.line.extend_from_slice(rest)?;
-        }
+        self.line.extend_from_slice(rest)?;
         Ok(())
     }
 
+    // The fault of the line with these bytes at its end, where it is past a limit.
+    fn past_limit(&self, end: &[u8]) -> Option<RowFault>
+        ensures { result ≡ past_limit_at self.now.at (length (self.now.line ++ end.now)) }
+    {
+        over_limit(self.at, self.line.len() + end.len())
+    }
+
+    // The same of a line that goes on, and that may not have begun.
+    fn overrun(&self, end: &[u8]) -> Option<RowFault>
+        ensures { result ≡ overrun self.now.at (self.now.line ++ end.now) }
+    {
+        if self.line.is_empty() && end.is_empty() {
+            return None;
+        }
+        self.past_limit(end)
+    }
+
     // Takes the line that ends with these bytes.
+    #[tactic(auto, using(crate::proofs::Verdicts::past_limit, crate::proofs::Verdicts::in_limit))]
     fn take_line(
         &mut self,
         end: &[u8],
         fields: &mut ByteRecord,
         into: &mut Vec<Row>,
-    ) -> Result<(), NoMemory> {
-        self.stop = over_limit(self.at, self.line.len() + end.len());
-        if self.stop.is_some() {
+    ) -> Result<(), NoMemory>
+        requires stop { self.old.stop ≡ None }
+        requires end { has_feed end.now ≡ false }
+        ensures stop { OnOk result (self.new.stop ≡ fault_of (verdict_on self.old.columns self.old.at (self.old.line ++ end.now))) }
+        ensures at { OnOk result (self.new.at ≡ after self.old.at (verdict_on self.old.columns self.old.at (self.old.line ++ end.now))) }
+        ensures rows { OnOk result (into.new.items ≡ into.old.items ++ rows_by (verdict_on self.old.columns self.old.at (self.old.line ++ end.now))) }
+        ensures line { OnOk result (self.new.stop ≡ None → self.new.line ≡ []) }
+        ensures none { OnErr result (into.new.items ≡ into.old.items) }
+        ensures columns { self.new.columns ≡ self.old.columns }
+        ensures ended { self.new.ended ≡ self.old.ended }
+    {
+        if let Some(fault) = self.past_limit(end) {
+            self.stop = Some(fault);
             return Ok(());
         }
         let verdict = self.judge_line(end, fields)?;
@@ -137,7 +198,15 @@ impl Rows {
     }
 
     // What the line is that ends with these bytes. None of it is kept.
-    fn judge_line(&mut self, end: &[u8], fields: &mut ByteRecord) -> Result<Verdict, NoMemory> {
+    #[tactic(auto, using(crate::proofs::Cuts::feedless_append))]
+    fn judge_line(&mut self, end: &[u8], fields: &mut ByteRecord) -> Result<Verdict, NoMemory>
+        requires lines { self.old.at.lines < 1000000 }
+        requires end { has_feed end.now ≡ false }
+        requires size { length self.old.line + length end.now ≤ 65536 }
+        ensures verdict { IfOk result (λ found. found ≡ judged self.old.columns self.old.at (records_in (self.old.line ++ end.now))) }
+        ensures line { OnOk result (self.new ≡ record self.old { line = [] }) }
+        ensures same { self.new ≡ record self.old { line = self.new.line } }
+    {
         if self.line.is_empty() {
             return judge(self.alloc, &self.columns, self.at, end, fields);
         }
@@ -148,7 +217,18 @@ impl Rows {
     }
 
     // Goes on after a line.
-    fn apply(&mut self, verdict: Verdict, into: &mut Vec<Row>) -> Result<(), NoMemory> {
+    fn apply(&mut self, verdict: Verdict, into: &mut Vec<Row>) -> Result<(), NoMemory>
+        requires lines { self.old.at.lines < 1000000 }
+        requires stop { self.old.stop ≡ None }
+        requires line { self.old.line ≡ [] }
+        ensures stop { OnOk result (self.new.stop ≡ fault_of verdict) }
+        ensures at { OnOk result (self.new.at ≡ after self.old.at verdict) }
+        ensures rows { OnOk result (into.new.items ≡ into.old.items ++ rows_by verdict) }
+        ensures line { self.new.line ≡ [] }
+        ensures none { OnErr result (into.new.items ≡ into.old.items) }
+        ensures columns { self.new.columns ≡ self.old.columns }
+        ensures ended { self.new.ended ≡ self.old.ended }
+    {
         match verdict {
             Verdict::Passed => self.at.lines += 1,
             Verdict::Header => {
@@ -161,10 +241,7 @@ impl Rows {
                 if into.push(row).is_err() {
                     return Err(NoMemory);
                 }
-                self.at = Place {
-                    lines: self.at.lines + 1,
-                    ticks: self.at.ticks.map(|t| t + 1),
-                };
+                self.at = next_tick(self.at);
             }
             Verdict::Bad(fault) => self.stop = Some(fault),
         }
@@ -172,7 +249,13 @@ impl Rows {
     }
 
     // Takes the unfinished line where there is one, and asks for the header.
-    fn take_last(&mut self, into: &mut Vec<Row>) -> Result<(), NoMemory> {
+    fn take_last(&mut self, into: &mut Vec<Row>) -> Result<(), NoMemory>
+        requires { self.old.stop ≡ None }
+        ensures stop { OnOk result (self.new.stop ≡ (rows_after self.old []).fault) }
+        ensures rows { OnOk result (into.new.items ≡ into.old.items ++ (rows_after self.old []).rows) }
+        ensures none { OnErr result (into.new.items ≡ into.old.items) }
+        ensures ended { self.new.ended ≡ self.old.ended }
+    {
         if !self.line.is_empty() {
             let mut fields = ByteRecord::new(self.alloc);
             self.take_line(&[], &mut fields, into)?;
@@ -183,6 +266,39 @@ impl Rows {
             });
         }
         Ok(())
+    }
+}
+
+// Where a reader stands after a row.
+fn next_tick(at: Place) -> Place
+    requires lines { at.lines < 1000000 }
+    requires ticks { (t : ℕ) → at.ticks ≡ Some t → t ≤ at.lines }
+    ensures place { result ≡ record { lines = at.lines + 1; ticks = tick_after at.ticks } }
+    ensures ticks { (t : ℕ) → result.ticks ≡ Some t → t ≤ result.lines }
+{
+    Place {
+        lines: at.lines + 1,
+        ticks: match at.ticks {
+            Some(t) => Some(t + 1),
+            None => None,
+        },
+    }
+}
+
+// The place of the first line feed.
+fn first_feed(bytes: &[u8]) -> Option<usize>
+    ensures { result ≡ position (λ b. b == 10) bytes.now }
+{
+    bytes.iter().position(|b| *b == b'\n')
+}
+
+// The first line that a line feed ends, and the bytes after that.
+fn first_line(bytes: &[u8]) -> Option<(&[u8], &[u8])>
+    ensures { MatchOption result (has_feed bytes.now ≡ false) (λ parts. (has_feed parts.0.now ≡ false) × (bytes.now ≡ parts.0.now ++ 10 ∷ parts.1.now)) }
+{
+    match first_feed(bytes) {
+        Some(end) => Some((&bytes[..end], &bytes[end + 1..])),
+        None => None,
     }
 }
 
