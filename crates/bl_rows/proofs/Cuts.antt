@@ -7,7 +7,7 @@ use Rattle.std.proofs.Math.Seq.{split_at}
 use Rattle.std.specs.List.{prefix_len, position_or_len}
 use Rattle.bl_rows.specs.Lines.{Cut, cut, led_by, whole_lines, unfinished, last_line, lines_of, has_feed}
 
-or_false : (a b : Bool) → (a || b) ≡ false → (a ≡ false) × (b ≡ false)
+pub or_false : (a b : Bool) → (a || b) ≡ false → (a ≡ false) × (b ≡ false)
 or_false true b h = cc
 or_false false b h = (refl, h)
 
@@ -28,7 +28,7 @@ cut_none (b ∷ l) h = let p = or_false (b == 10) (has_feed l) h in rw (p.0, cut
 cut_feed : (b : ℕ) (bytes : List ℕ) → (b == 10) ≡ true → cut (b ∷ bytes) ≡ record { whole = [] ∷ (cut bytes).whole; rest = (cut bytes).rest }
 cut_feed b bytes h = rw h refl
 
-cut_other : (b : ℕ) (bytes : List ℕ) → (b == 10) ≡ false → cut (b ∷ bytes) ≡ led_by b (cut bytes).whole (cut bytes).rest
+pub cut_other : (b : ℕ) (bytes : List ℕ) → (b == 10) ≡ false → cut (b ∷ bytes) ≡ led_by b (cut bytes).whole (cut bytes).rest
 cut_other b bytes h = rw h refl
 
 -- the lines of bytes in two pieces, by the lines of the first

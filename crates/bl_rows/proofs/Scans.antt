@@ -153,3 +153,7 @@ map_ok (Err e) f h = h
 pub ok_by : {T E : Type 0} {P : Type 0} (r : Result T E) → P → OnOk r P
 ok_by (Ok x) h = h
 ok_by (Err e) h = tt
+
+pub both_ok : {T E : Type 0} {P Q S : Type 0} (r : Result T E) → (P → Q → S) → OnOk r P → OnOk r Q → OnOk r S
+both_ok (Ok x) f h g = f h g
+both_ok (Err e) f h g = tt

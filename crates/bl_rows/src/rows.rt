@@ -1,7 +1,7 @@
-ghost use Rattle.std.specs.Prelude.{◌≡◌, ◌++◌, ◌+◌, ◌<◌, ◌≤◌, ◌^◌, [], Bool, true, false, Option, Some, None, List, ℕ, length, position, ◌==◌, ◌∷◌, MatchOption, Ok, Err, IfOk, IfErr, IfSome, OnOk, OnErr};
+ghost use Rattle.std.specs.Prelude.{◌≡◌, ◌≢◌, ◌++◌, ◌+◌, ◌<◌, ◌≤◌, ◌^◌, [], Bool, true, false, Option, Some, None, List, ℕ, length, position, ◌==◌, ◌∷◌, MatchOption, Ok, Err, IfOk, IfErr, IfSome, OnOk, OnErr};
 ghost use Rattle.bl_rows.specs.Lines.{has_feed};
 ghost use Rattle.bl_rows.specs.Fields.{records_in};
-ghost use Rattle.bl_rows.specs.Reading.{begun, read_on, rows_in, rows_after, fault_in, answer_of, overrun, over_limit as past_limit_at, Unrefused, Front, led_by_rows, judged, after, next_tick as tick_after, verdict as verdict_on};
+ghost use Rattle.bl_rows.specs.Reading.{begun, read_on, rows_in, rows_after, fault_in, answer_of, overrun, over_limit as past_limit_at, Unrefused, Front, led_by_rows, judged, after, fault_at_end, next_tick as tick_after, verdict as verdict_on};
 ghost use Rattle.bl_rows.specs.Steps.{fault_of, rows_by};
 
 use crate::fault::RowFault;
@@ -75,13 +75,8 @@ impl Rows {
         if let Some(fault) = self.stop {
             return Err(fault);
         }
-        if self.take_lines(piece, into).is_err() {
-            self.stop = Some(RowFault::NoMemory);
-        }
-        match self.stop {
-            Some(fault) => Err(fault),
-            None => Ok(()),
-        }
+        let taken = self.take_lines(piece, into);
+        self.answer(taken)
     }
 
     /// Says that the bytes end, and appends the row of the unfinished line if it is one. After Ok neither call may be
@@ -99,15 +94,23 @@ impl Rows {
         if let Some(fault) = self.stop {
             return Err(fault);
         }
-        if self.take_last(into).is_err() {
+        let taken = self.take_last(into);
+        self.answer(taken)?;
+        self.ended = true;
+        Ok(())
+    }
+
+    // The answer of a call that took these lines, and the fault that later calls repeat.
+    fn answer(&mut self, taken: Result<(), NoMemory>) -> Result<(), RowFault>
+        ensures taken { OnOk taken ((result ≡ answer_of self.old.stop) × (self.new ≡ self.old)) }
+        ensures refused { OnErr taken ((result ≡ Err RowFault.NoMemory) × (self.new ≡ record self.old { stop = Some RowFault.NoMemory })) }
+    {
+        if taken.is_err() {
             self.stop = Some(RowFault::NoMemory);
         }
         match self.stop {
             Some(fault) => Err(fault),
-            None => {
-                self.ended = true;
-                Ok(())
-            }
+            None => Ok(()),
         }
     }
 
@@ -253,19 +256,48 @@ impl Rows {
         requires { self.old.stop ≡ None }
         ensures stop { OnOk result (self.new.stop ≡ (rows_after self.old []).fault) }
         ensures rows { OnOk result (into.new.items ≡ into.old.items ++ (rows_after self.old []).rows) }
-        ensures none { OnErr result (into.new.items ≡ into.old.items) }
+        ensures front { Front into.old.items into.new.items (rows_after self.old []).rows }
         ensures ended { self.new.ended ≡ self.old.ended }
     {
-        if !self.line.is_empty() {
-            let mut fields = ByteRecord::new(self.alloc);
-            self.take_line(&[], &mut fields, into)?;
+        self.take_rest(into)?;
+        self.ask_for_header();
+        Ok(())
+    }
+
+    // Takes the unfinished line where there is one.
+    fn take_rest(&mut self, into: &mut Vec<Row>) -> Result<(), NoMemory>
+        requires { self.old.stop ≡ None }
+        ensures stop { OnOk result (fault_at_end self.new.at self.new.stop ≡ (rows_after self.old []).fault) }
+        ensures rows { OnOk result (into.new.items ≡ into.old.items ++ (rows_after self.old []).rows) }
+        ensures front { Front into.old.items into.new.items (rows_after self.old []).rows }
+        ensures ended { self.new.ended ≡ self.old.ended }
+    {
+        if !self.has_begun_line() {
+            return Ok(());
         }
+        let mut fields = ByteRecord::new(self.alloc);
+        self.take_line(&[], &mut fields, into)
+    }
+
+    // Whether the unfinished line has any bytes.
+    fn has_begun_line(&self) -> bool
+        ensures none { result ≡ false → self.now.line ≡ [] }
+        ensures some { result ≡ true → self.now.line ≢ [] }
+        ensures feedless { has_feed self.now.line ≡ false }
+    {
+        !self.line.is_empty()
+    }
+
+    // Stops a reader of bytes that end without a header.
+    fn ask_for_header(&mut self)
+        ensures stop { self.new.stop ≡ fault_at_end self.old.at self.old.stop }
+        ensures ended { self.new.ended ≡ self.old.ended }
+    {
         if self.stop.is_none() && self.at.ticks.is_none() {
             self.stop = Some(RowFault::BadHeader {
                 line: self.at.lines + 1,
             });
         }
-        Ok(())
     }
 }
 
