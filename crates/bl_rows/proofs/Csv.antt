@@ -11,7 +11,7 @@ use Rattle.bl_rows.specs.Found.{Finds}
 use Rattle.bl_rows.specs.declared.found.Found.TheVariants.{Nothing, One, Several}
 
 -- all records by the first read and the rest
-records_by : (xs : List ℕ) → records default_config xs ≡ records_next (records_from default_config (length xs)) (next_record default_config st.StartRecord [] [] xs)
+pub records_by : (xs : List ℕ) → records default_config xs ≡ records_next (records_from default_config (length xs)) (next_record default_config st.StartRecord [] [] xs)
 unfolding records_from
 records_by xs = rw add-one refl
 

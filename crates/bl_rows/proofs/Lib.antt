@@ -2,6 +2,7 @@ pub mod Csv
 pub mod Cuts
 pub mod Numbers
 pub mod Pieces
+pub mod Plain
 pub mod Records
 pub mod Scans
 pub mod Seq

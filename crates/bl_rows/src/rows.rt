@@ -1,7 +1,7 @@
 ghost use Rattle.std.specs.Prelude.{◌≡◌, ◌≢◌, ◌++◌, ◌+◌, ◌<◌, ◌≤◌, ◌^◌, [], Bool, true, false, Option, Some, None, List, ℕ, length, position, ◌==◌, ◌∷◌, MatchOption, Ok, Err, IfOk, IfErr, IfSome, OnOk, OnErr};
 ghost use Rattle.bl_rows.specs.Lines.{has_feed};
 ghost use Rattle.bl_rows.specs.Fields.{records_in};
-ghost use Rattle.bl_rows.specs.Reading.{begun, read_on, rows_in, rows_after, fault_in, answer_of, overrun, over_limit as past_limit_at, Unrefused, Front, led_by_rows, judged, after, fault_at_end, next_tick as tick_after, verdict as verdict_on};
+ghost use Rattle.bl_rows.specs.Reading.{begun, read_on, rows_in, rows_after, rows_of, fault_in, answer_of, overrun, over_limit as past_limit_at, Unrefused, Front, led_by_rows, judged, after, fault_at_end, next_tick as tick_after, verdict as verdict_on};
 ghost use Rattle.bl_rows.specs.Steps.{fault_of, rows_by};
 
 use crate::fault::RowFault;
@@ -40,8 +40,10 @@ impl Model for Rows {
 
 impl Rows {
     /// A reader that has read nothing, for these inputs. Fails only for want of memory.
+    #[tactic(auto, unfolding(crate::specs::Reading::rows_after, crate::specs::Reading::rows_of))]
     pub fn new(alloc: Global, ins: &List<Column>) -> Result<Rows, NoMemory>
-        ensures rows { IfOk result (λ rows. rows ≡ begun ins.now) }
+        ensures begun { IfOk result (λ rows. rows ≡ begun ins.now) }
+        ensures told { IfOk result (λ rows. (bytes : List ℕ) → rows_after rows bytes ≡ rows_of bytes ins.now) }
     {
         if ins.len() > u32::MAX as usize {
             return Err(NoMemory);
