@@ -10,7 +10,8 @@ use Rattle.bl_rows.specs.declared.verdict.Place.{Place}
 use Rattle.bl_rows.specs.Lines.{Cut, cut, led_by, whole_lines, unfinished, last_line, lines_of, has_feed}
 use Rattle.bl_rows.specs.Reading.{Reading, Scan, scan, scanned, verdict, over_limit, overrun, after, led_by_line, Told, told, first_of, fault_of_scan, fault_in, rows_in, read_on, rows_after, led_by_rows, unless_stopped, fault_at_end, Front, Unrefused, answer_of}
 use Rattle.bl_rows.specs.Steps.{fault_of, rows_by, with_rows}
-use Rattle.bl_rows.proofs.Cuts.{cut_none, cut_other, lines_append, unfinished_feedless, or_false}
+use Rattle.bl_rows.proofs.Scans.{ok_by, rows_of_scan}
+use Rattle.bl_rows.proofs.Cuts.{cut_none, cut_append, cut_other, lines_append, unfinished_feedless, or_false}
 use Rattle.bl_rows.proofs.Verdicts.{past_limit}
 
 -- lines in two parts
@@ -32,7 +33,7 @@ unfolding then_by
 scan_append columns at [] b = refl
 scan_append columns at (line ∷ a) b =
     ap (λ (s : Scan). led_by_line at (verdict columns at line) s) (scan_append columns (after at (verdict columns at line)) a b)
-      ∙ led_then columns at (verdict columns at line) _ (scan columns (after at (verdict columns at line)) a) b refl
+    ∙ led_then columns at (verdict columns at line) _ (scan columns (after at (verdict columns at line)) a) b refl
 
 -- the lines of bytes that go on after a start without a line feed
 led_all : List ℕ → List (List ℕ) → List ℕ → Cut
@@ -102,10 +103,10 @@ after_piece before now piece rest running stop state =
     let s = scanned before piece in
     let fault : now.stop ≡ first_of s.fault (overrun s.at (unfinished x)) = stop ∙ rw running refl in
     let lines : scan before.columns before.at (lines_of (before.line ++ (piece ++ rest))) ≡ then_by before.columns s.fault s (lines_of (unfinished x ++ rest)) =
-        ap (λ l. scan before.columns before.at (lines_of l)) (sym (append_assoc before.line piece rest))
-          ∙ (ap (λ l. scan before.columns before.at l) (lines_append x rest) ∙ scan_append before.columns before.at (whole_lines x) (lines_of (unfinished x ++ rest))) in
+    ap (λ l. scan before.columns before.at (lines_of l)) (sym (append_assoc before.line piece rest))
+    ∙ (ap (λ l. scan before.columns before.at l) (lines_append x rest) ∙ scan_append before.columns before.at (whole_lines x) (lines_of (unfinished x ++ rest))) in
     rw running (ap told lines ∙ by_scan before.columns s (unfinished x) rest s.fault (overrun s.at (unfinished x)) now.stop _ (unfinished_feedless x) refl refl fault
-      (λ e. ap (λ (r : Reading). told (scan r.columns r.at (lines_of (r.line ++ rest)))) (state e)))
+    (λ e. ap (λ (r : Reading). told (scan r.columns r.at (lines_of (r.line ++ rest)))) (state e)))
 
 -- the bytes that end
 pub rows_at_end : (s : Reading) → s.stop ≡ None → has_feed s.line ≡ false → rows_after s [] ≡ told (scan s.columns s.at (last_line s.line))
@@ -184,3 +185,52 @@ pub answered_cut : {E : Type 0} (taken : Result Unit E) (before mid now : Readin
     → Unrefused r (rows_after before (piece ++ rest) ≡ led_by_rows (rows_in before piece) (rows_after now rest))
 answered_cut (Ok x) before mid now piece rest r running ok err stop state = unrefused_by r (rw ok.1 (after_piece before mid piece rest running stop state))
 answered_cut (Err x) before mid now piece rest r running ok err stop state = rw err.0 tt
+
+-- pieces that were read one after another give what they give at once
+record Joins (before now : Reading) (piece more : List ℕ) : Type 0 where
+  pub rows : rows_in before (piece ++ more) ≡ rows_in before piece ++ rows_in now more
+  pub fault : fault_in before (piece ++ more) ≡ fault_in now more
+
+no_fault : (first later : Option RowFault) → first_of first later ≡ None → (first ≡ None) × (later ≡ None)
+no_fault None later e = (refl, e)
+no_fault (Some fault) later e = cc
+
+joined_scan : (before now : Reading) (piece more : List ℕ) → (scanned before piece).fault ≡ None → now ≡ read_on before piece
+    → scanned before (piece ++ more) ≡ with_rows (scanned before piece).rows (scanned now more)
+unfolding read_on then_by
+joined_scan before now piece more clean state =
+    let x = before.line ++ piece in
+    ap (λ l. scan before.columns before.at (whole_lines l)) (sym (append_assoc before.line piece more))
+    ∙ (ap (λ (c : Cut). scan before.columns before.at c.whole) (cut_append x more)
+    ∙ (scan_append before.columns before.at (whole_lines x) (whole_lines (unfinished x ++ more)) ∙ rw (clean, state) refl))
+
+joined_rest : (before now : Reading) (piece more : List ℕ) → now ≡ read_on before piece → unfinished (before.line ++ (piece ++ more)) ≡ unfinished (now.line ++ more)
+unfolding read_on
+joined_rest before now piece more state =
+    ap (λ l. unfinished l) (sym (append_assoc before.line piece more)) ∙ (ap (λ (c : Cut). c.rest) (cut_append (before.line ++ piece) more) ∙ rw state refl)
+
+fault_by_scan : (s : Reading) (piece : List ℕ) → s.stop ≡ None → fault_in s piece ≡ first_of (scanned s piece).fault (overrun (scanned s piece).at (unfinished (s.line ++ piece)))
+unfolding fault_in
+fault_by_scan s piece running = rw running refl
+
+pieces_join : (before now : Reading) (piece more : List ℕ) → before.stop ≡ None → now.stop ≡ None → fault_in before piece ≡ None → now ≡ read_on before piece → Joins before now piece more
+pieces_join before now piece more running still clean state =
+    let first = no_fault (scanned before piece).fault _ (sym (fault_by_scan before piece running) ∙ clean) in
+    let scans = joined_scan before now piece more first.0 state in
+    record {
+      rows = rows_of_scan before (piece ++ more) running ∙ (ap (λ (c : Scan). c.rows) scans
+          ∙ (ap (λ r. r ++ (scanned now more).rows) (sym (rows_of_scan before piece running)) ∙ ap (λ r. rows_in before piece ++ r) (sym (rows_of_scan now more still))));
+      fault = fault_by_scan before (piece ++ more) running ∙ (ap (λ (c : Scan). first_of c.fault (overrun c.at (unfinished (before.line ++ (piece ++ more))))) scans
+          ∙ (ap (λ u. first_of (scanned now more).fault (overrun (scanned now more).at u)) (joined_rest before now piece more state) ∙ sym (fault_by_scan now more still)));
+    }
+
+pub answered_joins : {E : Type 0} (taken : Result Unit E) (before mid now : Reading) (piece : List ℕ) (r : Result Unit RowFault) → before.stop ≡ None
+    → OnOk taken ((r ≡ answer_of mid.stop) × (now ≡ mid)) → OnErr taken ((r ≡ Err NoMemory) × (now ≡ record mid { stop = Some NoMemory }))
+    → OnOk taken (mid.stop ≡ fault_in before piece) → OnOk taken (mid.stop ≡ None → mid ≡ read_on before piece)
+    → OnOk r ((more : List ℕ) → (rows_in before (piece ++ more) ≡ rows_in before piece ++ rows_in now more) × (fault_in before (piece ++ more) ≡ fault_in now more))
+answered_joins (Ok x) before mid now piece r running ok err stop state = by_stop mid.stop refl
+  where
+    by_stop : (o : Option RowFault) → mid.stop ≡ o → OnOk r ((more : List ℕ) → (rows_in before (piece ++ more) ≡ rows_in before piece ++ rows_in now more) × (fault_in before (piece ++ more) ≡ fault_in now more))
+    by_stop None e = ok_by r (λ more. let j = pieces_join before mid piece more running e (sym stop ∙ e) (state e) in rw ok.1 (j.rows, j.fault))
+    by_stop (Some fault) e = rw (ok.0, e) tt
+answered_joins (Err x) before mid now piece r running ok err stop state = rw err.0 tt

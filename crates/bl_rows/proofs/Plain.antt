@@ -78,17 +78,17 @@ none_taken n xs = let e : n - n ≡ 0 = omega arith in rw e refl
 pub split_comma : (line : List ℕ) (start i : ℕ) (fields fields2 : List (List ℕ)) (held held2 : List ℕ) → Split line start i fields held → i < length line → get_or line i 0 ≡ 44
     → fields2 ≡ fields ++ (held ++ take (i - start) (drop start line)) ∷ [] → held2 ≡ [] → Split line (i + 1) (i + 1) fields2 held2
 split_comma line start i fields fields2 held held2 s inside byte pushed none = record {
-    within = omega arith;
-    state = st.StartField;
-    plain = tt;
-    begun = λ g. tt;
-    none = none;
-    same =
+  within = omega arith;
+  state = st.StartField;
+  plain = tt;
+  begun = λ g. tt;
+  none = none;
+  same =
       let rest : drop i line ≡ 44 ∷ drop (i + 1) line = rw (add-one, drop-cons line i 0 inside, byte) refl in
       let field : fields2 ≡ fields ++ take (i - start) (drop start line) ∷ [] = pushed ∙ rw s.none refl in
       rw (field, none_taken (i + 1) (drop (i + 1) line)) (sym (comma s.state fields (take (i - start) (drop start line)) (drop (i + 1) line) s.plain)
-        ∙ (ap (λ r. next_record default_config s.state fields (take (i - start) (drop start line)) r) (sym rest) ∙ s.same))
-  }
+      ∙ (ap (λ r. next_record default_config s.state fields (take (i - start) (drop start line)) r) (sym rest) ∙ s.same));
+}
 
 -- one byte more is in the field at hand
 field_more : (line : List ℕ) (start i : ℕ) → start ≤ i → i < length line → take (i + 1 - start) (drop start line) ≡ take (i - start) (drop start line) ++ get_or line i 0 ∷ []
@@ -101,16 +101,16 @@ field_more line start i h g =
 split_other : (line : List ℕ) (start i : ℕ) (fields : List (List ℕ)) (held : List ℕ) → Split line start i fields held → i < length line
     → (get_or line i 0 == 34) ≡ false → (get_or line i 0 == 13) ≡ false → (get_or line i 0 == 10) ≡ false → (get_or line i 0 == 44) ≡ false → Split line start (i + 1) fields held
 split_other line start i fields held s inside q r f c = record {
-    within = omega (arith, s.within);
-    state = st.InField;
-    plain = tt;
-    begun = λ g. tt;
-    none = s.none;
-    same =
+  within = omega (arith, s.within);
+  state = st.InField;
+  plain = tt;
+  begun = λ g. tt;
+  none = s.none;
+  same =
       let rest : drop i line ≡ get_or line i 0 ∷ drop (i + 1) line = rw (add-one, drop-cons line i 0 inside) refl in
       rw (field_more line start i s.within inside) (sym (other s.state (get_or line i 0) fields (take (i - start) (drop start line)) (drop (i + 1) line) s.plain q r f c)
-        ∙ (ap (λ t. next_record default_config s.state fields (take (i - start) (drop start line)) t) (sym rest) ∙ s.same))
-  }
+      ∙ (ap (λ t. next_record default_config s.state fields (take (i - start) (drop start line)) t) (sym rest) ∙ s.same));
+}
 
 -- the end of a line ends its last field
 at_end : (s : State) (fields : List (List ℕ)) (field : List ℕ) → HasBegun s → next_record default_config s fields field [] ≡ Some (fields ++ field ∷ [], st.StartRecord, [])
@@ -143,8 +143,8 @@ split_end line start i fields fields2 held s some mark all pushed =
     let field : fields2 ≡ fields ++ take (i - start) (drop start line) ∷ [] = pushed ∙ rw (s.none, all) refl in
     let done : drop i line ≡ [] = drop_all i line (omega (arith, all)) in
     let read : next_record default_config st.StartRecord [] [] line ≡ Some (fields2, st.StartRecord, []) =
-        sym s.same ∙ (ap (λ t. next_record default_config s.state fields (take (i - start) (drop start line)) t) done
-          ∙ (at_end s.state fields (take (i - start) (drop start line)) (s.begun (omega (arith, all))) ∙ rw field refl)) in
+    sym s.same ∙ (ap (λ t. next_record default_config s.state fields (take (i - start) (drop start line)) t) done
+    ∙ (at_end s.state fields (take (i - start) (drop start line)) (s.begun (omega (arith, all))) ∙ rw field refl)) in
     rw (unmarked line mark) (records_by line ∙ rw (read, no_more (length line)) refl)
 
 -- a line without bytes has no record

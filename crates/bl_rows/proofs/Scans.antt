@@ -47,19 +47,19 @@ midst_line before piece was now now2 s s2 rest front rest2 m running feedless fr
     let v = verdict s.columns s.at (s.line ++ front) in
     let cuts = line_cut s.line front rest2 rest feedless front_feedless splits in
     let first : left s rest ≡ led_by_line s.at v (scan s.columns (after s.at v) (whole_lines rest2)) =
-        rw (running) (ap (λ (c : Cut). scan s.columns s.at c.whole) cuts) in
+    rw (running) (ap (λ (c : Cut). scan s.columns s.at c.whole) cuts) in
     let then : left s rest ≡ with_rows (rows_by v) (left s2 rest2) =
-        first ∙ led s.columns s2.columns s.at s2.at v s2.stop (whole_lines rest2) (whole_lines (s2.line ++ rest2)) stop2 at2 columns2 (λ e. ap (λ l. whole_lines (l ++ rest2)) (line2 e)) in
+    first ∙ led s.columns s2.columns s.at s2.at v s2.stop (whole_lines rest2) (whole_lines (s2.line ++ rest2)) stop2 at2 columns2 (λ e. ap (λ l. whole_lines (l ++ rest2)) (line2 e)) in
     record {
       handed = m.handed ++ rows_by v;
       grown = rows2 ∙ (ap (λ r. r ++ rows_by v) m.grown ∙ append_assoc was m.handed (rows_by v));
       gives = m.gives ∙ (ap (λ (c : Scan). with_rows m.handed c) then ∙ with_more m.handed (rows_by v) (left s2 rest2));
       goes_on = λ e. m.goes_on running ∙ (ap (λ (c : Cut). c.rest) cuts ∙ ap (λ l. unfinished (l ++ rest2)) (sym (line2 e)));
       columns = columns2 ∙ m.columns;
-      ended = ended2 ∙ m.ended
+      ended = ended2 ∙ m.ended;
     }
 
-rows_of_scan : (before : Reading) (piece : List ℕ) → before.stop ≡ None → rows_in before piece ≡ (scanned before piece).rows
+pub rows_of_scan : (before : Reading) (piece : List ℕ) → before.stop ≡ None → rows_in before piece ≡ (scanned before piece).rows
 unfolding rows_in
 rows_of_scan before piece running = rw running refl
 
@@ -114,7 +114,7 @@ pub midst_kept_fault : (before : Reading) (piece : List ℕ) (was now : List (Li
 unfolding fault_in
 midst_kept_fault before piece was now s rest stop2 running m still h g e =
     rw running (sym (ap (λ (c : Scan). first_of c.fault (overrun c.at (unfinished (before.line ++ piece)))) (kept_scan before piece was now s rest m still h g)
-      ∙ (ap (λ u. overrun s.at u) (kept_rest before piece was now s rest m still h g) ∙ sym e)))
+    ∙ (ap (λ u. overrun s.at u) (kept_rest before piece was now s rest m still h g) ∙ sym e)))
 
 abbrev reading_of : List Column → Place → List ℕ → Option RowFault → Bool → Reading
 reading_of columns at line stop ended = record { columns = columns; at = at; line = line; stop = stop; ended = ended }
@@ -128,7 +128,7 @@ pub midst_kept_state : (before : Reading) (piece : List ℕ) (was now : List (Li
 unfolding read_on
 midst_kept_state before piece was now s s2 rest running m still h g stop2 line2 at2 columns2 ended2 =
     same_reading s2 _ (columns2 ∙ m.columns) (at2 ∙ sym (ap (λ (c : Scan). c.at) (kept_scan before piece was now s rest m still h g)))
-      (line2 ∙ sym (kept_rest before piece was now s rest m still h g)) (stop2 ∙ sym running) (ended2 ∙ m.ended)
+    (line2 ∙ sym (kept_rest before piece was now s rest m still h g)) (stop2 ∙ sym running) (ended2 ∙ m.ended)
 
 -- what a test for a fault tells
 pub no_stop : (stop : Option RowFault) (r : Bool) → is_some stop ≡ not r → r ≡ true → stop ≡ None

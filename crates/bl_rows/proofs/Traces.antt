@@ -1,10 +1,10 @@
 -- The numbers of a row from a column on.
-use Rattle.std.proofs.Common.{◌≡◌, ℕ, ◌+◌, ◌<◌, List, [], ◌∷◌, ◌++◌, length, get_or, drop, ap, refl, suc, ℤ, sym, ◌∙◌, arith, append_assoc, append-nil, Some, ◌≤◌}
+use Rattle.std.proofs.Common.{◌≡◌, ℕ, ◌+◌, ◌<◌, List, [], ◌∷◌, ◌++◌, length, get_or, drop, ap, refl, suc, ℤ, sym, ◌∙◌, arith, append_assoc, add-zero, append-nil, Some, ◌≤◌}
 use Rattle.std.proofs.lemmas.List.{drop_all}
 use Rattle.std.specs.List.{slice_get}
 use Rattle.bl_tree.specs.declared.row.Column.{Column}
 use Rattle.bl_tree.specs.declared.scalar.Scalar.{Scalar}
-use Rattle.bl_rows.specs.Text.{RowFits, values_text, value_text}
+use Rattle.bl_rows.specs.Text.{RowFits, values_text, value_text, lines_from, line_text}
 use Rattle.bl_rows.proofs.Seq.{drop-at, drop-got}
 
 pub fits_length : (outs : List Column) (row : List ℤ) → RowFits outs row → length row ≡ length outs
@@ -37,3 +37,10 @@ pub line_ended : (printed rest now d v : List ℕ) → rest ≡ [] → printed +
 line_ended printed rest now d v none all e =
     let whole : printed ≡ d ++ v = sym (append-nil printed) ∙ (rw none at all) in
     e ∙ rw whole (simp append_assoc)
+
+-- the lines of more rows come after those of the first
+pub lines_append : (tick : ℕ) (outs : List Column) (rows more : List (List ℤ)) → lines_from tick outs (rows ++ more) ≡ lines_from tick outs rows ++ lines_from (tick + length rows) outs more
+lines_append tick outs [] more = rw add-zero refl
+lines_append tick outs (row ∷ rows) more =
+    let place : tick + 1 + length rows ≡ tick + length (row ∷ rows) = omega arith in
+    rw (lines_append (tick + 1) outs rows more, place) (sym (append_assoc (line_text tick outs row) _ _))

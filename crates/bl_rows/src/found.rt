@@ -20,11 +20,7 @@ pub enum Found {
 }
 
 /// Reads a line alone: how many records it has, and its first record into `fields`.
-pub fn read_records(
-    alloc: Global,
-    line: &[u8],
-    fields: &mut ByteRecord,
-) -> Result<Found, NoMemory>
+pub fn read_records(alloc: Global, line: &[u8], fields: &mut ByteRecord) -> Result<Found, NoMemory>
     ensures { IfOk result (λ found. Finds (records_in line.now) (fields_of fields.new) found) }
 {
     if line.is_empty() {
@@ -68,11 +64,7 @@ fn is_special(byte: u8) -> bool
 }
 
 // The same for any line, by a reader of its own.
-fn read_by_csv(
-    alloc: Global,
-    line: &[u8],
-    fields: &mut ByteRecord,
-) -> Result<Found, NoMemory>
+fn read_by_csv(alloc: Global, line: &[u8], fields: &mut ByteRecord) -> Result<Found, NoMemory>
     ensures { IfOk result (λ found. Finds (records_in line.now) (fields_of fields.new) found) }
 {
     let mut reader = line_reader(alloc, line);
@@ -103,10 +95,7 @@ fn line_reader<R: Read>(alloc: Global, line: R) -> Reader<R>
 }
 
 // The next record of a line's reader.
-fn next_record<R: Read>(
-    reader: &mut Reader<R>,
-    fields: &mut ByteRecord,
-) -> Result<bool, NoMemory>
+fn next_record<R: Read>(reader: &mut Reader<R>, fields: &mut ByteRecord) -> Result<bool, NoMemory>
     requires trim { reader_trim reader.old ≡ trim.None }
     requires flexible { is_flexible reader.old ≡ true }
     requires ready { Ready reader.old }

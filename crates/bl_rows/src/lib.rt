@@ -6,11 +6,10 @@ mod found;
 mod number;
 mod record;
 mod rows;
-mod trace;
-mod verdict;
-
 #[cfg(test)]
 mod tests;
+mod trace;
+mod verdict;
 
 pub use fault::RowFault;
 pub use rows::Rows;

@@ -70,8 +70,10 @@ impl Rows {
         ensures front { Front into.old.items into.new.items (rows_in self.old piece.now) }
         ensures state { OnOk result (self.new ≡ read_on self.old piece.now) }
         ensures any_cut { (rest : List ℕ) → Unrefused result (rows_after self.old (piece.now ++ rest) ≡ led_by_rows (rows_in self.old piece.now) (rows_after self.new rest)) }
+        ensures joins { OnOk result ((more : List ℕ) → (rows_in self.old (piece.now ++ more) ≡ rows_in self.old piece.now ++ rows_in self.new more) × (fault_in self.old (piece.now ++ more) ≡ fault_in self.new more)) }
         ensures stop { IfErr result (λ fault. self.new.stop ≡ Some fault) }
         ensures repeats { IfSome self.old.stop (λ fault. (result ≡ Err fault) × (self.new ≡ self.old)) }
+        ensures short { length self.new.line ≤ 65536 }
         ensures open { self.new.ended ≡ false }
     {
         if let Some(fault) = self.stop {
@@ -106,6 +108,7 @@ impl Rows {
     fn answer(&mut self, taken: Result<(), NoMemory>) -> Result<(), RowFault>
         ensures taken { OnOk taken ((result ≡ answer_of self.old.stop) × (self.new ≡ self.old)) }
         ensures refused { OnErr taken ((result ≡ Err RowFault.NoMemory) × (self.new ≡ record self.old { stop = Some RowFault.NoMemory })) }
+        ensures short { length self.new.line ≤ 65536 }
     {
         if taken.is_err() {
             self.stop = Some(RowFault::NoMemory);
@@ -216,7 +219,13 @@ impl Rows {
             return judge(self.alloc, &self.columns, self.at, end, fields);
         }
         self.line.extend_from_slice(end)?;
-        let verdict = judge(self.alloc, &self.columns, self.at, self.line.as_slice(), fields)?;
+        let verdict = judge(
+            self.alloc,
+            &self.columns,
+            self.at,
+            self.line.as_slice(),
+            fields,
+        )?;
         self.line.clear();
         Ok(verdict)
     }

@@ -22,12 +22,7 @@ pub fn header(alloc: Global, outs: &List<Column>) -> Result<Vec<u8>, NoMemory>
 
 /// The line of a tick, with its line feed (docs/FORMATS.md, "Traces"). Fails only for want of memory.
 #[tactic(auto, unfolding(crate::specs::Text::line_text))]
-pub fn line(
-    alloc: Global,
-    tick: u32,
-    outs: &List<Column>,
-    row: &Row,
-) -> Result<Vec<u8>, NoMemory>
+pub fn line(alloc: Global, tick: u32, outs: &List<Column>, row: &Row) -> Result<Vec<u8>, NoMemory>
     requires { RowFits outs.now row.now }
     ensures { IfOk result (λ text. text.items ≡ line_text tick outs.now row.now) }
 {
@@ -41,8 +36,8 @@ pub fn line(
     Ok(text)
 }
 
-// Appends a number as a trace shows it.
-fn append_value(ty: Scalar, n: i128, text: &mut Vec<u8>) -> Result<(), AllocError>
+/// Appends a number as a trace shows it.
+pub fn append_value(ty: Scalar, n: i128, text: &mut Vec<u8>) -> Result<(), AllocError>
     ensures { OnOk result (text.new.items ≡ text.old.items ++ value_text ty n) }
 {
     if ty == Scalar::Bool {

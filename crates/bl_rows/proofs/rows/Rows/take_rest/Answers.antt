@@ -23,5 +23,5 @@ returns-clause-rows c = map_ok c.take_line.result (λ rows. ended_rows c.args.se
 pub returns-clause-front : goal.returns-clause-front
 returns-clause-front c = handed_by c.take_line.result c.args.into.now.items c.take_line.new.into.items _
     (map_ok c.take_line.result (λ rows. ended_rows c.args.self.now c.args.into.now.items c.take_line.new.into.items c.requires
-      c.has_begun_line.ensures.feedless (c.has_begun_line.ensures.some c.if-not-has_begun_line.false) rows) c.take_line.ensures.rows)
+    c.has_begun_line.ensures.feedless (c.has_begun_line.ensures.some c.if-not-has_begun_line.false) rows) c.take_line.ensures.rows)
     c.take_line.ensures.none
