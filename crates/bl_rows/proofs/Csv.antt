@@ -1,14 +1,14 @@
 -- What two reads of a line alone tell of its records.
-use Rattle.std.proofs.Common.{◌≡◌, ℕ, suc, zero, ◌+◌, List, [], ◌∷◌, length, Option, Some, None, Bool, true, false, refl, ap, sym, ◌∙◌, subst, add-one, not, ◌==◌, ◌&&◌, if◌then◌else◌}
+use Rattle.std.proofs.Common.{◌≡◌, ℕ, suc, zero, List, [], ◌∷◌, length, Option, Some, None, Bool, true, false, refl, ap, ◌∙◌, add-one}
 use Rattle.csv.specs.Machine.{Read, next_record}
-use Rattle.csv.specs.Reading.{default_config, records, records_from, records_next, ReadsNext, ReadRecord, NextIs, source_of, pending_of, unread_of, buffered_of, reader_config, reader_state, strip_bom}
+use Rattle.csv.specs.Reading.{default_config, records, records_from, records_next, ReadsNext, ReadRecord, NextIs, source_of, pending_of, reader_config, reader_state, strip_bom}
 use Rattle.csv.specs.declared.parser.Config.{Config}
 use Rattle.bl_rows.specs.Fields.{records_in}
 use Rattle.csv.specs.declared.parser.State.{State}
 use Rattle.csv.specs.declared.parser.State.TheVariants as st
 use Rattle.csv.specs.declared.reader.Reader.{Reader}
 use Rattle.bl_rows.specs.Found.{Finds}
-use Rattle.bl_rows.specs.declared.found.Found.TheVariants.{Nothing, One, Several}
+use Rattle.bl_rows.specs.declared.found.Found.TheVariants.{Several}
 
 -- all records by the first read and the rest
 pub records_by : (xs : List ℕ) → records default_config xs ≡ records_next (records_from default_config (length xs)) (next_record default_config st.StartRecord [] [] xs)

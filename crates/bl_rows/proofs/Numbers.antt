@@ -1,13 +1,13 @@
 -- A number that is too large for every type, while its digits are still read.
-use Rattle.std.proofs.Common.{◌≡◌, ℕ, suc, drop-cons, ◌+◌, ◌*◌, ◌<◌, ◌≤◌, List, [], ◌∷◌, length, get_or, refl, drop, Bool, true, false, Some, None, IfSome, subst, arith, if◌then◌else◌}
+use Rattle.std.proofs.Common.{◌≡◌, ℕ, suc, drop-cons, ◌+◌, ◌*◌, ◌<◌, ◌≤◌, List, [], ◌∷◌, length, get_or, refl, drop, Bool, true, false, Some, None, IfSome, arith, if◌then◌else◌}
 use Rattle.std.specs.Char.{digit_value}
 use Rattle.std.specs.Str.Parse.{digits_value_after, digits_value}
-use Rattle.std.proofs.Common.{◌-◌, ◌^◌, ◌&&◌, Option, ℤ, pos, negsuc, unsigned_abs, int_le, lit<}
+use Rattle.std.proofs.Common.{◌^◌, ◌&&◌, Option, ℤ, pos, negsuc, unsigned_abs, int_le, lit<}
 use Rattle.std.proofs.lemmas.Bool.Decides.{nat_tests}
 use Rattle.bl_tree.specs.declared.scalar.Width.TheVariants.{W8, W16, W32, W64}
 use Rattle.bl_tree.specs.declared.scalar.Scalar.{Scalar}
 use Rattle.bl_tree.specs.declared.scalar.Scalar.TheVariants.{Bool as OfBool, Int, Nat, Bits}
-use Rattle.bl_tree.specs.Scalar.{low_of, high_of, in_range}
+use Rattle.bl_tree.specs.Scalar.{low_of, high_of}
 use Rattle.bl_rows.specs.Fields.{number_of_digits, within}
 
 pub value_grows : (n : ℕ) (ds : List ℕ) → n ≤ digits_value_after 10 n ds

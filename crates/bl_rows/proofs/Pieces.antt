@@ -1,5 +1,5 @@
 -- What a reader tells does not depend on where the bytes are cut.
-use Rattle.std.proofs.Common.{◌≡◌, ◌≢◌, Result, Ok, Err, OnOk, OnErr, ℕ, ◌+◌, ◌<◌, ◌≤◌, List, [], ◌∷◌, ◌++◌, length, refl, ap, sym, ◌∙◌, subst, Bool, true, false, Option, Some, None, ℤ, append_assoc, append-nil, arith, nat_le, nat_lt, length-append, ◌==◌, if◌then◌else◌}
+use Rattle.std.proofs.Common.{◌≡◌, ◌≢◌, Result, Ok, Err, OnOk, OnErr, ℕ, ◌≤◌, List, [], ◌∷◌, ◌++◌, length, refl, ap, sym, ◌∙◌, subst, false, Option, Some, None, ℤ, append_assoc, append-nil, arith, length-append, ◌==◌}
 use Rattle.std.proofs.lemmas.Bool.Decides.{nat_tests}
 use Rattle.bl_tree.specs.declared.row.Column.{Column}
 use Rattle.bl_rows.specs.declared.fault.RowFault.{RowFault}
@@ -8,7 +8,7 @@ use Rattle.bl_rows.specs.declared.verdict.Verdict.{Verdict}
 use Rattle.bl_rows.specs.declared.verdict.Verdict.TheVariants.{Passed, Header, Numbers, Bad}
 use Rattle.bl_rows.specs.declared.verdict.Place.{Place}
 use Rattle.bl_rows.specs.Lines.{Cut, cut, led_by, whole_lines, unfinished, last_line, lines_of, has_feed}
-use Rattle.bl_rows.specs.Reading.{Reading, Scan, scan, scanned, verdict, over_limit, overrun, after, led_by_line, Told, told, first_of, fault_of_scan, fault_in, rows_in, read_on, rows_after, led_by_rows, unless_stopped, fault_at_end, Front, Unrefused, answer_of}
+use Rattle.bl_rows.specs.Reading.{Reading, Scan, scan, scanned, verdict, over_limit, overrun, after, led_by_line, Told, told, first_of, fault_in, rows_in, read_on, rows_after, led_by_rows, unless_stopped, fault_at_end, Front, Unrefused, answer_of}
 use Rattle.bl_rows.specs.Steps.{fault_of, rows_by, with_rows}
 use Rattle.bl_rows.proofs.Scans.{ok_by, rows_of_scan}
 use Rattle.bl_rows.proofs.Cuts.{cut_none, cut_append, cut_other, lines_append, unfinished_feedless, or_false}

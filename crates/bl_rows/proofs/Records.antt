@@ -1,6 +1,5 @@
 -- The fields of a record from a column on.
-use Rattle.std.proofs.Common.{◌≡◌, ◌≢◌, ℕ, zero, suc, ◌+◌, ◌<◌, ◌≤◌, List, [], ◌∷◌, ◌++◌, length, get_or, drop, take, ap, refl, sym, ◌∙◌, Option, Some, None, option_map, ℤ, arith, add-one, append_assoc, append-nil, Bool, true, false, ◌&&◌, slice_set, slice_index, if◌then◌else◌, codes, drop-cons}
-use Rattle.std.proofs.lemmas.List.{take_more_set, drop_all, take_all}
+use Rattle.std.proofs.Common.{◌≡◌, ◌≢◌, ℕ, zero, suc, ◌+◌, ◌<◌, List, [], ◌∷◌, ◌++◌, length, get_or, drop, ap, refl, sym, ◌∙◌, Option, Some, None, option_map, ℤ, arith, Bool, true, false, ◌&&◌, if◌then◌else◌, codes}
 use Rattle.std.specs.List.{slice_get}
 use Rattle.std.specs.Str.{bytes_eq}
 use Rattle.csv.specs.Records.{field_at}

@@ -1,14 +1,14 @@
 -- What lines give, in parts.
-use Rattle.std.proofs.Common.{◌≡◌, ◌≢◌, ℕ, ◌+◌, ◌<◌, ◌≤◌, List, [], ◌∷◌, ◌++◌, length, refl, ap, sym, ◌∙◌, subst, Bool, true, false, Option, Some, None, ℤ, append_assoc, append-nil, arith, is_none, is_some, not, Result, Ok, Err, OnOk}
+use Rattle.std.proofs.Common.{◌≡◌, ℕ, List, [], ◌∷◌, ◌++◌, refl, ap, sym, ◌∙◌, Bool, true, false, Option, Some, None, ℤ, append_assoc, append-nil, is_none, is_some, not, Result, Ok, Err, OnOk}
 use Rattle.bl_tree.specs.declared.row.Column.{Column}
 use Rattle.bl_rows.specs.declared.fault.RowFault.{RowFault}
 use Rattle.bl_rows.specs.declared.verdict.Verdict.{Verdict}
 use Rattle.bl_rows.specs.declared.verdict.Verdict.TheVariants.{Passed, Header, Numbers, Bad}
 use Rattle.bl_rows.specs.declared.verdict.Place.{Place}
-use Rattle.bl_rows.specs.Lines.{Cut, cut, whole_lines, unfinished, last_line, lines_of, has_feed}
-use Rattle.bl_rows.specs.Reading.{Reading, Scan, scan, scanned, verdict, over_limit, overrun, judged, after, led_by_line, Told, told, first_of, fault_of_scan, fault_in, rows_in, read_on, rows_after, led_by_rows, unless_stopped, Front}
+use Rattle.bl_rows.specs.Lines.{Cut, cut, whole_lines, unfinished, has_feed}
+use Rattle.bl_rows.specs.Reading.{Reading, Scan, scan, scanned, verdict, overrun, after, led_by_line, first_of, fault_in, rows_in, read_on, Front}
 use Rattle.bl_rows.specs.Steps.{fault_of, rows_by, left_after_stop, with_rows}
-use Rattle.bl_rows.proofs.Cuts.{cut_line, cut_none, cut_append, lines_append, unfinished_feedless, feedless_append}
+use Rattle.bl_rows.proofs.Cuts.{cut_line, cut_none, feedless_append}
 
 -- what is left of the whole lines of a piece, for a reader in the midst of it
 abbrev pub left : Reading → List ℕ → Scan

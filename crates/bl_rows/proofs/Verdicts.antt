@@ -1,5 +1,5 @@
 -- What a line is, by its limits and its records.
-use Rattle.std.proofs.Common.{◌≡◌, ℕ, List, length, refl, sym, Option, Some, None, ℤ, ◌++◌, [], ◌∷◌, ◌≤◌, arith, lit≤, append-nil}
+use Rattle.std.proofs.Common.{◌≡◌, ℕ, List, length, refl, sym, Some, None, ℤ, ◌++◌, [], ◌∷◌, ◌≤◌, arith, lit≤, append-nil}
 use Rattle.std.proofs.lemmas.Bool.Decides.{nat_tests}
 use Rattle.bl_rows.specs.Steps.{rows_by}
 use Rattle.bl_tree.specs.declared.row.Column.{Column}

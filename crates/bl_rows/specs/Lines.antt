@@ -1,5 +1,5 @@
 -- Bytes cut at line feeds.
-use Rattle.std.specs.Prelude.{ℕ, List, [], ◌∷◌, ◌++◌, ◌==◌, Bool, true, false, ◌||◌, if◌then◌else◌}
+use Rattle.std.specs.Prelude.{ℕ, List, [], ◌∷◌, ◌++◌, ◌==◌, Bool, false, ◌||◌, if◌then◌else◌}
 
 -- bytes as lines: those that a line feed ends, each without it, and the bytes after the last line feed
 pub record Cut : Type 0 where

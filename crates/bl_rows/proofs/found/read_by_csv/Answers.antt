@@ -1,6 +1,6 @@
-use Rattle.std.proofs.Common.{rules, arith, ◌≡◌, List, ℕ, true, false, [], Bor, Some}
+use Rattle.std.proofs.Common.{List, ℕ, [], Bor, Some}
 use Rattle.csv.specs.Records.{fields_of}
-use Rattle.bl_rows.proofs.Csv.{Starts, line_none, line_one, line_several}
+use Rattle.bl_rows.proofs.Csv.{line_none, line_one, line_several}
 use Rattle.bl_rows.proofs.found.read_by_csv.Goals as goal
 
 pub returns-then-not-branch : goal.returns-then-not-branch

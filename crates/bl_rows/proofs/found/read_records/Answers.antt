@@ -1,5 +1,4 @@
-use Rattle.std.proofs.Common.{◌≡◌, [], arith, length, subst, List, ℕ, sym, ◌∙◌, eqb-true}
-use Rattle.bl_rows.specs.Fields.{records_in}
+use Rattle.std.proofs.Common.{length, sym, ◌∙◌, eqb-true}
 use Rattle.bl_rows.proofs.Plain.{empty_line}
 use Rattle.bl_rows.proofs.found.read_records.Goals as goal
 

@@ -1,6 +1,6 @@
-use Rattle.std.proofs.Common.{◌≡◌, ap, sym, ◌∙◌, arith, ◌==◌, false, get_or, subst, ◌+◌, ℕ}
-use Rattle.csv.specs.Records.{fields_of, partial_of, Row}
-use Rattle.bl_rows.proofs.Plain.{Split, split_start, split_comma, split_plain, split_end, split_same, differs}
+use Rattle.std.proofs.Common.{arith, ◌+◌}
+use Rattle.csv.specs.Records.{fields_of, partial_of}
+use Rattle.bl_rows.proofs.Plain.{split_start, split_comma, split_plain, split_end, split_same, differs}
 use Rattle.bl_rows.proofs.found.split_plain.Goals.{then-line-i-eq44+in_ok-push_field, else-line-i-eq44}
 use Rattle.bl_rows.proofs.found.split_plain.Goals as goal
 

@@ -1,4 +1,3 @@
-use Rattle.std.proofs.Common.{ℕ}
 use Rattle.csv.specs.Records.{fields_of, partial_of}
 use Rattle.bl_rows.proofs.Plain.{Split}
 use Rattle.bl_rows.proofs.found.split_plain.Given as goal

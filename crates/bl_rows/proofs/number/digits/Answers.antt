@@ -1,4 +1,4 @@
-use Rattle.std.proofs.Common.{rules, arith, ◌<◌, ◌+◌, ◌*◌, ◌≤◌, ◌^◌, get_or}
+use Rattle.std.proofs.Common.{arith, ◌+◌, ◌*◌, ◌≤◌, ◌^◌, get_or}
 use Rattle.std.proofs.lemmas.Grind.{common_steps}
 use Rattle.std.specs.Char.{digit_value}
 use Rattle.bl_rows.proofs.Numbers.{grows_beyond}

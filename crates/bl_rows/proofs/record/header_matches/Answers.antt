@@ -1,6 +1,5 @@
-use Rattle.std.proofs.Common.{arith, ◌≡◌, ◌<◌, ◌+◌, length, sym, ◌∙◌, ap}
+use Rattle.std.proofs.Common.{arith}
 use Rattle.csv.specs.Records.{fields_of}
-use Rattle.std.specs.List.{slice_get}
 use Rattle.bl_rows.proofs.Records.{header_length, names_differ, names_agree}
 use Rattle.bl_rows.proofs.record.header_matches.Goals as goal
 

@@ -1,4 +1,4 @@
-use Rattle.std.proofs.Common.{◌≡◌, ◌+◌, ℕ, drop}
+use Rattle.std.proofs.Common.{◌≡◌, ◌+◌, drop}
 use Rattle.csv.specs.Records.{fields_of}
 use Rattle.bl_rows.specs.Fields.{is_header, are_names}
 use Rattle.bl_rows.proofs.record.header_matches.Given as goal

@@ -1,4 +1,4 @@
-use Rattle.std.proofs.Common.{◌≡◌, ◌+◌, ℕ, drop, take, length}
+use Rattle.std.proofs.Common.{◌≡◌, ◌+◌, drop, take, length}
 use Rattle.csv.specs.Records.{fields_of}
 use Rattle.bl_rows.specs.Fields.{values_of}
 use Rattle.bl_rows.proofs.Records.{after_front}

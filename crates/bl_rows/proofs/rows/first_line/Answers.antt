@@ -1,4 +1,4 @@
-use Rattle.std.proofs.Common.{arith, ◌≡◌, ◌≤◌, ◌+◌, ◌-◌, length, ap, sym, ◌∙◌, None, ◌++◌, ◌∷◌, drop, take, length-drop, refl}
+use Rattle.std.proofs.Common.{arith, ◌+◌, ◌-◌, length, ap, sym, ◌∙◌, None, ◌++◌, ◌∷◌, drop, take, length-drop, refl}
 use Rattle.std.proofs.lemmas.List.{take_all}
 use Rattle.bl_rows.proofs.Cuts.{nowhere_feedless, first_line_feedless, first_line_splits}
 use Rattle.bl_rows.proofs.rows.first_line.Goals as goal

@@ -1,4 +1,4 @@
-use Rattle.std.proofs.Common.{◌≡◌, ◌++◌, ℕ, drop, map, codes}
+use Rattle.std.proofs.Common.{◌≡◌, ◌++◌, drop, map, codes}
 use Rattle.bl_tree.specs.Reduce.{joined}
 use Rattle.bl_rows.specs.Text.{name_text}
 use Rattle.bl_rows.proofs.trace.header.Given as goal

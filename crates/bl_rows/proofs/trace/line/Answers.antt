@@ -1,4 +1,4 @@
-use Rattle.std.proofs.Common.{rules, arith, ◌≡◌, ◌≤◌, length, ap, ◌∙◌, sym, append_assoc, append-nil, ◌++◌}
+use Rattle.std.proofs.Common.{rules, arith, length, ap, sym}
 use Rattle.std.specs.Int.{w128}
 use Rattle.std.proofs.lemmas.Int.{to_z-of_z}
 use Rattle.bl_tree.specs.declared.row.Column.{Column}

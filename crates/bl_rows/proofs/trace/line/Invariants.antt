@@ -1,4 +1,4 @@
-use Rattle.std.proofs.Common.{◌≡◌, ◌++◌, ℕ, drop, decimal}
+use Rattle.std.proofs.Common.{◌≡◌, ◌++◌, drop, decimal}
 use Rattle.bl_rows.specs.Text.{values_text}
 use Rattle.bl_rows.proofs.trace.line.Given as goal
 

@@ -1,4 +1,4 @@
-use Rattle.std.proofs.Common.{◌≡◌, ap, sym, ◌∙◌, Err, append-nil, ◌++◌}
+use Rattle.std.proofs.Common.{ap, sym, ◌∙◌, Err, append-nil, ◌++◌}
 use Rattle.bl_rows.specs.Reading.{Reading, answer_of}
 use Rattle.bl_rows.proofs.Pieces.{unrefused_by, stopped_fault, stopped_rows, stopped_cut, answered_cut, answered_joins}
 use Rattle.bl_rows.proofs.rows.Rows.feed.Goals as goal

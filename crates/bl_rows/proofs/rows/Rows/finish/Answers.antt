@@ -1,4 +1,4 @@
-use Rattle.std.proofs.Common.{◌≡◌, ap, sym, ◌∙◌, Err, append-nil, ◌++◌, []}
+use Rattle.std.proofs.Common.{ap, sym, ◌∙◌, Err, append-nil, ◌++◌, []}
 use Rattle.bl_rows.specs.Reading.{Reading, answer_of, Told}
 use Rattle.bl_rows.proofs.Pieces.{unrefused_by, stopped_told}
 use Rattle.bl_rows.proofs.rows.Rows.finish.Goals as goal

@@ -1,4 +1,4 @@
-use Rattle.std.proofs.Common.{arith, ◌≡◌, ap, sym, ◌∙◌}
+use Rattle.std.proofs.Common.{sym}
 use Rattle.bl_rows.proofs.Verdicts.{no_rows_past}
 use Rattle.bl_rows.proofs.rows.Rows.take_line.Goals as goal
 

@@ -1,4 +1,4 @@
-use Rattle.std.proofs.Common.{arith, ◌≡◌, ap, sym, ◌∙◌, subst, false, None, Bor, List, ℕ, Ok, OnOk, is_none, true}
+use Rattle.std.proofs.Common.{◌≡◌, ap, sym, ◌∙◌, subst, false, is_none}
 use Rattle.bl_rows.specs.Lines.{has_feed}
 use Rattle.bl_rows.specs.Reading.{Reading, Front, rows_in}
 use Rattle.bl_rows.proofs.Scans.{midst_line, midst_front, midst_stopped_rows, midst_stopped_fault, midst_kept_rows, midst_kept_fault, midst_kept_state, no_stop, a_stop, map_ok, ok_by}

@@ -1,4 +1,4 @@
-use Rattle.std.proofs.Common.{ℕ, length}
+use Rattle.std.proofs.Common.{length}
 use Rattle.bl_rows.proofs.Scans.{Midst}
 use Rattle.bl_rows.proofs.rows.Rows.take_lines.Given as goal
 

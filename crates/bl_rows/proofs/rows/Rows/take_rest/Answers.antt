@@ -1,4 +1,4 @@
-use Rattle.std.proofs.Common.{◌≡◌, ap, sym, ◌∙◌, append-nil, ◌++◌, []}
+use Rattle.std.proofs.Common.{ap, sym, ◌∙◌, append-nil, ◌++◌}
 use Rattle.bl_rows.specs.Reading.{Told, fault_at_end}
 use Rattle.bl_rows.proofs.Pieces.{ended_clean, ended_rows, ended_fault, handed_by}
 use Rattle.bl_rows.proofs.Scans.{map_ok, both_ok}
