@@ -14,4 +14,3 @@ mod verdict;
 pub use fault::RowFault;
 pub use rows::Rows;
 pub use trace::{header, line};
-pub use verdict::{Place, Verdict};

@@ -1,4 +1,4 @@
-ghost use Rattle.std.specs.Prelude.{◌≡◌, ◌≤◌, ◌^◌, IfSome, None, Some, unsigned_abs, IsTrue, true, false};
+ghost use Rattle.std.specs.Prelude.{◌≡◌, ◌≤◌, ◌^◌, IfSome, None, Some, unsigned_abs, true, false};
 ghost use Rattle.bl_rows.specs.Fields.{number_of, number_of_digits, value_of, is_number, truth_of, within};
 
 use bl_tree::Scalar;
