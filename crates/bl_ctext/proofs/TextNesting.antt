@@ -228,19 +228,19 @@ static-nests false = closes-nil 0
 front-closes : (d : ℕ) (f : CFunc) (rest : List Token) → 1 ≤ d → is_function_name f.name ≡ true → Closes 1 d rest → Closes 0 d (func_front f ++ rest)
 front-closes d f rest le named c =
     let apart : func_front f ++ rest ≡ static_if f.fixed ++ (returned_tokens f.result ++ (f.name ∷ codes "(" ∷ rest)) =
-      append_assoc (static_if f.fixed) (returned_tokens f.result ++ (f.name ∷ codes "(" ∷ [])) rest
-      ∙ ap (λ (ts : List Token). static_if f.fixed ++ ts) (append_assoc (returned_tokens f.result) (f.name ∷ codes "(" ∷ []) rest) in
+    append_assoc (static_if f.fixed) (returned_tokens f.result ++ (f.name ∷ codes "(" ∷ [])) rest
+    ∙ ap (λ (ts : List Token). static_if f.fixed ++ ts) (append_assoc (returned_tokens f.result) (f.name ∷ codes "(" ∷ []) rest) in
     subst (λ (ts : List Token). Closes 0 d ts) (sym apart)
-      (closes-append 0 d 0 (static_if f.fixed) _ (static-nests f.fixed) (omega arith)
-        (closes-append 0 d 0 (returned_tokens f.result) _ (returned-nests f.result) (omega arith)
-          (closes-plain 0 d f.name _ (function_name-plain f.name named) (omega arith) (closes-open 0 d _ _ refl (omega arith) c))))
+    (closes-append 0 d 0 (static_if f.fixed) _ (static-nests f.fixed) (omega arith)
+    (closes-append 0 d 0 (returned_tokens f.result) _ (returned-nests f.result) (omega arith)
+    (closes-plain 0 d f.name _ (function_name-plain f.name named) (omega arith) (closes-open 0 d _ _ refl (omega arith) c))))
 
 -- and closes its own braces
 rest-closes : (d b : ℕ) (f : CFunc) → b + 1 ≤ d → 1 ≤ b → all_of (map spells_local f.locals) ≡ true → EachNests b (map stmt_tokens f.body) → Closes 1 d (func_rest f)
 rest-closes d b f le le' locals body =
     closes-append 1 d 1 (joined (map local_tokens f.locals)) _ (nests-joined 1 _ (each_within 1 local_tokens spells_local local-nests f.locals locals)) (omega arith)
-      (closes-append 1 d b (joined (map stmt_tokens f.body)) _ (nests-joined b _ body) (omega arith)
-        (closes-close 0 d _ _ refl refl (omega arith) (closes-nil d)))
+    (closes-append 1 d b (joined (map stmt_tokens f.body)) _ (nests-joined b _ body) (omega arith)
+    (closes-close 0 d _ _ refl refl (omega arith) (closes-nil d)))
 
 each_more : (d e : ℕ) (parts : List (List Token)) → d ≤ e → EachNests d parts → EachNests e parts
 each_more d e [] le each = tt
@@ -253,9 +253,9 @@ func_parts-nests f named params locals body =
     let d : ℕ = b + 1 in
     let each : EachNests b (map stmt_tokens f.body) = each_of stmt_depth stmt_tokens spells_stmt stmt-nests f.body b (omega arith) body in
     front-closes d f _ (omega arith) named
-      (closes-append 1 d 0 (with_commas (map param_tokens f.params)) _
-        (nests-with_commas 0 _ (each_within 0 param_tokens spells_param param-nests f.params params)) (omega arith)
-        (closes-close 0 d _ _ refl refl (omega arith) (closes-open 0 d _ _ refl (omega arith) (rest-closes d b f (omega arith) (omega arith) locals each))))
+    (closes-append 1 d 0 (with_commas (map param_tokens f.params)) _
+    (nests-with_commas 0 _ (each_within 0 param_tokens spells_param param-nests f.params params)) (omega arith)
+    (closes-close 0 d _ _ refl refl (omega arith) (closes-open 0 d _ _ refl (omega arith) (rest-closes d b f (omega arith) (omega arith) locals each))))
 
 pub func-nests : (f : CFunc) → spells_func f ≡ true → Nests (func_depth f) (func_tokens f)
 func-nests f h =
