@@ -30,7 +30,7 @@ fn the_lamp_is_built(rt: HostRuntime) -> Result<(), Fail> {
     let asked = words(rt.alloc(), &["build", "lamp"])?;
     let status = blechc(rt.alloc(), &asked, &mut files, &mut out, &mut notes);
     assert_eq!(rt; status, Status::Ok);
-    assert!(rt; out.held().starts_with(bl_ctext::PRELUDE.as_bytes()));
+    assert!(rt; out.held().starts_with(bl_ctext::PRELUDE));
     assert_eq!(rt; notes.held(), b"".as_slice());
     Ok(())
 }
@@ -75,6 +75,6 @@ fn faults_are_told(rt: HostRuntime) -> Result<(), Fail> {
     let asked = words(rt.alloc(), &["build", "lamp"])?;
     let status = blechc(rt.alloc(), &asked, &mut files, &mut out, &mut notes);
     assert_eq!(rt; status.code(), 4);
-    assert_eq!(rt; out.held(), &bl_ctext::PRELUDE.as_bytes()[..1024]);
+    assert_eq!(rt; out.held(), &bl_ctext::PRELUDE[..1024]);
     Ok(())
 }
