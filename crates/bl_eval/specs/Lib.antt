@@ -1,0 +1,5 @@
+pub mod Changes
+pub mod Functions
+pub mod Meaning
+pub mod Standing
+pub mod Values

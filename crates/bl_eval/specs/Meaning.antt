@@ -1,0 +1,167 @@
+-- The value of an expression.
+use Rattle.std.specs.Prelude.{ℕ, ℤ, pos, Bool, true, false, not, ◌&&◌, List, [], ◌∷◌, ◌++◌, map, slice_get, Option, Some, None, option_map, option_and_then, if◌then◌else◌}
+use Rattle.bl_tree.specs.declared.scalar.Op.{Op}
+use Rattle.bl_tree.specs.declared.scalar.Op.TheVariants.{Both, Either}
+use Rattle.bl_tree.specs.declared.scalar.Scalar.{Scalar as ScalarType}
+use Rattle.bl_tree.specs.declared.tree.Expr.{Expr, fold-Expr}
+use Rattle.bl_tree.specs.declared.tree.ExprKind.TheOpen.{ExprKind-F, Part-F, Path-F, Expr-F}
+use Rattle.bl_tree.specs.declared.tree.Path.{Path, fold-Path}
+use Rattle.bl_tree.specs.declared.tree.StructDef.{StructDef}
+use Rattle.bl_tree.specs.declared.tree.Ty.{Ty}
+use Rattle.bl_tree.specs.declared.tree.Var.{Var}
+use Rattle.bl_tree.specs.declared.value.Value.{Value, out-Value}
+use Rattle.bl_tree.specs.declared.value.Value.TheOpen.{Value-F}
+use Rattle.bl_tree.specs.declared.value.Value.TheVariants.{Number}
+use Rattle.bl_tree.specs.Numbers.{checked_of, checked_one_of, is_one, takes_one, takes_two, type_of_result}
+use Rattle.bl_tree.specs.Scalar.{in_range}
+use Rattle.bl_tree.specs.Types.{scalar_in}
+use Rattle.bl_eval.specs.declared.datum.Datum.{Datum}
+use Rattle.bl_eval.specs.declared.datum.Datum.TheVariants.{Scalar as OfScalar, Whole}
+use Rattle.bl_eval.specs.declared.datum.Left.{Left}
+use Rattle.bl_eval.specs.declared.datum.Operand.{Operand}
+use Rattle.bl_eval.specs.Values.{position_of, value_at}
+
+-- the values of a unit's variables: those of this moment, and those at the end of the previous tick
+pub record View : Type 0 where
+  pub now : List Value
+  pub before : List Value
+
+-- a function: what it leaves when it is called with the values of its inputs and those that its outputs have at the
+-- call; none where it traps
+abbrev pub Callee : Type 0
+Callee = List Value → Option Left
+
+-- what an expression sees: the structs, the variables of its unit, and the functions before it
+pub record Scope : Type 0 where
+  pub structs : List StructDef
+  pub vars : List Var
+  pub callees : List Callee
+
+-- what an expression gives, from the values of the variables; none where it traps
+abbrev pub Meaning : Type 0
+Meaning = View → Option Datum
+
+-- a path: its variable, the type of what it names, and the positions that lead into the variable; none where an index
+-- traps or is below 0
+pub record Spot : Type 0 where
+  pub root : ℕ
+  pub ty : Ty
+  pub positions : View → Option (List ℕ)
+
+-- ---- data
+
+abbrev pub plain : Datum → Value
+plain (OfScalar ty n) = Number n
+plain (Whole value) = value
+
+abbrev pub operand_in : Datum → Option Operand
+operand_in (OfScalar ty n) = Some (record { ty = ty; n = n })
+operand_in (Whole value) = None
+
+abbrev pub level_datum : ScalarType → Value → Value-F Value → Datum
+level_datum ty value (Value-F.Number n) = OfScalar ty n
+level_datum ty value (Value-F.Parts all) = Whole value
+
+-- a value, which is one of the type where that is without parts
+abbrev pub datum_of : Option ScalarType → Value → Datum
+datum_of (Some ty) value = level_datum ty value (out-Value value)
+datum_of None value = Whole value
+
+-- ---- operators
+
+-- the number that an expression gives, with its type
+abbrev pub operand : Meaning → View → Option Operand
+operand e view = option_and_then operand_in (e view)
+
+-- an operator at numbers of a type that it takes: what it gives, none where it traps
+abbrev pub applied_one : Op → Operand → Option ℤ
+applied_one op a = if takes_one op a.ty && in_range a.ty a.n then checked_one_of op a.ty a.n else None
+
+abbrev pub applied_two : Op → Operand → ℤ → Option ℤ
+applied_two op a n = if takes_two op a.ty && (in_range a.ty a.n && in_range a.ty n) then checked_of op a.ty a.n n else None
+
+-- whether the left operand alone decides: false does for `and`, true for `or`. It is the value then
+abbrev pub decides : Op → ℤ → Bool
+decides Both a = not (is_one a)
+decides Either a = is_one a
+decides _ a = false
+
+abbrev pub one_datum : Op → Operand → Option Datum
+one_datum op a = option_map (OfScalar (type_of_result op a.ty)) (applied_one op a)
+
+abbrev pub two_data : Op → Operand → Operand → Option Datum
+two_data op a b = option_map (OfScalar (type_of_result op a.ty)) (applied_two op a b.n)
+
+-- the right operand is looked at only where the left does not decide
+abbrev pub two_datum : Op → Option Operand → Operand → Option Datum
+two_datum op b a = if decides op a.n then Some (OfScalar a.ty a.n) else option_and_then (two_data op a) b
+
+-- the same number, where the target has it
+abbrev pub cast_datum : ScalarType → Operand → Option Datum
+cast_datum target a = if in_range target a.n then Some (OfScalar target a.n) else None
+
+-- ---- calls
+
+-- the values of all of them; none where one traps
+abbrev pub values_of : List Meaning → View → Option (List Value)
+values_of [] view = Some []
+values_of (e ∷ rest) view = option_and_then (λ datum. option_map (λ values. plain datum ∷ values) (values_of rest view)) (e view)
+
+abbrev pub call_datum : Option (List Value) → Callee → Option Datum
+call_datum inputs callee = option_and_then (λ values. option_and_then (λ left. left.result) (callee values)) inputs
+
+-- ---- paths
+
+-- the position that a part of a path stands for
+abbrev pub Position : Type 0
+Position = View → Option ℕ
+
+abbrev pub positions_of : List Position → View → Option (List ℕ)
+positions_of [] view = Some []
+positions_of (part ∷ rest) view = option_and_then (λ k. option_map (λ ks. k ∷ ks) (positions_of rest view)) (part view)
+
+-- what lies at the positions in a variable
+abbrev pub read_at : ℕ → List Value → List ℕ → Option Value
+read_at root now positions = option_and_then (value_at positions) (slice_get now root)
+
+-- what the path names
+abbrev pub reading : Spot → Meaning
+reading path view = option_map (datum_of (scalar_in path.ty)) (option_and_then (read_at path.root view.now) (path.positions view))
+
+-- ---- all expressions
+
+abbrev pub scalar_of : Option Var → Option ScalarType
+scalar_of var = option_and_then (λ var. scalar_in var.ty) var
+
+abbrev pub kind_means : Scope → ExprKind-F Meaning Position Meaning Spot → Meaning
+kind_means scope (ExprKind-F.Literal n s) view = Some (OfScalar s n)
+kind_means scope (ExprKind-F.Read path) view = reading path view
+kind_means scope (ExprKind-F.Prev k) view = option_map (datum_of (scalar_of (slice_get scope.vars k))) (slice_get view.before k)
+kind_means scope (ExprKind-F.One op a) view = option_and_then (one_datum op) (operand a view)
+kind_means scope (ExprKind-F.Two op a b) view = option_and_then (two_datum op (operand b view)) (operand a view)
+kind_means scope (ExprKind-F.Cast target a) view = option_and_then (cast_datum target) (operand a view)
+kind_means scope (ExprKind-F.Call f inputs) view = option_and_then (call_datum (values_of inputs view)) (slice_get scope.callees f)
+
+abbrev pub position_in : Operand → Option ℕ
+position_in a = position_of a.n
+
+abbrev pub part_means : Part-F Meaning Position Meaning Spot → Position
+part_means (Part-F.Field k) view = Some k
+part_means (Part-F.Index e) view = option_and_then position_in (operand e view)
+
+abbrev pub expr_means : Expr-F Meaning Position Meaning Spot → Meaning
+expr_means e = e.what
+
+abbrev pub path_means : Path-F Meaning Position Meaning Spot → Spot
+path_means path = record { root = path.root; ty = path.ty; positions = positions_of path.parts }
+
+-- what an expression and a path mean in a scope
+abbrev pub meaning_of : Scope → Expr → Meaning
+meaning_of scope = fold-Expr Meaning Position Meaning Spot (kind_means scope) part_means expr_means path_means
+
+abbrev pub spot_of : Scope → Path → Spot
+spot_of scope = fold-Path Meaning Position Meaning Spot (kind_means scope) part_means expr_means path_means
+
+-- the value of an expression; none where it traps
+abbrev pub value_in : Scope → Expr → View → Option Value
+value_in scope e view = option_map plain (meaning_of scope e view)

@@ -1,0 +1,18 @@
+//! What the expressions and acts of a typed program do (docs/LANGUAGE.md, "How a program runs").
+#![tactic(auto)]
+
+mod copying;
+mod datum;
+mod evaluation;
+mod operators;
+mod parts;
+mod slices;
+mod steps;
+#[cfg(test)]
+mod tests;
+mod values;
+mod zero;
+
+pub use copying::copy;
+pub use values::{Did, Got, Values, act, value};
+pub use zero::zero_value;
