@@ -1,0 +1,11 @@
+pub mod Builtin
+pub mod Calls
+pub mod Cells
+pub mod Cost
+pub mod Faults
+pub mod HandText
+pub mod Meaning
+pub mod Memory
+pub mod Sizes
+pub mod Tables
+pub mod Trace

@@ -1,0 +1,94 @@
+-- How many cells a C file needs while it runs.
+use Rattle.std.specs.Prelude.{ℕ, ◌+◌, ◌*◌, Bool, true, false, max, List, [], ◌∷◌, ◌++◌, map, Option, Some, None, codes, if◌then◌else◌}
+use Rattle.bl_tree.specs.declared.text.Text.{Text}
+use Rattle.bl_tree.specs.declared.c.CType.{CType}
+use Rattle.bl_tree.specs.declared.c.CType.TheVariants.{Scalar as OfScalar, Struct as OfStruct}
+use Rattle.bl_tree.specs.declared.c.CMember.{CMember}
+use Rattle.bl_tree.specs.declared.c.CStruct.{CStruct}
+use Rattle.bl_tree.specs.declared.c.CParam.{CParam}
+use Rattle.bl_tree.specs.declared.c.CLocal.{CLocal}
+use Rattle.bl_tree.specs.declared.c.CStmtKind.TheOpen.{CStmtKind-F, CStmt-F}
+use Rattle.bl_tree.specs.declared.c.CStmt.{CStmt, fold-CStmt}
+use Rattle.bl_tree.specs.declared.c.CFunc.{CFunc}
+use Rattle.bl_tree.specs.Reduce.{total, greatest}
+use Rattle.bl_ctext.specs.declared.file.CFile.{CFile}
+use Rattle.bl_ctext.specs.Tables.{found_or}
+use Rattle.bl_ctext.specs.Calls.{calls_in_block}
+
+-- ---- types
+
+-- how many scalars each earlier struct has
+abbrev pub Sizes : Type 0
+Sizes = List (Text × ℕ)
+
+-- how many scalars a value of a type has
+abbrev pub size_of_type : Sizes → CType → ℕ
+size_of_type known (OfScalar kind) = 1
+size_of_type known (OfStruct name) = found_or 0 name known
+
+abbrev pub size_of_length : Option ℕ → ℕ → ℕ
+size_of_length None size = size
+size_of_length (Some length) size = length * size
+
+abbrev pub size_of_member : Sizes → CMember → ℕ
+size_of_member known m = size_of_length m.length (size_of_type known m.ty)
+
+-- the structs in order, each over those before it
+abbrev pub sizes_after : Sizes → List CStruct → Sizes
+sizes_after known [] = known
+sizes_after known (s ∷ rest) = sizes_after (known ++ (s.name, total (map (size_of_member known) s.members)) ∷ []) rest
+
+-- how many scalars each struct has, by name
+abbrev pub sizes : List CStruct → Sizes
+sizes = sizes_after []
+
+-- ---- functions
+
+-- how many loops stand in a statement, itself counted
+
+abbrev pub loops_or_none : Option (List ℕ) → ℕ
+loops_or_none None = 0
+loops_or_none (Some block) = total block
+
+abbrev pub stmt_kind_loops : CStmtKind-F ℕ ℕ → ℕ
+stmt_kind_loops (CStmtKind-F.If condition block other) = total block + loops_or_none other
+stmt_kind_loops (CStmtKind-F.Loop turn condition body) = 1 + total body
+stmt_kind_loops _ = 0
+
+abbrev pub stmt_loops_step : CStmt-F ℕ ℕ → ℕ
+stmt_loops_step stmt = stmt.what
+
+abbrev pub loops_in : CStmt → ℕ
+loops_in = fold-CStmt ℕ ℕ stmt_kind_loops stmt_loops_step
+
+-- a pointer is one cell, whatever it leads to
+abbrev pub size_of_param : Sizes → CParam → ℕ
+size_of_param known param = if param.pointer then 1 else size_of_type known param.ty
+
+-- the cells of a function's own parameters and locals; each loop's counter is one local
+abbrev pub own_cells : Sizes → CFunc → ℕ
+own_cells known function =
+    total (map (size_of_param known) function.params)
+    + (total (map (λ l. size_of_type known l.ty) function.locals) + total (map loops_in function.body))
+
+-- the cells of the deepest chain of calls that begins with a function: its own, and the most of a function that it calls. The prelude's have none
+abbrev pub chain_cells : Sizes → List (Text × ℕ) → CFunc → ℕ
+chain_cells known earlier function =
+    own_cells known function + greatest (map (λ name. found_or 0 name earlier) (calls_in_block function.body))
+
+-- the functions in order, each over those before it
+abbrev pub chains_after : Sizes → List (Text × ℕ) → List CFunc → List (Text × ℕ)
+chains_after known earlier [] = earlier
+chains_after known earlier (function ∷ rest) =
+    chains_after known (earlier ++ (function.name, chain_cells known earlier function) ∷ []) rest
+
+-- the cells of the deepest chain over all functions, those too that nobody calls
+abbrev pub deepest_chain : CFile → ℕ
+deepest_chain file = greatest (map (λ entry. entry.1) (chains_after (sizes file.structs) [] file.funcs))
+
+-- how many cells a file needs: its three objects, and its deepest chain of parameters and locals
+abbrev pub cells_needed : CFile → ℕ
+cells_needed file =
+    let known = sizes file.structs in
+    found_or 0 (codes "bl_state") known + found_or 0 (codes "bl_in") known + found_or 0 (codes "bl_out") known
+    + deepest_chain file
