@@ -6,6 +6,12 @@ pub mod Faults
 pub mod HandText
 pub mod Meaning
 pub mod Memory
+pub mod Names
+pub mod Prelude
 pub mod Sizes
+pub mod Spellable
+pub mod Spelling
+pub mod SpellsC
 pub mod Tables
+pub mod Token
 pub mod Trace

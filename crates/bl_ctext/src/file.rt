@@ -1,3 +1,6 @@
+ghost use Rattle.std.specs.Prelude.{IsTrue};
+ghost use Rattle.bl_ctext.specs.Spellable.{is_spellable};
+
 use bl_tree::List;
 use bl_tree::c::{CFunc, CStruct};
 
@@ -6,4 +9,6 @@ use bl_tree::c::{CFunc, CStruct};
 pub struct CFile {
     pub structs: List<CStruct>,
     pub funcs: List<CFunc>,
+    /// Every part of it has a spelling, and it holds at least one struct and one function.
+    pub ghost spellable: { IsTrue (is_spellable structs funcs) },
 }

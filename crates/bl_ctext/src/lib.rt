@@ -2,5 +2,7 @@
 #![tactic(auto)]
 
 pub mod file;
+mod prelude;
 
 pub use file::CFile;
+pub use prelude::PRELUDE;

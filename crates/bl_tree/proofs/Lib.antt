@@ -1,0 +1,3 @@
+pub mod ExprInduction
+pub mod ReduceLemmas
+pub mod StmtInduction

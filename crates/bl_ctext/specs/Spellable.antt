@@ -1,0 +1,200 @@
+-- Which trees of the C subset have a spelling: what the type of a file keeps.
+use Rattle.std.specs.Prelude.{ℕ, suc, pred, ◌+◌, ◌-◌, ◌*◌, ◌^◌, max, nat_lt, nat_le, ℤ, pos, negsuc, Bool, true, false, not, ◌&&◌, ◌||◌, ◌==◌, cond, List, [], ◌∷◌, map, Option, Some, None, codes}
+use Rattle.bl_tree.specs.declared.scalar.Width.{Width}
+use Rattle.bl_tree.specs.declared.scalar.Width.TheVariants.{W8, W16, W32, W64}
+use Rattle.bl_tree.specs.declared.scalar.Scalar.{Scalar}
+use Rattle.bl_tree.specs.declared.scalar.Scalar.TheVariants as scalar
+use Rattle.bl_tree.specs.declared.scalar.Op.{Op}
+use Rattle.bl_tree.specs.declared.scalar.Op.TheVariants as op
+use Rattle.bl_tree.specs.declared.c.CType.{CType}
+use Rattle.bl_tree.specs.declared.c.CType.TheVariants as ctype
+use Rattle.bl_tree.specs.declared.c.CMember.{CMember}
+use Rattle.bl_tree.specs.declared.c.CStruct.{CStruct}
+use Rattle.bl_tree.specs.declared.c.CParam.{CParam}
+use Rattle.bl_tree.specs.declared.c.CLocal.{CLocal}
+use Rattle.bl_tree.specs.declared.c.CFunc.{CFunc}
+use Rattle.bl_tree.specs.declared.c.CPlace.{CPlace, CPlace-F, fold-CPlace}
+use Rattle.bl_tree.specs.declared.c.CStep.{CStep, CStep-F, fold-CStep}
+use Rattle.bl_tree.specs.declared.c.CIndex.{CIndex, CIndex-F, fold-CIndex}
+use Rattle.bl_tree.specs.declared.c.CExpr.{CExpr, CExpr-F, fold-CExpr}
+use Rattle.bl_tree.specs.declared.c.CExprKind.{CExprKind, CExprKind-F, fold-CExprKind}
+use Rattle.bl_tree.specs.declared.c.CCall.{CCall, CCall-F, fold-CCall}
+use Rattle.bl_tree.specs.declared.c.CArg.{CArg, CArg-F, fold-CArg}
+use Rattle.bl_tree.specs.declared.c.CStmt.{CStmt, CStmt-F, fold-CStmt}
+use Rattle.bl_tree.specs.declared.c.CStmtKind.{CStmtKind, CStmtKind-F, fold-CStmtKind}
+use Rattle.bl_tree.specs.Reduce.{all_of, any_of}
+use Rattle.bl_ctext.specs.Token.{Token}
+use Rattle.bl_ctext.specs.Names.{is_name, is_struct_name, is_function_name, is_callee, is_turn_name}
+use Rattle.bl_ctext.specs.Spelling.{negatives, tokens_of}
+
+-- a type other than bits
+abbrev pub is_c_scalar : Scalar → Bool
+is_c_scalar (scalar.Bits w) = false
+is_c_scalar _ = true
+
+-- whether the number is in the range of the type; no number is one of a bits type
+abbrev pub is_literal : Scalar → ℤ → Bool
+is_literal scalar.Bool (pos n) = nat_lt n 2
+is_literal scalar.Bool (negsuc n) = false
+is_literal (scalar.Int w) (pos n) = nat_lt n (negatives w)
+is_literal (scalar.Int w) (negsuc n) = nat_lt n (negatives w)
+is_literal (scalar.Nat w) (pos n) = nat_lt n (2 * negatives w)
+is_literal (scalar.Nat w) (negsuc n) = false
+is_literal (scalar.Bits w) n = false
+
+-- a comparison, `Both` or `Either`
+abbrev pub is_c_operator : Op → Bool
+is_c_operator op.Eq = true
+is_c_operator op.Ne = true
+is_c_operator op.Lt = true
+is_c_operator op.Le = true
+is_c_operator op.Gt = true
+is_c_operator op.Ge = true
+is_c_operator op.Both = true
+is_c_operator op.Either = true
+is_c_operator _ = false
+
+-- how many elements an array may have
+abbrev pub is_length : ℕ → Bool
+is_length n = nat_le 1 n && nat_le n 65536
+
+-- whether what may be absent passes where it is there
+abbrev pub none_or : Option Bool → Bool
+none_or None = true
+none_or (Some answer) = answer
+
+-- whether the list holds something
+abbrev pub has_any : {A : Type 0} → List A → Bool
+has_any [] = false
+has_any (x ∷ xs) = true
+
+abbrev pub is_arg : CArg-F Bool Bool Bool Bool Bool Bool Bool → Bool
+is_arg (CArg-F.Value value) = value
+is_arg (CArg-F.Address at) = at
+
+abbrev pub is_expr_kind : CExprKind-F Bool Bool Bool Bool Bool Bool Bool → Bool
+is_expr_kind (CExprKind-F.Literal s n) = is_literal s n
+is_expr_kind (CExprKind-F.Read at) = at
+is_expr_kind (CExprKind-F.Call call) = call
+is_expr_kind (CExprKind-F.Not operand) = operand
+is_expr_kind (CExprKind-F.Two o left right) = is_c_operator o && (left && right)
+
+abbrev pub is_call : CCall-F Bool Bool Bool Bool Bool Bool Bool → Bool
+is_call c = is_callee c.name && all_of c.args
+
+abbrev pub is_expr : CExpr-F Bool Bool Bool Bool Bool Bool Bool → Bool
+is_expr e = e.what
+
+abbrev pub is_index : CIndex-F Bool Bool Bool Bool Bool Bool Bool → Bool
+is_index i = i.at && is_length i.length
+
+abbrev pub is_place : CPlace-F Bool Bool Bool Bool Bool Bool Bool → Bool
+is_place p = is_name p.name && all_of p.steps
+
+abbrev pub is_step : CStep-F Bool Bool Bool Bool Bool Bool Bool → Bool
+is_step s = is_name s.member && none_or s.index
+
+-- whether the names, literals, operators and lengths of an expression have a spelling; the same of its parts
+abbrev pub spells_expr : CExpr → Bool
+spells_expr = fold-CExpr _ _ _ _ _ _ _ is_arg is_expr_kind is_call is_expr is_index is_place is_step
+
+abbrev pub spells_kind : CExprKind → Bool
+spells_kind = fold-CExprKind _ _ _ _ _ _ _ is_arg is_expr_kind is_call is_expr is_index is_place is_step
+
+abbrev pub spells_place : CPlace → Bool
+spells_place = fold-CPlace _ _ _ _ _ _ _ is_arg is_expr_kind is_call is_expr is_index is_place is_step
+
+abbrev pub spells_step : CStep → Bool
+spells_step = fold-CStep _ _ _ _ _ _ _ is_arg is_expr_kind is_call is_expr is_index is_place is_step
+
+abbrev pub spells_index : CIndex → Bool
+spells_index = fold-CIndex _ _ _ _ _ _ _ is_arg is_expr_kind is_call is_expr is_index is_place is_step
+
+abbrev pub spells_call : CCall → Bool
+spells_call = fold-CCall _ _ _ _ _ _ _ is_arg is_expr_kind is_call is_expr is_index is_place is_step
+
+abbrev pub spells_arg : CArg → Bool
+spells_arg = fold-CArg _ _ _ _ _ _ _ is_arg is_expr_kind is_call is_expr is_index is_place is_step
+
+abbrev pub spells_result : Option CExpr → Bool
+spells_result None = true
+spells_result (Some e) = spells_expr e
+
+abbrev pub all_if_any : Option (List Bool) → Bool
+all_if_any None = true
+all_if_any (Some answers) = all_of answers
+
+abbrev pub is_stmt_kind : CStmtKind-F Bool Bool → Bool
+is_stmt_kind (CStmtKind-F.Set at value) = spells_place at && spells_expr value
+is_stmt_kind (CStmtKind-F.Clear at name) = spells_place at && is_struct_name name
+is_stmt_kind (CStmtKind-F.Call call) = spells_call call
+is_stmt_kind (CStmtKind-F.If test then_part else_part) = spells_expr test && (all_of then_part && all_if_any else_part)
+is_stmt_kind (CStmtKind-F.Loop turn test body) = is_turn_name turn && (spells_expr test && all_of body)
+is_stmt_kind CStmtKind-F.Break = true
+is_stmt_kind (CStmtKind-F.Return value) = spells_result value
+
+abbrev pub is_stmt : CStmt-F Bool Bool → Bool
+is_stmt s = s.what
+
+-- the same of a statement
+abbrev pub spells_stmt : CStmt → Bool
+spells_stmt = fold-CStmt _ _ is_stmt_kind is_stmt
+
+abbrev pub spells_stmt_kind : CStmtKind → Bool
+spells_stmt_kind = fold-CStmtKind _ _ is_stmt_kind is_stmt
+
+abbrev pub spells_type : CType → Bool
+spells_type (ctype.Scalar s) = is_c_scalar s
+spells_type (ctype.Struct name) = is_struct_name name
+
+abbrev pub spells_length : Option ℕ → Bool
+spells_length None = true
+spells_length (Some n) = is_length n
+
+abbrev pub spells_member : CMember → Bool
+spells_member m = spells_type m.ty && (is_name m.name && spells_length m.length)
+
+-- a struct has a member
+abbrev pub spells_struct : CStruct → Bool
+spells_struct s = is_struct_name s.name && (has_any s.members && all_of (map spells_member s.members))
+
+abbrev pub spells_param : CParam → Bool
+spells_param p = spells_type p.ty && is_name p.name
+
+abbrev pub spells_local : CLocal → Bool
+spells_local x = spells_type x.ty && is_name x.name
+
+abbrev pub spells_returned : Option Scalar → Bool
+spells_returned None = true
+spells_returned (Some s) = is_c_scalar s
+
+abbrev pub spells_func : CFunc → Bool
+spells_func f =
+    spells_returned f.result && (is_function_name f.name &&
+      (all_of (map spells_param f.params) && (all_of (map spells_local f.locals) && all_of (map spells_stmt f.body))))
+
+-- whether the token is `(`, `[` or `{`
+abbrev pub is_opening : Token → Bool
+is_opening (b ∷ []) = b == 40 || b == 91 || b == 123
+is_opening _ = false
+
+-- whether it is `)`, `]` or `}`
+abbrev pub is_closing : Token → Bool
+is_closing (b ∷ []) = b == 41 || b == 93 || b == 125
+is_closing _ = false
+
+-- how many brackets are open behind the token, where so many are before it
+abbrev pub open_behind : ℕ → Token → ℕ
+open_behind n token = cond (is_opening token) (n + 1) (cond (is_closing token) (n - 1) n)
+
+-- the most brackets that are open at once, where so many are already
+abbrev pub most_open : ℕ → List Token → ℕ
+most_open n [] = n
+most_open n (token ∷ tokens) = max n (most_open (open_behind n token) tokens)
+
+-- Whether a text of these structs and functions has a spelling: it has a struct and a function, each struct has a member,
+-- all names, literals, types, operators and lengths are some of the subset's, and at most 2,000 brackets are open at once.
+abbrev pub is_spellable : List CStruct → List CFunc → Bool
+is_spellable structs funcs =
+    has_any structs && (has_any funcs && (all_of (map spells_struct structs) && (all_of (map spells_func funcs) &&
+      nat_le (most_open 0 (tokens_of structs funcs)) 2000)))

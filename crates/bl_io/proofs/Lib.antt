@@ -1,0 +1,5 @@
+pub mod Handing
+pub mod Held
+pub mod Left
+pub mod Named
+pub mod Planned
