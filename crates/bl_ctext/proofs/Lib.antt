@@ -1,2 +1,4 @@
 pub mod BoundLemmas
+pub mod EndLemmas
 pub mod Induction
+pub mod TraceLemmas

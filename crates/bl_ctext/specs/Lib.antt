@@ -2,8 +2,10 @@ pub mod Builtin
 pub mod Calls
 pub mod Cells
 pub mod Cost
+pub mod Ends
 pub mod Faults
 pub mod HandText
+pub mod Laws
 pub mod Meaning
 pub mod Memory
 pub mod Names

@@ -1,5 +1,5 @@
 -- What a C file does over rows of inputs.
-use Rattle.std.specs.Prelude.{ℕ, ℤ, pos, Bool, true, false, List, [], ◌∷◌, map, Option, Some, None, codes, if◌then◌else◌}
+use Rattle.std.specs.Prelude.{ℕ, ℤ, pos, Bool, true, false, List, [], ◌∷◌, ◌++◌, map, Option, Some, None, codes, if◌then◌else◌}
 use Rattle.std.specs.Ordering.{int_eq}
 use Rattle.bl_tree.specs.declared.row.Trace.{Trace}
 use Rattle.bl_tree.specs.declared.row.Last.TheVariants.{Open, Ended, Trap}
@@ -91,3 +91,12 @@ trace_after file (Some cells) rows = c_trace_from file rows cells
 -- the trace of a file over rows of inputs
 abbrev pub c_trace : CFile → List (List ℤ) → Trace
 c_trace file rows = trace_after file (start_c file) rows
+
+-- the numbers of the cells after rows that leave the run open
+abbrev pub cells_after : CFile → List (List ℤ) → List ℤ → List ℤ
+cells_after file [] cells = cells
+cells_after file (ins ∷ rest) cells = cells_after file rest (tick_c file cells ins).cells
+
+-- a trace and the one that goes on from it
+abbrev pub trace_then : Trace → Trace → Trace
+trace_then first rest = record { rows = first.rows ++ rest.rows; last = rest.last }

@@ -1,0 +1,5 @@
+use Rattle.bl_ctext.proofs.TraceLemmas.{goes-on}
+use Rattle.bl_ctext.proofs.laws.goes_on.Goals as goal
+
+pub returns : goal.returns
+returns c = goes-on c.args._file.now

@@ -1,0 +1,5 @@
+use Rattle.bl_ctext.proofs.BoundLemmas.{tick-le}
+use Rattle.bl_ctext.proofs.laws.within_bound.Goals as goal
+
+pub returns : goal.returns
+returns c = tick-le c.args._file.now
