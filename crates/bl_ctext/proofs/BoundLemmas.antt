@@ -1,6 +1,7 @@
 -- No statement, function or tick executes more statements than its cost.
 use Rattle.std.proofs.Common.{◌≡◌, ℕ, zero, suc, ◌+◌, ◌*◌, ◌≤◌, ℤ, pos, Bool, true, false, max, List, [], ◌∷◌, ◌++◌, map, Option, Some, None, refl, sym, subst, ap, ◌∙◌, arith}
-use Rattle.std.specs.Prelude.{All, if◌then◌else◌, option_map, unwrap_or, bytes_eq, codes}
+use Rattle.std.specs.Prelude.{All, if◌then◌else◌, option_map, unwrap_or, is_none, bytes_eq, codes}
+use Rattle.std.specs.Option.{option_or}
 use Rattle.std.proofs.lemmas.List.Elements.{All-head, All-tail}
 use Rattle.bl_tree.specs.declared.text.Text.{Text}
 use Rattle.bl_tree.specs.declared.c.CArg.{CArg, fold-CArg, fold-roll-CArg}
@@ -22,7 +23,7 @@ use Rattle.bl_tree.specs.declared.scalar.Op.TheVariants.{Both, Either, Negate}
 use Rattle.bl_tree.specs.declared.scalar.Scalar.TheVariants.{Bool as OfBool}
 use Rattle.bl_tree.specs.Numbers.{checked_of, checked_one_of, is_one}
 use Rattle.bl_ctext.specs.Memory.{Memory, CValue, Location, Part, member, number_in, scalar, value_at, set_at, zeros, without_frame}
-use Rattle.bl_ctext.specs.Tables.{found, found_or}
+use Rattle.bl_ctext.specs.Tables.{found, Table, no_entries, table_of, with_entry, entry_or}
 use Rattle.bl_ctext.specs.Builtin.{Builtin, builtin_of, index_within}
 use Rattle.bl_ctext.specs.Meaning.{Counted, given, going_on, next, Passed, by_value, by_address, Called, Meaning, further, start_of, way_of, element_at, Scope, applied, called, called_as, called_after, Evaluates, each_of, at_once, two_values, result_of, arg_step, kind_step, call_step, expr_step, index_step, place_step, step_step, value_c, location_c, call_c, Outcome, End, goes_on, breaks, returns, traps, Runs, after, following, following_end, block_of, block_or_none, ended_by, turn_end, turn_or_none, once_more, turns, turn_limit, runs_c, block_c, function_c, meanings_after, meanings, going, returning, executed, pointers_of, with_params}
 use Rattle.bl_ctext.specs.Calls.{Names, arg_calls, kind_calls, call_calls, expr_calls, index_calls, place_calls, step_calls, calls_in, calls_in_place, calls_in_call}
@@ -72,20 +73,21 @@ pub cost-append : (costs : Costs) (xs ys : List Text) → cost_of_calls costs (x
 cost-append costs [] ys = omega arith
 cost-append costs (x ∷ xs) ys = omega (arith, cost-append costs xs ys)
 
--- each of these functions executes at most what it costs
-pub record Covers (known : List (Text × Meaning)) (costs : Costs) : Type 0 where
-  pub covers : (name : Text) (depth : ℕ) (passed : List Passed) (memory : Memory) → (applied (found name known) depth passed memory).count ≤ found_or 0 name costs
+-- each of these functions has a cost, and executes at most that
+pub record Covers (known : Table Meaning) (costs : Costs) : Type 0 where
+  pub same : (name : Text) → is_none (costs name) ≡ is_none (known name)
+  pub covers : (name : Text) (depth : ℕ) (passed : List Passed) (memory : Memory) → (applied (known name) depth passed memory).count ≤ entry_or 0 costs name
 
-called_as-le : (known : List (Text × Meaning)) (costs : Costs) → Covers known costs → (builtin : Option Builtin) (name : Text) (depth : ℕ) (passed : List Passed) (memory : Memory) →
-    (called_as builtin (found name known) depth passed memory).count ≤ found_or 0 name costs
+called_as-le : (known : Table Meaning) (costs : Costs) → Covers known costs → (builtin : Option Builtin) (name : Text) (depth : ℕ) (passed : List Passed) (memory : Memory) →
+    (called_as builtin (known name) depth passed memory).count ≤ entry_or 0 costs name
 called_as-le known costs h (Some b) name depth passed memory = omega arith
 called_as-le known costs h None name depth passed memory = h.covers name depth passed memory
 
 called_after-le : (costs : Costs) (scope : Scope) → Covers scope.known costs → (memory : Memory) (name : Text) (n : ℕ) (passed : Option (List Passed)) →
-    (called_after scope memory name n passed).count ≤ n + found_or 0 name costs
+    (called_after scope memory name n passed).count ≤ n + entry_or 0 costs name
 called_after-le costs scope h memory name n None = omega arith
 called_after-le costs scope h memory name n (Some passed) =
-    let k : (called scope name passed memory).count ≤ found_or 0 name costs = called_as-le scope.known costs h (builtin_of name) name (scope.depth + 1) passed memory in omega arith
+    let k : (called scope name passed memory).count ≤ entry_or 0 costs name = called_as-le scope.known costs h (builtin_of name) name (scope.depth + 1) passed memory in omega arith
 
 module _ (costs : Costs) (scope : Scope) (covers : Covers scope.known costs) (memory : Memory) where
   abbrev Least : {A : Type 0} → Evaluates A → Names → Type 0
@@ -163,7 +165,7 @@ module _ (costs : Costs) (scope : Scope) (covers : Covers scope.known costs) (me
       rw (fold-roll-CExprKind, fold-roll-CExprKind) (omega (arith, cost-append costs (calls_in a) (calls_in b)));
     calling = λ name args h.
       let passed : (each_of (map arg_c args) scope memory).count ≤ cost_of_calls costs (joined (map calls_in_arg args)) = each_of-le arg_c calls_in_arg args h in
-      let all : (called_after scope memory name (each_of (map arg_c args) scope memory).count (each_of (map arg_c args) scope memory).answer).count ≤ (each_of (map arg_c args) scope memory).count + found_or 0 name costs =
+      let all : (called_after scope memory name (each_of (map arg_c args) scope memory).count (each_of (map arg_c args) scope memory).answer).count ≤ (each_of (map arg_c args) scope memory).count + entry_or 0 costs name =
           called_after-le costs scope covers memory name _ _ in
       rw (fold-roll-CCall, fold-roll-CCall) (omega arith);
     expr = λ place what h. rw (fold-roll-CExpr, fold-roll-CExpr) h;
@@ -320,8 +322,34 @@ module _ (costs : Costs) (scope : Scope) (covers : Covers scope.known costs) whe
 
 -- ---- functions
 
--- the functions of two tables, one by one: the same name, and no more statements than the cost
-abbrev Aligned : List (Text × Meaning) → Costs → Type 0
+choice_of-le : (asked name : Text) (b : Bool) (old : Option Meaning) (cost : Option ℕ) (f : Meaning) (c : ℕ) (depth : ℕ) (passed : List Passed) (memory : Memory) →
+    (f depth passed memory).count ≤ c → (applied old depth passed memory).count ≤ unwrap_or cost 0 → is_none cost ≡ is_none old →
+    (applied (option_or old (if b then Some f else None)) depth passed memory).count ≤ unwrap_or (option_or cost (if b then Some c else None)) 0
+choice_of-le asked name b (Some g) (Some d) f c depth passed memory h r same = r
+choice_of-le asked name true None None f c depth passed memory h r same = h
+choice_of-le asked name false None None f c depth passed memory h r same = r
+choice_of-le asked name b (Some g) None f c depth passed memory h r same = cc
+choice_of-le asked name b None (Some d) f c depth passed memory h r same = cc
+
+choice-same : {A B : Type 0} (b : Bool) (cost : Option A) (old : Option B) (c : A) (f : B) → is_none cost ≡ is_none old →
+    is_none (option_or cost (if b then Some c else None)) ≡ is_none (option_or old (if b then Some f else None))
+choice-same b (Some d) (Some g) c f h = refl
+choice-same true None None c f h = refl
+choice-same false None None c f h = refl
+choice-same b None (Some g) c f h = cc
+choice-same b (Some d) None c f h = cc
+
+-- one more function, with its cost
+covers-entry : (known : Table Meaning) (costs : Costs) → Covers known costs → (name : Text) (f : Meaning) (c : ℕ) →
+    ((depth : ℕ) (passed : List Passed) (memory : Memory) → (f depth passed memory).count ≤ c) → Covers (with_entry known name f) (with_entry costs name c)
+covers-entry known costs h name f c le = record {
+  same = λ asked. choice-same (bytes_eq asked name) (costs asked) (known asked) c f (h.same asked);
+  covers = λ asked depth passed memory.
+    choice_of-le asked name (bytes_eq asked name) (known asked) (costs asked) f c depth passed memory (le depth passed memory) (h.covers asked depth passed memory) (h.same asked);
+}
+
+-- the functions of two lists, one by one: the same name, and no more statements than the cost
+abbrev pub Aligned : List (Text × Meaning) → List (Text × ℕ) → Type 0
 Aligned [] [] = Unit {0}
 Aligned (f ∷ known) (c ∷ costs) = (f.0 ≡ c.0) × ((depth : ℕ) (passed : List Passed) (memory : Memory) → (f.1 depth passed memory).count ≤ c.1) × Aligned known costs
 Aligned [] (c ∷ costs) = ⊥
@@ -333,41 +361,38 @@ applied-le : (b : Bool) (f : Meaning) (c : ℕ) (rest : Option Meaning) (n : Opt
 applied-le true f c rest n depth passed memory h r = h
 applied-le false f c rest n depth passed memory h r = r
 
-covers_at : (known : List (Text × Meaning)) (costs : Costs) → Aligned known costs →
-    (name : Text) (depth : ℕ) (passed : List Passed) (memory : Memory) → (applied (found name known) depth passed memory).count ≤ found_or 0 name costs
+covers_at : (known : List (Text × Meaning)) (costs : List (Text × ℕ)) → Aligned known costs →
+    (name : Text) (depth : ℕ) (passed : List Passed) (memory : Memory) → (applied (found name known) depth passed memory).count ≤ unwrap_or (found name costs) 0
 covers_at [] [] h name depth passed memory = omega arith
 covers_at (f ∷ known) (c ∷ costs) h name depth passed memory =
-    let rest : (applied (found name known) depth passed memory).count ≤ found_or 0 name costs = covers_at known costs h.2 name depth passed memory in
-    subst (λ n. (applied (found name (f ∷ known)) depth passed memory).count ≤ unwrap_or (if bytes_eq n name then Some c.1 else found name costs) 0) h.0
-      (applied-le (bytes_eq f.0 name) f.1 c.1 (found name known) (found name costs) depth passed memory (h.1 depth passed memory) rest)
+    let rest : (applied (found name known) depth passed memory).count ≤ unwrap_or (found name costs) 0 = covers_at known costs h.2 name depth passed memory in
+    subst (λ n. (applied (found name (f ∷ known)) depth passed memory).count ≤ unwrap_or (if bytes_eq name n then Some c.1 else found name costs) 0) h.0
+      (applied-le (bytes_eq name f.0) f.1 c.1 (found name known) (found name costs) depth passed memory (h.1 depth passed memory) rest)
 covers_at [] (c ∷ costs) h name depth passed memory = absurd h
 covers_at (f ∷ known) [] h name depth passed memory = absurd h
 
-aligned-append : (known : List (Text × Meaning)) (costs : Costs) (name : Text) (f : Meaning) (c : ℕ) → Aligned known costs →
-    ((depth : ℕ) (passed : List Passed) (memory : Memory) → (f depth passed memory).count ≤ c) →
-    Aligned (known ++ (name, f) ∷ []) (costs ++ (name, c) ∷ [])
-aligned-append [] [] name f c h r = (refl, r, tt)
-aligned-append (g ∷ known) (d ∷ costs) name f c h r = (h.0, h.1, aligned-append known costs name f c h.2 r)
-aligned-append [] (d ∷ costs) name f c h r = absurd h
-aligned-append (g ∷ known) [] name f c h r = absurd h
-
 -- a function over earlier ones
-function-le : (known : List (Text × Meaning)) (costs : Costs) → Aligned known costs → (function : CFunc) (depth : ℕ) (passed : List Passed) (memory : Memory) →
+pub function-le : (known : Table Meaning) (costs : Costs) → Covers known costs → (function : CFunc) (depth : ℕ) (passed : List Passed) (memory : Memory) →
     (function_c known function depth passed memory).count ≤ cost_of_function costs function
 function-le known costs h function depth passed memory =
-    body-le costs (record { known = known; depth = depth; pointers = pointers_of function.params passed })
-      (record { covers = covers_at known costs h }) function.body (with_params depth function.params passed (without_frame depth memory))
+    body-le costs (record { known = known; depth = depth; pointers = table_of (pointers_of function.params passed) })
+      h function.body (with_params depth function.params passed (without_frame depth memory))
 
-aligned_after : (known : List (Text × Meaning)) (costs : Costs) (functions : List CFunc) → Aligned known costs → Aligned (meanings_after known functions) (costs_after costs functions)
-aligned_after known costs [] h = h
+aligned_after : (known : Table Meaning) (costs : Costs) (functions : List CFunc) → Covers known costs → Aligned (meanings_after known functions) (costs_after costs functions)
+aligned_after known costs [] h = tt
 aligned_after known costs (f ∷ functions) h =
-    aligned_after (known ++ (f.name, function_c known f) ∷ []) (costs ++ (f.name, cost_of_function costs f) ∷ []) functions
-      (aligned-append known costs f.name (function_c known f) (cost_of_function costs f) h (function-le known costs h f))
+    (refl, function-le known costs h f,
+      aligned_after (with_entry known f.name (function_c known f)) (with_entry costs f.name (cost_of_function costs f)) functions
+        (covers-entry known costs h f.name (function_c known f) (cost_of_function costs f) (function-le known costs h f)))
+
+nothing-covers : Covers no_entries no_entries
+nothing-covers = record { same = λ name. refl; covers = λ name depth passed memory. omega arith }
 
 -- every call from outside
-pub entered-le : (file : CFile) (name : Text) (passed : List Passed) (memory : Memory) → (entered file name passed memory).count ≤ found_or 0 name (all_costs file.funcs)
+pub entered-le : (file : CFile) (name : Text) (passed : List Passed) (memory : Memory) → (entered file name passed memory).count ≤ unwrap_or (found name (all_costs file.funcs)) 0
 unfolding entered
-entered-le file name passed memory = covers_at (meanings file.funcs) (all_costs file.funcs) (aligned_after [] [] file.funcs tt) name 0 passed memory
+entered-le file name passed memory =
+    covers_at (meanings file.funcs) (all_costs file.funcs) (aligned_after no_entries no_entries file.funcs nothing-covers) name 0 passed memory
 
 -- every tick
 pub tick-le : (file : CFile) (cells ins : List ℤ) → (tick_c file cells ins).count ≤ bound file

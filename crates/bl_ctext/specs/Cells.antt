@@ -1,5 +1,5 @@
 -- The scalars of the three objects, and the inputs and outputs that two of them declare.
-use Rattle.std.specs.Prelude.{ℕ, zero, suc, ℤ, pos, List, [], ◌∷◌, ◌++◌, map, flat_map, filter_map, drop, Option, Some, None, codes}
+use Rattle.std.specs.Prelude.{ℕ, zero, suc, ℤ, pos, List, [], ◌∷◌, ◌++◌, map, flat_map, filter_map, drop, unwrap_or, Option, Some, None, codes}
 use Rattle.bl_tree.specs.declared.text.Text.{Text}
 use Rattle.bl_tree.specs.declared.scalar.Scalar.{Scalar}
 use Rattle.bl_tree.specs.declared.c.CType.{CType}
@@ -9,13 +9,13 @@ use Rattle.bl_tree.specs.declared.c.CStruct.{CStruct}
 use Rattle.bl_tree.specs.declared.row.Column.{Column}
 use Rattle.bl_ctext.specs.declared.file.CFile.{CFile}
 use Rattle.bl_ctext.specs.Memory.{Part, member, element, Root, state_object, input_object, output_object, Location, Memory, CValue, scalar, number_in, cleared, value_at, set_at}
-use Rattle.bl_ctext.specs.Tables.{found_or}
+use Rattle.bl_ctext.specs.Tables.{found, Table, no_entries, with_entry, entry_or}
 
 -- ---- the members of a struct
 
 -- the members of the struct of a name, none where there is no such struct
 abbrev pub members_of : Text → List CStruct → List CMember
-members_of name structs = found_or [] name (map (λ s. (s.name, s.members)) structs)
+members_of name structs = unwrap_or (found name (map (λ s. (s.name, s.members)) structs)) []
 
 -- ---- cells
 
@@ -34,26 +34,28 @@ abbrev pub inside : List Part → Inner → Inner
 inside parts cell = record { parts = parts ++ cell.parts; kind = cell.kind }
 
 -- the scalars of a value of a type, in order, where those of the structs are known
-abbrev pub inner_of_type : List (Text × List Inner) → CType → List Inner
+abbrev pub inner_of_type : Table (List Inner) → CType → List Inner
 inner_of_type known (OfScalar kind) = record { parts = []; kind = kind } ∷ []
-inner_of_type known (OfStruct name) = found_or [] name known
+inner_of_type known (OfStruct name) = entry_or [] known name
 
 -- the scalars of a member: of an array, those of each element
 abbrev pub inner_of_length : Text → Option ℕ → List Inner → List Inner
 inner_of_length name None cells = map (inside (member name ∷ [])) cells
 inner_of_length name (Some length) cells = flat_map (λ k. map (inside (member name ∷ element k ∷ [])) cells) (below length)
 
-abbrev pub inner_of_member : List (Text × List Inner) → CMember → List Inner
+abbrev pub inner_of_member : Table (List Inner) → CMember → List Inner
 inner_of_member known m = inner_of_length m.name m.length (inner_of_type known m.ty)
 
--- the structs in order, each over those before it
-abbrev pub inner_after : List (Text × List Inner) → List CStruct → List (Text × List Inner)
-inner_after known [] = known
-inner_after known (s ∷ rest) = inner_after (known ++ (s.name, flat_map (inner_of_member known) s.members) ∷ []) rest
+-- the structs in order by name, each over those before it
+abbrev pub inner_after : Table (List Inner) → List CStruct → List (Text × List Inner)
+inner_after known [] = []
+inner_after known (s ∷ rest) =
+    let cells : List Inner = flat_map (inner_of_member known) s.members in
+    (s.name, cells) ∷ inner_after (with_entry known s.name cells) rest
 
 -- the scalars of the struct of a name
 abbrev pub inner_of : List CStruct → Text → List Inner
-inner_of structs name = found_or [] name (inner_after [] structs)
+inner_of structs name = unwrap_or (found name (inner_after no_entries structs)) []
 
 -- a scalar of one of the three objects
 pub record Cell : Type 0 where

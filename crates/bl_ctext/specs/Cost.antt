@@ -1,22 +1,22 @@
 -- The most statements that a C function can execute.
-use Rattle.std.specs.Prelude.{ℕ, ◌+◌, ◌*◌, max, List, [], ◌∷◌, ◌++◌, map, Option, Some, None, codes}
+use Rattle.std.specs.Prelude.{ℕ, ◌+◌, ◌*◌, max, List, [], ◌∷◌, ◌++◌, map, Option, Some, None, codes, unwrap_or}
 use Rattle.bl_tree.specs.declared.text.Text.{Text}
 use Rattle.bl_tree.specs.declared.c.CStmtKind.TheOpen.{CStmtKind-F, CStmt-F}
 use Rattle.bl_tree.specs.declared.c.CStmt.{CStmt, fold-CStmt}
 use Rattle.bl_tree.specs.declared.c.CFunc.{CFunc}
 use Rattle.bl_tree.specs.Reduce.{total}
 use Rattle.bl_ctext.specs.declared.file.CFile.{CFile}
-use Rattle.bl_ctext.specs.Tables.{found_or}
+use Rattle.bl_ctext.specs.Tables.{found, Table, no_entries, with_entry, entry_or}
 use Rattle.bl_ctext.specs.Meaning.{turn_limit}
 use Rattle.bl_ctext.specs.Calls.{calls_in, calls_in_place, calls_in_call, calls_or_none}
 
 -- the costs of the earlier functions
 abbrev pub Costs : Type 0
-Costs = List (Text × ℕ)
+Costs = Table ℕ
 
 -- the costs of calls, each counted; the prelude's functions cost nothing
 abbrev pub cost_of_calls : Costs → List Text → ℕ
-cost_of_calls known names = total (map (λ name. found_or 0 name known) names)
+cost_of_calls known names = total (map (entry_or 0 known) names)
 
 abbrev pub block_cost : List (Costs → ℕ) → Costs → ℕ
 block_cost block known = total (map (λ cost. cost known) block)
@@ -47,15 +47,16 @@ cost_of_stmt = fold-CStmt (Costs → ℕ) (Costs → ℕ) stmt_kind_cost stmt_co
 abbrev pub cost_of_function : Costs → CFunc → ℕ
 cost_of_function known function = total (map (λ stmt. cost_of_stmt stmt known) function.body)
 
--- the functions in order, each over those before it
-abbrev pub costs_after : Costs → List CFunc → Costs
-costs_after known [] = known
-costs_after known (function ∷ rest) = costs_after (known ++ (function.name, cost_of_function known function) ∷ []) rest
+-- the functions in order by name, each over those before it
+abbrev pub costs_after : Costs → List CFunc → List (Text × ℕ)
+costs_after known [] = []
+costs_after known (function ∷ rest) =
+    (function.name, cost_of_function known function) ∷ costs_after (with_entry known function.name (cost_of_function known function)) rest
 
--- the cost of each function, by name
-abbrev pub costs : List CFunc → Costs
-costs = costs_after []
+-- the cost of each function of a file, in order
+abbrev pub costs : List CFunc → List (Text × ℕ)
+costs = costs_after no_entries
 
 -- no tick executes more statements than this
 abbrev pub bound : CFile → ℕ
-bound file = found_or 0 (codes "bl_tick") (costs file.funcs)
+bound file = unwrap_or (found (codes "bl_tick") (costs file.funcs)) 0

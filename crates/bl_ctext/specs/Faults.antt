@@ -22,9 +22,9 @@ use Rattle.bl_tree.specs.declared.c.CPlace.{CPlace, fold-CPlace}
 use Rattle.bl_tree.specs.declared.c.CCall.{CCall, fold-CCall}
 use Rattle.bl_tree.specs.declared.c.CStmtKind.TheOpen.{CStmtKind-F, CStmt-F}
 use Rattle.bl_tree.specs.declared.c.CStmt.{CStmt, fold-CStmt}
-use Rattle.bl_tree.specs.Reduce.{joined, greatest}
+use Rattle.bl_tree.specs.Reduce.{any_of, joined, greatest}
 use Rattle.bl_ctext.specs.declared.file.CFile.{CFile}
-use Rattle.bl_ctext.specs.Tables.{found, found_or}
+use Rattle.bl_ctext.specs.Tables.{found, Table, no_entries, table_of, with_entry, entry_or}
 use Rattle.bl_ctext.specs.Builtin.{Builtin, stop, builtin_of, builtin_params, builtin_result}
 use Rattle.bl_ctext.specs.Calls.{calls_in_block}
 
@@ -155,10 +155,11 @@ pub record Signature : Type 0 where
 
 -- what is declared where an expression or statement stands
 pub record Context : Type 0 where
-  pub structs : List (Text × List CMember)
+  -- the structs by name, and the members of each
+  pub structs : Table (Table CMember)
   -- the earlier functions
-  pub functions : List (Text × Signature)
-  pub variables : List (Text × Variable)
+  pub functions : Table Signature
+  pub variables : Table Variable
   -- the running function's result
   pub result : Option Scalar
   -- whether the running function may change nothing through a pointer
@@ -177,11 +178,7 @@ signature_as (Some b) own = builtin_signature b
 signature_as None own = own
 
 abbrev pub signature_of : Context → Text → Option Signature
-signature_of context name = signature_as (builtin_of name) (found name context.functions)
-
--- the member of a struct
-abbrev pub member_in : Text → List CMember → Option CMember
-member_in name members = found name (map (λ m. (m.name, m)) members)
+signature_of context name = signature_as (builtin_of name) (context.functions name)
 
 -- ---- expressions
 
@@ -227,18 +224,25 @@ fits_param true (OfScalar (Int W64)) t = indexes true t
 fits_param true (OfScalar (Nat W64)) t = indexes false t
 fits_param _ wanted t = same_type wanted t
 
-abbrev pub fits_arg : Bool → Variable × JudgedArg → Bool
-fits_arg widens pair = (if pair.0.pointer then pair.1.address else not pair.1.address) && if_typed pair.1.ty (fits_param widens pair.0.ty)
+abbrev pub fits_arg : Bool → Variable → JudgedArg → Bool
+fits_arg widens p a = (if p.pointer then a.address else not a.address) && if_typed a.ty (fits_param widens p.ty)
+
+-- whether each argument fits its parameter, and there are as many
+abbrev pub fit_each : Bool → List Variable → List JudgedArg → Bool
+fit_each widens [] [] = true
+fit_each widens (p ∷ ps) (a ∷ rest) = fits_arg widens p a && fit_each widens ps rest
+fit_each widens [] (a ∷ rest) = false
+fit_each widens (p ∷ ps) [] = false
 
 -- whether a call's arguments are those that a function wants
 abbrev pub fit_args : Option Signature → List JudgedArg → Bool
 fit_args None args = true
-fit_args (Some s) args = length s.params == length args && list_all (fits_arg s.widens) (zip s.params args)
+fit_args (Some s) args = fit_each s.widens s.params args
 
 -- whether a call hands what a pointer leads to to a function without a result
 abbrev pub hands_on : Option Signature → List JudgedArg → Bool
 hands_on None args = false
-hands_on (Some s) args = is_none s.result && list_any (λ a. a.address && a.through) args
+hands_on (Some s) args = is_none s.result && any_of (map (λ a. a.address && a.through) args)
 
 abbrev pub judge_arg : CArg-F (Judges JudgedArg) (Judges Judged) (Judges JudgedCall) (Context → Judged) (Judges JudgedIndex) (Judges JudgedPlace) Steps → Judges JudgedArg
 judge_arg (CArg-F.Value value) context place =
@@ -314,7 +318,7 @@ judge_steps (step ∷ steps) context place ty =
 
 abbrev pub judge_place : CPlace-F (Judges JudgedArg) (Judges Judged) (Judges JudgedCall) (Context → Judged) (Judges JudgedIndex) (Judges JudgedPlace) Steps → Judges JudgedPlace
 judge_place target context place =
-    let root : Judged = judge_root (found target.name context.variables) target.through place in
+    let root : Judged = judge_root (context.variables target.name) target.through place in
     let last : Judged = judge_steps target.steps context place root.ty in
     record { ty = last.ty; through = target.through; faults = root.faults ++ last.faults }
 
@@ -328,15 +332,15 @@ abbrev pub judge_member : Option CMember → Option ℕ → Place → Judged
 judge_member None length place = record { ty = None; faults = unless false declared_before place }
 judge_member (Some m) length place = judge_length m.ty m.length length place
 
--- the members of a type, none where it is no struct
-abbrev pub members_in : Context → CType → List CMember
-members_in context (OfScalar s) = []
-members_in context (OfStruct name) = found_or [] name context.structs
+-- a member of a type, none where the type is no struct or has no such member
+abbrev pub member_of : Context → CType → Text → Option CMember
+member_of context (OfScalar s) name = None
+member_of context (OfStruct struct) name = option_and_then (λ members. members name) (context.structs struct)
 
--- a member of a type, none where nothing is known of the type
+-- a step into a type, where nothing is known of what comes after no type
 abbrev pub judge_into : Context → Text → Option ℕ → Place → Option CType → Judged
 judge_into context name length place None = record { ty = None; faults = [] }
-judge_into context name length place (Some ty) = judge_member (member_in name (members_in context ty)) length place
+judge_into context name length place (Some ty) = judge_member (member_of context ty name) length place
 
 abbrev pub index_or_none : Option (Judges JudgedIndex) → Judges (Option JudgedIndex)
 index_or_none None context place = None
@@ -400,7 +404,7 @@ stmt_kind_faults (CStmtKind-F.Set target expr) place context looped =
       ++ unless (not (context.keeps && p.through)) changes_nothing place))
 stmt_kind_faults (CStmtKind-F.Clear target name) place context looped =
     let p : JudgedPlace = judged_place target context place in
-    p.faults ++ (unless (is_some (found name context.structs)) declared_before place
+    p.faults ++ (unless (is_some (context.structs name)) declared_before place
       ++ (unless (agree p.ty (Some (OfStruct name))) assigned_type place
       ++ unless (not (context.keeps && p.through)) changes_nothing place))
 stmt_kind_faults (CStmtKind-F.Call call) place context looped = (judged_call call context place).faults
@@ -463,29 +467,29 @@ surely_returns = fold-CStmt Bool Bool stmt_kind_returns stmt_returns_step
 -- ---- names
 
 -- the places of those whose name stands among these, or earlier in the list
-abbrev pub repeated : List Text → List (Text × Place) → List Fault
+abbrev pub repeated : Table (Unit {0}) → List (Text × Place) → List Fault
 repeated names [] = []
 repeated names (entry ∷ rest) =
-    unless (not (list_any (bytes_eq entry.0) names)) distinct_names entry.1 ++ repeated (names ++ entry.0 ∷ []) rest
+    unless (is_none (names entry.0)) distinct_names entry.1 ++ repeated (with_entry names entry.0 tt) rest
 
--- whether no name stands twice
-abbrev pub all_distinct : List Text → List Text → Bool
+-- whether none of these names stands twice, or among the others
+abbrev pub all_distinct : Table (Unit {0}) → List Text → Bool
 all_distinct names [] = true
-all_distinct names (name ∷ rest) = not (list_any (bytes_eq name) names) && all_distinct (names ++ name ∷ []) rest
+all_distinct names (name ∷ rest) = is_none (names name) && all_distinct (with_entry names name tt) rest
 
 -- ---- structs
 
 -- a type whose struct, if it is one, is among these
-abbrev pub is_declared : List (Text × List CMember) → CType → Bool
+abbrev pub is_declared : Table (Table CMember) → CType → Bool
 is_declared structs (OfScalar s) = true
-is_declared structs (OfStruct name) = is_some (found name structs)
+is_declared structs (OfStruct name) = is_some (structs name)
 
 -- the longest chain of structs that a type heads, where those of the earlier structs are known
-abbrev pub depth_of_type : List (Text × ℕ) → CType → ℕ
+abbrev pub depth_of_type : Table ℕ → CType → ℕ
 depth_of_type depths (OfScalar s) = 0
-depth_of_type depths (OfStruct name) = found_or 0 name depths
+depth_of_type depths (OfStruct name) = entry_or 0 depths name
 
-abbrev pub depth_of_struct : List (Text × ℕ) → CStruct → ℕ
+abbrev pub depth_of_struct : Table ℕ → CStruct → ℕ
 depth_of_struct depths s = 1 + greatest (map (λ m. depth_of_type depths m.ty) s.members)
 
 -- the members of an interface struct, whose names begin so
@@ -506,20 +510,24 @@ interface_fits s =
     else if bytes_eq s.name (codes "bl_out") then are_ports (codes "o_") s.members
     else true
 
+-- the members of a struct by name
+abbrev pub member_table : CStruct → Table CMember
+member_table s = table_of (map (λ m. (m.name, m)) s.members)
+
 -- what fails in a struct, after these
-abbrev pub faults_in_struct : List (Text × List CMember) → List (Text × ℕ) → CStruct → List Fault
+abbrev pub faults_in_struct : Table (Table CMember) → Table ℕ → CStruct → List Fault
 faults_in_struct structs depths s =
-    unless (is_none (found s.name structs)) distinct_names s.place
+    unless (is_none (structs s.name)) distinct_names s.place
     ++ (unless (list_all (λ m. is_declared structs m.ty) s.members) declared_before s.place
-    ++ (unless (all_distinct [] (map (λ m. m.name) s.members)) distinct_names s.place
+    ++ (unless (all_distinct no_entries (map (λ m. m.name) s.members)) distinct_names s.place
     ++ (unless (nat_le (depth_of_struct depths s) 300) short_chain s.place
     ++ unless (interface_fits s) interface_members s.place)))
 
-abbrev pub struct_faults_after : List (Text × List CMember) → List (Text × ℕ) → List CStruct → List Fault
+abbrev pub struct_faults_after : Table (Table CMember) → Table ℕ → List CStruct → List Fault
 struct_faults_after structs depths [] = []
 struct_faults_after structs depths (s ∷ rest) =
     faults_in_struct structs depths s
-    ++ struct_faults_after (structs ++ (s.name, s.members) ∷ []) (depths ++ (s.name, depth_of_struct depths s) ∷ []) rest
+    ++ struct_faults_after (with_entry structs s.name (member_table s)) (with_entry depths s.name (depth_of_struct depths s)) rest
 
 -- ---- functions
 
@@ -539,33 +547,33 @@ signature_in f = record { widens = false; params = map (λ p. record { pointer =
 abbrev pub keeps_all : CFunc → Bool
 keeps_all f = is_some f.result && not (bytes_eq f.name (codes "bl_tick"))
 
-abbrev pub context_in : List (Text × List CMember) → List (Text × Signature) → CFunc → Context
+abbrev pub context_in : Table (Table CMember) → Table Signature → CFunc → Context
 context_in structs functions f =
-    record { structs = structs; functions = functions; variables = variables_of f; result = f.result; keeps = keeps_all f }
+    record { structs = structs; functions = functions; variables = table_of (variables_of f); result = f.result; keeps = keeps_all f }
 
 -- the longest chain of calls that a function heads
-abbrev pub depth_of_function : List (Text × ℕ) → CFunc → ℕ
-depth_of_function depths f = 1 + greatest (map (λ name. found_or 0 name depths) (calls_in_block f.body))
+abbrev pub depth_of_function : Table ℕ → CFunc → ℕ
+depth_of_function depths f = 1 + greatest (map (entry_or 0 depths) (calls_in_block f.body))
 
 -- what fails in a function, after these. The last test says whether it is one of the last two
-abbrev pub faults_in_function : List (Text × List CMember) → List (Text × Signature) → List (Text × ℕ) → Bool → CFunc → List Fault
+abbrev pub faults_in_function : Table (Table CMember) → Table Signature → Table ℕ → Bool → CFunc → List Fault
 faults_in_function structs functions depths last f =
     let names : List Text = map (λ v. v.0) (variables_of f) in
-    unless (is_none (found f.name functions)) distinct_names f.place
-    ++ (unless (all_distinct [] names) distinct_names f.place
+    unless (is_none (functions f.name)) distinct_names f.place
+    ++ (unless (all_distinct no_entries names) distinct_names f.place
     ++ (unless (list_all (λ v. is_declared structs v.1.ty) (variables_of f)) declared_before f.place
     ++ (unless (list_all (λ p. p.pointer || is_scalar p.ty) f.params) scalar_parameter f.place
     ++ (unless (if last then not f.fixed else f.fixed) static_functions f.place
     ++ (unless (nat_le (depth_of_function depths f) 300) short_chain f.place
     ++ (unless (is_none f.result || last_returns (map surely_returns f.body)) returns_result f.place
-    ++ (repeated names (joined (map counters_in f.body))
+    ++ (repeated (table_of (map (λ v. (v.0, tt)) (variables_of f))) (joined (map counters_in f.body))
     ++ block_faults (map faults_in_stmt f.body) (context_in structs functions f) false)))))))
 
-abbrev pub function_faults_after : List (Text × List CMember) → List (Text × Signature) → List (Text × ℕ) → List CFunc → List Fault
+abbrev pub function_faults_after : Table (Table CMember) → Table Signature → Table ℕ → List CFunc → List Fault
 function_faults_after structs functions depths [] = []
 function_faults_after structs functions depths (f ∷ rest) =
     faults_in_function structs functions depths (nat_lt (length rest) 2) f
-    ++ function_faults_after structs (functions ++ (f.name, signature_in f) ∷ []) (depths ++ (f.name, depth_of_function depths f) ∷ []) rest
+    ++ function_faults_after structs (with_entry functions f.name (signature_in f)) (with_entry depths f.name (depth_of_function depths f)) rest
 
 -- ---- the interface
 
@@ -613,18 +621,19 @@ last_place [] = no_place
 last_place (f ∷ []) = f.place
 last_place (f ∷ g ∷ rest) = last_place (g ∷ rest)
 
-abbrev pub struct_table : List CStruct → List (Text × List CMember)
-struct_table structs = map (λ s. (s.name, s.members)) structs
+-- the structs of a file by name
+abbrev pub struct_table : List CStruct → Table (Table CMember)
+struct_table structs = table_of (map (λ s. (s.name, member_table s)) structs)
 
 -- ---- the file
 
 -- every clause that fails in a file, each with its place
 unfoldable pub faults_in : CFile → List Fault
 faults_in file =
-    let structs : List (Text × List CMember) = struct_table file.structs in
-    struct_faults_after [] [] file.structs
-    ++ (function_faults_after structs [] [] file.funcs
-    ++ (unless (is_some (found (codes "bl_state") structs) && (is_some (found (codes "bl_in") structs) && is_some (found (codes "bl_out") structs)))
+    let structs : Table (Table CMember) = struct_table file.structs in
+    struct_faults_after no_entries no_entries file.structs
+    ++ (function_faults_after structs no_entries no_entries file.funcs
+    ++ (unless (is_some (structs (codes "bl_state")) && (is_some (structs (codes "bl_in")) && is_some (structs (codes "bl_out"))))
           interface_structs (last_place file.funcs)
     ++ interface_faults file.funcs))
 

@@ -15,7 +15,7 @@ use Rattle.bl_tree.specs.declared.c.CParam.{CParam}
 use Rattle.bl_tree.specs.declared.c.CFunc.{CFunc}
 use Rattle.bl_tree.specs.Numbers.{checked_of, checked_one_of, is_one}
 use Rattle.bl_ctext.specs.Memory.{Part, member, element, Root, variable, Location, CValue, Memory, scalar, number_in, zeros, value_at, set_at, without_frame}
-use Rattle.bl_ctext.specs.Tables.{found, found_or}
+use Rattle.bl_ctext.specs.Tables.{Table, no_entries, table_of, with_entry, entry_or}
 use Rattle.bl_ctext.specs.Builtin.{Builtin, builtin_of, builtin_value, index_within}
 
 -- ---- answers with a count
@@ -61,9 +61,9 @@ Meaning = ℕ → List Passed → Memory → Called
 
 -- what is known where an expression or statement stands: the earlier functions, the depth of the running function, and where its pointers lead
 pub record Scope : Type 0 where
-  pub known : List (Text × Meaning)
+  pub known : Table Meaning
   pub depth : ℕ
-  pub pointers : List (Text × Location)
+  pub pointers : Table Location
 
 -- the numbers of arguments by value
 abbrev pub number_of_passed : Passed → ℤ
@@ -86,7 +86,7 @@ called_as None function depth passed memory = applied function depth passed memo
 
 -- a call of the function of this name with these arguments
 abbrev pub called : Scope → Text → List Passed → Memory → Called
-called scope name passed memory = called_as (builtin_of name) (found name scope.known) (scope.depth + 1) passed memory
+called scope name passed memory = called_as (builtin_of name) (scope.known name) (scope.depth + 1) passed memory
 
 -- a call after so many statements
 abbrev pub later_call : ℕ → Called → Called
@@ -116,7 +116,7 @@ way_of (parts ∷ rest) = parts ++ way_of rest
 -- where the name of a place leads: a variable of the running function, or what a pointer points to
 abbrev pub start_of : Scope → Bool → Text → Location
 start_of scope false name = record { root = variable scope.depth name; parts = [] }
-start_of scope true name = found_or (record { root = variable scope.depth name; parts = [] }) name scope.pointers
+start_of scope true name = entry_or (record { root = variable scope.depth name; parts = [] }) scope.pointers name
 
 -- a place further on
 abbrev pub further : Location → List Part → Location
@@ -338,16 +338,18 @@ result_at (returns result) = Some result
 result_at traps = None
 
 -- what a function does where the earlier ones are known: its variables begin at 0, its parameters at the arguments, and all of them are gone after it
-abbrev pub function_c : List (Text × Meaning) → CFunc → Meaning
+abbrev pub function_c : Table Meaning → CFunc → Meaning
 function_c known function depth passed memory =
-    let scope : Scope = record { known = known; depth = depth; pointers = pointers_of function.params passed } in
+    let scope : Scope = record { known = known; depth = depth; pointers = table_of (pointers_of function.params passed) } in
     let o : Outcome = block_c function.body scope (with_params depth function.params passed (without_frame depth memory)) in
     record { memory = without_frame depth o.memory; count = o.count; result = result_at o.end }
 
--- the functions in order, each over those before it
-abbrev pub meanings_after : List (Text × Meaning) → List CFunc → List (Text × Meaning)
-meanings_after known [] = known
-meanings_after known (function ∷ rest) = meanings_after (known ++ (function.name, function_c known function) ∷ []) rest
+-- the functions in order by name, each over those before it
+abbrev pub meanings_after : Table Meaning → List CFunc → List (Text × Meaning)
+meanings_after known [] = []
+meanings_after known (function ∷ rest) =
+    (function.name, function_c known function) ∷ meanings_after (with_entry known function.name (function_c known function)) rest
 
+-- what each function of a file does
 abbrev pub meanings : List CFunc → List (Text × Meaning)
-meanings = meanings_after []
+meanings = meanings_after no_entries

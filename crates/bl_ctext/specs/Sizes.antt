@@ -12,19 +12,19 @@ use Rattle.bl_tree.specs.declared.c.CStmt.{CStmt, fold-CStmt}
 use Rattle.bl_tree.specs.declared.c.CFunc.{CFunc}
 use Rattle.bl_tree.specs.Reduce.{total, greatest}
 use Rattle.bl_ctext.specs.declared.file.CFile.{CFile}
-use Rattle.bl_ctext.specs.Tables.{found_or}
+use Rattle.bl_ctext.specs.Tables.{found, Table, no_entries, table_of, with_entry, entry_or}
 use Rattle.bl_ctext.specs.Calls.{calls_in_block}
 
 -- ---- types
 
 -- how many scalars each earlier struct has
 abbrev pub Sizes : Type 0
-Sizes = List (Text × ℕ)
+Sizes = Table ℕ
 
 -- how many scalars a value of a type has
 abbrev pub size_of_type : Sizes → CType → ℕ
 size_of_type known (OfScalar kind) = 1
-size_of_type known (OfStruct name) = found_or 0 name known
+size_of_type known (OfStruct name) = entry_or 0 known name
 
 abbrev pub size_of_length : Option ℕ → ℕ → ℕ
 size_of_length None size = size
@@ -33,14 +33,18 @@ size_of_length (Some length) size = length * size
 abbrev pub size_of_member : Sizes → CMember → ℕ
 size_of_member known m = size_of_length m.length (size_of_type known m.ty)
 
--- the structs in order, each over those before it
+-- how many scalars a struct has
+abbrev pub size_of_struct : Sizes → CStruct → ℕ
+size_of_struct known s = total (map (size_of_member known) s.members)
+
+-- the structs, each over those before it
 abbrev pub sizes_after : Sizes → List CStruct → Sizes
 sizes_after known [] = known
-sizes_after known (s ∷ rest) = sizes_after (known ++ (s.name, total (map (size_of_member known) s.members)) ∷ []) rest
+sizes_after known (s ∷ rest) = sizes_after (with_entry known s.name (size_of_struct known s)) rest
 
--- how many scalars each struct has, by name
+-- how many scalars each struct of a file has
 abbrev pub sizes : List CStruct → Sizes
-sizes = sizes_after []
+sizes = sizes_after no_entries
 
 -- ---- functions
 
@@ -72,23 +76,21 @@ own_cells known function =
     + (total (map (λ l. size_of_type known l.ty) function.locals) + total (map loops_in function.body))
 
 -- the cells of the deepest chain of calls that begins with a function: its own, and the most of a function that it calls. The prelude's have none
-abbrev pub chain_cells : Sizes → List (Text × ℕ) → CFunc → ℕ
-chain_cells known earlier function =
-    own_cells known function + greatest (map (λ name. found_or 0 name earlier) (calls_in_block function.body))
+abbrev pub chain_cells : Sizes → Table ℕ → CFunc → ℕ
+chain_cells known earlier function = own_cells known function + greatest (map (entry_or 0 earlier) (calls_in_block function.body))
 
 -- the functions in order, each over those before it
-abbrev pub chains_after : Sizes → List (Text × ℕ) → List CFunc → List (Text × ℕ)
-chains_after known earlier [] = earlier
+abbrev pub chains_after : Sizes → Table ℕ → List CFunc → List ℕ
+chains_after known earlier [] = []
 chains_after known earlier (function ∷ rest) =
-    chains_after known (earlier ++ (function.name, chain_cells known earlier function) ∷ []) rest
+    chain_cells known earlier function ∷ chains_after known (with_entry earlier function.name (chain_cells known earlier function)) rest
 
 -- the cells of the deepest chain over all functions, those too that nobody calls
-abbrev pub deepest_chain : CFile → ℕ
-deepest_chain file = greatest (map (λ entry. entry.1) (chains_after (sizes file.structs) [] file.funcs))
+abbrev pub deepest_chain : Sizes → List CFunc → ℕ
+deepest_chain known functions = greatest (chains_after known no_entries functions)
 
 -- how many cells a file needs: its three objects, and its deepest chain of parameters and locals
 abbrev pub cells_needed : CFile → ℕ
 cells_needed file =
-    let known = sizes file.structs in
-    found_or 0 (codes "bl_state") known + found_or 0 (codes "bl_in") known + found_or 0 (codes "bl_out") known
-    + deepest_chain file
+    let known : Sizes = sizes file.structs in
+    entry_or 0 known (codes "bl_state") + (entry_or 0 known (codes "bl_in") + (entry_or 0 known (codes "bl_out") + deepest_chain known file.funcs))
