@@ -29,7 +29,7 @@ use Rattle.bl_ctext.specs.Meaning.{Counted, given, going_on, next, Passed, by_va
 use Rattle.bl_ctext.specs.Calls.{Names, arg_calls, kind_calls, call_calls, expr_calls, index_calls, place_calls, step_calls, calls_in, calls_in_place, calls_in_call}
 use Rattle.bl_ctext.specs.Cost.{Costs, cost_of_calls, block_cost, other_cost, cost_of_stmt, cost_of_function, costs_after, costs as all_costs, bound}
 use Rattle.bl_ctext.specs.Trace.{entered, tick_c}
-use Rattle.bl_ctext.specs.declared.file.CFile.{CFile}
+use Rattle.bl_ctext.specs.Parts.{Parts}
 use Rattle.bl_ctext.proofs.Induction.{Optional, ExprCases, induct_expr, induct_place, induct_call, StmtCases, induct_stmt, stmt}
 
 -- ---- the seven folds of each kind
@@ -389,12 +389,12 @@ nothing-covers : Covers no_entries no_entries
 nothing-covers = record { same = λ name. refl; covers = λ name depth passed memory. omega arith }
 
 -- every call from outside
-pub entered-le : (file : CFile) (name : Text) (passed : List Passed) (memory : Memory) → (entered file name passed memory).count ≤ unwrap_or (found name (all_costs file.funcs)) 0
+pub entered-le : (file : Parts) (name : Text) (passed : List Passed) (memory : Memory) → (entered file name passed memory).count ≤ unwrap_or (found name (all_costs file.funcs)) 0
 unfolding entered
 entered-le file name passed memory =
     covers_at (meanings file.funcs) (all_costs file.funcs) (aligned_after no_entries no_entries file.funcs nothing-covers) name 0 passed memory
 
 -- every tick
-pub tick-le : (file : CFile) (cells ins : List ℤ) → (tick_c file cells ins).count ≤ bound file
+pub tick-le : (file : Parts) (cells ins : List ℤ) → (tick_c file cells ins).count ≤ bound file
 unfolding tick_c
 tick-le file cells ins = entered-le file (codes "bl_tick") _ _

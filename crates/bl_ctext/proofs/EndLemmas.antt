@@ -19,7 +19,7 @@ use Rattle.bl_ctext.specs.Meaning.{Counted, Evaluates, given, next, Scope, Outco
 use Rattle.bl_ctext.specs.Ends.{EndsAs, EndsInside, AlwaysEnds}
 use Rattle.bl_ctext.specs.Tables.{Table, no_entries, table_of, with_entry}
 use Rattle.bl_ctext.specs.Faults.{Clause, distinct_names, declared_before, scalar_parameter, static_functions, short_chain, returns_result, all_distinct, is_declared, is_scalar, Fault, Context, Variable, Signature, unless, block_faults, faults_in_stmt, surely_returns, last_returns, faults_in_function, function_faults_after, faults_in, WellFormed, condition_faults, context_in, repeated, variables_of, counters_in, depth_of_function, signature_in, struct_table, struct_faults_after}
-use Rattle.bl_ctext.specs.declared.file.CFile.{CFile}
+use Rattle.bl_ctext.specs.Parts.{Parts}
 use Rattle.bl_ctext.proofs.Induction.{Optional, StmtCases, induct_stmt, stmt}
 
 -- ---- lists of faults
@@ -284,7 +284,7 @@ functions-end structs functions depths (f ∷ rest) none =
         (nil-right (faults_in_function structs functions depths (nat_lt (length rest) 2) f) _ none))
 
 -- every function of a well-formed file
-pub always-ends : (file : CFile) → AlwaysEnds file
+pub always-ends : (file : Parts) → AlwaysEnds file
 unfolding faults_in
 always-ends file formed =
     functions-end (struct_table file.structs) no_entries no_entries file.funcs (nil-left _ _ (nil-right (struct_faults_after no_entries no_entries file.structs) _ formed.none))

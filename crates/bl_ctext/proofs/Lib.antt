@@ -1,4 +1,5 @@
 pub mod BoundLemmas
 pub mod EndLemmas
+pub mod Examples
 pub mod Induction
 pub mod TraceLemmas

@@ -3,7 +3,7 @@ use Rattle.std.proofs.Common.{◌≡◌, ℤ, List, [], ◌∷◌, ◌++◌, ref
 use Rattle.bl_tree.specs.declared.row.Last.{Last}
 use Rattle.bl_tree.specs.declared.row.Last.TheVariants.{Open, Ended, Trap}
 use Rattle.bl_tree.specs.declared.row.Trace.{Trace}
-use Rattle.bl_ctext.specs.declared.file.CFile.{CFile}
+use Rattle.bl_ctext.specs.Parts.{Parts}
 use Rattle.bl_ctext.specs.Trace.{Reply, row, ended, trapped, Tick, tick_c, traced, c_trace_from, cells_after, trace_then}
 use Rattle.bl_ctext.specs.Laws.{GoesOn}
 
@@ -14,7 +14,7 @@ traced-then row outputs first rest all unended h = ap (λ t. traced row outputs 
 traced-then ended outputs first rest all unended h = cc
 traced-then trapped outputs first rest all unended h = cc
 
-pub goes-on : (file : CFile) → GoesOn file
+pub goes-on : (file : Parts) → GoesOn file
 goes-on file [] rest cells unended = refl
 goes-on file (ins ∷ first) rest cells unended =
     traced-then (tick_c file cells ins).reply (tick_c file cells ins).outputs (c_trace_from file first (tick_c file cells ins).cells)

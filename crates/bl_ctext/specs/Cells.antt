@@ -7,7 +7,7 @@ use Rattle.bl_tree.specs.declared.c.CType.TheVariants.{Scalar as OfScalar, Struc
 use Rattle.bl_tree.specs.declared.c.CMember.{CMember}
 use Rattle.bl_tree.specs.declared.c.CStruct.{CStruct}
 use Rattle.bl_tree.specs.declared.row.Column.{Column}
-use Rattle.bl_ctext.specs.declared.file.CFile.{CFile}
+use Rattle.bl_ctext.specs.Parts.{Parts}
 use Rattle.bl_ctext.specs.Memory.{Part, member, element, Root, state_object, input_object, output_object, Location, Memory, CValue, scalar, number_in, cleared, value_at, set_at}
 use Rattle.bl_ctext.specs.Tables.{found, Table, no_entries, with_entry, entry_or}
 
@@ -66,7 +66,7 @@ abbrev pub cells_at : Root → List Inner → List Cell
 cells_at root = map (λ cell. record { location = record { root = root; parts = cell.parts }; kind = cell.kind })
 
 -- the scalars of the state, the input and the output struct, in this order, members in order, arrays by index
-unfoldable pub cells_of : CFile → List Cell
+unfoldable pub cells_of : Parts → List Cell
 cells_of file =
     cells_at state_object (inner_of file.structs (codes "bl_state"))
     ++ cells_at input_object (inner_of file.structs (codes "bl_in"))
@@ -93,15 +93,15 @@ abbrev pub column_of : CMember → Option Column
 column_of m = column_typed m.name m.ty
 
 -- the members of an interface struct behind `pad`
-abbrev pub ports_of : Text → CFile → List CMember
+abbrev pub ports_of : Text → Parts → List CMember
 ports_of struct file = drop 1 (members_of struct file.structs)
 
 -- the inputs of a file
-unfoldable pub inputs_of : CFile → List Column
+unfoldable pub inputs_of : Parts → List Column
 inputs_of file = filter_map column_of (ports_of (codes "bl_in") file)
 
 -- the outputs of a file
-unfoldable pub outputs_of : CFile → List Column
+unfoldable pub outputs_of : Parts → List Column
 outputs_of file = filter_map column_of (ports_of (codes "bl_out") file)
 
 -- a member of the input or output object

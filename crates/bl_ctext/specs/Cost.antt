@@ -5,7 +5,7 @@ use Rattle.bl_tree.specs.declared.c.CStmtKind.TheOpen.{CStmtKind-F, CStmt-F}
 use Rattle.bl_tree.specs.declared.c.CStmt.{CStmt, fold-CStmt}
 use Rattle.bl_tree.specs.declared.c.CFunc.{CFunc}
 use Rattle.bl_tree.specs.Reduce.{total}
-use Rattle.bl_ctext.specs.declared.file.CFile.{CFile}
+use Rattle.bl_ctext.specs.Parts.{Parts}
 use Rattle.bl_ctext.specs.Tables.{found, Table, no_entries, with_entry, entry_or}
 use Rattle.bl_ctext.specs.Meaning.{turn_limit}
 use Rattle.bl_ctext.specs.Calls.{calls_in, calls_in_place, calls_in_call, calls_or_none}
@@ -58,5 +58,5 @@ abbrev pub costs : List CFunc → List (Text × ℕ)
 costs = costs_after no_entries
 
 -- no tick executes more statements than this
-abbrev pub bound : CFile → ℕ
+abbrev pub bound : Parts → ℕ
 bound file = unwrap_or (found (codes "bl_tick") (costs file.funcs)) 0

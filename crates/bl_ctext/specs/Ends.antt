@@ -2,7 +2,7 @@
 use Rattle.std.specs.Prelude.{Option, Some, None, All}
 use Rattle.bl_tree.specs.declared.scalar.Scalar.{Scalar}
 use Rattle.bl_tree.specs.declared.c.CFunc.{CFunc}
-use Rattle.bl_ctext.specs.declared.file.CFile.{CFile}
+use Rattle.bl_ctext.specs.Parts.{Parts}
 use Rattle.bl_ctext.specs.Memory.{Memory}
 use Rattle.bl_ctext.specs.Meaning.{End, goes_on, breaks, returns, traps, Scope, block_c}
 use Rattle.bl_ctext.specs.Faults.{WellFormed}
@@ -20,5 +20,5 @@ abbrev pub EndsInside : CFunc → Type 0
 EndsInside f = (scope : Scope) (memory : Memory) → EndsAs f.result (block_c f.body scope memory).end
 
 -- every function of a well-formed file ends as its result says, wherever it runs
-abbrev pub AlwaysEnds : CFile → Type 0
+abbrev pub AlwaysEnds : Parts → Type 0
 AlwaysEnds file = WellFormed file → All EndsInside file.funcs

@@ -23,7 +23,7 @@ use Rattle.bl_tree.specs.declared.c.CCall.{CCall, fold-CCall}
 use Rattle.bl_tree.specs.declared.c.CStmtKind.TheOpen.{CStmtKind-F, CStmt-F}
 use Rattle.bl_tree.specs.declared.c.CStmt.{CStmt, fold-CStmt}
 use Rattle.bl_tree.specs.Reduce.{any_of, joined, greatest}
-use Rattle.bl_ctext.specs.declared.file.CFile.{CFile}
+use Rattle.bl_ctext.specs.Parts.{Parts}
 use Rattle.bl_ctext.specs.Tables.{found, Table, no_entries, table_of, with_entry, entry_or}
 use Rattle.bl_ctext.specs.Builtin.{Builtin, stop, builtin_of, builtin_params, builtin_result}
 use Rattle.bl_ctext.specs.Calls.{calls_in_block}
@@ -628,7 +628,7 @@ struct_table structs = table_of (map (λ s. (s.name, member_table s)) structs)
 -- ---- the file
 
 -- every clause that fails in a file, each with its place
-unfoldable pub faults_in : CFile → List Fault
+unfoldable pub faults_in : Parts → List Fault
 faults_in file =
     let structs : Table (Table CMember) = struct_table file.structs in
     struct_faults_after no_entries no_entries file.structs
@@ -638,11 +638,11 @@ faults_in file =
     ++ interface_faults file.funcs))
 
 -- this clause fails at this place
-pub record Fails (file : CFile) (clause : Clause) (at : Place) : Type 0 where
+pub record Fails (file : Parts) (clause : Clause) (at : Place) : Type 0 where
   pub among : Contains (faults_in file) (record { clause = clause; at = at })
 
 -- no clause fails anywhere
-pub record WellFormed (file : CFile) : Type 0 where
+pub record WellFormed (file : Parts) : Type 0 where
   pub none : faults_in file ≡ []
 
 -- of two places the one that starts first, or ends first where they start together
@@ -659,5 +659,5 @@ first_place [] = None
 first_place (fault ∷ rest) = sooner fault.at (first_place rest)
 
 -- where a file that isn't well formed fails first
-abbrev pub first_fault : CFile → Option Place
+abbrev pub first_fault : Parts → Option Place
 first_fault file = first_place (faults_in file)

@@ -23,6 +23,7 @@ use Rattle.bl_tree.specs.declared.c.CExprKind.{CExprKind, roll-CExprKind}
 use Rattle.bl_tree.specs.declared.c.CStmtKind.TheOpen.{CStmtKind-F, CStmt-F}
 use Rattle.bl_tree.specs.declared.c.CStmt.{CStmt, roll-CStmt}
 use Rattle.bl_tree.specs.declared.c.CStmtKind.{CStmtKind, roll-CStmtKind}
+use Rattle.bl_ctext.specs.Parts.{Parts}
 
 abbrev pub nowhere : Place
 nowhere = record { start = 0; end = 0 }
@@ -119,3 +120,6 @@ hand_tick = record {
 
 abbrev pub hand_funcs : List CFunc
 hand_funcs = hand_init ∷ hand_tick ∷ []
+
+abbrev pub hand_text : Parts
+hand_text = record { structs = hand_structs; funcs = hand_funcs }

@@ -9,6 +9,7 @@ pub mod Laws
 pub mod Meaning
 pub mod Memory
 pub mod Names
+pub mod Parts
 pub mod Prelude
 pub mod Sizes
 pub mod Spellable

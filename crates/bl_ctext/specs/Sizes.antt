@@ -11,7 +11,7 @@ use Rattle.bl_tree.specs.declared.c.CStmtKind.TheOpen.{CStmtKind-F, CStmt-F}
 use Rattle.bl_tree.specs.declared.c.CStmt.{CStmt, fold-CStmt}
 use Rattle.bl_tree.specs.declared.c.CFunc.{CFunc}
 use Rattle.bl_tree.specs.Reduce.{total, greatest}
-use Rattle.bl_ctext.specs.declared.file.CFile.{CFile}
+use Rattle.bl_ctext.specs.Parts.{Parts}
 use Rattle.bl_ctext.specs.Tables.{found, Table, no_entries, table_of, with_entry, entry_or}
 use Rattle.bl_ctext.specs.Calls.{calls_in_block}
 
@@ -90,7 +90,7 @@ abbrev pub deepest_chain : Sizes → List CFunc → ℕ
 deepest_chain known functions = greatest (chains_after known no_entries functions)
 
 -- how many cells a file needs: its three objects, and its deepest chain of parameters and locals
-abbrev pub cells_needed : CFile → ℕ
+abbrev pub cells_needed : Parts → ℕ
 cells_needed file =
     let known : Sizes = sizes file.structs in
     entry_or 0 known (codes "bl_state") + (entry_or 0 known (codes "bl_in") + (entry_or 0 known (codes "bl_out") + deepest_chain known file.funcs))
