@@ -9,41 +9,28 @@ use Rattle.bl_tree.specs.declared.scalar.Width.{Width}
 use Rattle.bl_tree.specs.declared.scalar.Width.TheVariants.{W8, W16, W32, W64}
 use Rattle.bl_tree.specs.declared.scalar.Op.{Op}
 use Rattle.bl_tree.specs.declared.scalar.Op.TheVariants.{Add, Sub, Mul, Div, Rem, Neg, And, Or, Xor, Not, Shl, Shr}
+use Rattle.bl_ctext.specs.declared.builtin.Builtin.{Builtin}
+use Rattle.bl_ctext.specs.declared.builtin.Builtin.TheVariants.{Two, One, Cast, Index, Turn, Stop}
 use Rattle.bl_tree.specs.Scalar.{in_range}
 use Rattle.bl_tree.specs.Numbers.{checked_of, checked_one_of}
 use Rattle.bl_ctext.specs.Tables.{found}
 
 -- ---- which functions there are
 
--- what a function of the prelude does
-pub data Builtin : Type 0 where
-  -- the operator on two numbers of the type
-  two : Op → Scalar → Builtin
-  -- the operator on one number of the type
-  one : Op → Scalar → Builtin
-  -- the cast to the type from any signed (true) or unsigned (false) type
-  cast : Bool → Scalar → Builtin
-  -- an index, signed (true) or unsigned (false), into an array of a length
-  index : Bool → Builtin
-  -- the next count of a loop's turns
-  turn : Builtin
-  -- the end of the program
-  stop : Builtin
-
 -- the first words of the functions that every type has, and what they do on a type
 abbrev pub words_of_all : Scalar → List (Text × Builtin)
 words_of_all t =
-    (codes "bl_add_", two Add t) ∷ (codes "bl_sub_", two Sub t) ∷ (codes "bl_mul_", two Mul t)
-    ∷ (codes "bl_div_", two Div t) ∷ (codes "bl_rem_", two Rem t)
-    ∷ (codes "bl_of_s_", cast true t) ∷ (codes "bl_of_u_", cast false t) ∷ []
+    (codes "bl_add_", Two Add t) ∷ (codes "bl_sub_", Two Sub t) ∷ (codes "bl_mul_", Two Mul t)
+    ∷ (codes "bl_div_", Two Div t) ∷ (codes "bl_rem_", Two Rem t)
+    ∷ (codes "bl_of_s_", Cast true t) ∷ (codes "bl_of_u_", Cast false t) ∷ []
 
 -- those that a type has beside them
 abbrev pub words_of_own : Scalar → List (Text × Builtin)
-words_of_own (Int w) = (codes "bl_neg_", one Neg (Int w)) ∷ []
+words_of_own (Int w) = (codes "bl_neg_", One Neg (Int w)) ∷ []
 words_of_own (Bits w) =
-    (codes "bl_neg_", one Neg (Bits w)) ∷ (codes "bl_not_", one Not (Bits w))
-    ∷ (codes "bl_and_", two And (Bits w)) ∷ (codes "bl_or_", two Or (Bits w)) ∷ (codes "bl_xor_", two Xor (Bits w))
-    ∷ (codes "bl_shl_", two Shl (Bits w)) ∷ (codes "bl_shr_", two Shr (Bits w)) ∷ []
+    (codes "bl_neg_", One Neg (Bits w)) ∷ (codes "bl_not_", One Not (Bits w))
+    ∷ (codes "bl_and_", Two And (Bits w)) ∷ (codes "bl_or_", Two Or (Bits w)) ∷ (codes "bl_xor_", Two Xor (Bits w))
+    ∷ (codes "bl_shl_", Two Shl (Bits w)) ∷ (codes "bl_shr_", Two Shr (Bits w)) ∷ []
 words_of_own (Nat w) = []
 words_of_own OfBool = []
 
@@ -61,7 +48,7 @@ builtins_on typed = map (λ function. (function.0 ++ typed.0, function.1)) (word
 -- every function of the prelude, by name
 unfoldable pub builtins : List (Text × Builtin)
 builtins =
-    (codes "bl_trap", stop) ∷ (codes "bl_turn", turn) ∷ (codes "bl_ix_s", index true) ∷ (codes "bl_ix_u", index false)
+    (codes "bl_trap", Stop) ∷ (codes "bl_turn", Turn) ∷ (codes "bl_ix_s", Index true) ∷ (codes "bl_ix_u", Index false)
     ∷ flat_map builtins_on types_by_word
 
 -- the function of the prelude that has this name
@@ -85,21 +72,21 @@ widest false = Nat W64
 
 -- the types of its parameters
 abbrev pub builtin_params : Builtin → List Scalar
-builtin_params (two op t) = in_c t ∷ in_c t ∷ []
-builtin_params (one op t) = in_c t ∷ []
-builtin_params (cast signed t) = widest signed ∷ []
-builtin_params (index signed) = widest signed ∷ Nat W32 ∷ []
-builtin_params turn = Nat W32 ∷ []
-builtin_params stop = []
+builtin_params (Two op t) = in_c t ∷ in_c t ∷ []
+builtin_params (One op t) = in_c t ∷ []
+builtin_params (Cast signed t) = widest signed ∷ []
+builtin_params (Index signed) = widest signed ∷ Nat W32 ∷ []
+builtin_params Turn = Nat W32 ∷ []
+builtin_params Stop = []
 
 -- the type of its result, where it has one
 abbrev pub builtin_result : Builtin → Option Scalar
-builtin_result (two op t) = Some (in_c t)
-builtin_result (one op t) = Some (in_c t)
-builtin_result (cast signed t) = Some (in_c t)
-builtin_result (index signed) = Some (Nat W32)
-builtin_result turn = Some (Nat W32)
-builtin_result stop = None
+builtin_result (Two op t) = Some (in_c t)
+builtin_result (One op t) = Some (in_c t)
+builtin_result (Cast signed t) = Some (in_c t)
+builtin_result (Index signed) = Some (Nat W32)
+builtin_result Turn = Some (Nat W32)
+builtin_result Stop = None
 
 -- a number that passed a test; else none, a trap
 abbrev pub only_if : Bool → ℤ → Option ℤ
@@ -111,9 +98,9 @@ index_within i length = only_if (int_le (pos 0) i && int_lt i length) i
 
 -- what it gives for these numbers; none where it traps
 abbrev pub builtin_value : Builtin → List ℤ → Option ℤ
-builtin_value (two op t) (a ∷ b ∷ []) = checked_of op t a b
-builtin_value (one op t) (a ∷ []) = checked_one_of op t a
-builtin_value (cast signed t) (a ∷ []) = only_if (in_range t a) a
-builtin_value (index signed) (i ∷ length ∷ []) = index_within i length
-builtin_value turn (t ∷ []) = if int_eq t (pos 65536) then None else Some (int_rem_euclid (t +ℤ pos 1) (pos (2 ^ 32)))
+builtin_value (Two op t) (a ∷ b ∷ []) = checked_of op t a b
+builtin_value (One op t) (a ∷ []) = checked_one_of op t a
+builtin_value (Cast signed t) (a ∷ []) = only_if (in_range t a) a
+builtin_value (Index signed) (i ∷ length ∷ []) = index_within i length
+builtin_value Turn (t ∷ []) = if int_eq t (pos 65536) then None else Some (int_rem_euclid (t +ℤ pos 1) (pos (2 ^ 32)))
 builtin_value _ _ = None

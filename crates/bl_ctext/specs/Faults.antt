@@ -25,7 +25,9 @@ use Rattle.bl_tree.specs.declared.c.CStmt.{CStmt, fold-CStmt}
 use Rattle.bl_tree.specs.Reduce.{any_of, joined, greatest}
 use Rattle.bl_ctext.specs.Parts.{Parts}
 use Rattle.bl_ctext.specs.Tables.{found, Table, no_entries, table_of, with_entry, entry_or}
-use Rattle.bl_ctext.specs.Builtin.{Builtin, stop, builtin_of, builtin_params, builtin_result}
+use Rattle.bl_ctext.specs.declared.builtin.Builtin.{Builtin}
+use Rattle.bl_ctext.specs.declared.builtin.Builtin.TheVariants.{Stop}
+use Rattle.bl_ctext.specs.Builtin.{builtin_of, builtin_params, builtin_result}
 use Rattle.bl_ctext.specs.Calls.{calls_in_block}
 
 -- ---- what can fail, and where
@@ -169,7 +171,7 @@ abbrev pub by_value : Scalar → Variable
 by_value t = record { pointer = false; ty = OfScalar t }
 
 abbrev pub builtin_signature : Builtin → Option Signature
-builtin_signature stop = None
+builtin_signature Stop = None
 builtin_signature b = Some (record { widens = true; params = map by_value (builtin_params b); result = builtin_result b })
 
 -- a function of the prelude that may be called, else one of the file's

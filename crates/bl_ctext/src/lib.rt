@@ -1,9 +1,11 @@
 //! Texts of the C subset: their trees, how they are spelled, and what they mean (docs/C_SUBSET.md).
 #![tactic(auto)]
 
+pub mod builtin;
 pub mod file;
 pub mod laws;
 mod prelude;
 
+pub use builtin::Builtin;
 pub use file::CFile;
 pub use prelude::PRELUDE;
