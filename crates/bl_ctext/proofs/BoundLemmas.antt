@@ -344,9 +344,9 @@ choice-same b (Some d) None c f h = cc
 covers-entry : (known : Table Meaning) (costs : Costs) → Covers known costs → (name : Text) (f : Meaning) (c : ℕ) →
     ((depth : ℕ) (passed : List Passed) (memory : Memory) → (f depth passed memory).count ≤ c) → Covers (with_entry known name f) (with_entry costs name c)
 covers-entry known costs h name f c le = record {
-  same = λ asked. choice-same (bytes_eq asked name) (costs asked) (known asked) c f (h.same asked);
+  same = λ asked. choice-same (bytes_eq name asked) (costs asked) (known asked) c f (h.same asked);
   covers = λ asked depth passed memory.
-    choice_of-le asked name (bytes_eq asked name) (known asked) (costs asked) f c depth passed memory (le depth passed memory) (h.covers asked depth passed memory) (h.same asked);
+    choice_of-le asked name (bytes_eq name asked) (known asked) (costs asked) f c depth passed memory (le depth passed memory) (h.covers asked depth passed memory) (h.same asked);
 }
 
 -- the functions of two lists, one by one: the same name, and no more statements than the cost
@@ -367,8 +367,8 @@ covers_at : (known : List (Text × Meaning)) (costs : List (Text × ℕ)) → Al
 covers_at [] [] h name depth passed memory = omega arith
 covers_at (f ∷ known) (c ∷ costs) h name depth passed memory =
     let rest : (applied (found name known) depth passed memory).count ≤ unwrap_or (found name costs) 0 = covers_at known costs h.2 name depth passed memory in
-    subst (λ n. (applied (found name (f ∷ known)) depth passed memory).count ≤ unwrap_or (if bytes_eq name n then Some c.1 else found name costs) 0) h.0
-      (applied-le (bytes_eq name f.0) f.1 c.1 (found name known) (found name costs) depth passed memory (h.1 depth passed memory) rest)
+    subst (λ n. (applied (found name (f ∷ known)) depth passed memory).count ≤ unwrap_or (if bytes_eq n name then Some c.1 else found name costs) 0) h.0
+      (applied-le (bytes_eq f.0 name) f.1 c.1 (found name known) (found name costs) depth passed memory (h.1 depth passed memory) rest)
 covers_at [] (c ∷ costs) h name depth passed memory = absurd h
 covers_at (f ∷ known) [] h name depth passed memory = absurd h
 

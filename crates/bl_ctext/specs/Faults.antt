@@ -651,14 +651,16 @@ pub record WellFormed (file : Parts) : Type 0 where
 abbrev pub is_before : Place → Place → Bool
 is_before a b = nat_lt a.start b.start || (a.start == b.start && nat_le a.end b.end)
 
-abbrev pub sooner : Place → Option Place → Option Place
-sooner a None = Some a
-sooner a (Some b) = Some (if is_before a b then a else b)
+-- the first of two places that may be there
+abbrev pub earlier_of : Option Place → Option Place → Option Place
+earlier_of None b = b
+earlier_of (Some a) None = Some a
+earlier_of (Some a) (Some b) = if is_before a b then Some a else Some b
 
 -- the first place of those where something fails
 abbrev pub first_place : List Fault → Option Place
 first_place [] = None
-first_place (fault ∷ rest) = sooner fault.at (first_place rest)
+first_place (fault ∷ rest) = earlier_of (Some fault.at) (first_place rest)
 
 -- where a file that isn't well formed fails first
 abbrev pub first_fault : Parts → Option Place

@@ -1,6 +1,7 @@
 pub mod Builtin
 pub mod Calls
 pub mod Cells
+pub mod Checked
 pub mod Cost
 pub mod Ends
 pub mod Faults

@@ -6,7 +6,7 @@ use Rattle.bl_tree.specs.declared.text.Text.{Text}
 -- the first entry of this name
 abbrev pub found : {A : Type 0} → Text → List (Text × A) → Option A
 found name [] = None
-found name (entry ∷ entries) = if bytes_eq name entry.0 then Some entry.1 else found name entries
+found name (entry ∷ entries) = if bytes_eq entry.0 name then Some entry.1 else found name entries
 
 -- what stands under each name
 abbrev pub Table : Type 0 → Type 0
@@ -22,7 +22,7 @@ table_of entries name = found name entries
 
 -- a table with one more entry, unless the name has one
 abbrev pub with_entry : {A : Type 0} → Table A → Text → A → Table A
-with_entry table name value asked = option_or (table asked) (if bytes_eq asked name then Some value else None)
+with_entry table name value asked = option_or (table asked) (if bytes_eq name asked then Some value else None)
 
 -- what stands under a name, else the other
 abbrev pub entry_or : {A : Type 0} → A → Table A → Text → A

@@ -2,6 +2,7 @@
 #![tactic(auto)]
 
 pub mod builtin;
+pub mod check;
 pub mod file;
 pub mod laws;
 mod prelude;

@@ -1,0 +1,38 @@
+-- Maps as tables.
+use Rattle.std.proofs.Common.{◌≡◌, ℕ, Bool, true, false, List, Option, Some, None, refl, ap, sym, subst, ◌∙◌}
+use Rattle.std.specs.Prelude.{bytes_eq, is_some, is_none, if◌then◌else◌}
+use Rattle.std.specs.Option.{option_or}
+use Rattle.std.specs.Map.{update}
+use Rattle.std.proofs.lemmas.Slice.Eq.{bytes_eq-Decides}
+use Rattle.bl_ctext.specs.Tables.{Table, with_entry}
+
+at_absent : {A : Type 0} (same : Bool) (old : Option A) (value : A) → (same ≡ true → old ≡ None) →
+    (if same then Some value else old) ≡ option_or old (if same then Some value else None)
+at_absent true None value h = refl
+at_absent false None value h = refl
+at_absent false (Some x) value h = refl
+at_absent true (Some x) value h = cc (h refl)
+
+none_of : {A : Type 0} (o : Option A) → is_some o ≡ false → o ≡ None
+none_of None h = refl
+none_of (Some x) h = cc
+
+-- a map after an insertion of a name that it didn't have
+pub inserted : {A : Type 0} (old : Table A) (name : List ℕ) (value : A) → is_some (old name) ≡ false → (asked : List ℕ) →
+    update bytes_eq old name (Some value) asked ≡ with_entry old name value asked
+inserted old name value absent asked =
+    at_absent (bytes_eq name asked) (old asked) value
+      (λ same. subst (λ n. old n ≡ None) ((bytes_eq-Decides name asked).0 same) (none_of (old name) absent))
+
+-- a table keeps what it has
+pub kept : {A : Type 0} (old : Table A) (name : List ℕ) (value : A) → is_some (old name) ≡ true → (asked : List ℕ) →
+    old asked ≡ with_entry old name value asked
+kept old name value present asked =
+    at_present (bytes_eq name asked) (old asked) value
+      (λ same. subst (λ n. is_some (old n) ≡ true) ((bytes_eq-Decides name asked).0 same) present)
+  where
+    at_present : {A : Type 0} (same : Bool) (old : Option A) (value : A) → (same ≡ true → is_some old ≡ true) → old ≡ option_or old (if same then Some value else None)
+    at_present true (Some x) value h = refl
+    at_present false (Some x) value h = refl
+    at_present false None value h = refl
+    at_present true None value h = cc (h refl)

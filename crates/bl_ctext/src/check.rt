@@ -1,0 +1,5 @@
+//! Which files are well formed, and where the others fail first (docs/C_SUBSET.md, "Well-formed files").
+
+mod first;
+mod names;
+mod types;
