@@ -36,3 +36,18 @@ kept old name value present asked =
     at_present false (Some x) value h = refl
     at_present false None value h = refl
     at_present true None value h = cc (h refl)
+
+-- an entry is added now, or found later in the list
+pub next_entry : {A : Type 0} (old : Option A) (same : Bool) (value : A) (rest : Option A) →
+    option_or (option_or old (if same then Some value else None)) rest ≡ option_or old (if same then Some value else rest)
+next_entry (Some x) same value rest = refl
+next_entry None true value rest = refl
+next_entry None false value rest = refl
+
+pub nothing_after : {A : Type 0} (old : Option A) → option_or old None ≡ old
+nothing_after (Some x) = refl
+nothing_after None = refl
+
+pub only_second : {A : Type 0} (old rest : Option A) → old ≡ None → option_or old rest ≡ rest
+only_second None rest h = refl
+only_second (Some x) rest h = cc

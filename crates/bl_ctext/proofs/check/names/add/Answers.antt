@@ -1,6 +1,6 @@
 use Rattle.std.proofs.lemmas.Map.Text.{hash_map_updates_str}
 use Rattle.std.proofs.Common.{◌∙◌, sym}
-use Rattle.bl_ctext.specs.Checked.{text_at}
+use Rattle.bl_ctext.specs.Maps.{text_at}
 use Rattle.bl_ctext.proofs.MapLemmas.{inserted}
 use Rattle.bl_ctext.proofs.check.names.add.Goals as goal
 
