@@ -15,3 +15,5 @@ pub first_place-append : (xs ys : List Fault) → first_place (xs ++ ys) ≡ ear
 first_place-append [] ys = refl
 first_place-append (x ∷ xs) ys =
     ap (λ p. earlier_of (Some x.at) p) (first_place-append xs ys) ∙ earlier_of-assoc (Some x.at) (first_place xs) (first_place ys)
+
+pub ruleset places = (first_place-append)

@@ -1,3 +1,4 @@
+pub mod ArgLemmas
 pub mod BoundLemmas
 pub mod EndLemmas
 pub mod Examples

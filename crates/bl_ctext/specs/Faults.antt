@@ -17,6 +17,9 @@ use Rattle.bl_tree.specs.declared.c.CParam.{CParam}
 use Rattle.bl_tree.specs.declared.c.CLocal.{CLocal}
 use Rattle.bl_tree.specs.declared.c.CFunc.{CFunc}
 use Rattle.bl_tree.specs.declared.c.CArg.TheOpen.{CArg-F, CExprKind-F, CCall-F, CExpr-F, CIndex-F, CPlace-F, CStep-F}
+use Rattle.bl_tree.specs.declared.c.CArg.{CArg, fold-CArg}
+use Rattle.bl_tree.specs.declared.c.CIndex.{CIndex, fold-CIndex}
+use Rattle.bl_tree.specs.declared.c.CStep.{CStep, fold-CStep}
 use Rattle.bl_tree.specs.declared.c.CExpr.{CExpr, fold-CExpr}
 use Rattle.bl_tree.specs.declared.c.CPlace.{CPlace, fold-CPlace}
 use Rattle.bl_tree.specs.declared.c.CCall.{CCall, fold-CCall}
@@ -241,11 +244,6 @@ abbrev pub fit_args : Option Signature → List JudgedArg → Bool
 fit_args None args = true
 fit_args (Some s) args = fit_each s.widens s.params args
 
--- whether a call hands what a pointer leads to to a function without a result
-abbrev pub hands_on : Option Signature → List JudgedArg → Bool
-hands_on None args = false
-hands_on (Some s) args = is_none s.result && any_of (map (λ a. a.address && a.through) args)
-
 abbrev pub judge_arg : CArg-F (Judges JudgedArg) (Judges Judged) (Judges JudgedCall) (Context → Judged) (Judges JudgedIndex) (Judges JudgedPlace) Steps → Judges JudgedArg
 judge_arg (CArg-F.Value value) context place =
     let v : Judged = value context in
@@ -254,15 +252,23 @@ judge_arg (CArg-F.Address target) context place =
     let p : JudgedPlace = target context place in
     record { address = true; through = p.through; ty = p.ty; faults = p.faults }
 
+-- the result of a function that is known
+abbrev pub known_result : Option Signature → Option (Option Scalar)
+known_result signature = option_map (λ s. s.result) signature
+
 -- the type of a call in an expression
-abbrev pub result_type : Option Signature → Option CType
+abbrev pub result_type : Option (Option Scalar) → Option CType
 result_type None = None
-result_type (Some s) = option_map OfScalar s.result
+result_type (Some result) = option_map OfScalar result
 
 -- whether a function is known to have no result
-abbrev pub is_void : Option Signature → Bool
+abbrev pub is_void : Option (Option Scalar) → Bool
 is_void None = false
-is_void (Some s) = is_none s.result
+is_void (Some result) = is_none result
+
+-- whether a call hands what a pointer leads to to a function without a result
+abbrev pub hands_on : Option Signature → List JudgedArg → Bool
+hands_on signature args = is_void (known_result signature) && any_of (map (λ a. a.address && a.through) args)
 
 abbrev pub judge_kind : CExprKind-F (Judges JudgedArg) (Judges Judged) (Judges JudgedCall) (Context → Judged) (Judges JudgedIndex) (Judges JudgedPlace) Steps → Judges Judged
 judge_kind (CExprKind-F.Literal type n) context place = record { ty = Some (OfScalar type); faults = [] }
@@ -271,7 +277,7 @@ judge_kind (CExprKind-F.Read target) context place =
     record { ty = p.ty; faults = p.faults }
 judge_kind (CExprKind-F.Call call) context place =
     let c : JudgedCall = call context place in
-    record { ty = result_type c.signature; faults = c.faults ++ unless (not (is_void c.signature)) void_as_statement place }
+    record { ty = result_type (known_result c.signature); faults = c.faults ++ unless (not (is_void (known_result c.signature))) void_as_statement place }
 judge_kind (CExprKind-F.Not operand) context place =
     let a : Judged = operand context in
     record { ty = Some bool_type; faults = a.faults ++ unless (agree a.ty (Some bool_type)) operand_type place }
@@ -370,6 +376,16 @@ judged_place = fold-CPlace (Judges JudgedArg) (Judges Judged) (Judges JudgedCall
 abbrev pub judged_call : CCall → Judges JudgedCall
 judged_call = fold-CCall (Judges JudgedArg) (Judges Judged) (Judges JudgedCall) (Context → Judged) (Judges JudgedIndex) (Judges JudgedPlace) Steps judge_arg judge_kind judge_call judge_expr judge_index judge_place judge_step
 
+-- an argument, an index, a step
+abbrev pub judged_arg : CArg → Judges JudgedArg
+judged_arg = fold-CArg (Judges JudgedArg) (Judges Judged) (Judges JudgedCall) (Context → Judged) (Judges JudgedIndex) (Judges JudgedPlace) Steps judge_arg judge_kind judge_call judge_expr judge_index judge_place judge_step
+
+abbrev pub judged_index : CIndex → Judges JudgedIndex
+judged_index = fold-CIndex (Judges JudgedArg) (Judges Judged) (Judges JudgedCall) (Context → Judged) (Judges JudgedIndex) (Judges JudgedPlace) Steps judge_arg judge_kind judge_call judge_expr judge_index judge_place judge_step
+
+abbrev pub judged_step : CStep → Steps
+judged_step = fold-CStep (Judges JudgedArg) (Judges Judged) (Judges JudgedCall) (Context → Judged) (Judges JudgedIndex) (Judges JudgedPlace) Steps judge_arg judge_kind judge_call judge_expr judge_index judge_place judge_step
+
 -- ---- statements
 
 -- a condition
@@ -444,11 +460,14 @@ stmt_counters_step stmt = stmt.what stmt.place
 abbrev pub counters_in : CStmt → Counters
 counters_in = fold-CStmt (Place → Counters) Counters stmt_kind_counters stmt_counters_step
 
+-- the last of a list, else the other
+abbrev pub last_or : Bool → List Bool → Bool
+last_or other [] = other
+last_or other (b ∷ rest) = last_or b rest
+
 -- whether the last statement of a block surely returns
 abbrev pub last_returns : List Bool → Bool
-last_returns [] = false
-last_returns (b ∷ []) = b
-last_returns (b ∷ c ∷ rest) = last_returns (c ∷ rest)
+last_returns = last_or false
 
 abbrev pub other_returns : Option (List Bool) → Bool
 other_returns None = false

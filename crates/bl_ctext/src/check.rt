@@ -1,7 +1,9 @@
 //! Which files are well formed, and where the others fail first (docs/C_SUBSET.md, "Well-formed files").
 
 mod context;
+mod expr;
 mod first;
 mod names;
 mod prelude;
+mod stmt;
 mod types;

@@ -1,4 +1,4 @@
-ghost use Rattle.std.specs.Prelude.{◌≡◌, map, option_map, slice_get, length};
+ghost use Rattle.std.specs.Prelude.{◌≡◌, is_some, map, option_map, slice_get, length};
 ghost use Rattle.bl_ctext.specs.Builtin.{builtin_params, builtin_result, in_c as c_spelled, widest as widest_of};
 ghost use Rattle.bl_ctext.specs.Checked.{context_of, param_of, signature_for, type_of};
 ghost use Rattle.bl_ctext.specs.Faults.{by_value, member_of, signature_in, signature_of};
@@ -62,6 +62,12 @@ impl<'c, 'a> Context<'c, 'a> {
             Some(builtin) => Some(Callee::Builtin(builtin)),
             None => find(self.functions, name).map(Callee::Own),
         }
+    }
+
+    pub fn is_struct(&self, name: &str) -> bool
+        ensures { result ≡ is_some ((context_of self.now).structs name.now) }
+    {
+        self.structs.contains_key(&name)
     }
 
     /// The member of this name, where the type is a struct that has one.

@@ -1,4 +1,4 @@
-ghost use Rattle.std.specs.Prelude.{◌≡◌};
+ghost use Rattle.std.specs.Prelude.{◌≡◌, ◌&&◌, ◌||◌};
 ghost use Rattle.bl_ctext.specs.Faults.{Clause, earlier_of, first_place, unless as fails_unless};
 
 use bl_tree::Place;
@@ -25,4 +25,16 @@ pub fn unless(holds: bool, at: Place) -> Option<Place>
     ensures { (clause : Clause) → result ≡ first_place (fails_unless holds clause at) }
 {
     if holds { None } else { Some(at) }
+}
+
+pub fn both(a: bool, b: bool) -> bool
+    ensures { result ≡ (a && b) }
+{
+    a && b
+}
+
+pub fn either(a: bool, b: bool) -> bool
+    ensures { result ≡ (a || b) }
+{
+    a || b
 }
