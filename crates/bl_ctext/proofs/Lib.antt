@@ -1,5 +1,6 @@
 pub mod ArgLemmas
 pub mod BoundLemmas
+pub mod CallLemmas
 pub mod EndLemmas
 pub mod Examples
 pub mod FirstLemmas

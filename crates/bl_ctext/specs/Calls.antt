@@ -1,13 +1,16 @@
 -- Which functions expressions and statements call.
-use Rattle.std.specs.Prelude.{List, [], ◌∷◌, ◌++◌, map, Option, Some, None}
+use Rattle.std.specs.Prelude.{ℕ, List, [], ◌∷◌, ◌++◌, map, Option, Some, None}
 use Rattle.bl_tree.specs.declared.text.Text.{Text}
 use Rattle.bl_tree.specs.declared.c.CArg.TheOpen.{CArg-F, CExprKind-F, CCall-F, CExpr-F, CIndex-F, CPlace-F, CStep-F}
+use Rattle.bl_tree.specs.declared.c.CArg.{CArg, fold-CArg}
+use Rattle.bl_tree.specs.declared.c.CStep.{CStep, fold-CStep}
 use Rattle.bl_tree.specs.declared.c.CExpr.{CExpr, fold-CExpr}
 use Rattle.bl_tree.specs.declared.c.CPlace.{CPlace, fold-CPlace}
 use Rattle.bl_tree.specs.declared.c.CCall.{CCall, fold-CCall}
 use Rattle.bl_tree.specs.declared.c.CStmtKind.TheOpen.{CStmtKind-F, CStmt-F}
 use Rattle.bl_tree.specs.declared.c.CStmt.{CStmt, fold-CStmt}
-use Rattle.bl_tree.specs.Reduce.{joined}
+use Rattle.bl_tree.specs.Reduce.{joined, greatest}
+use Rattle.bl_ctext.specs.Tables.{Table, entry_or}
 
 -- ---- in one level, where the parts' calls are known
 
@@ -55,6 +58,12 @@ calls_in_place = fold-CPlace Names Names Names Names Names Names Names arg_calls
 abbrev pub calls_in_call : CCall → List Text
 calls_in_call = fold-CCall Names Names Names Names Names Names Names arg_calls kind_calls call_calls expr_calls index_calls place_calls step_calls
 
+abbrev pub calls_in_arg : CArg → List Text
+calls_in_arg = fold-CArg Names Names Names Names Names Names Names arg_calls kind_calls call_calls expr_calls index_calls place_calls step_calls
+
+abbrev pub calls_in_step : CStep → List Text
+calls_in_step = fold-CStep Names Names Names Names Names Names Names arg_calls kind_calls call_calls expr_calls index_calls place_calls step_calls
+
 abbrev pub calls_or_none : Option CExpr → List Text
 calls_or_none None = []
 calls_or_none (Some expr) = calls_in expr
@@ -80,3 +89,7 @@ calls_in_stmt = fold-CStmt Names Names stmt_kind_calls stmt_calls
 
 abbrev pub calls_in_block : List CStmt → List Text
 calls_in_block stmts = joined (map calls_in_stmt stmts)
+
+-- the greatest number of these functions in a table, where those that it doesn't have count 0
+abbrev pub most : Table ℕ → List Text → ℕ
+most numbers names = greatest (map (entry_or 0 numbers) names)

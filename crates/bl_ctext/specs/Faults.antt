@@ -31,7 +31,7 @@ use Rattle.bl_ctext.specs.Tables.{found, Table, no_entries, table_of, with_entry
 use Rattle.bl_ctext.specs.declared.builtin.Builtin.{Builtin}
 use Rattle.bl_ctext.specs.declared.builtin.Builtin.TheVariants.{Stop}
 use Rattle.bl_ctext.specs.Builtin.{builtin_of, builtin_params, builtin_result}
-use Rattle.bl_ctext.specs.Calls.{calls_in_block}
+use Rattle.bl_ctext.specs.Calls.{calls_in_block, most}
 
 -- ---- what can fail, and where
 
@@ -574,7 +574,7 @@ context_in structs functions f =
 
 -- the longest chain of calls that a function heads
 abbrev pub depth_of_function : Table ℕ → CFunc → ℕ
-depth_of_function depths f = 1 + greatest (map (entry_or 0 depths) (calls_in_block f.body))
+depth_of_function depths f = 1 + most depths (calls_in_block f.body)
 
 -- what fails in a function, after these. The last test says whether it is one of the last two
 abbrev pub faults_in_function : Table (Table CMember) → Table Signature → Table ℕ → Bool → CFunc → List Fault

@@ -13,7 +13,7 @@ use Rattle.bl_tree.specs.declared.c.CFunc.{CFunc}
 use Rattle.bl_tree.specs.Reduce.{total, greatest}
 use Rattle.bl_ctext.specs.Parts.{Parts}
 use Rattle.bl_ctext.specs.Tables.{found, Table, no_entries, table_of, with_entry, entry_or}
-use Rattle.bl_ctext.specs.Calls.{calls_in_block}
+use Rattle.bl_ctext.specs.Calls.{calls_in_block, most}
 
 -- ---- types
 
@@ -77,7 +77,7 @@ own_cells known function =
 
 -- the cells of the deepest chain of calls that begins with a function: its own, and the most of a function that it calls. The prelude's have none
 abbrev pub chain_cells : Sizes → Table ℕ → CFunc → ℕ
-chain_cells known earlier function = own_cells known function + greatest (map (entry_or 0 earlier) (calls_in_block function.body))
+chain_cells known earlier function = own_cells known function + most earlier (calls_in_block function.body)
 
 -- the functions in order, each over those before it
 abbrev pub chains_after : Sizes → Table ℕ → List CFunc → List ℕ

@@ -1,5 +1,6 @@
 //! Which files are well formed, and where the others fail first (docs/C_SUBSET.md, "Well-formed files").
 
+mod calls;
 mod context;
 mod expr;
 mod first;
