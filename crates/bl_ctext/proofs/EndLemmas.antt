@@ -18,7 +18,8 @@ use Rattle.bl_ctext.specs.Memory.{Memory, CValue, number_in, set_at, zeros}
 use Rattle.bl_ctext.specs.Meaning.{Counted, Evaluates, given, next, Scope, Outcome, End, goes_on, breaks, returns, traps, Runs, following_end, block_of, block_or_none, ended_by, executed, call_end, turn_end, turn_or_none, once_more, turns, turn_limit, runs_c, block_c, value_c, location_c, call_c, going, returning}
 use Rattle.bl_ctext.specs.Ends.{EndsAs, EndsInside, AlwaysEnds}
 use Rattle.bl_ctext.specs.Tables.{Table, no_entries, table_of, with_entry}
-use Rattle.bl_ctext.specs.Faults.{Clause, distinct_names, declared_before, scalar_parameter, static_functions, short_chain, returns_result, all_distinct, is_declared, is_scalar, Fault, Context, Variable, Signature, unless, block_faults, faults_in_stmt, surely_returns, last_returns, faults_in_function, function_faults_after, faults_in, WellFormed, condition_faults, context_in, repeated, variables_of, counters_in, depth_of_function, signature_in, struct_table, struct_faults_after}
+use Rattle.bl_ctext.specs.Faults.{Clause, distinct_names, declared_before, scalar_parameter, static_functions, short_chain, returns_result, all_distinct, is_declared, is_scalar, Fault, Context, Variable, Signature, unless, block_faults, faults_in_stmt, surely_returns, last_returns, faults_in_function, function_faults_after, faults_in, WellFormed, condition_faults, context_in, repeated, variables_of, depth_of_function, signature_in, struct_table, struct_faults_after}
+use Rattle.bl_ctext.specs.Loops.{counters_in_block}
 use Rattle.bl_ctext.specs.Parts.{Parts}
 use Rattle.bl_ctext.proofs.Induction.{Optional, StmtCases, induct_stmt, stmt}
 
@@ -269,7 +270,7 @@ function-ends structs functions depths last f none scope memory =
     let h6 = nil-right (unless (nat_le (depth_of_function depths f) 300) short_chain f.place) _ h5 in
     let returning = unless-nil (is_none f.result || last_returns (map surely_returns f.body)) returns_result f.place (nil-left _ _ h6) in
     let h7 = nil-right (unless (is_none f.result || last_returns (map surely_returns f.body)) returns_result f.place) _ h6 in
-    let body = nil-right (repeated (table_of (map (λ v. (v.0, tt)) (variables_of f))) (joined (map counters_in f.body))) _ h7 in
+    let body = nil-right (repeated (table_of (map (λ v. (v.0, tt)) (variables_of f))) (counters_in_block f.body)) _ h7 in
     ends_as f.result (block_c f.body scope memory).end
       (body-stays scope f.body (context_in structs functions f) body memory)
       (λ has. body-leaves scope f.body (sure (is_none f.result) (last_returns (map surely_returns f.body)) returning has) memory)

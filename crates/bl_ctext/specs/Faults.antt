@@ -1,5 +1,5 @@
 -- The clauses of a well-formed file: each failure of one has a name and a place.
-use Rattle.std.specs.Prelude.{◌≡◌, ℕ, ◌+◌, Bool, true, false, not, ◌&&◌, ◌||◌, nat_lt, nat_le, nat_eq, ◌==◌, List, [], ◌∷◌, ◌++◌, map, flat_map, length, zip, Option, Some, None, is_some, is_none, option_map, option_and_then, bytes_eq, codes, Contains, if◌then◌else◌}
+use Rattle.std.specs.Prelude.{◌≡◌, ℕ, ◌+◌, Bool, true, false, not, ◌&&◌, ◌||◌, nat_lt, nat_le, nat_eq, min, ◌==◌, List, [], ◌∷◌, ◌++◌, map, flat_map, length, zip, Option, Some, None, is_some, is_none, option_map, option_and_then, bytes_eq, codes, Contains, if◌then◌else◌}
 use Rattle.std.specs.List.{list_any, list_all, starts_with}
 use Rattle.bl_tree.specs.declared.text.Text.{Text}
 use Rattle.bl_tree.specs.declared.place.Place.{Place}
@@ -32,6 +32,7 @@ use Rattle.bl_ctext.specs.declared.builtin.Builtin.{Builtin}
 use Rattle.bl_ctext.specs.declared.builtin.Builtin.TheVariants.{Stop}
 use Rattle.bl_ctext.specs.Builtin.{builtin_of, builtin_params, builtin_result}
 use Rattle.bl_ctext.specs.Calls.{calls_in_block, most}
+use Rattle.bl_ctext.specs.Loops.{counters_in_block}
 
 -- ---- what can fail, and where
 
@@ -439,26 +440,7 @@ stmt_faults_step stmt = stmt.what stmt.place
 abbrev pub faults_in_stmt : CStmt → StmtFaults
 faults_in_stmt = fold-CStmt (Place → StmtFaults) StmtFaults stmt_kind_faults stmt_faults_step
 
--- ---- loops and returns
-
--- the counters of a statement's loops, each with the place of its loop, in the order of the text
-abbrev pub Counters : Type 0
-Counters = List (Text × Place)
-
-abbrev pub counters_or_none : Option (List Counters) → Counters
-counters_or_none None = []
-counters_or_none (Some block) = joined block
-
-abbrev pub stmt_kind_counters : CStmtKind-F (Place → Counters) Counters → Place → Counters
-stmt_kind_counters (CStmtKind-F.If condition block other) place = joined block ++ counters_or_none other
-stmt_kind_counters (CStmtKind-F.Loop turn condition body) place = (turn, place) ∷ joined body
-stmt_kind_counters _ place = []
-
-abbrev pub stmt_counters_step : CStmt-F (Place → Counters) Counters → Counters
-stmt_counters_step stmt = stmt.what stmt.place
-
-abbrev pub counters_in : CStmt → Counters
-counters_in = fold-CStmt (Place → Counters) Counters stmt_kind_counters stmt_counters_step
+-- ---- returns
 
 -- the last of a list, else the other
 abbrev pub last_or : Bool → List Bool → Bool
@@ -505,13 +487,17 @@ abbrev pub is_declared : Table (Table CMember) → CType → Bool
 is_declared structs (OfScalar s) = true
 is_declared structs (OfStruct name) = is_some (structs name)
 
+-- a length of a chain, where more than 300 counts as 301
+abbrev pub limited : ℕ → ℕ
+limited n = min 301 n
+
 -- the longest chain of structs that a type heads, where those of the earlier structs are known
 abbrev pub depth_of_type : Table ℕ → CType → ℕ
 depth_of_type depths (OfScalar s) = 0
 depth_of_type depths (OfStruct name) = entry_or 0 depths name
 
 abbrev pub depth_of_struct : Table ℕ → CStruct → ℕ
-depth_of_struct depths s = 1 + greatest (map (λ m. depth_of_type depths m.ty) s.members)
+depth_of_struct depths s = limited (1 + greatest (map (λ m. depth_of_type depths m.ty) s.members))
 
 -- the members of an interface struct, whose names begin so
 abbrev pub is_pad : CMember → Bool
@@ -574,7 +560,7 @@ context_in structs functions f =
 
 -- the longest chain of calls that a function heads
 abbrev pub depth_of_function : Table ℕ → CFunc → ℕ
-depth_of_function depths f = 1 + most depths (calls_in_block f.body)
+depth_of_function depths f = limited (1 + most depths (calls_in_block f.body))
 
 -- what fails in a function, after these. The last test says whether it is one of the last two
 abbrev pub faults_in_function : Table (Table CMember) → Table Signature → Table ℕ → Bool → CFunc → List Fault
@@ -587,7 +573,7 @@ faults_in_function structs functions depths last f =
     ++ (unless (if last then not f.fixed else f.fixed) static_functions f.place
     ++ (unless (nat_le (depth_of_function depths f) 300) short_chain f.place
     ++ (unless (is_none f.result || last_returns (map surely_returns f.body)) returns_result f.place
-    ++ (repeated (table_of (map (λ v. (v.0, tt)) (variables_of f))) (joined (map counters_in f.body))
+    ++ (repeated (table_of (map (λ v. (v.0, tt)) (variables_of f))) (counters_in_block f.body)
     ++ block_faults (map faults_in_stmt f.body) (context_in structs functions f) false)))))))
 
 abbrev pub function_faults_after : Table (Table CMember) → Table Signature → Table ℕ → List CFunc → List Fault

@@ -7,6 +7,7 @@ pub mod Ends
 pub mod Faults
 pub mod HandText
 pub mod Laws
+pub mod Loops
 pub mod Maps
 pub mod Meaning
 pub mod Memory

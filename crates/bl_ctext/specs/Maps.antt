@@ -12,3 +12,7 @@ text_at map asked = get_by (λ key. bytes_eq asked key.now) map
 -- entries of a map, each name as its bytes
 abbrev pub named : {V : Type 0} → List (Bor (List ℕ) × V) → List (Text × V)
 named entries = map (λ entry. (entry.0.now, entry.1)) entries
+
+-- names as their bytes
+abbrev pub bytes_of : List (Bor (List ℕ)) → List Text
+bytes_of names = map (λ name. name.now) names

@@ -1,5 +1,5 @@
 -- How many cells a C file needs while it runs.
-use Rattle.std.specs.Prelude.{ℕ, ◌+◌, ◌*◌, Bool, true, false, max, List, [], ◌∷◌, ◌++◌, map, Option, Some, None, codes, if◌then◌else◌}
+use Rattle.std.specs.Prelude.{ℕ, ◌+◌, ◌*◌, Bool, true, false, max, List, [], ◌∷◌, ◌++◌, map, length, Option, Some, None, codes, if◌then◌else◌}
 use Rattle.bl_tree.specs.declared.text.Text.{Text}
 use Rattle.bl_tree.specs.declared.c.CType.{CType}
 use Rattle.bl_tree.specs.declared.c.CType.TheVariants.{Scalar as OfScalar, Struct as OfStruct}
@@ -13,6 +13,7 @@ use Rattle.bl_tree.specs.declared.c.CFunc.{CFunc}
 use Rattle.bl_tree.specs.Reduce.{total, greatest}
 use Rattle.bl_ctext.specs.Parts.{Parts}
 use Rattle.bl_ctext.specs.Tables.{found, Table, no_entries, table_of, with_entry, entry_or}
+use Rattle.bl_ctext.specs.Loops.{counters_in_block}
 use Rattle.bl_ctext.specs.Calls.{calls_in_block, most}
 
 -- ---- types
@@ -48,23 +49,6 @@ sizes = sizes_after no_entries
 
 -- ---- functions
 
--- how many loops stand in a statement, itself counted
-
-abbrev pub loops_or_none : Option (List ℕ) → ℕ
-loops_or_none None = 0
-loops_or_none (Some block) = total block
-
-abbrev pub stmt_kind_loops : CStmtKind-F ℕ ℕ → ℕ
-stmt_kind_loops (CStmtKind-F.If condition block other) = total block + loops_or_none other
-stmt_kind_loops (CStmtKind-F.Loop turn condition body) = 1 + total body
-stmt_kind_loops _ = 0
-
-abbrev pub stmt_loops_step : CStmt-F ℕ ℕ → ℕ
-stmt_loops_step stmt = stmt.what
-
-abbrev pub loops_in : CStmt → ℕ
-loops_in = fold-CStmt ℕ ℕ stmt_kind_loops stmt_loops_step
-
 -- a pointer is one cell, whatever it leads to
 abbrev pub size_of_param : Sizes → CParam → ℕ
 size_of_param known param = if param.pointer then 1 else size_of_type known param.ty
@@ -73,7 +57,7 @@ size_of_param known param = if param.pointer then 1 else size_of_type known para
 abbrev pub own_cells : Sizes → CFunc → ℕ
 own_cells known function =
     total (map (size_of_param known) function.params)
-    + (total (map (λ l. size_of_type known l.ty) function.locals) + total (map loops_in function.body))
+    + (total (map (λ l. size_of_type known l.ty) function.locals) + length (counters_in_block function.body))
 
 -- the cells of the deepest chain of calls that begins with a function: its own, and the most of a function that it calls. The prelude's have none
 abbrev pub chain_cells : Sizes → Table ℕ → CFunc → ℕ

@@ -4,6 +4,7 @@ mod calls;
 mod context;
 mod expr;
 mod first;
+mod loops;
 mod names;
 mod prelude;
 mod stmt;

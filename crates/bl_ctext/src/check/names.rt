@@ -1,9 +1,12 @@
-ghost use Rattle.std.specs.Prelude.{◌≡◌, OnOk, ℕ, List};
+ghost use Rattle.std.specs.Prelude.{◌≡◌, IfOk, List, OnOk, ℕ};
 ghost use Rattle.std.specs.Option.{option_or};
-ghost use Rattle.bl_ctext.specs.Maps.{named, text_at};
-ghost use Rattle.bl_ctext.specs.Tables.{found, with_entry};
+ghost use Rattle.bl_ctext.specs.Maps.{bytes_of, named, text_at};
+ghost use Rattle.bl_ctext.specs.Faults.{all_distinct, first_place, repeated};
+ghost use Rattle.bl_ctext.specs.Tables.{found, no_entries, with_entry};
 
-use bl_tree::NoMemory;
+use crate::check::first::{both, earlier, unless};
+use bl_tree::{NoMemory, Place};
+use std::alloc::Global;
 use std::collections::HashMap;
 
 /// What stands under a name.
@@ -34,4 +37,32 @@ pub fn fill<'a, V: Copy>(map: &mut HashMap<&'a str, V>, entries: &[(&'a str, V)]
         add(map, name, *value)?;
     }
     Ok(())
+}
+
+/// Whether no name of a list stands twice.
+pub fn differ<'a>(alloc: Global, names: &[&'a str]) -> Result<bool, NoMemory>
+    ensures { IfOk result (λ answer. answer ≡ all_distinct no_entries (bytes_of names.now)) }
+{
+    let mut seen: HashMap<&'a str, ()> = HashMap::new(alloc);
+    let mut answer = true;
+    for name in names {
+        answer = both(answer, find(&seen, name).is_none());
+        add(&mut seen, name, ())?;
+    }
+    Ok(answer)
+}
+
+/// The first place of those whose name stands among these, or earlier in the list.
+pub fn first_repeated<'a>(
+    seen: &mut HashMap<&'a str, ()>,
+    entries: &[(&'a str, Place)],
+) -> Result<Option<Place>, NoMemory>
+    ensures { IfOk result (λ first. first ≡ first_place (repeated (text_at seen.old) (named entries.now))) }
+{
+    let mut first = None;
+    for (name, at) in entries {
+        first = earlier(first, unless(find(seen, name).is_none(), *at));
+        add(seen, name, ())?;
+    }
+    Ok(first)
 }
