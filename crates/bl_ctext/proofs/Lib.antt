@@ -6,5 +6,6 @@ pub mod Examples
 pub mod FirstLemmas
 pub mod Induction
 pub mod MapLemmas
+pub mod NameLemmas
 pub mod TableLemmas
 pub mod TraceLemmas

@@ -51,3 +51,7 @@ nothing_after None = refl
 pub only_second : {A : Type 0} (old rest : Option A) → old ≡ None → option_or old rest ≡ rest
 only_second None rest h = refl
 only_second (Some x) rest h = cc
+
+-- two tables that have the same under each name are one
+pub same_table : {A : Type 0} (s t : Table A) → ((asked : List ℕ) → s asked ≡ t asked) → s ≡ t
+same_table s t h = λ i asked. h asked i

@@ -1,4 +1,4 @@
-ghost use Rattle.std.specs.Prelude.{◌≡◌, IfOk, List, OnOk, ℕ};
+ghost use Rattle.std.specs.Prelude.{◌≡◌, IfOk, is_some, List, OnOk, ℕ};
 ghost use Rattle.std.specs.Option.{option_or};
 ghost use Rattle.bl_ctext.specs.Maps.{bytes_of, named, text_at};
 ghost use Rattle.bl_ctext.specs.Faults.{all_distinct, first_place, repeated};
@@ -14,6 +14,12 @@ pub fn find<'a, V: Copy>(map: &HashMap<&'a str, V>, name: &str) -> Option<V>
     ensures { result ≡ text_at map.now name.now }
 {
     map.get(&name).copied()
+}
+
+pub fn has<'a, V>(map: &HashMap<&'a str, V>, name: &str) -> bool
+    ensures { result ≡ is_some (text_at map.now name.now) }
+{
+    map.contains_key(&name)
 }
 
 /// Adds an entry, unless the name has one.
@@ -46,7 +52,7 @@ pub fn differ<'a>(alloc: Global, names: &[&'a str]) -> Result<bool, NoMemory>
     let mut seen: HashMap<&'a str, ()> = HashMap::new(alloc);
     let mut answer = true;
     for name in names {
-        answer = both(answer, find(&seen, name).is_none());
+        answer = both(answer, !has(&seen, name));
         add(&mut seen, name, ())?;
     }
     Ok(answer)
@@ -61,7 +67,7 @@ pub fn first_repeated<'a>(
 {
     let mut first = None;
     for (name, at) in entries {
-        first = earlier(first, unless(find(seen, name).is_none(), *at));
+        first = earlier(first, unless(!has(seen, name), *at));
         add(seen, name, ())?;
     }
     Ok(first)
