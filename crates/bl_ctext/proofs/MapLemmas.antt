@@ -1,6 +1,6 @@
 -- Maps as tables.
 use Rattle.std.proofs.Common.{◌≡◌, ℕ, Bool, true, false, List, Option, Some, None, refl, ap, sym, subst, ◌∙◌}
-use Rattle.std.specs.Prelude.{bytes_eq, is_some, is_none, if◌then◌else◌}
+use Rattle.std.specs.Prelude.{bytes_eq, is_some, is_none, option_map, if◌then◌else◌}
 use Rattle.std.specs.Option.{option_or}
 use Rattle.std.specs.Map.{update}
 use Rattle.std.proofs.lemmas.Slice.Eq.{bytes_eq-Decides}
@@ -55,3 +55,8 @@ only_second (Some x) rest h = cc
 -- two tables that have the same under each name are one
 pub same_table : {A : Type 0} (s t : Table A) → ((asked : List ℕ) → s asked ≡ t asked) → s ≡ t
 same_table s t h = λ i asked. h asked i
+
+-- what is made of an entry is there where the entry is
+pub some_mapped : {A B : Type 0} (f : A → B) (o : Option A) → is_some (option_map f o) ≡ is_some o
+some_mapped f (Some a) = refl
+some_mapped f None = refl

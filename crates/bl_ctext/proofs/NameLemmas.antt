@@ -1,7 +1,10 @@
 -- Names of a list, one by one.
-use Rattle.std.proofs.Common.{◌≡◌, ℕ, suc, ◌+◌, ◌<◌, Bool, true, false, not, ◌&&◌, List, [], ◌∷◌, map, length, get_or, drop, Option, Some, None, refl, ap, sym, subst, ◌∙◌, add-one}
+use Rattle.std.proofs.Common.{◌≡◌, ℕ, suc, ◌+◌, ◌<◌, Bool, true, false, not, ◌&&◌, List, [], ◌∷◌, map, length, get_or, drop, Option, Some, None, max, refl, ap, sym, subst, ◌∙◌, add-one, arith}
 use Rattle.std.specs.Prelude.{is_some, is_none}
 use Rattle.std.specs.Borrow.{Bor}
+use Rattle.std.specs.List.{list_all}
+use Rattle.bl_tree.specs.Reduce.{greatest}
+use Rattle.bl_ctext.proofs.ArgLemmas.{next_of}
 use Rattle.std.proofs.Math.Seq.{drop-cons}
 use Rattle.bl_tree.specs.declared.place.Place.{Place}
 use Rattle.bl_ctext.specs.Faults.{Fault, all_distinct, distinct_names, earlier_of, first_place, repeated, unless}
@@ -41,3 +44,17 @@ repeated-next seen more entries k d first x within add h =
     ∙ sym (earlier_of-assoc first (first_place here) (first_place (repeated (with_entry seen name tt) rest)))
     ∙ ap (λ p. earlier_of first p) (sym (first_place-append here (repeated (with_entry seen name tt) rest)))
     ∙ ap (λ xs. earlier_of first (first_place (repeated seen (named xs)))) (sym (at_index entries k d within)) ∙ h
+
+-- a test of each, one by one
+pub all-next : {X : Type 0} (p : X → Bool) (xs : List X) (k : ℕ) (x : X) (so_far all : Bool) → k < length xs → x ≡ get_or xs k x →
+    (so_far && list_all p (drop k xs)) ≡ all → ((so_far && p x) && list_all p (drop (k + 1) xs)) ≡ all
+all-next p xs k x so_far all within is h =
+    and_assoc so_far (p x) (list_all p (drop (k + 1) xs))
+    ∙ ap (λ l. so_far && list_all p l) (sym (next_of xs k x within is)) ∙ h
+
+-- a greatest, one by one
+pub greatest-next : {X : Type 0} (f : X → ℕ) (xs : List X) (k : ℕ) (x : X) (so_far all : ℕ) → k < length xs → x ≡ get_or xs k x →
+    max so_far (greatest (map f (drop k xs))) ≡ all → max (max so_far (f x)) (greatest (map f (drop (k + 1) xs))) ≡ all
+greatest-next f xs k x so_far all within is h =
+    let here : max so_far (max (f x) (greatest (map f (drop (k + 1) xs)))) ≡ all = subst (λ l. max so_far (greatest (map f l)) ≡ all) (next_of xs k x within is) h in
+    omega arith

@@ -14,6 +14,9 @@ use Rattle.bl_ctext.specs.declared.check.context.Callee.{Callee}
 use Rattle.bl_ctext.specs.declared.check.context.Callee.TheVariants.{Builtin as OfPrelude, Own}
 use Rattle.bl_ctext.specs.Builtin.{builtin_params, builtin_result}
 use Rattle.bl_ctext.specs.Faults.{Variable, Signature, Context, JudgedArg, by_value, signature_in, fit_each, fits_param, if_typed, judged_arg}
+use Rattle.std.specs.Borrow.{Bor}
+use Rattle.std.specs.HashMap.{HashMap}
+use Rattle.bl_ctext.specs.Tables.{Table}
 use Rattle.bl_ctext.specs.Maps.{text_at}
 
 -- a type
@@ -34,10 +37,14 @@ abbrev pub signature_for : Callee → Signature
 signature_for (OfPrelude b) = record { widens = true; params = map by_value (builtin_params b); result = builtin_result b }
 signature_for (Own function) = signature_in function.now
 
+-- the structs
+abbrev pub structs_of : {S T : Type 0} → HashMap (Bor (List ℕ)) (HashMap (Bor (List ℕ)) (Bor CMember) S) T → Table (Table CMember)
+structs_of structs struct = option_map (λ members. λ name. option_map (λ m. m.now) (text_at members name)) (text_at structs struct)
+
 -- what is declared
 abbrev pub context_of : CodeContext → Context
 context_of c = record {
-  structs = λ struct. option_map (λ members. λ name. option_map (λ m. m.now) (text_at members name)) (text_at c.structs.now struct);
+  structs = structs_of c.structs.now;
   functions = λ name. option_map (λ f. signature_in f.now) (text_at c.functions.now name);
   variables = λ name. option_map variable_of (text_at c.variables.now name);
   result = c.result;

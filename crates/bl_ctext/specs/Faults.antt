@@ -504,7 +504,7 @@ abbrev pub is_pad : CMember → Bool
 is_pad m = bytes_eq m.name (codes "pad") && (same_type m.ty (OfScalar (Nat W8)) && is_none m.length)
 
 abbrev pub is_port : Text → CMember → Bool
-is_port prefix m = starts_with nat_eq m.name prefix && (nat_lt (length prefix) (length m.name) && (is_scalar m.ty && is_none m.length))
+is_port prefix m = (starts_with nat_eq m.name prefix && nat_lt (length prefix) (length m.name)) && (is_scalar m.ty && is_none m.length)
 
 abbrev pub are_ports : Text → List CMember → Bool
 are_ports prefix [] = false

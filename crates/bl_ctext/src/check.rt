@@ -8,4 +8,5 @@ mod loops;
 mod names;
 mod prelude;
 mod stmt;
+mod structs;
 mod types;

@@ -86,7 +86,7 @@ fn most_in_arg(numbers: &Numbers<'_>, arg: &CArg) -> u64
     }
 }
 
-fn number_of(numbers: &Numbers<'_>, name: &str) -> u64
+pub fn number_of(numbers: &Numbers<'_>, name: &str) -> u64
     ensures { result ≡ entry_or 0 (text_at numbers.now) name.now }
 {
     find(numbers, name).unwrap_or(0)

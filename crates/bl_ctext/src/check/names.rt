@@ -1,4 +1,4 @@
-ghost use Rattle.std.specs.Prelude.{◌≡◌, IfOk, is_some, List, OnOk, ℕ};
+ghost use Rattle.std.specs.Prelude.{◌≡◌, [], ◌∷◌, ◌++◌, IfOk, is_some, List, OnOk, ℕ};
 ghost use Rattle.std.specs.Option.{option_or};
 ghost use Rattle.bl_ctext.specs.Maps.{bytes_of, named, text_at};
 ghost use Rattle.bl_ctext.specs.Faults.{all_distinct, first_place, repeated};
@@ -43,6 +43,16 @@ pub fn fill<'a, V: Copy>(map: &mut HashMap<&'a str, V>, entries: &[(&'a str, V)]
         add(map, name, *value)?;
     }
     Ok(())
+}
+
+/// Adds a name to a list.
+pub fn add_name<'a>(names: &mut Vec<&'a str>, name: &'a str) -> Result<(), NoMemory>
+    ensures { OnOk result (bytes_of names.new.items ≡ bytes_of names.old.items ++ name.now ∷ []) }
+{
+    match names.push(name) {
+        Ok(()) => Ok(()),
+        Err(_) => Err(NoMemory),
+    }
 }
 
 /// Whether no name of a list stands twice.
