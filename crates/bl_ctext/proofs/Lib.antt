@@ -1,6 +1,7 @@
 pub mod ArgLemmas
 pub mod BoundLemmas
 pub mod CallLemmas
+pub mod DeclaredLemmas
 pub mod EndLemmas
 pub mod Examples
 pub mod FirstLemmas

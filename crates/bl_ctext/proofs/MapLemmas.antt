@@ -60,3 +60,18 @@ same_table s t h = λ i asked. h asked i
 pub some_mapped : {A B : Type 0} (f : A → B) (o : Option A) → is_some (option_map f o) ≡ is_some o
 some_mapped f (Some a) = refl
 some_mapped f None = refl
+
+-- what is made of the entries of a table with one more
+pub entry_mapped : {A B : Type 0} (f : A → B) (old : Option A) (same : Bool) (value : A) →
+    option_map f (option_or old (if same then Some value else None)) ≡ option_or (option_map f old) (if same then Some (f value) else None)
+entry_mapped f (Some a) same value = refl
+entry_mapped f None true value = refl
+entry_mapped f None false value = refl
+
+-- a struct is added, where its members stand in a map
+pub struct_added : {A B : Type 0} (f : A → B) (old new : Table A) (name : List ℕ) (value : A) (whole : B) → f value ≡ whole →
+    ((asked : List ℕ) → new asked ≡ with_entry old name value asked) → (asked : List ℕ) →
+    option_map f (new asked) ≡ with_entry (λ n. option_map f (old n)) name whole asked
+struct_added f old new name value whole is add asked =
+    ap (option_map f) (add asked) ∙ entry_mapped f (old asked) (bytes_eq name asked) value
+    ∙ ap (λ w. option_or (option_map f (old asked)) (if bytes_eq name asked then Some w else None)) is

@@ -37,9 +37,13 @@ abbrev pub signature_for : Callee → Signature
 signature_for (OfPrelude b) = record { widens = true; params = map by_value (builtin_params b); result = builtin_result b }
 signature_for (Own function) = signature_in function.now
 
+-- the members of a struct
+abbrev pub members_in_map : {S : Type 0} → HashMap (Bor (List ℕ)) (Bor CMember) S → Table CMember
+members_in_map members name = option_map (λ m. m.now) (text_at members name)
+
 -- the structs
 abbrev pub structs_of : {S T : Type 0} → HashMap (Bor (List ℕ)) (HashMap (Bor (List ℕ)) (Bor CMember) S) T → Table (Table CMember)
-structs_of structs struct = option_map (λ members. λ name. option_map (λ m. m.now) (text_at members name)) (text_at structs struct)
+structs_of structs struct = option_map members_in_map (text_at structs struct)
 
 -- what is declared
 abbrev pub context_of : CodeContext → Context

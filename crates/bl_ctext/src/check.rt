@@ -2,6 +2,7 @@
 
 mod calls;
 mod context;
+mod declared;
 mod expr;
 mod first;
 mod loops;
