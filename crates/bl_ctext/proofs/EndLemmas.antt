@@ -18,7 +18,7 @@ use Rattle.bl_ctext.specs.Memory.{Memory, CValue, number_in, set_at, zeros}
 use Rattle.bl_ctext.specs.Meaning.{Counted, Evaluates, given, next, Scope, Outcome, End, goes_on, breaks, returns, traps, Runs, following_end, block_of, block_or_none, ended_by, executed, call_end, turn_end, turn_or_none, once_more, turns, turn_limit, runs_c, block_c, value_c, location_c, call_c, going, returning}
 use Rattle.bl_ctext.specs.Ends.{EndsAs, EndsInside, AlwaysEnds}
 use Rattle.bl_ctext.specs.Tables.{Table, no_entries, table_of, with_entry}
-use Rattle.bl_ctext.specs.Faults.{Clause, distinct_names, declared_before, scalar_parameter, static_functions, short_chain, returns_result, all_distinct, is_declared, is_scalar, Fault, Context, Variable, Signature, unless, block_faults, faults_in_stmt, surely_returns, last_returns, faults_in_function, function_faults_after, faults_in, WellFormed, condition_faults, context_in, repeated, variables_of, depth_of_function, signature_in, struct_table, struct_faults_after}
+use Rattle.bl_ctext.specs.Faults.{Clause, distinct_names, declared_before, scalar_parameter, static_functions, short_chain, returns_result, all_distinct, is_declared, is_scalar, Fault, Context, Variable, Signature, unless, block_faults, faults_in_stmt, surely_returns, last_returns, faults_in_head, variable_names, names_table, faults_in_function, function_faults_after, faults_in, WellFormed, condition_faults, context_in, repeated, variables_of, depth_of_function, signature_in, struct_table, struct_faults_after}
 use Rattle.bl_ctext.specs.Loops.{counters_in_block}
 use Rattle.bl_ctext.specs.Parts.{Parts}
 use Rattle.bl_ctext.proofs.Induction.{Optional, StmtCases, induct_stmt, stmt}
@@ -262,15 +262,16 @@ sure false last h k = h
 function-ends : (structs : Table (Table CMember)) (functions : Table Signature) (depths : Table ℕ) (last : Bool) (f : CFunc) →
     faults_in_function structs functions depths last f ≡ [] → EndsInside f
 function-ends structs functions depths last f none scope memory =
-    let h1 = nil-right (unless (is_none (functions f.name)) distinct_names f.place) _ none in
-    let h2 = nil-right (unless (all_distinct no_entries (map (λ v. v.0) (variables_of f))) distinct_names f.place) _ h1 in
-    let h3 = nil-right (unless (list_all (λ v. is_declared structs v.1.ty) (variables_of f)) declared_before f.place) _ h2 in
+    let h0 = nil-left (faults_in_head structs functions depths last f) _ none in
+    let h1 = nil-right (unless (is_none (functions f.name)) distinct_names f.place) _ h0 in
+    let h2 = nil-right (unless (all_distinct no_entries (variable_names f)) distinct_names f.place) _ h1 in
+    let h3 = nil-right (unless (list_all (λ p. is_declared structs p.ty) f.params && list_all (λ l. is_declared structs l.ty) f.locals) declared_before f.place) _ h2 in
     let h4 = nil-right (unless (list_all (λ p. p.pointer || is_scalar p.ty) f.params) scalar_parameter f.place) _ h3 in
     let h5 = nil-right (unless (if last then not f.fixed else f.fixed) static_functions f.place) _ h4 in
     let h6 = nil-right (unless (nat_le (depth_of_function depths f) 300) short_chain f.place) _ h5 in
-    let returning = unless-nil (is_none f.result || last_returns (map surely_returns f.body)) returns_result f.place (nil-left _ _ h6) in
-    let h7 = nil-right (unless (is_none f.result || last_returns (map surely_returns f.body)) returns_result f.place) _ h6 in
-    let body = nil-right (repeated (table_of (map (λ v. (v.0, tt)) (variables_of f))) (counters_in_block f.body)) _ h7 in
+    let returning = unless-nil (is_none f.result || last_returns (map surely_returns f.body)) returns_result f.place h6 in
+    let h7 = nil-right (faults_in_head structs functions depths last f) _ none in
+    let body = nil-right (repeated (names_table (variable_names f)) (counters_in_block f.body)) _ h7 in
     ends_as f.result (block_c f.body scope memory).end
       (body-stays scope f.body (context_in structs functions f) body memory)
       (λ has. body-leaves scope f.body (sure (is_none f.result) (last_returns (map surely_returns f.body)) returning has) memory)

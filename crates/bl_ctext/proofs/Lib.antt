@@ -10,3 +10,4 @@ pub mod MapLemmas
 pub mod NameLemmas
 pub mod TableLemmas
 pub mod TraceLemmas
+pub mod VariableLemmas

@@ -3,6 +3,7 @@ use Rattle.std.specs.Prelude.{ℕ, List, map, Bool, true, false, Option, Some, N
 use Rattle.bl_tree.specs.declared.c.CType.{CType}
 use Rattle.bl_tree.specs.declared.c.CType.TheVariants.{Scalar as OfScalar, Struct as OfStruct}
 use Rattle.bl_tree.specs.declared.c.CMember.{CMember}
+use Rattle.bl_tree.specs.declared.c.CFunc.{CFunc}
 use Rattle.bl_tree.specs.declared.c.CArg.{CArg}
 use Rattle.bl_tree.specs.declared.place.Place.{Place}
 use Rattle.bl_ctext.specs.declared.check.types.Ty.{Ty}
@@ -45,12 +46,20 @@ members_in_map members name = option_map (λ m. m.now) (text_at members name)
 abbrev pub structs_of : {S T : Type 0} → HashMap (Bor (List ℕ)) (HashMap (Bor (List ℕ)) (Bor CMember) S) T → Table (Table CMember)
 structs_of structs struct = option_map members_in_map (text_at structs struct)
 
+-- the functions
+abbrev pub functions_of : {S : Type 0} → HashMap (Bor (List ℕ)) (Bor CFunc) S → Table Signature
+functions_of functions name = option_map (λ f. signature_in f.now) (text_at functions name)
+
+-- the parameters and locals of a function
+abbrev pub variables_in_map : {S : Type 0} → HashMap (Bor (List ℕ)) CodeVariable S → Table Variable
+variables_in_map variables name = option_map variable_of (text_at variables name)
+
 -- what is declared
 abbrev pub context_of : CodeContext → Context
 context_of c = record {
   structs = structs_of c.structs.now;
-  functions = λ name. option_map (λ f. signature_in f.now) (text_at c.functions.now name);
-  variables = λ name. option_map variable_of (text_at c.variables.now name);
+  functions = functions_of c.functions.now;
+  variables = variables_in_map c.variables.now;
   result = c.result;
   keeps = c.keeps;
 }

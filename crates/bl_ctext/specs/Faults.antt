@@ -562,19 +562,31 @@ context_in structs functions f =
 abbrev pub depth_of_function : Table ℕ → CFunc → ℕ
 depth_of_function depths f = limited (1 + most depths (calls_in_block f.body))
 
--- what fails in a function, after these. The last test says whether it is one of the last two
-abbrev pub faults_in_function : Table (Table CMember) → Table Signature → Table ℕ → Bool → CFunc → List Fault
-faults_in_function structs functions depths last f =
-    let names : List Text = map (λ v. v.0) (variables_of f) in
+-- the names of a function's parameters and locals
+abbrev pub variable_names : CFunc → List Text
+variable_names f = map (λ p. p.name) f.params ++ map (λ l. l.name) f.locals
+
+-- these names as a table
+abbrev pub names_table : List Text → Table (Unit {0})
+names_table names = table_of (map (λ name. (name, tt)) names)
+
+-- what fails in a function before its statements. The last test says whether it is one of the last two
+abbrev pub faults_in_head : Table (Table CMember) → Table Signature → Table ℕ → Bool → CFunc → List Fault
+faults_in_head structs functions depths last f =
     unless (is_none (functions f.name)) distinct_names f.place
-    ++ (unless (all_distinct no_entries names) distinct_names f.place
-    ++ (unless (list_all (λ v. is_declared structs v.1.ty) (variables_of f)) declared_before f.place
+    ++ (unless (all_distinct no_entries (variable_names f)) distinct_names f.place
+    ++ (unless (list_all (λ p. is_declared structs p.ty) f.params && list_all (λ l. is_declared structs l.ty) f.locals) declared_before f.place
     ++ (unless (list_all (λ p. p.pointer || is_scalar p.ty) f.params) scalar_parameter f.place
     ++ (unless (if last then not f.fixed else f.fixed) static_functions f.place
     ++ (unless (nat_le (depth_of_function depths f) 300) short_chain f.place
-    ++ (unless (is_none f.result || last_returns (map surely_returns f.body)) returns_result f.place
-    ++ (repeated (table_of (map (λ v. (v.0, tt)) (variables_of f))) (counters_in_block f.body)
-    ++ block_faults (map faults_in_stmt f.body) (context_in structs functions f) false)))))))
+    ++ unless (is_none f.result || last_returns (map surely_returns f.body)) returns_result f.place)))))
+
+-- what fails in a function, after these
+abbrev pub faults_in_function : Table (Table CMember) → Table Signature → Table ℕ → Bool → CFunc → List Fault
+faults_in_function structs functions depths last f =
+    faults_in_head structs functions depths last f
+    ++ (repeated (names_table (variable_names f)) (counters_in_block f.body)
+    ++ block_faults (map faults_in_stmt f.body) (context_in structs functions f) false)
 
 abbrev pub function_faults_after : Table (Table CMember) → Table Signature → Table ℕ → List CFunc → List Fault
 function_faults_after structs functions depths [] = []

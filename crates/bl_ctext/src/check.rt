@@ -11,3 +11,4 @@ mod prelude;
 mod stmt;
 mod structs;
 mod types;
+mod variables;
