@@ -11,3 +11,4 @@ pub mod NameLemmas
 pub mod TableLemmas
 pub mod TraceLemmas
 pub mod VariableLemmas
+pub mod WellFormedLemmas

@@ -1,5 +1,5 @@
 -- The clauses of a well-formed file: each failure of one has a name and a place.
-use Rattle.std.specs.Prelude.{◌≡◌, ℕ, ◌+◌, Bool, true, false, not, ◌&&◌, ◌||◌, nat_lt, nat_le, nat_eq, min, ◌==◌, List, [], ◌∷◌, ◌++◌, map, flat_map, length, zip, Option, Some, None, is_some, is_none, option_map, option_and_then, bytes_eq, codes, Contains, if◌then◌else◌}
+use Rattle.std.specs.Prelude.{◌≡◌, ℕ, ◌+◌, ◌-◌, Bool, true, false, not, ◌&&◌, ◌||◌, nat_lt, nat_le, nat_eq, min, ◌==◌, List, [], ◌∷◌, ◌++◌, map, length, drop, Option, Some, None, is_some, is_none, option_map, option_and_then, bytes_eq, codes, Contains, if◌then◌else◌}
 use Rattle.std.specs.List.{list_any, list_all, starts_with}
 use Rattle.bl_tree.specs.declared.text.Text.{Text}
 use Rattle.bl_tree.specs.declared.place.Place.{Place}
@@ -628,17 +628,27 @@ tick_faults f = unless (bytes_eq f.name (codes "bl_tick") && (gives f.result (Na
 abbrev pub no_place : Place
 no_place = record { start = 0; end = 0 }
 
+-- the last two functions, or all where there are fewer
+abbrev pub last_two : List CFunc → List CFunc
+last_two funcs = drop (length funcs - 2) funcs
+
+abbrev pub faults_of_two : List CFunc → List Fault
+faults_of_two [] = unless false interface_functions no_place
+faults_of_two (last ∷ []) = unless false interface_functions last.place ++ tick_faults last
+faults_of_two (f ∷ last ∷ rest) = init_faults f last.place ++ tick_faults last
+
+-- what fails in the two functions that a file is called by
 abbrev pub interface_faults : List CFunc → List Fault
-interface_faults [] = unless false interface_functions no_place
-interface_faults (last ∷ []) = unless false interface_functions last.place ++ tick_faults last
-interface_faults (f ∷ last ∷ []) = init_faults f last.place ++ tick_faults last
-interface_faults (f ∷ g ∷ h ∷ rest) = interface_faults (g ∷ h ∷ rest)
+interface_faults funcs = faults_of_two (last_two funcs)
+
+abbrev pub place_of_two : List CFunc → Place
+place_of_two [] = no_place
+place_of_two (last ∷ []) = last.place
+place_of_two (f ∷ last ∷ rest) = last.place
 
 -- the place of the last function
 abbrev pub last_place : List CFunc → Place
-last_place [] = no_place
-last_place (f ∷ []) = f.place
-last_place (f ∷ g ∷ rest) = last_place (g ∷ rest)
+last_place funcs = place_of_two (last_two funcs)
 
 -- the structs of a file by name
 abbrev pub struct_table : List CStruct → Table (Table CMember)

@@ -1,5 +1,6 @@
 pub mod Builtin
 pub mod Calls
+pub mod Cause
 pub mod Cells
 pub mod Checked
 pub mod Cost
