@@ -4,8 +4,11 @@ pub mod Cause
 pub mod Cells
 pub mod Checked
 pub mod Cost
+pub mod Cut
+pub mod Depths
 pub mod Ends
 pub mod Faults
+pub mod Fits
 pub mod HandText
 pub mod Laws
 pub mod Loops
@@ -14,6 +17,7 @@ pub mod Meaning
 pub mod Memory
 pub mod Names
 pub mod Parts
+pub mod Prefixes
 pub mod Prelude
 pub mod Sizes
 pub mod Spellable

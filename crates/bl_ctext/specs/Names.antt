@@ -1,5 +1,5 @@
 -- Which words name something in a text of the C subset.
-use Rattle.std.specs.Prelude.{ℕ, Bool, true, false, not, ◌&&◌, ◌||◌, ◌==◌, nat_eq, List, [], ◌∷◌, ◌++◌, map, codes}
+use Rattle.std.specs.Prelude.{ℕ, Bool, false, not, ◌&&◌, ◌||◌, ◌==◌, nat_eq, List, [], ◌∷◌, ◌++◌, map, codes}
 use Rattle.std.specs.Char.{is_ascii_digit}
 use Rattle.std.specs.List.{starts_with}
 use Rattle.std.specs.Cmp.Lexicographic.{pointwise}
@@ -37,7 +37,7 @@ begins_with_digit (b ∷ bs) = is_ascii_digit b
 unfoldable pub is_name : List ℕ → Bool
 is_name word =
     is_word word && (not (begins_with_digit word) && (not (starts_with nat_eq word (codes "bl_")) &&
-      (not (is_among word grammar_words) && (not (is_among word c_keywords) && not (is_among word (codes "abort" ∷ []))))))
+    (not (is_among word grammar_words) && (not (is_among word c_keywords) && not (is_among word (codes "abort" ∷ []))))))
 
 -- a name, or that of the state, of the inputs or of the outputs
 unfoldable pub is_struct_name : List ℕ → Bool
@@ -56,13 +56,13 @@ abbrev pub prelude_functions : List (List ℕ)
 prelude_functions =
     codes "bl_turn" ∷ codes "bl_ix_s" ∷ codes "bl_ix_u" ∷ codes "bl_trap" ∷
     (prelude_names
-      (codes "add" ∷ codes "sub" ∷ codes "mul" ∷ codes "div" ∷ codes "rem" ∷ codes "of_s" ∷ codes "of_u" ∷ [])
-      (codes "i8" ∷ codes "i16" ∷ codes "i32" ∷ codes "i64" ∷ codes "n8" ∷ codes "n16" ∷ codes "n32" ∷ codes "n64" ∷ codes "b8" ∷ codes "b16" ∷ codes "b32" ∷ codes "b64" ∷ [])
+    (codes "add" ∷ codes "sub" ∷ codes "mul" ∷ codes "div" ∷ codes "rem" ∷ codes "of_s" ∷ codes "of_u" ∷ [])
+    (codes "i8" ∷ codes "i16" ∷ codes "i32" ∷ codes "i64" ∷ codes "n8" ∷ codes "n16" ∷ codes "n32" ∷ codes "n64" ∷ codes "b8" ∷ codes "b16" ∷ codes "b32" ∷ codes "b64" ∷ [])
     ++ (prelude_names (codes "neg" ∷ [])
-      (codes "i8" ∷ codes "i16" ∷ codes "i32" ∷ codes "i64" ∷ codes "b8" ∷ codes "b16" ∷ codes "b32" ∷ codes "b64" ∷ [])
+    (codes "i8" ∷ codes "i16" ∷ codes "i32" ∷ codes "i64" ∷ codes "b8" ∷ codes "b16" ∷ codes "b32" ∷ codes "b64" ∷ [])
     ++ prelude_names
-      (codes "not" ∷ codes "and" ∷ codes "or" ∷ codes "xor" ∷ codes "shl" ∷ codes "shr" ∷ [])
-      (codes "b8" ∷ codes "b16" ∷ codes "b32" ∷ codes "b64" ∷ [])))
+    (codes "not" ∷ codes "and" ∷ codes "or" ∷ codes "xor" ∷ codes "shl" ∷ codes "shr" ∷ [])
+    (codes "b8" ∷ codes "b16" ∷ codes "b32" ∷ codes "b64" ∷ [])))
 
 -- a name, or that of a function of the prelude
 unfoldable pub is_callee : List ℕ → Bool

@@ -1,7 +1,5 @@
 -- Which trees of the C subset have a spelling: what the type of a file keeps.
-use Rattle.std.specs.Prelude.{ℕ, suc, pred, ◌+◌, ◌-◌, ◌*◌, ◌^◌, max, nat_lt, nat_le, ℤ, pos, negsuc, Bool, true, false, not, ◌&&◌, ◌||◌, ◌==◌, cond, List, [], ◌∷◌, map, Option, Some, None, codes}
-use Rattle.bl_tree.specs.declared.scalar.Width.{Width}
-use Rattle.bl_tree.specs.declared.scalar.Width.TheVariants.{W8, W16, W32, W64}
+use Rattle.std.specs.Prelude.{ℕ, ◌+◌, ◌-◌, ◌*◌, max, nat_lt, nat_le, ℤ, pos, negsuc, Bool, true, false, ◌&&◌, ◌||◌, ◌==◌, cond, List, [], ◌∷◌, map, Option, Some, None}
 use Rattle.bl_tree.specs.declared.scalar.Scalar.{Scalar}
 use Rattle.bl_tree.specs.declared.scalar.Scalar.TheVariants as scalar
 use Rattle.bl_tree.specs.declared.scalar.Op.{Op}
@@ -22,7 +20,7 @@ use Rattle.bl_tree.specs.declared.c.CCall.{CCall, CCall-F, fold-CCall}
 use Rattle.bl_tree.specs.declared.c.CArg.{CArg, CArg-F, fold-CArg}
 use Rattle.bl_tree.specs.declared.c.CStmt.{CStmt, CStmt-F, fold-CStmt}
 use Rattle.bl_tree.specs.declared.c.CStmtKind.{CStmtKind, CStmtKind-F, fold-CStmtKind}
-use Rattle.bl_tree.specs.Reduce.{all_of, any_of}
+use Rattle.bl_tree.specs.Reduce.{all_of}
 use Rattle.bl_ctext.specs.Token.{Token}
 use Rattle.bl_ctext.specs.Names.{is_name, is_struct_name, is_function_name, is_callee, is_turn_name}
 use Rattle.bl_ctext.specs.Spelling.{negatives, tokens_of}
@@ -171,7 +169,7 @@ spells_returned (Some s) = is_c_scalar s
 abbrev pub spells_func : CFunc → Bool
 spells_func f =
     spells_returned f.result && (is_function_name f.name &&
-      (all_of (map spells_param f.params) && (all_of (map spells_local f.locals) && all_of (map spells_stmt f.body))))
+    (all_of (map spells_param f.params) && (all_of (map spells_local f.locals) && all_of (map spells_stmt f.body))))
 
 -- whether the token is `(`, `[` or `{`
 abbrev pub is_opening : Token → Bool
@@ -192,9 +190,13 @@ abbrev pub most_open : ℕ → List Token → ℕ
 most_open n [] = n
 most_open n (token ∷ tokens) = max n (most_open (open_behind n token) tokens)
 
+-- at most 2,000 brackets are open at once
+abbrev pub shallow : List CStruct → List CFunc → Bool
+shallow structs funcs = nat_le (most_open 0 (tokens_of structs funcs)) 2000
+
 -- Whether a text of these structs and functions has a spelling: it has a struct and a function, each struct has a member,
 -- all names, literals, types, operators and lengths are some of the subset's, and at most 2,000 brackets are open at once.
 abbrev pub is_spellable : List CStruct → List CFunc → Bool
 is_spellable structs funcs =
     has_any structs && (has_any funcs && (all_of (map spells_struct structs) && (all_of (map spells_func funcs) &&
-      nat_le (most_open 0 (tokens_of structs funcs)) 2000)))
+    shallow structs funcs)))

@@ -1,5 +1,5 @@
 -- The tokens that spell a text of the C subset, by cases on its tree. White space aside a tree has one spelling.
-use Rattle.std.specs.Prelude.{ℕ, suc, ◌+◌, ◌==◌, ◌^◌, ℤ, pos, negsuc, Bool, true, false, cond, List, [], ◌∷◌, ◌++◌, map, Option, Some, None, codes}
+use Rattle.std.specs.Prelude.{ℕ, suc, ◌==◌, ◌^◌, ℤ, pos, negsuc, Bool, true, false, cond, List, [], ◌∷◌, ◌++◌, map, Option, Some, None, codes}
 use Rattle.std.specs.Fmt.{decimal}
 use Rattle.bl_tree.specs.declared.scalar.Width.{Width}
 use Rattle.bl_tree.specs.declared.scalar.Width.TheVariants.{W8, W16, W32, W64}
@@ -26,10 +26,19 @@ use Rattle.bl_tree.specs.declared.c.CStmtKind.{CStmtKind, CStmtKind-F, fold-CStm
 use Rattle.bl_tree.specs.Reduce.{joined}
 use Rattle.bl_ctext.specs.Token.{Token}
 
+-- what stands before a part of a list: nothing before the first
+abbrev pub comma_before : Bool → List Token
+comma_before true = []
+comma_before false = codes "," ∷ []
+
+-- the parts with a comma before each, but none before the first of all
+abbrev pub listed : Bool → List (List Token) → List Token
+listed first [] = []
+listed first (part ∷ parts) = comma_before first ++ (part ++ listed false parts)
+
 -- the parts with a comma between each two
 abbrev pub with_commas : List (List Token) → List Token
-with_commas [] = []
-with_commas (part ∷ parts) = part ++ joined (map (λ p. codes "," ∷ p) parts)
+with_commas parts = listed true parts
 
 abbrev pub width_digits : Width → List ℕ
 width_digits W8 = codes "8"
@@ -63,18 +72,18 @@ negatives W16 = 2 ^ 15
 negatives W32 = 2 ^ 31
 negatives W64 = 2 ^ 63
 
--- minus n + 1 of an int type: `INTw_MIN` where it is the least number, else a minus before its digits
+-- minus n of an int type: `INTw_MIN` where it is the least number, else a minus before its digits
 abbrev pub negative_tokens : Width → ℕ → List Token
-negative_tokens w n = cond (suc n == negatives w)
+negative_tokens w n = cond (n == negatives w)
     ((codes "INT" ++ (width_digits w ++ codes "_MIN")) ∷ [])
-    (codes "(" ∷ codes "-" ∷ (constant_tokens (constant_word (codes "INT") w) (suc n) ++ codes ")" ∷ []))
+    (codes "(" ∷ codes "-" ∷ (constant_tokens (constant_word (codes "INT") w) n ++ codes ")" ∷ []))
 
 -- A literal; what isn't in the range of its type has no spelling, but then no file holds it.
 abbrev pub literal_tokens : Scalar → ℤ → List Token
 literal_tokens scalar.Bool (pos n) = cond (n == 0) (codes "false") (codes "true") ∷ []
 literal_tokens scalar.Bool (negsuc n) = []
 literal_tokens (scalar.Int w) (pos n) = constant_tokens (constant_word (codes "INT") w) n
-literal_tokens (scalar.Int w) (negsuc n) = negative_tokens w n
+literal_tokens (scalar.Int w) (negsuc n) = negative_tokens w (suc n)
 literal_tokens (scalar.Nat w) (pos n) = constant_tokens (constant_word (codes "UINT") w) n
 literal_tokens (scalar.Nat w) (negsuc n) = []
 literal_tokens (scalar.Bits w) n = []
@@ -116,11 +125,21 @@ call_spelling c = call_tokens c.name c.args
 abbrev pub expr_spelling : CExpr-F Spelled Spelled Spelled Spelled Spelled Spelled Spelled → Spelled
 expr_spelling e = e.what
 
+-- `[` and the function that takes the index
+abbrev pub index_front : Bool → List Token
+index_front true = codes "[" ∷ codes "bl_ix_s" ∷ codes "(" ∷ []
+index_front false = codes "[" ∷ codes "bl_ix_u" ∷ codes "(" ∷ []
+
 abbrev pub index_spelling : CIndex-F Spelled Spelled Spelled Spelled Spelled Spelled Spelled → Spelled
-index_spelling i = codes "[" ∷ cond i.signed (codes "bl_ix_s") (codes "bl_ix_u") ∷ codes "(" ∷ (i.at ++ (codes "," ∷ decimal i.length ∷ codes ")" ∷ codes "]" ∷ []))
+index_spelling i = index_front i.signed ++ (i.at ++ codes "," ∷ decimal i.length ∷ codes ")" ∷ codes "]" ∷ [])
+
+-- what a place begins with: its name, or `(*`, the name and `)`
+abbrev pub root_tokens : Bool → List ℕ → List Token
+root_tokens true name = codes "(" ∷ codes "*" ∷ name ∷ codes ")" ∷ []
+root_tokens false name = name ∷ []
 
 abbrev pub place_spelling : CPlace-F Spelled Spelled Spelled Spelled Spelled Spelled Spelled → Spelled
-place_spelling p = cond p.through (codes "(" ∷ codes "*" ∷ p.name ∷ codes ")" ∷ []) (p.name ∷ []) ++ joined p.steps
+place_spelling p = root_tokens p.through p.name ++ joined p.steps
 
 -- the tokens, or none
 abbrev pub if_any : Option (List Token) → List Token
@@ -164,15 +183,28 @@ abbrev pub result_tokens : Option CExpr → List Token
 result_tokens None = []
 result_tokens (Some e) = expr_tokens e
 
+-- a condition in its parentheses
+abbrev pub condition_tokens : CExpr → List Token
+condition_tokens e = codes "(" ∷ (expr_tokens e ++ codes ")" ∷ [])
+
+-- a struct of zeros, set to a place
+abbrev pub zeros_tokens : List ℕ → List Token
+zeros_tokens name = codes "=" ∷ codes "(" ∷ codes "struct" ∷ name ∷ codes ")" ∷ codes "{" ∷ codes "0" ∷ codes "}" ∷ codes ";" ∷ []
+
+-- a loop up to its condition, and the front of its body: its counter is declared and counts each turn
+abbrev pub turn_declared : List ℕ → List Token
+turn_declared turn = codes "{" ∷ codes "uint32_t" ∷ turn ∷ codes "=" ∷ codes "0" ∷ codes ";" ∷ codes "while" ∷ []
+
+abbrev pub turn_counted : List ℕ → List Token
+turn_counted turn = codes "{" ∷ turn ∷ codes "=" ∷ codes "bl_turn" ∷ codes "(" ∷ turn ∷ codes ")" ∷ codes ";" ∷ []
+
 abbrev pub stmt_kind_spelling : CStmtKind-F Spelled Spelled → Spelled
 stmt_kind_spelling (CStmtKind-F.Set at value) = place_tokens at ++ (codes "=" ∷ (expr_tokens value ++ codes ";" ∷ []))
-stmt_kind_spelling (CStmtKind-F.Clear at name) = place_tokens at ++ (codes "=" ∷ codes "(" ∷ codes "struct" ∷ name ∷ codes ")" ∷ codes "{" ∷ codes "0" ∷ codes "}" ∷ codes ";" ∷ [])
+stmt_kind_spelling (CStmtKind-F.Clear at name) = place_tokens at ++ zeros_tokens name
 stmt_kind_spelling (CStmtKind-F.Call call) = ccall_tokens call ++ codes ";" ∷ []
-stmt_kind_spelling (CStmtKind-F.If test then_part else_part) =
-    codes "if" ∷ codes "(" ∷ (expr_tokens test ++ (codes ")" ∷ (braced then_part ++ else_tokens else_part)))
+stmt_kind_spelling (CStmtKind-F.If test then_part else_part) = codes "if" ∷ (condition_tokens test ++ (braced then_part ++ else_tokens else_part))
 stmt_kind_spelling (CStmtKind-F.Loop turn test body) =
-    codes "{" ∷ codes "uint32_t" ∷ turn ∷ codes "=" ∷ codes "0" ∷ codes ";" ∷ codes "while" ∷ codes "(" ∷ (expr_tokens test ++ (codes ")" ∷
-      codes "{" ∷ turn ∷ codes "=" ∷ codes "bl_turn" ∷ codes "(" ∷ turn ∷ codes ")" ∷ codes ";" ∷ (joined body ++ codes "}" ∷ codes "}" ∷ [])))
+    turn_declared turn ++ (condition_tokens test ++ (turn_counted turn ++ (joined body ++ codes "}" ∷ codes "}" ∷ [])))
 stmt_kind_spelling CStmtKind-F.Break = codes "break" ∷ codes ";" ∷ []
 stmt_kind_spelling (CStmtKind-F.Return value) = codes "return" ∷ (result_tokens value ++ codes ";" ∷ [])
 
@@ -196,8 +228,12 @@ member_tokens m = type_tokens m.ty ++ (m.name ∷ (length_tokens m.length ++ cod
 abbrev pub struct_tokens : CStruct → List Token
 struct_tokens s = codes "struct" ∷ s.name ∷ (braced (map member_tokens s.members) ++ codes ";" ∷ [])
 
+abbrev pub star_if : Bool → List Token
+star_if true = codes "*" ∷ []
+star_if false = []
+
 abbrev pub param_tokens : CParam → List Token
-param_tokens p = type_tokens p.ty ++ (cond p.pointer (codes "*" ∷ []) [] ++ p.name ∷ [])
+param_tokens p = type_tokens p.ty ++ (star_if p.pointer ++ p.name ∷ [])
 
 -- what a local begins with: `0`, or a struct of zeros
 abbrev pub zero_tokens : CType → List Token
@@ -211,11 +247,19 @@ abbrev pub returned_tokens : Option Scalar → List Token
 returned_tokens None = codes "void" ∷ []
 returned_tokens (Some s) = scalar_word s ∷ []
 
+abbrev pub static_if : Bool → List Token
+static_if true = codes "static" ∷ []
+static_if false = []
+
+-- a function up to its parameters, and behind the brace of its body
+abbrev pub func_front : CFunc → List Token
+func_front f = static_if f.fixed ++ (returned_tokens f.result ++ (f.name ∷ codes "(" ∷ []))
+
+abbrev pub func_rest : CFunc → List Token
+func_rest f = joined (map local_tokens f.locals) ++ (joined (map stmt_tokens f.body) ++ codes "}" ∷ [])
+
 abbrev pub func_tokens : CFunc → List Token
-func_tokens f =
-    cond f.fixed (codes "static" ∷ []) [] ++ (returned_tokens f.result ++
-      (f.name ∷ codes "(" ∷ (with_commas (map param_tokens f.params) ++ (codes ")" ∷
-        braced (map local_tokens f.locals ++ map stmt_tokens f.body)))))
+func_tokens f = func_front f ++ (with_commas (map param_tokens f.params) ++ (codes ")" ∷ codes "{" ∷ func_rest f))
 
 -- the tokens of a text behind its prelude
 abbrev pub tokens_of : List CStruct → List CFunc → List Token

@@ -1,5 +1,5 @@
 -- The tokens of a text of the C subset, and how bytes are cut into them.
-use Rattle.std.specs.Prelude.{◌≡◌, ℕ, ◌≤◌, Bool, true, false, not, ◌&&◌, ◌||◌, ◌==◌, IsTrue, List, [], ◌∷◌, ◌++◌, length, map}
+use Rattle.std.specs.Prelude.{◌≡◌, ℕ, ◌≤◌, Bool, false, ◌&&◌, ◌||◌, ◌==◌, IsTrue, List, [], ◌∷◌, ◌++◌, length, map}
 use Rattle.std.specs.Char.{is_ascii_alphanumeric}
 use Rattle.bl_tree.specs.Reduce.{all_of, any_of}
 
@@ -21,7 +21,7 @@ is_sign_byte b = any_of (map (λ s. b == s) (40 ∷ 41 ∷ 91 ∷ 93 ∷ 123 ∷
 
 -- whether the two bytes are one of `== != <= >= && ||`
 abbrev pub is_double_sign : ℕ → ℕ → Bool
-is_double_sign a b = b == 61 && (a == 61 || a == 33 || a == 60 || a == 62) || (a == 38 && b == 38 || a == 124 && b == 124)
+is_double_sign a b = (a == 61 || a == 33 || a == 60 || a == 62) && b == 61 || (a == 38 && b == 38 || a == 124 && b == 124)
 
 -- a run of letters, digits and `_`
 abbrev pub is_word : Token → Bool

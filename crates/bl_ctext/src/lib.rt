@@ -6,7 +6,10 @@ pub mod check;
 pub mod file;
 pub mod laws;
 mod prelude;
+mod printer;
+mod writer;
 
 pub use builtin::Builtin;
 pub use file::CFile;
 pub use prelude::PRELUDE;
+pub use printer::print;

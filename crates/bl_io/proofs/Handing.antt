@@ -46,7 +46,7 @@ IsNext-moved (Some bytes) after room new n most some wide count moved rest =
       within = fits;
       front = rw moved (front_back n bytes (drop n room) fits);
       rest = rest;
-      at_end = λ none. nil_from_length bytes (omega arith)
+      at_end = λ none. nil_from_length bytes (omega arith);
     }
 
 IsNext-told : (left after : Option (List ℕ)) (new : List ℕ) (n : ℕ) → IsNext (unwrap_or left []) n new after → HandsOver left n new after

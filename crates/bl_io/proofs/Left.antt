@@ -3,7 +3,7 @@ use Rattle.std.proofs.Common.{◌≡◌, ℕ, ◌+◌, ◌≤◌, List, [], ◌+
 use Rattle.std.proofs.Math.ListN.{drop_of_length-le}
 use Rattle.std.proofs.Math.Seq.{take-add}
 use Rattle.std.proofs.lemmas.List.{drop-drop, length-take-le, take_all}
-use Rattle.bl_io.specs.Left.{IsNext, HandsOver, IsKept, KeepsOthers, IsUpTo, GivesUpTo, StandsFurther}
+use Rattle.bl_io.specs.Left.{IsNext, HandsOver, IsKept, KeepsOthers, GivesUpTo, StandsFurther}
 
 -- what was got is the front of what was left at first, and the rest is left
 pub record IsFront (bytes got : List ℕ) (after : Option (List ℕ)) : Type 0 where
@@ -39,7 +39,7 @@ front_more bytes got room n mid after so next fits =
     record {
       within = rw len (omega (arith, length-drop (length got) bytes));
       front = rw (len, take-add (length got) n bytes) (cc);
-      rest = rw len (next.rest ∙ ap Some (drop-drop n (length got) bytes))
+      rest = rw len (next.rest ∙ ap Some (drop-drop n (length got) bytes));
     }
 
 pub HasRead-more : (before mid after : Option (List ℕ)) (got room : List ℕ) (n : ℕ) → HasRead before got mid → HandsOver mid n room after → n ≤ length room → HasRead before (got ++ take n room) after
@@ -55,7 +55,7 @@ GivesUpTo-at_end (Some bytes) mid after got room limit so next within =
     let short : length bytes ≤ length got = omega (arith, length-drop (length got) bytes, ap length (last.at_end refl)) in
     record {
       front = so.front ∙ take_all (length got) bytes short ∙ sym (take_all limit bytes (omega arith));
-      rest = last.rest ∙ ap Some (last.at_end refl ∙ sym (drop_of_length-le bytes (omega arith)))
+      rest = last.rest ∙ ap Some (last.at_end refl ∙ sym (drop_of_length-le bytes (omega arith)));
     }
 
 pub GivesUpTo-full : (before mid : Option (List ℕ)) (got : List ℕ) (limit : ℕ) → HasRead before got mid → limit ≤ length got → length got ≤ limit → GivesUpTo limit before got mid

@@ -1,3 +1,4 @@
+pub mod Count
 pub mod Handing
 pub mod Held
 pub mod Left

@@ -1,5 +1,5 @@
 -- What contracts see of files and sinks over memory.
-use Rattle.std.specs.Prelude.{ℕ, Bool, if◌then◌else◌, List, [], ◌++◌, take, drop, Option, None, option_map, refl}
+use Rattle.std.specs.Prelude.{ℕ, if◌then◌else◌, List, [], drop, Option, None, option_map, refl}
 use Rattle.std.specs.Coded.{Coded, code_by, coded×, coded_list, coded_ℕ}
 use Rattle.std.specs.FinMap as map
 use Rattle.bl_io.specs.Plan.{FaultPlan, plan_code, no_plan, fails_next, called, faulted}

@@ -16,9 +16,9 @@ pub record FaultPlan : Type 0 where
 abbrev pub plan_code : Coded FaultPlan
 plan_code =
     code_by (set.FinSet nat_cmp × (ℕ × (ℕ × ℕ))) (coded× (set.code coded_ℕ) (coded× coded_ℕ (coded× coded_ℕ coded_ℕ)))
-      (λ p. (p.failing, (p.calls, (p.most, p.faults))))
-      (λ t. record { failing = t.0; calls = t.1.0; most = t.1.1.0; faults = t.1.1.1 })
-      (λ _. refl)
+    (λ p. (p.failing, (p.calls, (p.most, p.faults))))
+    (λ t. record { failing = t.0; calls = t.1.0; most = t.1.1.0; faults = t.1.1.1 })
+    (λ _. refl)
 
 -- the most bytes that one call can be asked for
 abbrev pub no_limit : ℕ

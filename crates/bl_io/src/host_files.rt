@@ -7,10 +7,9 @@ use crate::fault::IoFault;
 use crate::files::Files;
 use std::alloc::Global;
 use std::collections::BTreeMap;
-use std::fs;
 use std::io::Read;
 use std::marker::Model;
-use std::rt;
+use std::{fs, rt};
 
 /// The files of the system, by their paths. A file is opened when it is first named, and closed at its end.
 #[derive(Drop)]
@@ -42,6 +41,16 @@ impl<R: rt::Files + Drop> HostFiles<R> {
             faults: 0,
         }
     }
+
+    // Counts a fault.
+    fn fault(&mut self) -> IoFault
+        ensures failed { result ≡ IoFault.Failed }
+        ensures counted { self.new ≡ count_up self.old }
+        ensures grows { self.old ≤ self.new }
+    {
+        self.faults = self.faults.saturating_add(1);
+        IoFault::Failed
+    }
 }
 
 impl<R: rt::Files + Drop> Files for HostFiles<R> {
@@ -68,8 +77,7 @@ impl<R: rt::Files + Drop> Files for HostFiles<R> {
             // Room for the name comes before the first read, so that want of memory loses no byte.
             let key = String::from_str(self.alloc, name)?;
             let Ok(file) = fs::open(&self.runtime, name) else {
-                self.faults = self.faults.saturating_add(1);
-                return Err(IoFault::Failed);
+                return Err(self.fault());
             };
             self.open.insert(key, Some(file))?;
         }
@@ -78,10 +86,7 @@ impl<R: rt::Files + Drop> Files for HostFiles<R> {
         };
         match read_on(slot, room) {
             Some(n) => Ok(n),
-            None => {
-                self.faults = self.faults.saturating_add(1);
-                Err(IoFault::Failed)
-            }
+            None => Err(self.fault()),
         }
     }
 }

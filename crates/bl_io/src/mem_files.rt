@@ -91,13 +91,11 @@ impl Files for MemFiles {
         ensures room_stays { OnErr result (room.new ≡ room.old) }
     {
         if self.plan.begin() {
-            self.plan.count_fault();
-            return Err(IoFault::Failed);
+            return Err(self.plan.fault());
         }
         let most = self.plan.most();
         let Some(n) = self.store.hand_over(name, room, most) else {
-            self.plan.count_fault();
-            return Err(IoFault::Failed);
+            return Err(self.plan.fault());
         };
         Ok(n)
     }

@@ -85,8 +85,7 @@ impl Sink for MemSink {
         ensures no_memory { IsErrOf result IoFault.NoMemory → self.new ≡ record self.old { plan = called self.old.plan } }
     {
         if self.plan.begin() {
-            self.plan.count_fault();
-            return Err(IoFault::Failed);
+            return Err(self.plan.fault());
         }
         let n = piece.len().min(self.plan.most());
         self.held.extend_from_slice(&piece[..n])?;

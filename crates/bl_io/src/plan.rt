@@ -2,7 +2,7 @@
 ghost use Rattle.std.specs.Prelude.{◌≡◌, ◌<◌, ◌≤◌, OnOk, OnErr};
 ghost use Rattle.bl_io.specs.Plan.{no_plan, with_failing, narrowed, fails_next, called, faulted};
 
-use crate::fault::NoMemory;
+use crate::fault::{IoFault, NoMemory};
 use std::alloc::Global;
 use std::collections::BTreeSet;
 use std::marker::Model;
@@ -66,11 +66,14 @@ impl Plan {
         self.failing.contains(&self.calls)
     }
 
-    pub(crate) fn count_fault(&mut self)
+    // Counts a fault.
+    pub(crate) fn fault(&mut self) -> IoFault
+        ensures failed { result ≡ IoFault.Failed }
         ensures after { self.new ≡ faulted self.old }
         ensures grows { self.old.faults ≤ self.new.faults }
     {
         self.faults = self.faults.saturating_add(1);
+        IoFault::Failed
     }
 
     // The most bytes that a call may move.

@@ -13,14 +13,28 @@ fn files_fail_where_told(rt: HostRuntime) -> Result<(), Fail> {
     let mut room = [0; 4];
     assert_eq!(rt; files.next("a", &mut room), Ok(2));
     assert_eq!(rt; room, *b"he\0\0");
-    assert_eq!(rt; files.next("a", &mut room), Err(IoFault::Failed), "the second call");
+    assert_eq!(rt;
+        files.next("a", &mut room),
+        Err(IoFault::Failed),
+        "the second call"
+    );
     assert_eq!(rt; files.next("a", &mut room), Ok(2));
     assert_eq!(rt; room, *b"ll\0\0");
-    assert_eq!(rt; read_up_to(rt.alloc(), &mut files, "a", 9)?.as_slice(), b"o".as_slice());
+    assert_eq!(rt;
+        read_up_to(rt.alloc(), &mut files, "a", 9)?.as_slice(),
+        b"o".as_slice()
+    );
     assert_eq!(rt; files.next("a", &mut room), Ok(0), "the end");
-    assert_eq!(rt; read_up_to(rt.alloc(), &mut files, "b", 2)?.as_slice(), b"by".as_slice());
+    assert_eq!(rt;
+        read_up_to(rt.alloc(), &mut files, "b", 2)?.as_slice(),
+        b"by".as_slice()
+    );
     assert_eq!(rt; files.next("b", &mut room), Ok(1));
-    assert_eq!(rt; files.next("c", &mut room), Err(IoFault::Failed), "an absent name");
+    assert_eq!(rt;
+        files.next("c", &mut room),
+        Err(IoFault::Failed),
+        "an absent name"
+    );
     Ok(())
 }
 
@@ -65,6 +79,7 @@ fn host_files_and_sinks(rt: HostRuntime) -> Result<(), Fail> {
     assert_eq!(rt; files.next("written", &mut room), Ok(1));
     assert_eq!(rt; files.next("written", &mut room), Ok(0));
     assert_eq!(rt; files.next("absent", &mut room), Err(IoFault::Failed));
+    fs::remove_file(&rt, "written")?;
     assert_eq!(rt; HostSink::new(rt.stdout()).write(b"done\n"), Ok(5));
 
     // A stream that is full takes nothing, which is a fault.

@@ -2,9 +2,15 @@
 #![tactic(auto)]
 
 mod build;
+mod call;
 mod early;
 mod emit;
+mod notes;
 mod status;
 mod stop;
 
+pub use call::blechc;
 pub use status::Status;
+
+#[cfg(test)]
+mod tests;

@@ -1,3 +1,6 @@
+ghost use Rattle.std.specs.Prelude.{◌≡◌};
+ghost use Rattle.bl_top.specs.Notes.{code_of};
+
 /// How a call of the program ended (docs/FORMATS.md, "Notes").
 #[derive(Clone, Copy, PartialEq, Eq, Debug)]
 pub enum Status {
@@ -15,7 +18,9 @@ pub enum Status {
 
 impl Status {
     /// The number that the process ends with.
-    pub fn code(self) -> u8 {
+    pub fn code(self) -> u8
+        ensures { result ≡ code_of self }
+    {
         match self {
             Status::Ok => 0,
             Status::Usage => 2,

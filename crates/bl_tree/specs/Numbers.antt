@@ -1,12 +1,13 @@
 -- The arithmetic of the types without parts, by exact whole numbers.
-use Rattle.std.specs.Prelude.{ℕ, ◌+◌, ◌-◌, ◌*◌, ◌/◌, ◌%◌, ◌^◌, ℤ, pos, neg_ℤ, ◌+ℤ◌, ◌-ℤ◌, ◌*ℤ◌, Bool, true, false, not, ◌&&◌, ◌||◌, int_lt, int_le, int_div, int_rem, unsigned_abs, nat_lt, bit_and, bit_or, bit_xor, Option, Some, None, IsTrue, if◌then◌else◌}
+use Rattle.std.specs.Prelude.{◌≡◌, ℕ, zero, suc, ◌-◌, ◌*◌, ◌/◌, ◌%◌, ◌^◌, ℤ, pos, negsuc, neg_ℤ, ◌+ℤ◌, ◌-ℤ◌, ◌*ℤ◌, Bool, true, false, not, ◌&&◌, ◌||◌, int_lt, int_le, int_div, int_rem, unsigned_abs, nat_lt, bit_and, bit_or, bit_xor, Option, Some, None, IsTrue, if◌then◌else◌}
 use Rattle.std.specs.Int.{int_rem_euclid}
 use Rattle.std.specs.Ordering.{int_eq}
+use Rattle.bl_tree.specs.declared.scalar.Width.{Width}
 use Rattle.bl_tree.specs.declared.scalar.Scalar.{Scalar}
-use Rattle.bl_tree.specs.declared.scalar.Scalar.TheVariants.{Bool as OfBool, Int, Nat, Bits}
+use Rattle.bl_tree.specs.declared.scalar.Scalar.TheVariants.{Bool as OfBool, Bits}
 use Rattle.bl_tree.specs.declared.scalar.Op.{Op}
 use Rattle.bl_tree.specs.declared.scalar.Op.TheVariants.{Add, Sub, Mul, Div, Rem, Neg, And, Or, Xor, Not, Shl, Shr, Eq, Ne, Lt, Le, Gt, Ge, Both, Either, Negate}
-use Rattle.bl_tree.specs.Scalar.{bits_of, width_of, in_range, is_whole, is_int, is_bits, is_bool}
+use Rattle.bl_tree.specs.Scalar.{bits_of, width_of, in_range, is_whole, is_int, is_bits, is_bool, InRange}
 
 -- ---- which operator takes operands of which type
 
@@ -78,9 +79,17 @@ abbrev pub fitted : Scalar → ℤ → Option ℤ
 fitted (Bits w) z = Some (int_rem_euclid z (pos (2 ^ bits_of w)))
 fitted t z = if in_range t z then Some z else None
 
+-- kept is the number of the bits type that differs from z by a multiple of 2 to the width
+pub record WrapsTo (w : Width) (z kept : ℤ) : Type 0 where
+  pub in_type : InRange (Bits w) kept
+  pub turns : ℤ
+  pub differs : z ≡ kept +ℤ turns *ℤ pos (2 ^ bits_of w)
+
 -- a result of a division by d, which traps where d is 0
 abbrev pub divided_by : ℤ → Option ℤ → Option ℤ
-divided_by d r = if int_eq d (pos 0) then None else r
+divided_by (pos zero) r = None
+divided_by (pos (suc n)) r = r
+divided_by (negsuc n) r = r
 
 -- n with k zeros put behind its binary digits, of which the last w stay. The test goes first: no power of a large k is computed
 abbrev pub left_digits : Bool → ℕ → ℕ → ℕ → ℕ

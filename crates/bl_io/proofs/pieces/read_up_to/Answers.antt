@@ -12,7 +12,7 @@ loop-room-preserved g c =
       bound = rw (t.items, take-append-le, length-append, length-take-le) (omega (arith, c.in_ok-n.ensures.bound, length-take c.min-most.result c.loop-room.room));
       read = rw (t.items, take-append-le) (HasRead-more _ _ _ _ c.next.new.room _ c.loop-room.invariant.read c.in_ok-n.ensures.front fits);
       others = KeepsOthers-trans _ _ _ _ c.loop-room.invariant.others c.next.ensures.others;
-      counts = λ name. omega (arith, c.loop-room.invariant.counts name, c.next.ensures.counts name)
+      counts = λ name. omega (arith, c.loop-room.invariant.counts name, c.next.ensures.counts name);
     }
 
 pub returns-clause-front : goal.returns-clause-front

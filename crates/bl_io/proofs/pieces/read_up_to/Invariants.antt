@@ -1,4 +1,4 @@
-use Rattle.std.proofs.Common.{ℕ, ◌≤◌, ◌-◌, length}
+use Rattle.std.proofs.Common.{◌≤◌, ◌-◌, length}
 use Rattle.bl_io.specs.Count.{NeverFell}
 use Rattle.bl_io.specs.Left.{KeepsOthers}
 use Rattle.bl_io.proofs.Left.{HasRead}
@@ -9,7 +9,7 @@ invariant-loop-room g l = record {
   bound : length l.got.items ≤ l.limit;
   read : HasRead (g.F.Files.left l.initial.files l.name) l.got.items (g.F.Files.left l.files l.name);
   others : KeepsOthers l.name (g.F.Files.left l.initial.files) (g.F.Files.left l.files);
-  counts : NeverFell (g.F.Files.faults l.initial.files) (g.F.Files.faults l.files)
+  counts : NeverFell (g.F.Files.faults l.initial.files) (g.F.Files.faults l.files);
 }
 
 abbrev pub decreases-loop-room : goal.decreases-loop-room

@@ -1,4 +1,3 @@
-use Rattle.std.proofs.Common.{sym, ap, ◌∙◌}
 use Rattle.bl_io.proofs.Named.{files_of-update}
 use Rattle.bl_io.proofs.store.Store.add.Goals as goal
 

@@ -1,4 +1,4 @@
-use Rattle.std.proofs.Common.{◌≡◌, None, Some, rules, ap, sym, ◌∙◌}
+use Rattle.std.proofs.Common.{◌≡◌, None, Some, rules, ap}
 use Rattle.std.specs.FinMap as map
 use Rattle.bl_io.proofs.Named.{files_of-update, get-seen}
 use Rattle.bl_io.proofs.store.Store.hand_over.Goals as goal

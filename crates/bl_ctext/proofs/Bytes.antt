@@ -1,0 +1,66 @@
+-- Which bytes may stand side by side in one token.
+use Rattle.std.proofs.Common.{◌≡◌, ◌⊎◌, ℕ, Bool, true, false, ◌&&◌, ◌||◌, refl, inl, inr, arith}
+use Rattle.std.proofs.Math.Bool.{and-false}
+use Rattle.std.proofs.lemmas.Bool.Decides.{nat_tests}
+use Rattle.bl_ctext.specs.Token.{is_blank, is_word_byte, is_sign_byte}
+use Rattle.bl_ctext.specs.Cut.{joins}
+
+pub and-fst : (a b : Bool) → (a && b) ≡ true → a ≡ true
+and-fst true b h = refl
+and-fst false b h = h
+
+pub and-snd : (a b : Bool) → (a && b) ≡ true → b ≡ true
+and-snd true b h = h
+and-snd false b h = cc
+
+pub both : (a b : Bool) → a ≡ true → b ≡ true → (a && b) ≡ true
+both a b h k = rw (h, k)
+
+pub either : (a b : Bool) → (a || b) ≡ true → (a ≡ true) ⊎ (b ≡ true)
+either true b h = inl refl
+either false b h = inr h
+
+pub or-fst : (a b : Bool) → a ≡ true → (a || b) ≡ true
+or-fst a b h = rw h
+
+pub or-snd : (a b : Bool) → b ≡ true → (a || b) ≡ true
+or-snd true b h = refl
+or-snd false b h = h
+
+blank_is : (b : ℕ) → is_blank b ≡ true → (b ≡ 32) ⊎ (b ≡ 10)
+blank_is b h = grind (arith, nat_tests)
+
+before_space : (a : ℕ) → joins a 32 ≡ false
+before_space a = simp and-false
+
+before_line : (a : ℕ) → joins a 10 ≡ false
+before_line a = simp and-false
+
+-- nothing goes on into white space, and white space into nothing
+pub joins-blank : (a b : ℕ) → is_blank b ≡ true → joins a b ≡ false
+joins-blank a b h = elim (blank_is b h) [ inl e ↦ rw e (before_space a) | inr e ↦ rw e (before_line a) ]
+
+pub blank-joins : (a b : ℕ) → is_blank a ≡ true → joins a b ≡ false
+blank-joins a b h = elim (blank_is a h) [ inl e ↦ rw e refl | inr e ↦ rw e refl ]
+
+not_true : (b : Bool) → (b ≡ true → ⊥) → b ≡ false
+not_true true h = absurd (h refl)
+not_true false h = refl
+
+pub joined-not_blank : (a b : ℕ) → joins a b ≡ true → (is_blank a ≡ false) × (is_blank b ≡ false)
+joined-not_blank a b h = (
+  not_true (is_blank a) (λ (k : is_blank a ≡ true). let e = blank-joins a b k in cc),
+  not_true (is_blank b) (λ (k : is_blank b ≡ true). let e = joins-blank a b k in cc),
+)
+
+no_word : (a : ℕ) → is_blank a ≡ true → is_word_byte a ≡ false
+no_word a h = elim (blank_is a h) [ inl e ↦ rw e refl | inr e ↦ rw e refl ]
+
+no_sign : (a : ℕ) → is_blank a ≡ true → is_sign_byte a ≡ false
+no_sign a h = elim (blank_is a h) [ inl e ↦ rw e refl | inr e ↦ rw e refl ]
+
+pub word_byte-not_blank : (a : ℕ) → is_word_byte a ≡ true → is_blank a ≡ false
+word_byte-not_blank a h = not_true (is_blank a) (λ (k : is_blank a ≡ true). let e = no_word a k in cc)
+
+pub sign_byte-not_blank : (a : ℕ) → is_sign_byte a ≡ true → is_blank a ≡ false
+sign_byte-not_blank a h = not_true (is_blank a) (λ (k : is_blank a ≡ true). let e = no_sign a k in cc)

@@ -1,0 +1,6 @@
+use Rattle.std.proofs.Common.{append_assoc}
+use Rattle.bl_ctext.proofs.printer.stmt.declare_turn.Goals as goal
+
+pub returns : goal.returns
+returns c =
+    simp append_assoc at (rw (c.in_ok-line.ensures, c.in_ok-first_turn.ensures, c.in_ok-write.ensures, c.as_str.ensures) at c.write-2.ensures)

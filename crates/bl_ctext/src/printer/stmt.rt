@@ -1,0 +1,165 @@
+//! Statements, one a line.
+
+ghost use Rattle.std.specs.Prelude.{◌≡◌, [], ◌∷◌, ◌++◌, map, codes, IsTrue, OnOk};
+ghost use Rattle.bl_tree.specs.Reduce.{all_of, joined};
+ghost use Rattle.bl_ctext.specs.Names.{is_struct_name, is_turn_name};
+ghost use Rattle.bl_ctext.specs.Spelling.{expr_tokens, place_tokens, stmt_tokens, braced, condition_tokens, result_tokens, zeros_tokens, turn_declared, turn_counted};
+ghost use Rattle.bl_ctext.specs.Spellable.{spells_expr, spells_place, spells_stmt, spells_result};
+
+use crate::printer::{expr, name};
+use crate::writer::Writer;
+use bl_tree::c::{CExpr, CPlace, CStmt, CStmtKind};
+use bl_tree::{List, NoMemory, Text};
+
+/// Each statement on lines of its own, inside so many blocks.
+#[cycle(statements)]
+pub fn stmts(out: &mut Writer, body: &List<CStmt>, level: u8) -> Result<(), NoMemory>
+    requires { IsTrue (all_of (map spells_stmt body.now)) }
+    ensures { OnOk result (out.new ≡ out.old ++ joined (map stmt_tokens body.now)) }
+{
+    for s in body.iter() {
+        out.line(level)?;
+        stmt(out, s, level)?;
+    }
+    Ok(())
+}
+
+#[cycle(statements)]
+fn stmt(out: &mut Writer, s: &CStmt, level: u8) -> Result<(), NoMemory>
+    requires { IsTrue (spells_stmt s.now) }
+    ensures { OnOk result (out.new ≡ out.old ++ stmt_tokens s.now) }
+{
+    match &s.what {
+        CStmtKind::Set(at, value) => set(out, at, value),
+        CStmtKind::Clear(at, of) => clear(out, at, of),
+        CStmtKind::Call(called) => {
+            expr::call(out, called)?;
+            out.write(";")
+        }
+        CStmtKind::If(test, then_part, else_part) => {
+            out.write("if ")?;
+            condition(out, test)?;
+            block(out, then_part, level)?;
+            match else_part {
+                Some(part) => {
+                    out.write(" else ")?;
+                    block(out, part, level)
+                }
+                None => Ok(()),
+            }
+        }
+        CStmtKind::Loop(turn, test, body) => {
+            declare_turn(out, turn, level)?;
+            condition(out, test)?;
+            count_turn(out, turn, level)?;
+            stmts(out, body, level.saturating_add(2))?;
+            close_loop(out, level)
+        }
+        CStmtKind::Break => out.write("break;"),
+        CStmtKind::Return(value) => returned(out, value),
+    }
+}
+
+#[cycle(statements)]
+fn block(out: &mut Writer, body: &List<CStmt>, level: u8) -> Result<(), NoMemory>
+    requires { IsTrue (all_of (map spells_stmt body.now)) }
+    ensures { OnOk result (out.new ≡ out.old ++ braced (map stmt_tokens body.now)) }
+{
+    out.write("{")?;
+    stmts(out, body, level.saturating_add(1))?;
+    out.line(level)?;
+    out.write("}")
+}
+
+fn set(out: &mut Writer, at: &CPlace, value: &CExpr) -> Result<(), NoMemory>
+    requires at { IsTrue (spells_place at.now) }
+    requires value { IsTrue (spells_expr value.now) }
+    ensures { OnOk result (out.new ≡ out.old ++ (place_tokens at.now ++ (codes "=" ∷ (expr_tokens value.now ++ codes ";" ∷ [])))) }
+{
+    expr::place(out, at)?;
+    out.write(" = ")?;
+    expr::expr(out, value)?;
+    out.write(";")
+}
+
+fn clear(out: &mut Writer, at: &CPlace, of: &Text) -> Result<(), NoMemory>
+    requires at { IsTrue (spells_place at.now) }
+    requires of { IsTrue (is_struct_name of.now) }
+    ensures { OnOk result (out.new ≡ out.old ++ (place_tokens at.now ++ zeros_tokens of.now)) }
+{
+    expr::place(out, at)?;
+    out.write(" = (struct ")?;
+    name::struct_name(out, of.as_str())?;
+    out.write("){0};")
+}
+
+fn condition(out: &mut Writer, test: &CExpr) -> Result<(), NoMemory>
+    requires { IsTrue (spells_expr test.now) }
+    ensures { OnOk result (out.new ≡ out.old ++ condition_tokens test.now) }
+{
+    out.write("(")?;
+    expr::expr(out, test)?;
+    out.write(") ")
+}
+
+fn declare_turn(out: &mut Writer, turn: &Text, level: u8) -> Result<(), NoMemory>
+    requires { IsTrue (is_turn_name turn.now) }
+    ensures { OnOk result (out.new ≡ out.old ++ turn_declared turn.now) }
+{
+    out.write("{")?;
+    first_turn(out, turn.as_str(), level.saturating_add(1))?;
+    out.line(level.saturating_add(1))?;
+    out.write("while ")
+}
+
+fn first_turn(out: &mut Writer, turn: &str, level: u8) -> Result<(), NoMemory>
+    requires { IsTrue (is_turn_name turn.now) }
+    ensures { OnOk result (out.new ≡ out.old ++ codes "uint32_t" ∷ turn.now ∷ codes "=" ∷ codes "0" ∷ codes ";" ∷ []) }
+{
+    out.line(level)?;
+    out.write("uint32_t ")?;
+    name::turn_name(out, turn)?;
+    out.write(" = 0;")
+}
+
+fn count_turn(out: &mut Writer, turn: &Text, level: u8) -> Result<(), NoMemory>
+    requires { IsTrue (is_turn_name turn.now) }
+    ensures { OnOk result (out.new ≡ out.old ++ turn_counted turn.now) }
+{
+    out.write("{")?;
+    out.line(level.saturating_add(2))?;
+    next_turn(out, turn.as_str())
+}
+
+fn next_turn(out: &mut Writer, turn: &str) -> Result<(), NoMemory>
+    requires { IsTrue (is_turn_name turn.now) }
+    ensures { OnOk result (out.new ≡ out.old ++ turn.now ∷ codes "=" ∷ codes "bl_turn" ∷ codes "(" ∷ turn.now ∷ codes ")" ∷ codes ";" ∷ []) }
+{
+    name::turn_name(out, turn)?;
+    out.write(" = bl_turn(")?;
+    name::turn_name(out, turn)?;
+    out.write(");")
+}
+
+fn close_loop(out: &mut Writer, level: u8) -> Result<(), NoMemory>
+    ensures { OnOk result (out.new ≡ out.old ++ codes "}" ∷ codes "}" ∷ []) }
+{
+    out.line(level.saturating_add(1))?;
+    out.write("}")?;
+    out.line(level)?;
+    out.write("}")
+}
+
+fn returned(out: &mut Writer, value: &Option<CExpr>) -> Result<(), NoMemory>
+    requires { IsTrue (spells_result value.now) }
+    ensures { OnOk result (out.new ≡ out.old ++ codes "return" ∷ (result_tokens value.now ++ codes ";" ∷ [])) }
+{
+    match value {
+        Some(e) => {
+            out.write("return ")?;
+            expr::expr(out, e)?;
+            out.write(";")
+        }
+        None => out.write("return;"),
+    }
+}

@@ -1,0 +1,120 @@
+ghost use Rattle.std.specs.Prelude.{◌≡◌, ℕ, List, [], ◌∷◌, ◌++◌, IsTrue, IfOk, OnOk, OnErr};
+ghost use Rattle.bl_ctext.specs.Prelude.{prelude};
+ghost use Rattle.bl_ctext.specs.Token.{is_token, is_word_byte as word_byte, is_double_sign as double_sign, SpacedC};
+ghost use Rattle.bl_ctext.specs.Cut.{joins, meets, tokens_in, are_tokens, parted};
+
+use crate::prelude::PRELUDE;
+use bl_tree::NoMemory;
+use std::alloc::{AllocError, Global};
+use std::marker::Model;
+
+/// A text that begins with the prelude and is written from its front on. Contracts see its tokens: white space is free.
+#[derive(Drop)]
+pub struct Writer {
+    text: Vec<u8>,
+}
+
+impl Model for Writer {
+    ghost use Rattle.std.specs.Prelude.{ℕ, List};
+    ghost use Rattle.bl_ctext.specs.Cut.{tokens_in, behind_prelude, IsText};
+
+    ghost Value = { List (List ℕ) };
+
+    ghost view = { λ writer. tokens_in (behind_prelude writer.text.items) };
+
+    ghost invariant = { λ writer. IsText writer.text.items };
+}
+
+/// How deep lines are indented at most, so that the text stays linear in the size of its tree.
+const DEEPEST: u8 = 20;
+
+impl Writer {
+    pub fn new(alloc: Global) -> Result<Writer, NoMemory>
+        ensures { IfOk result (λ writer. writer ≡ []) }
+    {
+        let text = Vec::from_slice(alloc, PRELUDE)?;
+        Ok(Writer { text })
+    }
+
+    /// Writes the bytes, behind a space where their first would go on the last token.
+    pub fn write(&mut self, text: &str) -> Result<(), NoMemory>
+        requires { IsTrue (are_tokens (tokens_in text.now)) }
+        ensures { OnOk result (self.new ≡ self.old ++ tokens_in text.now) }
+    {
+        let next = text.as_bytes();
+        part(&mut self.text, next)?;
+        self.text.extend_from_slice(next)?;
+        Ok(())
+    }
+
+    pub fn token(&mut self, text: &str) -> Result<(), NoMemory>
+        requires { IsTrue (is_token text.now) }
+        ensures { OnOk result (self.new ≡ self.old ++ text.now ∷ []) }
+    {
+        self.write(text)
+    }
+
+    /// Begins a line inside so many blocks.
+    pub fn line(&mut self, level: u8) -> Result<(), NoMemory>
+        ensures { OnOk result (self.new ≡ self.old) }
+    {
+        self.write("\n")?;
+        for _ in 0..level.min(DEEPEST) {
+            self.write("    ")?;
+        }
+        Ok(())
+    }
+
+    pub fn finish(self) -> Vec<u8>
+        ensures { (text : List ℕ) × ((result.items ≡ prelude ++ text) × SpacedC self text) }
+    {
+        let Writer { text } = self;
+        text
+    }
+}
+
+/// Writes a space where the next bytes would go on the last token.
+fn part(text: &mut Vec<u8>, next: &[u8]) -> Result<(), AllocError>
+    ensures ok { OnOk result (text.new.items ≡ parted text.old.items next.now) }
+    ensures err { OnErr result (text.new.items ≡ text.old.items) }
+{
+    if is_met(text.as_slice(), next) {
+        text.push(b' ')?;
+    }
+    Ok(())
+}
+
+/// Whether the last byte and the first of the next ones may stand in one token.
+fn is_met(text: &[u8], next: &[u8]) -> bool
+    ensures { result ≡ meets text.now next.now }
+{
+    let Some(last) = text.last() else {
+        return false;
+    };
+    let Some(first) = next.first() else {
+        return false;
+    };
+    is_joined(*last, *first)
+}
+
+fn is_joined(a: u8, b: u8) -> bool
+    ensures { result ≡ joins a b }
+{
+    is_word_byte(a) && is_word_byte(b) || is_double_sign(a, b)
+}
+
+fn is_word_byte(byte: u8) -> bool
+    ensures { result ≡ word_byte byte }
+{
+    byte.is_ascii_alphanumeric() || byte == b'_'
+}
+
+fn is_double_sign(a: u8, b: u8) -> bool
+    ensures { result ≡ double_sign a b }
+{
+    match b {
+        b'=' => a == b'=' || a == b'!' || a == b'<' || a == b'>',
+        b'&' | b'|' => a == b,
+        _ => false,
+    }
+}
