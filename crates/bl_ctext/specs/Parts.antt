@@ -1,0 +1,14 @@
+-- A file of the C subset, without what its type keeps of it.
+use Rattle.std.specs.Prelude.{List}
+use Rattle.bl_tree.specs.declared.c.CStruct.{CStruct}
+use Rattle.bl_tree.specs.declared.c.CFunc.{CFunc}
+use Rattle.bl_ctext.specs.declared.file.CFile.{CFile}
+
+-- its structs and its functions, in order
+pub record Parts : Type 0 where
+  pub structs : List CStruct
+  pub funcs : List CFunc
+
+-- those of a file
+abbrev pub parts_of : CFile → Parts
+parts_of file = record { structs = file.structs; funcs = file.funcs }
