@@ -3,6 +3,7 @@ pub mod Bytes
 pub mod Cutting
 pub mod Depths
 pub mod Longest
+pub mod Once
 pub mod Parts
 pub mod Texts
 pub mod Words

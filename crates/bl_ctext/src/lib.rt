@@ -4,6 +4,7 @@
 pub mod file;
 mod prelude;
 mod printer;
+pub mod spelling;
 mod writer;
 
 pub use file::CFile;
