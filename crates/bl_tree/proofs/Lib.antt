@@ -1,0 +1,4 @@
+pub mod ExprInduction
+pub mod NumberLemmas
+pub mod ReduceLemmas
+pub mod StmtInduction

@@ -1,3 +1,6 @@
+ghost use Rattle.bl_tree.specs.Graph.{JoinsNodes};
+
+use crate::List;
 use crate::place::Place;
 
 /// What a node of a tick graph stands for (docs/LANGUAGE.md, "Tick graphs").
@@ -30,4 +33,12 @@ pub struct Edge {
     pub to: u32,
     /// Whether the first writes what the second, in another branch, reads.
     pub by_data: bool,
+}
+
+/// What may act after what in one tick of an activity.
+#[derive(Drop)]
+pub struct Graph {
+    pub nodes: List<Node>,
+    pub edges: List<Edge>,
+    pub ghost joins_nodes: { JoinsNodes nodes edges },
 }

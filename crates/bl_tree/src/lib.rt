@@ -3,21 +3,27 @@
 #![tactic(auto)]
 
 mod boxed;
-mod list;
-mod memory;
-mod text;
-
 pub mod c;
 pub mod graph;
+mod list;
+mod memory;
+pub mod number;
 pub mod place;
+pub mod program;
 pub mod row;
 pub mod scalar;
+mod text;
 pub mod token;
 pub mod tree;
+pub mod value;
 
 pub use boxed::Box;
 pub use list::List;
 pub use memory::NoMemory;
+pub use number::{checked, checked_one};
 pub use place::{Place, Refusal};
-pub use scalar::{Op, Scalar, Width};
+pub use program::Program;
+pub use row::{Column, Last, Row, Trace};
+pub use scalar::{Op, Range, Scalar, Width};
 pub use text::Text;
+pub use value::Value;

@@ -51,9 +51,9 @@ module _ (R S : RattleType) (h : R.Denot → S.Denot) where
 
   pub the_places : Alike R S h → Alike (whole.the_row R) (whole.the_row S) ((the_former this).map R.Denot S.Denot h)
   the_places alike =
-    let inner = laid _ _ _ (inner_places alike) in
-    let fields = struct_places (inside.the_type R) (inside.the_type S) ((λ owner. holding owner (h owner.value)), tt) _ (λ d. refl) refl (inner, tt) in
-    view_places field this view (λ X Y k u. refl) (λ X u. refl) R.Denot S.Denot h
+      let inner = laid _ _ _ (inner_places alike) in
+      let fields = struct_places (inside.the_type R) (inside.the_type S) ((λ owner. holding owner (h owner.value)), tt) _ (λ d. refl) refl (inner, tt) in
+      view_places field this view (λ X Y k u. refl) (λ X u. refl) R.Denot S.Denot h
       (whole.the_row R).coded (whole.the_row S).coded
       (invariant R.Denot) (invariant S.Denot) (λ u p q. refl) (λ u p q. refl) (λ u e. tt) (λ u e. tt)
       (over (inside.the_row R)) (over (inside.the_row S)) fields

@@ -1,0 +1,6 @@
+pub mod Count
+pub mod Handing
+pub mod Held
+pub mod Left
+pub mod Named
+pub mod Planned

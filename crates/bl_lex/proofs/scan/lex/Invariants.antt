@@ -1,0 +1,8 @@
+use Rattle.std.proofs.Common.{length, ◌-◌, ◌≤◌}
+use Rattle.bl_lex.proofs.scan.lex.Given as goal
+
+abbrev pub invariant-loop-at : goal.invariant-loop-at
+invariant-loop-at l = record { inside : l.at ≤ length l.text; short : length l.text ≤ 1048576; few_lines : l.scan.line ≤ l.at }
+
+abbrev pub decreases-loop-at : goal.decreases-loop-at
+decreases-loop-at l = length l.text - l.at

@@ -1,0 +1,14 @@
+//! The tokens of source texts, and what the profile leaves out of them (docs/LANGUAGE.md, "Tokens").
+#![tactic(auto)]
+
+mod number;
+mod piece;
+mod reserved;
+mod scan;
+pub mod sign;
+pub mod word;
+
+pub use scan::lex;
+
+#[cfg(test)]
+mod tests;

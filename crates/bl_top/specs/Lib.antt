@@ -1,0 +1,3 @@
+pub mod Build
+pub mod Causes
+pub mod Notes

@@ -1,0 +1,56 @@
+ghost use Rattle.std.specs.Prelude.{◌≤◌, ◌≡◌, map, string_bytes};
+ghost use Rattle.bl_io.specs.Count.{NeverFell};
+ghost use Rattle.bl_top.specs.Build.{Leaves, ReadsNamed};
+ghost use Rattle.bl_top.specs.Causes.{AnswerCauses, Causes};
+ghost use Rattle.bl_top.specs.Notes.{Noted};
+ghost use Rattle.bl_words.specs.Jobs.{job_of};
+
+use crate::build::build;
+use crate::notes::with_note;
+use crate::status::Status;
+use bl_io::{Files, Sink};
+use bl_words::Job;
+use std::alloc::Global;
+
+/// Does the job that the words after the program's name ask for: writes its result on `out`, and on `notes` the line
+/// that goes with its status (docs/FORMATS.md, "Notes"). Files are read by the names in the words alone.
+pub fn blechc<F: Files, O: Sink, N: Sink>(
+    alloc: Global,
+    words: &[String],
+    files: &mut F,
+    out: &mut O,
+    notes: &mut N,
+) -> Status
+    ensures causes { Causes (map string_bytes words.now)
+        (record {
+          file = λ name. record { before = F.faults files.old name; after = F.faults files.new name };
+          out = record { before = O.faults out.old; after = O.faults out.new };
+          notes = record { before = N.faults notes.old; after = N.faults notes.new };
+        }) result }
+    ensures out { Leaves (O.held out.old) result (O.held out.new) }
+    ensures notes { Noted (N.held notes.old) result (N.held notes.new) }
+    ensures files { ReadsNamed (job_of (map string_bytes words.now)) (F.left files.old) (F.left files.new) }
+    ensures file_counts { NeverFell (F.faults files.old) (F.faults files.new) }
+    ensures out_count { O.faults out.old ≤ O.faults out.new }
+    ensures notes_count { N.faults notes.old ≤ N.faults notes.new }
+{
+    let status = answer(alloc, words, files, out);
+    with_note(status, notes)
+}
+
+/// The status of the job itself, before its line is written.
+fn answer<F: Files, O: Sink>(alloc: Global, words: &[String], files: &mut F, out: &mut O) -> Status
+    ensures causes { AnswerCauses (map string_bytes words.now)
+        (λ name. record { before = F.faults files.old name; after = F.faults files.new name })
+        (record { before = O.faults out.old; after = O.faults out.new }) result }
+    ensures out { Leaves (O.held out.old) result (O.held out.new) }
+    ensures files { ReadsNamed (job_of (map string_bytes words.now)) (F.left files.old) (F.left files.new) }
+    ensures file_counts { NeverFell (F.faults files.old) (F.faults files.new) }
+    ensures out_count { O.faults out.old ≤ O.faults out.new }
+{
+    match bl_words::job_of(alloc, words) {
+        Ok(Some(Job::Build { source })) => build(alloc, source, files, out),
+        Ok(None) => Status::Usage,
+        Err(_) => Status::NoMemory,
+    }
+}

@@ -1,0 +1,16 @@
+//! The one call that the program makes: it does the job that the words ask for.
+#![tactic(auto)]
+
+mod build;
+mod call;
+mod early;
+mod emit;
+mod notes;
+mod status;
+mod stop;
+
+pub use call::blechc;
+pub use status::Status;
+
+#[cfg(test)]
+mod tests;

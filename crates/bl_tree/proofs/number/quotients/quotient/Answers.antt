@@ -1,0 +1,10 @@
+use Rattle.std.proofs.lemmas.Int.{quot_is}
+use Rattle.bl_tree.proofs.NumberLemmas.{quotient_fits, divided}
+use Rattle.bl_tree.proofs.number.quotients.quotient.Goals as goal
+
+pub returns : goal.returns
+returns c =
+    let left = c.ranges.a in
+    let right = c.ranges.b in
+    let fits = quotient_fits _ _ c.args.b c.requires.left in
+    rw (divided _ _ c.if-b-eq0.false) (rw quot_is at c.signed.ensures)

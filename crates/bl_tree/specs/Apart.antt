@@ -1,0 +1,116 @@
+-- Variables of one branch: what is declared in a branch of a `cobegin` is named in no other branch of it.
+use Rattle.std.specs.Prelude.{ℕ, Bool, true, false, not, ◌&&◌, nat_eq, List, [], ◌∷◌, ◌++◌, map, Option, Some, None}
+use Rattle.std.specs.List.{list_all, list_any}
+use Rattle.bl_tree.specs.declared.tree.Expr.{Expr, fold-Expr}
+use Rattle.bl_tree.specs.declared.tree.ExprKind.TheOpen.{ExprKind-F, Part-F, Path-F, Expr-F}
+use Rattle.bl_tree.specs.declared.tree.Path.{Path, fold-Path}
+use Rattle.bl_tree.specs.declared.tree.Stmt.{Stmt, fold-Stmt}
+use Rattle.bl_tree.specs.declared.tree.StmtKind.TheOpen.{StmtKind-F, Arm-F, Branch-F, Stmt-F}
+use Rattle.bl_tree.specs.Reduce.{all_of, joined}
+
+abbrev pub Roots : Type 0
+Roots = List ℕ
+
+abbrev pub kind_roots : ExprKind-F Roots Roots Roots Roots → Roots
+kind_roots (ExprKind-F.Literal n s) = []
+kind_roots (ExprKind-F.Read path) = path
+kind_roots (ExprKind-F.Prev k) = k ∷ []
+kind_roots (ExprKind-F.One op a) = a
+kind_roots (ExprKind-F.Two op a b) = a ++ b
+kind_roots (ExprKind-F.Cast target a) = a
+kind_roots (ExprKind-F.Call f inputs) = joined inputs
+
+abbrev pub part_roots : Part-F Roots Roots Roots Roots → Roots
+part_roots (Part-F.Field k) = []
+part_roots (Part-F.Index e) = e
+
+abbrev pub expr_layer_roots : Expr-F Roots Roots Roots Roots → Roots
+expr_layer_roots e = e.what
+
+abbrev pub path_layer_roots : Path-F Roots Roots Roots Roots → Roots
+path_layer_roots path = path.root ∷ joined path.parts
+
+-- the variables that an expression names
+abbrev pub roots_in : Expr → Roots
+roots_in = fold-Expr Roots Roots Roots Roots kind_roots part_roots expr_layer_roots path_layer_roots
+
+abbrev pub roots_in_path : Path → Roots
+roots_in_path = fold-Path Roots Roots Roots Roots kind_roots part_roots expr_layer_roots path_layer_roots
+
+-- the variables that a statement declares, those that it names, and whether its branches keep apart
+pub record Naming : Type 0 where
+  pub declared : Roots
+  pub named : Roots
+  pub apart : Bool
+
+abbrev pub naming : Roots → Naming
+naming roots = record { declared = []; named = roots; apart = true }
+
+abbrev pub together : List Naming → Naming
+together namings = record {
+  declared = joined (map (λ n. n.declared) namings);
+  named = joined (map (λ n. n.named) namings);
+  apart = all_of (map (λ n. n.apart) namings);
+}
+
+abbrev pub and_naming : Roots → List Naming → Naming
+and_naming roots namings = together (naming roots ∷ namings)
+
+abbrev pub is_foreign : Roots → Roots → Bool
+is_foreign declared named = not (list_any (λ k. list_any (nat_eq k) named) declared)
+
+-- whether neither of two branches names what the other declares
+abbrev pub keep_apart : Naming → Naming → Bool
+keep_apart a b = is_foreign a.declared b.named && is_foreign b.declared a.named
+
+abbrev pub all_apart : List Naming → Bool
+all_apart [] = true
+all_apart (branch ∷ rest) = list_all (keep_apart branch) rest && all_apart rest
+
+abbrev pub of_branches : List Naming → Naming
+of_branches branches = let all = together branches in
+    record { declared = all.declared; named = all.named; apart = all.apart && all_apart branches }
+
+abbrev pub optional_roots : Option Expr → Roots
+optional_roots (Some e) = roots_in e
+optional_roots None = []
+
+abbrev pub target_roots : Option Path → Roots
+target_roots (Some path) = roots_in_path path
+target_roots None = []
+
+abbrev pub argument_roots : List Expr → List Path → Roots
+argument_roots inputs outputs = joined (map roots_in inputs) ++ joined (map roots_in_path outputs)
+
+abbrev pub declares : ℕ → Roots → Naming
+declares k roots = record { declared = k ∷ []; named = k ∷ roots; apart = true }
+
+abbrev pub stmt_kind_naming : StmtKind-F Naming Naming Naming Naming → Naming
+stmt_kind_naming (StmtKind-F.Declare k initial) = declares k (optional_roots initial)
+stmt_kind_naming (StmtKind-F.Assign path e) = naming (roots_in_path path ++ roots_in e)
+stmt_kind_naming (StmtKind-F.Call f inputs outputs) = naming (argument_roots inputs outputs)
+stmt_kind_naming (StmtKind-F.Await e) = naming (roots_in e)
+stmt_kind_naming (StmtKind-F.Run target a inputs outputs) = naming (target_roots target ++ argument_roots inputs outputs)
+stmt_kind_naming (StmtKind-F.If arms other) = together (arms ++ other)
+stmt_kind_naming (StmtKind-F.Cobegin branches) = of_branches branches
+stmt_kind_naming (StmtKind-F.When guard e body) = and_naming (roots_in e) body
+stmt_kind_naming (StmtKind-F.Repeat body) = together body
+stmt_kind_naming (StmtKind-F.Until body e) = and_naming (roots_in e) body
+stmt_kind_naming (StmtKind-F.While e body) = and_naming (roots_in e) body
+stmt_kind_naming (StmtKind-F.Return e) = naming (optional_roots e)
+
+abbrev pub arm_naming : Arm-F Naming Naming Naming Naming → Naming
+arm_naming arm = and_naming (roots_in arm.test) arm.body
+
+abbrev pub branch_naming : Branch-F Naming Naming Naming Naming → Naming
+branch_naming branch = together branch.body
+
+abbrev pub stmt_layer_naming : Stmt-F Naming Naming Naming Naming → Naming
+stmt_layer_naming s = s.what
+
+abbrev pub naming_of : Stmt → Naming
+naming_of = fold-Stmt Naming Naming Naming Naming stmt_kind_naming arm_naming branch_naming stmt_layer_naming
+
+-- whether the branches of every `cobegin` of the statement keep apart
+abbrev pub is_apart : Stmt → Bool
+is_apart s = (naming_of s).apart

@@ -1,0 +1,91 @@
+-- How deep a tree is nested.
+use Rattle.std.specs.Prelude.{ℕ, ◌+◌, max, Bool, ◌&&◌, nat_le, List, [], ◌∷◌, map, Option, Some, None}
+use Rattle.bl_tree.specs.declared.tree.Expr.{Expr, fold-Expr}
+use Rattle.bl_tree.specs.declared.tree.ExprKind.TheOpen.{ExprKind-F, Part-F, Path-F, Expr-F}
+use Rattle.bl_tree.specs.declared.tree.Path.{Path, fold-Path}
+use Rattle.bl_tree.specs.declared.tree.Stmt.{Stmt, fold-Stmt}
+use Rattle.bl_tree.specs.declared.tree.StmtKind.TheOpen.{StmtKind-F, Arm-F, Branch-F, Stmt-F}
+use Rattle.bl_tree.specs.Reduce.{greatest}
+
+abbrev pub kind_depth : ExprKind-F ℕ ℕ ℕ ℕ → ℕ
+kind_depth (ExprKind-F.Literal n s) = 0
+kind_depth (ExprKind-F.Read path) = path
+kind_depth (ExprKind-F.Prev k) = 0
+kind_depth (ExprKind-F.One op a) = 1 + a
+kind_depth (ExprKind-F.Two op a b) = 1 + max a b
+kind_depth (ExprKind-F.Cast target a) = 1 + a
+kind_depth (ExprKind-F.Call f inputs) = 1 + greatest inputs
+
+abbrev pub part_depth : Part-F ℕ ℕ ℕ ℕ → ℕ
+part_depth (Part-F.Field k) = 0
+part_depth (Part-F.Index e) = 1 + e
+
+abbrev pub expr_layer_depth : Expr-F ℕ ℕ ℕ ℕ → ℕ
+expr_layer_depth e = e.what
+
+abbrev pub path_layer_depth : Path-F ℕ ℕ ℕ ℕ → ℕ
+path_layer_depth path = greatest path.parts
+
+-- the most operators, casts, calls and indexes that stand inside one another
+abbrev pub expr_depth : Expr → ℕ
+expr_depth = fold-Expr ℕ ℕ ℕ ℕ kind_depth part_depth expr_layer_depth path_layer_depth
+
+abbrev pub path_depth : Path → ℕ
+path_depth = fold-Path ℕ ℕ ℕ ℕ kind_depth part_depth expr_layer_depth path_layer_depth
+
+abbrev pub optional_depth : Option Expr → ℕ
+optional_depth (Some e) = expr_depth e
+optional_depth None = 0
+
+abbrev pub target_depth : Option Path → ℕ
+target_depth (Some path) = path_depth path
+target_depth None = 0
+
+abbrev pub arguments_depth : List Expr → List Path → ℕ
+arguments_depth inputs outputs = max (greatest (map expr_depth inputs)) (greatest (map path_depth outputs))
+
+-- how deep the blocks are nested, and how deep the expressions in them
+pub record Depth : Type 0 where
+  pub blocks : ℕ
+  pub exprs : ℕ
+
+-- what stands in no block
+abbrev pub leaf : ℕ → Depth
+leaf exprs = record { blocks = 0; exprs = exprs }
+
+abbrev pub of_all : List Depth → Depth
+of_all depths = record { blocks = greatest (map (λ d. d.blocks) depths); exprs = greatest (map (λ d. d.exprs) depths) }
+
+-- a block with an expression at its head
+abbrev pub block : ℕ → List Depth → Depth
+block head body = record { blocks = 1 + (of_all body).blocks; exprs = max head (of_all body).exprs }
+
+abbrev pub stmt_kind_depth : StmtKind-F Depth Depth Depth Depth → Depth
+stmt_kind_depth (StmtKind-F.Declare k initial) = leaf (optional_depth initial)
+stmt_kind_depth (StmtKind-F.Assign path e) = leaf (max (path_depth path) (expr_depth e))
+stmt_kind_depth (StmtKind-F.Call f inputs outputs) = leaf (arguments_depth inputs outputs)
+stmt_kind_depth (StmtKind-F.Await e) = leaf (expr_depth e)
+stmt_kind_depth (StmtKind-F.Run target a inputs outputs) = leaf (max (target_depth target) (arguments_depth inputs outputs))
+stmt_kind_depth (StmtKind-F.If arms other) = of_all (block 0 other ∷ arms)
+stmt_kind_depth (StmtKind-F.Cobegin branches) = of_all branches
+stmt_kind_depth (StmtKind-F.When guard e body) = block (expr_depth e) body
+stmt_kind_depth (StmtKind-F.Repeat body) = block 0 body
+stmt_kind_depth (StmtKind-F.Until body e) = block (expr_depth e) body
+stmt_kind_depth (StmtKind-F.While e body) = block (expr_depth e) body
+stmt_kind_depth (StmtKind-F.Return e) = leaf (optional_depth e)
+
+abbrev pub arm_depth : Arm-F Depth Depth Depth Depth → Depth
+arm_depth arm = block (expr_depth arm.test) arm.body
+
+abbrev pub branch_depth : Branch-F Depth Depth Depth Depth → Depth
+branch_depth branch = block 0 branch.body
+
+abbrev pub stmt_layer_depth : Stmt-F Depth Depth Depth Depth → Depth
+stmt_layer_depth s = s.what
+
+abbrev pub depth_of : Stmt → Depth
+depth_of = fold-Stmt Depth Depth Depth Depth stmt_kind_depth arm_depth branch_depth stmt_layer_depth
+
+-- whether no statement of a unit's body stands in more than 200 blocks, that of the unit included, and no expression is nested deeper than 200
+abbrev pub is_shallow : List Stmt → Bool
+is_shallow body = nat_le (block 0 (map depth_of body)).blocks 200 && nat_le (of_all (map depth_of body)).exprs 200

@@ -1,0 +1,14 @@
+ghost use Rattle.bl_tree.specs.Program.{Keeps};
+
+use crate::List;
+use crate::tree::{StructDef, Unit};
+
+/// A source program whose names are resolved and whose types fit (docs/LANGUAGE.md, "Programs").
+#[derive(Drop)]
+pub struct Program {
+    pub structs: List<StructDef>,
+    pub units: List<Unit>,
+    /// The position of the activity that the environment drives.
+    pub entry: u32,
+    pub ghost keeps: { Keeps structs units entry },
+}

@@ -1,0 +1,44 @@
+-- The job that the words of a command line ask for.
+use Rattle.std.specs.Prelude.{◌==◌, ℕ, Bool, false, not, List, [], ◌∷◌, Option, Some, None}
+use Rattle.std.specs.Prelude.{if◌then◌else◌, codes}
+use Rattle.std.specs.List.{list_all}
+use Rattle.std.specs.Str.{bytes_eq}
+use Rattle.bl_words.specs.declared.job.Job.{Job}
+use Rattle.bl_words.specs.declared.job.Job.TheVariants as job
+
+-- a word, as its bytes
+abbrev pub Word : Type 0
+Word = List ℕ
+
+-- what the program is to do
+pub data JobSpec : Type 0 where
+  -- write the C text of the source file of this name
+  build : Word → JobSpec
+
+-- the files that the job reads, in the order of its words
+abbrev pub files_of : JobSpec → List Word
+files_of (build source) = source ∷ []
+
+-- the word is not empty and does not begin with a hyphen (45)
+abbrev pub is_plain_word : Word → Bool
+is_plain_word [] = false
+is_plain_word (byte ∷ rest) = not (byte == 45)
+
+-- `build` takes one word, the name of the source file
+abbrev pub build_job : List Word → Option JobSpec
+build_job (source ∷ []) = Some (build source)
+build_job _ = None
+
+-- the job of the command with this name, on the words after the name
+abbrev pub command_job : Word → List Word → Option JobSpec
+command_job name values = if bytes_eq (codes "build") name then build_job values else None
+
+-- the first word names the command, and no word is empty or begins with a hyphen
+abbrev pub job_of : List Word → Option JobSpec
+job_of [] = None
+job_of (name ∷ values) =
+    if list_all is_plain_word (name ∷ values) then command_job name values else None
+
+-- the job that a value of the program stands for
+abbrev pub spec_of : Job → JobSpec
+spec_of (job.Build source) = build source.now

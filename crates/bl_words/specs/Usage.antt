@@ -1,0 +1,6 @@
+-- What is said to a caller whose words ask for no job.
+use Rattle.std.specs.Prelude.{ℕ, List, [], ◌∷◌, ◌++◌, codes}
+
+-- the forms of all commands, and a line feed (10)
+abbrev pub usage_line : List ℕ
+usage_line = codes "usage: blechc build P" ++ 10 ∷ []

@@ -1,0 +1,71 @@
+//! The jobs, and how words ask for them.
+ghost use Rattle.std.specs.Prelude.{◌≡◌, IfOk, IfSome, map, option_map, string_bytes, true};
+ghost use Rattle.std.specs.List.{list_all};
+ghost use Rattle.bl_words.specs.Jobs.{files_of, is_plain_word, job_of, spec_of};
+
+use crate::command_line::{command_line, job_read};
+use clap::error::ErrorKind;
+use std::alloc::{AllocError, Global};
+use thiserror::Error;
+
+/// What the program is to do. File names are as they were given.
+#[derive(Clone, Copy, Debug, PartialEq, Eq)]
+pub enum Job<'a> {
+    /// Write the C text of a source file.
+    Build {
+        /// The name of the source file.
+        source: &'a str,
+    },
+}
+
+/// Memory ran out before the words were read.
+#[derive(Clone, Copy, Debug, PartialEq, Eq, Error)]
+#[error("no memory")]
+pub struct NoMemory;
+
+impl From<AllocError> for NoMemory {
+    fn from(_error: AllocError) -> NoMemory {
+        NoMemory
+    }
+}
+
+/// The job that `words` ask for, those after the program's name; `None` where they ask for none. The first word is
+/// a command's name, exactly as it is written, and the command says how many words follow it. No word may be
+/// empty or begin with `-`. There is no command `help`; a file may have that name or a command's.
+pub fn job_of<'a>(alloc: Global, words: &'a [String]) -> Result<Option<Job<'a>>, NoMemory>
+    ensures { IfOk result (λ job. option_map spec_of job
+        ≡ job_of (map string_bytes words.entry.now)) }
+{
+    if !are_plain(words) {
+        return Ok(None);
+    }
+    let command = command_line(alloc)?;
+    match command.try_get_matches_from(words) {
+        Ok(matches) => Ok(job_read(&matches)),
+        Err(error) => match error.kind() {
+            ErrorKind::OutOfMemory => Err(NoMemory),
+            _ => Ok(None),
+        },
+    }
+}
+
+fn are_plain(words: &[String]) -> bool
+    ensures { result ≡ list_all (λ word. is_plain_word (string_bytes word)) words.now }
+{
+    words.iter().all(|word| is_plain(word.as_str()))
+}
+
+fn is_plain(word: &str) -> bool
+    ensures { result ≡ is_plain_word word.now }
+{
+    match word.as_bytes() {
+        [] => false,
+        [first, ..] => *first != b'-',
+    }
+}
+
+/// The files that a job names have names that are not empty and do not begin with `-`.
+pub fn files_have_plain_names(words: &[String])
+    ensures { IfSome (job_of (map string_bytes words.now)) (λ job.
+        list_all is_plain_word (files_of job) ≡ true) }
+{}

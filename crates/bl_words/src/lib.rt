@@ -1,0 +1,20 @@
+//! What the words of the command line ask for.
+#![tactic(auto)]
+
+ghost use Rattle.std.specs.Prelude.{◌≡◌};
+ghost use Rattle.bl_words.specs.Usage.{usage_line};
+
+mod command_line;
+mod job;
+#[cfg(test)]
+mod tests;
+
+pub use job::{Job, NoMemory, files_have_plain_names, job_of};
+
+/// The line for words that ask for no job, its line feed included: each command with its words, those that
+/// stand for something else in capitals.
+pub fn usage() -> &'static str
+    ensures { result.now ≡ usage_line }
+{
+    "usage: blechc build P\n"
+}
