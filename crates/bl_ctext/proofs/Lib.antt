@@ -2,8 +2,14 @@ pub mod Branches
 pub mod Bytes
 pub mod Cutting
 pub mod Depths
+pub mod ExprNesting
+pub mod Fitting
 pub mod Longest
+pub mod Nesting
 pub mod Once
 pub mod Parts
+pub mod PlainWords
+pub mod PrefixedNames
+pub mod TextNesting
 pub mod Texts
 pub mod Words

@@ -1,5 +1,8 @@
 pub mod Cut
+pub mod Depths
+pub mod Fits
 pub mod Names
+pub mod Prefixes
 pub mod Prelude
 pub mod Spellable
 pub mod Spelling

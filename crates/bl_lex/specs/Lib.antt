@@ -1,0 +1,6 @@
+pub mod Spelling
+pub mod Pieces
+pub mod Tokens
+pub mod Rules
+pub mod Steps
+pub mod Walk

@@ -1,6 +1,11 @@
 //! What stands at a place of the text: a blank, a comment or a token.
 
-ghost use Rattle.std.specs.Prelude.{◌≡◌, ◌+◌, ◌^◌, ◌<◌, ◌≤◌, length, IfSome, IfNone, slice_index};
+ghost use Rattle.std.specs.Prelude.{◌≡◌, ◌≢◌, ℕ, ◌+◌, ◌<◌, ◌≤◌, true, false, ◌↔◌, List, [], ◌∷◌, length, slice_get, slice_index, Some, IsTrue, MatchOption, MatchResult};
+ghost use Rattle.bl_tree.specs.declared.place.Place.{Place};
+ghost use Rattle.bl_lex.specs.Spelling.{signs, is_blank, is_word_byte, begins_with_digit};
+ghost use Rattle.bl_lex.specs.Pieces.{slash, star, line_feed, OpensComment, ClosesComment, FractionAt, IsLineComment, IsBlockComment, IsWord, WordIs, IsSign};
+ghost use Rattle.bl_lex.specs.Rules.{IsStrayByte, IsUnclosedComment, IsMalformedNumber, IsFault};
+ghost use Rattle.bl_lex.specs.Steps.{IsNumeral, IsWordPiece, IsLongestSign, IsLongestAt};
 
 use crate::number::{Numeral, numeral_of};
 use crate::reserved::{Meaning, meaning_of};
@@ -26,59 +31,57 @@ pub struct Piece {
     pub form: Form,
 }
 
-pub fn is_blank(byte: u8) -> bool {
-    matches!(byte, b' ' | b'\t' | b'\r' | b'\n')
+fn is_blank(byte: u8) -> bool
+    ensures { result ≡ is_blank byte }
+{
+    byte == b' ' || byte == b'\t' || byte == b'\r' || byte == b'\n'
 }
 
 /// Whether a byte may stand in a word.
-pub fn is_word_byte(byte: u8) -> bool {
+fn is_word_byte(byte: u8) -> bool
+    ensures { result ≡ is_word_byte byte }
+{
     byte.is_ascii_alphanumeric() || byte == b'_'
 }
 
-/// The longest piece that begins at a place. None where none does.
-pub fn piece_at(text: &[u8], at: usize) -> Option<Piece>
-    requires { at < length text.now }
-    ensures { IfSome result (λ piece. (at < piece.end) × (piece.end ≤ length text.now)) }
+/// The place of the bytes from one offset up to another.
+pub fn place_between(start: usize, end: usize) -> Place
+    requires start_fits { start < 4294967296 }
+    requires end_fits { end < 4294967296 }
+    ensures { result ≡ record { start = start; end = end } }
+{
+    Place {
+        start: start as u32,
+        end: end as u32,
+    }
+}
+
+/// The longest piece that begins at a place. An error has the place of what begins none.
+pub fn piece_at(text: &[u8], at: usize) -> Result<Piece, Place>
+    requires inside { at < length text.now }
+    requires short { length text.now ≤ 1048576 }
+    ensures { MatchResult result (IsLongestAt text.now at) (λ place. (place.start ≡ at) × IsFault text.now place) }
 {
     let byte = text[at];
     if is_blank(byte) {
-        return Some(Piece {
+        Ok(Piece {
             end: at + 1,
             form: Form::Blank,
-        });
-    }
-    if is_word_byte(byte) {
-        return word_at(text, at);
-    }
-    if byte == b'/' {
-        return slash_at(text, at);
-    }
-    sign_at(text, at)
-}
-
-/// The place of what begins no piece: a word, the beginning of a comment that isn't closed, or else a byte.
-pub fn fault_at(text: &[u8], at: usize) -> Place
-    requires inside { at < length text.now }
-    requires short { length text.now ≤ 1048576 }
-{
-    let end = if is_word_byte(text[at]) {
-        word_end(text, at)
-    } else if text[at] == b'/' {
-        at + 2
+        })
+    } else if is_word_byte(byte) {
+        word_at(text, at)
+    } else if byte == b'/' {
+        slash_at(text, at)
     } else {
-        at + 1
-    };
-    Place {
-        start: at as u32,
-        end: end as u32,
+        other_at(text, at)
     }
 }
 
 /// Where the word ends whose first byte stands at a place.
 fn word_end(text: &[u8], at: usize) -> usize
-    requires { at < length text.now }
-    ensures after { at < result }
-    ensures inside { result ≤ length text.now }
+    requires inside { at < length text.now }
+    requires letter { is_word_byte (slice_index text.now at) ≡ true }
+    ensures { IsWord text.now at result }
 {
     let mut end = at + 1;
     while end < text.len() && is_word_byte(text[end]) {
@@ -87,28 +90,40 @@ fn word_end(text: &[u8], at: usize) -> usize
     end
 }
 
-fn word_at(text: &[u8], at: usize) -> Option<Piece>
-    requires { at < length text.now }
-    ensures { IfSome result (λ piece. (at < piece.end) × (piece.end ≤ length text.now)) }
+fn word_at(text: &[u8], at: usize) -> Result<Piece, Place>
+    requires inside { at < length text.now }
+    requires short { length text.now ≤ 1048576 }
+    requires letter { is_word_byte (slice_index text.now at) ≡ true }
+    ensures piece { MatchResult result (IsWordPiece text.now at) (λ place. (place.start ≡ at) × IsMalformedNumber text.now place) }
 {
     let end = word_end(text, at);
     let word = &text[at..end];
-    let form = if text[at].is_ascii_digit() {
-        number_form(numeral_of(word)?, is_fraction(text, end))
-    } else {
-        word_form(word)
-    };
-    Some(Piece { end, form })
+    if !word[0].is_ascii_digit() {
+        return Ok(Piece {
+            end,
+            form: word_form(word),
+        });
+    }
+    match numeral_of(word) {
+        Some(numeral) => Ok(Piece {
+            end,
+            form: number_form(numeral, is_fraction(text, end)),
+        }),
+        None => Err(place_between(at, end)),
+    }
 }
 
 /// Whether a `.` and a digit stand at a place.
 fn is_fraction(text: &[u8], at: usize) -> bool
     requires { at ≤ length text.now }
+    ensures { IsTrue result ↔ FractionAt text.now at }
 {
-    at + 1 < text.len() && text[at] == b'.' && text[at + 1].is_ascii_digit()
+    has_byte(text, at, b'.') && at + 1 < text.len() && text[at + 1].is_ascii_digit()
 }
 
-fn number_form(numeral: Numeral, before_fraction: bool) -> Form {
+fn number_form(numeral: Numeral, before_fraction: bool) -> Form
+    ensures { (text word : List ℕ) (end : ℕ) → IsNumeral word numeral → (IsTrue before_fraction ↔ FractionAt text end) → WordIs text end word result }
+{
     match numeral {
         Numeral::Decimal(value) => {
             if before_fraction {
@@ -122,7 +137,10 @@ fn number_form(numeral: Numeral, before_fraction: bool) -> Form {
     }
 }
 
-fn word_form(word: &[u8]) -> Form {
+fn word_form(word: &[u8]) -> Form
+    requires { begins_with_digit word.now ≡ false }
+    ensures { (text : List ℕ) (end : ℕ) → WordIs text end word.now result }
+{
     match meaning_of(word) {
         Some(Meaning::Keyword(position)) => Form::Token(TokenKind::Word(position)),
         Some(Meaning::Outside) => Form::Outside,
@@ -130,49 +148,70 @@ fn word_form(word: &[u8]) -> Form {
     }
 }
 
-/// What begins with a slash: a comment or the sign. None where the comment isn't closed.
-fn slash_at(text: &[u8], at: usize) -> Option<Piece>
-    requires { at < length text.now }
-    ensures { IfSome result (λ piece. (at < piece.end) × (piece.end ≤ length text.now)) }
+/// What begins with a slash: a comment or the sign. An error where the comment isn't closed.
+fn slash_at(text: &[u8], at: usize) -> Result<Piece, Place>
+    requires inside { at < length text.now }
+    requires short { length text.now ≤ 1048576 }
+    requires first { slice_index text.now at ≡ slash }
+    ensures { MatchResult result (IsLongestAt text.now at) (λ place. (place.start ≡ at) × IsUnclosedComment text.now place) }
 {
-    if at + 1 < text.len() && text[at + 1] == b'/' {
-        return Some(Piece {
-            end: line_end(text, at + 2),
+    if has_byte(text, at + 1, b'/') {
+        Ok(Piece {
+            end: line_end(text, at),
             form: Form::Comment,
-        });
+        })
+    } else if has_byte(text, at + 1, b'*') {
+        block_comment_at(text, at)
+    } else {
+        Ok(Piece {
+            end: at + 1,
+            form: Form::Token(TokenKind::Sign(sign::SLASH)),
+        })
     }
-    if at + 1 < text.len() && text[at + 1] == b'*' {
-        let end = comment_end(text, at + 2)?;
-        return Some(Piece {
-            end,
-            form: Form::Comment,
-        });
-    }
-    Some(Piece {
-        end: at + 1,
-        form: Form::Token(TokenKind::Sign(sign::SLASH)),
-    })
 }
 
-/// Where the next line feed stands, or the text's end.
-fn line_end(text: &[u8], at: usize) -> usize
-    requires { at ≤ length text.now }
-    ensures after { at ≤ result }
-    ensures inside { result ≤ length text.now }
+/// Whether this byte stands at a place. No byte stands at the text's end.
+fn has_byte(text: &[u8], at: usize, byte: u8) -> bool
+    requires { 0 < byte }
+    ensures { IsTrue result ↔ (slice_index text.now at ≡ byte) }
 {
-    let mut end = at;
+    at < text.len() && text[at] == byte
+}
+
+/// A comment that `/*` begins. An error where it isn't closed.
+fn block_comment_at(text: &[u8], at: usize) -> Result<Piece, Place>
+    requires short { length text.now ≤ 1048576 }
+    requires opens { OpensComment text.now at }
+    ensures { MatchResult result (IsLongestAt text.now at) (λ place. (place.start ≡ at) × IsUnclosedComment text.now place) }
+{
+    match comment_end(text, at) {
+        Some(end) => Ok(Piece {
+            end,
+            form: Form::Comment,
+        }),
+        None => Err(place_between(at, at + 2)),
+    }
+}
+
+/// Where the comment ends whose two slashes stand at a place: at the next line feed, or the text's end.
+fn line_end(text: &[u8], at: usize) -> usize
+    requires first { slice_index text.now at ≡ slash }
+    requires second { slice_index text.now (at + 1) ≡ slash }
+    ensures { IsLineComment text.now at result }
+{
+    let mut end = at + 2;
     while end < text.len() && text[end] != b'\n' {
         end += 1;
     }
     end
 }
 
-/// Where the next `*/` ends.
+/// Where the comment ends whose `/*` stands at a place: after the next `*/`.
 fn comment_end(text: &[u8], at: usize) -> Option<usize>
-    requires { at ≤ length text.now }
-    ensures { IfSome result (λ end. (at < end) × (end ≤ length text.now)) }
+    requires { OpensComment text.now at }
+    ensures { MatchOption result ((i : ℕ) → at + 2 ≤ i → ¬ ClosesComment text.now i) (IsBlockComment text.now at) }
 {
-    let mut star = at;
+    let mut star = at + 2;
     while star + 1 < text.len() {
         if text[star] == b'*' && text[star + 1] == b'/' {
             return Some(star + 2);
@@ -182,26 +221,64 @@ fn comment_end(text: &[u8], at: usize) -> Option<usize>
     None
 }
 
-fn sign_at(text: &[u8], at: usize) -> Option<Piece>
-    requires { at < length text.now }
-    ensures { IfSome result (λ piece. (at < piece.end) × (piece.end ≤ length text.now)) }
+/// A sign that doesn't begin with a slash. An error where the byte begins no sign.
+fn other_at(text: &[u8], at: usize) -> Result<Piece, Place>
+    requires inside { at < length text.now }
+    requires short { length text.now ≤ 1048576 }
+    requires not_blank { is_blank (slice_index text.now at) ≡ false }
+    requires no_word { is_word_byte (slice_index text.now at) ≡ false }
+    requires no_slash { slice_index text.now at ≢ slash }
+    ensures { MatchResult result (IsLongestAt text.now at) (λ place. (place.start ≡ at) × IsStrayByte text.now place) }
 {
-    if at + 1 < text.len()
-        && let Some(sign) = long_sign(text[at], text[at + 1])
-    {
-        return Some(Piece {
-            end: at + 2,
-            form: Form::Token(TokenKind::Sign(sign)),
-        });
+    match sign_at(text, at) {
+        Some(piece) => Ok(piece),
+        None => Err(place_between(at, at + 1)),
     }
-    let sign = short_sign(text[at])?;
+}
+
+/// The longest sign at a place.
+fn sign_at(text: &[u8], at: usize) -> Option<Piece>
+    requires inside { at < length text.now }
+    requires no_slash { slice_index text.now at ≢ slash }
+    ensures { MatchOption result ((end k : ℕ) → ¬ IsSign text.now at end k) (IsLongestSign text.now at) }
+{
+    let (end, sign) = match long_sign_at(text, at) {
+        Some(sign) => (at + 2, sign),
+        None => (at + 1, short_sign_at(text, at)?),
+    };
     Some(Piece {
-        end: at + 1,
+        end,
         form: Form::Token(TokenKind::Sign(sign)),
     })
 }
 
-fn long_sign(first: u8, second: u8) -> Option<u8> {
+/// The sign of two bytes at a place.
+fn long_sign_at(text: &[u8], at: usize) -> Option<u8>
+    requires inside { at < length text.now }
+    requires no_slash { slice_index text.now at ≢ slash }
+    ensures { MatchOption result ((k : ℕ) → ¬ IsSign text.now at (at + 2) k) (IsSign text.now at (at + 2)) }
+{
+    if at + 1 < text.len() {
+        long_sign(text[at], text[at + 1])
+    } else {
+        None
+    }
+}
+
+/// The sign of one byte at a place.
+fn short_sign_at(text: &[u8], at: usize) -> Option<u8>
+    requires inside { at < length text.now }
+    requires no_slash { slice_index text.now at ≢ slash }
+    ensures { MatchOption result ((k : ℕ) → ¬ IsSign text.now at (at + 1) k) (IsSign text.now at (at + 1)) }
+{
+    short_sign(text[at])
+}
+
+/// The sign of two bytes.
+#[tactic(auto, unfolding(crate::specs::Spelling::signs))]
+fn long_sign(first: u8, second: u8) -> Option<u8>
+    ensures { MatchOption result ((k : ℕ) → slice_get signs k ≢ Some (first ∷ second ∷ [])) (λ k. slice_get signs k ≡ Some (first ∷ second ∷ [])) }
+{
     match (first, second) {
         (b'=', b'=') => Some(sign::EQUAL),
         (b'!', b'=') => Some(sign::NOT_EQUAL),
@@ -213,7 +290,11 @@ fn long_sign(first: u8, second: u8) -> Option<u8> {
     }
 }
 
-fn short_sign(byte: u8) -> Option<u8> {
+/// The sign of one byte.
+#[tactic(auto, unfolding(crate::specs::Spelling::signs))]
+fn short_sign(byte: u8) -> Option<u8>
+    ensures { MatchOption result ((k : ℕ) → slice_get signs k ≢ Some (byte ∷ [])) (λ k. slice_get signs k ≡ Some (byte ∷ [])) }
+{
     match byte {
         b'(' => Some(sign::OPEN_PAREN),
         b')' => Some(sign::CLOSE_PAREN),

@@ -1,5 +1,8 @@
 //! The words that aren't names.
 
+ghost use Rattle.std.specs.Prelude.{◌≢◌, All, MatchOption, length};
+ghost use Rattle.bl_lex.specs.Steps.{IsMeaningOf, IsUnreserved, AreReservedOf};
+
 use crate::word;
 
 /// What a reserved word is.
@@ -17,8 +20,7 @@ pub struct Reserved {
     pub meaning: Meaning,
 }
 
-/// The reserved words, the shorter first.
-pub static RESERVED: [Reserved; 54] = [
+static OF_TWO: [Reserved; 3] = [
     Reserved {
         text: "if",
         meaning: Meaning::Keyword(word::IF),
@@ -31,6 +33,9 @@ pub static RESERVED: [Reserved; 54] = [
         text: "or",
         meaning: Meaning::Keyword(word::OR),
     },
+];
+
+static OF_THREE: [Reserved; 6] = [
     Reserved {
         text: "var",
         meaning: Meaning::Keyword(word::VAR),
@@ -55,6 +60,9 @@ pub static RESERVED: [Reserved; 54] = [
         text: "and",
         meaning: Meaning::Keyword(word::AND),
     },
+];
+
+static OF_FOUR: [Reserved; 12] = [
     Reserved {
         text: "then",
         meaning: Meaning::Keyword(word::THEN),
@@ -103,6 +111,9 @@ pub static RESERVED: [Reserved; 54] = [
         text: "enum",
         meaning: Meaning::Outside,
     },
+];
+
+static OF_FIVE: [Reserved; 15] = [
     Reserved {
         text: "const",
         meaning: Meaning::Keyword(word::CONST),
@@ -163,6 +174,9 @@ pub static RESERVED: [Reserved; 54] = [
         text: "param",
         meaning: Meaning::Outside,
     },
+];
+
+static OF_SIX: [Reserved; 10] = [
     Reserved {
         text: "return",
         meaning: Meaning::Keyword(word::RETURN),
@@ -203,6 +217,9 @@ pub static RESERVED: [Reserved; 54] = [
         text: "module",
         meaning: Meaning::Outside,
     },
+];
+
+static OF_SEVEN: [Reserved; 5] = [
     Reserved {
         text: "returns",
         meaning: Meaning::Keyword(word::RETURNS),
@@ -223,6 +240,9 @@ pub static RESERVED: [Reserved; 54] = [
         text: "suspend",
         meaning: Meaning::Outside,
     },
+];
+
+static OF_EIGHT: [Reserved; 2] = [
     Reserved {
         text: "function",
         meaning: Meaning::Keyword(word::FUNCTION),
@@ -231,25 +251,44 @@ pub static RESERVED: [Reserved; 54] = [
         text: "activity",
         meaning: Meaning::Keyword(word::ACTIVITY),
     },
-    Reserved {
-        text: "singleton",
-        meaning: Meaning::Outside,
-    },
 ];
 
-/// Where the reserved words of each length begin in the table, and where the last ones end.
-pub static BEGINS: [usize; 11] = [0, 0, 0, 3, 9, 21, 36, 46, 51, 53, 54];
+static OF_NINE: [Reserved; 1] = [Reserved {
+    text: "singleton",
+    meaning: Meaning::Outside,
+}];
 
 /// What a word means, if it is reserved.
-pub fn meaning_of(word: &[u8]) -> Option<Meaning> {
-    if word.len() > 9 {
-        return None;
+pub fn meaning_of(word: &[u8]) -> Option<Meaning>
+    ensures { MatchOption result (IsUnreserved word.now) (IsMeaningOf word.now) }
+{
+    meaning_among(reserved_of_length(word.len()), word)
+}
+
+/// The reserved words of so many bytes.
+fn reserved_of_length(length: usize) -> &'static [Reserved]
+    ensures { AreReservedOf length result.now }
+{
+    match length {
+        2 => &OF_TWO,
+        3 => &OF_THREE,
+        4 => &OF_FOUR,
+        5 => &OF_FIVE,
+        6 => &OF_SIX,
+        7 => &OF_SEVEN,
+        8 => &OF_EIGHT,
+        9 => &OF_NINE,
+        _ => &[],
     }
-    let first = BEGINS[word.len()];
-    let end = BEGINS[word.len() + 1];
-    for reserved in &RESERVED[first..end] {
-        if reserved.text.as_bytes() == word {
-            return Some(reserved.meaning);
+}
+
+fn meaning_among(entries: &[Reserved], word: &[u8]) -> Option<Meaning>
+    requires { All (λ entry. IsMeaningOf entry.text.now entry.meaning) entries.now }
+    ensures { MatchOption result (All (λ entry. entry.text.now ≢ word.now) entries.now) (IsMeaningOf word.now) }
+{
+    for entry in entries {
+        if entry.text.as_bytes() == word {
+            return Some(entry.meaning);
         }
     }
     None

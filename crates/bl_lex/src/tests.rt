@@ -47,8 +47,23 @@ fn a_program_has_its_tokens(rt: HostRuntime) -> Result<(), Fail> {
 
 #[test]
 fn each_text_breaks_its_rule(rt: HostRuntime) -> Result<(), Fail> {
-    let rows: [(&str, Option<Broken>); 30] = [
+    let rows: [(&str, Option<Broken>); 36] = [
         ("", None),
+        (
+            "@[EntryPoint] activity M ()(o: int32) o = 1 /* x",
+            Some((2, 44, 46)),
+        ),
+        (
+            "@[EntryPoint] activity M ()(o: int32) o = 1x",
+            Some((2, 42, 44)),
+        ),
+        (
+            "@[EntryPoint] activity M ()(o: float32) o = 1 await true end",
+            Some((3, 31, 38)),
+        ),
+        ("a //", None),
+        ("a /**/", None),
+        ("a <<= b", None),
         ("a<=b", None),
         ("x = -1 // to the end", None),
         ("/* a /* b */ c", None),

@@ -1,2 +1,4 @@
+pub mod EarlyLemmas
+pub mod EmitSteps
 pub mod Ends
 pub mod Lines

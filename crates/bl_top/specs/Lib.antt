@@ -1,3 +1,5 @@
 pub mod Build
 pub mod Causes
+pub mod Early
+pub mod Emitted
 pub mod Notes

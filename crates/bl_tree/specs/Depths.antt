@@ -56,7 +56,7 @@ leaf exprs = record { blocks = 0; exprs = exprs }
 abbrev pub of_all : List Depth → Depth
 of_all depths = record { blocks = greatest (map (λ d. d.blocks) depths); exprs = greatest (map (λ d. d.exprs) depths) }
 
--- a block with an expression at its head
+-- a block with an expression beside it: the condition at its head or end
 abbrev pub block : ℕ → List Depth → Depth
 block head body = record { blocks = 1 + (of_all body).blocks; exprs = max head (of_all body).exprs }
 
@@ -86,6 +86,6 @@ stmt_layer_depth s = s.what
 abbrev pub depth_of : Stmt → Depth
 depth_of = fold-Stmt Depth Depth Depth Depth stmt_kind_depth arm_depth branch_depth stmt_layer_depth
 
--- whether no statement of a unit's body stands in more than 200 blocks, that of the unit included, and no expression is nested deeper than 200
+-- whether blocks nest at most 200 deep, that of the unit and empty ones included, and expressions at most 200 deep
 abbrev pub is_shallow : List Stmt → Bool
 is_shallow body = nat_le (block 0 (map depth_of body)).blocks 200 && nat_le (of_all (map depth_of body)).exprs 200

@@ -58,7 +58,8 @@ parameters_of unit = take (unit.inputs + unit.outputs) unit.vars
 abbrev pub names_of : List Var → List (List ℕ)
 names_of vars = map (λ var. var.name) vars
 
--- whether a unit's variables have names and types, its parameters differ, and every statement fits
+-- whether the parameters stand first and differ, the variables have names and types, every statement fits, `return` stands
+-- where it may, nothing is nested too deep, and branches keep apart
 abbrev pub unit_stands : List StructDef → List UnitDef → UnitDef → Bool
 unit_stands structs earlier unit =
     (roles_stand unit && (list_all is_name (names_of unit.vars) && are_distinct (names_of (parameters_of unit))))
@@ -88,9 +89,9 @@ pub record Keeps (structs : List StructDef) (units : List UnitDef) (entry : ℕ)
   pub named : IsTrue (list_all is_name (all_names structs units))
   -- and differ
   pub distinct : IsTrue (are_distinct (all_names structs units))
-  -- each struct uses earlier ones alone
+  -- each struct has a field, its fields' names are names and differ, lengths are from 1 to 65536, and it uses earlier ones alone
   pub structs_stand : IsTrue (structs_stand_from 0 structs)
-  -- each unit uses earlier ones alone, and its statements fit
+  -- each unit stands, and uses earlier ones alone
   pub units_stand : IsTrue (units_stand_after structs [] units)
   -- the entry is an activity that the environment can drive
   pub entry_stands : IsTrue (is_entry (slice_get units entry))

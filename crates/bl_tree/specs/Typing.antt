@@ -165,18 +165,18 @@ abbrev pub part_is_field : Part-F (Unit {0}) Bool (Unit {0}) Bool → Bool
 part_is_field (Part-F.Field k) = true
 part_is_field (Part-F.Index e) = false
 
-abbrev pub kind_is_plain : ExprKind-F (Unit {0}) Bool (Unit {0}) Bool → Unit {0}
-kind_is_plain kind = tt
+abbrev pub kind_ignored : ExprKind-F (Unit {0}) Bool (Unit {0}) Bool → Unit {0}
+kind_ignored kind = tt
 
-abbrev pub expr_is_plain : Expr-F (Unit {0}) Bool (Unit {0}) Bool → Unit {0}
-expr_is_plain e = tt
+abbrev pub expr_ignored : Expr-F (Unit {0}) Bool (Unit {0}) Bool → Unit {0}
+expr_ignored e = tt
 
 abbrev pub path_is_plain : Path-F (Unit {0}) Bool (Unit {0}) Bool → Bool
 path_is_plain path = all_of path.parts
 
 -- whether a path goes by fields alone
 abbrev pub is_plain : Path → Bool
-is_plain = fold-Path (Unit {0}) Bool (Unit {0}) Bool kind_is_plain part_is_field expr_is_plain path_is_plain
+is_plain = fold-Path (Unit {0}) Bool (Unit {0}) Bool kind_ignored part_is_field expr_ignored path_is_plain
 
 -- whether a path may be an output argument or the target of `run`
 abbrev pub is_outlet : Site → Path → Bool

@@ -1,5 +1,5 @@
-//! The tree of a text of the C subset (docs/C_SUBSET.md, "Grammar"). No `Bits` type stands in it: an unsigned
-//! type is the `Nat` type of its width.
+//! The parts of a text of the C subset (docs/C_SUBSET.md, "Grammar"), whose whole is `bl_ctext::CFile`. An unsigned
+//! type is the `Nat` type of its width; that no `Bits` type stands in a file is kept there.
 
 use crate::place::Place;
 use crate::scalar::{Op, Scalar};

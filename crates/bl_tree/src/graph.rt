@@ -26,7 +26,7 @@ pub struct Node {
     pub kind: NodeKind,
 }
 
-/// 'The second node may act after the first in one tick'.
+/// The second node may act after the first in one tick.
 #[derive(Clone, Copy, PartialEq, Eq, Debug)]
 pub struct Edge {
     pub from: u32,

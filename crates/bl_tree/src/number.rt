@@ -1,4 +1,4 @@
-//! The arithmetic of the types without parts (docs/LANGUAGE.md, "Arithmetic").
+//! The arithmetic of the types without parts (docs/LANGUAGE.md, "How a program runs").
 
 ghost use Rattle.std.specs.Prelude.{◌≡◌, IfSome};
 ghost use Rattle.bl_tree.specs.Scalar.{InRange};

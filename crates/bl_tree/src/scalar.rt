@@ -147,7 +147,7 @@ pub enum Op {
 }
 
 impl Op {
-    /// Whether the operator takes two operands of the type (docs/LANGUAGE.md, "Typing").
+    /// Whether the operator takes two operands of the type (docs/LANGUAGE.md, "Types").
     pub fn takes_two(self, t: Scalar) -> bool
         ensures { result ≡ takes_two self t }
     {

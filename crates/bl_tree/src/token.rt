@@ -15,8 +15,8 @@ pub enum TokenKind {
     Name,
     /// The value, where a greater one than 2^64 is kept as 2^64.
     Number(u128),
-    /// The position in the list of keywords.
+    /// The position in the list of keywords (docs/LANGUAGE.md, "Tokens"), from 0.
     Word(u8),
-    /// The position in the list of signs.
+    /// The position in the list of signs there, from 0.
     Sign(u8),
 }

@@ -1,10 +1,11 @@
-//! The typed tree of a source program. Numbers in it are positions: of a struct or unit in the program's
+//! The typed tree of a source program. What a number names is a position: of a struct or unit in the program's
 //! lists, of a field in its struct, of a variable in its unit (docs/LANGUAGE.md, "Programs").
 
 use crate::place::Place;
 use crate::scalar::{Op, Scalar};
 use crate::{Box, List, Text};
 
+/// A type of the source language.
 #[cycle(types)]
 #[derive(Drop)]
 pub enum Ty {
@@ -72,6 +73,7 @@ pub struct Unit {
     pub body: List<Stmt>,
 }
 
+/// A step from a place into it: to a field of a struct, or to an element of an array.
 #[cycle(expressions)]
 #[derive(Drop)]
 pub enum Part {
@@ -120,9 +122,11 @@ pub struct Arm {
     pub body: List<Stmt>,
 }
 
+/// A branch of a `cobegin`.
 #[cycle(statements)]
 #[derive(Drop)]
 pub struct Branch {
+    /// Whether the `cobegin` may end before it has.
     pub weak: bool,
     pub body: List<Stmt>,
 }
@@ -137,6 +141,7 @@ pub enum Guard {
 #[cycle(statements)]
 #[derive(Drop)]
 pub struct Stmt {
+    /// From its first token to its last, also of a declaration, whose name's place is that of its variable.
     pub place: Place,
     pub what: StmtKind,
 }

@@ -7,12 +7,14 @@ use std::alloc::Global;
 use std::env::{self, Env};
 use std::io::ErrorKind;
 use std::process::ExitCode;
-use std::rt::Alloc;
 
 /// The words after the program's name. Words that aren't text ask for no job, as none at all.
 fn words<R: Env + Alloc<A = Global>>(rt: &R) -> Result<Vec<String>, Status> {
     match env::args(rt) {
-        Ok(args) => args.skip(1).collect(rt.alloc()).map_err(|_| Status::NoMemory),
+        Ok(args) => args
+            .skip(1)
+            .collect(rt.alloc())
+            .map_err(|_| Status::NoMemory),
         Err(error) if error.kind() == ErrorKind::InvalidData => Ok(Vec::new(rt.alloc())),
         Err(_) => Err(Status::NoMemory),
     }

@@ -1,3 +1,7 @@
+ghost use Rattle.std.specs.Prelude.{◌≡◌, ◌<◌, length, true, IfOk, IsSome};
+ghost use Rattle.bl_tree.specs.Words.{is_name as is_a_name};
+
+use crate::early::names::is_name;
 use crate::stop::Stop;
 use bl_tree::place::Place;
 use bl_tree::token::{Token, TokenKind};
@@ -26,7 +30,9 @@ impl<'a> Cursor<'a> {
         }
     }
 
-    pub fn peek(&self) -> Option<Token> {
+    pub fn peek(&self) -> Option<Token>
+        ensures { IsSome result → self.now.at < length self.now.tokens.now }
+    {
         self.tokens.get(self.at).copied()
     }
 
@@ -65,10 +71,14 @@ impl<'a> Cursor<'a> {
         found
     }
 
-    pub fn name(&mut self) -> Result<Name<'a>, Stop> {
+    pub fn name(&mut self) -> Result<Name<'a>, Stop>
+        ensures { IfOk result (λ name. is_a_name name.text.now ≡ true) }
+    {
         let place = self.expect(TokenKind::Name)?;
-        let text = self.text_at(place).ok_or(Stop::Unbuilt)?;
-        Ok(Name { text, place })
+        match self.text_at(place) {
+            Some(text) if is_name(text) => Ok(Name { text, place }),
+            _ => Err(Stop::Unbuilt),
+        }
     }
 
     pub fn text_at(&self, place: Place) -> Option<&'a str> {

@@ -1,5 +1,8 @@
+ghost use Rattle.std.specs.Prelude.{◌≡◌, IfOk};
+ghost use Rattle.bl_top.specs.Early.{IsTyped, Stands, literal_of, path_of};
+
 use super::cursor::Cursor;
-use super::params::Params;
+use super::params::{Named, Params};
 use crate::stop::Stop;
 use bl_lex::word;
 use bl_tree::List;
@@ -20,7 +23,10 @@ pub struct Item {
 }
 
 /// Reads a number, `true`, `false` or the name of a parameter.
-pub fn read(alloc: Global, cursor: &mut Cursor, params: &Params) -> Result<Item, Stop> {
+pub fn read(alloc: Global, cursor: &mut Cursor, params: &Params) -> Result<Item, Stop>
+    requires { Stands params.now }
+    ensures { IfOk result (λ item. IsTyped params.now.vars 0 item.e item.ty) }
+{
     let token = cursor.advance()?;
     match token.kind {
         TokenKind::Number(n) if n <= GREATEST && is_decimal(cursor, token) => {
@@ -33,7 +39,10 @@ pub fn read(alloc: Global, cursor: &mut Cursor, params: &Params) -> Result<Item,
     }
 }
 
-fn literal(place: Place, n: i128, ty: Scalar) -> Item {
+fn literal(place: Place, n: i128, ty: Scalar) -> Item
+    ensures expression { result.e ≡ literal_of place n ty }
+    ensures typed { result.ty ≡ ty }
+{
     Item {
         e: Expr {
             place,
@@ -51,24 +60,28 @@ fn is_decimal(cursor: &Cursor, token: Token) -> bool {
     }
 }
 
-fn named(alloc: Global, cursor: &Cursor, params: &Params, place: Place) -> Result<Item, Stop> {
+fn named(alloc: Global, cursor: &Cursor, params: &Params, place: Place) -> Result<Item, Stop>
+    requires { Stands params.now }
+    ensures { IfOk result (λ item. IsTyped params.now.vars 0 item.e item.ty) }
+{
     let text = cursor.text_at(place).ok_or(Stop::Unbuilt)?;
-    let root = params.position(text).ok_or(Stop::Unbuilt)?;
-    let ty = params.type_of(root)?;
+    let named = params.find(text)?;
     Ok(Item {
         e: Expr {
             place,
-            what: ExprKind::Read(variable(alloc, root as u32, ty)),
+            what: ExprKind::Read(variable(alloc, named)),
         },
-        ty,
+        ty: named.ty,
     })
 }
 
 /// The path that is a variable alone.
-pub fn variable(alloc: Global, root: u32, ty: Scalar) -> Path {
+pub fn variable(alloc: Global, named: Named) -> Path
+    ensures { result ≡ path_of named.root named.ty }
+{
     Path {
-        root,
+        root: named.root,
         parts: List::new(alloc),
-        ty: Ty::Scalar(ty),
+        ty: Ty::Scalar(named.ty),
     }
 }

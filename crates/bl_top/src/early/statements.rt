@@ -1,3 +1,7 @@
+ghost use Rattle.std.specs.Prelude.{IfOk, List};
+ghost use Rattle.bl_tree.specs.declared.tree.Var.{Var};
+ghost use Rattle.bl_top.specs.Early.{AreTame, IsTame, IsTyped, Stands};
+
 use super::cursor::{Cursor, Name};
 use super::items::{self, Item, variable};
 use super::params::Params;
@@ -14,10 +18,13 @@ use std::alloc::Global;
 const MOST: usize = 1_000;
 
 /// Reads the sets and awaits of the loop, up to its `end`.
-pub fn read(alloc: Global, cursor: &mut Cursor, params: &Params) -> Result<List<Stmt>, Stop> {
+pub fn read(alloc: Global, cursor: &mut Cursor, params: &Params) -> Result<List<Stmt>, Stop>
+    requires { Stands params.now }
+    ensures { IfOk result (λ body. AreTame params.now.vars body) }
+{
     let mut statements = List::new(alloc);
     let mut awaits = false;
-    while let Some(token) = cursor.peek() {
+    'body: while let Some(token) = cursor.peek() {
         if statements.len() >= MOST || token.kind == TokenKind::Word(word::END) {
             break;
         }
@@ -35,7 +42,10 @@ pub fn read(alloc: Global, cursor: &mut Cursor, params: &Params) -> Result<List<
     }
 }
 
-fn read_await(alloc: Global, cursor: &mut Cursor, params: &Params) -> Result<Stmt, Stop> {
+fn read_await(alloc: Global, cursor: &mut Cursor, params: &Params) -> Result<Stmt, Stop>
+    requires { Stands params.now }
+    ensures { IfOk result (λ s. IsTame params.now.vars s) }
+{
     let start = cursor.word(word::AWAIT)?.start;
     let item = items::read(alloc, cursor, params)?;
     if item.ty != Scalar::Bool {
@@ -48,21 +58,36 @@ fn read_await(alloc: Global, cursor: &mut Cursor, params: &Params) -> Result<Stm
     })
 }
 
-fn read_set(alloc: Global, cursor: &mut Cursor, params: &Params) -> Result<Stmt, Stop> {
+fn read_set(alloc: Global, cursor: &mut Cursor, params: &Params) -> Result<Stmt, Stop>
+    requires { Stands params.now }
+    ensures { IfOk result (λ s. IsTame params.now.vars s) }
+{
     let name = cursor.name()?;
     cursor.sign(sign::ASSIGN)?;
     let first = items::read(alloc, cursor, params)?;
-    let source = if cursor.takes(TokenKind::Sign(sign::PLUS)) {
-        let second = items::read(alloc, cursor, params)?;
-        sum(alloc, first, second)?
-    } else {
-        first
-    };
+    let source = maybe_sum(alloc, cursor, params, first)?;
     set(alloc, params, name, source)
 }
 
+/// The sum of the item and the one behind a `+`, where one stands next.
+fn maybe_sum(alloc: Global, cursor: &mut Cursor, params: &Params, first: Item) -> Result<Item, Stop>
+    requires stands { Stands params.now }
+    requires typed { IsTyped params.now.vars 0 first.e first.ty }
+    ensures { IfOk result (λ item. IsTyped params.now.vars 1 item.e item.ty) }
+{
+    if cursor.takes(TokenKind::Sign(sign::PLUS)) {
+        let second = items::read(alloc, cursor, params)?;
+        let item = sum(alloc, first, second)?;
+        Ok(item)
+    } else {
+        Ok(first)
+    }
+}
+
 /// The sum of two numbers.
-fn sum(alloc: Global, first: Item, second: Item) -> Result<Item, Stop> {
+fn sum(alloc: Global, first: Item, second: Item) -> Result<Item, Stop>
+    ensures { IfOk result (λ item. (vars : List Var) → IsTyped vars 0 first.e first.ty → IsTyped vars 0 second.e second.ty → IsTyped vars 1 item.e item.ty) }
+{
     let int32 = Scalar::Int(Width::W32);
     if first.ty != int32 || second.ty != int32 {
         return Err(Stop::Unbuilt);
@@ -83,9 +108,13 @@ fn sum(alloc: Global, first: Item, second: Item) -> Result<Item, Stop> {
 }
 
 /// A set of an output to what has its type.
-fn set(alloc: Global, params: &Params, name: Name, source: Item) -> Result<Stmt, Stop> {
-    let root = params.position(name.text).ok_or(Stop::Unbuilt)?;
-    if params.type_of(root)? != source.ty || params.role_of(root)? != Role::Output {
+fn set(alloc: Global, params: &Params, name: Name, source: Item) -> Result<Stmt, Stop>
+    requires stands { Stands params.now }
+    requires typed { IsTyped params.now.vars 1 source.e source.ty }
+    ensures { IfOk result (λ s. IsTame params.now.vars s) }
+{
+    let target = params.find(name.text)?;
+    if target.ty != source.ty || target.role != Role::Output {
         return Err(Stop::Unbuilt);
     }
     let place = Place {
@@ -94,6 +123,6 @@ fn set(alloc: Global, params: &Params, name: Name, source: Item) -> Result<Stmt,
     };
     Ok(Stmt {
         place,
-        what: StmtKind::Assign(variable(alloc, root as u32, source.ty), source.e),
+        what: StmtKind::Assign(variable(alloc, target), source.e),
     })
 }

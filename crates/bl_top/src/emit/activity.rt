@@ -1,6 +1,16 @@
+#![tactic(auto, using(crate::proofs::EmitSteps::emit_steps))]
+
+ghost use Rattle.std.specs.Prelude.{IsTrue, IfOk};
+ghost use Rattle.std.specs.List.{list_all};
+ghost use Rattle.bl_ctext.specs.Fits.{func_fits, stmt_fits, stmts_fit};
+ghost use Rattle.bl_ctext.specs.Spellable.{spells_local, spells_param};
+ghost use Rattle.bl_top.specs.Emitted.{is_named};
+
 use super::expressions::{item, place, source};
-use super::parts::{NOWHERE, counter_local, pointer, prefixed, read, set, text, variable};
-use super::segments::{Segments, counter};
+use super::parts::{
+    counter_local, inner_function, named, pointer, prefixed, read, set, structure_named, variable,
+};
+use super::segments::{Segments, counter, joined};
 use crate::stop::Stop;
 use bl_tree::List;
 use bl_tree::c::{CFunc, CLocal, CParam, CStmt};
@@ -8,42 +18,57 @@ use bl_tree::tree::{Stmt, StmtKind, Unit};
 use std::alloc::Global;
 
 /// The function that does one tick of the activity.
-pub fn function(alloc: Global, unit: &Unit, body: &[Stmt]) -> Result<CFunc, Stop> {
-    Ok(CFunc {
-        place: NOWHERE,
-        fixed: true,
-        result: None,
-        name: prefixed(alloc, "a_", &unit.name)?,
-        params: params(alloc, unit)?,
-        locals: locals(alloc)?,
-        body: statements(alloc, unit, body)?,
-    })
+pub fn function(alloc: Global, unit: &Unit, body: &[Stmt]) -> Result<CFunc, Stop>
+    requires { IsTrue (is_named unit.now) }
+    ensures { IfOk result (λ f. IsTrue (func_fits 2000 f)) }
+{
+    let name = prefixed(alloc, "a_", &unit.name)?;
+    let params = params(alloc, unit)?;
+    let locals = locals(alloc)?;
+    let body = statements(alloc, unit, body)?;
+    Ok(inner_function(name, params, locals, body))
 }
 
-fn params(alloc: Global, unit: &Unit) -> Result<List<CParam>, Stop> {
+fn params(alloc: Global, unit: &Unit) -> Result<List<CParam>, Stop>
+    requires { IsTrue (is_named unit.now) }
+    ensures { IfOk result (λ params. IsTrue (list_all spells_param params)) }
+{
     let mut params = List::new(alloc);
-    params.push(pointer(prefixed(alloc, "f_", &unit.name)?, text(alloc, "p_f")?))?;
-    params.push(pointer(text(alloc, "bl_in")?, text(alloc, "p_i")?))?;
-    params.push(pointer(text(alloc, "bl_out")?, text(alloc, "p_o")?))?;
+    params.push(pointer(prefixed(alloc, "f_", &unit.name)?, named(alloc, "p_f")?))?;
+    params.push(pointer(structure_named(alloc, "bl_in")?, named(alloc, "p_i")?))?;
+    params.push(pointer(structure_named(alloc, "bl_out")?, named(alloc, "p_o")?))?;
     Ok(params)
 }
 
-fn locals(alloc: Global) -> Result<List<CLocal>, Stop> {
+fn locals(alloc: Global) -> Result<List<CLocal>, Stop>
+    ensures { IfOk result (λ locals. IsTrue (list_all spells_local locals)) }
+{
     let mut locals = List::new(alloc);
-    locals.push(counter_local(text(alloc, "l_0")?))?;
+    locals.push(counter_local(named(alloc, "l_0")?))?;
     Ok(locals)
 }
 
-fn statements(alloc: Global, unit: &Unit, body: &[Stmt]) -> Result<List<CStmt>, Stop> {
+fn statements(alloc: Global, unit: &Unit, body: &[Stmt]) -> Result<List<CStmt>, Stop>
+    requires { IsTrue (is_named unit.now) }
+    ensures { IfOk result (λ all. IsTrue (stmts_fit 5 all)) }
+{
     let mut all = List::new(alloc);
-    all.push(set(variable(alloc, text(alloc, "l_0")?), read(counter(alloc)?)))?;
-    for statement in stretches(alloc, unit, body)?.into_vec() {
-        all.push(statement)?;
-    }
+    all.push(begin(alloc)?)?;
+    let all = joined(all, stretches(alloc, unit, body)?)?;
     Ok(all)
 }
 
-fn stretches(alloc: Global, unit: &Unit, body: &[Stmt]) -> Result<List<CStmt>, Stop> {
+/// The counter is read once a tick.
+fn begin(alloc: Global) -> Result<CStmt, Stop>
+    ensures { IfOk result (λ s. IsTrue (stmt_fits 5 s)) }
+{
+    Ok(set(variable(alloc, named(alloc, "l_0")?), read(counter(alloc)?)))
+}
+
+fn stretches(alloc: Global, unit: &Unit, body: &[Stmt]) -> Result<List<CStmt>, Stop>
+    requires { IsTrue (is_named unit.now) }
+    ensures { IfOk result (λ all. IsTrue (stmts_fit 5 all)) }
+{
     let mut segments = Segments::new(alloc);
     for statement in body {
         match &statement.what {

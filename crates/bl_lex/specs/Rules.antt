@@ -1,0 +1,90 @@
+-- How a text fails the rules Size, Lex and Profile, which are the rules 1 to 3, and at which place.
+use Rattle.std.specs.Prelude.{◌≡◌, ◌≢◌, ℕ, ◌+◌, ◌<◌, ◌≤◌, ◌⊎◌, true, false, List, [], ◌∷◌, ◌++◌, length, slice_index, slice_range, codes, ⊤}
+use Rattle.bl_tree.specs.declared.place.Place.{Place}
+use Rattle.bl_tree.specs.declared.place.Refusal.{Refusal}
+use Rattle.bl_tree.specs.declared.place.Refusal.TheVariants.{Rule, NoMemory}
+use Rattle.bl_tree.specs.declared.token.TokenKind.TheVariants.{Name, Sign}
+use Rattle.bl_lex.specs.declared.piece.Form.TheVariants.{Token, Outside}
+use Rattle.bl_lex.specs.declared.sign.TheConstants.{OPEN_BRACKET, AT, OPEN_BRACE, CLOSE_BRACE}
+use Rattle.bl_lex.specs.Spelling.{is_word_byte, begins_with_digit, IsNumber, IsOctal}
+use Rattle.bl_lex.specs.Pieces.{OpensComment, ClosesComment, IsWord, NoPieceAt}
+use Rattle.bl_lex.specs.Tokens.{Part, place_of, Covers, without_between}
+
+-- Size: the text has more than 1,048,576 bytes; the place is the first beyond
+pub record FailsSize (text : List ℕ) (place : Place) : Type 0 where
+  pub too_long : 1_048_576 < length text
+  pub at : place ≡ record { start = 1_048_576; end = 1_048_577 }
+
+-- a byte that begins no piece; of a word and of `/*` more than the byte is named
+pub record IsStrayByte (text : List ℕ) (place : Place) : Type 0 where
+  pub inside : place.start < length text
+  pub begins_nothing : NoPieceAt text place.start
+  pub no_word : is_word_byte (slice_index text place.start) ≡ false
+  pub no_comment : ¬ OpensComment text place.start
+  pub one_byte : place.end ≡ place.start + 1
+
+-- a `/*` that no `*/` follows
+pub record IsUnclosedComment (text : List ℕ) (place : Place) : Type 0 where
+  pub opens : OpensComment text place.start
+  pub never_closes : (i : ℕ) → place.start + 2 ≤ i → ¬ ClosesComment text i
+  pub two_bytes : place.end ≡ place.start + 2
+
+-- a word that begins with a digit and is neither a number nor what rule Profile refuses
+pub record IsMalformedNumber (text : List ℕ) (place : Place) : Type 0 where
+  pub whole_word : IsWord text place.start place.end
+  pub digit : begins_with_digit (slice_range text place.start place.end) ≡ true
+  pub no_number : (n : ℕ) → ¬ IsNumber (slice_range text place.start place.end) n
+  pub not_octal : ¬ IsOctal (slice_range text place.start place.end)
+
+-- what stands here begins no piece, and this is the place that names it
+abbrev pub IsFault : List ℕ → Place → Type 0
+IsFault text place = IsStrayByte text place ⊎ (IsUnclosedComment text place ⊎ IsMalformedNumber text place)
+
+-- Lex: pieces cover the text as far as this place, and none stands here
+pub record FailsLex (text : List ℕ) (place : Place) : Type 0 where
+  pub parts : List Part
+  pub covers : Covers text 0 parts place.start
+  pub fault : IsFault text place
+
+-- a token, where `before` are those before it, that the profile leaves out: some words and numbers, braces,
+-- and a name other than `EntryPoint` directly after `@ [`
+pub data IsLeftOut (text : List ℕ) (before : List Part) (part : Part) : Type 0 where
+  outside : part.form ≡ Outside → IsLeftOut text before part
+  open_brace : part.form ≡ Token (Sign OPEN_BRACE) → IsLeftOut text before part
+  close_brace : part.form ≡ Token (Sign CLOSE_BRACE) → IsLeftOut text before part
+  attribute : (front : List Part) (at bracket : Part) → before ≡ front ++ (at ∷ bracket ∷ []) → at.form ≡ Token (Sign AT) → bracket.form ≡ Token (Sign OPEN_BRACKET)
+      → part.form ≡ Token Name → slice_range text part.start part.end ≢ codes "EntryPoint" → IsLeftOut text before part
+
+-- Profile: pieces cover the whole text, and the profile leaves out the token at this place
+pub record FailsProfile (text : List ℕ) (place : Place) : Type 0 where
+  pub parts : List Part
+  pub covers : Covers text 0 parts (length text)
+  pub before : List Part
+  pub part : Part
+  pub after : List Part
+  pub stands : without_between parts ≡ before ++ part ∷ after
+  pub left_out : IsLeftOut text before part
+  pub at : place ≡ place_of part
+
+-- the rule of this number fails at this place
+abbrev pub Fails : List ℕ → ℕ → Place → Type 0
+Fails text number place = ((number ≡ 1) × FailsSize text place) ⊎ (((number ≡ 2) × FailsLex text place) ⊎ ((number ≡ 3) × FailsProfile text place))
+
+-- a place is no later than another: by their starts, and then by their ends
+abbrev pub IsNoLater : Place → Place → Type 0
+IsNoLater one other = (one.start < other.start) ⊎ ((one.start ≡ other.start) × (one.end ≤ other.end))
+
+-- the rule fails at the place, no lesser rule fails, and this rule fails at no earlier place
+pub record FailsFirst (text : List ℕ) (number : ℕ) (place : Place) : Type 0 where
+  pub fails : Fails text number place
+  pub least_rule : (other : ℕ) (elsewhere : Place) → Fails text other elsewhere → number ≤ other
+  pub least_place : (elsewhere : Place) → Fails text number elsewhere → IsNoLater place elsewhere
+
+-- none of the three rules fails
+abbrev pub Passes : List ℕ → Type 0
+Passes text = (number : ℕ) (place : Place) → ¬ Fails text number place
+
+-- the refusal names the first rule that fails, with its place and no further one; want of memory has no cause in the text
+abbrev pub IsRefusalOf : List ℕ → Refusal → Type 0
+IsRefusalOf text (Rule number place also) = FailsFirst text number place × (also ≡ [])
+IsRefusalOf text NoMemory = ⊤

@@ -1,0 +1,10 @@
+pub mod Csv
+pub mod Cuts
+pub mod Numbers
+pub mod Pieces
+pub mod Plain
+pub mod Records
+pub mod Scans
+pub mod Seq
+pub mod Traces
+pub mod Verdicts
