@@ -16,6 +16,7 @@ pub mod Longest
 pub mod MapLemmas
 pub mod NameLemmas
 pub mod Nesting
+pub mod Once
 pub mod Parts
 pub mod PlainWords
 pub mod PrefixedNames

@@ -7,6 +7,7 @@ pub mod file;
 pub mod laws;
 mod prelude;
 mod printer;
+pub mod spelling;
 mod writer;
 
 pub use builtin::Builtin;
