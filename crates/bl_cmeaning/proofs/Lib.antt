@@ -1,0 +1,14 @@
+pub mod ArgLemmas
+pub mod BoundLemmas
+pub mod CallLemmas
+pub mod DeclaredLemmas
+pub mod EndLemmas
+pub mod Examples
+pub mod FirstLemmas
+pub mod Induction
+pub mod MapLemmas
+pub mod NameLemmas
+pub mod TableLemmas
+pub mod TraceLemmas
+pub mod VariableLemmas
+pub mod WellFormedLemmas

@@ -1,0 +1,11 @@
+use Rattle.std.proofs.Common.{◌≡◌, ℕ, drop}
+use Rattle.bl_cmeaning.specs.Checked.{functions_of, structs_of}
+use Rattle.bl_cmeaning.specs.Faults.{earlier_of, first_place, function_faults_after}
+use Rattle.bl_cmeaning.specs.Maps.{text_at}
+use Rattle.bl_cmeaning.specs.Tables.{no_entries}
+use Rattle.bl_cmeaning.proofs.check.functions.judge_functions.Given as goal
+
+abbrev pub invariant-loop-k : goal.invariant-loop-k
+invariant-loop-k l =
+    earlier_of l.first (first_place (function_faults_after (structs_of l.structs) (functions_of l.functions) (text_at l.depths) (drop l.k l.list)))
+    ≡ first_place (function_faults_after (structs_of l.structs) no_entries no_entries l.list)

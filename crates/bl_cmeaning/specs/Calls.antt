@@ -1,0 +1,95 @@
+-- Which functions expressions and statements call.
+use Rattle.std.specs.Prelude.{ℕ, List, [], ◌∷◌, ◌++◌, map, Option, Some, None}
+use Rattle.bl_tree.specs.declared.text.Text.{Text}
+use Rattle.bl_tree.specs.declared.c.CArg.TheOpen.{CArg-F, CExprKind-F, CCall-F, CExpr-F, CIndex-F, CPlace-F, CStep-F}
+use Rattle.bl_tree.specs.declared.c.CArg.{CArg, fold-CArg}
+use Rattle.bl_tree.specs.declared.c.CStep.{CStep, fold-CStep}
+use Rattle.bl_tree.specs.declared.c.CExpr.{CExpr, fold-CExpr}
+use Rattle.bl_tree.specs.declared.c.CPlace.{CPlace, fold-CPlace}
+use Rattle.bl_tree.specs.declared.c.CCall.{CCall, fold-CCall}
+use Rattle.bl_tree.specs.declared.c.CStmtKind.TheOpen.{CStmtKind-F, CStmt-F}
+use Rattle.bl_tree.specs.declared.c.CStmt.{CStmt, fold-CStmt}
+use Rattle.bl_tree.specs.Reduce.{joined, greatest}
+use Rattle.bl_cmeaning.specs.Tables.{Table, entry_or}
+
+-- ---- in one level, where the parts' calls are known
+
+abbrev pub Names : Type 0
+Names = List Text
+
+abbrev pub arg_calls : CArg-F Names Names Names Names Names Names Names → Names
+arg_calls (CArg-F.Value value) = value
+arg_calls (CArg-F.Address place) = place
+
+abbrev pub kind_calls : CExprKind-F Names Names Names Names Names Names Names → Names
+kind_calls (CExprKind-F.Literal type n) = []
+kind_calls (CExprKind-F.Read place) = place
+kind_calls (CExprKind-F.Call call) = call
+kind_calls (CExprKind-F.Not operand) = operand
+kind_calls (CExprKind-F.Two op left right) = left ++ right
+
+abbrev pub call_calls : CCall-F Names Names Names Names Names Names Names → Names
+call_calls call = call.name ∷ joined call.args
+
+abbrev pub expr_calls : CExpr-F Names Names Names Names Names Names Names → Names
+expr_calls expr = expr.what
+
+abbrev pub index_calls : CIndex-F Names Names Names Names Names Names Names → Names
+index_calls index = index.at
+
+abbrev pub place_calls : CPlace-F Names Names Names Names Names Names Names → Names
+place_calls place = joined place.steps
+
+abbrev pub names_or_none : Option Names → Names
+names_or_none None = []
+names_or_none (Some names) = names
+
+abbrev pub step_calls : CStep-F Names Names Names Names Names Names Names → Names
+step_calls step = names_or_none step.index
+
+-- ---- the names of the called functions, one for each call
+
+abbrev pub calls_in : CExpr → List Text
+calls_in = fold-CExpr Names Names Names Names Names Names Names arg_calls kind_calls call_calls expr_calls index_calls place_calls step_calls
+
+abbrev pub calls_in_place : CPlace → List Text
+calls_in_place = fold-CPlace Names Names Names Names Names Names Names arg_calls kind_calls call_calls expr_calls index_calls place_calls step_calls
+
+abbrev pub calls_in_call : CCall → List Text
+calls_in_call = fold-CCall Names Names Names Names Names Names Names arg_calls kind_calls call_calls expr_calls index_calls place_calls step_calls
+
+abbrev pub calls_in_arg : CArg → List Text
+calls_in_arg = fold-CArg Names Names Names Names Names Names Names arg_calls kind_calls call_calls expr_calls index_calls place_calls step_calls
+
+abbrev pub calls_in_step : CStep → List Text
+calls_in_step = fold-CStep Names Names Names Names Names Names Names arg_calls kind_calls call_calls expr_calls index_calls place_calls step_calls
+
+abbrev pub calls_or_none : Option CExpr → List Text
+calls_or_none None = []
+calls_or_none (Some expr) = calls_in expr
+
+abbrev pub block_or_none : Option (List Names) → Names
+block_or_none None = []
+block_or_none (Some block) = joined block
+
+abbrev pub stmt_kind_calls : CStmtKind-F Names Names → Names
+stmt_kind_calls (CStmtKind-F.Set place expr) = calls_in_place place ++ calls_in expr
+stmt_kind_calls (CStmtKind-F.Clear place struct) = calls_in_place place
+stmt_kind_calls (CStmtKind-F.Call call) = calls_in_call call
+stmt_kind_calls (CStmtKind-F.If condition block other) = calls_in condition ++ joined block ++ block_or_none other
+stmt_kind_calls (CStmtKind-F.Loop turn condition body) = calls_in condition ++ joined body
+stmt_kind_calls CStmtKind-F.Break = []
+stmt_kind_calls (CStmtKind-F.Return expr) = calls_or_none expr
+
+abbrev pub stmt_calls : CStmt-F Names Names → Names
+stmt_calls stmt = stmt.what
+
+abbrev pub calls_in_stmt : CStmt → List Text
+calls_in_stmt = fold-CStmt Names Names stmt_kind_calls stmt_calls
+
+abbrev pub calls_in_block : List CStmt → List Text
+calls_in_block stmts = joined (map calls_in_stmt stmts)
+
+-- the greatest number of these functions in a table, where those that it doesn't have count 0
+abbrev pub most : Table ℕ → List Text → ℕ
+most numbers names = greatest (map (entry_or 0 numbers) names)

@@ -1,0 +1,356 @@
+-- What C expressions, statements and functions do: the value or the memory after, how it ended, and how many statements were executed.
+-- A form that no well-formed file has (a function that isn't known, a number where a place is due) traps or gives some fixed value.
+use Rattle.std.specs.Prelude.{ℕ, zero, suc, ◌+◌, ℤ, pos, Bool, true, false, List, [], ◌∷◌, ◌++◌, map, Option, Some, None, option_map, if◌then◌else◌}
+use Rattle.bl_tree.specs.declared.text.Text.{Text}
+use Rattle.bl_tree.specs.declared.scalar.Scalar.TheVariants.{Bool as OfBool}
+use Rattle.bl_tree.specs.declared.scalar.Op.{Op}
+use Rattle.bl_tree.specs.declared.scalar.Op.TheVariants.{Both, Either, Negate}
+use Rattle.bl_tree.specs.declared.c.CArg.TheOpen.{CArg-F, CExprKind-F, CCall-F, CExpr-F, CIndex-F, CPlace-F, CStep-F}
+use Rattle.bl_tree.specs.declared.c.CExpr.{CExpr, fold-CExpr}
+use Rattle.bl_tree.specs.declared.c.CPlace.{CPlace, fold-CPlace}
+use Rattle.bl_tree.specs.declared.c.CCall.{CCall, fold-CCall}
+use Rattle.bl_tree.specs.declared.c.CStmtKind.TheOpen.{CStmtKind-F, CStmt-F}
+use Rattle.bl_tree.specs.declared.c.CStmt.{CStmt, fold-CStmt}
+use Rattle.bl_tree.specs.declared.c.CParam.{CParam}
+use Rattle.bl_tree.specs.declared.c.CFunc.{CFunc}
+use Rattle.bl_tree.specs.Numbers.{checked_of, checked_one_of, is_one}
+use Rattle.bl_cmeaning.specs.Memory.{Part, member, element, Root, variable, Location, CValue, Memory, scalar, number_in, zeros, value_at, set_at, without_frame}
+use Rattle.bl_cmeaning.specs.Tables.{Table, no_entries, table_of, with_entry, entry_or}
+use Rattle.bl_cmeaning.specs.declared.builtin.Builtin.{Builtin}
+use Rattle.bl_cmeaning.specs.Builtin.{builtin_of, builtin_value, index_within}
+
+-- ---- answers with a count
+
+-- what an evaluation comes to: its answer, none where it traps, and how many statements the functions that it called executed
+pub record Counted (A : Type 0) : Type 0 where
+  pub count : ℕ
+  pub answer : Option A
+
+-- an answer at once
+abbrev pub given : {A : Type 0} → Option A → Counted A
+given answer = record { count = 0; answer = answer }
+
+-- with so many statements before it
+abbrev pub more : {A : Type 0} → ℕ → Counted A → Counted A
+more n c = record { count = n + c.count; answer = c.answer }
+
+-- what comes after n statements and this answer; nothing comes after a trap
+abbrev pub going_on : {A B : Type 0} → ℕ → Option A → (A → Counted B) → Counted B
+going_on n None rest = record { count = n; answer = None }
+going_on n (Some a) rest = more n (rest a)
+
+-- one evaluation, and then another with its answer
+abbrev pub next : {A B : Type 0} → Counted A → (A → Counted B) → Counted B
+next first rest = going_on first.count first.answer rest
+
+-- ---- functions
+
+-- an argument: a number, or the place after `&`
+pub data Passed : Type 0 where
+  by_value : CValue → Passed
+  by_address : Location → Passed
+
+-- what a call comes to: the memory after it, how many statements it executed, and its result, none where it trapped; 0 without a result
+pub record Called : Type 0 where
+  pub memory : Memory
+  pub count : ℕ
+  pub result : Option ℤ
+
+-- what a function does at a depth in the chain of calls, with these arguments
+abbrev pub Meaning : Type 0
+Meaning = ℕ → List Passed → Memory → Called
+
+-- what is known where an expression or statement stands: the earlier functions, the depth of the running function, and where its pointers lead
+pub record Scope : Type 0 where
+  pub known : Table Meaning
+  pub depth : ℕ
+  pub pointers : Table Location
+
+-- the numbers of arguments by value
+abbrev pub number_of_passed : Passed → ℤ
+number_of_passed (by_value value) = number_in value
+number_of_passed (by_address place) = pos 0
+
+-- a call that gives a number and changes nothing
+abbrev pub answered : Memory → Option ℤ → Called
+answered memory result = record { memory = memory; count = 0; result = result }
+
+-- a call of a function that may be known
+abbrev pub applied : Option Meaning → ℕ → List Passed → Memory → Called
+applied (Some meaning) depth passed memory = meaning depth passed memory
+applied None depth passed memory = answered memory None
+
+-- a call of a function that may be the prelude's
+abbrev pub called_as : Option Builtin → Option Meaning → ℕ → List Passed → Memory → Called
+called_as (Some builtin) function depth passed memory = answered memory (builtin_value builtin (map number_of_passed passed))
+called_as None function depth passed memory = applied function depth passed memory
+
+-- a call of the function of this name with these arguments
+abbrev pub called : Scope → Text → List Passed → Memory → Called
+called scope name passed memory = called_as (builtin_of name) (scope.known name) (scope.depth + 1) passed memory
+
+-- a call after so many statements
+abbrev pub later_call : ℕ → Called → Called
+later_call n c = record { memory = c.memory; count = n + c.count; result = c.result }
+
+-- a call once its arguments are evaluated
+abbrev pub called_after : Scope → Memory → Text → ℕ → Option (List Passed) → Called
+called_after scope memory name n (Some passed) = later_call n (called scope name passed memory)
+called_after scope memory name n None = record { memory = memory; count = n; result = None }
+
+-- ---- expressions change nothing: each is evaluated in a scope and a memory, from left to right
+
+abbrev pub Evaluates : Type 0 → Type 0
+Evaluates A = Scope → Memory → Counted A
+
+-- one after the other, up to the first that traps
+abbrev pub each_of : {A : Type 0} → List (Evaluates A) → Evaluates (List A)
+each_of [] scope memory = given (Some [])
+each_of (evaluate ∷ rest) scope memory =
+    next (evaluate scope memory) (λ a. next (each_of rest scope memory) (λ others. given (Some (a ∷ others))))
+
+-- the ways of several steps, joined
+abbrev pub way_of : List (List Part) → List Part
+way_of [] = []
+way_of (parts ∷ rest) = parts ++ way_of rest
+
+-- where the name of a place leads: a variable of the running function, or what a pointer points to
+abbrev pub start_of : Scope → Bool → Text → Location
+start_of scope false name = record { root = variable scope.depth name; parts = [] }
+start_of scope true name = entry_or (record { root = variable scope.depth name; parts = [] }) scope.pointers name
+
+-- a place further on
+abbrev pub further : Location → List Part → Location
+further place parts = record { root = place.root; parts = place.parts ++ parts }
+
+-- the element of an index; none, a trap, outside of the array
+abbrev pub element_at : Option ℤ → Option (List Part)
+element_at None = None
+element_at (Some (pos k)) = Some (element k ∷ [])
+element_at (Some _) = None
+
+-- a number that needs no evaluation
+abbrev pub at_once : ℤ → Evaluates CValue
+at_once n scope memory = given (Some (scalar n))
+
+-- the value of a comparison, or of `&&` and `||`, whose right side counts only where the left doesn't decide
+abbrev pub two_values : Op → Evaluates CValue → Evaluates CValue → Evaluates CValue
+two_values Both left right scope memory =
+    next (left scope memory) (λ a. (if is_one (number_in a) then right else at_once (pos 0)) scope memory)
+two_values Either left right scope memory =
+    next (left scope memory) (λ a. (if is_one (number_in a) then at_once (pos 1) else right) scope memory)
+two_values op left right scope memory =
+    next (left scope memory) (λ a. next (right scope memory) (λ b. given (option_map scalar (checked_of op OfBool (number_in a) (number_in b)))))
+
+-- a call in an expression gives its result
+abbrev pub result_of : Called → Counted CValue
+result_of c = record { count = c.count; answer = option_map scalar c.result }
+
+abbrev pub arg_step : CArg-F (Evaluates Passed) (Evaluates CValue) (Scope → Memory → Called) (Evaluates CValue) (Evaluates (List Part)) (Evaluates Location) (Evaluates (List Part)) → Evaluates Passed
+arg_step (CArg-F.Value value) scope memory = next (value scope memory) (λ v. given (Some (by_value v)))
+arg_step (CArg-F.Address place) scope memory = next (place scope memory) (λ p. given (Some (by_address p)))
+
+abbrev pub kind_step : CExprKind-F (Evaluates Passed) (Evaluates CValue) (Scope → Memory → Called) (Evaluates CValue) (Evaluates (List Part)) (Evaluates Location) (Evaluates (List Part)) → Evaluates CValue
+kind_step (CExprKind-F.Literal type n) scope memory = given (Some (scalar n))
+kind_step (CExprKind-F.Read place) scope memory = next (place scope memory) (λ p. given (Some (value_at memory p)))
+kind_step (CExprKind-F.Call call) scope memory = result_of (call scope memory)
+kind_step (CExprKind-F.Not operand) scope memory =
+    next (operand scope memory) (λ a. given (option_map scalar (checked_one_of Negate OfBool (number_in a))))
+kind_step (CExprKind-F.Two op left right) scope memory = two_values op left right scope memory
+
+abbrev pub call_step : CCall-F (Evaluates Passed) (Evaluates CValue) (Scope → Memory → Called) (Evaluates CValue) (Evaluates (List Part)) (Evaluates Location) (Evaluates (List Part)) → Scope → Memory → Called
+call_step call scope memory =
+    let passed = each_of call.args scope memory in
+    called_after scope memory call.name passed.count passed.answer
+
+abbrev pub expr_step : CExpr-F (Evaluates Passed) (Evaluates CValue) (Scope → Memory → Called) (Evaluates CValue) (Evaluates (List Part)) (Evaluates Location) (Evaluates (List Part)) → Evaluates CValue
+expr_step expr = expr.what
+
+abbrev pub index_step : CIndex-F (Evaluates Passed) (Evaluates CValue) (Scope → Memory → Called) (Evaluates CValue) (Evaluates (List Part)) (Evaluates Location) (Evaluates (List Part)) → Evaluates (List Part)
+index_step index scope memory =
+    next (index.at scope memory) (λ i. given (element_at (index_within (number_in i) (pos index.length))))
+
+abbrev pub place_step : CPlace-F (Evaluates Passed) (Evaluates CValue) (Scope → Memory → Called) (Evaluates CValue) (Evaluates (List Part)) (Evaluates Location) (Evaluates (List Part)) → Evaluates Location
+place_step place scope memory =
+    next (each_of place.steps scope memory) (λ ways. given (Some (further (start_of scope place.through place.name) (way_of ways))))
+
+-- a member, and the element of it where there is an index
+abbrev pub indexed : Text → Option (Evaluates (List Part)) → Evaluates (List Part)
+indexed name None scope memory = given (Some (member name ∷ []))
+indexed name (Some index) scope memory = next (index scope memory) (λ parts. given (Some (member name ∷ parts)))
+
+abbrev pub step_step : CStep-F (Evaluates Passed) (Evaluates CValue) (Scope → Memory → Called) (Evaluates CValue) (Evaluates (List Part)) (Evaluates Location) (Evaluates (List Part)) → Evaluates (List Part)
+step_step step = indexed step.member step.index
+
+-- the value of an expression
+abbrev pub value_c : CExpr → Evaluates CValue
+value_c = fold-CExpr (Evaluates Passed) (Evaluates CValue) (Scope → Memory → Called) (Evaluates CValue) (Evaluates (List Part)) (Evaluates Location) (Evaluates (List Part)) arg_step kind_step call_step expr_step index_step place_step step_step
+
+-- the place that a place's text names
+abbrev pub location_c : CPlace → Evaluates Location
+location_c = fold-CPlace (Evaluates Passed) (Evaluates CValue) (Scope → Memory → Called) (Evaluates CValue) (Evaluates (List Part)) (Evaluates Location) (Evaluates (List Part)) arg_step kind_step call_step expr_step index_step place_step step_step
+
+-- what a call does
+abbrev pub call_c : CCall → Scope → Memory → Called
+call_c = fold-CCall (Evaluates Passed) (Evaluates CValue) (Scope → Memory → Called) (Evaluates CValue) (Evaluates (List Part)) (Evaluates Location) (Evaluates (List Part)) arg_step kind_step call_step expr_step index_step place_step step_step
+
+-- ---- statements
+
+-- how a statement ends
+pub data End : Type 0 where
+  goes_on : End
+  breaks : End
+  -- with the function's result, 0 where it has none
+  returns : ℤ → End
+  traps : End
+
+-- what a statement comes to: the memory after it, how it ended, and how many statements were executed
+pub record Outcome : Type 0 where
+  pub memory : Memory
+  pub end : End
+  pub count : ℕ
+
+abbrev pub Runs : Type 0
+Runs = Scope → Memory → Outcome
+
+-- an outcome with so many statements before it
+abbrev pub after : ℕ → Outcome → Outcome
+after n o = record { memory = o.memory; end = o.end; count = n + o.count }
+
+-- what follows where a statement goes on, and how else it ended
+abbrev pub following_end : ℕ → Memory → End → (Memory → Outcome) → Outcome
+following_end n memory goes_on rest = after n (rest memory)
+following_end n memory breaks rest = record { memory = memory; end = breaks; count = n }
+following_end n memory (returns result) rest = record { memory = memory; end = returns result; count = n }
+following_end n memory traps rest = record { memory = memory; end = traps; count = n }
+
+abbrev pub following : Outcome → (Memory → Outcome) → Outcome
+following o rest = following_end o.count o.memory o.end rest
+
+-- the statements of a block, one after the other
+abbrev pub block_of : List Runs → Runs
+block_of [] scope memory = record { memory = memory; end = goes_on; count = 0 }
+block_of (runs ∷ rest) scope memory = following (runs scope memory) (λ m. block_of rest scope m)
+
+-- a statement is executed, and what it evaluated says how it ends; it counts itself
+abbrev pub ended_by : {A : Type 0} → Memory → ℕ → Option A → (A → Outcome) → Outcome
+ended_by memory n None rest = record { memory = memory; end = traps; count = n }
+ended_by memory n (Some a) rest = after n (rest a)
+
+abbrev pub executed : {A : Type 0} → Memory → Counted A → (A → Outcome) → Outcome
+executed memory evaluated rest = ended_by memory (1 + evaluated.count) evaluated.answer rest
+
+-- a statement after which the next comes, with this memory
+abbrev pub going : Memory → Outcome
+going memory = record { memory = memory; end = goes_on; count = 0 }
+
+abbrev pub returning : Memory → ℤ → Outcome
+returning memory result = record { memory = memory; end = returns result; count = 0 }
+
+-- a call as a statement: its result is dropped
+abbrev pub call_end : Option ℤ → End
+call_end (Some result) = goes_on
+call_end None = traps
+
+abbrev pub call_outcome : Called → Outcome
+call_outcome c = record { memory = c.memory; end = call_end c.result; count = 1 + c.count }
+
+-- the block of an `if`, none where there is no `else`
+abbrev pub block_or_none : Option (List Runs) → Runs
+block_or_none None scope memory = going memory
+block_or_none (Some block) scope memory = block_of block scope memory
+
+-- a turn of a loop that has ended: after `break` the loop goes on with what follows it, else comes its next turn
+abbrev pub turn_end : ℕ → Memory → End → (Memory → Outcome) → Outcome
+turn_end n memory goes_on again = after n (again memory)
+turn_end n memory breaks again = record { memory = memory; end = goes_on; count = n }
+turn_end n memory (returns result) again = record { memory = memory; end = returns result; count = n }
+turn_end n memory traps again = record { memory = memory; end = traps; count = n }
+
+-- where the condition is true a turn begins, which counts one
+abbrev pub turn_or_none : Bool → Memory → (Memory → Outcome) → Outcome
+turn_or_none true memory turn = after 1 (turn memory)
+turn_or_none false memory turn = going memory
+
+-- the condition once more, and a turn where it is true
+abbrev pub once_more : Evaluates CValue → (Memory → Outcome) → Runs
+once_more condition turn scope memory =
+    let c = condition scope memory in
+    ended_by memory c.count c.answer (λ v. turn_or_none (is_one (number_in v)) memory turn)
+
+-- a loop that can still end so many turns. The turn after the last of them traps at its beginning
+unfoldable pub turns : ℕ → Evaluates CValue → Runs → Scope → Memory → Outcome
+turns zero condition body scope = once_more condition (λ m. record { memory = m; end = traps; count = 0 }) scope
+turns (suc n) condition body scope =
+    once_more condition (λ m. let o = body scope m in turn_end o.count o.memory o.end (turns n condition body scope)) scope
+
+-- how many turns of a loop can end
+unfoldable pub turn_limit : ℕ
+turn_limit = 65536
+
+abbrev pub stmt_kind_step : CStmtKind-F Runs Runs → Runs
+stmt_kind_step (CStmtKind-F.Set place expr) scope memory =
+    executed memory (next (location_c place scope memory) (λ p. next (value_c expr scope memory) (λ v. given (Some (set_at memory p v))))) going
+stmt_kind_step (CStmtKind-F.Clear place name) scope memory =
+    executed memory (location_c place scope memory) (λ p. going (set_at memory p zeros))
+stmt_kind_step (CStmtKind-F.Call call) scope memory = call_outcome (call_c call scope memory)
+stmt_kind_step (CStmtKind-F.If condition block other) scope memory =
+    executed memory (value_c condition scope memory) (λ v. (if is_one (number_in v) then block_of block else block_or_none other) scope memory)
+stmt_kind_step (CStmtKind-F.Loop name condition body) scope memory =
+    after 1 (turns turn_limit (value_c condition) (block_of body) scope memory)
+stmt_kind_step CStmtKind-F.Break scope memory = record { memory = memory; end = breaks; count = 1 }
+stmt_kind_step (CStmtKind-F.Return None) scope memory = record { memory = memory; end = returns (pos 0); count = 1 }
+stmt_kind_step (CStmtKind-F.Return (Some expr)) scope memory =
+    executed memory (value_c expr scope memory) (λ v. returning memory (number_in v))
+
+abbrev pub stmt_step : CStmt-F Runs Runs → Runs
+stmt_step stmt = stmt.what
+
+-- what a statement does
+abbrev pub runs_c : CStmt → Runs
+runs_c = fold-CStmt Runs Runs stmt_kind_step stmt_step
+
+-- what the statements of a block do
+abbrev pub block_c : List CStmt → Runs
+block_c stmts = block_of (map runs_c stmts)
+
+-- ---- functions and files
+
+-- where the pointers of a function lead
+abbrev pub pointers_of : List CParam → List Passed → List (Text × Location)
+pointers_of (param ∷ params) (by_address place ∷ rest) = (param.name, place) ∷ pointers_of params rest
+pointers_of (param ∷ params) (by_value value ∷ rest) = pointers_of params rest
+pointers_of params [] = []
+pointers_of [] passed = []
+
+-- the memory once the parameters that aren't pointers have their values
+abbrev pub with_params : ℕ → List CParam → List Passed → Memory → Memory
+with_params depth (param ∷ params) (by_value value ∷ rest) memory =
+    with_params depth params rest (set_at memory (record { root = variable depth param.name; parts = [] }) value)
+with_params depth (param ∷ params) (by_address place ∷ rest) memory = with_params depth params rest memory
+with_params depth params [] memory = memory
+with_params depth [] passed memory = memory
+
+-- the result of a function whose body has ended
+abbrev pub result_at : End → Option ℤ
+result_at goes_on = Some (pos 0)
+result_at breaks = Some (pos 0)
+result_at (returns result) = Some result
+result_at traps = None
+
+-- what a function does where the earlier ones are known: its variables begin at 0, its parameters at the arguments, and all of them are gone after it
+abbrev pub function_c : Table Meaning → CFunc → Meaning
+function_c known function depth passed memory =
+    let scope : Scope = record { known = known; depth = depth; pointers = table_of (pointers_of function.params passed) } in
+    let o : Outcome = block_c function.body scope (with_params depth function.params passed (without_frame depth memory)) in
+    record { memory = without_frame depth o.memory; count = o.count; result = result_at o.end }
+
+-- the functions in order by name, each over those before it
+abbrev pub meanings_after : Table Meaning → List CFunc → List (Text × Meaning)
+meanings_after known [] = []
+meanings_after known (function ∷ rest) =
+    (function.name, function_c known function) ∷ meanings_after (with_entry known function.name (function_c known function)) rest
+
+-- what each function of a file does
+abbrev pub meanings : List CFunc → List (Text × Meaning)
+meanings = meanings_after no_entries

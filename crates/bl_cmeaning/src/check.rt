@@ -1,0 +1,72 @@
+//! Which files are well formed, and where the others fail first (docs/C_SUBSET.md, "Well-formed files").
+
+ghost use Rattle.std.specs.Prelude.{◌≡◌, ◌&&◌, codes, IfErr, IfOk, is_some, OnOk};
+ghost use Rattle.bl_cmeaning.specs.Cause.{IsCause};
+ghost use Rattle.bl_cmeaning.specs.Checked.{structs_of};
+ghost use Rattle.bl_cmeaning.specs.Faults.{WellFormed, first_fault};
+ghost use Rattle.bl_cmeaning.specs.Parts.{parts_of};
+
+mod calls;
+mod context;
+mod declared;
+mod expr;
+mod first;
+mod functions;
+mod interface;
+mod loops;
+mod names;
+mod prelude;
+mod stmt;
+mod structs;
+mod types;
+mod variables;
+
+use crate::check::context::Structs;
+use crate::check::declared::declare_structs;
+use crate::check::first::{both, earlier, unless};
+use crate::check::functions::judge_functions;
+use crate::check::interface::{judge_interface, last_place};
+use crate::check::prelude::Builtins;
+use crate::check::structs::has_struct;
+use bl_ctext::CFile;
+use bl_tree::{NoMemory, Place};
+use std::alloc::Global;
+
+/// Why a file isn't accepted.
+#[derive(Clone, Copy, PartialEq, Eq, Debug)]
+pub enum CheckFault {
+    /// A clause of well-formedness fails, first at this place.
+    IllFormed { at: Place },
+    NoMemory,
+}
+
+fn has_interface(structs: &Structs<'_>) -> bool
+    ensures { result ≡ (is_some (structs_of structs.now (codes "bl_state")) && (is_some (structs_of structs.now (codes "bl_in")) && is_some (structs_of structs.now (codes "bl_out")))) }
+{
+    let ports = both(has_struct(structs, "bl_in"), has_struct(structs, "bl_out"));
+    both(has_struct(structs, "bl_state"), ports)
+}
+
+fn first_failing(alloc: Global, file: &CFile) -> Result<Option<Place>, NoMemory>
+    ensures { IfOk result (λ first. first ≡ first_fault (parts_of file.now)) }
+{
+    let builtins = Builtins::new(alloc)?;
+    let declared = declare_structs(alloc, &file.structs)?;
+    let inside = judge_functions(alloc, &builtins, &declared.structs, &file.funcs)?;
+    let missing = unless(has_interface(&declared.structs), last_place(&file.funcs));
+    let outside = earlier(missing, judge_interface(&file.funcs));
+    Ok(earlier(declared.first, earlier(inside, outside)))
+}
+
+/// Whether a file is well formed, and else where it fails first: of all structs, functions, statements and
+/// expressions that fail, the one with the least start, then the least end.
+pub fn check(alloc: Global, file: &CFile) -> Result<(), CheckFault>
+    ensures formed { OnOk result (WellFormed (parts_of file.now)) }
+    ensures fault { IfErr result (IsCause (parts_of file.now)) }
+{
+    match first_failing(alloc, file) {
+        Ok(None) => Ok(()),
+        Ok(Some(at)) => Err(CheckFault::IllFormed { at }),
+        Err(NoMemory) => Err(CheckFault::NoMemory),
+    }
+}
