@@ -129,6 +129,10 @@ fn limits(rt: HostRuntime) -> Result<(), Fail> {
     let feeds = Vec::from_elem(alloc, b'\n', 1_000_000)?;
     let long = shown(alloc, &ins, zeros.as_slice(), b"0")?;
     assert_eq!(rt; long.as_str(), "0: Err(LongLine { line: 1 })");
+    let mut second = b"tick\n".to_vec(alloc)?;
+    second.extend_from_slice(zeros.as_slice())?;
+    let later = shown(alloc, &ins, second.as_slice(), b"0")?;
+    assert_eq!(rt; later.as_str(), "0: Err(LongLine { line: 2 })");
     let full = shown(alloc, &ins, zeros.as_slice(), b"\n")?;
     assert_eq!(rt; full.as_str(), "0: Err(BadHeader { line: 1 })");
     let past = shown(alloc, &ins, feeds.as_slice(), b"\n")?;

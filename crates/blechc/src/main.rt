@@ -1,7 +1,7 @@
 //! `blechc`: compiles the whole-number profile of Blech to sequential C.
 #![tactic(auto)]
 
-use bl_io::{HostFiles, HostSink};
+use bl_io::{HostFiles, HostSink, write_all};
 use bl_top::Status;
 use std::alloc::Global;
 use std::env::{self, Env};
@@ -21,13 +21,16 @@ fn words<R: Env + Alloc<A = Global>>(rt: &R) -> Result<Vec<String>, Status> {
 }
 
 fn main(rt: HostRuntime) -> ExitCode {
+    let mut notes = HostSink::new(rt.stderr());
     let words = match words(&rt) {
         Ok(words) => words,
-        Err(status) => return ExitCode::from(status.code()),
+        Err(status) => {
+            let _ = write_all(&mut notes, b"no memory\n");
+            return ExitCode::from(status.code());
+        }
     };
     let mut files = HostFiles::new(rt.alloc(), &rt);
     let mut out = HostSink::new(rt.stdout());
-    let mut notes = HostSink::new(rt.stderr());
     let status = bl_top::blechc(rt.alloc(), &words, &mut files, &mut out, &mut notes);
     ExitCode::from(status.code())
 }
