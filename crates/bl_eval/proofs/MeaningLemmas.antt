@@ -27,6 +27,7 @@ use Rattle.bl_eval.specs.Functions.{Choice, Does, Flow, arm_does, branch_does, c
 use Rattle.bl_eval.specs.Meaning.{Callee, Meaning, Position, Scope, Spot, expr_means, kind_means, part_means, path_means, positions_of, View, datum_of, level_datum, meaning_of, plain, read_at, reading, spot_of, values_of}
 use Rattle.bl_eval.specs.Values.{put_at, value_at, with_value_at}
 use Rattle.bl_eval.proofs.PartLemmas.{put_unwrapped}
+use Rattle.bl_eval.proofs.PassLemmas.{get_front, get_seam}
 
 -- ---- statements
 
@@ -76,17 +77,6 @@ callees_start : (structs : List StructDef) (units : List UnitDef) (callees : Lis
 callees_start structs [] callees k callee there = there
 callees_start structs (unit ∷ rest) callees k callee there =
     callees_start structs rest (callees ++ callee_of structs callees unit ∷ []) k callee (get_front callees (callee_of structs callees unit ∷ []) k callee there)
-  where
-    get_front : (xs ys : List Callee) (k : ℕ) (x : Callee) → slice_get xs k ≡ Some x → slice_get (xs ++ ys) k ≡ Some x
-    get_front [] ys k x there = absurd (cc)
-    get_front (y ∷ xs) ys zero x there = there
-    get_front (y ∷ xs) ys (suc k) x there = get_front xs ys k x there
-
-get_seam : {A : Type 0} (xs : List A) (y : A) (j : ℕ) → j ≡ length xs → slice_get (xs ++ y ∷ []) j ≡ Some y
-get_seam [] y zero is = refl
-get_seam [] y (suc j) is = absurd (omega arith)
-get_seam (x ∷ xs) y zero is = absurd (omega arith)
-get_seam (x ∷ xs) y (suc j) is = get_seam xs y j (omega arith)
 
 callee_after : (structs : List StructDef) (units : List UnitDef) (callees : List Callee) (j k : ℕ) (unit : UnitDef) → slice_get units k ≡ Some unit → j ≡ length callees + k
     → slice_get (callees_after structs callees units) j ≡ Some (callee_of structs (callees_after structs callees (take k units)) unit)
@@ -167,7 +157,7 @@ append_first (Some d) None ws = refl
 append_first (Some d) (Some vs) None = refl
 append_first (Some d) (Some vs) (Some ws) = refl
 
-values_append : (xs ys : List Meaning) (view : View) → values_of (xs ++ ys) view ≡ option_and_then (λ vs. option_map (λ ws. vs ++ ws) (values_of ys view)) (values_of xs view)
+pub values_append : (xs ys : List Meaning) (view : View) → values_of (xs ++ ys) view ≡ option_and_then (λ vs. option_map (λ ws. vs ++ ws) (values_of ys view)) (values_of xs view)
 values_append [] ys view = behind_nothing (values_of ys view)
 values_append (e ∷ xs) ys view =
     ap (λ rest. option_and_then (λ datum. option_map (λ values. plain datum ∷ values) rest) (e view)) (values_append xs ys view)
