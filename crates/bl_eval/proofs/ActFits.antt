@@ -1,9 +1,7 @@
 -- After an assignment, a declaration or a call that stands at a site the variables have values of their types.
-use Rattle.std.proofs.Common.{◌≡◌, ℕ, suc, zero, ◌+◌, length, Bool, true, false, ◌&&◌, ◌||◌, List, [], ◌∷◌, ◌++◌, map, take, drop, arith, Option, Some, None, refl, sym, ap, ◌∙◌, subst, IfSome}
-use Rattle.std.proofs.lemmas.Option.{same_Some}
+use Rattle.std.proofs.Common.{◌≡◌, ℕ, length, true, ◌||◌, List, [], ◌∷◌, ◌++◌, map, Option, Some, None, refl, sym, ap, ◌∙◌, subst, IfSome}
 use Rattle.std.proofs.Math.Seq.{take-add}
 use Rattle.std.specs.Prelude.{All, option_and_then, option_map, slice_get, unwrap_or}
-use Rattle.std.specs.List.{AllZip, list_all}
 use Rattle.bl_tree.specs.declared.place.Place.{Place}
 use Rattle.bl_tree.specs.declared.tree.Arm.{Arm}
 use Rattle.bl_tree.specs.declared.tree.Branch.{Branch}
@@ -18,9 +16,8 @@ use Rattle.bl_tree.specs.declared.tree.Unit.{Unit as UnitDef}
 use Rattle.bl_tree.specs.declared.tree.Var.{Var}
 use Rattle.bl_tree.specs.declared.value.Value.{Value}
 use Rattle.bl_tree.specs.Program.{parameters_of}
-use Rattle.bl_tree.specs.Reduce.{all_of}
-use Rattle.bl_tree.specs.Types.{same_type, scalar_in, type_stands}
-use Rattle.bl_tree.specs.Typing.{Site, are_same, arguments_fit, call_fits, declaration_fits, fits, inputs_of, is_assignable, is_fixed, is_outlet, is_procedure, is_variable, outputs_of, site_of, type_of, type_of_path, types_match}
+use Rattle.bl_tree.specs.Types.{same_type, type_stands}
+use Rattle.bl_tree.specs.Typing.{Site, are_same, arguments_fit, call_fits, declaration_fits, fits, inputs_of, is_assignable, is_fixed, is_procedure, is_variable, outputs_of, site_of, type_of, type_of_path, types_match}
 use Rattle.bl_tree.proofs.StmtInduction.{stmt}
 use Rattle.bl_eval.specs.declared.datum.Left.{Left}
 use Rattle.bl_eval.specs.Functions.{acted, assigned, call_of, called, declared, initial_value, put_all, put_back, scope_among}
@@ -29,7 +26,7 @@ use Rattle.bl_eval.specs.Values.{put_at, value_fits, values_fit, zero_of}
 use Rattle.bl_eval.proofs.ExprFits.{CalleeFits, GivesFit, LeftFits, Sound, SpotFits, callee_at, expr_fits, match_fits, reading_fits, spot_fits}
 use Rattle.bl_eval.proofs.FitLemmas.{same_type_is, zero_fits}
 use Rattle.bl_eval.proofs.MeaningLemmas.{values_append}
-use Rattle.bl_eval.proofs.OperatorFits.{DatumFits, plain_fits, some_found}
+use Rattle.bl_eval.proofs.OperatorFits.{DatumFits, plain_fits}
 use Rattle.bl_eval.proofs.PartFits.{Fits, Leads, if_map, if_then, leads_none, put_fits}
 use Rattle.bl_eval.proofs.PassLemmas.{and_left, and_right, all_at, pass_append}
 
@@ -116,9 +113,10 @@ module _ (structs : List StructDef) (earlier : List UnitDef) (unit : UnitDef) (c
   outputs_first : (path : Path) (paths : List Path) (var : Var) (vars : List Var) (typed : Option Ty) → type_of_path site path ≡ typed → types_match (typed ∷ map (type_of_path site) paths) (var ∷ vars) ≡ true
       → SpotFits structs unit.vars view var.ty (spot_of scope path) × (types_match (map (type_of_path site) paths) vars ≡ true)
   outputs_first path paths var vars None is matched = absurd (cc)
-  outputs_first path paths var vars (Some ty) is matched =
-      (spot_at path var.ty (is ∙ ap Some (same_type_is ty var.ty (and_left (same_type ty var.ty) (types_match (map (type_of_path site) paths) vars) matched))),
-      and_right (same_type ty var.ty) (types_match (map (type_of_path site) paths) vars) matched)
+  outputs_first path paths var vars (Some ty) is matched = (
+    spot_at path var.ty (is ∙ ap Some (same_type_is ty var.ty (and_left (same_type ty var.ty) (types_match (map (type_of_path site) paths) vars) matched))),
+    and_right (same_type ty var.ty) (types_match (map (type_of_path site) paths) vars) matched,
+  )
 
   back_all : (paths : List Path) (vars : List Var) (values : List Value) (now : List Value) → types_match (map (type_of_path site) paths) vars ≡ true → AllFit structs vars values
       → AllFit structs unit.vars now → AllFit structs unit.vars (put_all (map (spot_of scope) paths) values view now)
@@ -135,14 +133,14 @@ module _ (structs : List StructDef) (earlier : List UnitDef) (unit : UnitDef) (c
       → IfSome (values_of (map reading (map (spot_of scope) outputs)) view) (AllFit structs vars)
   outputs_given outputs vars matched =
       let each : All (λ path. GivesFit structs view (reading (spot_of scope path)) (type_of_path site path)) outputs =
-          λ k d within ty typed. reading_fits structs unit.vars view ty _ now_fits (spot_at _ ty typed) in
+      λ k d within ty typed. reading_fits structs unit.vars view ty _ now_fits (spot_at _ ty typed) in
       subst (λ means. IfSome (values_of means view) (AllFit structs vars)) (reading_all scope outputs)
       (match_fits structs view (λ path. reading (spot_of scope path)) (type_of_path site) outputs each vars matched)
 
   inputs_given : (inputs : List Expr) (vars : List Var) → types_match (map (type_of site) inputs) vars ≡ true → IfSome (values_of (map (meaning_of scope) inputs) view) (AllFit structs vars)
   inputs_given inputs vars matched =
       let each : All (λ e. GivesFit structs view (meaning_of scope e) (type_of site e)) inputs =
-          λ k d within ty typed. expr_fits structs earlier unit callees sound view now_fits before_fits _ ty typed in
+      λ k d within ty typed. expr_fits structs earlier unit callees sound view now_fits before_fits _ ty typed in
       match_fits structs view (meaning_of scope) (type_of site) inputs each vars matched
 
   together : (means others : List Meaning) (xs ys : List Var) → IfSome (values_of means view) (AllFit structs xs) → IfSome (values_of others view) (AllFit structs ys)
@@ -161,8 +159,8 @@ module _ (structs : List StructDef) (earlier : List UnitDef) (unit : UnitDef) (c
       let ins : types_match (map (type_of site) inputs) (inputs_of callee) ≡ true = and_left _ _ fitting in
       let outs : types_match (map (type_of_path site) outputs) (outputs_of callee) ≡ true = and_left _ _ (and_right _ _ fitting) in
       let given : IfSome (values_of (map (meaning_of scope) inputs ++ map reading (map (spot_of scope) outputs)) view) (AllFit structs (inputs_of callee ++ outputs_of callee)) =
-          together (map (meaning_of scope) inputs) (map reading (map (spot_of scope) outputs)) (inputs_of callee) (outputs_of callee) (inputs_given inputs (inputs_of callee) ins)
-          (outputs_given outputs (outputs_of callee) outs) in
+      together (map (meaning_of scope) inputs) (map reading (map (spot_of scope) outputs)) (inputs_of callee) (outputs_of callee) (inputs_given inputs (inputs_of callee) ins)
+      (outputs_given outputs (outputs_of callee) outs) in
       let same : inputs_of callee ++ outputs_of callee ≡ parameters_of callee = sym (take-add callee.inputs callee.outputs callee.vars) in
       if_then (CalleeFits structs callee) (AllFit structs unit.vars) (called (map (meaning_of scope) inputs) (map (spot_of scope) outputs) view) (slice_get callees f)
       (callee_at structs earlier callees f callee sound.callees_fit there)
@@ -184,5 +182,5 @@ module _ (structs : List StructDef) (earlier : List UnitDef) (unit : UnitDef) (c
   act_fits s fitted =
       let place : Place = (out-Stmt s).place in
       let whole : stmt place (out-StmtKind (out-Stmt s).what) ≡ s =
-          ap (λ (what : StmtKind). roll-Stmt (record { place = place; what = what })) (roll-out-StmtKind (out-Stmt s).what) ∙ roll-out-Stmt s in
+      ap (λ (what : StmtKind). roll-Stmt (record { place = place; what = what })) (roll-out-StmtKind (out-Stmt s).what) ∙ roll-out-Stmt s in
       act_at place (out-StmtKind (out-Stmt s).what) (subst (λ s. fits site s ≡ true) (sym whole) fitted)

@@ -1,9 +1,9 @@
 -- The value of an expression that stands at a site is one of its type, and a path leads to what is of its type.
-use Rattle.std.proofs.Common.{◌≡◌, ℕ, ℤ, suc, zero, length, ◌+◌, Bool, true, false, ◌&&◌, not, List, [], ◌∷◌, map, take, drop, arith, Option, Some, None, refl, sym, ap, ◌∙◌, subst, IfSome}
+use Rattle.std.proofs.Common.{◌≡◌, ℕ, ℤ, suc, zero, length, Bool, true, ◌&&◌, List, [], ◌∷◌, map, take, arith, Option, Some, None, refl, sym, ap, ◌∙◌, subst, IfSome}
 use Rattle.std.proofs.lemmas.Bool.{eqb-true}
 use Rattle.std.proofs.lemmas.List.Elements.{All-head, All-tail}
 use Rattle.std.proofs.lemmas.Option.{same_Some}
-use Rattle.std.specs.Prelude.{All, is_some, nat_eq, option_and_then, option_map, slice_get, if◌then◌else◌}
+use Rattle.std.specs.Prelude.{All, is_some, nat_eq, option_and_then, option_map, slice_get}
 use Rattle.std.specs.List.{AllZip, list_all}
 use Rattle.bl_tree.specs.declared.place.Place.{Place}
 use Rattle.bl_tree.specs.declared.scalar.Op.{Op}
@@ -25,11 +25,10 @@ use Rattle.bl_tree.specs.Typing.{Site, after_parts, call_type, cast_type, inputs
 use Rattle.bl_tree.proofs.ExprInduction.{Cases, EachIndex, expr, induct, induct_path}
 use Rattle.bl_eval.specs.declared.datum.Datum.{Datum}
 use Rattle.bl_eval.specs.declared.datum.Left.{Left}
-use Rattle.bl_eval.specs.declared.datum.Operand.{Operand}
 use Rattle.bl_eval.specs.Functions.{scope_among}
 use Rattle.bl_eval.specs.Meaning.{Callee, Meaning, Scope, Spot, View, call_datum, cast_datum, datum_of, meaning_of, one_datum, operand, plain, read_at, reading, scalar_of, spot_of, two_datum, values_of}
-use Rattle.bl_eval.specs.Values.{pass, value_fits, values_fit}
-use Rattle.bl_eval.proofs.FitLemmas.{Test, same_type_is}
+use Rattle.bl_eval.specs.Values.{value_fits, values_fit}
+use Rattle.bl_eval.proofs.FitLemmas.{same_type_is}
 use Rattle.bl_eval.proofs.OperatorFits.{DatumFits, OperandFits, cast_fits, datum_fits, one_fits, operand_fits, plain_fits, some_found, two_fits, where_holds}
 use Rattle.bl_eval.proofs.PartFits.{Fits, Leads, if_map, if_then, parts_lead, read_fits, type_of_part}
 use Rattle.bl_eval.proofs.PassLemmas.{and_left, and_right, both, pass_at}
@@ -116,8 +115,8 @@ pub reading_fits : (structs : List StructDef) (vars : List Var) (view : View) (t
     → IfSome (reading spot view) (DatumFits structs ty)
 reading_fits structs vars view ty spot fit found =
     let read : IfSome (option_and_then (read_at spot.root view.now) (spot.positions view)) (Fits structs ty) =
-        if_then (λ ks. Leads structs found.var.ty ks ty) (Fits structs ty) (read_at spot.root view.now) (spot.positions view) found.leads
-        (λ ks leads. read_fits structs vars spot.root found.var ks ty found.is_there leads view.now fit) in
+    if_then (λ ks. Leads structs found.var.ty ks ty) (Fits structs ty) (read_at spot.root view.now) (spot.positions view) found.leads
+    (λ ks leads. read_fits structs vars spot.root found.var ks ty found.is_there leads view.now fit) in
     if_map (Fits structs ty) (DatumFits structs ty) (datum_of (scalar_in spot.ty)) (option_and_then (read_at spot.root view.now) (spot.positions view)) read
     (λ value one. subst (λ t. DatumFits structs ty (datum_of (scalar_in t) value)) (sym found.is_typed) (datum_fits structs ty value one))
 
@@ -198,7 +197,7 @@ module _ (structs : List StructDef) (earlier : List UnitDef) (unit : UnitDef) (c
       let none : callee.outputs ≡ 0 = eqb-true callee.outputs 0 (and_left (nat_eq callee.outputs 0) (types_match (map (type_of site) inputs) (inputs_of callee)) fitting) in
       let same : inputs_of callee ≡ parameters_of callee = ap (λ n. take n callee.vars) (omega arith) in
       let given : IfSome (values_of (map (meaning_of scope) inputs) view) (λ values. values_fit structs (inputs_of callee) values ≡ true) =
-          match_fits structs view (meaning_of scope) (type_of site) inputs each (inputs_of callee) (and_right (nat_eq callee.outputs 0) (types_match (map (type_of site) inputs) (inputs_of callee)) fitting) in
+      match_fits structs view (meaning_of scope) (type_of site) inputs each (inputs_of callee) (and_right (nat_eq callee.outputs 0) (types_match (map (type_of site) inputs) (inputs_of callee)) fitting) in
       if_then (CalleeFits structs callee) (DatumFits structs ty) (call_datum (values_of (map (meaning_of scope) inputs) view)) (slice_get callees f)
       (callee_at structs earlier callees f callee sound.callees_fit found.1)
       (λ does fits. if_then (λ values. values_fit structs (inputs_of callee) values ≡ true) (DatumFits structs ty) (λ values. option_and_then (λ (left : Left). left.result) (does values))

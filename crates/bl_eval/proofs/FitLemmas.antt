@@ -1,6 +1,6 @@
 -- Which values a type has: types that are one, the tests of structs, and zeros.
-use Rattle.std.proofs.Common.{◌≡◌, ℕ, suc, zero, ◌+◌, ◌<◌, ◌≤◌, Bool, true, false, ◌&&◌, List, [], ◌∷◌, ◌++◌, length, get_or, map, take, replicate, arith, Option, Some, None, refl, sym, ap, ◌∙◌, subst, length-append}
-use Rattle.std.proofs.lemmas.Bool.{eqb-true, eq-eqb, lt-ltb, ltb-true}
+use Rattle.std.proofs.Common.{◌≡◌, ℕ, suc, zero, ◌+◌, ◌<◌, ◌≤◌, Bool, true, ◌&&◌, List, [], ◌∷◌, ◌++◌, length, get_or, take, replicate, arith, Option, Some, refl, sym, ap, ◌∙◌, subst, length-append}
+use Rattle.std.proofs.lemmas.Bool.{eqb-true, eq-eqb, ltb-true}
 use Rattle.std.proofs.lemmas.List.{length-replicate}
 use Rattle.std.proofs.lemmas.Option.{same_Some}
 use Rattle.std.specs.Prelude.{nat_eq, nat_lt, nat_le, pos, slice_get}
@@ -15,11 +15,11 @@ use Rattle.bl_tree.specs.declared.tree.Ty.{Ty, fold-roll-Ty, ind-Ty, out-Ty, rol
 use Rattle.bl_tree.specs.declared.tree.Ty.TheOpen.{Ty-F}
 use Rattle.bl_tree.specs.declared.tree.Ty.TheFolds.{map-Ty}
 use Rattle.bl_tree.specs.declared.value.Value.{Value, out-Value}
-use Rattle.bl_tree.specs.declared.value.Value.TheVariants.{Number, Parts, outs-Number, outs-Parts}
+use Rattle.bl_tree.specs.declared.value.Value.TheVariants.{Parts, outs-Number, outs-Parts}
 use Rattle.bl_tree.specs.Program.{struct_stands, structs_stand_from}
 use Rattle.bl_tree.specs.Scalar.{bits_of, in_range}
 use Rattle.bl_tree.specs.Types.{same_as_array, same_as_scalar, same_as_struct, same_scalar, same_type, scalar, scalar_at, scalar_in, type_stands}
-use Rattle.bl_eval.specs.Values.{are_elements, are_fields, by_test, fits_by, is_number_of, pass, struct_test, struct_zero, tests_after, value_fits, zero_by, zero_of, zeros_after}
+use Rattle.bl_eval.specs.Values.{are_elements, by_test, fits_by, is_number_of, pass, struct_test, struct_zero, tests_after, value_fits, zero_by, zero_of, zeros_after}
 use Rattle.bl_eval.proofs.PassLemmas.{and_left, and_right, both, get_front, get_seam, get_take, take_less, all_replicate, pass_each}
 
 -- ---- types
@@ -207,7 +207,7 @@ module _ (zeros : List Value) (tests : List Test) (n : ℕ) (all : Zeros zeros t
   zero_fits_by (Ty-F.Struct k) stands = rw (fold-roll-Ty, fold-roll-Ty) (all k (ltb-true k n (rw fold-roll-Ty at stands)))
   zero_fits_by (Ty-F.Array m element) stands =
       let inner : fits_by tests element.0 (zero_by zeros element.0) ≡ true =
-          element.1 (and_right (nat_le 1 m && nat_le m 65536) (type_stands n element.0) (rw fold-roll-Ty at stands)) in
+      element.1 (and_right (nat_le 1 m && nat_le m 65536) (type_stands n element.0) (rw fold-roll-Ty at stands)) in
       rw (fold-roll-Ty, fold-roll-Ty, outs-Parts)
       (both (nat_eq (length (replicate m (zero_by zeros element.0))) m) (list_all (fits_by tests element.0) (replicate m (zero_by zeros element.0)))
       (eq-eqb _ m (length-replicate m (zero_by zeros element.0))) (all_replicate (fits_by tests element.0) m (zero_by zeros element.0) inner))
@@ -240,7 +240,7 @@ zeros_pass [] zeros tests n is all stand = all
 zeros_pass (def ∷ rest) zeros tests n is all stand =
     let found : Zeros zeros tests n = λ k within. pass_zeros tests zeros k all (omega arith) in
     let one : struct_test tests def (struct_zero zeros def) ≡ true =
-        struct_zero_fits zeros tests n found def (struct_fields n def (and_left (struct_stands n def) (structs_stand_from (n + 1) rest) stand)) in
+    struct_zero_fits zeros tests n found def (struct_fields n def (and_left (struct_stands n def) (structs_stand_from (n + 1) rest) stand)) in
     let longer : length (tests ++ struct_test tests def ∷ []) ≡ n + 1 = omega (arith, length-append tests (struct_test tests def ∷ [])) in
     zeros_pass rest (zeros ++ struct_zero zeros def ∷ []) (tests ++ struct_test tests def ∷ []) (n + 1) longer
     (pass_push tests zeros (struct_test tests def) (struct_zero zeros def) all one) (and_right (struct_stands n def) (structs_stand_from (n + 1) rest) stand)

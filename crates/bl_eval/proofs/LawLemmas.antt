@@ -1,19 +1,18 @@
 -- What the laws say of an expression and an act at their place in a typed program.
-use Rattle.std.proofs.Common.{◌≡◌, ℕ, Bool, true, List, take, Option, Some, None, refl, sym, subst, IfSome}
+use Rattle.std.proofs.Common.{◌≡◌, ℕ, true, List, take, Option, Some, None, refl, sym, subst, IfSome}
 use Rattle.std.specs.Prelude.{option_and_then, option_map, slice_get}
 use Rattle.bl_tree.specs.declared.tree.Expr.{Expr}
 use Rattle.bl_tree.specs.declared.tree.Stmt.{Stmt}
 use Rattle.bl_tree.specs.declared.tree.StructDef.{StructDef}
 use Rattle.bl_tree.specs.declared.tree.Ty.{Ty}
 use Rattle.bl_tree.specs.declared.tree.Unit.{Unit as UnitDef}
-use Rattle.bl_tree.specs.declared.value.Value.{Value}
 use Rattle.bl_tree.specs.Program.{Keeps}
 use Rattle.bl_tree.specs.Typing.{Site, site_of, type_of}
 use Rattle.bl_eval.specs.Functions.{callees_of}
 use Rattle.bl_eval.specs.Meaning.{View, meaning_of, plain}
 use Rattle.bl_eval.specs.Standing.{Stands, StandsAct, outcome_in_unit, outcome_of, scope_of, type_in_unit, value_in_unit, value_of}
 use Rattle.bl_eval.specs.Values.{value_fits, values_fit}
-use Rattle.bl_eval.proofs.ActFits.{AllFit, act_fits}
+use Rattle.bl_eval.proofs.ActFits.{act_fits}
 use Rattle.bl_eval.proofs.ExprFits.{expr_fits}
 use Rattle.bl_eval.proofs.OperatorFits.{DatumFits, plain_fits}
 use Rattle.bl_eval.proofs.PartFits.{Fits, if_map, if_some}

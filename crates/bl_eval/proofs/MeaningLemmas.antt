@@ -1,14 +1,13 @@
 -- What the definitions come to at one expression, statement or call.
-use Rattle.std.proofs.Common.{◌≡◌, ℕ, suc, zero, ◌+◌, ◌<◌, ◌≤◌, Bool, true, false, List, [], ◌∷◌, ◌++◌, length, get_or, map, take, drop, arith, Option, Some, None, Result, Ok, Err, refl, sym, ap, ◌∙◌, subst, IfOk, length-append}
-use Rattle.std.specs.Prelude.{option_and_then, option_map, slice_get, slice_set, unwrap_or}
-use Rattle.std.specs.List.{zip}
+use Rattle.std.proofs.Common.{◌≡◌, ℕ, suc, zero, ◌+◌, ◌≤◌, true, false, List, [], ◌∷◌, ◌++◌, length, map, take, arith, Option, Some, None, Result, Ok, Err, refl, sym, ap, ◌∙◌, subst, IfOk, length-append}
+use Rattle.std.specs.Prelude.{option_and_then, option_map, slice_get, unwrap_or}
 use Rattle.bl_tree.specs.declared.tree.Arm.{Arm, fold_out-Arm, out-Arm}
 use Rattle.bl_tree.specs.declared.tree.Branch.{Branch, fold-Branch}
 use Rattle.bl_tree.specs.declared.tree.Expr.{Expr}
 use Rattle.bl_tree.specs.declared.tree.Path.{Path, fold_out-Path, out-Path}
 use Rattle.bl_tree.specs.declared.tree.Stmt.{Stmt, fold_out-Stmt, out-Stmt}
 use Rattle.bl_tree.specs.declared.tree.StmtKind.{StmtKind, fold-StmtKind, fold_out-StmtKind, map-StmtKind, out-StmtKind}
-use Rattle.bl_tree.specs.declared.tree.StmtKind.TheOpen.{StmtKind-F, Arm-F, Branch-F, Stmt-F}
+use Rattle.bl_tree.specs.declared.tree.StmtKind.TheOpen.{StmtKind-F}
 use Rattle.bl_tree.specs.declared.tree.StmtKind.TheVariants.{Repeat, Until, While, outs-Repeat, outs-Until, outs-While}
 use Rattle.bl_tree.specs.declared.tree.StructDef.{StructDef}
 use Rattle.bl_tree.specs.declared.tree.Unit.{Unit as UnitDef}
@@ -22,10 +21,10 @@ use Rattle.bl_eval.specs.declared.datum.Datum.{Datum}
 use Rattle.bl_eval.specs.declared.datum.Left.{Left}
 use Rattle.bl_eval.specs.declared.datum.Put.{Put}
 use Rattle.bl_eval.specs.declared.datum.Target.{Target}
-use Rattle.bl_eval.specs.Changes.{all_changed, choice_of, current_of, part_of_path, puts_of, put_of, replaced, targets_of, with_element_at}
+use Rattle.bl_eval.specs.Changes.{all_changed, choice_of, current_of, part_of_path, puts_of, targets_of, with_element_at}
 use Rattle.bl_eval.specs.Functions.{Choice, Does, Flow, arm_does, branch_does, call_of, callee_of, callees_after, callees_of, called, condition, does, frame_of, in_order, kind_does, left_by, looped, most_turns, put_all, put_back, stmt_does, truth}
 use Rattle.bl_eval.specs.Meaning.{Callee, Meaning, Position, Scope, Spot, expr_means, kind_means, part_means, path_means, positions_of, View, datum_of, level_datum, meaning_of, plain, read_at, reading, spot_of, values_of}
-use Rattle.bl_eval.specs.Values.{put_at, value_at, with_value_at}
+use Rattle.bl_eval.specs.Values.{put_at}
 use Rattle.bl_eval.proofs.PartLemmas.{put_unwrapped}
 use Rattle.bl_eval.proofs.PassLemmas.{get_front, get_seam}
 

@@ -1,18 +1,18 @@
 -- What expressions of a type give, and what operators make of it.
-use Rattle.std.proofs.Common.{◌≡◌, ℕ, ℤ, Bool, true, false, ◌&&◌, List, [], ◌∷◌, Option, Some, None, refl, sym, ap, ◌∙◌, subst, IfSome}
+use Rattle.std.proofs.Common.{◌≡◌, ℤ, Bool, true, false, ◌&&◌, List, [], Option, Some, None, refl, sym, ap, ◌∙◌, subst, IfSome}
 use Rattle.std.proofs.lemmas.Option.{same_Some, IfSome_then}
-use Rattle.std.specs.Prelude.{option_and_then, option_map, if◌then◌else◌}
+use Rattle.std.specs.Prelude.{option_and_then, if◌then◌else◌}
 use Rattle.bl_tree.specs.declared.scalar.Op.{Op}
 use Rattle.bl_tree.specs.declared.scalar.Op.TheVariants.{Both, Either}
 use Rattle.bl_tree.specs.declared.scalar.Scalar.{Scalar as ScalarType}
-use Rattle.bl_tree.specs.declared.scalar.Scalar.TheVariants.{Bool as OfBool, Int, Nat, Bits}
+use Rattle.bl_tree.specs.declared.scalar.Scalar.TheVariants.{Bool as OfBool}
 use Rattle.bl_tree.specs.declared.tree.StructDef.{StructDef}
 use Rattle.bl_tree.specs.declared.tree.Ty.{Ty, out-roll-Ty}
 use Rattle.bl_tree.specs.declared.value.Value.{Value, out-Value}
 use Rattle.bl_tree.specs.declared.value.Value.TheOpen.{Value-F}
 use Rattle.bl_tree.specs.declared.value.Value.TheVariants.{Number, outs-Number}
 use Rattle.bl_tree.specs.Numbers.{checked_of, checked_one_of, takes_one, takes_two, type_of_result}
-use Rattle.bl_tree.specs.Scalar.{InRange, in_range, is_bool, is_whole}
+use Rattle.bl_tree.specs.Scalar.{in_range, is_bool, is_whole}
 use Rattle.bl_tree.specs.Types.{same_scalar, scalar, scalar_in}
 use Rattle.bl_tree.specs.Typing.{cast_type, one_type, two_type}
 use Rattle.bl_tree.proofs.NumberLemmas.{checked_of-in_range, checked_one_of-in_range, in_range_holds, in_range_passes}

@@ -1,6 +1,6 @@
 -- Parts of the values of a type: what lies at the positions that a path leads to is of the path's type, and any value of
 -- that type may be put there.
-use Rattle.std.proofs.Common.{◌≡◌, ℕ, suc, zero, ◌+◌, ◌<◌, ◌≤◌, Bool, true, false, ◌&&◌, List, [], ◌∷◌, ◌++◌, length, map, take, arith, Option, Some, None, refl, sym, ap, ◌∙◌, subst, IfSome}
+use Rattle.std.proofs.Common.{◌≡◌, ℕ, ◌<◌, Bool, true, false, List, [], ◌∷◌, length, map, take, arith, Option, Some, None, refl, sym, ap, ◌∙◌, subst, IfSome}
 use Rattle.std.proofs.lemmas.List.{length-set}
 use Rattle.std.proofs.lemmas.Option.{same_Some, slice_get_within, IfSome_then}
 use Rattle.std.specs.Prelude.{nat_eq, option_and_then, option_map, slice_get, slice_set, if◌then◌else◌}
@@ -25,7 +25,7 @@ use Rattle.bl_tree.specs.Types.{scalar_in, type_stands}
 use Rattle.bl_tree.specs.Typing.{Site, after_parts, element_in, expr_type, field_in, kind_type, part_type, path_type, type_of, where_whole}
 use Rattle.bl_eval.specs.Changes.{part_of_path}
 use Rattle.bl_eval.specs.Meaning.{Scope, View, meaning_of, operand, position_in, positions_of, read_at}
-use Rattle.bl_eval.specs.Values.{are_elements, are_fields, by_test, fits_by, part_of, parts_at, parts_in, pass, put_at, tests_after, value_at, value_fits, values_fit, with_value_at}
+use Rattle.bl_eval.specs.Values.{are_elements, are_fields, by_test, fits_by, parts_at, parts_in, put_at, tests_after, value_at, value_fits, values_fit, with_value_at}
 use Rattle.bl_eval.proofs.FitLemmas.{Test, fits_array, fits_before, fits_struct, structs_at, test_is}
 use Rattle.bl_eval.proofs.PassLemmas.{and_left, and_right, both, all_at, all_set, pass_at, pass_set}
 
@@ -72,12 +72,13 @@ elements_part : (n : ℕ) (test : Test) (k : ℕ) (level : Value-F Value) → ar
     → HasPart (λ whole. are_elements n test (out-Value whole) ≡ true) (λ inner. test inner ≡ true) k (parts_at level)
 elements_part n test k (Value-F.Number m) fit = absurd (cc)
 elements_part n test k (Value-F.Parts all) fit =
-    if_some _ (slice_get all k) (λ old there.
-    (all_at test all k old (and_right (nat_eq (length all) n) (list_all test all) fit) there,
-    λ new one. ap (are_elements n test) (outs-Parts (slice_set all k new))
-    ∙ both (nat_eq (length (slice_set all k new)) n) (list_all test (slice_set all k new))
-    (ap (λ m. nat_eq m n) (length-set all k new) ∙ and_left (nat_eq (length all) n) (list_all test all) fit)
-    (all_set test all k new (and_right (nat_eq (length all) n) (list_all test all) fit) one)))
+    if_some _ (slice_get all k) (λ old there. (
+      all_at test all k old (and_right (nat_eq (length all) n) (list_all test all) fit) there,
+      λ new one. ap (are_elements n test) (outs-Parts (slice_set all k new))
+          ∙ both (nat_eq (length (slice_set all k new)) n) (list_all test (slice_set all k new))
+          (ap (λ m. nat_eq m n) (length-set all k new) ∙ and_left (nat_eq (length all) n) (list_all test all) fit)
+          (all_set test all k new (and_right (nat_eq (length all) n) (list_all test all) fit) one),
+    ))
 
 has_part : (Whole Other Inner Part : Value → Type 0) (k : ℕ) (parts : Option (List Value)) → ((v : Value) → Whole v → Other v) → ((v : Value) → Inner v → Part v)
     → ((v : Value) → Part v → Inner v) → HasPart Whole Inner k parts → HasPart Other Part k parts
@@ -93,7 +94,7 @@ module _ (structs : List StructDef) (stand : structs_stand_from 0 structs ≡ tr
       let stands : type_stands s field.ty ≡ true = all_at (λ (field : Field). type_stands s field.ty) def.fields k field (structs_at structs 0 s s def stand there (omega arith)) has in
       let same : fits_by tests field.ty ≡ value_fits structs field.ty = fits_before structs s field.ty (omega arith) stands in
       let level : (v : Value) → value_fits structs a v ≡ are_fields (map (λ field. fits_by tests field.ty) def.fields) (out-Value v) =
-          λ v. fits_struct (tests_after [] structs) a s v is ∙ ap (λ test. by_test test v) (test_is structs s def there) in
+      λ v. fits_struct (tests_after [] structs) a s v is ∙ ap (λ test. by_test test v) (test_is structs s def there) in
       has_part _ (Fits structs a) _ (Fits structs field.ty) k (parts_in v) (λ v h. level v ∙ h) (λ v h. sym (ap (λ (f : Test). f v) same) ∙ h) (λ v h. ap (λ (f : Test). f v) same ∙ h)
       (fields_part tests def.fields k field (out-Value v) (sym (level v) ∙ fit) has)
 

@@ -1,18 +1,12 @@
 -- A statement of a unit leaves its variables with values of their types, and returns what is of its result's type.
-use Rattle.std.proofs.Common.{◌≡◌, ℕ, suc, zero, Bool, true, false, ◌&&◌, List, [], ◌∷◌, map, Option, Some, None, refl, sym, ap, ◌∙◌, subst, IfSome}
+use Rattle.std.proofs.Common.{◌≡◌, ℕ, suc, zero, Bool, true, false, ◌&&◌, List, [], ◌∷◌, map, Option, Some, None, refl, sym, ◌∙◌, subst, IfSome}
 use Rattle.std.proofs.lemmas.List.Elements.{All-head, All-tail}
-use Rattle.std.proofs.lemmas.Option.{same_Some}
-use Rattle.std.specs.Prelude.{All, option_and_then, option_map, if◌then◌else◌}
-use Rattle.bl_tree.specs.declared.place.Place.{Place}
+use Rattle.std.specs.Prelude.{option_and_then, option_map, if◌then◌else◌}
 use Rattle.bl_tree.specs.declared.scalar.Scalar.{Scalar as ScalarType}
 use Rattle.bl_tree.specs.declared.tree.Arm.{Arm, fold-Arm, fold_out-Arm, out-Arm}
-use Rattle.bl_tree.specs.declared.tree.Branch.{Branch}
 use Rattle.bl_tree.specs.declared.tree.Expr.{Expr}
-use Rattle.bl_tree.specs.declared.tree.Guard.{Guard}
-use Rattle.bl_tree.specs.declared.tree.Path.{Path}
 use Rattle.bl_tree.specs.declared.tree.Stmt.{Stmt, fold-roll-Stmt}
 use Rattle.bl_tree.specs.declared.tree.StmtKind.{fold-roll-StmtKind}
-use Rattle.bl_tree.specs.declared.tree.StmtKind.TheOpen.{StmtKind-F}
 use Rattle.bl_tree.specs.declared.tree.StructDef.{StructDef}
 use Rattle.bl_tree.specs.declared.tree.Unit.{Unit as UnitDef}
 use Rattle.bl_tree.specs.declared.tree.Var.{Var}
@@ -20,12 +14,10 @@ use Rattle.bl_tree.specs.declared.value.Value.{Value}
 use Rattle.bl_tree.specs.Reduce.{all_of}
 use Rattle.bl_tree.specs.Types.{scalar}
 use Rattle.bl_tree.specs.Typing.{Site, are_same, arm_fits, branch_fits, fits, is_inhabited, is_truth, kind_fits, return_fits, site_of, stmt_fits, type_of, type_of_path}
-use Rattle.bl_tree.proofs.StmtInduction.{Cases, Each, EachArm, EachBranch, induct, stmt}
-use Rattle.bl_eval.specs.declared.datum.Datum.{Datum}
+use Rattle.bl_tree.proofs.StmtInduction.{Cases, Each, EachArm, induct}
 use Rattle.bl_eval.specs.Changes.{choice_of}
-use Rattle.bl_eval.specs.Functions.{Choice, Does, Flow, after, chosen, condition, declared, does, in_order, looped, most_turns, own, returned, scope_among, truth}
-use Rattle.bl_eval.specs.Meaning.{Callee, Scope, View, meaning_of}
-use Rattle.bl_eval.specs.Values.{values_fit}
+use Rattle.bl_eval.specs.Functions.{Choice, Does, Flow, after, chosen, condition, declared, does, in_order, looped, most_turns, own, returned, scope_among}
+use Rattle.bl_eval.specs.Meaning.{Callee, Scope, meaning_of}
 use Rattle.bl_eval.proofs.ActFits.{AllFit, assigned_fits, called_fits, declared_fits, same_found}
 use Rattle.bl_eval.proofs.ExprFits.{ResultFits, Sound, expr_fits}
 use Rattle.bl_eval.proofs.MeaningLemmas.{choice_out}

@@ -1,8 +1,8 @@
 -- Every unit of a typed program leaves values of its types, and what stands in it gives and keeps them.
-use Rattle.std.proofs.Common.{◌≡◌, ℕ, suc, zero, ◌+◌, length, Bool, true, false, ◌&&◌, List, [], ◌∷◌, ◌++◌, map, take, drop, arith, Option, Some, None, refl, sym, ap, ◌∙◌, subst, IfSome, append_assoc}
+use Rattle.std.proofs.Common.{◌≡◌, ℕ, suc, zero, ◌+◌, length, Bool, true, ◌&&◌, List, [], ◌∷◌, ◌++◌, map, take, drop, Some, refl, sym, ap, ◌∙◌, subst, append_assoc}
 use Rattle.std.proofs.lemmas.List.{append-nil, take-append-drop}
 use Rattle.std.proofs.lemmas.Option.{same_Some}
-use Rattle.std.specs.Prelude.{option_map, slice_get}
+use Rattle.std.specs.Prelude.{slice_get}
 use Rattle.std.specs.List.{AllZip, list_all}
 use Rattle.bl_tree.specs.declared.tree.Stmt.{Stmt}
 use Rattle.bl_tree.specs.declared.tree.StructDef.{StructDef}
@@ -12,10 +12,10 @@ use Rattle.bl_tree.specs.declared.value.Value.{Value}
 use Rattle.bl_tree.specs.Program.{Keeps, locals_of, parameters_of, structs_stand_from, unit_stands, units_stand_after}
 use Rattle.bl_tree.specs.Reduce.{all_of}
 use Rattle.bl_tree.specs.Types.{type_stands}
-use Rattle.bl_tree.specs.Typing.{fits, outputs_of, site_of}
+use Rattle.bl_tree.specs.Typing.{fits, site_of}
 use Rattle.bl_eval.specs.Functions.{Flow, callee_of, callees_after, callees_of, does, frame_of, in_order, left_by, scope_among}
 use Rattle.bl_eval.specs.Meaning.{Callee}
-use Rattle.bl_eval.specs.Values.{value_fits, values_fit, zero_of}
+use Rattle.bl_eval.specs.Values.{value_fits, zero_of}
 use Rattle.bl_eval.proofs.ActFits.{AllFit}
 use Rattle.bl_eval.proofs.ExprFits.{CalleeFits, LeftFits, Sound}
 use Rattle.bl_eval.proofs.FitLemmas.{zero_fits}
@@ -47,8 +47,8 @@ frame_fits structs unit arguments structs_stand vars_stand given =
     let test : Var → Value → Bool = λ var. value_fits structs var.ty in
     let good : Var → Bool = λ var. type_stands (length structs) var.ty in
     let zeros : AllFit structs (locals_of unit) (map (λ (var : Var). zero_of structs var.ty) (locals_of unit)) =
-        pass_each test (λ var. zero_of structs var.ty) good (λ var stands. zero_fits structs var.ty structs_stand stands) (locals_of unit)
-        (all_drop good (unit.inputs + unit.outputs) unit.vars vars_stand) in
+    pass_each test (λ var. zero_of structs var.ty) good (λ var stands. zero_fits structs var.ty structs_stand stands) (locals_of unit)
+    (all_drop good (unit.inputs + unit.outputs) unit.vars vars_stand) in
     subst (λ vars. AllFit structs vars (frame_of structs unit arguments)) (take-append-drop (unit.inputs + unit.outputs) unit.vars)
     (pass_append test (parameters_of unit) (locals_of unit) arguments (map (λ (var : Var). zero_of structs var.ty) (locals_of unit)) given zeros)
 

@@ -1,5 +1,5 @@
 -- Expressions and acts at their place in a program.
-use Rattle.std.specs.Prelude.{ℕ, Bool, List, take, slice_get, Option, Some, None, option_map, option_and_then, is_some, IsTrue, ◌≡◌}
+use Rattle.std.specs.Prelude.{ℕ, List, take, slice_get, Option, Some, None, option_map, option_and_then, is_some, IsTrue, ◌≡◌}
 use Rattle.bl_tree.specs.declared.tree.Expr.{Expr}
 use Rattle.bl_tree.specs.declared.tree.Stmt.{Stmt, out-Stmt}
 use Rattle.bl_tree.specs.declared.tree.StmtKind.{out-StmtKind}

@@ -1,4 +1,3 @@
-use Rattle.std.proofs.Common.{rules, ◌≡◌}
 use Rattle.bl_eval.specs.Standing.{view_of}
 use Rattle.bl_eval.proofs.LawLemmas.{act_typed}
 use Rattle.bl_eval.proofs.laws.act_keeps_types.Goals as goal
