@@ -1,7 +1,16 @@
+pub mod ActFits
+pub mod ExprFits
+pub mod FitLemmas
+pub mod LawLemmas
 pub mod MeaningLemmas
+pub mod OperatorFits
+pub mod PartFits
 pub mod PartLemmas
+pub mod PassLemmas
 pub mod SizeLemmas
 pub mod StandingLemmas
 pub mod StepLemmas
+pub mod StmtFits
+pub mod UnitFits
 pub mod Weights
 pub mod ZeroLemmas

@@ -1,14 +1,13 @@
 -- What the definitions come to at one expression, statement or call.
-use Rattle.std.proofs.Common.{◌≡◌, ℕ, suc, zero, ◌+◌, ◌<◌, ◌≤◌, Bool, true, false, List, [], ◌∷◌, ◌++◌, length, get_or, map, take, drop, arith, Option, Some, None, Result, Ok, Err, refl, sym, ap, ◌∙◌, subst, IfOk, length-append}
-use Rattle.std.specs.Prelude.{option_and_then, option_map, slice_get, slice_set, unwrap_or}
-use Rattle.std.specs.List.{zip}
+use Rattle.std.proofs.Common.{◌≡◌, ℕ, suc, zero, ◌+◌, ◌≤◌, true, false, List, [], ◌∷◌, ◌++◌, length, map, take, arith, Option, Some, None, Result, Ok, Err, refl, sym, ap, ◌∙◌, subst, IfOk, length-append}
+use Rattle.std.specs.Prelude.{option_and_then, option_map, slice_get, unwrap_or}
 use Rattle.bl_tree.specs.declared.tree.Arm.{Arm, fold_out-Arm, out-Arm}
 use Rattle.bl_tree.specs.declared.tree.Branch.{Branch, fold-Branch}
 use Rattle.bl_tree.specs.declared.tree.Expr.{Expr}
 use Rattle.bl_tree.specs.declared.tree.Path.{Path, fold_out-Path, out-Path}
 use Rattle.bl_tree.specs.declared.tree.Stmt.{Stmt, fold_out-Stmt, out-Stmt}
 use Rattle.bl_tree.specs.declared.tree.StmtKind.{StmtKind, fold-StmtKind, fold_out-StmtKind, map-StmtKind, out-StmtKind}
-use Rattle.bl_tree.specs.declared.tree.StmtKind.TheOpen.{StmtKind-F, Arm-F, Branch-F, Stmt-F}
+use Rattle.bl_tree.specs.declared.tree.StmtKind.TheOpen.{StmtKind-F}
 use Rattle.bl_tree.specs.declared.tree.StmtKind.TheVariants.{Repeat, Until, While, outs-Repeat, outs-Until, outs-While}
 use Rattle.bl_tree.specs.declared.tree.StructDef.{StructDef}
 use Rattle.bl_tree.specs.declared.tree.Unit.{Unit as UnitDef}
@@ -22,11 +21,12 @@ use Rattle.bl_eval.specs.declared.datum.Datum.{Datum}
 use Rattle.bl_eval.specs.declared.datum.Left.{Left}
 use Rattle.bl_eval.specs.declared.datum.Put.{Put}
 use Rattle.bl_eval.specs.declared.datum.Target.{Target}
-use Rattle.bl_eval.specs.Changes.{all_changed, choice_of, current_of, part_of_path, puts_of, put_of, replaced, targets_of, with_element_at}
+use Rattle.bl_eval.specs.Changes.{all_changed, choice_of, current_of, part_of_path, puts_of, targets_of, with_element_at}
 use Rattle.bl_eval.specs.Functions.{Choice, Does, Flow, arm_does, branch_does, call_of, callee_of, callees_after, callees_of, called, condition, does, frame_of, in_order, kind_does, left_by, looped, most_turns, put_all, put_back, stmt_does, truth}
 use Rattle.bl_eval.specs.Meaning.{Callee, Meaning, Position, Scope, Spot, expr_means, kind_means, part_means, path_means, positions_of, View, datum_of, level_datum, meaning_of, plain, read_at, reading, spot_of, values_of}
-use Rattle.bl_eval.specs.Values.{put_at, value_at, with_value_at}
+use Rattle.bl_eval.specs.Values.{put_at}
 use Rattle.bl_eval.proofs.PartLemmas.{put_unwrapped}
+use Rattle.bl_eval.proofs.PassLemmas.{get_front, get_seam}
 
 -- ---- statements
 
@@ -76,17 +76,6 @@ callees_start : (structs : List StructDef) (units : List UnitDef) (callees : Lis
 callees_start structs [] callees k callee there = there
 callees_start structs (unit ∷ rest) callees k callee there =
     callees_start structs rest (callees ++ callee_of structs callees unit ∷ []) k callee (get_front callees (callee_of structs callees unit ∷ []) k callee there)
-  where
-    get_front : (xs ys : List Callee) (k : ℕ) (x : Callee) → slice_get xs k ≡ Some x → slice_get (xs ++ ys) k ≡ Some x
-    get_front [] ys k x there = absurd (cc)
-    get_front (y ∷ xs) ys zero x there = there
-    get_front (y ∷ xs) ys (suc k) x there = get_front xs ys k x there
-
-get_seam : {A : Type 0} (xs : List A) (y : A) (j : ℕ) → j ≡ length xs → slice_get (xs ++ y ∷ []) j ≡ Some y
-get_seam [] y zero is = refl
-get_seam [] y (suc j) is = absurd (omega arith)
-get_seam (x ∷ xs) y zero is = absurd (omega arith)
-get_seam (x ∷ xs) y (suc j) is = get_seam xs y j (omega arith)
 
 callee_after : (structs : List StructDef) (units : List UnitDef) (callees : List Callee) (j k : ℕ) (unit : UnitDef) → slice_get units k ≡ Some unit → j ≡ length callees + k
     → slice_get (callees_after structs callees units) j ≡ Some (callee_of structs (callees_after structs callees (take k units)) unit)
@@ -167,7 +156,7 @@ append_first (Some d) None ws = refl
 append_first (Some d) (Some vs) None = refl
 append_first (Some d) (Some vs) (Some ws) = refl
 
-values_append : (xs ys : List Meaning) (view : View) → values_of (xs ++ ys) view ≡ option_and_then (λ vs. option_map (λ ws. vs ++ ws) (values_of ys view)) (values_of xs view)
+pub values_append : (xs ys : List Meaning) (view : View) → values_of (xs ++ ys) view ≡ option_and_then (λ vs. option_map (λ ws. vs ++ ws) (values_of ys view)) (values_of xs view)
 values_append [] ys view = behind_nothing (values_of ys view)
 values_append (e ∷ xs) ys view =
     ap (λ rest. option_and_then (λ datum. option_map (λ values. plain datum ∷ values) rest) (e view)) (values_append xs ys view)

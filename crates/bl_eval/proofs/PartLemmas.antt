@@ -2,8 +2,7 @@
 use Rattle.std.proofs.Common.{◌≡◌, ℕ, suc, zero, ◌+◌, ◌-◌, ◌<◌, ◌≤◌, List, [], ◌∷◌, ◌++◌, length, get_or, take, drop, arith, refl, sym, ap, ◌∙◌, Option, Some, None, Bool, true, false, not, add-one, drop-cons, set-set}
 use Rattle.std.proofs.lemmas.List.{take_all}
 use Rattle.std.specs.Prelude.{is_some, option_and_then, option_map, slice_get, slice_set, unwrap_or}
-use Rattle.bl_tree.specs.declared.value.Value.{Value, out-Value}
-use Rattle.bl_tree.specs.declared.value.Value.TheOpen.{Value-F}
+use Rattle.bl_tree.specs.declared.value.Value.{Value}
 use Rattle.bl_tree.specs.declared.value.Value.TheVariants.{Number, Parts, outs-Number, outs-Parts}
 use Rattle.bl_eval.specs.Changes.{all_changed, changed, replaced, with_element_at}
 use Rattle.bl_eval.specs.declared.datum.Put.{Put}

@@ -1,14 +1,13 @@
 -- How deep expressions are against what stands in them.
-use Rattle.std.proofs.Common.{◌≡◌, ℕ, suc, zero, ◌+◌, ◌<◌, ◌≤◌, max, List, [], ◌∷◌, length, get_or, map, arith, ap, ◌∙◌, sym, refl}
+use Rattle.std.proofs.Common.{◌≡◌, ℕ, suc, zero, ◌<◌, ◌≤◌, max, List, [], ◌∷◌, length, get_or, arith, ap, refl}
 use denote.Param.Weighed.{most}
 use Rattle.bl_tree.specs.declared.tree.Expr.{Expr, size-Expr, size_is-Expr, out-Expr}
-use Rattle.bl_tree.specs.declared.tree.ExprKind.{ExprKind, size-ExprKind}
+use Rattle.bl_tree.specs.declared.tree.ExprKind.{size-ExprKind}
 use Rattle.bl_tree.specs.declared.tree.ExprKind.TheVariants.{Read, Call}
 use Rattle.bl_tree.specs.declared.tree.ExprKind.TheViews.{sized-Read, sized-Call, sized-Index}
 use Rattle.bl_tree.specs.declared.tree.Part.{Part, size-Part}
 use Rattle.bl_tree.specs.declared.tree.Part.TheVariants.{Index}
 use Rattle.bl_tree.specs.declared.tree.Path.{Path, size-Path, size_is-Path, out-Path}
-use Rattle.bl_tree.specs.Reduce.{greatest}
 use Rattle.bl_eval.proofs.Weights.{exprs_depth, parts_depth}
 
 most_parts : (parts : List Part) → most size-Part parts ≡ parts_depth parts

@@ -12,7 +12,7 @@ use Rattle.bl_tree.specs.declared.tree.StmtKind.{StmtKind, fold-StmtKind, fold_o
 use Rattle.bl_tree.specs.declared.tree.StmtKind.TheOpen.{StmtKind-F, Arm-F, Branch-F, Stmt-F}
 use Rattle.bl_tree.specs.declared.tree.StmtKind.TheVariants.{Declare, Assign, Call, If, Repeat, Until, While, Return, outs-Declare, outs-Assign, outs-Call, outs-If, outs-Repeat, outs-Until, outs-While, outs-Return}
 use Rattle.bl_tree.specs.declared.tree.StructDef.{StructDef}
-use Rattle.bl_tree.specs.declared.tree.Ty.{Ty, size-Ty}
+use Rattle.bl_tree.specs.declared.tree.Ty.{size-Ty}
 use Rattle.bl_tree.specs.declared.tree.Unit.{Unit as UnitDef}
 use Rattle.bl_tree.specs.Reduce.{greatest}
 

@@ -1,9 +1,10 @@
 -- Expressions and acts at their place in a program.
-use Rattle.std.specs.Prelude.{ℕ, Bool, List, take, slice_get, Option, Some, None, option_map, option_and_then, is_some, IsTrue, ◌≡◌}
+use Rattle.std.specs.Prelude.{ℕ, List, take, slice_get, Option, Some, None, option_map, option_and_then, is_some, IsTrue, ◌≡◌}
 use Rattle.bl_tree.specs.declared.tree.Expr.{Expr}
 use Rattle.bl_tree.specs.declared.tree.Stmt.{Stmt, out-Stmt}
 use Rattle.bl_tree.specs.declared.tree.StmtKind.{out-StmtKind}
 use Rattle.bl_tree.specs.declared.tree.StructDef.{StructDef}
+use Rattle.bl_tree.specs.declared.tree.Ty.{Ty}
 use Rattle.bl_tree.specs.declared.tree.Unit.{Unit as UnitDef}
 use Rattle.bl_tree.specs.declared.value.Value.{Value}
 use Rattle.bl_tree.specs.Typing.{Site, fits, site_of, type_of}
@@ -35,6 +36,10 @@ site_at structs units k = option_map (site_of structs (take k units)) (slice_get
 -- the value of an expression of the unit at the position, from the values of that unit's variables; none where it traps
 abbrev pub value_in_unit : List StructDef → List UnitDef → ℕ → Expr → View → Option Value
 value_in_unit structs units k e view = option_and_then (λ site. value_of site e view) (site_at structs units k)
+
+-- the type of an expression of the unit at the position; none where its parts do not fit
+abbrev pub type_in_unit : List StructDef → List UnitDef → ℕ → Expr → Option Ty
+type_in_unit structs units k e = option_and_then (λ site. type_of site e) (site_at structs units k)
 
 -- the variables of the unit at the position after an act of it; none where it traps
 abbrev pub outcome_in_unit : List StructDef → List UnitDef → ℕ → Stmt → View → Option (List Value)

@@ -4,6 +4,7 @@
 mod copying;
 mod datum;
 mod evaluation;
+pub mod laws;
 mod operators;
 mod parts;
 mod slices;

@@ -1,4 +1,4 @@
-use Rattle.std.proofs.Common.{rules, ◌≡◌, refl, ap, sym, ◌∙◌, arith, length, ◌<◌}
+use Rattle.std.proofs.Common.{refl, ap, ◌∙◌, arith, length, ◌<◌}
 use Rattle.std.proofs.lemmas.Option.{slice_get_read}
 use Rattle.bl_eval.specs.Changes.{replaced}
 use Rattle.bl_eval.proofs.PartLemmas.{put_made, replaced_made}

@@ -1,4 +1,3 @@
-use Rattle.std.proofs.Common.{rules, ◌≡◌, option_map}
 use Rattle.bl_eval.proofs.PartLemmas.{part_of_parts}
 use Rattle.bl_eval.proofs.parts.part.Goals as goal
 

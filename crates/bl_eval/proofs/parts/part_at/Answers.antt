@@ -1,4 +1,4 @@
-use Rattle.std.proofs.Common.{rules, ◌≡◌, option_map, sym, ◌∙◌, arith}
+use Rattle.std.proofs.Common.{sym, ◌∙◌}
 use Rattle.bl_eval.proofs.PartLemmas.{value_step, value_stop}
 use Rattle.bl_eval.proofs.parts.part_at.Goals as goal
 

@@ -1,5 +1,4 @@
-use Rattle.std.proofs.Common.{◌≡◌, ◌+◌, ◌++◌, map, drop}
-use Rattle.bl_eval.specs.Functions.{frame_of}
+use Rattle.std.proofs.Common.{◌≡◌, ◌++◌, map, drop}
 use Rattle.bl_eval.specs.Values.{zero_of}
 use Rattle.bl_eval.proofs.steps.frame.Given as goal
 

@@ -1,4 +1,3 @@
-use Rattle.std.proofs.Common.{rules, ◌≡◌, arith}
 use Rattle.bl_eval.proofs.PartLemmas.{change_made}
 use Rattle.bl_eval.proofs.steps.make_all.Goals as goal
 

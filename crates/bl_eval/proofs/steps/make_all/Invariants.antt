@@ -1,4 +1,4 @@
-use Rattle.std.proofs.Common.{◌≡◌, ◌++◌, drop}
+use Rattle.std.proofs.Common.{◌≡◌}
 use Rattle.bl_eval.specs.Changes.{all_changed}
 use Rattle.bl_eval.proofs.steps.make_all.Given as goal
 

@@ -1,4 +1,3 @@
-use Rattle.std.proofs.Common.{rules, ◌≡◌, arith}
 use Rattle.bl_eval.proofs.PartLemmas.{single_none, single_some}
 use Rattle.bl_eval.proofs.steps.single.Goals as goal
 

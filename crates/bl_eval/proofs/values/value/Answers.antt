@@ -1,4 +1,3 @@
-use Rattle.std.proofs.Common.{rules, ◌≡◌}
 use Rattle.bl_eval.specs.Standing.{got_value}
 use Rattle.bl_eval.proofs.StandingLemmas.{value_is}
 use Rattle.bl_eval.proofs.values.value.Goals as goal

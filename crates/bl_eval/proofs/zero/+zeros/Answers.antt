@@ -1,4 +1,4 @@
-use Rattle.std.proofs.Common.{rules, ◌≡◌, ◌+◌, ◌*◌, ◌<◌, ◌≤◌, arith, ap, sym, ◌∙◌, take, length}
+use Rattle.std.proofs.Common.{◌+◌, ◌*◌, ◌<◌, arith, ap, sym, take}
 use Rattle.bl_tree.specs.declared.tree.Ty.{size-Ty}
 use Rattle.bl_eval.proofs.Weights.{field_depth, fields_depth, structs_weight, weight_before}
 use Rattle.bl_eval.proofs.ZeroLemmas.{zero_made, zero_none}
