@@ -1,5 +1,6 @@
 -- The grammar over tokens (docs/LANGUAGE.md, "Grammar"), with common beginnings joined.
-use Rattle.std.specs.Prelude.{◌≡◌, ℕ, ◌==◌, Bool, true, false, not, ◌&&◌, ◌||◌, nat_eq, List, [], ◌∷◌, ◌++◌, Option, Some, None}
+use Rattle.std.specs.Prelude.{◌≡◌, ℕ, ◌==◌, Bool, true, false, not, ◌&&◌, nat_eq, List, [], ◌∷◌, ◌++◌, Option, Some, None}
+use Rattle.std.specs.List.{list_any}
 use Rattle.bl_tree.specs.declared.token.Token.{Token}
 use Rattle.bl_tree.specs.declared.token.TokenKind.{TokenKind}
 use Rattle.bl_tree.specs.declared.token.TokenKind.TheVariants.{Name, Number, Word, Sign}
@@ -168,12 +169,13 @@ productions Primary =
 productions NameUse = (the Inputs ∷ the NoOutputs ∷ []) ∷ (the Access ∷ the Accesses ∷ []) ∷ [] ∷ []
 productions NoOutputs = (sign OPEN_PAREN ∷ sign CLOSE_PAREN ∷ []) ∷ [] ∷ []
 
+-- the classes that an expression can begin with
+abbrev pub expression_starts : List Class
+expression_starts = Mark MINUS ∷ Mark TILDE ∷ Keyword NOT ∷ AnyNumber ∷ Keyword TRUE ∷ Keyword FALSE ∷ Keyword PREV ∷ AnyName ∷ Mark OPEN_PAREN ∷ []
+
 -- a token of the class can begin an expression
 abbrev pub begins_expression : Class → Bool
-begins_expression AnyName = true
-begins_expression AnyNumber = true
-begins_expression (Keyword k) = nat_eq k NOT || nat_eq k TRUE || nat_eq k FALSE || nat_eq k PREV
-begins_expression (Mark k) = nat_eq k OPEN_PAREN || nat_eq k MINUS || nat_eq k TILDE
+begins_expression class = list_any (λ start. same_class start class) expression_starts
 
 -- after `return`, the next token begins its expression: it stands on the same line and can begin one
 abbrev pub continues : Option View → Bool

@@ -1,1 +1,4 @@
 pub mod Grammar
+pub mod Tables
+pub mod Follow
+pub mod Stack

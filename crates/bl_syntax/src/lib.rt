@@ -2,4 +2,5 @@
 //! Syntax).
 #![tactic(auto)]
 
+mod choice;
 pub mod grammar;
