@@ -1,16 +1,14 @@
 -- What never follows a part of the grammar, and how deep its productions go: by these one token is seen to decide.
-use Rattle.std.proofs.Common.{◌≡◌, ℕ, zero, suc, ◌+◌, Bool, true, false, not, cond, ◌&&◌, ◌||◌, List, [], ◌∷◌, ◌++◌, max, refl}
+use Rattle.std.proofs.Common.{ℕ, zero, suc, ◌+◌, Bool, true, cond, ◌&&◌, List, [], ◌∷◌, ◌++◌, max}
 use Rattle.std.specs.Prelude.{nat_lt}
-use Rattle.std.specs.List.{list_all}
 use Rattle.bl_grammar.specs.declared.symbol.Symbol.TheVariants.{Terminal, Nonterminal}
 use Rattle.bl_lex.specs.declared.word.TheConstants.{STRUCT, VAR, CONST, FUNCTION, ACTIVITY, RETURNS, LET, AWAIT, RUN, COBEGIN, WHEN, REPEAT, WHILE, IF, RETURN, WEAK, WITH, UNTIL, ELSEIF, ELSE, OR, AND, AS}
 use Rattle.bl_lex.specs.declared.sign.TheConstants.{COLON, ASSIGN, AT, OPEN_BRACKET, OPEN_PAREN, COMMA, DOT, EQUAL, NOT_EQUAL, LESS, LESS_OR_EQUAL, GREATER, GREATER_OR_EQUAL, BAR, CARET, AMPERSAND, SHIFT_LEFT, SHIFT_RIGHT, PLUS, MINUS, STAR, SLASH, PERCENT}
 use Rattle.bl_syntax.specs.declared.grammar.Class.{Class}
-use Rattle.bl_syntax.specs.declared.grammar.Class.TheVariants.{AnyName, AnyNumber, Keyword, Mark}
+use Rattle.bl_syntax.specs.declared.grammar.Class.TheVariants.{AnyName, Keyword, Mark}
 use Rattle.bl_syntax.specs.declared.grammar.Part.{Part}
-use Rattle.bl_syntax.specs.declared.grammar.Part.TheVariants.{Program, Item, Struct, Field, Fields, Constant, TypeMark, Unit, PlainUnit, UnitTail, Params, SecondParams, ParamList, ParamRest, Param, Returns, Ty, Scalar, Length, Block, Stmt, VarTail, Initial, AfterName, CallTail, AssignTail, Access, Accesses, RunTail, RunTarget, Weak, Branches, Guard, Until, Elseifs, Else, AfterReturn, Inputs, InputList, InputRest, Outputs, SecondOutputs, OutputList, OutputRest, Path, PathRest, Expr, ExprRest, And, AndRest, Comparison, ComparisonRest, BitOr, BitOrRest, BitXor, BitXorRest, BitAnd, BitAndRest, Shift, ShiftRest, Sum, SumRest, Product, ProductRest, Cast, CastRest, Unary, Primary, NameUse, NoOutputs}
-use Rattle.bl_syntax.specs.Grammar.{Piece, productions, begins_expression, expression_starts}
-use Rattle.bl_syntax.specs.Tables.{has, starts, absent, Choice, choices}
+use Rattle.bl_syntax.specs.declared.grammar.Part.TheVariants.{Program, Item, Struct, Field, Fields, Constant, TypeMark, Unit, PlainUnit, UnitTail, Params, SecondParams, ParamList, ParamRest, Param, Returns, Block, Stmt, VarTail, Initial, AfterName, CallTail, AssignTail, Accesses, RunTail, RunTarget, Weak, Branches, Until, Elseifs, Else, AfterReturn, Inputs, InputList, InputRest, Outputs, SecondOutputs, OutputList, OutputRest, Path, PathRest, Expr, ExprRest, And, AndRest, Comparison, ComparisonRest, BitOr, BitOrRest, BitXor, BitXorRest, BitAnd, BitAndRest, Shift, ShiftRest, Sum, SumRest, Product, ProductRest, Cast, CastRest, Unary, Primary, NameUse, NoOutputs}
+use Rattle.bl_syntax.specs.Grammar.{Piece, productions, expression_starts}
 
 -- what goes on after a name, and so never follows an expression
 abbrev pub after_name : List Class
