@@ -32,9 +32,10 @@ head_of A next p made = all_among (is_headed (absent A) (depth A)) (productions 
 headed_of : (A : Part) (next : Option View) (p : List Piece) → Produces A next p → Predictive.IsHeaded Produces matches tables A next p
 headed_of A next [] made = absent_of A made.0
 headed_of A next (Terminal k ∷ q) made = λ v e m. begins_of A v (Terminal k) q (subst (λ n. Produces A n (Terminal k ∷ q)) e made) (or_left _ _ m)
-headed_of A next (Nonterminal B ∷ q) made =
-    (not_false _ (and_left _ _ (head_of A next (Nonterminal B ∷ q) made)),
-     λ v e b. begins_of A v (Nonterminal B) q (subst (λ n. Produces A n (Nonterminal B ∷ q)) e made) (and_right (permits B v) _ b))
+headed_of A next (Nonterminal B ∷ q) made = (
+  not_false _ (and_left _ _ (head_of A next (Nonterminal B ∷ q) made)),
+  λ v e b. begins_of A v (Nonterminal B) q (subst (λ n. Produces A n (Nonterminal B ∷ q)) e made) (and_right (permits B v) _ b),
+)
 
 heads_has : (q : List Piece) (v : View) → Predictive.heads Produces matches tables q v ≡ true → has (heads_of q) v.class ≡ true
 heads_has [] v is = is
@@ -65,10 +66,11 @@ follow_of : (A : Part) (p : List Piece) → follows (avoided A) p ≡ true → P
 follow_of A [] is = tt
 follow_of A (Terminal k ∷ q) is = follow_of A q is
 follow_of A (Nonterminal B ∷ q) is =
-    let rest = and_right (are_apart (heads_of q) (avoided B)) _ is in
-    (λ v heads. apart (heads_of q) (avoided B) v.class (and_left _ _ is) (heads_has q v heads),
-     within_of B (avoided A) q (and_left _ _ rest),
-     follow_of A q (and_right (not (may_vanish q) || are_within (avoided B) (avoided A)) _ rest))
+    let rest = and_right (are_apart (heads_of q) (avoided B)) _ is in (
+      λ v heads. apart (heads_of q) (avoided B) v.class (and_left _ _ is) (heads_has q v heads),
+      within_of B (avoided A) q (and_left _ _ rest),
+      follow_of A q (and_right (not (may_vanish q) || are_within (avoided B) (avoided A)) _ rest),
+    )
 
 forced_of : (A : Part) (v : View) (p : List Piece) → Produces A (Some v) p → Predictive.IsForced Produces matches tables A v p
 forced_of A v [] made = λ none. empty_pick A v made.1 (absent_of A made.0) none
@@ -117,10 +119,11 @@ picked_stands _ v p is = refl
 descends_of : (A : Part) (v : View) (p : List Piece) → IsAmong p (productions A) → is_headed (absent A) (depth A) p ≡ true → Predictive.Descends Produces matches tables A p
 descends_of A v [] among head = absent_of A among
 descends_of A v (Terminal k ∷ q) among head = tt
-descends_of A v (Nonterminal B ∷ q) among head =
-    (not_false _ (and_left _ _ head),
-     λ may. by_absent (absent A) (and_right (not (absent B)) _ head) may,
-     λ other. by_other (absent A) (and_right (not (absent B)) _ head) other)
+descends_of A v (Nonterminal B ∷ q) among head = (
+  not_false _ (and_left _ _ head),
+  λ may. by_absent (absent A) (and_right (not (absent B)) _ head) may,
+  λ other. by_other (absent A) (and_right (not (absent B)) _ head) other,
+)
   where
     by_absent : (b : Bool) → nat_lt (depth B) (cond b 32 (depth A)) ≡ true → b ≡ true → depth B < 32
     by_absent true is may = ltb-true _ _ is

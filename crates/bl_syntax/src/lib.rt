@@ -3,4 +3,7 @@
 #![tactic(auto)]
 
 mod choice;
+mod expressions;
 pub mod grammar;
+mod items;
+mod statements;
