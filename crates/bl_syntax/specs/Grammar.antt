@@ -27,14 +27,23 @@ abbrev pub is_fresh : Option ℕ → ℕ → Bool
 is_fresh None line = true
 is_fresh (Some before) line = not (before == line)
 
+-- the token as the grammar sees it, after a token on this line
+abbrev pub view_of : Option ℕ → Token → View
+view_of before token = record { class = class_of token.kind; fresh = is_fresh before token.line }
+
 -- the tokens as the grammar sees them, after a token on this line
 abbrev pub views_after : Option ℕ → List Token → List View
 views_after before [] = []
-views_after before (token ∷ tokens) = record { class = class_of token.kind; fresh = is_fresh before token.line } ∷ views_after (Some token.line) tokens
+views_after before (token ∷ tokens) = view_of before token ∷ views_after (Some token.line) tokens
 
 -- the tokens of a text as the grammar sees them
 abbrev pub views : List Token → List View
 views tokens = views_after None tokens
+
+-- the line of the last token, if there is one, and else this one
+abbrev pub last_line : Option ℕ → List Token → Option ℕ
+last_line before [] = before
+last_line before (token ∷ tokens) = last_line (Some token.line) tokens
 
 -- two classes are the same
 abbrev pub same_class : Class → Class → Bool
@@ -204,7 +213,3 @@ Derives symbols tokens left = Derivations.Derives Produces matches symbols token
 -- the tokens spell a program
 abbrev pub IsProgram : List View → Type 0
 IsProgram tokens = Derives (the Program ∷ []) tokens []
-
--- the tokens, with some that follow, spell a program
-abbrev pub BeginsProgram : List View → Type 0
-BeginsProgram tokens = (more : List View) × IsProgram (tokens ++ more)

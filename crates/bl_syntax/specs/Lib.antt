@@ -2,3 +2,5 @@ pub mod Grammar
 pub mod Tables
 pub mod Follow
 pub mod Stack
+pub mod Depth
+pub mod Rules

@@ -1,5 +1,7 @@
 -- What the stack of the recogniser says of the tokens that were read.
-use Rattle.std.specs.Prelude.{ℕ, Bool, true, ◌&&◌, List}
+use Rattle.std.specs.Prelude.{ℕ, Bool, true, false, ◌&&◌, List, Option, Some, None}
+use Rattle.bl_tree.specs.declared.place.Place.{Place}
+use Rattle.bl_grammar.specs.declared.symbol.Symbol.TheVariants.{Terminal, Nonterminal}
 use Rattle.bl_grammar.specs.Predictive.{Tables}
 use Rattle.bl_grammar.specs.Predictive
 use Rattle.bl_grammar.specs.Runs
@@ -49,3 +51,17 @@ Answers next stack taken rest = Runs.Answers Produces matches tables next stack 
 -- how far the stack is from the next token that is read
 abbrev pub level : List Piece → ℕ
 level stack = Predictive.level Produces matches tables stack
+
+-- what is on the stack may stand for nothing
+abbrev pub vanish : List Piece → Bool
+vanish stack = Predictive.vanish Produces matches tables stack
+
+-- the symbol may stand for nothing
+abbrev pub may_vanish : Piece → Bool
+may_vanish (Terminal class) = false
+may_vanish (Nonterminal part) = absent part
+
+-- the place of the text's end, unless the text may end
+abbrev pub fault_at_end : Bool → ℕ → Option Place
+fault_at_end true size = None
+fault_at_end false size = Some (record { start = size; end = size })

@@ -3,7 +3,12 @@
 #![tactic(auto)]
 
 mod choice;
+mod depth;
 mod expressions;
 pub mod grammar;
 mod items;
+mod rules;
+mod stack;
 mod statements;
+
+pub use rules::check;
