@@ -1,11 +1,12 @@
 -- How deep tokens are with one more, and where none is too deep.
-use Rattle.std.proofs.Common.{◌≡◌, ℕ, ◌+◌, ◌<◌, ◌≤◌, List, [], ◌∷◌, ◌++◌, length, take, refl, ap, sym, ◌∙◌, subst, arith, ◌⊎◌, inl, inr, ⊎_elim, length-append, take_all}
-use Rattle.std.proofs.lemmas.List.{take-append-le}
+use Rattle.std.proofs.Common.{◌≡◌, ℕ, ◌+◌, ◌<◌, ◌≤◌, List, [], ◌∷◌, ◌++◌, length, take, refl, ap, sym, ◌∙◌, subst, arith, ◌⊎◌, inl, inr, ⊎_elim, length-append, take_all, suc, drop, get_or, add-one, drop-cons}
+use Rattle.std.proofs.lemmas.List.{take-append-le, take-append-drop}
+use Rattle.std.proofs.Math.Seq.{take-suc}
 use Rattle.std.specs.Prelude.{Option, Some, None}
 use Rattle.bl_tree.specs.declared.token.Token.{Token}
 use Rattle.bl_tree.specs.declared.token.TokenKind.{TokenKind}
 use Rattle.bl_syntax.specs.Depth.{blocks_after, run_with, open_after, run_after, last_kind, IsTooDeep}
-use Rattle.bl_syntax.specs.Rules.{PassesDepth}
+use Rattle.bl_syntax.specs.Rules.{PassesDepth, FailsDepth}
 
 pub open_next : (blocks : ℕ) (front : List Token) (t : Token) → open_after blocks (front ++ t ∷ []) ≡ blocks_after (open_after blocks front) t.kind
 open_next blocks [] t = refl
@@ -33,8 +34,45 @@ passes_next front t passes not_here n = by_length (compare n)
 pub not_too_deep : (tokens : List Token) → open_after 0 tokens ≤ 100 → run_after 0 None tokens ≤ 200 → ¬ IsTooDeep tokens
 not_too_deep tokens few short deep = ⊎_elim (λ blocks. absurd (omega (arith, few, blocks))) (λ run. absurd (omega (arith, short, run))) deep
 
+take_none : (n : ℕ) → ◌≡◌ {A = List Token} (take n []) []
+take_none n = take_all n [] (omega arith)
+
 pub passes_none : PassesDepth []
 passes_none n deep = not_too_deep [] (omega arith) (omega arith) (subst IsTooDeep (take_none n) deep)
-  where
-    take_none : (n : ℕ) → take n [] ≡ []
-    take_none n = grind arith
+
+module _ (tokens : List Token) (i : ℕ) (d : Token) (inside : i < length tokens) (blocks run blocks_now run_now : ℕ) (before : Option TokenKind)
+    (is_blocks : blocks ≡ open_after 0 (take i tokens)) (is_run : run ≡ run_after 0 None (take i tokens)) (is_before : before ≡ last_kind None (take i tokens))
+    (now : blocks_now ≡ blocks_after blocks (get_or tokens i d).kind) (run_is : run_now ≡ run_with run before (get_or tokens i d).kind) (passes : PassesDepth (take i tokens)) where
+  one_more : take i tokens ++ get_or tokens i d ∷ [] ≡ take (i + 1) tokens
+  one_more = sym (take-suc tokens i d inside) ∙ ap (λ n. take n tokens) (sym (add-one i))
+
+  blocks_with : blocks_now ≡ open_after 0 (take i tokens ++ get_or tokens i d ∷ [])
+  blocks_with = now ∙ ap (λ n. blocks_after n (get_or tokens i d).kind) is_blocks ∙ sym (open_next 0 (take i tokens) (get_or tokens i d))
+
+  run_more : run_now ≡ run_after 0 None (take i tokens ++ get_or tokens i d ∷ [])
+  run_more = run_is ∙ ap (λ n. run_with n before (get_or tokens i d).kind) is_run ∙ ap (λ b. run_with (run_after 0 None (take i tokens)) b (get_or tokens i d).kind) is_before
+      ∙ sym (run_next 0 None (take i tokens) (get_or tokens i d))
+
+  pub blocks_next : blocks_now ≡ open_after 0 (take (i + 1) tokens)
+  blocks_next = blocks_with ∙ ap (open_after 0) one_more
+
+  pub run_then : run_now ≡ run_after 0 None (take (i + 1) tokens)
+  run_then = run_more ∙ ap (run_after 0 None) one_more
+
+  pub kind_next : Some (get_or tokens i d).kind ≡ last_kind None (take (i + 1) tokens)
+  kind_next = sym (last_next None (take i tokens) (get_or tokens i d)) ∙ ap (last_kind None) one_more
+
+  pub passes_then : blocks_now ≤ 100 → run_now ≤ 200 → PassesDepth (take (i + 1) tokens)
+  passes_then few short = subst PassesDepth one_more
+      (passes_next (take i tokens) (get_or tokens i d) passes (not_too_deep (take i tokens ++ get_or tokens i d ∷ []) (subst (λ n. n ≤ 100) blocks_with few) (subst (λ n. n ≤ 200) run_more short)))
+
+  pub fails_here : (100 < blocks_now) ⊎ (200 < run_now) → FailsDepth tokens (get_or tokens i d).place
+  fails_here deep = record {
+    before = take i tokens;
+    token = get_or tokens i d;
+    after = drop (suc i) tokens;
+    stands = sym (take-append-drop i tokens) ∙ ap (λ ys. take i tokens ++ ys) (drop-cons tokens i d inside);
+    first = passes;
+    too_deep = ⊎_elim (λ h. inl (subst (λ n. 100 < n) blocks_with h)) (λ h. inr (subst (λ n. 200 < n) run_more h)) deep;
+    at = refl;
+  }

@@ -1,5 +1,5 @@
 -- What the stack says of the tokens that were read.
-use Rattle.std.proofs.Common.{◌≡◌, ℕ, suc, ◌+◌, ◌<◌, Bool, true, false, not, cond, ◌&&◌, ◌==◌, List, [], ◌∷◌, ◌++◌, length, get_or, take, drop, add-one, drop-cons, reverse, refl, ap, sym, ◌∙◌, subst, arith, append_assoc, append-nil, ◌⊎◌, inl, inr}
+use Rattle.std.proofs.Common.{◌≡◌, ℕ, suc, ◌+◌, ◌<◌, ◌≤◌, Bool, true, false, not, ◌&&◌, ◌==◌, List, [], ◌∷◌, ◌++◌, length, get_or, take, take_all, drop, add-one, drop-cons, reverse, refl, ap, sym, ◌∙◌, subst, arith, append_assoc, inl, inr}
 use Rattle.std.specs.Prelude.{Option, Some, None, MatchOption}
 use Rattle.std.proofs.lemmas.List.{reverse-append, take-append-drop}
 use Rattle.std.proofs.Math.Seq.{take-suc}
@@ -12,7 +12,6 @@ use Rattle.bl_tree.specs.declared.token.TokenKind.TheVariants.{Name, Number, Wor
 use Rattle.bl_grammar.specs.declared.symbol.Symbol.TheVariants.{Terminal, Nonterminal}
 use Rattle.bl_grammar.specs.Predictive
 use Rattle.bl_grammar.specs.Derivations.{next_of}
-use Rattle.bl_grammar.specs.Runs
 use Rattle.bl_grammar.proofs.Predictive.{complete, Completed, descend}
 use Rattle.bl_grammar.proofs.Runs as RunLaws
 use Rattle.bl_syntax.specs.declared.grammar.Class.{Class}
@@ -23,7 +22,7 @@ use Rattle.bl_syntax.specs.declared.grammar.Part.TheVariants.{Program}
 use Rattle.bl_syntax.specs.Grammar.{Piece, the, class_of, is_fresh, view_of, views_after, views, last_line, same_class, matches, Produces, IsProgram}
 use Rattle.bl_syntax.specs.Tables.{absent, pick}
 use Rattle.bl_syntax.specs.Stack.{tables, IsGood, Stands, Expands, Answers, level, vanish, may_vanish, fault_at_end}
-use Rattle.bl_syntax.specs.Rules.{SpellsProgram, BeginsProgram, FailsAtToken, FailsAtEnd, FailsSyntax}
+use Rattle.bl_syntax.specs.Rules.{SpellsProgram, BeginsProgram, FailsAtToken, FailsSyntax}
 use Rattle.bl_syntax.proofs.Predictive.{predictive}
 
 -- the stack
@@ -133,19 +132,22 @@ begins_program front stack stands =
 begins_none : (front : List Token) (t : Token) (stack rest : List Piece) → Stands (views front) stack → Answers (view_of (last_line None front) t) stack false rest → ¬ BeginsProgram (front ++ t ∷ [])
 begins_none front t stack rest stands refuses b =
     let seen : views (front ++ t ∷ [] ++ b.0) ≡ views front ++ (view_of (last_line None front) t ∷ views_after (Some t.line) b.0) =
-        ap views (append_assoc front (t ∷ []) b.0) ∙ views_append None front (t ∷ b.0) in
+    ap views (append_assoc front (t ∷ []) b.0) ∙ views_append None front (t ∷ b.0) in
     refuses (views_after (Some t.line) b.0) (stands.there (view_of (last_line None front) t ∷ views_after (Some t.line) b.0) (subst IsProgram seen b.1))
+
+one_more : (tokens : List Token) (i : ℕ) (d : Token) → i < length tokens → take i tokens ++ get_or tokens i d ∷ [] ≡ take (i + 1) tokens
+one_more tokens i d inside = sym (take-suc tokens i d inside) ∙ ap (λ n. take n tokens) (sym (add-one i))
+
+pub line_after : (tokens : List Token) (i : ℕ) (d : Token) → i < length tokens → Some (get_or tokens i d).line ≡ last_line None (take (i + 1) tokens)
+line_after tokens i d inside = sym (line_next None (take i tokens) (get_or tokens i d)) ∙ ap (λ (ts : List Token). last_line None ts) (one_more tokens i d inside)
 
 module _ (tokens : List Token) (i : ℕ) (d : Token) (inside : i < length tokens) (line : Option ℕ) (on : line ≡ last_line None (take i tokens)) (view : View) (is : view ≡ view_of line (get_or tokens i d))
     (stack rest : List Piece) (stands : Stands (views (take i tokens)) stack) where
   seen_so : view ≡ view_of (last_line None (take i tokens)) (get_or tokens i d)
   seen_so = is ∙ ap (λ l. view_of l (get_or tokens i d)) on
 
-  one_more : take i tokens ++ get_or tokens i d ∷ [] ≡ take (i + 1) tokens
-  one_more = sym (take-suc tokens i d inside) ∙ ap (λ n. take n tokens) (sym (add-one i))
-
-  pub fault_here : Answers view stack false rest → FailsAtToken tokens (get_or tokens i d).place
-  fault_here refuses = record {
+  fault_at_token : Answers view stack false rest → FailsAtToken tokens (get_or tokens i d).place
+  fault_at_token refuses = record {
     before = take i tokens;
     token = get_or tokens i d;
     after = drop (suc i) tokens;
@@ -155,13 +157,16 @@ module _ (tokens : List Token) (i : ℕ) (d : Token) (inside : i < length tokens
     at = refl;
   }
 
-  pub read_next : Answers view stack true rest → Stands (views (take (i + 1) tokens)) rest
-  read_next takes = subst (λ (ts : List Token). Stands (views ts) rest) one_more
+  read_one : Answers view stack true rest → Stands (views (take (i + 1) tokens)) rest
+  read_one takes = subst (λ (ts : List Token). Stands (views ts) rest) (one_more tokens i d inside)
       (subst (λ (vs : List View). Stands vs rest) (sym (views_append None (take i tokens) (get_or tokens i d ∷ [])))
       (RunLaws.next Produces matches tables predictive Program (views (take i tokens)) (view_of (last_line None (take i tokens)) (get_or tokens i d)) stack rest stands (subst (λ (v : View). Answers v stack true rest) seen_so takes)))
 
-  pub line_after : Some (get_or tokens i d).line ≡ last_line None (take (i + 1) tokens)
-  line_after = sym (line_next None (take i tokens) (get_or tokens i d)) ∙ ap (λ (ts : List Token). last_line None ts) one_more
+  pub fault_here : (size : ℕ) (taken : Bool) → Answers view stack taken rest → taken ≡ false → FailsSyntax size tokens (get_or tokens i d).place
+  fault_here size taken answers is_no = inl (fault_at_token (subst (λ (b : Bool). Answers view stack b rest) is_no answers))
+
+  pub read_next : (taken : Bool) → Answers view stack taken rest → taken ≡ true → Stands (views (take (i + 1) tokens)) rest
+  read_next taken answers is_yes = read_one (subst (λ (b : Bool). Answers view stack b rest) is_yes answers)
 
 -- the end
 
@@ -204,3 +209,8 @@ fault_at_the_end tokens items size stands = by_end (list_all may_vanish items) (
       no_program = RunLaws.rejects Produces matches tables predictive Program (views tokens) (reverse items) stands stays;
       at = refl;
     })
+
+pub whole : (tokens : List Token) (i : ℕ) (items : List Piece) (size : ℕ) (found : Option Place) → length tokens ≤ i → Stands (views (take i tokens)) (reverse items) → found ≡ fault_at_end (list_all may_vanish items) size
+    → MatchOption found (SpellsProgram tokens) (FailsSyntax size tokens)
+whole tokens i items size found long stands is =
+    rw is (fault_at_the_end tokens items size (subst (λ (ts : List Token). Stands (views ts) (reverse items)) (take_all i tokens long) stands))

@@ -1,4 +1,4 @@
-use Rattle.std.proofs.Common.{◌≡◌, ℕ, ◌≤◌, ◌++◌, drop, reverse, length}
+use Rattle.std.proofs.Common.{◌≡◌, ◌≤◌, ◌++◌, drop, reverse, length}
 use Rattle.bl_syntax.proofs.stack.push_all.Given as goal
 
 abbrev pub invariant-loop-left : goal.invariant-loop-left
