@@ -12,3 +12,6 @@ mod stack;
 mod statements;
 
 pub use rules::check;
+
+#[cfg(test)]
+mod tests;
