@@ -7,10 +7,11 @@ use std::test::Fail;
 /// A rule's number and its place.
 type Broken = (u8, u32, u32);
 
-/// The first rule up to Syntax that the text breaks, or (0, 0, 0) where there is none.
+/// The first rule up to Syntax that the text breaks, or `PASSES` where there is none.
 fn broken(alloc: Global, text: &[u8]) -> Option<Broken> {
+    let length = u32::try_from(text.len()).ok()?;
     let refusal = match lex(alloc, text) {
-        Ok(tokens) => match check(alloc, text.len() as u32, &tokens) {
+        Ok(tokens) => match check(alloc, length, &tokens) {
             Ok(()) => return Some((0, 0, 0)),
             Err(refusal) => refusal,
         },
