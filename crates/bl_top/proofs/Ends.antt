@@ -5,7 +5,7 @@ use Rattle.bl_io.specs.Held.{Appends, AppendsPart}
 use Rattle.bl_io.specs.Left.{GivesUpTo, IsKept, StandsFurther}
 use Rattle.bl_top.specs.Build.{IsCText, Leaves, WroteAll, WrotePart, all, part, nothing}
 use Rattle.bl_top.specs.Causes.{AnswerCauses, Causes, Count, HasRisen, ReadFailed}
-use Rattle.bl_top.specs.Notes.{IsEndOf, same, failed, refused, line_of}
+use Rattle.bl_top.specs.Notes.{IsEndOf, same, failed, refused}
 use Rattle.bl_top.specs.declared.status.Status.{Status}
 use Rattle.bl_top.specs.declared.status.Status.TheVariants as status
 use Rattle.bl_words.specs.Jobs.{Word, build, job_of}
@@ -13,12 +13,12 @@ use Rattle.bl_words.specs.Jobs.{Word, build, job_of}
 -- a write of the line changes nothing of what was left on `out`
 pub leaves_after : (before after : Option (List ℕ)) (old new : ℕ) (meant ended : Status) → Leaves before meant after → IsEndOf old new meant ended → Leaves before ended after
 leaves_after before after old new meant ended left (same _) = left
-leaves_after before after old new _ _ (all _ _ wrote) (failed _ has_line risen) = absurd (has_line refl)
-leaves_after before after old new _ _ (part _ _ _ why wrote) (failed _ has_line risen) = part before after status.WriteFault (inl refl) wrote
-leaves_after before after old new _ _ (nothing _ _ _ not_ok kept) (failed _ has_line risen) = nothing before after status.WriteFault (λ e. cc) kept
-leaves_after before after old new _ _ (all _ _ wrote) (refused _ has_line) = absurd (has_line refl)
-leaves_after before after old new _ _ (part _ _ _ why wrote) (refused _ has_line) = part before after status.NoMemory (inr refl) wrote
-leaves_after before after old new _ _ (nothing _ _ _ not_ok kept) (refused _ has_line) = nothing before after status.NoMemory (λ e. cc) kept
+leaves_after before after old new _ _ (all _ _ wrote) (failed _ has risen) = cc
+leaves_after before after old new _ _ (part _ _ _ why wrote) (failed _ has risen) = part before after status.WriteFault (inl refl) wrote
+leaves_after before after old new _ _ (nothing _ _ _ not_ok kept) (failed _ has risen) = nothing before after status.WriteFault (λ e. cc) kept
+leaves_after before after old new _ _ (all _ _ wrote) (refused _ has) = cc
+leaves_after before after old new _ _ (part _ _ _ why wrote) (refused _ has) = part before after status.NoMemory (inr refl) wrote
+leaves_after before after old new _ _ (nothing _ _ _ not_ok kept) (refused _ has) = nothing before after status.NoMemory (λ e. cc) kept
 
 -- and adds its own cause to that of the job
 pub causes_after : (words : List Word) (file : Word → Count) (out notes : Count) (meant ended : Status) → AnswerCauses words file out meant → IsEndOf notes.before notes.after meant ended → Causes words (record { file = file; out = out; notes = notes }) ended
@@ -29,14 +29,14 @@ causes_after words file out notes meant ended causes (same _) = record {
   write_fault = λ e. inl (causes.write_fault e);
   unbuilt = causes.unbuilt;
 }
-causes_after words file out notes _ _ causes (failed _ has_line risen) = record {
+causes_after words file out notes _ _ causes (failed _ has risen) = record {
   usage = λ e. cc;
   no_job = λ none. inr (inl refl);
   read_fault = λ e. cc;
   write_fault = λ e. inr risen;
   unbuilt = λ e. cc;
 }
-causes_after words file out notes _ _ causes (refused _ has_line) = record {
+causes_after words file out notes _ _ causes (refused _ has) = record {
   usage = λ e. cc;
   no_job = λ none. inr (inr refl);
   read_fault = λ e. cc;
