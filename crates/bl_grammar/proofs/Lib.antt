@@ -1,0 +1,2 @@
+pub mod Predictive
+pub mod Runs

@@ -1,0 +1,5 @@
+pub mod Checks
+pub mod Right
+pub mod Predictive
+pub mod Depths
+pub mod Reading

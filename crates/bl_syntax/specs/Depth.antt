@@ -1,0 +1,87 @@
+-- Rule Depth: how deep a text's tokens nest, over tokens alone.
+use Rattle.std.specs.Prelude.{ℕ, ◌+◌, ◌-◌, ◌<◌, Bool, true, false, cond, not, ◌||◌, nat_eq, List, [], ◌∷◌, ◌⊎◌, Option, Some, None}
+use Rattle.std.specs.List.{list_any}
+use Rattle.bl_tree.specs.declared.token.Token.{Token}
+use Rattle.bl_tree.specs.declared.token.TokenKind.{TokenKind}
+use Rattle.bl_tree.specs.declared.token.TokenKind.TheVariants.{Name, Number, Word, Sign}
+use Rattle.bl_lex.specs.declared.word.TheConstants.{FUNCTION, ACTIVITY, STRUCT, IF, COBEGIN, WHEN, REPEAT, END, AND, OR, NOT, AS, TRUE, FALSE, PREV, BOOL, INT8, INT16, INT32, INT64, NAT8, NAT16, NAT32, NAT64, BITS8, BITS16, BITS32, BITS64}
+use Rattle.bl_lex.specs.declared.sign.TheConstants.{OPEN_PAREN, CLOSE_PAREN, OPEN_BRACKET, CLOSE_BRACKET, ASSIGN, EQUAL, NOT_EQUAL, LESS, LESS_OR_EQUAL, GREATER, GREATER_OR_EQUAL, PLUS, MINUS, STAR, SLASH, PERCENT, AMPERSAND, BAR, CARET, TILDE, SHIFT_LEFT, SHIFT_RIGHT, AT}
+
+-- the number is one of these
+abbrev pub is_one_of : List ℕ → ℕ → Bool
+is_one_of numbers k = list_any (λ n. nat_eq n k) numbers
+
+-- the keywords that open a block
+abbrev pub opening_words : List ℕ
+opening_words = FUNCTION ∷ ACTIVITY ∷ STRUCT ∷ IF ∷ COBEGIN ∷ WHEN ∷ REPEAT ∷ []
+
+-- the scalar types
+abbrev pub scalar_words : List ℕ
+scalar_words = BOOL ∷ INT8 ∷ INT16 ∷ INT32 ∷ INT64 ∷ NAT8 ∷ NAT16 ∷ NAT32 ∷ NAT64 ∷ BITS8 ∷ BITS16 ∷ BITS32 ∷ BITS64 ∷ []
+
+-- the operators that are words
+abbrev pub counted_words : List ℕ
+counted_words = AND ∷ OR ∷ NOT ∷ AS ∷ []
+
+-- the operators that are signs, and the opening brackets
+abbrev pub counted_signs : List ℕ
+counted_signs =
+    OPEN_PAREN ∷ OPEN_BRACKET ∷ PLUS ∷ MINUS ∷ STAR ∷ SLASH ∷ PERCENT ∷ AMPERSAND ∷ BAR ∷ CARET ∷ TILDE ∷ SHIFT_LEFT ∷ SHIFT_RIGHT ∷
+    EQUAL ∷ NOT_EQUAL ∷ LESS ∷ LESS_OR_EQUAL ∷ GREATER ∷ GREATER_OR_EQUAL ∷ []
+
+-- the blocks that are open after a token of this kind; `end` closes one where one is open
+abbrev pub blocks_after : ℕ → TokenKind → ℕ
+blocks_after blocks Name = blocks
+blocks_after blocks (Number value) = blocks
+blocks_after blocks (Word k) = cond (is_one_of opening_words k) (blocks + 1) (cond (nat_eq k END) (blocks - 1) blocks)
+blocks_after blocks (Sign k) = blocks
+
+-- the token is an operator or an opening bracket
+abbrev pub is_counted : TokenKind → Bool
+is_counted Name = false
+is_counted (Number value) = false
+is_counted (Word k) = is_one_of counted_words k
+is_counted (Sign k) = is_one_of counted_signs k
+
+-- an expression or type can end with the token
+abbrev pub is_last : TokenKind → Bool
+is_last Name = true
+is_last (Number value) = true
+is_last (Word k) = nat_eq k TRUE || nat_eq k FALSE || is_one_of scalar_words k
+is_last (Sign k) = nat_eq k CLOSE_PAREN || nat_eq k CLOSE_BRACKET
+
+-- a keyword that can stand in an expression
+abbrev pub is_inner_word : ℕ → Bool
+is_inner_word k = is_one_of counted_words k || nat_eq k TRUE || nat_eq k FALSE || nat_eq k PREV || is_one_of scalar_words k
+
+-- after a token of the one kind, a token of the other begins a run: `=`, `@`, a keyword that can't stand in an expression, and a
+-- name directly after what an expression can end with
+abbrev pub begins_run : Option TokenKind → TokenKind → Bool
+begins_run None Name = false
+begins_run (Some before) Name = is_last before
+begins_run before (Number value) = false
+begins_run before (Word k) = not (is_inner_word k)
+begins_run before (Sign k) = nat_eq k ASSIGN || nat_eq k AT
+
+-- the operators and opening brackets of the run, with this token
+abbrev pub run_with : ℕ → Option TokenKind → TokenKind → ℕ
+run_with run before kind = cond (begins_run before kind) 0 (cond (is_counted kind) (run + 1) run)
+
+-- the blocks that are open after the tokens, where so many were before
+abbrev pub open_after : ℕ → List Token → ℕ
+open_after blocks [] = blocks
+open_after blocks (token ∷ tokens) = open_after (blocks_after blocks token.kind) tokens
+
+-- the operators and opening brackets of the run that the tokens end with, after a run of so many and a token of this kind
+abbrev pub run_after : ℕ → Option TokenKind → List Token → ℕ
+run_after run before [] = run
+run_after run before (token ∷ tokens) = run_after (run_with run before token.kind) (Some token.kind) tokens
+
+-- the kind of the last token, if there is one, and else this one
+abbrev pub last_kind : Option TokenKind → List Token → Option TokenKind
+last_kind before [] = before
+last_kind before (token ∷ tokens) = last_kind (Some token.kind) tokens
+
+-- the tokens end deeper than is allowed
+abbrev pub IsTooDeep : List Token → Type 0
+IsTooDeep tokens = (100 < open_after 0 tokens) ⊎ (200 < run_after 0 None tokens)

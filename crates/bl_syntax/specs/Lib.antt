@@ -1,0 +1,6 @@
+pub mod Grammar
+pub mod Tables
+pub mod Follow
+pub mod Stack
+pub mod Depth
+pub mod Rules
