@@ -2,9 +2,12 @@
 use Rattle.std.proofs.Common.{◌≡◌, ℕ, ◌≤◌, ◌<◌, List, [], take, length, min, refl, sym, subst, ap, ◌∙◌, inl, inr, arith}
 use Rattle.std.proofs.lemmas.Bool.{cases_lt}
 use Rattle.std.proofs.lemmas.List.{length-take, take_all}
-use Rattle.std.specs.Prelude.{◌⊎◌, Option, Some, None, Result, Ok, Err, IfErr}
+use Rattle.std.specs.Prelude.{◌⊎◌, Option, Some, None}
 use Rattle.bl_io.specs.Left.{GivesUpTo}
-use Rattle.bl_lex.specs.Rules.{FailsFirst, FailsSize, IsRefusalOf as IsLexRefusalOf}
+use Rattle.bl_lex.specs.Rules.{FailsFirst, FailsSize, Passes, IsRefusalOf as IsLexRefusalOf}
+use Rattle.bl_lex.specs.Tokens.{Lexes}
+use Rattle.bl_syntax.specs.Rules.{IsRefusalOf as IsSyntaxRefusalOf, Passes as SyntaxPasses}
+use Rattle.bl_tree.specs.declared.token.Token.{Token}
 use Rattle.bl_tree.specs.declared.place.Place.{Place}
 use Rattle.bl_tree.specs.declared.place.Refusal.{Refusal}
 use Rattle.bl_tree.specs.declared.place.Refusal.TheVariants.{Rule, NoMemory}
@@ -13,7 +16,7 @@ use Rattle.bl_top.specs.declared.outcome.Outcome.{Outcome}
 use Rattle.bl_top.specs.declared.status.Status.{Status}
 use Rattle.bl_top.specs.declared.status.Status.TheVariants as status
 use Rattle.bl_top.proofs.Ends.{left_nothing, refused_is_no_end, want_is_no_end}
-use Rattle.bl_top.specs.Refusals.{AcceptedText, IsAccepted, IsJudged, IsRefusalOf, IsRefusedBy, RefusedBy, RefusedText, done, lexer, refusal_line, short, unbuilt, unwritten}
+use Rattle.bl_top.specs.Refusals.{AcceptedText, IsAccepted, IsJudged, IsRefusalOf, IsRefusedBy, RefusedBy, RefusedText, done, lexer, refusal_line, short, syntax, unbuilt, unwritten}
 
 -- a front that was cut is too long itself
 long_front : (whole got : List ℕ) → got ≡ take source_limit whole → source_limit < length whole → (1_048_576 < length got) × (1_048_576 < length whole)
@@ -30,15 +33,15 @@ front_or_long whole got front = elim (cases_lt source_limit (length whole)) [
 
 -- ---- what is accepted
 
-accepted_whole : (whole got : List ℕ) → got ≡ take source_limit whole → IsAccepted got → whole ≡ got
-accepted_whole whole got front passes = elim (front_or_long whole got front) [
+whole_of_passing : (whole got : List ℕ) → got ≡ take source_limit whole → Passes got → whole ≡ got
+whole_of_passing whole got front passes = elim (front_or_long whole got front) [
   inl same ↦ same |
   inr long ↦ absurd (passes 1 (record { start = 1_048_576; end = 1_048_577 }) (inl (refl, record { too_long = long.0; at = refl })))
 ]
 
 pub accepted_text : (before : Option (List ℕ)) (got : List ℕ) (after : Option (List ℕ)) → GivesUpTo source_limit before got after → IsAccepted got → AcceptedText before
 accepted_text None got after read passes = record { text = got; of_source = tt; passes = passes }
-accepted_text (Some whole) got after read passes = record { text = got; of_source = accepted_whole whole got read.front passes; passes = passes }
+accepted_text (Some whole) got after read passes = record { text = got; of_source = whole_of_passing whole got read.front passes.passes; passes = passes }
 
 -- ---- what is refused
 
@@ -63,6 +66,8 @@ first_of_long whole got number place got_long whole_long first =
     ]
 
 refused_whole : (whole got : List ℕ) → got ≡ take source_limit whole → (number : ℕ) (place : Place) (also : List Place) → RefusedBy got number place also → RefusedBy whole number place also
+refused_whole whole got front _ _ _ (syntax tokens number place passes lexes first) =
+    rw (whole_of_passing whole got front passes) (syntax tokens number place passes lexes first)
 refused_whole whole got front _ _ _ (lexer number place first) = elim (front_or_long whole got front) [
   inl same ↦ rw same (lexer number place first) |
   inr long ↦ lexer number place (first_of_long whole got number place long.0 long.1 first)
@@ -76,13 +81,14 @@ refused_text (Some whole) got after number place also line read by told =
     record { text = whole; of_source = refl; number = number; place = place; also = also; by = refused_whole whole got read.front number place also by; told = told }
 
 -- the refusal of the lexer is one of the text
-lexed : (text : List ℕ) (refusal : Refusal) → IsLexRefusalOf text refusal → IsRefusalOf text refusal
-lexed text (Rule number place also) is = rw is.1 (lexer number place is.0)
-lexed text NoMemory is = tt
+pub lexed_refusal : (text : List ℕ) (refusal : Refusal) → IsLexRefusalOf text refusal → IsRefusalOf text refusal
+lexed_refusal text (Rule number place also) is = rw is.1 (lexer number place is.0)
+lexed_refusal text NoMemory is = tt
 
-pub lexed_refusal : {A : Type 0} (text : List ℕ) (result : Result A Refusal) → IfErr result (IsLexRefusalOf text) → IfErr result (IsRefusalOf text)
-lexed_refusal text (Ok tokens) is = tt
-lexed_refusal text (Err refusal) is = lexed text refusal is
+-- and so is that of the grammar, of tokens of the text
+pub parsed_refusal : (text : List ℕ) (tokens : List Token) (refusal : Refusal) → Passes text → Lexes text tokens → IsSyntaxRefusalOf (length text) tokens refusal → IsRefusalOf text refusal
+parsed_refusal text tokens (Rule number place also) passes lexes is = rw is.1 (syntax tokens number place passes lexes is.0)
+parsed_refusal text tokens NoMemory passes lexes is = tt
 
 -- ---- ends of a job whose source was judged
 

@@ -1,6 +1,9 @@
 -- Which rule refuses a source text, and the line that tells it.
-use Rattle.std.specs.Prelude.{◌≡◌, ◌≢◌, ◌⊎◌, ℕ, List, [], ◌∷◌, ◌++◌, map, take, codes, decimal, slice_index_or, Option, Some, IfSome}
+use Rattle.std.specs.Prelude.{◌≡◌, ◌≢◌, ◌⊎◌, ℕ, List, [], ◌∷◌, ◌++◌, map, length, codes, decimal, slice_index_or, Option, Some, IfSome}
 use Rattle.bl_lex.specs.Rules.{FailsFirst, Passes}
+use Rattle.bl_lex.specs.Tokens.{Lexes}
+use Rattle.bl_syntax.specs.Rules.{FailsFirst as SyntaxFailsFirst, Passes as SyntaxPasses}
+use Rattle.bl_tree.specs.declared.token.Token.{Token}
 use Rattle.bl_tree.specs.declared.place.Place.{Place}
 use Rattle.bl_tree.specs.declared.place.Refusal.{Refusal}
 use Rattle.bl_tree.specs.declared.place.Refusal.TheVariants.{Rule, NoMemory}
@@ -40,11 +43,18 @@ refusal_line number place also =
 
 -- the first of the rules decided so far that fails for a text, with its place and its further places
 pub data RefusedBy (text : List ℕ) : ℕ → Place → List Place → Type 0 where
+  -- one of Size, Lex and Profile
   lexer : (number : ℕ) (place : Place) → FailsFirst text number place → RefusedBy text number place []
+  -- none of these, and one of Depth and Syntax
+  syntax : (tokens : List Token) (number : ℕ) (place : Place) → Passes text → Lexes text tokens →
+      SyntaxFailsFirst (length text) tokens number place → RefusedBy text number place []
 
 -- none of the rules decided so far fails for a text
-abbrev pub IsAccepted : List ℕ → Type 0
-IsAccepted text = Passes text
+pub record IsAccepted (text : List ℕ) : Type 0 where
+  pub passes : Passes text
+  pub tokens : List Token
+  pub lexes : Lexes text tokens
+  pub spells : SyntaxPasses tokens
 
 -- the refusal names the first rule that fails; want of memory has no cause in the text
 abbrev pub IsRefusalOf : List ℕ → Refusal → Type 0

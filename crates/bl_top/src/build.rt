@@ -1,6 +1,6 @@
 //! The command `build P`.
 
-ghost use Rattle.std.specs.Prelude.{◌≡◌, ◌≢◌, ◌≤◌, IfErr, IfOk, OnOk};
+ghost use Rattle.std.specs.Prelude.{◌≡◌, ◌≢◌, ◌≤◌, length, IfErr, IfOk, OnOk};
 ghost use Rattle.bl_io.specs.Count.{NeverFell, Rose};
 ghost use Rattle.bl_io.specs.Left.{KeepsOthers, StandsFurther};
 ghost use Rattle.bl_top.specs.Build.{IsCText, Leaves, source_limit};
@@ -46,10 +46,18 @@ pub fn build<F: Files, O: Sink>(alloc: Global, source: &str, files: &mut F, out:
 
 /// The tokens of a source that no rule decided so far refuses.
 fn judged(alloc: Global, source: &[u8]) -> Result<Vec<Token>, Refusal>
+    requires { length source.now ≤ source_limit }
     ensures accepted { OnOk result (IsAccepted source.now) }
     ensures refused { IfErr result (IsRefusalOf source.now) }
 {
-    bl_lex::lex(alloc, source)
+    let tokens = match bl_lex::lex(alloc, source) {
+        Ok(tokens) => tokens,
+        Err(refusal) => return Err(refusal),
+    };
+    match bl_syntax::check(alloc, source.len() as u32, &tokens) {
+        Ok(()) => Ok(tokens),
+        Err(refusal) => Err(refusal),
+    }
 }
 
 /// How a job ends whose source is refused.
