@@ -1,4 +1,5 @@
 pub mod EarlyLemmas
 pub mod EmitSteps
 pub mod Ends
+pub mod Fronts
 pub mod Lines

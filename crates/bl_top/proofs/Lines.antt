@@ -1,9 +1,10 @@
 -- What `notes` hold after the line of a status was to be written.
-use Rattle.std.proofs.Common.{◌≡◌, ◌≢◌, ℕ, List, [], ◌∷◌, ◌++◌, refl, sym, subst, ap, ◌∙◌, append-nil, Bool, true, false, length, arith, zero}
+use Rattle.std.proofs.Common.{◌≡◌, ◌≢◌, ℕ, ◌+◌, ◌-◌, List, [], ◌∷◌, ◌++◌, refl, sym, subst, ap, ◌∙◌, append-nil, Bool, true, false, length, map, drop, get_or, arith, zero}
+use Rattle.std.proofs.lemmas.List.{drop-map, get_or-drop}
 use Rattle.std.proofs.lemmas.Bool.Decides.{nat_tests}
-use Rattle.std.specs.Prelude.{Option, Some, None, ◌==◌}
+use Rattle.std.specs.Prelude.{◌⊎◌, Option, Some, None, ◌==◌, slice_index_or}
 use Rattle.bl_io.specs.Held.{Appends, AppendsPart}
-use Rattle.bl_top.specs.Notes.{Noted, whole, fault, refused, line_of}
+use Rattle.bl_top.specs.Notes.{IsLineOf, Noted, whole, fault, refused, chosen_line, has_line}
 use Rattle.bl_top.specs.declared.status.Status.{Status}
 use Rattle.bl_top.specs.declared.status.Status.TheVariants as status
 
@@ -11,19 +12,33 @@ pub appends_nothing : (held : Option (List ℕ)) (line : List ℕ) → line ≡ 
 appends_nothing None line e = tt
 appends_nothing (Some bytes) line e = rw e (ap Some (sym (append-nil bytes)))
 
-pub noted_whole : (before after : Option (List ℕ)) (ended : Status) (line : List ℕ) → line ≡ line_of ended → Appends before line after → Noted before ended after
-noted_whole before after ended line e grew = whole before after ended (subst (λ l. Appends before l after) e grew)
+pub noted_whole : (before after : Option (List ℕ)) (ended : Status) (own line : List ℕ) → IsLineOf ended (chosen_line ended own) → line ≡ chosen_line ended own → Appends before line after → Noted before ended after
+noted_whole before after ended own line is e grew = whole before after ended (chosen_line ended own) is (subst (λ l. Appends before l after) e grew)
 
-pub noted_fault : (before after : Option (List ℕ)) (meant : Status) (line : List ℕ) → line ≡ line_of meant → AppendsPart before line after → Noted before status.WriteFault after
-noted_fault before after meant line e grew = fault before after meant (subst (λ l. AppendsPart before l after) e grew)
+pub noted_fault : (before after : Option (List ℕ)) (meant : Status) (own line : List ℕ) → IsLineOf meant (chosen_line meant own) → line ≡ chosen_line meant own → AppendsPart before line after → Noted before status.WriteFault after
+noted_fault before after meant own line is e grew = fault before after meant (chosen_line meant own) is (subst (λ l. AppendsPart before l after) e grew)
 
-pub noted_refused : (before after : Option (List ℕ)) (meant : Status) (line : List ℕ) → line ≡ line_of meant → AppendsPart before line after → Noted before status.NoMemory after
-noted_refused before after meant line e grew = refused before after meant (subst (λ l. AppendsPart before l after) e grew)
+pub noted_refused : (before after : Option (List ℕ)) (meant : Status) (own line : List ℕ) → IsLineOf meant (chosen_line meant own) → line ≡ chosen_line meant own → AppendsPart before line after → Noted before status.NoMemory after
+noted_refused before after meant own line is e grew = refused before after meant (chosen_line meant own) is (subst (λ l. AppendsPart before l after) e grew)
 
 -- what a test of a text's length says of the text
 pub is_empty_from_test : (line : List ℕ) (b : Bool) → b ≡ (length line == 0) → b ≡ true → line ≡ []
 is_empty_from_test [] b e t = refl
 is_empty_from_test (byte ∷ line) b e t = let h : (length (byte ∷ line) == 0) ≡ true = sym e ∙ t in absurd (grind (arith, nat_tests))
 
-pub has_line_from_test : (meant : Status) (line : List ℕ) (b : Bool) → line ≡ line_of meant → b ≡ (length line == 0) → b ≡ false → line_of meant ≢ []
-has_line_from_test meant line b is e f = λ none. let none' : line ≡ [] = is ∙ none in let e' = subst (λ l. b ≡ (length l == 0)) none' e in cc
+-- a status whose line is not empty has one
+pub has_line_from_test : (ended : Status) (own line : List ℕ) (b : Bool) → line ≡ chosen_line ended own → b ≡ (length line == 0) → b ≡ false → has_line ended ≡ true
+has_line_from_test status.Ok own line b is e f = let e' = subst (λ l. b ≡ (length l == 0)) is e in cc
+has_line_from_test status.WriteFault own line b is e f = let e' = subst (λ l. b ≡ (length l == 0)) is e in cc
+has_line_from_test status.Refused own line b is e f = refl
+has_line_from_test status.Usage own line b is e f = refl
+has_line_from_test status.ReadFault own line b is e f = refl
+has_line_from_test status.NoMemory own line b is e f = refl
+has_line_from_test status.Unbuilt own line b is e f = refl
+
+-- a place that counts down while a list is left behind stays at one item
+one_on : (ys : List (List ℕ)) (k left : ℕ) → left ≢ 0 → slice_index_or (drop (k + 1) ys) (left - 1) [] ≡ slice_index_or (drop k ys) left []
+one_on ys k left h = get_or-drop (k + 1) ys (left - 1) [] ∙ ap (λ i. get_or ys i []) (omega (arith, h)) ∙ sym (get_or-drop k ys left [])
+
+pub index_on : {A : Type 0} (f : A → List ℕ) (xs : List A) (k left : ℕ) → left ≢ 0 → slice_index_or (map f (drop (k + 1) xs)) (left - 1) [] ≡ slice_index_or (map f (drop k xs)) left []
+index_on f xs k left h = rw (sym (drop-map f (k + 1) xs), sym (drop-map f k xs)) (one_on (map f xs) k left h)

@@ -3,3 +3,4 @@ pub mod Causes
 pub mod Early
 pub mod Emitted
 pub mod Notes
+pub mod Refusals

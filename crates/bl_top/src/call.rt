@@ -3,10 +3,12 @@ ghost use Rattle.bl_io.specs.Count.{NeverFell};
 ghost use Rattle.bl_top.specs.Build.{Leaves, ReadsNamed};
 ghost use Rattle.bl_top.specs.Causes.{AnswerCauses, Causes};
 ghost use Rattle.bl_top.specs.Notes.{Noted};
+ghost use Rattle.bl_top.specs.Refusals.{AcceptedJob, RefusedJob, Refuses, WasAccepted};
 ghost use Rattle.bl_words.specs.Jobs.{job_of};
 
 use crate::build::build;
 use crate::notes::with_note;
+use crate::outcome::Outcome;
 use crate::status::Status;
 use bl_io::{Files, Sink};
 use bl_words::Job;
@@ -29,28 +31,32 @@ pub fn blechc<F: Files, O: Sink, N: Sink>(
         }) result }
     ensures out { Leaves (O.held out.old) result (O.held out.new) }
     ensures notes { Noted (N.held notes.old) result (N.held notes.new) }
+    ensures refused { result ≡ Status.Refused → Refuses (job_of (map string_bytes words.now)) (F.left files.old) (N.held notes.old) (N.held notes.new) }
+    ensures accepted { WasAccepted result → AcceptedJob (job_of (map string_bytes words.now)) (F.left files.old) }
     ensures files { ReadsNamed (job_of (map string_bytes words.now)) (F.left files.old) (F.left files.new) }
     ensures file_counts { NeverFell (F.faults files.old) (F.faults files.new) }
     ensures out_count { O.faults out.old ≤ O.faults out.new }
     ensures notes_count { N.faults notes.old ≤ N.faults notes.new }
 {
-    let status = answer(alloc, words, files, out);
-    with_note(status, notes)
+    let outcome = answer(alloc, words, files, out);
+    with_note(&outcome, notes)
 }
 
 /// The status of the job itself, before its line is written.
-fn answer<F: Files, O: Sink>(alloc: Global, words: &[String], files: &mut F, out: &mut O) -> Status
+fn answer<F: Files, O: Sink>(alloc: Global, words: &[String], files: &mut F, out: &mut O) -> Outcome
     ensures causes { AnswerCauses (map string_bytes words.now)
         (λ name. record { before = F.faults files.old name; after = F.faults files.new name })
-        (record { before = O.faults out.old; after = O.faults out.new }) result }
-    ensures out { Leaves (O.held out.old) result (O.held out.new) }
+        (record { before = O.faults out.old; after = O.faults out.new }) result.status }
+    ensures out { Leaves (O.held out.old) result.status (O.held out.new) }
+    ensures refused { result.status ≡ Status.Refused → RefusedJob (job_of (map string_bytes words.now)) (F.left files.old) result.refusal.items }
+    ensures accepted { WasAccepted result.status → AcceptedJob (job_of (map string_bytes words.now)) (F.left files.old) }
     ensures files { ReadsNamed (job_of (map string_bytes words.now)) (F.left files.old) (F.left files.new) }
     ensures file_counts { NeverFell (F.faults files.old) (F.faults files.new) }
     ensures out_count { O.faults out.old ≤ O.faults out.new }
 {
     match bl_words::job_of(alloc, words) {
         Ok(Some(Job::Build { source })) => build(alloc, source, files, out),
-        Ok(None) => Status::Usage,
-        Err(_) => Status::NoMemory,
+        Ok(None) => Outcome::plain(alloc, Status::Usage),
+        Err(_) => Outcome::plain(alloc, Status::NoMemory),
     }
 }

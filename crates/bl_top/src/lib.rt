@@ -6,6 +6,8 @@ mod call;
 mod early;
 mod emit;
 mod notes;
+mod outcome;
+mod refusal;
 mod status;
 mod stop;
 

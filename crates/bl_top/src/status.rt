@@ -5,6 +5,8 @@ ghost use Rattle.bl_top.specs.Notes.{code_of};
 #[derive(Clone, Copy, PartialEq, Eq, Debug)]
 pub enum Status {
     Ok,
+    /// A rule refuses the source (docs/LANGUAGE.md, "Rules").
+    Refused,
     /// The words ask for no job.
     Usage,
     /// A read of a file that the words name failed.
@@ -23,6 +25,7 @@ impl Status {
     {
         match self {
             Status::Ok => 0,
+            Status::Refused => 1,
             Status::Usage => 2,
             Status::ReadFault => 3,
             Status::WriteFault => 4,

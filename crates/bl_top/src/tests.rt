@@ -48,6 +48,29 @@ fn other_forms_are_not_built(rt: HostRuntime) -> Result<(), Fail> {
     Ok(())
 }
 
+/// Whether the text is refused with this line and nothing else.
+fn is_refused(alloc: Global, text: &str, line: &str) -> Result<bool, Fail> {
+    let mut files = lamp_file(alloc, text)?;
+    let mut out = SureSink::new(alloc);
+    let mut notes = SureSink::new(alloc);
+    let asked = words(alloc, &["build", "lamp"])?;
+    let status = blechc(alloc, &asked, &mut files, &mut out, &mut notes);
+    Ok(status == Status::Refused && notes.held() == line.as_bytes() && out.held().is_empty())
+}
+
+#[test]
+fn the_first_rule_that_fails_is_told(rt: HostRuntime) -> Result<(), Fail> {
+    let number = "@[EntryPoint] activity M ()(o: int32) o = 1x";
+    assert!(rt; is_refused(rt.alloc(), number, "rule 2 Lex 42-44\n")?);
+    let float = "@[EntryPoint] activity M ()(o: float32) o = 1 await true end";
+    assert!(rt; is_refused(rt.alloc(), float, "rule 3 Profile 31-38\n")?);
+    let awaited = "@[EntryPoint] activity M ()(o: int32) o = await true end";
+    assert!(rt; is_refused(rt.alloc(), awaited, "rule 5 Syntax 42-47\n")?);
+    let unended = "@[EntryPoint] activity M ()(o: int32) o = 1";
+    assert!(rt; is_refused(rt.alloc(), unended, "rule 5 Syntax 43-43\n")?);
+    Ok(())
+}
+
 #[test]
 fn words_without_a_job(rt: HostRuntime) -> Result<(), Fail> {
     let mut files = MemFiles::new(rt.alloc());

@@ -1,41 +1,30 @@
--- What stands on `out` and what is left of the source at each end.
-use Rattle.std.proofs.Common.{inl, inr, refl}
-use Rattle.bl_top.specs.Build.{all, part, nothing}
-use Rattle.bl_top.proofs.Ends.{kept_same, further_from_up_to, wrote_all, wrote_part}
+-- What stands on `out`, what is left of the source, and what was judged of it, at each end.
+use Rattle.std.proofs.Common.{subst}
+use Rattle.bl_top.specs.Refusals.{IsAccepted, IsRefusalOf}
+use Rattle.bl_top.proofs.Ends.{fault_is_no_end, further_from_up_to, left_nothing, want_is_no_end}
+use Rattle.bl_top.proofs.Fronts.{accepted_text, refused_source, refused_leaves, judged_unrefused}
 use Rattle.bl_top.proofs.build.build.Goals as goal
 
 pub returns-in-Err-Failed-clause-leaves : goal.returns-in-Err-Failed-clause-leaves
-returns-in-Err-Failed-clause-leaves g c = nothing _ _ _ (λ e. cc) (kept_same _)
+returns-in-Err-Failed-clause-leaves g c = left_nothing _ _ _ c.plain.ensures fault_is_no_end
 
 pub returns-in-Err-NoMemory-clause-leaves : goal.returns-in-Err-NoMemory-clause-leaves
-returns-in-Err-NoMemory-clause-leaves g c = nothing _ _ _ (λ e. cc) (kept_same _)
+returns-in-Err-NoMemory-clause-leaves g c = left_nothing _ _ _ c.plain-in-Err-NoMemory.ensures want_is_no_end
 
-pub returns-in-Err-Unbuilt-clause-leaves : goal.returns-in-Err-Unbuilt-clause-leaves
-returns-in-Err-Unbuilt-clause-leaves g c = nothing _ _ _ (λ e. cc) (kept_same _)
+pub returns-in-Ok-judged-clause-refused : goal.returns-in-Ok-judged-clause-refused
+returns-in-Ok-judged-clause-refused g c = λ e. judged_unrefused _ c.write_c.ensures.judged e
 
-pub returns-in-Err-Unbuilt-clause-further : goal.returns-in-Err-Unbuilt-clause-further
-returns-in-Err-Unbuilt-clause-further g c = further_from_up_to _ _ _ _ c.in-Ok.ensures.front
+pub returns-in-Ok-judged-clause-accepted : goal.returns-in-Ok-judged-clause-accepted
+returns-in-Ok-judged-clause-accepted g c = λ e. accepted_text _ c.in-Ok.bytes.items _ c.in-Ok.ensures.front (subst IsAccepted c.deref.ensures.value c.in-Ok-judged.ensures.accepted)
 
-pub returns-in-Err-NoMemory-c_text-clause-leaves : goal.returns-in-Err-NoMemory-c_text-clause-leaves
-returns-in-Err-NoMemory-c_text-clause-leaves g c = nothing _ _ _ (λ e. cc) (kept_same _)
-
-pub returns-in-Err-NoMemory-c_text-clause-further : goal.returns-in-Err-NoMemory-c_text-clause-further
-returns-in-Err-NoMemory-c_text-clause-further g c = further_from_up_to _ _ _ _ c.in-Ok.ensures.front
-
-pub returns-in-Ok-write_all-clause-leaves : goal.returns-in-Ok-write_all-clause-leaves
-returns-in-Ok-write_all-clause-leaves g c = all _ _ (wrote_all _ _ _ _ c.deref-2.ensures.value c.in-Ok-c_text.ensures c.in-Ok-write_all.ensures.all)
-
-pub returns-in-Ok-write_all-clause-further : goal.returns-in-Ok-write_all-clause-further
-returns-in-Ok-write_all-clause-further g c = further_from_up_to _ _ _ _ c.in-Ok.ensures.front
-
-pub returns-in-Err-Failed-write_all-clause-leaves : goal.returns-in-Err-Failed-write_all-clause-leaves
-returns-in-Err-Failed-write_all-clause-leaves g c = part _ _ _ (inl refl) (wrote_part _ _ _ _ c.deref-2.ensures.value c.in-Ok-c_text.ensures c.in-Err-Failed-write_all.ensures.err)
-
-pub returns-in-Err-Failed-write_all-clause-further : goal.returns-in-Err-Failed-write_all-clause-further
-returns-in-Err-Failed-write_all-clause-further g c = further_from_up_to _ _ _ _ c.in-Ok.ensures.front
+pub returns-in-Ok-judged-clause-further : goal.returns-in-Ok-judged-clause-further
+returns-in-Ok-judged-clause-further g c = further_from_up_to _ _ _ _ c.in-Ok.ensures.front
 
 pub returns-clause-leaves : goal.returns-clause-leaves
-returns-clause-leaves g c = part _ _ _ (inr refl) (wrote_part _ _ _ _ c.deref-2.ensures.value c.in-Ok-c_text.ensures c.in-Err-NoMemory-write_all.ensures.err)
+returns-clause-leaves g c = refused_leaves _ _ _ c.refused.ensures
+
+pub returns-clause-refused : goal.returns-clause-refused
+returns-clause-refused g c = refused_source _ c.in-Ok.bytes.items _ c.in-Err.refusal _ c.in-Ok.ensures.front (subst (λ text. IsRefusalOf text c.in-Err.refusal) c.deref.ensures.value c.in-Err.ensures.refused) c.refused.ensures
 
 pub returns-clause-further : goal.returns-clause-further
 returns-clause-further g c = further_from_up_to _ _ _ _ c.in-Ok.ensures.front

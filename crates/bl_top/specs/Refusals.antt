@@ -1,0 +1,119 @@
+-- Which rule refuses a source text, and the line that tells it.
+use Rattle.std.specs.Prelude.{◌≡◌, ◌≢◌, ◌⊎◌, ℕ, List, [], ◌∷◌, ◌++◌, map, length, codes, decimal, slice_index_or, Option, Some, IfSome}
+use Rattle.bl_lex.specs.Rules.{FailsFirst, Passes}
+use Rattle.bl_lex.specs.Tokens.{Lexes}
+use Rattle.bl_syntax.specs.Rules.{FailsFirst as SyntaxFailsFirst, Passes as SyntaxPasses}
+use Rattle.bl_tree.specs.declared.token.Token.{Token}
+use Rattle.bl_tree.specs.declared.place.Place.{Place}
+use Rattle.bl_tree.specs.declared.place.Refusal.{Refusal}
+use Rattle.bl_tree.specs.declared.place.Refusal.TheVariants.{Rule, NoMemory}
+use Rattle.bl_tree.specs.Reduce.{joined}
+use Rattle.bl_io.specs.Held.{Appends}
+use Rattle.bl_top.specs.Build.{source_limit}
+use Rattle.bl_top.specs.declared.outcome.Outcome.{Outcome}
+use Rattle.bl_top.specs.declared.status.Status.{Status}
+use Rattle.bl_top.specs.declared.status.Status.TheVariants as status
+use Rattle.bl_words.specs.Jobs.{JobSpec, Word, build}
+
+-- ---- the line
+
+-- the names of the rules by their numbers; no rule has the number 0
+abbrev pub rule_names : List (List ℕ)
+rule_names =
+    [] ∷ codes "Size" ∷ codes "Lex" ∷ codes "Profile" ∷ codes "Depth" ∷
+    codes "Syntax" ∷ codes "Duplicate" ∷ codes "Unknown" ∷ codes "Kind" ∷ codes "Type" ∷
+    codes "Literal" ∷ codes "Immutable" ∷ codes "Constant" ∷ codes "Arity" ∷ codes "Prev" ∷
+    codes "Return" ∷ codes "Where" ∷ codes "Entry" ∷ codes "Pause" ∷ codes "Conflict" ∷
+    codes "Alias" ∷ codes "Instant" ∷ codes "Twice" ∷ codes "Cycle" ∷ codes "Frames" ∷ codes "Cells" ∷ []
+
+-- the name of a rule
+abbrev pub rule_name : ℕ → List ℕ
+rule_name number = slice_index_or rule_names number []
+
+-- a place behind a space, 32: its two offsets with a minus, 45, between them
+abbrev pub place_text : Place → List ℕ
+place_text place = 32 ∷ (decimal place.start ++ (45 ∷ decimal place.end))
+
+-- the line of a rule that fails, with its line feed: the rule's number and name, its place, and each further place
+unfoldable pub refusal_line : ℕ → Place → List Place → List ℕ
+refusal_line number place also =
+    codes "rule " ++ (decimal number ++ (32 ∷ (rule_name number ++ (place_text place ++ (joined (map place_text also) ++ (10 ∷ []))))))
+
+-- ---- the first rule that fails
+
+-- the first of the rules decided so far that fails for a text, with its place and its further places
+pub data RefusedBy (text : List ℕ) : ℕ → Place → List Place → Type 0 where
+  -- one of Size, Lex and Profile
+  lexer : (number : ℕ) (place : Place) → FailsFirst text number place → RefusedBy text number place []
+  -- none of these, and one of Depth and Syntax
+  syntax : (tokens : List Token) (number : ℕ) (place : Place) → Passes text → Lexes text tokens →
+      SyntaxFailsFirst (length text) tokens number place → RefusedBy text number place []
+
+-- none of the rules decided so far fails for a text
+pub record IsAccepted (text : List ℕ) : Type 0 where
+  pub passes : Passes text
+  pub tokens : List Token
+  pub lexes : Lexes text tokens
+  pub spells : SyntaxPasses tokens
+
+-- the refusal names the first rule that fails; want of memory has no cause in the text
+abbrev pub IsRefusalOf : List ℕ → Refusal → Type 0
+IsRefusalOf text (Rule number place also) = RefusedBy text number place also
+IsRefusalOf text NoMemory = Unit {0}
+
+-- ---- the source of a job
+
+-- the text of a source: what was left of its file, where that is told
+abbrev pub IsSource : Option (List ℕ) → List ℕ → Type 0
+IsSource left text = IfSome left (λ bytes. bytes ≡ text)
+
+-- a rule refuses the text of a source, and the line says which and where
+pub record RefusedText (left : Option (List ℕ)) (line : List ℕ) : Type 0 where
+  pub text : List ℕ
+  pub of_source : IsSource left text
+  pub number : ℕ
+  pub place : Place
+  pub also : List Place
+  pub by : RefusedBy text number place also
+  pub told : line ≡ refusal_line number place also
+
+-- no rule decided so far refuses the text of a source
+pub record AcceptedText (left : Option (List ℕ)) : Type 0 where
+  pub text : List ℕ
+  pub of_source : IsSource left text
+  pub passes : IsAccepted text
+
+-- the job names a source that the line refuses
+pub record RefusedJob (job : Option JobSpec) (left : Word → Option (List ℕ)) (line : List ℕ) : Type 0 where
+  pub source : Word
+  pub asked : job ≡ Some (build source)
+  pub refused : RefusedText (left source) line
+
+-- the job names a source of which no rule decided so far fails
+pub record AcceptedJob (job : Option JobSpec) (left : Word → Option (List ℕ)) : Type 0 where
+  pub source : Word
+  pub asked : job ≡ Some (build source)
+  pub accepted : AcceptedText (left source)
+
+-- the statuses at which the rules were judged and none failed
+abbrev pub WasAccepted : Status → Type 0
+WasAccepted ended = (ended ≡ status.Ok) ⊎ (ended ≡ status.Unbuilt)
+
+-- why a call of these words was refused, and the line that was written of it
+pub record Refuses (job : Option JobSpec) (left : Word → Option (List ℕ)) (before after : Option (List ℕ)) : Type 0 where
+  pub line : List ℕ
+  pub because : RefusedJob job left line
+  pub written : Appends before line after
+
+-- how a job ends whose source gets this refusal
+abbrev pub IsRefusedBy : Refusal → Outcome → Type 0
+IsRefusedBy (Rule number place also) outcome =
+    ((outcome.status ≡ status.Refused) × (outcome.refusal.items ≡ refusal_line number place also)) ⊎ (outcome.status ≡ status.NoMemory)
+IsRefusedBy NoMemory outcome = outcome.status ≡ status.NoMemory
+
+-- the statuses of a job whose source is not refused
+pub data IsJudged : Status → Type 0 where
+  done : IsJudged status.Ok
+  unbuilt : IsJudged status.Unbuilt
+  unwritten : IsJudged status.WriteFault
+  short : IsJudged status.NoMemory
