@@ -27,16 +27,16 @@ long_front whole got front long =
 -- the front is the whole, or the whole is too long
 front_or_long : (whole got : List ℕ) → got ≡ take source_limit whole → (whole ≡ got) ⊎ ((1_048_576 < length got) × (1_048_576 < length whole))
 front_or_long whole got front = elim (cases_lt source_limit (length whole)) [
-  inl beyond ↦ inr (long_front whole got front beyond) |
-  inr within ↦ inl (sym (front ∙ take_all source_limit whole within))
+  | inl beyond ↦ inr (long_front whole got front beyond)
+  | inr within ↦ inl (sym (front ∙ take_all source_limit whole within))
 ]
 
 -- ---- what is accepted
 
 whole_of_passing : (whole got : List ℕ) → got ≡ take source_limit whole → Passes got → whole ≡ got
 whole_of_passing whole got front passes = elim (front_or_long whole got front) [
-  inl same ↦ same |
-  inr long ↦ absurd (passes 1 (record { start = 1_048_576; end = 1_048_577 }) (inl (refl, record { too_long = long.0; at = refl })))
+  | inl same ↦ same
+  | inr long ↦ absurd (passes 1 (record { start = 1_048_576; end = 1_048_577 }) (inl (refl, record { too_long = long.0; at = refl })))
 ]
 
 pub accepted_text : (before : Option (List ℕ)) (got : List ℕ) (after : Option (List ℕ)) → GivesUpTo source_limit before got after → IsAccepted got → AcceptedText before
@@ -51,8 +51,8 @@ size_first whole place fails = record {
   fails = inl (refl, fails);
   least_rule = λ other elsewhere failing. elim failing [ inl one ↦ omega (arith, one.0) | inr more ↦ elim more [ inl two ↦ omega (arith, two.0) | inr three ↦ omega (arith, three.0) ] ];
   least_place = λ elsewhere failing. elim failing [
-    inl one ↦ inr (ap (λ (p : Place). p.start) (fails.at ∙ sym one.1.at), omega (arith, ap (λ (p : Place). p.end) (fails.at ∙ sym one.1.at))) |
-    inr more ↦ elim more [ inl two ↦ absurd (omega (arith, two.0)) | inr three ↦ absurd (omega (arith, three.0)) ]
+    | inl one ↦ inr (ap (λ (p : Place). p.start) (fails.at ∙ sym one.1.at), omega (arith, ap (λ (p : Place). p.end) (fails.at ∙ sym one.1.at)))
+    | inr more ↦ elim more [ inl two ↦ absurd (omega (arith, two.0)) | inr three ↦ absurd (omega (arith, three.0)) ]
   ];
 }
 
@@ -61,16 +61,16 @@ first_of_long : (whole got : List ℕ) (number : ℕ) (place : Place) → 1_048_
 first_of_long whole got number place got_long whole_long first =
     let least = first.least_rule 1 (record { start = 1_048_576; end = 1_048_577 }) (inl (refl, record { too_long = got_long; at = refl })) in
     elim first.fails [
-      inl one ↦ rw one.0 (size_first whole place (record { too_long = whole_long; at = one.1.at })) |
-      inr more ↦ elim more [ inl two ↦ absurd (omega (arith, least, two.0)) | inr three ↦ absurd (omega (arith, least, three.0)) ]
+      | inl one ↦ rw one.0 (size_first whole place (record { too_long = whole_long; at = one.1.at }))
+      | inr more ↦ elim more [ inl two ↦ absurd (omega (arith, least, two.0)) | inr three ↦ absurd (omega (arith, least, three.0)) ]
     ]
 
 refused_whole : (whole got : List ℕ) → got ≡ take source_limit whole → (number : ℕ) (place : Place) (also : List Place) → RefusedBy got number place also → RefusedBy whole number place also
 refused_whole whole got front _ _ _ (syntax tokens number place passes lexes first) =
     rw (whole_of_passing whole got front passes) (syntax tokens number place passes lexes first)
 refused_whole whole got front _ _ _ (lexer number place first) = elim (front_or_long whole got front) [
-  inl same ↦ rw same (lexer number place first) |
-  inr long ↦ lexer number place (first_of_long whole got number place long.0 long.1 first)
+  | inl same ↦ rw same (lexer number place first)
+  | inr long ↦ lexer number place (first_of_long whole got number place long.0 long.1 first)
 ]
 
 pub refused_text : (before : Option (List ℕ)) (got : List ℕ) (after : Option (List ℕ)) (number : ℕ) (place : Place) (also : List Place) (line : List ℕ) →
@@ -102,8 +102,8 @@ judged_unrefused _ short e = absurd cc
 -- nothing stands on `out` of a source that is refused
 pub refused_leaves : (held : Option (List ℕ)) (refusal : Refusal) (outcome : Outcome) → IsRefusedBy refusal outcome → Leaves held outcome.status held
 refused_leaves held (Rule number place also) outcome by = elim by [
-  inl refused ↦ left_nothing held outcome.status status.Refused refused.0 refused_is_no_end |
-  inr none ↦ left_nothing held outcome.status status.NoMemory none want_is_no_end
+  | inl refused ↦ left_nothing held outcome.status status.Refused refused.0 refused_is_no_end
+  | inr none ↦ left_nothing held outcome.status status.NoMemory none want_is_no_end
 ]
 refused_leaves held NoMemory outcome none = left_nothing held outcome.status status.NoMemory none want_is_no_end
 
@@ -111,7 +111,7 @@ pub refused_source : (before : Option (List ℕ)) (got : List ℕ) (after : Opti
     GivesUpTo source_limit before got after → IsRefusalOf got refusal → IsRefusedBy refusal outcome → outcome.status ≡ status.Refused →
     RefusedText before outcome.refusal.items
 refused_source before got after (Rule number place also) outcome read is by e = elim by [
-  inl refused ↦ refused_text before got after number place also outcome.refusal.items read is refused.1 |
-  inr none ↦ absurd (let h = sym none ∙ e in cc)
+  | inl refused ↦ refused_text before got after number place also outcome.refusal.items read is refused.1
+  | inr none ↦ absurd (let h = sym none ∙ e in cc)
 ]
 refused_source before got after NoMemory outcome read is none e = absurd (let h = sym none ∙ e in cc)

@@ -9,9 +9,32 @@ use std::alloc::{AllocError, Global};
 
 /// The names of the rules by their numbers (docs/LANGUAGE.md, "Rules"); no rule has the number 0.
 const RULES: [&str; 26] = [
-    "", "Size", "Lex", "Profile", "Depth", "Syntax", "Duplicate", "Unknown", "Kind", "Type",
-    "Literal", "Immutable", "Constant", "Arity", "Prev", "Return", "Where", "Entry", "Pause",
-    "Conflict", "Alias", "Instant", "Twice", "Cycle", "Frames", "Cells",
+    "",
+    "Size",
+    "Lex",
+    "Profile",
+    "Depth",
+    "Syntax",
+    "Duplicate",
+    "Unknown",
+    "Kind",
+    "Type",
+    "Literal",
+    "Immutable",
+    "Constant",
+    "Arity",
+    "Prev",
+    "Return",
+    "Where",
+    "Entry",
+    "Pause",
+    "Conflict",
+    "Alias",
+    "Instant",
+    "Twice",
+    "Cycle",
+    "Frames",
+    "Cells",
 ];
 
 /// The line of a rule that fails at the place, with its further places. Fails only for want of memory.
