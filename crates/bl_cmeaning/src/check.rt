@@ -1,12 +1,16 @@
-//! Which files are well formed, and where the others fail first (docs/C_SUBSET.md, "Well-formed files").
+//! Which files are well formed, where the others fail first, and how many cells a file needs (docs/C_SUBSET.md,
+//! "Well-formed files" and "Meaning").
 
 ghost use Rattle.std.specs.Prelude.{◌≡◌, ◌&&◌, codes, IfErr, IfOk, is_some, OnOk};
 ghost use Rattle.bl_cmeaning.specs.Cause.{IsCause};
 ghost use Rattle.bl_cmeaning.specs.Checked.{structs_of};
 ghost use Rattle.bl_cmeaning.specs.Faults.{WellFormed, first_fault};
 ghost use Rattle.bl_cmeaning.specs.Parts.{parts_of};
+ghost use Rattle.bl_cmeaning.specs.Saturated.{saturated};
+ghost use Rattle.bl_cmeaning.specs.Sizes.{cells_needed};
 
 mod calls;
+mod chains;
 mod context;
 mod declared;
 mod expr;
@@ -16,17 +20,21 @@ mod interface;
 mod loops;
 mod names;
 mod prelude;
+mod sizes;
 mod stmt;
 mod structs;
 mod types;
 mod variables;
 
+use crate::check::calls::number_of;
+use crate::check::chains::deepest_chain;
 use crate::check::context::Structs;
 use crate::check::declared::declare_structs;
 use crate::check::first::{both, earlier, unless};
 use crate::check::functions::judge_functions;
 use crate::check::interface::{judge_interface, last_place};
 use crate::check::prelude::Builtins;
+use crate::check::sizes::struct_sizes;
 use crate::check::structs::has_struct;
 use bl_ctext::CFile;
 use bl_tree::{NoMemory, Place};
@@ -69,4 +77,16 @@ pub fn check(alloc: Global, file: &CFile) -> Result<(), CheckFault>
         Ok(Some(at)) => Err(CheckFault::IllFormed { at }),
         Err(NoMemory) => Err(CheckFault::NoMemory),
     }
+}
+
+/// How many scalar cells a file needs while it runs: those of the state, the input and the output struct and of the
+/// deepest chain of parameters and locals. A number that 64 bits can't hold is told as 2^64 - 1.
+pub fn cells(alloc: Global, file: &CFile) -> Result<u64, NoMemory>
+    ensures { IfOk result (λ count. count ≡ saturated (cells_needed (parts_of file.now))) }
+{
+    let sizes = struct_sizes(alloc, &file.structs)?;
+    let chain = deepest_chain(alloc, &sizes, &file.funcs)?;
+    let output = number_of(&sizes, "bl_out").saturating_add(chain);
+    let ports = number_of(&sizes, "bl_in").saturating_add(output);
+    Ok(number_of(&sizes, "bl_state").saturating_add(ports))
 }
