@@ -5,7 +5,7 @@ ghost use Rattle.std.specs.Prelude.{◌≡◌, ◌&&◌, codes, IfErr, IfOk, is_
 ghost use Rattle.bl_cmeaning.specs.Cause.{IsCause};
 ghost use Rattle.bl_cmeaning.specs.Checked.{structs_of};
 ghost use Rattle.bl_cmeaning.specs.Faults.{WellFormed, first_fault};
-ghost use Rattle.bl_cmeaning.specs.Parts.{parts_of};
+ghost use Rattle.bl_cmeaning.specs.Parts.{parts_from, parts_of};
 ghost use Rattle.bl_cmeaning.specs.Saturated.{saturated};
 ghost use Rattle.bl_cmeaning.specs.Sizes.{cells_needed};
 
@@ -37,6 +37,7 @@ use crate::check::prelude::Builtins;
 use crate::check::sizes::struct_sizes;
 use crate::check::structs::has_struct;
 use bl_ctext::CFile;
+use bl_tree::c::{CFunc, CStruct};
 use bl_tree::{NoMemory, Place};
 use std::alloc::Global;
 
@@ -55,15 +56,26 @@ fn has_interface(structs: &Structs<'_>) -> bool
     both(has_struct(structs, "bl_state"), ports)
 }
 
-fn first_failing(alloc: Global, file: &CFile) -> Result<Option<Place>, NoMemory>
-    ensures { IfOk result (λ first. first ≡ first_fault (parts_of file.now)) }
+/// Where structs and functions, taken as those of a file, fail first.
+pub fn first_failing(
+    alloc: Global,
+    structs: &[CStruct],
+    funcs: &[CFunc],
+) -> Result<Option<Place>, NoMemory>
+    ensures { IfOk result (λ first. first ≡ first_fault (parts_from structs.now funcs.now)) }
 {
     let builtins = Builtins::new(alloc)?;
-    let declared = declare_structs(alloc, &file.structs)?;
-    let inside = judge_functions(alloc, &builtins, &declared.structs, &file.funcs)?;
-    let missing = unless(has_interface(&declared.structs), last_place(&file.funcs));
-    let outside = earlier(missing, judge_interface(&file.funcs));
+    let declared = declare_structs(alloc, structs)?;
+    let inside = judge_functions(alloc, &builtins, &declared.structs, funcs)?;
+    let missing = unless(has_interface(&declared.structs), last_place(funcs));
+    let outside = earlier(missing, judge_interface(funcs));
     Ok(earlier(declared.first, earlier(inside, outside)))
+}
+
+fn first_in(alloc: Global, file: &CFile) -> Result<Option<Place>, NoMemory>
+    ensures { IfOk result (λ first. first ≡ first_fault (parts_of file.now)) }
+{
+    first_failing(alloc, &file.structs, &file.funcs)
 }
 
 /// Whether a file is well formed, and else where it fails first: of all structs, functions, statements and
@@ -72,21 +84,29 @@ pub fn check(alloc: Global, file: &CFile) -> Result<(), CheckFault>
     ensures formed { OnOk result (WellFormed (parts_of file.now)) }
     ensures fault { IfErr result (IsCause (parts_of file.now)) }
 {
-    match first_failing(alloc, file) {
+    match first_in(alloc, file) {
         Ok(None) => Ok(()),
         Ok(Some(at)) => Err(CheckFault::IllFormed { at }),
         Err(NoMemory) => Err(CheckFault::NoMemory),
     }
 }
 
-/// How many scalar cells a file needs while it runs: those of the state, the input and the output struct and of the
-/// deepest chain of parameters and locals. A number that 64 bits can't hold is told as 2^64 - 1.
-pub fn cells(alloc: Global, file: &CFile) -> Result<u64, NoMemory>
-    ensures { IfOk result (λ count. count ≡ saturated (cells_needed (parts_of file.now))) }
+/// How many scalar cells a file with these structs and functions needs while it runs: those of the state, the input and
+/// the output struct and of the deepest chain of parameters and locals. A number that 64 bits can't hold is told as
+/// 2^64 - 1.
+pub fn cells_of(alloc: Global, structs: &[CStruct], funcs: &[CFunc]) -> Result<u64, NoMemory>
+    ensures { IfOk result (λ count. count ≡ saturated (cells_needed (parts_from structs.now funcs.now))) }
 {
-    let sizes = struct_sizes(alloc, &file.structs)?;
-    let chain = deepest_chain(alloc, &sizes, &file.funcs)?;
+    let sizes = struct_sizes(alloc, structs)?;
+    let chain = deepest_chain(alloc, &sizes, funcs)?;
     let output = number_of(&sizes, "bl_out").saturating_add(chain);
     let ports = number_of(&sizes, "bl_in").saturating_add(output);
     Ok(number_of(&sizes, "bl_state").saturating_add(ports))
+}
+
+/// How many scalar cells a file needs while it runs, at most 2^64 - 1.
+pub fn cells(alloc: Global, file: &CFile) -> Result<u64, NoMemory>
+    ensures { IfOk result (λ count. count ≡ saturated (cells_needed (parts_of file.now))) }
+{
+    cells_of(alloc, &file.structs, &file.funcs)
 }
