@@ -2,3 +2,4 @@ pub mod Lists
 pub mod Members
 pub mod Places
 pub mod Memories
+pub mod Results

@@ -3,7 +3,7 @@
 #![tactic(auto)]
 
 ghost use Rattle.bl_cmeaning.specs.Parts.{parts_of};
-ghost use Rattle.bl_cfit.specs.Fitting.{CellsFit, ClearedFits, ReadingFits, SettingFits};
+ghost use Rattle.bl_cfit.specs.Fitting.{BuiltinsFit, CellsFit, ClearedFits, ReadingFits, SettingFits};
 
 use bl_ctext::CFile;
 
@@ -25,4 +25,9 @@ pub fn setting_fits(_file: &CFile)
 /// In a memory that fits a file, the number of each cell of the three objects is in the range of its type.
 pub fn cells_fit(_file: &CFile)
     ensures { CellsFit (parts_of _file.now) }
+{}
+
+/// A function of the prelude gives a number of its result's type for numbers of its parameters' types, or traps.
+pub fn builtins_fit()
+    ensures { BuiltinsFit }
 {}

@@ -5,7 +5,7 @@ use crate::build::{
     with_all_structs, with_function, with_function_and_statement, with_statement, with_structs,
 };
 use bl_cmeaning::check::{cells_of, first_failing};
-use bl_tree::c::{CArg, CExprKind, CFunc, CStmt, CStmtKind, CStruct, CType};
+use bl_tree::c::{CArg, CExprKind, CFunc, CParam, CStmt, CStmtKind, CStruct, CType};
 use bl_tree::{List, Op, Scalar};
 use std::alloc::Global;
 use std::test::Fail;
@@ -89,18 +89,36 @@ fn counts_the_cells_of_the_hand_text(rt: HostRuntime) -> Result<(), Fail> {
     Ok(())
 }
 
-// A function that nobody calls, with a number and two loops, which calls another with a number.
-fn with_a_deep_chain(alloc: Global) -> Result<Sample, Fail> {
-    let number = one(alloc, by_value(alloc, CType::Scalar(INT), "x")?)?;
-    let inner = function(alloc, 50, "f_a", None, number, List::new(alloc))?;
+fn number(alloc: Global) -> Result<List<CParam>, Fail> {
+    one(alloc, by_value(alloc, CType::Scalar(INT), "x")?)
+}
+
+fn two_loops(alloc: Global) -> Result<List<CStmt>, Fail> {
     let mut body = one(alloc, turning(alloc, 61, "t1")?)?;
     body.push(turning(alloc, 62, "t2")?)?;
+    Ok(body)
+}
+
+fn call_of_inner(alloc: Global) -> Result<CStmt, Fail> {
     let args = one(alloc, CArg::Value(literal(64, INT, 1)))?;
-    body.push(calling(alloc, 63, "f_a", args)?)?;
-    let number = one(alloc, by_value(alloc, CType::Scalar(INT), "x")?)?;
-    let outer = function(alloc, 60, "f_b", None, number, body)?;
+    calling(alloc, 63, "f_a", args)
+}
+
+fn outer(alloc: Global) -> Result<CFunc, Fail> {
+    let mut body = two_loops(alloc)?;
+    body.push(call_of_inner(alloc)?)?;
+    function(alloc, 60, "f_b", None, number(alloc)?, body)
+}
+
+// A function that nobody calls, with a number and two loops, which calls another with a number.
+fn with_a_deep_chain(alloc: Global) -> Result<Sample, Fail> {
+    let inner = function(alloc, 50, "f_a", None, number(alloc)?, List::new(alloc))?;
     let mut funcs = one(alloc, inner)?;
-    funcs.push(outer)?;
+    funcs.push(outer(alloc)?)?;
+    with_functions(alloc, funcs)
+}
+
+fn with_functions(alloc: Global, funcs: List<CFunc>) -> Result<Sample, Fail> {
     Ok(Sample {
         structs: interface(alloc)?,
         funcs: functions(alloc, funcs, List::new(alloc))?,
@@ -413,10 +431,7 @@ fn with_result(alloc: Global, funcs: List<CFunc>, stmt: CStmt) -> Result<Sample,
     body.push(returning(70, literal(71, INT, 0)))?;
     let params = one(alloc, pointer(alloc, "bl_state", "s")?)?;
     funcs.push(function(alloc, 56, "g", Some(INT), params, body)?)?;
-    Ok(Sample {
-        structs: interface(alloc)?,
-        funcs: functions(alloc, funcs, List::new(alloc))?,
-    })
+    with_functions(alloc, funcs)
 }
 
 fn set_with_result(alloc: Global) -> Result<Sample, Fail> {
