@@ -79,11 +79,7 @@ fn chain_size(
 }
 
 /// The cells of the deepest chain of calls, also of functions that nobody calls.
-pub fn deepest_chain(
-    alloc: Global,
-    sizes: &Numbers<'_>,
-    list: &[CFunc],
-) -> Result<u64, NoMemory>
+pub fn deepest_chain(alloc: Global, sizes: &Numbers<'_>, list: &[CFunc]) -> Result<u64, NoMemory>
     ensures { IfOk result (λ size. size ≡ saturated (deepest_chain_of (text_at sizes.now) list.now)) }
 {
     let mut chains: Numbers<'_> = HashMap::new(alloc);
