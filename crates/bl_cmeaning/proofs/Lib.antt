@@ -8,6 +8,7 @@ pub mod FirstLemmas
 pub mod Induction
 pub mod MapLemmas
 pub mod NameLemmas
+pub mod SizeLemmas
 pub mod TableLemmas
 pub mod TraceLemmas
 pub mod VariableLemmas

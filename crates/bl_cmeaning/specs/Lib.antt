@@ -13,6 +13,7 @@ pub mod Maps
 pub mod Meaning
 pub mod Memory
 pub mod Parts
+pub mod Saturated
 pub mod Sizes
 pub mod Tables
 pub mod Trace

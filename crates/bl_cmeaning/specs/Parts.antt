@@ -12,3 +12,7 @@ pub record Parts : Type 0 where
 -- those of a file
 abbrev pub parts_of : CFile → Parts
 parts_of file = record { structs = file.structs; funcs = file.funcs }
+
+-- those of two lists
+abbrev pub parts_from : List CStruct → List CFunc → Parts
+parts_from structs funcs = record { structs = structs; funcs = funcs }

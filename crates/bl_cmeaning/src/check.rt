@@ -1,12 +1,16 @@
-//! Which files are well formed, and where the others fail first (docs/C_SUBSET.md, "Well-formed files").
+//! Which files are well formed, where the others fail first, and how many cells a file needs (docs/C_SUBSET.md,
+//! "Well-formed files" and "Meaning").
 
 ghost use Rattle.std.specs.Prelude.{◌≡◌, ◌&&◌, codes, IfErr, IfOk, is_some, OnOk};
 ghost use Rattle.bl_cmeaning.specs.Cause.{IsCause};
 ghost use Rattle.bl_cmeaning.specs.Checked.{structs_of};
 ghost use Rattle.bl_cmeaning.specs.Faults.{WellFormed, first_fault};
-ghost use Rattle.bl_cmeaning.specs.Parts.{parts_of};
+ghost use Rattle.bl_cmeaning.specs.Parts.{parts_from, parts_of};
+ghost use Rattle.bl_cmeaning.specs.Saturated.{saturated};
+ghost use Rattle.bl_cmeaning.specs.Sizes.{cells_needed};
 
 mod calls;
+mod chains;
 mod context;
 mod declared;
 mod expr;
@@ -16,19 +20,24 @@ mod interface;
 mod loops;
 mod names;
 mod prelude;
+mod sizes;
 mod stmt;
 mod structs;
 mod types;
 mod variables;
 
+use crate::check::calls::number_of;
+use crate::check::chains::deepest_chain;
 use crate::check::context::Structs;
 use crate::check::declared::declare_structs;
 use crate::check::first::{both, earlier, unless};
 use crate::check::functions::judge_functions;
 use crate::check::interface::{judge_interface, last_place};
 use crate::check::prelude::Builtins;
+use crate::check::sizes::struct_sizes;
 use crate::check::structs::has_struct;
 use bl_ctext::CFile;
+use bl_tree::c::{CFunc, CStruct};
 use bl_tree::{NoMemory, Place};
 use std::alloc::Global;
 
@@ -47,15 +56,26 @@ fn has_interface(structs: &Structs<'_>) -> bool
     both(has_struct(structs, "bl_state"), ports)
 }
 
-fn first_failing(alloc: Global, file: &CFile) -> Result<Option<Place>, NoMemory>
-    ensures { IfOk result (λ first. first ≡ first_fault (parts_of file.now)) }
+/// Where structs and functions, taken as those of a file, fail first.
+pub fn first_failing(
+    alloc: Global,
+    structs: &[CStruct],
+    funcs: &[CFunc],
+) -> Result<Option<Place>, NoMemory>
+    ensures { IfOk result (λ first. first ≡ first_fault (parts_from structs.now funcs.now)) }
 {
     let builtins = Builtins::new(alloc)?;
-    let declared = declare_structs(alloc, &file.structs)?;
-    let inside = judge_functions(alloc, &builtins, &declared.structs, &file.funcs)?;
-    let missing = unless(has_interface(&declared.structs), last_place(&file.funcs));
-    let outside = earlier(missing, judge_interface(&file.funcs));
+    let declared = declare_structs(alloc, structs)?;
+    let inside = judge_functions(alloc, &builtins, &declared.structs, funcs)?;
+    let missing = unless(has_interface(&declared.structs), last_place(funcs));
+    let outside = earlier(missing, judge_interface(funcs));
     Ok(earlier(declared.first, earlier(inside, outside)))
+}
+
+fn first_in(alloc: Global, file: &CFile) -> Result<Option<Place>, NoMemory>
+    ensures { IfOk result (λ first. first ≡ first_fault (parts_of file.now)) }
+{
+    first_failing(alloc, &file.structs, &file.funcs)
 }
 
 /// Whether a file is well formed, and else where it fails first: of all structs, functions, statements and
@@ -64,9 +84,29 @@ pub fn check(alloc: Global, file: &CFile) -> Result<(), CheckFault>
     ensures formed { OnOk result (WellFormed (parts_of file.now)) }
     ensures fault { IfErr result (IsCause (parts_of file.now)) }
 {
-    match first_failing(alloc, file) {
+    match first_in(alloc, file) {
         Ok(None) => Ok(()),
         Ok(Some(at)) => Err(CheckFault::IllFormed { at }),
         Err(NoMemory) => Err(CheckFault::NoMemory),
     }
+}
+
+/// How many scalar cells a file with these structs and functions needs while it runs: those of the state, the input and
+/// the output struct and of the deepest chain of parameters and locals. A number that 64 bits can't hold is told as
+/// 2^64 - 1.
+pub fn cells_of(alloc: Global, structs: &[CStruct], funcs: &[CFunc]) -> Result<u64, NoMemory>
+    ensures { IfOk result (λ count. count ≡ saturated (cells_needed (parts_from structs.now funcs.now))) }
+{
+    let sizes = struct_sizes(alloc, structs)?;
+    let chain = deepest_chain(alloc, &sizes, funcs)?;
+    let output = number_of(&sizes, "bl_out").saturating_add(chain);
+    let ports = number_of(&sizes, "bl_in").saturating_add(output);
+    Ok(number_of(&sizes, "bl_state").saturating_add(ports))
+}
+
+/// How many scalar cells a file needs while it runs, at most 2^64 - 1.
+pub fn cells(alloc: Global, file: &CFile) -> Result<u64, NoMemory>
+    ensures { IfOk result (λ count. count ≡ saturated (cells_needed (parts_of file.now))) }
+{
+    cells_of(alloc, &file.structs, &file.funcs)
 }

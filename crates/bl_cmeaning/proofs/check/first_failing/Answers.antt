@@ -11,24 +11,20 @@ use Rattle.bl_cmeaning.proofs.check.first_failing.Goals as goal
 pub returns : goal.returns
 unfolding faults_in
 returns c =
-    let structs : structs_of c.in_ok-declared.declared.structs ≡ struct_table c.args.file.now.structs =
-    same_table (structs_of c.in_ok-declared.declared.structs) (struct_table c.deref.result.now) c.in_ok-declared.ensures.table ∙ ap struct_table c.deref.ensures in
+    let structs : structs_of c.in_ok-declared.declared.structs ≡ struct_table c.args.structs.now =
+    same_table (structs_of c.in_ok-declared.declared.structs) (struct_table c.args.structs.now) c.in_ok-declared.ensures.table in
     let all = λ (t : Table (Table CMember)). is_some (t (codes "bl_state")) && (is_some (t (codes "bl_in")) && is_some (t (codes "bl_out"))) in
-    let there : c.has_interface.result ≡ all (struct_table c.args.file.now.structs) = c.has_interface.ensures ∙ ap all structs in
+    let there : c.has_interface.result ≡ all (struct_table c.args.structs.now) = c.has_interface.ensures ∙ ap all structs in
     rw (
       c.earlier-2.ensures,
       c.in_ok-declared.ensures.first,
-      c.deref.ensures,
       c.earlier.ensures,
       c.in_ok-inside.ensures,
-      c.deref-2.ensures,
       c.earlier-outside.ensures,
       c.unless-missing.ensures interface_structs,
       there,
       structs,
       c.last_place.ensures,
-      c.deref-3.ensures,
       c.judge_interface.ensures,
-      c.deref-4.ensures,
     )
     (simp first_place-append)

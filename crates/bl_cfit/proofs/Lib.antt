@@ -1,0 +1,5 @@
+pub mod Lists
+pub mod Members
+pub mod Places
+pub mod Memories
+pub mod Results
