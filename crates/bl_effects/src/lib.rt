@@ -2,10 +2,12 @@
 //! in which they begin (docs/LANGUAGE.md, "Effects").
 #![tactic(auto)]
 
-mod effect;
+mod mentions;
+mod sets;
 mod spot;
 mod static_path;
+mod table;
 
-pub use effect::Effect;
 pub use spot::Spot;
 pub use static_path::Static;
+pub use table::Effects;
