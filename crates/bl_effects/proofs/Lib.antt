@@ -1,3 +1,5 @@
 pub mod EntryLemmas
+pub mod GatherLemmas
 pub mod MentionLemmas
+pub mod ProgramLemmas
 pub mod SetLemmas

@@ -1,5 +1,6 @@
 pub mod Effects
 pub mod Entries
+pub mod Gathered
 pub mod Instant
 pub mod Order
 pub mod Rules

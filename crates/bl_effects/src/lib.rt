@@ -2,6 +2,7 @@
 //! in which they begin (docs/LANGUAGE.md, "Effects").
 #![tactic(auto)]
 
+mod gather;
 mod mentions;
 mod sets;
 mod spot;

@@ -1,11 +1,12 @@
 //! Effects by place.
 
-ghost use Rattle.std.specs.Prelude.{◌≡◌, cond, [], Some, OnOk};
+ghost use Rattle.std.specs.Prelude.{◌≡◌, cond, [], Some, IfOk, OnOk};
 ghost use Rattle.bl_effects.specs.Entries.{effect_at};
-ghost use Rattle.bl_effects.specs.Table.{Has, found, instant_at, reads_at, same_place, writes_at};
+ghost use Rattle.bl_effects.specs.Table.{Has, PlacesDecide, Tells, found, instant_at, reads_at, same_place, writes_at};
 
+use crate::gather::{Paths, block};
 use crate::static_path::Static;
-use bl_tree::{List, NoMemory, Place};
+use bl_tree::{List, NoMemory, Place, Program};
 use std::alloc::{AllocError, Global};
 use std::collections::BTreeMap;
 use std::marker::Model;
@@ -40,6 +41,22 @@ impl Model for Effects {
 }
 
 impl Effects {
+    /// The effects of all statements of the program, at any depth.
+    pub fn of(alloc: Global, program: &Program) -> Result<Effects, NoMemory>
+        requires { PlacesDecide program.now.units }
+        ensures { IfOk result (λ effects. Tells effects program.now.units) }
+    {
+        let mut effects = Effects::new(alloc);
+        for unit in program.units.iter() {
+            let mut paths = Paths {
+                reads: List::new(alloc),
+                writes: List::new(alloc),
+            };
+            block(alloc, &unit.body, &mut effects, &mut paths)?;
+        }
+        Ok(effects)
+    }
+
     pub(crate) fn new(alloc: Global) -> Effects
         ensures { result ≡ [] }
     {
