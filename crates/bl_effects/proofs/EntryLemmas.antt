@@ -1,10 +1,10 @@
 -- What the table's map has at a key is what is found at its place.
-use Rattle.std.proofs.Common.{◌≡◌, ℕ, Bool, true, false, cond, ◌&&◌, List, [], ◌∷◌, map, Some, refl, sym, ap, ◌∙◌, subst, nat_cmp, is_eq, nat_eq, Ordering, Less, Equal, Greater, eqb→eq, T}
+use Rattle.std.proofs.Common.{None, Option, ◌≡◌, Bor, ℕ, Bool, true, false, cond, ◌&&◌, List, [], ◌∷◌, map, Some, refl, sym, ap, ◌∙◌, subst, nat_cmp, is_eq, nat_eq, Ordering, Less, Equal, Greater, eqb→eq, T}
 use Rattle.std.specs.BTreeMap.{is_at}
 use Rattle.std.specs.Cmp.{nat_eq_equiv, unsigned_tied}
 use Rattle.std.specs.Map.{lookup}
 use Rattle.std.specs.Ordering.{ordering_then}
-use Rattle.std.specs.Prelude.{option_map}
+use Rattle.std.specs.Prelude.{option_copied, option_map}
 use Rattle.bl_tree.specs.declared.place.Place.{Place}
 use Rattle.bl_effects.specs.declared.table.Sets.{Sets}
 use Rattle.bl_effects.specs.Entries.{effect_at, entry, key_of, place_at}
@@ -65,3 +65,7 @@ found_inserted old new at q sets is =
         → option_map (effect_at q) (cond t (Some sets) (lookup (is_at (key_cmp (key_of q))) old)) ≡ cond t (Some (effect_at at sets)) (found (map entry old) q)
     step true same = ap (λ place. Some (effect_at place sets)) (sym (same_place_is at q same))
     step false same = sym (found_entry old q)
+
+pub map_copied : {A B : Type 0} (f : A → B) (found : Option (Bor A)) → option_map (λ x. f x.now) found ≡ option_map f (option_copied found)
+map_copied f None = refl
+map_copied f (Some x) = refl

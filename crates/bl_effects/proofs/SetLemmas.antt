@@ -1,18 +1,19 @@
 -- A set of static paths is what its members make it: the one ascending list of them.
-use Rattle.std.proofs.Common.{◌≡◌, ℕ, zero, suc, Bool, true, false, cond, ◌&&◌, ◌||◌, List, [], ◌∷◌, ◌⊎◌, inl, inr, ⊎_elim, refl, sym, ap, ◌∙◌, subst, arith, nat_cmp, is_lt, is_eq, Ordering, Less, Equal, Greater}
-use Rattle.std.specs.Cmp.{tied_itself, eq_by_cmp_equiv}
+use Rattle.std.proofs.Common.{◌≡◌, IsTrue, get_or, ℕ, zero, suc, Bool, true, false, cond, ◌&&◌, ◌||◌, List, [], ◌∷◌, ◌⊎◌, inl, inr, ⊎_elim, refl, sym, ap, ◌∙◌, subst, arith, nat_cmp, is_lt, is_eq, Ordering, Less, Equal, Greater}
+use Rattle.std.specs.Cmp.{nat_eq_equiv, tied_itself, eq_by_cmp_equiv}
 use Rattle.std.specs.Cmp.Lexicographic.{slice_cmp}
 use Rattle.std.specs.FinMap.{IsAntisymmetric, nat_cmp-IsAntisymmetric, slice_cmp-IsAntisymmetric}
-use Rattle.std.specs.List.{AllByRecursion, Contains, dedup}
+use Rattle.std.specs.List.{AllByRecursion, AllPairs, Contains, dedup}
 use Rattle.std.specs.List.Sorted.{IsPermutation, IsSorted, IsStrictlySortedBy}
 use Rattle.std.specs.Ordering.{ordering_reverse, ordering_then, eq_by_cmp}
 use Rattle.std.proofs.lemmas.Bool.Decides.{nat_tests}
 use Rattle.std.proofs.lemmas.Cmp.{same_from_slice_cmp}
-use Rattle.std.proofs.lemmas.List.Kept.{Contains-dedup, Contains-from_dedup, IsStrictlySortedBy-dedup}
+use Rattle.std.proofs.lemmas.List.Elements.{Contains-get_or}
+use Rattle.std.proofs.lemmas.List.Kept.{AllPairs-cons, Contains-dedup, Contains-from_dedup, IsStrictlySortedBy-dedup}
 use Rattle.std.proofs.lemmas.List.Sorted.{Contains-permutation, IsPermutation-sym}
 use Rattle.bl_effects.specs.declared.static_path.Static.{Static}
 use Rattle.bl_effects.specs.Order.{static_cmp, static_cmp_total}
-use Rattle.bl_effects.specs.Static.{fields_precede, precedes, placed, set_of}
+use Rattle.bl_effects.specs.Static.{fields_precede, is_front, overlaps, placed, precedes, set_of}
 
 -- ---- the order
 
@@ -169,3 +170,33 @@ sorted_is_set xs sorted moved up =
     (ascending_from _ (IsStrictlySortedBy-dedup static_cmp_total (λ x y. refl) sorted up)) (ascending_set xs)
     (λ x kept. set_in x xs (contains_in x xs (Contains-permutation sorted xs x (IsPermutation-sym xs sorted moved) (Contains-from_dedup (eq_by_cmp static_cmp) sorted x (in_contains x _ kept)))))
     (λ x there. contains_in x _ (Contains-dedup (eq_by_cmp_equiv static_cmp_total) tied_is sorted x (Contains-permutation xs sorted x moved (in_contains x xs (in_set x xs there)))))
+
+-- ---- what a set has, and its order
+
+pub set_members : (xs : List Static) (x : Static) → (Contains (set_of xs) x → Contains xs x) × (Contains xs x → Contains (set_of xs) x)
+set_members xs x = ((λ there. in_contains x xs (in_set x xs (contains_in x _ there))), (λ there. in_contains x _ (set_in x xs (contains_in x xs there))))
+
+ascending_pairs : (xs : List Static) → Ascending xs → AllPairs (λ a b. IsTrue (precedes a b)) xs
+ascending_pairs [] h = λ i j d before within. absurd (omega arith)
+ascending_pairs (x ∷ xs) h =
+    AllPairs-cons (λ a b. IsTrue (precedes a b)) x xs
+    (λ k d within. precedes_less x (get_or xs k d) ∙ ap is_lt (h.0 (get_or xs k d) (contains_in (get_or xs k d) xs (Contains-get_or xs k d within)))) (ascending_pairs xs h.1)
+
+pub set_ascends : (xs : List Static) → AllPairs (λ a b. IsTrue (precedes a b)) (set_of xs)
+set_ascends xs = ascending_pairs (set_of xs) (ascending_set xs)
+
+and_swap : (a b : Bool) → (a || b) ≡ (b || a)
+and_swap true true = refl
+and_swap true false = refl
+and_swap false true = refl
+and_swap false false = refl
+
+pub overlaps_symm : (a b : Static) → overlaps a b ≡ overlaps b a
+overlaps_symm a b = λ i. nat_eq_equiv.symm a.root b.root i && and_swap (is_front a.fields b.fields) (is_front b.fields a.fields) i
+
+pub overlaps_itself : (a : Static) → overlaps a a ≡ true
+overlaps_itself a = (λ i. nat_eq_equiv.refl a.root i && (front a.fields i || is_front a.fields a.fields))
+  where
+    front : (xs : List ℕ) → is_front xs xs ≡ true
+    front [] = refl
+    front (x ∷ xs) = λ i. nat_eq_equiv.refl x i && front xs i

@@ -3,11 +3,14 @@
 #![tactic(auto)]
 
 mod gather;
+pub mod laws;
 mod mentions;
 mod sets;
 mod spot;
 mod static_path;
 mod table;
+#[cfg(test)]
+mod tests;
 
 pub use spot::Spot;
 pub use static_path::Static;

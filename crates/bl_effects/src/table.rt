@@ -1,6 +1,6 @@
 //! Effects by place.
 
-ghost use Rattle.std.specs.Prelude.{◌≡◌, cond, [], Some, IfOk, OnOk};
+ghost use Rattle.std.specs.Prelude.{◌≡◌, cond, [], Some, IfOk, OnOk, option_map};
 ghost use Rattle.bl_effects.specs.Entries.{effect_at};
 ghost use Rattle.bl_effects.specs.Table.{Has, PlacesDecide, Tells, found, instant_at, reads_at, same_place, writes_at};
 
@@ -75,11 +75,18 @@ impl Effects {
         }
     }
 
+    /// What is known of the statement at the place, where there is one.
+    pub(crate) fn find(&self, at: Place) -> Option<&Sets>
+        ensures { option_map (λ sets. effect_at at sets.now) result ≡ found self.now at }
+    {
+        self.by_place.get(&(at.start, at.end))
+    }
+
     fn sets(&self, at: Place) -> &Sets
         requires { Has self.now at }
         ensures { found self.now at ≡ Some (effect_at at result.now) }
     {
-        match self.by_place.get(&(at.start, at.end)) {
+        match self.find(at) {
             Some(sets) => sets,
             None => unreachable!(),
         }
