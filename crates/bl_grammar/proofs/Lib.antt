@@ -1,2 +1,3 @@
 pub mod Predictive
 pub mod Runs
+pub mod Splits

@@ -112,7 +112,7 @@ module _ {K P T : Type 0} (Produces : P → Option T → List (Symbol K P) → T
     good_expand A ss next p good made = good_append A ss good p (right.follow made)
 
     -- the production that a derivation uses is the one that the next token decides on
-    forced_pick : (A : P) (ss : List (Symbol K P)) (t : T) (end : Option T) → Good (Nonterminal A ∷ ss) → (p : List (Symbol K P)) → Produces A (Some t) p → Leads p (Some t) end → Leads ss end None → tables.pick A t ≡ Some p
+    pub forced_pick : (A : P) (ss : List (Symbol K P)) (t : T) (end : Option T) → Good (Nonterminal A ∷ ss) → (p : List (Symbol K P)) → Produces A (Some t) p → Leads p (Some t) end → Leads ss end None → tables.pick A t ≡ Some p
     forced_pick A ss t end good p made = by_cases p (right.headed made) (right.forced made)
       where
         by_cases : (p : List (Symbol K P)) → Predictive.IsHeaded Produces matches tables A (Some t) p → Predictive.IsForced Produces matches tables A t p → Leads p (Some t) end → Leads ss end None → tables.pick A t ≡ Some p

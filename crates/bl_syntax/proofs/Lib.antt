@@ -3,3 +3,5 @@ pub mod Right
 pub mod Predictive
 pub mod Depths
 pub mod Reading
+pub mod Once
+pub mod Expecting

@@ -10,51 +10,51 @@ use Rattle.bl_syntax.specs.declared.grammar.Part.{Part}
 use Rattle.bl_syntax.specs.declared.grammar.Part.TheVariants.{Program, Item, Struct, Field, Fields, Constant, TypeMark, Unit, PlainUnit, UnitTail, Params, SecondParams, ParamList, ParamRest, Param, Returns, Block, Stmt, VarTail, Initial, AfterName, CallTail, AssignTail, Accesses, RunTail, RunTarget, Weak, Branches, Until, Elseifs, Else, AfterReturn, Inputs, InputList, InputRest, Outputs, SecondOutputs, OutputList, OutputRest, Path, PathRest, Expr, ExprRest, And, AndRest, Comparison, ComparisonRest, BitOr, BitOrRest, BitXor, BitXorRest, BitAnd, BitAndRest, Shift, ShiftRest, Sum, SumRest, Product, ProductRest, Cast, CastRest, Unary, Primary, NameUse, NoOutputs}
 use Rattle.bl_syntax.specs.Grammar.{Piece, productions, expression_starts}
 
--- what goes on after a name, and so never follows an expression
+-- the classes that go on with a name in an expression: none of them follows the whole
 abbrev pub after_name : List Class
 after_name = Mark DOT ∷ Mark OPEN_BRACKET ∷ Mark OPEN_PAREN ∷ []
 
--- what goes on after an operand with a sign
+-- those that go on with an operand and its sign
 abbrev pub after_unary : List Class
 after_unary = after_name
 
--- what goes on after casts
+-- those that go on with a cast
 abbrev pub after_cast : List Class
 after_cast = Keyword AS ∷ after_unary
 
--- after products
+-- those that go on with a product
 abbrev pub after_product : List Class
 after_product = Mark STAR ∷ Mark SLASH ∷ Mark PERCENT ∷ after_cast
 
--- after sums
+-- those that go on with a sum
 abbrev pub after_sum : List Class
 after_sum = Mark PLUS ∷ Mark MINUS ∷ after_product
 
--- after shifts
+-- those that go on with a shift
 abbrev pub after_shift : List Class
 after_shift = Mark SHIFT_LEFT ∷ Mark SHIFT_RIGHT ∷ after_sum
 
--- after chains of `&`
+-- those that go on with a chain of `&`
 abbrev pub after_and : List Class
 after_and = Mark AMPERSAND ∷ after_shift
 
--- after chains of `^`
+-- those that go on with a chain of `^`
 abbrev pub after_xor : List Class
 after_xor = Mark CARET ∷ after_and
 
--- after chains of `|`
+-- those that go on with a chain of `|`
 abbrev pub after_bits : List Class
 after_bits = Mark BAR ∷ after_xor
 
--- after comparisons
+-- those that go on with a comparison
 abbrev pub after_comparison : List Class
 after_comparison = Mark EQUAL ∷ Mark NOT_EQUAL ∷ Mark LESS ∷ Mark LESS_OR_EQUAL ∷ Mark GREATER ∷ Mark GREATER_OR_EQUAL ∷ after_bits
 
--- after chains of `and`
+-- those that go on with a chain of `and`
 abbrev pub after_both : List Class
 after_both = Keyword AND ∷ after_comparison
 
--- after expressions
+-- those that go on with an expression
 abbrev pub after_expression : List Class
 after_expression = Keyword OR ∷ after_both
 
@@ -63,19 +63,19 @@ abbrev pub statement_starts : List Class
 statement_starts =
     Keyword VAR ∷ Keyword LET ∷ Keyword CONST ∷ AnyName ∷ Keyword AWAIT ∷ Keyword RUN ∷ Keyword COBEGIN ∷ Keyword WHEN ∷ Keyword REPEAT ∷ Keyword WHILE ∷ Keyword IF ∷ Keyword RETURN ∷ []
 
--- what goes on after a statement
+-- those that go on with a statement
 abbrev pub after_statement : List Class
 after_statement = Mark ASSIGN ∷ after_expression
 
--- what goes on after a block
+-- those that go on with a block
 abbrev pub after_block : List Class
 after_block = statement_starts ++ after_statement
 
--- what goes on after a program
+-- those that go on with a program
 abbrev pub after_program : List Class
 after_program = Keyword STRUCT ∷ Keyword CONST ∷ Mark AT ∷ Keyword FUNCTION ∷ Keyword ACTIVITY ∷ after_expression
 
--- classes that never follow a part: what would go on with it, or with what it ends with
+-- the classes that never follow a part, since they would go on with it or with what it ends with
 unfoldable pub avoided : Part → List Class
 avoided Program = after_program
 avoided Item = after_expression

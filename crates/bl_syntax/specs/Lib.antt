@@ -4,3 +4,4 @@ pub mod Follow
 pub mod Stack
 pub mod Depth
 pub mod Rules
+pub mod Expects

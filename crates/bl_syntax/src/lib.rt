@@ -7,6 +7,7 @@ mod depth;
 mod expressions;
 pub mod grammar;
 mod items;
+pub mod laws;
 mod rules;
 mod stack;
 mod statements;
