@@ -22,6 +22,7 @@ fn number(n: i128, ty: Scalar) -> Expr {
 
 fn path(alloc: Global, root: u32, ty: Scalar) -> Path {
     Path {
+        place: PLACE,
         root,
         parts: List::new(alloc),
         ty: Ty::Scalar(ty),
@@ -200,6 +201,7 @@ fn operators_trap_where_they_must(rt: HostRuntime) -> Result<(), NoMemory> {
 
 fn element(alloc: Global, k: i128) -> Result<Path, NoMemory> {
     Ok(Path {
+        place: PLACE,
         root: 0,
         parts: one(alloc, Part::Index(number(k, INT32)))?,
         ty: Ty::Scalar(INT32),

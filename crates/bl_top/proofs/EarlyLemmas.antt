@@ -143,12 +143,12 @@ text_differs text keys name is_new added new same =
 
 -- ---- what each test is at the values that are made
 
-type_path : (site : Site) (root : ℕ) (s : Scalar) →
-    type_of_path site (path_of root s) ≡ option_and_then (where_same (scalar s)) (option_and_then (λ var. Some var.ty) (var_at site root))
-type_path site root s = rw fold-roll-Path refl
+type_path : (site : Site) (at : Place) (root : ℕ) (s : Scalar) →
+    type_of_path site (path_of at root s) ≡ option_and_then (where_same (scalar s)) (option_and_then (λ var. Some var.ty) (var_at site root))
+type_path site at root s = rw fold-roll-Path refl
 
-depth_path : (root : ℕ) (s : Scalar) → path_depth (path_of root s) ≡ 0
-depth_path root s = rw fold-roll-Path refl
+depth_path : (at : Place) (root : ℕ) (s : Scalar) → path_depth (path_of at root s) ≡ 0
+depth_path at root s = rw fold-roll-Path refl
 
 fits_set : (site : Site) (place : Place) (path : Path) (e : Expr) →
     fits site (stmt place (StmtKind-F.Assign path e)) ≡ (is_assignable site path && are_same (type_of_path site path) (type_of site e))
@@ -163,13 +163,13 @@ depth_set place path e = rw (fold-roll-Stmt, fold-roll-StmtKind) refl
 naming_set : (place : Place) (path : Path) (e : Expr) → naming_of (stmt place (StmtKind-F.Assign path e)) ≡ naming (roots_in_path path ++ roots_in e)
 naming_set place path e = rw (fold-roll-Stmt, fold-roll-StmtKind) refl
 
-root_of : (root : ℕ) (s : Scalar) → (out-Path (path_of root s)).root ≡ root
-root_of root s = ap (λ (path : Path-F ExprKind Part Expr Path). path.root) (out-roll-Path (record { root = root; parts = []; ty = scalar s }))
+root_of : (at : Place) (root : ℕ) (s : Scalar) → (out-Path (path_of at root s)).root ≡ root
+root_of at root s = ap (λ (path : Path-F ExprKind Part Expr Path). path.root) (out-roll-Path (record { place = at; root = root; parts = []; ty = scalar s }))
 
-assignable : (site : Site) (root : ℕ) (s : Scalar) →
-    is_assignable site (path_of root s) ≡ is_some (option_and_then (λ (var : Var). if may_change var.role then Some var else None) (var_at site root))
-assignable site root s =
-    ap (λ (k : ℕ). is_some (option_and_then (λ (var : Var). if may_change var.role then Some var else None) (var_at site k))) (root_of root s)
+assignable : (site : Site) (at : Place) (root : ℕ) (s : Scalar) →
+    is_assignable site (path_of at root s) ≡ is_some (option_and_then (λ (var : Var). if may_change var.role then Some var else None) (var_at site root))
+assignable site at root s =
+    ap (λ (k : ℕ). is_some (option_and_then (λ (var : Var). if may_change var.role then Some var else None) (var_at site k))) (root_of at root s)
 
 -- ---- types
 
@@ -188,40 +188,40 @@ same_self (Bits w) = same_width w
 same_type_self : (s : Scalar) → same_type (scalar s) (scalar s) ≡ true
 same_type_self s = rw (fold-roll-Ty, out-roll-Ty) (same_self s)
 
-path_typed : (vars : List Var) (root : ℕ) (s : Scalar) (role : Role) → StandsAt vars root s role → type_of_path (site_with vars) (path_of root s) ≡ Some (scalar s)
-path_typed vars root s role stands =
-    type_path (site_with vars) root s ∙ (rw (stands.at, stands.typed, same_type_self s) refl)
+path_typed : (vars : List Var) (at : Place) (root : ℕ) (s : Scalar) (role : Role) → StandsAt vars root s role → type_of_path (site_with vars) (path_of at root s) ≡ Some (scalar s)
+path_typed vars at root s role stands =
+    type_path (site_with vars) at root s ∙ (rw (stands.at, stands.typed, same_type_self s) refl)
 
 -- ---- statements
 
-set_fits : (vars : List Var) (root : ℕ) (s : Scalar) → StandsAt vars root s Output → is_assignable (site_with vars) (path_of root s) ≡ true
-set_fits vars root s stands = assignable (site_with vars) root s ∙ rw (stands.at, stands.for_role) refl
+set_fits : (vars : List Var) (at : Place) (root : ℕ) (s : Scalar) → StandsAt vars root s Output → is_assignable (site_with vars) (path_of at root s) ≡ true
+set_fits vars at root s stands = assignable (site_with vars) at root s ∙ rw (stands.at, stands.for_role) refl
 
 same_types : (o p : Option Ty) (s : Scalar) → o ≡ Some (scalar s) → p ≡ Some (scalar s) → are_same o p ≡ true
 same_types o p s first second = rw (first, second) (same_type_self s)
 
-set_tame : (vars : List Var) (place : Place) (root : ℕ) (s : Scalar) (e : Expr) → StandsAt vars root s Output → IsTyped vars 1 e s →
-    IsTame vars (stmt place (StmtKind-F.Assign (path_of root s) e))
-set_tame vars place root s e stands typed = record {
-  fitting = fits_set (site_with vars) place (path_of root s) e
-      ∙ both (is_assignable (site_with vars) (path_of root s)) (are_same (type_of_path (site_with vars) (path_of root s)) (type_of (site_with vars) e))
-      (set_fits vars root s stands)
-      (same_types (type_of_path (site_with vars) (path_of root s)) (type_of (site_with vars) e) s
-      (path_typed vars root s Output stands) typed.typed);
-  returnless = has_return_set place (path_of root s) e;
-  flat = ap (λ (d : Depth). d.blocks) (depth_set place (path_of root s) e);
-  shallow = omega (arith, typed.shallow, depth_path root s, ap (λ (d : Depth). d.exprs) (depth_set place (path_of root s) e));
-  apart = ap (λ (n : Naming). n.apart) (naming_set place (path_of root s) e);
+set_tame : (vars : List Var) (place at : Place) (root : ℕ) (s : Scalar) (e : Expr) → StandsAt vars root s Output → IsTyped vars 1 e s →
+    IsTame vars (stmt place (StmtKind-F.Assign (path_of at root s) e))
+set_tame vars place at root s e stands typed = record {
+  fitting = fits_set (site_with vars) place (path_of at root s) e
+      ∙ both (is_assignable (site_with vars) (path_of at root s)) (are_same (type_of_path (site_with vars) (path_of at root s)) (type_of (site_with vars) e))
+      (set_fits vars at root s stands)
+      (same_types (type_of_path (site_with vars) (path_of at root s)) (type_of (site_with vars) e) s
+      (path_typed vars at root s Output stands) typed.typed);
+  returnless = has_return_set place (path_of at root s) e;
+  flat = ap (λ (d : Depth). d.blocks) (depth_set place (path_of at root s) e);
+  shallow = omega (arith, typed.shallow, depth_path at root s, ap (λ (d : Depth). d.exprs) (depth_set place (path_of at root s) e));
+  apart = ap (λ (n : Naming). n.apart) (naming_set place (path_of at root s) e);
 }
 
 -- the set as the code makes it
-pub made_tame : (vars : List Var) (place : Place) (root : ℕ) (found wanted : Scalar) (role : Role) (path : Path) (e : Expr) →
-    StandsAt vars root found role → found ≡ wanted → role ≡ Output → path ≡ path_of root found → IsTyped vars 1 e wanted →
+pub made_tame : (vars : List Var) (place at : Place) (root : ℕ) (found wanted : Scalar) (role : Role) (path : Path) (e : Expr) →
+    StandsAt vars root found role → found ≡ wanted → role ≡ Output → path ≡ path_of at root found → IsTyped vars 1 e wanted →
     IsTame vars (roll-Stmt (record { place = place; what = Assign path e }))
-made_tame vars place root found wanted role path e stands same for_output made typed =
+made_tame vars place at root found wanted role path e stands same for_output made typed =
     let at_target : StandsAt vars root wanted Output = rw (← same, ← for_output) stands in
-    let made_so : path ≡ path_of root wanted = rw (← same) made in
-    rw (made_so, ← rolls-Assign (path_of root wanted) e) (set_tame vars place root wanted e at_target typed)
+    let made_so : path ≡ path_of at root wanted = rw (← same) made in
+    rw (made_so, ← rolls-Assign (path_of at root wanted) e) (set_tame vars place at root wanted e at_target typed)
 
 pub push_tame : (vars : List Var) (body : List Stmt) (s : Stmt) → AreTame vars body → IsTame vars s → AreTame vars (body ++ s ∷ [])
 push_tame vars body s tame one = record {

@@ -72,8 +72,8 @@ pub record StandsAt (vars : List Var) (root : ℕ) (ty : Scalar) (role : Role) :
 -- ---- expressions
 
 -- the path that is a variable alone
-abbrev pub path_of : ℕ → Scalar → Path
-path_of root ty = roll-Path (record { root = root; parts = []; ty = scalar ty })
+abbrev pub path_of : Place → ℕ → Scalar → Path
+path_of place root ty = roll-Path (record { place = place; root = root; parts = []; ty = scalar ty })
 
 abbrev pub literal_of : Place → ℤ → Scalar → Expr
 literal_of place n ty = roll-Expr (record { place = place; what = roll-ExprKind (ExprKind-F.Literal n ty) })

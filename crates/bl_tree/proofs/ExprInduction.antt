@@ -35,7 +35,7 @@ pub record Cases (P : Expr → Type 0) (Q : Path → Type 0) : Type 0 where
   pub two : (place : Place) (op : Op) (a b : Expr) → P a → P b → P (expr place (ExprKind-F.Two op a b))
   pub cast : (place : Place) (s : Scalar) (a : Expr) → P a → P (expr place (ExprKind-F.Cast s a))
   pub call : (place : Place) (f : ℕ) (inputs : List Expr) → All P inputs → P (expr place (ExprKind-F.Call f inputs))
-  pub path : (root : ℕ) (parts : List Part) (ty : Ty) → EachIndex P parts → Q (roll-Path (record { root = root; parts = parts; ty = ty }))
+  pub path : (place : Place) (root : ℕ) (parts : List Part) (ty : Ty) → EachIndex P parts → Q (roll-Path (record { place = place; root = root; parts = parts; ty = ty }))
 
 module _ (P : Expr → Type 0) (Q : Path → Type 0) (cases : Cases P Q) where
   abbrev OfKind : ExprKind → Type 0
@@ -78,7 +78,7 @@ module _ (P : Expr → Type 0) (Q : Path → Type 0) (cases : Cases P Q) where
       (λ x y is place. subst (λ layer. P (expr place layer)) is (by_kind place y))
       (λ x y is. subst (OfIndex P) (is ∙ sym (out-roll-Part x)) (by_part y))
       (λ x y is. subst (λ layer. P (roll-Expr layer)) is (y.what.1 y.place))
-      (λ x y is. subst (λ layer. Q (roll-Path layer)) is (cases.path y.root _ y.ty (each_such OfPart y.parts)))
+      (λ x y is. subst (λ layer. Q (roll-Path layer)) is (cases.path y.place y.root _ y.ty (each_such OfPart y.parts)))
 
   -- and every path Q
   pub induct_path : (path : Path) → Q path
@@ -87,4 +87,4 @@ module _ (P : Expr → Type 0) (Q : Path → Type 0) (cases : Cases P Q) where
       (λ x y is place. subst (λ layer. P (expr place layer)) is (by_kind place y))
       (λ x y is. subst (OfIndex P) (is ∙ sym (out-roll-Part x)) (by_part y))
       (λ x y is. subst (λ layer. P (roll-Expr layer)) is (y.what.1 y.place))
-      (λ x y is. subst (λ layer. Q (roll-Path layer)) is (cases.path y.root _ y.ty (each_such OfPart y.parts)))
+      (λ x y is. subst (λ layer. Q (roll-Path layer)) is (cases.path y.place y.root _ y.ty (each_such OfPart y.parts)))

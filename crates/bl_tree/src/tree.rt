@@ -85,6 +85,8 @@ pub enum Part {
 #[cycle(expressions)]
 #[derive(Drop)]
 pub struct Path {
+    /// From the first token to the last.
+    pub place: Place,
     pub root: u32,
     pub parts: List<Part>,
     /// The type of what the path names.

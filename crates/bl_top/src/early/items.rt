@@ -69,17 +69,18 @@ fn named(alloc: Global, cursor: &Cursor, params: &Params, place: Place) -> Resul
     Ok(Item {
         e: Expr {
             place,
-            what: ExprKind::Read(variable(alloc, named)),
+            what: ExprKind::Read(variable(alloc, place, named)),
         },
         ty: named.ty,
     })
 }
 
 /// The path that is a variable alone.
-pub fn variable(alloc: Global, named: Named) -> Path
-    ensures { result ≡ path_of named.root named.ty }
+pub fn variable(alloc: Global, place: Place, named: Named) -> Path
+    ensures { result ≡ path_of place named.root named.ty }
 {
     Path {
+        place,
         root: named.root,
         parts: List::new(alloc),
         ty: Ty::Scalar(named.ty),

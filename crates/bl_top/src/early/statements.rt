@@ -123,6 +123,6 @@ fn set(alloc: Global, params: &Params, name: Name, source: Item) -> Result<Stmt,
     };
     Ok(Stmt {
         place,
-        what: StmtKind::Assign(variable(alloc, target), source.e),
+        what: StmtKind::Assign(variable(alloc, name.place, target), source.e),
     })
 }
