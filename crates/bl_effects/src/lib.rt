@@ -3,9 +3,9 @@
 #![tactic(auto)]
 
 mod effect;
-mod spot;
+mod marked;
 mod static_path;
 
 pub use effect::Effect;
-pub use spot::Spot;
+pub use marked::Marked;
 pub use static_path::Static;
