@@ -45,6 +45,10 @@ pub record Parallel : Type 0 where
 abbrev pub together : List Parallel → Parallel
 together parts = record { writes = joined (map (λ part. part.writes) parts); splits = joined (map (λ part. part.splits) parts) }
 
+-- one after the other
+abbrev pub beside : Parallel → Parallel → Parallel
+beside one other = record { writes = one.writes ++ other.writes; splits = one.splits ++ other.splits }
+
 -- one act: an assignment, a call or a `run` at the place, which writes these
 abbrev pub acting : Place → List Static → Parallel
 acting place written = record { writes = map (λ path. record { place = place; path = path }) written; splits = [] }
@@ -69,7 +73,7 @@ kind_parallel (StmtKind-F.Assign path e) place = acting place (static_of path �
 kind_parallel (StmtKind-F.Call f inputs outputs) place = acting place (map static_of outputs)
 kind_parallel (StmtKind-F.Await e) place = still
 kind_parallel (StmtKind-F.Run target a inputs outputs) place = acting place (target_static target ++ map static_of outputs)
-kind_parallel (StmtKind-F.If arms other) place = together (arms ++ other)
+kind_parallel (StmtKind-F.If arms other) place = beside (together arms) (together other)
 kind_parallel (StmtKind-F.Cobegin branches) place = of_branches branches
 kind_parallel (StmtKind-F.When guard e body) place = together body
 kind_parallel (StmtKind-F.Repeat body) place = together body
@@ -111,42 +115,6 @@ pub record FailsConflict (units : List UnitDef) (at : Place) (also : List Place)
 
 -- ---- Alias: an output of a call or `run` overlaps an earlier output or an aggregate input, or a target overlaps an output
 
--- a call statement or a `run`
-pub record Call : Type 0 where
-  pub target : Option Path
-  pub inputs : List Expr
-  pub outputs : List Path
-
-abbrev pub kind_calls : StmtKind-F (List Call) (List Call) (List Call) (List Call) → List Call
-kind_calls (StmtKind-F.Declare k initial) = []
-kind_calls (StmtKind-F.Assign path e) = []
-kind_calls (StmtKind-F.Call f inputs outputs) = record { target = None; inputs = inputs; outputs = outputs } ∷ []
-kind_calls (StmtKind-F.Await e) = []
-kind_calls (StmtKind-F.Run target a inputs outputs) = record { target = target; inputs = inputs; outputs = outputs } ∷ []
-kind_calls (StmtKind-F.If arms other) = joined arms ++ joined other
-kind_calls (StmtKind-F.Cobegin branches) = joined branches
-kind_calls (StmtKind-F.When guard e body) = joined body
-kind_calls (StmtKind-F.Repeat body) = joined body
-kind_calls (StmtKind-F.Until body e) = joined body
-kind_calls (StmtKind-F.While e body) = joined body
-kind_calls (StmtKind-F.Return e) = []
-
-abbrev pub arm_calls : Arm-F (List Call) (List Call) (List Call) (List Call) → List Call
-arm_calls arm = joined arm.body
-
-abbrev pub branch_calls : Branch-F (List Call) (List Call) (List Call) (List Call) → List Call
-branch_calls branch = joined branch.body
-
-abbrev pub stmt_calls : Stmt-F (List Call) (List Call) (List Call) (List Call) → List Call
-stmt_calls s = s.what
-
--- the call statements and `run` statements in a statement, in source order
-abbrev pub calls_in : Stmt → List Call
-calls_in = fold-Stmt (List Call) (List Call) (List Call) (List Call) kind_calls arm_calls branch_calls stmt_calls
-
-abbrev pub calls_of : UnitDef → List Call
-calls_of unit = joined (map calls_in unit.body)
-
 -- a path with its place
 abbrev pub marked_path : Path → Marked
 marked_path path = record { place = (out-Path path).place; path = static_of path }
@@ -183,20 +151,43 @@ abbrev pub target_aliased : List Marked → Option Path → List Aliased
 target_aliased outputs (Some target) = aliased_with outputs (marked_path target)
 target_aliased outputs None = []
 
--- all failures of a call or `run`
-abbrev pub aliases_of : Call → List Aliased
-aliases_of call =
-    let outputs = map marked_path call.outputs in
-    target_aliased outputs call.target ++ outputs_aliased (marked_inputs call.inputs) [] outputs
+-- all failures of a call or `run` with this target, these inputs and these outputs
+abbrev pub aliases_of : Option Path → List Expr → List Path → List Aliased
+aliases_of target inputs outputs = target_aliased (map marked_path outputs) target ++ outputs_aliased (marked_inputs inputs) [] (map marked_path outputs)
+
+abbrev pub kind_aliases : StmtKind-F (List Aliased) (List Aliased) (List Aliased) (List Aliased) → List Aliased
+kind_aliases (StmtKind-F.Declare k initial) = []
+kind_aliases (StmtKind-F.Assign path e) = []
+kind_aliases (StmtKind-F.Call f inputs outputs) = aliases_of None inputs outputs
+kind_aliases (StmtKind-F.Await e) = []
+kind_aliases (StmtKind-F.Run target a inputs outputs) = aliases_of target inputs outputs
+kind_aliases (StmtKind-F.If arms other) = joined arms ++ joined other
+kind_aliases (StmtKind-F.Cobegin branches) = joined branches
+kind_aliases (StmtKind-F.When guard e body) = joined body
+kind_aliases (StmtKind-F.Repeat body) = joined body
+kind_aliases (StmtKind-F.Until body e) = joined body
+kind_aliases (StmtKind-F.While e body) = joined body
+kind_aliases (StmtKind-F.Return e) = []
+
+abbrev pub arm_aliases : Arm-F (List Aliased) (List Aliased) (List Aliased) (List Aliased) → List Aliased
+arm_aliases arm = joined arm.body
+
+abbrev pub branch_aliases : Branch-F (List Aliased) (List Aliased) (List Aliased) (List Aliased) → List Aliased
+branch_aliases branch = joined branch.body
+
+abbrev pub stmt_aliases : Stmt-F (List Aliased) (List Aliased) (List Aliased) (List Aliased) → List Aliased
+stmt_aliases s = s.what
+
+-- the failures of the call statements and `run` statements in a statement
+abbrev pub aliases_in : Stmt → List Aliased
+aliases_in = fold-Stmt (List Aliased) (List Aliased) (List Aliased) (List Aliased) kind_aliases arm_aliases branch_aliases stmt_aliases
 
 -- at the output or target; also what it overlaps, an output before an input and the first of several
 pub record FailsAlias (units : List UnitDef) (at : Place) (also : List Place) : Type 0 where
   pub unit : UnitDef
   pub is_there : Contains units unit
-  pub call : Call
-  pub stands : Contains (calls_of unit) call
   pub aliased : Aliased
-  pub fails : Contains (aliases_of call) aliased
+  pub fails : Contains (joined (map aliases_in unit.body)) aliased
   pub at_one : at ≡ aliased.at
   pub at_other : also ≡ aliased.also ∷ []
 
