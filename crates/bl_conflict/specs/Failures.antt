@@ -5,7 +5,6 @@ use Rattle.bl_tree.specs.declared.place.Refusal.{Refusal}
 use Rattle.bl_tree.specs.declared.place.Refusal.TheVariants.{Rule, NoMemory}
 use Rattle.bl_tree.specs.declared.tree.Arm.{Arm, fold-Arm}
 use Rattle.bl_tree.specs.declared.tree.Branch.{Branch, fold-Branch}
-use Rattle.bl_tree.specs.declared.tree.Part.{Part, fold-Part}
 use Rattle.bl_tree.specs.declared.tree.Path.{Path, out-Path}
 use Rattle.bl_tree.specs.declared.tree.Unit.{Unit as UnitDef}
 use Rattle.bl_tree.specs.declared.tree.Var.{Var}
@@ -16,7 +15,7 @@ use Rattle.bl_effects.specs.declared.marked.Marked.{Marked}
 use Rattle.bl_effects.specs.declared.static_path.Static.{Static}
 use Rattle.bl_effects.specs.Instant.{is_instant_block}
 use Rattle.bl_effects.specs.Rules.{Aliased, BranchLoops, Loops, Parallel, Split, aliases_in, arm_aliases, arm_loops, arm_parallel, branch_aliases, branch_loops, branch_parallel, instant_loops, kind_aliases, kind_loops, kind_parallel, splits_of, stmt_aliases, stmt_loops, stmt_parallel}
-use Rattle.bl_effects.specs.Static.{Reach, Step, expr_mentions, kind_mentions, overlaps, part_step, path_reach, static_of}
+use Rattle.bl_effects.specs.Static.{overlaps, static_of}
 use Rattle.bl_effects.specs.Table.{same_place}
 use Rattle.bl_conflict.specs.declared.failure.Failure.{Failure}
 
@@ -117,9 +116,6 @@ abbrev pub conflict_failures : List UnitDef → List Failure
 conflict_failures units = joined (map clashes_of_unit units)
 
 -- ---- parts of the tree
-
-abbrev pub step_of : Part → Step
-step_of = fold-Part (List Static) Step (List Static) Reach kind_mentions part_step expr_mentions path_reach
 
 abbrev pub loops_of_arm : Arm → Loops
 loops_of_arm = fold-Arm (Place → Loops) Loops BranchLoops Loops kind_loops arm_loops branch_loops stmt_loops

@@ -9,8 +9,8 @@ ghost use Rattle.bl_tree.specs.Reduce.{joined};
 ghost use Rattle.bl_tree.specs.Types.{scalar_in};
 
 use crate::failure::{Failure, lesser};
-use crate::marks::{marked_path, marked_paths, overlaps, static_of};
-use bl_effects::Marked;
+use crate::marks::{marked_path, marked_paths, overlaps};
+use bl_effects::{Marked, static_of};
 use bl_tree::tree::{Arm, Branch, Expr, ExprKind, Path, Stmt, StmtKind, Ty, Unit};
 use bl_tree::{List, NoMemory, Place};
 use std::alloc::Global;

@@ -8,8 +8,8 @@ ghost use Rattle.bl_effects.specs.Rules.{Split, parallel_of, splits_after, toget
 ghost use Rattle.bl_effects.specs.Static.{static_of};
 
 use crate::failure::{Failure, lesser};
-use crate::marks::{overlaps, static_of};
-use bl_effects::Marked;
+use crate::marks::overlaps;
+use bl_effects::{Marked, static_of};
 use bl_tree::tree::{Arm, Branch, Path, Stmt, StmtKind, Unit, Var};
 use bl_tree::{List, NoMemory, Place};
 use std::alloc::Global;

@@ -1,38 +1,13 @@
 //! Static paths with the places that rules name.
 
-ghost use Rattle.std.specs.Prelude.{◌≡◌, ◌++◌, map, IfOk, OnOk};
-ghost use Rattle.bl_conflict.specs.Failures.{step_of};
+ghost use Rattle.std.specs.Prelude.{◌≡◌, map, IfOk};
 ghost use Rattle.bl_effects.specs.Rules.{marked_path};
-ghost use Rattle.bl_effects.specs.Static.{is_front, leading_fields, overlaps, static_of};
+ghost use Rattle.bl_effects.specs.Static.{is_front, overlaps};
 
-use bl_effects::{Marked, Static};
-use bl_tree::tree::{Part, Path};
-use bl_tree::{List, NoMemory, Place};
+use bl_effects::{Marked, Static, static_of};
+use bl_tree::tree::Path;
+use bl_tree::{List, NoMemory};
 use std::alloc::Global;
-
-/// The static path of a path. Fails only for want of memory.
-pub fn static_of(alloc: Global, path: &Path) -> Result<Static, NoMemory>
-    ensures { IfOk result (λ given. given ≡ static_of path.now) }
-{
-    Ok(Static {
-        root: path.root,
-        fields: leading_fields(alloc, &path.parts)?,
-    })
-}
-
-/// The fields up to the first index.
-fn leading_fields(alloc: Global, parts: &[Part]) -> Result<List<u32>, NoMemory>
-    ensures { IfOk result (λ fields. fields ≡ leading_fields (map step_of parts.now)) }
-{
-    let mut fields = List::new(alloc);
-    for part in parts {
-        match part {
-            Part::Field(k) => fields.push(*k)?,
-            Part::Index(_) => return Ok(fields),
-        }
-    }
-    Ok(fields)
-}
 
 /// A path with its own place.
 pub fn marked_path(alloc: Global, path: &Path) -> Result<Marked, NoMemory>

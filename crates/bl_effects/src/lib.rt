@@ -2,10 +2,17 @@
 //! in which they begin (docs/LANGUAGE.md, "Effects").
 #![tactic(auto)]
 
-mod effect;
+mod gather;
+pub mod laws;
 mod marked;
+mod mentions;
+mod sets;
 mod static_path;
+mod table;
+#[cfg(test)]
+mod tests;
 
-pub use effect::Effect;
 pub use marked::Marked;
+pub use mentions::static_of;
 pub use static_path::Static;
+pub use table::Effects;
