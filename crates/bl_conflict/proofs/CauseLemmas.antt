@@ -1,16 +1,15 @@
 -- What is found first is why a program is refused, and where nothing is found it passes.
-use Rattle.std.proofs.Common.{◌≡◌, ℕ, ◌≤◌, Bool, true, false, ◌&&◌, cond, List, [], ◌∷◌, ◌⊎◌, inl, inr, ⊎_elim, map, Option, Some, None, refl, ap, sym, ◌∙◌, subst, arith}
-use Rattle.std.specs.Prelude.{Contains, IsTrue, slice_get}
+use Rattle.std.proofs.Common.{◌≡◌, ℕ, Bool, true, false, ◌&&◌, cond, List, [], ◌∷◌, inl, inr, ⊎_elim, Option, Some, None, refl, ap, sym, subst, arith}
+use Rattle.std.specs.Prelude.{slice_get}
 use Rattle.bl_tree.specs.declared.place.Place.{Place}
 use Rattle.bl_tree.specs.declared.place.Refusal.{Refusal}
 use Rattle.bl_tree.specs.declared.place.Refusal.TheVariants.{Rule, NoMemory}
 use Rattle.bl_tree.specs.declared.tree.Unit.{Unit as UnitDef}
 use Rattle.bl_tree.specs.declared.tree.Var.{Var}
-use Rattle.bl_tree.specs.Reduce.{joined}
 use Rattle.bl_tree.specs.Typing.{is_activity}
 use Rattle.bl_effects.specs.declared.marked.Marked.{Marked}
 use Rattle.bl_effects.specs.Instant.{is_instant_block}
-use Rattle.bl_effects.specs.Rules.{Aliased, AreNoLater, Fails, FailsAlias, FailsConflict, FailsFirst, FailsInstant, FailsPause, Passes, Split, aliases_in, instant_loops, splits_of}
+use Rattle.bl_effects.specs.Rules.{Aliased, AreNoLater, FailsAlias, FailsConflict, FailsFirst, FailsInstant, FailsPause, Passes, instant_loops, splits_of}
 use Rattle.bl_effects.specs.Static.{overlaps}
 use Rattle.bl_conflict.specs.declared.failure.Failure.{Failure}
 use Rattle.bl_conflict.specs.Cause.{IsCause}

@@ -1,5 +1,5 @@
 -- What the definitions on acts come to at an arm, a branch and an `if`, and one more branch beside those before it.
-use Rattle.std.proofs.Common.{◌≡◌, ℕ, zero, suc, ◌≤◌, List, [], ◌∷◌, ◌++◌, map, length, take, drop, Option, refl, ap, sym, ◌∙◌, arith, length-append}
+use Rattle.std.proofs.Common.{◌≡◌, ℕ, zero, suc, ◌≤◌, List, [], ◌∷◌, ◌++◌, map, length, take, drop, Option, refl, ap, sym, ◌∙◌, arith, length-append, length-drop, ◌-◌}
 use Rattle.bl_tree.specs.declared.place.Place.{Place}
 use Rattle.bl_tree.specs.declared.tree.Arm.{Arm, fold_out-Arm, out-Arm}
 use Rattle.bl_tree.specs.declared.tree.Branch.{Branch, fold_out-Branch, out-Branch}
@@ -9,7 +9,7 @@ use Rattle.bl_tree.specs.declared.tree.StmtKind.TheOpen.{StmtKind-F}
 use Rattle.bl_tree.specs.declared.tree.StmtKind.TheVariants.{If, outs-If}
 use Rattle.bl_tree.specs.declared.tree.Var.{Var}
 use Rattle.bl_effects.specs.declared.marked.Marked.{Marked}
-use Rattle.bl_effects.specs.Rules.{Parallel, Split, arm_parallel, branch_parallel, kind_parallel, parallel_of, splits_after, stmt_parallel, together}
+use Rattle.bl_effects.specs.Rules.{Parallel, arm_parallel, branch_parallel, kind_parallel, parallel_of, splits_after, stmt_parallel, together}
 use Rattle.bl_conflict.specs.declared.failure.Failure.{Failure}
 use Rattle.bl_conflict.specs.Failures.{all_clashes, clashes, itself, least_by, parallel_of_arm, parallel_of_branch}
 use Rattle.bl_conflict.proofs.FirstLemmas.{branch-next, clashes-append, least-append}
@@ -59,6 +59,24 @@ drop_within [] ys zero within = refl
 drop_within [] ys (suc k) within = absurd (omega arith)
 drop_within (x ∷ xs) ys zero within = refl
 drop_within (x ∷ xs) ys (suc k) within = drop_within xs ys k (omega arith)
+
+-- what was written before a branch, what the branch wrote, and both
+pub front_is : (writes more seen written : List Marked) (start mark : ℕ) → more ≡ writes ++ written → seen ≡ more → mark ≡ length writes → drop start (take mark seen) ≡ drop start writes
+front_is writes more seen written start mark grew same at =
+    ap (λ k. drop start (take k seen)) at ∙ ap (λ l. drop start (take (length writes) l)) (same ∙ grew) ∙ ap (drop start) (take_front writes written)
+
+pub behind_is : (writes more seen written : List Marked) (mark : ℕ) → more ≡ writes ++ written → seen ≡ more → mark ≡ length writes → drop mark seen ≡ written
+behind_is writes more seen written mark grew same at = ap (λ k. drop k seen) at ∙ ap (drop (length writes)) (same ∙ grew) ∙ drop_front writes written
+
+take_whole : (xs : List Marked) → take (length xs) xs ≡ xs
+take_whole [] = refl
+take_whole (x ∷ xs) = ap (λ rest. x ∷ rest) (take_whole xs)
+
+pub rest_is : (seen written : List Marked) (mark : ℕ) → drop mark seen ≡ written → take (length seen - mark) (drop mark seen) ≡ written
+rest_is seen written mark is = ap (λ n. take n (drop mark seen)) (sym (length-drop mark seen)) ∙ take_whole (drop mark seen) ∙ is
+
+pub grown_is : (writes more written : List Marked) (start : ℕ) → more ≡ writes ++ written → start ≤ length writes → drop start more ≡ drop start writes ++ written
+grown_is writes more written start grew within = ap (drop start) grew ∙ drop_within writes written start within
 
 -- one more branch, which wrote behind what was written
 pub branch_step : (vars : List Var) (writes more seen : List Marked) (start mark : ℕ) (all rest : List Parallel) (x : Parallel) (best inner clash found : Option Failure)

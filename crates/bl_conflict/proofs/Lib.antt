@@ -5,3 +5,4 @@ pub mod FirstLemmas
 pub mod LoopLemmas
 pub mod OrderLemmas
 pub mod PauseLemmas
+pub mod RootLemmas

@@ -1,5 +1,5 @@
 -- What the definitions on loops come to at an arm, a branch and a statement.
-use Rattle.std.proofs.Common.{◌≡◌, Bool, List, ◌++◌, map, Option, refl, ap, sym, ◌∙◌}
+use Rattle.std.proofs.Common.{◌≡◌, List, map, Option, ap, sym, ◌∙◌}
 use Rattle.bl_tree.specs.declared.place.Place.{Place}
 use Rattle.bl_tree.specs.declared.tree.Arm.{Arm, fold_out-Arm, out-Arm}
 use Rattle.bl_tree.specs.declared.tree.Branch.{Branch, fold_out-Branch, out-Branch}

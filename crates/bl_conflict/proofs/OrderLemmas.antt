@@ -1,5 +1,5 @@
 -- The first of several failures is one of them, and comes no later than each.
-use Rattle.std.proofs.Common.{◌≡◌, ℕ, zero, suc, ◌+◌, ◌<◌, Bool, true, false, ◌&&◌, ◌||◌, cond, List, [], ◌∷◌, ◌++◌, ◌⊎◌, inl, inr, ⊎_elim, map, length, Option, Some, None, refl, ap, sym, ◌∙◌, subst, arith}
+use Rattle.std.proofs.Common.{◌≡◌, zero, suc, ◌<◌, Bool, true, false, ◌&&◌, ◌||◌, cond, List, [], ◌∷◌, ◌++◌, ◌⊎◌, inl, inr, ⊎_elim, map, Some, None, refl, sym, ◌∙◌, subst, arith}
 use Rattle.std.specs.Prelude.{Contains, nat_eq, nat_lt}
 use Rattle.std.proofs.lemmas.Bool.Decides.{nat_tests}
 use Rattle.bl_tree.specs.declared.place.Place.{Place}
@@ -7,7 +7,7 @@ use Rattle.bl_tree.specs.Reduce.{joined}
 use Rattle.bl_effects.specs.Rules.{AreNoLater, IsBefore}
 use Rattle.bl_effects.specs.Table.{same_place}
 use Rattle.bl_conflict.specs.declared.failure.Failure.{Failure}
-use Rattle.bl_conflict.specs.Failures.{comes_before, is_before, least_by, lesser}
+use Rattle.bl_conflict.specs.Failures.{comes_before, is_before, least_by}
 
 -- ---- places
 

@@ -1,5 +1,5 @@
 -- Failures as values: those of each rule as a list, and the first of a list.
-use Rattle.std.specs.Prelude.{◌≡◌, ℕ, Bool, ◌&&◌, ◌||◌, nat_eq, nat_lt, List, [], ◌∷◌, ◌++◌, map, slice_get, find, Option, Some, None, option_map, option_to_list, is_none, if◌then◌else◌, ⊤}
+use Rattle.std.specs.Prelude.{◌≡◌, ℕ, Bool, ◌&&◌, ◌||◌, nat_eq, nat_lt, List, [], ◌∷◌, map, slice_get, find, Option, Some, None, option_map, is_none, if◌then◌else◌, ⊤}
 use Rattle.bl_tree.specs.declared.place.Place.{Place}
 use Rattle.bl_tree.specs.declared.place.Refusal.{Refusal}
 use Rattle.bl_tree.specs.declared.place.Refusal.TheVariants.{Rule, NoMemory}

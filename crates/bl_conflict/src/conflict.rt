@@ -1,8 +1,12 @@
 //! Rule Conflict: acts in two branches of one `cobegin` that write overlapping static paths.
 #![tactic(auto, using(crate::proofs::FirstLemmas::firsts))]
 
-ghost use Rattle.std.specs.Prelude.{◌≡◌, ◌≤◌, ◌++◌, ◌∷◌, [], None, length, map, take, drop, IfOk, OnOk};
+ghost use Rattle.std.specs.BTreeSet.{contains};
+ghost use Rattle.std.specs.Ordering.{nat_cmp};
+ghost use Rattle.std.specs.Prelude.{◌≡◌, ◌≤◌, ◌++◌, ◌∷◌, ℕ, List as Elements, true, [], None, length, map, take, drop, IfOk, OnOk};
 ghost use Rattle.bl_conflict.specs.Failures.{all_clashes, clashes, clash_of, clashes_at, clashes_with, clashes_of_unit, conflict_failures, itself, least_by, parallel_of_arm, parallel_of_branch, written};
+ghost use Rattle.bl_effects.specs.declared.marked.Marked.{Marked as MarkedPath};
+ghost use Rattle.bl_conflict.specs.Roots.{Knows};
 ghost use Rattle.bl_effects.specs.Effects.{target_static};
 ghost use Rattle.bl_effects.specs.Rules.{Split, parallel_of, splits_after, together};
 ghost use Rattle.bl_effects.specs.Static.{static_of};
@@ -12,7 +16,8 @@ use crate::marks::overlaps;
 use bl_effects::{Marked, static_of};
 use bl_tree::tree::{Arm, Branch, Path, Stmt, StmtKind, Unit, Var};
 use bl_tree::{List, NoMemory, Place};
-use std::alloc::Global;
+use std::alloc::{AllocError, Global};
+use std::collections::BTreeSet;
 
 /// The first pair of acts that conflict, with the declaration of a root that both write.
 pub fn first(alloc: Global, units: &[Unit]) -> Result<Option<Failure>, NoMemory>
@@ -120,18 +125,42 @@ fn branches(
     ensures best { IfOk result (λ found. found ≡ least_by itself best (all_clashes vars.now (splits_after [] (map parallel_of_branch all.now)))) }
 {
     let start = writes.len();
+    let mut roots = BTreeSet::new(alloc);
     let mut best = best;
     for branch in all {
         let mark = writes.len();
         best = block(alloc, vars, &branch.body, writes, best)?;
-        best = clash(vars, writes, start, mark, best);
+        best = clash(vars, &roots, writes, start, mark, best);
+        note(&mut roots, &writes[mark..])?;
     }
     Ok(best)
 }
 
-/// Compares what is written from `mark` on with what is written from `start` to `mark`.
+/// Adds the roots of what is written.
+fn note(roots: &mut BTreeSet<u32>, writes: &[Marked]) -> Result<(), NoMemory>
+    ensures knows { OnOk result (Knows roots.new writes.now) }
+    ensures keeps { OnOk result ((earlier : Elements MarkedPath) → Knows roots.old earlier → Knows roots.new earlier) }
+{
+    for write in writes {
+        add_root(roots, write.path.root)?;
+    }
+    Ok(())
+}
+
+fn add_root(roots: &mut BTreeSet<u32>, root: u32) -> Result<(), NoMemory>
+    ensures has { OnOk result (contains nat_cmp roots.new root ≡ true) }
+    ensures keeps { OnOk result ((q : ℕ) → contains nat_cmp roots.old q ≡ true → contains nat_cmp roots.new q ≡ true) }
+{
+    match roots.insert(root) {
+        Ok(_) => Ok(()),
+        Err(e) => Err(AllocError::from(e).into()),
+    }
+}
+
+/// Compares what is written from `mark` on with what is written from `start` to `mark`, whose roots are known.
 fn clash(
     vars: &[Var],
+    roots: &BTreeSet<u32>,
     writes: &[Marked],
     start: usize,
     mark: usize,
@@ -139,37 +168,46 @@ fn clash(
 ) -> Option<Failure>
     requires from { start ≤ mark }
     requires to { mark ≤ length writes.now }
+    requires known { Knows roots.now (drop start (take mark writes.now)) }
     ensures { result ≡ least_by itself best (clashes vars.now (record { earlier = drop start (take mark writes.now); writes = drop mark writes.now })) }
 {
     let earlier = &writes[..mark];
     let earlier = &earlier[start..];
-    clash_all(vars, earlier, &writes[mark..], best)
+    clash_all(vars, roots, earlier, &writes[mark..], best)
 }
 
 fn clash_all(
     vars: &[Var],
+    roots: &BTreeSet<u32>,
     earlier: &[Marked],
     writes: &[Marked],
     best: Option<Failure>,
 ) -> Option<Failure>
+    requires { Knows roots.now earlier.now }
     ensures { result ≡ least_by itself best (clashes vars.now (record { earlier = earlier.now; writes = writes.now })) }
 {
     let mut best = best;
     for second in writes {
-        best = clash_with(vars, earlier, second, best);
+        best = clash_with(vars, roots, earlier, second, best);
     }
     best
 }
 
-/// Compares one write with those of earlier branches; none fails whose root has no declaration.
+/// Compares one write with those of earlier branches, where one of them has its root. None fails whose root has no
+/// declaration.
 fn clash_with(
     vars: &[Var],
+    roots: &BTreeSet<u32>,
     earlier: &[Marked],
     second: &Marked,
     best: Option<Failure>,
 ) -> Option<Failure>
+    requires { Knows roots.now earlier.now }
     ensures { result ≡ least_by itself best (clashes_with vars.now earlier.now second.now) }
 {
+    if !roots.contains(&second.path.root) {
+        return best;
+    }
     match vars.get(second.path.root as usize) {
         Some(var) => clash_one(var.place, earlier, second, best),
         None => best,

@@ -12,6 +12,8 @@ mod failure;
 mod instant;
 mod marks;
 mod pause;
+#[cfg(test)]
+mod tests;
 
 use crate::failure::{Failure, alone, with_one, with_two};
 use bl_tree::tree::Unit;

@@ -1,7 +1,9 @@
-use Rattle.std.proofs.Common.{◌≡◌, ◌++◌, IfOk, ap, sym, ◌∙◌, subst, map}
-use Rattle.bl_conflict.proofs.ConflictLemmas.{arm_out, branch_out, branch_step, if_is, still_within}
+use Rattle.std.proofs.Common.{◌≡◌, ◌++◌, IfOk, ap, sym, ◌∙◌, subst, drop, map}
+use Rattle.bl_conflict.proofs.ConflictLemmas.{arm_out, behind_is, branch_out, branch_step, front_is, grown_is, if_is, rest_is, still_within}
 use Rattle.bl_conflict.proofs.FirstLemmas.{clash-next, more-next, next_of}
 use Rattle.bl_conflict.specs.Failures.{all_clashes, itself, least_by, parallel_of_arm, parallel_of_branch}
+use Rattle.bl_conflict.proofs.RootLemmas.{known_both}
+use Rattle.bl_conflict.specs.Roots.{Knows}
 use Rattle.bl_effects.specs.Rules.{parallel_of, together}
 use Rattle.bl_conflict.proofs.conflict.+acts.Goals as goal
 
@@ -24,6 +26,16 @@ arms-loop-arm-preserved t c =
       rw best (clash-next c.args.vars.now _ _ (parallel_of_arm arm) c.loop-arm.best _ step c.loop-arm.invariant.1),
     )
 
+pub branches-clash-best-requires-clause-known : goal.branches-clash-best-requires-clause-known
+branches-clash-best-requires-clause-known t c =
+    let branch = c.branch-item.result in
+    let x = parallel_of_branch branch in
+    let body = ap (λ body. together (map parallel_of body)) c.deref.ensures ∙ sym (branch_out branch) in
+    let writes : c.block.new.writes ≡ c.loop-branch.writes ++ x.writes = c.in_ok-best.ensures.writes ∙ ap (λ p. c.loop-branch.writes ++ p.writes) body in
+    subst (Knows c.loop-branch.roots)
+    (sym (front_is c.loop-branch.writes c.block.new.writes c.deref-in-loop-branch.result.now x.writes c.len-start.result c.len-mark.result writes c.deref-in-loop-branch.ensures c.len-mark.ensures))
+    c.loop-branch.invariant.1.1.1
+
 pub branches-loop-branch-preserved : goal.branches-loop-branch-preserved
 branches-loop-branch-preserved t c =
     let branch = c.branch-item.result in
@@ -32,12 +44,21 @@ branches-loop-branch-preserved t c =
     let body = ap (λ body. together (map parallel_of body)) c.deref.ensures ∙ sym (branch_out branch) in
     let writes : c.block.new.writes ≡ c.loop-branch.writes ++ x.writes = c.in_ok-best.ensures.writes ∙ ap (λ p. c.loop-branch.writes ++ p.writes) body in
     let best : c.in_ok-best.best ≡ least_by itself c.loop-branch.best (all_clashes c.args.vars.now x.splits) =
-    c.in_ok-best.ensures.best ∙ ap (λ p. least_by itself c.loop-branch.best (all_clashes c.args.vars.now p.splits)) body in (
+    c.in_ok-best.ensures.best ∙ ap (λ p. least_by itself c.loop-branch.best (all_clashes c.args.vars.now p.splits)) body in
+    let known = known_both c.note.new.roots (drop c.len-start.result c.loop-branch.writes) x.writes
+    (c.in_ok-note.ensures.keeps (drop c.len-start.result c.loop-branch.writes) c.loop-branch.invariant.1.1.1)
+    (subst (Knows c.note.new.roots)
+    (rest_is c.deref-in-loop-branch-2.result.now x.writes c.len-mark.result
+    (behind_is c.loop-branch.writes c.block.new.writes c.deref-in-loop-branch-2.result.now x.writes c.len-mark.result writes c.deref-in-loop-branch-2.ensures c.len-mark.ensures))
+    c.in_ok-note.ensures.knows) in (
       still_within c.loop-branch.writes c.block.new.writes x.writes c.len-start.result writes c.loop-branch.invariant.0,
       (
         rw writes (more-next (λ p. p.writes) _ _ x c.loop-branch.writes _ step c.loop-branch.invariant.1.0),
-        branch_step c.args.vars.now c.loop-branch.writes c.block.new.writes c.deref-in-loop-branch.result.now c.len-start.result c.len-mark.result _ _ x c.loop-branch.best c.in_ok-best.best c.clash-best.result _
-            step writes c.deref-in-loop-branch.ensures c.len-mark.ensures c.loop-branch.invariant.0 best c.clash-best.ensures c.loop-branch.invariant.1.1,
+        (
+          branch_step c.args.vars.now c.loop-branch.writes c.block.new.writes c.deref-in-loop-branch.result.now c.len-start.result c.len-mark.result _ _ x c.loop-branch.best c.in_ok-best.best c.clash-best.result _
+              step writes c.deref-in-loop-branch.ensures c.len-mark.ensures c.loop-branch.invariant.0 best c.clash-best.ensures c.loop-branch.invariant.1.1.0,
+          subst (Knows c.note.new.roots) (sym (grown_is c.loop-branch.writes c.block.new.writes x.writes c.len-start.result writes c.loop-branch.invariant.0)) known,
+        ),
       ),
     )
 
