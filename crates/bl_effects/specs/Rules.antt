@@ -1,5 +1,5 @@
 -- How a program fails the rules Pause, Conflict, Alias and Instant, which are the rules 18 to 21, and what their lines name.
-use Rattle.std.specs.Prelude.{◌≡◌, ℕ, ◌+◌, ◌<◌, ◌≤◌, ◌⊎◌, Bool, true, List, [], ◌∷◌, ◌++◌, map, slice_get, find, Contains, Option, Some, None, option_map, option_to_list, IsTrue, is_none, if◌then◌else◌, ⊤}
+use Rattle.std.specs.Prelude.{◌≡◌, ℕ, ◌<◌, ◌≤◌, ◌⊎◌, Bool, true, List, [], ◌∷◌, ◌++◌, map, slice_get, find, Contains, Option, Some, None, option_map, option_to_list, IsTrue, is_none, if◌then◌else◌, ⊤}
 use Rattle.bl_tree.specs.declared.place.Place.{Place}
 use Rattle.bl_tree.specs.declared.tree.Expr.{Expr, out-Expr}
 use Rattle.bl_tree.specs.declared.tree.ExprKind.{out-ExprKind}
@@ -13,51 +13,58 @@ use Rattle.bl_tree.specs.declared.tree.Var.{Var}
 use Rattle.bl_tree.specs.Reduce.{all_of, joined}
 use Rattle.bl_tree.specs.Types.{scalar_in}
 use Rattle.bl_tree.specs.Typing.{is_activity}
-use Rattle.bl_effects.specs.declared.spot.Spot.{Spot}
-use Rattle.bl_effects.specs.declared.spot.Spot.TheVariants.{Stands, Target, Output}
+use Rattle.bl_effects.specs.declared.marked.Marked.{Marked}
 use Rattle.bl_effects.specs.declared.static_path.Static.{Static}
 use Rattle.bl_effects.specs.Effects.{target_static}
 use Rattle.bl_effects.specs.Instant.{Ends, kind_instant, is_instant_block}
-use Rattle.bl_effects.specs.Static.{overlaps, set_of, static_of}
+use Rattle.bl_effects.specs.Static.{overlaps, static_of}
 
 -- ---- Pause: an activity's body may end in the tick in which it begins; at the activity's name
 
-pub record FailsPause (units : List UnitDef) (at : Spot) (also : List Spot) : Type 0 where
+pub record FailsPause (units : List UnitDef) (at : Place) (also : List Place) : Type 0 where
   pub unit : UnitDef
   pub is_there : Contains units unit
   pub activity : IsTrue (is_activity unit.kind)
   pub ends : IsTrue (is_instant_block unit.body)
-  pub at_name : at ≡ Stands unit.place
+  pub at_name : at ≡ unit.place
   pub alone : also ≡ []
 
 -- ---- Conflict: acts in two branches of one `cobegin` write overlapping static paths
 
--- an assignment, a call or a `run`: its place and the set of the static paths that it writes
-pub record Act : Type 0 where
-  pub place : Place
-  pub writes : List Static
+-- a branch of a `cobegin`: what the acts in it write, and what those in the branches before it do
+pub record Split : Type 0 where
+  pub earlier : List Marked
+  pub writes : List Marked
 
--- what stands in a statement: its acts in source order, and its `cobegin` statements, each as its branches' acts
+-- what stands in a statement: what its acts write, in source order, and the branches of its `cobegin` statements
 pub record Parallel : Type 0 where
-  pub acts : List Act
-  pub cobegins : List (List (List Act))
+  pub writes : List Marked
+  pub splits : List Split
 
 -- statements one after another
 abbrev pub together : List Parallel → Parallel
-together parts = record { acts = joined (map (λ part. part.acts) parts); cobegins = joined (map (λ part. part.cobegins) parts) }
+together parts = record { writes = joined (map (λ part. part.writes) parts); splits = joined (map (λ part. part.splits) parts) }
 
--- one act
+-- one after the other
+abbrev pub beside : Parallel → Parallel → Parallel
+beside one other = record { writes = one.writes ++ other.writes; splits = one.splits ++ other.splits }
+
+-- one act: an assignment, a call or a `run` at the place, which writes these
 abbrev pub acting : Place → List Static → Parallel
-acting place written = record { acts = record { place = place; writes = set_of written } ∷ []; cobegins = [] }
+acting place written = record { writes = map (λ path. record { place = place; path = path }) written; splits = [] }
 
 -- nothing
 abbrev pub still : Parallel
-still = record { acts = []; cobegins = [] }
+still = record { writes = []; splits = [] }
 
--- a `cobegin` of these branches, beside those that stand in them
+-- the branches after some that write this, each with the branches that stand in it before it
+abbrev pub splits_after : List Marked → List Parallel → List Split
+splits_after before [] = []
+splits_after before (branch ∷ rest) = branch.splits ++ record { earlier = before; writes = branch.writes } ∷ splits_after (before ++ branch.writes) rest
+
+-- a `cobegin` of these branches
 abbrev pub of_branches : List Parallel → Parallel
-of_branches branches = let all = together branches in
-    record { acts = all.acts; cobegins = map (λ branch. branch.acts) branches ∷ all.cobegins }
+of_branches branches = record { writes = joined (map (λ branch. branch.writes) branches); splits = splits_after [] branches }
 
 -- a declaration is no act: what it declares is named in no other branch
 abbrev pub kind_parallel : StmtKind-F (Place → Parallel) Parallel Parallel Parallel → Place → Parallel
@@ -66,7 +73,7 @@ kind_parallel (StmtKind-F.Assign path e) place = acting place (static_of path �
 kind_parallel (StmtKind-F.Call f inputs outputs) place = acting place (map static_of outputs)
 kind_parallel (StmtKind-F.Await e) place = still
 kind_parallel (StmtKind-F.Run target a inputs outputs) place = acting place (target_static target ++ map static_of outputs)
-kind_parallel (StmtKind-F.If arms other) place = together (arms ++ other)
+kind_parallel (StmtKind-F.If arms other) place = beside (together arms) (together other)
 kind_parallel (StmtKind-F.Cobegin branches) place = of_branches branches
 kind_parallel (StmtKind-F.When guard e body) place = together body
 kind_parallel (StmtKind-F.Repeat body) place = together body
@@ -86,148 +93,101 @@ stmt_parallel s = s.what s.place
 abbrev pub parallel_of : Stmt → Parallel
 parallel_of = fold-Stmt (Place → Parallel) Parallel Parallel Parallel kind_parallel arm_parallel branch_parallel stmt_parallel
 
--- the `cobegin` statements of a unit, at any depth
-abbrev pub cobegins_of : UnitDef → List (List (List Act))
-cobegins_of unit = (together (map parallel_of unit.body)).cobegins
+-- the branches of the `cobegin` statements of a unit, at any depth
+abbrev pub splits_of : UnitDef → List Split
+splits_of unit = (together (map parallel_of unit.body)).splits
 
--- the variable is the root of overlapping static paths that both acts write
-pub record IsCommonRoot (first second : Act) (root : ℕ) : Type 0 where
-  pub one : Static
-  pub in_first : Contains first.writes one
-  pub other : Static
-  pub in_second : Contains second.writes other
-  pub overlap : IsTrue (overlaps one other)
-  pub its_root : one.root ≡ root
-
--- the first declared of the roots that both acts write
-pub record IsFirstCommonRoot (first second : Act) (root : ℕ) : Type 0 where
-  pub common : IsCommonRoot first second root
-  pub least : (other : ℕ) → IsCommonRoot first second other → root ≤ other
-
--- the acts stand in two branches of one `cobegin` of the unit, the first in the earlier branch
-pub record StandApart (unit : UnitDef) (first second : Act) : Type 0 where
-  pub branches : List (List Act)
-  pub is_there : Contains (cobegins_of unit) branches
-  pub i : ℕ
-  pub j : ℕ
-  pub earlier : i < j
-  pub one : List Act
-  pub one_stands : slice_get branches i ≡ Some one
-  pub in_one : Contains one first
-  pub other : List Act
-  pub other_stands : slice_get branches j ≡ Some other
-  pub in_other : Contains other second
-
--- at the act in the earlier branch; also that in the later branch, and the root's declaration
-pub record FailsConflict (units : List UnitDef) (at : Spot) (also : List Spot) : Type 0 where
+-- at the act in the earlier branch; also that in the later branch, and the declaration of a root that both write
+pub record FailsConflict (units : List UnitDef) (at : Place) (also : List Place) : Type 0 where
   pub unit : UnitDef
   pub is_there : Contains units unit
-  pub first : Act
-  pub second : Act
-  pub apart : StandApart unit first second
-  pub root : ℕ
-  pub common : IsFirstCommonRoot first second root
+  pub split : Split
+  pub stands : Contains (splits_of unit) split
+  pub first : Marked
+  pub in_earlier : Contains split.earlier first
+  pub second : Marked
+  pub in_later : Contains split.writes second
+  pub overlap : IsTrue (overlaps first.path second.path)
   pub var : Var
-  pub declared : slice_get unit.vars root ≡ Some var
-  pub at_first : at ≡ Stands first.place
-  pub at_second : also ≡ Stands second.place ∷ Stands var.place ∷ []
+  pub declared : slice_get unit.vars second.path.root ≡ Some var
+  pub at_first : at ≡ first.place
+  pub at_second : also ≡ second.place ∷ var.place ∷ []
 
 -- ---- Alias: an output of a call or `run` overlaps an earlier output or an aggregate input, or a target overlaps an output
 
--- a call statement or a `run`
-pub record Call : Type 0 where
-  pub place : Place
-  pub target : Option Path
-  pub inputs : List Expr
-  pub outputs : List Path
+-- a path with its place
+abbrev pub marked_path : Path → Marked
+marked_path path = record { place = (out-Path path).place; path = static_of path }
 
-abbrev pub kind_calls : StmtKind-F (Place → List Call) (List Call) (List Call) (List Call) → Place → List Call
-kind_calls (StmtKind-F.Declare k initial) place = []
-kind_calls (StmtKind-F.Assign path e) place = []
-kind_calls (StmtKind-F.Call f inputs outputs) place = record { place = place; target = None; inputs = inputs; outputs = outputs } ∷ []
-kind_calls (StmtKind-F.Await e) place = []
-kind_calls (StmtKind-F.Run target a inputs outputs) place = record { place = place; target = target; inputs = inputs; outputs = outputs } ∷ []
-kind_calls (StmtKind-F.If arms other) place = joined arms ++ joined other
-kind_calls (StmtKind-F.Cobegin branches) place = joined branches
-kind_calls (StmtKind-F.When guard e body) place = joined body
-kind_calls (StmtKind-F.Repeat body) place = joined body
-kind_calls (StmtKind-F.Until body e) place = joined body
-kind_calls (StmtKind-F.While e body) place = joined body
-kind_calls (StmtKind-F.Return e) place = []
-
-abbrev pub arm_calls : Arm-F (Place → List Call) (List Call) (List Call) (List Call) → List Call
-arm_calls arm = joined arm.body
-
-abbrev pub branch_calls : Branch-F (Place → List Call) (List Call) (List Call) (List Call) → List Call
-branch_calls branch = joined branch.body
-
-abbrev pub stmt_calls : Stmt-F (Place → List Call) (List Call) (List Call) (List Call) → List Call
-stmt_calls s = s.what s.place
-
--- the call statements and `run` statements in a statement, in source order
-abbrev pub calls_in : Stmt → List Call
-calls_in = fold-Stmt (Place → List Call) (List Call) (List Call) (List Call) kind_calls arm_calls branch_calls stmt_calls
-
-abbrev pub calls_of : UnitDef → List Call
-calls_of unit = joined (map calls_in unit.body)
-
--- a static path, and the argument or target that has it
-pub record Marked : Type 0 where
-  pub static : Static
-  pub spot : Spot
-
-abbrev pub marked_outputs_from : Place → ℕ → List Path → List Marked
-marked_outputs_from place k [] = []
-marked_outputs_from place k (path ∷ rest) = record { static = static_of path; spot = Output place k } ∷ marked_outputs_from place (k + 1) rest
-
--- the outputs in order
-abbrev pub marked_outputs : Call → List Marked
-marked_outputs call = marked_outputs_from call.place 0 call.outputs
-
-abbrev pub marked_aggregate : {A B C : Type 0} → Place → ExprKind-F A B C Path → Option Marked
-marked_aggregate place (ExprKind-F.Read path) =
-    if is_none (scalar_in (out-Path path).ty) then Some (record { static = static_of path; spot = Stands place }) else None
-marked_aggregate place _ = None
+abbrev pub marked_aggregate : {A B C : Type 0} → Place → ExprKind-F A B C Path → List Marked
+marked_aggregate place (ExprKind-F.Read path) = if is_none (scalar_in (out-Path path).ty) then record { place = place; path = static_of path } ∷ [] else []
+marked_aggregate place _ = []
 
 -- an input, where it is an aggregate: it is a path then
-abbrev pub marked_input : Expr → Option Marked
+abbrev pub marked_input : Expr → List Marked
 marked_input e = marked_aggregate (out-Expr e).place (out-ExprKind (out-Expr e).what)
 
 -- the aggregate inputs in order
-abbrev pub marked_inputs : Call → List Marked
-marked_inputs call = joined (map (λ e. option_to_list (marked_input e)) call.inputs)
+abbrev pub marked_inputs : List Expr → List Marked
+marked_inputs inputs = joined (map marked_input inputs)
 
--- the target
-abbrev pub marked_target : Call → List Marked
-marked_target call = map (λ static. record { static = static; spot = Target call.place }) (target_static call.target)
-
--- a failure of the rule: where, and the further spot
+-- a failure of the rule: where, and the further place
 pub record Aliased : Type 0 where
-  pub at : Spot
-  pub also : Spot
+  pub at : Place
+  pub also : Place
 
 -- the failure of what overlaps one of the others: the first of them is named beside it
 abbrev pub aliased_with : List Marked → Marked → List Aliased
 aliased_with others one =
-    option_to_list (option_map (λ other. record { at = one.spot; also = other.spot }) (find (λ other. overlaps one.static other.static) others))
+    option_to_list (option_map (λ other. record { at = one.place; also = other.place }) (find (λ other. overlaps one.path other.path) others))
 
--- those of the outputs: each is compared with the outputs before it, and then with the aggregate inputs
+-- those of outputs that come after these: each is compared with the outputs before it, and then with the aggregate inputs
 abbrev pub outputs_aliased : List Marked → List Marked → List Marked → List Aliased
 outputs_aliased inputs before [] = []
 outputs_aliased inputs before (output ∷ rest) = aliased_with (before ++ inputs) output ++ outputs_aliased inputs (before ++ output ∷ []) rest
 
--- all failures of a call or `run`, in source order: its target is compared with its outputs
-abbrev pub aliases_of : Call → List Aliased
-aliases_of call = joined (map (aliased_with (marked_outputs call)) (marked_target call)) ++ outputs_aliased (marked_inputs call) [] (marked_outputs call)
+-- that of the target, which is compared with the outputs
+abbrev pub target_aliased : List Marked → Option Path → List Aliased
+target_aliased outputs (Some target) = aliased_with outputs (marked_path target)
+target_aliased outputs None = []
+
+-- all failures of a call or `run` with this target, these inputs and these outputs
+abbrev pub aliases_of : Option Path → List Expr → List Path → List Aliased
+aliases_of target inputs outputs = target_aliased (map marked_path outputs) target ++ outputs_aliased (marked_inputs inputs) [] (map marked_path outputs)
+
+abbrev pub kind_aliases : StmtKind-F (List Aliased) (List Aliased) (List Aliased) (List Aliased) → List Aliased
+kind_aliases (StmtKind-F.Declare k initial) = []
+kind_aliases (StmtKind-F.Assign path e) = []
+kind_aliases (StmtKind-F.Call f inputs outputs) = aliases_of None inputs outputs
+kind_aliases (StmtKind-F.Await e) = []
+kind_aliases (StmtKind-F.Run target a inputs outputs) = aliases_of target inputs outputs
+kind_aliases (StmtKind-F.If arms other) = joined arms ++ joined other
+kind_aliases (StmtKind-F.Cobegin branches) = joined branches
+kind_aliases (StmtKind-F.When guard e body) = joined body
+kind_aliases (StmtKind-F.Repeat body) = joined body
+kind_aliases (StmtKind-F.Until body e) = joined body
+kind_aliases (StmtKind-F.While e body) = joined body
+kind_aliases (StmtKind-F.Return e) = []
+
+abbrev pub arm_aliases : Arm-F (List Aliased) (List Aliased) (List Aliased) (List Aliased) → List Aliased
+arm_aliases arm = joined arm.body
+
+abbrev pub branch_aliases : Branch-F (List Aliased) (List Aliased) (List Aliased) (List Aliased) → List Aliased
+branch_aliases branch = joined branch.body
+
+abbrev pub stmt_aliases : Stmt-F (List Aliased) (List Aliased) (List Aliased) (List Aliased) → List Aliased
+stmt_aliases s = s.what
+
+-- the failures of the call statements and `run` statements in a statement
+abbrev pub aliases_in : Stmt → List Aliased
+aliases_in = fold-Stmt (List Aliased) (List Aliased) (List Aliased) (List Aliased) kind_aliases arm_aliases branch_aliases stmt_aliases
 
 -- at the output or target; also what it overlaps, an output before an input and the first of several
-pub record FailsAlias (units : List UnitDef) (at : Spot) (also : List Spot) : Type 0 where
+pub record FailsAlias (units : List UnitDef) (at : Place) (also : List Place) : Type 0 where
   pub unit : UnitDef
   pub is_there : Contains units unit
-  pub call : Call
-  pub stands : Contains (calls_of unit) call
   pub aliased : Aliased
-  pub fails : Contains (aliases_of call) aliased
+  pub fails : Contains (joined (map aliases_in unit.body)) aliased
   pub at_one : at ≡ aliased.at
   pub at_other : also ≡ aliased.also ∷ []
 
@@ -249,9 +209,9 @@ block_loops body = joined (map (λ s. s.places) body)
 abbrev pub block_ends : List Loops → Bool
 block_ends body = all_of (map (λ s. s.instant) body)
 
--- a loop at the place, where its body may end at once, before those in its body
+-- those in the body of a loop at the place, and the loop itself where its body may end at once
 abbrev pub loop_places : Place → List Loops → List Place
-loop_places place body = if block_ends body then place ∷ block_loops body else block_loops body
+loop_places place body = block_loops body ++ (if block_ends body then place ∷ [] else [])
 
 abbrev pub kind_loop_places : {A : Type 0} → StmtKind-F A Loops BranchLoops Loops → Place → List Place
 kind_loop_places (StmtKind-F.Declare k initial) place = []
@@ -291,57 +251,41 @@ abbrev pub instant_loops : UnitDef → List Place
 instant_loops unit = block_loops (map loops_in unit.body)
 
 -- at the loop
-pub record FailsInstant (units : List UnitDef) (at : Spot) (also : List Spot) : Type 0 where
+pub record FailsInstant (units : List UnitDef) (at : Place) (also : List Place) : Type 0 where
   pub unit : UnitDef
   pub is_there : Contains units unit
   pub activity : IsTrue (is_activity unit.kind)
   pub place : Place
   pub loops : Contains (instant_loops unit) place
-  pub at_loop : at ≡ Stands place
+  pub at_loop : at ≡ place
   pub alone : also ≡ []
 
 -- ---- the first of them
 
--- the rule of this number fails at this spot, with these further spots
-abbrev pub Fails : List UnitDef → ℕ → Spot → List Spot → Type 0
+-- the rule of this number fails at this place, with these further places
+abbrev pub Fails : List UnitDef → ℕ → Place → List Place → Type 0
 Fails units number at also =
     ((number ≡ 18) × FailsPause units at also)
     ⊎ (((number ≡ 19) × FailsConflict units at also)
     ⊎ (((number ≡ 20) × FailsAlias units at also) ⊎ ((number ≡ 21) × FailsInstant units at also)))
 
--- the place of what is named, or of the statement that it belongs to
-abbrev pub place_in : Spot → Place
-place_in (Stands place) = place
-place_in (Target place) = place
-place_in (Output place k) = place
+-- the place comes before the other: by their starts, and then by their ends
+abbrev pub IsBefore : Place → Place → Type 0
+IsBefore one other = (one.start < other.start) ⊎ ((one.start ≡ other.start) × (one.end < other.end))
 
--- where it stands among what is named by one statement: a target stands before the outputs
-abbrev pub rank_in : Spot → ℕ
-rank_in (Stands place) = 0
-rank_in (Target place) = 0
-rank_in (Output place k) = k + 1
+-- the places come no later than the others: the first that differ decide
+abbrev pub AreNoLater : List Place → List Place → Type 0
+AreNoLater [] others = ⊤
+AreNoLater (one ∷ rest) [] = ⊥
+AreNoLater (one ∷ rest) (other ∷ others) = IsBefore one other ⊎ ((one ≡ other) × AreNoLater rest others)
 
--- a spot is no later than another: by their starts, then by their ends, then by their order in the statement
-abbrev pub IsNoLater : Spot → Spot → Type 0
-IsNoLater one other =
-    ((place_in one).start < (place_in other).start)
-    ⊎ (((place_in one).start ≡ (place_in other).start)
-    × (((place_in one).end < (place_in other).end)
-    ⊎ (((place_in one).end ≡ (place_in other).end) × (rank_in one ≤ rank_in other))))
-
--- the first further spot is no later than that of the other
-abbrev pub LeadsNoLater : List Spot → List Spot → Type 0
-LeadsNoLater (one ∷ rest) (other ∷ others) = IsNoLater one other
-LeadsNoLater _ _ = ⊤
-
--- the rule fails at the spot with the further spots, no lesser rule fails, this rule fails at no earlier spot, and at this spot
--- with no earlier first further spot
-pub record FailsFirst (units : List UnitDef) (number : ℕ) (at : Spot) (also : List Spot) : Type 0 where
+-- the rule fails at the place with the further places, no lesser rule fails, and this rule fails at no earlier place, and at
+-- this place with no earlier further places
+pub record FailsFirst (units : List UnitDef) (number : ℕ) (at : Place) (also : List Place) : Type 0 where
   pub fails : Fails units number at also
-  pub least_rule : (other : ℕ) (elsewhere : Spot) (further : List Spot) → Fails units other elsewhere further → number ≤ other
-  pub least_spot : (elsewhere : Spot) (further : List Spot) → Fails units number elsewhere further → IsNoLater at elsewhere
-  pub least_further : (further : List Spot) → Fails units number at further → LeadsNoLater also further
+  pub least_rule : (other : ℕ) (elsewhere : Place) (further : List Place) → Fails units other elsewhere further → number ≤ other
+  pub least_places : (elsewhere : Place) (further : List Place) → Fails units number elsewhere further → AreNoLater (at ∷ also) (elsewhere ∷ further)
 
 -- none of the four rules fails
 abbrev pub Passes : List UnitDef → Type 0
-Passes units = (number : ℕ) (at : Spot) (also : List Spot) → ¬ Fails units number at also
+Passes units = (number : ℕ) (at : Place) (also : List Place) → ¬ Fails units number at also

@@ -4,14 +4,15 @@
 
 mod gather;
 pub mod laws;
+mod marked;
 mod mentions;
 mod sets;
-mod spot;
 mod static_path;
 mod table;
 #[cfg(test)]
 mod tests;
 
-pub use spot::Spot;
+pub use marked::Marked;
+pub use mentions::static_of;
 pub use static_path::Static;
 pub use table::Effects;

@@ -1,0 +1,3 @@
+pub mod Cause
+pub mod Failures
+pub mod Roots

@@ -1,0 +1,289 @@
+//! Rule Conflict: acts in two branches of one `cobegin` that write overlapping static paths.
+#![tactic(auto, using(crate::proofs::FirstLemmas::firsts))]
+
+ghost use Rattle.std.specs.BTreeSet.{contains};
+ghost use Rattle.std.specs.Ordering.{nat_cmp};
+ghost use Rattle.std.specs.Prelude.{◌≡◌, ◌≤◌, ◌++◌, ◌∷◌, ℕ, List as Elements, true, [], None, length, map, take, drop, IfOk, OnOk};
+ghost use Rattle.bl_conflict.specs.Failures.{all_clashes, clashes, clash_of, clashes_at, clashes_with, clashes_of_unit, conflict_failures, itself, least_by, parallel_of_arm, parallel_of_branch, written};
+ghost use Rattle.bl_effects.specs.declared.marked.Marked.{Marked as MarkedPath};
+ghost use Rattle.bl_conflict.specs.Roots.{Knows};
+ghost use Rattle.bl_effects.specs.Effects.{target_static};
+ghost use Rattle.bl_effects.specs.Rules.{Split, parallel_of, splits_after, together};
+ghost use Rattle.bl_effects.specs.Static.{static_of};
+
+use crate::failure::{Failure, lesser};
+use crate::marks::overlaps;
+use bl_effects::{Marked, static_of};
+use bl_tree::tree::{Arm, Branch, Path, Stmt, StmtKind, Unit, Var};
+use bl_tree::{List, NoMemory, Place};
+use std::alloc::{AllocError, Global};
+use std::collections::BTreeSet;
+
+/// The first pair of acts that conflict, with the declaration of a root that both write.
+pub fn first(alloc: Global, units: &[Unit]) -> Result<Option<Failure>, NoMemory>
+    ensures { IfOk result (λ best. best ≡ least_by itself None (conflict_failures units.now)) }
+{
+    let mut best = None;
+    for unit in units {
+        best = judge(alloc, unit, best)?;
+    }
+    Ok(best)
+}
+
+fn judge(alloc: Global, unit: &Unit, best: Option<Failure>) -> Result<Option<Failure>, NoMemory>
+    ensures { IfOk result (λ found. found ≡ least_by itself best (clashes_of_unit unit.now)) }
+{
+    let mut writes = List::new(alloc);
+    block(alloc, &unit.vars, &unit.body, &mut writes, best)
+}
+
+/// Appends what the acts in the block write, and looks at each `cobegin` in it.
+#[cycle(acts)]
+fn block(
+    alloc: Global,
+    vars: &[Var],
+    body: &[Stmt],
+    writes: &mut List<Marked>,
+    best: Option<Failure>,
+) -> Result<Option<Failure>, NoMemory>
+    ensures writes { OnOk result (writes.new ≡ writes.old ++ (together (map parallel_of body.now)).writes) }
+    ensures best { IfOk result (λ found. found ≡ least_by itself best (all_clashes vars.now (together (map parallel_of body.now)).splits)) }
+{
+    let mut best = best;
+    for s in body {
+        best = statement(alloc, vars, s, writes, best)?;
+    }
+    Ok(best)
+}
+
+#[cycle(acts)]
+fn statement(
+    alloc: Global,
+    vars: &[Var],
+    s: &Stmt,
+    writes: &mut List<Marked>,
+    best: Option<Failure>,
+) -> Result<Option<Failure>, NoMemory>
+    ensures writes { OnOk result (writes.new ≡ writes.old ++ (parallel_of s.now).writes) }
+    ensures best { IfOk result (λ found. found ≡ least_by itself best (all_clashes vars.now (parallel_of s.now).splits)) }
+{
+    match &s.what {
+        StmtKind::Declare(_, _) | StmtKind::Await(_) | StmtKind::Return(_) => Ok(best),
+        StmtKind::Assign(path, _) => {
+            write(alloc, s.place, path, writes)?;
+            Ok(best)
+        }
+        StmtKind::Call(_, _, outputs) => {
+            write_all(alloc, s.place, outputs, writes)?;
+            Ok(best)
+        }
+        StmtKind::Run(target, _, _, outputs) => {
+            write_target(alloc, s.place, target, writes)?;
+            write_all(alloc, s.place, outputs, writes)?;
+            Ok(best)
+        }
+        StmtKind::If(all, other) => {
+            let best = arms(alloc, vars, all, writes, best)?;
+            block(alloc, vars, other, writes, best)
+        }
+        StmtKind::Cobegin(all) => branches(alloc, vars, all, writes, best),
+        StmtKind::When(_, _, body)
+        | StmtKind::Repeat(body)
+        | StmtKind::Until(body, _)
+        | StmtKind::While(_, body) => block(alloc, vars, body, writes, best),
+    }
+}
+
+#[cycle(acts)]
+fn arms(
+    alloc: Global,
+    vars: &[Var],
+    all: &[Arm],
+    writes: &mut List<Marked>,
+    best: Option<Failure>,
+) -> Result<Option<Failure>, NoMemory>
+    ensures writes { OnOk result (writes.new ≡ writes.old ++ (together (map parallel_of_arm all.now)).writes) }
+    ensures best { IfOk result (λ found. found ≡ least_by itself best (all_clashes vars.now (together (map parallel_of_arm all.now)).splits)) }
+{
+    let mut best = best;
+    for arm in all {
+        best = block(alloc, vars, &arm.body, writes, best)?;
+    }
+    Ok(best)
+}
+
+/// Each branch, and then its writes beside those of the branches before it.
+#[cycle(acts)]
+fn branches(
+    alloc: Global,
+    vars: &[Var],
+    all: &[Branch],
+    writes: &mut List<Marked>,
+    best: Option<Failure>,
+) -> Result<Option<Failure>, NoMemory>
+    ensures writes { OnOk result (writes.new ≡ writes.old ++ (together (map parallel_of_branch all.now)).writes) }
+    ensures best { IfOk result (λ found. found ≡ least_by itself best (all_clashes vars.now (splits_after [] (map parallel_of_branch all.now)))) }
+{
+    let start = writes.len();
+    let mut roots = BTreeSet::new(alloc);
+    let mut best = best;
+    for branch in all {
+        let mark = writes.len();
+        best = block(alloc, vars, &branch.body, writes, best)?;
+        best = clash(vars, &roots, writes, start, mark, best);
+        note(&mut roots, &writes[mark..])?;
+    }
+    Ok(best)
+}
+
+/// Adds the roots of what is written.
+fn note(roots: &mut BTreeSet<u32>, writes: &[Marked]) -> Result<(), NoMemory>
+    ensures knows { OnOk result (Knows roots.new writes.now) }
+    ensures keeps { OnOk result ((earlier : Elements MarkedPath) → Knows roots.old earlier → Knows roots.new earlier) }
+{
+    for write in writes {
+        add_root(roots, write.path.root)?;
+    }
+    Ok(())
+}
+
+fn add_root(roots: &mut BTreeSet<u32>, root: u32) -> Result<(), NoMemory>
+    ensures has { OnOk result (contains nat_cmp roots.new root ≡ true) }
+    ensures keeps { OnOk result ((q : ℕ) → contains nat_cmp roots.old q ≡ true → contains nat_cmp roots.new q ≡ true) }
+{
+    match roots.insert(root) {
+        Ok(_) => Ok(()),
+        Err(e) => Err(AllocError::from(e).into()),
+    }
+}
+
+/// Compares what is written from `mark` on with what is written from `start` to `mark`, whose roots are known.
+fn clash(
+    vars: &[Var],
+    roots: &BTreeSet<u32>,
+    writes: &[Marked],
+    start: usize,
+    mark: usize,
+    best: Option<Failure>,
+) -> Option<Failure>
+    requires from { start ≤ mark }
+    requires to { mark ≤ length writes.now }
+    requires known { Knows roots.now (drop start (take mark writes.now)) }
+    ensures { result ≡ least_by itself best (clashes vars.now (record { earlier = drop start (take mark writes.now); writes = drop mark writes.now })) }
+{
+    let earlier = &writes[..mark];
+    let earlier = &earlier[start..];
+    clash_all(vars, roots, earlier, &writes[mark..], best)
+}
+
+fn clash_all(
+    vars: &[Var],
+    roots: &BTreeSet<u32>,
+    earlier: &[Marked],
+    writes: &[Marked],
+    best: Option<Failure>,
+) -> Option<Failure>
+    requires { Knows roots.now earlier.now }
+    ensures { result ≡ least_by itself best (clashes vars.now (record { earlier = earlier.now; writes = writes.now })) }
+{
+    let mut best = best;
+    for second in writes {
+        best = clash_with(vars, roots, earlier, second, best);
+    }
+    best
+}
+
+/// Compares one write with those of earlier branches, where one of them has its root. None fails whose root has no
+/// declaration.
+fn clash_with(
+    vars: &[Var],
+    roots: &BTreeSet<u32>,
+    earlier: &[Marked],
+    second: &Marked,
+    best: Option<Failure>,
+) -> Option<Failure>
+    requires { Knows roots.now earlier.now }
+    ensures { result ≡ least_by itself best (clashes_with vars.now earlier.now second.now) }
+{
+    if !roots.contains(&second.path.root) {
+        return best;
+    }
+    match vars.get(second.path.root as usize) {
+        Some(var) => clash_one(var.place, earlier, second, best),
+        None => best,
+    }
+}
+
+fn clash_one(
+    declared: Place,
+    earlier: &[Marked],
+    second: &Marked,
+    best: Option<Failure>,
+) -> Option<Failure>
+    ensures { result ≡ least_by itself best (clashes_at declared earlier.now second.now) }
+{
+    let mut best = best;
+    for first in earlier {
+        best = clash_pair(declared, first, second, best);
+    }
+    best
+}
+
+fn clash_pair(
+    declared: Place,
+    first: &Marked,
+    second: &Marked,
+    best: Option<Failure>,
+) -> Option<Failure>
+    ensures { result ≡ least_by itself best (clash_of declared second.now first.now) }
+{
+    if !overlaps(&first.path, &second.path) {
+        return best;
+    }
+    lesser(
+        best,
+        Failure {
+            at: first.place,
+            second: second.place,
+            third: declared,
+        },
+    )
+}
+
+fn write(alloc: Global, at: Place, path: &Path, writes: &mut List<Marked>) -> Result<(), NoMemory>
+    ensures { OnOk result (writes.new ≡ writes.old ++ written at (static_of path.now) ∷ []) }
+{
+    writes.push(Marked {
+        place: at,
+        path: static_of(alloc, path)?,
+    })?;
+    Ok(())
+}
+
+fn write_target(
+    alloc: Global,
+    at: Place,
+    target: &Option<Path>,
+    writes: &mut List<Marked>,
+) -> Result<(), NoMemory>
+    ensures { OnOk result (writes.new ≡ writes.old ++ map (written at) (target_static target.now)) }
+{
+    match target {
+        Some(path) => write(alloc, at, path, writes),
+        None => Ok(()),
+    }
+}
+
+fn write_all(
+    alloc: Global,
+    at: Place,
+    outputs: &[Path],
+    writes: &mut List<Marked>,
+) -> Result<(), NoMemory>
+    ensures { OnOk result (writes.new ≡ writes.old ++ map (written at) (map static_of outputs.now)) }
+{
+    for path in outputs {
+        write(alloc, at, path, writes)?;
+    }
+    Ok(())
+}
