@@ -1,0 +1,5 @@
+//! The parallel meaning of programs: control trees, their steps, and the traces that all interleavings allow
+//! (docs/LANGUAGE.md, "How a program runs").
+#![tactic(auto)]
+
+pub mod laws;
