@@ -1,5 +1,5 @@
 -- Elements of lists: of a list of images, of two lists one behind the other, and of those that pass a test.
-use Rattle.std.proofs.Common.{◌≡◌, ℕ, Bool, true, false, not, List, [], ◌∷◌, ◌++◌, map, refl, sym, ap, subst, filter, cond}
+use Rattle.std.proofs.Common.{◌≡◌, ℕ, Bool, true, false, not, List, [], ◌∷◌, ◌++◌, map, refl, sym, ap, subst, filter, cond, ◌⊎◌, inl, inr}
 use Rattle.bl_ctree.specs.Points.{Among, here, there}
 
 pub among-map : {A B : Type 0} (f : A → B) {x : A} {xs : List A} → Among A x xs → Among B (f x) (map f xs)
@@ -44,19 +44,20 @@ pub record Passing (A : Type 0) (test : A → Bool) (xs : List A) (x : A) : Type
 passing_there : {A : Type 0} {test : A → Bool} {x y : A} {xs : List A} → Passing A test xs x → Passing A test (y ∷ xs) x
 passing_there p = record { among = there p.among; passes = p.passes }
 
+filter_step : {A : Type 0} (test : A → Bool) (y : A) (xs : List A) {x : A} → (Among A x (filter test xs) → Passing A test xs x) →
+    (b : Bool) → test y ≡ b → Among A x (cond b (y ∷ filter test xs) (filter test xs)) → Passing A test (y ∷ xs) x
+filter_step test y xs rest true e here = record { among = here; passes = e }
+filter_step test y xs rest true e (there m) = passing_there (rest m)
+filter_step test y xs rest false e m = passing_there (rest m)
+
 pub of-filter : {A : Type 0} (test : A → Bool) (xs : List A) {x : A} → Among A x (filter test xs) → Passing A test xs x
 of-filter test [] m = elim m [ ]
-of-filter test (y ∷ xs) m = go (test y) refl m
-  where
-    go : (b : Bool) → test y ≡ b → {x : _} → Among _ x (cond b (y ∷ filter test xs) (filter test xs)) → Passing _ test (y ∷ xs) x
-    go true e here = record { among = here; passes = e }
-    go true e (there m) = passing_there (of-filter test xs m)
-    go false e m = passing_there (of-filter test xs m)
+of-filter test (y ∷ xs) m = filter_step test y xs (λ n. of-filter test xs n) (test y) refl m
 
-among_if : {A : Type 0} {x : A} {xs : List A} (b : Bool) {y : A} → Among A x xs → Among A x (cond b (y ∷ xs) xs)
-among_if true m = there m
-among_if false m = m
+among_if : {A : Type 0} {x : A} {xs : List A} (b : Bool) (y : A) → Among A x xs → Among A x (cond b (y ∷ xs) xs)
+among_if true y m = there m
+among_if false y m = m
 
 pub among-filter : {A : Type 0} (test : A → Bool) {x : A} {xs : List A} → Among A x xs → test x ≡ true → Among A x (filter test xs)
-among-filter test (here {xs}) e = subst (λ b. Among _ _ (cond b (_ ∷ filter test xs) (filter test xs))) (sym e) here
-among-filter test (there {y} {xs} m) e = among_if (test y) (among-filter test m e)
+among-filter {A} test {x} (here {xs}) e = subst (λ b. Among A x (cond b (x ∷ filter test xs) (filter test xs))) (sym e) here
+among-filter test (there {y} {xs} m) e = among_if (test y) y (among-filter test m e)

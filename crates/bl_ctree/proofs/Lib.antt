@@ -1,3 +1,4 @@
+mod Bools
 mod Elements
 mod Listing
 mod Settling
