@@ -1,28 +1,27 @@
 -- The activity instances of a program. The entry is instance 0, and each `run` statement of an instance is a further one.
-use Rattle.std.specs.Prelude.{ℕ, zero, suc, ◌+◌, Bool, not, ◌&&◌, nat_eq, List, [], ◌∷◌, ◌++◌, map, length, slice_get, Option, Some, None, option_and_then, filter, position, unwrap_or}
+use Rattle.std.specs.Prelude.{ℕ, zero, suc, ◌+◌, Bool, not, ◌&&◌, nat_eq, List, [], ◌∷◌, ◌++◌, map, length, slice_get, Option, Some, None, option_map, option_and_then, filter, position, unwrap_or}
 use Rattle.bl_tree.specs.declared.place.Place.{Place}
 use Rattle.bl_tree.specs.declared.program.Program.{Program}
-use Rattle.bl_tree.specs.declared.tree.Path.{Path}
+use Rattle.bl_tree.specs.declared.tree.Arm.{Arm, fold-Arm}
+use Rattle.bl_tree.specs.declared.tree.Branch.{Branch, fold-Branch}
 use Rattle.bl_tree.specs.declared.tree.Stmt.{Stmt, fold-Stmt}
 use Rattle.bl_tree.specs.declared.tree.StmtKind.TheOpen.{StmtKind-F, Arm-F, Branch-F, Stmt-F}
 use Rattle.bl_tree.specs.declared.tree.StructDef.{StructDef}
 use Rattle.bl_tree.specs.declared.tree.Unit.{Unit as UnitDef}
 use Rattle.bl_tree.specs.Reduce.{joined}
+use Rattle.bl_effects.specs.Static.{static_of}
+use Rattle.bl_ctree.specs.declared.instance.Instance.{Instance}
+use Rattle.bl_ctree.specs.declared.instance.Origin.{Origin}
+use Rattle.bl_ctree.specs.declared.instance.Run.{Run}
 
 -- ---- the `run` statements of a unit
-
--- a `run` statement: its place, the activity that it begins, and the paths for which the activity's outputs stand
-pub record Run : Type 0 where
-  pub place : Place
-  pub unit : ℕ
-  pub outputs : List Path
 
 abbrev pub kind_runs : StmtKind-F (Place → List Run) (List Run) (List Run) (List Run) → Place → List Run
 kind_runs (StmtKind-F.Declare k initial) place = []
 kind_runs (StmtKind-F.Assign path e) place = []
 kind_runs (StmtKind-F.Call f inputs outputs) place = []
 kind_runs (StmtKind-F.Await e) place = []
-kind_runs (StmtKind-F.Run target a inputs outputs) place = record { place = place; unit = a; outputs = outputs } ∷ []
+kind_runs (StmtKind-F.Run target a inputs outputs) place = record { place = place; unit = a; outputs = map static_of outputs } ∷ []
 kind_runs (StmtKind-F.If arms other) place = joined arms ++ joined other
 kind_runs (StmtKind-F.Cobegin branches) place = joined branches
 kind_runs (StmtKind-F.When guard e body) place = joined body
@@ -44,6 +43,12 @@ stmt_layer_runs s = s.what s.place
 abbrev pub runs_in : Stmt → List Run
 runs_in = fold-Stmt (Place → List Run) (List Run) (List Run) (List Run) kind_runs arm_runs branch_runs stmt_layer_runs
 
+abbrev pub runs_in_arm : Arm → List Run
+runs_in_arm = fold-Arm (Place → List Run) (List Run) (List Run) (List Run) kind_runs arm_runs branch_runs stmt_layer_runs
+
+abbrev pub runs_in_branch : Branch → List Run
+runs_in_branch = fold-Branch (Place → List Run) (List Run) (List Run) (List Run) kind_runs arm_runs branch_runs stmt_layer_runs
+
 abbrev pub same_place : Place → Place → Bool
 same_place a b = nat_eq a.start b.start && nat_eq a.end b.end
 
@@ -58,18 +63,6 @@ runs_of unit = one_a_place (joined (map runs_in unit.body))
 
 -- ---- instances
 
--- where an instance comes from: its caller's instance, and the place and the output paths of the `run` statement
-pub record Origin : Type 0 where
-  pub caller : ℕ
-  pub place : Place
-  pub outputs : List Path
-
--- an instance of an activity: the unit, how many callers it is below the entry, and where it comes from
-pub record Instance : Type 0 where
-  pub unit : ℕ
-  pub depth : ℕ
-  pub origin : Option Origin
-
 -- the origin of an instance that a `run` statement of instance 0 begins, or of one below it whose callers are numbered from n on
 abbrev pub origin_under : ℕ → Run → Option Origin → Option Origin
 origin_under n run None = Some (record { caller = 0; place = run.place; outputs = run.outputs })
@@ -78,25 +71,23 @@ origin_under n run (Some origin) = Some (record origin { caller = n + origin.cal
 abbrev pub called_from : ℕ → Run → Instance → Instance
 called_from n run instance = record { unit = instance.unit; depth = suc instance.depth; origin = origin_under n run instance.origin }
 
--- the instances below an activity, from number n on, where those of the earlier units are given
-abbrev pub instances_below : List (List Instance) → ℕ → List Run → List Instance
-instances_below earlier n [] = []
-instances_below earlier n (run ∷ rest) =
-    let inner = map (called_from n run) (unwrap_or (slice_get earlier run.unit) []) in
-    inner ++ instances_below earlier (n + length inner) rest
+-- the instances below an activity, from number n on, where those of an activity by itself are given
+abbrev pub instances_below : (ℕ → List Instance) → ℕ → List Run → List Instance
+instances_below alone n [] = []
+instances_below alone n (run ∷ rest) =
+    let inner = map (called_from n run) (alone run.unit) in
+    inner ++ instances_below alone (n + length inner) rest
 
--- the instances that a unit expands to: itself, then those of each of its `run` statements
-abbrev pub expanded : List (List Instance) → ℕ → UnitDef → List Instance
-expanded earlier k unit = record { unit = k; depth = 0; origin = None } ∷ instances_below earlier 1 (runs_of unit)
-
--- those of each unit: a unit runs earlier ones alone
-abbrev pub expanded_after : List (List Instance) → List UnitDef → List (List Instance)
-expanded_after earlier [] = earlier
-expanded_after earlier (unit ∷ rest) = expanded_after (earlier ++ expanded earlier (length earlier) unit ∷ []) rest
+-- the instances that a unit expands to: itself, then those of each of its `run` statements. A unit runs earlier ones alone,
+-- so chains of `run` statements are no longer than the unit's position
+abbrev pub expanded : List UnitDef → ℕ → ℕ → List Instance
+expanded units zero k = []
+expanded units (suc longest) k =
+    unwrap_or (option_map (λ unit. record { unit = k; depth = 0; origin = None } ∷ instances_below (expanded units longest) 1 (runs_of unit)) (slice_get units k)) []
 
 -- the instances that the unit at the position expands to
 abbrev pub instances_of : List UnitDef → ℕ → List Instance
-instances_of units entry = unwrap_or (slice_get (expanded_after [] units) entry) []
+instances_of units entry = expanded units (entry + 1) entry
 
 -- ---- a program with its instances
 

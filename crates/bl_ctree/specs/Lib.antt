@@ -4,6 +4,7 @@ pub mod Instances
 pub mod Laws
 pub mod Means
 pub mod Measure
+pub mod Paths
 pub mod Pending
 pub mod Points
 pub mod Positions

@@ -5,7 +5,8 @@ use Rattle.bl_tree.specs.declared.tree.StmtKind.TheOpen.{StmtKind-F, Arm-F, Bran
 use Rattle.bl_tree.specs.declared.tree.StructDef.{StructDef}
 use Rattle.bl_tree.specs.declared.tree.Unit.{Unit as UnitDef}
 use Rattle.bl_tree.specs.Reduce.{total}
-use Rattle.bl_ctree.specs.Instances.{Instance, Setting, setting_of, unit_of}
+use Rattle.bl_ctree.specs.declared.instance.Instance.{Instance}
+use Rattle.bl_ctree.specs.Instances.{Setting, setting_of, unit_of}
 
 abbrev pub kind_statements : StmtKind-F ℕ ℕ ℕ ℕ → ℕ
 kind_statements (StmtKind-F.Declare k initial) = 1

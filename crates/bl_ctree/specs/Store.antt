@@ -1,7 +1,6 @@
 -- The store: the values of every instance's variables, now and at the end of the previous tick.
 use Rattle.std.specs.Prelude.{ℕ, zero, suc, ◌+◌, ◌-◌, ℤ, pos, Bool, ◌&&◌, nat_eq, nat_lt, nat_le, List, [], ◌∷◌, ◌++◌, map, take, drop, slice_get, slice_set, Option, Some, None, option_map, option_and_then, unwrap_or, if◌then◌else◌}
 use Rattle.bl_tree.specs.declared.scalar.Scalar.{Scalar as ScalarType}
-use Rattle.bl_tree.specs.declared.tree.Path.{Path}
 use Rattle.bl_tree.specs.declared.tree.StructDef.{StructDef}
 use Rattle.bl_tree.specs.declared.tree.Unit.{Unit as UnitDef}
 use Rattle.bl_tree.specs.declared.tree.Var.{Var}
@@ -10,8 +9,10 @@ use Rattle.bl_tree.specs.declared.value.Value.TheVariants.{Number, Parts}
 use Rattle.bl_eval.specs.Meaning.{View}
 use Rattle.bl_eval.specs.Values.{number_in, put_at, value_at, zero_of}
 use Rattle.bl_effects.specs.declared.static_path.Static.{Static}
-use Rattle.bl_effects.specs.Static.{overlaps, static_of, whole}
-use Rattle.bl_ctree.specs.Instances.{Instance, Origin, Setting, unit_at, unit_of}
+use Rattle.bl_effects.specs.Static.{overlaps, whole}
+use Rattle.bl_ctree.specs.declared.instance.Instance.{Instance}
+use Rattle.bl_ctree.specs.declared.instance.Origin.{Origin}
+use Rattle.bl_ctree.specs.Instances.{Setting, unit_at, unit_of}
 
 -- the values of one instance: of its variables now and before, and of its result, where its activity has one
 pub record Frame : Type 0 where
@@ -34,10 +35,8 @@ abbrev pub whole_of : ℕ → ℕ → Location
 whole_of i k = record { instance = i; path = whole k }
 
 -- where the fields of a path lead on from the caller's path for which it stands
-abbrev pub under : ℕ → List ℕ → Path → Location
-under caller fields path =
-    let static = static_of path in
-    record { instance = caller; path = record { root = static.root; fields = static.fields ++ fields } }
+abbrev pub under : ℕ → List ℕ → Static → Location
+under caller fields path = record { instance = caller; path = record { root = path.root; fields = path.fields ++ fields } }
 
 -- whether the variable is an output of the unit
 abbrev pub is_output_of : UnitDef → ℕ → Bool

@@ -2,4 +2,7 @@
 //! (docs/LANGUAGE.md, "How a program runs").
 #![tactic(auto)]
 
+pub mod instance;
 pub mod laws;
+mod paths;
+mod runs;
