@@ -13,7 +13,7 @@ use Rattle.bl_ctree.specs.Control.{Control, Branches, Nil, Wait, Test, Idle, Do,
 use Rattle.bl_ctree.specs.Instances.{Setting, callee_of, unit_at}
 use Rattle.bl_ctree.specs.Laws.{PointsMove, MovesAreListed, StepsAreListed, StillIsUnlisted, Listed, Taken, can_answer}
 use Rattle.bl_ctree.specs.Pending.{meets, any_meets}
-use Rattle.bl_ctree.specs.Points.{Among, here, there, Point, points, branch_points, within, guard_points, run_points, joining, free_of, sure, asking, giving, begins, tests, turns_on, checks, copying, or_nothing, run_begins, in_phase}
+use Rattle.bl_ctree.specs.Points.{Among, here, there, Point, points, branch_points, within, in_first, in_later, guard_points, run_points, joining, free_of, sure, asking, giving, begins, tests, turns_on, checks, copying, or_nothing, run_begins, in_phase}
 use Rattle.bl_ctree.specs.Positions.{Located, kind_of, place_of, is_act}
 use Rattle.bl_ctree.specs.Store.{Store, with_frame, with_inputs}
 use Rattle.bl_ctree.specs.Steps.{Step, IsStill, Moves, OneMoves, acts, takes_arm, passes_arm, takes_else, pauses, runs, repeats, repeats_until, leaves, turns, enters, skips, forks, guards, goes_on, waits, lets, aborts, resets, guard_ends, copies, run_ends, joins, in_seq, in_par, in_guard, in_run, first, later}
@@ -58,10 +58,10 @@ sound_run w i s e None at p m d h = elim m [ ]
 sound_run w i s e (Some callee) at p m d h = sound_unit w i s callee e at (unit_at w callee) refl p m d h
 
 sound_begins : (w : Setting) (i : ℕ) (s : Located) (k : StmtKind-F StmtKind Arm Branch Stmt) → kind_of s ≡ k → Sound w i (Do s) (begins w i s k)
-sound_begins w i s (StmtKind-F.Declare k initial) e p m d h = of_sure s Acts Nil (λ d. refl) (acts (ap is_act e)) p m d h
-sound_begins w i s (StmtKind-F.Assign path value) e p m d h = of_sure s Acts Nil (λ d. refl) (acts (ap is_act e)) p m d h
-sound_begins w i s (StmtKind-F.Call f inputs outputs) e p m d h = of_sure s Acts Nil (λ d. refl) (acts (ap is_act e)) p m d h
-sound_begins w i s (StmtKind-F.Return value) e p m d h = of_sure s Acts Nil (λ d. refl) (acts (ap is_act e)) p m d h
+sound_begins w i s (StmtKind-F.Declare k initial) e p m d h = of_sure s (Acts s.stmt) Nil (λ d. refl) (acts (ap is_act e)) p m d h
+sound_begins w i s (StmtKind-F.Assign path value) e p m d h = of_sure s (Acts s.stmt) Nil (λ d. refl) (acts (ap is_act e)) p m d h
+sound_begins w i s (StmtKind-F.Call f inputs outputs) e p m d h = of_sure s (Acts s.stmt) Nil (λ d. refl) (acts (ap is_act e)) p m d h
+sound_begins w i s (StmtKind-F.Return value) e p m d h = of_sure s (Acts s.stmt) Nil (λ d. refl) (acts (ap is_act e)) p m d h
 sound_begins w i s (StmtKind-F.Await test) e p m d h = of_sure s Silent (Wait s) (λ d. refl) (pauses e) p m d h
 sound_begins w i s (StmtKind-F.Run target a inputs outputs) e p m d h = sound_run w i s e (callee_of w i (place_of s)) refl p m d h
 sound_begins w i s (StmtKind-F.If [] other) e p m d h = elim m [ ]
@@ -155,17 +155,17 @@ sound_par w i s stood branches listed inner p m d h =
     (λ h. in_par (inner image.source image.among d h)) h
 
 sound_first : (w : Setting) (i : ℕ) (weak : Bool) (c : Control) (others : Branches) (listed : List (Point Control)) → Sound w i c listed →
-    OneSound w i (branch weak c others) (map (within (λ c. branch weak c others)) (free_of (any_meets w i others) listed))
+    OneSound w i (branch weak c others) (map (in_first (λ c. branch weak c others)) (free_of (any_meets w i others) listed))
 sound_first w i weak c others listed inner p m d h =
-    let image = of-map (within (λ c. branch weak c others)) (free_of (any_meets w i others) listed) m in
+    let image = of-map (in_first (λ c. branch weak c others)) (free_of (any_meets w i others) listed) m in
     let passing = of-filter (λ point. not (any_meets w i others point.action)) listed image.among in
     subst (λ p. can_answer p.action.effect d ≡ true → OneMoves w i (branch weak c others) d p.action (p.after d)) image.is
     (λ h. first (inner image.source passing.among d h) (not-true _ passing.passes)) h
 
 sound_later : (w : Setting) (i : ℕ) (weak : Bool) (c : Control) (others : Branches) (listed : List (Point Branches)) → OneSound w i others listed →
-    OneSound w i (branch weak c others) (map (within (branch weak c)) (free_of (meets w i c) listed))
+    OneSound w i (branch weak c others) (map (in_later (branch weak c)) (free_of (meets w i c) listed))
 sound_later w i weak c others listed inner p m d h =
-    let image = of-map (within (branch weak c)) (free_of (meets w i c) listed) m in
+    let image = of-map (in_later (branch weak c)) (free_of (meets w i c) listed) m in
     let passing = of-filter (λ point. not (meets w i c point.action)) listed image.among in
     subst (λ p. can_answer p.action.effect d ≡ true → OneMoves w i (branch weak c others) d p.action (p.after d)) image.is
     (λ h. later (inner image.source passing.among d h) (not-true _ passing.passes)) h
@@ -204,8 +204,8 @@ mutual
   sound_branches : (w : Setting) (i : ℕ) (branches : Branches) → OneSound w i branches (branch_points w i branches)
   sound_branches w i no_branch = λ p m d h. elim m [ ]
   sound_branches w i (branch weak c others) =
-      one_either_sound (map (within (λ c. branch weak c others)) (free_of (any_meets w i others) (points w i c)))
-      (map (within (branch weak c)) (free_of (meets w i c) (branch_points w i others)))
+      one_either_sound (map (in_first (λ c. branch weak c others)) (free_of (any_meets w i others) (points w i c)))
+      (map (in_later (branch weak c)) (free_of (meets w i c) (branch_points w i others)))
       (sound_first w i weak c others (points w i c) (sound w i c)) (sound_later w i weak c others (branch_points w i others) (sound_branches w i others))
 
 pub points_move : PointsMove
@@ -226,6 +226,14 @@ listed_within : {A B : Type 0} (around : A → B) {all : List (Point A)} {d : Bo
     Listed all d a after → Listed (map (within around) all) d a (around after)
 listed_within around l = record { point = within around l.point; among = among-map (within around) l.among; acts = l.acts; leads = ap around l.leads }
 
+listed_first : (around : Control → Branches) {all : List (Point Control)} {d : Bool} {a : Action} {after : Control} →
+    Listed all d a after → Listed (map (in_first around) all) d a (around after)
+listed_first around l = record { point = in_first around l.point; among = among-map (in_first around) l.among; acts = l.acts; leads = ap around l.leads }
+
+listed_later : (around : Branches → Branches) {all : List (Point Branches)} {d : Bool} {a : Action} {after : Branches} →
+    Listed all d a after → Listed (map (in_later around) all) d a (around after)
+listed_later around l = record { point = in_later around l.point; among = among-map (in_later around) l.among; acts = l.acts; leads = ap around l.leads }
+
 listed_left : {A : Type 0} {xs : List (Point A)} (ys : List (Point A)) {d : Bool} {a : Action} {after : A} → Listed xs d a after → Listed (xs ++ ys) d a after
 listed_left ys l = record { point = l.point; among = among-left ys l.among; acts = l.acts; leads = l.leads }
 
@@ -237,11 +245,11 @@ listed_free : {A : Type 0} (meets : Action → Bool) {all : List (Point A)} {d :
 listed_free meets l free =
     record { point = l.point; among = among-filter (λ point. not (meets point.action)) l.among (not-false (meets l.point.action) (ap meets l.acts ∙ free)); acts = l.acts; leads = l.leads }
 
-listed_act : (w : Setting) (i : ℕ) (s : Located) (k : StmtKind-F StmtKind Arm Branch Stmt) → is_act k ≡ true → Listed (begins w i s k) true (action i s Acts) Nil
-listed_act w i s (StmtKind-F.Declare k initial) e = listed_sure i s Acts Nil
-listed_act w i s (StmtKind-F.Assign path value) e = listed_sure i s Acts Nil
-listed_act w i s (StmtKind-F.Call f inputs outputs) e = listed_sure i s Acts Nil
-listed_act w i s (StmtKind-F.Return value) e = listed_sure i s Acts Nil
+listed_act : (w : Setting) (i : ℕ) (s : Located) (k : StmtKind-F StmtKind Arm Branch Stmt) → is_act k ≡ true → Listed (begins w i s k) true (action i s (Acts s.stmt)) Nil
+listed_act w i s (StmtKind-F.Declare k initial) e = listed_sure i s (Acts s.stmt) Nil
+listed_act w i s (StmtKind-F.Assign path value) e = listed_sure i s (Acts s.stmt) Nil
+listed_act w i s (StmtKind-F.Call f inputs outputs) e = listed_sure i s (Acts s.stmt) Nil
+listed_act w i s (StmtKind-F.Return value) e = listed_sure i s (Acts s.stmt) Nil
 listed_act w i s (StmtKind-F.Await test) e = absurd cc
 listed_act w i s (StmtKind-F.Run target a inputs outputs) e = absurd cc
 listed_act w i s (StmtKind-F.If arms other) e = absurd cc
@@ -328,11 +336,11 @@ mutual
 
   complete_one : {w : Setting} {i : ℕ} {c : Branches} {d : Bool} {a : Action} {c' : Branches} → OneMoves w i c d a c' → Listed (branch_points w i c) d a c'
   complete_one {w} (first {i} {weak} {c} {others} move free) =
-      listed_left (map (within (branch weak c)) (free_of (meets w i c) (branch_points w i others)))
-      (listed_within (λ c. branch weak c others) (listed_free (any_meets w i others) (complete move) free))
+      listed_left (map (in_later (branch weak c)) (free_of (meets w i c) (branch_points w i others)))
+      (listed_first (λ c. branch weak c others) (listed_free (any_meets w i others) (complete move) free))
   complete_one {w} (later {i} {weak} {c} {others} move free) =
-      listed_right (map (within (λ c. branch weak c others)) (free_of (any_meets w i others) (points w i c)))
-      (listed_within (branch weak c) (listed_free (meets w i c) (complete_one move) free))
+      listed_right (map (in_first (λ c. branch weak c others)) (free_of (any_meets w i others) (points w i c)))
+      (listed_later (branch weak c) (listed_free (meets w i c) (complete_one move) free))
 
 pub moves_are_listed : MovesAreListed
 moves_are_listed w i c d a c' move = complete move
@@ -341,7 +349,7 @@ moves_are_listed w i c d a c' move = complete move
 
 can_true : (effect : Effect) → can_answer effect true ≡ true
 can_true Silent = refl
-can_true Acts = refl
+can_true (Acts s) = refl
 can_true (Asks e) = refl
 can_true (Copies callee inputs) = refl
 can_true (Gives callee target) = refl
@@ -354,13 +362,13 @@ copied_answer : {A : Type 0} (found : Option A) (f : A → Store) (d : Bool) (st
 copied_answer None f d store e = absurd cc
 copied_answer (Some found) f d store e = sym (ap (λ p. unwrap_or (option_map (λ p. p.answer) p) d) e)
 
-answers : (w : Setting) (i : ℕ) (s : Located) (effect : Effect) (store : Store) (d : Bool) (store' : Store) →
-    effect_on w i s effect store ≡ Some (record { answer = d; store = store' }) → can_answer effect d ≡ true
-answers w i s Silent store d store' e = done_answer (Some store) d store' e
-answers w i s Acts store d store' e = done_answer _ d store' e
-answers w i s (Asks test) store d store' e = refl
-answers w i s (Copies callee inputs) store d store' e = copied_answer (values_there w store i inputs) (λ values. with_frame callee (with_inputs values) store) d store' e
-answers w i s (Gives callee target) store d store' e = done_answer (Some _) d store' e
+answers : (w : Setting) (i : ℕ) (effect : Effect) (store : Store) (d : Bool) (store' : Store) →
+    effect_on w i effect store ≡ Some (record { answer = d; store = store' }) → can_answer effect d ≡ true
+answers w i Silent store d store' e = done_answer (Some store) d store' e
+answers w i (Acts s) store d store' e = done_answer _ d store' e
+answers w i (Asks test) store d store' e = refl
+answers w i (Copies callee inputs) store d store' e = copied_answer (values_there w store i inputs) (λ values. with_frame callee (with_inputs values) store) d store' e
+answers w i (Gives callee target) store d store' e = done_answer (Some _) d store' e
 
 moved : {w : Setting} {i : ℕ} {c : Control} {d : Bool} {p : Action} {a : Action} {q : Control} {c' : Control} → p ≡ a → q ≡ c' → Moves w i c d p q → Moves w i c d a c'
 moved {w} {i} {c} {d} {p} {a} {q} {c'} same_action same_tree move =
@@ -374,7 +382,7 @@ steps_are_listed w c store a c' store' =
       moves =
         moved taken.listed.acts taken.listed.leads
         (sound w 0 c taken.listed.point taken.listed.among taken.answer
-        (subst (λ a. can_answer a.effect taken.answer ≡ true) (sym taken.listed.acts) (answers w a.instance a.stmt a.effect store taken.answer store' taken.performs)));
+        (subst (λ a. can_answer a.effect taken.answer ≡ true) (sym taken.listed.acts) (answers w a.instance a.effect store taken.answer store' taken.performs)));
       performs = taken.performs })
 
 none_listed : (w : Setting) (c : Control) → IsStill w c → (all : List (Point Control)) → points w 0 c ≡ all → all ≡ []

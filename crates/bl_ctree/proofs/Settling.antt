@@ -6,7 +6,7 @@ use Rattle.bl_ctree.specs.Control.{Control, Branches, Nil, Wait, Test, Idle, Do,
 use Rattle.bl_ctree.specs.Instances.{Setting}
 use Rattle.bl_ctree.specs.Laws.{SettledIsStill}
 use Rattle.bl_ctree.specs.Pending.{meets, any_meets}
-use Rattle.bl_ctree.specs.Points.{Point, points, branch_points, within, guard_points, run_points, joining, free_of, sure, giving}
+use Rattle.bl_ctree.specs.Points.{Point, points, branch_points, within, in_first, in_later, guard_points, run_points, joining, free_of, sure, giving}
 use Rattle.bl_ctree.specs.Positions.{Located, kind_of}
 use Rattle.bl_ctree.proofs.Bools.{both-left, both-right, not-true, false-of-both}
 
@@ -43,9 +43,9 @@ mutual
   settled_branches : (w : Setting) (i : ℕ) (branches : Branches) → are_settled branches ≡ true → branch_points w i branches ≡ []
   settled_branches w i no_branch e = refl
   settled_branches w i (branch weak c others) e =
-      ap (λ ps. map (within (λ c. branch weak c others)) (free_of (any_meets w i others) ps) ++ map (within (branch weak c)) (free_of (meets w i c) (branch_points w i others)))
+      ap (λ ps. map (in_first (λ c. branch weak c others)) (free_of (any_meets w i others) ps) ++ map (in_later (branch weak c)) (free_of (meets w i c) (branch_points w i others)))
       (settled_still w i c (both-left (is_settled c) (are_settled others) e))
-      ∙ ap (λ ps. map (within (branch weak c)) (free_of (meets w i c) ps)) (settled_branches w i others (both-right (is_settled c) (are_settled others) e))
+      ∙ ap (λ ps. map (in_later (branch weak c)) (free_of (meets w i c) ps)) (settled_branches w i others (both-right (is_settled c) (are_settled others) e))
 
 pub settled_is_still : SettledIsStill
 settled_is_still w i c e = settled_still w i c e

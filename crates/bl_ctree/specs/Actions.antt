@@ -1,19 +1,20 @@
 -- Actions: what one step asks of the store or does to it.
-use Rattle.std.specs.Prelude.{ℕ, ℤ, pos, Bool, true, false, List, [], ◌∷◌, map, slice_get, Option, Some, None, option_map, option_and_then, unwrap_or}
+use Rattle.std.specs.Prelude.{ℕ, ℤ, pos, Bool, true, false, List, [], ◌∷◌, ◌++◌, map, slice_get, Option, Some, None, option_map, option_and_then, unwrap_or}
 use Rattle.bl_tree.specs.declared.place.Place.{Place}
 use Rattle.bl_tree.specs.declared.tree.Arm.{Arm}
 use Rattle.bl_tree.specs.declared.tree.Branch.{Branch}
 use Rattle.bl_tree.specs.declared.tree.Expr.{Expr}
 use Rattle.bl_tree.specs.declared.tree.Path.{Path}
-use Rattle.bl_tree.specs.declared.tree.Stmt.{Stmt}
-use Rattle.bl_tree.specs.declared.tree.StmtKind.{StmtKind}
+use Rattle.bl_tree.specs.declared.tree.Stmt.{Stmt, out-Stmt}
+use Rattle.bl_tree.specs.declared.tree.StmtKind.{StmtKind, out-StmtKind}
 use Rattle.bl_tree.specs.declared.tree.StmtKind.TheOpen.{StmtKind-F}
 use Rattle.bl_tree.specs.declared.value.Value.{Value}
 use Rattle.bl_tree.specs.Numbers.{is_one}
 use Rattle.bl_tree.specs.Reduce.{joined}
 use Rattle.bl_eval.specs.Standing.{outcome_in_unit, value_in_unit}
-use Rattle.bl_effects.specs.Effects.{reads}
-use Rattle.bl_effects.specs.Static.{mentions, static_of}
+use Rattle.bl_effects.specs.declared.static_path.Static.{Static}
+use Rattle.bl_effects.specs.Effects.{argument_mentions, optional_mentions}
+use Rattle.bl_effects.specs.Static.{index_mentions, mentions, static_of}
 use Rattle.bl_ctree.specs.Instances.{Setting}
 use Rattle.bl_ctree.specs.Positions.{Located, kind_of, place_of}
 use Rattle.bl_ctree.specs.Store.{Frame, Location, Store, home, homes, number_or_zero, put, put_all, remember, view_at, with_frame, with_inputs}
@@ -22,7 +23,7 @@ pub data Effect : Type 0 where
   -- the tree alone changes
   Silent : Effect
   -- the statement's own act: an assignment, a declaration, a call or a `return`
-  Acts : Effect
+  Acts : Stmt → Effect
   -- a condition is tested
   Asks : Expr → Effect
   -- the inputs of a `run` are copied to the instance that it began
@@ -39,16 +40,27 @@ pub record Action : Type 0 where
 abbrev pub action : ℕ → Located → Effect → Action
 action i s effect = record { stmt = s; instance = i; effect = effect }
 
+-- what an act reads: the set `reads` of its statement, as a list
+abbrev pub act_reads : StmtKind-F StmtKind Arm Branch Stmt → List Static
+act_reads (StmtKind-F.Declare k initial) = optional_mentions initial
+act_reads (StmtKind-F.Assign path e) = index_mentions path ++ mentions e
+act_reads (StmtKind-F.Call f inputs outputs) = argument_mentions inputs outputs
+act_reads (StmtKind-F.Return e) = optional_mentions e
+act_reads _ = []
+
+abbrev pub kind_of_stmt : Stmt → StmtKind-F StmtKind Arm Branch Stmt
+kind_of_stmt s = out-StmtKind (out-Stmt s).what
+
 -- what an action reads, as homes
-abbrev pub effect_reads : Setting → ℕ → Located → Effect → List Location
-effect_reads w i s Silent = []
-effect_reads w i s Acts = homes w i (reads s.stmt)
-effect_reads w i s (Asks e) = homes w i (mentions e)
-effect_reads w i s (Copies callee inputs) = homes w i (joined (map mentions inputs))
-effect_reads w i s (Gives callee target) = []
+abbrev pub effect_reads : Setting → ℕ → Effect → List Location
+effect_reads w i Silent = []
+effect_reads w i (Acts s) = homes w i (act_reads (kind_of_stmt s))
+effect_reads w i (Asks e) = homes w i (mentions e)
+effect_reads w i (Copies callee inputs) = homes w i (joined (map mentions inputs))
+effect_reads w i (Gives callee target) = []
 
 abbrev pub reads_of : Setting → Action → List Location
-reads_of w a = effect_reads w a.instance a.stmt a.effect
+reads_of w a = effect_reads w a.instance a.effect
 
 -- ---- what an action makes of the store
 
@@ -100,14 +112,14 @@ abbrev pub given_to : Setting → ℕ → Option Path → Option Value → Store
 given_to w i (Some path) (Some value) store = target_gets w i store path value
 given_to w i _ _ store = store
 
-abbrev pub effect_on : Setting → ℕ → Located → Effect → Store → Option Performed
-effect_on w i s Silent store = Some (done store)
-effect_on w i s Acts store = option_map done (acted_kind w i s.stmt (kind_of s) store)
-effect_on w i s (Asks e) store = option_map (λ value. record { answer = is_true_value value; store = store }) (value_there w store i e)
-effect_on w i s (Copies callee inputs) store =
+abbrev pub effect_on : Setting → ℕ → Effect → Store → Option Performed
+effect_on w i Silent store = Some (done store)
+effect_on w i (Acts s) store = option_map done (acted_kind w i s (kind_of_stmt s) store)
+effect_on w i (Asks e) store = option_map (λ value. record { answer = is_true_value value; store = store }) (value_there w store i e)
+effect_on w i (Copies callee inputs) store =
     option_map (λ values. done (with_frame callee (with_inputs values) store)) (values_there w store i inputs)
-effect_on w i s (Gives callee target) store = Some (done (given_to w i target (result_at store callee) store))
+effect_on w i (Gives callee target) store = Some (done (given_to w i target (result_at store callee) store))
 
 -- what an action answers and leaves; none where it traps
 abbrev pub perform : Setting → Action → Store → Option Performed
-perform w a store = effect_on w a.instance a.stmt a.effect store
+perform w a store = effect_on w a.instance a.effect store

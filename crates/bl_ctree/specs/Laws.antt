@@ -10,7 +10,7 @@ use Rattle.bl_ctree.specs.Store.{Store}
 -- a test has either answer, every other action the answer true
 abbrev pub can_answer : Effect → Bool → Bool
 can_answer Silent d = d
-can_answer Acts d = d
+can_answer (Acts s) d = d
 can_answer (Asks e) d = true
 can_answer (Copies callee inputs) d = d
 can_answer (Gives callee target) d = d

@@ -4,6 +4,7 @@ pub mod Instances
 pub mod Laws
 pub mod Means
 pub mod Measure
+pub mod Nodes
 pub mod Paths
 pub mod Pending
 pub mod Points

@@ -13,7 +13,7 @@ use Rattle.bl_effects.specs.declared.static_path.Static.{Static}
 use Rattle.bl_effects.specs.Effects.{target_static}
 use Rattle.bl_effects.specs.Instant.{instant}
 use Rattle.bl_effects.specs.Static.{static_of}
-use Rattle.bl_effects.specs.Surface.{surface_writes}
+use Rattle.bl_effects.specs.Surface.{surface_of}
 use Rattle.bl_ctree.specs.Actions.{Action, reads_of}
 use Rattle.bl_ctree.specs.Control.{Control, Branches, Nil, Wait, Test, Idle, Do, Turn, Seq, Par, Guard, Run, no_branch, branch, Phase, Check, Body, has_strong, is_nil, is_settled}
 use Rattle.bl_ctree.specs.Instances.{Setting}
@@ -74,14 +74,14 @@ abbrev mutual
 abbrev pub lie_over : Setting → ℕ → List Static → Location → Bool
 lie_over w i paths at = list_any (overlap at) (homes w i paths)
 
--- what a statement that begins can write before it pauses
-abbrev pub surface_of : Setting → ℕ → Located → Location → Bool
-surface_of w i s at = lie_over w i (surface_writes s.stmt) at
+-- what a statement that begins can write before it pauses: the set `surface_writes` of the statement, as a list
+abbrev pub surface_over : Setting → ℕ → Located → Location → Bool
+surface_over w i s at = lie_over w i (surface_of s.stmt).writes at
 
 -- a loop's surface is that of its body
 abbrev pub item_surface : Setting → ℕ → Item → Location → Bool
-item_surface w i (Begin s) at = surface_of w i s at
-item_surface w i (Again s) at = surface_of w i s at
+item_surface w i (Begin s) at = surface_over w i s at
+item_surface w i (Again s) at = surface_over w i s at
 
 -- that of the first item and, where the first may end, that of the rest
 abbrev pub items_surface : Setting → ℕ → List Item → Location → Bool
@@ -104,7 +104,7 @@ run_writes w i s settled may_end at =
 
 -- a `reset` that is still to be tested may begin its body anew
 abbrev pub anew : Setting → ℕ → Located → Phase → Location → Bool
-anew w i s Check at = is_reset (kind_of s) && surface_of w i s at
+anew w i s Check at = is_reset (kind_of s) && surface_over w i s at
 anew w i s Body at = false
 
 abbrev mutual
@@ -114,8 +114,8 @@ abbrev mutual
   may_write w i (Wait s) at = false
   may_write w i (Test s) at = false
   may_write w i (Idle items) at = false
-  may_write w i (Do s) at = surface_of w i s at
-  may_write w i (Turn s) at = surface_of w i s at
+  may_write w i (Do s) at = surface_over w i s at
+  may_write w i (Turn s) at = surface_over w i s at
   may_write w i (Seq c rest) at = may_write w i c at || (may_end c && items_surface w i rest at)
   may_write w i (Par s stood branches) at = any_writes w i branches at
   may_write w i (Guard s phase stood c) at = may_write w i c at || anew w i s phase at

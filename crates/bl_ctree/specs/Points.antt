@@ -16,21 +16,34 @@ use Rattle.bl_ctree.specs.Pending.{meets, any_meets}
 use Rattle.bl_ctree.specs.Positions.{Item, Begin, Again, Located, kind_of, place_of, block_items, body_items, further}
 use Rattle.bl_ctree.specs.Steps.{arm_items, else_items, turn_items}
 
--- a point: its action, and what the tree (or a list of branches) becomes by each answer of it
+-- a point: its action, the numbers of the branches that lead to it, from the outermost Par inwards, and what the tree (or a
+-- list of branches) becomes by each answer of the action
 pub record Point (A : Type 0) : Type 0 where
   pub action : Action
+  pub path : List ℕ
   pub after : Bool → A
 
 -- a point inside, seen from around it
 abbrev pub within : {A B : Type 0} → (A → B) → Point A → Point B
-within around point = record { action = point.action; after = λ d. around (point.after d) }
+within around point = record { action = point.action; path = point.path; after = λ d. around (point.after d) }
+
+-- a point of the first branch, and one of the branches behind it
+abbrev pub in_first : (Control → Branches) → Point Control → Point Branches
+in_first around point = record { action = point.action; path = 0 ∷ point.path; after = λ d. around (point.after d) }
+
+abbrev pub one_on : List ℕ → List ℕ
+one_on [] = []
+one_on (k ∷ path) = suc k ∷ path
+
+abbrev pub in_later : (Branches → Branches) → Point Branches → Point Branches
+in_later around point = record { action = point.action; path = one_on point.path; after = λ d. around (point.after d) }
 
 -- an action that has the one answer true
 abbrev pub sure : ℕ → Located → Effect → Control → List (Point Control)
-sure i s effect after = record { action = action i s effect; after = λ d. after } ∷ []
+sure i s effect after = record { action = action i s effect; path = []; after = λ d. after } ∷ []
 
 abbrev pub asking : ℕ → Located → Effect → Control → Control → List (Point Control)
-asking i s effect if_true if_false = record { action = action i s effect; after = λ d. if d then if_true else if_false } ∷ []
+asking i s effect if_true if_false = record { action = action i s effect; path = []; after = λ d. if d then if_true else if_false } ∷ []
 
 -- what an `if` is whose first test is false
 abbrev pub passing : Located → List Arm → List Stmt → Control
@@ -46,10 +59,10 @@ or_nothing None = []
 
 -- the point of a statement that is to begin
 abbrev pub begins : Setting → ℕ → Located → StmtKind-F StmtKind Arm Branch Stmt → List (Point Control)
-begins w i s (StmtKind-F.Declare k initial) = sure i s Acts Nil
-begins w i s (StmtKind-F.Assign path e) = sure i s Acts Nil
-begins w i s (StmtKind-F.Call f inputs outputs) = sure i s Acts Nil
-begins w i s (StmtKind-F.Return e) = sure i s Acts Nil
+begins w i s (StmtKind-F.Declare k initial) = sure i s (Acts s.stmt) Nil
+begins w i s (StmtKind-F.Assign path e) = sure i s (Acts s.stmt) Nil
+begins w i s (StmtKind-F.Call f inputs outputs) = sure i s (Acts s.stmt) Nil
+begins w i s (StmtKind-F.Return e) = sure i s (Acts s.stmt) Nil
 begins w i s (StmtKind-F.Await e) = sure i s Silent (Wait s)
 begins w i s (StmtKind-F.Run target a inputs outputs) =
     or_nothing (option_and_then (λ callee. option_map (run_begins w i s (Copies callee inputs) callee) (unit_at w callee)) (callee_of w i (place_of s)))
@@ -128,8 +141,8 @@ abbrev mutual
   pub branch_points : Setting → ℕ → Branches → List (Point Branches)
   branch_points w i no_branch = []
   branch_points w i (branch weak c others) =
-      map (within (λ c. branch weak c others)) (free_of (any_meets w i others) (points w i c))
-      ++ map (within (branch weak c)) (free_of (meets w i c) (branch_points w i others))
+      map (in_first (λ c. branch weak c others)) (free_of (any_meets w i others) (points w i c))
+      ++ map (in_later (branch weak c)) (free_of (meets w i c) (branch_points w i others))
 
 -- an element of a list
 pub data Among (A : Type 0) (x : A) : List A → Type 0 where

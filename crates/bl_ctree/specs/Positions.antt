@@ -43,10 +43,15 @@ body_items body = items_from [] 0 body
 abbrev pub block_items : Located → ℕ → List Stmt → List Item
 block_items s block body = items_from (s.position ++ block ∷ []) 0 body
 
--- the `if` with its further arms, of which the first is given. It has the place of that arm's condition
+-- what is left of the `if` at the position when so many arms are passed, of which the first that is left is given. It has
+-- the place of that arm's condition
+abbrev pub left_of_if : Position → ℕ → Arm → List Arm → List Stmt → Located
+left_of_if position passed arm arms other =
+    record { position = position; passed = passed; stmt = roll-Stmt (record { place = (out-Expr (out-Arm arm).test).place; what = roll-StmtKind (StmtKind-F.If (arm ∷ arms) other) }) }
+
+-- the `if` with its further arms
 abbrev pub further : Located → Arm → List Arm → List Stmt → Located
-further s arm arms other =
-    record { position = s.position; passed = suc s.passed; stmt = roll-Stmt (record { place = (out-Expr (out-Arm arm).test).place; what = roll-StmtKind (StmtKind-F.If (arm ∷ arms) other) }) }
+further s arm arms other = left_of_if s.position (suc s.passed) arm arms other
 
 -- whether it acts in one step: an assignment, a declaration, a call or a `return`
 abbrev pub is_act : {A B C D : Type 0} → StmtKind-F A B C D → Bool

@@ -34,7 +34,7 @@ turn_items s body next = block_items s 0 body ++ next ∷ []
 mutual
   pub data Moves (w : Setting) : ℕ → Control → Bool → Action → Control → Type 0 where
     -- an assignment, a declaration, a call or a `return`
-    acts : {i : ℕ} {s : Located} → is_act (kind_of s) ≡ true → Moves w i (Do s) true (action i s Acts) Nil
+    acts : {i : ℕ} {s : Located} → is_act (kind_of s) ≡ true → Moves w i (Do s) true (action i s (Acts s.stmt)) Nil
     -- the first test of an `if` is true
     takes_arm : {i : ℕ} {s : Located} {arm : Arm} {arms : List Arm} {other : List Stmt} →
         kind_of s ≡ StmtKind-F.If (arm ∷ arms) other →

@@ -4,5 +4,7 @@
 
 pub mod instance;
 pub mod laws;
+pub mod node;
 mod paths;
+mod settle;
 mod runs;
