@@ -12,3 +12,4 @@ pub mod Positions
 pub mod Steps
 pub mod Store
 pub mod Ticks
+pub mod Wakings

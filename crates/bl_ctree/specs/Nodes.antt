@@ -67,3 +67,8 @@ control_of = fold-Node Control Seen node_control branch_seen
 
 abbrev pub seen_of : BranchNode → Seen
 seen_of = fold-Branch Control Seen node_control branch_seen
+
+-- whether no item is left
+abbrev pub none_left : List Item → Bool
+none_left [] = Bool.true
+none_left (item ∷ rest) = Bool.false

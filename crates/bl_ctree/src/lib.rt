@@ -2,9 +2,12 @@
 //! (docs/LANGUAGE.md, "How a program runs").
 #![tactic(auto)]
 
+mod copying;
 pub mod instance;
 pub mod laws;
 pub mod node;
 mod paths;
+mod sequence;
 mod settle;
+mod waking;
 mod runs;
