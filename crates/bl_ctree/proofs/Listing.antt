@@ -375,15 +375,17 @@ moved {w} {i} {c} {d} {p} {a} {q} {c'} same_action same_tree move =
     subst (λ a. Moves w i c d a c') same_action (subst (λ c'. Moves w i c d p c') same_tree move)
 
 pub steps_are_listed : StepsAreListed
-steps_are_listed w c store a c' store' =
-    (λ step. record { answer = step.answer; listed = complete step.moves; performs = step.performs },
-    λ taken. record {
-      answer = taken.answer;
-      moves =
+steps_are_listed w c store a c' store' = (
+  λ step. record { answer = step.answer; listed = complete step.moves; performs = step.performs },
+  λ taken. record {
+    answer = taken.answer;
+    moves =
         moved taken.listed.acts taken.listed.leads
         (sound w 0 c taken.listed.point taken.listed.among taken.answer
         (subst (λ a. can_answer a.effect taken.answer ≡ true) (sym taken.listed.acts) (answers w a.instance a.effect store taken.answer store' taken.performs)));
-      performs = taken.performs })
+    performs = taken.performs;
+  },
+)
 
 none_listed : (w : Setting) (c : Control) → IsStill w c → (all : List (Point Control)) → points w 0 c ≡ all → all ≡ []
 none_listed w c still [] e = refl
@@ -394,6 +396,7 @@ no_element : {A : Type 0} {x : A} → Among A x [] → ⊥
 no_element m = elim m [ ]
 
 pub still_is_unlisted : StillIsUnlisted
-still_is_unlisted w c =
-    (λ still. none_listed w c still (points w 0 c) refl,
-    λ e d a c' move. let l = complete move in no_element (subst (Among (Point Control) l.point) e l.among))
+still_is_unlisted w c = (
+  λ still. none_listed w c still (points w 0 c) refl,
+  λ e d a c' move. let l = complete move in no_element (subst (Among (Point Control) l.point) e l.among),
+)

@@ -94,8 +94,10 @@ vars_at w i = unwrap_or (option_map (λ unit. unit.vars) (unit_at w i)) []
 -- what the statements of an instance see: a value for each variable, an output's being that of its home
 abbrev pub view_at : Setting → Store → ℕ → View
 view_at w store i =
-    record { now = each_from (variable_among (λ frame. frame.now) w store i) 0 (vars_at w i);
-        before = each_from (variable_among (λ frame. frame.before) w store i) 0 (vars_at w i) }
+    record {
+      now = each_from (variable_among (λ frame. frame.now) w store i) 0 (vars_at w i);
+      before = each_from (variable_among (λ frame. frame.before) w store i) 0 (vars_at w i);
+    }
 
 -- ---- writing
 

@@ -1,5 +1,5 @@
 //! The parallel meaning of programs: control trees, their steps, and the traces that all interleavings allow
-//! (docs/LANGUAGE.md, "How a program runs").
+//! (docs/LANGUAGE.md, "Control trees").
 #![tactic(auto)]
 
 mod copying;
@@ -7,7 +7,7 @@ pub mod instance;
 pub mod laws;
 pub mod node;
 mod paths;
-mod sequence;
-mod settle;
-mod waking;
-mod runs;
+pub mod runs;
+pub mod sequence;
+pub mod settle;
+pub mod waking;

@@ -13,7 +13,6 @@ use std::alloc::Global;
 
 /// The tree as it is woken. Fails only for want of memory.
 #[cycle(waking)]
-#[tactic(auto, using(crate::proofs::WakeLemmas::woken_branches))]
 pub fn woken<'a>(alloc: Global, node: &Node<'a>) -> Result<Node<'a>, NoMemory>
     ensures { IfOk result (λ made. control_of made ≡ woken (control_of node.now)) }
 {

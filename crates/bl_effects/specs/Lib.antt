@@ -1,5 +1,8 @@
 pub mod Effects
+pub mod Entries
+pub mod Gathered
 pub mod Instant
+pub mod Order
 pub mod Rules
 pub mod Static
 pub mod Surface

@@ -3,6 +3,7 @@ use Rattle.std.specs.Prelude.{ℕ, Bool, true, false, ◌&&◌, ◌||◌, nat_eq
 use Rattle.std.specs.List.{list_any}
 use Rattle.bl_tree.specs.declared.tree.Expr.{Expr, fold-Expr}
 use Rattle.bl_tree.specs.declared.tree.ExprKind.TheOpen.{ExprKind-F, Part-F, Path-F, Expr-F}
+use Rattle.bl_tree.specs.declared.tree.Part.{Part, fold-Part}
 use Rattle.bl_tree.specs.declared.tree.Path.{Path, fold-Path}
 use Rattle.bl_tree.specs.Reduce.{joined}
 use Rattle.bl_effects.specs.declared.static_path.Static.{Static}
@@ -97,6 +98,13 @@ path_reach path = record {
 -- the static paths that an expression reads, in source order: that of each path in it and what the indices of that path read; `prev x` reads nothing
 abbrev pub mentions : Expr → List Static
 mentions = fold-Expr (List Static) Step (List Static) Reach kind_mentions part_step expr_mentions path_reach
+
+abbrev pub step_of : Part → Step
+step_of = fold-Part (List Static) Step (List Static) Reach kind_mentions part_step expr_mentions path_reach
+
+-- what the index of a part reads, where it is one
+abbrev pub part_mentions : Part → List Static
+part_mentions part = (step_of part).reads
 
 abbrev pub reach_of : Path → Reach
 reach_of = fold-Path (List Static) Step (List Static) Reach kind_mentions part_step expr_mentions path_reach

@@ -8,7 +8,6 @@ use Rattle.bl_tree.specs.declared.tree.StmtKind.{StmtKind, out-StmtKind}
 use Rattle.bl_tree.specs.declared.tree.StmtKind.TheOpen.{StmtKind-F}
 use Rattle.bl_tree.specs.declared.tree.Unit.{Unit as UnitDef}
 use Rattle.bl_tree.specs.Reduce.{joined}
-use Rattle.bl_effects.specs.declared.effect.Effect.{Effect}
 use Rattle.bl_effects.specs.declared.static_path.Static.{Static}
 use Rattle.bl_effects.specs.Effects.{reads, writes}
 use Rattle.bl_effects.specs.Instant.{instant}
@@ -49,6 +48,13 @@ pub record StandsInUnits (units : List UnitDef) (s : Stmt) : Type 0 where
 
 abbrev pub place_of : Stmt → Place
 place_of s = (out-Stmt s).place
+
+-- the effects of the statement at a place: what it reads and writes, and whether it may end in the tick in which it begins
+pub record Effect : Type 0 where
+  pub place : Place
+  pub reads : List Static
+  pub writes : List Static
+  pub instant : Bool
 
 -- a statement's place, what it reads and writes, and whether it may end in the tick in which it begins
 abbrev pub effect_of : Stmt → Effect

@@ -2,10 +2,16 @@
 //! in which they begin (docs/LANGUAGE.md, "Effects").
 #![tactic(auto)]
 
-mod effect;
+mod gather;
+pub mod laws;
+mod mentions;
+mod sets;
 mod spot;
 mod static_path;
+mod table;
+#[cfg(test)]
+mod tests;
 
-pub use effect::Effect;
 pub use spot::Spot;
 pub use static_path::Static;
+pub use table::Effects;

@@ -1,0 +1,71 @@
+-- How the effects of a program are gathered, block by block.
+use Rattle.std.specs.Prelude.{◌≡◌, ◌≢◌, ◌⊎◌, Bool, List, ◌++◌, Some}
+use Rattle.bl_tree.specs.declared.place.Place.{Place}
+use Rattle.bl_tree.specs.declared.tree.Arm.{Arm, fold-Arm}
+use Rattle.bl_tree.specs.declared.tree.Branch.{Branch, fold-Branch}
+use Rattle.bl_tree.specs.declared.tree.Stmt.{Stmt}
+use Rattle.bl_tree.specs.declared.tree.StmtKind.{StmtKind, fold-StmtKind, out-StmtKind}
+use Rattle.bl_effects.specs.declared.gather.Paths.{Paths}
+use Rattle.bl_effects.specs.declared.static_path.Static.{Static}
+use Rattle.bl_effects.specs.Effects.{arm_reads, arm_writes, branch_paths, kind_reads, kind_writes, stmt_set}
+use Rattle.bl_effects.specs.Instant.{Ends, arm_instant, branch_ends, kind_instant, stmt_instant}
+use Rattle.bl_effects.specs.Table.{Effect, StandsIn, effect_of, found, kind_children, place_of}
+
+-- ---- the parts of a statement
+
+-- what a kind of statement reads, writes, and whether it may end at once
+abbrev pub reads_of_kind : StmtKind → List Static
+reads_of_kind = fold-StmtKind (List Static) (List Static) (List Static) (List Static) kind_reads arm_reads branch_paths stmt_set
+
+abbrev pub writes_of_kind : StmtKind → List Static
+writes_of_kind = fold-StmtKind (List Static) (List Static) (List Static) (List Static) kind_writes arm_writes branch_paths stmt_set
+
+abbrev pub instant_of_kind : StmtKind → Bool
+instant_of_kind = fold-StmtKind Bool Bool Ends Bool kind_instant arm_instant branch_ends stmt_instant
+
+-- the statements directly in its blocks
+abbrev pub children_of_kind : StmtKind → List Stmt
+children_of_kind kind = kind_children (out-StmtKind kind)
+
+-- the same of an arm and of a branch
+abbrev pub reads_of_arm : Arm → List Static
+reads_of_arm = fold-Arm (List Static) (List Static) (List Static) (List Static) kind_reads arm_reads branch_paths stmt_set
+
+abbrev pub writes_of_arm : Arm → List Static
+writes_of_arm = fold-Arm (List Static) (List Static) (List Static) (List Static) kind_writes arm_writes branch_paths stmt_set
+
+abbrev pub instant_of_arm : Arm → Bool
+instant_of_arm = fold-Arm Bool Bool Ends Bool kind_instant arm_instant branch_ends stmt_instant
+
+abbrev pub reads_of_branch : Branch → List Static
+reads_of_branch = fold-Branch (List Static) (List Static) (List Static) (List Static) kind_reads arm_reads branch_paths stmt_set
+
+abbrev pub writes_of_branch : Branch → List Static
+writes_of_branch = fold-Branch (List Static) (List Static) (List Static) (List Static) kind_writes arm_writes branch_paths stmt_set
+
+abbrev pub ends_of_branch : Branch → Ends
+ends_of_branch = fold-Branch Bool Bool Ends Bool kind_instant arm_instant branch_ends stmt_instant
+
+-- ---- the table
+
+-- none of the statements has the place, and the table has there what it had
+pub record Kept (P : Stmt → Type 0) (before after : List Effect) (at : Place) : Type 0 where
+  pub same : found after at ≡ found before at
+  pub none : (s : Stmt) → P s → place_of s ≢ at
+
+-- one of them has it, and the table tells its effects
+pub record Told (P : Stmt → Type 0) (after : List Effect) (at : Place) : Type 0 where
+  pub statement : Stmt
+  pub stands : P statement
+  pub there : place_of statement ≡ at
+  pub tells : found after at ≡ Some (effect_of statement)
+
+-- the table after it was told of these statements
+abbrev pub Records : (Stmt → Type 0) → List Effect → List Effect → Type 0
+Records P before after = (at : Place) → Kept P before after at ⊎ Told P after at
+
+-- the reads and writes gathered grew by these, and the table was told of all that stands in the block
+pub record Gathers (reads writes : List Static) (body : List Stmt) (before after : Paths) (old new : List Effect) : Type 0 where
+  pub reads_grow : after.reads ≡ before.reads ++ reads
+  pub writes_grow : after.writes ≡ before.writes ++ writes
+  pub records : Records (StandsIn body) old new

@@ -1,0 +1,250 @@
+//! Effects are gathered in one pass, from the innermost statements outwards.
+
+ghost use Rattle.std.specs.Prelude.{◌≡◌, ◌∷◌, [], ◌++◌, map, IfOk, OnOk, option_map};
+ghost use Rattle.bl_tree.specs.declared.tree.Arm.{out-Arm};
+ghost use Rattle.bl_tree.specs.declared.tree.Branch.{out-Branch};
+ghost use Rattle.bl_tree.specs.Reduce.{all_of, any_of, joined};
+ghost use Rattle.bl_effects.specs.Effects.{argument_mentions, optional_mentions, reads, target_mentions, target_static, writes};
+ghost use Rattle.bl_effects.specs.Gathered.{Gathers, children_of_kind, ends_of_branch, instant_of_arm, instant_of_kind, reads_of_arm, reads_of_branch, reads_of_kind, writes_of_arm, writes_of_branch, writes_of_kind};
+ghost use Rattle.bl_effects.specs.Instant.{branches_instant, instant};
+ghost use Rattle.bl_effects.specs.Static.{mentions, path_mentions, static_of};
+
+use crate::mentions::{expr, exprs, indices, reading, static_of};
+use crate::sets::set_of;
+use crate::static_path::{Static, append_copies};
+use crate::table::{Effects, Sets};
+use bl_tree::tree::{Arm, Branch, Expr, Path, Stmt, StmtKind};
+use bl_tree::{List, NoMemory};
+use std::alloc::Global;
+
+/// What the statements of the blocks that are open read and write.
+#[derive(Drop)]
+pub struct Paths {
+    pub reads: List<Static>,
+    pub writes: List<Static>,
+}
+
+/// Appends what an optional expression reads.
+fn optional(alloc: Global, e: &Option<Expr>, into: &mut List<Static>) -> Result<(), NoMemory>
+    ensures { OnOk result (into.new ≡ into.old ++ optional_mentions e.now) }
+{
+    match e {
+        Some(e) => expr(alloc, e, into),
+        None => Ok(()),
+    }
+}
+
+/// Appends the static paths of the outputs.
+fn statics(alloc: Global, outputs: &[Path], into: &mut List<Static>) -> Result<(), NoMemory>
+    ensures { OnOk result (into.new ≡ into.old ++ map static_of outputs.now) }
+{
+    for path in outputs {
+        into.push(static_of(alloc, path)?)?;
+    }
+    Ok(())
+}
+
+/// Appends what the outputs read.
+fn readings(alloc: Global, outputs: &[Path], into: &mut List<Static>) -> Result<(), NoMemory>
+    ensures { OnOk result (into.new ≡ into.old ++ joined (map path_mentions outputs.now)) }
+{
+    for path in outputs {
+        reading(alloc, path, into)?;
+    }
+    Ok(())
+}
+
+/// A call or `run` reads its inputs and outputs, and writes its outputs.
+fn arguments(
+    alloc: Global,
+    inputs: &[Expr],
+    outputs: &[Path],
+    paths: &mut Paths,
+) -> Result<(), NoMemory>
+    ensures reads { OnOk result (paths.new.reads ≡ paths.old.reads ++ argument_mentions inputs.now outputs.now) }
+    ensures writes { OnOk result (paths.new.writes ≡ paths.old.writes ++ map static_of outputs.now) }
+{
+    exprs(alloc, inputs, &mut paths.reads)?;
+    readings(alloc, outputs, &mut paths.reads)?;
+    statics(alloc, outputs, &mut paths.writes)
+}
+
+/// The target of a `run`: its indices are read, and it is written.
+fn target(alloc: Global, path: &Option<Path>, paths: &mut Paths) -> Result<(), NoMemory>
+    ensures reads { OnOk result (paths.new.reads ≡ paths.old.reads ++ target_mentions path.now) }
+    ensures writes { OnOk result (paths.new.writes ≡ paths.old.writes ++ target_static path.now) }
+{
+    if let Some(path) = path {
+        indices(alloc, path, &mut paths.reads)?;
+        paths.writes.push(static_of(alloc, path)?)?;
+    }
+    Ok(())
+}
+
+/// The whole variable.
+fn whole(alloc: Global, root: u32) -> Static
+    ensures { result ≡ record { root = root; fields = [] } }
+{
+    Static {
+        root,
+        fields: List::new(alloc),
+    }
+}
+
+/// Gathers the effects of the statements of a block; answers whether the block may end in the tick in which it begins.
+#[cycle(gathering)]
+pub fn block(
+    alloc: Global,
+    body: &[Stmt],
+    table: &mut Effects,
+    paths: &mut Paths,
+) -> Result<bool, NoMemory>
+    ensures instant { IfOk result (λ ends. ends ≡ all_of (map instant body.now)) }
+    ensures gathers { OnOk result (Gathers (joined (map reads body.now)) (joined (map writes body.now)) body.now paths.old paths.new table.old table.new) }
+{
+    let mut all = true;
+    for s in body {
+        all &= statement(alloc, s, table, paths)?;
+    }
+    Ok(all)
+}
+
+#[cycle(gathering)]
+fn statement(
+    alloc: Global,
+    s: &Stmt,
+    table: &mut Effects,
+    paths: &mut Paths,
+) -> Result<bool, NoMemory>
+    ensures instant { IfOk result (λ ends. ends ≡ instant s.now) }
+    ensures gathers { OnOk result (Gathers (reads s.now) (writes s.now) (s.now ∷ []) paths.old paths.new table.old table.new) }
+{
+    let mut inner = Paths {
+        reads: List::new(alloc),
+        writes: List::new(alloc),
+    };
+    let instant = parts(alloc, &s.what, table, &mut inner)?;
+    let Paths { reads, writes } = inner;
+    let reads = set_of(reads);
+    let writes = set_of(writes);
+    append_copies(alloc, &reads, &mut paths.reads)?;
+    append_copies(alloc, &writes, &mut paths.writes)?;
+    table.insert(
+        s.place,
+        Sets {
+            reads,
+            writes,
+            instant,
+        },
+    )?;
+    Ok(instant)
+}
+
+/// Gathers the effects of what stands in a statement.
+#[cycle(gathering)]
+fn parts(
+    alloc: Global,
+    what: &StmtKind,
+    table: &mut Effects,
+    paths: &mut Paths,
+) -> Result<bool, NoMemory>
+    ensures instant { IfOk result (λ ends. ends ≡ instant_of_kind what.now) }
+    ensures gathers { OnOk result (Gathers (reads_of_kind what.now) (writes_of_kind what.now) (children_of_kind what.now) paths.old paths.new table.old table.new) }
+{
+    match what {
+        StmtKind::Declare(k, initial) => {
+            optional(alloc, initial, &mut paths.reads)?;
+            paths.writes.push(whole(alloc, *k))?;
+            Ok(true)
+        }
+        StmtKind::Assign(path, e) => {
+            indices(alloc, path, &mut paths.reads)?;
+            expr(alloc, e, &mut paths.reads)?;
+            paths.writes.push(static_of(alloc, path)?)?;
+            Ok(true)
+        }
+        StmtKind::Call(_, inputs, outputs) => {
+            arguments(alloc, inputs, outputs, paths)?;
+            Ok(true)
+        }
+        StmtKind::Await(e) => {
+            expr(alloc, e, &mut paths.reads)?;
+            Ok(false)
+        }
+        StmtKind::Run(path, _, inputs, outputs) => {
+            target(alloc, path, paths)?;
+            arguments(alloc, inputs, outputs, paths)?;
+            Ok(false)
+        }
+        StmtKind::If(arms, other) => {
+            let some = choices(alloc, arms, table, paths)?;
+            let rest = block(alloc, other, table, paths)?;
+            Ok(some | rest)
+        }
+        StmtKind::Cobegin(all) => branches(alloc, all, table, paths),
+        StmtKind::When(_, e, body) => {
+            expr(alloc, e, &mut paths.reads)?;
+            block(alloc, body, table, paths)
+        }
+        StmtKind::Repeat(body) => {
+            block(alloc, body, table, paths)?;
+            Ok(false)
+        }
+        StmtKind::Until(body, e) => {
+            let ends = block(alloc, body, table, paths)?;
+            expr(alloc, e, &mut paths.reads)?;
+            Ok(ends)
+        }
+        StmtKind::While(e, body) => {
+            expr(alloc, e, &mut paths.reads)?;
+            block(alloc, body, table, paths)?;
+            Ok(true)
+        }
+        StmtKind::Return(e) => {
+            optional(alloc, e, &mut paths.reads)?;
+            Ok(true)
+        }
+    }
+}
+
+/// Answers whether some arm may end in the tick in which it begins.
+#[cycle(gathering)]
+fn choices(
+    alloc: Global,
+    arms: &[Arm],
+    table: &mut Effects,
+    paths: &mut Paths,
+) -> Result<bool, NoMemory>
+    ensures instant { IfOk result (λ ends. ends ≡ any_of (map instant_of_arm arms.now)) }
+    ensures gathers { OnOk result (Gathers (joined (map reads_of_arm arms.now)) (joined (map writes_of_arm arms.now)) (joined (map (λ arm. (out-Arm arm).body) arms.now)) paths.old paths.new table.old table.new) }
+{
+    let mut some = false;
+    for arm in arms {
+        expr(alloc, &arm.test, &mut paths.reads)?;
+        some |= block(alloc, &arm.body, table, paths)?;
+    }
+    Ok(some)
+}
+
+/// Answers whether the branches may let their `cobegin` end in the tick in which it begins.
+#[cycle(gathering)]
+fn branches(
+    alloc: Global,
+    all: &[Branch],
+    table: &mut Effects,
+    paths: &mut Paths,
+) -> Result<bool, NoMemory>
+    ensures instant { IfOk result (λ ends. ends ≡ branches_instant (map ends_of_branch all.now)) }
+    ensures gathers { OnOk result (Gathers (joined (map reads_of_branch all.now)) (joined (map writes_of_branch all.now)) (joined (map (λ branch. (out-Branch branch).body) all.now)) paths.old paths.new table.old table.new) }
+{
+    let mut is_strong = false;
+    let mut strong = true;
+    let mut some = false;
+    for branch in all {
+        let ends = block(alloc, &branch.body, table, paths)?;
+        is_strong |= !branch.weak;
+        strong &= branch.weak | ends;
+        some |= ends;
+    }
+    Ok(if is_strong { strong } else { some })
+}
