@@ -1,5 +1,5 @@
 -- Elements of lists: of a list of images, of two lists one behind the other, and of those that pass a test.
-use Rattle.std.proofs.Common.{◌≡◌, ℕ, Bool, true, false, not, List, [], ◌∷◌, ◌++◌, map, refl, sym, ap, subst, filter, cond, ◌⊎◌, inl, inr}
+use Rattle.std.proofs.Common.{◌≡◌, Bool, true, false, List, [], ◌∷◌, ◌++◌, map, refl, sym, subst, filter, cond, ◌⊎◌, inl, inr}
 use Rattle.bl_ctree.specs.Points.{Among, here, there}
 
 pub among-map : {A B : Type 0} (f : A → B) {x : A} {xs : List A} → Among A x xs → Among B (f x) (map f xs)

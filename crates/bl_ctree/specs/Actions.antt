@@ -1,6 +1,5 @@
 -- Actions: what one step asks of the store or does to it.
-use Rattle.std.specs.Prelude.{ℕ, ℤ, pos, Bool, true, false, List, [], ◌∷◌, ◌++◌, map, slice_get, Option, Some, None, option_map, option_and_then, unwrap_or}
-use Rattle.bl_tree.specs.declared.place.Place.{Place}
+use Rattle.std.specs.Prelude.{ℕ, Bool, true, List, [], ◌∷◌, ◌++◌, map, slice_get, Option, Some, None, option_map, option_and_then}
 use Rattle.bl_tree.specs.declared.tree.Arm.{Arm}
 use Rattle.bl_tree.specs.declared.tree.Branch.{Branch}
 use Rattle.bl_tree.specs.declared.tree.Expr.{Expr}
@@ -16,7 +15,7 @@ use Rattle.bl_effects.specs.declared.static_path.Static.{Static}
 use Rattle.bl_effects.specs.Effects.{argument_mentions, optional_mentions}
 use Rattle.bl_effects.specs.Static.{index_mentions, mentions, static_of}
 use Rattle.bl_ctree.specs.Instances.{Setting}
-use Rattle.bl_ctree.specs.Positions.{Located, kind_of, place_of}
+use Rattle.bl_ctree.specs.Positions.{Located}
 use Rattle.bl_ctree.specs.Store.{Frame, Location, Store, home, homes, number_or_zero, put, put_all, remember, view_at, with_frame, with_inputs}
 
 pub data Effect : Type 0 where

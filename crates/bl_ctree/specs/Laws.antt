@@ -1,5 +1,5 @@
 -- What holds of every program, tree and store.
-use Rattle.std.specs.Prelude.{ℕ, Bool, true, false, List, [], ◌≡◌, ◌↔◌, Some}
+use Rattle.std.specs.Prelude.{ℕ, Bool, true, List, [], ◌≡◌, ◌↔◌, Some}
 use Rattle.bl_ctree.specs.Actions.{Action, Effect, Silent, Acts, Asks, Copies, Gives, perform}
 use Rattle.bl_ctree.specs.Control.{Control, is_settled}
 use Rattle.bl_ctree.specs.Instances.{Setting}

@@ -6,11 +6,11 @@ use Rattle.bl_tree.specs.declared.row.Trace.{Trace}
 use Rattle.bl_tree.specs.declared.tree.StructDef.{StructDef}
 use Rattle.bl_tree.specs.declared.tree.Unit.{Unit as UnitDef}
 use Rattle.bl_ctree.specs.Actions.{Action}
-use Rattle.bl_ctree.specs.Control.{Control, Nil, Idle, woken}
+use Rattle.bl_ctree.specs.Control.{Control, Idle, woken}
 use Rattle.bl_ctree.specs.Instances.{Setting, setting_of, unit_at}
 use Rattle.bl_ctree.specs.Positions.{Item, body_items}
 use Rattle.bl_ctree.specs.Store.{Store, first_store, outputs_row, woken_store}
-use Rattle.bl_ctree.specs.Ticks.{End, Trapped, Rests, Maximal, TickOutcome, Ended, Paused, Stuck, Trap, outcome_at}
+use Rattle.bl_ctree.specs.Ticks.{Trapped, Rests, Maximal, Ended, Paused, Stuck, outcome_at}
 
 -- what a run shows: the rows of its ticks, and how it stands after them; none where its next tick is stuck
 pub record Shown : Type 0 where

@@ -1,5 +1,5 @@
 -- How many steps a tick can have at most in an accepted program.
-use Rattle.std.specs.Prelude.{ℕ, ◌+◌, ◌-◌, ◌*◌, List, [], ◌∷◌, map, length, sum, unwrap_or, option_map}
+use Rattle.std.specs.Prelude.{ℕ, ◌+◌, ◌-◌, ◌*◌, List, map, length, unwrap_or, option_map}
 use Rattle.bl_tree.specs.declared.tree.Stmt.{Stmt, fold-Stmt}
 use Rattle.bl_tree.specs.declared.tree.StmtKind.TheOpen.{StmtKind-F, Arm-F, Branch-F, Stmt-F}
 use Rattle.bl_tree.specs.declared.tree.StructDef.{StructDef}

@@ -1,8 +1,5 @@
 -- The control trees of the code as plain trees.
-use Rattle.std.specs.Prelude.{ℕ, Bool, List, [], ◌∷◌, ◌++◌, map, drop}
-use Rattle.bl_tree.specs.declared.tree.Arm.{Arm, out-Arm}
-use Rattle.bl_tree.specs.declared.tree.Stmt.{Stmt, roll-Stmt}
-use Rattle.bl_tree.specs.declared.tree.Expr.{out-Expr}
+use Rattle.std.specs.Prelude.{Bool, List, [], ◌∷◌, ◌++◌, drop}
 use Rattle.bl_ctree.specs.declared.node.Arms.{Arms}
 use Rattle.bl_ctree.specs.declared.node.At.{At}
 use Rattle.bl_ctree.specs.declared.node.Branch.{Branch as BranchNode, fold-Branch}

@@ -1,11 +1,10 @@
 -- What can still happen in a tree before its next pause, by syntax alone: whether it may end, and what it may write.
-use Rattle.std.specs.Prelude.{ℕ, Bool, true, false, not, ◌&&◌, ◌||◌, List, [], ◌∷◌, map, Option, Some, None, if◌then◌else◌}
+use Rattle.std.specs.Prelude.{ℕ, Bool, true, false, not, ◌&&◌, ◌||◌, List, [], ◌∷◌, map, if◌then◌else◌}
 use Rattle.std.specs.List.{list_any}
 use Rattle.bl_tree.specs.declared.tree.Arm.{Arm}
 use Rattle.bl_tree.specs.declared.tree.Branch.{Branch}
 use Rattle.bl_tree.specs.declared.tree.Guard.{Guard as GuardKind}
 use Rattle.bl_tree.specs.declared.tree.Guard.TheVariants.{Abort, Reset}
-use Rattle.bl_tree.specs.declared.tree.Path.{Path}
 use Rattle.bl_tree.specs.declared.tree.Stmt.{Stmt}
 use Rattle.bl_tree.specs.declared.tree.StmtKind.{StmtKind}
 use Rattle.bl_tree.specs.declared.tree.StmtKind.TheOpen.{StmtKind-F}
@@ -15,7 +14,7 @@ use Rattle.bl_effects.specs.Instant.{instant}
 use Rattle.bl_effects.specs.Static.{static_of}
 use Rattle.bl_effects.specs.Surface.{surface_of}
 use Rattle.bl_ctree.specs.Actions.{Action, reads_of}
-use Rattle.bl_ctree.specs.Control.{Control, Branches, Nil, Wait, Test, Idle, Do, Turn, Seq, Par, Guard, Run, no_branch, branch, Phase, Check, Body, has_strong, is_nil, is_settled}
+use Rattle.bl_ctree.specs.Control.{Control, Branches, Nil, Wait, Test, Idle, Do, Turn, Seq, Par, Guard, Run, no_branch, branch, Phase, Check, Body, has_strong, is_settled}
 use Rattle.bl_ctree.specs.Instances.{Setting}
 use Rattle.bl_ctree.specs.Positions.{Item, Begin, Again, Located, kind_of}
 use Rattle.bl_ctree.specs.Store.{Location, homes, overlap}

@@ -1,6 +1,5 @@
 -- Steps: one action at one point of a tree.
-use Rattle.std.specs.Prelude.{ℕ, suc, Bool, true, false, List, [], ◌∷◌, ◌++◌, map, Option, Some, None, length, ◌≡◌, ◌+◌}
-use Rattle.bl_tree.specs.declared.place.Place.{Place}
+use Rattle.std.specs.Prelude.{ℕ, suc, Bool, true, false, List, [], ◌∷◌, ◌++◌, Option, Some, None, ◌≡◌}
 use Rattle.bl_tree.specs.declared.tree.Arm.{Arm, out-Arm}
 use Rattle.bl_tree.specs.declared.tree.Branch.{Branch}
 use Rattle.bl_tree.specs.declared.tree.Expr.{Expr}
@@ -10,8 +9,8 @@ use Rattle.bl_tree.specs.declared.tree.Path.{Path}
 use Rattle.bl_tree.specs.declared.tree.Stmt.{Stmt}
 use Rattle.bl_tree.specs.declared.tree.StmtKind.TheOpen.{StmtKind-F}
 use Rattle.bl_tree.specs.declared.tree.Unit.{Unit as UnitDef}
-use Rattle.bl_ctree.specs.Actions.{Action, action, Silent, Acts, Asks, Copies, Gives, Performed, perform}
-use Rattle.bl_ctree.specs.Control.{Control, Branches, Nil, Wait, Test, Idle, Do, Turn, Seq, Par, Guard, Run, no_branch, branch, Phase, Check, Body, do_all, seq, begun, are_settled, are_done}
+use Rattle.bl_ctree.specs.Actions.{Action, action, Silent, Acts, Asks, Copies, Gives, perform}
+use Rattle.bl_ctree.specs.Control.{Control, Branches, Nil, Wait, Test, Do, Turn, Seq, Par, Guard, Run, branch, Check, Body, do_all, seq, begun, are_settled, are_done}
 use Rattle.bl_ctree.specs.Instances.{Setting, callee_of, unit_at}
 use Rattle.bl_ctree.specs.Pending.{meets, any_meets}
 use Rattle.bl_ctree.specs.Positions.{Item, Begin, Again, Located, kind_of, place_of, block_items, body_items, further, is_act}

@@ -1,5 +1,5 @@
 -- Ticks: complete lists of steps, and how they end.
-use Rattle.std.specs.Prelude.{ℕ, Bool, true, false, List, [], ◌∷◌, ◌≡◌}
+use Rattle.std.specs.Prelude.{Bool, true, false, List, [], ◌∷◌}
 use Rattle.bl_ctree.specs.Actions.{Action}
 use Rattle.bl_ctree.specs.Control.{Control, is_nil, is_settled}
 use Rattle.bl_ctree.specs.Instances.{Setting}

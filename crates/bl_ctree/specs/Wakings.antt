@@ -1,5 +1,4 @@
 -- Branches as they are woken, seen as a list.
-use Rattle.std.specs.Prelude.{List, map}
 use Rattle.bl_ctree.specs.Control.{woken}
 use Rattle.bl_ctree.specs.Nodes.{Seen}
 
