@@ -1,0 +1,124 @@
+-- Actions: what one step asks of the store or does to it.
+use Rattle.std.specs.Prelude.{ℕ, Bool, true, List, [], ◌∷◌, ◌++◌, map, slice_get, Option, Some, None, option_map, option_and_then}
+use Rattle.bl_tree.specs.declared.tree.Arm.{Arm}
+use Rattle.bl_tree.specs.declared.tree.Branch.{Branch}
+use Rattle.bl_tree.specs.declared.tree.Expr.{Expr}
+use Rattle.bl_tree.specs.declared.tree.Path.{Path}
+use Rattle.bl_tree.specs.declared.tree.Stmt.{Stmt, out-Stmt}
+use Rattle.bl_tree.specs.declared.tree.StmtKind.{StmtKind, out-StmtKind}
+use Rattle.bl_tree.specs.declared.tree.StmtKind.TheOpen.{StmtKind-F}
+use Rattle.bl_tree.specs.declared.value.Value.{Value}
+use Rattle.bl_tree.specs.Numbers.{is_one}
+use Rattle.bl_tree.specs.Reduce.{joined}
+use Rattle.bl_eval.specs.Standing.{outcome_in_unit, value_in_unit}
+use Rattle.bl_effects.specs.declared.static_path.Static.{Static}
+use Rattle.bl_effects.specs.Effects.{argument_mentions, optional_mentions}
+use Rattle.bl_effects.specs.Static.{index_mentions, mentions, static_of}
+use Rattle.bl_ctree.specs.Instances.{Setting}
+use Rattle.bl_ctree.specs.Positions.{Located}
+use Rattle.bl_ctree.specs.Store.{Frame, Location, Store, home, homes, number_or_zero, put, put_all, remember, view_at, with_frame, with_inputs}
+
+pub data Effect : Type 0 where
+  -- the tree alone changes
+  Silent : Effect
+  -- the statement's own act: an assignment, a declaration, a call or a `return`
+  Acts : Stmt → Effect
+  -- a condition is tested
+  Asks : Expr → Effect
+  -- the inputs of a `run` are copied to the instance that it began
+  Copies : ℕ → List Expr → Effect
+  -- the target of a `run` gets the result of that instance
+  Gives : ℕ → Option Path → Effect
+
+-- an action: the statement to which it belongs, the instance in which that stands, and its effect
+pub record Action : Type 0 where
+  pub stmt : Located
+  pub instance : ℕ
+  pub effect : Effect
+
+abbrev pub action : ℕ → Located → Effect → Action
+action i s effect = record { stmt = s; instance = i; effect = effect }
+
+-- what an act reads: the set `reads` of its statement, as a list
+abbrev pub act_reads : StmtKind-F StmtKind Arm Branch Stmt → List Static
+act_reads (StmtKind-F.Declare k initial) = optional_mentions initial
+act_reads (StmtKind-F.Assign path e) = index_mentions path ++ mentions e
+act_reads (StmtKind-F.Call f inputs outputs) = argument_mentions inputs outputs
+act_reads (StmtKind-F.Return e) = optional_mentions e
+act_reads _ = []
+
+abbrev pub kind_of_stmt : Stmt → StmtKind-F StmtKind Arm Branch Stmt
+kind_of_stmt s = out-StmtKind (out-Stmt s).what
+
+-- what an action reads, as homes
+abbrev pub effect_reads : Setting → ℕ → Effect → List Location
+effect_reads w i Silent = []
+effect_reads w i (Acts s) = homes w i (act_reads (kind_of_stmt s))
+effect_reads w i (Asks e) = homes w i (mentions e)
+effect_reads w i (Copies callee inputs) = homes w i (joined (map mentions inputs))
+effect_reads w i (Gives callee target) = []
+
+abbrev pub reads_of : Setting → Action → List Location
+reads_of w a = effect_reads w a.instance a.effect
+
+-- ---- what an action makes of the store
+
+-- the answer of a test, true where nothing is tested, and the store
+pub record Performed : Type 0 where
+  pub answer : Bool
+  pub store : Store
+
+abbrev pub done : Store → Performed
+done store = record { answer = true; store = store }
+
+-- the value of an expression in an instance; none where it traps
+abbrev pub value_there : Setting → Store → ℕ → Expr → Option Value
+value_there w store i e =
+    option_and_then (λ instance. value_in_unit w.structs w.units instance.unit e (view_at w store i)) (slice_get w.instances i)
+
+abbrev pub values_there : Setting → Store → ℕ → List Expr → Option (List Value)
+values_there w store i [] = Some []
+values_there w store i (e ∷ rest) =
+    option_and_then (λ value. option_map (λ values. value ∷ values) (values_there w store i rest)) (value_there w store i e)
+
+-- the variables of an instance after an act; none where it traps
+abbrev pub outcome_there : Setting → Store → ℕ → Stmt → Option (List Value)
+outcome_there w store i s =
+    option_and_then (λ instance. outcome_in_unit w.structs w.units instance.unit s (view_at w store i)) (slice_get w.instances i)
+
+abbrev pub with_result : Value → Frame → Frame
+with_result value frame = record frame { result = Some value }
+
+-- the store after an act of an instance; none where it traps. A declaration sets the value before too
+abbrev pub acted_kind : Setting → ℕ → Stmt → StmtKind-F StmtKind Arm Branch Stmt → Store → Option Store
+acted_kind w i s (StmtKind-F.Return None) store = Some store
+acted_kind w i s (StmtKind-F.Return (Some e)) store = option_map (λ value. with_frame i (with_result value) store) (value_there w store i e)
+acted_kind w i s (StmtKind-F.Declare k initial) store =
+    option_map (λ values. with_frame i (remember k) (put_all w i values store)) (outcome_there w store i s)
+acted_kind w i s _ store = option_map (λ values. put_all w i values store) (outcome_there w store i s)
+
+abbrev pub is_true_value : Value → Bool
+is_true_value value = is_one (number_or_zero value)
+
+abbrev pub target_gets : Setting → ℕ → Store → Path → Value → Store
+target_gets w i store path value = put (home w (record { instance = i; path = static_of path })) value store
+
+abbrev pub result_at : Store → ℕ → Option Value
+result_at store callee = option_and_then (λ frame. frame.result) (slice_get store callee)
+
+-- without a target the result is dropped
+abbrev pub given_to : Setting → ℕ → Option Path → Option Value → Store → Store
+given_to w i (Some path) (Some value) store = target_gets w i store path value
+given_to w i _ _ store = store
+
+abbrev pub effect_on : Setting → ℕ → Effect → Store → Option Performed
+effect_on w i Silent store = Some (done store)
+effect_on w i (Acts s) store = option_map done (acted_kind w i s (kind_of_stmt s) store)
+effect_on w i (Asks e) store = option_map (λ value. record { answer = is_true_value value; store = store }) (value_there w store i e)
+effect_on w i (Copies callee inputs) store =
+    option_map (λ values. done (with_frame callee (with_inputs values) store)) (values_there w store i inputs)
+effect_on w i (Gives callee target) store = Some (done (given_to w i target (result_at store callee) store))
+
+-- what an action answers and leaves; none where it traps
+abbrev pub perform : Setting → Action → Store → Option Performed
+perform w a store = effect_on w a.instance a.effect store

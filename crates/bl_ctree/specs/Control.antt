@@ -1,0 +1,135 @@
+-- Control trees: what of a program is paused, has begun or is to begin.
+use Rattle.std.specs.Prelude.{ℕ, suc, Bool, true, false, not, ◌&&◌, ◌||◌, List, [], ◌∷◌, if◌then◌else◌}
+use Rattle.bl_tree.specs.declared.tree.Branch.{Branch, out-Branch}
+use Rattle.bl_ctree.specs.Positions.{Located, Item, Begin, Again, block_items}
+
+-- how far a Guard or a Run is in this tick. Check: a Guard's condition is still to be tested, a Run's inputs are still to be copied
+pub data Phase : Type 0 where
+  Check : Phase
+  Body : Phase
+
+-- A node has the statement that it comes from. `stood` of a Par, a Guard and a Run says that it stood in the tree when the
+-- tick began
+mutual
+  pub data Control : Type 0 where
+    -- ended
+    Nil : Control
+    -- paused at an `await`
+    Wait : Located → Control
+    -- an `await` that was woken
+    Test : Located → Control
+    -- the whole tree before the first tick: the entry's body
+    Idle : List Item → Control
+    -- a statement that is to begin
+    Do : Located → Control
+    -- the test of a `repeat .. until`
+    Turn : Located → Control
+    -- the rest follows when the tree has ended
+    Seq : Control → List Item → Control
+    -- the branches of a `cobegin`
+    Par : Located → (stood : Bool) → Branches → Control
+    -- a `when` over what of its body is left
+    Guard : Located → Phase → (stood : Bool) → Control → Control
+    -- a `run`, the instance that it began, and what of its body is left
+    Run : Located → ℕ → Phase → (stood : Bool) → Control → Control
+
+  pub data Branches : Type 0 where
+    no_branch : Branches
+    -- a branch, weak or not, before further ones
+    branch : (weak : Bool) → Control → Branches → Branches
+
+-- ---- equalities: an empty list is Nil, what follows Nil is the rest, and an empty rest vanishes
+
+abbrev pub do_item : Item → Control
+do_item (Begin s) = Do s
+do_item (Again s) = Turn s
+
+abbrev pub followed : Control → List Item → Control
+followed c [] = c
+followed c (item ∷ rest) = Seq c (item ∷ rest)
+
+-- a list that is to begin
+abbrev pub do_all : List Item → Control
+do_all [] = Nil
+do_all (item ∷ rest) = followed (do_item item) rest
+
+-- a tree and what follows it
+abbrev pub seq : Control → List Item → Control
+seq Nil rest = do_all rest
+seq c rest = followed c rest
+
+-- the branches of a `cobegin` as they begin, from the one with number k on
+abbrev pub begun : Located → ℕ → List Branch → Branches
+begun s k [] = no_branch
+begun s k (b ∷ rest) = branch (out-Branch b).weak (do_all (block_items s k (out-Branch b).body)) (begun s (suc k) rest)
+
+-- ---- due and settled
+
+abbrev pub is_nil : Control → Bool
+is_nil Nil = true
+is_nil _ = false
+
+abbrev pub has_strong : Branches → Bool
+has_strong no_branch = false
+has_strong (branch weak c rest) = not weak || has_strong rest
+
+abbrev pub strong_ended : Branches → Bool
+strong_ended no_branch = true
+strong_ended (branch weak c rest) = (weak || is_nil c) && strong_ended rest
+
+abbrev pub some_ended : Branches → Bool
+some_ended no_branch = false
+some_ended (branch weak c rest) = is_nil c || some_ended rest
+
+-- whether so many have ended that the `cobegin` ends: all strong ones, or some one where none is strong
+abbrev pub are_done : Branches → Bool
+are_done branches = if has_strong branches then strong_ended branches else some_ended branches
+
+abbrev pub in_body : Phase → Bool
+in_body Check = false
+in_body Body = true
+
+abbrev mutual
+  -- nothing is left to do in this tick
+  pub is_settled : Control → Bool
+  is_settled Nil = true
+  is_settled (Wait s) = true
+  is_settled (Test s) = false
+  is_settled (Idle items) = true
+  is_settled (Do s) = false
+  is_settled (Turn s) = false
+  is_settled (Seq c rest) = is_settled c
+  is_settled (Par s stood branches) = are_settled branches && not (are_done branches)
+  is_settled (Guard s phase stood c) = in_body phase && (is_settled c && not (is_nil c))
+  is_settled (Run s i phase stood c) = in_body phase && (is_settled c && not (is_nil c))
+
+  pub are_settled : Branches → Bool
+  are_settled no_branch = true
+  are_settled (branch weak c rest) = is_settled c && are_settled rest
+
+-- what is done and has still to end: a Par whose branches are settled and done, a Guard or a Run whose body has ended
+abbrev pub is_due : Control → Bool
+is_due (Par s stood branches) = are_settled branches && are_done branches
+is_due (Guard s phase stood c) = in_body phase && is_nil c
+is_due (Run s i phase stood c) = in_body phase && is_nil c
+is_due _ = false
+
+-- ---- the start of a tick
+
+abbrev mutual
+  -- Idle begins, each Wait is tested, each Guard checks and each Run copies its inputs
+  pub woken : Control → Control
+  woken Nil = Nil
+  woken (Wait s) = Test s
+  woken (Test s) = Test s
+  woken (Idle items) = do_all items
+  woken (Do s) = Do s
+  woken (Turn s) = Turn s
+  woken (Seq c rest) = seq (woken c) rest
+  woken (Par s stood branches) = Par s true (all_woken branches)
+  woken (Guard s phase stood c) = Guard s Check true (woken c)
+  woken (Run s i phase stood c) = Run s i Check true (woken c)
+
+  pub all_woken : Branches → Branches
+  all_woken no_branch = no_branch
+  all_woken (branch weak c rest) = branch weak (woken c) (all_woken rest)

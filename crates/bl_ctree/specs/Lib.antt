@@ -1,0 +1,15 @@
+pub mod Actions
+pub mod Control
+pub mod Instances
+pub mod Laws
+pub mod Means
+pub mod Measure
+pub mod Nodes
+pub mod Paths
+pub mod Pending
+pub mod Points
+pub mod Positions
+pub mod Steps
+pub mod Store
+pub mod Ticks
+pub mod Wakings

@@ -1,0 +1,48 @@
+-- How many steps a tick can have at most in an accepted program.
+use Rattle.std.specs.Prelude.{ℕ, ◌+◌, ◌-◌, ◌*◌, List, map, length, unwrap_or, option_map}
+use Rattle.bl_tree.specs.declared.tree.Stmt.{Stmt, fold-Stmt}
+use Rattle.bl_tree.specs.declared.tree.StmtKind.TheOpen.{StmtKind-F, Arm-F, Branch-F, Stmt-F}
+use Rattle.bl_tree.specs.declared.tree.StructDef.{StructDef}
+use Rattle.bl_tree.specs.declared.tree.Unit.{Unit as UnitDef}
+use Rattle.bl_tree.specs.Reduce.{total}
+use Rattle.bl_ctree.specs.declared.instance.Instance.{Instance}
+use Rattle.bl_ctree.specs.Instances.{Setting, setting_of, unit_of}
+
+abbrev pub kind_statements : StmtKind-F ℕ ℕ ℕ ℕ → ℕ
+kind_statements (StmtKind-F.Declare k initial) = 1
+kind_statements (StmtKind-F.Assign path e) = 1
+kind_statements (StmtKind-F.Call f inputs outputs) = 1
+kind_statements (StmtKind-F.Await e) = 1
+kind_statements (StmtKind-F.Run target a inputs outputs) = 1
+kind_statements (StmtKind-F.If arms other) = 1 + (length arms - 1) + total arms + total other
+kind_statements (StmtKind-F.Cobegin branches) = 1 + total branches
+kind_statements (StmtKind-F.When guard e body) = 1 + total body
+kind_statements (StmtKind-F.Repeat body) = 1 + total body
+kind_statements (StmtKind-F.Until body e) = 1 + total body
+kind_statements (StmtKind-F.While e body) = 1 + total body
+kind_statements (StmtKind-F.Return e) = 1
+
+abbrev pub arm_statements : Arm-F ℕ ℕ ℕ ℕ → ℕ
+arm_statements arm = total arm.body
+
+abbrev pub branch_statements : Branch-F ℕ ℕ ℕ ℕ → ℕ
+branch_statements branch = total branch.body
+
+abbrev pub stmt_layer_statements : Stmt-F ℕ ℕ ℕ ℕ → ℕ
+stmt_layer_statements s = s.what
+
+-- a statement and those that stand in it; each `elseif` counts as one
+abbrev pub statements_in : Stmt → ℕ
+statements_in = fold-Stmt ℕ ℕ ℕ ℕ kind_statements arm_statements branch_statements stmt_layer_statements
+
+abbrev pub statements_of : UnitDef → ℕ
+statements_of unit = total (map statements_in unit.body)
+
+-- an instance is passed at most once for itself and once for each of its callers, and in a pass each of the at most six nodes
+-- of a statement acts at most once, or one of two acts twice
+abbrev pub instance_steps : Setting → Instance → ℕ
+instance_steps w instance = 6 * (instance.depth + 1) * unwrap_or (option_map statements_of (unit_of w instance)) 0
+
+-- the most steps of a tick
+abbrev pub steps : List StructDef → List UnitDef → ℕ → ℕ
+steps structs units entry = let w = setting_of structs units entry in total (map (instance_steps w) w.instances)

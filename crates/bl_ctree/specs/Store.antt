@@ -1,0 +1,173 @@
+-- The store: the values of every instance's variables, now and at the end of the previous tick.
+use Rattle.std.specs.Prelude.{ℕ, zero, suc, ◌+◌, ◌-◌, ℤ, pos, Bool, ◌&&◌, nat_eq, nat_lt, nat_le, List, [], ◌∷◌, ◌++◌, map, take, drop, slice_get, slice_set, Option, None, option_map, option_and_then, unwrap_or, if◌then◌else◌}
+use Rattle.bl_tree.specs.declared.scalar.Scalar.{Scalar as ScalarType}
+use Rattle.bl_tree.specs.declared.tree.StructDef.{StructDef}
+use Rattle.bl_tree.specs.declared.tree.Unit.{Unit as UnitDef}
+use Rattle.bl_tree.specs.declared.tree.Var.{Var}
+use Rattle.bl_tree.specs.declared.value.Value.{Value}
+use Rattle.bl_tree.specs.declared.value.Value.TheVariants.{Number, Parts}
+use Rattle.bl_eval.specs.Meaning.{View}
+use Rattle.bl_eval.specs.Values.{number_in, put_at, value_at, zero_of}
+use Rattle.bl_effects.specs.declared.static_path.Static.{Static}
+use Rattle.bl_effects.specs.Static.{overlaps, whole}
+use Rattle.bl_ctree.specs.declared.instance.Instance.{Instance}
+use Rattle.bl_ctree.specs.declared.instance.Origin.{Origin}
+use Rattle.bl_ctree.specs.Instances.{Setting, unit_at, unit_of}
+
+-- the values of one instance: of its variables now and before, and of its result, where its activity has one
+pub record Frame : Type 0 where
+  pub now : List Value
+  pub before : List Value
+  pub result : Option Value
+
+-- one frame for each instance
+abbrev pub Store : Type 0
+Store = List Frame
+
+-- ---- homes
+
+-- a static path of an instance
+pub record Location : Type 0 where
+  pub instance : ℕ
+  pub path : Static
+
+abbrev pub whole_of : ℕ → ℕ → Location
+whole_of i k = record { instance = i; path = whole k }
+
+-- where the fields of a path lead on from the caller's path for which it stands
+abbrev pub under : ℕ → List ℕ → Static → Location
+under caller fields path = record { instance = caller; path = record { root = path.root; fields = path.fields ++ fields } }
+
+-- whether the variable is an output of the unit
+abbrev pub is_output_of : UnitDef → ℕ → Bool
+is_output_of unit k = nat_le unit.inputs k && nat_lt k (unit.inputs + unit.outputs)
+
+abbrev pub led_by : Static → Origin → UnitDef → Option Location
+led_by path origin unit =
+    if is_output_of unit path.root
+    then option_map (under origin.caller path.fields) (slice_get origin.outputs (path.root - unit.inputs))
+    else None
+
+-- an output of a called instance stands for its caller's path; none for every other variable
+abbrev pub led : Setting → Location → Option Location
+led w at =
+    option_and_then (λ instance. option_and_then (λ origin. option_and_then (led_by at.path origin) (unit_of w instance)) instance.origin)
+    (slice_get w.instances at.instance)
+
+abbrev pub home_within : Setting → ℕ → Location → Location
+home_within w zero at = at
+home_within w (suc depth) at = unwrap_or (option_map (home_within w depth) (led w at)) at
+
+abbrev pub depth_at : Setting → ℕ → ℕ
+depth_at w i = unwrap_or (option_map (λ instance. instance.depth) (slice_get w.instances i)) 0
+
+-- where a static path leads, on to the outermost caller: an instance has as many callers as it is deep
+abbrev pub home : Setting → Location → Location
+home w at = home_within w (depth_at w at.instance) at
+
+-- the homes of static paths of an instance
+abbrev pub homes : Setting → ℕ → List Static → List Location
+homes w i paths = map (λ path. home w (record { instance = i; path = path })) paths
+
+-- whether two homes have something in common
+abbrev pub overlap : Location → Location → Bool
+overlap a b = nat_eq a.instance b.instance && overlaps a.path b.path
+
+-- ---- reading
+
+-- the value at a home, among the values that are asked for
+abbrev pub value_among : (Frame → List Value) → Store → Location → Option Value
+value_among values store at =
+    option_and_then (λ frame. option_and_then (value_at at.path.fields) (slice_get (values frame) at.path.root)) (slice_get store at.instance)
+
+-- a variable's value, wherever its home is; nothing fitting stands where no home is
+abbrev pub variable_among : (Frame → List Value) → Setting → Store → ℕ → ℕ → Value
+variable_among values w store i k = unwrap_or (value_among values store (home w (whole_of i k))) (Parts [])
+
+abbrev pub each_from : (ℕ → Value) → ℕ → List Var → List Value
+each_from value k [] = []
+each_from value k (var ∷ rest) = value k ∷ each_from value (suc k) rest
+
+abbrev pub vars_at : Setting → ℕ → List Var
+vars_at w i = unwrap_or (option_map (λ unit. unit.vars) (unit_at w i)) []
+
+-- what the statements of an instance see: a value for each variable, an output's being that of its home
+abbrev pub view_at : Setting → Store → ℕ → View
+view_at w store i =
+    record {
+      now = each_from (variable_among (λ frame. frame.now) w store i) 0 (vars_at w i);
+      before = each_from (variable_among (λ frame. frame.before) w store i) 0 (vars_at w i);
+    }
+
+-- ---- writing
+
+abbrev pub with_now : Store → Location → Value → Frame → Option Store
+with_now store at value frame =
+    option_map (λ now. slice_set store at.instance (record frame { now = now })) (put_at at.path.root at.path.fields value frame.now)
+
+-- the store with the value at a home
+abbrev pub put : Location → Value → Store → Store
+put at value store = unwrap_or (option_and_then (with_now store at value) (slice_get store at.instance)) store
+
+-- the store with these values of an instance's variables, from variable k on, each at its home
+abbrev pub put_from : Setting → ℕ → ℕ → List Value → Store → Store
+put_from w i k [] store = store
+put_from w i k (value ∷ rest) store = put_from w i (suc k) rest (put (home w (whole_of i k)) value store)
+
+abbrev pub put_all : Setting → ℕ → List Value → Store → Store
+put_all w i values store = put_from w i 0 values store
+
+-- a change of one frame
+abbrev pub with_frame : ℕ → (Frame → Frame) → Store → Store
+with_frame i change store = unwrap_or (option_map (λ frame. slice_set store i (change frame)) (slice_get store i)) store
+
+-- a declared variable had before what it has now
+abbrev pub remember : ℕ → Frame → Frame
+remember k frame = record frame { before = unwrap_or (option_map (slice_set frame.before k) (slice_get frame.now k)) frame.before }
+
+-- the values with the first of them replaced
+abbrev pub replaced_front : List Value → List Value → List Value
+replaced_front [] values = values
+replaced_front (input ∷ rest) [] = []
+replaced_front (input ∷ rest) (value ∷ values) = input ∷ replaced_front rest values
+
+-- the first values are the inputs
+abbrev pub with_inputs : List Value → Frame → Frame
+with_inputs inputs frame = record frame { now = replaced_front inputs frame.now }
+
+-- ---- the start of a run, the start of a tick, and its outputs
+
+abbrev pub zeros : List StructDef → List Var → List Value
+zeros structs vars = map (λ var. zero_of structs var.ty) vars
+
+abbrev pub zero_result : Option ScalarType → Option Value
+zero_result result = option_map (λ ty. Number (pos 0)) result
+
+abbrev pub first_frame : List StructDef → UnitDef → Frame
+first_frame structs unit = record { now = zeros structs unit.vars; before = zeros structs unit.vars; result = zero_result unit.result }
+
+abbrev pub frame_at_first : Setting → Instance → Frame
+frame_at_first w instance =
+    unwrap_or (option_map (first_frame w.structs) (unit_of w instance)) (record { now = []; before = []; result = None })
+
+-- 0 or false everywhere
+abbrev pub first_store : Setting → Store
+first_store w = map (frame_at_first w) w.instances
+
+abbrev pub aged : Frame → Frame
+aged frame = record frame { before = frame.now }
+
+-- every value before becomes the value now, and the entry's inputs become the row
+abbrev pub woken_store : List ℤ → Store → Store
+woken_store row store = with_frame 0 (with_inputs (map Number row)) (map aged store)
+
+abbrev pub number_or_zero : Value → ℤ
+number_or_zero value = unwrap_or (number_in value) (pos 0)
+
+abbrev pub outputs_of_frame : UnitDef → Frame → List ℤ
+outputs_of_frame unit frame = map number_or_zero (take unit.outputs (drop unit.inputs frame.now))
+
+-- the row of the entry's outputs
+abbrev pub outputs_row : Setting → Store → List ℤ
+outputs_row w store =
+    unwrap_or (option_and_then (λ unit. option_map (outputs_of_frame unit) (slice_get store 0)) (unit_at w 0)) []

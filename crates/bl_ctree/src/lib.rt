@@ -1,0 +1,13 @@
+//! The parallel meaning of programs: control trees, their steps, and the traces that all interleavings allow
+//! (docs/LANGUAGE.md, "Control trees").
+#![tactic(auto)]
+
+mod copying;
+pub mod instance;
+pub mod laws;
+pub mod node;
+mod paths;
+pub mod runs;
+pub mod sequence;
+pub mod settle;
+pub mod waking;
