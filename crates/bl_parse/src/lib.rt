@@ -1,0 +1,19 @@
+//! Raw trees of source texts, and the rules on nesting and grammar (docs/LANGUAGE.md, "Grammar" and "Rules").
+#![tactic(auto)]
+
+mod expr;
+mod item;
+mod name;
+mod operator;
+mod parse;
+mod parts;
+mod scalar;
+mod source;
+mod stmt;
+mod stop;
+mod types;
+
+pub use parse::parse;
+
+#[cfg(test)]
+mod tests;
