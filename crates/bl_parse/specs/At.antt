@@ -36,7 +36,12 @@ name_at text tokens k = record {
   place = record { start = start_at tokens k; end = end_at tokens k };
 }
 
+-- the token at a position is of this kind, and the next position is that behind it
+pub record Takes (tokens : List Token) (kind : TokenKind) (from to : ℕ) : Type 0 where
+  pub stands : kind_at tokens from ≡ Some kind
+  pub next : to ≡ from + 1
+
 -- the token is a name, and it is this one
-pub record NameAt (text : List ℕ) (tokens : List Token) (k : ℕ) (name : Name) : Type 0 where
-  pub kind : kind_at tokens k ≡ Some TokenKind.Name
-  pub is : name ≡ name_at text tokens k
+pub record SpellsName (text : List ℕ) (tokens : List Token) (name : Name) (from to : ℕ) : Type 0 where
+  pub token : Takes tokens TokenKind.Name from to
+  pub is : name ≡ name_at text tokens from

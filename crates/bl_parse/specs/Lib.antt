@@ -3,4 +3,5 @@ pub mod Expressions
 pub mod Operators
 pub mod Programs
 pub mod Statements
+pub mod Steps
 pub mod Types

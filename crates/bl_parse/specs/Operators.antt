@@ -4,9 +4,11 @@ use Rattle.bl_tree.specs.declared.scalar.Op.{Op}
 use Rattle.bl_tree.specs.declared.scalar.Scalar.{Scalar}
 use Rattle.bl_tree.specs.declared.scalar.Scalar.TheVariants.{Bool as OfBool, Int, Nat, Bits}
 use Rattle.bl_tree.specs.declared.scalar.Width.TheVariants.{W8, W16, W32, W64}
+use Rattle.bl_tree.specs.declared.token.Token.{Token}
 use Rattle.bl_tree.specs.declared.token.TokenKind.{TokenKind}
 use Rattle.bl_tree.specs.declared.token.TokenKind.TheVariants.{Name, Number, Word, Sign}
 use Rattle.bl_lex.specs.declared.sign.TheConstants.{EQUAL, NOT_EQUAL, LESS, LESS_OR_EQUAL, GREATER, GREATER_OR_EQUAL, PLUS, MINUS, STAR, SLASH, PERCENT, AMPERSAND, BAR, CARET, TILDE, SHIFT_LEFT, SHIFT_RIGHT, OPEN_PAREN}
+use Rattle.bl_parse.specs.At.{Takes}
 use Rattle.bl_lex.specs.declared.word.TheConstants.{AND, OR, NOT, TRUE, FALSE, PREV, BOOL, INT8, INT16, INT32, INT64, NAT8, NAT16, NAT32, NAT64, BITS8, BITS16, BITS32, BITS64}
 
 -- the level of a comparison
@@ -46,11 +48,23 @@ pub data IsOperator : TokenKind → ℕ → Op → Type 0 where
 abbrev pub left_level : ℕ → ℕ
 left_level level = if nat_eq level comparing then 3 else level
 
+-- the token is an operator with two operands
+pub record SpellsInfix (tokens : List Token) (level : ℕ) (op : Op) (from to : ℕ) : Type 0 where
+  pub kind : TokenKind
+  pub token : Takes tokens kind from to
+  pub is : IsOperator kind level op
+
 -- the operators before one operand
 pub data IsPrefix : TokenKind → Op → Type 0 where
   negation : IsPrefix (Sign MINUS) Op.Neg
   complement : IsPrefix (Sign TILDE) Op.Not
   denial : IsPrefix (Word NOT) Op.Negate
+
+-- the token is an operator before one operand
+pub record SpellsPrefix (tokens : List Token) (op : Op) (from to : ℕ) : Type 0 where
+  pub kind : TokenKind
+  pub token : Takes tokens kind from to
+  pub is : IsPrefix kind op
 
 -- the words of the types without parts
 pub data IsScalar : TokenKind → Scalar → Type 0 where
@@ -67,6 +81,12 @@ pub data IsScalar : TokenKind → Scalar → Type 0 where
   bits16 : IsScalar (Word BITS16) (Bits W16)
   bits32 : IsScalar (Word BITS32) (Bits W32)
   bits64 : IsScalar (Word BITS64) (Bits W64)
+
+-- the token names a type without parts
+pub record SpellsScalar (tokens : List Token) (s : Scalar) (from to : ℕ) : Type 0 where
+  pub kind : TokenKind
+  pub token : Takes tokens kind from to
+  pub is : IsScalar kind s
 
 -- whether an expression may begin with the token
 abbrev pub begins_expr : TokenKind → Bool

@@ -1,32 +1,30 @@
 -- How tokens spell a type.
-use Rattle.std.specs.Prelude.{◌≡◌, ℕ, ◌+◌, List, Some}
+use Rattle.std.specs.Prelude.{◌≡◌, ℕ, List}
 use Rattle.bl_tree.specs.declared.scalar.Scalar.{Scalar as ScalarType}
 use Rattle.bl_tree.specs.declared.token.Token.{Token}
-use Rattle.bl_tree.specs.declared.token.TokenKind.{TokenKind}
 use Rattle.bl_tree.specs.declared.token.TokenKind.TheVariants.{Number, Sign}
 use Rattle.bl_lex.specs.declared.sign.TheConstants.{OPEN_BRACKET, CLOSE_BRACKET}
 use Rattle.bl_raw.specs.declared.name.Name.{Name}
 use Rattle.bl_raw.specs.declared.types.RawLength.{RawLength}
-use Rattle.bl_raw.specs.declared.types.RawNumber.{RawNumber}
-use Rattle.bl_raw.specs.declared.types.RawType.{RawType, roll-RawType}
-use Rattle.bl_raw.specs.declared.types.RawType.TheOpen.{RawType-F}
-use Rattle.bl_parse.specs.At.{kind_at, span, NameAt}
-use Rattle.bl_parse.specs.Operators.{IsScalar}
+use Rattle.bl_raw.specs.declared.types.RawType.{RawType}
+use Rattle.bl_raw.specs.declared.types.RawType as form
+use Rattle.bl_parse.specs.At.{span, SpellsName, Takes}
+use Rattle.bl_parse.specs.Operators.{SpellsScalar}
 
--- the token at a position spells a length: a number or a name
-pub data SpellsLength (text : List ℕ) (tokens : List Token) (at : ℕ) : RawLength → Type 0 where
-  number : {length : RawLength} {n : ℕ} → kind_at tokens at ≡ Some (Number n)
-      → length ≡ RawLength.Number (record { place = span tokens at (at + 1); value = n }) → SpellsLength text tokens at length
-  constant : {length : RawLength} {name : Name} → NameAt text tokens at name → length ≡ RawLength.Constant name → SpellsLength text tokens at length
+-- a number or a name spells a length
+pub data SpellsLength (text : List ℕ) (tokens : List Token) : RawLength → ℕ → ℕ → Type 0 where
+  number : {length : RawLength} {n from to : ℕ} → Takes tokens (Number n) from to
+      → length ≡ RawLength.Number (record { place = span tokens from to; value = n }) → SpellsLength text tokens length from to
+  constant : {length : RawLength} {name : Name} {from to : ℕ} → SpellsName text tokens name from to
+      → length ≡ RawLength.Constant name → SpellsLength text tokens length from to
 
 -- the tokens from a position up to another spell a type
 pub data SpellsType (text : List ℕ) (tokens : List Token) : RawType → ℕ → ℕ → Type 0 where
-  scalar : {ty : RawType} {from to : ℕ} {kind : TokenKind} {s : ScalarType} → kind_at tokens from ≡ Some kind → IsScalar kind s
-      → to ≡ from + 1 → ty ≡ roll-RawType (RawType-F.Scalar s) → SpellsType text tokens ty from to
-  named : {ty : RawType} {from to : ℕ} {name : Name} → NameAt text tokens from name
-      → to ≡ from + 1 → ty ≡ roll-RawType (RawType-F.Struct name) → SpellsType text tokens ty from to
-  -- `[ length ] type`
-  array : {ty element : RawType} {from to : ℕ} {length : RawLength} → kind_at tokens from ≡ Some (Sign OPEN_BRACKET)
-      → SpellsLength text tokens (from + 1) length → kind_at tokens (from + 2) ≡ Some (Sign CLOSE_BRACKET)
-      → SpellsType text tokens element (from + 3) to
-      → ty ≡ roll-RawType (RawType-F.Array length element) → SpellsType text tokens ty from to
+  scalar : {ty : RawType} {from to : ℕ} {s : ScalarType} → SpellsScalar tokens s from to
+      → ty ≡ form.Scalar s → SpellsType text tokens ty from to
+  named : {ty : RawType} {from to : ℕ} {name : Name} → SpellsName text tokens name from to
+      → ty ≡ form.Struct name → SpellsType text tokens ty from to
+  -- `[`, a length, `]` and the type of the elements
+  array : {ty element : RawType} {from a b c to : ℕ} {length : RawLength} → Takes tokens (Sign OPEN_BRACKET) from a
+      → SpellsLength text tokens length a b → Takes tokens (Sign CLOSE_BRACKET) b c → SpellsType text tokens element c to
+      → ty ≡ form.Array length element → SpellsType text tokens ty from to

@@ -1,7 +1,10 @@
 //! What a file declares: structs, constants and units.
 
+ghost use Rattle.std.specs.Prelude.{◌≡◌, ◌+◌, ◌<◌, ◌≤◌, length, IfOk, OnOk};
+ghost use Rattle.bl_parse.specs.Programs.{SpellsItems, SpellsItem, SpellsStruct, SpellsFieldList, SpellsField, SpellsUnit, SpellsMark, SpellsUnitKind, SpellsParams, SpellsParamList, SpellsParam, SpellsOutputParams, SpellsResult};
+
 use crate::name::name;
-use crate::parts::constant;
+use crate::parts::{constant, typing};
 use crate::source::Source;
 use crate::stmt::block;
 use crate::stop::Stop;
@@ -14,16 +17,25 @@ use bl_tree::token::TokenKind;
 use bl_tree::tree::UnitKind;
 
 /// Reads all items, up to the last token.
-pub fn items(source: &Source) -> Result<List<RawItem>, Stop> {
+pub fn items(source: &Source) -> Result<List<RawItem>, Stop>
+    ensures { IfOk result (λ items. SpellsItems source.now.text.now source.now.tokens.now items 0 (length source.now.tokens.now)) }
+{
     let mut items = List::new(source.alloc);
     let mut at = 0;
-    while at < source.tokens.len() {
+    'items: while at < source.tokens.len() {
         items.push(item(source, &mut at)?)?;
     }
-    Ok(items)
+    if at == source.tokens.len() {
+        Ok(items)
+    } else {
+        Err(Stop::Unexpected)
+    }
 }
 
-fn item(source: &Source, at: &mut usize) -> Result<RawItem, Stop> {
+fn item(source: &Source, at: &mut usize) -> Result<RawItem, Stop>
+    ensures spelled { IfOk result (λ item. SpellsItem source.now.text.now source.now.tokens.now item at.old at.new) }
+    ensures ahead { OnOk result (at.old < at.new) }
+{
     match source.kind_at(*at) {
         Some(TokenKind::Word(word::STRUCT)) => Ok(RawItem::Struct(structure(source, at)?)),
         Some(TokenKind::Word(word::CONST)) => Ok(RawItem::Constant(constant(source, at)?)),
@@ -31,7 +43,10 @@ fn item(source: &Source, at: &mut usize) -> Result<RawItem, Stop> {
     }
 }
 
-fn structure(source: &Source, at: &mut usize) -> Result<RawStruct, Stop> {
+fn structure(source: &Source, at: &mut usize) -> Result<RawStruct, Stop>
+    ensures spelled { IfOk result (λ def. SpellsStruct source.now.text.now source.now.tokens.now def at.old at.new) }
+    ensures ahead { OnOk result (at.old < at.new) }
+{
     source.take(at, TokenKind::Word(word::STRUCT))?;
     let name = name(source, at)?;
     let fields = fields(source, at)?;
@@ -40,30 +55,38 @@ fn structure(source: &Source, at: &mut usize) -> Result<RawStruct, Stop> {
 }
 
 /// One field or more.
-fn fields(source: &Source, at: &mut usize) -> Result<List<RawField>, Stop> {
+fn fields(source: &Source, at: &mut usize) -> Result<List<RawField>, Stop>
+    ensures spelled { IfOk result (λ fields. SpellsFieldList source.now.text.now source.now.tokens.now fields at.old at.new) }
+    ensures ahead { OnOk result (at.old < at.new) }
+{
     let mut fields = List::new(source.alloc);
     fields.push(field(source, at)?)?;
-    while source.stands(*at, TokenKind::Word(word::VAR)) {
+    'vars: while source.stands(*at, TokenKind::Word(word::VAR)) {
         fields.push(field(source, at)?)?;
     }
     Ok(fields)
 }
 
-fn field(source: &Source, at: &mut usize) -> Result<RawField, Stop> {
+fn field(source: &Source, at: &mut usize) -> Result<RawField, Stop>
+    ensures spelled { IfOk result (λ field. SpellsField source.now.text.now source.now.tokens.now field at.old at.new) }
+    ensures ahead { OnOk result (at.old < at.new) }
+{
     source.take(at, TokenKind::Word(word::VAR))?;
     let name = name(source, at)?;
-    source.take(at, TokenKind::Sign(sign::COLON))?;
-    let ty = read_type(source, at)?;
+    let ty = typing(source, at)?;
     Ok(RawField { name, ty })
 }
 
-fn unit(source: &Source, at: &mut usize) -> Result<RawUnit, Stop> {
+fn unit(source: &Source, at: &mut usize) -> Result<RawUnit, Stop>
+    ensures spelled { IfOk result (λ unit. SpellsUnit source.now.text.now source.now.tokens.now unit at.old at.new) }
+    ensures ahead { OnOk result (at.old < at.new) }
+{
     let entry = mark(source, at)?;
     let kind = unit_kind(source, at)?;
     let name = name(source, at)?;
     let inputs = params(source, at)?;
     let outputs = output_params(source, at)?;
-    let result = result(source, at)?;
+    let result = result_type(source, at)?;
     let body = block(source, at)?;
     source.take(at, TokenKind::Word(word::END))?;
     Ok(RawUnit {
@@ -78,32 +101,42 @@ fn unit(source: &Source, at: &mut usize) -> Result<RawUnit, Stop> {
 }
 
 /// Passes the mark of the entry point, where a `@` stands. Rule Profile refuses every name in it but `EntryPoint`.
-fn mark(source: &Source, at: &mut usize) -> Result<bool, Stop> {
-    let marked = source.stands(*at, TokenKind::Sign(sign::AT));
-    if marked {
-        *at += 1;
+fn mark(source: &Source, at: &mut usize) -> Result<bool, Stop>
+    ensures spelled { IfOk result (λ entry. SpellsMark source.now.tokens.now entry at.old at.new) }
+    ensures ahead { OnOk result (at.old ≤ at.new) }
+{
+    if source.stands(*at, TokenKind::Sign(sign::AT)) {
+        source.take(at, TokenKind::Sign(sign::AT))?;
         source.take(at, TokenKind::Sign(sign::OPEN_BRACKET))?;
         source.take(at, TokenKind::Name)?;
         source.take(at, TokenKind::Sign(sign::CLOSE_BRACKET))?;
+        Ok(true)
+    } else {
+        Ok(false)
     }
-    Ok(marked)
 }
 
-fn unit_kind(source: &Source, at: &mut usize) -> Result<UnitKind, Stop> {
-    let kind = match source.kind_at(*at) {
-        Some(TokenKind::Word(word::FUNCTION)) => UnitKind::Function,
-        Some(TokenKind::Word(word::ACTIVITY)) => UnitKind::Activity,
-        _ => return Err(Stop::Unexpected),
-    };
-    *at += 1;
-    Ok(kind)
+fn unit_kind(source: &Source, at: &mut usize) -> Result<UnitKind, Stop>
+    ensures spelled { IfOk result (λ kind. SpellsUnitKind source.now.tokens.now kind at.old at.new) }
+    ensures ahead { OnOk result (at.old < at.new) }
+{
+    if source.stands(*at, TokenKind::Word(word::FUNCTION)) {
+        source.take(at, TokenKind::Word(word::FUNCTION))?;
+        Ok(UnitKind::Function)
+    } else {
+        source.take(at, TokenKind::Word(word::ACTIVITY))?;
+        Ok(UnitKind::Activity)
+    }
 }
 
 /// Reads parameters in parentheses.
-fn params(source: &Source, at: &mut usize) -> Result<List<RawParam>, Stop> {
+fn params(source: &Source, at: &mut usize) -> Result<List<RawParam>, Stop>
+    ensures spelled { IfOk result (λ params. SpellsParams source.now.text.now source.now.tokens.now params at.old at.new) }
+    ensures ahead { OnOk result (at.old < at.new) }
+{
     source.take(at, TokenKind::Sign(sign::OPEN_PAREN))?;
     if source.stands(*at, TokenKind::Sign(sign::CLOSE_PAREN)) {
-        *at += 1;
+        source.take(at, TokenKind::Sign(sign::CLOSE_PAREN))?;
         Ok(List::new(source.alloc))
     } else {
         let params = listed_params(source, at)?;
@@ -113,36 +146,48 @@ fn params(source: &Source, at: &mut usize) -> Result<List<RawParam>, Stop> {
 }
 
 /// One parameter or more.
-fn listed_params(source: &Source, at: &mut usize) -> Result<List<RawParam>, Stop> {
+fn listed_params(source: &Source, at: &mut usize) -> Result<List<RawParam>, Stop>
+    ensures spelled { IfOk result (λ params. SpellsParamList source.now.text.now source.now.tokens.now params at.old at.new) }
+    ensures ahead { OnOk result (at.old < at.new) }
+{
     let mut params = List::new(source.alloc);
     params.push(param(source, at)?)?;
-    while source.stands(*at, TokenKind::Sign(sign::COMMA)) {
-        *at += 1;
+    'commas: while source.stands(*at, TokenKind::Sign(sign::COMMA)) {
+        source.take(at, TokenKind::Sign(sign::COMMA))?;
         params.push(param(source, at)?)?;
     }
     Ok(params)
 }
 
-fn param(source: &Source, at: &mut usize) -> Result<RawParam, Stop> {
+fn param(source: &Source, at: &mut usize) -> Result<RawParam, Stop>
+    ensures spelled { IfOk result (λ param. SpellsParam source.now.text.now source.now.tokens.now param at.old at.new) }
+    ensures ahead { OnOk result (at.old < at.new) }
+{
     let name = name(source, at)?;
-    source.take(at, TokenKind::Sign(sign::COLON))?;
-    let ty = read_type(source, at)?;
+    let ty = typing(source, at)?;
     Ok(RawParam { name, ty })
 }
 
 /// Reads parameters in parentheses, where a parenthesis stands.
-fn output_params(source: &Source, at: &mut usize) -> Result<List<RawParam>, Stop> {
+fn output_params(source: &Source, at: &mut usize) -> Result<List<RawParam>, Stop>
+    ensures spelled { IfOk result (λ params. SpellsOutputParams source.now.text.now source.now.tokens.now params at.old at.new) }
+    ensures ahead { OnOk result (at.old ≤ at.new) }
+{
     if source.stands(*at, TokenKind::Sign(sign::OPEN_PAREN)) {
-        params(source, at)
+        let params = params(source, at)?;
+        Ok(params)
     } else {
         Ok(List::new(source.alloc))
     }
 }
 
 /// Reads `returns` and a type, where a `returns` stands.
-fn result(source: &Source, at: &mut usize) -> Result<Option<RawType>, Stop> {
+fn result_type(source: &Source, at: &mut usize) -> Result<Option<RawType>, Stop>
+    ensures spelled { IfOk result (λ ty. SpellsResult source.now.text.now source.now.tokens.now ty at.old at.new) }
+    ensures ahead { OnOk result (at.old ≤ at.new) }
+{
     if source.stands(*at, TokenKind::Word(word::RETURNS)) {
-        *at += 1;
+        source.take(at, TokenKind::Word(word::RETURNS))?;
         let ty = read_type(source, at)?;
         Ok(Some(ty))
     } else {

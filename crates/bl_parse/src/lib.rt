@@ -5,15 +5,15 @@ mod expr;
 mod item;
 mod name;
 mod operator;
-mod parse;
 mod parts;
+mod program;
 mod scalar;
 mod source;
 mod stmt;
 mod stop;
 mod types;
 
-pub use parse::parse;
+pub use program::parse;
 
 #[cfg(test)]
 mod tests;

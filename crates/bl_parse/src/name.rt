@@ -1,5 +1,5 @@
-ghost use Rattle.std.specs.Prelude.{◌≡◌, ◌+◌, ◌<◌, length, IfOk, OnOk};
-ghost use Rattle.bl_parse.specs.At.{NameAt};
+ghost use Rattle.std.specs.Prelude.{◌≡◌, ◌+◌, ◌<◌, length, slice_range, IfOk, OnOk};
+ghost use Rattle.bl_parse.specs.At.{SpellsName};
 
 use crate::source::Source;
 use crate::stop::Stop;
@@ -9,7 +9,7 @@ use bl_tree::{Place, Text};
 
 /// Reads the name that stands next.
 pub fn name(source: &Source, at: &mut usize) -> Result<Name, Stop>
-    ensures name { IfOk result (λ name. NameAt source.now.text.now source.now.tokens.now at.old name) }
+    ensures spelled { IfOk result (λ name. SpellsName source.now.text.now source.now.tokens.now name at.old at.new) }
     ensures next { OnOk result (at.new ≡ at.old + 1) }
     ensures inside { OnOk result (at.old < length source.now.tokens.now) }
 {
@@ -24,7 +24,9 @@ pub fn name(source: &Source, at: &mut usize) -> Result<Name, Stop>
 }
 
 /// What the text has at the place.
-fn text_at(source: &Source, place: Place) -> Result<Text, Stop> {
+fn text_at(source: &Source, place: Place) -> Result<Text, Stop>
+    ensures { IfOk result (λ text. text ≡ slice_range source.now.text.now place.start place.end) }
+{
     let start = place.start as usize;
     let end = place.end as usize;
     if start <= end && end <= source.text.len() {

@@ -1,6 +1,10 @@
 //! Parts of statements that hold no statement.
 
-use crate::expr::expr;
+ghost use Rattle.std.specs.Prelude.{◌≡◌, ◌+◌, ◌<◌, ◌≤◌, IfOk, OnOk};
+ghost use Rattle.bl_parse.specs.Statements.{SpellsTyping, SpellsMaybeTyping, SpellsValue, SpellsInitial, SpellsConstant, SpellsFields, SpellsPath, SpellsPaths, SpellsOutputs};
+ghost use Rattle.bl_parse.specs.Steps.{SpellsStarted};
+
+use crate::expr::read_expr;
 use crate::name::name;
 use crate::source::Source;
 use crate::stop::Stop;
@@ -13,11 +17,23 @@ use bl_raw::types::RawType;
 use bl_tree::List;
 use bl_tree::token::TokenKind;
 
+/// Reads `:` and a type.
+pub fn typing(source: &Source, at: &mut usize) -> Result<RawType, Stop>
+    ensures spelled { IfOk result (λ ty. SpellsTyping source.now.text.now source.now.tokens.now ty at.old at.new) }
+    ensures ahead { OnOk result (at.old < at.new) }
+{
+    source.take(at, TokenKind::Sign(sign::COLON))?;
+    let ty = read_type(source, at)?;
+    Ok(ty)
+}
+
 /// Reads `:` and a type, where a `:` stands.
-pub fn typing(source: &Source, at: &mut usize) -> Result<Option<RawType>, Stop> {
+pub fn maybe_typing(source: &Source, at: &mut usize) -> Result<Option<RawType>, Stop>
+    ensures spelled { IfOk result (λ ty. SpellsMaybeTyping source.now.text.now source.now.tokens.now ty at.old at.new) }
+    ensures ahead { OnOk result (at.old ≤ at.new) }
+{
     if source.stands(*at, TokenKind::Sign(sign::COLON)) {
-        *at += 1;
-        let ty = read_type(source, at)?;
+        let ty = typing(source, at)?;
         Ok(Some(ty))
     } else {
         Ok(None)
@@ -25,13 +41,20 @@ pub fn typing(source: &Source, at: &mut usize) -> Result<Option<RawType>, Stop> 
 }
 
 /// Reads `=` and an expression.
-pub fn value(source: &Source, at: &mut usize) -> Result<RawExpr, Stop> {
+pub fn value(source: &Source, at: &mut usize) -> Result<RawExpr, Stop>
+    ensures spelled { IfOk result (λ e. SpellsValue source.now.text.now source.now.tokens.now e at.old at.new) }
+    ensures ahead { OnOk result (at.old < at.new) }
+{
     source.take(at, TokenKind::Sign(sign::ASSIGN))?;
-    expr(source, at)
+    let e = read_expr(source, at)?;
+    Ok(e)
 }
 
 /// Reads `=` and an expression, where a `=` stands.
-pub fn initial(source: &Source, at: &mut usize) -> Result<Option<RawExpr>, Stop> {
+pub fn initial(source: &Source, at: &mut usize) -> Result<Option<RawExpr>, Stop>
+    ensures spelled { IfOk result (λ initial. SpellsInitial source.now.text.now source.now.tokens.now initial at.old at.new) }
+    ensures ahead { OnOk result (at.old ≤ at.new) }
+{
     if source.stands(*at, TokenKind::Sign(sign::ASSIGN)) {
         let e = value(source, at)?;
         Ok(Some(e))
@@ -41,16 +64,22 @@ pub fn initial(source: &Source, at: &mut usize) -> Result<Option<RawExpr>, Stop>
 }
 
 /// Reads a `const`.
-pub fn constant(source: &Source, at: &mut usize) -> Result<RawConstant, Stop> {
+pub fn constant(source: &Source, at: &mut usize) -> Result<RawConstant, Stop>
+    ensures spelled { IfOk result (λ constant. SpellsConstant source.now.text.now source.now.tokens.now constant at.old at.new) }
+    ensures ahead { OnOk result (at.old < at.new) }
+{
     source.take(at, TokenKind::Word(word::CONST))?;
     let name = name(source, at)?;
-    let ty = typing(source, at)?;
+    let ty = maybe_typing(source, at)?;
     let value = value(source, at)?;
     Ok(RawConstant { name, ty, value })
 }
 
 /// Reads a name and the fields behind it.
-fn path(source: &Source, at: &mut usize) -> Result<RawPath, Stop> {
+fn path(source: &Source, at: &mut usize) -> Result<RawPath, Stop>
+    ensures spelled { IfOk result (λ path. SpellsPath source.now.text.now source.now.tokens.now path at.old at.new) }
+    ensures ahead { OnOk result (at.old < at.new) }
+{
     let from = *at;
     let root = name(source, at)?;
     let fields = fields(source, at)?;
@@ -61,29 +90,38 @@ fn path(source: &Source, at: &mut usize) -> Result<RawPath, Stop> {
     })
 }
 
-fn fields(source: &Source, at: &mut usize) -> Result<List<Name>, Stop> {
+fn fields(source: &Source, at: &mut usize) -> Result<List<Name>, Stop>
+    ensures spelled { IfOk result (λ fields. SpellsFields source.now.text.now source.now.tokens.now fields at.old at.new) }
+    ensures ahead { OnOk result (at.old ≤ at.new) }
+{
     let mut fields = List::new(source.alloc);
-    while source.stands(*at, TokenKind::Sign(sign::DOT)) {
-        *at += 1;
+    'dots: while source.stands(*at, TokenKind::Sign(sign::DOT)) {
+        source.take(at, TokenKind::Sign(sign::DOT))?;
         fields.push(name(source, at)?)?;
     }
     Ok(fields)
 }
 
 /// Reads paths in parentheses, where a parenthesis stands.
-pub fn outputs(source: &Source, at: &mut usize) -> Result<List<RawPath>, Stop> {
+pub fn outputs(source: &Source, at: &mut usize) -> Result<List<RawPath>, Stop>
+    ensures spelled { IfOk result (λ outputs. SpellsOutputs source.now.text.now source.now.tokens.now outputs at.old at.new) }
+    ensures ahead { OnOk result (at.old ≤ at.new) }
+{
     if source.stands(*at, TokenKind::Sign(sign::OPEN_PAREN)) {
-        *at += 1;
         listed_outputs(source, at)
     } else {
         Ok(List::new(source.alloc))
     }
 }
 
-/// The outputs behind the parenthesis that opens their list, up to that which closes it.
-fn listed_outputs(source: &Source, at: &mut usize) -> Result<List<RawPath>, Stop> {
+/// Reads paths in parentheses.
+fn listed_outputs(source: &Source, at: &mut usize) -> Result<List<RawPath>, Stop>
+    ensures spelled { IfOk result (λ outputs. SpellsOutputs source.now.text.now source.now.tokens.now outputs at.old at.new) }
+    ensures ahead { OnOk result (at.old < at.new) }
+{
+    source.take(at, TokenKind::Sign(sign::OPEN_PAREN))?;
     if source.stands(*at, TokenKind::Sign(sign::CLOSE_PAREN)) {
-        *at += 1;
+        source.take(at, TokenKind::Sign(sign::CLOSE_PAREN))?;
         Ok(List::new(source.alloc))
     } else {
         let outputs = paths(source, at)?;
@@ -93,11 +131,14 @@ fn listed_outputs(source: &Source, at: &mut usize) -> Result<List<RawPath>, Stop
 }
 
 /// One path or more.
-fn paths(source: &Source, at: &mut usize) -> Result<List<RawPath>, Stop> {
+fn paths(source: &Source, at: &mut usize) -> Result<List<RawPath>, Stop>
+    ensures spelled { IfOk result (λ paths. SpellsPaths source.now.text.now source.now.tokens.now paths at.old at.new) }
+    ensures ahead { OnOk result (at.old < at.new) }
+{
     let mut paths = List::new(source.alloc);
     paths.push(path(source, at)?)?;
-    while source.stands(*at, TokenKind::Sign(sign::COMMA)) {
-        *at += 1;
+    'commas: while source.stands(*at, TokenKind::Sign(sign::COMMA)) {
+        source.take(at, TokenKind::Sign(sign::COMMA))?;
         paths.push(path(source, at)?)?;
     }
     Ok(paths)
@@ -111,11 +152,14 @@ pub struct Started {
 }
 
 /// Reads what stands before the inputs of a `run`.
-pub fn start_of_run(source: &Source, at: &mut usize) -> Result<Started, Stop> {
+pub fn start_of_run(source: &Source, at: &mut usize) -> Result<Started, Stop>
+    ensures spelled { IfOk result (λ started. SpellsStarted source.now.text.now source.now.tokens.now started at.old at.new) }
+    ensures ahead { OnOk result (at.old < at.new) }
+{
     let from = *at;
     let first = path(source, at)?;
     if source.stands(*at, TokenKind::Sign(sign::ASSIGN)) {
-        *at += 1;
+        source.take(at, TokenKind::Sign(sign::ASSIGN))?;
         let activity = name(source, at)?;
         Ok(Started {
             receiver: Some(first),

@@ -1,5 +1,7 @@
-ghost use Rattle.std.specs.Prelude.{◌≡◌, ◌+◌, ◌<◌, ◌↔◌, Some, IsTrue, IsSome, length, OnOk};
-ghost use Rattle.bl_parse.specs.At.{kind_at, start_at, end_at, span};
+ghost use Rattle.std.specs.Prelude.{◌≡◌, ◌+◌, ◌<◌, ◌↔◌, Some, false, IsTrue, IsFalse, IsSome, IsNone, IfSome, length, OnOk};
+ghost use Rattle.bl_tree.specs.declared.token.TokenKind.{TokenKind};
+ghost use Rattle.bl_parse.specs.At.{kind_at, start_at, end_at, span, Takes};
+ghost use Rattle.bl_parse.specs.Expressions.{is_number};
 
 use crate::stop::Stop;
 use bl_tree::Place;
@@ -65,14 +67,40 @@ impl<'a> Source<'a> {
         }
     }
 
-    /// Passes the next token, which is to be of this kind.
-    pub fn take(&self, at: &mut usize, kind: TokenKind) -> Result<(), Stop>
-        ensures kind { OnOk result (kind_at self.now.tokens.now at.old ≡ Some kind) }
-        ensures next { OnOk result (at.new ≡ at.old + 1) }
-        ensures inside { OnOk result (at.old < length self.now.tokens.now) }
+    /// The number at the position.
+    pub fn number_at(&self, k: usize) -> Option<u128>
+        ensures some { IfSome result (λ n. kind_at self.now.tokens.now k ≡ Some (TokenKind.Number n)) }
+        ensures none { IsNone result → is_number (kind_at self.now.tokens.now k) ≡ false }
+        ensures inside { IsSome result → k < length self.now.tokens.now }
+    {
+        match self.kind_at(k) {
+            Some(TokenKind::Number(n)) => Some(n),
+            _ => None,
+        }
+    }
+
+    /// Passes the next token, where it is of this kind.
+    pub fn passes(&self, at: &mut usize, kind: TokenKind) -> bool
+        ensures taken { IsTrue result → Takes self.now.tokens.now kind at.old at.new }
+        ensures next { IsTrue result → at.new ≡ at.old + 1 }
+        ensures left { IsFalse result → at.new ≡ at.old }
+        ensures inside { IsTrue result → at.old < length self.now.tokens.now }
     {
         if self.stands(*at, kind) {
             *at += 1;
+            true
+        } else {
+            false
+        }
+    }
+
+    /// Passes the next token, which is to be of this kind.
+    pub fn take(&self, at: &mut usize, kind: TokenKind) -> Result<(), Stop>
+        ensures taken { OnOk result (Takes self.now.tokens.now kind at.old at.new) }
+        ensures next { OnOk result (at.new ≡ at.old + 1) }
+        ensures inside { OnOk result (at.old < length self.now.tokens.now) }
+    {
+        if self.passes(at, kind) {
             Ok(())
         } else {
             Err(Stop::Unexpected)
