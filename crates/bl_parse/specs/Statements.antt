@@ -93,9 +93,9 @@ pub data SpellsReceiver (text : List ℕ) (tokens : List Token) : Option RawPath
 
 -- whether the second token is on the line of the first, and an expression may begin with it
 abbrev pub goes_on : Option Token → Option Token → Bool
-goes_on (Some first) (Some second) = nat_eq first.line second.line && begins_expr second.kind
-goes_on (Some first) None = false
-goes_on None second = false
+goes_on (Some one) (Some next) = nat_eq one.line next.line && begins_expr next.kind
+goes_on (Some one) None = false
+goes_on None next = false
 
 -- whether the `return` at a position takes an expression: exactly where one can begin on the same line
 abbrev pub takes_value : List Token → ℕ → Bool
@@ -192,8 +192,8 @@ mutual
         → all ≡ body ++ s ∷ [] → SpellsBlock text tokens all from to
 
   -- `if` or `elseif`, a condition, `then` and a block
-  pub data SpellsArm (text : List ℕ) (tokens : List Token) (head : ℕ) : RawArm → ℕ → ℕ → Type 0 where
-    headed : {arm : RawArm} {from m n o to : ℕ} {e : RawExpr} {body : List RawStmt} → Takes tokens (Word head) from m
+  pub data SpellsArm (text : List ℕ) (tokens : List Token) : ℕ → RawArm → ℕ → ℕ → Type 0 where
+    headed : {head : ℕ} {arm : RawArm} {from m n o to : ℕ} {e : RawExpr} {body : List RawStmt} → Takes tokens (Word head) from m
         → SpellsExpr text tokens 0 e m n → Takes tokens (Word THEN) n o → SpellsBlock text tokens body o to
         → arm ≡ roll-RawArm (record { test = e; body = body }) → SpellsArm text tokens head arm from to
 

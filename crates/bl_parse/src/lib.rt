@@ -13,7 +13,8 @@ mod stmt;
 mod stop;
 mod types;
 
-pub use program::parse;
+pub use program::read;
+pub use stop::Stop;
 
 #[cfg(test)]
 mod tests;

@@ -1,25 +1,26 @@
+ghost use Rattle.std.specs.Prelude.{◌<◌, ◌^◌, length, IfOk};
+ghost use Rattle.bl_parse.specs.Programs.{Spells};
+
 use crate::item::items;
 use crate::source::Source;
 use crate::stop::Stop;
-use bl_raw::item::RawItem;
+use bl_raw::Raw;
 use bl_tree::token::Token;
-use bl_tree::{List, Place, Refusal};
 use std::alloc::Global;
 
-/// The raw tree of a text with its tokens.
-pub fn parse(alloc: Global, text: &[u8], tokens: &[Token]) -> Result<List<RawItem>, Refusal> {
+/// The raw tree of a text with its tokens. It gives up where the tokens aren't those of a program.
+pub fn read(alloc: Global, text: &[u8], tokens: &[Token]) -> Result<Raw, Stop>
+    requires { length text.now < 2 ^ 32 }
+    ensures { IfOk result (λ raw. Spells text.now tokens.now raw) }
+{
     let source = Source {
         alloc,
         text,
         tokens,
     };
-    match items(&source) {
-        Ok(items) => Ok(items),
-        Err(Stop::NoMemory) => Err(Refusal::NoMemory),
-        Err(Stop::Unexpected) => Err(Refusal::Rule {
-            number: 5,
-            place: Place { start: 0, end: 0 },
-            also: List::new(alloc),
-        }),
-    }
+    let items = items(&source)?;
+    Ok(Raw {
+        items,
+        bytes: text.len() as u32,
+    })
 }

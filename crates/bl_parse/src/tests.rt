@@ -1,36 +1,25 @@
-use crate::parse;
+use crate::read;
 use bl_lex::lex;
-use bl_raw::item::RawItem;
-use bl_tree::{List, Place, Refusal};
-use std::process::Abort;
+use bl_raw::Raw;
 use std::test::Fail;
 
 const HEATER: &str =
     "// heater with a guard\nstruct Config var low: int32 var high: int32 end\nconst LIMIT: int32 = 90\nfunction Clamp (v: int32, c: Config) returns int32\nif v < c.low then return c.low end\nif v > c.high then return c.high end\nreturn v end\nactivity Heat (t: int32)(power: int32) var c: Config c.low = 0 c.high = 100 repeat power = Clamp(60 - t, c) await true end end\n@[EntryPoint] activity Main (t: int32, stop: bool)(power: int32, alarm: bool) repeat when stop or t > LIMIT abort run Heat(t)(power) end power = 0 alarm = true await not stop and t <= LIMIT alarm = false end end";
 
-/// The items of a text, or the number and place of the rule that it fails.
-fn outcome(rt: &HostRuntime, text: &[u8]) -> Result<List<RawItem>, (u8, u32, u32)> {
-    let tokens = match lex(rt.alloc(), text) {
-        Ok(tokens) => tokens,
-        Err(refusal) => return Err(told(refusal)),
-    };
-    match parse(rt.alloc(), text, &tokens) {
-        Ok(items) => Ok(items),
-        Err(refusal) => Err(told(refusal)),
-    }
-}
-
-fn told(refusal: Refusal) -> (u8, u32, u32) {
-    match refusal {
-        Refusal::Rule { number, place, .. } => (number, place.start, place.end),
-        Refusal::NoMemory => (0, 0, 0),
+/// The tree of a text that is made of tokens, if there is one.
+fn tree(rt: &HostRuntime, text: &str) -> Option<Raw> {
+    let bytes = text.as_bytes();
+    match lex(rt.alloc(), bytes) {
+        Ok(tokens) if bytes.len() < 1_000_000 => read(rt.alloc(), bytes, &tokens).ok(),
+        _ => None,
     }
 }
 
 #[test]
 fn the_heater_is_read(rt: HostRuntime) -> Result<(), Fail> {
-    let items = outcome(&rt, HEATER.as_bytes()).ok().ok_or("refused")?;
-    assert_eq!(rt; items.len(), 5);
+    let raw = tree(&rt, HEATER).ok_or("refused")?;
+    assert_eq!(rt; raw.items.len(), 5);
+    assert_eq!(rt; raw.bytes as usize, HEATER.len());
     Ok(())
 }
 
@@ -54,7 +43,7 @@ fn texts_are_read_or_refused(rt: HostRuntime) -> Result<(), Fail> {
         ("function F () return\na = 1 end", true),
     ];
     for (text, read) in rows.iter() {
-        assert_eq!(rt; outcome(&rt, text.as_bytes()).is_ok(), *read, "{text}");
+        assert_eq!(rt; tree(&rt, text).is_some(), *read, "{text}");
     }
     Ok(())
 }

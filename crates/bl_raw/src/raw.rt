@@ -1,5 +1,3 @@
-ghost use Rattle.bl_raw.specs.Keeps.{Keeps};
-
 use crate::item::RawItem;
 use bl_tree::List;
 
@@ -10,5 +8,4 @@ pub struct Raw {
     pub items: List<RawItem>,
     /// How many bytes the text has: the place of what is missing.
     pub bytes: u32,
-    pub ghost keeps: { Keeps items },
 }
