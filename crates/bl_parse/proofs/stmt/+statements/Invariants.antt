@@ -43,7 +43,7 @@ abbrev pub decreases-arm : goal.decreases-arm
 decreases-arm l = measure (length l.source.now.tokens.now) l.at.now 2
 
 abbrev pub decreases-otherwise : goal.decreases-otherwise
-decreases-otherwise l = measure (length l.source.now.tokens.now) l.at.now 8
+decreases-otherwise l = measure (length l.source.now.tokens.now) l.at.now 1
 
 abbrev pub decreases-block-statements : goal.decreases-block-statements
 decreases-block-statements l = length l.source.tokens.now - l.at
