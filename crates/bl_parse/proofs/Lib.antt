@@ -1,0 +1,3 @@
+pub mod ExprLemmas
+pub mod StmtLemmas
+pub mod TokenLemmas

@@ -1,0 +1,7 @@
+pub mod At
+pub mod Expressions
+pub mod Operators
+pub mod Programs
+pub mod Statements
+pub mod Steps
+pub mod Types

@@ -1,0 +1,96 @@
+-- Operators, and how tightly they bind.
+use Rattle.std.specs.Prelude.{◌≡◌, ℕ, ◌-◌, List, [], ◌∷◌, Bool, true, false, ◌||◌, nat_eq, nat_lt, slice_get, Option, Some, None, if◌then◌else◌}
+use Rattle.bl_tree.specs.declared.scalar.Op.{Op}
+use Rattle.bl_tree.specs.declared.scalar.Scalar.{Scalar}
+use Rattle.bl_tree.specs.declared.scalar.Scalar.TheVariants.{Bool as OfBool, Int, Nat, Bits}
+use Rattle.bl_tree.specs.declared.scalar.Width.TheVariants.{W8, W16, W32, W64}
+use Rattle.bl_tree.specs.declared.token.Token.{Token}
+use Rattle.bl_tree.specs.declared.token.TokenKind.{TokenKind}
+use Rattle.bl_tree.specs.declared.token.TokenKind.TheVariants.{Name, Number, Word, Sign}
+use Rattle.bl_lex.specs.declared.sign.TheConstants.{EQUAL, NOT_EQUAL, LESS, LESS_OR_EQUAL, GREATER, GREATER_OR_EQUAL, PLUS, MINUS, STAR, SLASH, PERCENT, AMPERSAND, BAR, CARET, TILDE, SHIFT_LEFT, SHIFT_RIGHT, OPEN_PAREN}
+use Rattle.bl_parse.specs.At.{Takes}
+use Rattle.bl_lex.specs.declared.word.TheConstants.{AND, OR, NOT, TRUE, FALSE, PREV, BOOL, INT8, INT16, INT32, INT64, NAT8, NAT16, NAT32, NAT64, BITS8, BITS16, BITS32, BITS64}
+
+-- the level of a comparison
+abbrev pub comparing : ℕ
+comparing = 2
+
+-- the level of `as`
+abbrev pub casting : ℕ
+casting = 9
+
+-- the level of `-`, `~` and `not`
+abbrev pub prefixing : ℕ
+prefixing = 10
+
+-- the operators with two operands, each with its level: a greater one binds more tightly
+pub data IsOperator : TokenKind → ℕ → Op → Type 0 where
+  either : IsOperator (Word OR) 0 Op.Either
+  both : IsOperator (Word AND) 1 Op.Both
+  equal : IsOperator (Sign EQUAL) 2 Op.Eq
+  differs : IsOperator (Sign NOT_EQUAL) 2 Op.Ne
+  less : IsOperator (Sign LESS) 2 Op.Lt
+  at_most : IsOperator (Sign LESS_OR_EQUAL) 2 Op.Le
+  greater : IsOperator (Sign GREATER) 2 Op.Gt
+  at_least : IsOperator (Sign GREATER_OR_EQUAL) 2 Op.Ge
+  bits_or : IsOperator (Sign BAR) 3 Op.Or
+  bits_xor : IsOperator (Sign CARET) 4 Op.Xor
+  bits_and : IsOperator (Sign AMPERSAND) 5 Op.And
+  shift_left : IsOperator (Sign SHIFT_LEFT) 6 Op.Shl
+  shift_right : IsOperator (Sign SHIFT_RIGHT) 6 Op.Shr
+  plus : IsOperator (Sign PLUS) 7 Op.Add
+  minus : IsOperator (Sign MINUS) 7 Op.Sub
+  times : IsOperator (Sign STAR) 8 Op.Mul
+  divided : IsOperator (Sign SLASH) 8 Op.Div
+  remainder : IsOperator (Sign PERCENT) 8 Op.Rem
+
+-- the level of a left operand: chains associate to the left, and comparisons make none
+abbrev pub left_level : ℕ → ℕ
+left_level level = if nat_eq level comparing then 3 else level
+
+-- the token is an operator with two operands
+pub record SpellsInfix (tokens : List Token) (level : ℕ) (op : Op) (from to : ℕ) : Type 0 where
+  pub kind : TokenKind
+  pub token : Takes tokens kind from to
+  pub is : IsOperator kind level op
+
+-- the operators before one operand
+pub data IsPrefix : TokenKind → Op → Type 0 where
+  negation : IsPrefix (Sign MINUS) Op.Neg
+  complement : IsPrefix (Sign TILDE) Op.Not
+  denial : IsPrefix (Word NOT) Op.Negate
+
+-- the token is an operator before one operand
+pub record SpellsPrefix (tokens : List Token) (op : Op) (from to : ℕ) : Type 0 where
+  pub kind : TokenKind
+  pub token : Takes tokens kind from to
+  pub is : IsPrefix kind op
+
+-- the words of the types without parts
+pub data IsScalar : TokenKind → Scalar → Type 0 where
+  bool : IsScalar (Word BOOL) OfBool
+  int8 : IsScalar (Word INT8) (Int W8)
+  int16 : IsScalar (Word INT16) (Int W16)
+  int32 : IsScalar (Word INT32) (Int W32)
+  int64 : IsScalar (Word INT64) (Int W64)
+  nat8 : IsScalar (Word NAT8) (Nat W8)
+  nat16 : IsScalar (Word NAT16) (Nat W16)
+  nat32 : IsScalar (Word NAT32) (Nat W32)
+  nat64 : IsScalar (Word NAT64) (Nat W64)
+  bits8 : IsScalar (Word BITS8) (Bits W8)
+  bits16 : IsScalar (Word BITS16) (Bits W16)
+  bits32 : IsScalar (Word BITS32) (Bits W32)
+  bits64 : IsScalar (Word BITS64) (Bits W64)
+
+-- the token names a type without parts
+pub record SpellsScalar (tokens : List Token) (s : Scalar) (from to : ℕ) : Type 0 where
+  pub kind : TokenKind
+  pub token : Takes tokens kind from to
+  pub is : IsScalar kind s
+
+-- whether an expression may begin with the token
+abbrev pub begins_expr : TokenKind → Bool
+begins_expr Name = true
+begins_expr (Number n) = true
+begins_expr (Sign k) = nat_eq k OPEN_PAREN || (nat_eq k MINUS || nat_eq k TILDE)
+begins_expr (Word k) = nat_eq k NOT || (nat_eq k TRUE || (nat_eq k FALSE || nat_eq k PREV))

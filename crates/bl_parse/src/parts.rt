@@ -1,0 +1,177 @@
+//! Parts of statements that hold no statement.
+
+ghost use Rattle.std.specs.Prelude.{◌≡◌, ◌+◌, ◌<◌, ◌≤◌, IfOk, OnOk};
+ghost use Rattle.bl_parse.specs.Statements.{SpellsTyping, SpellsMaybeTyping, SpellsValue, SpellsInitial, SpellsConstant, SpellsFields, SpellsPath, SpellsPaths, SpellsOutputs};
+ghost use Rattle.bl_parse.specs.Steps.{SpellsStarted};
+
+use crate::expr::read_expr;
+use crate::name::name;
+use crate::source::Source;
+use crate::stop::Stop;
+use crate::types::read_type;
+use bl_lex::{sign, word};
+use bl_raw::expr::RawExpr;
+use bl_raw::name::Name;
+use bl_raw::stmt::{RawConstant, RawPath};
+use bl_raw::types::RawType;
+use bl_tree::List;
+use bl_tree::token::TokenKind;
+
+/// Reads `:` and a type.
+pub fn typing(source: &Source, at: &mut usize) -> Result<RawType, Stop>
+    ensures spelled { IfOk result (λ ty. SpellsTyping source.now.text.now source.now.tokens.now ty at.old at.new) }
+    ensures ahead { OnOk result (at.old < at.new) }
+{
+    source.take(at, TokenKind::Sign(sign::COLON))?;
+    let ty = read_type(source, at)?;
+    Ok(ty)
+}
+
+/// Reads `:` and a type, where a `:` stands.
+pub fn maybe_typing(source: &Source, at: &mut usize) -> Result<Option<RawType>, Stop>
+    ensures spelled { IfOk result (λ ty. SpellsMaybeTyping source.now.text.now source.now.tokens.now ty at.old at.new) }
+    ensures ahead { OnOk result (at.old ≤ at.new) }
+{
+    if source.stands(*at, TokenKind::Sign(sign::COLON)) {
+        let ty = typing(source, at)?;
+        Ok(Some(ty))
+    } else {
+        Ok(None)
+    }
+}
+
+/// Reads `=` and an expression.
+pub fn value(source: &Source, at: &mut usize) -> Result<RawExpr, Stop>
+    ensures spelled { IfOk result (λ e. SpellsValue source.now.text.now source.now.tokens.now e at.old at.new) }
+    ensures ahead { OnOk result (at.old < at.new) }
+{
+    source.take(at, TokenKind::Sign(sign::ASSIGN))?;
+    let e = read_expr(source, at)?;
+    Ok(e)
+}
+
+/// Reads `=` and an expression, where a `=` stands.
+pub fn initial(source: &Source, at: &mut usize) -> Result<Option<RawExpr>, Stop>
+    ensures spelled { IfOk result (λ initial. SpellsInitial source.now.text.now source.now.tokens.now initial at.old at.new) }
+    ensures ahead { OnOk result (at.old ≤ at.new) }
+{
+    if source.stands(*at, TokenKind::Sign(sign::ASSIGN)) {
+        let e = value(source, at)?;
+        Ok(Some(e))
+    } else {
+        Ok(None)
+    }
+}
+
+/// Reads a `const`.
+pub fn constant(source: &Source, at: &mut usize) -> Result<RawConstant, Stop>
+    ensures spelled { IfOk result (λ constant. SpellsConstant source.now.text.now source.now.tokens.now constant at.old at.new) }
+    ensures ahead { OnOk result (at.old < at.new) }
+{
+    source.take(at, TokenKind::Word(word::CONST))?;
+    let name = name(source, at)?;
+    let ty = maybe_typing(source, at)?;
+    let value = value(source, at)?;
+    Ok(RawConstant { name, ty, value })
+}
+
+/// Reads a name and the fields behind it.
+fn path(source: &Source, at: &mut usize) -> Result<RawPath, Stop>
+    ensures spelled { IfOk result (λ path. SpellsPath source.now.text.now source.now.tokens.now path at.old at.new) }
+    ensures ahead { OnOk result (at.old < at.new) }
+{
+    let from = *at;
+    let root = name(source, at)?;
+    let fields = fields(source, at)?;
+    Ok(RawPath {
+        place: source.span(from, *at),
+        root,
+        fields,
+    })
+}
+
+fn fields(source: &Source, at: &mut usize) -> Result<List<Name>, Stop>
+    ensures spelled { IfOk result (λ fields. SpellsFields source.now.text.now source.now.tokens.now fields at.old at.new) }
+    ensures ahead { OnOk result (at.old ≤ at.new) }
+{
+    let mut fields = List::new(source.alloc);
+    'dots: while source.stands(*at, TokenKind::Sign(sign::DOT)) {
+        source.take(at, TokenKind::Sign(sign::DOT))?;
+        fields.push(name(source, at)?)?;
+    }
+    Ok(fields)
+}
+
+/// Reads paths in parentheses, where a parenthesis stands.
+pub fn outputs(source: &Source, at: &mut usize) -> Result<List<RawPath>, Stop>
+    ensures spelled { IfOk result (λ outputs. SpellsOutputs source.now.text.now source.now.tokens.now outputs at.old at.new) }
+    ensures ahead { OnOk result (at.old ≤ at.new) }
+{
+    if source.stands(*at, TokenKind::Sign(sign::OPEN_PAREN)) {
+        listed_outputs(source, at)
+    } else {
+        Ok(List::new(source.alloc))
+    }
+}
+
+/// Reads paths in parentheses.
+fn listed_outputs(source: &Source, at: &mut usize) -> Result<List<RawPath>, Stop>
+    ensures spelled { IfOk result (λ outputs. SpellsOutputs source.now.text.now source.now.tokens.now outputs at.old at.new) }
+    ensures ahead { OnOk result (at.old < at.new) }
+{
+    source.take(at, TokenKind::Sign(sign::OPEN_PAREN))?;
+    if source.stands(*at, TokenKind::Sign(sign::CLOSE_PAREN)) {
+        source.take(at, TokenKind::Sign(sign::CLOSE_PAREN))?;
+        Ok(List::new(source.alloc))
+    } else {
+        let outputs = paths(source, at)?;
+        source.take(at, TokenKind::Sign(sign::CLOSE_PAREN))?;
+        Ok(outputs)
+    }
+}
+
+/// One path or more.
+fn paths(source: &Source, at: &mut usize) -> Result<List<RawPath>, Stop>
+    ensures spelled { IfOk result (λ paths. SpellsPaths source.now.text.now source.now.tokens.now paths at.old at.new) }
+    ensures ahead { OnOk result (at.old < at.new) }
+{
+    let mut paths = List::new(source.alloc);
+    paths.push(path(source, at)?)?;
+    'commas: while source.stands(*at, TokenKind::Sign(sign::COMMA)) {
+        source.take(at, TokenKind::Sign(sign::COMMA))?;
+        paths.push(path(source, at)?)?;
+    }
+    Ok(paths)
+}
+
+/// What a `run` has before its inputs: what receives the result, and the activity's name.
+#[derive(Drop)]
+pub struct Started {
+    pub receiver: Option<RawPath>,
+    pub activity: Name,
+}
+
+/// Reads what stands before the inputs of a `run`.
+pub fn start_of_run(source: &Source, at: &mut usize) -> Result<Started, Stop>
+    ensures spelled { IfOk result (λ started. SpellsStarted source.now.text.now source.now.tokens.now started at.old at.new) }
+    ensures ahead { OnOk result (at.old < at.new) }
+{
+    let from = *at;
+    let first = path(source, at)?;
+    if source.stands(*at, TokenKind::Sign(sign::ASSIGN)) {
+        source.take(at, TokenKind::Sign(sign::ASSIGN))?;
+        let activity = name(source, at)?;
+        Ok(Started {
+            receiver: Some(first),
+            activity,
+        })
+    } else if *at == from + 1 {
+        let RawPath { root, .. } = first;
+        Ok(Started {
+            receiver: None,
+            activity: root,
+        })
+    } else {
+        Err(Stop::Unexpected)
+    }
+}

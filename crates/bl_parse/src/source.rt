@@ -1,0 +1,109 @@
+ghost use Rattle.std.specs.Prelude.{◌≡◌, ◌+◌, ◌<◌, ◌↔◌, Some, false, IsTrue, IsFalse, IsSome, IsNone, IfSome, length, OnOk};
+ghost use Rattle.bl_tree.specs.declared.token.TokenKind.{TokenKind};
+ghost use Rattle.bl_parse.specs.At.{kind_at, start_at, end_at, span, Takes};
+ghost use Rattle.bl_parse.specs.Expressions.{is_number};
+
+use crate::stop::Stop;
+use bl_tree::Place;
+use bl_tree::token::{Token, TokenKind};
+use std::alloc::Global;
+
+/// A text with its tokens, which are read at positions.
+#[derive(Drop)]
+pub struct Source<'a> {
+    pub alloc: Global,
+    pub text: &'a [u8],
+    pub tokens: &'a [Token],
+}
+
+impl<'a> Source<'a> {
+    pub fn kind_at(&self, k: usize) -> Option<TokenKind>
+        ensures kind { result ≡ kind_at self.now.tokens.now k }
+        ensures inside { IsSome result → k < length self.now.tokens.now }
+    {
+        match self.tokens.get(k) {
+            Some(token) => Some(token.kind),
+            None => None,
+        }
+    }
+
+    /// Where the token at the position begins.
+    pub fn start_at(&self, k: usize) -> u32
+        ensures { result ≡ start_at self.now.tokens.now k }
+    {
+        match self.tokens.get(k) {
+            Some(token) => token.place.start,
+            None => 0,
+        }
+    }
+
+    /// Where the token at the position ends.
+    pub fn end_at(&self, k: usize) -> u32
+        ensures { result ≡ end_at self.now.tokens.now k }
+    {
+        match self.tokens.get(k) {
+            Some(token) => token.place.end,
+            None => 0,
+        }
+    }
+
+    /// The place of the tokens from one position up to another.
+    pub fn span(&self, from: usize, to: usize) -> Place
+        ensures { result ≡ span self.now.tokens.now from to }
+    {
+        Place {
+            start: self.start_at(from),
+            end: self.end_at(to.saturating_sub(1)),
+        }
+    }
+
+    pub fn stands(&self, k: usize, kind: TokenKind) -> bool
+        ensures kind { IsTrue result ↔ (kind_at self.now.tokens.now k ≡ Some kind) }
+        ensures inside { IsTrue result → k < length self.now.tokens.now }
+    {
+        match self.tokens.get(k) {
+            Some(token) => token.kind == kind,
+            None => false,
+        }
+    }
+
+    /// The number at the position.
+    pub fn number_at(&self, k: usize) -> Option<u128>
+        ensures some { IfSome result (λ n. kind_at self.now.tokens.now k ≡ Some (TokenKind.Number n)) }
+        ensures none { IsNone result → is_number (kind_at self.now.tokens.now k) ≡ false }
+        ensures inside { IsSome result → k < length self.now.tokens.now }
+    {
+        match self.kind_at(k) {
+            Some(TokenKind::Number(n)) => Some(n),
+            _ => None,
+        }
+    }
+
+    /// Passes the next token, where it is of this kind.
+    pub fn passes(&self, at: &mut usize, kind: TokenKind) -> bool
+        ensures taken { IsTrue result → Takes self.now.tokens.now kind at.old at.new }
+        ensures next { IsTrue result → at.new ≡ at.old + 1 }
+        ensures left { IsFalse result → at.new ≡ at.old }
+        ensures inside { IsTrue result → at.old < length self.now.tokens.now }
+    {
+        if self.stands(*at, kind) {
+            *at += 1;
+            true
+        } else {
+            false
+        }
+    }
+
+    /// Passes the next token, which is to be of this kind.
+    pub fn take(&self, at: &mut usize, kind: TokenKind) -> Result<(), Stop>
+        ensures taken { OnOk result (Takes self.now.tokens.now kind at.old at.new) }
+        ensures next { OnOk result (at.new ≡ at.old + 1) }
+        ensures inside { OnOk result (at.old < length self.now.tokens.now) }
+    {
+        if self.passes(at, kind) {
+            Ok(())
+        } else {
+            Err(Stop::Unexpected)
+        }
+    }
+}

@@ -1,0 +1,359 @@
+//! Statements: a function for each kind.
+
+ghost use Rattle.std.specs.Prelude.{◌≡◌, ◌+◌, ◌<◌, ◌≤◌, length, IfOk, OnOk, IsTrue};
+ghost use Rattle.bl_parse.specs.Statements.{SpellsBlock, SpellsStmt, SpellsKind, SpellsBranches, SpellsBranch, SpellsWeak, SpellsGuard, SpellsArms, SpellsArm, SpellsElse, takes_value};
+
+use crate::expr::{read_expr, read_inputs, target_of};
+use crate::name::name;
+use crate::operator::begins_expr;
+use crate::parts::{constant, initial, maybe_typing, outputs, start_of_run, typing, value};
+use crate::source::Source;
+use crate::stop::Stop;
+use bl_lex::{sign, word};
+use bl_raw::stmt::{RawArm, RawBranch, RawStmt, RawStmtKind};
+use bl_tree::List;
+use bl_tree::token::TokenKind;
+use bl_tree::tree::Guard;
+
+/// Reads statements, as many as there are.
+#[cycle(statements)]
+pub fn block(source: &Source, at: &mut usize) -> Result<List<RawStmt>, Stop>
+    ensures spelled { IfOk result (λ body. SpellsBlock source.now.text.now source.now.tokens.now body at.old at.new) }
+    ensures ahead { OnOk result (at.old ≤ at.new) }
+{
+    let mut body = List::new(source.alloc);
+    'statements: while begins_stmt(source, *at) {
+        body.push(stmt(source, at)?)?;
+    }
+    Ok(body)
+}
+
+/// Whether a statement may begin with the token at the position.
+fn begins_stmt(source: &Source, at: usize) -> bool
+    ensures { IsTrue result → at < length source.now.tokens.now }
+{
+    match source.kind_at(at) {
+        Some(TokenKind::Name) => true,
+        Some(TokenKind::Word(k)) => is_first_word(k),
+        Some(TokenKind::Number(_) | TokenKind::Sign(_)) | None => false,
+    }
+}
+
+/// Whether a statement may begin with the keyword.
+fn is_first_word(k: u8) -> bool {
+    matches!(
+        k,
+        word::VAR
+            | word::LET
+            | word::CONST
+            | word::AWAIT
+            | word::RUN
+            | word::COBEGIN
+            | word::WHEN
+            | word::REPEAT
+            | word::WHILE
+            | word::IF
+            | word::RETURN
+    )
+}
+
+#[cycle(statements)]
+fn stmt(source: &Source, at: &mut usize) -> Result<RawStmt, Stop>
+    ensures spelled { IfOk result (λ s. SpellsStmt source.now.text.now source.now.tokens.now s at.old at.new) }
+    ensures ahead { OnOk result (at.old < at.new) }
+{
+    let from = *at;
+    let what = kind(source, at)?;
+    Ok(RawStmt {
+        place: source.span(from, *at),
+        what,
+    })
+}
+
+#[cycle(statements)]
+fn kind(source: &Source, at: &mut usize) -> Result<RawStmtKind, Stop>
+    ensures spelled { IfOk result (λ what. SpellsKind source.now.text.now source.now.tokens.now what at.old at.new) }
+    ensures ahead { OnOk result (at.old < at.new) }
+{
+    match source.kind_at(*at) {
+        Some(TokenKind::Word(word::COBEGIN)) => cobegin(source, at),
+        Some(TokenKind::Word(word::WHEN)) => guarded(source, at),
+        Some(TokenKind::Word(word::REPEAT)) => repeat(source, at),
+        Some(TokenKind::Word(word::WHILE)) => while_loop(source, at),
+        Some(TokenKind::Word(word::IF)) => branching(source, at),
+        _ => simple(source, at),
+    }
+}
+
+/// A statement that holds no statement.
+fn simple(source: &Source, at: &mut usize) -> Result<RawStmtKind, Stop>
+    ensures spelled { IfOk result (λ what. SpellsKind source.now.text.now source.now.tokens.now what at.old at.new) }
+    ensures ahead { OnOk result (at.old < at.new) }
+{
+    match source.kind_at(*at) {
+        Some(TokenKind::Name) => named(source, at),
+        Some(TokenKind::Word(word::VAR)) => variable(source, at),
+        Some(TokenKind::Word(word::LET)) => fixed(source, at),
+        Some(TokenKind::Word(word::CONST)) => local_constant(source, at),
+        Some(TokenKind::Word(word::AWAIT)) => awaiting(source, at),
+        Some(TokenKind::Word(word::RUN)) => run(source, at),
+        Some(TokenKind::Word(word::RETURN)) => returning(source, at),
+        _ => Err(Stop::Unexpected),
+    }
+}
+
+fn variable(source: &Source, at: &mut usize) -> Result<RawStmtKind, Stop>
+    ensures spelled { IfOk result (λ what. SpellsKind source.now.text.now source.now.tokens.now what at.old at.new) }
+    ensures ahead { OnOk result (at.old < at.new) }
+{
+    source.take(at, TokenKind::Word(word::VAR))?;
+    let name = name(source, at)?;
+    if source.stands(*at, TokenKind::Sign(sign::COLON)) {
+        let ty = typing(source, at)?;
+        let initial = initial(source, at)?;
+        Ok(RawStmtKind::Var(name, Some(ty), initial))
+    } else {
+        let value = value(source, at)?;
+        Ok(RawStmtKind::Var(name, None, Some(value)))
+    }
+}
+
+fn fixed(source: &Source, at: &mut usize) -> Result<RawStmtKind, Stop>
+    ensures spelled { IfOk result (λ what. SpellsKind source.now.text.now source.now.tokens.now what at.old at.new) }
+    ensures ahead { OnOk result (at.old < at.new) }
+{
+    source.take(at, TokenKind::Word(word::LET))?;
+    let name = name(source, at)?;
+    let ty = maybe_typing(source, at)?;
+    let value = value(source, at)?;
+    Ok(RawStmtKind::Let(name, ty, value))
+}
+
+fn local_constant(source: &Source, at: &mut usize) -> Result<RawStmtKind, Stop>
+    ensures spelled { IfOk result (λ what. SpellsKind source.now.text.now source.now.tokens.now what at.old at.new) }
+    ensures ahead { OnOk result (at.old < at.new) }
+{
+    let constant = constant(source, at)?;
+    Ok(RawStmtKind::Const(constant))
+}
+
+/// A call or an assignment.
+fn named(source: &Source, at: &mut usize) -> Result<RawStmtKind, Stop>
+    ensures spelled { IfOk result (λ what. SpellsKind source.now.text.now source.now.tokens.now what at.old at.new) }
+    ensures ahead { OnOk result (at.old < at.new) }
+{
+    let from = *at;
+    let root = name(source, at)?;
+    if source.stands(*at, TokenKind::Sign(sign::OPEN_PAREN)) {
+        let inputs = read_inputs(source, at)?;
+        let outputs = outputs(source, at)?;
+        Ok(RawStmtKind::Call(root, inputs, outputs))
+    } else {
+        let target = target_of(source, at, from, root)?;
+        let value = value(source, at)?;
+        Ok(RawStmtKind::Assign(target, value))
+    }
+}
+
+fn awaiting(source: &Source, at: &mut usize) -> Result<RawStmtKind, Stop>
+    ensures spelled { IfOk result (λ what. SpellsKind source.now.text.now source.now.tokens.now what at.old at.new) }
+    ensures ahead { OnOk result (at.old < at.new) }
+{
+    source.take(at, TokenKind::Word(word::AWAIT))?;
+    let e = read_expr(source, at)?;
+    Ok(RawStmtKind::Await(e))
+}
+
+fn run(source: &Source, at: &mut usize) -> Result<RawStmtKind, Stop>
+    ensures spelled { IfOk result (λ what. SpellsKind source.now.text.now source.now.tokens.now what at.old at.new) }
+    ensures ahead { OnOk result (at.old < at.new) }
+{
+    source.take(at, TokenKind::Word(word::RUN))?;
+    let started = start_of_run(source, at)?;
+    let inputs = read_inputs(source, at)?;
+    let outputs = outputs(source, at)?;
+    Ok(RawStmtKind::Run(started.receiver, started.activity, inputs, outputs))
+}
+
+fn returning(source: &Source, at: &mut usize) -> Result<RawStmtKind, Stop>
+    ensures spelled { IfOk result (λ what. SpellsKind source.now.text.now source.now.tokens.now what at.old at.new) }
+    ensures ahead { OnOk result (at.old < at.new) }
+{
+    if takes_value(source, *at) {
+        source.take(at, TokenKind::Word(word::RETURN))?;
+        let e = read_expr(source, at)?;
+        Ok(RawStmtKind::Return(Some(e)))
+    } else {
+        source.take(at, TokenKind::Word(word::RETURN))?;
+        Ok(RawStmtKind::Return(None))
+    }
+}
+
+/// Whether the token behind the position is on the line of that there, and an expression may begin with it.
+fn takes_value(source: &Source, at: usize) -> bool
+    ensures { result ≡ takes_value source.now.tokens.now at }
+{
+    match source.tokens.get(at) {
+        Some(first) => match source.tokens.get(at + 1) {
+            Some(second) => first.line == second.line && begins_expr(second.kind),
+            None => false,
+        },
+        None => false,
+    }
+}
+
+#[cycle(statements)]
+fn cobegin(source: &Source, at: &mut usize) -> Result<RawStmtKind, Stop>
+    ensures spelled { IfOk result (λ what. SpellsKind source.now.text.now source.now.tokens.now what at.old at.new) }
+    ensures ahead { OnOk result (at.old < at.new) }
+{
+    source.take(at, TokenKind::Word(word::COBEGIN))?;
+    let branches = branches(source, at)?;
+    source.take(at, TokenKind::Word(word::END))?;
+    Ok(RawStmtKind::Cobegin(branches))
+}
+
+#[cycle(statements)]
+fn branches(source: &Source, at: &mut usize) -> Result<List<RawBranch>, Stop>
+    ensures spelled { IfOk result (λ branches. SpellsBranches source.now.text.now source.now.tokens.now branches at.old at.new) }
+    ensures ahead { OnOk result (at.old ≤ at.new) }
+{
+    let mut branches = List::new(source.alloc);
+    branches.push(branch(source, at)?)?;
+    'withs: while source.stands(*at, TokenKind::Word(word::WITH)) {
+        source.take(at, TokenKind::Word(word::WITH))?;
+        branches.push(branch(source, at)?)?;
+    }
+    Ok(branches)
+}
+
+#[cycle(statements)]
+fn branch(source: &Source, at: &mut usize) -> Result<RawBranch, Stop>
+    ensures spelled { IfOk result (λ branch. SpellsBranch source.now.text.now source.now.tokens.now branch at.old at.new) }
+    ensures ahead { OnOk result (at.old ≤ at.new) }
+{
+    let weak = weak(source, at)?;
+    let body = block(source, at)?;
+    Ok(RawBranch { weak, body })
+}
+
+/// Passes a `weak`, where one stands.
+fn weak(source: &Source, at: &mut usize) -> Result<bool, Stop>
+    ensures spelled { IfOk result (λ weak. SpellsWeak source.now.tokens.now weak at.old at.new) }
+    ensures ahead { OnOk result (at.old ≤ at.new) }
+{
+    if source.stands(*at, TokenKind::Word(word::WEAK)) {
+        source.take(at, TokenKind::Word(word::WEAK))?;
+        Ok(true)
+    } else {
+        Ok(false)
+    }
+}
+
+#[cycle(statements)]
+fn guarded(source: &Source, at: &mut usize) -> Result<RawStmtKind, Stop>
+    ensures spelled { IfOk result (λ what. SpellsKind source.now.text.now source.now.tokens.now what at.old at.new) }
+    ensures ahead { OnOk result (at.old < at.new) }
+{
+    source.take(at, TokenKind::Word(word::WHEN))?;
+    let test = read_expr(source, at)?;
+    let guard = guard(source, at)?;
+    let body = block(source, at)?;
+    source.take(at, TokenKind::Word(word::END))?;
+    Ok(RawStmtKind::When(guard, test, body))
+}
+
+fn guard(source: &Source, at: &mut usize) -> Result<Guard, Stop>
+    ensures spelled { IfOk result (λ guard. SpellsGuard source.now.tokens.now guard at.old at.new) }
+    ensures ahead { OnOk result (at.old < at.new) }
+{
+    if source.stands(*at, TokenKind::Word(word::ABORT)) {
+        source.take(at, TokenKind::Word(word::ABORT))?;
+        Ok(Guard::Abort)
+    } else {
+        source.take(at, TokenKind::Word(word::RESET))?;
+        Ok(Guard::Reset)
+    }
+}
+
+#[cycle(statements)]
+fn repeat(source: &Source, at: &mut usize) -> Result<RawStmtKind, Stop>
+    ensures spelled { IfOk result (λ what. SpellsKind source.now.text.now source.now.tokens.now what at.old at.new) }
+    ensures ahead { OnOk result (at.old < at.new) }
+{
+    source.take(at, TokenKind::Word(word::REPEAT))?;
+    let body = block(source, at)?;
+    if source.stands(*at, TokenKind::Word(word::UNTIL)) {
+        source.take(at, TokenKind::Word(word::UNTIL))?;
+        let test = read_expr(source, at)?;
+        source.take(at, TokenKind::Word(word::END))?;
+        Ok(RawStmtKind::Until(body, test))
+    } else {
+        source.take(at, TokenKind::Word(word::END))?;
+        Ok(RawStmtKind::Repeat(body))
+    }
+}
+
+#[cycle(statements)]
+fn while_loop(source: &Source, at: &mut usize) -> Result<RawStmtKind, Stop>
+    ensures spelled { IfOk result (λ what. SpellsKind source.now.text.now source.now.tokens.now what at.old at.new) }
+    ensures ahead { OnOk result (at.old < at.new) }
+{
+    source.take(at, TokenKind::Word(word::WHILE))?;
+    let test = read_expr(source, at)?;
+    source.take(at, TokenKind::Word(word::REPEAT))?;
+    let body = block(source, at)?;
+    source.take(at, TokenKind::Word(word::END))?;
+    Ok(RawStmtKind::While(test, body))
+}
+
+#[cycle(statements)]
+fn branching(source: &Source, at: &mut usize) -> Result<RawStmtKind, Stop>
+    ensures spelled { IfOk result (λ what. SpellsKind source.now.text.now source.now.tokens.now what at.old at.new) }
+    ensures ahead { OnOk result (at.old < at.new) }
+{
+    let arms = arms(source, at)?;
+    let other = otherwise(source, at)?;
+    source.take(at, TokenKind::Word(word::END))?;
+    Ok(RawStmtKind::If(arms, other))
+}
+
+#[cycle(statements)]
+fn arms(source: &Source, at: &mut usize) -> Result<List<RawArm>, Stop>
+    ensures spelled { IfOk result (λ arms. SpellsArms source.now.text.now source.now.tokens.now arms at.old at.new) }
+    ensures ahead { OnOk result (at.old < at.new) }
+{
+    let mut arms = List::new(source.alloc);
+    arms.push(arm(source, at, word::IF)?)?;
+    'elseifs: while source.stands(*at, TokenKind::Word(word::ELSEIF)) {
+        arms.push(arm(source, at, word::ELSEIF)?)?;
+    }
+    Ok(arms)
+}
+
+/// An arm that this word heads.
+#[cycle(statements)]
+fn arm(source: &Source, at: &mut usize, head: u8) -> Result<RawArm, Stop>
+    ensures spelled { IfOk result (λ arm. SpellsArm source.now.text.now source.now.tokens.now head arm at.old at.new) }
+    ensures ahead { OnOk result (at.old < at.new) }
+{
+    source.take(at, TokenKind::Word(head))?;
+    let test = read_expr(source, at)?;
+    source.take(at, TokenKind::Word(word::THEN))?;
+    let body = block(source, at)?;
+    Ok(RawArm { test, body })
+}
+
+#[cycle(statements)]
+fn otherwise(source: &Source, at: &mut usize) -> Result<List<RawStmt>, Stop>
+    ensures spelled { IfOk result (λ other. SpellsElse source.now.text.now source.now.tokens.now other at.old at.new) }
+    ensures ahead { OnOk result (at.old ≤ at.new) }
+{
+    if source.stands(*at, TokenKind::Word(word::ELSE)) {
+        source.take(at, TokenKind::Word(word::ELSE))?;
+        let body = block(source, at)?;
+        Ok(body)
+    } else {
+        Ok(List::new(source.alloc))
+    }
+}

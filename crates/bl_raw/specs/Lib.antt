@@ -1,0 +1,4 @@
+pub mod Depths
+pub mod Keeps
+pub mod Names
+pub mod Starts

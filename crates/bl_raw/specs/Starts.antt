@@ -1,0 +1,58 @@
+-- Where the statements of a tree and the conditions of its loops begin.
+use Rattle.std.specs.Prelude.{ℕ, Bool, true, ◌&&◌, nat_lt, List, [], ◌∷◌, ◌++◌, map}
+use Rattle.std.specs.List.{list_all}
+use Rattle.bl_tree.specs.Reduce.{joined}
+use Rattle.bl_raw.specs.declared.expr.RawExpr.{RawExpr, out-RawExpr}
+use Rattle.bl_raw.specs.declared.item.RawItem.{RawItem}
+use Rattle.bl_raw.specs.declared.item.RawItem.TheVariants.{Struct, Constant, Unit as UnitItem}
+use Rattle.bl_raw.specs.declared.stmt.RawStmt.{RawStmt, fold-RawStmt}
+use Rattle.bl_raw.specs.declared.stmt.RawStmtKind.TheOpen.{RawStmtKind-F, RawArm-F, RawBranch-F, RawStmt-F}
+
+abbrev pub Starts : Type 0
+Starts = List ℕ
+
+abbrev pub start_of : RawExpr → ℕ
+start_of e = (out-RawExpr e).place.start
+
+abbrev pub stmt_kind_starts : RawStmtKind-F Starts Starts Starts Starts → Starts
+stmt_kind_starts (RawStmtKind-F.Var name ty value) = []
+stmt_kind_starts (RawStmtKind-F.Let name ty value) = []
+stmt_kind_starts (RawStmtKind-F.Const constant) = []
+stmt_kind_starts (RawStmtKind-F.Assign target e) = []
+stmt_kind_starts (RawStmtKind-F.Call f inputs outputs) = []
+stmt_kind_starts (RawStmtKind-F.Await e) = []
+stmt_kind_starts (RawStmtKind-F.Run target a inputs outputs) = []
+stmt_kind_starts (RawStmtKind-F.If arms other) = joined arms ++ joined other
+stmt_kind_starts (RawStmtKind-F.Cobegin branches) = joined branches
+stmt_kind_starts (RawStmtKind-F.When guard e body) = joined body
+stmt_kind_starts (RawStmtKind-F.Repeat body) = joined body
+stmt_kind_starts (RawStmtKind-F.Until body e) = joined body ++ (start_of e ∷ [])
+stmt_kind_starts (RawStmtKind-F.While e body) = start_of e ∷ joined body
+stmt_kind_starts (RawStmtKind-F.Return e) = []
+
+abbrev pub arm_starts : RawArm-F Starts Starts Starts Starts → Starts
+arm_starts arm = joined arm.body
+
+abbrev pub branch_starts : RawBranch-F Starts Starts Starts Starts → Starts
+branch_starts branch = joined branch.body
+
+abbrev pub stmt_layer_starts : RawStmt-F Starts Starts Starts Starts → Starts
+stmt_layer_starts s = s.place.start ∷ s.what
+
+-- where a statement, those in it and the conditions of its loops begin, in source order
+abbrev pub starts_of : RawStmt → Starts
+starts_of = fold-RawStmt Starts Starts Starts Starts stmt_kind_starts arm_starts branch_starts stmt_layer_starts
+
+abbrev pub item_starts : RawItem → Starts
+item_starts (Struct def) = []
+item_starts (Constant constant) = []
+item_starts (UnitItem unit) = joined (map starts_of unit.body)
+
+-- where the statements and the conditions of loops of all items begin, in source order
+abbrev pub all_starts : List RawItem → Starts
+all_starts items = joined (map item_starts items)
+
+-- whether each number is less than all later ones
+abbrev pub ascends : List ℕ → Bool
+ascends [] = true
+ascends (n ∷ rest) = list_all (nat_lt n) rest && ascends rest

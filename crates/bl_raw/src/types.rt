@@ -1,0 +1,28 @@
+use crate::name::Name;
+use bl_tree::{Box, Place, Scalar};
+
+/// A type as it is written.
+#[cycle(raw_types)]
+#[derive(Drop)]
+pub enum RawType {
+    Scalar(Scalar),
+    /// The struct of this name.
+    Struct(Name),
+    /// How many elements, and their type.
+    Array(RawLength, Box<RawType>),
+}
+
+/// The length of an array type.
+#[derive(Drop)]
+pub enum RawLength {
+    Number(RawNumber),
+    /// The constant of this name.
+    Constant(Name),
+}
+
+/// A number without sign, where a greater value than 2^64 is kept as 2^64.
+#[derive(Clone, Copy, PartialEq, Eq, Debug)]
+pub struct RawNumber {
+    pub place: Place,
+    pub value: u128,
+}
