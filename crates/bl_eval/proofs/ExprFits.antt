@@ -209,8 +209,8 @@ module _ (structs : List StructDef) (earlier : List UnitDef) (unit : UnitDef) (c
   call_fits place f inputs each ty typed = rw (fold-roll-Expr, fold-roll-ExprKind) (call_at f inputs ty each (rw (fold-roll-Expr, fold-roll-ExprKind) at typed))
 
   -- a path
-  path_fits : (root : ℕ) (parts : List Part) (written : Ty) → EachIndex P parts → Q (roll-Path (record { root = root; parts = parts; ty = written }))
-  path_fits root parts written each ty typed =
+  path_fits : (place : Place) (root : ℕ) (parts : List Part) (written : Ty) → EachIndex P parts → Q (roll-Path (record { place = place; root = root; parts = parts; ty = written }))
+  path_fits place root parts written each ty typed =
       let whole = some_found (where_same written) (option_and_then (λ (var : Var). after_parts (map (type_of_part site) parts) var.ty) (slice_get unit.vars root)) ty (rw fold-roll-Path at typed) in
       let found = some_found (λ (var : Var). after_parts (map (type_of_part site) parts) var.ty) (slice_get unit.vars root) whole.0 whole.1 in
       let is = where_holds (same_type written whole.0) (Some whole.0) ty whole.2 in
