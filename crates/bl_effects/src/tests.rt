@@ -21,6 +21,7 @@ fn expr(what: ExprKind) -> Expr {
 
 fn path(alloc: Global, root: u32) -> Path {
     Path {
+        place: NOWHERE,
         root,
         parts: List::new(alloc),
         ty: Ty::Scalar(INT32),
@@ -104,11 +105,13 @@ fn a_static_path_ends_before_an_index(rt: HostRuntime) -> Result<(), NoMemory> {
     parts.push(Part::Index(read(alloc, 1)))?;
     parts.push(Part::Field(6))?;
     let target = Path {
+        place: NOWHERE,
         root: 0,
         parts,
         ty: Ty::Scalar(INT32),
     };
     let source = Path {
+        place: NOWHERE,
         root: 2,
         parts: one(alloc, Part::Index(read(alloc, 3)))?,
         ty: Ty::Scalar(INT32),
