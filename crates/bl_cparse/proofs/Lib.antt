@@ -1,2 +1,4 @@
 pub mod PieceLemmas
 pub mod Ranges
+pub mod SameLemmas
+pub mod TokenLemmas

@@ -1,2 +1,3 @@
-pub mod Pieces
 pub mod Nest
+pub mod Parts
+pub mod Pieces

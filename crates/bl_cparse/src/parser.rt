@@ -4,6 +4,7 @@
 mod expr;
 mod item;
 mod literal;
+#[tactic(auto, using(crate::proofs::TokenLemmas::name_any, crate::proofs::TokenLemmas::struct_name_any, crate::proofs::TokenLemmas::function_name_any, crate::proofs::TokenLemmas::callee_any, crate::proofs::TokenLemmas::turn_name_any))]
 mod name;
 mod stmt;
 

@@ -1,13 +1,13 @@
 //! A text behind its prelude, read from its front on.
 
-ghost use Rattle.std.specs.Prelude.{◌≡◌, ◌≤◌, true, false, List, [], ◌∷◌, length, drop, IsTrue, IfOk, OnOk};
+ghost use Rattle.std.specs.Prelude.{◌≡◌, ◌≤◌, true, false, List, [], ◌∷◌, length, drop, IsTrue, IfOk, IfSome, OnOk};
 ghost use Rattle.bl_ctext.specs.Spellable.{has_any};
 ghost use Rattle.bl_cparse.specs.Pieces.{pieces, first_of, is_same};
 
 use crate::piece::next_piece;
 use crate::refusal::CRefusal;
 use bl_tree::{Place, Text};
-use std::alloc::Global;
+use std::alloc::{AllocError, Global};
 use std::marker::Model;
 
 /// What is left to read. Contracts see the pieces.
@@ -91,13 +91,21 @@ impl<'a> Reader<'a> {
     }
 
     /// Goes on behind the next piece.
-    pub fn pass(&mut self)
+    fn pass(&mut self)
         ensures { self.new ≡ drop 1 self.old }
     {
         self.last = self.end;
         let next = next_piece(self.text, self.end);
         self.start = next.start;
         self.end = next.end;
+    }
+
+    /// Goes on behind the next piece, of which there is one.
+    pub fn skip(&mut self)
+        requires { IsTrue (has_any (first_of self.old)) }
+        ensures { self.old ≡ first_of self.old ∷ self.new }
+    {
+        self.pass();
     }
 
     /// Passes the next piece where it is this one.
@@ -130,11 +138,22 @@ impl<'a> Reader<'a> {
         requires { IsTrue (has_any (first_of self.old)) }
         ensures { IfOk result (λ t. self.old ≡ t ∷ self.new) }
     {
-        let copy = match str::from_utf8(self.piece()) {
-            Ok(text) => Text::copy_of(self.alloc, text)?,
-            Err(_) => return Err(self.refusal()),
-        };
-        self.pass();
-        Ok(copy)
+        match text_of(self.alloc, self.piece())? {
+            Some(text) => {
+                self.pass();
+                Ok(text)
+            }
+            None => Err(self.refusal()),
+        }
+    }
+}
+
+/// A copy of the bytes, where they are a text.
+fn text_of(alloc: Global, bytes: &[u8]) -> Result<Option<Text>, AllocError>
+    ensures { IfOk result (λ found. IfSome found (λ text. text ≡ bytes.now)) }
+{
+    match str::from_utf8(bytes) {
+        Ok(text) => Ok(Some(Text::copy_of(alloc, text)?)),
+        Err(_) => Ok(None),
     }
 }

@@ -1,5 +1,11 @@
 //! Which words name something (docs/C_SUBSET.md, "Grammar").
 
+ghost use Rattle.std.specs.Prelude.{◌≡◌, map};
+ghost use Rattle.std.specs.Char.{is_ascii_digit};
+ghost use Rattle.bl_tree.specs.Reduce.{all_of};
+ghost use Rattle.bl_ctext.specs.Token.{is_word as is_c_word, is_word_byte as word_byte};
+ghost use Rattle.bl_ctext.specs.Names.{is_among as among, is_name as name, is_struct_name as struct_name, is_function_name as function_name, is_callee as callee, is_turn_name as turn_name, begins_with_digit};
+
 /// The words of the grammar that don't begin with `bl_`.
 static GRAMMAR_WORDS: [&str; 31] = [
     "bool",
@@ -75,6 +81,9 @@ static C_KEYWORDS: [&str; 37] = [
     "_Complex",
     "_Imaginary",
 ];
+
+/// What else names nothing.
+static OTHER_WORDS: [&str; 1] = ["abort"];
 
 /// The functions of the prelude.
 static PRELUDE_FUNCTIONS: [&str; 120] = [
@@ -213,7 +222,9 @@ static FUNCTION_WORDS: [&str; 2] = [
     "bl_tick",
 ];
 
-fn is_among(word: &[u8], words: &[&str]) -> bool {
+fn is_among(word: &[u8], words: &[&str]) -> bool
+    ensures { result ≡ among word.now (map (λ known. known.now) words.now) }
+{
     for known in words {
         if known.as_bytes() == word {
             return true;
@@ -222,36 +233,88 @@ fn is_among(word: &[u8], words: &[&str]) -> bool {
     false
 }
 
-fn is_word_byte(byte: u8) -> bool {
+fn is_word_byte(byte: u8) -> bool
+    ensures { result ≡ word_byte byte }
+{
     byte.is_ascii_alphanumeric() || byte == b'_'
 }
 
-fn is_word(bytes: &[u8]) -> bool {
-    !bytes.is_empty() && bytes.iter().all(|byte| is_word_byte(*byte))
+/// Whether all of the bytes may stand in words.
+fn are_word_bytes(bytes: &[u8]) -> bool
+    ensures { result ≡ all_of (map word_byte bytes.now) }
+{
+    for byte in bytes {
+        if !is_word_byte(*byte) {
+            return false;
+        }
+    }
+    true
 }
 
-pub fn is_name(word: &[u8]) -> bool {
+fn are_digits(bytes: &[u8]) -> bool
+    ensures { result ≡ all_of (map is_ascii_digit bytes.now) }
+{
+    for byte in bytes {
+        if !byte.is_ascii_digit() {
+            return false;
+        }
+    }
+    true
+}
+
+fn is_word(bytes: &[u8]) -> bool
+    ensures { result ≡ is_c_word bytes.now }
+{
+    match bytes {
+        [first, rest @ ..] => is_word_byte(*first) && are_word_bytes(rest),
+        [] => false,
+    }
+}
+
+fn is_digit_first(word: &[u8]) -> bool
+    ensures { result ≡ begins_with_digit word.now }
+{
+    match word {
+        [first, ..] => first.is_ascii_digit(),
+        [] => false,
+    }
+}
+
+pub fn is_name(word: &[u8]) -> bool
+    ensures { result ≡ name word.now }
+{
     is_word(word)
-        && !word[0].is_ascii_digit()
+        && !is_digit_first(word)
         && !word.starts_with(b"bl_")
         && !is_among(word, &GRAMMAR_WORDS)
         && !is_among(word, &C_KEYWORDS)
-        && word != b"abort".as_slice()
+        && !is_among(word, &OTHER_WORDS)
 }
 
-pub fn is_struct_name(word: &[u8]) -> bool {
+pub fn is_struct_name(word: &[u8]) -> bool
+    ensures { result ≡ struct_name word.now }
+{
     is_name(word) || is_among(word, &STRUCT_WORDS)
 }
 
-pub fn is_function_name(word: &[u8]) -> bool {
+pub fn is_function_name(word: &[u8]) -> bool
+    ensures { result ≡ function_name word.now }
+{
     is_name(word) || is_among(word, &FUNCTION_WORDS)
 }
 
-pub fn is_callee(word: &[u8]) -> bool {
+pub fn is_callee(word: &[u8]) -> bool
+    ensures { result ≡ callee word.now }
+{
     is_name(word) || is_among(word, &PRELUDE_FUNCTIONS)
 }
 
 /// Whether it is `t` and one or more digits.
-pub fn is_turn_name(word: &[u8]) -> bool {
-    word.len() > 1 && word[0] == b't' && word[1..].iter().all(|byte| byte.is_ascii_digit())
+pub fn is_turn_name(word: &[u8]) -> bool
+    ensures { result ≡ turn_name word.now }
+{
+    match word {
+        [first, rest @ ..] => *first == b't' && is_word(rest) && are_digits(rest),
+        [] => false,
+    }
 }

@@ -1,5 +1,12 @@
 //! Expressions, places and calls. `room` is how many brackets may still be opened.
 
+ghost use Rattle.std.specs.Prelude.{◌≡◌, ◌≤◌, ◌<◌, length, false, [], ◌∷◌, ◌++◌, codes, map, IsTrue, IfOk, OnOk};
+ghost use Rattle.bl_tree.specs.Reduce.{all_of};
+ghost use Rattle.std.specs.Fmt.{decimal};
+ghost use Rattle.bl_ctext.specs.Names.{is_name, is_callee};
+ghost use Rattle.bl_ctext.specs.Spelling.{with_commas, root_tokens, index_front, expr_tokens, kind_tokens, place_tokens, step_tokens, index_tokens, ccall_tokens, arg_tokens};
+ghost use Rattle.bl_ctext.specs.Spellable.{is_length, spells_expr, spells_kind, spells_place, spells_step, spells_index, spells_call, spells_arg};
+
 use crate::make;
 use crate::parser::{literal, name};
 use crate::reader::Reader;
@@ -9,7 +16,9 @@ use bl_tree::c::{CArg, CCall, CExpr, CExprKind, CIndex, CPlace, CStep};
 use bl_tree::{Box, List, Text};
 
 #[cycle(expressions)]
-pub fn expr(r: &mut Reader<'_>, room: u32) -> Result<CExpr, CRefusal> {
+pub fn expr(r: &mut Reader<'_>, room: u32) -> Result<CExpr, CRefusal>
+    ensures { IfOk result (λ e. (r.old ≡ expr_tokens e ++ r.new) × IsTrue (spells_expr e)) }
+{
     let start = r.start();
     let what = if r.sees("(") {
         open(r, room)?;
@@ -21,7 +30,10 @@ pub fn expr(r: &mut Reader<'_>, room: u32) -> Result<CExpr, CRefusal> {
 }
 
 /// The `(` of an expression or a place, where there is room for it.
-pub fn open(r: &mut Reader<'_>, room: u32) -> Result<(), CRefusal> {
+pub fn open(r: &mut Reader<'_>, room: u32) -> Result<(), CRefusal>
+    ensures read { OnOk result (r.old ≡ codes "(" ∷ r.new) }
+    ensures room { OnOk result (1 ≤ room) }
+{
     if room == 0 {
         return Err(r.refusal());
     }
@@ -30,7 +42,9 @@ pub fn open(r: &mut Reader<'_>, room: u32) -> Result<(), CRefusal> {
 
 /// An expression that begins with no parenthesis.
 #[cycle(expressions)]
-fn bare(r: &mut Reader<'_>, room: u32) -> Result<CExprKind, CRefusal> {
+fn bare(r: &mut Reader<'_>, room: u32) -> Result<CExprKind, CRefusal>
+    ensures { IfOk result (λ k. (r.old ≡ kind_tokens k ++ r.new) × IsTrue (spells_kind k)) }
+{
     match literal::literal(r, room)? {
         Some(found) => Ok(found),
         None => named(r, room),
@@ -39,7 +53,9 @@ fn bare(r: &mut Reader<'_>, room: u32) -> Result<CExprKind, CRefusal> {
 
 /// An expression that begins with a name.
 #[cycle(expressions)]
-fn named(r: &mut Reader<'_>, room: u32) -> Result<CExprKind, CRefusal> {
+fn named(r: &mut Reader<'_>, room: u32) -> Result<CExprKind, CRefusal>
+    ensures { IfOk result (λ k. (r.old ≡ kind_tokens k ++ r.new) × IsTrue (spells_kind k)) }
+{
     let first = leading_name(r, room)?;
     if first.is_call {
         Ok(make::called(call(r, first.name, room)?))
@@ -57,7 +73,9 @@ pub struct Leading {
 }
 
 /// What begins a call or a place. A function of the prelude can't stand where there is no room for its `(`.
-pub fn leading_name(r: &mut Reader<'_>, room: u32) -> Result<Leading, CRefusal> {
+pub fn leading_name(r: &mut Reader<'_>, room: u32) -> Result<Leading, CRefusal>
+    ensures { IfOk result (λ first. (r.old ≡ first.name ∷ r.new) × (IsTrue (is_callee first.name) × (first.is_call ≡ false → IsTrue (is_name first.name)))) }
+{
     if words::is_name(r.piece()) {
         let name = r.copy()?;
         let is_call = r.sees("(");
@@ -75,7 +93,9 @@ pub fn leading_name(r: &mut Reader<'_>, room: u32) -> Result<Leading, CRefusal> 
 
 /// An expression behind its `(`.
 #[cycle(expressions)]
-pub fn bracketed(r: &mut Reader<'_>, room: u32) -> Result<CExprKind, CRefusal> {
+pub fn bracketed(r: &mut Reader<'_>, room: u32) -> Result<CExprKind, CRefusal>
+    ensures { IfOk result (λ k. (codes "(" ∷ r.old ≡ kind_tokens k ++ r.new) × IsTrue (spells_kind k)) }
+{
     if r.eat("*") {
         let name = pointer(r)?;
         return Ok(make::read(place(r, true, name, room)?));
@@ -90,14 +110,18 @@ pub fn bracketed(r: &mut Reader<'_>, room: u32) -> Result<CExprKind, CRefusal> {
 }
 
 /// A pointer's name and the `)` behind it.
-pub fn pointer(r: &mut Reader<'_>) -> Result<Text, CRefusal> {
+pub fn pointer(r: &mut Reader<'_>) -> Result<Text, CRefusal>
+    ensures { IfOk result (λ name. (r.old ≡ name ∷ codes ")" ∷ r.new) × IsTrue (is_name name)) }
+{
     let name = name::name(r)?;
     r.take(")")?;
     Ok(name)
 }
 
 /// The minus of a literal, and what follows it.
-fn minus(r: &mut Reader<'_>, room: u32) -> Result<CExprKind, CRefusal> {
+fn minus(r: &mut Reader<'_>, room: u32) -> Result<CExprKind, CRefusal>
+    ensures { IfOk result (λ k. (codes "(" ∷ r.old ≡ kind_tokens k ++ r.new) × IsTrue (spells_kind k)) }
+{
     if room == 0 {
         return Err(r.refusal());
     }
@@ -107,7 +131,9 @@ fn minus(r: &mut Reader<'_>, room: u32) -> Result<CExprKind, CRefusal> {
 
 /// The operand of `!` and its `)`.
 #[cycle(expressions)]
-fn negation(r: &mut Reader<'_>, room: u32) -> Result<CExprKind, CRefusal> {
+fn negation(r: &mut Reader<'_>, room: u32) -> Result<CExprKind, CRefusal>
+    ensures { IfOk result (λ k. (codes "(" ∷ codes "!" ∷ r.old ≡ kind_tokens k ++ r.new) × IsTrue (spells_kind k)) }
+{
     let operand = expr(r, room)?;
     r.take(")")?;
     Ok(make::not(Box::new(r.alloc(), operand)?))
@@ -115,7 +141,9 @@ fn negation(r: &mut Reader<'_>, room: u32) -> Result<CExprKind, CRefusal> {
 
 /// Two operands, the sign between them and the `)`.
 #[cycle(expressions)]
-fn comparison(r: &mut Reader<'_>, room: u32) -> Result<CExprKind, CRefusal> {
+fn comparison(r: &mut Reader<'_>, room: u32) -> Result<CExprKind, CRefusal>
+    ensures { IfOk result (λ k. (codes "(" ∷ r.old ≡ kind_tokens k ++ r.new) × IsTrue (spells_kind k)) }
+{
     let left = Box::new(r.alloc(), expr(r, room)?)?;
     let op = literal::operator(r)?;
     let right = Box::new(r.alloc(), expr(r, room)?)?;
@@ -130,7 +158,10 @@ pub fn place(
     through: bool,
     name: Text,
     room: u32,
-) -> Result<CPlace, CRefusal> {
+) -> Result<CPlace, CRefusal>
+    requires { IsTrue (is_name name) }
+    ensures { IfOk result (λ at. (root_tokens through name ++ r.old ≡ place_tokens at ++ r.new) × IsTrue (spells_place at)) }
+{
     let mut steps = List::new(r.alloc());
     while r.sees(".") {
         steps.push(step(r, room)?)?;
@@ -139,7 +170,10 @@ pub fn place(
 }
 
 #[cycle(expressions)]
-fn step(r: &mut Reader<'_>, room: u32) -> Result<CStep, CRefusal> {
+fn step(r: &mut Reader<'_>, room: u32) -> Result<CStep, CRefusal>
+    ensures read { IfOk result (λ s. (r.old ≡ step_tokens s ++ r.new) × IsTrue (spells_step s)) }
+    ensures shorter { OnOk result (length r.new < length r.old) }
+{
     r.take(".")?;
     let member = name::name(r)?;
     let index = if r.sees("[") {
@@ -151,7 +185,9 @@ fn step(r: &mut Reader<'_>, room: u32) -> Result<CStep, CRefusal> {
 }
 
 #[cycle(expressions)]
-fn index(r: &mut Reader<'_>, room: u32) -> Result<CIndex, CRefusal> {
+fn index(r: &mut Reader<'_>, room: u32) -> Result<CIndex, CRefusal>
+    ensures { IfOk result (λ i. (r.old ≡ index_tokens i ++ r.new) × IsTrue (spells_index i)) }
+{
     if room < 2 {
         return Err(r.refusal());
     }
@@ -162,7 +198,9 @@ fn index(r: &mut Reader<'_>, room: u32) -> Result<CIndex, CRefusal> {
 }
 
 /// The front of an index, and whether it is a signed one.
-fn index_front(r: &mut Reader<'_>) -> Result<bool, CRefusal> {
+fn index_front(r: &mut Reader<'_>) -> Result<bool, CRefusal>
+    ensures { IfOk result (λ signed. r.old ≡ index_front signed ++ r.new) }
+{
     r.take("[")?;
     let signed = r.eat("bl_ix_s");
     if !signed {
@@ -173,7 +211,9 @@ fn index_front(r: &mut Reader<'_>) -> Result<bool, CRefusal> {
 }
 
 /// What follows the expression of an index.
-fn index_length(r: &mut Reader<'_>) -> Result<u32, CRefusal> {
+fn index_length(r: &mut Reader<'_>) -> Result<u32, CRefusal>
+    ensures { IfOk result (λ n. (r.old ≡ codes "," ∷ decimal n ∷ codes ")" ∷ codes "]" ∷ r.new) × IsTrue (is_length n)) }
+{
     r.take(",")?;
     let length = length(r)?;
     r.take(")")?;
@@ -182,37 +222,55 @@ fn index_length(r: &mut Reader<'_>) -> Result<u32, CRefusal> {
 }
 
 /// The number of elements of an array.
-pub fn length(r: &mut Reader<'_>) -> Result<u32, CRefusal> {
+pub fn length(r: &mut Reader<'_>) -> Result<u32, CRefusal>
+    ensures { IfOk result (λ n. (r.old ≡ decimal n ∷ r.new) × IsTrue (is_length n)) }
+{
     Ok(literal::number(r, 1, 65_536)? as u32)
 }
 
 /// The arguments of a call whose name is read.
 #[cycle(expressions)]
-pub fn call(r: &mut Reader<'_>, name: Text, room: u32) -> Result<CCall, CRefusal> {
+pub fn call(r: &mut Reader<'_>, name: Text, room: u32) -> Result<CCall, CRefusal>
+    requires { IsTrue (is_callee name) }
+    ensures { IfOk result (λ c. (name ∷ r.old ≡ ccall_tokens c ++ r.new) × IsTrue (spells_call c)) }
+{
     open(r, room)?;
-    let mut args = List::new(r.alloc());
-    if r.eat(")") {
-        return Ok(make::call(name, args));
-    }
-    args.push(argument(r, room - 1)?)?;
-    while r.eat(",") {
-        args.push(argument(r, room - 1)?)?;
-    }
+    let args = arguments(r, room - 1)?;
     r.take(")")?;
     Ok(make::call(name, args))
 }
 
+/// The arguments before a `)`.
 #[cycle(expressions)]
-fn argument(r: &mut Reader<'_>, room: u32) -> Result<CArg, CRefusal> {
-    if r.eat("&") {
-        return Ok(CArg::Address(whole_place(r, room)?));
+fn arguments(r: &mut Reader<'_>, room: u32) -> Result<List<CArg>, CRefusal>
+    ensures { IfOk result (λ args. (r.old ≡ with_commas (map arg_tokens args) ++ r.new) × IsTrue (all_of (map spells_arg args))) }
+{
+    let mut args = List::new(r.alloc());
+    if r.sees(")") {
+        return Ok(args);
     }
-    Ok(CArg::Value(expr(r, room)?))
+    args.push(argument(r, room)?)?;
+    while r.eat(",") {
+        args.push(argument(r, room)?)?;
+    }
+    Ok(args)
+}
+
+#[cycle(expressions)]
+fn argument(r: &mut Reader<'_>, room: u32) -> Result<CArg, CRefusal>
+    ensures { IfOk result (λ arg. (r.old ≡ arg_tokens arg ++ r.new) × IsTrue (spells_arg arg)) }
+{
+    if r.eat("&") {
+        return Ok(make::address(whole_place(r, room)?));
+    }
+    Ok(make::value(expr(r, room)?))
 }
 
 /// A place from its root on.
 #[cycle(expressions)]
-fn whole_place(r: &mut Reader<'_>, room: u32) -> Result<CPlace, CRefusal> {
+fn whole_place(r: &mut Reader<'_>, room: u32) -> Result<CPlace, CRefusal>
+    ensures { IfOk result (λ at. (r.old ≡ place_tokens at ++ r.new) × IsTrue (spells_place at)) }
+{
     if r.sees("(") {
         let name = star(r, room)?;
         return place(r, true, name, room);
@@ -222,7 +280,9 @@ fn whole_place(r: &mut Reader<'_>, room: u32) -> Result<CPlace, CRefusal> {
 }
 
 /// `(*`, a pointer's name and `)`.
-pub fn star(r: &mut Reader<'_>, room: u32) -> Result<Text, CRefusal> {
+pub fn star(r: &mut Reader<'_>, room: u32) -> Result<Text, CRefusal>
+    ensures { IfOk result (λ name. (r.old ≡ codes "(" ∷ codes "*" ∷ name ∷ codes ")" ∷ r.new) × IsTrue (is_name name)) }
+{
     open(r, room)?;
     r.take("*")?;
     pointer(r)

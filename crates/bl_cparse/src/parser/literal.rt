@@ -1,5 +1,12 @@
 //! Words of types, signs of operators, numbers and literals.
 
+ghost use Rattle.std.specs.Prelude.{◌≡◌, ◌≤◌, ◌<◌, ◌*◌, ◌^◌, [], ◌∷◌, ◌++◌, codes, IsTrue, IfOk, IfSome};
+ghost use Rattle.std.specs.Fmt.{decimal};
+ghost use Rattle.bl_ctext.specs.Spelling.{scalar_word, operator_sign, constant_word, width_digits, negatives, kind_tokens};
+ghost use Rattle.bl_ctext.specs.Spellable.{is_c_scalar, is_c_operator, has_any, spells_kind};
+ghost use Rattle.bl_cparse.specs.Pieces.{first_of};
+ghost use Rattle.bl_cparse.specs.Parts.{MaybeKind};
+
 use crate::make;
 use crate::reader::Reader;
 use crate::refusal::CRefusal;
@@ -8,7 +15,9 @@ use bl_tree::{Op, Scalar, Width};
 use itoa::Buffer;
 
 /// The type of this word.
-pub fn scalar_of(word: &[u8]) -> Option<Scalar> {
+pub fn scalar_of(word: &[u8]) -> Option<Scalar>
+    ensures { IfSome result (λ s. (word.now ≡ scalar_word s) × (IsTrue (is_c_scalar s) × IsTrue (has_any word.now))) }
+{
     match word {
         b"bool" => Some(Scalar::Bool),
         b"int8_t" => Some(Scalar::Int(Width::W8)),
@@ -24,7 +33,9 @@ pub fn scalar_of(word: &[u8]) -> Option<Scalar> {
 }
 
 /// The operator of this sign.
-pub fn operator_of(sign: &[u8]) -> Option<Op> {
+pub fn operator_of(sign: &[u8]) -> Option<Op>
+    ensures { IfSome result (λ o. (sign.now ≡ operator_sign o) × (IsTrue (is_c_operator o) × IsTrue (has_any sign.now))) }
+{
     match sign {
         b"==" => Some(Op::Eq),
         b"!=" => Some(Op::Ne),
@@ -39,7 +50,9 @@ pub fn operator_of(sign: &[u8]) -> Option<Op> {
 }
 
 /// The type whose int constants this word begins.
-pub fn signed_of(word: &[u8]) -> Option<Width> {
+pub fn signed_of(word: &[u8]) -> Option<Width>
+    ensures { IfSome result (λ w. (word.now ≡ constant_word (codes "INT") w) × IsTrue (has_any word.now)) }
+{
     match word {
         b"INT8_C" => Some(Width::W8),
         b"INT16_C" => Some(Width::W16),
@@ -50,7 +63,9 @@ pub fn signed_of(word: &[u8]) -> Option<Width> {
 }
 
 /// The type whose unsigned constants this word begins.
-pub fn unsigned_of(word: &[u8]) -> Option<Width> {
+pub fn unsigned_of(word: &[u8]) -> Option<Width>
+    ensures { IfSome result (λ w. (word.now ≡ constant_word (codes "UINT") w) × IsTrue (has_any word.now)) }
+{
     match word {
         b"UINT8_C" => Some(Width::W8),
         b"UINT16_C" => Some(Width::W16),
@@ -61,7 +76,9 @@ pub fn unsigned_of(word: &[u8]) -> Option<Width> {
 }
 
 /// The int type whose least number this word is.
-pub fn least_of(word: &[u8]) -> Option<Width> {
+pub fn least_of(word: &[u8]) -> Option<Width>
+    ensures { IfSome result (λ w. (word.now ≡ codes "INT" ++ (width_digits w ++ codes "_MIN")) × IsTrue (has_any word.now)) }
+{
     match word {
         b"INT8_MIN" => Some(Width::W8),
         b"INT16_MIN" => Some(Width::W16),
@@ -72,7 +89,9 @@ pub fn least_of(word: &[u8]) -> Option<Width> {
 }
 
 /// How many negative numbers the int type of this width has.
-pub fn negatives_of(width: Width) -> u64 {
+pub fn negatives_of(width: Width) -> u64
+    ensures { result ≡ negatives width }
+{
     match width {
         Width::W8 => 1 << 7,
         Width::W16 => 1 << 15,
@@ -82,7 +101,9 @@ pub fn negatives_of(width: Width) -> u64 {
 }
 
 /// The number that these digits spell, with no zero before its first digit.
-fn number_of(digits: &[u8]) -> Option<u64> {
+fn number_of(digits: &[u8]) -> Option<u64>
+    ensures { IfSome result (λ n. digits.now ≡ decimal n) }
+{
     let text = str::from_utf8(digits).ok()?;
     let n = text.parse::<u64>().ok()?;
     let mut buffer = Buffer::new();
@@ -94,10 +115,12 @@ fn number_of(digits: &[u8]) -> Option<u64> {
 }
 
 /// A number from `low` to `high`.
-pub fn number(r: &mut Reader<'_>, low: u64, high: u64) -> Result<u64, CRefusal> {
+pub fn number(r: &mut Reader<'_>, low: u64, high: u64) -> Result<u64, CRefusal>
+    ensures { IfOk result (λ n. (r.old ≡ decimal n ∷ r.new) × ((low ≤ n) × (n ≤ high))) }
+{
     match number_of(r.piece()) {
         Some(n) if low <= n && n <= high => {
-            r.pass();
+            r.skip();
             Ok(n)
         }
         _ => Err(r.refusal()),
@@ -105,7 +128,9 @@ pub fn number(r: &mut Reader<'_>, low: u64, high: u64) -> Result<u64, CRefusal> 
 }
 
 /// The digits of a constant in their parentheses.
-fn constant(r: &mut Reader<'_>, low: u64, high: u64) -> Result<u64, CRefusal> {
+fn constant(r: &mut Reader<'_>, low: u64, high: u64) -> Result<u64, CRefusal>
+    ensures { IfOk result (λ n. (r.old ≡ codes "(" ∷ decimal n ∷ codes ")" ∷ r.new) × ((low ≤ n) × (n ≤ high))) }
+{
     r.take("(")?;
     let n = number(r, low, high)?;
     r.take(")")?;
@@ -114,7 +139,9 @@ fn constant(r: &mut Reader<'_>, low: u64, high: u64) -> Result<u64, CRefusal> {
 
 /// A literal that doesn't begin with a parenthesis, where so many brackets may still be opened. None where the next
 /// token begins no such literal.
-pub fn literal(r: &mut Reader<'_>, room: u32) -> Result<Option<CExprKind>, CRefusal> {
+pub fn literal(r: &mut Reader<'_>, room: u32) -> Result<Option<CExprKind>, CRefusal>
+    ensures { IfOk result (λ found. MaybeKind r.old r.new found) }
+{
     if r.eat("true") {
         return Ok(Some(make::literal(Scalar::Bool, 1)));
     }
@@ -122,14 +149,16 @@ pub fn literal(r: &mut Reader<'_>, room: u32) -> Result<Option<CExprKind>, CRefu
         return Ok(Some(make::literal(Scalar::Bool, 0)));
     }
     if let Some(width) = least_of(r.piece()) {
-        r.pass();
+        r.skip();
         let least = -(negatives_of(width) as i128);
         return Ok(Some(make::literal(Scalar::Int(width), least)));
     }
     bracketed_constant(r, room)
 }
 
-fn bracketed_constant(r: &mut Reader<'_>, room: u32) -> Result<Option<CExprKind>, CRefusal> {
+fn bracketed_constant(r: &mut Reader<'_>, room: u32) -> Result<Option<CExprKind>, CRefusal>
+    ensures { IfOk result (λ found. MaybeKind r.old r.new found) }
+{
     if let Some(width) = signed_of(r.piece()) {
         let n = constant_of(r, room, negatives_of(width) - 1)?;
         return Ok(Some(make::literal(Scalar::Int(width), n as i128)));
@@ -142,39 +171,48 @@ fn bracketed_constant(r: &mut Reader<'_>, room: u32) -> Result<Option<CExprKind>
 }
 
 /// A constant of at most this number, whose word stands next.
-fn constant_of(r: &mut Reader<'_>, room: u32, high: u64) -> Result<u64, CRefusal> {
+fn constant_of(r: &mut Reader<'_>, room: u32, high: u64) -> Result<u64, CRefusal>
+    requires { IsTrue (has_any (first_of r.old)) }
+    ensures { IfOk result (λ n. (r.old ≡ first_of r.old ∷ codes "(" ∷ decimal n ∷ codes ")" ∷ r.new) × (n ≤ high)) }
+{
     if room == 0 {
         return Err(r.refusal());
     }
-    r.pass();
+    r.skip();
     constant(r, 0, high)
 }
 
 /// A negative literal behind its `(-`, where a bracket may still be opened.
-pub fn negative(r: &mut Reader<'_>) -> Result<CExprKind, CRefusal> {
+pub fn negative(r: &mut Reader<'_>) -> Result<CExprKind, CRefusal>
+    ensures { IfOk result (λ k. (codes "(" ∷ codes "-" ∷ r.old ≡ kind_tokens k ++ r.new) × IsTrue (spells_kind k)) }
+{
     let Some(width) = signed_of(r.piece()) else {
         return Err(r.refusal());
     };
-    r.pass();
+    r.skip();
     let n = constant(r, 1, negatives_of(width) - 1)?;
     r.take(")")?;
     Ok(make::literal(Scalar::Int(width), -(n as i128)))
 }
 
-pub fn scalar(r: &mut Reader<'_>) -> Result<Scalar, CRefusal> {
+pub fn scalar(r: &mut Reader<'_>) -> Result<Scalar, CRefusal>
+    ensures { IfOk result (λ s. (r.old ≡ scalar_word s ∷ r.new) × IsTrue (is_c_scalar s)) }
+{
     match scalar_of(r.piece()) {
         Some(scalar) => {
-            r.pass();
+            r.skip();
             Ok(scalar)
         }
         None => Err(r.refusal()),
     }
 }
 
-pub fn operator(r: &mut Reader<'_>) -> Result<Op, CRefusal> {
+pub fn operator(r: &mut Reader<'_>) -> Result<Op, CRefusal>
+    ensures { IfOk result (λ o. (r.old ≡ operator_sign o ∷ r.new) × IsTrue (is_c_operator o)) }
+{
     match operator_of(r.piece()) {
         Some(op) => {
-            r.pass();
+            r.skip();
             Ok(op)
         }
         None => Err(r.refusal()),

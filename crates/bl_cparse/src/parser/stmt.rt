@@ -1,40 +1,245 @@
-//! Statements. `room` is how many brackets may still be opened.
+//! Statements. `room` is how many brackets may still be opened. Open braces are kept on a stack of our own, so that
+//! nested statements take no more of the machine's.
+
+ghost use Rattle.std.specs.Prelude.{◌≡◌, ◌<◌, [], ◌∷◌, ◌++◌, map, codes, length, IsTrue, IfOk, OnOk};
+ghost use Rattle.bl_tree.specs.Reduce.{all_of, joined};
+ghost use Rattle.bl_ctext.specs.Names.{is_name, is_callee, is_turn_name};
+ghost use Rattle.bl_ctext.specs.Spelling.{expr_tokens, place_tokens, root_tokens, ccall_tokens, stmt_tokens, stmt_kind_tokens, condition_tokens, turn_declared, turn_counted};
+ghost use Rattle.bl_ctext.specs.Spellable.{spells_expr, spells_place, spells_stmt, spells_stmt_kind, has_any};
+ghost use Rattle.bl_cparse.specs.Nest.{frame_tokens, spells_frame, nest_tokens, spells_nest};
 
 use crate::make;
+use crate::make_stmt;
 use crate::parser::{expr, name};
 use crate::reader::Reader;
 use crate::refusal::CRefusal;
 use bl_tree::c::{CExpr, CPlace, CStmt, CStmtKind};
 use bl_tree::{List, Text};
+use std::alloc::AllocError;
 
-/// The statements before a `}`.
-#[cycle(statements)]
-pub fn stmts(r: &mut Reader<'_>, room: u32) -> Result<List<CStmt>, CRefusal> {
-    let mut body = List::new(r.alloc());
-    while !r.sees("}") {
-        body.push(stmt(r, room)?)?;
-    }
-    Ok(body)
+/// The front of a statement up to its open brace.
+#[derive(Drop)]
+pub enum Opened {
+    /// The condition of an `if`.
+    Then(CExpr),
+    /// A condition, and the statements before its `else`.
+    Else(CExpr, List<CStmt>),
+    /// The name of a loop's turns, and its condition.
+    Turns(Text, CExpr),
 }
 
-#[cycle(statements)]
-fn stmt(r: &mut Reader<'_>, room: u32) -> Result<CStmt, CRefusal> {
-    let start = r.start();
-    let what = if r.sees("if") {
-        branches(r, room)?
-    } else if r.sees("{") {
-        turns(r, room)?
-    } else {
-        simple(r, room)?
+/// An open brace, and what stands before it.
+#[derive(Drop)]
+pub struct Frame {
+    pub before: List<CStmt>,
+    /// Where the open statement begins, and the room there.
+    pub start: u32,
+    pub room: u32,
+    pub opened: Opened,
+}
+
+/// What is read of the statements of a function.
+#[derive(Drop)]
+pub struct Nest {
+    /// From the outermost brace on.
+    pub outer: Vec<Frame>,
+    /// The statements in the innermost one.
+    pub body: List<CStmt>,
+    pub room: u32,
+}
+
+/// The statements before a `}`.
+pub fn stmts(r: &mut Reader<'_>, room: u32) -> Result<List<CStmt>, CRefusal>
+    ensures { IfOk result (λ body. (r.old ≡ joined (map stmt_tokens body) ++ r.new) × IsTrue (all_of (map spells_stmt body))) }
+{
+    let mut nest = Nest {
+        outer: Vec::new(r.alloc()),
+        body: List::new(r.alloc()),
+        room,
     };
-    Ok(make::stmt(r.place_from(start), what))
+    while !(nest.outer.is_empty() && r.sees("}")) {
+        nest = further(r, nest)?;
+    }
+    Ok(nest.body)
+}
+
+/// One statement more, or the front or the end of one that holds others.
+fn further(r: &mut Reader<'_>, nest: Nest) -> Result<Nest, CRefusal>
+    requires { IsTrue (spells_nest nest) }
+    ensures read { IfOk result (λ next. (nest_tokens nest ++ r.old ≡ nest_tokens next ++ r.new) × IsTrue (spells_nest next)) }
+    ensures shorter { OnOk result (length r.new < length r.old) }
+{
+    if r.sees("}") {
+        closed(r, nest)
+    } else if r.sees("if") {
+        opened_branch(r, nest)
+    } else if r.sees("{") {
+        opened_turns(r, nest)
+    } else {
+        one(r, nest)
+    }
 }
 
 /// A statement that holds no others.
-fn simple(r: &mut Reader<'_>, room: u32) -> Result<CStmtKind, CRefusal> {
+fn one(r: &mut Reader<'_>, nest: Nest) -> Result<Nest, CRefusal>
+    requires { IsTrue (spells_nest nest) }
+    ensures read { IfOk result (λ next. (nest_tokens nest ++ r.old ≡ nest_tokens next ++ r.new) × IsTrue (spells_nest next)) }
+    ensures shorter { OnOk result (length r.new < length r.old) }
+{
+    let Nest { outer, body, room } = nest;
+    let start = r.start();
+    let what = simple(r, room)?;
+    let body = with(body, make_stmt::stmt(r.place_from(start), what))?;
+    Ok(Nest { outer, body, room })
+}
+
+/// The statements with one more.
+fn with(body: List<CStmt>, stmt: CStmt) -> Result<List<CStmt>, CRefusal>
+    ensures { IfOk result (λ longer. longer ≡ body ++ stmt ∷ []) }
+{
+    let mut body = body;
+    body.push(stmt)?;
+    Ok(body)
+}
+
+fn opened_branch(r: &mut Reader<'_>, nest: Nest) -> Result<Nest, CRefusal>
+    requires { IsTrue (spells_nest nest) }
+    ensures read { IfOk result (λ next. (nest_tokens nest ++ r.old ≡ nest_tokens next ++ r.new) × IsTrue (spells_nest next)) }
+    ensures shorter { OnOk result (length r.new < length r.old) }
+{
+    let Nest { outer, body, room } = nest;
+    if room == 0 {
+        return Err(r.refusal());
+    }
+    let start = r.start();
+    r.take("if")?;
+    let test = condition(r, room - 1)?;
+    r.take("{")?;
+    let frame = Frame {
+        before: body,
+        start,
+        room,
+        opened: Opened::Then(test),
+    };
+    inside(r, outer, frame, room - 1)
+}
+
+/// The inside of a brace that is opened.
+fn inside(
+    r: &Reader<'_>,
+    outer: Vec<Frame>,
+    frame: Frame,
+    room: u32,
+) -> Result<Nest, CRefusal>
+    requires outer { IsTrue (all_of (map spells_frame outer.items)) }
+    requires frame { IsTrue (spells_frame frame) }
+    ensures { IfOk result (λ next. (nest_tokens next ≡ joined (map frame_tokens outer.items) ++ frame_tokens frame) × IsTrue (spells_nest next)) }
+{
+    let mut outer = outer;
+    if let Err(failed) = outer.push(frame) {
+        return Err(AllocError::from(failed).into());
+    }
+    Ok(Nest {
+        outer,
+        body: List::new(r.alloc()),
+        room,
+    })
+}
+
+fn opened_turns(r: &mut Reader<'_>, nest: Nest) -> Result<Nest, CRefusal>
+    requires { IsTrue (spells_nest nest) }
+    ensures read { IfOk result (λ next. (nest_tokens nest ++ r.old ≡ nest_tokens next ++ r.new) × IsTrue (spells_nest next)) }
+    ensures shorter { OnOk result (length r.new < length r.old) }
+{
+    let Nest { outer, body, room } = nest;
+    if room < 2 {
+        return Err(r.refusal());
+    }
+    let start = r.start();
+    let turn = declared_turn(r)?;
+    let test = condition(r, room - 2)?;
+    counted_turn(r, turn.as_str())?;
+    let frame = Frame {
+        before: body,
+        start,
+        room,
+        opened: Opened::Turns(turn, test),
+    };
+    inside(r, outer, frame, room - 2)
+}
+
+/// The end of the innermost brace.
+fn closed(r: &mut Reader<'_>, nest: Nest) -> Result<Nest, CRefusal>
+    requires { IsTrue (spells_nest nest) }
+    ensures read { IfOk result (λ next. (nest_tokens nest ++ r.old ≡ nest_tokens next ++ r.new) × IsTrue (spells_nest next)) }
+    ensures shorter { OnOk result (length r.new < length r.old) }
+{
+    let Nest {
+        mut outer,
+        body,
+        room,
+    } = nest;
+    let Some(frame) = outer.pop() else {
+        return Err(r.refusal());
+    };
+    r.take("}")?;
+    let Frame {
+        before,
+        start,
+        room: outside,
+        opened,
+    } = frame;
+    match opened {
+        Opened::Then(test) => {
+            if r.eat("else") {
+                r.take("{")?;
+                let frame = Frame {
+                    before,
+                    start,
+                    room: outside,
+                    opened: Opened::Else(test, body),
+                };
+                return inside(r, outer, frame, room);
+            }
+            let what = make_stmt::branch(test, body);
+            ended(r, outer, before, start, what, outside)
+        }
+        Opened::Else(test, then_part) => {
+            let what = make_stmt::branches(test, then_part, body);
+            ended(r, outer, before, start, what, outside)
+        }
+        Opened::Turns(turn, test) => {
+            r.take("}")?;
+            let what = make_stmt::turns(turn, test, body);
+            ended(r, outer, before, start, what, outside)
+        }
+    }
+}
+
+/// The statements outside of a brace, with the one that it closed.
+fn ended(
+    r: &Reader<'_>,
+    outer: Vec<Frame>,
+    before: List<CStmt>,
+    start: u32,
+    what: CStmtKind,
+    room: u32,
+) -> Result<Nest, CRefusal>
+    requires outer { IsTrue (all_of (map spells_frame outer.items)) }
+    requires before { IsTrue (all_of (map spells_stmt before)) }
+    requires what { IsTrue (spells_stmt_kind what) }
+    ensures { IfOk result (λ next. (nest_tokens next ≡ joined (map frame_tokens outer.items) ++ (joined (map stmt_tokens before) ++ stmt_kind_tokens what)) × IsTrue (spells_nest next)) }
+{
+    let body = with(before, make_stmt::stmt(r.place_from(start), what))?;
+    Ok(Nest { outer, body, room })
+}
+
+fn simple(r: &mut Reader<'_>, room: u32) -> Result<CStmtKind, CRefusal>
+    ensures { IfOk result (λ k. (r.old ≡ stmt_kind_tokens k ++ r.new) × IsTrue (spells_stmt_kind k)) }
+{
     if r.eat("break") {
         r.take(";")?;
-        return Ok(CStmtKind::Break);
+        return Ok(make_stmt::stop());
     }
     if r.eat("return") {
         return returned(r, room);
@@ -51,19 +256,24 @@ fn simple(r: &mut Reader<'_>, room: u32) -> Result<CStmtKind, CRefusal> {
     }
 }
 
-fn returned(r: &mut Reader<'_>, room: u32) -> Result<CStmtKind, CRefusal> {
+fn returned(r: &mut Reader<'_>, room: u32) -> Result<CStmtKind, CRefusal>
+    ensures { IfOk result (λ k. (codes "return" ∷ r.old ≡ stmt_kind_tokens k ++ r.new) × IsTrue (spells_stmt_kind k)) }
+{
     if r.eat(";") {
-        return Ok(CStmtKind::Return(None));
+        return Ok(make_stmt::give(None));
     }
     let value = expr::expr(r, room)?;
     r.take(";")?;
-    Ok(CStmtKind::Return(Some(value)))
+    Ok(make_stmt::give(Some(value)))
 }
 
-fn called(r: &mut Reader<'_>, name: Text, room: u32) -> Result<CStmtKind, CRefusal> {
+fn called(r: &mut Reader<'_>, name: Text, room: u32) -> Result<CStmtKind, CRefusal>
+    requires { IsTrue (is_callee name) }
+    ensures { IfOk result (λ k. (name ∷ r.old ≡ stmt_kind_tokens k ++ r.new) × IsTrue (spells_stmt_kind k)) }
+{
     let call = expr::call(r, name, room)?;
     r.take(";")?;
-    Ok(CStmtKind::Call(call))
+    Ok(make_stmt::call(call))
 }
 
 /// What is assigned to a place whose root is read.
@@ -72,15 +282,36 @@ fn set(
     through: bool,
     name: Text,
     room: u32,
-) -> Result<CStmtKind, CRefusal> {
+) -> Result<CStmtKind, CRefusal>
+    requires { IsTrue (is_name name) }
+    ensures { IfOk result (λ k. (root_tokens through name ++ r.old ≡ stmt_kind_tokens k ++ r.new) × IsTrue (spells_stmt_kind k)) }
+{
     let at = expr::place(r, through, name, room)?;
+    assigned(r, at, room)
+}
+
+fn assigned(r: &mut Reader<'_>, at: CPlace, room: u32) -> Result<CStmtKind, CRefusal>
+    requires { IsTrue (spells_place at) }
+    ensures { IfOk result (λ k. (place_tokens at ++ r.old ≡ stmt_kind_tokens k ++ r.new) × IsTrue (spells_stmt_kind k)) }
+{
     r.take("=")?;
-    let start = r.start();
-    if !r.sees("(") {
-        let value = expr::expr(r, room)?;
-        return stored(r, at, value);
+    if r.sees("(") {
+        return bracketed(r, at, room);
     }
-    expr::open(r, room)?;
+    let value = expr::expr(r, room)?;
+    stored(r, at, value)
+}
+
+/// What is assigned, where it begins with a parenthesis.
+fn bracketed(r: &mut Reader<'_>, at: CPlace, room: u32) -> Result<CStmtKind, CRefusal>
+    requires { IsTrue (spells_place at) }
+    ensures { IfOk result (λ k. (place_tokens at ++ codes "=" ∷ r.old ≡ stmt_kind_tokens k ++ r.new) × IsTrue (spells_stmt_kind k)) }
+{
+    if room == 0 {
+        return Err(r.refusal());
+    }
+    let start = r.start();
+    r.take("(")?;
     if r.eat("struct") {
         return cleared(r, at);
     }
@@ -89,75 +320,50 @@ fn set(
     stored(r, at, value)
 }
 
-fn stored(r: &mut Reader<'_>, at: CPlace, value: CExpr) -> Result<CStmtKind, CRefusal> {
+fn stored(r: &mut Reader<'_>, at: CPlace, value: CExpr) -> Result<CStmtKind, CRefusal>
+    requires at { IsTrue (spells_place at) }
+    requires value { IsTrue (spells_expr value) }
+    ensures { IfOk result (λ k. (place_tokens at ++ codes "=" ∷ (expr_tokens value ++ r.old) ≡ stmt_kind_tokens k ++ r.new) × IsTrue (spells_stmt_kind k)) }
+{
     r.take(";")?;
-    Ok(CStmtKind::Set(at, value))
+    Ok(make_stmt::set(at, value))
 }
 
 /// What follows `(struct` where a place is set to zeros.
-fn cleared(r: &mut Reader<'_>, at: CPlace) -> Result<CStmtKind, CRefusal> {
+fn cleared(r: &mut Reader<'_>, at: CPlace) -> Result<CStmtKind, CRefusal>
+    requires { IsTrue (spells_place at) }
+    ensures { IfOk result (λ k. (place_tokens at ++ codes "=" ∷ codes "(" ∷ codes "struct" ∷ r.old ≡ stmt_kind_tokens k ++ r.new) × IsTrue (spells_stmt_kind k)) }
+{
     let of = name::struct_name(r)?;
     r.take(")")?;
     zeros(r)?;
     r.take(";")?;
-    Ok(CStmtKind::Clear(at, of))
+    Ok(make_stmt::clear(at, of))
 }
 
 /// A struct of zeros.
-pub fn zeros(r: &mut Reader<'_>) -> Result<(), CRefusal> {
+pub fn zeros(r: &mut Reader<'_>) -> Result<(), CRefusal>
+    ensures { OnOk result (r.old ≡ codes "{" ∷ codes "0" ∷ codes "}" ∷ r.new) }
+{
     r.take("{")?;
     r.take("0")?;
     r.take("}")
 }
 
-#[cycle(statements)]
-fn branches(r: &mut Reader<'_>, room: u32) -> Result<CStmtKind, CRefusal> {
-    if room == 0 {
-        return Err(r.refusal());
-    }
-    r.take("if")?;
-    let test = condition(r, room - 1)?;
-    let then_part = block(r, room - 1)?;
-    let else_part = if r.eat("else") {
-        Some(block(r, room - 1)?)
-    } else {
-        None
-    };
-    Ok(CStmtKind::If(test, then_part, else_part))
-}
-
 /// A condition in its parentheses, where so many brackets may be opened in it.
-fn condition(r: &mut Reader<'_>, room: u32) -> Result<CExpr, CRefusal> {
+fn condition(r: &mut Reader<'_>, room: u32) -> Result<CExpr, CRefusal>
+    ensures { IfOk result (λ test. (r.old ≡ condition_tokens test ++ r.new) × IsTrue (spells_expr test)) }
+{
     r.take("(")?;
     let test = expr::expr(r, room)?;
     r.take(")")?;
     Ok(test)
 }
 
-#[cycle(statements)]
-fn block(r: &mut Reader<'_>, room: u32) -> Result<List<CStmt>, CRefusal> {
-    r.take("{")?;
-    let body = stmts(r, room)?;
-    r.take("}")?;
-    Ok(body)
-}
-
-#[cycle(statements)]
-fn turns(r: &mut Reader<'_>, room: u32) -> Result<CStmtKind, CRefusal> {
-    if room < 2 {
-        return Err(r.refusal());
-    }
-    let turn = declared_turn(r)?;
-    let test = condition(r, room - 2)?;
-    counted_turn(r, turn.as_str())?;
-    let body = stmts(r, room - 2)?;
-    r.take("}")?;
-    r.take("}")?;
-    Ok(CStmtKind::Loop(turn, test, body))
-}
-
 /// The front of a loop, and the name of its turns.
-fn declared_turn(r: &mut Reader<'_>) -> Result<Text, CRefusal> {
+fn declared_turn(r: &mut Reader<'_>) -> Result<Text, CRefusal>
+    ensures { IfOk result (λ turn. (r.old ≡ turn_declared turn ++ r.new) × IsTrue (is_turn_name turn)) }
+{
     r.take("{")?;
     r.take("uint32_t")?;
     let turn = name::turn_name(r)?;
@@ -169,7 +375,10 @@ fn declared_turn(r: &mut Reader<'_>) -> Result<Text, CRefusal> {
 }
 
 /// The front of a loop's body.
-fn counted_turn(r: &mut Reader<'_>, turn: &str) -> Result<(), CRefusal> {
+fn counted_turn(r: &mut Reader<'_>, turn: &str) -> Result<(), CRefusal>
+    requires { IsTrue (has_any turn.now) }
+    ensures { OnOk result (r.old ≡ turn_counted turn.now ++ r.new) }
+{
     r.take("{")?;
     r.take(turn)?;
     r.take("=")?;
