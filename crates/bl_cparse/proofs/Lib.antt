@@ -1,3 +1,4 @@
+pub mod ListLemmas
 pub mod PieceLemmas
 pub mod Ranges
 pub mod SameLemmas

@@ -27,3 +27,7 @@ turn_name_any t h = token_any t (turn_name-token t h)
 
 pub decimal_any : (n : ℕ) → n < 2 ^ 64 → has_any (decimal n) ≡ true
 decimal_any n h = token_any (decimal n) (decimal-token n h)
+
+pub name_callee : (t : Token) → is_name t ≡ true → is_callee t ≡ true
+unfolding is_callee
+name_callee t h = rw h refl

@@ -73,11 +73,12 @@ pub struct Leading {
 }
 
 /// What begins a call or a place. A function of the prelude can't stand where there is no room for its `(`.
+#[tactic(auto, using(crate::proofs::TokenLemmas::name_callee))]
 pub fn leading_name(r: &mut Reader<'_>, room: u32) -> Result<Leading, CRefusal>
     ensures { IfOk result (λ first. (r.old ≡ first.name ∷ r.new) × (IsTrue (is_callee first.name) × (first.is_call ≡ false → IsTrue (is_name first.name)))) }
 {
     if words::is_name(r.piece()) {
-        let name = r.copy()?;
+        let name = name::name(r)?;
         let is_call = r.sees("(");
         return Ok(Leading { name, is_call });
     }

@@ -1,6 +1,6 @@
 //! Words of types, signs of operators, numbers and literals.
 
-ghost use Rattle.std.specs.Prelude.{◌≡◌, ◌≤◌, ◌<◌, ◌*◌, ◌^◌, [], ◌∷◌, ◌++◌, codes, IsTrue, IfOk, IfSome};
+ghost use Rattle.std.specs.Prelude.{◌≡◌, ◌≤◌, ◌<◌, ◌+◌, ◌*◌, [], ◌∷◌, ◌++◌, codes, IsTrue, IfOk, IfSome};
 ghost use Rattle.std.specs.Fmt.{decimal};
 ghost use Rattle.bl_ctext.specs.Spelling.{scalar_word, operator_sign, constant_word, width_digits, negatives, kind_tokens};
 ghost use Rattle.bl_ctext.specs.Spellable.{is_c_scalar, is_c_operator, has_any, spells_kind};
@@ -100,9 +100,22 @@ pub fn negatives_of(width: Width) -> u64
     }
 }
 
+/// The greatest number of the unsigned type of this width.
+fn greatest_of(width: Width) -> u64
+    ensures { result + 1 ≡ 2 * negatives width }
+{
+    match width {
+        Width::W8 => 0xFF,
+        Width::W16 => 0xFFFF,
+        Width::W32 => 0xFFFF_FFFF,
+        Width::W64 => 0xFFFF_FFFF_FFFF_FFFF,
+    }
+}
+
 /// The number that these digits spell, with no zero before its first digit.
+#[tactic(auto, using(crate::proofs::TokenLemmas::decimal_any))]
 fn number_of(digits: &[u8]) -> Option<u64>
-    ensures { IfSome result (λ n. digits.now ≡ decimal n) }
+    ensures { IfSome result (λ n. (digits.now ≡ decimal n) × IsTrue (has_any digits.now)) }
 {
     let text = str::from_utf8(digits).ok()?;
     let n = text.parse::<u64>().ok()?;
@@ -164,7 +177,7 @@ fn bracketed_constant(r: &mut Reader<'_>, room: u32) -> Result<Option<CExprKind>
         return Ok(Some(make::literal(Scalar::Int(width), n as i128)));
     }
     if let Some(width) = unsigned_of(r.piece()) {
-        let n = constant_of(r, room, negatives_of(width) * 2 - 1)?;
+        let n = constant_of(r, room, greatest_of(width))?;
         return Ok(Some(make::literal(Scalar::Nat(width), n as i128)));
     }
     Ok(None)
