@@ -2,4 +2,5 @@ pub mod ListLemmas
 pub mod PieceLemmas
 pub mod Ranges
 pub mod SameLemmas
+pub mod StmtLemmas
 pub mod TokenLemmas
