@@ -2,5 +2,6 @@ pub mod ListLemmas
 pub mod PieceLemmas
 pub mod Ranges
 pub mod SameLemmas
+pub mod Spaced
 pub mod StmtLemmas
 pub mod TokenLemmas

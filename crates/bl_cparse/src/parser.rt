@@ -8,28 +8,43 @@ mod literal;
 mod name;
 mod stmt;
 
+ghost use Rattle.std.specs.Prelude.{◌≡◌, ◌≢◌, ℕ, ◌<◌, ◌≤◌, length, slice_index, IfOk};
+ghost use Rattle.bl_ctext.specs.SpellsC.{SpellsC};
+
 use crate::reader::Reader;
 use crate::refusal::CRefusal;
+use crate::scan;
 use bl_ctext::{CFile, PRELUDE};
 use std::alloc::Global;
 
 /// How many brackets may be open at once.
-const MOST_OPEN: u32 = 2_000;
+pub const MOST_OPEN: u32 = 2_000;
 
-/// The file that the bytes spell.
-pub fn parse(alloc: Global, text: &[u8]) -> Result<CFile, CRefusal> {
-    let shared = shared_length(text, PRELUDE);
-    if shared < PRELUDE.len() {
-        return Err(CRefusal::NotSubset { at: shared as u32 });
+/// The file that the bytes spell (docs/C_SUBSET.md, "Grammar").
+pub fn parse(alloc: Global, text: &[u8]) -> Result<CFile, CRefusal>
+    requires { length text.now ≤ 67108864 }
+    ensures { IfOk result (λ file. SpellsC file text.now) }
+{
+    if !text.starts_with(PRELUDE) {
+        let at = shared_length(text, PRELUDE) as u32;
+        return Err(CRefusal::NotSubset { at });
     }
-    let mut reader = Reader::new(alloc, text, shared);
+    let mut reader = Reader::new(alloc, text, PRELUDE.len());
     let structs = item::structs(&mut reader)?;
     let funcs = item::funcs(&mut reader)?;
+    if !scan::is_kept(alloc, text, PRELUDE.len()) {
+        return Err(reader.refusal());
+    }
     Ok(CFile { structs, funcs })
 }
 
 /// How many bytes the two begin with in common.
-fn shared_length(text: &[u8], other: &[u8]) -> usize {
+fn shared_length(text: &[u8], other: &[u8]) -> usize
+    ensures text { result ≤ length text.now }
+    ensures other { result ≤ length other.now }
+    ensures same { (k : ℕ) → k < result → slice_index text.now k ≡ slice_index other.now k }
+    ensures differ { result < length text.now → result < length other.now → slice_index text.now result ≢ slice_index other.now result }
+{
     let mut shared = 0;
     while shared < text.len() && shared < other.len() && text[shared] == other[shared] {
         shared += 1;

@@ -262,7 +262,7 @@ fn are_digits(bytes: &[u8]) -> bool
     true
 }
 
-fn is_word(bytes: &[u8]) -> bool
+pub fn is_word(bytes: &[u8]) -> bool
     ensures { result ≡ is_c_word bytes.now }
 {
     match bytes {
