@@ -1,4 +1,5 @@
 pub mod ListLemmas
+pub mod NestLemmas
 pub mod PieceLemmas
 pub mod Ranges
 pub mod SameLemmas

@@ -16,7 +16,7 @@ pub all_more : {A : Type 0} (p : A → Bool) (xs : List A) (x : A) → all_of (m
 all_more p [] x h k = both _ _ k refl
 all_more p (y ∷ xs) x h k = both _ _ (and-fst _ _ h) (all_more p xs x (and-snd _ _ h) k)
 
-joined_snoc : {A : Type 0} (f : A → List Token) (xs : List A) (x : A) → joined (map f (xs ++ x ∷ [])) ≡ joined (map f xs) ++ f x
+pub joined_snoc : {A : Type 0} (f : A → List Token) (xs : List A) (x : A) → joined (map f (xs ++ x ∷ [])) ≡ joined (map f xs) ++ f x
 joined_snoc f [] x = append-nil (f x)
 joined_snoc f (y ∷ xs) x = ap (λ ts. f y ++ ts) (joined_snoc f xs x) ∙ sym (append_assoc (f y) (joined (map f xs)) (f x))
 

@@ -6,7 +6,7 @@ ghost use Rattle.bl_tree.specs.Reduce.{all_of, joined};
 ghost use Rattle.bl_ctext.specs.Names.{is_name, is_callee, is_turn_name};
 ghost use Rattle.bl_ctext.specs.Spelling.{expr_tokens, place_tokens, root_tokens, ccall_tokens, stmt_tokens, stmt_kind_tokens, condition_tokens, turn_declared, turn_counted};
 ghost use Rattle.bl_ctext.specs.Spellable.{spells_expr, spells_place, spells_stmt, spells_stmt_kind, has_any};
-ghost use Rattle.bl_cparse.specs.Nest.{frame_tokens, spells_frame, nest_tokens, spells_nest};
+ghost use Rattle.bl_cparse.specs.Nest.{opened_tokens, frame_tokens, spells_frame, nest_tokens, spells_nest};
 
 use crate::make;
 use crate::make_stmt;
@@ -112,16 +112,25 @@ fn opened_branch(r: &mut Reader<'_>, nest: Nest) -> Result<Nest, CRefusal>
         return Err(r.refusal());
     }
     let start = r.start();
-    r.take("if")?;
-    let test = condition(r, room - 1)?;
-    r.take("{")?;
+    let test = branch_front(r, room - 1)?;
     let frame = Frame {
         before: body,
         start,
         room,
         opened: Opened::Then(test),
     };
-    inside(r, outer, frame, room - 1)
+    let next = inside(r, outer, frame, room - 1)?;
+    Ok(next)
+}
+
+/// The front of an `if`, where so many brackets may be opened in its parts.
+fn branch_front(r: &mut Reader<'_>, room: u32) -> Result<CExpr, CRefusal>
+    ensures { IfOk result (λ test. (r.old ≡ opened_tokens (Opened.Then test) ++ r.new) × IsTrue (spells_expr test)) }
+{
+    r.take("if")?;
+    let test = condition(r, room)?;
+    r.take("{")?;
+    Ok(test)
 }
 
 /// The inside of a brace that is opened.
@@ -136,14 +145,14 @@ fn inside(
     ensures { IfOk result (λ next. (nest_tokens next ≡ joined (map frame_tokens outer.items) ++ frame_tokens frame) × IsTrue (spells_nest next)) }
 {
     let mut outer = outer;
-    if let Err(failed) = outer.push(frame) {
-        return Err(AllocError::from(failed).into());
+    match outer.push(frame) {
+        Ok(()) => Ok(Nest {
+            outer,
+            body: List::new(r.alloc()),
+            room,
+        }),
+        Err(failed) => Err(AllocError::from(failed).into()),
     }
-    Ok(Nest {
-        outer,
-        body: List::new(r.alloc()),
-        room,
-    })
 }
 
 fn opened_turns(r: &mut Reader<'_>, nest: Nest) -> Result<Nest, CRefusal>
@@ -156,16 +165,33 @@ fn opened_turns(r: &mut Reader<'_>, nest: Nest) -> Result<Nest, CRefusal>
         return Err(r.refusal());
     }
     let start = r.start();
-    let turn = declared_turn(r)?;
-    let test = condition(r, room - 2)?;
-    counted_turn(r, turn.as_str())?;
+    let front = turns_front(r, room - 2)?;
     let frame = Frame {
         before: body,
         start,
         room,
-        opened: Opened::Turns(turn, test),
+        opened: Opened::Turns(front.turn, front.test),
     };
-    inside(r, outer, frame, room - 2)
+    let next = inside(r, outer, frame, room - 2)?;
+    Ok(next)
+}
+
+/// The name of a loop's turns, and its condition.
+#[derive(Drop)]
+struct TurnsFront {
+    turn: Text,
+    test: CExpr,
+}
+
+/// The front of a loop, where so many brackets may be opened in its parts.
+#[tactic(auto, using(crate::proofs::TokenLemmas::turn_name_any))]
+fn turns_front(r: &mut Reader<'_>, room: u32) -> Result<TurnsFront, CRefusal>
+    ensures { IfOk result (λ front. (r.old ≡ opened_tokens (Opened.Turns front.turn front.test) ++ r.new) × (IsTrue (is_turn_name front.turn) × IsTrue (spells_expr front.test))) }
+{
+    let turn = declared_turn(r)?;
+    let test = condition(r, room)?;
+    counted_turn(r, turn.as_str())?;
+    Ok(TurnsFront { turn, test })
 }
 
 /// The end of the innermost brace.
@@ -182,56 +208,143 @@ fn closed(r: &mut Reader<'_>, nest: Nest) -> Result<Nest, CRefusal>
     let Some(frame) = outer.pop() else {
         return Err(r.refusal());
     };
-    r.take("}")?;
     let Frame {
         before,
         start,
         room: outside,
         opened,
     } = frame;
+    let place = Outside {
+        before,
+        start,
+        room: outside,
+    };
     match opened {
         Opened::Then(test) => {
-            if r.eat("else") {
-                r.take("{")?;
-                let frame = Frame {
-                    before,
-                    start,
-                    room: outside,
-                    opened: Opened::Else(test, body),
-                };
-                return inside(r, outer, frame, room);
-            }
-            let what = make_stmt::branch(test, body);
-            ended(r, outer, before, start, what, outside)
+            let next = closed_then(r, outer, place, test, body, room)?;
+            Ok(next)
         }
         Opened::Else(test, then_part) => {
-            let what = make_stmt::branches(test, then_part, body);
-            ended(r, outer, before, start, what, outside)
+            let next = closed_else(r, outer, place, Parts { test, then_part }, body)?;
+            Ok(next)
         }
         Opened::Turns(turn, test) => {
-            r.take("}")?;
-            let what = make_stmt::turns(turn, test, body);
-            ended(r, outer, before, start, what, outside)
+            let next = closed_turns(r, outer, place, TurnsFront { turn, test }, body)?;
+            Ok(next)
         }
     }
+}
+
+/// What stands before a statement, where it begins, and the room there.
+#[derive(Drop)]
+struct Outside {
+    before: List<CStmt>,
+    start: u32,
+    room: u32,
+}
+
+/// The condition of an `if` and the statements before its `else`.
+#[derive(Drop)]
+struct Parts {
+    test: CExpr,
+    then_part: List<CStmt>,
+}
+
+/// The end of the first part of an `if`, and the front of the second where there is one.
+fn closed_then(
+    r: &mut Reader<'_>,
+    outer: Vec<Frame>,
+    place: Outside,
+    test: CExpr,
+    body: List<CStmt>,
+    room: u32,
+) -> Result<Nest, CRefusal>
+    requires outer { IsTrue (all_of (map spells_frame outer.items)) }
+    requires before { IsTrue (all_of (map spells_stmt place.before)) }
+    requires test { IsTrue (spells_expr test) }
+    requires body { IsTrue (all_of (map spells_stmt body)) }
+    ensures read { IfOk result (λ next. (joined (map frame_tokens outer.items) ++ ((joined (map stmt_tokens place.before) ++ opened_tokens (Opened.Then test)) ++ (joined (map stmt_tokens body) ++ r.old)) ≡ nest_tokens next ++ r.new) × IsTrue (spells_nest next)) }
+    ensures shorter { OnOk result (length r.new < length r.old) }
+{
+    r.take("}")?;
+    if !r.eat("else") {
+        let what = make_stmt::branch(test, body);
+        let next = ended(r, outer, place, what)?;
+        return Ok(next);
+    }
+    r.take("{")?;
+    let frame = Frame {
+        before: place.before,
+        start: place.start,
+        room: place.room,
+        opened: Opened::Else(test, body),
+    };
+    let next = inside(r, outer, frame, room)?;
+    Ok(next)
+}
+
+fn closed_else(
+    r: &mut Reader<'_>,
+    outer: Vec<Frame>,
+    place: Outside,
+    parts: Parts,
+    body: List<CStmt>,
+) -> Result<Nest, CRefusal>
+    requires outer { IsTrue (all_of (map spells_frame outer.items)) }
+    requires before { IsTrue (all_of (map spells_stmt place.before)) }
+    requires test { IsTrue (spells_expr parts.test) }
+    requires then_part { IsTrue (all_of (map spells_stmt parts.then_part)) }
+    requires body { IsTrue (all_of (map spells_stmt body)) }
+    ensures read { IfOk result (λ next. (joined (map frame_tokens outer.items) ++ ((joined (map stmt_tokens place.before) ++ opened_tokens (Opened.Else parts.test parts.then_part)) ++ (joined (map stmt_tokens body) ++ r.old)) ≡ nest_tokens next ++ r.new) × IsTrue (spells_nest next)) }
+    ensures shorter { OnOk result (length r.new < length r.old) }
+{
+    r.take("}")?;
+    let what = make_stmt::branches(parts.test, parts.then_part, body);
+    let next = ended(r, outer, place, what)?;
+    Ok(next)
+}
+
+fn closed_turns(
+    r: &mut Reader<'_>,
+    outer: Vec<Frame>,
+    place: Outside,
+    front: TurnsFront,
+    body: List<CStmt>,
+) -> Result<Nest, CRefusal>
+    requires outer { IsTrue (all_of (map spells_frame outer.items)) }
+    requires before { IsTrue (all_of (map spells_stmt place.before)) }
+    requires turn { IsTrue (is_turn_name front.turn) }
+    requires test { IsTrue (spells_expr front.test) }
+    requires body { IsTrue (all_of (map spells_stmt body)) }
+    ensures read { IfOk result (λ next. (joined (map frame_tokens outer.items) ++ ((joined (map stmt_tokens place.before) ++ opened_tokens (Opened.Turns front.turn front.test)) ++ (joined (map stmt_tokens body) ++ r.old)) ≡ nest_tokens next ++ r.new) × IsTrue (spells_nest next)) }
+    ensures shorter { OnOk result (length r.new < length r.old) }
+{
+    r.take("}")?;
+    r.take("}")?;
+    let what = make_stmt::turns(front.turn, front.test, body);
+    let next = ended(r, outer, place, what)?;
+    Ok(next)
 }
 
 /// The statements outside of a brace, with the one that it closed.
 fn ended(
     r: &Reader<'_>,
     outer: Vec<Frame>,
-    before: List<CStmt>,
-    start: u32,
+    place: Outside,
     what: CStmtKind,
-    room: u32,
 ) -> Result<Nest, CRefusal>
     requires outer { IsTrue (all_of (map spells_frame outer.items)) }
-    requires before { IsTrue (all_of (map spells_stmt before)) }
+    requires before { IsTrue (all_of (map spells_stmt place.before)) }
     requires what { IsTrue (spells_stmt_kind what) }
-    ensures { IfOk result (λ next. (nest_tokens next ≡ joined (map frame_tokens outer.items) ++ (joined (map stmt_tokens before) ++ stmt_kind_tokens what)) × IsTrue (spells_nest next)) }
+    ensures { IfOk result (λ next. (nest_tokens next ≡ joined (map frame_tokens outer.items) ++ (joined (map stmt_tokens place.before) ++ stmt_kind_tokens what)) × IsTrue (spells_nest next)) }
 {
-    let body = with(before, make_stmt::stmt(r.place_from(start), what))?;
-    Ok(Nest { outer, body, room })
+    let stmt = make_stmt::stmt(r.place_from(place.start), what);
+    let body = with(place.before, stmt)?;
+    Ok(Nest {
+        outer,
+        body,
+        room: place.room,
+    })
 }
 
 fn simple(r: &mut Reader<'_>, room: u32) -> Result<CStmtKind, CRefusal>
