@@ -1,4 +1,4 @@
-use Rattle.std.proofs.Common.{ap, map, sym, [], ◌∷◌, ◌++◌, ◌∙◌, refl}
+use Rattle.std.proofs.Common.{ap, map, sym, [], ◌∷◌, ◌++◌, ◌∙◌, refl, arith}
 use Rattle.std.specs.Prelude.{codes}
 use Rattle.bl_tree.specs.Reduce.{joined}
 use Rattle.bl_ctext.specs.Spelling.{stmt_tokens, stmt_kind_tokens, condition_tokens, braced, turn_declared, turn_counted}
@@ -17,4 +17,4 @@ returns-clause-read c =
     c.in_ok-next.ensures.1)
 
 pub returns-clause-shorter : goal.returns-clause-shorter
-returns-clause-shorter c = shorter _ (opened_tokens (Turns c.in_ok-front.front.turn c.in_ok-front.front.test)) _ c.in_ok-front.ensures.0 (some_behind [] (codes "{") _)
+returns-clause-shorter c = shorter _ (opened_tokens (Turns c.in_ok-front.front.turn c.in_ok-front.front.test)) _ c.in_ok-front.ensures.0 (omega arith)
