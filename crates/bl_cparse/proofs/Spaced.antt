@@ -170,9 +170,19 @@ longest first others after stops longer behind same token =
 
 spaced_cuts : (ts : List Token) (bs : List ℕ) → are_tokens ts ≡ true → Cuts ts bs → SpacedC ts bs
 spaced_cuts [] bs h cuts = cuts
-spaced_cuts (t ∷ ts) bs h (after, (next, rest)) =
-    (after, (record { blanks = next.blanks; blank = next.blank; cut = next.cut; is_one = and-fst _ _ h;
-        longest = rw next.some (longest next.first next.others after next.stops) }, spaced_cuts ts after (and-snd _ _ h) rest))
+spaced_cuts (t ∷ ts) bs h (after, (next, rest)) = (
+  after,
+  (
+    record {
+      blanks = next.blanks;
+      blank = next.blank;
+      cut = next.cut;
+      is_one = and-fst _ _ h;
+      longest = rw next.some (longest next.first next.others after next.stops);
+    },
+    spaced_cuts ts after (and-snd _ _ h) rest,
+  ),
+)
 
 pub spaced : (bs : List ℕ) → are_tokens (pieces bs) ≡ true → SpacedC (pieces bs) bs
 spaced bs h = spaced_cuts (pieces bs) bs h (cuts bs)

@@ -5,9 +5,7 @@ use std::alloc::AllocError;
 #[derive(Clone, Copy, PartialEq, Eq, Debug)]
 pub enum CRefusal {
     /// The bytes spell no file; `at` is where it shows (docs/C_SUBSET.md, "Where a text fails").
-    NotSubset {
-        at: u32,
-    },
+    NotSubset { at: u32 },
     NoMemory,
 }
 

@@ -210,17 +210,10 @@ static PRELUDE_FUNCTIONS: [&str; 120] = [
 ];
 
 /// What may stand behind `struct` beside names.
-static STRUCT_WORDS: [&str; 3] = [
-    "bl_state",
-    "bl_in",
-    "bl_out",
-];
+static STRUCT_WORDS: [&str; 3] = ["bl_state", "bl_in", "bl_out"];
 
 /// What may name a function beside names.
-static FUNCTION_WORDS: [&str; 2] = [
-    "bl_init",
-    "bl_tick",
-];
+static FUNCTION_WORDS: [&str; 2] = ["bl_init", "bl_tick"];
 
 fn is_among(word: &[u8], words: &[&str]) -> bool
     ensures { result ≡ among word.now (map (λ known. known.now) words.now) }

@@ -7,11 +7,10 @@ ghost use Rattle.bl_ctext.specs.Names.{is_name, is_callee};
 ghost use Rattle.bl_ctext.specs.Spelling.{with_commas, root_tokens, index_front, expr_tokens, kind_tokens, place_tokens, step_tokens, index_tokens, ccall_tokens, arg_tokens};
 ghost use Rattle.bl_ctext.specs.Spellable.{is_length, spells_expr, spells_kind, spells_place, spells_step, spells_index, spells_call, spells_arg};
 
-use crate::make;
 use crate::parser::{literal, name};
 use crate::reader::Reader;
 use crate::refusal::CRefusal;
-use crate::words;
+use crate::{make, words};
 use bl_tree::c::{CArg, CCall, CExpr, CExprKind, CIndex, CPlace, CStep};
 use bl_tree::{Box, List, Text};
 
@@ -154,12 +153,7 @@ fn comparison(r: &mut Reader<'_>, room: u32) -> Result<CExprKind, CRefusal>
 
 /// The steps of a place whose root is read.
 #[cycle(expressions)]
-pub fn place(
-    r: &mut Reader<'_>,
-    through: bool,
-    name: Text,
-    room: u32,
-) -> Result<CPlace, CRefusal>
+pub fn place(r: &mut Reader<'_>, through: bool, name: Text, room: u32) -> Result<CPlace, CRefusal>
     requires { IsTrue (is_name name) }
     ensures { IfOk result (λ at. (root_tokens through name ++ r.old ≡ place_tokens at ++ r.new) × IsTrue (spells_place at)) }
 {

@@ -8,11 +8,10 @@ ghost use Rattle.bl_ctext.specs.Spelling.{expr_tokens, place_tokens, root_tokens
 ghost use Rattle.bl_ctext.specs.Spellable.{spells_expr, spells_place, spells_stmt, spells_stmt_kind, has_any};
 ghost use Rattle.bl_cparse.specs.Nest.{opened_tokens, frame_tokens, spells_frame, nest_tokens, spells_nest};
 
-use crate::make;
-use crate::make_stmt;
 use crate::parser::{expr, name};
 use crate::reader::Reader;
 use crate::refusal::CRefusal;
+use crate::{make, make_stmt};
 use bl_tree::c::{CExpr, CPlace, CStmt, CStmtKind};
 use bl_tree::{List, Text};
 use std::alloc::AllocError;
@@ -48,40 +47,8 @@ pub struct Nest {
     pub room: u32,
 }
 
-/// The statements before a `}`.
-pub fn stmts(r: &mut Reader<'_>, room: u32) -> Result<List<CStmt>, CRefusal>
-    ensures { IfOk result (λ body. (r.old ≡ joined (map stmt_tokens body) ++ r.new) × IsTrue (all_of (map spells_stmt body))) }
-{
-    let mut nest = Nest {
-        outer: Vec::new(r.alloc()),
-        body: List::new(r.alloc()),
-        room,
-    };
-    while !(nest.outer.is_empty() && r.sees("}")) {
-        nest = further(r, nest)?;
-    }
-    Ok(nest.body)
-}
-
-/// One statement more, or the front or the end of one that holds others.
-fn further(r: &mut Reader<'_>, nest: Nest) -> Result<Nest, CRefusal>
-    requires { IsTrue (spells_nest nest) }
-    ensures read { IfOk result (λ next. (nest_tokens nest ++ r.old ≡ nest_tokens next ++ r.new) × IsTrue (spells_nest next)) }
-    ensures shorter { OnOk result (length r.new < length r.old) }
-{
-    if r.sees("}") {
-        closed(r, nest)
-    } else if r.sees("if") {
-        opened_branch(r, nest)
-    } else if r.sees("{") {
-        opened_turns(r, nest)
-    } else {
-        one(r, nest)
-    }
-}
-
 /// A statement that holds no others.
-fn one(r: &mut Reader<'_>, nest: Nest) -> Result<Nest, CRefusal>
+pub fn one(r: &mut Reader<'_>, nest: Nest) -> Result<Nest, CRefusal>
     requires { IsTrue (spells_nest nest) }
     ensures read { IfOk result (λ next. (nest_tokens nest ++ r.old ≡ nest_tokens next ++ r.new) × IsTrue (spells_nest next)) }
     ensures shorter { OnOk result (length r.new < length r.old) }
@@ -102,7 +69,7 @@ fn with(body: List<CStmt>, stmt: CStmt) -> Result<List<CStmt>, CRefusal>
     Ok(body)
 }
 
-fn opened_branch(r: &mut Reader<'_>, nest: Nest) -> Result<Nest, CRefusal>
+pub fn opened_branch(r: &mut Reader<'_>, nest: Nest) -> Result<Nest, CRefusal>
     requires { IsTrue (spells_nest nest) }
     ensures read { IfOk result (λ next. (nest_tokens nest ++ r.old ≡ nest_tokens next ++ r.new) × IsTrue (spells_nest next)) }
     ensures shorter { OnOk result (length r.new < length r.old) }
@@ -134,12 +101,7 @@ fn branch_front(r: &mut Reader<'_>, room: u32) -> Result<CExpr, CRefusal>
 }
 
 /// The inside of a brace that is opened.
-fn inside(
-    r: &Reader<'_>,
-    outer: Vec<Frame>,
-    frame: Frame,
-    room: u32,
-) -> Result<Nest, CRefusal>
+fn inside(r: &Reader<'_>, outer: Vec<Frame>, frame: Frame, room: u32) -> Result<Nest, CRefusal>
     requires outer { IsTrue (all_of (map spells_frame outer.items)) }
     requires frame { IsTrue (spells_frame frame) }
     ensures { IfOk result (λ next. (nest_tokens next ≡ joined (map frame_tokens outer.items) ++ frame_tokens frame) × IsTrue (spells_nest next)) }
@@ -155,7 +117,7 @@ fn inside(
     }
 }
 
-fn opened_turns(r: &mut Reader<'_>, nest: Nest) -> Result<Nest, CRefusal>
+pub fn opened_turns(r: &mut Reader<'_>, nest: Nest) -> Result<Nest, CRefusal>
     requires { IsTrue (spells_nest nest) }
     ensures read { IfOk result (λ next. (nest_tokens nest ++ r.old ≡ nest_tokens next ++ r.new) × IsTrue (spells_nest next)) }
     ensures shorter { OnOk result (length r.new < length r.old) }
@@ -178,9 +140,9 @@ fn opened_turns(r: &mut Reader<'_>, nest: Nest) -> Result<Nest, CRefusal>
 
 /// The name of a loop's turns, and its condition.
 #[derive(Drop)]
-struct TurnsFront {
-    turn: Text,
-    test: CExpr,
+pub struct TurnsFront {
+    pub turn: Text,
+    pub test: CExpr,
 }
 
 /// The front of a loop, where so many brackets may be opened in its parts.
@@ -194,96 +156,23 @@ fn turns_front(r: &mut Reader<'_>, room: u32) -> Result<TurnsFront, CRefusal>
     Ok(TurnsFront { turn, test })
 }
 
-/// The end of the innermost brace.
-fn closed(r: &mut Reader<'_>, nest: Nest) -> Result<Nest, CRefusal>
-    requires { IsTrue (spells_nest nest) }
-    ensures read { IfOk result (λ next. (nest_tokens nest ++ r.old ≡ nest_tokens next ++ r.new) × IsTrue (spells_nest next)) }
-    ensures shorter { OnOk result (length r.new < length r.old) }
-{
-    let Nest {
-        mut outer,
-        body,
-        room,
-    } = nest;
-    let Some(frame) = outer.pop() else {
-        return Err(r.refusal());
-    };
-    let Frame {
-        before,
-        start,
-        room: outside,
-        opened,
-    } = frame;
-    let place = Outside {
-        before,
-        start,
-        room: outside,
-    };
-    match opened {
-        Opened::Then(test) => {
-            let next = closed_then(r, outer, place, test, body, room)?;
-            Ok(next)
-        }
-        Opened::Else(test, then_part) => {
-            let next = closed_else(r, outer, place, Parts { test, then_part }, body)?;
-            Ok(next)
-        }
-        Opened::Turns(turn, test) => {
-            let next = closed_turns(r, outer, place, TurnsFront { turn, test }, body)?;
-            Ok(next)
-        }
-    }
-}
-
 /// What stands before a statement, where it begins, and the room there.
 #[derive(Drop)]
-struct Outside {
-    before: List<CStmt>,
-    start: u32,
-    room: u32,
+pub struct Outside {
+    pub before: List<CStmt>,
+    pub start: u32,
+    pub room: u32,
 }
 
 /// The condition of an `if` and the statements before its `else`.
 #[derive(Drop)]
-struct Parts {
-    test: CExpr,
-    then_part: List<CStmt>,
+pub struct Parts {
+    pub test: CExpr,
+    pub then_part: List<CStmt>,
 }
 
-/// The end of the first part of an `if`, and the front of the second where there is one.
-fn closed_then(
-    r: &mut Reader<'_>,
-    outer: Vec<Frame>,
-    place: Outside,
-    test: CExpr,
-    body: List<CStmt>,
-    room: u32,
-) -> Result<Nest, CRefusal>
-    requires outer { IsTrue (all_of (map spells_frame outer.items)) }
-    requires before { IsTrue (all_of (map spells_stmt place.before)) }
-    requires test { IsTrue (spells_expr test) }
-    requires body { IsTrue (all_of (map spells_stmt body)) }
-    ensures read { IfOk result (λ next. (joined (map frame_tokens outer.items) ++ ((joined (map stmt_tokens place.before) ++ opened_tokens (Opened.Then test)) ++ (joined (map stmt_tokens body) ++ r.old)) ≡ nest_tokens next ++ r.new) × IsTrue (spells_nest next)) }
-    ensures shorter { OnOk result (length r.new < length r.old) }
-{
-    r.take("}")?;
-    if !r.eat("else") {
-        let what = make_stmt::branch(test, body);
-        let next = ended(r, outer, place, what)?;
-        return Ok(next);
-    }
-    r.take("{")?;
-    let frame = Frame {
-        before: place.before,
-        start: place.start,
-        room: place.room,
-        opened: Opened::Else(test, body),
-    };
-    let next = inside(r, outer, frame, room)?;
-    Ok(next)
-}
-
-fn closed_else(
+/// The end of the second part of an `if`.
+pub fn closed_else(
     r: &mut Reader<'_>,
     outer: Vec<Frame>,
     place: Outside,
@@ -304,7 +193,8 @@ fn closed_else(
     Ok(next)
 }
 
-fn closed_turns(
+/// The end of a loop.
+pub fn closed_turns(
     r: &mut Reader<'_>,
     outer: Vec<Frame>,
     place: Outside,
@@ -390,12 +280,7 @@ fn called(r: &mut Reader<'_>, name: Text, room: u32) -> Result<CStmtKind, CRefus
 }
 
 /// What is assigned to a place whose root is read.
-fn set(
-    r: &mut Reader<'_>,
-    through: bool,
-    name: Text,
-    room: u32,
-) -> Result<CStmtKind, CRefusal>
+fn set(r: &mut Reader<'_>, through: bool, name: Text, room: u32) -> Result<CStmtKind, CRefusal>
     requires { IsTrue (is_name name) }
     ensures { IfOk result (λ k. (root_tokens through name ++ r.old ≡ stmt_kind_tokens k ++ r.new) × IsTrue (spells_stmt_kind k)) }
 {

@@ -6,6 +6,7 @@ use Rattle.bl_cparse.proofs.parser.item.locals.Goals as goal
 
 pub loop-locals-preserved : goal.loop-locals-preserved
 loop-locals-preserved c =
-    rw c.in_ok-push.ensures.ok
-    (joined_more local_tokens _ _ _ c.loop-locals.locals c.in_ok-local.field-0 c.loop-locals.invariant.0 c.in_ok-local.ensures.0,
-    all_more spells_local c.loop-locals.locals c.in_ok-local.field-0 c.loop-locals.invariant.1 c.in_ok-local.ensures.1)
+    rw c.in_ok-push.ensures.ok (
+      joined_more local_tokens _ _ _ c.loop-locals.locals c.in_ok-local.field-0 c.loop-locals.invariant.0 c.in_ok-local.ensures.0,
+      all_more spells_local c.loop-locals.locals c.in_ok-local.field-0 c.loop-locals.invariant.1 c.in_ok-local.ensures.1,
+    )
