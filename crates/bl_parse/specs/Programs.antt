@@ -5,7 +5,7 @@ use Rattle.bl_tree.specs.declared.token.TokenKind.{TokenKind}
 use Rattle.bl_tree.specs.declared.token.TokenKind.TheVariants.{Name, Word, Sign}
 use Rattle.bl_tree.specs.declared.tree.UnitKind.{UnitKind}
 use Rattle.bl_tree.specs.declared.tree.UnitKind.TheVariants.{Function, Activity}
-use Rattle.bl_lex.specs.declared.sign.TheConstants.{OPEN_PAREN, CLOSE_PAREN, OPEN_BRACKET, CLOSE_BRACKET, COMMA, COLON, AT}
+use Rattle.bl_lex.specs.declared.sign.TheConstants.{OPEN_PAREN, CLOSE_PAREN, OPEN_BRACKET, CLOSE_BRACKET, COMMA, AT}
 use Rattle.bl_lex.specs.declared.word.TheConstants.{VAR, STRUCT, FUNCTION, ACTIVITY, RETURNS, END}
 use Rattle.bl_raw.specs.declared.item.RawField.{RawField}
 use Rattle.bl_raw.specs.declared.item.RawItem.{RawItem}

@@ -1,6 +1,6 @@
-use Rattle.std.proofs.Common.{refl, lit≤, true, ◌∙◌, arith}
+use Rattle.std.proofs.Common.{refl, lit≤, true, arith}
 use Rattle.bl_raw.specs.declared.expr.RawExprKind as kind
-use Rattle.bl_parse.specs.Expressions.{SpellsExpr, SpellsTarget, SpellsPart, SpellsParts, SpellsInputs, SpellsExprs, target}
+use Rattle.bl_parse.specs.Expressions.{SpellsExpr, SpellsTarget, SpellsPart, SpellsParts, SpellsInputs, SpellsExprs}
 use Rattle.bl_parse.specs.Operators.{left_level}
 use Rattle.bl_parse.proofs.ExprLemmas.{placed, placed_by, placed_target, looser, le_same, minus_sign, second_next, pushed_first, exprs_from}
 use Rattle.bl_parse.proofs.expr.+expressions.Goals as goal

@@ -1,4 +1,4 @@
-use Rattle.std.proofs.Common.{ℕ, ◌+◌, ◌-◌, ◌*◌, ◌<◌, ◌≤◌, length, List}
+use Rattle.std.proofs.Common.{ℕ, ◌+◌, ◌-◌, ◌*◌, ◌<◌, ◌≤◌, length}
 use Rattle.bl_parse.specs.Expressions.{SpellsExpr, SpellsParts, SpellsExprs}
 use Rattle.bl_parse.proofs.expr.+expressions.Given as goal
 

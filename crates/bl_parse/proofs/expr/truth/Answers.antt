@@ -1,7 +1,6 @@
 use Rattle.std.proofs.Common.{true, false, refl}
 use Rattle.bl_raw.specs.declared.expr.RawExprKind as kind
-use Rattle.bl_parse.specs.At.{Takes}
-use Rattle.bl_parse.specs.Expressions.{IsTruth, SpellsExpr, SpellsTruth}
+use Rattle.bl_parse.specs.Expressions.{SpellsExpr}
 use Rattle.bl_parse.proofs.ExprLemmas.{placed, truth_spelled, false_spelled}
 use Rattle.bl_parse.proofs.expr.truth.Goals as goal
 

@@ -1,4 +1,3 @@
-use Rattle.bl_parse.specs.Programs.{SpellsField}
 use Rattle.bl_parse.proofs.item.field.Goals as goal
 
 pub returns-clause-spelled : goal.returns-clause-spelled

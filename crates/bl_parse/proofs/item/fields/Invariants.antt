@@ -1,4 +1,4 @@
-use Rattle.std.proofs.Common.{◌-◌, ◌<◌, ◌≤◌, length}
+use Rattle.std.proofs.Common.{◌-◌, ◌<◌, length}
 use Rattle.bl_parse.specs.Programs.{SpellsFieldList}
 use Rattle.bl_parse.proofs.item.fields.Given as goal
 

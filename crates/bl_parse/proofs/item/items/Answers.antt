@@ -1,4 +1,4 @@
-use Rattle.std.proofs.Common.{refl, arith}
+use Rattle.std.proofs.Common.{refl}
 use Rattle.bl_parse.specs.Programs.{SpellsItems}
 use Rattle.bl_parse.proofs.item.items.Goals as goal
 

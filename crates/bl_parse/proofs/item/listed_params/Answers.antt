@@ -1,4 +1,4 @@
-use Rattle.std.proofs.Common.{refl, arith}
+use Rattle.std.proofs.Common.{arith}
 use Rattle.bl_parse.specs.Programs.{SpellsParamList}
 use Rattle.bl_parse.proofs.ExprLemmas.{pushed_first}
 use Rattle.bl_parse.proofs.item.listed_params.Goals as goal

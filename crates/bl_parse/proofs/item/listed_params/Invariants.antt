@@ -1,4 +1,4 @@
-use Rattle.std.proofs.Common.{◌-◌, ◌<◌, ◌≤◌, length}
+use Rattle.std.proofs.Common.{◌-◌, ◌<◌, length}
 use Rattle.bl_parse.specs.Programs.{SpellsParamList}
 use Rattle.bl_parse.proofs.item.listed_params.Given as goal
 

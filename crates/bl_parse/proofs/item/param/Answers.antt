@@ -1,4 +1,3 @@
-use Rattle.bl_parse.specs.Programs.{SpellsParam}
 use Rattle.bl_parse.proofs.item.param.Goals as goal
 
 pub returns-clause-spelled : goal.returns-clause-spelled

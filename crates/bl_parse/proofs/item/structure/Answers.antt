@@ -1,4 +1,3 @@
-use Rattle.bl_parse.specs.Programs.{SpellsStruct}
 use Rattle.bl_parse.proofs.item.structure.Goals as goal
 
 pub returns-clause-spelled : goal.returns-clause-spelled

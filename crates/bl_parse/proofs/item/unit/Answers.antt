@@ -1,4 +1,3 @@
-use Rattle.bl_parse.specs.Programs.{SpellsUnit}
 use Rattle.bl_parse.proofs.item.unit.Goals as goal
 
 pub returns-clause-spelled : goal.returns-clause-spelled

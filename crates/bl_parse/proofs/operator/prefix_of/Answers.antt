@@ -1,4 +1,4 @@
-use Rattle.std.proofs.Common.{◌≡◌, sym, subst}
+use Rattle.std.proofs.Common.{sym, subst}
 use Rattle.bl_tree.specs.declared.scalar.Op.{Op}
 use Rattle.bl_parse.specs.Operators.{IsPrefix}
 use Rattle.bl_parse.proofs.TokenLemmas.{sign_is, word_is}

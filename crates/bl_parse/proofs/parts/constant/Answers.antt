@@ -1,4 +1,3 @@
-use Rattle.bl_parse.specs.Statements.{SpellsConstant}
 use Rattle.bl_parse.proofs.parts.constant.Goals as goal
 
 pub returns-clause-spelled : goal.returns-clause-spelled

@@ -1,4 +1,4 @@
-use Rattle.std.proofs.Common.{◌-◌, ◌<◌, ◌≤◌, length}
+use Rattle.std.proofs.Common.{◌-◌, ◌≤◌, length}
 use Rattle.bl_parse.specs.Statements.{SpellsFields}
 use Rattle.bl_parse.proofs.parts.fields.Given as goal
 

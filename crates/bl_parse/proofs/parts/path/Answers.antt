@@ -1,4 +1,3 @@
-use Rattle.bl_parse.specs.Statements.{SpellsPath}
 use Rattle.bl_parse.proofs.parts.path.Goals as goal
 
 pub returns-clause-spelled : goal.returns-clause-spelled

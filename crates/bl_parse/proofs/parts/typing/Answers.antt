@@ -1,4 +1,3 @@
-use Rattle.bl_parse.specs.Statements.{SpellsTyping}
 use Rattle.bl_parse.proofs.parts.typing.Goals as goal
 
 pub returns-clause-spelled : goal.returns-clause-spelled

@@ -1,4 +1,3 @@
-use Rattle.bl_parse.specs.Statements.{SpellsValue}
 use Rattle.bl_parse.proofs.parts.value.Goals as goal
 
 pub returns-clause-spelled : goal.returns-clause-spelled

@@ -1,5 +1,4 @@
-use Rattle.std.proofs.Common.{refl, arith, ap}
-use Rattle.bl_raw.specs.declared.stmt.RawStmt.{roll-RawStmt}
+use Rattle.std.proofs.Common.{refl, arith}
 use Rattle.bl_parse.specs.Statements.{SpellsBlock, SpellsStmt, SpellsKind, SpellsBranches, SpellsBranch, SpellsArms, SpellsArm, SpellsElse}
 use Rattle.bl_parse.proofs.ExprLemmas.{le_same, pushed_first}
 use Rattle.bl_parse.proofs.StmtLemmas.{placed_stmt}

@@ -1,4 +1,4 @@
-use Rattle.std.proofs.Common.{refl, ap, sym}
+use Rattle.std.proofs.Common.{refl, ap}
 use Rattle.bl_raw.specs.declared.types.RawType as form
 use Rattle.bl_parse.specs.Types.{SpellsType}
 use Rattle.bl_parse.proofs.types.+read_type.Goals as goal
