@@ -1,6 +1,6 @@
 -- How a job's end and the writing of its line make the end of the call.
-use Rattle.std.proofs.Common.{◌≡◌, ◌≢◌, ℕ, ◌≤◌, List, [], refl, sym, ◌∙◌, inl, inr, arith, drop, subst}
-use Rattle.std.specs.Prelude.{◌⊎◌, Option, Some, None, Contains}
+use Rattle.std.proofs.Common.{◌≡◌, ◌≢◌, ℕ, List, refl, sym, ◌∙◌, inl, inr, arith, subst}
+use Rattle.std.specs.Prelude.{Option, Some, None}
 use Rattle.bl_io.specs.Held.{Appends, AppendsPart}
 use Rattle.bl_io.specs.Left.{GivesUpTo, IsKept, StandsFurther}
 use Rattle.bl_top.specs.Build.{IsCText, Leaves, ReadsNamed, WroteAll, WrotePart, all, part, nothing, source_limit}

@@ -1,12 +1,12 @@
 -- A source is read one byte past the longest that is accepted: what is judged of that front holds of the whole.
-use Rattle.std.proofs.Common.{◌≡◌, ℕ, ◌≤◌, ◌<◌, List, [], take, length, min, refl, sym, subst, ap, ◌∙◌, inl, inr, arith}
+use Rattle.std.proofs.Common.{◌≡◌, ℕ, ◌<◌, List, take, length, min, refl, sym, ap, ◌∙◌, inl, inr, arith}
 use Rattle.std.proofs.lemmas.Bool.{cases_lt}
 use Rattle.std.proofs.lemmas.List.{length-take, take_all}
 use Rattle.std.specs.Prelude.{◌⊎◌, Option, Some, None}
 use Rattle.bl_io.specs.Left.{GivesUpTo}
 use Rattle.bl_lex.specs.Rules.{FailsFirst, FailsSize, Passes, IsRefusalOf as IsLexRefusalOf}
 use Rattle.bl_lex.specs.Tokens.{Lexes}
-use Rattle.bl_syntax.specs.Rules.{IsRefusalOf as IsSyntaxRefusalOf, Passes as SyntaxPasses}
+use Rattle.bl_syntax.specs.Rules.{IsRefusalOf as IsSyntaxRefusalOf}
 use Rattle.bl_tree.specs.declared.token.Token.{Token}
 use Rattle.bl_tree.specs.declared.place.Place.{Place}
 use Rattle.bl_tree.specs.declared.place.Refusal.{Refusal}
@@ -98,6 +98,19 @@ judged_unrefused _ done e = absurd cc
 judged_unrefused _ unbuilt e = absurd cc
 judged_unrefused _ unwritten e = absurd cc
 judged_unrefused _ short e = absurd cc
+
+-- nor do its words ask for no job, and it was read
+pub judged_is_used : {A : Type 0} (ended : Status) → IsJudged ended → ended ≡ status.Usage → A
+judged_is_used _ done e = absurd cc
+judged_is_used _ unbuilt e = absurd cc
+judged_is_used _ unwritten e = absurd cc
+judged_is_used _ short e = absurd cc
+
+pub judged_was_read : {A : Type 0} (ended : Status) → IsJudged ended → ended ≡ status.ReadFault → A
+judged_was_read _ done e = absurd cc
+judged_was_read _ unbuilt e = absurd cc
+judged_was_read _ unwritten e = absurd cc
+judged_was_read _ short e = absurd cc
 
 -- nothing stands on `out` of a source that is refused
 pub refused_leaves : (held : Option (List ℕ)) (refusal : Refusal) (outcome : Outcome) → IsRefusedBy refusal outcome → Leaves held outcome.status held

@@ -1,8 +1,8 @@
 -- What `notes` hold after the line of a status was to be written.
-use Rattle.std.proofs.Common.{◌≡◌, ◌≢◌, ℕ, ◌+◌, ◌-◌, List, [], ◌∷◌, ◌++◌, refl, sym, subst, ap, ◌∙◌, append-nil, Bool, true, false, length, map, drop, get_or, arith, zero}
+use Rattle.std.proofs.Common.{◌≡◌, ◌≢◌, ℕ, ◌+◌, ◌-◌, List, [], ◌∷◌, refl, sym, subst, ap, ◌∙◌, append-nil, Bool, true, false, length, map, drop, get_or, arith}
 use Rattle.std.proofs.lemmas.List.{drop-map, get_or-drop}
 use Rattle.std.proofs.lemmas.Bool.Decides.{nat_tests}
-use Rattle.std.specs.Prelude.{◌⊎◌, Option, Some, None, ◌==◌, slice_index_or}
+use Rattle.std.specs.Prelude.{Option, Some, None, ◌==◌, slice_index_or}
 use Rattle.bl_io.specs.Held.{Appends, AppendsPart}
 use Rattle.bl_top.specs.Notes.{IsLineOf, Noted, whole, fault, refused, chosen_line, has_line}
 use Rattle.bl_top.specs.declared.status.Status.{Status}

@@ -2,7 +2,7 @@
 use Rattle.std.proofs.Common.{subst}
 use Rattle.bl_top.specs.Refusals.{IsAccepted, IsRefusalOf}
 use Rattle.bl_top.proofs.Ends.{fault_is_no_end, further_from_up_to, left_nothing, want_is_no_end}
-use Rattle.bl_top.proofs.Fronts.{accepted_text, refused_source, refused_leaves, judged_unrefused}
+use Rattle.bl_top.proofs.Fronts.{accepted_text, refused_source, refused_leaves, judged_is_used, judged_unrefused, judged_was_read}
 use Rattle.bl_top.proofs.build.build.Goals as goal
 
 pub returns-in-Err-Failed-clause-leaves : goal.returns-in-Err-Failed-clause-leaves
@@ -13,6 +13,12 @@ returns-in-Err-NoMemory-clause-leaves g c = left_nothing _ _ _ c.plain-in-Err-No
 
 pub returns-in-Ok-judged-clause-refused : goal.returns-in-Ok-judged-clause-refused
 returns-in-Ok-judged-clause-refused g c = λ e. judged_unrefused _ c.write_c.ensures.judged e
+
+pub returns-in-Ok-judged-clause-no_usage : goal.returns-in-Ok-judged-clause-no_usage
+returns-in-Ok-judged-clause-no_usage g c = λ e. judged_is_used _ c.write_c.ensures.judged e
+
+pub returns-in-Ok-judged-clause-read_fault : goal.returns-in-Ok-judged-clause-read_fault
+returns-in-Ok-judged-clause-read_fault g c = λ e. judged_was_read _ c.write_c.ensures.judged e
 
 pub returns-in-Ok-judged-clause-accepted : goal.returns-in-Ok-judged-clause-accepted
 returns-in-Ok-judged-clause-accepted g c = λ e. accepted_text _ c.in-Ok.bytes.items _ c.in-Ok.ensures.front (subst IsAccepted c.deref.ensures.value c.in-Ok-judged.ensures.accepted)

@@ -1,5 +1,4 @@
-use Rattle.std.proofs.Common.{ap, length, subst, sym}
-use Rattle.bl_lex.specs.Tokens.{Lexes}
+use Rattle.std.proofs.Common.{length, subst}
 use Rattle.bl_syntax.specs.Rules.{IsRefusalOf}
 use Rattle.bl_top.proofs.Fronts.{lexed_refusal, parsed_refusal}
 use Rattle.bl_top.proofs.build.judged.Goals as goal

@@ -1,6 +1,5 @@
 -- Each end of the write makes the end of the call.
-use Rattle.std.proofs.Common.{◌∙◌, ap, subst, Err, sym}
-use Rattle.bl_io.specs.Held.{Appends, AppendsPart}
+use Rattle.std.proofs.Common.{ap, Err}
 use Rattle.bl_top.specs.Notes.{same, failed, refused}
 use Rattle.bl_top.proofs.Lines.{appends_nothing, noted_whole, noted_fault, noted_refused, is_empty_from_test, has_line_from_test}
 use Rattle.bl_top.proofs.notes.with_note.Goals as goal
