@@ -2,8 +2,7 @@
 use Rattle.std.proofs.Common.{◌≡◌, ℕ, suc, zero, ◌<◌, ◌≤◌, true, false, List, [], ◌∷◌, ◌++◌, length, drop, refl, ap, arith, get_or}
 use Rattle.bl_tree.specs.declared.tree.Stmt.{Stmt}
 use Rattle.bl_ctree.specs.Control.{Control, Nil, Wait, Test, Idle, Do, Turn, Seq, Par, Guard, Run, do_all, followed, seq, is_nil}
-use Rattle.bl_ctree.specs.Nodes.{none_left}
-use Rattle.bl_ctree.specs.Positions.{Item, Begin, Position, items_from}
+use Rattle.bl_ctree.specs.Positions.{Item, Begin, Position, items_from, none_left}
 
 pub drop-all : {A : Type 0} (xs : List A) (n : ℕ) → length xs ≤ n → drop n xs ≡ []
 drop-all [] zero h = refl

@@ -1,6 +1,11 @@
 mod Bools
 mod Elements
+mod Forgetting
 pub mod ItemLemmas
 mod Listing
+mod Ordering
+mod Properness
 mod Settling
+mod Standing
+mod Stepping
 pub mod WakeLemmas

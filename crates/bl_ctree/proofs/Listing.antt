@@ -8,15 +8,15 @@ use Rattle.bl_tree.specs.declared.tree.Stmt.{Stmt}
 use Rattle.bl_tree.specs.declared.tree.StmtKind.{StmtKind}
 use Rattle.bl_tree.specs.declared.tree.StmtKind.TheOpen.{StmtKind-F}
 use Rattle.bl_tree.specs.declared.tree.Unit.{Unit as UnitDef}
-use Rattle.bl_ctree.specs.Actions.{Action, Effect, Silent, Acts, Asks, Copies, Gives, action, effect_on, done, values_there}
+use Rattle.bl_ctree.specs.Actions.{Action, Effect, Silent, Acts, Asks, Copies, Gives, Performed, action, effect_on, done, perform, values_there}
 use Rattle.bl_ctree.specs.Control.{Control, Branches, Nil, Wait, Test, Idle, Do, Turn, Seq, Par, Guard, Run, no_branch, branch, Check, Body, are_settled, are_done, is_nil, seq}
 use Rattle.bl_ctree.specs.Instances.{Setting, callee_of, unit_at}
-use Rattle.bl_ctree.specs.Laws.{PointsMove, MovesAreListed, StepsAreListed, StillIsUnlisted, Listed, can_answer}
+use Rattle.bl_ctree.specs.Laws.{PointsAct, PointsMove, MovesAreListed, StepsAreListed, StillIsUnlisted, Listed, can_answer}
 use Rattle.bl_ctree.specs.Pending.{meets, any_meets}
 use Rattle.bl_ctree.specs.Points.{Among, here, there, Point, points, branch_points, within, in_first, in_later, guard_points, run_points, joining, free_of, sure, asking, giving, begins, tests, turns_on, checks, copying, or_nothing, run_begins}
 use Rattle.bl_ctree.specs.Positions.{Located, kind_of, place_of, is_act}
 use Rattle.bl_ctree.specs.Store.{Store, with_frame, with_inputs}
-use Rattle.bl_ctree.specs.Steps.{IsStill, Moves, OneMoves, acts, takes_arm, passes_arm, takes_else, pauses, runs, repeats, repeats_until, leaves, turns, enters, skips, forks, guards, goes_on, waits, lets, aborts, resets, guard_ends, copies, run_ends, joins, in_seq, in_par, in_guard, in_run, first, later}
+use Rattle.bl_ctree.specs.Steps.{Acting, leads, fails, IsStill, Moves, OneMoves, acts, takes_arm, passes_arm, takes_else, pauses, runs, repeats, repeats_until, leaves, turns, enters, skips, forks, guards, goes_on, waits, lets, aborts, resets, guard_ends, copies, run_ends, joins, in_seq, in_par, in_guard, in_run, first, later}
 use Rattle.bl_ctree.proofs.Bools.{not-true, not-false}
 use Rattle.bl_ctree.proofs.Elements.{among-map, of-map, among-left, among-right, of-append, of-filter, among-filter}
 
@@ -386,6 +386,23 @@ steps_are_listed w c store a c' store' = (
     performs = taken.performs;
   },
 )
+
+acting : (w : Setting) (c : Control) (store : Store) (a : Action) (p : Point Control) → Among (Point Control) p (points w 0 c) → p.action ≡ a →
+    (performed : Option Performed) → perform w a store ≡ performed → Acting w c store a
+acting w c store a p m same None e =
+    fails (record { answer = true; after = p.after true; moves = moved same refl (sound w 0 c p m true (can_true p.action.effect)); fails = e })
+acting w c store a p m same (Some performed) e =
+    leads (record {
+      answer = performed.answer;
+      moves =
+          moved same refl
+          (sound w 0 c p m performed.answer
+          (subst (λ a. can_answer a.effect performed.answer ≡ true) (sym same) (answers w a.instance a.effect store performed.answer performed.store e)));
+      performs = e;
+    })
+
+pub points_act : PointsAct
+points_act w c store d a c' move = let l = complete move in acting w c store a l.point l.among l.acts (perform w a store) refl
 
 none_listed : (w : Setting) (c : Control) → IsStill w c → (all : List (Point Control)) → points w 0 c ≡ all → all ≡ []
 none_listed w c still [] e = refl

@@ -1,22 +1,21 @@
 -- Actions: what one step asks of the store or does to it.
-use Rattle.std.specs.Prelude.{ℕ, Bool, true, List, [], ◌∷◌, ◌++◌, map, slice_get, Option, Some, None, option_map, option_and_then}
+use Rattle.std.specs.Prelude.{ℕ, Bool, true, List, [], ◌∷◌, map, slice_get, Option, Some, None, option_map, option_and_then}
 use Rattle.bl_tree.specs.declared.tree.Arm.{Arm}
 use Rattle.bl_tree.specs.declared.tree.Branch.{Branch}
 use Rattle.bl_tree.specs.declared.tree.Expr.{Expr}
 use Rattle.bl_tree.specs.declared.tree.Path.{Path}
-use Rattle.bl_tree.specs.declared.tree.Stmt.{Stmt, out-Stmt}
-use Rattle.bl_tree.specs.declared.tree.StmtKind.{StmtKind, out-StmtKind}
+use Rattle.bl_tree.specs.declared.tree.Stmt.{Stmt}
+use Rattle.bl_tree.specs.declared.tree.StmtKind.{StmtKind}
 use Rattle.bl_tree.specs.declared.tree.StmtKind.TheOpen.{StmtKind-F}
 use Rattle.bl_tree.specs.declared.value.Value.{Value}
 use Rattle.bl_tree.specs.Numbers.{is_one}
 use Rattle.bl_tree.specs.Reduce.{joined}
 use Rattle.bl_eval.specs.Standing.{outcome_in_unit, value_in_unit}
-use Rattle.bl_effects.specs.declared.static_path.Static.{Static}
-use Rattle.bl_effects.specs.Effects.{argument_mentions, optional_mentions}
-use Rattle.bl_effects.specs.Static.{index_mentions, mentions, static_of}
+use Rattle.bl_effects.specs.Effects.{reads, writes}
+use Rattle.bl_effects.specs.Static.{mentions, static_of}
 use Rattle.bl_ctree.specs.Instances.{Setting}
-use Rattle.bl_ctree.specs.Positions.{Located}
-use Rattle.bl_ctree.specs.Store.{Frame, Location, Store, home, homes, number_or_zero, put, put_all, remember, view_at, with_frame, with_inputs}
+use Rattle.bl_ctree.specs.Positions.{Located, stmt_kind}
+use Rattle.bl_ctree.specs.Store.{Frame, Location, Store, home, homes, number_or_zero, put, put_written, remember, view_at, with_frame, with_inputs}
 
 pub data Effect : Type 0 where
   -- the tree alone changes
@@ -39,21 +38,10 @@ pub record Action : Type 0 where
 abbrev pub action : ℕ → Located → Effect → Action
 action i s effect = record { stmt = s; instance = i; effect = effect }
 
--- what an act reads: the set `reads` of its statement, as a list
-abbrev pub act_reads : StmtKind-F StmtKind Arm Branch Stmt → List Static
-act_reads (StmtKind-F.Declare k initial) = optional_mentions initial
-act_reads (StmtKind-F.Assign path e) = index_mentions path ++ mentions e
-act_reads (StmtKind-F.Call f inputs outputs) = argument_mentions inputs outputs
-act_reads (StmtKind-F.Return e) = optional_mentions e
-act_reads _ = []
-
-abbrev pub kind_of_stmt : Stmt → StmtKind-F StmtKind Arm Branch Stmt
-kind_of_stmt s = out-StmtKind (out-Stmt s).what
-
 -- what an action reads, as homes
 abbrev pub effect_reads : Setting → ℕ → Effect → List Location
 effect_reads w i Silent = []
-effect_reads w i (Acts s) = homes w i (act_reads (kind_of_stmt s))
+effect_reads w i (Acts s) = homes w i (reads s)
 effect_reads w i (Asks e) = homes w i (mentions e)
 effect_reads w i (Copies callee inputs) = homes w i (joined (map mentions inputs))
 effect_reads w i (Gives callee target) = []
@@ -89,13 +77,14 @@ outcome_there w store i s =
 abbrev pub with_result : Value → Frame → Frame
 with_result value frame = record frame { result = Some value }
 
--- the store after an act of an instance; none where it traps. A declaration sets the value before too
+-- the store after an act of an instance; none where it traps. What the statement writes is put, and nothing else; a declaration
+-- sets the value before too
 abbrev pub acted_kind : Setting → ℕ → Stmt → StmtKind-F StmtKind Arm Branch Stmt → Store → Option Store
 acted_kind w i s (StmtKind-F.Return None) store = Some store
 acted_kind w i s (StmtKind-F.Return (Some e)) store = option_map (λ value. with_frame i (with_result value) store) (value_there w store i e)
 acted_kind w i s (StmtKind-F.Declare k initial) store =
-    option_map (λ values. with_frame i (remember k) (put_all w i values store)) (outcome_there w store i s)
-acted_kind w i s _ store = option_map (λ values. put_all w i values store) (outcome_there w store i s)
+    option_map (λ values. with_frame i (remember k) (put_written w i values (writes s) store)) (outcome_there w store i s)
+acted_kind w i s _ store = option_map (λ values. put_written w i values (writes s) store) (outcome_there w store i s)
 
 abbrev pub is_true_value : Value → Bool
 is_true_value value = is_one (number_or_zero value)
@@ -113,7 +102,7 @@ given_to w i _ _ store = store
 
 abbrev pub effect_on : Setting → ℕ → Effect → Store → Option Performed
 effect_on w i Silent store = Some (done store)
-effect_on w i (Acts s) store = option_map done (acted_kind w i s (kind_of_stmt s) store)
+effect_on w i (Acts s) store = option_map done (acted_kind w i s (stmt_kind s) store)
 effect_on w i (Asks e) store = option_map (λ value. record { answer = is_true_value value; store = store }) (value_there w store i e)
 effect_on w i (Copies callee inputs) store =
     option_map (λ values. done (with_frame callee (with_inputs values) store)) (values_there w store i inputs)

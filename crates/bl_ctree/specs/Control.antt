@@ -63,7 +63,7 @@ abbrev pub begun : Located → ℕ → List Branch → Branches
 begun s k [] = no_branch
 begun s k (b ∷ rest) = branch (out-Branch b).weak (do_all (block_items s k (out-Branch b).body)) (begun s (suc k) rest)
 
--- ---- due and settled
+-- ---- settled. What is due has only still to end: a Par whose branches are settled and done, a Guard or a Run in phase body over Nil
 
 abbrev pub is_nil : Control → Bool
 is_nil Nil = true
@@ -107,13 +107,6 @@ abbrev mutual
   are_settled no_branch = true
   are_settled (branch weak c rest) = is_settled c && are_settled rest
 
--- what is done and has still to end: a Par whose branches are settled and done, a Guard or a Run whose body has ended
-abbrev pub is_due : Control → Bool
-is_due (Par s stood branches) = are_settled branches && are_done branches
-is_due (Guard s phase stood c) = in_body phase && is_nil c
-is_due (Run s i phase stood c) = in_body phase && is_nil c
-is_due _ = false
-
 -- ---- the start of a tick
 
 abbrev mutual
@@ -133,3 +126,24 @@ abbrev mutual
   pub all_woken : Branches → Branches
   all_woken no_branch = no_branch
   all_woken (branch weak c rest) = branch weak (woken c) (all_woken rest)
+
+-- ---- between ticks
+
+abbrev mutual
+  -- the tree without what it has on where a node stood when the last tick began. Between ticks that tells nothing: waking sets
+  -- it anew. So two trees between ticks are the same where these are
+  pub forget : Control → Control
+  forget Nil = Nil
+  forget (Wait s) = Wait s
+  forget (Test s) = Test s
+  forget (Idle items) = Idle items
+  forget (Do s) = Do s
+  forget (Turn s) = Turn s
+  forget (Seq c rest) = Seq (forget c) rest
+  forget (Par s stood branches) = Par s false (all_forgotten branches)
+  forget (Guard s phase stood c) = Guard s phase false (forget c)
+  forget (Run s i phase stood c) = Run s i phase false (forget c)
+
+  pub all_forgotten : Branches → Branches
+  all_forgotten no_branch = no_branch
+  all_forgotten (branch weak c rest) = branch weak (forget c) (all_forgotten rest)

@@ -9,6 +9,7 @@ use Rattle.bl_tree.specs.declared.tree.StructDef.{StructDef}
 use Rattle.bl_tree.specs.declared.tree.Unit.{Unit as UnitDef}
 use Rattle.bl_tree.specs.Reduce.{joined}
 use Rattle.bl_effects.specs.Static.{static_of}
+use Rattle.bl_effects.specs.Table.{same_place}
 use Rattle.bl_ctree.specs.declared.instance.Instance.{Instance}
 use Rattle.bl_ctree.specs.declared.instance.Origin.{Origin}
 use Rattle.bl_ctree.specs.declared.instance.Run.{Run}
@@ -47,9 +48,6 @@ runs_in_arm = fold-Arm (Place → List Run) (List Run) (List Run) (List Run) kin
 
 abbrev pub runs_in_branch : Branch → List Run
 runs_in_branch = fold-Branch (Place → List Run) (List Run) (List Run) (List Run) kind_runs arm_runs branch_runs stmt_layer_runs
-
-abbrev pub same_place : Place → Place → Bool
-same_place a b = nat_eq a.start b.start && nat_eq a.end b.end
 
 -- the first of each place
 abbrev pub one_a_place : List Run → List Run
@@ -93,11 +91,10 @@ instances_of units entry = expanded units (entry + 1) entry
 pub record Setting : Type 0 where
   pub structs : List StructDef
   pub units : List UnitDef
-  pub entry : ℕ
   pub instances : List Instance
 
 abbrev pub setting_of : List StructDef → List UnitDef → ℕ → Setting
-setting_of structs units entry = record { structs = structs; units = units; entry = entry; instances = instances_of units entry }
+setting_of structs units entry = record { structs = structs; units = units; instances = instances_of units entry }
 
 abbrev pub begins_at : ℕ → Place → Option Origin → Bool
 begins_at caller place None = Bool.false

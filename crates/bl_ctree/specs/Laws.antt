@@ -1,11 +1,17 @@
 -- What holds of every program, tree and store.
-use Rattle.std.specs.Prelude.{ℕ, Bool, true, List, [], ◌≡◌, ◌↔◌, Some}
+use Rattle.std.specs.Prelude.{ℕ, ℤ, Bool, true, false, List, [], ◌∷◌, ◌++◌, ◌≡◌, ◌≢◌, ◌↔◌, Some}
+use Rattle.bl_effects.specs.Static.{fields_precede}
 use Rattle.bl_ctree.specs.Actions.{Action, Effect, Silent, Acts, Asks, Copies, Gives, perform}
-use Rattle.bl_ctree.specs.Control.{Control, is_settled}
+use Rattle.bl_ctree.specs.Control.{Control, do_all, forget, is_settled, seq, woken}
+use Rattle.bl_ctree.specs.GraphNodes.{node_of}
 use Rattle.bl_ctree.specs.Instances.{Setting}
 use Rattle.bl_ctree.specs.Points.{Among, Point, points}
-use Rattle.bl_ctree.specs.Steps.{IsStill, Moves, Step}
+use Rattle.bl_ctree.specs.Positions.{Item}
+use Rattle.bl_ctree.specs.Proper.{ItemsProper, Proper, ProperTree}
+use Rattle.bl_ctree.specs.Reaches.{Reaches, ReachesInside}
+use Rattle.bl_ctree.specs.Steps.{Acting, IsStill, Moves, Step}
 use Rattle.bl_ctree.specs.Store.{Store}
+use Rattle.bl_ctree.specs.Ticks.{End, Maximal, Rests, Steps}
 
 -- a test has either answer, every other action the answer true
 abbrev pub can_answer : Effect → Bool → Bool
@@ -50,3 +56,81 @@ StillIsUnlisted = (w : Setting) (c : Control) → IsStill w c ↔ (points w 0 c 
 -- nothing can act in a settled tree
 abbrev pub SettledIsStill : Type 0
 SettledIsStill = (w : Setting) (i : ℕ) (c : Control) → is_settled c ≡ true → points w i c ≡ []
+
+-- ---- the order of points
+
+-- listed by the branches that lead to them, each before all that stand after it; so no two have one path
+pub data InOrder (A : Type 0) : List (Point A) → Type 0 where
+  no_point : InOrder A []
+  comes_first : {point : Point A} {rest : List (Point A)} →
+      ((other : Point A) → Among (Point A) other rest → fields_precede point.path other.path ≡ true) → InOrder A rest → InOrder A (point ∷ rest)
+
+-- points are listed in order, each once
+abbrev pub PointsInOrder : Type 0
+PointsInOrder = (w : Setting) (i : ℕ) (c : Control) → InOrder Control (points w i c)
+
+-- each listed point stands for a node
+abbrev pub PointsHaveNodes : Type 0
+PointsHaveNodes =
+    (w : Setting) (i : ℕ) (c : Control) (point : Point Control) → Among (Point Control) point (points w i c) → node_of c point.path ≢ []
+
+-- ---- lists of steps
+
+-- a list of steps, wherever it leads
+pub record Taking (w : Setting) (c : Control) (store : Store) (actions : List Action) : Type 0 where
+  pub end : End
+  pub steps : Steps w c store actions end
+
+-- the front of a list of steps is a list of steps
+abbrev pub FrontsAreSteps : Type 0
+FrontsAreSteps =
+    (w : Setting) (c : Control) (store : Store) (front rest : List Action) (end : End) →
+    Steps w c store (front ++ rest) end → Taking w c store front
+
+-- a list of steps and one from where it leads are one list of steps
+abbrev pub StepsFollow : Type 0
+StepsFollow =
+    (w : Setting) (c : Control) (store : Store) (front rest : List Action) (c' : Control) (store' : Store) (end : End) →
+    Steps w c store front (Rests c' store') → Steps w c' store' rest end → Steps w c store (front ++ rest) end
+
+-- a maximal list of steps is a list of steps
+abbrev pub MaximalIsSteps : Type 0
+MaximalIsSteps =
+    (w : Setting) (c : Control) (store : Store) (actions : List Action) (end : End) → Maximal w c store actions end → Steps w c store actions end
+
+-- where a point may act its action steps or traps, in every store
+abbrev pub PointsAct : Type 0
+PointsAct =
+    (w : Setting) (c : Control) (store : Store) (d : Bool) (a : Action) (c' : Control) → Moves w 0 c d a c' → Acting w c store a
+
+-- ---- proper trees
+
+abbrev pub ItemsBeginProper : Type 0
+ItemsBeginProper = (w : Setting) (i : ℕ) (items : List Item) → ItemsProper items → Proper w i (do_all items)
+
+abbrev pub SeqIsProper : Type 0
+SeqIsProper = (w : Setting) (i : ℕ) (c : Control) (rest : List Item) → Proper w i c → ItemsProper rest → Proper w i (seq c rest)
+
+-- a step keeps a tree proper
+abbrev pub MovesKeepProper : Type 0
+MovesKeepProper = (w : Setting) (i : ℕ) (d : Bool) (a : Action) (c c' : Control) → Moves w i c d a c' → Proper w i c → Proper w i c'
+
+-- a whole tree is proper inside a tick where it was before
+abbrev pub WakingKeepsProper : Type 0
+WakingKeepsProper = (w : Setting) (c : Control) → ProperTree w c → Proper w 0 (woken c)
+
+-- between ticks runs reach proper trees only
+abbrev pub ReachedIsProper : Type 0
+ReachedIsProper = (w : Setting) (rows : List (List ℤ)) (c : Control) (store : Store) → Reaches w rows c store → ProperTree w c
+
+-- and inside ticks
+abbrev pub ReachedInsideIsProper : Type 0
+ReachedInsideIsProper =
+    (w : Setting) (rows : List (List ℤ)) (row : List ℤ) (actions : List Action) (c : Control) (store : Store) →
+    ReachesInside w rows row actions (Rests c store) → Proper w 0 c
+
+-- ---- between ticks
+
+-- what stood in the last tick doesn't tell in the next one
+abbrev pub WakingForgets : Type 0
+WakingForgets = (c : Control) → woken (forget c) ≡ woken c

@@ -1,14 +1,16 @@
 pub mod Actions
 pub mod Control
+pub mod GraphNodes
 pub mod Instances
 pub mod Laws
 pub mod Means
 pub mod Measure
 pub mod Nodes
-pub mod Paths
 pub mod Pending
 pub mod Points
 pub mod Positions
+pub mod Proper
+pub mod Reaches
 pub mod Steps
 pub mod Store
 pub mod Ticks

@@ -5,12 +5,11 @@ use Rattle.bl_tree.specs.declared.row.Last.TheVariants.{Open, Ended as HasEnded,
 use Rattle.bl_tree.specs.declared.row.Trace.{Trace}
 use Rattle.bl_tree.specs.declared.tree.StructDef.{StructDef}
 use Rattle.bl_tree.specs.declared.tree.Unit.{Unit as UnitDef}
-use Rattle.bl_ctree.specs.Actions.{Action}
-use Rattle.bl_ctree.specs.Control.{Control, Idle, woken}
+use Rattle.bl_ctree.specs.Control.{Control, Idle}
 use Rattle.bl_ctree.specs.Instances.{Setting, setting_of, unit_at}
 use Rattle.bl_ctree.specs.Positions.{Item, body_items}
-use Rattle.bl_ctree.specs.Store.{Store, first_store, outputs_row, woken_store}
-use Rattle.bl_ctree.specs.Ticks.{Trapped, Rests, Maximal, Ended, Paused, Stuck, outcome_at}
+use Rattle.bl_ctree.specs.Store.{Store, first_store, outputs_row}
+use Rattle.bl_ctree.specs.Ticks.{Trapped, Rests, Tick, Ended, Paused, Stuck, outcome_at}
 
 -- what a run shows: the rows of its ticks, and how it stands after them; none where its next tick is stuck
 pub record Shown : Type 0 where
@@ -26,20 +25,18 @@ nothing_more last = record { rows = []; last = last }
 abbrev pub row_then : List ℤ → Shown → Shown
 row_then row rest = record { rows = row ∷ rest.rows; last = rest.last }
 
--- what a run may show over the rows of inputs, from a tree and a store between ticks. In each tick any maximal list of steps
--- from the woken tree may be taken
+-- what a run may show over the rows of inputs, from a tree and a store between ticks
 pub data Allows (w : Setting) : List (List ℤ) → Control → Store → Shown → Type 0 where
   stays_open : {c : Control} {store : Store} → Allows w [] c store (nothing_more (Some Open))
-  traps : {row : List ℤ} {rows : List (List ℤ)} {c : Control} {store : Store} (steps : List Action) →
-      Maximal w (woken c) (woken_store row store) steps Trapped → Allows w (row ∷ rows) c store (nothing_more (Some HasTrapped))
-  is_stuck : {row : List ℤ} {rows : List (List ℤ)} {c : Control} {store : Store} (steps : List Action) {c' : Control} {store' : Store} →
-      Maximal w (woken c) (woken_store row store) steps (Rests c' store') → outcome_at (Rests c' store') ≡ Stuck →
-      Allows w (row ∷ rows) c store (nothing_more None)
-  ends : {row : List ℤ} {rows : List (List ℤ)} {c : Control} {store : Store} (steps : List Action) {c' : Control} {store' : Store} →
-      Maximal w (woken c) (woken_store row store) steps (Rests c' store') → outcome_at (Rests c' store') ≡ Ended →
+  traps : {row : List ℤ} {rows : List (List ℤ)} {c : Control} {store : Store} →
+      Tick w row c store Trapped → Allows w (row ∷ rows) c store (nothing_more (Some HasTrapped))
+  is_stuck : {row : List ℤ} {rows : List (List ℤ)} {c : Control} {store : Store} {c' : Control} {store' : Store} →
+      Tick w row c store (Rests c' store') → outcome_at (Rests c' store') ≡ Stuck → Allows w (row ∷ rows) c store (nothing_more None)
+  ends : {row : List ℤ} {rows : List (List ℤ)} {c : Control} {store : Store} {c' : Control} {store' : Store} →
+      Tick w row c store (Rests c' store') → outcome_at (Rests c' store') ≡ Ended →
       Allows w (row ∷ rows) c store (row_then (outputs_row w store') (nothing_more (Some HasEnded)))
-  goes_on : {row : List ℤ} {rows : List (List ℤ)} {c : Control} {store : Store} (steps : List Action) {c' : Control} {store' : Store} {rest : Shown} →
-      Maximal w (woken c) (woken_store row store) steps (Rests c' store') → outcome_at (Rests c' store') ≡ Paused →
+  goes_on : {row : List ℤ} {rows : List (List ℤ)} {c : Control} {store : Store} {c' : Control} {store' : Store} {rest : Shown} →
+      Tick w row c store (Rests c' store') → outcome_at (Rests c' store') ≡ Paused →
       Allows w rows c' store' rest → Allows w (row ∷ rows) c store (row_then (outputs_row w store') rest)
 
 -- the body of the entry's activity

@@ -38,8 +38,8 @@ statements_in = fold-Stmt ℕ ℕ ℕ ℕ kind_statements arm_statements branch_
 abbrev pub statements_of : UnitDef → ℕ
 statements_of unit = total (map statements_in unit.body)
 
--- an instance is passed at most once for itself and once for each of its callers, and in a pass each of the at most six nodes
--- of a statement acts at most once, or one of two acts twice
+-- an instance is passed at most once for itself and once for each of its callers. A statement has at most four nodes, of which
+-- in a pass each acts at most once, and the resume of a `run` at most twice: so six for each statement is enough
 abbrev pub instance_steps : Setting → Instance → ℕ
 instance_steps w instance = 6 * (instance.depth + 1) * unwrap_or (option_map statements_of (unit_of w instance)) 0
 

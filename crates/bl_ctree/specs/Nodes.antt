@@ -1,4 +1,4 @@
--- The control trees of the code as plain trees.
+-- The control trees of the code as plain trees. The meaning of a program doesn't speak of them.
 use Rattle.std.specs.Prelude.{Bool, List, [], ◌∷◌, ◌++◌, drop}
 use Rattle.bl_ctree.specs.declared.node.Arms.{Arms}
 use Rattle.bl_ctree.specs.declared.node.At.{At}
@@ -64,8 +64,3 @@ control_of = fold-Node Control Seen node_control branch_seen
 
 abbrev pub seen_of : BranchNode → Seen
 seen_of = fold-Branch Control Seen node_control branch_seen
-
--- whether no item is left
-abbrev pub none_left : List Item → Bool
-none_left [] = Bool.true
-none_left (item ∷ rest) = Bool.false

@@ -19,8 +19,11 @@ pub record Located : Type 0 where
   pub stmt : Stmt
 
 -- what kind of statement it is, with its parts
+abbrev pub stmt_kind : Stmt → StmtKind-F StmtKind Arm Branch Stmt
+stmt_kind s = out-StmtKind (out-Stmt s).what
+
 abbrev pub kind_of : Located → StmtKind-F StmtKind Arm Branch Stmt
-kind_of s = out-StmtKind (out-Stmt s.stmt).what
+kind_of s = stmt_kind s.stmt
 
 abbrev pub place_of : Located → Place
 place_of s = (out-Stmt s.stmt).place
@@ -29,6 +32,11 @@ place_of s = (out-Stmt s.stmt).place
 pub data Item : Type 0 where
   Begin : Located → Item
   Again : Located → Item
+
+-- whether no item is left
+abbrev pub none_left : List Item → Bool
+none_left [] = true
+none_left (item ∷ rest) = false
 
 -- the statements of a block at the position, from the one with number k on
 abbrev pub items_from : Position → ℕ → List Stmt → List Item
@@ -44,7 +52,7 @@ abbrev pub block_items : Located → ℕ → List Stmt → List Item
 block_items s block body = items_from (s.position ++ block ∷ []) 0 body
 
 -- what is left of the `if` at the position when so many arms are passed, of which the first that is left is given. It has
--- the place of that arm's condition
+-- the place of that arm's condition, which is the place of no statement: no table by places tells of it
 abbrev pub left_of_if : Position → ℕ → Arm → List Arm → List Stmt → Located
 left_of_if position passed arm arms other =
     record { position = position; passed = passed; stmt = roll-Stmt (record { place = (out-Expr (out-Arm arm).test).place; what = roll-StmtKind (StmtKind-F.If (arm ∷ arms) other) }) }

@@ -138,6 +138,11 @@ pub record Traps (w : Setting) (c : Control) (store : Store) (a : Action) : Type
   pub moves : Moves w 0 c answer a after
   pub fails : perform w a store ≡ None
 
+-- the action may act: it leads on, or it traps
+pub data Acting (w : Setting) (c : Control) (store : Store) (a : Action) : Type 0 where
+  leads : {c' : Control} {store' : Store} → Step w c store a c' store' → Acting w c store a
+  fails : Traps w c store a → Acting w c store a
+
 -- no point of the tree may act
 abbrev pub IsStill : Setting → Control → Type 0
 IsStill w c = (d : Bool) (a : Action) (c' : Control) → ¬ Moves w 0 c d a c'

@@ -1,5 +1,6 @@
 -- The store: the values of every instance's variables, now and at the end of the previous tick.
-use Rattle.std.specs.Prelude.{ℕ, zero, suc, ◌+◌, ◌-◌, ℤ, pos, Bool, ◌&&◌, nat_eq, nat_lt, nat_le, List, [], ◌∷◌, ◌++◌, map, take, drop, slice_get, slice_set, Option, None, option_map, option_and_then, unwrap_or, if◌then◌else◌}
+use Rattle.std.specs.Prelude.{ℕ, zero, suc, ◌+◌, ◌-◌, ℤ, pos, Bool, ◌&&◌, nat_eq, nat_lt, nat_le, List, [], ◌∷◌, ◌++◌, map, take, drop, length, slice_get, slice_set, Option, None, option_map, option_and_then, unwrap_or, if◌then◌else◌}
+use Rattle.std.specs.List.{range_with_len}
 use Rattle.bl_tree.specs.declared.scalar.Scalar.{Scalar as ScalarType}
 use Rattle.bl_tree.specs.declared.tree.StructDef.{StructDef}
 use Rattle.bl_tree.specs.declared.tree.Unit.{Unit as UnitDef}
@@ -84,19 +85,19 @@ value_among values store at =
 abbrev pub variable_among : (Frame → List Value) → Setting → Store → ℕ → ℕ → Value
 variable_among values w store i k = unwrap_or (value_among values store (home w (whole_of i k))) (Parts [])
 
-abbrev pub each_from : (ℕ → Value) → ℕ → List Var → List Value
-each_from value k [] = []
-each_from value k (var ∷ rest) = value k ∷ each_from value (suc k) rest
-
 abbrev pub vars_at : Setting → ℕ → List Var
 vars_at w i = unwrap_or (option_map (λ unit. unit.vars) (unit_at w i)) []
+
+-- the numbers of an instance's variables
+abbrev pub variables_of : Setting → ℕ → List ℕ
+variables_of w i = range_with_len 0 (length (vars_at w i))
 
 -- what the statements of an instance see: a value for each variable, an output's being that of its home
 abbrev pub view_at : Setting → Store → ℕ → View
 view_at w store i =
     record {
-      now = each_from (variable_among (λ frame. frame.now) w store i) 0 (vars_at w i);
-      before = each_from (variable_among (λ frame. frame.before) w store i) 0 (vars_at w i);
+      now = map (variable_among (λ frame. frame.now) w store i) (variables_of w i);
+      before = map (variable_among (λ frame. frame.before) w store i) (variables_of w i);
     }
 
 -- ---- writing
@@ -109,13 +110,16 @@ with_now store at value frame =
 abbrev pub put : Location → Value → Store → Store
 put at value store = unwrap_or (option_and_then (with_now store at value) (slice_get store at.instance)) store
 
--- the store with these values of an instance's variables, from variable k on, each at its home
-abbrev pub put_from : Setting → ℕ → ℕ → List Value → Store → Store
-put_from w i k [] store = store
-put_from w i k (value ∷ rest) store = put_from w i (suc k) rest (put (home w (whole_of i k)) value store)
+-- the value that stands at a static path in these variables of an instance goes to the path's home
+abbrev pub put_path : Setting → ℕ → List Value → Static → Store → Store
+put_path w i variables path store =
+    unwrap_or (option_map (λ value. put (home w (record { instance = i; path = path })) value store) (option_and_then (value_at path.fields) (slice_get variables path.root))) store
 
-abbrev pub put_all : Setting → ℕ → List Value → Store → Store
-put_all w i values store = put_from w i 0 values store
+-- the store after an act that left these variables and wrote these static paths: at the home of each of them stands its
+-- value, and all else is as before
+abbrev pub put_written : Setting → ℕ → List Value → List Static → Store → Store
+put_written w i variables [] store = store
+put_written w i variables (path ∷ rest) store = put_written w i variables rest (put_path w i variables path store)
 
 -- a change of one frame
 abbrev pub with_frame : ℕ → (Frame → Frame) → Store → Store
@@ -125,15 +129,9 @@ with_frame i change store = unwrap_or (option_map (λ frame. slice_set store i (
 abbrev pub remember : ℕ → Frame → Frame
 remember k frame = record frame { before = unwrap_or (option_map (slice_set frame.before k) (slice_get frame.now k)) frame.before }
 
--- the values with the first of them replaced
-abbrev pub replaced_front : List Value → List Value → List Value
-replaced_front [] values = values
-replaced_front (input ∷ rest) [] = []
-replaced_front (input ∷ rest) (value ∷ values) = input ∷ replaced_front rest values
-
 -- the first values are the inputs
 abbrev pub with_inputs : List Value → Frame → Frame
-with_inputs inputs frame = record frame { now = replaced_front inputs frame.now }
+with_inputs inputs frame = record frame { now = inputs ++ drop (length inputs) frame.now }
 
 -- ---- the start of a run, the start of a tick, and its outputs
 

@@ -1,4 +1,4 @@
--- Branches as they are woken, seen as a list.
+-- Branches of the code as they are woken, seen as a list.
 use Rattle.bl_ctree.specs.Control.{woken}
 use Rattle.bl_ctree.specs.Nodes.{Seen}
 

@@ -1,8 +1,7 @@
 //! Static paths of the paths of a tree.
 
 ghost use Rattle.std.specs.Prelude.{◌≡◌, map, IfOk};
-ghost use Rattle.bl_effects.specs.Static.{leading_fields, static_of};
-ghost use Rattle.bl_ctree.specs.Paths.{part_step_of};
+ghost use Rattle.bl_effects.specs.Static.{leading_fields, static_of, step_of};
 
 use bl_effects::Static;
 use bl_tree::tree::{Part, Path};
@@ -20,7 +19,7 @@ pub fn static_of(alloc: Global, path: &Path) -> Result<Static, NoMemory>
 }
 
 fn fields_before_index(alloc: Global, parts: &[Part]) -> Result<List<u32>, NoMemory>
-    ensures { IfOk result (λ fields. fields ≡ leading_fields (map part_step_of parts.now)) }
+    ensures { IfOk result (λ fields. fields ≡ leading_fields (map step_of parts.now)) }
 {
     let mut fields = List::new(alloc);
     for part in parts {

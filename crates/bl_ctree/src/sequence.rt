@@ -2,7 +2,8 @@
 
 ghost use Rattle.std.specs.Prelude.{◌≡◌, ◌<◌, ◌≤◌, IfOk, length};
 ghost use Rattle.bl_ctree.specs.Control.{do_all, followed, seq};
-ghost use Rattle.bl_ctree.specs.Nodes.{control_of, items_of, items_then, none_left};
+ghost use Rattle.bl_ctree.specs.Nodes.{control_of, items_of, items_then};
+ghost use Rattle.bl_ctree.specs.Positions.{none_left};
 
 use crate::copying;
 use crate::node::{At, Node, Rest, Then};
