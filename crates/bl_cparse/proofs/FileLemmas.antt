@@ -1,9 +1,13 @@
 -- From the pieces of a text to the file that it spells.
-use Rattle.std.proofs.Common.{◌≡◌, ℕ, ◌≤◌, Bool, true, ◌&&◌, nat_le, List, ◌++◌, length, map, drop, sym, ap, ◌∙◌, subst, arith}
-use Rattle.std.proofs.lemmas.Bool.Decides.{nat_tests}
+use Rattle.std.proofs.Common.{◌≡◌, ℕ, ◌≤◌, Bool, true, ◌&&◌, nat_le, ◌==◌, List, ◌++◌, length, map, drop, refl, sym, ap, ◌∙◌, subst, arith}
+use Rattle.std.specs.List.{starts_with}
+use Rattle.std.proofs.lemmas.Slice.Eq.{starts_is}
+use Rattle.std.proofs.lemmas.Bool.Decides.{nat_tests, Decides-eqb}
 use Rattle.bl_tree.specs.declared.c.CStruct.{CStruct}
 use Rattle.bl_tree.specs.declared.c.CFunc.{CFunc}
 use Rattle.bl_tree.specs.Reduce.{all_of, joined}
+use Rattle.bl_ctext.specs.Prelude.{prelude}
+use Rattle.bl_ctext.specs.declared.prelude.TheConstants.{PRELUDE}
 use Rattle.bl_ctext.specs.Token.{Token, SpacedC}
 use Rattle.bl_ctext.specs.Cut.{are_tokens}
 use Rattle.bl_ctext.specs.Spelling.{struct_tokens, func_tokens, tokens_of}
@@ -26,3 +30,17 @@ is_file structs funcs all e s f ss fs flat =
 
 pub spells_file : (structs : List CStruct) (funcs : List CFunc) (text : List ℕ) → pieces text ≡ tokens_of structs funcs → are_tokens (pieces text) ≡ true → SpacedC (tokens_of structs funcs) text
 spells_file structs funcs text e h = subst (λ ts. SpacedC ts text) e (spaced text h)
+
+pub prelude_is : PRELUDE.now ≡ prelude
+unfolding prelude
+prelude_is = refl
+
+-- what begins with the prelude goes on behind it
+pub begins : (text : List ℕ) (r : Bool) → r ≡ starts_with (◌==◌) text PRELUDE.now → r ≡ true → text ≡ prelude ++ drop (length PRELUDE.now) text
+begins text r h k = (starts_is Decides-eqb text PRELUDE.now r h).0 k ∙ ap (λ p. p ++ drop (length PRELUDE.now) text) prelude_is
+
+-- the file that the pieces behind the prelude are read as
+pub spells : (structs : List CStruct) (funcs : List CFunc) (text rest : List ℕ) (left : List Token) → text ≡ prelude ++ rest →
+    pieces rest ≡ joined (map struct_tokens structs) ++ left → left ≡ joined (map func_tokens funcs) → are_tokens (pieces rest) ≡ true →
+    (x : List ℕ) × ((text ≡ prelude ++ x) × SpacedC (tokens_of structs funcs) x)
+spells structs funcs text rest left h s f k = (rest, (h, spells_file structs funcs rest (whole_tokens structs funcs (pieces rest) left s f) k))

@@ -47,8 +47,44 @@ pub struct Nest {
     pub room: u32,
 }
 
+/// The statements before a `}`.
+pub fn stmts(r: &mut Reader<'_>, room: u32) -> Result<List<CStmt>, CRefusal>
+    ensures { IfOk result (λ body. (r.old ≡ joined (map stmt_tokens body) ++ r.new) × IsTrue (all_of (map spells_stmt body))) }
+{
+    let mut nest = Nest {
+        outer: Vec::new(r.alloc()),
+        body: List::new(r.alloc()),
+        room,
+    };
+    while !(nest.outer.is_empty() && r.sees("}")) {
+        nest = further(r, nest)?;
+    }
+    Ok(nest.body)
+}
+
+/// One statement more, or the front or the end of one that holds others.
+fn further(r: &mut Reader<'_>, nest: Nest) -> Result<Nest, CRefusal>
+    requires { IsTrue (spells_nest nest) }
+    ensures read { IfOk result (λ next. (nest_tokens nest ++ r.old ≡ nest_tokens next ++ r.new) × IsTrue (spells_nest next)) }
+    ensures shorter { OnOk result (length r.new < length r.old) }
+{
+    if r.sees("}") {
+        let next = closed(r, nest)?;
+        Ok(next)
+    } else if r.sees("if") {
+        let next = opened_branch(r, nest)?;
+        Ok(next)
+    } else if r.sees("{") {
+        let next = opened_turns(r, nest)?;
+        Ok(next)
+    } else {
+        let next = one(r, nest)?;
+        Ok(next)
+    }
+}
+
 /// A statement that holds no others.
-pub fn one(r: &mut Reader<'_>, nest: Nest) -> Result<Nest, CRefusal>
+fn one(r: &mut Reader<'_>, nest: Nest) -> Result<Nest, CRefusal>
     requires { IsTrue (spells_nest nest) }
     ensures read { IfOk result (λ next. (nest_tokens nest ++ r.old ≡ nest_tokens next ++ r.new) × IsTrue (spells_nest next)) }
     ensures shorter { OnOk result (length r.new < length r.old) }
@@ -69,7 +105,7 @@ fn with(body: List<CStmt>, stmt: CStmt) -> Result<List<CStmt>, CRefusal>
     Ok(body)
 }
 
-pub fn opened_branch(r: &mut Reader<'_>, nest: Nest) -> Result<Nest, CRefusal>
+fn opened_branch(r: &mut Reader<'_>, nest: Nest) -> Result<Nest, CRefusal>
     requires { IsTrue (spells_nest nest) }
     ensures read { IfOk result (λ next. (nest_tokens nest ++ r.old ≡ nest_tokens next ++ r.new) × IsTrue (spells_nest next)) }
     ensures shorter { OnOk result (length r.new < length r.old) }
@@ -117,7 +153,7 @@ fn inside(r: &Reader<'_>, outer: Vec<Frame>, frame: Frame, room: u32) -> Result<
     }
 }
 
-pub fn opened_turns(r: &mut Reader<'_>, nest: Nest) -> Result<Nest, CRefusal>
+fn opened_turns(r: &mut Reader<'_>, nest: Nest) -> Result<Nest, CRefusal>
     requires { IsTrue (spells_nest nest) }
     ensures read { IfOk result (λ next. (nest_tokens nest ++ r.old ≡ nest_tokens next ++ r.new) × IsTrue (spells_nest next)) }
     ensures shorter { OnOk result (length r.new < length r.old) }
@@ -140,9 +176,9 @@ pub fn opened_turns(r: &mut Reader<'_>, nest: Nest) -> Result<Nest, CRefusal>
 
 /// The name of a loop's turns, and its condition.
 #[derive(Drop)]
-pub struct TurnsFront {
-    pub turn: Text,
-    pub test: CExpr,
+struct TurnsFront {
+    turn: Text,
+    test: CExpr,
 }
 
 /// The front of a loop, where so many brackets may be opened in its parts.
@@ -156,23 +192,110 @@ fn turns_front(r: &mut Reader<'_>, room: u32) -> Result<TurnsFront, CRefusal>
     Ok(TurnsFront { turn, test })
 }
 
+/// The end of the innermost brace.
+fn closed(r: &mut Reader<'_>, nest: Nest) -> Result<Nest, CRefusal>
+    requires { IsTrue (spells_nest nest) }
+    ensures read { IfOk result (λ next. (nest_tokens nest ++ r.old ≡ nest_tokens next ++ r.new) × IsTrue (spells_nest next)) }
+    ensures shorter { OnOk result (length r.new < length r.old) }
+{
+    let Nest {
+        mut outer,
+        body,
+        room,
+    } = nest;
+    match outer.pop() {
+        Some(frame) => {
+            let next = closed_frame(r, outer, frame, body, room)?;
+            Ok(next)
+        }
+        None => Err(r.refusal()),
+    }
+}
+
+/// The end of this brace, with the statements in it and the room there.
+fn closed_frame(
+    r: &mut Reader<'_>,
+    outer: Vec<Frame>,
+    frame: Frame,
+    body: List<CStmt>,
+    room: u32,
+) -> Result<Nest, CRefusal>
+    requires outer { IsTrue (all_of (map spells_frame outer.items)) }
+    requires frame { IsTrue (spells_frame frame) }
+    requires body { IsTrue (all_of (map spells_stmt body)) }
+    ensures read { IfOk result (λ next. (joined (map frame_tokens outer.items) ++ (frame_tokens frame ++ (joined (map stmt_tokens body) ++ r.old)) ≡ nest_tokens next ++ r.new) × IsTrue (spells_nest next)) }
+    ensures shorter { OnOk result (length r.new < length r.old) }
+{
+    let place = Outside {
+        before: frame.before,
+        start: frame.start,
+        room: frame.room,
+    };
+    match frame.opened {
+        Opened::Then(test) => {
+            let next = closed_then(r, outer, place, test, body, room)?;
+            Ok(next)
+        }
+        Opened::Else(test, then_part) => {
+            let next = closed_else(r, outer, place, Parts { test, then_part }, body)?;
+            Ok(next)
+        }
+        Opened::Turns(turn, test) => {
+            let next = closed_turns(r, outer, place, TurnsFront { turn, test }, body)?;
+            Ok(next)
+        }
+    }
+}
+
 /// What stands before a statement, where it begins, and the room there.
 #[derive(Drop)]
-pub struct Outside {
-    pub before: List<CStmt>,
-    pub start: u32,
-    pub room: u32,
+struct Outside {
+    before: List<CStmt>,
+    start: u32,
+    room: u32,
 }
 
 /// The condition of an `if` and the statements before its `else`.
 #[derive(Drop)]
-pub struct Parts {
-    pub test: CExpr,
-    pub then_part: List<CStmt>,
+struct Parts {
+    test: CExpr,
+    then_part: List<CStmt>,
 }
 
-/// The end of the second part of an `if`.
-pub fn closed_else(
+/// The end of the first part of an `if`, and the front of the second where there is one.
+fn closed_then(
+    r: &mut Reader<'_>,
+    outer: Vec<Frame>,
+    place: Outside,
+    test: CExpr,
+    body: List<CStmt>,
+    room: u32,
+) -> Result<Nest, CRefusal>
+    requires outer { IsTrue (all_of (map spells_frame outer.items)) }
+    requires before { IsTrue (all_of (map spells_stmt place.before)) }
+    requires test { IsTrue (spells_expr test) }
+    requires body { IsTrue (all_of (map spells_stmt body)) }
+    ensures read { IfOk result (λ next. (joined (map frame_tokens outer.items) ++ ((joined (map stmt_tokens place.before) ++ opened_tokens (Opened.Then test)) ++ (joined (map stmt_tokens body) ++ r.old)) ≡ nest_tokens next ++ r.new) × IsTrue (spells_nest next)) }
+    ensures shorter { OnOk result (length r.new < length r.old) }
+{
+    r.take("}")?;
+    if !r.eat("else") {
+        let what = make_stmt::branch(test, body);
+        let next = ended(r, outer, place, what)?;
+        return Ok(next);
+    }
+    r.take("{")?;
+    let frame = Frame {
+        before: place.before,
+        start: place.start,
+        room: place.room,
+        opened: Opened::Else(test, body),
+    };
+    let next = inside(r, outer, frame, room)?;
+    Ok(next)
+}
+
+fn closed_else(
     r: &mut Reader<'_>,
     outer: Vec<Frame>,
     place: Outside,
@@ -193,8 +316,7 @@ pub fn closed_else(
     Ok(next)
 }
 
-/// The end of a loop.
-pub fn closed_turns(
+fn closed_turns(
     r: &mut Reader<'_>,
     outer: Vec<Frame>,
     place: Outside,
