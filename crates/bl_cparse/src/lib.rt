@@ -13,6 +13,3 @@ mod words;
 
 pub use parser::parse;
 pub use refusal::CRefusal;
-
-#[cfg(test)]
-mod tests;

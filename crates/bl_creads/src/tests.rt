@@ -1,4 +1,4 @@
-use crate::{CRefusal, parse};
+use bl_cparse::{CRefusal, parse};
 use bl_ctext::{CFile, PRELUDE, print};
 use std::alloc::{AllocError, Global};
 use std::test::Fail;
