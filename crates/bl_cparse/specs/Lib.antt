@@ -1,3 +1,0 @@
-pub mod Nest
-pub mod Parts
-pub mod Pieces
