@@ -1,0 +1,46 @@
+-- From the pieces of a text to the file that it spells.
+use Rattle.std.proofs.Common.{◌≡◌, ℕ, ◌≤◌, Bool, true, ◌&&◌, nat_le, ◌==◌, List, ◌++◌, length, map, drop, refl, sym, ap, ◌∙◌, subst, arith}
+use Rattle.std.specs.List.{starts_with}
+use Rattle.std.proofs.lemmas.Slice.Eq.{starts_is}
+use Rattle.std.proofs.lemmas.Bool.Decides.{nat_tests, Decides-eqb}
+use Rattle.bl_tree.specs.declared.c.CStruct.{CStruct}
+use Rattle.bl_tree.specs.declared.c.CFunc.{CFunc}
+use Rattle.bl_tree.specs.Reduce.{all_of, joined}
+use Rattle.bl_ctext.specs.Prelude.{prelude}
+use Rattle.bl_ctext.specs.declared.prelude.TheConstants.{PRELUDE}
+use Rattle.bl_ctext.specs.Token.{Token, SpacedC}
+use Rattle.bl_ctext.specs.Cut.{are_tokens}
+use Rattle.bl_ctext.specs.Spelling.{struct_tokens, func_tokens, tokens_of}
+use Rattle.bl_ctext.specs.Spellable.{has_any, is_spellable, shallow, most_open, spells_func, spells_struct}
+use Rattle.bl_ctext.proofs.Bytes.{both}
+use Rattle.bl_cparse.specs.Pieces.{pieces}
+use Rattle.bl_cparse.proofs.Spaced.{spaced}
+
+at_most : (a b : ℕ) → a ≤ b → nat_le a b ≡ true
+at_most a b h = grind (arith, nat_tests)
+
+pub whole_tokens : (structs : List CStruct) (funcs : List CFunc) (all rest : List Token) → all ≡ joined (map struct_tokens structs) ++ rest → rest ≡ joined (map func_tokens funcs) → all ≡ tokens_of structs funcs
+whole_tokens structs funcs all rest h k = h ∙ ap (λ ts. joined (map struct_tokens structs) ++ ts) k
+
+pub is_file : (structs : List CStruct) (funcs : List CFunc) (all : List Token) → all ≡ tokens_of structs funcs →
+    has_any structs ≡ true → has_any funcs ≡ true → all_of (map spells_struct structs) ≡ true → all_of (map spells_func funcs) ≡ true → most_open 0 all ≤ 2000 → is_spellable structs funcs ≡ true
+is_file structs funcs all e s f ss fs flat =
+    let low : most_open 0 (tokens_of structs funcs) ≤ 2000 = subst (λ ts. most_open 0 ts ≤ 2000) e flat in
+    both _ _ s (both _ _ f (both _ _ ss (both _ _ fs (at_most (most_open 0 (tokens_of structs funcs)) 2000 low))))
+
+pub spells_file : (structs : List CStruct) (funcs : List CFunc) (text : List ℕ) → pieces text ≡ tokens_of structs funcs → are_tokens (pieces text) ≡ true → SpacedC (tokens_of structs funcs) text
+spells_file structs funcs text e h = subst (λ ts. SpacedC ts text) e (spaced text h)
+
+pub prelude_is : PRELUDE.now ≡ prelude
+unfolding prelude
+prelude_is = refl
+
+-- what begins with the prelude goes on behind it
+pub begins : (text : List ℕ) (r : Bool) → r ≡ starts_with (◌==◌) text PRELUDE.now → r ≡ true → text ≡ prelude ++ drop (length PRELUDE.now) text
+begins text r h k = (starts_is Decides-eqb text PRELUDE.now r h).0 k ∙ ap (λ p. p ++ drop (length PRELUDE.now) text) prelude_is
+
+-- the file that the pieces behind the prelude are read as
+pub spells : (structs : List CStruct) (funcs : List CFunc) (text rest : List ℕ) (left : List Token) → text ≡ prelude ++ rest →
+    pieces rest ≡ joined (map struct_tokens structs) ++ left → left ≡ joined (map func_tokens funcs) → are_tokens (pieces rest) ≡ true →
+    (x : List ℕ) × ((text ≡ prelude ++ x) × SpacedC (tokens_of structs funcs) x)
+spells structs funcs text rest left h s f k = (rest, (h, spells_file structs funcs rest (whole_tokens structs funcs (pieces rest) left s f) k))

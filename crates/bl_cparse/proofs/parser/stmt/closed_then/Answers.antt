@@ -1,0 +1,27 @@
+use Rattle.std.proofs.Common.{ap, map, sym, [], ◌∷◌, ◌++◌, ◌∙◌, refl}
+use Rattle.std.specs.Prelude.{codes}
+use Rattle.bl_tree.specs.Reduce.{joined}
+use Rattle.bl_ctext.specs.Spelling.{stmt_tokens, stmt_kind_tokens, condition_tokens, braced, turn_declared, turn_counted}
+use Rattle.bl_ctext.specs.Spellable.{spells_stmt}
+use Rattle.bl_ctext.proofs.Bytes.{both, and-fst, and-snd}
+use Rattle.bl_cparse.specs.declared.parser.stmt.Opened.TheVariants.{Then, Else, Turns}
+use Rattle.bl_cparse.specs.Nest.{frame_tokens, opened_tokens, nest_tokens}
+use Rattle.bl_cparse.proofs.ListLemmas.{shorter, some_behind}
+use Rattle.bl_cparse.proofs.StmtLemmas.{kind_some}
+use Rattle.bl_cparse.proofs.NestLemmas.{read_one, one_more, all_with, read_open, whole, reopened, then_whole, else_open, else_whole, turns_whole}
+use Rattle.bl_cparse.proofs.parser.stmt.closed_then.Goals as goal
+
+pub returns-then-not-eat-clause-read : goal.returns-then-not-eat-clause-read
+returns-then-not-eat-clause-read c = (
+  whole (joined (map frame_tokens c.args.outer.items)) (joined (map stmt_tokens c.args.place.before)) (opened_tokens (Then c.args.test)) (joined (map stmt_tokens c.args.body)) (codes "}" ∷ []) (stmt_kind_tokens c.branch-what.result) (nest_tokens c.in_ok-next.next) _ _
+      c.in_ok-next.ensures.0 (c.branch-what.ensures.tokens ∙ then_whole (condition_tokens c.args.test) (joined (map stmt_tokens c.args.body))) (c.in_ok-take.ensures ∙ ap (λ ts. codes "}" ∷ ts) (sym (c.eat.ensures.no c.if-not-eat.true))),
+  c.in_ok-next.ensures.1,
+)
+
+pub returns-clause-read : goal.returns-clause-read
+returns-clause-read c = (
+  reopened (joined (map frame_tokens c.args.outer.items)) (joined (map stmt_tokens c.args.place.before)) (opened_tokens (Then c.args.test)) (joined (map stmt_tokens c.args.body)) (codes "}" ∷ codes "else" ∷ codes "{" ∷ []) (opened_tokens (Else c.args.test c.args.body)) (nest_tokens c.in_ok-next-2.next) _ _
+      c.in_ok-next-2.ensures.0 (else_open (condition_tokens c.args.test) (joined (map stmt_tokens c.args.body)))
+      (c.in_ok-take.ensures ∙ ap (λ ts. codes "}" ∷ ts) (c.eat.ensures.yes c.if-not-eat.false ∙ ap (λ ts. codes "else" ∷ ts) c.in_ok-take-2.ensures)),
+  c.in_ok-next-2.ensures.1,
+)

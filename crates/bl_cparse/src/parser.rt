@@ -1,0 +1,53 @@
+//! From tokens to a file. Each function reads one part of the grammar from the front of what is left, and refuses the
+//! text at the first token that can't stand.
+
+mod expr;
+mod item;
+mod literal;
+#[tactic(auto, using(crate::proofs::TokenLemmas::name_any, crate::proofs::TokenLemmas::struct_name_any, crate::proofs::TokenLemmas::function_name_any, crate::proofs::TokenLemmas::callee_any, crate::proofs::TokenLemmas::turn_name_any))]
+mod name;
+mod stmt;
+
+ghost use Rattle.std.specs.Prelude.{◌≡◌, ◌≢◌, ℕ, ◌<◌, ◌≤◌, length, slice_index, IfOk};
+ghost use Rattle.bl_ctext.specs.SpellsC.{SpellsC};
+
+use crate::reader::Reader;
+use crate::refusal::CRefusal;
+use crate::scan;
+use bl_ctext::{CFile, PRELUDE};
+use std::alloc::Global;
+
+/// How many brackets may be open at once.
+pub const MOST_OPEN: u32 = 2_000;
+
+/// The file that the bytes spell (docs/C_SUBSET.md, "Grammar").
+pub fn parse(alloc: Global, text: &[u8]) -> Result<CFile, CRefusal>
+    requires { length text.now ≤ 67108864 }
+    ensures { IfOk result (λ file. SpellsC file text.now) }
+{
+    if !text.starts_with(PRELUDE) {
+        let at = shared_length(text, PRELUDE) as u32;
+        return Err(CRefusal::NotSubset { at });
+    }
+    let mut reader = Reader::new(alloc, text, PRELUDE.len());
+    let structs = item::structs(&mut reader)?;
+    let funcs = item::funcs(&mut reader)?;
+    if !scan::is_kept(alloc, text, PRELUDE.len()) {
+        return Err(reader.refusal());
+    }
+    Ok(CFile { structs, funcs })
+}
+
+/// How many bytes the two begin with in common.
+fn shared_length(text: &[u8], other: &[u8]) -> usize
+    ensures text { result ≤ length text.now }
+    ensures other { result ≤ length other.now }
+    ensures same { (k : ℕ) → k < result → slice_index text.now k ≡ slice_index other.now k }
+    ensures differ { result < length text.now → result < length other.now → slice_index text.now result ≢ slice_index other.now result }
+{
+    let mut shared = 0;
+    while shared < text.len() && shared < other.len() && text[shared] == other[shared] {
+        shared += 1;
+    }
+    shared
+}

@@ -1,0 +1,223 @@
+//! Structs and functions.
+
+ghost use Rattle.std.specs.Prelude.{◌≡◌, [], ◌∷◌, ◌++◌, map, codes, IsTrue, IfOk, OnOk};
+ghost use Rattle.bl_tree.specs.Reduce.{all_of, joined};
+ghost use Rattle.bl_ctext.specs.Names.{is_name, is_function_name};
+ghost use Rattle.bl_ctext.specs.Spelling.{with_commas, type_tokens, length_tokens, member_tokens, struct_tokens, param_tokens, zero_tokens, local_tokens, returned_tokens, static_if, func_front, func_rest, func_tokens, stmt_tokens};
+ghost use Rattle.bl_ctext.specs.Spellable.{has_any, spells_type, spells_length, spells_member, spells_struct, spells_param, spells_local, spells_returned, spells_func, spells_stmt};
+
+use crate::parser::{MOST_OPEN, expr, literal, name, stmt};
+use crate::reader::Reader;
+use crate::refusal::CRefusal;
+use bl_tree::c::{CFunc, CLocal, CMember, CParam, CStmt, CStruct, CType};
+use bl_tree::{List, Scalar, Text};
+
+/// One struct or more.
+pub fn structs(r: &mut Reader<'_>) -> Result<List<CStruct>, CRefusal>
+    ensures { IfOk result (λ all. (r.old ≡ joined (map struct_tokens all) ++ r.new) × (IsTrue (has_any all) × IsTrue (all_of (map spells_struct all)))) }
+{
+    let mut structs = List::new(r.alloc());
+    structs.push(structure(r)?)?;
+    while r.sees("struct") {
+        structs.push(structure(r)?)?;
+    }
+    Ok(structs)
+}
+
+/// One function or more, up to the text's end.
+pub fn funcs(r: &mut Reader<'_>) -> Result<List<CFunc>, CRefusal>
+    ensures { IfOk result (λ all. (r.old ≡ joined (map func_tokens all)) × (IsTrue (has_any all) × IsTrue (all_of (map spells_func all)))) }
+{
+    let mut funcs = List::new(r.alloc());
+    funcs.push(func(r)?)?;
+    while !r.is_at_end() {
+        funcs.push(func(r)?)?;
+    }
+    Ok(funcs)
+}
+
+fn structure(r: &mut Reader<'_>) -> Result<CStruct, CRefusal>
+    ensures { IfOk result (λ s. (r.old ≡ struct_tokens s ++ r.new) × IsTrue (spells_struct s)) }
+{
+    let start = r.start();
+    r.take("struct")?;
+    let name = name::struct_name(r)?;
+    r.take("{")?;
+    let members = members(r)?;
+    r.take("}")?;
+    r.take(";")?;
+    Ok(CStruct {
+        place: r.place_from(start),
+        name,
+        members,
+    })
+}
+
+/// One member or more.
+fn members(r: &mut Reader<'_>) -> Result<List<CMember>, CRefusal>
+    ensures { IfOk result (λ all. (r.old ≡ joined (map member_tokens all) ++ r.new) × (IsTrue (has_any all) × IsTrue (all_of (map spells_member all)))) }
+{
+    let mut members = List::new(r.alloc());
+    members.push(member(r)?)?;
+    while !r.sees("}") {
+        members.push(member(r)?)?;
+    }
+    Ok(members)
+}
+
+fn member(r: &mut Reader<'_>) -> Result<CMember, CRefusal>
+    ensures { IfOk result (λ m. (r.old ≡ member_tokens m ++ r.new) × IsTrue (spells_member m)) }
+{
+    let ty = type_name(r)?;
+    let name = name::name(r)?;
+    let length = member_length(r)?;
+    r.take(";")?;
+    Ok(CMember { ty, name, length })
+}
+
+fn member_length(r: &mut Reader<'_>) -> Result<Option<u32>, CRefusal>
+    ensures { IfOk result (λ n. (r.old ≡ length_tokens n ++ r.new) × IsTrue (spells_length n)) }
+{
+    if !r.eat("[") {
+        return Ok(None);
+    }
+    let length = expr::length(r)?;
+    r.take("]")?;
+    Ok(Some(length))
+}
+
+fn type_name(r: &mut Reader<'_>) -> Result<CType, CRefusal>
+    ensures { IfOk result (λ ty. (r.old ≡ type_tokens ty ++ r.new) × IsTrue (spells_type ty)) }
+{
+    if r.eat("struct") {
+        return Ok(CType::Struct(name::struct_name(r)?));
+    }
+    Ok(CType::Scalar(literal::scalar(r)?))
+}
+
+fn func(r: &mut Reader<'_>) -> Result<CFunc, CRefusal>
+    ensures { IfOk result (λ f. (r.old ≡ func_tokens f ++ r.new) × IsTrue (spells_func f)) }
+{
+    let start = r.start();
+    let head = func_head(r)?;
+    let params = params(r)?;
+    r.take(")")?;
+    r.take("{")?;
+    let inside = func_body(r)?;
+    Ok(CFunc {
+        place: r.place_from(start),
+        fixed: head.fixed,
+        result: head.result,
+        name: head.name,
+        params,
+        locals: inside.locals,
+        body: inside.body,
+    })
+}
+
+/// What stands in the braces of a function.
+#[derive(Drop)]
+struct FuncBody {
+    locals: List<CLocal>,
+    body: List<CStmt>,
+}
+
+/// The locals and statements, and the brace behind them.
+fn func_body(r: &mut Reader<'_>) -> Result<FuncBody, CRefusal>
+    ensures { IfOk result (λ f. (r.old ≡ joined (map local_tokens f.locals) ++ (joined (map stmt_tokens f.body) ++ codes "}" ∷ []) ++ r.new) × (IsTrue (all_of (map spells_local f.locals)) × IsTrue (all_of (map spells_stmt f.body)))) }
+{
+    let locals = locals(r)?;
+    let body = stmt::stmts(r, MOST_OPEN - 1)?;
+    r.take("}")?;
+    Ok(FuncBody { locals, body })
+}
+
+/// A function up to its parameters.
+#[derive(Drop)]
+struct FuncHead {
+    fixed: bool,
+    result: Option<Scalar>,
+    name: Text,
+}
+
+fn func_head(r: &mut Reader<'_>) -> Result<FuncHead, CRefusal>
+    ensures { IfOk result (λ h. (r.old ≡ static_if h.fixed ++ (returned_tokens h.result ++ (h.name ∷ codes "(" ∷ [])) ++ r.new) × (IsTrue (spells_returned h.result) × IsTrue (is_function_name h.name))) }
+{
+    let fixed = r.eat("static");
+    let result = returned(r)?;
+    let name = name::function_name(r)?;
+    r.take("(")?;
+    Ok(FuncHead {
+        fixed,
+        result,
+        name,
+    })
+}
+
+fn returned(r: &mut Reader<'_>) -> Result<Option<Scalar>, CRefusal>
+    ensures { IfOk result (λ ty. (r.old ≡ returned_tokens ty ++ r.new) × IsTrue (spells_returned ty)) }
+{
+    if r.eat("void") {
+        return Ok(None);
+    }
+    Ok(Some(literal::scalar(r)?))
+}
+
+/// The parameters before a `)`.
+fn params(r: &mut Reader<'_>) -> Result<List<CParam>, CRefusal>
+    ensures { IfOk result (λ all. (r.old ≡ with_commas (map param_tokens all) ++ r.new) × IsTrue (all_of (map spells_param all))) }
+{
+    let mut params = List::new(r.alloc());
+    if r.sees(")") {
+        return Ok(params);
+    }
+    params.push(param(r)?)?;
+    while r.eat(",") {
+        params.push(param(r)?)?;
+    }
+    Ok(params)
+}
+
+fn param(r: &mut Reader<'_>) -> Result<CParam, CRefusal>
+    ensures { IfOk result (λ p. (r.old ≡ param_tokens p ++ r.new) × IsTrue (spells_param p)) }
+{
+    let ty = type_name(r)?;
+    let pointer = r.eat("*");
+    let name = name::name(r)?;
+    Ok(CParam { ty, pointer, name })
+}
+
+fn locals(r: &mut Reader<'_>) -> Result<List<CLocal>, CRefusal>
+    ensures { IfOk result (λ all. (r.old ≡ joined (map local_tokens all) ++ r.new) × IsTrue (all_of (map spells_local all))) }
+{
+    let mut locals = List::new(r.alloc());
+    while begins_local(r) {
+        locals.push(local(r)?)?;
+    }
+    Ok(locals)
+}
+
+fn begins_local(r: &Reader<'_>) -> bool {
+    r.sees("struct") || literal::scalar_of(r.piece()).is_some()
+}
+
+fn local(r: &mut Reader<'_>) -> Result<CLocal, CRefusal>
+    ensures { IfOk result (λ x. (r.old ≡ local_tokens x ++ r.new) × IsTrue (spells_local x)) }
+{
+    let ty = type_name(r)?;
+    let name = name::name(r)?;
+    r.take("=")?;
+    zero(r, &ty)?;
+    r.take(";")?;
+    Ok(CLocal { ty, name })
+}
+
+/// What a local of this type begins with.
+fn zero(r: &mut Reader<'_>, ty: &CType) -> Result<(), CRefusal>
+    ensures { OnOk result (r.old ≡ zero_tokens ty.now ++ r.new) }
+{
+    match ty {
+        CType::Scalar(_) => r.take("0"),
+        CType::Struct(_) => stmt::zeros(r),
+    }
+}

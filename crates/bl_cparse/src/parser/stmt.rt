@@ -1,0 +1,510 @@
+//! Statements. `room` is how many brackets may still be opened. Open braces are kept on a stack of our own, so that
+//! nested statements take no more of the machine's.
+
+ghost use Rattle.std.specs.Prelude.{◌≡◌, ◌<◌, [], ◌∷◌, ◌++◌, map, codes, length, IsTrue, IfOk, OnOk};
+ghost use Rattle.bl_tree.specs.Reduce.{all_of, joined};
+ghost use Rattle.bl_ctext.specs.Names.{is_name, is_callee, is_turn_name};
+ghost use Rattle.bl_ctext.specs.Spelling.{expr_tokens, place_tokens, root_tokens, ccall_tokens, stmt_tokens, stmt_kind_tokens, condition_tokens, turn_declared, turn_counted};
+ghost use Rattle.bl_ctext.specs.Spellable.{spells_expr, spells_place, spells_stmt, spells_stmt_kind, has_any};
+ghost use Rattle.bl_cparse.specs.Nest.{opened_tokens, frame_tokens, spells_frame, nest_tokens, spells_nest};
+
+use crate::parser::{expr, name};
+use crate::reader::Reader;
+use crate::refusal::CRefusal;
+use crate::{make, make_stmt};
+use bl_tree::c::{CExpr, CPlace, CStmt, CStmtKind};
+use bl_tree::{List, Text};
+use std::alloc::AllocError;
+
+/// The front of a statement up to its open brace.
+#[derive(Drop)]
+pub enum Opened {
+    /// The condition of an `if`.
+    Then(CExpr),
+    /// A condition, and the statements before its `else`.
+    Else(CExpr, List<CStmt>),
+    /// The name of a loop's turns, and its condition.
+    Turns(Text, CExpr),
+}
+
+/// An open brace, and what stands before it.
+#[derive(Drop)]
+pub struct Frame {
+    pub before: List<CStmt>,
+    /// Where the open statement begins, and the room there.
+    pub start: u32,
+    pub room: u32,
+    pub opened: Opened,
+}
+
+/// What is read of the statements of a function.
+#[derive(Drop)]
+pub struct Nest {
+    /// From the outermost brace on.
+    pub outer: Vec<Frame>,
+    /// The statements in the innermost one.
+    pub body: List<CStmt>,
+    pub room: u32,
+}
+
+/// The statements before a `}`.
+pub fn stmts(r: &mut Reader<'_>, room: u32) -> Result<List<CStmt>, CRefusal>
+    ensures { IfOk result (λ body. (r.old ≡ joined (map stmt_tokens body) ++ r.new) × IsTrue (all_of (map spells_stmt body))) }
+{
+    let mut nest = Nest {
+        outer: Vec::new(r.alloc()),
+        body: List::new(r.alloc()),
+        room,
+    };
+    while !(nest.outer.is_empty() && r.sees("}")) {
+        nest = further(r, nest)?;
+    }
+    Ok(nest.body)
+}
+
+/// One statement more, or the front or the end of one that holds others.
+fn further(r: &mut Reader<'_>, nest: Nest) -> Result<Nest, CRefusal>
+    requires { IsTrue (spells_nest nest) }
+    ensures read { IfOk result (λ next. (nest_tokens nest ++ r.old ≡ nest_tokens next ++ r.new) × IsTrue (spells_nest next)) }
+    ensures shorter { OnOk result (length r.new < length r.old) }
+{
+    if r.sees("}") {
+        let next = closed(r, nest)?;
+        Ok(next)
+    } else if r.sees("if") {
+        let next = opened_branch(r, nest)?;
+        Ok(next)
+    } else if r.sees("{") {
+        let next = opened_turns(r, nest)?;
+        Ok(next)
+    } else {
+        let next = one(r, nest)?;
+        Ok(next)
+    }
+}
+
+/// A statement that holds no others.
+fn one(r: &mut Reader<'_>, nest: Nest) -> Result<Nest, CRefusal>
+    requires { IsTrue (spells_nest nest) }
+    ensures read { IfOk result (λ next. (nest_tokens nest ++ r.old ≡ nest_tokens next ++ r.new) × IsTrue (spells_nest next)) }
+    ensures shorter { OnOk result (length r.new < length r.old) }
+{
+    let Nest { outer, body, room } = nest;
+    let start = r.start();
+    let what = simple(r, room)?;
+    let body = with(body, make_stmt::stmt(r.place_from(start), what))?;
+    Ok(Nest { outer, body, room })
+}
+
+/// The statements with one more.
+fn with(body: List<CStmt>, stmt: CStmt) -> Result<List<CStmt>, CRefusal>
+    ensures { IfOk result (λ longer. longer ≡ body ++ stmt ∷ []) }
+{
+    let mut body = body;
+    body.push(stmt)?;
+    Ok(body)
+}
+
+fn opened_branch(r: &mut Reader<'_>, nest: Nest) -> Result<Nest, CRefusal>
+    requires { IsTrue (spells_nest nest) }
+    ensures read { IfOk result (λ next. (nest_tokens nest ++ r.old ≡ nest_tokens next ++ r.new) × IsTrue (spells_nest next)) }
+    ensures shorter { OnOk result (length r.new < length r.old) }
+{
+    let Nest { outer, body, room } = nest;
+    if room == 0 {
+        return Err(r.refusal());
+    }
+    let start = r.start();
+    let test = branch_front(r, room - 1)?;
+    let frame = Frame {
+        before: body,
+        start,
+        room,
+        opened: Opened::Then(test),
+    };
+    let next = inside(r, outer, frame, room - 1)?;
+    Ok(next)
+}
+
+/// The front of an `if`, where so many brackets may be opened in its parts.
+fn branch_front(r: &mut Reader<'_>, room: u32) -> Result<CExpr, CRefusal>
+    ensures { IfOk result (λ test. (r.old ≡ opened_tokens (Opened.Then test) ++ r.new) × IsTrue (spells_expr test)) }
+{
+    r.take("if")?;
+    let test = condition(r, room)?;
+    r.take("{")?;
+    Ok(test)
+}
+
+/// The inside of a brace that is opened.
+fn inside(r: &Reader<'_>, outer: Vec<Frame>, frame: Frame, room: u32) -> Result<Nest, CRefusal>
+    requires outer { IsTrue (all_of (map spells_frame outer.items)) }
+    requires frame { IsTrue (spells_frame frame) }
+    ensures { IfOk result (λ next. (nest_tokens next ≡ joined (map frame_tokens outer.items) ++ frame_tokens frame) × IsTrue (spells_nest next)) }
+{
+    let mut outer = outer;
+    match outer.push(frame) {
+        Ok(()) => Ok(Nest {
+            outer,
+            body: List::new(r.alloc()),
+            room,
+        }),
+        Err(failed) => Err(AllocError::from(failed).into()),
+    }
+}
+
+fn opened_turns(r: &mut Reader<'_>, nest: Nest) -> Result<Nest, CRefusal>
+    requires { IsTrue (spells_nest nest) }
+    ensures read { IfOk result (λ next. (nest_tokens nest ++ r.old ≡ nest_tokens next ++ r.new) × IsTrue (spells_nest next)) }
+    ensures shorter { OnOk result (length r.new < length r.old) }
+{
+    let Nest { outer, body, room } = nest;
+    if room < 2 {
+        return Err(r.refusal());
+    }
+    let start = r.start();
+    let front = turns_front(r, room - 2)?;
+    let frame = Frame {
+        before: body,
+        start,
+        room,
+        opened: Opened::Turns(front.turn, front.test),
+    };
+    let next = inside(r, outer, frame, room - 2)?;
+    Ok(next)
+}
+
+/// The name of a loop's turns, and its condition.
+#[derive(Drop)]
+struct TurnsFront {
+    turn: Text,
+    test: CExpr,
+}
+
+/// The front of a loop, where so many brackets may be opened in its parts.
+#[tactic(auto, using(crate::proofs::TokenLemmas::turn_name_any))]
+fn turns_front(r: &mut Reader<'_>, room: u32) -> Result<TurnsFront, CRefusal>
+    ensures { IfOk result (λ front. (r.old ≡ opened_tokens (Opened.Turns front.turn front.test) ++ r.new) × (IsTrue (is_turn_name front.turn) × IsTrue (spells_expr front.test))) }
+{
+    let turn = declared_turn(r)?;
+    let test = condition(r, room)?;
+    counted_turn(r, turn.as_str())?;
+    Ok(TurnsFront { turn, test })
+}
+
+/// The end of the innermost brace.
+fn closed(r: &mut Reader<'_>, nest: Nest) -> Result<Nest, CRefusal>
+    requires { IsTrue (spells_nest nest) }
+    ensures read { IfOk result (λ next. (nest_tokens nest ++ r.old ≡ nest_tokens next ++ r.new) × IsTrue (spells_nest next)) }
+    ensures shorter { OnOk result (length r.new < length r.old) }
+{
+    let Nest {
+        mut outer,
+        body,
+        room,
+    } = nest;
+    match outer.pop() {
+        Some(frame) => {
+            let next = closed_frame(r, outer, frame, body, room)?;
+            Ok(next)
+        }
+        None => Err(r.refusal()),
+    }
+}
+
+/// The end of this brace, with the statements in it and the room there.
+fn closed_frame(
+    r: &mut Reader<'_>,
+    outer: Vec<Frame>,
+    frame: Frame,
+    body: List<CStmt>,
+    room: u32,
+) -> Result<Nest, CRefusal>
+    requires outer { IsTrue (all_of (map spells_frame outer.items)) }
+    requires frame { IsTrue (spells_frame frame) }
+    requires body { IsTrue (all_of (map spells_stmt body)) }
+    ensures read { IfOk result (λ next. (joined (map frame_tokens outer.items) ++ (frame_tokens frame ++ (joined (map stmt_tokens body) ++ r.old)) ≡ nest_tokens next ++ r.new) × IsTrue (spells_nest next)) }
+    ensures shorter { OnOk result (length r.new < length r.old) }
+{
+    let place = Outside {
+        before: frame.before,
+        start: frame.start,
+        room: frame.room,
+    };
+    match frame.opened {
+        Opened::Then(test) => {
+            let next = closed_then(r, outer, place, test, body, room)?;
+            Ok(next)
+        }
+        Opened::Else(test, then_part) => {
+            let next = closed_else(r, outer, place, Parts { test, then_part }, body)?;
+            Ok(next)
+        }
+        Opened::Turns(turn, test) => {
+            let next = closed_turns(r, outer, place, TurnsFront { turn, test }, body)?;
+            Ok(next)
+        }
+    }
+}
+
+/// What stands before a statement, where it begins, and the room there.
+#[derive(Drop)]
+struct Outside {
+    before: List<CStmt>,
+    start: u32,
+    room: u32,
+}
+
+/// The condition of an `if` and the statements before its `else`.
+#[derive(Drop)]
+struct Parts {
+    test: CExpr,
+    then_part: List<CStmt>,
+}
+
+/// The end of the first part of an `if`, and the front of the second where there is one.
+fn closed_then(
+    r: &mut Reader<'_>,
+    outer: Vec<Frame>,
+    place: Outside,
+    test: CExpr,
+    body: List<CStmt>,
+    room: u32,
+) -> Result<Nest, CRefusal>
+    requires outer { IsTrue (all_of (map spells_frame outer.items)) }
+    requires before { IsTrue (all_of (map spells_stmt place.before)) }
+    requires test { IsTrue (spells_expr test) }
+    requires body { IsTrue (all_of (map spells_stmt body)) }
+    ensures read { IfOk result (λ next. (joined (map frame_tokens outer.items) ++ ((joined (map stmt_tokens place.before) ++ opened_tokens (Opened.Then test)) ++ (joined (map stmt_tokens body) ++ r.old)) ≡ nest_tokens next ++ r.new) × IsTrue (spells_nest next)) }
+    ensures shorter { OnOk result (length r.new < length r.old) }
+{
+    r.take("}")?;
+    if !r.eat("else") {
+        let what = make_stmt::branch(test, body);
+        let next = ended(r, outer, place, what)?;
+        return Ok(next);
+    }
+    r.take("{")?;
+    let frame = Frame {
+        before: place.before,
+        start: place.start,
+        room: place.room,
+        opened: Opened::Else(test, body),
+    };
+    let next = inside(r, outer, frame, room)?;
+    Ok(next)
+}
+
+fn closed_else(
+    r: &mut Reader<'_>,
+    outer: Vec<Frame>,
+    place: Outside,
+    parts: Parts,
+    body: List<CStmt>,
+) -> Result<Nest, CRefusal>
+    requires outer { IsTrue (all_of (map spells_frame outer.items)) }
+    requires before { IsTrue (all_of (map spells_stmt place.before)) }
+    requires test { IsTrue (spells_expr parts.test) }
+    requires then_part { IsTrue (all_of (map spells_stmt parts.then_part)) }
+    requires body { IsTrue (all_of (map spells_stmt body)) }
+    ensures read { IfOk result (λ next. (joined (map frame_tokens outer.items) ++ ((joined (map stmt_tokens place.before) ++ opened_tokens (Opened.Else parts.test parts.then_part)) ++ (joined (map stmt_tokens body) ++ r.old)) ≡ nest_tokens next ++ r.new) × IsTrue (spells_nest next)) }
+    ensures shorter { OnOk result (length r.new < length r.old) }
+{
+    r.take("}")?;
+    let what = make_stmt::branches(parts.test, parts.then_part, body);
+    let next = ended(r, outer, place, what)?;
+    Ok(next)
+}
+
+fn closed_turns(
+    r: &mut Reader<'_>,
+    outer: Vec<Frame>,
+    place: Outside,
+    front: TurnsFront,
+    body: List<CStmt>,
+) -> Result<Nest, CRefusal>
+    requires outer { IsTrue (all_of (map spells_frame outer.items)) }
+    requires before { IsTrue (all_of (map spells_stmt place.before)) }
+    requires turn { IsTrue (is_turn_name front.turn) }
+    requires test { IsTrue (spells_expr front.test) }
+    requires body { IsTrue (all_of (map spells_stmt body)) }
+    ensures read { IfOk result (λ next. (joined (map frame_tokens outer.items) ++ ((joined (map stmt_tokens place.before) ++ opened_tokens (Opened.Turns front.turn front.test)) ++ (joined (map stmt_tokens body) ++ r.old)) ≡ nest_tokens next ++ r.new) × IsTrue (spells_nest next)) }
+    ensures shorter { OnOk result (length r.new < length r.old) }
+{
+    r.take("}")?;
+    r.take("}")?;
+    let what = make_stmt::turns(front.turn, front.test, body);
+    let next = ended(r, outer, place, what)?;
+    Ok(next)
+}
+
+/// The statements outside of a brace, with the one that it closed.
+fn ended(
+    r: &Reader<'_>,
+    outer: Vec<Frame>,
+    place: Outside,
+    what: CStmtKind,
+) -> Result<Nest, CRefusal>
+    requires outer { IsTrue (all_of (map spells_frame outer.items)) }
+    requires before { IsTrue (all_of (map spells_stmt place.before)) }
+    requires what { IsTrue (spells_stmt_kind what) }
+    ensures { IfOk result (λ next. (nest_tokens next ≡ joined (map frame_tokens outer.items) ++ (joined (map stmt_tokens place.before) ++ stmt_kind_tokens what)) × IsTrue (spells_nest next)) }
+{
+    let stmt = make_stmt::stmt(r.place_from(place.start), what);
+    let body = with(place.before, stmt)?;
+    Ok(Nest {
+        outer,
+        body,
+        room: place.room,
+    })
+}
+
+fn simple(r: &mut Reader<'_>, room: u32) -> Result<CStmtKind, CRefusal>
+    ensures { IfOk result (λ k. (r.old ≡ stmt_kind_tokens k ++ r.new) × IsTrue (spells_stmt_kind k)) }
+{
+    if r.eat("break") {
+        r.take(";")?;
+        return Ok(make_stmt::stop());
+    }
+    if r.eat("return") {
+        return returned(r, room);
+    }
+    if r.sees("(") {
+        let name = expr::star(r, room)?;
+        return set(r, true, name, room);
+    }
+    let first = expr::leading_name(r, room)?;
+    if first.is_call {
+        called(r, first.name, room)
+    } else {
+        set(r, false, first.name, room)
+    }
+}
+
+fn returned(r: &mut Reader<'_>, room: u32) -> Result<CStmtKind, CRefusal>
+    ensures { IfOk result (λ k. (codes "return" ∷ r.old ≡ stmt_kind_tokens k ++ r.new) × IsTrue (spells_stmt_kind k)) }
+{
+    if r.eat(";") {
+        return Ok(make_stmt::give(None));
+    }
+    let value = expr::expr(r, room)?;
+    r.take(";")?;
+    Ok(make_stmt::give(Some(value)))
+}
+
+fn called(r: &mut Reader<'_>, name: Text, room: u32) -> Result<CStmtKind, CRefusal>
+    requires { IsTrue (is_callee name) }
+    ensures { IfOk result (λ k. (name ∷ r.old ≡ stmt_kind_tokens k ++ r.new) × IsTrue (spells_stmt_kind k)) }
+{
+    let call = expr::call(r, name, room)?;
+    r.take(";")?;
+    Ok(make_stmt::call(call))
+}
+
+/// What is assigned to a place whose root is read.
+fn set(r: &mut Reader<'_>, through: bool, name: Text, room: u32) -> Result<CStmtKind, CRefusal>
+    requires { IsTrue (is_name name) }
+    ensures { IfOk result (λ k. (root_tokens through name ++ r.old ≡ stmt_kind_tokens k ++ r.new) × IsTrue (spells_stmt_kind k)) }
+{
+    let at = expr::place(r, through, name, room)?;
+    assigned(r, at, room)
+}
+
+fn assigned(r: &mut Reader<'_>, at: CPlace, room: u32) -> Result<CStmtKind, CRefusal>
+    requires { IsTrue (spells_place at) }
+    ensures { IfOk result (λ k. (place_tokens at ++ r.old ≡ stmt_kind_tokens k ++ r.new) × IsTrue (spells_stmt_kind k)) }
+{
+    r.take("=")?;
+    if r.sees("(") {
+        return bracketed(r, at, room);
+    }
+    let value = expr::expr(r, room)?;
+    stored(r, at, value)
+}
+
+/// What is assigned, where it begins with a parenthesis.
+fn bracketed(r: &mut Reader<'_>, at: CPlace, room: u32) -> Result<CStmtKind, CRefusal>
+    requires { IsTrue (spells_place at) }
+    ensures { IfOk result (λ k. (place_tokens at ++ codes "=" ∷ r.old ≡ stmt_kind_tokens k ++ r.new) × IsTrue (spells_stmt_kind k)) }
+{
+    if room == 0 {
+        return Err(r.refusal());
+    }
+    let start = r.start();
+    r.take("(")?;
+    if r.eat("struct") {
+        return cleared(r, at);
+    }
+    let what = expr::bracketed(r, room - 1)?;
+    let value = make::expr(r.place_from(start), what);
+    stored(r, at, value)
+}
+
+fn stored(r: &mut Reader<'_>, at: CPlace, value: CExpr) -> Result<CStmtKind, CRefusal>
+    requires at { IsTrue (spells_place at) }
+    requires value { IsTrue (spells_expr value) }
+    ensures { IfOk result (λ k. (place_tokens at ++ codes "=" ∷ (expr_tokens value ++ r.old) ≡ stmt_kind_tokens k ++ r.new) × IsTrue (spells_stmt_kind k)) }
+{
+    r.take(";")?;
+    Ok(make_stmt::set(at, value))
+}
+
+/// What follows `(struct` where a place is set to zeros.
+fn cleared(r: &mut Reader<'_>, at: CPlace) -> Result<CStmtKind, CRefusal>
+    requires { IsTrue (spells_place at) }
+    ensures { IfOk result (λ k. (place_tokens at ++ codes "=" ∷ codes "(" ∷ codes "struct" ∷ r.old ≡ stmt_kind_tokens k ++ r.new) × IsTrue (spells_stmt_kind k)) }
+{
+    let of = name::struct_name(r)?;
+    r.take(")")?;
+    zeros(r)?;
+    r.take(";")?;
+    Ok(make_stmt::clear(at, of))
+}
+
+/// A struct of zeros.
+pub fn zeros(r: &mut Reader<'_>) -> Result<(), CRefusal>
+    ensures { OnOk result (r.old ≡ codes "{" ∷ codes "0" ∷ codes "}" ∷ r.new) }
+{
+    r.take("{")?;
+    r.take("0")?;
+    r.take("}")
+}
+
+/// A condition in its parentheses, where so many brackets may be opened in it.
+fn condition(r: &mut Reader<'_>, room: u32) -> Result<CExpr, CRefusal>
+    ensures { IfOk result (λ test. (r.old ≡ condition_tokens test ++ r.new) × IsTrue (spells_expr test)) }
+{
+    r.take("(")?;
+    let test = expr::expr(r, room)?;
+    r.take(")")?;
+    Ok(test)
+}
+
+/// The front of a loop, and the name of its turns.
+fn declared_turn(r: &mut Reader<'_>) -> Result<Text, CRefusal>
+    ensures { IfOk result (λ turn. (r.old ≡ turn_declared turn ++ r.new) × IsTrue (is_turn_name turn)) }
+{
+    r.take("{")?;
+    r.take("uint32_t")?;
+    let turn = name::turn_name(r)?;
+    r.take("=")?;
+    r.take("0")?;
+    r.take(";")?;
+    r.take("while")?;
+    Ok(turn)
+}
+
+/// The front of a loop's body.
+fn counted_turn(r: &mut Reader<'_>, turn: &str) -> Result<(), CRefusal>
+    requires { IsTrue (has_any turn.now) }
+    ensures { OnOk result (r.old ≡ turn_counted turn.now ++ r.new) }
+{
+    r.take("{")?;
+    r.take(turn)?;
+    r.take("=")?;
+    r.take("bl_turn")?;
+    r.take("(")?;
+    r.take(turn)?;
+    r.take(")")?;
+    r.take(";")
+}

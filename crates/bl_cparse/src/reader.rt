@@ -1,0 +1,159 @@
+//! A text behind its prelude, read from its front on.
+
+ghost use Rattle.std.specs.Prelude.{◌≡◌, ◌≤◌, true, false, List, [], ◌∷◌, length, drop, IsTrue, IfOk, IfSome, OnOk};
+ghost use Rattle.bl_ctext.specs.Spellable.{has_any};
+ghost use Rattle.bl_cparse.specs.Pieces.{pieces, first_of, is_same};
+
+use crate::piece::next_piece;
+use crate::refusal::CRefusal;
+use bl_tree::{Place, Text};
+use std::alloc::{AllocError, Global};
+use std::marker::Model;
+
+/// What is left to read. Contracts see the pieces.
+#[derive(Drop)]
+pub struct Reader<'a> {
+    alloc: Global,
+    text: &'a [u8],
+    /// Where the next piece stands; both are the text's length where none is left.
+    start: usize,
+    end: usize,
+    /// Where the piece ends that was read last.
+    last: usize,
+}
+
+impl<'a> Model for Reader<'a> {
+    ghost use Rattle.std.specs.Prelude.{ℕ, List};
+    ghost use Rattle.bl_cparse.specs.Pieces.{left_of, IsAt};
+
+    ghost Value = { List (List ℕ) };
+
+    ghost view = { λ r. left_of r.text.now r.start r.end };
+
+    ghost invariant = { λ r. IsAt r.text.now r.start r.end r.last };
+}
+
+impl<'a> Reader<'a> {
+    pub fn new(alloc: Global, text: &'a [u8], at: usize) -> Reader<'a>
+        requires short { length text.now ≤ 67108864 }
+        requires inside { at ≤ length text.now }
+        ensures { result ≡ pieces (drop at text.now) }
+    {
+        let first = next_piece(text, at);
+        Reader {
+            alloc,
+            text,
+            start: first.start,
+            end: first.end,
+            last: at,
+        }
+    }
+
+    pub fn alloc(&self) -> Global {
+        self.alloc
+    }
+
+    pub fn is_at_end(&self) -> bool
+        ensures { IsTrue result → self.now ≡ [] }
+    {
+        self.start == self.end
+    }
+
+    /// Where the next piece begins, the text's length where none is left.
+    pub fn start(&self) -> u32 {
+        self.start as u32
+    }
+
+    /// The place from an offset up to the end of what was read last.
+    pub fn place_from(&self, start: u32) -> Place {
+        Place {
+            start,
+            end: self.last as u32,
+        }
+    }
+
+    /// The refusal of a text in which the next piece can't stand.
+    pub fn refusal(&self) -> CRefusal {
+        CRefusal::NotSubset { at: self.start() }
+    }
+
+    /// The bytes of the next piece; no bytes where none is left.
+    pub fn piece(&self) -> &[u8]
+        ensures { result.now ≡ first_of self.now }
+    {
+        &self.text[self.start..self.end]
+    }
+
+    pub fn sees(&self, what: &str) -> bool
+        ensures { result ≡ is_same (first_of self.now) what.now }
+    {
+        self.piece() == what.as_bytes()
+    }
+
+    /// Goes on behind the next piece.
+    fn pass(&mut self)
+        ensures { self.new ≡ drop 1 self.old }
+    {
+        self.last = self.end;
+        let next = next_piece(self.text, self.end);
+        self.start = next.start;
+        self.end = next.end;
+    }
+
+    /// Goes on behind the next piece, of which there is one.
+    pub fn skip(&mut self)
+        requires { IsTrue (has_any (first_of self.old)) }
+        ensures { self.old ≡ first_of self.old ∷ self.new }
+    {
+        self.pass();
+    }
+
+    /// Passes the next piece where it is this one.
+    pub fn eat(&mut self, what: &str) -> bool
+        requires { IsTrue (has_any what.now) }
+        ensures yes { IsTrue result → self.old ≡ what.now ∷ self.new }
+        ensures no { result ≡ false → self.new ≡ self.old }
+    {
+        let seen = self.sees(what);
+        if seen {
+            self.pass();
+        }
+        seen
+    }
+
+    /// Passes the next piece, which is this one.
+    pub fn take(&mut self, what: &str) -> Result<(), CRefusal>
+        requires { IsTrue (has_any what.now) }
+        ensures { OnOk result (self.old ≡ what.now ∷ self.new) }
+    {
+        if self.eat(what) {
+            Ok(())
+        } else {
+            Err(self.refusal())
+        }
+    }
+
+    /// Passes the next piece, and answers a copy of it.
+    pub fn copy(&mut self) -> Result<Text, CRefusal>
+        requires { IsTrue (has_any (first_of self.old)) }
+        ensures { IfOk result (λ t. self.old ≡ t ∷ self.new) }
+    {
+        match text_of(self.alloc, self.piece())? {
+            Some(text) => {
+                self.pass();
+                Ok(text)
+            }
+            None => Err(self.refusal()),
+        }
+    }
+}
+
+/// A copy of the bytes, where they are a text.
+fn text_of(alloc: Global, bytes: &[u8]) -> Result<Option<Text>, AllocError>
+    ensures { IfOk result (λ found. IfSome found (λ text. text ≡ bytes.now)) }
+{
+    match str::from_utf8(bytes) {
+        Ok(text) => Ok(Some(Text::copy_of(alloc, text)?)),
+        Err(_) => Ok(None),
+    }
+}
