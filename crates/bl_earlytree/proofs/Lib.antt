@@ -1,0 +1,10 @@
+pub mod Acts
+pub mod Bounds
+pub mod Numbers
+pub mod OneThreaded
+pub mod Programs
+pub mod Simulation
+pub mod Ticks
+pub mod Traces
+pub mod Values
+pub mod Waking
