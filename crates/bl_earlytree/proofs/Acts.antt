@@ -29,7 +29,7 @@ use Rattle.bl_eval.proofs.ExprFits.{Sound}
 use Rattle.bl_eval.proofs.PassLemmas.{and_left, and_right}
 use Rattle.bl_effects.specs.declared.static_path.Static.{Static}
 use Rattle.bl_effects.specs.Effects.{writes}
-use Rattle.bl_effects.specs.Static.{static_of, whole}
+use Rattle.bl_effects.specs.Static.{Reach, reach_of, static_of, whole}
 use Rattle.bl_ctree.specs.Actions.{Action, Acts, Asks, Performed, acted_kind, action, done, is_true_value, outcome_there, perform, value_there}
 use Rattle.bl_ctree.specs.Instances.{Setting}
 use Rattle.bl_ctree.specs.Positions.{Located, kind_of, stmt_kind}
@@ -166,9 +166,9 @@ module _ (unit : UnitDef) where
     writes_is : (s : Stmt) (k : ℕ) (source : Source) (p : IsSet s k source) → writes s ≡ whole k ∷ []
     writes_is s k source p =
         let by_path : writes (stmt (out-Stmt s).place (StmtKind-F.Assign p.path p.e)) ≡ static_of p.path ∷ [] = rw (fold-roll-Stmt, fold-roll-StmtKind) refl in
-        let static : static_of (path_to (out-Path p.path).place k (out-Path p.path).ty) ≡ whole k = rw fold-roll-Path refl in
+        let reach : reach_of (path_to (out-Path p.path).place k (out-Path p.path).ty) ≡ record { static = whole k; indices = [] } = rw fold-roll-Path refl in
         ap writes (sym (stmt_whole s (StmtKind-F.Assign p.path p.e) p.kind)) ∙ by_path
-        ∙ ap (λ path. static_of path ∷ []) (sym (variable_whole p.path k p.is_variable)) ∙ ap (λ static. static ∷ []) static
+        ∙ ap (λ path. static_of path ∷ []) (sym (variable_whole p.path k p.is_variable)) ∙ ap (λ (reach : Reach). reach.static ∷ []) reach
 
     assign_typed : (s : Stmt) (path : Path) (e : Expr) → stmt_kind s ≡ StmtKind-F.Assign path e → fits site s ≡ true → (ty : Ty) × (type_of_path site path ≡ Some ty) × (type_of site e ≡ Some ty)
     assign_typed s path e kind fit =

@@ -10,7 +10,6 @@ use Rattle.bl_ctree.specs.Actions.{Action, Acts, Asks, Silent, action}
 use Rattle.bl_ctree.specs.Control.{Control, Nil, Wait, Test, Idle, Do, Seq, do_all, is_settled, seq, woken}
 use Rattle.bl_ctree.specs.Instances.{Setting}
 use Rattle.bl_ctree.specs.Means.{entry_items}
-use Rattle.bl_ctree.specs.Points.{Point, points}
 use Rattle.bl_ctree.specs.Positions.{Begin, Item as Following, Located, kind_of, none_left}
 use Rattle.bl_ctree.specs.Reaches.{Reaches, ReachesInside, after_tick, at_first}
 use Rattle.bl_ctree.specs.Steps.{IsStill, Moves, turn_items}
@@ -19,8 +18,9 @@ use Rattle.bl_ctree.specs.Ticks.{End, Rests, Steps, none, step, traps}
 use Rattle.bl_ctree.proofs.ItemLemmas.{followed_some}
 use Rattle.bl_early.specs.Form.{Item, Source, Step, Set, Pause, is_pause, step_of, steps_of}
 use Rattle.bl_earlytree.proofs.Acts.{is_pause_of, is_set}
-use Rattle.bl_earlytree.proofs.OneThreaded.{may_move, no_move, sole}
-use Rattle.bl_earlytree.proofs.Ticks.{Follow, at_loop, at_step, block_follows, do_first, loop_point, pause_point, set_point, some_follow, test_point}
+use Rattle.bl_earlytree.proofs.OneThreaded.{Only, may_move, repeat_only, wait_is_still}
+use Rattle.bl_earlytree.proofs.Simulation.{tree_is}
+use Rattle.bl_earlytree.proofs.Ticks.{Follow, at_loop, at_step, block_follows, do_first, pause_only, set_only, some_follow, woken_only}
 
 module _ (w : Setting) (site : Site) (loop : Located) (body : List Stmt) (steps : List Step) (loop_kind : kind_of loop ≡ StmtKind-F.Repeat body) (body_steps : steps_of body ≡ Some steps)
     (body_fits : all_of (map (fits site) body) ≡ true) (some_pause : list_any is_pause steps ≡ true) where
@@ -32,7 +32,7 @@ module _ (w : Setting) (site : Site) (loop : Located) (body : List Stmt) (steps 
         length rest ≤ length steps → Waiting (Seq (Wait s) items)
 
   -- the trees inside a tick, with how many steps there can still be in it
-  data Inside (n : ℕ) (c : Control) : Type 0 where
+  pub data Inside (n : ℕ) (c : Control) : Type 0 where
     -- in a turn that pauses
     in_turn : {items : List Following} {rest : List Step} → c ≡ do_all items → Follow site loop items rest → list_any is_pause rest ≡ true →
         length rest ≤ length steps → length rest ≤ n → Inside n c
@@ -45,45 +45,45 @@ module _ (w : Setting) (site : Site) (loop : Located) (body : List Stmt) (steps 
         length rest ≤ length steps → Inside n c
 
   -- what can follow
-  data Next (n : ℕ) (c : Control) : Type 0 where
-    nothing : points w 0 c ≡ [] → is_settled c ≡ true → Waiting c → Next n c
-    one_more : (p : Point Control) → points w 0 c ≡ p ∷ [] → (m : ℕ) → suc m ≤ n → ((d : Bool) → Inside m (p.after d)) → Next n c
+  pub data Next (n : ℕ) (c : Control) : Type 0 where
+    nothing : IsStill w c → is_settled c ≡ true → Waiting c → Next n c
+    one_more : (a : Action) (after : Bool → Control) → Only w c a after → (m : ℕ) → suc m ≤ n → ((d : Bool) → Inside m (after d)) → Next n c
 
   -- the next step of a turn, where what is left of the turn is inside
   next_step : (n m : ℕ) (s : Located) (st : Step) (items : List Following) (rest : List Step) → step_of s.stmt ≡ Some st → Follow site loop items rest → length (st ∷ rest) ≤ length steps → suc m ≤ n →
       (is_pause st ≡ false → Inside m (do_all items)) → Next n (Seq (Do s) items)
   next_step n m s (Set k source) items rest is more short less inside =
-      one_more (record { action = action 0 s (Acts s.stmt); path = []; after = λ d. do_all items }) (set_point w s items k source (is_set s.stmt k source is)) m less (λ d. inside refl)
+      one_more (action 0 s (Acts s.stmt)) (λ d. do_all items) (set_only w s items k source (is_set s.stmt k source is)) m less (λ d. inside refl)
   next_step n m s (Pause item) items rest is more short less inside =
-      one_more (record { action = action 0 s Silent; path = []; after = λ d. Seq (Wait s) items }) (pause_point w s items item (is_pause_of s.stmt item is) (some_follow more)) m less
+      one_more (action 0 s Silent) (λ d. Seq (Wait s) items) (pause_only w s items item (is_pause_of s.stmt item is) (some_follow more)) m less
       (λ d. paused_there refl is more (omega arith))
 
   next_again : (n : ℕ) → suc (length steps) ≤ n → Next n (Do loop)
   next_again n enough =
-      one_more (record { action = action 0 loop Silent; path = []; after = λ d. do_all (turn_items loop body (Begin loop)) }) (loop_point w loop body loop_kind) (length steps) enough
+      one_more (action 0 loop Silent) (λ d. do_all (turn_items loop body (Begin loop))) (repeat_only w loop body loop_kind) (length steps) enough
       (λ d. in_turn refl (block_follows site loop (loop.position ++ 0 ∷ []) 0 body steps body_steps body_fits) some_pause (omega arith) (omega arith))
 
   false_or : (a b : Bool) → a ≡ false → (a || b) ≡ true → b ≡ true
-  false_or true b no some = absurd cc
-  false_or false b no some = some
+  false_or true b isnt some = absurd cc
+  false_or false b isnt some = some
 
   next_in_turn : {items : List Following} {rest : List Step} (n : ℕ) → Follow site loop items rest → list_any is_pause rest ≡ true → length rest ≤ length steps → length rest ≤ n → Next n (do_all items)
   next_in_turn n at_loop some short enough = absurd cc
-  next_in_turn n (at_step {s} {st} {items} {rest} is fit more) some short enough =
+  next_in_turn n (at_step {s} {step = st} {items} {rest} is fit more) some short enough =
       subst (Next n) (sym (do_first s items (some_follow more)))
-      (next_step n (length rest) s st items rest is more short enough (λ no. in_turn refl more (false_or (is_pause st) (list_any is_pause rest) no some) (omega arith) (omega arith)))
+      (next_step n (length rest) s st items rest is more short enough (λ isnt. in_turn refl more (false_or (is_pause st) (list_any is_pause rest) isnt some) (omega arith) (omega arith)))
 
   next_before_turn : {items : List Following} {rest : List Step} (n : ℕ) → Follow site loop items rest → length rest ≤ length steps → length rest + suc (length steps) ≤ n → Next n (do_all items)
   next_before_turn n at_loop short enough = next_again n (omega arith)
-  next_before_turn n (at_step {s} {st} {items} {rest} is fit more) short enough =
+  next_before_turn n (at_step {s} {step = st} {items} {rest} is fit more) short enough =
       subst (Next n) (sym (do_first s items (some_follow more)))
-      (next_step n (length rest + suc (length steps)) s st items rest is more short (omega arith) (λ no. before_turn refl more (omega arith) (omega arith)))
+      (next_step n (length rest + suc (length steps)) s st items rest is more short (omega arith) (λ isnt. before_turn refl more (omega arith) (omega arith)))
 
   next_test : (n : ℕ) (s : Located) (item : Item) (items : List Following) (rest : List Step) → step_of s.stmt ≡ Some (Pause item) → Follow site loop items rest →
       length rest ≤ length steps → suc (length rest + suc (length steps)) ≤ n → Next n (Seq (Test s) items)
   next_test n s item items rest is more short enough =
       let p = is_pause_of s.stmt item is in
-      one_more (record { action = action 0 s (Asks p.e); path = []; after = λ d. seq (if d then Nil else Wait s) items }) (test_point w s items item p) (length rest + suc (length steps)) enough after
+      one_more (action 0 s (Asks p.e)) (λ d. seq (if d then Nil else Wait s) items) (woken_only w s items item p) (length rest + suc (length steps)) enough after
     where
       after : (d : Bool) → Inside (length rest + suc (length steps)) (seq (if d then Nil else Wait s) items)
       after true = before_turn refl more short (omega arith)
@@ -93,7 +93,7 @@ module _ (w : Setting) (site : Site) (loop : Located) (body : List Stmt) (steps 
   next {n} (in_turn is more some short enough) = subst (Next n) (sym is) (next_in_turn n more some short enough)
   next {n} (before_turn is more short enough) = subst (Next n) (sym is) (next_before_turn n more short enough)
   next {n} (woken_there {s} {item} {items} {rest} is pause more short enough) = subst (Next n) (sym is) (next_test n s item items rest pause more short enough)
-  next {n} (paused_there is pause more short) = subst (Next n) (sym is) (nothing refl refl (at_pause pause more short))
+  next {n} (paused_there {s} {items = items} is pause more short) = subst (Next n) (sym is) (nothing (wait_is_still w s items) refl (at_pause pause more short))
 
   -- what a move leads to
   record Left (n : ℕ) (c : Control) : Type 0 where
@@ -102,9 +102,8 @@ module _ (w : Setting) (site : Site) (loop : Located) (body : List Stmt) (steps 
     inside : Inside count c
 
   move_inside : {n : ℕ} {c : Control} {d : Bool} {a : Action} {c' : Control} → Next n c → Moves w 0 c d a c' → Left n c'
-  move_inside {c = c} {d} {a} {c'} (nothing none_listed settled waiting) move = absurd (no_move none_listed move)
-  move_inside {d = d} (one_more p one m less inside) move =
-      record { count = m; fewer = less; inside = subst (Inside m) (sole one move).leads (inside d) }
+  move_inside {d = d} {a} {c'} (nothing still settled waiting) move = absurd (still d a c' move)
+  move_inside {d = d} {a} {c'} (one_more b after one m less inside) move = record { count = m; fewer = less; inside = subst (Inside m) (one.only d a c' move).1 (inside d) }
 
   -- a list of steps is no longer
   bounded : {c : Control} {store : Store} {actions : List Action} {end : End} → Steps w c store actions end → (n : ℕ) → Inside n c → length actions ≤ n
@@ -119,20 +118,20 @@ module _ (w : Setting) (site : Site) (loop : Located) (body : List Stmt) (steps 
 
   leads_inside : {c : Control} {store : Store} {actions : List Action} {end : End} → Steps w c store actions end → (n : ℕ) → Inside n c →
       (c' : Control) (store' : Store) → end ≡ Rests c' store' → Found end c' store'
-  leads_inside none n inside c' store' is = record { count = n; inside = subst (Inside n) cc inside }
+  leads_inside none n inside c' store' is = record { count = n; inside = subst (Inside n) (tree_is is) inside }
   leads_inside (traps t) n inside c' store' is = absurd cc
   leads_inside (step s more) n inside c' store' is =
       let left = move_inside (next inside) s.moves in
       let found = leads_inside more left.count left.inside c' store' is in record { count = found.count; inside = found.inside }
 
   -- where nothing may act nothing is left to do
-  pub settled : {n : ℕ} {c : Control} → Next n c → IsStill w c → is_settled c ≡ true
-  settled (nothing none_listed is waiting) still = is
-  settled (one_more p one m less inside) still = absurd (may_move one still)
+  settled : {n : ℕ} {c : Control} → Next n c → IsStill w c → is_settled c ≡ true
+  settled (nothing still' is waiting) still = is
+  settled (one_more a after one m less inside) still = absurd (may_move one still)
 
   waits : {n : ℕ} {c : Control} → Next n c → IsStill w c → Waiting c
-  waits (nothing none_listed is waiting) still = waiting
-  waits (one_more p one m less inside) still = absurd (may_move one still)
+  waits (nothing still' is waiting) still = waiting
+  waits (one_more a after one m less inside) still = absurd (may_move one still)
 
   -- ---- ticks
 

@@ -75,10 +75,13 @@ set_there (m ∷ now) (suc k) n old there = set_there now k n old there
 abbrev pub read_from : List Value → ℕ → Value
 read_from all k = unwrap_or (option_and_then (value_at []) (slice_get all k)) (Parts [])
 
-read_step : (v : Value) (all : List Value) (a n : ℕ) → map (read_from (v ∷ all)) (range_with_len (suc a) n) ≡ map (read_from all) (range_with_len a n)
-read_step v all a zero = refl
-read_step v all a (suc n) = ap (λ rest. read_from all a ∷ rest) (read_step v all (suc a) n)
+-- the values from number a on, where one value more stands before them
+read_step : (v : Value) (all : List Value) (a b n : ℕ) → b ≡ suc a → map (read_from (v ∷ all)) (range_with_len b n) ≡ map (read_from all) (range_with_len a n)
+read_step v all a b zero is = refl
+read_step v all a b (suc n) is =
+    let further : b + 1 ≡ suc (a + 1) = omega arith in
+    ap (λ rest. read_from (v ∷ all) b ∷ rest) (read_step v all (a + 1) (b + 1) n further) ∙ ap (λ b. read_from (v ∷ all) b ∷ map (read_from all) (range_with_len (a + 1) n)) is
 
 pub read_all : (all : List Value) → map (read_from all) (range_with_len 0 (length all)) ≡ all
 read_all [] = refl
-read_all (v ∷ all) = ap (λ rest. v ∷ rest) (read_step v all 0 (length all) ∙ read_all all)
+read_all (v ∷ all) = ap (λ rest. v ∷ rest) (read_step v all 0 1 (length all) refl ∙ read_all all)

@@ -15,10 +15,10 @@ use Rattle.bl_earlytree.specs.Machine.{Answers, Follows, Matches, both_end, both
 outcomes_differ : (a b x y : TickOutcome) → a ≡ x → b ≡ y → a ≡ b → x ≡ y
 outcomes_differ a b x y is other same = sym is ∙ same ∙ other
 
-tree_is : {c c' : Control} {store store' : Store} → Rests c store ≡ Rests c' store' → c ≡ c'
+pub tree_is : {c c' : Control} {store store' : Store} → Rests c store ≡ Rests c' store' → c ≡ c'
 tree_is e = cc
 
-store_is : {c c' : Control} {store store' : Store} → Rests c store ≡ Rests c' store' → store ≡ store'
+pub store_is : {c c' : Control} {store store' : Store} → Rests c store ≡ Rests c' store' → store ≡ store'
 store_is e = cc
 
 module _ (w : Setting) (M : Type 0) (react : List ℤ → M → Reaction M) (fits : List ℤ → Bool) (R : Control → Store → M → Type 0) (follows : Follows w M react fits R) where
@@ -49,9 +49,9 @@ module _ (w : Setting) (M : Type 0) (react : List ℤ → M → Reaction M) (fit
       Pausing c store reaction
   of_pause both_trap c store e o = absurd cc
   of_pause (both_end p) c store e o = absurd (let d = outcomes_differ _ _ Paused Ended o p (ap outcome_at e) in cc)
-  of_pause (both_pause {m = m} p r) c store e o = record {
+  of_pause (both_pause {c = c'} {m = m} p r) c store e o = record {
     state = m;
-    related = subst (λ c. R c store m) (sym (tree_is e)) (subst (λ s. R _ s m) (sym (store_is e)) r);
+    related = subst (λ c. R c store m) (sym (tree_is e)) (subst (λ s. R c' s m) (sym (store_is e)) r);
     is = ap (λ s. pauses (outputs_row w s) m) (sym (store_is e));
   }
 

@@ -17,7 +17,6 @@ use Rattle.bl_eval.proofs.PassLemmas.{and_left, and_right}
 use Rattle.bl_ctree.specs.Actions.{Action, Acts, Asks, Silent, action, done, perform}
 use Rattle.bl_ctree.specs.Control.{Control, Nil, Wait, Test, Idle, Do, Seq, do_all, seq, woken}
 use Rattle.bl_ctree.specs.Instances.{Setting}
-use Rattle.bl_ctree.specs.Points.{Point, begins, points, tests, within}
 use Rattle.bl_ctree.specs.Positions.{Begin, Item as Following, Located, Position, items_from, kind_of, none_left, block_items}
 use Rattle.bl_ctree.specs.Steps.{turn_items}
 use Rattle.bl_ctree.specs.Store.{Store}
@@ -26,7 +25,7 @@ use Rattle.bl_ctree.proofs.ItemLemmas.{followed_some}
 use Rattle.bl_early.specs.Form.{Item, Source, Step, Set, Pause, has_early_type, is_pause, step_of, steps_of}
 use Rattle.bl_early.specs.Run.{Begins, Numbers, Passes, Pauses, Reached, Standing, Traps, Waits, item_value, reached_with, repeated, source_value, taken, ticked}
 use Rattle.bl_earlytree.proofs.Acts.{Held, IsPause, IsSet, Written, alone, asks, is_pause_of, is_set, set_traps, set_writes}
-use Rattle.bl_earlytree.proofs.OneThreaded.{Leads, step_leads, still_leads, trap_leads}
+use Rattle.bl_earlytree.proofs.OneThreaded.{Leads, Only, assign_only, await_only, only_in_seq, repeat_only, step_leads, still_leads, test_only, trap_leads, wait_is_still}
 use Rattle.bl_earlytree.proofs.Values.{map_found}
 
 -- the items of what is left of a turn of the loop stand for these steps, and the loop follows them
@@ -50,29 +49,22 @@ block_follows site loop position k (s ∷ body) steps is fit =
     (at_step first.1 (and_left (fits site s) (all_of (map (fits site) body)) fit)
     (block_follows site loop position (suc k) body more.0 more.1 (and_right (fits site s) (all_of (map (fits site) body)) fit)))
 
--- ---- the points of the trees of a loop
+-- ---- what may act in the trees of a loop
 
-abbrev one_point : Action → (Bool → Control) → List (Point Control)
-one_point a after = record { action = a; path = []; after = after } ∷ []
+pub set_only : (w : Setting) (s : Located) (items : List Following) (k : ℕ) (source : Source) → IsSet s.stmt k source →
+    Only w (Seq (Do s) items) (action 0 s (Acts s.stmt)) (λ d. do_all items)
+set_only w s items k source p = only_in_seq items (assign_only w s p.path p.e p.kind)
 
-set_point : (w : Setting) (s : Located) (items : List Following) (k : ℕ) (source : Source) → IsSet s.stmt k source →
-    points w 0 (Seq (Do s) items) ≡ one_point (action 0 s (Acts s.stmt)) (λ d. do_all items)
-set_point w s items k source p = ap (λ kind. map (within (λ c. seq c items)) (begins w 0 s kind)) p.kind
+pub pause_only : (w : Setting) (s : Located) (items : List Following) (item : Item) → IsPause s.stmt item → none_left items ≡ false →
+    Only w (Seq (Do s) items) (action 0 s Silent) (λ d. Seq (Wait s) items)
+pause_only w s items item p some =
+    subst (λ c. Only w (Seq (Do s) items) (action 0 s Silent) (λ d. c)) (followed_some (Wait s) items some) (only_in_seq items (await_only w s p.e p.kind))
 
-pause_point : (w : Setting) (s : Located) (items : List Following) (item : Item) → IsPause s.stmt item → none_left items ≡ false →
-    points w 0 (Seq (Do s) items) ≡ one_point (action 0 s Silent) (λ d. Seq (Wait s) items)
-pause_point w s items item p some =
-    ap (λ kind. map (within (λ c. seq c items)) (begins w 0 s kind)) p.kind ∙ ap (λ c. one_point (action 0 s Silent) (λ d. c)) (followed_some (Wait s) items some)
+pub woken_only : (w : Setting) (s : Located) (items : List Following) (item : Item) (p : IsPause s.stmt item) →
+    Only w (Seq (Test s) items) (action 0 s (Asks p.e)) (λ d. seq (if d then Nil else Wait s) items)
+woken_only w s items item p = only_in_seq items (test_only w s p.e p.kind)
 
-test_point : (w : Setting) (s : Located) (items : List Following) (item : Item) (p : IsPause s.stmt item) →
-    points w 0 (Seq (Test s) items) ≡ one_point (action 0 s (Asks p.e)) (λ d. seq (if d then Nil else Wait s) items)
-test_point w s items item p = ap (λ kind. map (within (λ c. seq c items)) (tests 0 s kind)) p.kind
-
-loop_point : (w : Setting) (loop : Located) (body : List Stmt) → kind_of loop ≡ StmtKind-F.Repeat body →
-    points w 0 (Do loop) ≡ one_point (action 0 loop Silent) (λ d. do_all (turn_items loop body (Begin loop)))
-loop_point w loop body kind = ap (begins w 0 loop) kind
-
-do_first : (s : Located) (items : List Following) → none_left items ≡ false → do_all (Begin s ∷ items) ≡ Seq (Do s) items
+pub do_first : (s : Located) (items : List Following) → none_left items ≡ false → do_all (Begin s ∷ items) ≡ Seq (Do s) items
 do_first s items some = followed_some (Do s) items some
 
 -- ---- a loop in the one activity of a program
@@ -98,18 +90,18 @@ module _ (unit : UnitDef) (sound : Sound [] [] unit (callees_of [] [])) (vars_ea
   comes_before : {c after : Control} {store store' : Store} {reached : Reached} → Before c store after store' → Comes after store' reached → Comes c store reached
   comes_before first (comes_to_trap l) = comes_to_trap (first Trapped l)
   comes_before first (comes_to_pause {s} {items = items} {store' = store'} l is fit more held) = comes_to_pause (first (Rests (Seq (Wait s) items) store') l) is fit more held
-  comes_before first (comes_past then held) = comes_past (λ end l. first end (then end l)) held
+  comes_before first (comes_past onward held) = comes_past (λ end l. first end (onward end l)) held
 
   -- at a pause
   waits_there : (s : Located) (item : Item) (items : List Following) (rest : List Step) (now : Numbers) (store : Store) → step_of s.stmt ≡ Some (Pause item) → fits site s.stmt ≡ true →
       Follow site loop items rest → Held unit store now → Comes (Seq (Wait s) items) store (Pauses item rest now)
-  waits_there s item items rest now store is fit more held = comes_to_pause (still_leads (alone unit) (Seq (Wait s) items) store refl) is fit more held
+  waits_there s item items rest now store is fit more held = comes_to_pause (still_leads (alone unit) (Seq (Wait s) items) store (wait_is_still (alone unit) s items)) is fit more held
 
   pause_comes : (s : Located) (item : Item) (items : List Following) (rest : List Step) (now : Numbers) (store : Store) → step_of s.stmt ≡ Some (Pause item) → fits site s.stmt ≡ true →
       Follow site loop items rest → Held unit store now → Comes (Seq (Do s) items) store (Pauses item rest now)
   pause_comes s item items rest now store is fit more held =
-      comes_before (step_leads (alone unit) (Seq (Do s) items) store (record { action = action 0 s Silent; path = []; after = λ d. Seq (Wait s) items })
-      (pause_point (alone unit) s items item (is_pause_of s.stmt item is) (some_follow more)) true store refl)
+      comes_before (step_leads (alone unit) (Seq (Do s) items) store (action 0 s Silent) (λ d. Seq (Wait s) items)
+      (pause_only (alone unit) s items item (is_pause_of s.stmt item is) (some_follow more)) true store refl refl)
       (waits_there s item items rest now store is fit more held)
 
   set_comes : (s : Located) (k : ℕ) (source : Source) (items : List Following) (rest : List Step) (now : Numbers) (store : Store) → step_of s.stmt ≡ Some (Set k source) → fits site s.stmt ≡ true →
@@ -117,36 +109,36 @@ module _ (unit : UnitDef) (sound : Sound [] [] unit (callees_of [] [])) (vars_ea
       (value : Option ℤ) → source_value now source ≡ value → Comes (Seq (Do s) items) store (reached_with (λ n. taken rest (slice_set now k n)) value)
   set_comes s k source items rest now store is fit held further None none =
       let p = is_set s.stmt k source is in
-      comes_to_trap (trap_leads (alone unit) (Seq (Do s) items) store (record { action = action 0 s (Acts s.stmt); path = []; after = λ d. do_all items })
-      (set_point (alone unit) s items k source p) (set_traps unit sound vars_early s k source now store p fit held none))
+      comes_to_trap (trap_leads (alone unit) (Seq (Do s) items) store (action 0 s (Acts s.stmt)) (λ d. do_all items)
+      (set_only (alone unit) s items k source p) (set_traps unit sound vars_early s k source now store p fit held none))
   set_comes s k source items rest now store is fit held further (Some n) some =
       let p = is_set s.stmt k source is in
       let done = set_writes unit sound vars_early s k source now store n p fit held some in
-      comes_before (step_leads (alone unit) (Seq (Do s) items) store (record { action = action 0 s (Acts s.stmt); path = []; after = λ d. do_all items })
-      (set_point (alone unit) s items k source p) true done.after done.performs)
+      comes_before (step_leads (alone unit) (Seq (Do s) items) store (action 0 s (Acts s.stmt)) (λ d. do_all items)
+      (set_only (alone unit) s items k source p) true done.after refl done.performs)
       (further (slice_set now k n) done.after done.held)
 
   -- the rest of a turn
   rest_comes : {items : List Following} {rest : List Step} → Follow site loop items rest → (now : Numbers) (store : Store) → Held unit store now → Comes (do_all items) store (taken rest now)
   rest_comes at_loop now store held = comes_past (λ end l. l) held
-  rest_comes (at_step {s} {Set k source} {items} {rest} is fit more) now store held =
+  rest_comes (at_step {s} {step = Set k source} {items} {rest} is fit more) now store held =
       subst (λ c. Comes c store (taken (Set k source ∷ rest) now)) (sym (do_first s items (some_follow more)))
       (set_comes s k source items rest now store is fit held (λ now store held. rest_comes more now store held) (source_value now source) refl)
-  rest_comes (at_step {s} {Pause item} {items} {rest} is fit more) now store held =
+  rest_comes (at_step {s} {step = Pause item} {items} {rest} is fit more) now store held =
       subst (λ c. Comes c store (Pauses item rest now)) (sym (do_first s items (some_follow more))) (pause_comes s item items rest now store is fit more held)
 
   -- a turn from its beginning
   turn_comes : (now : Numbers) (store : Store) → Held unit store now → Comes (Do loop) store (taken steps now)
   turn_comes now store held =
-      comes_before (step_leads (alone unit) (Do loop) store (record { action = action 0 loop Silent; path = []; after = λ d. do_all (turn_items loop body (Begin loop)) })
-      (loop_point (alone unit) loop body loop_kind) true store refl)
+      comes_before (step_leads (alone unit) (Do loop) store (action 0 loop Silent) (λ d. do_all (turn_items loop body (Begin loop)))
+      (repeat_only (alone unit) loop body loop_kind) true store refl refl)
       (rest_comes (block_follows site loop (loop.position ++ 0 ∷ []) 0 body steps body_steps body_fits) now store held)
 
   -- behind the last step the loop begins again
   again_comes : {c : Control} {store : Store} {reached : Reached} → Comes c store reached → Comes c store (repeated steps reached)
   again_comes (comes_to_trap l) = comes_to_trap l
   again_comes (comes_to_pause l is fit more held) = comes_to_pause l is fit more held
-  again_comes (comes_past {now} {store'} then held) = comes_before then (turn_comes now store' held)
+  again_comes (comes_past {now} {store'} onward held) = comes_before onward (turn_comes now store' held)
 
   -- ---- ticks
 
@@ -161,13 +153,13 @@ module _ (unit : UnitDef) (sound : Sound [] [] unit (callees_of [] [])) (vars_ea
       Comes (Seq (Test s) items) store (if holds then repeated steps (taken rest now) else Pauses item rest now)
   test_comes s item items rest now store is fit more held true holds =
       let p = is_pause_of s.stmt item is in
-      comes_before (step_leads (alone unit) (Seq (Test s) items) store (record { action = action 0 s (Asks p.e); path = []; after = λ d. seq (if d then Nil else Wait s) items })
-      (test_point (alone unit) s items item p) true store (asks unit sound vars_early s item now store p fit held ∙ ap (λ d. Some (record { answer = d; store = store })) holds))
+      comes_before (step_leads (alone unit) (Seq (Test s) items) store (action 0 s (Asks p.e)) (λ d. seq (if d then Nil else Wait s) items)
+      (woken_only (alone unit) s items item p) true store refl (asks unit sound vars_early s item now store p fit held ∙ ap (λ d. Some (record { answer = d; store = store })) holds))
       (again_comes (rest_comes more now store held))
   test_comes s item items rest now store is fit more held false fails =
       let p = is_pause_of s.stmt item is in
-      comes_before (step_leads (alone unit) (Seq (Test s) items) store (record { action = action 0 s (Asks p.e); path = []; after = λ d. seq (if d then Nil else Wait s) items })
-      (test_point (alone unit) s items item p) false store (asks unit sound vars_early s item now store p fit held ∙ ap (λ d. Some (record { answer = d; store = store })) fails))
+      comes_before (step_leads (alone unit) (Seq (Test s) items) store (action 0 s (Asks p.e)) (λ d. seq (if d then Nil else Wait s) items)
+      (woken_only (alone unit) s items item p) false store refl (asks unit sound vars_early s item now store p fit held ∙ ap (λ d. Some (record { answer = d; store = store })) fails))
       (subst (λ c. Comes c store (Pauses item rest now)) (sym (followed_some (Wait s) items (some_follow more))) (waits_there s item items rest now store is fit more held))
 
   -- the tick of a standing, once the store is woken
@@ -183,21 +175,21 @@ further_past : (further : ℤ → Reached) (now : Numbers) → ((n : ℤ) → fu
 further_past further now never None is = cc
 further_past further now never (Some n) is = never n is
 
-taken_past : (steps : List Step) (now then : Numbers) → list_any is_pause steps ≡ true → taken steps now ≢ Passes then
-taken_past [] now then some is = cc
-taken_past (Set k source ∷ rest) now then some is =
-    further_past (λ n. taken rest (slice_set now k n)) then (λ n. taken_past rest (slice_set now k n) then some) (source_value now source) is
-taken_past (Pause item ∷ rest) now then some is = cc
+taken_past : (steps : List Step) (now past : Numbers) → list_any is_pause steps ≡ true → taken steps now ≢ Passes past
+taken_past [] now past some is = cc
+taken_past (Set k source ∷ rest) now past some is =
+    further_past (λ n. taken rest (slice_set now k n)) past (λ n. taken_past rest (slice_set now k n) past some) (source_value now source) is
+taken_past (Pause item ∷ rest) now past some is = cc
 
-again_past : (steps : List Step) (reached : Reached) (then : Numbers) → list_any is_pause steps ≡ true → repeated steps reached ≢ Passes then
-again_past steps Traps then some is = cc
-again_past steps (Pauses item rest now) then some is = cc
-again_past steps (Passes now) then some is = taken_past steps now then some is
+again_past : (steps : List Step) (reached : Reached) (past : Numbers) → list_any is_pause steps ≡ true → repeated steps reached ≢ Passes past
+again_past steps Traps past some is = cc
+again_past steps (Pauses item rest now) past some is = cc
+again_past steps (Passes now) past some is = taken_past steps now past some is
 
-pub tick_past : (steps : List Step) (standing : Standing) (now then : Numbers) → list_any is_pause steps ≡ true → ticked steps standing now ≢ Passes then
-tick_past steps Begins now then some is = again_past steps (taken steps now) then some is
-tick_past steps (Waits item rest) now then some is = by_test (is_one (item_value now item)) is
+pub tick_past : (steps : List Step) (standing : Standing) (now past : Numbers) → list_any is_pause steps ≡ true → ticked steps standing now ≢ Passes past
+tick_past steps Begins now past some is = again_past steps (taken steps now) past some is
+tick_past steps (Waits item rest) now past some is = by_test (is_one (item_value now item)) is
   where
-    by_test : (holds : Bool) → (if holds then repeated steps (taken rest now) else Pauses item rest now) ≢ Passes then
-    by_test true is = again_past steps (taken rest now) then some is
+    by_test : (holds : Bool) → (if holds then repeated steps (taken rest now) else Pauses item rest now) ≢ Passes past
+    by_test true is = again_past steps (taken rest now) past some is
     by_test false is = cc

@@ -79,7 +79,7 @@ module _ (unit : UnitDef) (sound : Sound [] [] unit (callees_of [] [])) (vars_ea
         (shows_outputs unit sound vars_early as_many_vars store' now held)
         (both_pause refl (record { stands = at_pause is fit more; held = held }));
   }
-  ending (comes_past {now} then held) never = absurd (never now refl)
+  ending (comes_past {now} onward held) never = absurd (never now refl)
 
   tick_ends : (row : List ℤ) (c : Control) (store : Store) (m : State) → Related c store m → row_fits [] unit row ≡ true →
       Ending (woken c) (woken_store row store) (ticked steps m.standing (with_row unit.inputs row m.numbers))

@@ -46,7 +46,7 @@ expr_whole : (e : Expr) → expr (out-Expr e).place (out-ExprKind (out-Expr e).w
 expr_whole e = ap (λ (what : ExprKind). roll-Expr (record { place = (out-Expr e).place; what = what })) (roll-out-ExprKind (out-Expr e).what) ∙ roll-out-Expr e
 
 -- a path without parts
-abbrev path_to : Place → ℕ → Ty → Path
+abbrev pub path_to : Place → ℕ → Ty → Path
 path_to place k ty = roll-Path (record { place = place; root = k; parts = []; ty = ty })
 
 alone_is : (root : ℕ) (parts : List Part) (k : ℕ) → alone root parts ≡ Some k → (root ≡ k) × (parts ≡ [])
