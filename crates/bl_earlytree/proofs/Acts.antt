@@ -1,5 +1,5 @@
 -- What the acts and tests of a program of one unit do to its store.
-use Rattle.std.proofs.Common.{◌≡◌, ℕ, ℤ, pos, Bool, true, false, ◌&&◌, List, [], ◌∷◌, map, length, Option, Some, None, refl, sym, ap, subst, ◌∙◌, IfSome}
+use Rattle.std.proofs.Common.{◌≡◌, ℕ, ℤ, pos, Bool, true, List, [], ◌∷◌, map, length, Option, Some, None, refl, sym, ap, subst, ◌∙◌, IfSome}
 use Rattle.std.proofs.lemmas.Option.{same_Some}
 use Rattle.std.specs.Prelude.{option_and_then, option_map, slice_get, slice_index_or, slice_set, unwrap_or}
 use Rattle.std.specs.List.{list_all, range_with_len}
@@ -9,35 +9,34 @@ use Rattle.bl_tree.specs.declared.tree.Branch.{Branch}
 use Rattle.bl_tree.specs.declared.tree.Expr.{Expr}
 use Rattle.bl_tree.specs.declared.tree.Path.{Path, fold-roll-Path, out-Path}
 use Rattle.bl_tree.specs.declared.tree.Stmt.{Stmt, fold-roll-Stmt, out-Stmt, roll-Stmt, roll-out-Stmt}
-use Rattle.bl_tree.specs.declared.tree.StmtKind.{StmtKind, fold-roll-StmtKind, out-StmtKind, roll-StmtKind, roll-out-StmtKind}
+use Rattle.bl_tree.specs.declared.tree.StmtKind.{StmtKind, fold-roll-StmtKind, roll-out-StmtKind}
 use Rattle.bl_tree.specs.declared.tree.StmtKind.TheOpen.{StmtKind-F}
 use Rattle.bl_tree.specs.declared.tree.Ty.{Ty}
 use Rattle.bl_tree.specs.declared.tree.Unit.{Unit as UnitDef}
 use Rattle.bl_tree.specs.declared.tree.Var.{Var}
 use Rattle.bl_tree.specs.declared.value.Value.{Value}
-use Rattle.bl_tree.specs.declared.value.Value.TheVariants.{Number, Parts}
+use Rattle.bl_tree.specs.declared.value.Value.TheVariants.{Number}
 use Rattle.bl_tree.specs.Numbers.{is_one}
 use Rattle.bl_tree.specs.Types.{scalar_in}
 use Rattle.bl_tree.specs.Typing.{Site, are_same, fits, is_activity, is_assignable, is_truth, site_of, type_of, type_of_path}
 use Rattle.bl_tree.proofs.StmtInduction.{stmt}
 use Rattle.bl_eval.specs.Functions.{acted, assigned, callees_of, scope_among}
-use Rattle.bl_eval.specs.Meaning.{Scope, View, plain, spot_of, value_in}
+use Rattle.bl_eval.specs.Meaning.{Scope, View, plain, spot_of}
 use Rattle.bl_eval.specs.Standing.{outcome_in_unit, value_in_unit}
-use Rattle.bl_eval.specs.Values.{put_at, value_at, value_fits, values_fit}
+use Rattle.bl_eval.specs.Values.{put_at, value_at, value_fits}
 use Rattle.bl_eval.proofs.ActFits.{AllFit, act_fits, same_found}
 use Rattle.bl_eval.proofs.ExprFits.{Sound}
-use Rattle.bl_eval.proofs.PassLemmas.{and_left, and_right}
-use Rattle.bl_effects.specs.declared.static_path.Static.{Static}
+use Rattle.bl_eval.proofs.PassLemmas.{and_right}
 use Rattle.bl_effects.specs.Effects.{writes}
 use Rattle.bl_effects.specs.Static.{Reach, reach_of, static_of, whole}
-use Rattle.bl_ctree.specs.Actions.{Action, Acts, Asks, Performed, acted_kind, action, done, is_true_value, outcome_there, perform, value_there}
+use Rattle.bl_ctree.specs.Actions.{Acts, Asks, acted_kind, action, done, is_true_value, outcome_there, perform, value_there}
 use Rattle.bl_ctree.specs.Instances.{Setting}
-use Rattle.bl_ctree.specs.Positions.{Located, kind_of, stmt_kind}
+use Rattle.bl_ctree.specs.Positions.{Located, stmt_kind}
 use Rattle.bl_ctree.specs.Store.{Frame, Store, put, put_written, view_at, whole_of}
-use Rattle.bl_early.specs.Form.{Item, Source, Step, Set, Pause, has_early_type, item_of, source_of, step_in, step_of, variable_of}
+use Rattle.bl_early.specs.Form.{Item, Source, Set, Pause, has_early_type, item_of, source_of, step_in, step_of, variable_of}
 use Rattle.bl_early.specs.Run.{Numbers, item_value, source_value}
 use Rattle.bl_earlytree.proofs.Numbers.{as_many, number_back, number_there, read_all, read_from, set_there, values, values_set}
-use Rattle.bl_earlytree.proofs.Values.{item_shows, map_found, path_to, source_shows, variable_whole, known}
+use Rattle.bl_earlytree.proofs.Values.{item_shows, path_to, source_shows, variable_whole, known}
 
 -- the setting of a program that is one activity without `run` statements
 abbrev pub alone : UnitDef → Setting

@@ -1,5 +1,5 @@
 -- How many steps a tick of a loop has at most, and that none is stuck, whatever the store is.
-use Rattle.std.proofs.Common.{◌≡◌, ℕ, zero, suc, ◌+◌, ◌≤◌, ℤ, Bool, true, false, ◌&&◌, ◌||◌, List, [], ◌∷◌, ◌++◌, length, map, Some, None, refl, sym, ap, subst, ◌∙◌, arith}
+use Rattle.std.proofs.Common.{◌≡◌, ℕ, suc, ◌+◌, ◌≤◌, ℤ, Bool, true, false, ◌||◌, List, [], ◌∷◌, ◌++◌, length, map, Some, refl, sym, subst, arith}
 use Rattle.std.specs.Prelude.{if◌then◌else◌}
 use Rattle.std.specs.List.{list_any}
 use Rattle.bl_tree.specs.declared.tree.Stmt.{Stmt}
@@ -10,13 +10,13 @@ use Rattle.bl_ctree.specs.Actions.{Action, Acts, Asks, Silent, action}
 use Rattle.bl_ctree.specs.Control.{Control, Nil, Wait, Test, Idle, Do, Seq, do_all, is_settled, seq, woken}
 use Rattle.bl_ctree.specs.Instances.{Setting}
 use Rattle.bl_ctree.specs.Means.{entry_items}
-use Rattle.bl_ctree.specs.Positions.{Begin, Item as Following, Located, kind_of, none_left}
+use Rattle.bl_ctree.specs.Positions.{Begin, Item as Following, Located, kind_of}
 use Rattle.bl_ctree.specs.Reaches.{Reaches, ReachesInside, after_tick, at_first}
 use Rattle.bl_ctree.specs.Steps.{IsStill, Moves, turn_items}
 use Rattle.bl_ctree.specs.Store.{Store}
 use Rattle.bl_ctree.specs.Ticks.{End, Rests, Steps, none, step, traps}
 use Rattle.bl_ctree.proofs.ItemLemmas.{followed_some}
-use Rattle.bl_early.specs.Form.{Item, Source, Step, Set, Pause, is_pause, step_of, steps_of}
+use Rattle.bl_early.specs.Form.{Item, Step, Set, Pause, is_pause, step_of, steps_of}
 use Rattle.bl_earlytree.proofs.Acts.{is_pause_of, is_set}
 use Rattle.bl_earlytree.proofs.OneThreaded.{Only, may_move, repeat_only, wait_is_still}
 use Rattle.bl_earlytree.proofs.Simulation.{tree_is}
@@ -24,7 +24,6 @@ use Rattle.bl_earlytree.proofs.Ticks.{Follow, at_loop, at_step, block_follows, d
 
 module _ (w : Setting) (site : Site) (loop : Located) (body : List Stmt) (steps : List Step) (loop_kind : kind_of loop ≡ StmtKind-F.Repeat body) (body_steps : steps_of body ≡ Some steps)
     (body_fits : all_of (map (fits site) body) ≡ true) (some_pause : list_any is_pause steps ≡ true) where
-
   -- the trees between ticks
   pub data Waiting : Control → Type 0 where
     not_begun : Waiting (Idle (Begin loop ∷ []))

@@ -1,13 +1,13 @@
 -- The numbers of variables as their values.
-use Rattle.std.proofs.Common.{◌≡◌, ℕ, zero, suc, ◌+◌, ℤ, pos, Bool, true, false, ◌&&◌, List, [], ◌∷◌, ◌++◌, length, map, take, drop, Option, Some, None, refl, sym, ap, ◌∙◌, arith}
-use Rattle.std.proofs.lemmas.Option.{same_Some, slice_get-map, get_or_from_slice_get}
-use Rattle.std.specs.Prelude.{option_and_then, option_map, slice_get, slice_index_or, slice_set, unwrap_or}
+use Rattle.std.proofs.Common.{◌≡◌, ℕ, zero, suc, ◌+◌, ℤ, pos, Bool, true, List, [], ◌∷◌, ◌++◌, length, map, take, drop, Some, refl, sym, ap, ◌∙◌, arith}
+use Rattle.std.proofs.lemmas.Option.{same_Some}
+use Rattle.std.specs.Prelude.{option_and_then, slice_get, slice_index_or, slice_set, unwrap_or}
 use Rattle.std.specs.List.{range_with_len}
 use Rattle.bl_tree.specs.declared.tree.Var.{Var}
-use Rattle.bl_tree.specs.declared.value.Value.{Value, out-Value}
+use Rattle.bl_tree.specs.declared.value.Value.{Value}
 use Rattle.bl_tree.specs.declared.value.Value.TheVariants.{Number, Parts, outs-Number}
 use Rattle.bl_eval.specs.Values.{number_at, number_in, pass, value_at, value_fits, values_fit}
-use Rattle.bl_eval.proofs.PassLemmas.{and_right, pass_at}
+use Rattle.bl_eval.proofs.PassLemmas.{and_right}
 use Rattle.bl_ctree.specs.Store.{number_or_zero}
 
 -- the values of the variables with these numbers

@@ -11,7 +11,7 @@ use Rattle.bl_ctree.specs.Control.{Control, Do, Nil, Seq, Test, Wait, do_all, se
 use Rattle.bl_ctree.specs.Instances.{Setting}
 use Rattle.bl_ctree.specs.Laws.{can_answer}
 use Rattle.bl_ctree.specs.Positions.{Begin, Item, Located, is_act, kind_of}
-use Rattle.bl_ctree.specs.Steps.{IsStill, Moves, Step, Traps, acts, enters, forks, goes_on, guards, in_seq, passes_arm, pauses, repeats, repeats_until, runs, skips, takes_arm, takes_else, turn_items, waits}
+use Rattle.bl_ctree.specs.Steps.{IsStill, Moves, acts, enters, forks, goes_on, guards, in_seq, passes_arm, pauses, repeats, repeats_until, runs, skips, takes_arm, takes_else, turn_items, waits}
 use Rattle.bl_ctree.specs.Store.{Store}
 use Rattle.bl_ctree.specs.Ticks.{End, IsOver, Maximal, Rests, Steps, Trapped, none, step, traps}
 

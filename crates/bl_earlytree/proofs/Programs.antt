@@ -1,8 +1,8 @@
 -- Programs of the early form: their one instance, their loop, and their laws.
-use Rattle.std.proofs.Common.{◌≡◌, ℕ, zero, suc, ◌+◌, ◌≤◌, ◌*◌, ℤ, pos, Bool, true, ◌&&◌, List, [], ◌∷◌, ◌++◌, length, map, Option, Some, None, refl, sym, ap, subst, ◌∙◌, arith}
+use Rattle.std.proofs.Common.{◌≡◌, ℕ, zero, suc, ◌+◌, ◌≤◌, ℤ, true, List, [], ◌∷◌, ◌++◌, length, map, Some, None, refl, sym, ap, subst, ◌∙◌, arith}
 use Rattle.std.proofs.lemmas.Bool.{eqb-true}
 use Rattle.std.proofs.lemmas.Option.{same_Some}
-use Rattle.std.specs.Prelude.{◌↔◌, nat_eq, nat_le, option_map, option_and_then}
+use Rattle.std.specs.Prelude.{◌↔◌, nat_le, option_map}
 use Rattle.std.specs.List.{list_all, list_any}
 use Rattle.bl_tree.specs.declared.place.Place.{Place}
 use Rattle.bl_tree.specs.declared.tree.Arm.{Arm}
@@ -25,10 +25,10 @@ use Rattle.bl_eval.proofs.PassLemmas.{and_left, and_right}
 use Rattle.bl_eval.proofs.UnitFits.{sound_at}
 use Rattle.bl_ctree.specs.Actions.{Action}
 use Rattle.bl_ctree.specs.Control.{Control, Idle, is_settled}
-use Rattle.bl_ctree.specs.Instances.{Setting, expanded, instances_below, one_a_place, runs_in, runs_of, setting_of}
+use Rattle.bl_ctree.specs.Instances.{expanded, instances_below, one_a_place, runs_in, runs_of, setting_of}
 use Rattle.bl_ctree.specs.Means.{Allows, Means, Shown, entry_items, shown}
 use Rattle.bl_ctree.specs.Measure.{instance_steps, statements_in, statements_of}
-use Rattle.bl_ctree.specs.Positions.{Begin, Located, body_items, kind_of, stmt_kind}
+use Rattle.bl_ctree.specs.Positions.{Begin, Located, body_items, stmt_kind}
 use Rattle.bl_ctree.specs.Reaches.{Bounded, NeverStuck, ReachesInside}
 use Rattle.bl_ctree.specs.Steps.{IsStill}
 use Rattle.bl_ctree.specs.Store.{Store, first_store}
@@ -37,7 +37,7 @@ use Rattle.bl_ctree.specs.declared.instance.Instance.{Instance}
 use Rattle.bl_early.specs.Form.{Step, has_early_type, is_early_unit, is_pause, loop_of, repeated, step_in, step_of, steps_of, steps_suit, unit_steps}
 use Rattle.bl_early.specs.Run.{trace_of}
 use Rattle.bl_earlytree.specs.Laws.{Early, EarlyIsBounded, EarlyIsNeverStuck, OneTrace}
-use Rattle.bl_earlytree.specs.Rows.{RowsFit, row_fits}
+use Rattle.bl_earlytree.specs.Rows.{RowsFit}
 use Rattle.bl_earlytree.proofs.Acts.{alone, stmt_whole}
 use Rattle.bl_earlytree.proofs.Bounds.{never_stuck, ticks_bounded}
 use Rattle.bl_earlytree.proofs.Traces.{loop_has_one_trace}
@@ -165,7 +165,7 @@ module _ (unit : UnitDef) (steps : List Step) (early : Early [] (unit ∷ []) 0 
 
   -- ---- the laws
 
-  trace_is : (rows : List (List ℤ)) (shows : Shown) → RowsFit [] unit rows → Means [] (unit ∷ []) 0 rows shows ↔ (shows ≡ shown (trace_of unit steps rows))
+  trace_is : (rows : List (List ℤ)) (shows : Shown) → RowsFit unit rows → Means [] (unit ∷ []) 0 rows shows ↔ (shows ≡ shown (trace_of unit steps rows))
   trace_is rows shows fit =
       subst (λ w. Allows w rows (Idle (entry_items w)) (first_store w) shows ↔ (shows ≡ shown (trace_of unit steps rows))) (sym setting_is)
       (subst (λ items. Allows (alone unit) rows (Idle items) (first_store (alone unit)) shows ↔ (shows ≡ shown (trace_of unit steps rows))) (sym begins)
@@ -197,7 +197,7 @@ module _ (unit : UnitDef) (steps : List Step) (P : List StructDef → List UnitD
 
 pub early_one_trace : OneTrace
 early_one_trace structs units entry unit steps rows shows early fit =
-    of_early unit steps (λ structs units entry. RowsFit structs unit rows → Means structs units entry rows shows ↔ (shows ≡ shown (trace_of unit steps rows)))
+    of_early unit steps (λ structs units entry. RowsFit unit rows → Means structs units entry rows shows ↔ (shows ≡ shown (trace_of unit steps rows)))
     (λ early. trace_is unit steps early (unit_loop unit steps early.is_loop) rows shows) structs units entry early fit
 
 pub early_bounded : EarlyIsBounded

@@ -1,16 +1,14 @@
 -- The meaning allows exactly the trace of a machine that its ticks follow.
-use Rattle.std.proofs.Common.{◌≡◌, ℤ, Bool, true, ◌&&◌, List, [], ◌∷◌, Some, refl, sym, ap, subst, ◌∙◌}
+use Rattle.std.proofs.Common.{◌≡◌, ℤ, Bool, true, List, [], ◌∷◌, refl, sym, ap, subst, ◌∙◌}
 use Rattle.std.specs.Prelude.{◌↔◌}
 use Rattle.std.specs.List.{list_all}
-use Rattle.bl_tree.specs.declared.row.Last.TheVariants.{Ended as HasEnded}
-use Rattle.bl_tree.specs.declared.row.Trace.{Trace}
 use Rattle.bl_eval.proofs.PassLemmas.{and_left, and_right}
 use Rattle.bl_ctree.specs.Control.{Control}
 use Rattle.bl_ctree.specs.Instances.{Setting}
-use Rattle.bl_ctree.specs.Means.{Allows, stays_open, traps, is_stuck, ends, goes_on, Shown, shown, row_then, nothing_more}
+use Rattle.bl_ctree.specs.Means.{Allows, stays_open, traps, is_stuck, ends, goes_on, Shown, shown, row_then}
 use Rattle.bl_ctree.specs.Store.{Store, outputs_row}
 use Rattle.bl_ctree.specs.Ticks.{End, Trapped, Rests, Tick, TickOutcome, Ended, Paused, Stuck, outcome_at}
-use Rattle.bl_earlytree.specs.Machine.{Answers, Follows, Matches, both_end, both_pause, both_trap, Reaction, fails, finishes, pauses, machine_trace, reacted}
+use Rattle.bl_earlytree.specs.Machine.{Follows, Matches, both_end, both_pause, both_trap, Reaction, fails, finishes, pauses, machine_trace, reacted}
 
 outcomes_differ : (a b x y : TickOutcome) → a ≡ x → b ≡ y → a ≡ b → x ≡ y
 outcomes_differ a b x y is other same = sym is ∙ same ∙ other
@@ -22,7 +20,6 @@ pub store_is : {c c' : Control} {store store' : Store} → Rests c store ≡ Res
 store_is e = cc
 
 module _ (w : Setting) (M : Type 0) (react : List ℤ → M → Reaction M) (fits : List ℤ → Bool) (R : Control → Store → M → Type 0) (follows : Follows w M react fits R) where
-
   -- the reaction where a tick of the meaning pauses
   record Pausing (c : Control) (store : Store) (reaction : Reaction M) : Type 0 where
     state : M

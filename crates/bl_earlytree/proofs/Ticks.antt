@@ -1,7 +1,7 @@
 -- The ticks of a loop of steps: where the one maximal list of steps leads.
-use Rattle.std.proofs.Common.{◌≡◌, ◌≢◌, ℕ, suc, ℤ, pos, Bool, true, false, ◌&&◌, ◌||◌, List, [], ◌∷◌, ◌++◌, map, Option, Some, None, refl, sym, ap, subst, ◌∙◌}
+use Rattle.std.proofs.Common.{◌≡◌, ◌≢◌, ℕ, suc, ℤ, Bool, true, false, List, [], ◌∷◌, ◌++◌, map, Option, Some, None, refl, sym, ap, subst, ◌∙◌}
 use Rattle.std.proofs.lemmas.Option.{same_Some}
-use Rattle.std.specs.Prelude.{option_and_then, option_map, slice_set, if◌then◌else◌}
+use Rattle.std.specs.Prelude.{option_map, slice_set, if◌then◌else◌}
 use Rattle.std.specs.List.{list_all, list_any}
 use Rattle.bl_tree.specs.declared.tree.Stmt.{Stmt}
 use Rattle.bl_tree.specs.declared.tree.StmtKind.TheOpen.{StmtKind-F}
@@ -14,17 +14,17 @@ use Rattle.bl_eval.specs.Functions.{callees_of}
 use Rattle.bl_eval.proofs.ExprFits.{Sound}
 use Rattle.bl_eval.proofs.OperatorFits.{some_found}
 use Rattle.bl_eval.proofs.PassLemmas.{and_left, and_right}
-use Rattle.bl_ctree.specs.Actions.{Action, Acts, Asks, Silent, action, done, perform}
+use Rattle.bl_ctree.specs.Actions.{Acts, Asks, Silent, action}
 use Rattle.bl_ctree.specs.Control.{Control, Nil, Wait, Test, Idle, Do, Seq, do_all, seq, woken}
 use Rattle.bl_ctree.specs.Instances.{Setting}
-use Rattle.bl_ctree.specs.Positions.{Begin, Item as Following, Located, Position, items_from, kind_of, none_left, block_items}
+use Rattle.bl_ctree.specs.Positions.{Begin, Item as Following, Located, Position, items_from, kind_of, none_left}
 use Rattle.bl_ctree.specs.Steps.{turn_items}
 use Rattle.bl_ctree.specs.Store.{Store}
 use Rattle.bl_ctree.specs.Ticks.{End, Rests, Trapped}
 use Rattle.bl_ctree.proofs.ItemLemmas.{followed_some}
 use Rattle.bl_early.specs.Form.{Item, Source, Step, Set, Pause, has_early_type, is_pause, step_of, steps_of}
 use Rattle.bl_early.specs.Run.{Begins, Numbers, Passes, Pauses, Reached, Standing, Traps, Waits, item_value, reached_with, repeated, source_value, taken, ticked}
-use Rattle.bl_earlytree.proofs.Acts.{Held, IsPause, IsSet, Written, alone, asks, is_pause_of, is_set, set_traps, set_writes}
+use Rattle.bl_earlytree.proofs.Acts.{Held, IsPause, IsSet, alone, asks, is_pause_of, is_set, set_traps, set_writes}
 use Rattle.bl_earlytree.proofs.OneThreaded.{Leads, Only, assign_only, await_only, only_in_seq, repeat_only, step_leads, still_leads, test_only, trap_leads, wait_is_still}
 use Rattle.bl_earlytree.proofs.Values.{map_found}
 

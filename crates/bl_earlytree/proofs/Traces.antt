@@ -1,5 +1,5 @@
 -- The ticks of the meaning follow the loop of steps as a machine.
-use Rattle.std.proofs.Common.{◌≡◌, ◌≢◌, ℕ, ◌+◌, ℤ, pos, Bool, true, List, [], ◌∷◌, length, map, drop, Some, refl, sym, ap, subst, ◌∙◌}
+use Rattle.std.proofs.Common.{◌≡◌, ◌≢◌, ℕ, ◌+◌, ℤ, pos, true, List, [], ◌∷◌, length, map, drop, Some, refl, sym, ap, subst, ◌∙◌}
 use Rattle.std.specs.Prelude.{◌↔◌}
 use Rattle.std.specs.List.{list_all, list_any}
 use Rattle.bl_tree.specs.declared.row.Trace.{Trace}
@@ -9,23 +9,23 @@ use Rattle.bl_tree.specs.declared.tree.Unit.{Unit as UnitDef}
 use Rattle.bl_tree.specs.declared.tree.Var.{Var}
 use Rattle.bl_tree.specs.Reduce.{all_of}
 use Rattle.bl_tree.specs.Types.{scalar_in}
-use Rattle.bl_tree.specs.Typing.{fits, site_of}
+use Rattle.bl_tree.specs.Typing.{fits, inputs_of, site_of}
 use Rattle.bl_eval.specs.Functions.{callees_of}
 use Rattle.bl_eval.proofs.ExprFits.{Sound}
 use Rattle.bl_ctree.specs.Control.{Control, Idle, Seq, Wait, woken}
 use Rattle.bl_ctree.specs.Means.{Allows, Shown, shown}
-use Rattle.bl_ctree.specs.Positions.{Begin, Item as Following, Located, kind_of}
-use Rattle.bl_ctree.specs.Store.{Store, first_store, outputs_row, woken_store}
-use Rattle.bl_ctree.specs.Ticks.{End, Rests, Tick, Trapped}
-use Rattle.bl_early.specs.Form.{Item, Step, Pause, has_early_type, is_pause, steps_of}
+use Rattle.bl_ctree.specs.Positions.{Begin, Located, kind_of}
+use Rattle.bl_ctree.specs.Store.{Store, first_store, woken_store}
+use Rattle.bl_ctree.specs.Ticks.{End, Rests, Trapped}
+use Rattle.bl_early.specs.Form.{Step, has_early_type, is_pause, steps_of}
 use Rattle.bl_early.specs.Run.{Begins, Numbers, Passes, Pauses, Reached, Standing, Traps, Waits, loop_trace, ticked, trace_of, traced, with_row}
-use Rattle.bl_earlytree.specs.Machine.{Answers, Follows, Matches, both_pause, both_trap, Reaction, fails, machine_trace, pauses, reacted}
+use Rattle.bl_earlytree.specs.Machine.{Follows, Matches, both_pause, both_trap, Reaction, fails, machine_trace, pauses, reacted}
 use Rattle.bl_earlytree.specs.Rows.{row_fits}
 use Rattle.bl_earlytree.proofs.Acts.{Held, alone}
 use Rattle.bl_earlytree.proofs.OneThreaded.{Leads}
 use Rattle.bl_earlytree.proofs.Simulation.{one_trace}
 use Rattle.bl_earlytree.proofs.Ticks.{Comes, Stands, at_pause, comes_past, comes_to_pause, comes_to_trap, not_begun, tick_comes, tick_past}
-use Rattle.bl_earlytree.proofs.Waking.{first_held, shows_outputs, woken_held}
+use Rattle.bl_earlytree.proofs.Waking.{first_held, numbers_values, shows_outputs, woken_held}
 
 -- where the loop stands, and the numbers of its variables
 pub record State : Type 0 where
@@ -56,7 +56,6 @@ machine_is inputs steps (row ∷ rows) standing now = traced_is inputs steps row
 module _ (unit : UnitDef) (sound : Sound [] [] unit (callees_of [] [])) (vars_early : list_all (λ (var : Var). has_early_type (scalar_in var.ty)) unit.vars ≡ true)
     (loop : Located) (body : List Stmt) (steps : List Step) (loop_kind : kind_of loop ≡ StmtKind-F.Repeat body) (body_steps : steps_of body ≡ Some steps)
     (body_fits : all_of (map (fits (site_of [] [] unit)) body) ≡ true) (some_pause : list_any is_pause steps ≡ true) (as_many_vars : length unit.vars ≡ unit.inputs + unit.outputs) where
-
   -- the tree and the store between ticks are those of this state
   record Related (c : Control) (store : Store) (m : State) : Type 0 where
     stands : Stands unit sound vars_early loop body steps loop_kind body_steps body_fits c m.standing
@@ -81,27 +80,27 @@ module _ (unit : UnitDef) (sound : Sound [] [] unit (callees_of [] [])) (vars_ea
   }
   ending (comes_past {now} onward held) never = absurd (never now refl)
 
-  tick_ends : (row : List ℤ) (c : Control) (store : Store) (m : State) → Related c store m → row_fits [] unit row ≡ true →
+  tick_ends : (row : List ℤ) (c : Control) (store : Store) (m : State) → Related c store m → row_fits unit row ≡ true →
       Ending (woken c) (woken_store row store) (ticked steps m.standing (with_row unit.inputs row m.numbers))
   tick_ends row c store m related fit =
       ending (tick_comes unit sound vars_early loop body steps loop_kind body_steps body_fits related.stands (with_row unit.inputs row m.numbers) (woken_store row store)
-      (woken_held unit sound vars_early as_many_vars row store m.numbers fit related.held))
+      (woken_held unit sound vars_early as_many_vars row store m.numbers (numbers_values (inputs_of unit) row fit) related.held))
       (λ now. tick_past steps m.standing (with_row unit.inputs row m.numbers) now some_pause)
 
-  follows : Follows (alone unit) State (react unit.inputs steps) (row_fits [] unit) Related
+  follows : Follows (alone unit) State (react unit.inputs steps) (row_fits unit) Related
   follows = record {
     one_end = λ row c store m related fit end other tick tock. let e = tick_ends row c store m related fit in
-    e.leads.only tick.actions end tick.maximal ∙ sym (e.leads.only tock.actions other tock.maximal);
+        e.leads.only tick.actions end tick.maximal ∙ sym (e.leads.only tock.actions other tock.maximal);
     answers = λ row c store m related fit. let e = tick_ends row c store m related fit in
-    record { end = e.end; tick = record { actions = e.leads.actions; maximal = e.leads.maximal }; matches = e.matches };
+        record { end = e.end; tick = record { actions = e.leads.actions; maximal = e.leads.maximal }; matches = e.matches };
   }
 
   -- the meaning allows the trace of the loop, and no other
-  pub loop_has_one_trace : (rows : List (List ℤ)) (shows : Shown) → list_all (row_fits [] unit) rows ≡ true →
+  pub loop_has_one_trace : (rows : List (List ℤ)) (shows : Shown) → list_all (row_fits unit) rows ≡ true →
       Allows (alone unit) rows (Idle (Begin loop ∷ [])) (first_store (alone unit)) shows ↔ (shows ≡ shown (trace_of unit steps rows))
   loop_has_one_trace rows shows fit =
       let at_first : State = record { standing = Begins; numbers = map (λ var. pos 0) unit.vars } in
       subst (λ trace. Allows (alone unit) rows (Idle (Begin loop ∷ [])) (first_store (alone unit)) shows ↔ (shows ≡ shown trace))
       (machine_is unit.inputs steps rows Begins (map (λ var. pos 0) unit.vars))
-      (one_trace (alone unit) State (react unit.inputs steps) (row_fits [] unit) Related follows rows (Idle (Begin loop ∷ [])) (first_store (alone unit)) at_first
+      (one_trace (alone unit) State (react unit.inputs steps) (row_fits unit) Related follows rows (Idle (Begin loop ∷ [])) (first_store (alone unit)) at_first
       (record { stands = not_begun; held = first_held unit sound vars_early }) fit shows)

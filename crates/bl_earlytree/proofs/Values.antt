@@ -1,22 +1,21 @@
 -- The values of items and of what is set.
-use Rattle.std.proofs.Common.{◌≡◌, ℕ, ℤ, pos, ◌+ℤ◌, Bool, true, false, ◌&&◌, List, [], ◌∷◌, map, Option, Some, None, refl, sym, ap, subst, ◌∙◌, IfSome}
+use Rattle.std.proofs.Common.{◌≡◌, ℕ, ℤ, pos, ◌+ℤ◌, true, ◌&&◌, List, [], ◌∷◌, Option, Some, None, refl, sym, ap, subst, ◌∙◌, IfSome}
 use Rattle.std.proofs.lemmas.Option.{same_Some}
 use Rattle.std.specs.Prelude.{option_and_then, option_map, slice_get, int_le, if◌then◌else◌}
 use Rattle.std.specs.List.{list_all}
 use Rattle.bl_tree.specs.declared.place.Place.{Place}
-use Rattle.bl_tree.specs.declared.scalar.Op.{Op}
 use Rattle.bl_tree.specs.declared.scalar.Op.TheVariants.{Add}
 use Rattle.bl_tree.specs.declared.scalar.Scalar.{Scalar as ScalarType}
 use Rattle.bl_tree.specs.declared.scalar.Scalar.TheVariants.{Bool as OfBool, Int, Nat, Bits}
-use Rattle.bl_tree.specs.declared.tree.Expr.{Expr, fold-roll-Expr, out-Expr, out-roll-Expr, roll-Expr, roll-out-Expr}
-use Rattle.bl_tree.specs.declared.tree.ExprKind.{ExprKind, fold-roll-ExprKind, out-ExprKind, out-roll-ExprKind, roll-ExprKind, roll-out-ExprKind}
+use Rattle.bl_tree.specs.declared.tree.Expr.{Expr, fold-roll-Expr, out-Expr, roll-Expr, roll-out-Expr}
+use Rattle.bl_tree.specs.declared.tree.ExprKind.{ExprKind, fold-roll-ExprKind, out-ExprKind, roll-out-ExprKind}
 use Rattle.bl_tree.specs.declared.tree.ExprKind.TheOpen.{ExprKind-F}
 use Rattle.bl_tree.specs.declared.tree.Part.{Part}
 use Rattle.bl_tree.specs.declared.tree.Path.{Path, fold-roll-Path, out-Path, roll-Path, roll-out-Path}
 use Rattle.bl_tree.specs.declared.tree.Ty.{Ty}
 use Rattle.bl_tree.specs.declared.tree.Unit.{Unit as UnitDef}
 use Rattle.bl_tree.specs.declared.tree.Var.{Var}
-use Rattle.bl_tree.specs.declared.value.Value.{Value, out-Value}
+use Rattle.bl_tree.specs.declared.value.Value.{Value}
 use Rattle.bl_tree.specs.declared.value.Value.TheVariants.{Number, outs-Number}
 use Rattle.bl_tree.specs.Numbers.{fitted, takes_two}
 use Rattle.bl_tree.specs.Scalar.{in_range, is_whole}
@@ -25,12 +24,11 @@ use Rattle.bl_tree.specs.Typing.{Site, site_of, two_type, type_of, type_of_path,
 use Rattle.bl_tree.proofs.ExprInduction.{expr}
 use Rattle.bl_eval.specs.declared.datum.Datum.{Datum}
 use Rattle.bl_eval.specs.declared.datum.Datum.TheVariants.{Scalar as OfScalar, Whole}
-use Rattle.bl_eval.specs.declared.datum.Operand.{Operand}
 use Rattle.bl_eval.specs.Functions.{callees_of, scope_among}
-use Rattle.bl_eval.specs.Meaning.{Scope, Spot, View, datum_of, level_datum, meaning_of, operand, operand_in, plain, reading, spot_of, two_datum, value_in}
+use Rattle.bl_eval.specs.Meaning.{Scope, View, datum_of, level_datum, meaning_of, operand, operand_in, plain, reading, spot_of, two_datum, value_in}
 use Rattle.bl_eval.specs.Values.{value_at, values_fit}
 use Rattle.bl_eval.proofs.ExprFits.{Sound, expr_fits}
-use Rattle.bl_eval.proofs.FitLemmas.{same_scalar_is, same_type_is}
+use Rattle.bl_eval.proofs.FitLemmas.{same_scalar_is}
 use Rattle.bl_eval.proofs.OperatorFits.{DatumFits, scalar_alone, some_found, where_holds}
 use Rattle.bl_eval.proofs.PassLemmas.{all_at, and_left, and_right}
 use Rattle.bl_early.specs.Form.{Item, Number as Written, Of, Source, Just, Sum, alone, has_early_type, int32, is_early_type, item_in, item_of, source_in, source_of, sum_of, variable_of}
@@ -173,9 +171,10 @@ module _ (unit : UnitDef) (sound : Sound [] [] unit (callees_of [] [])) (vars_ea
       (operand_in datum ≡ Some (record { ty = s; n = item_value now item })) × (in_range s (item_value now item) ≡ true)
   operand_datum item ty s (OfScalar t n) scalar_is fit is =
       let same : t ≡ s = same_Some t s (sym (scalar_alone t) ∙ ap scalar_in (sym fit.0) ∙ scalar_is) in
-      let number : n ≡ item_value now item = number_same n (item_value now item) is in
-      (ap (λ t. Some (record { ty = t; n = n })) same ∙ ap (λ n. Some (record { ty = s; n = n })) number,
-      ap (λ n. in_range s n) (sym number) ∙ ap (λ s. in_range s n) (sym same) ∙ fit.1)
+      let number : n ≡ item_value now item = number_same n (item_value now item) is in (
+        ap (λ t. Some (record { ty = t; n = n })) same ∙ ap (λ n. Some (record { ty = s; n = n })) number,
+        ap (λ n. in_range s n) (sym number) ∙ ap (λ s. in_range s n) (sym same) ∙ fit.1,
+      )
   operand_datum item ty s (Whole value) scalar_is fit is = absurd (let none = fit.0 in cc)
 
   operand_is : (e : Expr) (item : Item) (ty : Ty) (s : ScalarType) → item_of e ≡ Some item → type_of site e ≡ Some ty → scalar_in ty ≡ Some s →

@@ -1,7 +1,6 @@
 -- The store of a program of one unit at its beginning, as a tick begins, and what it shows.
-use Rattle.std.proofs.Common.{◌≡◌, ℕ, zero, suc, ◌+◌, ◌≤◌, ℤ, pos, Bool, true, ◌&&◌, List, [], ◌∷◌, ◌++◌, length, map, take, drop, Option, Some, None, refl, sym, ap, subst, ◌∙◌, arith}
+use Rattle.std.proofs.Common.{◌≡◌, ◌+◌, ◌≤◌, ℤ, pos, Bool, true, List, [], ◌∷◌, ◌++◌, length, map, take, drop, Option, Some, None, refl, sym, ap, subst, ◌∙◌, arith}
 use Rattle.std.proofs.lemmas.List.{length-drop, length-take, take-append-drop, take_all}
-use Rattle.std.specs.Prelude.{unwrap_or}
 use Rattle.std.specs.List.{list_all}
 use Rattle.bl_tree.specs.declared.scalar.Scalar.{Scalar as ScalarType}
 use Rattle.bl_tree.specs.declared.tree.Ty.{Ty, fold-roll-Ty}
@@ -9,19 +8,21 @@ use Rattle.bl_tree.specs.declared.tree.Unit.{Unit as UnitDef}
 use Rattle.bl_tree.specs.declared.tree.Var.{Var}
 use Rattle.bl_tree.specs.declared.value.Value.{Value}
 use Rattle.bl_tree.specs.declared.value.Value.TheVariants.{Number}
-use Rattle.bl_tree.specs.Types.{scalar, scalar_in, type_stands}
+use Rattle.bl_tree.specs.Types.{scalar_in, type_stands}
 use Rattle.bl_tree.specs.Typing.{inputs_of}
+use Rattle.bl_eval.specs.declared.datum.Datum.TheVariants.{Scalar as OfScalar}
 use Rattle.bl_eval.specs.Functions.{callees_of}
 use Rattle.bl_eval.specs.Values.{value_fits, values_fit, zero_of}
 use Rattle.bl_eval.proofs.ActFits.{AllFit}
 use Rattle.bl_eval.proofs.ExprFits.{Sound}
 use Rattle.bl_eval.proofs.FitLemmas.{scalar_is, zero_fits}
-use Rattle.bl_eval.proofs.PassLemmas.{and_left, and_right, pass_append, pass_drop, pass_each}
-use Rattle.bl_ctree.specs.Store.{Frame, Store, aged, first_store, number_or_zero, outputs_row, with_frame, with_inputs, woken_store, zero_result, zeros}
+use Rattle.bl_eval.proofs.OperatorFits.{plain_fits}
+use Rattle.bl_eval.proofs.PassLemmas.{and_left, and_right, both, pass_append, pass_drop, pass_each}
+use Rattle.bl_ctree.specs.Store.{Store, first_store, number_or_zero, outputs_row, woken_store, zero_result, zeros}
 use Rattle.bl_early.specs.Form.{has_early_type}
 use Rattle.bl_early.specs.Run.{Numbers, with_row}
-use Rattle.bl_earlytree.specs.Rows.{row_fits}
-use Rattle.bl_earlytree.proofs.Acts.{Held, alone, frame}
+use Rattle.bl_earlytree.specs.Rows.{is_one_of, numbers_fit}
+use Rattle.bl_earlytree.proofs.Acts.{Held, alone}
 use Rattle.bl_earlytree.proofs.Numbers.{as_many, numbers_back, values, values_append, values_drop, values_length, values_take}
 
 -- ---- the beginning
@@ -42,6 +43,22 @@ zeros_fit vars stand =
     let test : Var → Value → Bool = λ var. value_fits [] var.ty in
     pass_each test (λ var. zero_of [] var.ty) (λ var. type_stands 0 var.ty) (λ var stands. zero_fits [] var.ty refl stands) vars stand
 
+-- ---- numbers that fit
+
+number_value : (ty : Ty) (s : Option ScalarType) (n : ℤ) → scalar_in ty ≡ s → is_one_of s n ≡ true → value_fits [] ty (Number n) ≡ true
+number_value ty None n is fit = absurd cc
+number_value ty (Some s) n is fit = plain_fits [] ty (OfScalar s n) (scalar_is ty s is, fit)
+
+-- numbers that fit are values that do
+pub numbers_values : (vars : List Var) (row : List ℤ) → numbers_fit vars row ≡ true → AllFit [] vars (values row)
+numbers_values [] [] fit = refl
+numbers_values [] (n ∷ row) fit = absurd cc
+numbers_values (var ∷ vars) [] fit = absurd cc
+numbers_values (var ∷ vars) (n ∷ row) fit =
+    both (value_fits [] var.ty (Number n)) (values_fit [] vars (values row))
+    (number_value var.ty (scalar_in var.ty) n refl (and_left (is_one_of (scalar_in var.ty) n) (numbers_fit vars row) fit))
+    (numbers_values vars row (and_right (is_one_of (scalar_in var.ty) n) (numbers_fit vars row) fit))
+
 module _ (unit : UnitDef) (sound : Sound [] [] unit (callees_of [] [])) (vars_early : list_all (λ (var : Var). has_early_type (scalar_in var.ty)) unit.vars ≡ true) where
   -- every number is 0 at first
   pub first_held : Held unit (first_store (alone unit)) (map (λ var. pos 0) unit.vars)
@@ -59,17 +76,17 @@ module _ (unit : UnitDef) (sound : Sound [] [] unit (callees_of [] [])) (vars_ea
   -- ---- a row
 
   module _ (as_many_vars : length unit.vars ≡ unit.inputs + unit.outputs) where
-    row_length : (row : List ℤ) → row_fits [] unit row ≡ true → length row ≡ unit.inputs
+    row_length : (row : List ℤ) → AllFit [] (inputs_of unit) (values row) → length row ≡ unit.inputs
     row_length row fit =
         let test : Var → Value → Bool = λ var. value_fits [] var.ty in
         omega (arith, values_length row, as_many test (inputs_of unit) (values row) fit, length-take unit.inputs unit.vars)
 
-    woken_values : (row now : Numbers) → row_fits [] unit row ≡ true → values row ++ drop (length (values row)) (values now) ≡ values (with_row unit.inputs row now)
+    woken_values : (row now : Numbers) → AllFit [] (inputs_of unit) (values row) → values row ++ drop (length (values row)) (values now) ≡ values (with_row unit.inputs row now)
     woken_values row now fit =
         ap (λ n. values row ++ drop n (values now)) (values_length row ∙ row_length row fit)
         ∙ ap (λ rest. values row ++ rest) (sym (values_drop unit.inputs now)) ∙ sym (values_append row (drop unit.inputs now))
 
-    woken_fits : (row now : Numbers) → row_fits [] unit row ≡ true → AllFit [] unit.vars (values now) → AllFit [] unit.vars (values (with_row unit.inputs row now))
+    woken_fits : (row now : Numbers) → AllFit [] (inputs_of unit) (values row) → AllFit [] unit.vars (values now) → AllFit [] unit.vars (values (with_row unit.inputs row now))
     woken_fits row now fit held =
         let test : Var → Value → Bool = λ var. value_fits [] var.ty in
         subst (λ all. AllFit [] unit.vars all) (sym (values_append row (drop unit.inputs now)))
@@ -78,7 +95,7 @@ module _ (unit : UnitDef) (sound : Sound [] [] unit (callees_of [] [])) (vars_ea
         (subst (AllFit [] (drop unit.inputs unit.vars)) (sym (values_drop unit.inputs now)) (pass_drop test unit.inputs unit.vars (values now) held))))
 
     -- a tick begins with the row's numbers as inputs
-    pub woken_held : (row : List ℤ) (store : Store) (now : Numbers) → row_fits [] unit row ≡ true → Held unit store now → Held unit (woken_store row store) (with_row unit.inputs row now)
+    pub woken_held : (row : List ℤ) (store : Store) (now : Numbers) → AllFit [] (inputs_of unit) (values row) → Held unit store now → Held unit (woken_store row store) (with_row unit.inputs row now)
     woken_held row store now fit held = record {
       before = now;
       result = held.result;

@@ -20,7 +20,7 @@ pub record Early (structs : List StructDef) (units : List UnitDef) (entry : ℕ)
 abbrev pub OneTrace : Type 0
 OneTrace =
     (structs : List StructDef) (units : List UnitDef) (entry : ℕ) (unit : UnitDef) (steps : List Step) (rows : List (List ℤ)) (shows : Shown) →
-    Early structs units entry unit steps → RowsFit structs unit rows → Means structs units entry rows shows ↔ (shows ≡ shown (trace_of unit steps rows))
+    Early structs units entry unit steps → RowsFit unit rows → Means structs units entry rows shows ↔ (shows ≡ shown (trace_of unit steps rows))
 
 -- every tick ends
 abbrev pub EarlyIsBounded : Type 0
