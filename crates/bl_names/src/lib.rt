@@ -1,0 +1,6 @@
+//! The names of source programs: what each scope declares and what each use stands for (docs/LANGUAGE.md, "Scopes", "Kinds"
+//! and "Rules").
+#![tactic(auto)]
+
+mod kind;
+mod scopes;
