@@ -2,5 +2,7 @@
 //! and "Rules").
 #![tactic(auto)]
 
+mod failure;
+mod judge;
 mod kind;
 mod scopes;

@@ -1,8 +1,8 @@
 //! The scopes that are open at a place of the text.
 
-ghost use Rattle.std.specs.Prelude.{◌≡◌, None, OnOk};
+ghost use Rattle.std.specs.Prelude.{◌≡◌, None, IfOk, OnOk, reverse};
 ghost use Rattle.bl_names.specs.Marks.{closes, declares, opens};
-ghost use Rattle.bl_names.specs.Scopes.{bound, enter, file_scope, found, nothing};
+ghost use Rattle.bl_names.specs.Scopes.{bound, bound_around, declared, enter, file_scope, found, nothing};
 
 use crate::kind::Kind;
 use bl_raw::name::Name;
@@ -26,7 +26,6 @@ pub struct Scope<'a> {
 }
 
 impl<'a> Model for Scope<'a> {
-    ghost use Rattle.std.specs.Prelude.{map};
     ghost use Rattle.bl_names.specs.Scopes.{Declared, named};
 
     ghost Value = { Declared };
@@ -48,4 +47,94 @@ impl<'a> Scope<'a> {
     {
         self.names.get(&name).copied()
     }
+
+    /// Answers the earlier declaration of the name, where there is one, which stays.
+    fn declare(&mut self, name: &'a Name, kind: Kind) -> Result<Option<Declaration>, NoMemory>
+        ensures earlier { IfOk result (λ earlier. earlier ≡ found self.old name.now.text) }
+        ensures declares { OnOk result (self.new ≡ declared (found self.old name.now.text) self.old name.now kind) }
+    {
+        if let Some(earlier) = self.find(&name.text) {
+            return Ok(Some(earlier));
+        }
+        let declaration = Declaration {
+            kind,
+            place: name.place,
+        };
+        match self.names.insert(name.text.as_str(), declaration) {
+            Ok(_) => Ok(None),
+            Err(_) => Err(NoMemory),
+        }
+    }
+}
+
+/// The scopes that are open.
+#[derive(Drop)]
+pub struct Scopes<'a> {
+    inner: Scope<'a>,
+    /// The scopes around the inner one, from the outside in.
+    outer: Vec<Scope<'a>>,
+}
+
+impl<'a> Model for Scopes<'a> {
+    ghost use Rattle.std.specs.Prelude.{reverse};
+    ghost use Rattle.bl_names.specs.Scopes.{Scopes as OpenScopes};
+
+    ghost Value = { OpenScopes };
+
+    ghost view = { λ scopes. record { inner = scopes.inner; outer = reverse scopes.outer.items } };
+}
+
+impl<'a> Scopes<'a> {
+    /// The scope of the file.
+    pub fn new(alloc: Global) -> Scopes<'a>
+        ensures { result ≡ file_scope }
+    {
+        Scopes {
+            inner: Scope::new(alloc),
+            outer: Vec::new(alloc),
+        }
+    }
+
+    pub fn open(&mut self, alloc: Global) -> Result<(), NoMemory>
+        ensures { OnOk result (self.new ≡ enter self.old opens) }
+    {
+        let around = mem::replace(&mut self.inner, Scope::new(alloc));
+        match self.outer.push(around) {
+            Ok(()) => Ok(()),
+            Err(_) => Err(NoMemory),
+        }
+    }
+
+    pub fn close(&mut self, alloc: Global)
+        ensures { self.new ≡ enter self.old closes }
+    {
+        match self.outer.pop() {
+            Some(scope) => self.inner = scope,
+            None => self.inner = Scope::new(alloc),
+        }
+    }
+
+    /// Answers the earlier declaration of the name in the innermost scope, where there is one, which stays.
+    pub fn declare(&mut self, name: &'a Name, kind: Kind) -> Result<Option<Declaration>, NoMemory>
+        ensures earlier { IfOk result (λ earlier. earlier ≡ found self.old.inner name.now.text) }
+        ensures declares { OnOk result (self.new ≡ enter self.old (declares name.now kind)) }
+    {
+        self.inner.declare(name, kind)
+    }
+
+    /// What a name stands for.
+    pub fn find(&self, name: &str) -> Option<Declaration>
+        ensures { result ≡ bound self.now name.now }
+    {
+        match self.inner.find(name) {
+            Some(declaration) => Some(declaration),
+            None => find_around(&self.outer, name),
+        }
+    }
+}
+
+fn find_around(outer: &[Scope<'_>], name: &str) -> Option<Declaration>
+    ensures { result ≡ bound_around (reverse outer.now) name.now }
+{
+    outer.iter().rev().find_map(|scope| scope.find(name))
 }
