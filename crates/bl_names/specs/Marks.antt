@@ -5,6 +5,7 @@ use Rattle.bl_tree.specs.declared.tree.UnitKind.TheVariants as unit
 use Rattle.bl_tree.specs.Reduce.{joined}
 use Rattle.bl_raw.specs.declared.expr.RawExpr.{RawExpr, fold-RawExpr}
 use Rattle.bl_raw.specs.declared.expr.RawExprKind.TheOpen.{RawExprKind-F, RawPart-F, RawExpr-F, RawTarget-F}
+use Rattle.bl_raw.specs.declared.expr.RawPart.{RawPart, fold-RawPart}
 use Rattle.bl_raw.specs.declared.expr.RawTarget.{RawTarget, fold-RawTarget}
 use Rattle.bl_raw.specs.declared.item.RawField.{RawField}
 use Rattle.bl_raw.specs.declared.item.RawItem.{RawItem}
@@ -13,6 +14,8 @@ use Rattle.bl_raw.specs.declared.item.RawParam.{RawParam}
 use Rattle.bl_raw.specs.declared.item.RawStruct.{RawStruct}
 use Rattle.bl_raw.specs.declared.item.RawUnit.{RawUnit}
 use Rattle.bl_raw.specs.declared.name.Name.{Name}
+use Rattle.bl_raw.specs.declared.stmt.RawArm.{RawArm, fold-RawArm}
+use Rattle.bl_raw.specs.declared.stmt.RawBranch.{RawBranch, fold-RawBranch}
 use Rattle.bl_raw.specs.declared.stmt.RawConstant.{RawConstant}
 use Rattle.bl_raw.specs.declared.stmt.RawPath.{RawPath}
 use Rattle.bl_raw.specs.declared.stmt.RawStmt.{RawStmt, fold-RawStmt}
@@ -90,6 +93,9 @@ expr_marks = fold-RawExpr Marks Marks Marks (Wanted → Marks) kind_marks part_m
 abbrev pub target_marks : RawTarget → Wanted → Marks
 target_marks = fold-RawTarget Marks Marks Marks (Wanted → Marks) kind_marks part_marks expr_layer_marks target_layer_marks
 
+abbrev pub marks_of_part : RawPart → Marks
+marks_of_part = fold-RawPart Marks Marks Marks (Wanted → Marks) kind_marks part_marks expr_layer_marks target_layer_marks
+
 abbrev pub path_marks : RawPath → Marks
 path_marks path = uses path.root wanted.Variable ∷ []
 
@@ -98,14 +104,18 @@ path_marks path = uses path.root wanted.Variable ∷ []
 abbrev pub argument_marks : List RawExpr → List RawPath → Marks
 argument_marks inputs outputs = joined (map expr_marks inputs) ++ joined (map path_marks outputs)
 
+-- a name is visible after what stands in its declaration
+abbrev pub declared_after : Marks → Name → Kind → Marks
+declared_after marks name kind = marks ++ (declares name kind ∷ [])
+
 -- a constant is visible after its value
 abbrev pub constant_marks : RawConstant → Marks
-constant_marks constant = optional type_marks constant.ty ++ (expr_marks constant.value ++ (declares constant.name kind.Constant ∷ []))
+constant_marks constant = declared_after (optional type_marks constant.ty ++ expr_marks constant.value) constant.name kind.Constant
 
 -- a variable is visible after its initial value; the condition of `until` sees the names around its loop
 abbrev pub stmt_kind_marks : RawStmtKind-F Marks Marks Marks Marks → Marks
-stmt_kind_marks (RawStmtKind-F.Var name ty value) = optional type_marks ty ++ (optional expr_marks value ++ (declares name kind.Variable ∷ []))
-stmt_kind_marks (RawStmtKind-F.Let name ty value) = optional type_marks ty ++ (expr_marks value ++ (declares name kind.Variable ∷ []))
+stmt_kind_marks (RawStmtKind-F.Var name ty value) = declared_after (optional type_marks ty ++ optional expr_marks value) name kind.Variable
+stmt_kind_marks (RawStmtKind-F.Let name ty value) = declared_after (optional type_marks ty ++ expr_marks value) name kind.Variable
 stmt_kind_marks (RawStmtKind-F.Const constant) = constant_marks constant
 stmt_kind_marks (RawStmtKind-F.Assign target e) = target_marks target wanted.Variable ++ expr_marks e
 stmt_kind_marks (RawStmtKind-F.Call f inputs outputs) = uses f wanted.Function ∷ argument_marks inputs outputs
@@ -132,6 +142,13 @@ stmt_layer_marks s = s.what
 abbrev pub stmt_marks : RawStmt → Marks
 stmt_marks = fold-RawStmt Marks Marks Marks Marks stmt_kind_marks arm_layer_marks branch_layer_marks stmt_layer_marks
 
+-- the same of an arm and of a branch
+abbrev pub marks_of_arm : RawArm → Marks
+marks_of_arm = fold-RawArm Marks Marks Marks Marks stmt_kind_marks arm_layer_marks branch_layer_marks stmt_layer_marks
+
+abbrev pub marks_of_branch : RawBranch → Marks
+marks_of_branch = fold-RawBranch Marks Marks Marks Marks stmt_kind_marks arm_layer_marks branch_layer_marks stmt_layer_marks
+
 -- ---- items
 
 abbrev pub field_type_marks : RawField → Marks
@@ -142,21 +159,24 @@ field_mark field = declares field.name kind.Field
 
 -- the fields are declared in a scope that holds no use, and the struct is visible after them
 abbrev pub struct_marks : RawStruct → Marks
-struct_marks def = joined (map field_type_marks def.fields) ++ (in_scope (map field_mark def.fields) ++ (declares def.name kind.Struct ∷ []))
+struct_marks def = declared_after (joined (map field_type_marks def.fields) ++ in_scope (map field_mark def.fields)) def.name kind.Struct
 
 -- a parameter is visible after its type
 abbrev pub param_marks : RawParam → Marks
-param_marks param = type_marks param.ty ++ (declares param.name kind.Variable ∷ [])
+param_marks param = declared_after (type_marks param.ty) param.name kind.Variable
 
 abbrev pub kind_of_unit : UnitKind → Kind
 kind_of_unit unit.Function = kind.Function
 kind_of_unit unit.Activity = kind.Activity
 
--- parameters and the statements directly in the body share one scope, and the unit is visible after it
+-- the parameters and the statements directly in the body
+abbrev pub inside_unit : RawUnit → Marks
+inside_unit def =
+    joined (map param_marks def.inputs) ++ (joined (map param_marks def.outputs) ++ (optional type_marks def.result ++ joined (map stmt_marks def.body)))
+
+-- these share one scope, and the unit is visible after it
 abbrev pub unit_marks : RawUnit → Marks
-unit_marks def =
-    in_scope (joined (map param_marks def.inputs) ++ (joined (map param_marks def.outputs) ++ (optional type_marks def.result ++ joined (map stmt_marks def.body))))
-    ++ (declares def.name (kind_of_unit def.kind) ∷ [])
+unit_marks def = declared_after (in_scope (inside_unit def)) def.name (kind_of_unit def.kind)
 
 abbrev pub item_marks : RawItem → Marks
 item_marks (item.Struct def) = struct_marks def

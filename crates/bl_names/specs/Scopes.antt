@@ -48,10 +48,13 @@ left (scope ∷ outer) = record { inner = scope; outer = outer }
 abbrev pub declaration_of : Name → Kind → Declaration
 declaration_of name kind = record { kind = kind; place = name.place }
 
+abbrev pub with_name : Declared → Name → Kind → Declared
+with_name scope name kind = scope ++ ((name.text, declaration_of name kind) ∷ [])
+
 -- a name that the scope declares already stays what it is
 abbrev pub declared : Option Declaration → Declared → Name → Kind → Declared
 declared (Some earlier) scope name kind = scope
-declared None scope name kind = scope ++ ((name.text, declaration_of name kind) ∷ [])
+declared None scope name kind = with_name scope name kind
 
 -- the scopes that are open after a mark
 abbrev pub enter : Scopes → Mark → Scopes

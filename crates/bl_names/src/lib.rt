@@ -2,7 +2,10 @@
 //! and "Rules").
 #![tactic(auto)]
 
+mod expr;
 mod failure;
+mod item;
 mod judge;
 mod kind;
 mod scopes;
+mod stmt;

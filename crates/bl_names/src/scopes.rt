@@ -2,7 +2,7 @@
 
 ghost use Rattle.std.specs.Prelude.{◌≡◌, None, IfOk, OnOk, reverse};
 ghost use Rattle.bl_names.specs.Marks.{closes, declares, opens};
-ghost use Rattle.bl_names.specs.Scopes.{bound, bound_around, declared, enter, file_scope, found, nothing};
+ghost use Rattle.bl_names.specs.Scopes.{bound, bound_around, declared, enter, file_scope, found, nothing, with_name};
 
 use crate::kind::Kind;
 use bl_raw::name::Name;
@@ -48,21 +48,32 @@ impl<'a> Scope<'a> {
         self.names.get(&name).copied()
     }
 
-    /// Answers the earlier declaration of the name, where there is one, which stays.
-    fn declare(&mut self, name: &'a Name, kind: Kind) -> Result<Option<Declaration>, NoMemory>
-        ensures earlier { IfOk result (λ earlier. earlier ≡ found self.old name.now.text) }
-        ensures declares { OnOk result (self.new ≡ declared (found self.old name.now.text) self.old name.now kind) }
+    /// Declares a name that the scope hasn't.
+    fn add(&mut self, name: &'a Name, kind: Kind) -> Result<(), NoMemory>
+        requires { found self.old name.now.text ≡ None }
+        ensures { OnOk result (self.new ≡ with_name self.old name.now kind) }
     {
-        if let Some(earlier) = self.find(&name.text) {
-            return Ok(Some(earlier));
-        }
         let declaration = Declaration {
             kind,
             place: name.place,
         };
         match self.names.insert(name.text.as_str(), declaration) {
-            Ok(_) => Ok(None),
+            Ok(_) => Ok(()),
             Err(_) => Err(NoMemory),
+        }
+    }
+
+    /// Answers the earlier declaration of the name, where there is one, which stays.
+    fn declare(&mut self, name: &'a Name, kind: Kind) -> Result<Option<Declaration>, NoMemory>
+        ensures earlier { IfOk result (λ earlier. earlier ≡ found self.old name.now.text) }
+        ensures declares { OnOk result (self.new ≡ declared (found self.old name.now.text) self.old name.now kind) }
+    {
+        match self.find(&name.text) {
+            Some(earlier) => Ok(Some(earlier)),
+            None => {
+                self.add(name, kind)?;
+                Ok(None)
+            }
         }
     }
 }
@@ -108,10 +119,11 @@ impl<'a> Scopes<'a> {
     pub fn close(&mut self, alloc: Global)
         ensures { self.new ≡ enter self.old closes }
     {
-        match self.outer.pop() {
-            Some(scope) => self.inner = scope,
-            None => self.inner = Scope::new(alloc),
-        }
+        let around = match self.outer.pop() {
+            Some(scope) => scope,
+            None => Scope::new(alloc),
+        };
+        drop(mem::replace(&mut self.inner, around));
     }
 
     /// Answers the earlier declaration of the name in the innermost scope, where there is one, which stays.
@@ -136,5 +148,10 @@ impl<'a> Scopes<'a> {
 fn find_around(outer: &[Scope<'_>], name: &str) -> Option<Declaration>
     ensures { result ≡ bound_around (reverse outer.now) name.now }
 {
-    outer.iter().rev().find_map(|scope| scope.find(name))
+    for k in (0..outer.len()).rev() {
+        if let Some(declaration) = outer[k].find(name) {
+            return Some(declaration);
+        }
+    }
+    None
 }
