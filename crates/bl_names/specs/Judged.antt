@@ -1,9 +1,9 @@
 -- What a judge remembers after marks.
-use Rattle.std.specs.Prelude.{[], ◌∷◌}
+use Rattle.std.specs.Prelude.{[], ◌∷◌, None}
 use Rattle.bl_names.specs.declared.judge.Judge.{Judge}
 use Rattle.bl_names.specs.Failures.{duplicate_at, kept, kind_at, unknown_at}
 use Rattle.bl_names.specs.Marks.{Mark, Marks}
-use Rattle.bl_names.specs.Scopes.{enter}
+use Rattle.bl_names.specs.Scopes.{enter, file_scope}
 
 -- the scopes after a mark, and of each rule the first failure so far
 abbrev pub judged : Judge → Mark → Judge
@@ -17,3 +17,7 @@ judged judge mark = record {
 abbrev pub judged_by : Judge → Marks → Judge
 judged_by judge [] = judge
 judged_by judge (mark ∷ rest) = judged_by (judged judge mark) rest
+
+-- a judge at the start of a file
+abbrev pub fresh : Judge
+fresh = record { scopes = file_scope; duplicate = None; unknown = None; kind = None }

@@ -84,10 +84,18 @@ pub fn target(target: &RawTarget, wanted: Wanted, judge: &mut Judge<'_>)
 fn parts(all: &[RawPart], judge: &mut Judge<'_>)
     ensures { judge.new ≡ judged_by judge.old (joined (map marks_of_part all.now)) }
 {
-    for part in all {
-        if let RawPart::Index(e) = part {
-            expr(e, judge);
-        }
+    for one in all {
+        part(one, judge);
+    }
+}
+
+#[cycle(expressions)]
+fn part(part: &RawPart, judge: &mut Judge<'_>)
+    ensures { judge.new ≡ judged_by judge.old (marks_of_part part.now) }
+{
+    match part {
+        RawPart::Field(_) => {}
+        RawPart::Index(e) => expr(e, judge),
     }
 }
 

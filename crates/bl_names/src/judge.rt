@@ -1,9 +1,8 @@
 //! What is judged on the way through a program: the open scopes, and of each rule the first failure so far.
 
-ghost use Rattle.std.specs.Prelude.{◌≡◌, None, OnOk};
-ghost use Rattle.bl_names.specs.Judged.{judged};
+ghost use Rattle.std.specs.Prelude.{◌≡◌, OnOk};
+ghost use Rattle.bl_names.specs.Judged.{fresh, judged};
 ghost use Rattle.bl_names.specs.Marks.{closes, declares, opens, uses};
-ghost use Rattle.bl_names.specs.Scopes.{file_scope};
 
 use crate::failure::{Failure, lesser};
 use crate::kind::{Kind, Wanted, suits};
@@ -23,7 +22,7 @@ pub struct Judge<'a> {
 
 impl<'a> Judge<'a> {
     pub fn new(alloc: Global) -> Judge<'a>
-        ensures { result ≡ record { scopes = file_scope; duplicate = None; unknown = None; kind = None } }
+        ensures { result ≡ fresh }
     {
         Judge {
             scopes: Scopes::new(alloc),

@@ -7,5 +7,8 @@ mod failure;
 mod item;
 mod judge;
 mod kind;
+mod rules;
 mod scopes;
 mod stmt;
+
+pub use rules::check;

@@ -112,7 +112,11 @@ fn statement<'a>(alloc: Global, s: &'a RawStmt, judge: &mut Judge<'a>) -> Result
             scope(alloc, other, judge)
         }
         RawStmtKind::Cobegin(all) => branches(alloc, all, judge),
-        RawStmtKind::When(_, e, body) | RawStmtKind::While(e, body) => {
+        RawStmtKind::When(_, e, body) => {
+            expr(e, judge);
+            scope(alloc, body, judge)
+        }
+        RawStmtKind::While(e, body) => {
             expr(e, judge);
             scope(alloc, body, judge)
         }
