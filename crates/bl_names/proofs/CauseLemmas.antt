@@ -1,14 +1,12 @@
 -- What is found first is why a program is refused, and where nothing is found it passes.
-use Rattle.std.proofs.Common.{◌≡◌, ℕ, Bool, true, false, cond, List, [], ◌∷◌, ◌++◌, inl, inr, ⊎_elim, Option, Some, None, refl, ap, sym, ◌∙◌, subst, arith}
+use Rattle.std.proofs.Common.{◌≡◌, ℕ, true, false, cond, List, [], ◌∷◌, ◌++◌, inl, inr, ⊎_elim, Option, Some, None, refl, ap, sym, ◌∙◌, subst, arith}
 use Rattle.std.specs.Prelude.{option_map}
 use Rattle.bl_tree.specs.declared.place.Place.{Place}
 use Rattle.bl_tree.specs.declared.place.Refusal.{Refusal}
 use Rattle.bl_tree.specs.declared.place.Refusal.TheVariants.{Rule, NoMemory}
 use Rattle.bl_raw.specs.declared.item.RawItem.{RawItem}
-use Rattle.bl_raw.specs.declared.name.Name.{Name}
 use Rattle.bl_names.specs.declared.failure.Failure.{Failure}
 use Rattle.bl_names.specs.declared.judge.Judge.{Judge}
-use Rattle.bl_names.specs.declared.kind.Kind.{Kind}
 use Rattle.bl_names.specs.declared.kind.Wanted.{Wanted}
 use Rattle.bl_names.specs.declared.scopes.Declaration.{Declaration}
 use Rattle.bl_names.specs.Cause.{IsCause}
@@ -19,7 +17,7 @@ use Rattle.bl_names.specs.Marks.{Mark, Marks, opens, closes, declares, uses, mar
 use Rattle.bl_names.specs.Rules.{AreNoLater, FailsDuplicate, FailsFirst, FailsKind, FailsUnknown, Passes, Stands}
 use Rattle.bl_names.specs.Scopes.{Scopes, after, bound, file_scope, found}
 use Rattle.bl_names.proofs.OrderLemmas.{In, NoLater, first_is, least, none_is}
-use Rattle.bl_names.proofs.TellLemmas.{Happens, duplicate_is, kind_is, told, told_from, told_to, unknown_is}
+use Rattle.bl_names.proofs.TellLemmas.{duplicate_is, kind_is, told, told_from, told_to, unknown_is}
 
 -- ---- each rule at a mark
 

@@ -21,7 +21,7 @@ use Rattle.bl_names.specs.declared.kind.Wanted.{Wanted}
 use Rattle.bl_names.specs.declared.kind.Wanted.TheVariants as wanted
 use Rattle.bl_names.specs.declared.judge.Judge.{Judge}
 use Rattle.bl_names.specs.Judged.{judged, judged_by}
-use Rattle.bl_names.specs.Marks.{Mark, Marks, arm_layer_marks, branch_layer_marks, expr_layer_marks, expr_marks, in_scope, kind_marks, marks_of_arm, marks_of_branch, marks_of_part, part_marks, stmt_kind_marks, stmt_layer_marks, stmt_marks, target_layer_marks, target_marks}
+use Rattle.bl_names.specs.Marks.{Marks, arm_layer_marks, branch_layer_marks, expr_layer_marks, expr_marks, in_scope, kind_marks, marks_of_arm, marks_of_branch, marks_of_part, part_marks, stmt_kind_marks, stmt_layer_marks, stmt_marks, target_layer_marks, target_marks}
 
 pub judged-append : (judge : Judge) (first second : Marks) → judged_by judge (first ++ second) ≡ judged_by (judged_by judge first) second
 judged-append judge [] second = refl

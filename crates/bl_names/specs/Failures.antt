@@ -1,15 +1,14 @@
 -- Failures as values, and the first of several.
-use Rattle.std.specs.Prelude.{◌≡◌, ℕ, Bool, ◌&&◌, ◌||◌, nat_eq, nat_lt, List, [], ◌∷◌, Option, Some, None, option_map, if◌then◌else◌, ⊤}
+use Rattle.std.specs.Prelude.{◌≡◌, ℕ, Bool, ◌&&◌, ◌||◌, nat_eq, nat_lt, List, Option, Some, None, option_map, if◌then◌else◌, ⊤}
 use Rattle.bl_tree.specs.declared.place.Place.{Place}
 use Rattle.bl_tree.specs.declared.place.Refusal.{Refusal}
 use Rattle.bl_tree.specs.declared.place.Refusal.TheVariants.{Rule, NoMemory}
-use Rattle.bl_raw.specs.declared.name.Name.{Name}
 use Rattle.bl_names.specs.declared.failure.Failure.{Failure}
 use Rattle.bl_names.specs.declared.kind.Wanted.{Wanted}
 use Rattle.bl_names.specs.declared.scopes.Declaration.{Declaration}
 use Rattle.bl_names.specs.Kinds.{suits}
-use Rattle.bl_names.specs.Marks.{Mark, Marks, opens, closes, declares, uses}
-use Rattle.bl_names.specs.Scopes.{Scopes, bound, enter, found}
+use Rattle.bl_names.specs.Marks.{Mark, opens, closes, declares, uses}
+use Rattle.bl_names.specs.Scopes.{Scopes, bound, found}
 
 -- ---- the first of several
 

@@ -1,10 +1,9 @@
 use Rattle.std.proofs.Common.{◌≡◌, ◌++◌, ap, sym, ◌∙◌}
 use Rattle.bl_raw.specs.declared.stmt.RawArm.{out-RawArm}
 use Rattle.bl_names.specs.Judged.{judged_by}
-use Rattle.bl_names.specs.Kinds.{suits}
 use Rattle.bl_names.specs.declared.kind.Wanted.TheVariants as wanted
 use Rattle.bl_names.specs.Marks.{expr_marks, marks_of_arm, marks_of_branch, stmt_marks, target_marks}
-use Rattle.bl_names.proofs.WalkLemmas.{arm_out, arms_marks, assign_out, body_marks, branch_out, if_out, judged-next, next_of, on_ok, then_is, until_out}
+use Rattle.bl_names.proofs.WalkLemmas.{arm_out, arms_marks, assign_out, body_marks, branch_out, if_out, judged-next, next_of, on_ok, then_is, until_out, when_out, while_out}
 use Rattle.bl_names.proofs.stmt.+statements.Goals as goal
 
 pub block-loop-s-preserved : goal.block-loop-s-preserved
@@ -36,8 +35,8 @@ statement-returns-in_ok-arms-in-If t c =
 
 pub statement-returns-in_ok-scope-in-Until : goal.statement-returns-in_ok-scope-in-Until
 statement-returns-in_ok-scope-in-Until t c =
-    then_is c.args.judge.now c.scope-in-Until.new.judge c.expr.new.judge (body_marks c.deref-in-Until.result.now) (expr_marks c.in-Until.e) (stmt_marks c.args.s.now)
-    c.in_ok-scope-in-Until.ensures c.expr.ensures (until_out c.args.s.now c.in-Until.body c.deref-in-Until.result.now c.in-Until.e c.in-Until.is c.deref-in-Until.ensures)
+    then_is c.args.judge.now c.scope-in-Until.new.judge c.expr-in-Until.new.judge (body_marks c.deref-in-Until.result.now) (expr_marks c.in-Until.e) (stmt_marks c.args.s.now)
+    c.in_ok-scope-in-Until.ensures c.expr-in-Until.ensures (until_out c.args.s.now c.in-Until.body c.deref-in-Until.result.now c.in-Until.e c.in-Until.is c.deref-in-Until.ensures)
 
 pub statement-returns-in-Assign : goal.statement-returns-in-Assign
 statement-returns-in-Assign t c =
@@ -45,7 +44,15 @@ statement-returns-in-Assign t c =
     c.target.ensures c.expr-in-Assign.ensures (assign_out c.args.s.now c.in-Assign.place c.in-Assign.e c.in-Assign.is)
 
 pub statement-returns-in-When : goal.statement-returns-in-When
-statement-returns-in-When t c = ?
+statement-returns-in-When t c =
+    on_ok (c.scope-in-When.new.judge ≡ judged_by c.expr.new.judge (body_marks c.deref-in-When.result.now)) (c.scope-in-When.new.judge ≡ judged_by c.args.judge.now (stmt_marks c.args.s.now)) c.scope-in-When.result
+    (λ second. then_is c.args.judge.now c.expr.new.judge c.scope-in-When.new.judge (expr_marks c.in-When.e) (body_marks c.deref-in-When.result.now) (stmt_marks c.args.s.now)
+    c.expr.ensures second (when_out c.args.s.now c.in-When.field-0 c.in-When.e c.in-When.body c.deref-in-When.result.now c.in-When.is c.deref-in-When.ensures))
+    c.scope-in-When.ensures
 
 pub statement-returns-in-While : goal.statement-returns-in-While
-statement-returns-in-While t c = ?
+statement-returns-in-While t c =
+    on_ok (c.scope-in-While.new.judge ≡ judged_by c.expr-in-While.new.judge (body_marks c.deref-in-While.result.now)) (c.scope-in-While.new.judge ≡ judged_by c.args.judge.now (stmt_marks c.args.s.now)) c.scope-in-While.result
+    (λ second. then_is c.args.judge.now c.expr-in-While.new.judge c.scope-in-While.new.judge (expr_marks c.in-While.e) (body_marks c.deref-in-While.result.now) (stmt_marks c.args.s.now)
+    c.expr-in-While.ensures second (while_out c.args.s.now c.in-While.e c.in-While.body c.deref-in-While.result.now c.in-While.is c.deref-in-While.ensures))
+    c.scope-in-While.ensures

@@ -1,4 +1,4 @@
-use Rattle.std.proofs.Common.{◌≡◌, ap, sym, ◌∙◌, subst}
+use Rattle.std.proofs.Common.{ap, ◌∙◌}
 use Rattle.bl_names.specs.Scopes.{found}
 use Rattle.bl_names.proofs.ScopeLemmas.{found_named}
 use Rattle.bl_names.proofs.scopes.Scope.find.Goals as goal
