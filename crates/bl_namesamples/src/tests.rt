@@ -5,6 +5,7 @@ use bl_names::check;
 use bl_parse::read;
 use bl_tree::{List, Place, Refusal};
 use std::alloc::Global;
+use std::process::Abort;
 use std::test::Fail;
 
 /// A text, the rule that it fails, where, and the further place that is told; a rule that tells none has its place twice.
@@ -26,11 +27,13 @@ fn told(alloc: Global, text: &str) -> Result<(u8, Place, List<Place>), Fail> {
     };
     match check(alloc, &raw) {
         Ok(()) => Ok((0, Place { start: 0, end: 0 }, List::new(alloc))),
-        Err(Refusal::Rule {
-            number,
-            place,
-            also,
-        }) => Ok((number, place, also)),
+        Err(
+            Refusal::Rule {
+                number,
+                place,
+                also,
+            },
+        ) => Ok((number, place, also)),
         Err(Refusal::NoMemory) => Err("no memory".into()),
     }
 }
@@ -43,9 +46,9 @@ fn last(place: Place, also: &[Place]) -> Place {
     }
 }
 
-fn expect_all(rt: &HostRuntime, rows: &[Row]) -> Result<(), Fail> {
+fn expect_all(rt: &impl Abort, alloc: Global, rows: &[Row]) -> Result<(), Fail> {
     for (text, number, at, also) in rows {
-        let (rule, place, others) = told(rt.alloc(), text)?;
+        let (rule, place, others) = told(alloc, text)?;
         assert_eq!(rt; rule, *number, "{text}");
         assert_eq!(rt; (place.start, place.end), *at, "{text}");
         let other = last(place, &others);
@@ -78,47 +81,151 @@ fn names_of_inner_scopes_hide_outer_ones(rt: HostRuntime) -> Result<(), Fail> {
 fn names_that_are_declared_twice(rt: HostRuntime) -> Result<(), Fail> {
     let rows: [Row; 6] = [
         ("activity A (a: int32)(a: int32) end", 6, (22, 23), (12, 13)),
-        ("activity A (a: int32)() var a: int32 end", 6, (28, 29), (12, 13)),
-        ("struct S var a: int8 var b: int8 var a: int16 end", 6, (37, 38), (13, 14)),
-        ("const A: int8 = 1 function A () end const A: int8 = 2", 6, (27, 28), (6, 7)),
-        ("activity A () x = 1 var y: int8 if true then var z: S let z = 1 end var y: int8 end", 6, (58, 59), (49, 50)),
-        ("activity A () cobegin var x: int8 with const x = 1 var x: int8 end end", 6, (55, 56), (45, 46)),
+        (
+            "activity A (a: int32)() var a: int32 end",
+            6,
+            (28, 29),
+            (12, 13),
+        ),
+        (
+            "struct S var a: int8 var b: int8 var a: int16 end",
+            6,
+            (37, 38),
+            (13, 14),
+        ),
+        (
+            "const A: int8 = 1 function A () end const A: int8 = 2",
+            6,
+            (27, 28),
+            (6, 7),
+        ),
+        (
+            "activity A () x = 1 var y: int8 if true then var z: S let z = 1 end var y: int8 end",
+            6,
+            (58, 59),
+            (49, 50),
+        ),
+        (
+            "activity A () cobegin var x: int8 with const x = 1 var x: int8 end end",
+            6,
+            (55, 56),
+            (45, 46),
+        ),
     ];
-    expect_all(&rt, &rows)
+    expect_all(&rt, rt.alloc(), &rows)
 }
 
 #[test]
 fn names_that_are_not_visible(rt: HostRuntime) -> Result<(), Fail> {
     let rows: [Row; 10] = [
-        ("activity A () repeat var x: bool x = true until x end end", 7, (48, 49), (48, 49)),
-        ("function F () returns int32 return F() end", 7, (35, 36), (35, 36)),
+        (
+            "activity A () repeat var x: bool x = true until x end end",
+            7,
+            (48, 49),
+            (48, 49),
+        ),
+        (
+            "function F () returns int32 return F() end",
+            7,
+            (35, 36),
+            (35, 36),
+        ),
         ("activity A () var x: int32 = x end", 7, (29, 30), (29, 30)),
         ("struct S var s: [3]S end", 7, (19, 20), (19, 20)),
-        ("activity A () x = y var x: int32 end", 7, (14, 15), (14, 15)),
+        (
+            "activity A () x = y var x: int32 end",
+            7,
+            (14, 15),
+            (14, 15),
+        ),
         ("activity A () var s: S end", 7, (21, 22), (21, 22)),
-        ("activity A () cobegin var x: int32 with x = 1 end end", 7, (40, 41), (40, 41)),
+        (
+            "activity A () cobegin var x: int32 with x = 1 end end",
+            7,
+            (40, 41),
+            (40, 41),
+        ),
         ("function F (a: [a]int32) end", 7, (16, 17), (16, 17)),
         ("activity A () A2 = 1 end", 7, (14, 16), (14, 16)),
-        ("const A: int32 = 1 activity B () A = 1 C(D) end", 7, (39, 40), (39, 40)),
+        (
+            "const A: int32 = 1 activity B () A = 1 C(D) end",
+            7,
+            (39, 40),
+            (39, 40),
+        ),
     ];
-    expect_all(&rt, &rows)
+    expect_all(&rt, rt.alloc(), &rows)
 }
 
 #[test]
 fn names_of_another_kind(rt: HostRuntime) -> Result<(), Fail> {
     let rows: [Row; 11] = [
-        ("activity A (a: int32, b: [a]int32) end", 8, (26, 27), (12, 13)),
-        ("const N: int32 = 5 activity A () N = 1 end", 8, (33, 34), (6, 7)),
-        ("const N: int32 = 5 activity A () var N: int32 var b: [N]int32 end", 8, (54, 55), (37, 38)),
-        ("function F () returns int32 return 1 end activity A () var x: int32 = prev F end", 8, (75, 76), (9, 10)),
-        ("function F () end activity A () run F() end", 8, (36, 37), (9, 10)),
-        ("activity A () end activity B () A() end", 8, (32, 33), (9, 10)),
-        ("const C: int32 = 1 activity A () var s: C end", 8, (40, 41), (6, 7)),
-        ("const C: int32 = 1 activity A () var x: int32 = prev C end", 8, (53, 54), (6, 7)),
-        ("struct S var n: int32 end activity A () var x: int32 = S.n end", 8, (55, 56), (7, 8)),
-        ("function F (x: int32)(S: int32) returns S end", 8, (40, 41), (22, 23)),
-        ("activity A () end const B: int32 = 1 function F ()(o: int32) o = A(1) end", 8, (65, 66), (9, 10)),
+        (
+            "activity A (a: int32, b: [a]int32) end",
+            8,
+            (26, 27),
+            (12, 13),
+        ),
+        (
+            "const N: int32 = 5 activity A () N = 1 end",
+            8,
+            (33, 34),
+            (6, 7),
+        ),
+        (
+            "const N: int32 = 5 activity A () var N: int32 var b: [N]int32 end",
+            8,
+            (54, 55),
+            (37, 38),
+        ),
+        (
+            "function F () returns int32 return 1 end activity A () var x: int32 = prev F end",
+            8,
+            (75, 76),
+            (9, 10),
+        ),
+        (
+            "function F () end activity A () run F() end",
+            8,
+            (36, 37),
+            (9, 10),
+        ),
+        (
+            "activity A () end activity B () A() end",
+            8,
+            (32, 33),
+            (9, 10),
+        ),
+        (
+            "const C: int32 = 1 activity A () var s: C end",
+            8,
+            (40, 41),
+            (6, 7),
+        ),
+        (
+            "const C: int32 = 1 activity A () var x: int32 = prev C end",
+            8,
+            (53, 54),
+            (6, 7),
+        ),
+        (
+            "struct S var n: int32 end activity A () var x: int32 = S.n end",
+            8,
+            (55, 56),
+            (7, 8),
+        ),
+        (
+            "function F (x: int32)(S: int32) returns S end",
+            8,
+            (40, 41),
+            (22, 23),
+        ),
+        (
+            "activity A () end const B: int32 = 1 function F ()(o: int32) o = A(1) end",
+            8,
+            (65, 66),
+            (9, 10),
+        ),
     ];
-    expect_all(&rt, &rows)
+    expect_all(&rt, rt.alloc(), &rows)
 }
-
