@@ -1,0 +1,4 @@
+mod Choices
+mod Facts
+mod MadeLemmas
+pub mod Recognised
