@@ -1,4 +1,6 @@
 mod Choices
 mod Facts
 mod MadeLemmas
-pub mod Recognised
+mod ParamLemmas
+mod Recognised
+mod StepLemmas

@@ -94,7 +94,8 @@ pub depth_path : (at : Place) (root : ℕ) (s : Scalar) → path_depth (path_of 
 depth_path at root s = rw fold-roll-Path refl
 
 pub variable_path : (at : Place) (root : ℕ) (s : Scalar) → variable_of (path_of at root s) ≡ Some root
-variable_path at root s = rw out-roll-Path refl
+variable_path at root s =
+    ap (λ (path : Path-F ExprKind Part Expr Path). form.alone path.root path.parts) (out-roll-Path (record { place = at; root = root; parts = []; ty = scalar s }))
 
 pub type_literal : (site : Site) (place : Place) (n : ℤ) (s : Scalar) → type_of site (expr_of place (ExprKind-F.Literal n s)) ≡ literal_type s (in_range s n)
 type_literal site place n s = rw (fold-roll-Expr, fold-roll-ExprKind) refl

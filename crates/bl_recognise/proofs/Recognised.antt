@@ -1,5 +1,5 @@
 -- Which units are made: each is the one unit of a program, and of the form.
-use Rattle.std.proofs.Common.{◌≡◌, ℕ, ℤ, pos, ◌+◌, ◌≤◌, Bool, true, false, ◌&&◌, ◌||◌, not, List, [], ◌∷◌, ◌++◌, map, length, take, drop, Option, Some, None, refl, sym, ap, ◌∙◌, subst, arith, suc, if◌then◌else◌}
+use Rattle.std.proofs.Common.{◌≡◌, ℕ, ℤ, pos, ◌+◌, ◌≤◌, Bool, true, false, ◌&&◌, ◌||◌, not, List, [], ◌∷◌, ◌++◌, map, length, take, drop, Option, Some, None, refl, sym, ap, ◌∙◌, subst, arith, max, suc, if◌then◌else◌}
 use Rattle.std.specs.Prelude.{int_le, is_none, is_some, nat_eq, nat_le, option_and_then, option_map, position, slice_get, bytes_eq}
 use Rattle.std.specs.List.{list_all, list_any}
 use Rattle.std.proofs.Math.Seq.{drop-append_seam, drop-length, take-append_seam, take-length}
@@ -311,7 +311,9 @@ set_step : (vars : List Var) (place at : Place) (root : ℕ) (s : Scalar) (e : E
 set_step vars place at root s e stands source = record {
   tame = set_tame vars place at root s e stands source.typed;
   form = Step.Set root source.form;
-  is = ap form.step_in (layer_stmt place (StmtKind-F.Assign (path_of at root s) e)) ∙ rw (variable_path at root s, source.is) refl;
+  is = ap form.step_in (layer_stmt place (StmtKind-F.Assign (path_of at root s) e))
+      ∙ ap (option_and_then (λ k. option_map (Step.Set k) (form.source_of e))) (variable_path at root s)
+      ∙ ap (option_map (Step.Set root)) source.is;
   pausing = refl;
 }
 
@@ -404,12 +406,19 @@ steps vars (s ∷ body) made is =
     subst (λ (made : List Stmt). AreSteps vars made (list_any is_await (s ∷ body)) (length (s ∷ body))) c.is
     (first_step vars c.head c.tail (is_await s) (list_any is_await body) (length body) (a_step vars s c.head c.first) (steps vars body c.tail c.others))
 
+few_blocks : (n : ℕ) → n ≤ 0 → nat_le (1 + max (1 + n) 0) 200 ≡ true
+few_blocks n none = le-leb (1 + max (1 + n) 0) 200 (omega (arith, none))
+
+few_exprs : (n : ℕ) → n ≤ 200 → nat_le (max (max 0 n) 0) 200 ≡ true
+few_exprs n few = le-leb (max (max 0 n) 0) 200 (omega (arith, few))
+
 looping : (vars : List Var) (place : Place) (body : List Stmt) (many : ℕ) → many ≤ 1000 → AreSteps vars body true many → IsLooping vars (stmt_of place (StmtKind-F.Repeat body))
 looping vars place body many few are = record {
   fitting = fits_repeat (site_with vars) place body ∙ are.tame.fitting;
   returnless = has_return_repeat place body ∙ are.tame.returnless;
   shallow = rw (depth_repeat place body)
-      (both _ _ (le-leb _ 200 (omega (arith, are.tame.flat))) (le-leb _ 200 (omega (arith, are.tame.shallow))));
+      (both _ _ (few_blocks (greatest (map (λ (d : Depth). d.blocks) (map depth_of body))) are.tame.flat)
+      (few_exprs (greatest (map (λ (d : Depth). d.exprs) (map depth_of body))) are.tame.shallow));
   apart = ap (λ (n : Naming). n.apart) (naming_repeat place body) ∙ are.tame.apart;
   body = body;
   is = ap form.repeated (layer_stmt place (StmtKind-F.Repeat body));
@@ -518,6 +527,10 @@ whole_of raw unit is = (only raw.items unit is).whole
 -- and of the form
 pub early_is : (raw : Raw) (unit : UnitDef) → early_of raw ≡ Some unit → is_early [] (unit ∷ []) ≡ true
 early_is raw unit is = (only raw.items unit is).early
+
+pub early_at : (raw : Raw) (unit : UnitDef) (structs : List StructDef) (units : List UnitDef) → early_of raw ≡ Some unit → structs ≡ [] → units ≡ unit ∷ [] →
+    is_early structs units ≡ true
+early_at raw unit structs units is none one = rw (none, one) (early_is raw unit is)
 
 pub keeps_of : (structs : List StructDef) (units : List UnitDef) (unit : UnitDef) → structs ≡ [] → units ≡ unit ∷ [] → IsWhole unit → Keeps structs units 0
 keeps_of structs units unit none one whole = rw (none, one) (record {

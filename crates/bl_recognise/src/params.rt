@@ -163,8 +163,9 @@ fn add_name(alloc: Global, names: &mut IndexSet<String>, name: &str) -> Result<b
     ensures differs { IfOk result (λ is_new. is_among name.now (texts_of names.old) ≡ not is_new) }
     ensures added { IfOk result (λ is_new. texts_of names.new ≡ (if is_new then texts_of names.old ++ name.now ∷ [] else texts_of names.old)) }
 {
-    match names.insert(String::from_str(alloc, name)?) {
-        Ok(is_new) => Ok(is_new),
-        Err(_) => Err(NoMemory),
-    }
+    let is_new = match names.insert(String::from_str(alloc, name)?) {
+        Ok(is_new) => is_new,
+        Err(_) => return Err(NoMemory),
+    };
+    Ok(is_new)
 }

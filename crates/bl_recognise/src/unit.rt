@@ -1,4 +1,4 @@
-ghost use Rattle.std.specs.Prelude.{◌≡◌, ◌+◌, true, length, nat_le, IfOk, option_and_then, option_map};
+ghost use Rattle.std.specs.Prelude.{◌≡◌, ◌+◌, ◌≤◌, length, nat_le, IfOk};
 ghost use Rattle.bl_tree.specs.Typing.{is_activity};
 ghost use Rattle.bl_recognise.specs.Early.{Kept, headed_of, is_headed, looping_of, made_unit, only_unit, unit_of};
 
@@ -60,7 +60,7 @@ fn are_few(inputs: usize, outputs: usize) -> bool
 }
 
 fn headed(alloc: Global, unit: &RawUnit) -> Result<Option<Unit>, NoMemory>
-    requires { is_headed unit.now ≡ true }
+    requires { length unit.now.inputs + length unit.now.outputs ≤ 1000 }
     ensures { IfOk result (λ found. found ≡ headed_of unit.now) }
 {
     match params::read(alloc, unit)? {
@@ -70,7 +70,7 @@ fn headed(alloc: Global, unit: &RawUnit) -> Result<Option<Unit>, NoMemory>
 }
 
 fn looping(alloc: Global, unit: &RawUnit, params: Params) -> Result<Option<Unit>, NoMemory>
-    requires headed { is_headed unit.now ≡ true }
+    requires few { length unit.now.inputs + length unit.now.outputs ≤ 1000 }
     requires kept { Kept params }
     ensures { IfOk result (λ found. found ≡ looping_of unit.now params.vars) }
 {
@@ -86,7 +86,7 @@ fn made_unit(
     vars: List<Var>,
     looping: Stmt,
 ) -> Result<Unit, NoMemory>
-    requires { is_headed unit.now ≡ true }
+    requires { length unit.now.inputs + length unit.now.outputs ≤ 1000 }
     ensures { IfOk result (λ made. made ≡ made_unit unit.now vars looping) }
 {
     let mut body = List::new(alloc);
