@@ -3,4 +3,3 @@ mod Facts
 mod MadeLemmas
 mod ParamLemmas
 mod Recognised
-mod StepLemmas
