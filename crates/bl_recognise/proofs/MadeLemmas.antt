@@ -1,9 +1,8 @@
 -- What each test of a typed program is at the values that are made.
-use Rattle.std.proofs.Common.{◌≡◌, ℕ, ℤ, pos, ◌+◌, ◌≤◌, Bool, true, false, ◌&&◌, ◌||◌, List, [], ◌∷◌, ◌++◌, map, Option, Some, None, refl, sym, ap, ◌∙◌, subst, arith, max, if◌then◌else◌}
-use Rattle.std.specs.Prelude.{int_le, option_and_then, option_map, is_some, nat_eq}
+use Rattle.std.proofs.Common.{◌≡◌, ℕ, ℤ, ◌+◌, true, false, ◌&&◌, List, [], ◌++◌, map, Option, Some, None, refl, sym, ap, ◌∙◌, max, if◌then◌else◌}
+use Rattle.std.specs.Prelude.{option_and_then, is_some, nat_eq}
 use Rattle.bl_tree.specs.declared.place.Place.{Place}
 use Rattle.bl_tree.specs.declared.scalar.Op.{Op}
-use Rattle.bl_tree.specs.declared.scalar.Op.TheVariants.{Add}
 use Rattle.bl_tree.specs.declared.scalar.Scalar.{Scalar}
 use Rattle.bl_tree.specs.declared.scalar.Scalar.TheVariants.{Bool as OfBool, Int, Nat, Bits}
 use Rattle.bl_tree.specs.declared.scalar.Width.{Width}
@@ -23,8 +22,8 @@ use Rattle.bl_tree.specs.declared.tree.StmtKind.TheOpen.{StmtKind-F}
 use Rattle.bl_tree.specs.declared.tree.Ty.{Ty, fold-roll-Ty, out-Ty, out-roll-Ty, roll-Ty, roll-out-Ty}
 use Rattle.bl_tree.specs.declared.tree.Ty.TheOpen.{Ty-F}
 use Rattle.bl_tree.specs.declared.tree.Var.{Var}
-use Rattle.bl_tree.specs.Apart.{Naming, naming, naming_of, roots_in, roots_in_path, together}
-use Rattle.bl_tree.specs.Depths.{Depth, block, depth_of, expr_depth, leaf, path_depth}
+use Rattle.bl_tree.specs.Apart.{naming, naming_of, roots_in, roots_in_path, together}
+use Rattle.bl_tree.specs.Depths.{block, depth_of, expr_depth, leaf, path_depth}
 use Rattle.bl_tree.specs.Reduce.{all_of, any_of}
 use Rattle.bl_tree.specs.Returns.{has_return}
 use Rattle.bl_tree.specs.Scalar.{bits_of, in_range}
@@ -32,7 +31,7 @@ use Rattle.bl_tree.specs.Types.{same_scalar, same_type, scalar, scalar_at, scala
 use Rattle.bl_tree.specs.Typing.{Site, are_same, fits, is_activity, is_assignable, is_truth, literal_type, may_change, two_type, type_of, type_of_path, var_at, where_same}
 use Rattle.std.proofs.lemmas.Option.{same_Some}
 use Rattle.bl_early.specs.Form as form
-use Rattle.bl_early.specs.Form.{Item, Number, Of, Source, Just, Sum, Step, Set, Pause, int32, is_early_type, item_of, source_of, step_of, sum_of, variable_of}
+use Rattle.bl_early.specs.Form.{item_of, source_of, variable_of}
 use Rattle.bl_recognise.specs.Early.{expr_of, path_of, stmt_of}
 use Rattle.bl_recognise.proofs.Facts.{StandsAt, site_with}
 

@@ -1,5 +1,5 @@
 -- What is known while parameters are read: their names differ, and stand beside them in a set.
-use Rattle.std.proofs.Common.{◌≡◌, ℕ, ◌+◌, ◌≤◌, ◌<◌, Bool, true, false, ◌&&◌, ◌||◌, not, cond, nat_lt, List, [], ◌∷◌, ◌++◌, map, length, take, drop, get_or, suc, Option, Some, None, refl, sym, ap, ◌∙◌, subst, arith, append_assoc, drop-cons, if◌then◌else◌}
+use Rattle.std.proofs.Common.{◌≡◌, ℕ, ◌+◌, ◌<◌, Bool, true, false, ◌&&◌, ◌||◌, not, cond, nat_lt, List, [], ◌∷◌, ◌++◌, map, length, drop, get_or, suc, Option, Some, None, refl, sym, ap, ◌∙◌, arith, append_assoc, drop-cons, if◌then◌else◌}
 use Rattle.std.specs.Prelude.{bytes_eq, option_and_then, option_map, position, slice_get, String, string_bytes, string_eq}
 use Rattle.std.specs.List.{list_any, position_or_len}
 use Rattle.std.proofs.lemmas.Cmp.{nat_list_eq_equiv}

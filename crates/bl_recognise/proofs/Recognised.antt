@@ -17,18 +17,16 @@ use Rattle.bl_tree.specs.declared.scalar.Scalar.TheVariants.{Bool as OfBool}
 use Rattle.bl_tree.specs.declared.tree.Expr.{Expr}
 use Rattle.bl_tree.specs.declared.tree.ExprKind.TheOpen.{ExprKind-F}
 use Rattle.bl_tree.specs.declared.tree.Role.{Role}
-use Rattle.bl_tree.specs.declared.tree.Role.TheVariants.{Input, Output, Variable, Fixed}
+use Rattle.bl_tree.specs.declared.tree.Role.TheVariants.{Input, Output}
 use Rattle.bl_tree.specs.declared.tree.Stmt.{Stmt}
 use Rattle.bl_tree.specs.declared.tree.StmtKind.TheOpen.{StmtKind-F}
 use Rattle.bl_tree.specs.declared.tree.StructDef.{StructDef}
 use Rattle.bl_tree.specs.declared.tree.Unit.{Unit as UnitDef}
-use Rattle.bl_tree.specs.declared.tree.UnitKind.{UnitKind}
 use Rattle.bl_tree.specs.declared.tree.Var.{Var}
 use Rattle.bl_tree.specs.Apart.{Naming, is_apart, naming_of}
-use Rattle.bl_tree.specs.Depths.{Depth, depth_of, expr_depth, is_shallow}
+use Rattle.bl_tree.specs.Depths.{Depth, depth_of}
 use Rattle.bl_tree.specs.Program.{Keeps, is_entry, is_input, is_output, names_of, roles_stand, unit_stands}
-use Rattle.bl_tree.specs.Reduce.{all_of, any_of, greatest}
-use Rattle.bl_tree.specs.Returns.{has_return}
+use Rattle.bl_tree.specs.Reduce.{all_of, greatest}
 use Rattle.bl_tree.specs.Scalar.{in_range}
 use Rattle.bl_tree.specs.Types.{same_scalar, scalar, scalar_in, type_stands}
 use Rattle.bl_tree.specs.Typing.{fits, is_activity, type_of}
@@ -49,12 +47,12 @@ use Rattle.bl_raw.specs.declared.types.RawType.{RawType, out-RawType}
 use Rattle.bl_raw.specs.declared.types.RawType.TheOpen.{RawType-F}
 use Rattle.bl_raw.specs.Names.{is_filled, named}
 use Rattle.bl_early.specs.Form as form
-use Rattle.bl_early.specs.Form.{Item, Of, Just, Sum, Step, Set, Pause, has_early_type, int32, is_early, is_early_type, is_early_unit, is_pause, steps_suit, unit_steps}
+use Rattle.bl_early.specs.Form.{Item, Of, Just, Sum, Step, has_early_type, int32, is_early, is_early_type, is_early_unit, steps_suit, unit_steps}
 use Rattle.bl_recognise.specs.declared.items.Item.{Item as Typed}
 use Rattle.bl_recognise.specs.declared.params.Named.{Named}
-use Rattle.bl_recognise.specs.Early.{RawLayer, RawStep, assigned, awaits_at, both_of, each, early_of, expr_of, headed_of, is_await, is_headed, item_in, item_of, literal_of, loop_at, loop_in, loop_of, looping_of, made_unit, made_var, named_at, named_by, named_in, number_of, only_unit, operation_of, param_type, path_of, pause_of, read_of, repeat_of, set_of, source_in, source_of, step_in, step_of, stmt_of, sum_of, turn_of, type_at, unit_of, var_of, vars_of, where_distinct, with_params}
+use Rattle.bl_recognise.specs.Early.{RawLayer, RawStep, assigned, awaits_at, both_of, each, early_of, expr_of, headed_of, is_await, is_headed, item_in, item_of, literal_of, loop_in, loop_of, looping_of, made_unit, made_var, named_at, named_by, named_in, number_of, only_unit, operation_of, param_type, path_of, pause_of, read_of, repeat_of, set_of, source_in, source_of, step_in, step_of, stmt_of, sum_of, turn_of, type_at, unit_of, var_of, vars_of, where_distinct, with_params}
 use Rattle.bl_recognise.specs.Whole.{IsWhole}
-use Rattle.bl_recognise.proofs.Choices.{Cons, Mapped, Passed, Through, and_left, and_right, both, cons, each_as_many, each_such, mapped, passed, through}
+use Rattle.bl_recognise.proofs.Choices.{and_left, and_right, both, cons, each_as_many, each_such, mapped, passed, through}
 use Rattle.bl_recognise.proofs.Facts.{AreSteps, AreTame, IsItem, IsLooping, IsSource, IsStep, IsTame, IsTyped, StandsAt, site_with}
 use Rattle.bl_recognise.proofs.MadeLemmas.{depth_await, depth_literal, depth_path, depth_read, depth_repeat, depth_set, depth_two, fits_await, fits_repeat, fits_set, has_return_await, has_return_repeat, has_return_set, item_made, layer_stmt, naming_await, naming_repeat, naming_set, path_assignable, path_typed, same_is, same_types, scalar_alone, scalar_is, scalar_stands, source_made, truth, type_literal, type_read, type_two, variable_path}
 

@@ -1,5 +1,5 @@
 -- Which raw trees are of the form that is built today, and for which typed unit each of them stands.
-use Rattle.std.specs.Prelude.{◌≡◌, ℕ, ◌+◌, ◌≤◌, ℤ, pos, Bool, true, false, not, ◌&&◌, ◌||◌, nat_le, is_none, is_some, List, [], ◌∷◌, ◌++◌, map, length, slice_get, position, bytes_eq, Option, Some, None, option_map, option_and_then, if◌then◌else◌, String, string_bytes}
+use Rattle.std.specs.Prelude.{◌≡◌, ℕ, ◌+◌, ◌≤◌, ℤ, pos, Bool, true, false, not, ◌&&◌, nat_le, is_none, List, [], ◌∷◌, ◌++◌, map, length, slice_get, position, bytes_eq, Option, Some, None, option_map, option_and_then, if◌then◌else◌, String, string_bytes}
 use Rattle.std.specs.List.{list_any}
 use Rattle.bl_tree.specs.declared.place.Place.{Place}
 use Rattle.bl_tree.specs.declared.scalar.Op.{Op}

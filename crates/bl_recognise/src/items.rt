@@ -24,9 +24,7 @@ pub fn source_of(alloc: Global, params: &Params, e: &RawExpr) -> Result<Option<I
     ensures { IfOk result (λ found. found ≡ source_of params.now.vars e.now) }
 {
     match &e.what {
-        RawExprKind::Two(op, left, right) => {
-            operation(alloc, params, e.place, *op, left, right)
-        }
+        RawExprKind::Two(op, left, right) => { operation(alloc, params, e.place, *op, left, right) }
         _ => Ok(item_of(alloc, params, e)),
     }
 }

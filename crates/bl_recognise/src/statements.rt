@@ -1,4 +1,4 @@
-ghost use Rattle.std.specs.Prelude.{◌≡◌, IfOk, map, option_and_then, option_map};
+ghost use Rattle.std.specs.Prelude.{◌≡◌, IfOk, map, option_and_then};
 ghost use Rattle.std.specs.List.{list_any};
 ghost use Rattle.bl_tree.specs.Program.{is_output};
 ghost use Rattle.bl_recognise.specs.Early.{Kept, assigned, each, is_await, loop_at, loop_of, pause_of, repeat_of, set_of, step_of, turn_of};
@@ -16,11 +16,7 @@ use std::alloc::Global;
 const MOST: usize = 1_000;
 
 /// The loop that is all of a body.
-pub fn loop_of(
-    alloc: Global,
-    params: &Params,
-    body: &[RawStmt],
-) -> Result<Option<Stmt>, NoMemory>
+pub fn loop_of(alloc: Global, params: &Params, body: &[RawStmt]) -> Result<Option<Stmt>, NoMemory>
     requires { Kept params.now }
     ensures { IfOk result (λ found. found ≡ loop_of params.now.vars body.now) }
 {
@@ -59,11 +55,7 @@ fn repeat(
 }
 
 /// The sets and awaits of the loop.
-fn turn(
-    alloc: Global,
-    params: &Params,
-    body: &[RawStmt],
-) -> Result<Option<List<Stmt>>, NoMemory>
+fn turn(alloc: Global, params: &Params, body: &[RawStmt]) -> Result<Option<List<Stmt>>, NoMemory>
     requires { Kept params.now }
     ensures { IfOk result (λ found. found ≡ turn_of params.now.vars body.now) }
 {
@@ -89,11 +81,7 @@ fn is_await(s: &RawStmt) -> bool
     }
 }
 
-fn steps(
-    alloc: Global,
-    params: &Params,
-    body: &[RawStmt],
-) -> Result<Option<List<Stmt>>, NoMemory>
+fn steps(alloc: Global, params: &Params, body: &[RawStmt]) -> Result<Option<List<Stmt>>, NoMemory>
     requires { Kept params.now }
     ensures { IfOk result (λ found. found ≡ each (map (step_of params.now.vars) body.now)) }
 {
@@ -152,24 +140,12 @@ fn assigned(
     ensures { IfOk result (λ found. found ≡ assigned params.now.vars place target.now e.now) }
 {
     match source_of(alloc, params, e)? {
-        Some(source) => Ok(set(
-            alloc,
-            place,
-            target.place,
-            source,
-            params.named_by(target),
-        )),
+        Some(source) => Ok(set(alloc, place, target.place, source, params.named_by(target))),
         None => Ok(None),
     }
 }
 
-fn set(
-    alloc: Global,
-    place: Place,
-    at: Place,
-    source: Item,
-    target: Option<Named>,
-) -> Option<Stmt>
+fn set(alloc: Global, place: Place, at: Place, source: Item, target: Option<Named>) -> Option<Stmt>
     ensures { result ≡ option_and_then (set_of place at source) target }
 {
     match target {
