@@ -1,0 +1,5 @@
+mod Choices
+mod Facts
+mod MadeLemmas
+mod ParamLemmas
+mod Recognised
