@@ -1,0 +1,5 @@
+pub mod Known
+pub mod Names
+pub mod Ports
+pub mod Spelled
+pub mod Steps
