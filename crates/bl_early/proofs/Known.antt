@@ -1,5 +1,5 @@
 -- What a program of the form keeps: its names, and that its steps name its parameters alone.
-use Rattle.std.proofs.Common.{◌≡◌, ℕ, suc, zero, ◌+◌, ◌<◌, ◌≤◌, ℤ, pos, negsuc, Bool, true, false, ◌&&◌, List, [], ◌∷◌, ◌++◌, length, map, get_or, refl, sym, ap, ◌∙◌, subst, arith, Option, Some, None, if◌then◌else◌}
+use Rattle.std.proofs.Common.{◌≡◌, ℕ, suc, zero, ◌+◌, ◌<◌, ◌≤◌, ℤ, pos, negsuc, Bool, true, false, ◌&&◌, List, [], ◌∷◌, ◌++◌, length, take, map, get_or, refl, sym, ap, ap₂, ◌∙◌, subst, arith, Option, Some, None, if◌then◌else◌}
 use Rattle.std.specs.Prelude.{nat_lt, nat_le, nat_eq, int_le, is_some, slice_get, unwrap_or, option_map, option_and_then}
 use Rattle.std.specs.List.{list_all, list_any}
 use Rattle.std.proofs.lemmas.Bool.Decides.{nat_tests}
@@ -9,6 +9,8 @@ use Rattle.bl_tree.specs.declared.scalar.Op.TheVariants.{Add}
 use Rattle.bl_tree.specs.declared.scalar.Scalar.{Scalar}
 use Rattle.bl_tree.specs.declared.scalar.Scalar.TheVariants.{Bool as OfBool, Int, Nat, Bits}
 use Rattle.bl_tree.specs.declared.scalar.Width.TheVariants.{W8, W16, W32, W64}
+use Rattle.bl_tree.specs.declared.c.CFunc.{CFunc}
+use Rattle.bl_tree.specs.declared.c.CStruct.{CStruct}
 use Rattle.bl_tree.specs.declared.tree.Arm.{Arm, fold-Arm}
 use Rattle.bl_tree.specs.declared.tree.Branch.{Branch, fold-Branch}
 use Rattle.bl_tree.specs.declared.tree.Expr.{Expr, out-Expr, fold_out-Expr}
@@ -27,15 +29,17 @@ use Rattle.bl_tree.specs.declared.tree.Var.{Var}
 use Rattle.bl_tree.specs.Program as program
 use Rattle.bl_tree.specs.Reduce.{all_of}
 use Rattle.bl_tree.specs.Scalar.{in_range}
-use Rattle.bl_tree.specs.Types.{scalar, scalar_in}
+use Rattle.bl_tree.specs.Types.{scalar, scalar_in, type_stands}
 use Rattle.bl_tree.specs.Typing.{Site, site_of, type_of, type_of_path, kind_type, part_type, expr_type, path_type, where_same, after_parts, literal_type, are_same, is_truth, is_activity, is_assignable, may_change, var_at, kind_fits, arm_fits, branch_fits, stmt_fits, fits, two_type}
 use Rattle.bl_tree.specs.Words as words
 use Rattle.bl_ctext.specs.Prefixes.{is_source_name}
-use Rattle.bl_ctext.specs.Spellable.{is_literal}
+use Rattle.bl_ctext.specs.Spellable.{is_literal, is_spellable}
 use Rattle.bl_ctext.proofs.Bytes.{and-fst, and-snd}
 use Rattle.bl_early.specs.Form.{Item, Number, Of, Source, Just, Sum, Step, Set, Pause, is_early, is_early_unit, is_early_type, has_early_type, item_in, item_of, source_in, source_of, step_in, step_of, steps_of, steps_suit, sum_of, variable_of, alone, loop_of, repeated, unit_steps, is_pause}
-use Rattle.bl_early.specs.Built.{item_within, source_within, step_within, passes, is_item, is_source, is_step, step_at, steps_at, loop_steps}
-use Rattle.bl_early.proofs.Spelled.{is_named_var, is_typed_var}
+use Rattle.bl_early.specs.Built.{item_within, source_within, step_within, passes, is_step, is_any_step, step_at, steps_at, loop_steps}
+use Rattle.bl_early.specs.Emitted.{c_structs, c_funcs}
+use Rattle.bl_early.proofs.Spelled.{is_named_var, is_typed_var, file-spelled}
+use Rattle.bl_early.proofs.Steps.{same-length, steps-some, suited-all, suited-few, suited-pause}
 
 both : (a b : Bool) → a ≡ true → b ≡ true → (a && b) ≡ true
 both true b h i = i
@@ -254,3 +258,128 @@ module _ (site : Site) where
   unit-loop [] fit body h = none-some body h
   unit-loop (s ∷ []) fit body h = loop-stands (out-Stmt s).what (out-StmtKind (out-Stmt s).what) refl (sym (fits-out s) ∙ and-fst (fits site s) true fit) body h
   unit-loop (s ∷ t ∷ rest) fit body h = none-some body h
+
+-- ---- a unit of the form
+
+-- what is known of the one unit of a program of the form
+pub record Stands (unit : UnitDef) : Type 0 where
+  pub body : List Stmt
+  pub loop : loop_of unit.body ≡ Some body
+  pub named : is_source_name unit.name ≡ true
+  pub vars_named : list_all is_named_var unit.vars ≡ true
+  pub typed : list_all is_typed_var unit.vars ≡ true
+  pub distinct : words.are_distinct (program.names_of unit.vars) ≡ true
+  pub inputs : unit.inputs ≤ length unit.vars
+  pub all : list_all (is_step (length unit.vars)) body ≡ true
+  pub few : length body ≤ 1000
+  pub steps : loop_steps unit ≡ steps_at body
+  pub pause : list_any is_pause (steps_at body) ≡ true
+
+named-vars : (vars : List Var) → list_all words.is_name (program.names_of vars) ≡ true → list_all is_named_var vars ≡ true
+unfolding is_source_name
+named-vars [] h = refl
+named-vars (var ∷ vars) h =
+    both (words.is_name var.name) _ (and-fst (words.is_name var.name) (list_all words.is_name (program.names_of vars)) h)
+    (named-vars vars (and-snd (words.is_name var.name) (list_all words.is_name (program.names_of vars)) h))
+
+source-name : (name : List ℕ) (rest : List (List ℕ)) → list_all words.is_name (name ∷ rest) ≡ true → is_source_name name ≡ true
+unfolding is_source_name
+source-name name rest h = and-fst (words.is_name name) (list_all words.is_name rest) h
+
+take-all : {A : Type 0} (n : ℕ) (xs : List A) → length xs ≡ n → take n xs ≡ xs
+take-all zero [] h = refl
+take-all zero (x ∷ xs) h = absurd (omega arith)
+take-all (suc n) [] h = refl
+take-all (suc n) (x ∷ xs) h = let inner : length xs ≡ n = omega arith in ap (λ rest. x ∷ rest) (take-all n xs inner)
+
+within-one : (count : ℕ) (o : Option Step) → passes (step_within count) o ≡ true → step_within count (unwrap_or o (Pause (Of 0))) ≡ true
+within-one count (Some step) h = h
+within-one count None h = cc
+
+pub steps-within : (count : ℕ) (body : List Stmt) → list_all (is_step count) body ≡ true → list_all (step_within count) (steps_at body) ≡ true
+steps-within count [] h = refl
+steps-within count (s ∷ body) h =
+    both _ _ (within-one count (step_of s) (and-fst (is_step count s) (list_all (is_step count) body) h)) (steps-within count body (and-snd (is_step count s) (list_all (is_step count) body) h))
+
+module _ (structs : List StructDef) (unit : UnitDef) (entry : ℕ) (keeps : program.Keeps structs (unit ∷ []) entry) where
+  unit-fits : program.unit_stands structs [] unit ≡ true
+  unit-fits = and-fst (program.unit_stands structs [] unit) true keeps.units_stand
+
+  names-kept : list_all words.is_name (program.names_of unit.vars) ≡ true
+  names-kept = and-fst _ _ (and-snd (program.roles_stand unit) _ (and-fst _ _ unit-fits))
+
+  distinct-kept : length unit.vars ≡ unit.inputs + unit.outputs → words.are_distinct (program.names_of unit.vars) ≡ true
+  distinct-kept h =
+      let some : words.are_distinct (program.names_of (take (unit.inputs + unit.outputs) unit.vars)) ≡ true = and-snd _ _ (and-snd (program.roles_stand unit) _ (and-fst _ _ unit-fits)) in
+      subst (λ vars. words.are_distinct (program.names_of vars) ≡ true) (take-all (unit.inputs + unit.outputs) unit.vars h) some
+
+  body-fits : list_all (fits (site_of structs [] unit)) unit.body ≡ true
+  body-fits = and-fst _ _ (and-snd (list_all (λ var. type_stands (length structs) var.ty) unit.vars) _ (and-snd _ _ unit-fits))
+
+  with-body : (body : List Stmt) → loop_of unit.body ≡ Some body → is_early_unit unit ≡ true → steps_suit (steps_of body) ≡ true → length unit.vars ≡ unit.inputs + unit.outputs → list_all is_typed_var unit.vars ≡ true →
+      list_all words.is_name (unit.name ∷ []) ≡ true → Stands unit
+  with-body body loop early suit count typed named =
+      let some : list_all is_any_step body ≡ true = suited-all body suit in
+      record {
+        body = body;
+        loop = loop;
+        named = source-name unit.name [] named;
+        vars_named = named-vars unit.vars names-kept;
+        typed = typed;
+        distinct = distinct-kept count;
+        inputs = omega arith;
+        all = body-stands (site_of structs [] unit) body (unit-loop (site_of structs [] unit) unit.body body-fits body loop) (ap is_some (steps-some body some));
+        few = suited-few body suit;
+        steps = ap (λ o. unwrap_or (option_and_then steps_of o) []) loop ∙ ap (λ o. unwrap_or o []) (steps-some body some);
+        pause = suited-pause body suit;
+      }
+
+  found-body : (o : Option (List Stmt)) → loop_of unit.body ≡ o → steps_suit (option_and_then steps_of o) ≡ true → is_early_unit unit ≡ true → length unit.vars ≡ unit.inputs + unit.outputs → list_all is_typed_var unit.vars ≡ true →
+      list_all words.is_name (unit.name ∷ []) ≡ true → Stands unit
+  found-body (Some body) loop suit early count typed named = with-body body loop early suit count typed named
+  found-body None loop suit early count typed named = cc
+
+behind-structs : (structs units : List (List ℕ)) → list_all words.is_name (structs ++ units) ≡ true → list_all words.is_name units ≡ true
+behind-structs [] units h = h
+behind-structs (name ∷ structs) units h = behind-structs structs units (and-snd (words.is_name name) (list_all words.is_name (structs ++ units)) h)
+
+same-count : (a b : ℕ) → nat_eq a b ≡ true → a ≡ b
+same-count a b h = grind (arith, nat_tests)
+
+pub unit-stands : (structs : List StructDef) (unit : UnitDef) (entry : ℕ) → program.Keeps structs (unit ∷ []) entry → is_early_unit unit ≡ true → Stands unit
+unit-stands structs unit entry keeps early =
+    let sizes : (nat_eq (length unit.vars) (unit.inputs + unit.outputs) && nat_le (length unit.vars) 1000) ≡ true = and-fst _ _ early in
+    let others : (list_all is_typed_var unit.vars && steps_suit (unit_steps unit)) ≡ true = and-snd (nat_eq (length unit.vars) (unit.inputs + unit.outputs) && nat_le (length unit.vars) 1000) _ early in
+    found-body structs unit entry keeps (loop_of unit.body) refl (and-snd (list_all is_typed_var unit.vars) _ others) early
+    (same-count (length unit.vars) (unit.inputs + unit.outputs) (and-fst _ _ sizes)) (and-fst _ _ others)
+    (behind-structs (map (λ def. def.name) structs) (unit.name ∷ []) keeps.named)
+
+-- the one unit of a program of the form
+pub the-unit : (structs : List StructDef) (units : List UnitDef) (entry : ℕ) (d : UnitDef) → program.Keeps structs units entry → is_early structs units ≡ true → d ≡ get_or units 0 d → (units ≡ d ∷ []) × Stands d
+the-unit [] [] entry d keeps early is = cc
+the-unit [] (unit ∷ v ∷ rest) entry d keeps early is = cc
+the-unit (s ∷ structs) [] entry d keeps early is = cc
+the-unit (s ∷ structs) (unit ∷ rest) entry d keeps early is = cc
+the-unit [] (unit ∷ []) entry d keeps early is =
+    subst (λ u. (unit ∷ [] ≡ u ∷ []) × Stands u) (sym is) (refl, unit-stands [] unit entry keeps early)
+
+-- what its loop is
+pub record Looped (unit : UnitDef) (body : List Stmt) : Type 0 where
+  pub all : list_all (is_step (length unit.vars)) body ≡ true
+  pub few : length body ≤ 1000
+  pub steps : loop_steps unit ≡ steps_at body
+
+pub looped : (unit : UnitDef) (body : List Stmt) → Stands unit → loop_of unit.body ≡ Some body → Looped unit body
+looped unit body stands h =
+    subst (Looped unit) (some-inj stands.body body (sym stands.loop ∙ h)) (record { all = stands.all; few = stands.few; steps = stands.steps })
+
+pub has-loop : (unit : UnitDef) → Stands unit → loop_of unit.body ≡ None → ⊥
+has-loop unit stands h = let clash : Some stands.body ≡ None = sym stands.loop ∙ h in cc
+
+pub file-spelled-of : (unit : UnitDef) (body : List Stmt) → Stands unit → Looped unit body → is_spellable (c_structs unit) (c_funcs unit (steps_at body)) ≡ true
+file-spelled-of unit body stands facts =
+    let few : length (steps_at body) ≤ 1000 = subst (λ n. n ≤ 1000) (sym (same-length body)) facts.few in
+    file-spelled unit stands.named stands.vars_named (steps_at body) stands.typed few (steps-within (length unit.vars) body facts.all)
+
+pub same-spelled : (structs s : List CStruct) (funcs f : List CFunc) → structs ≡ s → funcs ≡ f → is_spellable s f ≡ true → is_spellable structs funcs ≡ true
+same-spelled structs s funcs f h i k = ap₂ is_spellable h i ∙ k

@@ -50,7 +50,7 @@ list_all-take p zero xs h = refl
 list_all-take p (suc n) [] h = refl
 list_all-take p (suc n) (x ∷ xs) h = both (p x) _ (and-fst (p x) (list_all p xs) h) (list_all-take p n xs (and-snd (p x) (list_all p xs) h))
 
-list_all-drop : {A : Type 0} (p : A → Bool) (n : ℕ) (xs : List A) → list_all p xs ≡ true → list_all p (drop n xs) ≡ true
+pub list_all-drop : {A : Type 0} (p : A → Bool) (n : ℕ) (xs : List A) → list_all p xs ≡ true → list_all p (drop n xs) ≡ true
 list_all-drop p zero xs h = h
 list_all-drop p (suc n) [] h = refl
 list_all-drop p (suc n) (x ∷ xs) h = list_all-drop p n xs (and-snd (p x) (list_all p xs) h)

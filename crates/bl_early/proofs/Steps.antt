@@ -36,7 +36,7 @@ any-pause [] h = refl
 any-pause (s ∷ body) h =
     ap₂ (λ a b. a || b) (is-pause (step_of s) (and-fst (is_any_step s) (list_all is_any_step body) h)) (any-pause body (and-snd (is_any_step s) (list_all is_any_step body) h))
 
-same-length : (body : List Stmt) → length (steps_at body) ≡ length body
+pub same-length : (body : List Stmt) → length (steps_at body) ≡ length body
 same-length [] = refl
 same-length (s ∷ body) = ap (λ n. suc n) (same-length body)
 
@@ -69,3 +69,8 @@ suited-few body h =
     let all : (list_all is_any_step body && (list_any has_pause body && nat_le (length body) 1000)) ≡ true = sym (suits body) ∙ h in
     let few : nat_le (length body) 1000 ≡ true = and-snd (list_any has_pause body) _ (and-snd (list_all is_any_step body) _ all) in
     grind (arith, nat_tests)
+
+pub suited-pause : (body : List Stmt) → steps_suit (steps_of body) ≡ true → list_any is_pause (steps_at body) ≡ true
+suited-pause body h =
+    let some : steps_of body ≡ Some (steps_at body) = steps-some body (suited-all body h) in
+    and-fst (list_any is_pause (steps_at body)) _ (sym (ap steps_suit some) ∙ h)

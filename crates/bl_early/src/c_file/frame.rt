@@ -1,7 +1,7 @@
 //! The structs of a file, and the two functions that the environment calls.
 
 ghost use Rattle.std.specs.Prelude.{◌≡◌, ◌≤◌, ◌++◌, IfOk, length};
-ghost use Rattle.bl_early.specs.Emitted.{c_column, c_frame, c_init, c_row, c_state, c_structs, c_tick, c_tick_args, c_tick_params};
+ghost use Rattle.bl_early.specs.Emitted.{c_column, c_frame, c_init, c_row, c_state, c_structs, c_tick, c_tick_args, c_tick_params, ins_of, outs_of};
 
 use super::parts::{
     NOWHERE, UINT32, call, calling, count, member, named, outer_function, pointer, prefixed,
@@ -18,14 +18,26 @@ pub fn structs(alloc: Global, unit: &Unit) -> Result<List<CStruct>, NoMemory>
     requires { unit.now.inputs ≤ length unit.now.vars }
     ensures { IfOk result (λ structs. structs ≡ c_structs unit.now) }
 {
-    let inputs = unit.inputs as usize;
-    let vars = unit.vars.as_slice();
     let mut structs = List::new(alloc);
     structs.push(frame(alloc, unit)?)?;
     structs.push(state(alloc, unit)?)?;
-    structs.push(row(alloc, "bl_in", "i_", &vars[..inputs])?)?;
-    structs.push(row(alloc, "bl_out", "o_", &vars[inputs..])?)?;
+    structs.push(row(alloc, "bl_in", "i_", ins(unit))?)?;
+    structs.push(row(alloc, "bl_out", "o_", outs(unit))?)?;
     Ok(structs)
+}
+
+fn ins(unit: &Unit) -> &[Var]
+    requires { unit.now.inputs ≤ length unit.now.vars }
+    ensures { result.now ≡ ins_of unit.now }
+{
+    &unit.vars[..unit.inputs as usize]
+}
+
+fn outs(unit: &Unit) -> &[Var]
+    requires { unit.now.inputs ≤ length unit.now.vars }
+    ensures { result.now ≡ outs_of unit.now }
+{
+    &unit.vars[unit.inputs as usize..]
 }
 
 fn frame(alloc: Global, unit: &Unit) -> Result<CStruct, NoMemory>
