@@ -5,7 +5,6 @@ ghost use Rattle.bl_early.specs.Form.{Sum};
 
 use super::parts::{call, called, literal, named, prefixed, read, through};
 use bl_tree::c::{CArg, CExpr, CPlace};
-use bl_tree::scalar::Op;
 use bl_tree::tree::{Expr, ExprKind, Unit};
 use bl_tree::{List, NoMemory};
 use std::alloc::Global;
@@ -35,13 +34,13 @@ pub fn item(alloc: Global, unit: &Unit, e: &Expr) -> Result<CExpr, NoMemory>
     }
 }
 
-/// An item, or the sum of two.
+/// An item, or the sum of two: a source has no other operator.
 pub fn source(alloc: Global, unit: &Unit, e: &Expr) -> Result<CExpr, NoMemory>
     requires { IsTrue (is_source (length unit.now.vars) e.now) }
     ensures { IfOk result (λ c. c ≡ c_source (c_ports unit.now) (source_at e.now)) }
 {
     match &e.what {
-        ExprKind::Two(Op::Add, left, right) => sum(alloc, unit, left, right),
+        ExprKind::Two(_, left, right) => sum(alloc, unit, left, right),
         _ => item(alloc, unit, e),
     }
 }
