@@ -1,0 +1,7 @@
+pub mod Calls
+pub mod Cells
+pub mod Slots
+pub mod Stretches
+pub mod Ticks
+pub mod Traces
+pub mod Values

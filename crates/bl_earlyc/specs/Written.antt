@@ -1,0 +1,25 @@
+-- The trace of the C file that is written for a program of the form.
+use Rattle.std.specs.Prelude.{◌≡◌, ℤ, List, [], ◌∷◌, length, All}
+use Rattle.bl_tree.specs.declared.tree.Unit.{Unit as UnitDef}
+use Rattle.bl_cmeaning.specs.Parts.{Parts, parts_from}
+use Rattle.bl_cmeaning.specs.Trace.{c_trace}
+use Rattle.bl_early.specs.Built.{loop_steps}
+use Rattle.bl_early.specs.Emitted.{c_structs, c_funcs}
+use Rattle.bl_early.specs.Run.{trace_of}
+
+-- the file of an activity of the form
+abbrev pub written : UnitDef → Parts
+written unit = parts_from (c_structs unit) (c_funcs unit (loop_steps unit))
+
+-- each row has a number for each input
+abbrev pub RowsSuit : UnitDef → List (List ℤ) → Type 0
+RowsSuit unit rows = All (λ row. length row ≡ unit.inputs) rows
+
+-- over rows that have a number for each input the file has the trace that its loop of steps has
+abbrev pub HasTrace : UnitDef → Type 0
+HasTrace unit = (rows : List (List ℤ)) → RowsSuit unit rows → c_trace (written unit) rows ≡ trace_of unit (loop_steps unit) rows
+
+-- the same of a program that has one unit alone
+abbrev pub WrittenTrace : List UnitDef → Type 0
+WrittenTrace (unit ∷ []) = HasTrace unit
+WrittenTrace _ = Unit {0}

@@ -1,0 +1,16 @@
+//! The law of the C file that is written for a program of the form that is built today (docs/C_SUBSET.md, "What
+//! `blechc` writes"). The function does nothing: the contract is the law.
+#![tactic(auto)]
+
+ghost use Rattle.std.specs.Prelude.{IsTrue};
+ghost use Rattle.bl_early.specs.Form.{is_early};
+ghost use Rattle.bl_earlyc.specs.Written.{WrittenTrace};
+
+use bl_tree::Program;
+
+/// Over every list of rows that have a number for each input, the C file of a program of the form has exactly the
+/// trace that its loop of steps has.
+pub fn written_trace(_program: &Program)
+    requires { IsTrue (is_early _program.now.structs _program.now.units) }
+    ensures { WrittenTrace _program.now.units }
+{}
