@@ -1,11 +1,11 @@
 mod Bools
-mod Elements
+pub mod Elements
 mod Forgetting
 pub mod ItemLemmas
-mod Listing
+pub mod Listing
 mod Ordering
 mod Properness
 mod Settling
 mod Standing
-mod Stepping
+pub mod Stepping
 pub mod WakeLemmas

@@ -1,21 +1,21 @@
 -- Trees stay proper.
-use Rattle.std.proofs.Common.{◌≡◌, ℕ, suc, Bool, true, false, List, [], ◌∷◌, ◌++◌, refl, sym, subst, ℤ, Option, Some, None}
+use Rattle.std.proofs.Common.{◌≡◌, ℕ, suc, Bool, false, List, [], ◌∷◌, ◌++◌, refl, subst, ℤ, Option, Some, None}
 use Rattle.std.specs.Prelude.{option_map, unwrap_or}
 use Rattle.bl_tree.specs.declared.tree.Arm.{out-Arm}
 use Rattle.bl_tree.specs.declared.tree.Branch.{Branch, out-Branch}
 use Rattle.bl_tree.specs.declared.tree.Stmt.{Stmt}
 use Rattle.bl_tree.specs.declared.tree.Unit.{Unit as UnitDef}
 use Rattle.bl_ctree.specs.Actions.{Action}
-use Rattle.bl_ctree.specs.Control.{Control, Branches, Nil, Wait, Test, Idle, Do, Turn, Seq, Par, Guard, Run, no_branch, branch, do_all, followed, seq, begun, woken, all_woken, is_nil}
+use Rattle.bl_ctree.specs.Control.{Control, Branches, Nil, Wait, Test, Idle, Do, Turn, Seq, Par, Guard, Run, do_all, followed, seq, begun, woken, all_woken, is_nil}
 use Rattle.bl_ctree.specs.Instances.{Setting, unit_at}
 use Rattle.bl_ctree.specs.Laws.{ItemsBeginProper, MovesKeepProper, ReachedInsideIsProper, ReachedIsProper, SeqIsProper, WakingKeepsProper}
 use Rattle.bl_ctree.specs.Means.{entry_items}
-use Rattle.bl_ctree.specs.Positions.{Item, Begin, Again, Located, Position, block_items, items_from, body_items}
+use Rattle.bl_ctree.specs.Positions.{Item, Located, Position, block_items, items_from, body_items}
 use Rattle.bl_ctree.specs.Proper.{ItemsProper, no_item, a_begin, an_again, Proper, a_nil, a_wait, a_test, a_do, a_turn, a_seq, a_par, a_guard, a_run, BranchesProper, no_more, a_branch, ProperTree, not_begun, has_begun}
-use Rattle.bl_ctree.specs.Reaches.{Reaches, ReachesInside, at_first, after_tick}
+use Rattle.bl_ctree.specs.Reaches.{Reaches, at_first, after_tick}
 use Rattle.bl_ctree.specs.Steps.{Moves, OneMoves, acts, takes_arm, passes_arm, takes_else, pauses, runs, repeats, repeats_until, leaves, turns, enters, skips, forks, guards, goes_on, waits, lets, aborts, resets, guard_ends, copies, run_ends, joins, in_seq, in_par, in_guard, in_run, first, later}
 use Rattle.bl_ctree.specs.Store.{Store}
-use Rattle.bl_ctree.specs.Ticks.{End, Rests, Trapped, Steps, none, traps, step}
+use Rattle.bl_ctree.specs.Ticks.{End, Rests, Steps, none, traps, step}
 
 -- ---- items
 

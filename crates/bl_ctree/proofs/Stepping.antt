@@ -1,5 +1,5 @@
 -- Lists of steps: their fronts, one behind another, and what a run reaches by them.
-use Rattle.std.proofs.Common.{◌≡◌, Bool, true, List, [], ◌∷◌, ◌++◌, refl, sym, ap, subst}
+use Rattle.std.proofs.Common.{◌≡◌, List, [], ◌∷◌, ◌++◌, refl, sym, subst}
 use Rattle.bl_ctree.specs.Actions.{Action}
 use Rattle.bl_ctree.specs.Control.{Control}
 use Rattle.bl_ctree.specs.Instances.{Setting}

@@ -1,5 +1,5 @@
 -- The node of the tick graph that a point of a tree stands for.
-use Rattle.std.specs.Prelude.{ℕ, zero, suc, Bool, true, false, List, [], ◌∷◌, if◌then◌else◌}
+use Rattle.std.specs.Prelude.{ℕ, zero, suc, Bool, List, [], ◌∷◌, if◌then◌else◌}
 use Rattle.bl_tree.specs.declared.graph.NodeKind.{NodeKind}
 use Rattle.bl_tree.specs.declared.graph.NodeKind.TheVariants.{Act, Test as TestNode, Pause, Resume, Start, Head, Check as CheckNode, SurfaceEnd, DepthEnd, Fork, SurfaceJoin, DepthJoin}
 use Rattle.bl_tree.specs.declared.tree.StmtKind.TheOpen.{StmtKind-F}
