@@ -16,10 +16,10 @@ use Rattle.bl_tree.specs.Words.{are_distinct, is_among}
 use Rattle.bl_ctext.proofs.Bytes.{and-fst, and-snd}
 use Rattle.bl_cmeaning.specs.Parts.{Parts, parts_from}
 use Rattle.bl_cmeaning.specs.Memory.{Part, member, Root, state_object, input_object, output_object, variable, Memory, left_after}
-use Rattle.bl_cmeaning.specs.Tables.{Table}
+use Rattle.bl_cmeaning.specs.Tables.{Table, no_entries, with_entry}
 use Rattle.bl_cmeaning.specs.Cells.{Inner, Cell, inner_of_member, inner_of, inside, cells_at, cells_of}
 use Rattle.bl_cmeaning.specs.Meaning.{Meaning, Scope}
-use Rattle.bl_early.specs.Emitted.{c_through, c_column, c_structs, c_ports, frame_name, input_name, output_name, ins_of, outs_of}
+use Rattle.bl_early.specs.Emitted.{c_through, c_column, c_frame, c_state, c_row, c_structs, c_ports, frame_name, input_name, output_name, ins_of, outs_of}
 use Rattle.bl_earlyc.proofs.Cells.{Each, each-append, each-of, each-map, hits, Apart, Own, Clear, AllApart, apart-append}
 use Rattle.bl_earlyc.proofs.Values.{through-place}
 use Rattle.bl_earlyc.proofs.Stretches.{counter, current, activity_scope, Leads}
@@ -57,26 +57,41 @@ state-cells unit =
     ap (λ b. cells_at state_object (map (inside (member (codes "m_0") ∷ [])) (unwrap_or (option_or None (if b then Some (record { parts = member (codes "c0") ∷ []; kind = Nat W32 } ∷ []) else None)) []) ++ []))
     (same-name (frame_name unit))
 
+-- the scalars of the structs before the inputs, and before the outputs
+abbrev known_first : UnitDef → Table (List Inner)
+known_first unit = with_entry no_entries (frame_name unit) (flat_map (inner_of_member no_entries) (c_frame unit).members)
+
+abbrev known_second : UnitDef → Table (List Inner)
+known_second unit = with_entry (known_first unit) (codes "bl_state") (flat_map (inner_of_member (known_first unit)) (c_state unit).members)
+
+abbrev known_third : UnitDef → Table (List Inner)
+known_third unit = with_entry (known_second unit) (codes "bl_in") (flat_map (inner_of_member (known_second unit)) (c_row (codes "bl_in") input_name (ins_of unit)).members)
+
 in-cells : (unit : UnitDef) → cells_at input_object (inner_of (c_structs unit) (codes "bl_in")) ≡ pad input_object ∷ in_cells unit
-in-cells unit = ap (λ rest. pad input_object ∷ rest) (columns-cells _ input_object input_name (ins_of unit))
+in-cells unit = ap (λ rest. pad input_object ∷ rest) (columns-cells (known_second unit) input_object input_name (ins_of unit))
 
 out-cells : (unit : UnitDef) → cells_at output_object (inner_of (c_structs unit) (codes "bl_out")) ≡ pad output_object ∷ out_cells unit
-out-cells unit = ap (λ rest. pad output_object ∷ rest) (columns-cells _ output_object output_name (outs_of unit))
+out-cells unit = ap (λ rest. pad output_object ∷ rest) (columns-cells (known_third unit) output_object output_name (outs_of unit))
 
 pub cells-are : (unit : UnitDef) (funcs : List CFunc) → cells_of (parts_from (c_structs unit) funcs) ≡ all_cells unit
 unfolding cells_of
 cells-are unit funcs =
-    ap (λ first. first ++ (cells_at input_object (inner_of (c_structs unit) (codes "bl_in")) ++ cells_at output_object (inner_of (c_structs unit) (codes "bl_out")))) (state-cells unit)
-    ∙ ap (λ second. counter ∷ (second ++ cells_at output_object (inner_of (c_structs unit) (codes "bl_out")))) (in-cells unit)
-    ∙ ap (λ third. counter ∷ ((pad input_object ∷ in_cells unit) ++ third)) (out-cells unit)
+    let ins = cells_at input_object (inner_of (c_structs unit) (codes "bl_in")) in
+    let outs = cells_at output_object (inner_of (c_structs unit) (codes "bl_out")) in
+    ap (λ first. (first ++ ins) ++ outs) (state-cells unit)
+    ∙ ap (λ second. ((counter ∷ []) ++ second) ++ outs) (in-cells unit)
+    ∙ ap (λ third. ((counter ∷ []) ++ (pad input_object ∷ in_cells unit)) ++ third) (out-cells unit)
 
 -- ---- they are apart
 
-not-hit : (b : Bool) → b ≡ false → is_some (if b then Some [] else None) ≡ false
+abbrev nothing_left : List Part
+nothing_left = []
+
+not-hit : (b : Bool) → b ≡ false → is_some (if b then Some nothing_left else None) ≡ false
 not-hit false h = refl
 not-hit true h = cc
 
-is-hit : (b : Bool) → b ≡ true → (if b then Some [] else None) ≡ Some []
+is-hit : (b : Bool) → b ≡ true → (if b then Some nothing_left else None) ≡ Some nothing_left
 is-hit true h = refl
 is-hit false h = cc
 

@@ -209,10 +209,10 @@ module _ (known : Table Meaning) (ports : List CPlace) (slots : List Cell) (lead
   Stretched num c l (Pauses item rest now) m e = (e ≡ goes_on) × View slots m num l now
   Stretched num c l (Passes now) m e = (e ≡ goes_on) × View slots m c 0 now
 
-  current-place : (m : Memory) → location_c c_now scope m ≡ given (Some current.location)
+  pub current-place : (m : Memory) → location_c c_now scope m ≡ given (Some current.location)
   current-place m = variable-place scope m (codes "l_0")
 
-  counter-place : (m : Memory) → location_c c_counter scope m ≡ given (Some counter.location)
+  pub counter-place : (m : Memory) → location_c c_counter scope m ≡ given (Some counter.location)
   counter-place m = through-place scope m (codes "p_f") (codes "c0")
 
   -- a variable was set, or the sum trapped

@@ -1,5 +1,5 @@
 -- The written file has the trace of its loop of steps.
-use Rattle.std.proofs.Common.{◌≡◌, ℕ, suc, zero, ◌+◌, ◌<◌, ◌≤◌, ℤ, pos, Bool, true, false, ◌&&◌, ◌||◌, List, [], ◌∷◌, ◌++◌, map, length, take, drop, Option, Some, None, refl, sym, ap, ap₂, ◌∙◌, subst, arith, codes, min, length-take, take-append-drop}
+use Rattle.std.proofs.Common.{◌≡◌, ℕ, suc, zero, ◌+◌, ◌<◌, ◌≤◌, ℤ, pos, Bool, true, false, ◌&&◌, ◌||◌, List, [], ◌∷◌, ◌++◌, map, length, take, drop, Option, Some, None, refl, sym, ap, ap₂, ◌∙◌, subst, arith, codes, take-append-drop, true≢false}
 use Rattle.std.specs.Prelude.{All, slice_set, if◌then◌else◌}
 use Rattle.std.specs.List.{list_all, list_any}
 use Rattle.std.proofs.lemmas.List.Elements.{All-head, All-tail}
@@ -17,10 +17,9 @@ use Rattle.bl_cmeaning.specs.Memory.{Part, member, Root, state_object, input_obj
 use Rattle.bl_cmeaning.specs.Tables.{no_entries}
 use Rattle.bl_cmeaning.specs.Cells.{Cell, cells_of, memory_of, numbers_of, ports_of, with_inputs, outputs_in}
 use Rattle.bl_cmeaning.specs.Meaning.{Called, Outcome}
-use Rattle.bl_cmeaning.specs.Trace as c
+use Rattle.bl_cmeaning.specs.Trace.{Tick, tick_c, tick_of, start_c, cells_where, reply_of, c_trace, c_trace_from, trace_after, traced as c_traced}
 use Rattle.bl_early.specs.Form.{Item, Step, Set, Pause, is_pause, is_early, is_early_unit}
-use Rattle.bl_early.specs.Run as run
-use Rattle.bl_early.specs.Run.{Numbers, item_value, source_value, Reached, Traps, Pauses, Passes, reached_with, taken, repeated, Standing, Begins, Waits, ticked, with_row, loop_trace, trace_of}
+use Rattle.bl_early.specs.Run.{Numbers, item_value, source_value, Reached, Traps, Pauses, Passes, reached_with, taken, repeated, Standing, Begins, Waits, ticked, with_row, loop_trace, trace_of, traced as run_traced}
 use Rattle.bl_early.specs.Built.{step_within, loop_steps, steps_at}
 use Rattle.bl_early.specs.Emitted.{c_column, c_structs, c_funcs, c_ports, input_name, output_name, ins_of, outs_of}
 use Rattle.bl_early.proofs.Known.{Stands, unit-stands, steps-within}
@@ -43,7 +42,7 @@ no-pass-with f None h = tt
 no-pass-with f (Some n) h = h n
 
 no-pass : (steps : List Step) → list_any is_pause steps ≡ true → (now : Numbers) → NoPass (taken steps now)
-no-pass [] h now = cc
+no-pass [] h now = absurd (true≢false (sym h))
 no-pass (Set k source ∷ rest) h now = no-pass-with (λ n. taken rest (slice_set now k n)) (source_value now source) (λ n. no-pass rest h (slice_set now k n))
 no-pass (Pause item ∷ rest) h now = tt
 
@@ -165,11 +164,11 @@ module _ (unit : UnitDef) (steps : List Step) (inputs : unit.inputs ≤ length u
   abbrev columns_set : List ℤ → Memory → Memory
   columns_set row m = with_inputs (map (c_column input_name) (ins_of unit)) row m
 
-  tick-is : (cells row : List ℤ) → c.tick_c the_file cells row ≡ c.tick_of the_file (tick_called unit steps (columns_set row (memory_of (all_cells unit) cells)))
-  unfolding c.tick_c
+  tick-is : (cells row : List ℤ) → tick_c the_file cells row ≡ tick_of the_file (tick_called unit steps (columns_set row (memory_of (all_cells unit) cells)))
+  unfolding tick_c
   tick-is cells row =
-      ap (c.tick_of the_file) (tick-entered unit steps (columns_set row (memory_of (cells_of the_file) cells)))
-      ∙ ap (λ cs. c.tick_of the_file (tick_called unit steps (columns_set row (memory_of cs cells)))) (cells-are unit (c_funcs unit steps))
+      ap (tick_of the_file) (tick-entered unit steps (columns_set row (memory_of (cells_of the_file) cells)))
+      ∙ ap (λ cs. tick_of the_file (tick_called unit steps (columns_set row (memory_of cs cells)))) (cells-are unit (c_funcs unit steps))
 
   -- the memory in which a tick begins
   view-of : (m : Memory) (number : ℕ) (row : List ℤ) (now : Numbers) → length row ≡ unit.inputs → number_at m counter ≡ pos number → numbers_of (slots_of unit) m ≡ now →
@@ -206,7 +205,7 @@ module _ (unit : UnitDef) (steps : List Step) (inputs : unit.inputs ≤ length u
       next-tick no_entries (c_ports unit) (slots_of unit) (ports-lead no_entries unit) (slots-apart unit distinct) (slots-own unit) (counter-clear unit) (current-clear unit) steps within (without_frame 1 m) number 0 item rest now stands view
 
   abbrev Goes : List (List ℤ) → Type 0
-  Goes rows = (standing : Standing) (now : Numbers) (cells : List ℤ) → Related standing now cells → c.c_trace_from the_file rows cells ≡ loop_trace unit.inputs steps rows standing now
+  Goes rows = (standing : Standing) (now : Numbers) (cells : List ℤ) → Related standing now cells → c_trace_from the_file rows cells ≡ loop_trace unit.inputs steps rows standing now
 
   -- the outputs of a row
   row-is : (m : Memory) (now : Numbers) → numbers_of (slots_of unit) m ≡ now → outputs_in (map (c_column output_name) (outs_of unit)) m ≡ drop unit.inputs now
@@ -216,9 +215,9 @@ module _ (unit : UnitDef) (steps : List Step) (inputs : unit.inputs ≤ length u
       ∙ ap (drop unit.inputs) (sym (numbers-append (in_cells unit) (out_cells unit) m) ∙ numbers)
 
   after-tick : (reached : Reached) (called : Called) (rows : List (List ℤ)) → TickEnds unit steps reached called → NoPass reached → Goes rows →
-      c.traced (c.reply_of called.result) (outputs_in (ports_of (codes "bl_out") the_file) called.memory) (c.c_trace_from the_file rows (numbers_of (cells_of the_file) called.memory)) ≡ run.traced unit.inputs (loop_trace unit.inputs steps rows) reached
+      c_traced (reply_of called.result) (outputs_in (ports_of (codes "bl_out") the_file) called.memory) (c_trace_from the_file rows (numbers_of (cells_of the_file) called.memory)) ≡ run_traced unit.inputs (loop_trace unit.inputs steps rows) reached
   after-tick Traps called rows h clear further =
-      ap (λ r. c.traced (c.reply_of r) (outputs_in (ports_of (codes "bl_out") the_file) called.memory) (c.c_trace_from the_file rows (numbers_of (cells_of the_file) called.memory))) h
+      ap (λ r. c_traced (reply_of r) (outputs_in (ports_of (codes "bl_out") the_file) called.memory) (c_trace_from the_file rows (numbers_of (cells_of the_file) called.memory))) h
   after-tick (Pauses item rest now) called rows h clear further =
       let rested = h.1 in
       let related : Related (Waits item rest) now (numbers_of (cells_of the_file) called.memory) = record {
@@ -229,7 +228,7 @@ module _ (unit : UnitDef) (steps : List Step) (inputs : unit.inputs ≤ length u
         numbers = rested.numbers;
         stands = rested.at;
       } in
-      ap (λ r. c.traced (c.reply_of r) (outputs_in (ports_of (codes "bl_out") the_file) called.memory) (c.c_trace_from the_file rows (numbers_of (cells_of the_file) called.memory))) h.0
+      ap (λ r. c_traced (reply_of r) (outputs_in (ports_of (codes "bl_out") the_file) called.memory) (c_trace_from the_file rows (numbers_of (cells_of the_file) called.memory))) h.0
       ∙ ap₂ (λ (o : List ℤ) (t : Trace). record { rows = o ∷ t.rows; last = t.last }) (row-is called.memory now rested.numbers) (further (Waits item rest) now (numbers_of (cells_of the_file) called.memory) related)
   after-tick (Passes now) called rows h clear further = absurd clear
 
@@ -240,16 +239,16 @@ module _ (unit : UnitDef) (steps : List Step) (inputs : unit.inputs ≤ length u
       let view : View (slots_of unit) (without_frame 1 (without_frame 0 began)) related.number 0 (with_row unit.inputs row now) =
       subst (λ cs. View (slots_of unit) (without_frame 1 (without_frame 0 (columns_set row (memory_of (all_cells unit) cs)))) related.number 0 (with_row unit.inputs row now)) (sym related.are)
       (view-of related.memory related.number row now suit.0 related.counted related.numbers) in
-      ap (λ (t : c.Tick). c.traced t.reply t.outputs (c.c_trace_from the_file rows t.cells)) (tick-is cells row)
+      ap (λ (t : Tick). c_traced t.reply t.outputs (c_trace_from the_file rows t.cells)) (tick-is cells row)
       ∙ after-tick (ticked steps standing (with_row unit.inputs row now)) (tick_called unit steps began) rows
       (tick-ends unit steps (ports-lead no_entries unit) (slots-apart unit distinct) (slots-own unit) (counter-clear unit) (current-clear unit) within (ticked steps standing (with_row unit.inputs row now)) began
       (tick-done standing related.number (without_frame 0 began) (with_row unit.inputs row now) related.stands view))
       (no-pass-tick steps (no-pass steps pausing) standing (with_row unit.inputs row now))
       (traces rows suit.1)
 
-  start-is : c.start_c the_file ≡ Some (numbers_of (cells_of the_file) (begun unit steps))
-  unfolding c.start_c
-  start-is = ap (λ (called : Called). c.cells_where the_file called.memory called.result) (init-entered unit steps)
+  start-is : start_c the_file ≡ Some (numbers_of (cells_of the_file) (begun unit steps))
+  unfolding start_c
+  start-is = ap (λ (called : Called). cells_where the_file called.memory called.result) (init-entered unit steps)
 
   begun-related : Related Begins (map (λ var. pos 0) unit.vars) (numbers_of (cells_of the_file) (begun unit steps))
   begun-related = record {
@@ -265,9 +264,9 @@ module _ (unit : UnitDef) (steps : List Step) (inputs : unit.inputs ≤ length u
     stands = refl;
   }
 
-  pub trace-is : (rows : List (List ℤ)) → Each (λ row. length row ≡ unit.inputs) rows → c.c_trace the_file rows ≡ trace_of unit steps rows
+  pub trace-is : (rows : List (List ℤ)) → Each (λ row. length row ≡ unit.inputs) rows → c_trace the_file rows ≡ trace_of unit steps rows
   trace-is rows suit =
-      ap (λ o. c.trace_after the_file o rows) start-is
+      ap (λ o. trace_after the_file o rows) start-is
       ∙ traces rows suit Begins (map (λ var. pos 0) unit.vars) (numbers_of (cells_of the_file) (begun unit steps)) begun-related
 
 -- ---- the law
@@ -292,7 +291,7 @@ stands-traced : (unit : UnitDef) → Stands unit → HasTrace unit
 stands-traced unit stands rows suit =
     let within : list_all (step_within (length (slots_of unit))) (steps_at stands.body) ≡ true =
     subst (λ n. list_all (step_within n) (steps_at stands.body) ≡ true) (sym (slots-length unit)) (steps-within (length unit.vars) stands.body stands.all) in
-    subst (λ steps. c.c_trace (file unit steps) rows ≡ trace_of unit steps rows) (sym stands.steps)
+    subst (λ steps. c_trace (file unit steps) rows ≡ trace_of unit steps rows) (sym stands.steps)
     (trace-is unit (steps_at stands.body) stands.inputs stands.distinct within stands.pause rows (all-each unit.inputs rows suit))
 
 -- the file of a program of the form has the trace of its loop of steps
@@ -300,4 +299,4 @@ pub law : (structs : List StructDef) (units : List UnitDef) (entry : ℕ) → pr
 law structs [] entry keeps early = tt
 law structs (unit ∷ v ∷ rest) entry keeps early = tt
 law [] (unit ∷ []) entry keeps early = stands-traced unit (unit-stands [] unit entry keeps early)
-law (s ∷ structs) (unit ∷ []) entry keeps early = cc
+law (s ∷ structs) (unit ∷ []) entry keeps early = absurd (true≢false (sym early))

@@ -1,5 +1,5 @@
 -- What the parts of the written C text come to.
-use Rattle.std.proofs.Common.{◌≡◌, ℕ, ◌+◌, ℤ, pos, ◌+ℤ◌, Bool, true, false, List, [], ◌∷◌, ◌++◌, map, Option, Some, None, refl, sym, ap, ◌∙◌, subst, codes}
+use Rattle.std.proofs.Common.{◌≡◌, ℕ, ◌+◌, ℤ, pos, ◌+ℤ◌, Bool, true, false, List, [], ◌∷◌, ◌++◌, map, Option, Some, None, refl, sym, ap, ap₂, ◌∙◌, subst, codes}
 use Rattle.std.specs.Prelude.{option_map, if◌then◌else◌}
 use Rattle.std.specs.Ordering.{int_eq}
 use Rattle.bl_tree.specs.declared.text.Text.{Text}
@@ -75,8 +75,7 @@ module _ (scope : Scope) (memory : Memory) where
   equal-values : (left right : Counted CValue) (a b : CValue) → left ≡ given (Some a) → right ≡ given (Some b) →
       next left (λ x. next right (λ y. given (Some (scalar (number_of (int_eq (number_in x) (number_in y))))))) ≡ given (Some (scalar (number_of (int_eq (number_in a) (number_in b)))))
   equal-values left right a b h i =
-      ap (λ l. next l (λ x. next right (λ y. given (Some (scalar (number_of (int_eq (number_in x) (number_in y)))))))) h
-      ∙ ap (λ r. next r (λ y. given (Some (scalar (number_of (int_eq (number_in a) (number_in y))))))) i
+      ap₂ (λ l r. next l (λ x. next r (λ y. given (Some (scalar (number_of (int_eq (number_in x) (number_in y)))))))) h i
 
   equal-open : (left right : CExpr) (a b : CValue) → value_c left scope memory ≡ given (Some a) → value_c right scope memory ≡ given (Some b) →
       value_c (kind (CExprKind-F.Two Eq left right)) scope memory ≡ given (Some (scalar (number_of (int_eq (number_in a) (number_in b)))))
@@ -105,7 +104,7 @@ module _ (scope : Scope) (memory : Memory) where
   passed-next : {A : Type 0} (first : Counted A) (rest : Counted (List A)) (a : A) (others : List A) → first ≡ given (Some a) → rest ≡ given (Some others) →
       next first (λ x. next rest (λ xs. given (Some (x ∷ xs)))) ≡ given (Some (a ∷ others))
   passed-next first rest a others h i =
-      ap (λ c. next c (λ x. next rest (λ xs. given (Some (x ∷ xs))))) h ∙ ap (λ c. next c (λ xs. given (Some (a ∷ xs)))) i
+      ap₂ (λ c d. next c (λ x. next d (λ xs. given (Some (x ∷ xs))))) h i
 
   pub two-args : (x y : CArg) (a b : Passed) → passes x scope memory ≡ given (Some a) → passes y scope memory ≡ given (Some b) →
       each_of (map passes (x ∷ y ∷ [])) scope memory ≡ given (Some (a ∷ b ∷ []))
@@ -147,8 +146,7 @@ module _ (scope : Scope) (memory : Memory) where
       runs_c (what (CStmtKind-F.Set place e)) scope memory ≡ record { memory = set_at memory at v; end = goes_on; count = 1 }
   set-open place e at v h i =
       rw (fold-roll-CStmt, fold-roll-CStmtKind)
-      (ap (λ c. executed memory (next c (λ p. next (value_c e scope memory) (λ v. given (Some (set_at memory p v))))) going) h
-      ∙ ap (λ c. executed memory (next c (λ v. given (Some (set_at memory at v)))) going) i)
+      (ap₂ (λ c d. executed memory (next c (λ p. next d (λ v. given (Some (set_at memory p v))))) going) h i)
 
   pub set-runs : (place : CPlace) (e : CExpr) (at : Location) (v : CValue) → location_c place scope memory ≡ given (Some at) → value_c e scope memory ≡ given (Some v) →
       runs_c (c_set place e) scope memory ≡ record { memory = set_at memory at v; end = goes_on; count = 1 }
@@ -160,8 +158,7 @@ module _ (scope : Scope) (memory : Memory) where
       runs_c (what (CStmtKind-F.Set place e)) scope memory ≡ record { memory = memory; end = traps; count = 1 }
   set_traps-open place e at h i =
       rw (fold-roll-CStmt, fold-roll-CStmtKind)
-      (ap (λ c. executed memory (next c (λ p. next (value_c e scope memory) (λ v. given (Some (set_at memory p v))))) going) h
-      ∙ ap (λ c. executed memory (next c (λ v. given (Some (set_at memory at v)))) going) i)
+      (ap₂ (λ c d. executed memory (next c (λ p. next d (λ v. given (Some (set_at memory p v))))) going) h i)
 
   pub set-traps : (place : CPlace) (e : CExpr) (at : Location) → location_c place scope memory ≡ given (Some at) → value_c e scope memory ≡ given None →
       runs_c (c_set place e) scope memory ≡ record { memory = memory; end = traps; count = 1 }
