@@ -7,3 +7,4 @@ pub mod SameLemmas
 pub mod Spaced
 pub mod StmtLemmas
 pub mod TokenLemmas
+pub mod Unique

@@ -1,3 +1,4 @@
 pub mod Nest
+pub mod Partial
 pub mod Parts
 pub mod Pieces

@@ -6,6 +6,7 @@ mod item;
 mod literal;
 #[tactic(auto, using(crate::proofs::TokenLemmas::name_any, crate::proofs::TokenLemmas::struct_name_any, crate::proofs::TokenLemmas::function_name_any, crate::proofs::TokenLemmas::callee_any, crate::proofs::TokenLemmas::turn_name_any))]
 mod name;
+mod place;
 mod stmt;
 
 ghost use Rattle.std.specs.Prelude.{◌≡◌, ◌≢◌, ℕ, ◌<◌, ◌≤◌, length, slice_index, IfOk};

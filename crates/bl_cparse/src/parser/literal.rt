@@ -195,8 +195,19 @@ fn constant_of(r: &mut Reader<'_>, room: u32, high: u64) -> Result<u64, CRefusal
     constant(r, 0, high)
 }
 
+/// The minus of a literal behind its `(`, and what follows it.
+pub fn minus(r: &mut Reader<'_>, room: u32) -> Result<CExprKind, CRefusal>
+    ensures { IfOk result (λ k. (codes "(" ∷ r.old ≡ kind_tokens k ++ r.new) × IsTrue (spells_kind k)) }
+{
+    if room == 0 {
+        return Err(r.refusal());
+    }
+    r.take("-")?;
+    negative(r)
+}
+
 /// A negative literal behind its `(-`, where a bracket may still be opened.
-pub fn negative(r: &mut Reader<'_>) -> Result<CExprKind, CRefusal>
+fn negative(r: &mut Reader<'_>) -> Result<CExprKind, CRefusal>
     ensures { IfOk result (λ k. (codes "(" ∷ codes "-" ∷ r.old ≡ kind_tokens k ++ r.new) × IsTrue (spells_kind k)) }
 {
     let Some(width) = signed_of(r.piece()) else {
