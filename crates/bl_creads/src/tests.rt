@@ -78,9 +78,7 @@ fn a_cut_text_fails_at_its_end_or_its_last_word(rt: HostRuntime) -> Result<(), F
         assert!(rt; at <= cut, "{cut}");
         // The last word may be no whole one, and `=` may be the first half of `==`.
         let last = &whole[at..cut];
-        let word = last
-            .iter()
-            .all(|b| b.is_ascii_alphanumeric() || *b == b'_');
+        let word = last.iter().all(|b| b.is_ascii_alphanumeric() || *b == b'_');
         assert!(rt; word || last == b"=".as_slice(), "{cut} {at}");
         assert!(rt; last.is_empty() || !is_word_end(&whole[..at]), "{cut} {at}");
     }
@@ -116,7 +114,10 @@ static FUNCTION_ROWS: [(&str, &str); 53] = [
     ("{ ", "{ } }"),
     ("{ uint32_t ", "t = 0; }"),
     ("{ uint32_t t1 = 0; while (c) { ", "t2 = bl_turn(t1); } } }"),
-    ("{ uint32_t t1 = 0; while (c) { t1 = bl_turn(", "t01); } } }"),
+    (
+        "{ uint32_t t1 = 0; while (c) { t1 = bl_turn(",
+        "t01); } } }",
+    ),
     ("{ uint32_t t1 = ", "1; while (c) { t1 = bl_turn(t1); } } }"),
     ("x = (*", "1); }"),
     ("x = (a <", "< b); }"),
@@ -214,11 +215,7 @@ fn repeated(alloc: Global, part: &str, count: usize) -> Result<Vec<u8>, AllocErr
 const BODY: &str = "void bl_init(struct bl_state *s) { ";
 
 /// A function that begins so, goes on with so many of the one text, what stands inside of them, and so many of the other.
-fn nested(
-    alloc: Global,
-    count: usize,
-    parts: [&str; 5],
-) -> Result<Vec<u8>, AllocError> {
+fn nested(alloc: Global, count: usize, parts: [&str; 5]) -> Result<Vec<u8>, AllocError> {
     let [front, opening, inside, closing, back] = parts;
     let mut nested = text(alloc, &[STRUCTS, BODY, front])?;
     nested.extend_from_slice(repeated(alloc, opening, count)?.as_slice())?;
@@ -242,6 +239,17 @@ fn so_many_branches_may_be_open(rt: HostRuntime) -> Result<(), Fail> {
 }
 
 #[test]
+fn a_loop_opens_three_brackets(rt: HostRuntime) -> Result<(), Fail> {
+    let alloc = rt.alloc();
+    let turns = "{ uint32_t t1 = 0; while (true) { t1 = bl_turn(t1); } } ";
+    let parts = ["", "if (true) { ", turns, "} ", "}"];
+    assert!(rt; file(alloc, &nested(alloc, 1996, parts)?).is_some());
+    let before = nested(alloc, 1997, ["", "if (true) { ", "", "", ""])?.len();
+    assert_eq!(rt; fault(alloc, &nested(alloc, 1997, parts)?), Some(before));
+    Ok(())
+}
+
+#[test]
 fn a_brace_that_begins_no_loop_is_named(rt: HostRuntime) -> Result<(), Fail> {
     let alloc = rt.alloc();
     let before = nested(alloc, 1, ["", "{ ", "", "", ""])?.len();
@@ -258,8 +266,16 @@ static NESTED: [([&str; 5], usize, usize); 8] = [
     (["if (", "f(", "", ")", ") { } }"], 1998, 1),
     (["g(", "f(a, ", "&b", ")", "); }"], 1998, 1),
     (["g(", "x.a[bl_ix_s(", "i", ", 3)]", "); }"], 999, 3),
-    (["if ((a == ", "x.a[bl_ix_s(", "i", ", 3)]", ")) { } }"], 998, 3),
-    (["if (", "(!", "(*p).a[bl_ix_u(i, 3)]", ")", ") { } }"], 1996, 8),
+    (
+        ["if ((a == ", "x.a[bl_ix_s(", "i", ", 3)]", ")) { } }"],
+        998,
+        3,
+    ),
+    (
+        ["if (", "(!", "(*p).a[bl_ix_u(i, 3)]", ")", ") { } }"],
+        1996,
+        8,
+    ),
 ];
 
 #[test]
@@ -267,10 +283,13 @@ fn so_many_expressions_may_be_open(rt: HostRuntime) -> Result<(), Fail> {
     let alloc = rt.alloc();
     for (parts, most, name) in NESTED.iter() {
         let opening = parts[1];
-        assert!(rt; file(alloc, &nested(alloc, *most, *parts)?).is_some(), "{opening}");
+        assert!(rt;
+            file(alloc, &nested(alloc, *most, *parts)?).is_some(),
+            "{opening}"
+        );
         let before = nested(alloc, *most, [parts[0], opening, "", "", ""])?.len();
-        let found = fault(alloc, &nested(alloc, *most + 1, *parts)?);
-        assert_eq!(rt; found, Some(before + *name), "{opening}");
+        let found = fault(alloc, &nested(alloc, most.saturating_add(1), *parts)?);
+        assert_eq!(rt; found, before.checked_add(*name), "{opening}");
     }
     Ok(())
 }
