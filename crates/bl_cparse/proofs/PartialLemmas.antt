@@ -37,7 +37,7 @@ argument_on name sign front arg w before old new h b o =
 -- a place with one step more
 pub place_with : {A : Type 0} (f : A → List Token) (root : List Token) (steps more : List A) (s : A) → more ≡ steps ++ s ∷ [] →
     root ++ joined (map f more) ≡ (root ++ joined (map f steps)) ++ f s
-place_with f root steps more s e =
+place_with {A = A} f root steps more s e =
     ap (λ (xs : List A). root ++ joined (map f xs)) e
     ∙ (ap (λ (ts : List Token). root ++ ts) (joined_snoc f steps s) ∙ sym (append_assoc root (joined (map f steps)) (f s)))
 
@@ -61,7 +61,7 @@ address_on front sign place old =
 -- the innermost of the open brackets is taken off
 pub taken_off : {A : Type 0} (f : A → List Token) (outer items : List A) (held : A) (rest : List Token) → items ≡ outer ++ held ∷ [] →
     joined (map f items) ++ rest ≡ joined (map f outer) ++ (f held ++ rest)
-taken_off f outer items held rest e =
+taken_off {A = A} f outer items held rest e =
     ap (λ (ts : List Token). ts ++ rest) (ap (λ (xs : List A). joined (map f xs)) e ∙ joined_snoc f outer held) ∙ append_assoc (joined (map f outer)) (f held) rest
 
 -- tokens with a last one, where it is read

@@ -50,6 +50,7 @@ fn left_prelude(text: &[u8]) -> CRefusal
 /// The file that a text spells which begins with the prelude.
 fn behind_prelude(alloc: Global, text: &[u8]) -> Result<CFile, CRefusal>
     requires short { length text.now ≤ 67108864 }
+    requires long { length PRELUDE.now ≤ length text.now }
     requires begins { text.now ≡ prelude ++ drop (length PRELUDE.now) text.now }
     ensures { IfOk result (λ file. SpellsC file text.now) }
 {

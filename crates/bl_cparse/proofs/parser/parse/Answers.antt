@@ -3,8 +3,11 @@ use Rattle.bl_ctext.specs.declared.prelude.TheConstants.{PRELUDE}
 use Rattle.bl_cparse.proofs.FileLemmas.{begins, other_front}
 use Rattle.bl_cparse.proofs.parser.parse.Goals as goal
 
-pub left_prelude-requires-other : goal.left_prelude-requires-other
-left_prelude-requires-other c = other_front c.args.text.now c.starts_with.result c.starts_with.ensures.value c.if-not-starts_with.true
+pub left_prelude-requires-clause-other : goal.left_prelude-requires-clause-other
+left_prelude-requires-clause-other c = other_front c.args.text.now c.starts_with.result c.starts_with.ensures.value c.if-not-starts_with.true
 
-pub behind_prelude-requires-begins : goal.behind_prelude-requires-begins
-behind_prelude-requires-begins c = begins c.args.text.now c.starts_with.result c.starts_with.ensures.value c.if-not-starts_with.false
+pub behind_prelude-requires-clause-begins : goal.behind_prelude-requires-clause-begins
+behind_prelude-requires-clause-begins c = begins c.args.text.now c.starts_with.result c.starts_with.ensures.value c.if-not-starts_with.false
+
+pub returns-clause-prelude : goal.returns-clause-prelude
+returns-clause-prelude c = λ other. absurd (other (drop (length PRELUDE.now) c.args.text.now) (begins c.args.text.now c.starts_with.result c.starts_with.ensures.value c.if-not-starts_with.false))
