@@ -310,7 +310,12 @@ fn starred(r: &mut Reader<'_>, outer: Vec<Held>, start: u32, room: u32) -> Resul
 }
 
 /// A negative number behind its `(`.
-fn negative(r: &mut Reader<'_>, outer: Vec<Held>, start: u32, room: u32) -> Result<Partial, CRefusal>
+fn negative(
+    r: &mut Reader<'_>,
+    outer: Vec<Held>,
+    start: u32,
+    room: u32,
+) -> Result<Partial, CRefusal>
     requires outer { IsTrue (all_of (map spells_held outer.items)) }
     ensures read { IfOk result (λ p. (on_stack outer.items ++ codes "(" ∷ r.old ≡ partial_tokens p ++ r.new) × IsTrue (spells_partial p)) }
     ensures less { IfOk result (λ p. 2 * length r.new + work_left p.next < 2 * length r.old + 2) }
@@ -341,7 +346,13 @@ fn named(r: &mut Reader<'_>, outer: Vec<Held>, room: u32) -> Result<Partial, CRe
 }
 
 /// The `(` of a call whose name is read, and the `)` where it has no arguments.
-fn call(r: &mut Reader<'_>, outer: Vec<Held>, start: u32, name: Text, room: u32) -> Result<Partial, CRefusal>
+fn call(
+    r: &mut Reader<'_>,
+    outer: Vec<Held>,
+    start: u32,
+    name: Text,
+    room: u32,
+) -> Result<Partial, CRefusal>
     requires outer { IsTrue (all_of (map spells_held outer.items)) }
     requires name { IsTrue (is_callee name) }
     ensures read { IfOk result (λ p. (on_stack outer.items ++ name ∷ r.old ≡ partial_tokens p ++ r.new) × IsTrue (spells_partial p)) }
@@ -407,7 +418,12 @@ fn address(r: &mut Reader<'_>, outer: Vec<Held>, call: CallFront) -> Result<Part
 }
 
 /// A step of a place, or what follows it where it has no further one.
-fn step(r: &mut Reader<'_>, outer: Vec<Held>, of: Use, place: PlaceFront) -> Result<Partial, CRefusal>
+fn step(
+    r: &mut Reader<'_>,
+    outer: Vec<Held>,
+    of: Use,
+    place: PlaceFront,
+) -> Result<Partial, CRefusal>
     requires outer { IsTrue (all_of (map spells_held outer.items)) }
     requires of { IsTrue (spells_use of) }
     requires place { IsTrue (spells_root place) }
@@ -439,7 +455,13 @@ fn stepped(place: PlaceFront, step: CStep) -> Result<PlaceFront, CRefusal>
 }
 
 /// The front of an index behind a member.
-fn indexed(r: &mut Reader<'_>, outer: Vec<Held>, of: Use, place: PlaceFront, member: Text) -> Result<Partial, CRefusal>
+fn indexed(
+    r: &mut Reader<'_>,
+    outer: Vec<Held>,
+    of: Use,
+    place: PlaceFront,
+    member: Text,
+) -> Result<Partial, CRefusal>
     requires outer { IsTrue (all_of (map spells_held outer.items)) }
     requires of { IsTrue (spells_use of) }
     requires place { IsTrue (spells_root place) }
@@ -463,7 +485,12 @@ fn indexed(r: &mut Reader<'_>, outer: Vec<Held>, of: Use, place: PlaceFront, mem
 }
 
 /// A place that is read, as what it is read for.
-fn placed(r: &mut Reader<'_>, outer: Vec<Held>, of: Use, place: PlaceFront) -> Result<Partial, CRefusal>
+fn placed(
+    r: &mut Reader<'_>,
+    outer: Vec<Held>,
+    of: Use,
+    place: PlaceFront,
+) -> Result<Partial, CRefusal>
     requires outer { IsTrue (all_of (map spells_held outer.items)) }
     requires of { IsTrue (spells_use of) }
     requires place { IsTrue (spells_root place) }
@@ -484,7 +511,12 @@ fn placed(r: &mut Reader<'_>, outer: Vec<Held>, of: Use, place: PlaceFront) -> R
 }
 
 /// An argument that is read, and the sign behind it.
-fn argued(r: &mut Reader<'_>, outer: Vec<Held>, call: CallFront, arg: CArg) -> Result<Partial, CRefusal>
+fn argued(
+    r: &mut Reader<'_>,
+    outer: Vec<Held>,
+    call: CallFront,
+    arg: CArg,
+) -> Result<Partial, CRefusal>
     requires outer { IsTrue (all_of (map spells_held outer.items)) }
     requires call { IsTrue (spells_called call) }
     requires arg { IsTrue (spells_arg arg) }
@@ -528,7 +560,12 @@ fn closed(r: &mut Reader<'_>, outer: Vec<Held>, e: CExpr) -> Result<Partial, CRe
     }
 }
 
-fn closed_held(r: &mut Reader<'_>, outer: Vec<Held>, held: Held, e: CExpr) -> Result<Partial, CRefusal>
+fn closed_held(
+    r: &mut Reader<'_>,
+    outer: Vec<Held>,
+    held: Held,
+    e: CExpr,
+) -> Result<Partial, CRefusal>
     requires outer { IsTrue (all_of (map spells_held outer.items)) }
     requires held { IsTrue (spells_held held) }
     requires whole { IsTrue (spells_expr e) }
@@ -581,7 +618,12 @@ struct Operands {
 }
 
 /// The `)` behind the second operand.
-fn compared(r: &mut Reader<'_>, outer: Vec<Held>, start: u32, operands: Operands) -> Result<Partial, CRefusal>
+fn compared(
+    r: &mut Reader<'_>,
+    outer: Vec<Held>,
+    start: u32,
+    operands: Operands,
+) -> Result<Partial, CRefusal>
     requires outer { IsTrue (all_of (map spells_held outer.items)) }
     requires op { IsTrue (is_c_operator operands.op) }
     requires left { IsTrue (spells_expr operands.left) }
@@ -597,7 +639,12 @@ fn compared(r: &mut Reader<'_>, outer: Vec<Held>, start: u32, operands: Operands
 }
 
 /// The end of an index behind its expression.
-fn closed_index(r: &mut Reader<'_>, outer: Vec<Held>, front: IndexFront, e: CExpr) -> Result<Partial, CRefusal>
+fn closed_index(
+    r: &mut Reader<'_>,
+    outer: Vec<Held>,
+    front: IndexFront,
+    e: CExpr,
+) -> Result<Partial, CRefusal>
     requires outer { IsTrue (all_of (map spells_held outer.items)) }
     requires front { IsTrue (spells_held (Held.Index front)) }
     requires whole { IsTrue (spells_expr e) }

@@ -8,10 +8,10 @@ ghost use Rattle.bl_ctext.specs.Spelling.{expr_tokens, place_tokens, root_tokens
 ghost use Rattle.bl_ctext.specs.Spellable.{spells_expr, spells_place, spells_stmt, spells_stmt_kind, has_any};
 ghost use Rattle.bl_cparse.specs.Nest.{opened_tokens, frame_tokens, spells_frame, nest_tokens, spells_nest};
 
+use crate::make_stmt;
 use crate::parser::{expr, name, place};
 use crate::reader::Reader;
 use crate::refusal::CRefusal;
-use crate::make_stmt;
 use bl_tree::c::{CExpr, CPlace, CStmt, CStmtKind};
 use bl_tree::{List, Text};
 use std::alloc::AllocError;

@@ -9,6 +9,6 @@ pub returns-then-eat-clause-read : goal.returns-then-eat-clause-read
 returns-then-eat-clause-read c = (
   go_on (on_stack c.args.outer.items) (called_front c.in_ok-call.call) (partial_tokens c.awaiting.result) _ _ c.awaiting.ensures.tokens
       (argument_on c.in_ok-call.call.name (codes ",") (called_front c.args.call) (arg_tokens c.args.arg) (with_commas (map arg_tokens c.in_ok-call.call.args)) (args_before c.in_ok-call.call.args) _ _
-          c.in_ok-call.ensures.tokens (before_any c.in_ok-call.call.args c.in_ok-call.ensures.spells.1) (c.eat.ensures.yes c.if-eat.true)),
+      c.in_ok-call.ensures.tokens (before_any c.in_ok-call.call.args c.in_ok-call.ensures.spells.1) (c.eat.ensures.yes c.if-eat.true)),
   c.awaiting.ensures.spells,
 )
