@@ -1,5 +1,5 @@
 -- From the pieces of a text to the file that it spells.
-use Rattle.std.proofs.Common.{◌≡◌, ℕ, ◌≤◌, Bool, true, ◌&&◌, nat_le, ◌==◌, List, ◌++◌, length, map, drop, refl, sym, ap, ◌∙◌, subst, arith}
+use Rattle.std.proofs.Common.{◌≡◌, ◌≢◌, ℕ, ◌≤◌, Bool, true, false, ◌&&◌, nat_le, ◌==◌, List, ◌++◌, length, map, drop, refl, sym, ap, ◌∙◌, subst, arith}
 use Rattle.std.specs.List.{starts_with}
 use Rattle.std.proofs.lemmas.Slice.Eq.{starts_is}
 use Rattle.std.proofs.lemmas.Bool.Decides.{nat_tests, Decides-eqb}
@@ -44,3 +44,10 @@ pub spells : (structs : List CStruct) (funcs : List CFunc) (text rest : List ℕ
     pieces rest ≡ joined (map struct_tokens structs) ++ left → left ≡ joined (map func_tokens funcs) → are_tokens (pieces rest) ≡ true →
     (x : List ℕ) × ((text ≡ prelude ++ x) × SpacedC (tokens_of structs funcs) x)
 spells structs funcs text rest left h s f k = (rest, (h, spells_file structs funcs rest (whole_tokens structs funcs (pieces rest) left s f) k))
+
+-- what doesn't begin with the prelude has nothing behind it
+pub other_front : (text : List ℕ) (r : Bool) → r ≡ starts_with (◌==◌) text PRELUDE.now → r ≡ false → (rest : List ℕ) → text ≢ prelude ++ rest
+other_front text r h k rest e =
+    let front : text ≡ PRELUDE.now ++ rest = e ∙ ap (λ (p : List ℕ). p ++ rest) (sym prelude_is) in
+    let yes : r ≡ true = (starts_is Decides-eqb text PRELUDE.now r h).1 rest front in
+    cc

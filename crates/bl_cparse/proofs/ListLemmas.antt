@@ -33,7 +33,7 @@ listed_snoc f first y (z ∷ xs) x =
     ∙ (ap (λ ts. comma_before first ++ ts) (sym (append_assoc (f y) (listed false (map f (z ∷ xs))) (codes "," ∷ f x)))
     ∙ sym (append_assoc (comma_before first) (f y ++ listed false (map f (z ∷ xs))) (codes "," ∷ f x)))
 
-commas_snoc : {A : Type 0} (f : A → List Token) (xs : List A) (x : A) → has_any xs ≡ true → with_commas (map f (xs ++ x ∷ [])) ≡ with_commas (map f xs) ++ (codes "," ∷ f x)
+pub commas_snoc : {A : Type 0} (f : A → List Token) (xs : List A) (x : A) → has_any xs ≡ true → with_commas (map f (xs ++ x ∷ [])) ≡ with_commas (map f xs) ++ (codes "," ∷ f x)
 commas_snoc f [] x h = cc
 commas_snoc f (y ∷ xs) x h = listed_snoc f true y xs x
 

@@ -1,6 +1,7 @@
 //! Texts of the C subset read back (docs/C_SUBSET.md, "Grammar").
 #![tactic(auto)]
 
+pub mod laws;
 mod make;
 mod make_stmt;
 mod parser;

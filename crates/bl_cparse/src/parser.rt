@@ -6,10 +6,14 @@ mod item;
 mod literal;
 #[tactic(auto, using(crate::proofs::TokenLemmas::name_any, crate::proofs::TokenLemmas::struct_name_any, crate::proofs::TokenLemmas::function_name_any, crate::proofs::TokenLemmas::callee_any, crate::proofs::TokenLemmas::turn_name_any))]
 mod name;
+mod place;
 mod stmt;
 
-ghost use Rattle.std.specs.Prelude.{◌≡◌, ◌≢◌, ℕ, ◌<◌, ◌≤◌, length, slice_index, IfOk};
+ghost use Rattle.std.specs.Prelude.{◌≡◌, ◌≢◌, ℕ, ◌<◌, ◌≤◌, List, ◌++◌, length, drop, slice_index, IfOk, IsErrAnd};
+ghost use Rattle.bl_ctext.specs.Prelude.{prelude};
+ghost use Rattle.bl_ctext.specs.declared.prelude.TheConstants.{PRELUDE};
 ghost use Rattle.bl_ctext.specs.SpellsC.{SpellsC};
+ghost use Rattle.bl_cparse.specs.Places.{LeavesPrelude};
 
 use crate::reader::Reader;
 use crate::refusal::CRefusal;
@@ -23,12 +27,33 @@ pub const MOST_OPEN: u32 = 2_000;
 /// The file that the bytes spell (docs/C_SUBSET.md, "Grammar").
 pub fn parse(alloc: Global, text: &[u8]) -> Result<CFile, CRefusal>
     requires { length text.now ≤ 67108864 }
-    ensures { IfOk result (λ file. SpellsC file text.now) }
+    ensures file { IfOk result (λ file. SpellsC file text.now) }
+    ensures prelude { ((rest : List ℕ) → text.now ≢ prelude ++ rest) → IsErrAnd result (LeavesPrelude text.now) }
 {
     if !text.starts_with(PRELUDE) {
-        let at = shared_length(text, PRELUDE) as u32;
-        return Err(CRefusal::NotSubset { at });
+        return Err(left_prelude(text));
     }
+    behind_prelude(alloc, text)
+}
+
+/// Why a text spells no file that doesn't begin with the prelude.
+fn left_prelude(text: &[u8]) -> CRefusal
+    requires short { length text.now ≤ 67108864 }
+    requires other { (rest : List ℕ) → text.now ≢ prelude ++ rest }
+    ensures { LeavesPrelude text.now result }
+{
+    CRefusal::NotSubset {
+        at: shared_length(text, PRELUDE) as u32,
+    }
+}
+
+/// The file that a text spells which begins with the prelude.
+fn behind_prelude(alloc: Global, text: &[u8]) -> Result<CFile, CRefusal>
+    requires short { length text.now ≤ 67108864 }
+    requires long { length PRELUDE.now ≤ length text.now }
+    requires begins { text.now ≡ prelude ++ drop (length PRELUDE.now) text.now }
+    ensures { IfOk result (λ file. SpellsC file text.now) }
+{
     let mut reader = Reader::new(alloc, text, PRELUDE.len());
     let structs = item::structs(&mut reader)?;
     let funcs = item::funcs(&mut reader)?;

@@ -1,284 +1,659 @@
-//! Expressions, places and calls. `room` is how many brackets may still be opened.
+//! Expressions. Brackets that are open are kept on a stack of our own, so that nested expressions take no more of the
+//! machine's. `room` is how many brackets may still be opened.
 
-ghost use Rattle.std.specs.Prelude.{◌≡◌, ◌≤◌, ◌<◌, length, false, [], ◌∷◌, ◌++◌, codes, map, IsTrue, IfOk, OnOk};
+ghost use Rattle.std.specs.Prelude.{◌≡◌, ◌+◌, ◌*◌, ◌<◌, ◌≤◌, [], ◌∷◌, ◌++◌, codes, length, map, IsTrue, IfOk, IfSome};
 ghost use Rattle.bl_tree.specs.Reduce.{all_of};
-ghost use Rattle.std.specs.Fmt.{decimal};
 ghost use Rattle.bl_ctext.specs.Names.{is_name, is_callee};
-ghost use Rattle.bl_ctext.specs.Spelling.{with_commas, root_tokens, index_front, expr_tokens, kind_tokens, place_tokens, step_tokens, index_tokens, ccall_tokens, arg_tokens};
-ghost use Rattle.bl_ctext.specs.Spellable.{is_length, spells_expr, spells_kind, spells_place, spells_step, spells_index, spells_call, spells_arg};
+ghost use Rattle.bl_ctext.specs.Spelling.{with_commas, operator_sign, expr_tokens, step_tokens, arg_tokens};
+ghost use Rattle.bl_ctext.specs.Spellable.{has_any, is_c_operator, spells_expr, spells_step, spells_arg};
+ghost use Rattle.bl_cparse.specs.Partial.{called_front, use_tokens, place_front, held_tokens, on_stack, partial_tokens, spells_called, spells_use, spells_root, spells_held, spells_partial, work_left};
 
-use crate::parser::{literal, name};
+use crate::make;
+use crate::parser::{literal, name, place};
 use crate::reader::Reader;
 use crate::refusal::CRefusal;
-use crate::{make, words};
-use bl_tree::c::{CArg, CCall, CExpr, CExprKind, CIndex, CPlace, CStep};
-use bl_tree::{Box, List, Text};
+use bl_tree::c::{CArg, CExpr, CStep};
+use bl_tree::{Box, List, Op, Text};
+use std::alloc::AllocError;
 
-#[cycle(expressions)]
+/// A call up to one of its arguments, and the room inside.
+#[derive(Drop)]
+pub struct CallFront {
+    pub start: u32,
+    pub name: Text,
+    pub args: List<CArg>,
+    pub room: u32,
+}
+
+/// A place up to one of its steps.
+#[derive(Drop)]
+pub struct PlaceFront {
+    pub through: bool,
+    pub name: Text,
+    pub steps: List<CStep>,
+    pub room: u32,
+}
+
+/// What a place is read for.
+#[derive(Drop)]
+pub enum Use {
+    /// Its value; the place begins here.
+    Value(u32),
+    /// Its address, as an argument of a call.
+    Address(CallFront),
+}
+
+/// A place up to an index.
+#[derive(Drop)]
+pub struct IndexFront {
+    pub of: Use,
+    pub place: PlaceFront,
+    pub member: Text,
+    pub signed: bool,
+}
+
+/// The front of what holds an expression, up to that expression.
+#[derive(Drop)]
+pub enum Held {
+    /// `(!`, and where it begins.
+    Negation(u32),
+    /// The `(` before a first operand, where it begins, and the room inside.
+    First(u32, u32),
+    /// The `(`, a first operand and its operator.
+    Second(u32, CExpr, Op),
+    Argument(CallFront),
+    Index(IndexFront),
+}
+
+/// What stands next.
+#[derive(Drop)]
+pub enum Next {
+    /// An expression, in which so many brackets may be opened.
+    Wanted(u32),
+    /// An argument of a call.
+    Argument(CallFront),
+    /// A step of a place, or what follows it.
+    Place(Use, PlaceFront),
+    /// What follows an expression.
+    Whole(CExpr),
+}
+
+/// What is read of an expression.
+#[derive(Drop)]
+pub struct Partial {
+    /// From the outermost bracket on.
+    pub outer: Vec<Held>,
+    pub next: Next,
+}
+
 pub fn expr(r: &mut Reader<'_>, room: u32) -> Result<CExpr, CRefusal>
     ensures { IfOk result (λ e. (r.old ≡ expr_tokens e ++ r.new) × IsTrue (spells_expr e)) }
 {
-    let start = r.start();
-    let what = if r.sees("(") {
-        open(r, room)?;
-        bracketed(r, room - 1)?
-    } else {
-        bare(r, room)?
-    };
-    Ok(make::expr(r.place_from(start), what))
+    let outer = Vec::new(r.alloc());
+    whole(
+        r,
+        Partial {
+            outer,
+            next: Next::Wanted(room),
+        },
+    )
 }
 
-/// The `(` of an expression or a place, where there is room for it.
-pub fn open(r: &mut Reader<'_>, room: u32) -> Result<(), CRefusal>
-    ensures read { OnOk result (r.old ≡ codes "(" ∷ r.new) }
-    ensures room { OnOk result (1 ≤ room) }
+/// An expression whose `(` is read and begins at `start`, where there was room for it.
+pub fn bracketed(r: &mut Reader<'_>, start: u32, room: u32) -> Result<CExpr, CRefusal>
+    requires { 1 ≤ room }
+    ensures { IfOk result (λ e. (codes "(" ∷ r.old ≡ expr_tokens e ++ r.new) × IsTrue (spells_expr e)) }
+{
+    let outer = Vec::new(r.alloc());
+    let partial = opened(r, outer, start, room)?;
+    whole(r, partial)
+}
+
+/// The rest of an expression.
+fn whole(r: &mut Reader<'_>, partial: Partial) -> Result<CExpr, CRefusal>
+    requires { IsTrue (spells_partial partial) }
+    ensures { IfOk result (λ e. (partial_tokens partial ++ r.old ≡ expr_tokens e ++ r.new) × IsTrue (spells_expr e)) }
+{
+    let mut partial = partial;
+    while !is_whole(&partial) {
+        partial = further(r, partial)?;
+    }
+    match last(partial) {
+        Some(e) => Ok(e),
+        None => Err(r.refusal()),
+    }
+}
+
+/// The expression that is whole.
+fn last(partial: Partial) -> Option<CExpr>
+    requires outer { partial.outer.items ≡ [] }
+    requires spells { IsTrue (spells_partial partial) }
+    ensures { IfSome result (λ e. (partial_tokens partial ≡ expr_tokens e) × IsTrue (spells_expr e)) }
+{
+    let Partial {
+        outer: _outer,
+        next,
+    } = partial;
+    match next {
+        Next::Whole(e) => Some(e),
+        Next::Wanted(_room) => None,
+        Next::Argument(_call) => None,
+        Next::Place(_of, _place) => None,
+    }
+}
+
+fn is_whole(partial: &Partial) -> bool
+    ensures { IsTrue result → partial.now.outer.items ≡ [] }
+{
+    partial.outer.is_empty() && matches!(partial.next, Next::Whole(_))
+}
+
+/// One part more.
+fn further(r: &mut Reader<'_>, partial: Partial) -> Result<Partial, CRefusal>
+    requires { IsTrue (spells_partial partial) }
+    ensures read { IfOk result (λ p. (partial_tokens partial ++ r.old ≡ partial_tokens p ++ r.new) × IsTrue (spells_partial p)) }
+    ensures less { IfOk result (λ p. 2 * length r.new + work_left p.next < 2 * length r.old + work_left partial.next) }
+{
+    let Partial { outer, next } = partial;
+    match next {
+        Next::Wanted(room) => {
+            let p = begun(r, outer, room)?;
+            Ok(p)
+        }
+        Next::Argument(call) => {
+            let p = argument(r, outer, call)?;
+            Ok(p)
+        }
+        Next::Place(of, place) => {
+            let p = step(r, outer, of, place)?;
+            Ok(p)
+        }
+        Next::Whole(e) => {
+            let p = closed(r, outer, e)?;
+            Ok(p)
+        }
+    }
+}
+
+/// The front of what holds an expression, which stands next.
+fn inside(outer: Vec<Held>, held: Held, room: u32) -> Result<Partial, CRefusal>
+    requires outer { IsTrue (all_of (map spells_held outer.items)) }
+    requires held { IsTrue (spells_held held) }
+    ensures tokens { IfOk result (λ p. (partial_tokens p ≡ on_stack outer.items ++ held_tokens held) × IsTrue (spells_partial p)) }
+    ensures wanted { IfOk result (λ p. work_left p.next ≡ 0) }
+{
+    let mut outer = outer;
+    match outer.push(held) {
+        Ok(()) => Ok(Partial {
+            outer,
+            next: Next::Wanted(room),
+        }),
+        Err(failed) => Err(AllocError::from(failed).into()),
+    }
+}
+
+/// An expression in the brackets that are open.
+fn ended(outer: Vec<Held>, e: CExpr) -> Partial
+    requires outer { IsTrue (all_of (map spells_held outer.items)) }
+    requires whole { IsTrue (spells_expr e) }
+    ensures tokens { partial_tokens result ≡ on_stack outer.items ++ expr_tokens e }
+    ensures spells { IsTrue (spells_partial result) }
+    ensures work { work_left result.next ≡ 0 }
+{
+    Partial {
+        outer,
+        next: Next::Whole(e),
+    }
+}
+
+/// A call up to an argument, in the brackets that are open.
+fn awaiting(outer: Vec<Held>, call: CallFront) -> Partial
+    requires outer { IsTrue (all_of (map spells_held outer.items)) }
+    requires call { IsTrue (spells_called call) }
+    ensures tokens { partial_tokens result ≡ on_stack outer.items ++ called_front call }
+    ensures spells { IsTrue (spells_partial result) }
+    ensures work { work_left result.next ≡ 1 }
+{
+    Partial {
+        outer,
+        next: Next::Argument(call),
+    }
+}
+
+/// A place up to a step, in the brackets that are open.
+fn rooted(outer: Vec<Held>, of: Use, place: PlaceFront) -> Partial
+    requires outer { IsTrue (all_of (map spells_held outer.items)) }
+    requires of { IsTrue (spells_use of) }
+    requires place { IsTrue (spells_root place) }
+    ensures tokens { partial_tokens result ≡ on_stack outer.items ++ (use_tokens of ++ place_front place) }
+    ensures spells { IsTrue (spells_partial result) }
+    ensures work { work_left result.next ≡ 1 }
+{
+    Partial {
+        outer,
+        next: Next::Place(of, place),
+    }
+}
+
+/// The front of an expression.
+fn begun(r: &mut Reader<'_>, outer: Vec<Held>, room: u32) -> Result<Partial, CRefusal>
+    requires outer { IsTrue (all_of (map spells_held outer.items)) }
+    ensures read { IfOk result (λ p. (on_stack outer.items ++ r.old ≡ partial_tokens p ++ r.new) × IsTrue (spells_partial p)) }
+    ensures less { IfOk result (λ p. 2 * length r.new + work_left p.next < 2 * length r.old) }
+{
+    if r.sees("(") {
+        let p = open(r, outer, room)?;
+        return Ok(p);
+    }
+    let start = r.start();
+    match literal::literal(r, room)? {
+        Some(what) => Ok(ended(outer, make::expr(r.place_from(start), what))),
+        None => {
+            let p = named(r, outer, room)?;
+            Ok(p)
+        }
+    }
+}
+
+/// The front of an expression that begins with a parenthesis.
+fn open(r: &mut Reader<'_>, outer: Vec<Held>, room: u32) -> Result<Partial, CRefusal>
+    requires outer { IsTrue (all_of (map spells_held outer.items)) }
+    ensures read { IfOk result (λ p. (on_stack outer.items ++ r.old ≡ partial_tokens p ++ r.new) × IsTrue (spells_partial p)) }
+    ensures less { IfOk result (λ p. 2 * length r.new + work_left p.next < 2 * length r.old) }
 {
     if room == 0 {
         return Err(r.refusal());
     }
-    r.take("(")
+    let start = r.start();
+    r.take("(")?;
+    let p = opened(r, outer, start, room)?;
+    Ok(p)
 }
 
-/// An expression that begins with no parenthesis.
-#[cycle(expressions)]
-fn bare(r: &mut Reader<'_>, room: u32) -> Result<CExprKind, CRefusal>
-    ensures { IfOk result (λ k. (r.old ≡ kind_tokens k ++ r.new) × IsTrue (spells_kind k)) }
+/// What follows the `(` of an expression, for which there was room.
+fn opened(r: &mut Reader<'_>, outer: Vec<Held>, start: u32, room: u32) -> Result<Partial, CRefusal>
+    requires outer { IsTrue (all_of (map spells_held outer.items)) }
+    requires room { 1 ≤ room }
+    ensures read { IfOk result (λ p. (on_stack outer.items ++ codes "(" ∷ r.old ≡ partial_tokens p ++ r.new) × IsTrue (spells_partial p)) }
+    ensures less { IfOk result (λ p. 2 * length r.new + work_left p.next < 2 * length r.old + 2) }
 {
-    match literal::literal(r, room)? {
-        Some(found) => Ok(found),
-        None => named(r, room),
+    if r.eat("*") {
+        let p = starred(r, outer, start, room)?;
+        return Ok(p);
     }
+    if r.sees("-") {
+        let p = negative(r, outer, start, room - 1)?;
+        return Ok(p);
+    }
+    if r.eat("!") {
+        let p = inside(outer, Held::Negation(start), room - 1)?;
+        return Ok(p);
+    }
+    let p = inside(outer, Held::First(start, room - 1), room - 1)?;
+    Ok(p)
+}
+
+/// A pointer behind its `(*`.
+fn starred(r: &mut Reader<'_>, outer: Vec<Held>, start: u32, room: u32) -> Result<Partial, CRefusal>
+    requires outer { IsTrue (all_of (map spells_held outer.items)) }
+    ensures read { IfOk result (λ p. (on_stack outer.items ++ codes "(" ∷ codes "*" ∷ r.old ≡ partial_tokens p ++ r.new) × IsTrue (spells_partial p)) }
+    ensures less { IfOk result (λ p. 2 * length r.new + work_left p.next < 2 * length r.old + 2) }
+{
+    let name = place::pointer(r)?;
+    let root = PlaceFront {
+        through: true,
+        name,
+        steps: List::new(r.alloc()),
+        room,
+    };
+    Ok(rooted(outer, Use::Value(start), root))
+}
+
+/// A negative number behind its `(`.
+fn negative(
+    r: &mut Reader<'_>,
+    outer: Vec<Held>,
+    start: u32,
+    room: u32,
+) -> Result<Partial, CRefusal>
+    requires outer { IsTrue (all_of (map spells_held outer.items)) }
+    ensures read { IfOk result (λ p. (on_stack outer.items ++ codes "(" ∷ r.old ≡ partial_tokens p ++ r.new) × IsTrue (spells_partial p)) }
+    ensures less { IfOk result (λ p. 2 * length r.new + work_left p.next < 2 * length r.old + 2) }
+{
+    let what = literal::minus(r, room)?;
+    Ok(ended(outer, make::expr(r.place_from(start), what)))
 }
 
 /// An expression that begins with a name.
-#[cycle(expressions)]
-fn named(r: &mut Reader<'_>, room: u32) -> Result<CExprKind, CRefusal>
-    ensures { IfOk result (λ k. (r.old ≡ kind_tokens k ++ r.new) × IsTrue (spells_kind k)) }
+fn named(r: &mut Reader<'_>, outer: Vec<Held>, room: u32) -> Result<Partial, CRefusal>
+    requires outer { IsTrue (all_of (map spells_held outer.items)) }
+    ensures read { IfOk result (λ p. (on_stack outer.items ++ r.old ≡ partial_tokens p ++ r.new) × IsTrue (spells_partial p)) }
+    ensures less { IfOk result (λ p. 2 * length r.new + work_left p.next < 2 * length r.old) }
 {
-    let first = leading_name(r, room)?;
+    let start = r.start();
+    let first = place::leading_name(r, room)?;
     if first.is_call {
-        Ok(make::called(call(r, first.name, room)?))
-    } else {
-        Ok(make::read(place(r, false, first.name, room)?))
+        let p = call(r, outer, start, first.name, room)?;
+        return Ok(p);
     }
-}
-
-/// A name that a call or a place begins with.
-#[derive(Drop)]
-pub struct Leading {
-    pub name: Text,
-    /// Whether `(` stands behind it.
-    pub is_call: bool,
-}
-
-/// What begins a call or a place. A function of the prelude can't stand where there is no room for its `(`.
-#[tactic(auto, using(crate::proofs::TokenLemmas::name_callee))]
-pub fn leading_name(r: &mut Reader<'_>, room: u32) -> Result<Leading, CRefusal>
-    ensures { IfOk result (λ first. (r.old ≡ first.name ∷ r.new) × (IsTrue (is_callee first.name) × (first.is_call ≡ false → IsTrue (is_name first.name)))) }
-{
-    if words::is_name(r.piece()) {
-        let name = name::name(r)?;
-        let is_call = r.sees("(");
-        return Ok(Leading { name, is_call });
-    }
-    if room == 0 {
-        return Err(r.refusal());
-    }
-    let name = name::callee(r)?;
-    Ok(Leading {
-        name,
-        is_call: true,
-    })
-}
-
-/// An expression behind its `(`.
-#[cycle(expressions)]
-pub fn bracketed(r: &mut Reader<'_>, room: u32) -> Result<CExprKind, CRefusal>
-    ensures { IfOk result (λ k. (codes "(" ∷ r.old ≡ kind_tokens k ++ r.new) × IsTrue (spells_kind k)) }
-{
-    if r.eat("*") {
-        let name = pointer(r)?;
-        return Ok(make::read(place(r, true, name, room)?));
-    }
-    if r.sees("-") {
-        return minus(r, room);
-    }
-    if r.eat("!") {
-        return negation(r, room);
-    }
-    comparison(r, room)
-}
-
-/// A pointer's name and the `)` behind it.
-pub fn pointer(r: &mut Reader<'_>) -> Result<Text, CRefusal>
-    ensures { IfOk result (λ name. (r.old ≡ name ∷ codes ")" ∷ r.new) × IsTrue (is_name name)) }
-{
-    let name = name::name(r)?;
-    r.take(")")?;
-    Ok(name)
-}
-
-/// The minus of a literal, and what follows it.
-fn minus(r: &mut Reader<'_>, room: u32) -> Result<CExprKind, CRefusal>
-    ensures { IfOk result (λ k. (codes "(" ∷ r.old ≡ kind_tokens k ++ r.new) × IsTrue (spells_kind k)) }
-{
-    if room == 0 {
-        return Err(r.refusal());
-    }
-    r.take("-")?;
-    literal::negative(r)
-}
-
-/// The operand of `!` and its `)`.
-#[cycle(expressions)]
-fn negation(r: &mut Reader<'_>, room: u32) -> Result<CExprKind, CRefusal>
-    ensures { IfOk result (λ k. (codes "(" ∷ codes "!" ∷ r.old ≡ kind_tokens k ++ r.new) × IsTrue (spells_kind k)) }
-{
-    let operand = expr(r, room)?;
-    r.take(")")?;
-    Ok(make::not(Box::new(r.alloc(), operand)?))
-}
-
-/// Two operands, the sign between them and the `)`.
-#[cycle(expressions)]
-fn comparison(r: &mut Reader<'_>, room: u32) -> Result<CExprKind, CRefusal>
-    ensures { IfOk result (λ k. (codes "(" ∷ r.old ≡ kind_tokens k ++ r.new) × IsTrue (spells_kind k)) }
-{
-    let left = Box::new(r.alloc(), expr(r, room)?)?;
-    let op = literal::operator(r)?;
-    let right = Box::new(r.alloc(), expr(r, room)?)?;
-    r.take(")")?;
-    Ok(make::two(op, left, right))
-}
-
-/// The steps of a place whose root is read.
-#[cycle(expressions)]
-pub fn place(r: &mut Reader<'_>, through: bool, name: Text, room: u32) -> Result<CPlace, CRefusal>
-    requires { IsTrue (is_name name) }
-    ensures { IfOk result (λ at. (root_tokens through name ++ r.old ≡ place_tokens at ++ r.new) × IsTrue (spells_place at)) }
-{
-    let mut steps = List::new(r.alloc());
-    while r.sees(".") {
-        steps.push(step(r, room)?)?;
-    }
-    Ok(make::place(through, name, steps))
-}
-
-#[cycle(expressions)]
-fn step(r: &mut Reader<'_>, room: u32) -> Result<CStep, CRefusal>
-    ensures read { IfOk result (λ s. (r.old ≡ step_tokens s ++ r.new) × IsTrue (spells_step s)) }
-    ensures shorter { OnOk result (length r.new < length r.old) }
-{
-    r.take(".")?;
-    let member = name::name(r)?;
-    let index = if r.sees("[") {
-        Some(index(r, room)?)
-    } else {
-        None
+    let root = PlaceFront {
+        through: false,
+        name: first.name,
+        steps: List::new(r.alloc()),
+        room,
     };
-    Ok(make::step(member, index))
+    Ok(rooted(outer, Use::Value(start), root))
 }
 
-#[cycle(expressions)]
-fn index(r: &mut Reader<'_>, room: u32) -> Result<CIndex, CRefusal>
-    ensures { IfOk result (λ i. (r.old ≡ index_tokens i ++ r.new) × IsTrue (spells_index i)) }
+/// The `(` of a call whose name is read, and the `)` where it has no arguments.
+fn call(
+    r: &mut Reader<'_>,
+    outer: Vec<Held>,
+    start: u32,
+    name: Text,
+    room: u32,
+) -> Result<Partial, CRefusal>
+    requires outer { IsTrue (all_of (map spells_held outer.items)) }
+    requires name { IsTrue (is_callee name) }
+    ensures read { IfOk result (λ p. (on_stack outer.items ++ name ∷ r.old ≡ partial_tokens p ++ r.new) × IsTrue (spells_partial p)) }
+    ensures less { IfOk result (λ p. 2 * length r.new + work_left p.next < 2 * length r.old) }
 {
-    if room < 2 {
-        return Err(r.refusal());
+    place::open(r, room)?;
+    let front = CallFront {
+        start,
+        name,
+        args: List::new(r.alloc()),
+        room: room - 1,
+    };
+    if r.eat(")") {
+        return Ok(called(r, outer, front));
     }
-    let signed = index_front(r)?;
-    let at = expr(r, room - 2)?;
-    let length = index_length(r)?;
-    Ok(make::index(signed, at, length))
+    Ok(awaiting(outer, front))
 }
 
-/// The front of an index, and whether it is a signed one.
-fn index_front(r: &mut Reader<'_>) -> Result<bool, CRefusal>
-    ensures { IfOk result (λ signed. r.old ≡ index_front signed ++ r.new) }
+/// A call that is read.
+fn called(r: &Reader<'_>, outer: Vec<Held>, front: CallFront) -> Partial
+    requires outer { IsTrue (all_of (map spells_held outer.items)) }
+    requires call { IsTrue (spells_called front) }
+    ensures tokens { partial_tokens result ≡ on_stack outer.items ++ front.name ∷ codes "(" ∷ (with_commas (map arg_tokens front.args) ++ codes ")" ∷ []) }
+    ensures spells { IsTrue (spells_partial result) }
+    ensures work { work_left result.next ≡ 0 }
 {
-    r.take("[")?;
-    let signed = r.eat("bl_ix_s");
-    if !signed {
-        r.take("bl_ix_u")?;
-    }
-    r.take("(")?;
-    Ok(signed)
+    let place = r.place_from(front.start);
+    let what = make::called(make::call(front.name, front.args));
+    ended(outer, make::expr(place, what))
 }
 
-/// What follows the expression of an index.
-fn index_length(r: &mut Reader<'_>) -> Result<u32, CRefusal>
-    ensures { IfOk result (λ n. (r.old ≡ codes "," ∷ decimal n ∷ codes ")" ∷ codes "]" ∷ r.new) × IsTrue (is_length n)) }
-{
-    r.take(",")?;
-    let length = length(r)?;
-    r.take(")")?;
-    r.take("]")?;
-    Ok(length)
-}
-
-/// The number of elements of an array.
-pub fn length(r: &mut Reader<'_>) -> Result<u32, CRefusal>
-    ensures { IfOk result (λ n. (r.old ≡ decimal n ∷ r.new) × IsTrue (is_length n)) }
-{
-    Ok(literal::number(r, 1, 65_536)? as u32)
-}
-
-/// The arguments of a call whose name is read.
-#[cycle(expressions)]
-pub fn call(r: &mut Reader<'_>, name: Text, room: u32) -> Result<CCall, CRefusal>
-    requires { IsTrue (is_callee name) }
-    ensures { IfOk result (λ c. (name ∷ r.old ≡ ccall_tokens c ++ r.new) × IsTrue (spells_call c)) }
-{
-    open(r, room)?;
-    let args = arguments(r, room - 1)?;
-    r.take(")")?;
-    Ok(make::call(name, args))
-}
-
-/// The arguments before a `)`.
-#[cycle(expressions)]
-fn arguments(r: &mut Reader<'_>, room: u32) -> Result<List<CArg>, CRefusal>
-    ensures { IfOk result (λ args. (r.old ≡ with_commas (map arg_tokens args) ++ r.new) × IsTrue (all_of (map spells_arg args))) }
-{
-    let mut args = List::new(r.alloc());
-    if r.sees(")") {
-        return Ok(args);
-    }
-    args.push(argument(r, room)?)?;
-    while r.eat(",") {
-        args.push(argument(r, room)?)?;
-    }
-    Ok(args)
-}
-
-#[cycle(expressions)]
-fn argument(r: &mut Reader<'_>, room: u32) -> Result<CArg, CRefusal>
-    ensures { IfOk result (λ arg. (r.old ≡ arg_tokens arg ++ r.new) × IsTrue (spells_arg arg)) }
+/// The front of an argument.
+fn argument(r: &mut Reader<'_>, outer: Vec<Held>, call: CallFront) -> Result<Partial, CRefusal>
+    requires outer { IsTrue (all_of (map spells_held outer.items)) }
+    requires call { IsTrue (spells_called call) }
+    ensures read { IfOk result (λ p. (on_stack outer.items ++ (called_front call ++ r.old) ≡ partial_tokens p ++ r.new) × IsTrue (spells_partial p)) }
+    ensures less { IfOk result (λ p. 2 * length r.new + work_left p.next < 2 * length r.old + 1) }
 {
     if r.eat("&") {
-        return Ok(make::address(whole_place(r, room)?));
+        let p = address(r, outer, call)?;
+        return Ok(p);
     }
-    Ok(make::value(expr(r, room)?))
+    let room = call.room;
+    let p = inside(outer, Held::Argument(call), room)?;
+    Ok(p)
 }
 
-/// A place from its root on.
-#[cycle(expressions)]
-fn whole_place(r: &mut Reader<'_>, room: u32) -> Result<CPlace, CRefusal>
-    ensures { IfOk result (λ at. (r.old ≡ place_tokens at ++ r.new) × IsTrue (spells_place at)) }
+/// The root of a place behind its `&`.
+fn address(r: &mut Reader<'_>, outer: Vec<Held>, call: CallFront) -> Result<Partial, CRefusal>
+    requires outer { IsTrue (all_of (map spells_held outer.items)) }
+    requires call { IsTrue (spells_called call) }
+    ensures read { IfOk result (λ p. (on_stack outer.items ++ (called_front call ++ codes "&" ∷ r.old) ≡ partial_tokens p ++ r.new) × IsTrue (spells_partial p)) }
+    ensures less { IfOk result (λ p. 2 * length r.new + work_left p.next < 2 * length r.old + 3) }
 {
-    if r.sees("(") {
-        let name = star(r, room)?;
-        return place(r, true, name, room);
-    }
-    let name = name::name(r)?;
-    place(r, false, name, room)
+    let root = place::place_root(r, call.room)?;
+    let front = PlaceFront {
+        through: root.through,
+        name: root.name,
+        steps: List::new(r.alloc()),
+        room: call.room,
+    };
+    Ok(rooted(outer, Use::Address(call), front))
 }
 
-/// `(*`, a pointer's name and `)`.
-pub fn star(r: &mut Reader<'_>, room: u32) -> Result<Text, CRefusal>
-    ensures { IfOk result (λ name. (r.old ≡ codes "(" ∷ codes "*" ∷ name ∷ codes ")" ∷ r.new) × IsTrue (is_name name)) }
+/// A step of a place, or what follows it where it has no further one.
+fn step(
+    r: &mut Reader<'_>,
+    outer: Vec<Held>,
+    of: Use,
+    place: PlaceFront,
+) -> Result<Partial, CRefusal>
+    requires outer { IsTrue (all_of (map spells_held outer.items)) }
+    requires of { IsTrue (spells_use of) }
+    requires place { IsTrue (spells_root place) }
+    ensures read { IfOk result (λ p. (on_stack outer.items ++ ((use_tokens of ++ place_front place) ++ r.old) ≡ partial_tokens p ++ r.new) × IsTrue (spells_partial p)) }
+    ensures less { IfOk result (λ p. 2 * length r.new + work_left p.next < 2 * length r.old + 1) }
 {
-    open(r, room)?;
-    r.take("*")?;
-    pointer(r)
+    if !r.eat(".") {
+        let p = placed(r, outer, of, place)?;
+        return Ok(p);
+    }
+    let member = name::name(r)?;
+    if r.sees("[") {
+        let p = indexed(r, outer, of, place, member)?;
+        return Ok(p);
+    }
+    let place = stepped(place, make::step(member, None))?;
+    Ok(rooted(outer, of, place))
+}
+
+/// The place with one step more.
+fn stepped(place: PlaceFront, step: CStep) -> Result<PlaceFront, CRefusal>
+    requires place { IsTrue (spells_root place) }
+    requires step { IsTrue (spells_step step) }
+    ensures { IfOk result (λ longer. (place_front longer ≡ place_front place ++ step_tokens step) × IsTrue (spells_root longer)) }
+{
+    let mut place = place;
+    place.steps.push(step)?;
+    Ok(place)
+}
+
+/// The front of an index behind a member.
+fn indexed(
+    r: &mut Reader<'_>,
+    outer: Vec<Held>,
+    of: Use,
+    place: PlaceFront,
+    member: Text,
+) -> Result<Partial, CRefusal>
+    requires outer { IsTrue (all_of (map spells_held outer.items)) }
+    requires of { IsTrue (spells_use of) }
+    requires place { IsTrue (spells_root place) }
+    requires member { IsTrue (is_name member) }
+    ensures read { IfOk result (λ p. (on_stack outer.items ++ ((use_tokens of ++ place_front place) ++ codes "." ∷ member ∷ r.old) ≡ partial_tokens p ++ r.new) × IsTrue (spells_partial p)) }
+    ensures less { IfOk result (λ p. 2 * length r.new + work_left p.next < 2 * length r.old) }
+{
+    if place.room < 2 {
+        return Err(r.refusal());
+    }
+    let room = place.room - 2;
+    let signed = place::index_front(r)?;
+    let front = IndexFront {
+        of,
+        place,
+        member,
+        signed,
+    };
+    let p = inside(outer, Held::Index(front), room)?;
+    Ok(p)
+}
+
+/// A place that is read, as what it is read for.
+fn placed(
+    r: &mut Reader<'_>,
+    outer: Vec<Held>,
+    of: Use,
+    place: PlaceFront,
+) -> Result<Partial, CRefusal>
+    requires outer { IsTrue (all_of (map spells_held outer.items)) }
+    requires of { IsTrue (spells_use of) }
+    requires place { IsTrue (spells_root place) }
+    ensures read { IfOk result (λ p. (on_stack outer.items ++ ((use_tokens of ++ place_front place) ++ r.old) ≡ partial_tokens p ++ r.new) × IsTrue (spells_partial p)) }
+    ensures less { IfOk result (λ p. 2 * length r.new + work_left p.next < 2 * length r.old + 1) }
+{
+    let at = make::place(place.through, place.name, place.steps);
+    match of {
+        Use::Value(start) => {
+            let e = make::expr(r.place_from(start), make::read(at));
+            Ok(ended(outer, e))
+        }
+        Use::Address(call) => {
+            let p = argued(r, outer, call, make::address(at))?;
+            Ok(p)
+        }
+    }
+}
+
+/// An argument that is read, and the sign behind it.
+fn argued(
+    r: &mut Reader<'_>,
+    outer: Vec<Held>,
+    call: CallFront,
+    arg: CArg,
+) -> Result<Partial, CRefusal>
+    requires outer { IsTrue (all_of (map spells_held outer.items)) }
+    requires call { IsTrue (spells_called call) }
+    requires arg { IsTrue (spells_arg arg) }
+    ensures read { IfOk result (λ p. (on_stack outer.items ++ (called_front call ++ (arg_tokens arg ++ r.old)) ≡ partial_tokens p ++ r.new) × IsTrue (spells_partial p)) }
+    ensures less { IfOk result (λ p. 2 * length r.new + work_left p.next < 2 * length r.old) }
+{
+    let call = with_argument(call, arg)?;
+    if r.eat(",") {
+        return Ok(awaiting(outer, call));
+    }
+    r.take(")")?;
+    Ok(called(r, outer, call))
+}
+
+/// The call with one argument more.
+fn with_argument(call: CallFront, arg: CArg) -> Result<CallFront, CRefusal>
+    requires call { IsTrue (spells_called call) }
+    requires arg { IsTrue (spells_arg arg) }
+    ensures tokens { IfOk result (λ more. more.name ∷ codes "(" ∷ with_commas (map arg_tokens more.args) ≡ called_front call ++ arg_tokens arg) }
+    ensures spells { IfOk result (λ more. IsTrue (spells_called more) × IsTrue (has_any more.args)) }
+{
+    let mut call = call;
+    call.args.push(arg)?;
+    Ok(call)
+}
+
+/// What follows an expression in the innermost open bracket.
+fn closed(r: &mut Reader<'_>, outer: Vec<Held>, e: CExpr) -> Result<Partial, CRefusal>
+    requires outer { IsTrue (all_of (map spells_held outer.items)) }
+    requires whole { IsTrue (spells_expr e) }
+    ensures read { IfOk result (λ p. (on_stack outer.items ++ (expr_tokens e ++ r.old) ≡ partial_tokens p ++ r.new) × IsTrue (spells_partial p)) }
+    ensures less { IfOk result (λ p. 2 * length r.new + work_left p.next < 2 * length r.old) }
+{
+    let mut outer = outer;
+    match outer.pop() {
+        Some(held) => {
+            let p = closed_held(r, outer, held, e)?;
+            Ok(p)
+        }
+        None => Err(r.refusal()),
+    }
+}
+
+fn closed_held(
+    r: &mut Reader<'_>,
+    outer: Vec<Held>,
+    held: Held,
+    e: CExpr,
+) -> Result<Partial, CRefusal>
+    requires outer { IsTrue (all_of (map spells_held outer.items)) }
+    requires held { IsTrue (spells_held held) }
+    requires whole { IsTrue (spells_expr e) }
+    ensures read { IfOk result (λ p. (on_stack outer.items ++ (held_tokens held ++ (expr_tokens e ++ r.old)) ≡ partial_tokens p ++ r.new) × IsTrue (spells_partial p)) }
+    ensures less { IfOk result (λ p. 2 * length r.new + work_left p.next < 2 * length r.old) }
+{
+    match held {
+        Held::Negation(start) => {
+            let p = negated(r, outer, start, e)?;
+            Ok(p)
+        }
+        Held::First(start, room) => {
+            let op = literal::operator(r)?;
+            let p = inside(outer, Held::Second(start, e, op), room)?;
+            Ok(p)
+        }
+        Held::Second(start, left, op) => {
+            let p = compared(r, outer, start, Operands { op, left, right: e })?;
+            Ok(p)
+        }
+        Held::Argument(call) => {
+            let p = argued(r, outer, call, make::value(e))?;
+            Ok(p)
+        }
+        Held::Index(front) => {
+            let p = closed_index(r, outer, front, e)?;
+            Ok(p)
+        }
+    }
+}
+
+/// The `)` behind the operand of `!`.
+fn negated(r: &mut Reader<'_>, outer: Vec<Held>, start: u32, e: CExpr) -> Result<Partial, CRefusal>
+    requires outer { IsTrue (all_of (map spells_held outer.items)) }
+    requires whole { IsTrue (spells_expr e) }
+    ensures read { IfOk result (λ p. (on_stack outer.items ++ codes "(" ∷ codes "!" ∷ (expr_tokens e ++ r.old) ≡ partial_tokens p ++ r.new) × IsTrue (spells_partial p)) }
+    ensures less { IfOk result (λ p. 2 * length r.new + work_left p.next < 2 * length r.old) }
+{
+    r.take(")")?;
+    let what = make::not(Box::new(r.alloc(), e)?);
+    Ok(ended(outer, make::expr(r.place_from(start), what)))
+}
+
+/// What a comparison, `&&` or `||` is made of.
+#[derive(Drop)]
+struct Operands {
+    op: Op,
+    left: CExpr,
+    right: CExpr,
+}
+
+/// The `)` behind the second operand.
+fn compared(
+    r: &mut Reader<'_>,
+    outer: Vec<Held>,
+    start: u32,
+    operands: Operands,
+) -> Result<Partial, CRefusal>
+    requires outer { IsTrue (all_of (map spells_held outer.items)) }
+    requires op { IsTrue (is_c_operator operands.op) }
+    requires left { IsTrue (spells_expr operands.left) }
+    requires right { IsTrue (spells_expr operands.right) }
+    ensures read { IfOk result (λ p. (on_stack outer.items ++ codes "(" ∷ (expr_tokens operands.left ++ operator_sign operands.op ∷ (expr_tokens operands.right ++ r.old)) ≡ partial_tokens p ++ r.new) × IsTrue (spells_partial p)) }
+    ensures less { IfOk result (λ p. 2 * length r.new + work_left p.next < 2 * length r.old) }
+{
+    r.take(")")?;
+    let left = Box::new(r.alloc(), operands.left)?;
+    let right = Box::new(r.alloc(), operands.right)?;
+    let what = make::two(operands.op, left, right);
+    Ok(ended(outer, make::expr(r.place_from(start), what)))
+}
+
+/// The end of an index behind its expression.
+fn closed_index(
+    r: &mut Reader<'_>,
+    outer: Vec<Held>,
+    front: IndexFront,
+    e: CExpr,
+) -> Result<Partial, CRefusal>
+    requires outer { IsTrue (all_of (map spells_held outer.items)) }
+    requires front { IsTrue (spells_held (Held.Index front)) }
+    requires whole { IsTrue (spells_expr e) }
+    ensures read { IfOk result (λ p. (on_stack outer.items ++ (held_tokens (Held.Index front) ++ (expr_tokens e ++ r.old)) ≡ partial_tokens p ++ r.new) × IsTrue (spells_partial p)) }
+    ensures less { IfOk result (λ p. 2 * length r.new + work_left p.next < 2 * length r.old) }
+{
+    let length = place::index_length(r)?;
+    let index = make::index(front.signed, e, length);
+    let step = make::step(front.member, Some(index));
+    let place = stepped(front.place, step)?;
+    Ok(rooted(outer, front.of, place))
 }

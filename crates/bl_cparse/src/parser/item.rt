@@ -6,7 +6,7 @@ ghost use Rattle.bl_ctext.specs.Names.{is_name, is_function_name};
 ghost use Rattle.bl_ctext.specs.Spelling.{with_commas, type_tokens, length_tokens, member_tokens, struct_tokens, param_tokens, zero_tokens, local_tokens, returned_tokens, static_if, func_front, func_rest, func_tokens, stmt_tokens};
 ghost use Rattle.bl_ctext.specs.Spellable.{has_any, spells_type, spells_length, spells_member, spells_struct, spells_param, spells_local, spells_returned, spells_func, spells_stmt};
 
-use crate::parser::{MOST_OPEN, expr, literal, name, stmt};
+use crate::parser::{MOST_OPEN, literal, name, place, stmt};
 use crate::reader::Reader;
 use crate::refusal::CRefusal;
 use bl_tree::c::{CFunc, CLocal, CMember, CParam, CStmt, CStruct, CType};
@@ -81,7 +81,7 @@ fn member_length(r: &mut Reader<'_>) -> Result<Option<u32>, CRefusal>
     if !r.eat("[") {
         return Ok(None);
     }
-    let length = expr::length(r)?;
+    let length = place::length(r)?;
     r.take("]")?;
     Ok(Some(length))
 }

@@ -1,6 +1,6 @@
 //! Words of types, signs of operators, numbers and literals.
 
-ghost use Rattle.std.specs.Prelude.{◌≡◌, ◌≤◌, ◌<◌, ◌+◌, ◌*◌, [], ◌∷◌, ◌++◌, codes, IsTrue, IfOk, IfSome};
+ghost use Rattle.std.specs.Prelude.{◌≡◌, ◌≤◌, ◌<◌, ◌+◌, ◌*◌, [], ◌∷◌, ◌++◌, codes, length, IsTrue, IfOk, IfSome, OnOk};
 ghost use Rattle.std.specs.Fmt.{decimal};
 ghost use Rattle.bl_ctext.specs.Spelling.{scalar_word, operator_sign, constant_word, width_digits, negatives, kind_tokens};
 ghost use Rattle.bl_ctext.specs.Spellable.{is_c_scalar, is_c_operator, has_any, spells_kind};
@@ -153,7 +153,8 @@ fn constant(r: &mut Reader<'_>, low: u64, high: u64) -> Result<u64, CRefusal>
 /// A literal that doesn't begin with a parenthesis, where so many brackets may still be opened. None where the next
 /// token begins no such literal.
 pub fn literal(r: &mut Reader<'_>, room: u32) -> Result<Option<CExprKind>, CRefusal>
-    ensures { IfOk result (λ found. MaybeKind r.old r.new found) }
+    ensures read { IfOk result (λ found. MaybeKind r.old r.new found) }
+    ensures shorter { IfOk result (λ found. IfSome found (λ what. length r.new < length r.old)) }
 {
     if r.eat("true") {
         return Ok(Some(make::literal(Scalar::Bool, 1)));
@@ -170,7 +171,8 @@ pub fn literal(r: &mut Reader<'_>, room: u32) -> Result<Option<CExprKind>, CRefu
 }
 
 fn bracketed_constant(r: &mut Reader<'_>, room: u32) -> Result<Option<CExprKind>, CRefusal>
-    ensures { IfOk result (λ found. MaybeKind r.old r.new found) }
+    ensures read { IfOk result (λ found. MaybeKind r.old r.new found) }
+    ensures shorter { IfOk result (λ found. IfSome found (λ what. length r.new < length r.old)) }
 {
     if let Some(width) = signed_of(r.piece()) {
         let n = constant_of(r, room, negatives_of(width) - 1)?;
@@ -195,9 +197,22 @@ fn constant_of(r: &mut Reader<'_>, room: u32, high: u64) -> Result<u64, CRefusal
     constant(r, 0, high)
 }
 
+/// The minus of a literal behind its `(`, and what follows it.
+pub fn minus(r: &mut Reader<'_>, room: u32) -> Result<CExprKind, CRefusal>
+    ensures read { IfOk result (λ k. (codes "(" ∷ r.old ≡ kind_tokens k ++ r.new) × IsTrue (spells_kind k)) }
+    ensures shorter { OnOk result (length r.new < length r.old) }
+{
+    if room == 0 {
+        return Err(r.refusal());
+    }
+    r.take("-")?;
+    negative(r)
+}
+
 /// A negative literal behind its `(-`, where a bracket may still be opened.
-pub fn negative(r: &mut Reader<'_>) -> Result<CExprKind, CRefusal>
-    ensures { IfOk result (λ k. (codes "(" ∷ codes "-" ∷ r.old ≡ kind_tokens k ++ r.new) × IsTrue (spells_kind k)) }
+fn negative(r: &mut Reader<'_>) -> Result<CExprKind, CRefusal>
+    ensures read { IfOk result (λ k. (codes "(" ∷ codes "-" ∷ r.old ≡ kind_tokens k ++ r.new) × IsTrue (spells_kind k)) }
+    ensures shorter { OnOk result (length r.new < length r.old) }
 {
     let Some(width) = signed_of(r.piece()) else {
         return Err(r.refusal());

@@ -8,10 +8,10 @@ ghost use Rattle.bl_ctext.specs.Spelling.{expr_tokens, place_tokens, root_tokens
 ghost use Rattle.bl_ctext.specs.Spellable.{spells_expr, spells_place, spells_stmt, spells_stmt_kind, has_any};
 ghost use Rattle.bl_cparse.specs.Nest.{opened_tokens, frame_tokens, spells_frame, nest_tokens, spells_nest};
 
-use crate::parser::{expr, name};
+use crate::make_stmt;
+use crate::parser::{expr, name, place};
 use crate::reader::Reader;
 use crate::refusal::CRefusal;
-use crate::{make, make_stmt};
 use bl_tree::c::{CExpr, CPlace, CStmt, CStmtKind};
 use bl_tree::{List, Text};
 use std::alloc::AllocError;
@@ -159,7 +159,8 @@ fn opened_turns(r: &mut Reader<'_>, nest: Nest) -> Result<Nest, CRefusal>
     ensures shorter { OnOk result (length r.new < length r.old) }
 {
     let Nest { outer, body, room } = nest;
-    if room < 2 {
+    // The parenthesis of `bl_turn` stands in two braces.
+    if room < 3 {
         return Err(r.refusal());
     }
     let start = r.start();
@@ -370,10 +371,10 @@ fn simple(r: &mut Reader<'_>, room: u32) -> Result<CStmtKind, CRefusal>
         return returned(r, room);
     }
     if r.sees("(") {
-        let name = expr::star(r, room)?;
+        let name = place::star(r, room)?;
         return set(r, true, name, room);
     }
-    let first = expr::leading_name(r, room)?;
+    let first = place::leading_name(r, room)?;
     if first.is_call {
         called(r, first.name, room)
     } else {
@@ -396,7 +397,7 @@ fn called(r: &mut Reader<'_>, name: Text, room: u32) -> Result<CStmtKind, CRefus
     requires { IsTrue (is_callee name) }
     ensures { IfOk result (λ k. (name ∷ r.old ≡ stmt_kind_tokens k ++ r.new) × IsTrue (spells_stmt_kind k)) }
 {
-    let call = expr::call(r, name, room)?;
+    let call = place::call(r, name, room)?;
     r.take(";")?;
     Ok(make_stmt::call(call))
 }
@@ -406,7 +407,7 @@ fn set(r: &mut Reader<'_>, through: bool, name: Text, room: u32) -> Result<CStmt
     requires { IsTrue (is_name name) }
     ensures { IfOk result (λ k. (root_tokens through name ++ r.old ≡ stmt_kind_tokens k ++ r.new) × IsTrue (spells_stmt_kind k)) }
 {
-    let at = expr::place(r, through, name, room)?;
+    let at = place::place(r, through, name, room)?;
     assigned(r, at, room)
 }
 
@@ -435,8 +436,7 @@ fn bracketed(r: &mut Reader<'_>, at: CPlace, room: u32) -> Result<CStmtKind, CRe
     if r.eat("struct") {
         return cleared(r, at);
     }
-    let what = expr::bracketed(r, room - 1)?;
-    let value = make::expr(r.place_from(start), what);
+    let value = expr::bracketed(r, start, room)?;
     stored(r, at, value)
 }
 

@@ -1,10 +1,13 @@
-use Rattle.std.proofs.Common.{length, drop, refl, sym, ◌∙◌}
+use Rattle.std.proofs.Common.{length, drop}
 use Rattle.bl_ctext.specs.declared.prelude.TheConstants.{PRELUDE}
-use Rattle.bl_cparse.proofs.FileLemmas.{begins, spells}
+use Rattle.bl_cparse.proofs.FileLemmas.{begins, other_front}
 use Rattle.bl_cparse.proofs.parser.parse.Goals as goal
 
-pub returns : goal.returns
-returns c =
-    spells c.in_ok-structs.structs c.in_ok-funcs.funcs c.args.text.now (drop (length PRELUDE.now) c.args.text.now) c.structs.new.r
-    (begins c.args.text.now c.starts_with.result c.starts_with.ensures.value c.if-not-starts_with.false)
-    (sym c.new-reader.ensures ∙ c.in_ok-structs.ensures.0) c.in_ok-funcs.ensures.0 (c.if-not-is_kept.ensures.tokens refl)
+pub left_prelude-requires-clause-other : goal.left_prelude-requires-clause-other
+left_prelude-requires-clause-other c = other_front c.args.text.now c.starts_with.result c.starts_with.ensures.value c.if-not-starts_with.true
+
+pub behind_prelude-requires-clause-begins : goal.behind_prelude-requires-clause-begins
+behind_prelude-requires-clause-begins c = begins c.args.text.now c.starts_with.result c.starts_with.ensures.value c.if-not-starts_with.false
+
+pub returns-clause-prelude : goal.returns-clause-prelude
+returns-clause-prelude c = λ other. absurd (other (drop (length PRELUDE.now) c.args.text.now) (begins c.args.text.now c.starts_with.result c.starts_with.ensures.value c.if-not-starts_with.false))

@@ -1,0 +1,11 @@
+use Rattle.std.proofs.Common.{◌≡◌, ◌++◌, IsTrue, length, map}
+use Rattle.bl_tree.specs.Reduce.{all_of}
+use Rattle.bl_ctext.specs.Spelling.{with_commas, arg_tokens}
+use Rattle.bl_ctext.specs.Spellable.{has_any, spells_arg}
+use Rattle.bl_cparse.proofs.parser.place.arguments.Given as goal
+
+abbrev pub invariant-loop-args : goal.invariant-loop-args
+invariant-loop-args l = (l.fn.r ≡ with_commas (map arg_tokens l.args) ++ l.r) × (IsTrue (has_any l.args) × IsTrue (all_of (map spells_arg l.args)))
+
+abbrev pub decreases-loop-args : goal.decreases-loop-args
+decreases-loop-args l = length l.r

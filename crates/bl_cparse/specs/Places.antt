@@ -1,0 +1,17 @@
+-- Where a text shows that it spells no file.
+use Rattle.std.specs.Prelude.{◌≡◌, ◌≢◌, ℕ, ◌<◌, ◌≤◌, List, length, slice_index}
+use Rattle.bl_ctext.specs.Prelude.{prelude}
+use Rattle.bl_cparse.specs.declared.refusal.CRefusal.{CRefusal}
+use Rattle.bl_cparse.specs.declared.refusal.CRefusal.TheVariants.{NotSubset, NoMemory}
+
+-- inside the prelude the text first differs from it at this offset, or ends there
+pub record Leaves (text : List ℕ) (at : ℕ) : Type 0 where
+  pub within : at < length prelude
+  pub inside : at ≤ length text
+  pub same : (k : ℕ) → k < at → slice_index text k ≡ slice_index prelude k
+  pub differs : at < length text → slice_index text at ≢ slice_index prelude at
+
+-- the refusal names that offset
+abbrev pub LeavesPrelude : List ℕ → CRefusal → Type 0
+LeavesPrelude text (NotSubset at) = Leaves text at
+LeavesPrelude text NoMemory = ⊥

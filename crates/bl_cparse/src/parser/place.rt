@@ -1,0 +1,204 @@
+//! Places and calls as statements begin with them, and parts that they share with those in expressions. `room` is how
+//! many brackets may still be opened.
+
+ghost use Rattle.std.specs.Prelude.{◌≡◌, ◌≤◌, ◌<◌, length, false, [], ◌∷◌, ◌++◌, codes, map, IsTrue, IfOk, OnOk};
+ghost use Rattle.bl_tree.specs.Reduce.{all_of};
+ghost use Rattle.std.specs.Fmt.{decimal};
+ghost use Rattle.bl_ctext.specs.Names.{is_name, is_callee};
+ghost use Rattle.bl_ctext.specs.Spelling.{with_commas, root_tokens, index_front, place_tokens, step_tokens, index_tokens, ccall_tokens, arg_tokens};
+ghost use Rattle.bl_ctext.specs.Spellable.{is_length, spells_place, spells_step, spells_index, spells_call, spells_arg};
+
+use crate::parser::{expr, literal, name};
+use crate::reader::Reader;
+use crate::refusal::CRefusal;
+use crate::{make, words};
+use bl_tree::c::{CArg, CCall, CIndex, CPlace, CStep};
+use bl_tree::{List, Text};
+
+/// The `(` of an expression or a place, where there is room for it.
+pub fn open(r: &mut Reader<'_>, room: u32) -> Result<(), CRefusal>
+    ensures read { OnOk result (r.old ≡ codes "(" ∷ r.new) }
+    ensures room { OnOk result (1 ≤ room) }
+{
+    if room == 0 {
+        return Err(r.refusal());
+    }
+    r.take("(")
+}
+
+/// A name that a call or a place begins with.
+#[derive(Drop)]
+pub struct Leading {
+    pub name: Text,
+    /// Whether `(` stands behind it.
+    pub is_call: bool,
+}
+
+/// What begins a call or a place. A function of the prelude can't stand where there is no room for its `(`.
+#[tactic(auto, using(crate::proofs::TokenLemmas::name_callee))]
+pub fn leading_name(r: &mut Reader<'_>, room: u32) -> Result<Leading, CRefusal>
+    ensures { IfOk result (λ first. (r.old ≡ first.name ∷ r.new) × (IsTrue (is_callee first.name) × (first.is_call ≡ false → IsTrue (is_name first.name)))) }
+{
+    if words::is_name(r.piece()) {
+        let name = name::name(r)?;
+        let is_call = r.sees("(");
+        return Ok(Leading { name, is_call });
+    }
+    if room == 0 {
+        return Err(r.refusal());
+    }
+    let name = name::callee(r)?;
+    Ok(Leading {
+        name,
+        is_call: true,
+    })
+}
+
+/// A pointer's name and the `)` behind it.
+pub fn pointer(r: &mut Reader<'_>) -> Result<Text, CRefusal>
+    ensures { IfOk result (λ name. (r.old ≡ name ∷ codes ")" ∷ r.new) × IsTrue (is_name name)) }
+{
+    let name = name::name(r)?;
+    r.take(")")?;
+    Ok(name)
+}
+
+/// `(*`, a pointer's name and `)`.
+pub fn star(r: &mut Reader<'_>, room: u32) -> Result<Text, CRefusal>
+    ensures { IfOk result (λ name. (r.old ≡ codes "(" ∷ codes "*" ∷ name ∷ codes ")" ∷ r.new) × IsTrue (is_name name)) }
+{
+    open(r, room)?;
+    r.take("*")?;
+    pointer(r)
+}
+
+/// What a place begins with.
+#[derive(Drop)]
+pub struct Root {
+    /// Whether it is a pointer, `(*`, its name and `)`.
+    pub through: bool,
+    pub name: Text,
+}
+
+pub fn place_root(r: &mut Reader<'_>, room: u32) -> Result<Root, CRefusal>
+    ensures { IfOk result (λ root. (r.old ≡ root_tokens root.through root.name ++ r.new) × IsTrue (is_name root.name)) }
+{
+    if r.sees("(") {
+        let name = star(r, room)?;
+        return Ok(Root {
+            through: true,
+            name,
+        });
+    }
+    let name = name::name(r)?;
+    Ok(Root {
+        through: false,
+        name,
+    })
+}
+
+/// The steps of a place whose root is read.
+pub fn place(r: &mut Reader<'_>, through: bool, name: Text, room: u32) -> Result<CPlace, CRefusal>
+    requires { IsTrue (is_name name) }
+    ensures { IfOk result (λ at. (root_tokens through name ++ r.old ≡ place_tokens at ++ r.new) × IsTrue (spells_place at)) }
+{
+    let mut steps = List::new(r.alloc());
+    while r.sees(".") {
+        steps.push(step(r, room)?)?;
+    }
+    Ok(make::place(through, name, steps))
+}
+
+fn step(r: &mut Reader<'_>, room: u32) -> Result<CStep, CRefusal>
+    ensures read { IfOk result (λ s. (r.old ≡ step_tokens s ++ r.new) × IsTrue (spells_step s)) }
+    ensures shorter { OnOk result (length r.new < length r.old) }
+{
+    r.take(".")?;
+    let member = name::name(r)?;
+    let index = if r.sees("[") {
+        Some(index(r, room)?)
+    } else {
+        None
+    };
+    Ok(make::step(member, index))
+}
+
+fn index(r: &mut Reader<'_>, room: u32) -> Result<CIndex, CRefusal>
+    ensures { IfOk result (λ i. (r.old ≡ index_tokens i ++ r.new) × IsTrue (spells_index i)) }
+{
+    if room < 2 {
+        return Err(r.refusal());
+    }
+    let signed = index_front(r)?;
+    let at = expr::expr(r, room - 2)?;
+    let length = index_length(r)?;
+    Ok(make::index(signed, at, length))
+}
+
+/// The front of an index, and whether it is a signed one.
+pub fn index_front(r: &mut Reader<'_>) -> Result<bool, CRefusal>
+    ensures { IfOk result (λ signed. r.old ≡ index_front signed ++ r.new) }
+{
+    r.take("[")?;
+    let signed = r.eat("bl_ix_s");
+    if !signed {
+        r.take("bl_ix_u")?;
+    }
+    r.take("(")?;
+    Ok(signed)
+}
+
+/// What follows the expression of an index.
+pub fn index_length(r: &mut Reader<'_>) -> Result<u32, CRefusal>
+    ensures { IfOk result (λ n. (r.old ≡ codes "," ∷ decimal n ∷ codes ")" ∷ codes "]" ∷ r.new) × IsTrue (is_length n)) }
+{
+    r.take(",")?;
+    let length = length(r)?;
+    r.take(")")?;
+    r.take("]")?;
+    Ok(length)
+}
+
+/// The number of elements of an array.
+pub fn length(r: &mut Reader<'_>) -> Result<u32, CRefusal>
+    ensures { IfOk result (λ n. (r.old ≡ decimal n ∷ r.new) × IsTrue (is_length n)) }
+{
+    Ok(literal::number(r, 1, 65_536)? as u32)
+}
+
+/// The arguments of a call whose name is read.
+pub fn call(r: &mut Reader<'_>, name: Text, room: u32) -> Result<CCall, CRefusal>
+    requires { IsTrue (is_callee name) }
+    ensures { IfOk result (λ c. (name ∷ r.old ≡ ccall_tokens c ++ r.new) × IsTrue (spells_call c)) }
+{
+    open(r, room)?;
+    let args = arguments(r, room - 1)?;
+    r.take(")")?;
+    Ok(make::call(name, args))
+}
+
+/// The arguments before a `)`.
+fn arguments(r: &mut Reader<'_>, room: u32) -> Result<List<CArg>, CRefusal>
+    ensures { IfOk result (λ args. (r.old ≡ with_commas (map arg_tokens args) ++ r.new) × IsTrue (all_of (map spells_arg args))) }
+{
+    let mut args = List::new(r.alloc());
+    if r.sees(")") {
+        return Ok(args);
+    }
+    args.push(argument(r, room)?)?;
+    while r.eat(",") {
+        args.push(argument(r, room)?)?;
+    }
+    Ok(args)
+}
+
+fn argument(r: &mut Reader<'_>, room: u32) -> Result<CArg, CRefusal>
+    ensures { IfOk result (λ arg. (r.old ≡ arg_tokens arg ++ r.new) × IsTrue (spells_arg arg)) }
+{
+    if r.eat("&") {
+        let root = place_root(r, room)?;
+        let at = place(r, root.through, root.name, room)?;
+        return Ok(make::address(at));
+    }
+    Ok(make::value(expr::expr(r, room)?))
+}
