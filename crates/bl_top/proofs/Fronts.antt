@@ -6,7 +6,10 @@ use Rattle.std.specs.Prelude.{◌⊎◌, Option, Some, None}
 use Rattle.bl_io.specs.Left.{GivesUpTo}
 use Rattle.bl_lex.specs.Rules.{FailsFirst, FailsSize, Passes, IsRefusalOf as IsLexRefusalOf}
 use Rattle.bl_lex.specs.Tokens.{Lexes}
-use Rattle.bl_syntax.specs.Rules.{IsRefusalOf as IsSyntaxRefusalOf}
+use Rattle.bl_names.specs.Cause.{IsCause}
+use Rattle.bl_names.specs.Rules.{Passes as NamesPass}
+use Rattle.bl_parse.specs.Programs.{Spells}
+use Rattle.bl_syntax.specs.Rules.{IsRefusalOf as IsSyntaxRefusalOf, Passes as SyntaxPasses}
 use Rattle.bl_tree.specs.declared.token.Token.{Token}
 use Rattle.bl_tree.specs.declared.place.Place.{Place}
 use Rattle.bl_tree.specs.declared.place.Refusal.{Refusal}
@@ -15,8 +18,11 @@ use Rattle.bl_top.specs.Build.{Leaves, source_limit}
 use Rattle.bl_top.specs.declared.outcome.Outcome.{Outcome}
 use Rattle.bl_top.specs.declared.status.Status.{Status}
 use Rattle.bl_top.specs.declared.status.Status.TheVariants as status
-use Rattle.bl_top.proofs.Ends.{left_nothing, refused_is_no_end, want_is_no_end}
-use Rattle.bl_top.specs.Refusals.{AcceptedText, IsAccepted, IsJudged, IsRefusalOf, IsRefusedBy, RefusedBy, RefusedText, done, lexer, refusal_line, short, syntax, unbuilt, unwritten}
+use Rattle.bl_top.proofs.Ends.{leaves_as, left_nothing, refused_is_no_end, want_is_no_end}
+use Rattle.bl_top.specs.Refusals.{AcceptedText, IsJudged, IsRefusalOf, IsRefusedBy, RefusedBy, RefusedText, done, lexer, names, refusal_line, short, syntax, unbuilt, unwritten}
+use Rattle.bl_top.specs.Sources.{HasTree, IsOfNoForm, IsTextOf, IsTextOfTree, IsTreeOf, Parses}
+use Rattle.bl_raw.specs.declared.raw.Raw.{Raw}
+use Rattle.bl_recognise.specs.Early.{early_of}
 
 -- a front that was cut is too long itself
 long_front : (whole got : List ℕ) → got ≡ take source_limit whole → source_limit < length whole → (1_048_576 < length got) × (1_048_576 < length whole)
@@ -39,9 +45,21 @@ whole_of_passing whole got front passes = elim (front_or_long whole got front) [
   | inr long ↦ absurd (passes 1 (record { start = 1_048_576; end = 1_048_577 }) (inl (refl, record { too_long = long.0; at = refl })))
 ]
 
-pub accepted_text : (before : Option (List ℕ)) (got : List ℕ) (after : Option (List ℕ)) → GivesUpTo source_limit before got after → IsAccepted got → AcceptedText before
-accepted_text None got after read passes = record { text = got; of_source = tt; passes = passes }
-accepted_text (Some whole) got after read passes = record { text = got; of_source = whole_of_passing whole got read.front passes.passes; passes = passes }
+pub tree_of : (before : Option (List ℕ)) (got : List ℕ) (after : Option (List ℕ)) (raw : Raw) → GivesUpTo source_limit before got after → HasTree got raw → IsTreeOf before raw
+tree_of None got after raw read has = record { source = got; of_source = tt; has = has }
+tree_of (Some whole) got after raw read has = record { source = got; of_source = whole_of_passing whole got read.front has.passes; has = has }
+
+pub accepted_text : (before : Option (List ℕ)) (got : List ℕ) (after : Option (List ℕ)) (raw : Raw) → GivesUpTo source_limit before got after → HasTree got raw → AcceptedText before
+accepted_text before got after raw read has = record { raw = raw; tree = tree_of before got after raw read has }
+
+pub unbuilt_text : (before : Option (List ℕ)) (got : List ℕ) (after : Option (List ℕ)) (raw : Raw) → GivesUpTo source_limit before got after → HasTree got raw → early_of raw ≡ None → IsOfNoForm before
+unbuilt_text before got after raw read has none = record { raw = raw; tree = tree_of before got after raw read has; none = none }
+
+-- what is written for the tree is written for the source
+pub text_leaves : (left : Option (List ℕ)) (got : List ℕ) (rest : Option (List ℕ)) (raw : Raw) (before after : Option (List ℕ)) (ended : Status) → GivesUpTo source_limit left got rest → HasTree got raw →
+    Leaves (IsTextOfTree raw) before ended after → Leaves (IsTextOf left) before ended after
+text_leaves left got rest raw before after ended read has leaves =
+    leaves_as (IsTextOfTree raw) (IsTextOf left) before after ended (λ text is. record { raw = raw; tree = tree_of left got rest raw read has; is = is }) leaves
 
 -- ---- what is refused
 
@@ -68,6 +86,8 @@ first_of_long whole got number place got_long whole_long first =
 refused_whole : (whole got : List ℕ) → got ≡ take source_limit whole → (number : ℕ) (place : Place) (also : List Place) → RefusedBy got number place also → RefusedBy whole number place also
 refused_whole whole got front _ _ _ (syntax tokens number place passes lexes first) =
     rw (whole_of_passing whole got front passes) (syntax tokens number place passes lexes first)
+refused_whole whole got front _ _ _ (names raw number place also passes parses first) =
+    rw (whole_of_passing whole got front passes) (names raw number place also passes parses first)
 refused_whole whole got front _ _ _ (lexer number place first) = elim (front_or_long whole got front) [
   | inl same ↦ rw same (lexer number place first)
   | inr long ↦ lexer number place (first_of_long whole got number place long.0 long.1 first)
@@ -89,6 +109,19 @@ lexed_refusal text NoMemory is = tt
 pub parsed_refusal : (text : List ℕ) (tokens : List Token) (refusal : Refusal) → Passes text → Lexes text tokens → IsSyntaxRefusalOf (length text) tokens refusal → IsRefusalOf text refusal
 parsed_refusal text tokens (Rule number place also) passes lexes is = rw is.1 (syntax tokens number place passes lexes is.0)
 parsed_refusal text tokens NoMemory passes lexes is = tt
+
+-- and that of the names of its tree
+pub named_refusal : (text : List ℕ) (raw : Raw) (refusal : Refusal) → Passes text → Parses text raw → IsCause raw.items refusal → IsRefusalOf text refusal
+named_refusal text raw (Rule number place also) passes parses first = names raw number place also passes parses first
+named_refusal text raw NoMemory passes parses first = tt
+
+-- what passed all rules has its tree
+pub tree_that_passes : (text : List ℕ) (tokens : List Token) (raw : Raw) → Passes text → Lexes text tokens → SyntaxPasses tokens → Spells text tokens raw → NamesPass raw.items → HasTree text raw
+tree_that_passes text tokens raw passes lexes nests spells named =
+    record { passes = passes; parses = record { tokens = tokens; lexes = lexes; passes = nests; spells = spells }; names = named }
+
+pub tree_parsed : (text : List ℕ) (tokens : List Token) (raw : Raw) → Lexes text tokens → SyntaxPasses tokens → Spells text tokens raw → Parses text raw
+tree_parsed text tokens raw lexes nests spells = record { tokens = tokens; lexes = lexes; passes = nests; spells = spells }
 
 -- ---- ends of a job whose source was judged
 
@@ -113,12 +146,17 @@ judged_was_read _ unwritten e = absurd cc
 judged_was_read _ short e = absurd cc
 
 -- nothing stands on `out` of a source that is refused
-pub refused_leaves : (held : Option (List ℕ)) (refusal : Refusal) (outcome : Outcome) → IsRefusedBy refusal outcome → Leaves held outcome.status held
-refused_leaves held (Rule number place also) outcome by = elim by [
-  | inl refused ↦ left_nothing held outcome.status status.Refused refused.0 refused_is_no_end
-  | inr none ↦ left_nothing held outcome.status status.NoMemory none want_is_no_end
+pub refused_leaves : (IsResult : List ℕ → Type 0) (held : Option (List ℕ)) (refusal : Refusal) (outcome : Outcome) → IsRefusedBy refusal outcome → Leaves IsResult held outcome.status held
+refused_leaves IsResult held (Rule number place also) outcome by = elim by [
+  | inl refused ↦ left_nothing IsResult held outcome.status status.Refused refused.0 refused_is_no_end
+  | inr none ↦ left_nothing IsResult held outcome.status status.NoMemory none want_is_no_end
 ]
-refused_leaves held NoMemory outcome none = left_nothing held outcome.status status.NoMemory none want_is_no_end
+refused_leaves IsResult held NoMemory outcome none = left_nothing IsResult held outcome.status status.NoMemory none want_is_no_end
+
+-- nor was its form judged
+pub refused_is_formed : {A : Type 0} (refusal : Refusal) (outcome : Outcome) → IsRefusedBy refusal outcome → outcome.status ≡ status.Unbuilt → A
+refused_is_formed (Rule number place also) outcome by e = absurd (elim by [ inl refused ↦ (let h = sym refused.0 ∙ e in cc) | inr none ↦ (let h = sym none ∙ e in cc) ])
+refused_is_formed NoMemory outcome none e = absurd (let h = sym none ∙ e in cc)
 
 pub refused_source : (before : Option (List ℕ)) (got : List ℕ) (after : Option (List ℕ)) (refusal : Refusal) (outcome : Outcome) →
     GivesUpTo source_limit before got after → IsRefusalOf got refusal → IsRefusedBy refusal outcome → outcome.status ≡ status.Refused →

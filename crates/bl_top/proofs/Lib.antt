@@ -1,5 +1,4 @@
-pub mod EarlyLemmas
-pub mod EmitSteps
 pub mod Ends
 pub mod Fronts
 pub mod Lines
+pub mod Texts

@@ -4,7 +4,8 @@ use Rattle.std.proofs.lemmas.List.{drop-map, get_or-drop}
 use Rattle.std.proofs.lemmas.Bool.Decides.{nat_tests}
 use Rattle.std.specs.Prelude.{Option, Some, None, ◌==◌, slice_index_or}
 use Rattle.bl_io.specs.Held.{Appends, AppendsPart}
-use Rattle.bl_top.specs.Notes.{IsLineOf, Noted, whole, fault, refused, chosen_line, has_line}
+use Rattle.bl_top.specs.Causes.{Count, HasRisen}
+use Rattle.bl_top.specs.Notes.{Written, whole, fault, want, chosen_line, has_line}
 use Rattle.bl_top.specs.declared.status.Status.{Status}
 use Rattle.bl_top.specs.declared.status.Status.TheVariants as status
 
@@ -12,14 +13,14 @@ pub appends_nothing : (held : Option (List ℕ)) (line : List ℕ) → line ≡ 
 appends_nothing None line e = tt
 appends_nothing (Some bytes) line e = rw e (ap Some (sym (append-nil bytes)))
 
-pub noted_whole : (before after : Option (List ℕ)) (ended : Status) (own line : List ℕ) → IsLineOf ended (chosen_line ended own) → line ≡ chosen_line ended own → Appends before line after → Noted before ended after
-noted_whole before after ended own line is e grew = whole before after ended (chosen_line ended own) is (subst (λ l. Appends before l after) e grew)
+pub written_whole : (notes : Count) (before after : Option (List ℕ)) (ended : Status) (own line : List ℕ) → line ≡ chosen_line ended own → Appends before line after → Written notes before (chosen_line ended own) after ended ended
+written_whole notes before after ended own line e grew = whole (subst (λ l. Appends before l after) e grew)
 
-pub noted_fault : (before after : Option (List ℕ)) (meant : Status) (own line : List ℕ) → IsLineOf meant (chosen_line meant own) → line ≡ chosen_line meant own → AppendsPart before line after → Noted before status.WriteFault after
-noted_fault before after meant own line is e grew = fault before after meant (chosen_line meant own) is (subst (λ l. AppendsPart before l after) e grew)
+pub written_fault : (notes : Count) (before after : Option (List ℕ)) (meant : Status) (own line : List ℕ) → line ≡ chosen_line meant own → has_line meant ≡ true → AppendsPart before line after → HasRisen notes → Written notes before (chosen_line meant own) after meant status.WriteFault
+written_fault notes before after meant own line e has grew risen = fault has (subst (λ l. AppendsPart before l after) e grew) risen
 
-pub noted_refused : (before after : Option (List ℕ)) (meant : Status) (own line : List ℕ) → IsLineOf meant (chosen_line meant own) → line ≡ chosen_line meant own → AppendsPart before line after → Noted before status.NoMemory after
-noted_refused before after meant own line is e grew = refused before after meant (chosen_line meant own) is (subst (λ l. AppendsPart before l after) e grew)
+pub written_want : (notes : Count) (before after : Option (List ℕ)) (meant : Status) (own line : List ℕ) → line ≡ chosen_line meant own → has_line meant ≡ true → AppendsPart before line after → Written notes before (chosen_line meant own) after meant status.NoMemory
+written_want notes before after meant own line e has grew = want has (subst (λ l. AppendsPart before l after) e grew)
 
 -- what a test of a text's length says of the text
 pub is_empty_from_test : (line : List ℕ) (b : Bool) → b ≡ (length line == 0) → b ≡ true → line ≡ []

@@ -1,35 +1,25 @@
--- What `build` leaves on `out`.
+-- What `build` reads, and what it leaves on `out`.
 use Rattle.std.specs.Prelude.{◌≡◌, ◌≢◌, ◌⊎◌, ℕ, List, Option, Some, None}
-use Rattle.bl_ctext.specs.SpellsC.{SpellsC}
-use Rattle.bl_ctext.specs.declared.file.CFile.{CFile}
 use Rattle.bl_io.specs.Held.{Appends, AppendsPart}
 use Rattle.bl_io.specs.Left.{IsKept, KeepsOthers, StandsFurther}
+use Rattle.bl_top.specs.Sources.{IsTextOf}
 use Rattle.bl_top.specs.declared.status.Status.{Status}
 use Rattle.bl_top.specs.declared.status.Status.TheVariants as status
 use Rattle.bl_words.specs.Jobs.{JobSpec, Word, build}
 
--- the bytes spell some C file
-pub record IsCText (text : List ℕ) : Type 0 where
-  pub file : CFile
-  pub spelled : SpellsC file text
+-- what `out` holds after a call that ended with the status: where it ended well, the whole of a result grew on it
+pub data Leaves (IsResult : List ℕ → Type 0) : Option (List ℕ) → Status → Option (List ℕ) → Type 0 where
+  all : {before after : Option (List ℕ)} (text : List ℕ) → IsResult text → Appends before text after → Leaves IsResult before status.Ok after
+  -- a write of it failed, and a front of it grew
+  part : {before after : Option (List ℕ)} {ended : Status} (text : List ℕ) → (ended ≡ status.WriteFault) ⊎ (ended ≡ status.NoMemory) →
+      IsResult text → AppendsPart before text after → Leaves IsResult before ended after
+  nothing : {before after : Option (List ℕ)} {ended : Status} → ended ≢ status.Ok → IsKept before after → Leaves IsResult before ended after
 
--- `out` grew by the bytes of a C file
-pub record WroteAll (before after : Option (List ℕ)) : Type 0 where
-  pub text : List ℕ
-  pub is_c : IsCText text
-  pub grew : Appends before text after
-
--- and by a front of them alone
-pub record WrotePart (before after : Option (List ℕ)) : Type 0 where
-  pub text : List ℕ
-  pub is_c : IsCText text
-  pub grew : AppendsPart before text after
-
--- what `out` holds after a call that ended with the status
-pub data Leaves : Option (List ℕ) → Status → Option (List ℕ) → Type 0 where
-  all : (before after : Option (List ℕ)) → WroteAll before after → Leaves before status.Ok after
-  part : (before after : Option (List ℕ)) (ended : Status) → (ended ≡ status.WriteFault) ⊎ (ended ≡ status.NoMemory) → WrotePart before after → Leaves before ended after
-  nothing : (before after : Option (List ℕ)) (ended : Status) → ended ≢ status.Ok → IsKept before after → Leaves before ended after
+-- the bytes are the result of the job: the C text of the source that it names
+pub record IsResultOf (job : Option JobSpec) (left : Word → Option (List ℕ)) (text : List ℕ) : Type 0 where
+  pub source : Word
+  pub asked : job ≡ Some (build source)
+  pub is : IsTextOf (left source) text
 
 -- how far a source is read: one byte past the longest that is accepted
 abbrev pub source_limit : ℕ

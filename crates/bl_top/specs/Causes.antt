@@ -34,8 +34,6 @@ pub record Causes (words : List Word) (counts : Counts) (ended : Status) : Type 
   pub no_job : job_of words ≡ None → (ended ≡ status.Usage) ⊎ ((ended ≡ status.WriteFault) ⊎ (ended ≡ status.NoMemory))
   pub read_fault : ended ≡ status.ReadFault → ReadFailed words counts.file
   pub write_fault : ended ≡ status.WriteFault → HasRisen counts.out ⊎ HasRisen counts.notes
-  -- only a source that was to be built can be of a form that is not built
-  pub unbuilt : ended ≡ status.Unbuilt → (source : Word) × (job_of words ≡ Some (build source))
 
 -- the same before the status's line is written: `notes` are not touched yet
 pub record AnswerCauses (words : List Word) (file : Word → Count) (out : Count) (ended : Status) : Type 0 where
@@ -43,4 +41,3 @@ pub record AnswerCauses (words : List Word) (file : Word → Count) (out : Count
   pub no_job : job_of words ≡ None → (ended ≡ status.Usage) ⊎ (ended ≡ status.NoMemory)
   pub read_fault : ended ≡ status.ReadFault → ReadFailed words file
   pub write_fault : ended ≡ status.WriteFault → HasRisen out
-  pub unbuilt : ended ≡ status.Unbuilt → (source : Word) × (job_of words ≡ Some (build source))

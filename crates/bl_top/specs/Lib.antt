@@ -1,6 +1,6 @@
 pub mod Build
 pub mod Causes
-pub mod Early
-pub mod Emitted
 pub mod Notes
 pub mod Refusals
+pub mod Sources
+pub mod Traces

@@ -1,12 +1,12 @@
 -- The number and the line on `notes` that go with each status.
-use Rattle.std.specs.Prelude.{◌≡◌, ◌≢◌, ℕ, Bool, true, false, List, [], ◌∷◌, ◌++◌, Option, codes}
-use Rattle.bl_tree.specs.declared.place.Place.{Place}
+use Rattle.std.specs.Prelude.{◌≡◌, ℕ, Bool, true, false, List, [], ◌∷◌, ◌++◌, Option, None, codes}
 use Rattle.bl_top.specs.declared.outcome.Outcome.{Outcome}
-use Rattle.bl_top.specs.Refusals.{refusal_line}
-use Rattle.bl_io.specs.Count.{Rose}
+use Rattle.bl_top.specs.Causes.{Count, HasRisen, ReadFailed}
+use Rattle.bl_top.specs.Refusals.{RefusedJob, UnbuiltJob}
 use Rattle.bl_io.specs.Held.{Appends, AppendsPart}
 use Rattle.bl_top.specs.declared.status.Status.{Status}
 use Rattle.bl_top.specs.declared.status.Status.TheVariants as status
+use Rattle.bl_words.specs.Jobs.{Word, job_of}
 use Rattle.bl_words.specs.Usage.{usage_line}
 
 -- the number that the process ends with
@@ -35,11 +35,6 @@ line_of status.WriteFault = []
 line_of status.NoMemory = codes "no memory" ++ 10 ∷ []
 line_of status.Unbuilt = codes "not built" ++ 10 ∷ []
 
--- the line of a status; at a refusal that of some rule
-pub data IsLineOf : Status → List ℕ → Type 0 where
-  fixed : (ended : Status) → ended ≢ status.Refused → IsLineOf ended (line_of ended)
-  refusal : (number : ℕ) (place : Place) (also : List Place) → IsLineOf status.Refused (refusal_line number place also)
-
 -- a refusal has a line of its own
 abbrev pub chosen_line : Status → List ℕ → List ℕ
 chosen_line status.Refused own = own
@@ -49,15 +44,25 @@ chosen_line ended own = line_of ended
 abbrev pub line_in : Outcome → List ℕ
 line_in outcome = chosen_line outcome.status outcome.refusal.items
 
--- what `notes` hold after a call that ended with the status: the status's line, or, where a line could not be written
--- whole, a front of it
-pub data Noted : Option (List ℕ) → Status → Option (List ℕ) → Type 0 where
-  whole : (before after : Option (List ℕ)) (ended : Status) (line : List ℕ) → IsLineOf ended line → Appends before line after → Noted before ended after
-  fault : (before after : Option (List ℕ)) (meant : Status) (line : List ℕ) → IsLineOf meant line → AppendsPart before line after → Noted before status.WriteFault after
-  refused : (before after : Option (List ℕ)) (meant : Status) (line : List ℕ) → IsLineOf meant line → AppendsPart before line after → Noted before status.NoMemory after
+-- the status of a job of these words, with its cause, and the line that goes with it
+pub data IsMeant (words : List Word) (file : Word → Count) (left : Word → Option (List ℕ)) : Status → List ℕ → Type 0 where
+  done : IsMeant words file left status.Ok []
+  refused : {line : List ℕ} → RefusedJob (job_of words) left line → IsMeant words file left status.Refused line
+  no_job : job_of words ≡ None → IsMeant words file left status.Usage (line_of status.Usage)
+  unread : ReadFailed words file → IsMeant words file left status.ReadFault (line_of status.ReadFault)
+  unwritten : IsMeant words file left status.WriteFault []
+  short : IsMeant words file left status.NoMemory (line_of status.NoMemory)
+  unbuilt : UnbuiltJob (job_of words) left → IsMeant words file left status.Unbuilt (line_of status.Unbuilt)
 
--- the status after its line was to be written: the same, or, where a write of the line failed, that of the write
-pub data IsEndOf (old new : ℕ) : Status → Status → Type 0 where
-  same : (ended : Status) → IsEndOf old new ended ended
-  failed : (meant : Status) → has_line meant ≡ true → Rose old new → IsEndOf old new meant status.WriteFault
-  refused : (meant : Status) → has_line meant ≡ true → IsEndOf old new meant status.NoMemory
+-- the line of a status was to be written: it was, or the write failed behind a front of it, and the call ends with that
+pub data Written (notes : Count) (before : Option (List ℕ)) (line : List ℕ) (after : Option (List ℕ)) (meant : Status) : Status → Type 0 where
+  whole : Appends before line after → Written notes before line after meant meant
+  fault : has_line meant ≡ true → AppendsPart before line after → HasRisen notes → Written notes before line after meant status.WriteFault
+  want : has_line meant ≡ true → AppendsPart before line after → Written notes before line after meant status.NoMemory
+
+-- what `notes` hold after a call of these words that ended with the status: the line of the job's status, or a front of it
+pub record Noted (words : List Word) (file : Word → Count) (left : Word → Option (List ℕ)) (notes : Count) (before : Option (List ℕ)) (ended : Status) (after : Option (List ℕ)) : Type 0 where
+  pub meant : Status
+  pub line : List ℕ
+  pub is : IsMeant words file left meant line
+  pub written : Written notes before line after meant ended

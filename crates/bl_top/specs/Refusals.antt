@@ -1,14 +1,17 @@
 -- Which rule refuses a source text, and the line that tells it.
-use Rattle.std.specs.Prelude.{◌≡◌, ◌⊎◌, ℕ, List, [], ◌∷◌, ◌++◌, map, length, codes, decimal, slice_index_or, Option, Some, IfSome}
+use Rattle.std.specs.Prelude.{◌≡◌, ◌⊎◌, ℕ, List, [], ◌∷◌, ◌++◌, map, length, codes, decimal, slice_index_or, Option, Some, ⊤}
 use Rattle.bl_lex.specs.Rules.{FailsFirst, Passes}
 use Rattle.bl_lex.specs.Tokens.{Lexes}
-use Rattle.bl_syntax.specs.Rules.{FailsFirst as SyntaxFailsFirst, Passes as SyntaxPasses}
+use Rattle.bl_names.specs.Rules.{FailsFirst as NamesFailFirst}
+use Rattle.bl_raw.specs.declared.raw.Raw.{Raw}
+use Rattle.bl_syntax.specs.Rules.{FailsFirst as SyntaxFailsFirst}
 use Rattle.bl_tree.specs.declared.token.Token.{Token}
 use Rattle.bl_tree.specs.declared.place.Place.{Place}
 use Rattle.bl_tree.specs.declared.place.Refusal.{Refusal}
 use Rattle.bl_tree.specs.declared.place.Refusal.TheVariants.{Rule, NoMemory}
 use Rattle.bl_tree.specs.Reduce.{joined}
 use Rattle.bl_io.specs.Held.{Appends}
+use Rattle.bl_top.specs.Sources.{IsSource, IsTreeOf, IsOfNoForm, Parses}
 use Rattle.bl_top.specs.declared.outcome.Outcome.{Outcome}
 use Rattle.bl_top.specs.declared.status.Status.{Status}
 use Rattle.bl_top.specs.declared.status.Status.TheVariants as status
@@ -47,24 +50,16 @@ pub data RefusedBy (text : List ℕ) : ℕ → Place → List Place → Type 0 w
   -- none of these, and one of Depth and Syntax
   syntax : (tokens : List Token) (number : ℕ) (place : Place) → Passes text → Lexes text tokens →
       SyntaxFailsFirst (length text) tokens number place → RefusedBy text number place []
-
--- none of the rules decided so far fails for a text
-pub record IsAccepted (text : List ℕ) : Type 0 where
-  pub passes : Passes text
-  pub tokens : List Token
-  pub lexes : Lexes text tokens
-  pub spells : SyntaxPasses tokens
+  -- none of these, and one of Duplicate, Unknown and Kind
+  names : (raw : Raw) (number : ℕ) (place : Place) (also : List Place) → Passes text → Parses text raw →
+      NamesFailFirst raw.items number place also → RefusedBy text number place also
 
 -- the refusal names the first rule that fails; want of memory has no cause in the text
 abbrev pub IsRefusalOf : List ℕ → Refusal → Type 0
 IsRefusalOf text (Rule number place also) = RefusedBy text number place also
-IsRefusalOf text NoMemory = Unit {0}
+IsRefusalOf text NoMemory = ⊤
 
 -- ---- the source of a job
-
--- the text of a source: what was left of its file, where that is told
-abbrev pub IsSource : Option (List ℕ) → List ℕ → Type 0
-IsSource left text = IfSome left (λ bytes. bytes ≡ text)
 
 -- a rule refuses the text of a source, and the line says which and where
 pub record RefusedText (left : Option (List ℕ)) (line : List ℕ) : Type 0 where
@@ -76,11 +71,10 @@ pub record RefusedText (left : Option (List ℕ)) (line : List ℕ) : Type 0 whe
   pub by : RefusedBy text number place also
   pub told : line ≡ refusal_line number place also
 
--- no rule decided so far refuses the text of a source
+-- no rule decided so far refuses a source
 pub record AcceptedText (left : Option (List ℕ)) : Type 0 where
-  pub text : List ℕ
-  pub of_source : IsSource left text
-  pub passes : IsAccepted text
+  pub raw : Raw
+  pub tree : IsTreeOf left raw
 
 -- the job names a source that the line refuses
 pub record RefusedJob (job : Option JobSpec) (left : Word → Option (List ℕ)) (line : List ℕ) : Type 0 where
@@ -93,6 +87,12 @@ pub record AcceptedJob (job : Option JobSpec) (left : Word → Option (List ℕ)
   pub source : Word
   pub asked : job ≡ Some (build source)
   pub accepted : AcceptedText (left source)
+
+-- the job names a source of which no rule decided so far fails, and which is in no form that is built
+pub record UnbuiltJob (job : Option JobSpec) (left : Word → Option (List ℕ)) : Type 0 where
+  pub source : Word
+  pub asked : job ≡ Some (build source)
+  pub unbuilt : IsOfNoForm (left source)
 
 -- the statuses at which the rules were judged and none failed
 abbrev pub WasAccepted : Status → Type 0

@@ -1,9 +1,9 @@
 ghost use Rattle.std.specs.Prelude.{◌≤◌, ◌≡◌, map, string_bytes};
 ghost use Rattle.bl_io.specs.Count.{NeverFell};
-ghost use Rattle.bl_top.specs.Build.{Leaves, ReadsNamed};
+ghost use Rattle.bl_top.specs.Build.{IsResultOf, Leaves, ReadsNamed};
 ghost use Rattle.bl_top.specs.Causes.{AnswerCauses, Causes};
-ghost use Rattle.bl_top.specs.Notes.{Noted};
-ghost use Rattle.bl_top.specs.Refusals.{AcceptedJob, RefusedJob, Refuses, WasAccepted};
+ghost use Rattle.bl_top.specs.Notes.{IsMeant, Noted, line_in};
+ghost use Rattle.bl_top.specs.Refusals.{AcceptedJob, Refuses, UnbuiltJob, WasAccepted};
 ghost use Rattle.bl_words.specs.Jobs.{job_of};
 
 use crate::build::build;
@@ -29,10 +29,12 @@ pub fn blechc<F: Files, O: Sink, N: Sink>(
           out = record { before = O.faults out.old; after = O.faults out.new };
           notes = record { before = N.faults notes.old; after = N.faults notes.new };
         }) result }
-    ensures out { Leaves (O.held out.old) result (O.held out.new) }
-    ensures notes { Noted (N.held notes.old) result (N.held notes.new) }
+    ensures out { Leaves (IsResultOf (job_of (map string_bytes words.now)) (F.left files.old)) (O.held out.old) result (O.held out.new) }
+    ensures notes { Noted (map string_bytes words.now) (λ name. record { before = F.faults files.old name; after = F.faults files.new name }) (F.left files.old)
+        (record { before = N.faults notes.old; after = N.faults notes.new }) (N.held notes.old) result (N.held notes.new) }
     ensures refused { result ≡ Status.Refused → Refuses (job_of (map string_bytes words.now)) (F.left files.old) (N.held notes.old) (N.held notes.new) }
     ensures accepted { WasAccepted result → AcceptedJob (job_of (map string_bytes words.now)) (F.left files.old) }
+    ensures unbuilt { result ≡ Status.Unbuilt → UnbuiltJob (job_of (map string_bytes words.now)) (F.left files.old) }
     ensures files { ReadsNamed (job_of (map string_bytes words.now)) (F.left files.old) (F.left files.new) }
     ensures file_counts { NeverFell (F.faults files.old) (F.faults files.new) }
     ensures out_count { O.faults out.old ≤ O.faults out.new }
@@ -47,8 +49,8 @@ fn answer<F: Files, O: Sink>(alloc: Global, words: &[String], files: &mut F, out
     ensures causes { AnswerCauses (map string_bytes words.now)
         (λ name. record { before = F.faults files.old name; after = F.faults files.new name })
         (record { before = O.faults out.old; after = O.faults out.new }) result.status }
-    ensures out { Leaves (O.held out.old) result.status (O.held out.new) }
-    ensures refused { result.status ≡ Status.Refused → RefusedJob (job_of (map string_bytes words.now)) (F.left files.old) result.refusal.items }
+    ensures out { Leaves (IsResultOf (job_of (map string_bytes words.now)) (F.left files.old)) (O.held out.old) result.status (O.held out.new) }
+    ensures meant { IsMeant (map string_bytes words.now) (λ name. record { before = F.faults files.old name; after = F.faults files.new name }) (F.left files.old) result.status (line_in result) }
     ensures accepted { WasAccepted result.status → AcceptedJob (job_of (map string_bytes words.now)) (F.left files.old) }
     ensures files { ReadsNamed (job_of (map string_bytes words.now)) (F.left files.old) (F.left files.new) }
     ensures file_counts { NeverFell (F.faults files.old) (F.faults files.new) }

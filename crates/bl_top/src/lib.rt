@@ -3,13 +3,10 @@
 
 mod build;
 mod call;
-mod early;
-mod emit;
 mod notes;
 mod outcome;
 mod refusal;
 mod status;
-mod stop;
 
 pub use call::blechc;
 pub use status::Status;

@@ -1,6 +1,5 @@
 ghost use Rattle.std.specs.Prelude.{◌≡◌, ◌≤◌};
-ghost use Rattle.bl_io.specs.Held.{Appends};
-ghost use Rattle.bl_top.specs.Notes.{IsEndOf, IsLineOf, Noted, line_in, line_of};
+ghost use Rattle.bl_top.specs.Notes.{Written, line_in, line_of};
 
 use crate::outcome::Outcome;
 use crate::status::Status;
@@ -8,10 +7,7 @@ use bl_io::{IoFault, Sink, write_all};
 
 /// The status after its line was written on `notes`: the same, or that of the write.
 pub fn with_note<N: Sink>(outcome: &Outcome, notes: &mut N) -> Status
-    requires { IsLineOf outcome.now.status (line_in outcome.now) }
-    ensures noted { Noted (N.held notes.old) result (N.held notes.new) }
-    ensures ends { IsEndOf (N.faults notes.old) (N.faults notes.new) outcome.now.status result }
-    ensures refused { result ≡ Status.Refused → Appends (N.held notes.old) outcome.now.refusal.items (N.held notes.new) }
+    ensures written { Written (record { before = N.faults notes.old; after = N.faults notes.new }) (N.held notes.old) (line_in outcome.now) (N.held notes.new) outcome.now.status result }
     ensures count { N.faults notes.old ≤ N.faults notes.new }
 {
     let line = line_of(outcome);

@@ -1,0 +1,14 @@
+//! Source texts and what the program answers to each (docs/LANGUAGE.md, "Rules" and "What is built"). There is nothing in
+//! this crate but its tests.
+#![tactic(auto)]
+
+#[cfg(test)]
+mod depths;
+#[cfg(test)]
+mod heater;
+#[cfg(test)]
+mod names;
+#[cfg(test)]
+mod run;
+#[cfg(test)]
+mod texts;

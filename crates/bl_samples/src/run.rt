@@ -1,0 +1,33 @@
+//! One call of the program.
+
+use bl_io::{MemFiles, SureSink};
+use bl_top::blechc;
+use std::alloc::Global;
+use std::test::Fail;
+
+/// What a call of `build` answers to a text.
+#[derive(Drop)]
+pub struct Answer {
+    pub status: u8,
+    pub notes: SureSink,
+    pub out: SureSink,
+}
+
+/// Builds a text.
+pub fn built(alloc: Global, text: &[u8]) -> Result<Answer, Fail> {
+    let mut files = MemFiles::new(alloc);
+    files.add("text", text.to_vec(alloc)?)?;
+    let mut words = Vec::new(alloc);
+    words.push(String::from_str(alloc, "build")?)?;
+    words.push(String::from_str(alloc, "text")?)?;
+    let mut out = SureSink::new(alloc);
+    let mut notes = SureSink::new(alloc);
+    let status = blechc(alloc, &words, &mut files, &mut out, &mut notes).code();
+    Ok(Answer { status, notes, out })
+}
+
+/// Whether a text has this status and this line on `notes`.
+pub fn answers(alloc: Global, text: &str, status: u8, line: &str) -> Result<bool, Fail> {
+    let answer = built(alloc, text.as_bytes())?;
+    Ok(answer.status == status && answer.notes.held() == line.as_bytes())
+}

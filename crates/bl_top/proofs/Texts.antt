@@ -1,0 +1,120 @@
+-- The C text of a program of the form has the one trace of the program.
+use Rattle.std.proofs.Common.{◌≡◌, ℕ, ◌+◌, ℤ, List, [], ◌∷◌, Bool, true, false, ◌&&◌, refl, sym, ◌∙◌, ap, subst, length, take, arith}
+use Rattle.std.proofs.lemmas.List.{length-take-le}
+use Rattle.std.proofs.lemmas.List.Elements.{All-cons, All-nil}
+use Rattle.std.proofs.lemmas.Bool.Decides.{nat_tests}
+use Rattle.std.specs.Prelude.{◌↔◌, All, Option, Some, None, unwrap_or, IsTrue, nat_eq, nat_le}
+use Rattle.std.specs.List.{list_all}
+use Rattle.bl_cmeaning.specs.Parts.{Parts, parts_from, parts_of}
+use Rattle.bl_cmeaning.specs.Trace.{c_trace}
+use Rattle.bl_ctext.specs.declared.file.CFile.{CFile}
+use Rattle.bl_ctext.specs.SpellsC.{SpellsC}
+use Rattle.bl_ctree.specs.Means.{Means, Shown, shown}
+use Rattle.bl_early.specs.Built.{loop_steps}
+use Rattle.bl_early.specs.Emitted.{c_funcs, c_funcs_of, c_structs, c_structs_of}
+use Rattle.bl_early.specs.Form.{Step, is_early, is_early_unit, steps_suit, unit_steps}
+use Rattle.bl_early.specs.Run.{trace_of}
+use Rattle.bl_earlyc.specs.Written.{HasTrace, RowsSuit, WrittenTrace, written}
+use Rattle.bl_earlytree.specs.Laws.{Early, EarlyIsBounded, EarlyIsNeverStuck, OneTrace as EarlyHasOneTrace}
+use Rattle.bl_earlytree.specs.Rows.{RowsFit, numbers_fit, row_fits}
+use Rattle.bl_raw.specs.declared.raw.Raw.{Raw}
+use Rattle.bl_recognise.specs.Early.{StandsFor}
+use Rattle.bl_tree.specs.declared.program.Program.{Program}
+use Rattle.bl_tree.specs.declared.tree.Unit.{Unit as UnitDef}
+use Rattle.bl_tree.specs.declared.tree.Var.{Var}
+use Rattle.bl_tree.specs.Program.{Keeps}
+use Rattle.bl_tree.specs.Typing.{inputs_of}
+use Rattle.bl_top.specs.Sources.{IsTextOfProgram, IsTextOfTree}
+use Rattle.bl_top.specs.Traces.{OneTrace}
+
+-- ---- tests
+
+left_holds : (a b : Bool) → (a && b) ≡ true → a ≡ true
+left_holds true b e = refl
+left_holds false b e = absurd cc
+
+right_holds : (a b : Bool) → (a && b) ≡ true → b ≡ true
+right_holds true b e = e
+right_holds false b e = absurd cc
+
+-- ---- units of the form
+
+there : (steps : Option (List Step)) → steps_suit steps ≡ true → steps ≡ Some (unwrap_or steps [])
+there None e = absurd cc
+there (Some steps) e = refl
+
+-- such a unit is a loop of steps
+steps_there : (unit : UnitDef) → is_early_unit unit ≡ true → unit_steps unit ≡ Some (loop_steps unit)
+steps_there unit e = there (unit_steps unit) (right_holds _ _ (right_holds _ _ e))
+
+-- and it has no fewer variables than inputs
+inputs_within : (unit : UnitDef) → is_early_unit unit ≡ true → length (inputs_of unit) ≡ unit.inputs
+inputs_within unit e =
+    let same : nat_eq (length unit.vars) (unit.inputs + unit.outputs) ≡ true = left_holds _ _ (left_holds _ _ e) in
+    length-take-le unit.inputs unit.vars (grind (arith, nat_tests))
+
+-- ---- rows
+
+row_long : (vars : List Var) (row : List ℤ) → numbers_fit vars row ≡ true → length row ≡ length vars
+row_long [] [] e = refl
+row_long [] (n ∷ row) e = absurd cc
+row_long (var ∷ vars) [] e = absurd cc
+row_long (var ∷ vars) (n ∷ row) e = ap (λ k. k + 1) (row_long vars row (right_holds _ _ e))
+
+rows_long : (unit : UnitDef) → length (inputs_of unit) ≡ unit.inputs → (rows : List (List ℤ)) → list_all (row_fits unit) rows ≡ true → RowsSuit unit rows
+rows_long unit same [] e = All-nil (λ row. length row ≡ unit.inputs)
+rows_long unit same (row ∷ rows) e =
+    All-cons (λ r. length r ≡ unit.inputs) row rows (row_long (inputs_of unit) row (left_holds _ _ e) ∙ same) (rows_long unit same rows (right_holds _ _ e))
+
+-- ---- the one trace
+
+by_trace : (unit : UnitDef) (rows : List (List ℤ)) (shows : Shown) (file : CFile) → c_trace (parts_of file) rows ≡ trace_of unit (loop_steps unit) rows →
+    Means [] (unit ∷ []) 0 rows shows ↔ (shows ≡ shown (trace_of unit (loop_steps unit) rows)) →
+    Means [] (unit ∷ []) 0 rows shows ↔ (shows ≡ shown (c_trace (parts_of file) rows))
+by_trace unit rows shows file same law = rw same law
+
+file_is : (unit : UnitDef) (file : CFile) → file.structs ≡ c_structs_of (unit ∷ []) → file.funcs ≡ c_funcs_of (unit ∷ []) → parts_of file ≡ written unit
+file_is unit file structs funcs = rw (structs, funcs) refl
+
+one_trace : (unit : UnitDef) (file : CFile) → Keeps [] (unit ∷ []) 0 → is_early [] (unit ∷ []) ≡ true →
+    file.structs ≡ c_structs_of (unit ∷ []) → file.funcs ≡ c_funcs_of (unit ∷ []) →
+    EarlyHasOneTrace → EarlyIsBounded → EarlyIsNeverStuck → WrittenTrace (unit ∷ []) → OneTrace unit file
+one_trace unit file keeps form structs funcs one bounded stuck has =
+    let early : Early [] (unit ∷ []) 0 unit (loop_steps unit) = record { keeps = keeps; form = form; is_entry = refl; is_loop = steps_there unit form } in
+    record {
+      trace = λ rows shows fit. by_trace unit rows shows file
+          (ap (λ parts. c_trace parts rows) (file_is unit file structs funcs) ∙ has rows (rows_long unit (inputs_within unit form) rows fit))
+          (one [] (unit ∷ []) 0 unit (loop_steps unit) rows shows early fit);
+      bounded = bounded [] (unit ∷ []) 0 unit (loop_steps unit) early;
+      never_stuck = stuck [] (unit ∷ []) 0 unit (loop_steps unit) early;
+    }
+
+-- the same where the parts of the program are known by equations
+of_parts : (file : CFile) (unit : UnitDef) (structs : _) (units : List UnitDef) (entry : ℕ) → Keeps structs units entry → is_early structs units ≡ true →
+    file.structs ≡ c_structs_of units → file.funcs ≡ c_funcs_of units →
+    EarlyHasOneTrace → EarlyIsBounded → EarlyIsNeverStuck → WrittenTrace units →
+    structs ≡ [] → units ≡ unit ∷ [] → entry ≡ 0 → OneTrace unit file
+of_parts file unit _ _ _ keeps form s f one bounded stuck has refl refl refl = one_trace unit file keeps form s f one bounded stuck has
+
+pub text_of_program : (program : Program) (file : CFile) (text : List ℕ) → is_early program.structs program.units ≡ true →
+    file.structs ≡ c_structs_of program.units → file.funcs ≡ c_funcs_of program.units → SpellsC file text →
+    EarlyHasOneTrace → EarlyIsBounded → EarlyIsNeverStuck → WrittenTrace program.units → IsTextOfProgram program text
+text_of_program program file text form structs funcs spells one bounded stuck has = record {
+  file = file;
+  structs = structs;
+  funcs = funcs;
+  spells = spells;
+  one_trace = λ unit s u e. of_parts file unit program.structs program.units program.entry program.keeps form structs funcs one bounded stuck has s u e;
+}
+
+-- what is written for the program is written for the tree
+pub text_of_tree : (raw : Raw) (program : Program) (text : List ℕ) → StandsFor raw program → IsTextOfProgram program text → IsTextOfTree raw text
+text_of_tree raw program text stands is = record {
+  unit = stands.unit;
+  form = stands.stands;
+  file = is.file;
+  structs = subst (λ units. is.file.structs ≡ c_structs_of units) stands.units is.structs;
+  funcs = subst (λ units. is.file.funcs ≡ c_funcs_of units) stands.units is.funcs;
+  spells = is.spells;
+  one_trace = is.one_trace stands.unit stands.structs stands.units stands.entry;
+}

@@ -1,0 +1,19 @@
+-- That the C text which is written runs as the program does.
+use Rattle.std.specs.Prelude.{◌≡◌, ◌↔◌, ℤ, List, [], ◌∷◌}
+use Rattle.bl_cmeaning.specs.Parts.{parts_of}
+use Rattle.bl_cmeaning.specs.Trace.{c_trace}
+use Rattle.bl_ctext.specs.declared.file.CFile.{CFile}
+use Rattle.bl_ctree.specs.Means.{Means, Shown, shown}
+use Rattle.bl_ctree.specs.Reaches.{Bounded, NeverStuck}
+use Rattle.bl_earlytree.specs.Rows.{RowsFit}
+use Rattle.bl_tree.specs.declared.tree.Unit.{Unit as UnitDef}
+
+-- the program that has this unit alone, and a C file
+pub record OneTrace (unit : UnitDef) (file : CFile) : Type 0 where
+  -- over all rows that fit its inputs the parallel meaning allows the trace of the C file, and no other
+  pub trace : (rows : List (List ℤ)) (shows : Shown) → RowsFit unit rows →
+      Means [] (unit ∷ []) 0 rows shows ↔ (shows ≡ shown (c_trace (parts_of file) rows))
+  -- no list of steps within a tick is longer than the number of the program's steps
+  pub bounded : Bounded [] (unit ∷ []) 0
+  -- and where no point may act nothing is left to do
+  pub never_stuck : NeverStuck [] (unit ∷ []) 0
