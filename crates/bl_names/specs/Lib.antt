@@ -3,5 +3,6 @@ pub mod Failures
 pub mod Judged
 pub mod Kinds
 pub mod Marks
+pub mod Naming
 pub mod Rules
 pub mod Scopes
