@@ -1,5 +1,5 @@
 -- Types and expressions with positions in place of names, where these scopes are open.
-use Rattle.std.specs.Prelude.{ℕ, Bool, true, false, List, map, Option, Some, None, if◌then◌else◌}
+use Rattle.std.specs.Prelude.{ℕ, Option, Some, None}
 use Rattle.bl_raw.specs.declared.expr.RawExpr.{RawExpr, fold-RawExpr}
 use Rattle.bl_raw.specs.declared.expr.RawExprKind.TheOpen.{RawExprKind-F, RawPart-F, RawExpr-F, RawTarget-F}
 use Rattle.bl_raw.specs.declared.expr.RawPart.{RawPart, fold-RawPart}
