@@ -1,10 +1,12 @@
 -- The scopes that are open at a place of the text, and what a name stands for there.
-use Rattle.std.specs.Prelude.{ℕ, List, [], ◌∷◌, ◌++◌, map, Option, Some, None, bytes_eq}
+use Rattle.std.specs.Prelude.{ℕ, ◌+◌, List, [], ◌∷◌, ◌++◌, map, Option, Some, None, bytes_eq}
 use Rattle.std.specs.Borrow.{Bor}
 use Rattle.std.specs.Map.{lookup}
 use Rattle.std.specs.Option.{option_or}
 use Rattle.bl_raw.specs.declared.name.Name.{Name}
 use Rattle.bl_names.specs.declared.kind.Kind.{Kind}
+use Rattle.bl_names.specs.declared.kind.Kind.TheVariants as kind
+use Rattle.bl_names.specs.declared.scopes.Counts.{Counts}
 use Rattle.bl_names.specs.declared.scopes.Declaration.{Declaration}
 use Rattle.bl_names.specs.Marks.{Mark, Marks, opens, closes, declares, uses}
 
@@ -24,14 +26,35 @@ named entries = map (λ entry. (entry.0.now, entry.1)) entries
 abbrev pub found : Declared → List ℕ → Option Declaration
 found scope name = lookup (bytes_eq name) scope
 
+abbrev pub no_counts : Counts
+no_counts = record { structs = 0; constants = 0; units = 0; variables = 0 }
+
+abbrev pub count_of : Counts → Kind → ℕ
+count_of counts kind.Struct = counts.structs
+count_of counts kind.Constant = counts.constants
+count_of counts kind.Variable = counts.variables
+count_of counts kind.Function = counts.units
+count_of counts kind.Activity = counts.units
+count_of counts kind.Field = 0
+
+-- after one more declaration; the variables of each unit are counted anew
+abbrev pub counted : Counts → Kind → Counts
+counted counts kind.Struct = record counts { structs = counts.structs + 1 }
+counted counts kind.Constant = record counts { constants = counts.constants + 1 }
+counted counts kind.Variable = record counts { variables = counts.variables + 1 }
+counted counts kind.Function = record counts { units = counts.units + 1; variables = 0 }
+counted counts kind.Activity = record counts { units = counts.units + 1; variables = 0 }
+counted counts kind.Field = counts
+
 -- the scopes that are open: the innermost, and those around it from the inside out
 pub record Scopes : Type 0 where
   pub inner : Declared
   pub outer : List Declared
+  pub counts : Counts
 
 -- the scope of the file alone, with no name
 abbrev pub file_scope : Scopes
-file_scope = record { inner = []; outer = [] }
+file_scope = record { inner = []; outer = []; counts = no_counts }
 
 abbrev pub bound_around : List Declared → List ℕ → Option Declaration
 bound_around [] name = None
@@ -41,26 +64,30 @@ bound_around (scope ∷ outer) name = option_or (found scope name) (bound_around
 abbrev pub bound : Scopes → List ℕ → Option Declaration
 bound scopes name = option_or (found scopes.inner name) (bound_around scopes.outer name)
 
-abbrev pub left : List Declared → Scopes
-left [] = file_scope
-left (scope ∷ outer) = record { inner = scope; outer = outer }
+abbrev pub left : List Declared → Counts → Scopes
+left [] counts = record { inner = []; outer = []; counts = counts }
+left (scope ∷ outer) counts = record { inner = scope; outer = outer; counts = counts }
 
-abbrev pub declaration_of : Name → Kind → Declaration
-declaration_of name kind = record { kind = kind; place = name.place }
+abbrev pub declaration_of : Name → Kind → ℕ → Declaration
+declaration_of name kind position = record { kind = kind; place = name.place; position = position }
 
-abbrev pub with_name : Declared → Name → Kind → Declared
-with_name scope name kind = scope ++ ((name.text, declaration_of name kind) ∷ [])
+abbrev pub with_name : Declared → Name → Kind → ℕ → Declared
+with_name scope name kind position = scope ++ ((name.text, declaration_of name kind position) ∷ [])
 
 -- a name that the scope declares already stays what it is
-abbrev pub declared : Option Declaration → Declared → Name → Kind → Declared
-declared (Some earlier) scope name kind = scope
-declared None scope name kind = with_name scope name kind
+abbrev pub declared : Option Declaration → Declared → Name → Kind → ℕ → Declared
+declared (Some earlier) scope name kind position = scope
+declared None scope name kind position = with_name scope name kind position
 
 -- the scopes that are open after a mark
 abbrev pub enter : Scopes → Mark → Scopes
-enter scopes opens = record { inner = []; outer = scopes.inner ∷ scopes.outer }
-enter scopes closes = left scopes.outer
-enter scopes (declares name kind) = record { inner = declared (found scopes.inner name.text) scopes.inner name kind; outer = scopes.outer }
+enter scopes opens = record { inner = []; outer = scopes.inner ∷ scopes.outer; counts = scopes.counts }
+enter scopes closes = left scopes.outer scopes.counts
+enter scopes (declares name kind) = record {
+  inner = declared (found scopes.inner name.text) scopes.inner name kind (count_of scopes.counts kind);
+  outer = scopes.outer;
+  counts = counted scopes.counts kind;
+}
 enter scopes (uses name wanted) = scopes
 
 -- the scopes that are open after marks

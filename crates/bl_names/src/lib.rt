@@ -7,6 +7,7 @@ mod failure;
 mod item;
 mod judge;
 mod kind;
+mod naming;
 mod rules;
 mod scopes;
 mod stmt;

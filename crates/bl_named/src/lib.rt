@@ -1,0 +1,11 @@
+//! Source programs whose names are resolved: positions stand for the names of structs, constants, units and variables
+//! (docs/LANGUAGE.md, "Named trees").
+#![tactic(auto)]
+
+pub mod expr;
+pub mod item;
+pub mod named;
+pub mod stmt;
+pub mod types;
+
+pub use named::Named;

@@ -1,0 +1,21 @@
+use bl_raw::types::RawNumber;
+use bl_tree::{Box, Place, Scalar};
+
+/// A type as it is written.
+#[cycle(named_types)]
+#[derive(Drop)]
+pub enum NamedType {
+    Scalar(Scalar),
+    /// A position in the program's structs.
+    Struct(u32),
+    /// How many elements, and their type.
+    Array(NamedLength, Box<NamedType>),
+}
+
+/// The length of an array type.
+#[derive(Clone, Copy, PartialEq, Eq, Debug)]
+pub enum NamedLength {
+    Number(RawNumber),
+    /// Where its name stands, and a position in the program's constants.
+    Constant(Place, u32),
+}
