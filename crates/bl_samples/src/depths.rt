@@ -81,6 +81,9 @@ fn a_text_has_a_mebibyte_at_most(rt: HostRuntime) -> Result<(), Fail> {
     assert_eq!(rt; answer.status, 0);
     let answer = built(rt.alloc(), &filled(rt.alloc(), LONGEST + 1)?)?;
     assert_eq!(rt; answer.status, 1);
-    assert_eq!(rt; answer.notes.held(), b"rule 1 Size 1048576-1048577\n".as_slice());
+    assert_eq!(rt;
+        answer.notes.held(),
+        b"rule 1 Size 1048576-1048577\n".as_slice()
+    );
     Ok(())
 }

@@ -11,49 +11,190 @@ struct Row {
 }
 
 const BUILT: &str = "";
+
 const UNBUILT: &str = "not built\n";
 
 const ROWS: [Row; 35] = [
-    Row { text: "@[EntryPoint] activity M ()(on: bool) repeat on = true await true on = false await true end end", status: 0, line: BUILT },
-    Row { text: "@[EntryPoint] activity M (i: int32)(o: int32) repeat o = o + i await true end end", status: 0, line: BUILT },
-    Row { text: "@[EntryPoint] activity M (b: bool)(o: bool, p: bool) repeat o = true o = b await b p = o end end", status: 0, line: BUILT },
+    Row {
+        text: "@[EntryPoint] activity M ()(on: bool) repeat on = true await true on = false await true end end",
+        status: 0,
+        line: BUILT,
+    },
+    Row {
+        text: "@[EntryPoint] activity M (i: int32)(o: int32) repeat o = o + i await true end end",
+        status: 0,
+        line: BUILT,
+    },
+    Row {
+        text: "@[EntryPoint] activity M (b: bool)(o: bool, p: bool) repeat o = true o = b await b p = o end end",
+        status: 0,
+        line: BUILT,
+    },
     // the tree is what counts: parentheses around an item and other forms of numbers are taken
-    Row { text: "@[EntryPoint] activity M ()(o: int32) repeat o = (0x10) + (o) await (true) end end", status: 0, line: BUILT },
-    Row { text: "@[EntryPoint] activity M ()(o: int32) repeat o = 2147483647 await true end end", status: 0, line: BUILT },
-    Row { text: "@[EntryPoint] activity M ()(n: int32) repeat n = (n + (0b1)) await true end end", status: 0, line: BUILT },
-    Row { text: "@[EntryPoint] activity M (b: bool) repeat await b end end", status: 0, line: BUILT },
+    Row {
+        text: "@[EntryPoint] activity M ()(o: int32) repeat o = (0x10) + (o) await (true) end end",
+        status: 0,
+        line: BUILT,
+    },
+    Row {
+        text: "@[EntryPoint] activity M ()(o: int32) repeat o = 2147483647 await true end end",
+        status: 0,
+        line: BUILT,
+    },
+    Row {
+        text: "@[EntryPoint] activity M ()(n: int32) repeat n = (n + (0b1)) await true end end",
+        status: 0,
+        line: BUILT,
+    },
+    Row {
+        text: "@[EntryPoint] activity M (b: bool) repeat await b end end",
+        status: 0,
+        line: BUILT,
+    },
     // other forms
-    Row { text: "", status: 12, line: UNBUILT },
-    Row { text: "@[EntryPoint] activity M ()() cobegin end end", status: 12, line: UNBUILT },
-    Row { text: "@[EntryPoint] activity M ()(o: int32) repeat o = 1 end end", status: 12, line: UNBUILT },
-    Row { text: "activity M ()(o: int32) repeat o = 1 await true end end", status: 12, line: UNBUILT },
-    Row { text: "@[EntryPoint] activity M (i: int32)(o: int32) repeat i = 1 await true end end", status: 12, line: UNBUILT },
-    Row { text: "@[EntryPoint] activity M ()(o: bool) repeat o = true + false await true end end", status: 12, line: UNBUILT },
-    Row { text: "@[EntryPoint] activity M ()(o: int32) repeat o = 2147483648 await true end end", status: 12, line: UNBUILT },
-    Row { text: "@[EntryPoint] activity M ()(o: int32) repeat o = - 1 await true end end", status: 12, line: UNBUILT },
-    Row { text: "@[EntryPoint] activity M ()(n: int32) repeat n = 1 - 1 await true end end", status: 12, line: UNBUILT },
-    Row { text: "@[EntryPoint] activity M ()(n: int32) repeat n = 1 + 1 + 1 await true end end", status: 12, line: UNBUILT },
-    Row { text: "@[EntryPoint] activity M ()(n: int32) repeat n = true await true end end", status: 12, line: UNBUILT },
-    Row { text: "@[EntryPoint] activity M ()(n: int32) repeat await n end end", status: 12, line: UNBUILT },
-    Row { text: "@[EntryPoint] activity M ()(n: int8) repeat await true end end", status: 12, line: UNBUILT },
-    Row { text: "const C = 1 @[EntryPoint] activity M () repeat await true end end", status: 12, line: UNBUILT },
-    Row { text: "@[EntryPoint] activity M () await true end", status: 12, line: UNBUILT },
+    Row {
+        text: "",
+        status: 12,
+        line: UNBUILT,
+    },
+    Row {
+        text: "@[EntryPoint] activity M ()() cobegin end end",
+        status: 12,
+        line: UNBUILT,
+    },
+    Row {
+        text: "@[EntryPoint] activity M ()(o: int32) repeat o = 1 end end",
+        status: 12,
+        line: UNBUILT,
+    },
+    Row {
+        text: "activity M ()(o: int32) repeat o = 1 await true end end",
+        status: 12,
+        line: UNBUILT,
+    },
+    Row {
+        text: "@[EntryPoint] activity M (i: int32)(o: int32) repeat i = 1 await true end end",
+        status: 12,
+        line: UNBUILT,
+    },
+    Row {
+        text: "@[EntryPoint] activity M ()(o: bool) repeat o = true + false await true end end",
+        status: 12,
+        line: UNBUILT,
+    },
+    Row {
+        text: "@[EntryPoint] activity M ()(o: int32) repeat o = 2147483648 await true end end",
+        status: 12,
+        line: UNBUILT,
+    },
+    Row {
+        text: "@[EntryPoint] activity M ()(o: int32) repeat o = - 1 await true end end",
+        status: 12,
+        line: UNBUILT,
+    },
+    Row {
+        text: "@[EntryPoint] activity M ()(n: int32) repeat n = 1 - 1 await true end end",
+        status: 12,
+        line: UNBUILT,
+    },
+    Row {
+        text: "@[EntryPoint] activity M ()(n: int32) repeat n = 1 + 1 + 1 await true end end",
+        status: 12,
+        line: UNBUILT,
+    },
+    Row {
+        text: "@[EntryPoint] activity M ()(n: int32) repeat n = true await true end end",
+        status: 12,
+        line: UNBUILT,
+    },
+    Row {
+        text: "@[EntryPoint] activity M ()(n: int32) repeat await n end end",
+        status: 12,
+        line: UNBUILT,
+    },
+    Row {
+        text: "@[EntryPoint] activity M ()(n: int8) repeat await true end end",
+        status: 12,
+        line: UNBUILT,
+    },
+    Row {
+        text: "const C = 1 @[EntryPoint] activity M () repeat await true end end",
+        status: 12,
+        line: UNBUILT,
+    },
+    Row {
+        text: "@[EntryPoint] activity M () await true end",
+        status: 12,
+        line: UNBUILT,
+    },
     // the rules on tokens
-    Row { text: "@[EntryPoint] activity M ()(o: int32) o = 1x", status: 1, line: "rule 2 Lex 42-44\n" },
-    Row { text: "@[EntryPoint] activity M ()() /* end", status: 1, line: "rule 2 Lex 30-32\n" },
-    Row { text: "@[EntryPoint] activity M ()(o: float32) o = 1 await true end", status: 1, line: "rule 3 Profile 31-38\n" },
-    Row { text: "@[Entry] activity M ()() end", status: 1, line: "rule 3 Profile 2-7\n" },
+    Row {
+        text: "@[EntryPoint] activity M ()(o: int32) o = 1x",
+        status: 1,
+        line: "rule 2 Lex 42-44\n",
+    },
+    Row {
+        text: "@[EntryPoint] activity M ()() /* end",
+        status: 1,
+        line: "rule 2 Lex 30-32\n",
+    },
+    Row {
+        text: "@[EntryPoint] activity M ()(o: float32) o = 1 await true end",
+        status: 1,
+        line: "rule 3 Profile 31-38\n",
+    },
+    Row {
+        text: "@[Entry] activity M ()() end",
+        status: 1,
+        line: "rule 3 Profile 2-7\n",
+    },
     // the rule on grammar
-    Row { text: "@[EntryPoint] activity M ()(o: int32) o = await true end", status: 1, line: "rule 5 Syntax 42-47\n" },
-    Row { text: "@[EntryPoint] activity M ()(o: int32) o = 1", status: 1, line: "rule 5 Syntax 43-43\n" },
-    Row { text: "@[EntryPoint] activity M ()(o: bool) o = 1 == 1 == 1 await true end", status: 1, line: "rule 5 Syntax 48-50\n" },
-    Row { text: "@[EntryPoint] activity M ()(o: int32) o = F(1)(x) await true end", status: 1, line: "rule 5 Syntax 47-48\n" },
-    Row { text: "function F () returns int32 return\n1 end", status: 1, line: "rule 5 Syntax 35-36\n" },
-    Row { text: "function F () returns int32 return 1 end", status: 12, line: UNBUILT },
+    Row {
+        text: "@[EntryPoint] activity M ()(o: int32) o = await true end",
+        status: 1,
+        line: "rule 5 Syntax 42-47\n",
+    },
+    Row {
+        text: "@[EntryPoint] activity M ()(o: int32) o = 1",
+        status: 1,
+        line: "rule 5 Syntax 43-43\n",
+    },
+    Row {
+        text: "@[EntryPoint] activity M ()(o: bool) o = 1 == 1 == 1 await true end",
+        status: 1,
+        line: "rule 5 Syntax 48-50\n",
+    },
+    Row {
+        text: "@[EntryPoint] activity M ()(o: int32) o = F(1)(x) await true end",
+        status: 1,
+        line: "rule 5 Syntax 47-48\n",
+    },
+    Row {
+        text: "function F () returns int32 return\n1 end",
+        status: 1,
+        line: "rule 5 Syntax 35-36\n",
+    },
+    Row {
+        text: "function F () returns int32 return 1 end",
+        status: 12,
+        line: UNBUILT,
+    },
     // the rules on names
-    Row { text: "@[EntryPoint] activity M ()(o: int32, o: int32) repeat o = 1 await true end end", status: 1, line: "rule 6 Duplicate 38-39 28-29\n" },
-    Row { text: "@[EntryPoint] activity M ()() x = 1 end", status: 1, line: "rule 7 Unknown 30-31\n" },
-    Row { text: "function F () end @[EntryPoint] activity M ()() await F end", status: 1, line: "rule 8 Kind 54-55 9-10\n" },
+    Row {
+        text: "@[EntryPoint] activity M ()(o: int32, o: int32) repeat o = 1 await true end end",
+        status: 1,
+        line: "rule 6 Duplicate 38-39 28-29\n",
+    },
+    Row {
+        text: "@[EntryPoint] activity M ()() x = 1 end",
+        status: 1,
+        line: "rule 7 Unknown 30-31\n",
+    },
+    Row {
+        text: "function F () end @[EntryPoint] activity M ()() await F end",
+        status: 1,
+        line: "rule 8 Kind 54-55 9-10\n",
+    },
 ];
 
 #[test]

@@ -24,6 +24,6 @@ pub returns-in-Err-check-clause-refused : goal.returns-in-Err-check-clause-refus
 returns-in-Err-check-clause-refused c =
     named_refusal c.args.source.now c.in-Ok-parse.raw c.in-Err-check.refusal c.in-Ok.ensures.passes
     (tree_parsed c.args.source.now c.in-Ok.tokens.items c.in-Ok-parse.raw c.in-Ok.ensures.tokens
-      (subst Passes c.deref.ensures.value c.in-Ok-parse.ensures.passes)
-      (subst (λ tokens. Spells c.args.source.now tokens c.in-Ok-parse.raw) c.deref.ensures.value c.in-Ok-parse.ensures.tree))
+    (subst Passes c.deref.ensures.value c.in-Ok-parse.ensures.passes)
+    (subst (λ tokens. Spells c.args.source.now tokens c.in-Ok-parse.raw) c.deref.ensures.value c.in-Ok-parse.ensures.tree))
     c.in-Err-check.ensures.cause
