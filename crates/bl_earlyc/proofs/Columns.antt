@@ -5,7 +5,7 @@ use Rattle.bl_tree.specs.declared.tree.Unit.{Unit as UnitDef}
 use Rattle.bl_tree.specs.declared.tree.Var.{Var}
 use Rattle.bl_cmeaning.specs.Cells.{column_of, inputs_of, outputs_of}
 use Rattle.bl_early.specs.Emitted.{c_column, input_name, output_name, ins_of, outs_of}
-use Rattle.bl_earlyc.specs.Written.{written, columns_of, HasColumns, WrittenColumns}
+use Rattle.bl_earlyc.specs.Written.{written, columns_of, WrittenColumns}
 
 input-columns : (vars : List Var) → filter_map column_of (map (c_column input_name) vars) ≡ columns_of vars
 input-columns [] = refl
