@@ -1,10 +1,8 @@
 -- What a program of the form keeps: its names, and that its steps name its parameters alone.
-use Rattle.std.proofs.Common.{◌≡◌, ℕ, suc, zero, ◌+◌, ◌<◌, ◌≤◌, ℤ, pos, negsuc, Bool, true, false, ◌&&◌, List, [], ◌∷◌, ◌++◌, length, take, map, get_or, refl, sym, ap, ap₂, ◌∙◌, subst, arith, Option, Some, None, if◌then◌else◌}
+use Rattle.std.proofs.Common.{◌≡◌, ℕ, suc, zero, ◌+◌, ◌≤◌, ℤ, pos, negsuc, Bool, true, false, ◌&&◌, List, [], ◌∷◌, ◌++◌, length, take, map, get_or, refl, sym, ap, ap₂, ◌∙◌, subst, arith, Option, Some, None, if◌then◌else◌}
 use Rattle.std.specs.Prelude.{nat_lt, nat_le, nat_eq, int_le, is_some, slice_get, unwrap_or, option_map, option_and_then}
 use Rattle.std.specs.List.{list_all, list_any}
 use Rattle.std.proofs.lemmas.Bool.Decides.{nat_tests}
-use Rattle.bl_tree.specs.declared.place.Place.{Place}
-use Rattle.bl_tree.specs.declared.scalar.Op.{Op}
 use Rattle.bl_tree.specs.declared.scalar.Op.TheVariants.{Add}
 use Rattle.bl_tree.specs.declared.scalar.Scalar.{Scalar}
 use Rattle.bl_tree.specs.declared.scalar.Scalar.TheVariants.{Bool as OfBool, Int, Nat, Bits}
@@ -29,14 +27,14 @@ use Rattle.bl_tree.specs.declared.tree.Var.{Var}
 use Rattle.bl_tree.specs.Program as program
 use Rattle.bl_tree.specs.Reduce.{all_of}
 use Rattle.bl_tree.specs.Scalar.{in_range}
-use Rattle.bl_tree.specs.Types.{scalar, scalar_in, type_stands}
-use Rattle.bl_tree.specs.Typing.{Site, site_of, type_of, type_of_path, kind_type, part_type, expr_type, path_type, where_same, after_parts, literal_type, are_same, is_truth, is_activity, is_assignable, may_change, var_at, kind_fits, arm_fits, branch_fits, stmt_fits, fits, two_type}
+use Rattle.bl_tree.specs.Types.{scalar_in, type_stands}
+use Rattle.bl_tree.specs.Typing.{Site, site_of, type_of, type_of_path, kind_type, part_type, expr_type, path_type, literal_type, are_same, is_truth, is_activity, is_assignable, kind_fits, arm_fits, branch_fits, stmt_fits, fits, two_type}
 use Rattle.bl_tree.specs.Words as words
 use Rattle.bl_ctext.specs.Prefixes.{is_source_name}
 use Rattle.bl_ctext.specs.Spellable.{is_literal, is_spellable}
 use Rattle.bl_ctext.proofs.Bytes.{and-fst, and-snd}
-use Rattle.bl_early.specs.Form.{Item, Number, Of, Source, Just, Sum, Step, Set, Pause, is_early, is_early_unit, is_early_type, has_early_type, item_in, item_of, source_in, source_of, step_in, step_of, steps_of, steps_suit, sum_of, variable_of, alone, loop_of, repeated, unit_steps, is_pause}
-use Rattle.bl_early.specs.Built.{item_within, source_within, step_within, passes, is_step, is_any_step, step_at, steps_at, loop_steps}
+use Rattle.bl_early.specs.Form.{Item, Number, Of, Source, Just, Sum, Step, Set, Pause, is_early, is_early_unit, is_early_type, item_in, item_of, source_in, source_of, step_in, step_of, steps_of, steps_suit, alone, loop_of, repeated, unit_steps, is_pause}
+use Rattle.bl_early.specs.Built.{item_within, source_within, step_within, passes, is_step, is_any_step, steps_at, loop_steps}
 use Rattle.bl_early.specs.Emitted.{c_structs, c_funcs}
 use Rattle.bl_early.proofs.Spelled.{is_named_var, is_typed_var, file-spelled}
 use Rattle.bl_early.proofs.Steps.{same-length, steps-some, suited-all, suited-few, suited-pause}

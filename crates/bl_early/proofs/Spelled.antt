@@ -1,29 +1,26 @@
 -- The C file of an activity of the form has a spelling.
-use Rattle.std.proofs.Common.{◌≡◌, ℕ, ◌+◌, ◌<◌, ◌≤◌, pos, Bool, true, false, ◌&&◌, List, [], ◌∷◌, ◌++◌, length, take, drop, map, get_or, refl, subst, arith, codes, zero, suc, Option, Some, None}
+use Rattle.std.proofs.Common.{◌≡◌, ℕ, ◌+◌, ◌<◌, ◌≤◌, pos, Bool, true, false, ◌&&◌, List, [], ◌∷◌, ◌++◌, length, take, drop, map, refl, arith, codes, zero, suc, Option, Some, None}
 use Rattle.std.specs.Prelude.{◌^◌, nat_lt, unwrap_or}
-use Rattle.std.specs.List.{list_all, list_any}
+use Rattle.std.specs.List.{list_all}
 use Rattle.std.proofs.lemmas.Bool.Decides.{nat_tests}
 use Rattle.bl_tree.specs.declared.scalar.Scalar.{Scalar}
 use Rattle.bl_tree.specs.declared.scalar.Scalar.TheVariants.{Bool as OfBool, Int, Nat, Bits}
-use Rattle.bl_tree.specs.declared.scalar.Width.TheVariants.{W8, W16, W32, W64}
+use Rattle.bl_tree.specs.declared.scalar.Width.TheVariants.{W8, W32}
 use Rattle.bl_tree.specs.declared.c.CType.TheVariants.{Scalar as OfScalar, Struct as OfStruct}
 use Rattle.bl_tree.specs.declared.c.CPlace.{CPlace}
-use Rattle.bl_tree.specs.declared.c.CExpr.{CExpr}
 use Rattle.bl_tree.specs.declared.c.CStmt.{CStmt}
-use Rattle.bl_tree.specs.declared.c.CStruct.{CStruct}
-use Rattle.bl_tree.specs.declared.c.CFunc.{CFunc}
 use Rattle.bl_tree.specs.declared.tree.Unit.{Unit as UnitDef}
 use Rattle.bl_tree.specs.declared.tree.Var.{Var}
 use Rattle.bl_tree.specs.Types.{scalar_in}
 use Rattle.bl_ctext.specs.Fits.{place_fits, expr_fits, stmt_fits, stmts_fit, func_fits}
 use Rattle.bl_ctext.specs.Names.{is_name, is_struct_name}
 use Rattle.bl_ctext.specs.Prefixes.{is_source_name}
-use Rattle.bl_ctext.specs.Spellable.{is_literal, is_spellable, spells_member, spells_struct}
+use Rattle.bl_ctext.specs.Spellable.{is_spellable, spells_member, spells_struct}
 use Rattle.bl_ctext.proofs.Bytes.{and-fst, and-snd}
 use Rattle.bl_ctext.proofs.Fitting.{step-fits, place-fits, place_fits-more, expr_fits-more, stmt_fits-more, stmts_fit-more, literal-fits, read-fits, called-fits, two-fits, value-fits, address-fits, call-fits, set-fits, call_stmt-fits, return-fits, if-fits, func-fits, struct-spells, file-spells}
-use Rattle.bl_early.specs.Form.{Item, Number, Of, Source, Just, Sum, Step, Set, Pause, is_early_type, has_early_type, is_pause}
+use Rattle.bl_early.specs.Form.{Item, Number, Of, Source, Just, Sum, Step, Set, Pause, has_early_type}
 use Rattle.bl_early.specs.Built.{item_within, source_within, step_within}
-use Rattle.bl_early.specs.Emitted.{nowhere, c_through, c_target, c_step, c_variable, c_count, c_read, c_equal, c_set, c_when, c_port, c_item, c_source, c_counter, c_now, c_stretch, c_numbered, c_resumed, c_tick_body, c_ports, c_structs, c_funcs, c_activity, c_init, c_tick, c_tick_args, c_frame, c_state, c_member, c_row, c_column, input_name, output_name, ins_of, outs_of, frame_name, activity_name}
+use Rattle.bl_early.specs.Emitted.{nowhere, c_through, c_target, c_step, c_count, c_read, c_equal, c_set, c_when, c_port, c_item, c_source, c_counter, c_now, c_stretch, c_numbered, c_resumed, c_tick_body, c_ports, c_structs, c_funcs, c_activity, c_init, c_tick, c_tick_args, c_frame, c_state, c_member, c_row, c_column, input_name, output_name, ins_of, outs_of, frame_name, activity_name}
 use Rattle.bl_early.proofs.Names.{p_f-name, p_i-name, p_o-name, l_0-name, c0-name, m_0-name, pad-name, s-name, i-name, o-name, state-name, in-name, out-name, init-name, tick-name, add-name, frame-name, activity-name, callee-name, input-name, output-name}
 
 both : (a b : Bool) → a ≡ true → b ≡ true → (a && b) ≡ true

@@ -1,5 +1,5 @@
 -- What is emitted for a statement, by its kind.
-use Rattle.std.proofs.Common.{◌≡◌, ◌≢◌, ℕ, suc, zero, ◌+◌, ◌<◌, ◌≤◌, Bool, true, ◌&&◌, List, [], ◌∷◌, ◌++◌, map, length, drop, get_or, drop-cons, add-one, append_assoc, Option, Some, None, refl, sym, ap, ◌∙◌, subst, arith}
+use Rattle.std.proofs.Common.{◌≡◌, ◌≢◌, ℕ, suc, zero, ◌+◌, ◌<◌, Bool, true, List, [], ◌∷◌, ◌++◌, length, drop, get_or, drop-cons, add-one, append_assoc, Option, Some, None, refl, sym, ap, ◌∙◌, subst, arith}
 use Rattle.std.specs.Prelude.{unwrap_or, option_map, option_and_then}
 use Rattle.std.specs.List.{list_all}
 use Rattle.bl_tree.specs.declared.c.CPlace.{CPlace}
@@ -9,7 +9,7 @@ use Rattle.bl_tree.specs.declared.scalar.Op.TheVariants.{Add}
 use Rattle.bl_tree.specs.declared.tree.Arm.{Arm}
 use Rattle.bl_tree.specs.declared.tree.Branch.{Branch}
 use Rattle.bl_tree.specs.declared.tree.Expr.{Expr, out-Expr}
-use Rattle.bl_tree.specs.declared.tree.ExprKind.{ExprKind, out-ExprKind}
+use Rattle.bl_tree.specs.declared.tree.ExprKind.{out-ExprKind}
 use Rattle.bl_tree.specs.declared.tree.ExprKind.TheOpen.{ExprKind-F}
 use Rattle.bl_tree.specs.declared.tree.ExprKind.TheVariants.{Two, outs-Two}
 use Rattle.bl_tree.specs.declared.tree.Stmt.{Stmt, out-Stmt}

@@ -1,12 +1,12 @@
 -- Statements, and the steps for which they stand.
-use Rattle.std.proofs.Common.{◌≡◌, ℕ, suc, ◌≤◌, Bool, true, false, ◌&&◌, ◌||◌, List, [], ◌∷◌, map, length, Option, Some, None, refl, sym, ap, ap₂, ◌∙◌, subst, arith}
+use Rattle.std.proofs.Common.{◌≡◌, suc, ◌≤◌, Bool, true, false, ◌&&◌, ◌||◌, List, [], ◌∷◌, length, Option, Some, None, refl, sym, ap, ap₂, ◌∙◌, arith}
 use Rattle.std.specs.Prelude.{nat_le, is_some, unwrap_or, option_map, option_and_then}
 use Rattle.std.specs.List.{list_all, list_any}
 use Rattle.std.proofs.lemmas.Bool.Decides.{nat_tests}
 use Rattle.bl_tree.specs.declared.tree.Stmt.{Stmt}
 use Rattle.bl_ctext.proofs.Bytes.{and-fst, and-snd}
-use Rattle.bl_early.specs.Form.{Item, Of, Step, Set, Pause, is_pause, step_of, steps_of, steps_suit}
-use Rattle.bl_early.specs.Built.{passes, step_at, steps_at, is_any_step, has_pause}
+use Rattle.bl_early.specs.Form.{Of, Step, Pause, is_pause, step_of, steps_of, steps_suit}
+use Rattle.bl_early.specs.Built.{passes, steps_at, is_any_step, has_pause}
 
 both-some : (one : Option Step) (rest : Option (List Step)) (steps : List Step) → is_some one ≡ true → rest ≡ Some steps →
     option_and_then (λ step. option_map (λ steps. step ∷ steps) rest) one ≡ Some (unwrap_or one (Pause (Of 0)) ∷ steps)

@@ -1,10 +1,8 @@
 -- Which statements, expressions and items the emitter takes.
-use Rattle.std.specs.Prelude.{ℕ, ◌+◌, ℤ, Bool, true, false, ◌&&◌, nat_lt, nat_le, is_some, List, [], ◌∷◌, map, length, unwrap_or, Option, Some, None}
-use Rattle.std.specs.List.{list_all}
+use Rattle.std.specs.Prelude.{ℕ, Bool, false, ◌&&◌, nat_lt, is_some, List, [], map, unwrap_or, Option, Some, None}
 use Rattle.bl_tree.specs.declared.tree.Expr.{Expr}
 use Rattle.bl_tree.specs.declared.tree.Stmt.{Stmt}
 use Rattle.bl_tree.specs.declared.tree.Unit.{Unit as UnitDef}
-use Rattle.bl_tree.specs.declared.tree.StructDef.{StructDef}
 use Rattle.bl_ctext.specs.Spellable.{is_literal}
 use Rattle.bl_early.specs.Form.{Item, Number, Of, Source, Just, Sum, Step, Set, Pause, item_of, source_of, step_of, unit_steps, is_pause}
 

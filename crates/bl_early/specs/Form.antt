@@ -16,11 +16,7 @@ use Rattle.bl_tree.specs.declared.tree.Stmt.{Stmt, out-Stmt}
 use Rattle.bl_tree.specs.declared.tree.StmtKind.{StmtKind, out-StmtKind}
 use Rattle.bl_tree.specs.declared.tree.StmtKind.TheOpen.{StmtKind-F}
 use Rattle.bl_tree.specs.declared.tree.StructDef.{StructDef}
-use Rattle.bl_tree.specs.declared.tree.Ty.{Ty}
 use Rattle.bl_tree.specs.declared.tree.Unit.{Unit as UnitDef}
-use Rattle.bl_tree.specs.declared.tree.UnitKind.{UnitKind}
-use Rattle.bl_tree.specs.declared.tree.UnitKind.TheVariants.{Function, Activity}
-use Rattle.bl_tree.specs.declared.tree.Var.{Var}
 use Rattle.bl_tree.specs.Types.{scalar_in, same_scalar}
 
 -- a number of a type, or the variable at a position

@@ -1,30 +1,28 @@
 -- The two functions that the environment calls.
-use Rattle.std.proofs.Common.{◌≡◌, ℕ, suc, zero, ◌+◌, ◌<◌, ◌≤◌, ℤ, pos, Bool, true, false, ◌&&◌, List, [], ◌∷◌, ◌++◌, map, length, Option, Some, None, refl, sym, ap, ap₂, ◌∙◌, subst, arith, codes}
-use Rattle.std.specs.Prelude.{bytes_eq, if◌then◌else◌}
+use Rattle.std.proofs.Common.{◌≡◌, ℕ, ◌+◌, pos, true, List, [], ◌∷◌, map, length, Some, None, refl, sym, ap, ap₂, ◌∙◌, subst, codes}
+use Rattle.std.specs.Prelude.{if◌then◌else◌}
 use Rattle.std.specs.Option.{option_or}
-use Rattle.std.specs.List.{list_all, list_any}
+use Rattle.std.specs.List.{list_all}
 use Rattle.std.proofs.lemmas.Cmp.{nat_list_eq_equiv}
-use Rattle.bl_tree.specs.declared.text.Text.{Text}
 use Rattle.bl_tree.specs.declared.scalar.Scalar.TheVariants.{Nat}
 use Rattle.bl_tree.specs.declared.scalar.Width.TheVariants.{W32}
-use Rattle.bl_tree.specs.declared.c.CCall.{CCall}
 use Rattle.bl_tree.specs.declared.c.CArg.TheVariants.{Address}
 use Rattle.bl_tree.specs.declared.tree.Unit.{Unit as UnitDef}
 use Rattle.bl_cmeaning.specs.Parts.{Parts, parts_from}
-use Rattle.bl_cmeaning.specs.Memory.{Part, member, Root, state_object, input_object, output_object, variable, Location, Memory, scalar, number_in, set_at, without_frame, cleared}
+use Rattle.bl_cmeaning.specs.Memory.{member, state_object, input_object, output_object, Memory, scalar, set_at, without_frame, cleared}
 use Rattle.bl_cmeaning.specs.Tables.{Table, no_entries, table_of, with_entry}
-use Rattle.bl_cmeaning.specs.Cells.{Cell, numbers_of}
-use Rattle.bl_cmeaning.specs.Meaning.{Passed, by_address, Called, Meaning, Scope, Outcome, End, goes_on, traps, given, after, each_of, following, later_call, called_as, call_outcome, called, result_at, runs_c, block_c, call_c, function_c}
+use Rattle.bl_cmeaning.specs.Cells.{numbers_of}
+use Rattle.bl_cmeaning.specs.Meaning.{Passed, by_address, Called, Meaning, Scope, Outcome, End, goes_on, given, after, each_of, following, later_call, called_as, call_outcome, called, result_at, runs_c, block_c, function_c}
 use Rattle.bl_cmeaning.specs.Builtin.{builtin_of, builtins}
 use Rattle.bl_cmeaning.specs.Trace.{object, entered}
 use Rattle.bl_early.specs.Form.{Item, Step}
 use Rattle.bl_early.specs.Run.{Numbers, Reached, Traps, Pauses, Passes}
-use Rattle.bl_early.specs.Emitted.{c_step, c_target, c_through, c_count, c_set, c_call, c_calling, c_returning, c_tick_args, c_tick, c_init, c_activity, c_funcs, c_structs, c_tick_body, c_ports, activity_name, input_name, output_name, ins_of, outs_of}
+use Rattle.bl_early.specs.Emitted.{c_step, c_target, c_through, c_count, c_call, c_calling, c_returning, c_tick_args, c_tick, c_init, c_activity, c_funcs, c_structs, c_tick_body, c_ports, activity_name, input_name, output_name, ins_of, outs_of}
 use Rattle.bl_early.specs.Built.{step_within}
 use Rattle.bl_earlyc.proofs.Cells.{Each, each-append, each-map, number_at, Same, same-numbers, Own, Clear, AllApart}
 use Rattle.bl_earlyc.proofs.Values.{passes, pointer-place, through-place, two-place, literal-value, address-arg, three-args, call-does, set-runs, calling-runs, returning-runs}
-use Rattle.bl_earlyc.proofs.Stretches.{counter, current, activity_scope, View, Leads, Shows, At}
-use Rattle.bl_earlyc.proofs.Ticks.{Waiting, Ticked}
+use Rattle.bl_earlyc.proofs.Stretches.{counter, current, activity_scope, Leads, Shows, At}
+use Rattle.bl_earlyc.proofs.Ticks.{Ticked}
 use Rattle.bl_earlyc.proofs.Slots.{port_cell, in_cells, out_cells, slots_of}
 
 -- where the environment's functions run

@@ -1,7 +1,7 @@
 -- Reading cells after setting one of them.
-use Rattle.std.proofs.Common.{◌≡◌, ℕ, suc, zero, ◌<◌, ℤ, pos, Bool, true, false, ◌&&◌, List, [], ◌∷◌, ◌++◌, map, length, get_or, set, Option, Some, None, refl, sym, ap, ap₂, ◌∙◌, arith}
+use Rattle.std.proofs.Common.{◌≡◌, ℕ, suc, zero, ◌<◌, ℤ, pos, Bool, true, false, ◌&&◌, List, [], ◌∷◌, ◌++◌, map, length, get_or, set, Option, Some, None, refl, ap, ap₂, ◌∙◌, arith}
 use Rattle.std.specs.Prelude.{is_some, if◌then◌else◌}
-use Rattle.bl_cmeaning.specs.Memory.{Part, Root, Location, CValue, Memory, same_root, scalar, number_in, left_after, number_or, with_part, value_at, set_at}
+use Rattle.bl_cmeaning.specs.Memory.{Part, CValue, Memory, same_root, scalar, number_in, left_after, number_or, with_part, value_at, set_at}
 use Rattle.bl_cmeaning.specs.Cells.{Cell, memory_of, numbers_of}
 
 -- P of each element
@@ -117,6 +117,7 @@ still-same s (c ∷ cells) m n v clear same = (set-other s c m v clear.0.there �
 
 pub restored : (cells : List Cell) (m : Memory) → AllApart cells → Each Own cells → Same (memory_of cells (numbers_of cells m)) m cells
 restored [] m apart own = tt
-restored (c ∷ cells) m apart own =
-    (set-own c (memory_of cells (numbers_of cells m)) (scalar (number_at m c)) own.0,
-    still-same c cells (memory_of cells (numbers_of cells m)) m (scalar (number_at m c)) apart.0 (restored cells m apart.1 own.1))
+restored (c ∷ cells) m apart own = (
+  set-own c (memory_of cells (numbers_of cells m)) (scalar (number_at m c)) own.0,
+  still-same c cells (memory_of cells (numbers_of cells m)) m (scalar (number_at m c)) apart.0 (restored cells m apart.1 own.1),
+)

@@ -1,5 +1,6 @@
 pub mod Calls
 pub mod Cells
+pub mod Columns
 pub mod Slots
 pub mod Stretches
 pub mod Ticks

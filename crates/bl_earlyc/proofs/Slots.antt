@@ -1,8 +1,8 @@
 -- The cells of the written file, and the places of its parameters.
-use Rattle.std.proofs.Common.{◌≡◌, ℕ, suc, zero, ◌<◌, ◌≤◌, ℤ, pos, Bool, true, false, ◌&&◌, ◌||◌, List, [], ◌∷◌, ◌++◌, map, length, take, drop, Option, Some, None, refl, sym, ap, ap₂, ◌∙◌, subst, arith, codes}
+use Rattle.std.proofs.Common.{◌≡◌, ℕ, suc, zero, Bool, true, false, ◌&&◌, ◌||◌, List, [], ◌∷◌, ◌++◌, map, take, drop, Some, None, refl, ap, ap₂, ◌∙◌, codes}
 use Rattle.std.specs.Prelude.{bytes_eq, flat_map, is_some, not, unwrap_or, if◌then◌else◌}
 use Rattle.std.specs.Option.{option_or}
-use Rattle.std.specs.List.{list_all, list_any}
+use Rattle.std.specs.List.{list_any}
 use Rattle.std.proofs.lemmas.Cmp.{nat_list_eq_equiv}
 use Rattle.bl_tree.specs.declared.text.Text.{Text}
 use Rattle.bl_tree.specs.declared.scalar.Scalar.TheVariants.{Bool as OfBool, Nat}
@@ -14,13 +14,13 @@ use Rattle.bl_tree.specs.declared.tree.Var.{Var}
 use Rattle.bl_tree.specs.Types.{scalar_in}
 use Rattle.bl_tree.specs.Words.{are_distinct, is_among}
 use Rattle.bl_ctext.proofs.Bytes.{and-fst, and-snd}
-use Rattle.bl_cmeaning.specs.Parts.{Parts, parts_from}
-use Rattle.bl_cmeaning.specs.Memory.{Part, member, Root, state_object, input_object, output_object, variable, Memory, left_after}
+use Rattle.bl_cmeaning.specs.Parts.{parts_from}
+use Rattle.bl_cmeaning.specs.Memory.{Part, member, Root, state_object, input_object, output_object}
 use Rattle.bl_cmeaning.specs.Tables.{Table, no_entries, with_entry}
 use Rattle.bl_cmeaning.specs.Cells.{Inner, Cell, inner_of_member, inner_of, inside, cells_at, cells_of}
 use Rattle.bl_cmeaning.specs.Meaning.{Meaning, Scope}
 use Rattle.bl_early.specs.Emitted.{c_through, c_column, c_frame, c_state, c_row, c_structs, c_ports, frame_name, input_name, output_name, ins_of, outs_of}
-use Rattle.bl_earlyc.proofs.Cells.{Each, each-append, each-of, each-map, hits, Apart, Own, Clear, AllApart, apart-append}
+use Rattle.bl_earlyc.proofs.Cells.{Each, each-append, each-map, hits, Apart, Own, Clear, AllApart, apart-append}
 use Rattle.bl_earlyc.proofs.Values.{through-place}
 use Rattle.bl_earlyc.proofs.Stretches.{counter, current, activity_scope, Leads}
 
@@ -114,15 +114,17 @@ module _ (root : Root) (name : Var → Text) (hit : (v w : Var) → bytes_eq v.n
   clear-of : (v : Var) (vars : List Var) → list_any (bytes_eq v.name) (names_of vars) ≡ false → Clear (port_cell root name v) (map (port_cell root name) vars)
   clear-of v [] h = tt
   clear-of v (w ∷ vars) h =
-      let other : bytes_eq v.name w.name ≡ false = or-left (bytes_eq v.name w.name) (list_any (bytes_eq v.name) (names_of vars)) h in
-      (record { there = hit v w other; back = hit w v (nat_list_eq_equiv.symm w.name v.name ∙ other) },
-      clear-of v vars (or-right (bytes_eq v.name w.name) (list_any (bytes_eq v.name) (names_of vars)) h))
+      let other : bytes_eq v.name w.name ≡ false = or-left (bytes_eq v.name w.name) (list_any (bytes_eq v.name) (names_of vars)) h in (
+        record { there = hit v w other; back = hit w v (nat_list_eq_equiv.symm w.name v.name ∙ other) },
+        clear-of v vars (or-right (bytes_eq v.name w.name) (list_any (bytes_eq v.name) (names_of vars)) h),
+      )
 
   ports-apart : (vars : List Var) → are_distinct (names_of vars) ≡ true → AllApart (map (port_cell root name) vars)
   ports-apart [] h = tt
-  ports-apart (v ∷ vars) h =
-      (clear-of v vars (not-false (is_among v.name (names_of vars)) (and-fst (not (is_among v.name (names_of vars))) (are_distinct (names_of vars)) h)),
-      ports-apart vars (and-snd (not (is_among v.name (names_of vars))) (are_distinct (names_of vars)) h))
+  ports-apart (v ∷ vars) h = (
+    clear-of v vars (not-false (is_among v.name (names_of vars)) (and-fst (not (is_among v.name (names_of vars))) (are_distinct (names_of vars)) h)),
+    ports-apart vars (and-snd (not (is_among v.name (names_of vars))) (are_distinct (names_of vars)) h),
+  )
 
 in-hit : (v w : Var) → bytes_eq v.name w.name ≡ false → hits (port_cell input_object input_name v) (port_cell input_object input_name w) ≡ false
 in-hit v w h = not-hit (bytes_eq v.name w.name) h
@@ -165,19 +167,21 @@ module _ (unit : UnitDef) (distinct : are_distinct (names_of unit.vars) ≡ true
   slots-apart = apart-append (in_cells unit) (out_cells unit) ins-apart outs-apart (across (ins_of unit) (outs_of unit))
 
   pad-across : (ins outs : List Var) → Each (λ x. Clear x (pad output_object ∷ map (port_cell output_object output_name) outs)) (pad input_object ∷ map (port_cell input_object input_name) ins)
-  pad-across ins outs =
-      ((record { there = refl; back = refl }, each-map (Apart (pad input_object)) (port_cell output_object output_name) (λ w. record { there = refl; back = refl }) outs),
-      each-map (λ x. Clear x (pad output_object ∷ map (port_cell output_object output_name) outs)) (port_cell input_object input_name)
-      (λ v. (record { there = refl; back = refl }, each-map (Apart (port_cell input_object input_name v)) (port_cell output_object output_name) (λ w. record { there = refl; back = refl }) outs)) ins)
+  pad-across ins outs = (
+    (record { there = refl; back = refl }, each-map (Apart (pad input_object)) (port_cell output_object output_name) (λ w. record { there = refl; back = refl }) outs),
+    each-map (λ x. Clear x (pad output_object ∷ map (port_cell output_object output_name) outs)) (port_cell input_object input_name)
+        (λ v. (record { there = refl; back = refl }, each-map (Apart (port_cell input_object input_name v)) (port_cell output_object output_name) (λ w. record { there = refl; back = refl }) outs)) ins,
+  )
 
   pub all-apart : AllApart (all_cells unit)
   all-apart =
       let first : Clear counter (pad input_object ∷ in_cells unit) = (record { there = refl; back = refl }, each-map (Apart counter) (port_cell input_object input_name) (λ v. record { there = refl; back = refl }) (ins_of unit)) in
       let second : Clear counter (pad output_object ∷ out_cells unit) = (record { there = refl; back = refl }, each-map (Apart counter) (port_cell output_object output_name) (λ v. record { there = refl; back = refl }) (outs_of unit)) in
       let ins : AllApart (pad input_object ∷ in_cells unit) = (each-map (Apart (pad input_object)) (port_cell input_object input_name) (λ v. record { there = refl; back = refl }) (ins_of unit), ins-apart) in
-      let outs : AllApart (pad output_object ∷ out_cells unit) = (each-map (Apart (pad output_object)) (port_cell output_object output_name) (λ v. record { there = refl; back = refl }) (outs_of unit), outs-apart) in
-      (each-append (Apart counter) (pad input_object ∷ in_cells unit) (pad output_object ∷ out_cells unit) first second,
-      apart-append (pad input_object ∷ in_cells unit) (pad output_object ∷ out_cells unit) ins outs (pad-across (ins_of unit) (outs_of unit)))
+      let outs : AllApart (pad output_object ∷ out_cells unit) = (each-map (Apart (pad output_object)) (port_cell output_object output_name) (λ v. record { there = refl; back = refl }) (outs_of unit), outs-apart) in (
+        each-append (Apart counter) (pad input_object ∷ in_cells unit) (pad output_object ∷ out_cells unit) first second,
+        apart-append (pad input_object ∷ in_cells unit) (pad output_object ∷ out_cells unit) ins outs (pad-across (ins_of unit) (outs_of unit)),
+      )
 
 -- ---- each is its own
 
@@ -197,9 +201,10 @@ pub slots-own : (unit : UnitDef) → Each Own (slots_of unit)
 slots-own unit = each-append Own (in_cells unit) (out_cells unit) (ins-own unit) (outs-own unit)
 
 pub all-own : (unit : UnitDef) → Each Own (all_cells unit)
-all-own unit =
-    (record { root = refl; whole = refl },
-    each-append Own (pad input_object ∷ in_cells unit) (pad output_object ∷ out_cells unit) (record { root = refl; whole = refl }, ins-own unit) (record { root = refl; whole = refl }, outs-own unit))
+all-own unit = (
+  record { root = refl; whole = refl },
+  each-append Own (pad input_object ∷ in_cells unit) (pad output_object ∷ out_cells unit) (record { root = refl; whole = refl }, ins-own unit) (record { root = refl; whole = refl }, outs-own unit),
+)
 
 pub counter-clear : (unit : UnitDef) → Clear counter (slots_of unit)
 counter-clear unit =

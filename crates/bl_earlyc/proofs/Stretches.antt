@@ -1,6 +1,6 @@
 -- The stretches of the written text run as the steps do.
-use Rattle.std.proofs.Common.{◌≡◌, ℕ, suc, zero, ◌+◌, ◌<◌, ◌≤◌, ℤ, pos, ◌+ℤ◌, Bool, true, false, ◌&&◌, ◌⊎◌, inl, inr, List, [], ◌∷◌, ◌++◌, map, length, get_or, set, Option, Some, None, refl, sym, ap, ap₂, ◌∙◌, subst, arith, codes, ◌≢◌}
-use Rattle.std.specs.Prelude.{option_map, nat_lt, if◌then◌else◌}
+use Rattle.std.proofs.Common.{◌≡◌, ℕ, suc, zero, ◌+◌, ◌<◌, ◌≤◌, ℤ, pos, ◌+ℤ◌, Bool, true, false, ◌⊎◌, inl, inr, List, [], ◌∷◌, length, get_or, set, Option, Some, None, refl, sym, ap, ap₂, ◌∙◌, subst, arith, codes, ◌≢◌}
+use Rattle.std.specs.Prelude.{option_map, nat_lt}
 use Rattle.std.specs.List.{list_all}
 use Rattle.std.specs.Ordering.{int_eq}
 use Rattle.std.specs.Cmp.{int_eq_equiv}
@@ -9,19 +9,18 @@ use Rattle.bl_tree.specs.declared.scalar.Scalar.TheVariants.{Int, Nat}
 use Rattle.bl_tree.specs.declared.scalar.Width.TheVariants.{W32}
 use Rattle.bl_tree.specs.declared.c.CExpr.{CExpr}
 use Rattle.bl_tree.specs.declared.c.CPlace.{CPlace}
-use Rattle.bl_tree.specs.declared.c.CStmt.{CStmt}
 use Rattle.bl_tree.specs.Numbers.{is_one, fitted, number_of}
 use Rattle.bl_ctext.proofs.Bytes.{and-fst, and-snd}
-use Rattle.bl_cmeaning.specs.Memory.{Part, member, Root, state_object, input_object, output_object, variable, Location, CValue, Memory, scalar, number_in, value_at, set_at}
+use Rattle.bl_cmeaning.specs.Memory.{member, state_object, input_object, output_object, variable, CValue, Memory, scalar, number_in, value_at, set_at}
 use Rattle.bl_cmeaning.specs.Tables.{Table, table_of}
 use Rattle.bl_cmeaning.specs.Cells.{Cell, numbers_of}
-use Rattle.bl_cmeaning.specs.Meaning.{Counted, given, Meaning, Scope, Outcome, End, goes_on, breaks, returns, traps, Runs, after, following, going, block_of, value_c, location_c, runs_c, block_c}
-use Rattle.bl_early.specs.Form.{Item, Number, Of, Source, Just, Sum, Step, Set, Pause, is_pause}
-use Rattle.bl_early.specs.Run.{Numbers, item_value, source_value, Reached, Traps, Pauses, Passes, reached_with, taken, repeated}
+use Rattle.bl_cmeaning.specs.Meaning.{given, Meaning, Scope, Outcome, End, goes_on, traps, following, value_c, location_c, runs_c, block_c}
+use Rattle.bl_early.specs.Form.{Item, Number, Of, Source, Just, Sum, Step, Set, Pause}
+use Rattle.bl_early.specs.Run.{Numbers, item_value, source_value, Reached, Traps, Pauses, Passes, reached_with, taken}
 use Rattle.bl_early.specs.Built.{item_within, source_within, step_within}
-use Rattle.bl_early.specs.Emitted.{c_through, c_variable, c_literal, c_count, c_read, c_equal, c_set, c_when, c_port, c_item, c_source, c_counter, c_now, c_stretch, c_numbered, c_resumed, c_tick_body}
-use Rattle.bl_earlyc.proofs.Cells.{Each, each-get, number_at, hits, Apart, Own, set-other, set-own, Clear, AllApart, set-others, set-one, get-one}
-use Rattle.bl_earlyc.proofs.Values.{variable-place, through-place, literal-value, read-value, equal-value, sum-value, set-runs, set-traps, when-runs}
+use Rattle.bl_early.specs.Emitted.{c_count, c_set, c_port, c_item, c_source, c_counter, c_now, c_stretch}
+use Rattle.bl_earlyc.proofs.Cells.{Each, each-get, number_at, Apart, Own, set-other, set-own, Clear, AllApart, set-others, set-one, get-one}
+use Rattle.bl_earlyc.proofs.Values.{variable-place, through-place, literal-value, read-value, sum-value, set-runs, set-traps}
 
 -- the counter, and the local that has its value in a tick
 abbrev pub counter : Cell

@@ -1,5 +1,5 @@
 -- The body of the activity's function does one tick of the loop.
-use Rattle.std.proofs.Common.{◌≡◌, ◌≢◌, ℕ, suc, zero, ◌+◌, ◌<◌, ◌≤◌, ℤ, pos, Bool, true, false, ◌&&◌, ◌⊎◌, inl, inr, List, [], ◌∷◌, ◌++◌, map, length, get_or, Option, Some, None, refl, sym, ap, ap₂, ◌∙◌, subst, arith, codes}
+use Rattle.std.proofs.Common.{◌≡◌, ◌≢◌, ℕ, ◌+◌, ◌<◌, ◌≤◌, pos, Bool, true, false, inl, inr, List, [], ◌∷◌, ◌++◌, length, refl, sym, ap, ◌∙◌, subst, arith}
 use Rattle.std.specs.Prelude.{if◌then◌else◌}
 use Rattle.std.specs.List.{list_all}
 use Rattle.std.specs.Ordering.{int_eq}
@@ -9,17 +9,17 @@ use Rattle.bl_tree.specs.declared.c.CPlace.{CPlace}
 use Rattle.bl_tree.specs.declared.c.CStmt.{CStmt}
 use Rattle.bl_tree.specs.Numbers.{is_one, number_of}
 use Rattle.bl_ctext.proofs.Bytes.{and-fst, and-snd}
-use Rattle.bl_cmeaning.specs.Memory.{CValue, Memory, scalar, number_in, value_at, set_at}
+use Rattle.bl_cmeaning.specs.Memory.{CValue, Memory, scalar, value_at, set_at}
 use Rattle.bl_cmeaning.specs.Tables.{Table}
 use Rattle.bl_cmeaning.specs.Cells.{Cell}
-use Rattle.bl_cmeaning.specs.Meaning.{given, Meaning, Scope, Outcome, End, goes_on, breaks, returns, traps, after, following, going, location_c, runs_c, block_c}
+use Rattle.bl_cmeaning.specs.Meaning.{Meaning, Scope, Outcome, End, goes_on, breaks, returns, traps, after, following, going, runs_c, block_c}
 use Rattle.bl_early.specs.Form.{Item, Step, Set, Pause}
 use Rattle.bl_early.specs.Run.{Numbers, item_value, Reached, Traps, Pauses, Passes, taken, repeated}
 use Rattle.bl_early.specs.Built.{item_within, step_within}
 use Rattle.bl_early.specs.Emitted.{c_count, c_read, c_equal, c_set, c_when, c_item, c_counter, c_now, c_stretch, c_numbered, c_resumed, c_tick_body}
 use Rattle.bl_earlyc.proofs.Cells.{Each, number_at, Own, Clear, AllApart}
 use Rattle.bl_earlyc.proofs.Values.{literal-value, read-value, equal-value, set-runs, when-runs}
-use Rattle.bl_earlyc.proofs.Stretches.{counter, current, activity_scope, View, Leads, Shows, then-on, then-traps, eq-same, eq-other, Here, At, at-least, Lifts, FirstAt, first-at, Stretched, stretch-runs, set-current, item-valued, current-place, counter-place}
+use Rattle.bl_earlyc.proofs.Stretches.{counter, current, activity_scope, View, Leads, Shows, then-on, eq-same, eq-other, At, at-least, Lifts, FirstAt, first-at, Stretched, stretch-runs, set-current, item-valued, current-place, counter-place}
 
 -- an `if` whose test is known
 if-true : (b : Bool) (o p : Outcome) → b ≡ true → after 1 (if b then o else p) ≡ after 1 o

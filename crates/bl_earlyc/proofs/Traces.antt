@@ -1,11 +1,9 @@
 -- The written file has the trace of its loop of steps.
-use Rattle.std.proofs.Common.{◌≡◌, ℕ, suc, zero, ◌+◌, ◌<◌, ◌≤◌, ℤ, pos, Bool, true, false, ◌&&◌, ◌||◌, List, [], ◌∷◌, ◌++◌, map, length, take, drop, Option, Some, None, refl, sym, ap, ap₂, ◌∙◌, subst, arith, codes, take-append-drop, true≢false}
+use Rattle.std.proofs.Common.{◌≡◌, ℕ, suc, zero, ◌≤◌, ℤ, pos, Bool, true, false, List, [], ◌∷◌, ◌++◌, map, length, take, drop, Option, Some, None, refl, sym, ap, ap₂, ◌∙◌, subst, arith, codes, take-append-drop, true≢false}
 use Rattle.std.specs.Prelude.{All, slice_set, if◌then◌else◌}
 use Rattle.std.specs.List.{list_all, list_any}
 use Rattle.std.proofs.lemmas.List.Elements.{All-head, All-tail}
-use Rattle.bl_tree.specs.declared.row.Last.TheVariants.{Open, Trap}
 use Rattle.bl_tree.specs.declared.row.Trace.{Trace}
-use Rattle.bl_tree.specs.declared.scalar.Scalar.TheVariants.{Nat}
 use Rattle.bl_tree.specs.declared.tree.StructDef.{StructDef}
 use Rattle.bl_tree.specs.declared.tree.Unit.{Unit as UnitDef}
 use Rattle.bl_tree.specs.declared.tree.Var.{Var}
@@ -13,22 +11,22 @@ use Rattle.bl_tree.specs.Numbers.{is_one}
 use Rattle.bl_tree.specs.Program as program
 use Rattle.bl_tree.specs.Words as words
 use Rattle.bl_cmeaning.specs.Parts.{Parts}
-use Rattle.bl_cmeaning.specs.Memory.{Part, member, Root, state_object, input_object, output_object, variable, Location, Memory, scalar, number_in, set_at, without_frame}
+use Rattle.bl_cmeaning.specs.Memory.{member, state_object, input_object, output_object, Memory, scalar, set_at, without_frame}
 use Rattle.bl_cmeaning.specs.Tables.{no_entries}
 use Rattle.bl_cmeaning.specs.Cells.{Cell, cells_of, memory_of, numbers_of, ports_of, with_inputs, outputs_in}
 use Rattle.bl_cmeaning.specs.Meaning.{Called, Outcome}
 use Rattle.bl_cmeaning.specs.Trace.{Tick, tick_c, tick_of, start_c, cells_where, reply_of, c_trace, c_trace_from, trace_after, traced as c_traced}
-use Rattle.bl_early.specs.Form.{Item, Step, Set, Pause, is_pause, is_early, is_early_unit}
+use Rattle.bl_early.specs.Form.{Item, Step, Set, Pause, is_pause, is_early}
 use Rattle.bl_early.specs.Run.{Numbers, item_value, source_value, Reached, Traps, Pauses, Passes, reached_with, taken, repeated, Standing, Begins, Waits, ticked, with_row, loop_trace, trace_of, traced as run_traced}
-use Rattle.bl_early.specs.Built.{step_within, loop_steps, steps_at}
-use Rattle.bl_early.specs.Emitted.{c_column, c_structs, c_funcs, c_ports, input_name, output_name, ins_of, outs_of}
+use Rattle.bl_early.specs.Built.{step_within, steps_at}
+use Rattle.bl_early.specs.Emitted.{c_column, c_funcs, c_ports, input_name, output_name, ins_of, outs_of}
 use Rattle.bl_early.proofs.Known.{Stands, unit-stands, steps-within}
-use Rattle.bl_earlyc.specs.Written.{written, RowsSuit, HasTrace, WrittenTrace}
-use Rattle.bl_earlyc.proofs.Cells.{Each, each-left, each-right, each-map, number_at, hits, Apart, Own, set-other, set-own, Clear, AllApart, Same, same-numbers, restored}
-use Rattle.bl_earlyc.proofs.Stretches.{counter, current, View, Shows, At}
+use Rattle.bl_earlyc.specs.Written.{HasTrace, WrittenTrace}
+use Rattle.bl_earlyc.proofs.Cells.{Each, each-right, number_at, hits, Own, set-other, set-own, Clear, AllApart, same-numbers, restored}
+use Rattle.bl_earlyc.proofs.Stretches.{counter, View, Shows, At}
 use Rattle.bl_earlyc.proofs.Ticks.{Ticked, first-tick, next-tick}
 use Rattle.bl_earlyc.proofs.Slots.{port_cell, pad, in_cells, out_cells, slots_of, all_cells, cells-are, ins-apart, slots-apart, all-apart, ins-own, slots-own, all-own, counter-clear, current-clear, ports-lead, names_of}
-use Rattle.bl_earlyc.proofs.Calls.{tick_called, TickEnds, Rested, body_outcome, slots-same, tick-ends, file, tick-entered, begun, init-entered}
+use Rattle.bl_earlyc.proofs.Calls.{tick_called, TickEnds, body_outcome, slots-same, tick-ends, file, tick-entered, begun, init-entered}
 
 -- ---- the loop always comes to a pause
 

@@ -1,17 +1,17 @@
 -- What the parts of the written C text come to.
-use Rattle.std.proofs.Common.{◌≡◌, ℕ, ◌+◌, ℤ, pos, ◌+ℤ◌, Bool, true, false, List, [], ◌∷◌, ◌++◌, map, Option, Some, None, refl, sym, ap, ap₂, ◌∙◌, subst, codes}
+use Rattle.std.proofs.Common.{◌≡◌, ℤ, ◌+ℤ◌, Bool, true, false, List, [], ◌∷◌, map, Some, None, refl, ap, ap₂, ◌∙◌, subst, codes}
 use Rattle.std.specs.Prelude.{option_map, if◌then◌else◌}
 use Rattle.std.specs.Ordering.{int_eq}
 use Rattle.bl_tree.specs.declared.text.Text.{Text}
-use Rattle.bl_tree.specs.declared.scalar.Op.TheVariants.{Eq, Add}
+use Rattle.bl_tree.specs.declared.scalar.Op.TheVariants.{Eq}
 use Rattle.bl_tree.specs.declared.scalar.Scalar.{Scalar}
 use Rattle.bl_tree.specs.declared.scalar.Scalar.TheVariants.{Int}
 use Rattle.bl_tree.specs.declared.scalar.Width.TheVariants.{W32}
 use Rattle.bl_tree.specs.declared.c.CArg.{CArg, CArg-F, fold-CArg, fold-roll-CArg, roll-CArg}
 use Rattle.bl_tree.specs.declared.c.CArg.TheVariants as argument
-use Rattle.bl_tree.specs.declared.c.CCall.{CCall, fold-roll-CCall, roll-CCall}
-use Rattle.bl_tree.specs.declared.c.CStep.{CStep, fold-CStep, fold-roll-CStep, roll-CStep}
-use Rattle.bl_tree.specs.declared.c.CPlace.{CPlace, fold-roll-CPlace, roll-CPlace}
+use Rattle.bl_tree.specs.declared.c.CCall.{CCall, fold-roll-CCall}
+use Rattle.bl_tree.specs.declared.c.CStep.{CStep, fold-CStep, fold-roll-CStep}
+use Rattle.bl_tree.specs.declared.c.CPlace.{CPlace, fold-roll-CPlace}
 use Rattle.bl_tree.specs.declared.c.CIndex.{CIndex}
 use Rattle.bl_tree.specs.declared.c.CExpr.{CExpr, fold-roll-CExpr, roll-CExpr}
 use Rattle.bl_tree.specs.declared.c.CExprKind.{CExprKind, CExprKind-F, fold-roll-CExprKind, roll-CExprKind}
@@ -21,8 +21,7 @@ use Rattle.bl_tree.specs.declared.c.CStmtKind.{CStmtKind, CStmtKind-F, fold-roll
 use Rattle.bl_tree.specs.declared.c.CStmtKind.TheVariants as statement
 use Rattle.bl_tree.specs.Numbers.{is_one, fitted, number_of}
 use Rattle.bl_cmeaning.specs.Memory.{Part, member, Location, CValue, Memory, scalar, number_in, value_at, set_at}
-use Rattle.bl_cmeaning.specs.Tables.{Table}
-use Rattle.bl_cmeaning.specs.Meaning.{Counted, Evaluates, given, next, Passed, by_value, by_address, Called, Scope, Meaning, Outcome, End, goes_on, returns, traps, Runs, after, going, call_outcome, later_call, called, called_after, result_of, executed, returning, value_c, location_c, call_c, runs_c, block_c, each_of, way_of, further, start_of, arg_step, kind_step, call_step, expr_step, index_step, place_step, step_step}
+use Rattle.bl_cmeaning.specs.Meaning.{Counted, Evaluates, given, next, Passed, by_value, by_address, Called, Scope, goes_on, returns, traps, after, going, call_outcome, later_call, called, called_after, result_of, executed, returning, value_c, location_c, call_c, runs_c, block_c, each_of, further, start_of, arg_step, kind_step, call_step, expr_step, index_step, place_step, step_step}
 use Rattle.bl_cmeaning.specs.Builtin.{builtin_of, builtins}
 use Rattle.bl_early.specs.Emitted.{nowhere, c_step, c_target, c_through, c_variable, c_literal, c_read, c_equal, c_call, c_called, c_set, c_calling, c_when, c_returning}
 

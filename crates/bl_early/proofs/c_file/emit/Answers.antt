@@ -1,6 +1,4 @@
-use Rattle.std.proofs.Common.{◌≡◌, ◌∷◌, [], true, get_or, length, List, Some, None, refl, sym, ap, ap₂, ◌∙◌, subst, option_map}
-use Rattle.bl_tree.specs.declared.c.CFunc.{CFunc}
-use Rattle.bl_tree.specs.declared.c.CStruct.{CStruct}
+use Rattle.std.proofs.Common.{◌≡◌, true, get_or, Some, sym, ap, ◌∙◌, option_map}
 use Rattle.bl_ctext.specs.Spellable.{is_spellable}
 use Rattle.bl_early.specs.Form.{loop_of}
 use Rattle.bl_early.specs.Built.{steps_at}

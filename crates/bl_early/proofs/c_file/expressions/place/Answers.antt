@@ -1,4 +1,4 @@
-use Rattle.std.proofs.Common.{◌≡◌, ℕ, List, ◌++◌, get_or, IfOk, sym, ap, ◌∙◌, subst, codes}
+use Rattle.std.proofs.Common.{◌≡◌, List, get_or, IfOk, sym, ap, ◌∙◌, subst, codes}
 use Rattle.bl_tree.specs.declared.c.CPlace.{CPlace}
 use Rattle.bl_tree.specs.declared.tree.Var.{Var}
 use Rattle.bl_early.specs.Emitted.{c_port, c_ports, c_through, output_name}

@@ -1,4 +1,4 @@
-use Rattle.std.proofs.Common.{◌≡◌, ◌++◌, ◌∷◌, [], drop, map, codes}
+use Rattle.std.proofs.Common.{◌≡◌, ◌++◌, ◌∷◌, drop, map, codes}
 use Rattle.bl_tree.specs.declared.scalar.Scalar.TheVariants.{Nat}
 use Rattle.bl_tree.specs.declared.scalar.Width.TheVariants.{W8}
 use Rattle.bl_tree.specs.declared.c.CType.TheVariants.{Scalar as OfScalar}
