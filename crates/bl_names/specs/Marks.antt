@@ -21,7 +21,7 @@ use Rattle.bl_raw.specs.declared.stmt.RawPath.{RawPath}
 use Rattle.bl_raw.specs.declared.stmt.RawStmt.{RawStmt, fold-RawStmt}
 use Rattle.bl_raw.specs.declared.stmt.RawStmtKind.TheOpen.{RawStmtKind-F, RawArm-F, RawBranch-F, RawStmt-F}
 use Rattle.bl_raw.specs.declared.types.RawLength.{RawLength}
-use Rattle.bl_raw.specs.declared.types.RawLength.TheVariants as length
+use Rattle.bl_raw.specs.declared.types.RawLength.TheVariants as raw_length
 use Rattle.bl_raw.specs.declared.types.RawType.{RawType, fold-RawType}
 use Rattle.bl_raw.specs.declared.types.RawType.TheOpen.{RawType-F}
 use Rattle.bl_names.specs.declared.kind.Kind.{Kind}
@@ -50,8 +50,8 @@ optional marks None = []
 -- ---- types
 
 abbrev pub length_marks : RawLength → Marks
-length_marks (length.Number n) = []
-length_marks (length.Constant name) = uses name wanted.Length ∷ []
+length_marks (raw_length.Number n) = []
+length_marks (raw_length.Constant name) = uses name wanted.Length ∷ []
 
 abbrev pub type_level_marks : RawType-F Marks → Marks
 type_level_marks (RawType-F.Scalar s) = []

@@ -20,7 +20,7 @@ use Rattle.bl_named.specs.declared.expr.Root.{Root}
 use Rattle.bl_named.specs.declared.expr.Root.TheVariants as root
 use Rattle.bl_named.specs.declared.stmt.NamedPath.{NamedPath}
 use Rattle.bl_named.specs.declared.types.NamedLength.{NamedLength}
-use Rattle.bl_named.specs.declared.types.NamedLength.TheVariants as length
+use Rattle.bl_named.specs.declared.types.NamedLength.TheVariants as named_count
 use Rattle.bl_named.specs.declared.types.NamedType.{NamedType}
 use Rattle.bl_named.specs.declared.types.NamedType.TheVariants as type
 use Rattle.bl_names.specs.declared.kind.Kind.{Kind}
@@ -51,8 +51,8 @@ named_root scopes name = root_of (bound scopes name.text)
 -- ---- types
 
 abbrev pub named_length : Scopes → RawLength → NamedLength
-named_length scopes (raw_length.Number n) = length.Number n
-named_length scopes (raw_length.Constant name) = length.Constant name.place (position scopes name)
+named_length scopes (raw_length.Number n) = named_count.Number n
+named_length scopes (raw_length.Constant name) = named_count.Constant name.place (position scopes name)
 
 abbrev pub named_type_level : Scopes → RawType-F NamedType → NamedType
 named_type_level scopes (RawType-F.Scalar s) = type.Scalar s
