@@ -1,5 +1,5 @@
 mod Bools
-mod Elements
+pub mod Elements
 mod Forgetting
 pub mod ItemLemmas
 mod Listing

@@ -2,11 +2,11 @@
 //! (docs/LANGUAGE.md, "Control trees").
 #![tactic(auto)]
 
-mod copying;
+pub mod copying;
 pub mod instance;
 pub mod laws;
 pub mod node;
-mod paths;
+pub mod paths;
 pub mod runs;
 pub mod sequence;
 pub mod settle;

@@ -53,7 +53,8 @@ pub fn copies_of(alloc: Global, paths: &[Static]) -> Result<List<Static>, NoMemo
     Ok(made)
 }
 
-fn copy_of(alloc: Global, path: &Static) -> Result<Static, NoMemory>
+/// The static path once more.
+pub fn copy_of(alloc: Global, path: &Static) -> Result<Static, NoMemory>
     ensures { IfOk result (λ made. made ≡ path.now) }
 {
     let mut fields = List::new(alloc);

@@ -1,0 +1,4 @@
+pub mod AfterLemmas
+pub mod BranchLemmas
+pub mod OwnLemmas
+pub mod TreeLemmas

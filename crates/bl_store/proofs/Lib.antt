@@ -1,0 +1,4 @@
+pub mod ExpansionLemmas
+pub mod HomeLemmas
+pub mod PerformLemmas
+pub mod StoreLemmas
