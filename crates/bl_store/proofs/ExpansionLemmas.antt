@@ -20,20 +20,20 @@ others r xs = filter (λ other. not (same_place r.place other.place)) xs
 
 kept_one : (b : Bool) (o : Run) (x : Place) (rest : List Run) → b ≡ true → starts_at x o ≡ false
     → list_any (starts_at x) (cond (not b) (o ∷ rest) rest) ≡ (starts_at x o || list_any (starts_at x) rest)
-kept_one true o x rest is no = sym (ap (λ b. b || list_any (starts_at x) rest) no)
-kept_one false o x rest is no = absurd cc
+kept_one true o x rest is differs = sym (ap (λ b. b || list_any (starts_at x) rest) differs)
+kept_one false o x rest is differs = absurd cc
 
-no_place : (r o : Run) (x : Place) → same_place r.place x ≡ false → same_place r.place o.place ≡ true → starts_at x o ≡ false
-no_place r o x no is = sym (ap (λ p. same_place p x) (same_place_is r.place o.place is)) ∙ no
+other_place : (r o : Run) (x : Place) → same_place r.place x ≡ false → same_place r.place o.place ≡ true → starts_at x o ≡ false
+other_place r o x differs is = sym (ap (λ p. same_place p x) (same_place_is r.place o.place is)) ∙ differs
 
 any_step : (r o : Run) (x : Place) (ys : List Run) → same_place r.place x ≡ false → list_any (starts_at x) (others r ys) ≡ list_any (starts_at x) ys → (b : Bool) → same_place r.place o.place ≡ b
     → list_any (starts_at x) (cond (not b) (o ∷ others r ys) (others r ys)) ≡ (starts_at x o || list_any (starts_at x) ys)
-any_step r o x ys no rest true is = kept_one true o x (others r ys) refl (no_place r o x no is) ∙ ap (λ b. starts_at x o || b) rest
-any_step r o x ys no rest false is = ap (λ b. starts_at x o || b) rest
+any_step r o x ys differs rest true is = kept_one true o x (others r ys) refl (other_place r o x differs is) ∙ ap (λ b. starts_at x o || b) rest
+any_step r o x ys differs rest false is = ap (λ b. starts_at x o || b) rest
 
 any_others : (r : Run) (x : Place) (ys : List Run) → same_place r.place x ≡ false → list_any (starts_at x) (others r ys) ≡ list_any (starts_at x) ys
-any_others r x [] no = refl
-any_others r x (o ∷ ys) no = any_step r o x ys no (any_others r x ys no) (same_place r.place o.place) refl
+any_others r x [] differs = refl
+any_others r x (o ∷ ys) differs = any_step r o x ys differs (any_others r x ys differs) (same_place r.place o.place) refl
 
 others-append : (r : Run) (xs ys : List Run) → others r (xs ++ ys) ≡ others r xs ++ others r ys
 others-append r [] ys = refl

@@ -1,4 +1,5 @@
 pub mod ExpansionLemmas
 pub mod HomeLemmas
 pub mod PerformLemmas
+pub mod PositionLemmas
 pub mod StoreLemmas

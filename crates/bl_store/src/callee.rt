@@ -1,6 +1,6 @@
 //! The instances that `run` statements begin.
 
-ghost use Rattle.std.specs.Prelude.{◌≡◌, IfSome, option_and_then, option_map};
+ghost use Rattle.std.specs.Prelude.{◌≡◌, ◌<◌, length, option_map, slice_get};
 ghost use Rattle.bl_ctree.specs.Instances.{begins_at, callee_of, unit_at};
 ghost use Rattle.bl_store.specs.Seen.{called, called_at, setting_in};
 
@@ -11,6 +11,7 @@ use bl_tree::Place;
 use bl_tree::tree::Unit;
 
 /// An instance that a `run` statement begins.
+#[derive(Clone, Copy)]
 pub struct Callee<'a> {
     pub instance: u32,
     pub unit: &'a Unit,
@@ -29,12 +30,19 @@ fn begins_at(caller: u32, place: Place, origin: &Option<Origin>) -> bool
     }
 }
 
+fn begins(w: &Setting, k: usize, caller: u32, place: Place) -> bool
+    requires { k < length w.now.instances }
+    ensures { option_map (λ instance. begins_at caller place instance.origin) (slice_get w.now.instances k) ≡ Some result }
+{
+    begins_at(caller, place, &w.instances[k].origin)
+}
+
 /// The instance that the `run` statement at the place begins in its caller's instance.
 fn callee_of(w: &Setting, caller: u32, place: Place) -> Option<u32>
     ensures { result ≡ callee_of (setting_in w.now) caller place }
 {
-    for (k, instance) in w.instances.iter().enumerate() {
-        if begins_at(caller, place, &instance.origin) {
+    for k in 0..w.instances.len() {
+        if begins(w, k, caller, place) {
             return Some(k as u32);
         }
     }

@@ -1,6 +1,6 @@
 //! The instances to which a program expands.
 
-ghost use Rattle.std.specs.Prelude.{◌≡◌, ◌<◌, ◌≤◌, ◌+◌, ◌^◌, [], ◌∷◌, ◌++◌, All, length, map, suc, IfOk, OnOk, Some, option_map};
+ghost use Rattle.std.specs.Prelude.{◌≡◌, ◌<◌, ◌≤◌, ◌+◌, ◌^◌, [], ◌∷◌, ◌++◌, All, cond, length, map, IfOk, OnOk};
 ghost use Rattle.std.specs.List.{list_any};
 ghost use Rattle.bl_ctree.specs.Instances.{called_from, expanded, instances_below, instances_of, one_a_place, origin_under, runs_of};
 ghost use Rattle.bl_effects.specs.Table.{same_place};
@@ -32,15 +32,24 @@ fn is_there(runs: &[Run], place: Place) -> bool
     false
 }
 
+/// Appends the `run` statement where none of its place is there.
+fn add(run: Run, into: &mut List<Run>) -> Result<(), NoMemory>
+    ensures { OnOk result (into.new ≡ cond (list_any (starts_at run.place) into.old) into.old (into.old ++ run ∷ [])) }
+{
+    if is_there(into, run.place) {
+        return Ok(());
+    }
+    into.push(run)?;
+    Ok(())
+}
+
 /// The first of each place.
 fn one_a_place(alloc: Global, runs: List<Run>) -> Result<List<Run>, NoMemory>
     ensures { IfOk result (λ kept. kept ≡ one_a_place runs) }
 {
     let mut kept = List::new(alloc);
     for run in runs.into_vec() {
-        if !is_there(&kept, run.place) {
-            kept.push(run)?;
-        }
+        add(run, &mut kept)?;
     }
     Ok(kept)
 }

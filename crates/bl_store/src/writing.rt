@@ -1,6 +1,6 @@
 //! What acts write.
 
-ghost use Rattle.std.specs.Prelude.{◌≡◌, [], ◌++◌, ◌<◌, drop, length, map, IfOk, OnOk, option_map, option_and_then, slice_get, slice_set, unwrap_or};
+ghost use Rattle.std.specs.Prelude.{◌≡◌, ◌++◌, ◌<◌, pos, drop, length, IfOk, OnOk, slice_get, slice_set};
 ghost use Rattle.bl_effects.specs.Static.{set_of};
 ghost use Rattle.bl_ctree.specs.Actions.{with_result};
 ghost use Rattle.bl_ctree.specs.Store.{Store, put_path, put_written, with_frame, with_inputs};
@@ -80,6 +80,15 @@ pub fn set_of(paths: List<Static>) -> List<Static>
     List::from_vec(paths)
 }
 
+/// Takes a value out of a list.
+fn take_at(values: &mut Vec<Value>, k: usize) -> Value
+    requires { k < length values.old.items }
+    ensures was { slice_get values.old.items k ≡ Some result }
+    ensures left { values.new.items ≡ slice_set values.old.items k (Value.Number (pos 0)) }
+{
+    mem::replace(&mut values[k], Value::Number(0))
+}
+
 /// The first values become the inputs, of which there are no more than values.
 fn fill(values: &mut Vec<Value>, inputs: Vec<Value>)
     requires { length inputs.items < length values.old.items }
@@ -87,7 +96,8 @@ fn fill(values: &mut Vec<Value>, inputs: Vec<Value>)
 {
     let mut inputs = inputs;
     for k in 0..inputs.len() {
-        values[k] = mem::replace(&mut inputs[k], Value::Number(0));
+        let value = take_at(&mut inputs, k);
+        set_element(values, k, value);
     }
 }
 
