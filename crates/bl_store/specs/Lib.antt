@@ -1,3 +1,2 @@
-pub mod Deeds
-pub mod Expansion
+pub mod Own
 pub mod Seen

@@ -53,12 +53,7 @@ fn is_output_of(unit: &Unit, k: usize) -> bool
     unit.inputs as usize <= k && k < unit.inputs as usize + unit.outputs as usize
 }
 
-fn led_by(
-    alloc: Global,
-    at: &Home,
-    origin: &Origin,
-    unit: &Unit,
-) -> Result<Option<Home>, NoMemory>
+fn led_by(alloc: Global, at: &Home, origin: &Origin, unit: &Unit) -> Result<Option<Home>, NoMemory>
     ensures { IfOk result (λ next. option_map location_of next ≡ led_by (location_of at.now).path origin.now unit.now) }
 {
     if !is_output_of(unit, at.root) {

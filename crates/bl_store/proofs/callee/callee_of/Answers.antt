@@ -1,5 +1,5 @@
 use Rattle.bl_ctree.specs.Instances.{begins_at}
-use Rattle.bl_store.proofs.PositionLemmas.{position_here, position_on, position_over}
+use Rattle.bl_store.proofs.PositionLemmas.{position_here, position_on}
 use Rattle.bl_store.proofs.callee.callee_of.Goals as goal
 
 pub returns-then-begins : goal.returns-then-begins

@@ -1,2 +1,0 @@
-pub mod SurfaceLemmas
-pub mod WriteLemmas

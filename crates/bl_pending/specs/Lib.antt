@@ -1,2 +1,0 @@
-pub mod Surfaces
-pub mod Writes

@@ -1,4 +1,0 @@
-pub mod AfterLemmas
-pub mod BranchLemmas
-pub mod OwnLemmas
-pub mod TreeLemmas
