@@ -1,2 +1,3 @@
 pub mod HomeLemmas
 pub mod PositionLemmas
+pub mod StoreLemmas

@@ -1,13 +1,13 @@
-//! The values of one instance.
+//! The values of one instance, and changes of them.
 
 ghost use Rattle.std.specs.Prelude.{◌≡◌, option_map, option_and_then, slice_get};
 ghost use Rattle.bl_eval.specs.Values.{value_at};
-ghost use Rattle.bl_ctree.specs.Store.{value_among};
+ghost use Rattle.bl_ctree.specs.Store.{put, value_among};
 ghost use Rattle.bl_store.specs.Own.{now_there};
 ghost use Rattle.bl_store.specs.Seen.{frame_of, location_of, side, store_of};
 
 use crate::home::Home;
-use crate::parts::part_at;
+use crate::parts::{part_at, put_part};
 use crate::slices::element;
 use bl_tree::Value;
 
@@ -58,4 +58,14 @@ pub fn now_at(frames: &[Frame], i: usize, k: usize) -> Option<&Value>
     ensures { option_map (λ found. found.now) result ≡ now_there (store_of frames.now) i k }
 {
     element(element(frames, i)?.now.as_slice(), k)
+}
+
+/// Puts a value at a home, where there is one.
+pub fn put(frames: &mut Vec<Frame>, at: &Home, value: Value)
+    ensures { store_of frames.new.items ≡ put (location_of at.now) value (store_of frames.old.items) }
+{
+    let i = at.instance as usize;
+    if i < frames.len() {
+        put_part(&mut frames[i].now, at.root, &at.fields, value);
+    }
 }

@@ -9,6 +9,7 @@ mod parts;
 pub mod setting;
 mod slices;
 pub mod ticks;
+pub mod writing;
 
 pub use frame::Frame;
 pub use home::Home;
