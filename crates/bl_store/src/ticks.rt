@@ -1,16 +1,17 @@
 //! The store at the start of a run and of a tick.
 
 ghost use Rattle.std.specs.Prelude.{◌≡◌, map, IfOk};
-ghost use Rattle.bl_ctree.specs.Store.{aged, first_store, frame_at_first, zero_result, zeros};
+ghost use Rattle.bl_ctree.specs.Store.{aged, first_store, frame_at_first, woken_store, zero_result, zeros};
 ghost use Rattle.bl_store.specs.Seen.{frame_of, setting_in, store_of};
 
 use crate::frame::Frame;
 use crate::setting::Setting;
 use crate::slices::element;
+use crate::writing::set_inputs;
 use bl_ctree::instance::Instance;
 use bl_eval::{copy, zero_value};
 use bl_tree::tree::{StructDef, Var};
-use bl_tree::{List, NoMemory, Scalar, Value};
+use bl_tree::{List, NoMemory, Row, Scalar, Value};
 use std::alloc::Global;
 
 fn zeros(alloc: Global, structs: &[StructDef], vars: &[Var]) -> Result<List<Value>, NoMemory>
@@ -104,5 +105,24 @@ pub fn all_aged(alloc: Global, frames: &[Frame]) -> Result<List<Frame>, NoMemory
     for frame in frames {
         made.push(aged(alloc, frame)?)?;
     }
+    Ok(made)
+}
+
+fn numbers(alloc: Global, row: &Row) -> Result<List<Value>, NoMemory>
+    ensures { IfOk result (λ made. made ≡ map Value.Number row.now) }
+{
+    let mut made = List::new(alloc);
+    for k in 0..row.len() {
+        made.push(Value::Number(row.at(k)))?;
+    }
+    Ok(made)
+}
+
+/// The store at the start of a tick over the row.
+pub fn woken(alloc: Global, frames: &[Frame], row: &Row) -> Result<Vec<Frame>, NoMemory>
+    ensures { IfOk result (λ made. store_of made.items ≡ woken_store row.now (store_of frames.now)) }
+{
+    let mut made = all_aged(alloc, frames)?.into_vec();
+    set_inputs(&mut made, 0, numbers(alloc, row)?);
     Ok(made)
 }
