@@ -9,6 +9,7 @@ mod parts;
 pub mod setting;
 mod slices;
 pub mod ticks;
+pub mod view;
 pub mod writing;
 
 pub use frame::Frame;
