@@ -65,12 +65,7 @@ fn count(w: &Setting, unit: u32) -> usize
 }
 
 /// What the statements of an instance see; none where there is no such instance.
-pub fn look(
-    alloc: Global,
-    w: &Setting,
-    frames: &[Frame],
-    i: u32,
-) -> Result<Option<View>, NoMemory>
+pub fn look(alloc: Global, w: &Setting, frames: &[Frame], i: u32) -> Result<Option<View>, NoMemory>
     ensures { IfOk result (λ made. option_map seen_by made ≡ sight (setting_in w.now) (store_of frames.now) i) }
 {
     match element(&w.instances, i as usize) {
