@@ -1,0 +1,4 @@
+pub mod FillLemmas
+pub mod HomeLemmas
+pub mod PositionLemmas
+pub mod StoreLemmas
