@@ -1,12 +1,12 @@
 -- How a job's end and the writing of its line make the end of the call.
-use Rattle.std.proofs.Common.{◌≡◌, ◌≢◌, ℕ, List, refl, sym, ◌∙◌, inl, inr, arith, subst, true}
-use Rattle.std.specs.Prelude.{Option, Some, None}
+use Rattle.std.proofs.Common.{◌≡◌, ◌≢◌, ℕ, List, refl, sym, ◌∙◌, inl, inr, arith, subst}
+use Rattle.std.specs.Prelude.{◌⊎◌, Option, Some, None}
 use Rattle.bl_io.specs.Held.{Appends, AppendsPart}
 use Rattle.bl_io.specs.Left.{GivesUpTo, IsKept, StandsFurther}
 use Rattle.bl_top.specs.Build.{IsResultOf, Leaves, ReadsNamed, all, part, nothing, source_limit}
 use Rattle.bl_top.specs.Causes.{AnswerCauses, Causes, Count, HasRisen, ReadFailed}
-use Rattle.bl_top.specs.Notes.{IsMeant, Noted, Written, chosen_line, done as meant_done, refused as meant_refused, no_job, unread, unwritten as meant_unwritten, short as meant_short, unbuilt as meant_unbuilt, whole, fault, want, has_line}
-use Rattle.bl_top.specs.Refusals.{AcceptedJob, AcceptedText, RefusedJob, RefusedText, Refuses, UnbuiltJob, WasAccepted}
+use Rattle.bl_top.specs.Notes.{IsMeant, Noted, Written, chosen_line, done as meant_done, refused as meant_refused, no_job, unread, unwritten as meant_unwritten, short as meant_short, unbuilt as meant_unbuilt, whole, fault, want}
+use Rattle.bl_top.specs.Refusals.{AcceptedJob, AcceptedText, RefusedText, Refuses, UnbuiltJob, WasAccepted}
 use Rattle.bl_top.specs.Sources.{IsOfNoForm, IsTextOf}
 use Rattle.bl_top.specs.declared.status.Status.{Status}
 use Rattle.bl_top.specs.declared.status.Status.TheVariants as status
@@ -56,9 +56,9 @@ left_nothing IsResult held ended meant e not_ok = nothing (λ ok. not_ok (sym e 
 
 -- what is a result in one sense is one in another
 pub leaves_as : (P Q : List ℕ → Type 0) (before after : Option (List ℕ)) (ended : Status) → ((text : List ℕ) → P text → Q text) → Leaves P before ended after → Leaves Q before ended after
-leaves_as P Q before after ended as (all text is grew) = all text (as text is) grew
-leaves_as P Q before after ended as (part text why is grew) = part text why (as text is) grew
-leaves_as P Q before after ended as (nothing not_ok kept) = nothing not_ok kept
+leaves_as P Q before after ended turned (all text is grew) = all text (turned text is) grew
+leaves_as P Q before after ended turned (part text why is grew) = part text why (turned text is) grew
+leaves_as P Q before after ended turned (nothing not_ok kept) = nothing not_ok kept
 
 pub refused_is_no_end : status.Refused ≢ status.Ok
 refused_is_no_end e = absurd cc

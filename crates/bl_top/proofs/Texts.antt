@@ -1,25 +1,26 @@
 -- The C text of a program of the form has the one trace of the program.
-use Rattle.std.proofs.Common.{◌≡◌, ℕ, ◌+◌, ℤ, List, [], ◌∷◌, Bool, true, false, ◌&&◌, refl, sym, ◌∙◌, ap, subst, length, take, arith}
+use Rattle.std.proofs.Common.{◌≡◌, ℕ, suc, ◌+◌, ℤ, List, [], ◌∷◌, Bool, true, false, ◌&&◌, refl, ◌∙◌, ap, subst, length, arith}
 use Rattle.std.proofs.lemmas.List.{length-take-le}
 use Rattle.std.proofs.lemmas.List.Elements.{All-cons, All-nil}
 use Rattle.std.proofs.lemmas.Bool.Decides.{nat_tests}
-use Rattle.std.specs.Prelude.{◌↔◌, All, Option, Some, None, unwrap_or, IsTrue, nat_eq, nat_le}
+use Rattle.std.specs.Prelude.{◌↔◌, Option, Some, None, unwrap_or, nat_eq}
 use Rattle.std.specs.List.{list_all}
-use Rattle.bl_cmeaning.specs.Parts.{Parts, parts_from, parts_of}
+use Rattle.bl_cmeaning.specs.Parts.{parts_of}
 use Rattle.bl_cmeaning.specs.Trace.{c_trace}
 use Rattle.bl_ctext.specs.declared.file.CFile.{CFile}
 use Rattle.bl_ctext.specs.SpellsC.{SpellsC}
 use Rattle.bl_ctree.specs.Means.{Means, Shown, shown}
 use Rattle.bl_early.specs.Built.{loop_steps}
-use Rattle.bl_early.specs.Emitted.{c_funcs, c_funcs_of, c_structs, c_structs_of}
+use Rattle.bl_early.specs.Emitted.{c_funcs_of, c_structs_of}
 use Rattle.bl_early.specs.Form.{Step, is_early, is_early_unit, steps_suit, unit_steps}
 use Rattle.bl_early.specs.Run.{trace_of}
-use Rattle.bl_earlyc.specs.Written.{HasTrace, RowsSuit, WrittenTrace, written}
+use Rattle.bl_earlyc.specs.Written.{RowsSuit, WrittenTrace, written}
 use Rattle.bl_earlytree.specs.Laws.{Early, EarlyIsBounded, EarlyIsNeverStuck, OneTrace as EarlyHasOneTrace}
-use Rattle.bl_earlytree.specs.Rows.{RowsFit, numbers_fit, row_fits}
+use Rattle.bl_earlytree.specs.Rows.{numbers_fit, row_fits}
 use Rattle.bl_raw.specs.declared.raw.Raw.{Raw}
 use Rattle.bl_recognise.specs.Early.{StandsFor}
 use Rattle.bl_tree.specs.declared.program.Program.{Program}
+use Rattle.bl_tree.specs.declared.tree.StructDef.{StructDef}
 use Rattle.bl_tree.specs.declared.tree.Unit.{Unit as UnitDef}
 use Rattle.bl_tree.specs.declared.tree.Var.{Var}
 use Rattle.bl_tree.specs.Program.{Keeps}
@@ -59,7 +60,7 @@ row_long : (vars : List Var) (row : List ℤ) → numbers_fit vars row ≡ true 
 row_long [] [] e = refl
 row_long [] (n ∷ row) e = absurd cc
 row_long (var ∷ vars) [] e = absurd cc
-row_long (var ∷ vars) (n ∷ row) e = ap (λ k. k + 1) (row_long vars row (right_holds _ _ e))
+row_long (var ∷ vars) (n ∷ row) e = ap (λ k. suc k) (row_long vars row (right_holds _ _ e))
 
 rows_long : (unit : UnitDef) → length (inputs_of unit) ≡ unit.inputs → (rows : List (List ℤ)) → list_all (row_fits unit) rows ≡ true → RowsSuit unit rows
 rows_long unit same [] e = All-nil (λ row. length row ≡ unit.inputs)
@@ -90,11 +91,16 @@ one_trace unit file keeps form structs funcs one bounded stuck has =
     }
 
 -- the same where the parts of the program are known by equations
-of_parts : (file : CFile) (unit : UnitDef) (structs : _) (units : List UnitDef) (entry : ℕ) → Keeps structs units entry → is_early structs units ≡ true →
+of_parts : (file : CFile) (unit : UnitDef) (structs : List StructDef) (units : List UnitDef) (entry : ℕ) → Keeps structs units entry → is_early structs units ≡ true →
     file.structs ≡ c_structs_of units → file.funcs ≡ c_funcs_of units →
     EarlyHasOneTrace → EarlyIsBounded → EarlyIsNeverStuck → WrittenTrace units →
     structs ≡ [] → units ≡ unit ∷ [] → entry ≡ 0 → OneTrace unit file
-of_parts file unit _ _ _ keeps form s f one bounded stuck has refl refl refl = one_trace unit file keeps form s f one bounded stuck has
+of_parts file unit structs units entry keeps form s f one bounded stuck has no_structs alone first =
+    one_trace unit file
+    (subst (λ n. Keeps [] (unit ∷ []) n) first (subst (λ us. Keeps [] us entry) alone (subst (λ ss. Keeps ss units entry) no_structs keeps)))
+    (subst (λ us. is_early [] us ≡ true) alone (subst (λ ss. is_early ss units ≡ true) no_structs form))
+    (subst (λ us. file.structs ≡ c_structs_of us) alone s) (subst (λ us. file.funcs ≡ c_funcs_of us) alone f)
+    one bounded stuck (subst WrittenTrace alone has)
 
 pub text_of_program : (program : Program) (file : CFile) (text : List ℕ) → is_early program.structs program.units ≡ true →
     file.structs ≡ c_structs_of program.units → file.funcs ≡ c_funcs_of program.units → SpellsC file text →

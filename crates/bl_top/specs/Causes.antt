@@ -3,7 +3,7 @@ use Rattle.std.specs.Prelude.{◌≡◌, ℕ, ◌⊎◌, List, Contains, Some, N
 use Rattle.bl_io.specs.Count.{Rose}
 use Rattle.bl_top.specs.declared.status.Status.{Status}
 use Rattle.bl_top.specs.declared.status.Status.TheVariants as status
-use Rattle.bl_words.specs.Jobs.{JobSpec, Word, build, files_of, job_of}
+use Rattle.bl_words.specs.Jobs.{JobSpec, Word, files_of, job_of}
 
 -- a count of faults before and after the call
 pub record Count : Type 0 where

@@ -133,5 +133,8 @@ fn text_of(alloc: Global, program: &Program) -> Result<Vec<u8>, NoMemory>
     early_ticks_end();
     written_trace(program);
     let file = emit(alloc, program)?;
-    bl_ctext::print(alloc, &file)
+    match bl_ctext::print(alloc, &file) {
+        Ok(text) => Ok(text),
+        Err(error) => Err(error),
+    }
 }

@@ -1,5 +1,4 @@
 use Rattle.std.proofs.Common.{length, subst}
-use Rattle.bl_lex.specs.Tokens.{Lexes}
 use Rattle.bl_parse.specs.Programs.{Spells}
 use Rattle.bl_syntax.specs.Rules.{IsRefusalOf, Passes}
 use Rattle.bl_top.proofs.Fronts.{lexed_refusal, named_refusal, parsed_refusal, tree_parsed, tree_that_passes}
@@ -20,8 +19,8 @@ returns-in-Ok-check-clause-accepted c =
     (subst (λ tokens. Spells c.args.source.now tokens c.in-Ok-parse.raw) c.deref.ensures.value c.in-Ok-parse.ensures.tree)
     c.in-Ok-check.ensures.passes
 
-pub returns-in-Err-check-clause-refused : goal.returns-in-Err-check-clause-refused
-returns-in-Err-check-clause-refused c =
+pub returns-clause-refused : goal.returns-clause-refused
+returns-clause-refused c =
     named_refusal c.args.source.now c.in-Ok-parse.raw c.in-Err-check.refusal c.in-Ok.ensures.passes
     (tree_parsed c.args.source.now c.in-Ok.tokens.items c.in-Ok-parse.raw c.in-Ok.ensures.tokens
     (subst Passes c.deref.ensures.value c.in-Ok-parse.ensures.passes)
