@@ -33,7 +33,7 @@ end
 fn is_fitting(answer: &Answer) -> bool {
     let notes = answer.notes.held();
     let refused = notes.starts_with(b"rule 3 Profile ") || notes.starts_with(b"rule 5 Syntax ");
-    (answer.status == 1 && refused) || (answer.status == 12 && notes == b"not built\n")
+    (answer.status == 1 && refused) || (answer.status == 12 && notes == b"not built\n".as_slice())
 }
 
 #[test]
