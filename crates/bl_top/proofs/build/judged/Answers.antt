@@ -16,7 +16,7 @@ pub returns-in-Ok-check-clause-accepted : goal.returns-in-Ok-check-clause-accept
 returns-in-Ok-check-clause-accepted c =
     tree_that_passes c.args.source.now c.in-Ok.tokens.items c.in-Ok-parse.raw c.in-Ok.ensures.passes c.in-Ok.ensures.tokens
     (subst Passes c.deref.ensures.value c.in-Ok-parse.ensures.passes)
-    (subst (λ tokens. Spells c.args.source.now tokens c.in-Ok-parse.raw) c.deref.ensures.value c.in-Ok-parse.ensures.tree)
+    (subst (λ tokens. Spells c.args.source.now tokens c.in-Ok-parse.raw) c.deref.ensures.value c.in-Ok-parse.ensures.spells)
     c.in-Ok-check.ensures.passes
 
 pub returns-clause-refused : goal.returns-clause-refused
@@ -24,5 +24,5 @@ returns-clause-refused c =
     named_refusal c.args.source.now c.in-Ok-parse.raw c.in-Err-check.refusal c.in-Ok.ensures.passes
     (tree_parsed c.args.source.now c.in-Ok.tokens.items c.in-Ok-parse.raw c.in-Ok.ensures.tokens
     (subst Passes c.deref.ensures.value c.in-Ok-parse.ensures.passes)
-    (subst (λ tokens. Spells c.args.source.now tokens c.in-Ok-parse.raw) c.deref.ensures.value c.in-Ok-parse.ensures.tree))
+    (subst (λ tokens. Spells c.args.source.now tokens c.in-Ok-parse.raw) c.deref.ensures.value c.in-Ok-parse.ensures.spells))
     c.in-Err-check.ensures.cause
