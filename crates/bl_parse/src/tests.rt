@@ -1,4 +1,4 @@
-use crate::read;
+use crate::parse;
 use bl_lex::lex;
 use bl_raw::Raw;
 use std::test::Fail;
@@ -10,7 +10,7 @@ const HEATER: &str =
 fn tree(rt: &HostRuntime, text: &str) -> Option<Raw> {
     let bytes = text.as_bytes();
     match lex(rt.alloc(), bytes) {
-        Ok(tokens) if bytes.len() < 1_000_000 => read(rt.alloc(), bytes, &tokens).ok(),
+        Ok(tokens) if bytes.len() < 1_000_000 => parse(rt.alloc(), bytes, &tokens).ok(),
         _ => None,
     }
 }
