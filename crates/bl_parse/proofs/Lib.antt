@@ -1,4 +1,5 @@
 pub mod ExprLemmas
+pub mod LexLemmas
 pub mod NameLemmas
 pub mod OperatorLemmas
 pub mod PartLemmas

@@ -36,7 +36,7 @@ by_test true p e next = subst (Produces Accesses next) (same e) (here, refl)
     same e = cc
 by_test false p e next = subst (Produces Accesses next) (same e) (later here, refl)
   where
-    same : Some {A = List Piece} [] ≡ Some p → [] ≡ p
+    same : ◌≡◌ {A = Option (List Piece)} (Some []) (Some p) → ◌≡◌ {A = List Piece} [] p
     same e = cc
 
 not_called : (a b : Bool) (q p : List Piece) → a ≡ false → or_absent true (cond a (Some q) (cond b (Some p) None)) ≡ or_absent true (cond b (Some p) None)
@@ -68,4 +68,4 @@ off_view tokens k off v vs is = by_token (slice_get tokens k) refl
 
 -- the use of a name, where no `(` stands, is fields and indices
 pub as_accesses : {tokens : List Token} {k : ℕ} {b : List Piece} → NoneNext (Mark OPEN_PAREN ∷ []) tokens k → Turns (the NameUse ∷ b) tokens k (the Accesses ∷ b) k
-as_accesses {tokens} {k} {b} off = record { goes = λ rest e. over (left tokens k) (b ++ rest) (off_view tokens k off) e }
+as_accesses {tokens} {k} {b} off = record { goes = λ rest e. record { within = e.within; expects = over (left tokens k) (b ++ rest) (off_view tokens k off) e.expects } }

@@ -19,7 +19,7 @@ use Rattle.bl_syntax.specs.Grammar.{Piece, the, class_of, same_class, production
 use Rattle.bl_syntax.specs.Tables.{has, has_empty, starts_within, permits}
 use Rattle.bl_syntax.proofs.Right.{same_is}
 use Rattle.bl_parse.specs.At.{kind_at}
-use Rattle.bl_parse.specs.Operators.{IsOperator, SpellsInfix, NoInfix, left_level}
+use Rattle.bl_parse.specs.Operators.{IsOperator, SpellsInfix, NoInfix, left_level, operator_classes}
 use Rattle.bl_parse.specs.Reading.{next_among, operand, NoneNext, Turns}
 use Rattle.bl_parse.proofs.ReadLemmas.{picks, class_word, class_sign, then, stay, opened, opened_one, omit}
 use Rattle.bl_parse.proofs.PartLemmas.{kind_among}
@@ -51,6 +51,13 @@ tails (suc m) level = cond (nat_le level m) (the (rest_of m) ∷ tails m level) 
 tails_step : (m level : ℕ) → level ≤ m → tails (suc m) level ≡ the (rest_of m) ∷ tails m level
 tails_step m level le = rw (le-leb level m le) refl
 
+plain : (n : ℕ) → left_level (suc (suc (suc n))) ≡ suc (suc (suc n))
+plain n = by_test (nat_eq (suc (suc (suc n))) 2) refl
+  where
+    by_test : (b : Bool) → nat_eq (suc (suc (suc n))) 2 ≡ b → cond b 3 (suc (suc (suc n))) ≡ suc (suc (suc n))
+    by_test true e = let h : suc (suc (suc n)) ≡ 2 = eqb-true (suc (suc (suc n))) 2 e in absurd (omega (arith, h))
+    by_test false e = refl
+
 room : (b m : ℕ) → m < below b → (left_level m ≤ b) × (m ≤ 8)
 room b zero h = (omega arith, omega arith)
 room zero (suc m) h = absurd (omega (arith, h))
@@ -58,25 +65,25 @@ room (suc b) (suc zero) h = (omega arith, omega arith)
 room (suc zero) (suc (suc m)) h = absurd (omega (arith, h))
 room (suc (suc zero)) (suc (suc m)) h = absurd (omega (arith, h))
 room (suc (suc (suc b))) (suc (suc zero)) h = (omega arith, omega arith)
-room (suc (suc (suc b))) (suc (suc (suc m))) h = let a = min-le_left 9 (b + 4) in let c = min-le_right 9 (b + 4) in (omega (arith, h, c), omega (arith, h, a))
+room (suc (suc (suc b))) (suc (suc (suc m))) h = let a = min-le_left 9 (b + 4) in let c = min-le_right 9 (b + 4) in let p = plain m in (omega (arith, h, c, p), omega (arith, h, a))
 
 fits : (b own : ℕ) → left_level own ≤ b → own ≤ 8 → own < below b
 fits zero zero l e = omega arith
 fits zero (suc zero) l e = absurd (omega (arith, l))
 fits zero (suc (suc zero)) l e = absurd (omega (arith, l))
-fits zero (suc (suc (suc n))) l e = absurd (omega (arith, l))
+fits zero (suc (suc (suc n))) l e = let p = plain n in absurd (omega (arith, l, p))
 fits (suc zero) zero l e = omega arith
 fits (suc zero) (suc zero) l e = omega arith
 fits (suc zero) (suc (suc zero)) l e = absurd (omega (arith, l))
-fits (suc zero) (suc (suc (suc n))) l e = absurd (omega (arith, l))
+fits (suc zero) (suc (suc (suc n))) l e = let p = plain n in absurd (omega (arith, l, p))
 fits (suc (suc zero)) zero l e = omega arith
 fits (suc (suc zero)) (suc zero) l e = omega arith
 fits (suc (suc zero)) (suc (suc zero)) l e = absurd (omega (arith, l))
-fits (suc (suc zero)) (suc (suc (suc n))) l e = absurd (omega (arith, l))
+fits (suc (suc zero)) (suc (suc (suc n))) l e = let p = plain n in absurd (omega (arith, l, p))
 fits (suc (suc (suc b))) zero l e = let h : 1 ≤ min 9 (b + 4) = le-min (omega arith) (omega arith) in omega (arith, h)
 fits (suc (suc (suc b))) (suc zero) l e = let h : 2 ≤ min 9 (b + 4) = le-min (omega arith) (omega arith) in omega (arith, h)
 fits (suc (suc (suc b))) (suc (suc zero)) l e = let h : 3 ≤ min 9 (b + 4) = le-min (omega arith) (omega arith) in omega (arith, h)
-fits (suc (suc (suc b))) (suc (suc (suc n))) l e = let h : n + 4 ≤ min 9 (b + 4) = le-min (omega (arith, e)) (omega (arith, l)) in omega (arith, h)
+fits (suc (suc (suc b))) (suc (suc (suc n))) l e = let p = plain n in let h : n + 4 ≤ min 9 (b + 4) = le-min (omega (arith, e)) (omega (arith, l, p)) in omega (arith, h)
 
 -- ---- which operators go on with a level
 
@@ -225,13 +232,13 @@ module _ {tokens : List Token} {k : ℕ} where
   down : (level own n : ℕ) {kind : TokenKind} {op : Op} → kind_at tokens k ≡ Some kind → IsOperator kind own op → level ≤ own → own < n → n ≤ 9
       → Turns (tails n level) tokens k (Terminal (class_of kind) ∷ the (operand (own + 1)) ∷ tails (below own) level) k
   down level own zero is op le inside high = absurd (omega (arith, inside))
-  down level own (suc m) {kind} {o} is op le inside high = subst (λ t. Turns t tokens k (Terminal (class_of kind) ∷ the (operand (own + 1)) ∷ tails (below own) level) k) (sym (tails_step m level (omega (arith, le, inside))))
-      (by_level (nat_eq own m) refl)
+  down level own (suc m) {kind} {op = o} is op le inside high = subst (λ t. Turns t tokens k (Terminal (class_of kind) ∷ the (operand (own + 1)) ∷ tails (below own) level) k) (sym (tails_step m level (omega (arith, le, inside))))
+      (by_level (nat_eq own m) refl (λ less. down level own m is op le less (omega (arith, high))))
     where
-      by_level : (b : Bool) → nat_eq own m ≡ b → Turns (the (rest_of m) ∷ tails m level) tokens k (Terminal (class_of kind) ∷ the (operand (own + 1)) ∷ tails (below own) level) k
-      by_level true e = subst (λ n. Turns (the (rest_of n) ∷ tails n level) tokens k (Terminal (class_of kind) ∷ the (operand (own + 1)) ∷ tails (below own) level) k) (eqb-true own m e) (steps level own is op le)
-      by_level false e = then (omit (rests_empty m) (lacks m (omega (arith, high)) (λ other p at found. differs m other p at found e)))
-          (down level own m is op le (smaller own m inside e) (omega (arith, high)))
+      by_level : (b : Bool) → nat_eq own m ≡ b → (own < m → Turns (tails m level) tokens k (Terminal (class_of kind) ∷ the (operand (own + 1)) ∷ tails (below own) level) k) → Turns (the (rest_of m) ∷ tails m level) tokens k (Terminal (class_of kind) ∷ the (operand (own + 1)) ∷ tails (below own) level) k
+      by_level true e deeper = subst (λ n. Turns (the (rest_of n) ∷ tails n level) tokens k (Terminal (class_of kind) ∷ the (operand (own + 1)) ∷ tails (below own) level) k) (eqb-true own m e) (steps level own is op le)
+      by_level false e deeper = then (omit (rests_empty m) (lacks m (omega (arith, high)) (λ other p at found. differs m other p at found e)))
+          (deeper (smaller own m inside e))
         where
           differs : (m : ℕ) (other : TokenKind) (p : Op) → kind_at tokens k ≡ Some other → IsOperator other m p → nat_eq own m ≡ false → ⊥
           differs m other p at found e = no_truth (sym (ap (nat_eq own) (same (sym is ∙ at) (same_level op) (same_level found)) ∙ eq-eqb own own refl) ∙ e)
@@ -260,14 +267,48 @@ module _ {tokens : List Token} {k : ℕ} where
 
   ends : (level bound n : ℕ) → n ≤ below bound → NoInfix tokens level bound k → Turns (tails n level) tokens k [] k
   ends level bound zero le none = stay
-  ends level bound (suc m) le none = by_level (nat_le level m) refl
+  ends level bound (suc m) le none = by_level (nat_le level m) refl (ends level bound m (omega (arith, le)) none)
     where
-      by_level : (b : Bool) → nat_le level m ≡ b → Turns (cond b (the (rest_of m) ∷ tails m level) []) tokens k [] k
-      by_level false e = stay
-      by_level true e = let r = room bound m (omega (arith, le)) in then (omit (rests_empty m) (lacks m r.1 (λ kind op at is. none m op (record { kind = kind; token = record { stands = at; next = refl }; is = is }) (leb-true level m e) r.0)))
-          (ends level bound m (omega (arith, le)) none)
+      by_level : (b : Bool) → nat_le level m ≡ b → Turns (tails m level) tokens k [] k → Turns (cond b (the (rest_of m) ∷ tails m level) []) tokens k [] k
+      by_level false e deeper = stay
+      by_level true e deeper = let r = room bound m (omega (arith, le)) in then (omit (rests_empty m) (lacks m r.1 (λ kind op at is. none m op (record { kind = kind; token = record { stands = at; next = refl }; is = is }) (leb-true level m e) r.0)))
+          deeper
 
   -- no operator goes on
   pub no_operator : {level bound : ℕ} → NoInfix tokens level bound k → Turns (tails (below bound) level) tokens k [] k
   no_operator {level} {bound} none = ends level bound (below bound) (omega arith) none
+
+
+-- at a position there is one operator
+pub infix_one : {tokens : List Token} {own other k to end : ℕ} {op p : Op} → SpellsInfix tokens own op k to → SpellsInfix tokens other p k end → own ≡ other
+infix_one a b = same_kind (sym a.token.stands ∙ b.token.stands) (same_level a.is) (same_level b.is)
+  where
+    same_kind : {kind more : TokenKind} {m n : ℕ} → Some kind ≡ Some more → level_of kind ≡ m → level_of more ≡ n → m ≡ n
+    same_kind s a b = cc
+
+is_counted : {kind : TokenKind} {own : ℕ} {op : Op} → IsOperator kind own op → has operator_classes (class_of kind) ≡ true
+is_counted IsOperator.either = refl
+is_counted IsOperator.both = refl
+is_counted IsOperator.equal = refl
+is_counted IsOperator.differs = refl
+is_counted IsOperator.less = refl
+is_counted IsOperator.at_most = refl
+is_counted IsOperator.greater = refl
+is_counted IsOperator.at_least = refl
+is_counted IsOperator.bits_or = refl
+is_counted IsOperator.bits_xor = refl
+is_counted IsOperator.bits_and = refl
+is_counted IsOperator.shift_left = refl
+is_counted IsOperator.shift_right = refl
+is_counted IsOperator.plus = refl
+is_counted IsOperator.minus = refl
+is_counted IsOperator.times = refl
+is_counted IsOperator.divided = refl
+is_counted IsOperator.remainder = refl
+
+pub no_infix : (tokens : List Token) (k level bound : ℕ) → next_among operator_classes (kind_at tokens k) ≡ false → NoInfix tokens level bound k
+no_infix tokens k level bound off = λ own op is le fit. no_truth (sym (is_counted is.is) ∙ subst (λ o. next_among operator_classes o ≡ false) is.token.stands off)
+  where
+    no_truth : true ≡ false → ⊥
+    no_truth e = cc
 

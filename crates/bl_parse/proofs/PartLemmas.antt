@@ -1,6 +1,6 @@
 -- Which production of a part is left, where others are ruled out.
-use Rattle.std.proofs.Common.{◌≡◌, ℕ, Bool, true, false, cond, ◌||◌, ◌⊎◌, inl, inr, ⊎_elim, List, [], ◌∷◌, ◌++◌, refl, ap, sym, ◌∙◌, subst}
-use Rattle.std.specs.Prelude.{Option, Some, None}
+use Rattle.std.proofs.Common.{◌≡◌, ℕ, Bool, true, false, cond, ◌||◌, ◌&&◌, ◌≤◌, ◌⊎◌, inl, inr, ⊎_elim, List, [], ◌∷◌, ◌++◌, refl, ap, sym, ◌∙◌, subst}
+use Rattle.std.specs.Prelude.{Option, Some, None, IsNone, nat_eq, nat_le}
 use Rattle.bl_tree.specs.declared.scalar.Scalar.{Scalar as ScalarType}
 use Rattle.bl_tree.specs.declared.token.Token.{Token}
 use Rattle.bl_tree.specs.declared.token.TokenKind.{TokenKind}
@@ -16,6 +16,8 @@ use Rattle.bl_syntax.specs.Grammar.{Piece, the, name, word, sign, class_of, same
 use Rattle.bl_syntax.specs.Follow.{statement_starts}
 use Rattle.bl_syntax.specs.declared.grammar.View.{View}
 use Rattle.bl_syntax.specs.Tables.{has, or_absent, choices_of, permits}
+use Rattle.std.proofs.lemmas.Bool.{eqb-true, leb-true, le-leb}
+use Rattle.bl_grammar.proofs.Predictive.{and_left, and_right, and_both}
 use Rattle.bl_syntax.proofs.Right.{chosen_none, same_is}
 use Rattle.bl_parse.specs.At.{kind_at}
 use Rattle.bl_parse.specs.Operators.{IsScalar, IsPrefix, SpellsPrefix, scalar_classes}
@@ -113,6 +115,34 @@ no_number (Some (Number n)) off = absurd (no_truth off)
     no_truth e = cc
 no_number (Some (Word w)) off = refl
 no_number (Some (Sign w)) off = refl
+
+off_word : (w k : ℕ) → (k ≡ w → ⊥) → nat_eq w k || false ≡ false
+off_word w k none = by_test (nat_eq w k) refl
+  where
+    by_test : (b : Bool) → nat_eq w k ≡ b → b || false ≡ false
+    by_test true e = absurd (none (sym (eqb-true w k e)))
+    by_test false e = refl
+
+middle : (a b c : Bool) (p q r : List Piece) → a ≡ false → c ≡ false → or_absent false (cond a (Some p) (cond b (Some q) (cond c (Some r) None))) ≡ or_absent false (cond b (Some q) None)
+middle a b c p q r ea ec = rw (ea, ec) refl
+
+pub primary_false : (k : ℕ) → (k ≡ PREV → ⊥) → (k ≡ TRUE → ⊥) → picks Primary (Keyword k) ≡ or_absent false (cond (nat_eq FALSE k || false) (Some (word FALSE ∷ [])) None)
+primary_false k np nt = middle (nat_eq TRUE k || false) (nat_eq FALSE k || false) (nat_eq PREV k || false) _ _ _ (off_word TRUE k nt) (off_word PREV k np)
+
+pub none_is : {A : Type 0} {o : Option A} → o ≡ None → IsNone o
+none_is e = rw e refl
+
+pub takes_tight : (a b c d : ℕ) → nat_le a b && nat_le c d ≡ true → a ≤ b
+takes_tight a b c d e = leb-true a b (and_left _ _ e)
+
+pub takes_left : (a b c d : ℕ) → nat_le a b && nat_le c d ≡ true → c ≤ d
+takes_left a b c d e = leb-true c d (and_right (nat_le a b) _ e)
+
+pub takes_none : (a b c d : ℕ) → nat_le a b && nat_le c d ≡ false → a ≤ b → c ≤ d → ⊥
+takes_none a b c d e le fit = no_truth (sym (and_both _ _ (le-leb a b le) (le-leb c d fit)) ∙ e)
+  where
+    no_truth : true ≡ false → ⊥
+    no_truth e = cc
 
 pub truth_word : {kind : TokenKind} {b : Bool} → IsTruth kind b → picks Primary (class_of kind) ≡ Some (Terminal (class_of kind) ∷ [])
 truth_word IsTruth.yes = refl

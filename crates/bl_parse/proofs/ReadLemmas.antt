@@ -1,7 +1,8 @@
 -- How a reader knows what stands next.
-use Rattle.std.proofs.Common.{◌≡◌, ℕ, zero, suc, ◌+◌, Bool, true, false, cond, ◌||◌, List, [], ◌∷◌, ◌++◌, drop, refl, ap, sym, ◌∙◌, subst, arith}
+use Rattle.std.proofs.Common.{◌≡◌, ℕ, zero, suc, ◌+◌, ◌<◌, ◌≤◌, Bool, true, false, cond, ◌||◌, List, [], ◌∷◌, ◌++◌, drop, length, refl, ap, sym, ◌∙◌, subst, arith}
 use Rattle.std.specs.Prelude.{Option, Some, None, slice_get, option_map}
 use Rattle.std.proofs.lemmas.Bool.{eq-eqb}
+use Rattle.std.proofs.lemmas.Option.{slice_get_within}
 use Rattle.bl_tree.specs.declared.token.Token.{Token}
 use Rattle.bl_tree.specs.declared.token.TokenKind.{TokenKind}
 use Rattle.bl_tree.specs.declared.token.TokenKind.TheVariants.{Name, Number, Word, Sign}
@@ -10,13 +11,14 @@ use Rattle.bl_syntax.specs.declared.grammar.Class.{Class}
 use Rattle.bl_syntax.specs.declared.grammar.Class.TheVariants.{AnyName, AnyNumber, Keyword, Mark}
 use Rattle.bl_syntax.specs.declared.grammar.View.{View}
 use Rattle.bl_syntax.specs.declared.grammar.Part.{Part}
+use Rattle.bl_syntax.specs.declared.grammar.Part.TheVariants.{Program, Item}
 use Rattle.bl_syntax.specs.Grammar.{Piece, the, name, number, word, sign, class_of, view_of, views_after, views, same_class, productions}
 use Rattle.bl_syntax.specs.Tables.{has, firsts, starts_within, starts, absent, has_empty, choices_of, choices, chosen, permits, or_absent, pick}
 use Rattle.bl_syntax.specs.Expects.{Expects, StandsNext}
 use Rattle.bl_syntax.proofs.Right.{same_is, unpicked}
-use Rattle.bl_syntax.proofs.Expecting.{expects_production, expects_absent, expects_token}
+use Rattle.bl_syntax.proofs.Expecting.{expects_production, expects_absent, expects_token, expects_nothing}
 use Rattle.bl_parse.specs.At.{kind_at, Takes}
-use Rattle.bl_parse.specs.Reading.{left, next_among, NotNext, NoneNext, Awaits, Turns}
+use Rattle.bl_parse.specs.Reading.{left, next_among, Here, NotNext, NoneNext, Awaits, Turns}
 
 -- ---- positions
 
@@ -128,6 +130,33 @@ unpicked_here : (part : Part) (view : View) → has_empty (productions part) ≡
 unfolding absent starts
 unpicked_here part view may off = unpicked part view may off
 
+none_within : (tokens : List Token) (k : ℕ) → k < length tokens → slice_get tokens k ≡ None → ⊥
+none_within [] k h e = absurd (omega (arith, h))
+none_within (x ∷ xs) zero h e = cc
+none_within (x ∷ xs) (suc k) h e = none_within xs k (omega (arith, h)) e
+
+kind_inside : (tokens : List Token) (k : ℕ) → k < length tokens → kind_at tokens k ≡ None → ⊥
+kind_inside tokens k inside none = by_token (slice_get tokens k) refl none
+  where
+    by_token : (o : Option Token) → slice_get tokens k ≡ o → option_map (λ token. token.kind) o ≡ None → ⊥
+    by_token None at e = none_within tokens k inside at
+    by_token (Some one) at e = cc
+
+some_left : (tokens : List Token) (k : ℕ) → k < length tokens → left tokens k ≡ [] → ⊥
+some_left tokens k inside nothing = by_token (slice_get tokens k) refl
+  where
+    by_token : (o : Option Token) → slice_get tokens k ≡ o → ⊥
+    by_token None at = none_within tokens k inside at
+    by_token (Some one) at = let s = (stands_after None tokens k).some one at in no_views (sym nothing ∙ s.2)
+
+-- behind a token the text goes on or ends
+token_within : (tokens : List Token) (k : ℕ) {to : ℕ} {kind : TokenKind} → to ≡ k + 1 → kind_at tokens k ≡ Some kind → to ≤ length tokens
+token_within tokens k {to} {kind} next is = by_token (slice_get tokens k) refl is
+  where
+    by_token : (o : Option Token) → slice_get tokens k ≡ o → option_map (λ token. token.kind) o ≡ Some kind → to ≤ length tokens
+    by_token None at e = absurd (no_some e)
+    by_token (Some one) at e = let h = slice_get_within tokens k one at in omega (arith, h, next)
+
 module _ (tokens : List Token) (k : ℕ) where
 
   -- what the grammar sees at a position
@@ -219,31 +248,31 @@ module _ {tokens : List Token} {k : ℕ} where
   -- ---- what stands next
 
   pub next_word : {w : ℕ} {b : List Piece} → Awaits (word w ∷ b) tokens k → kind_at tokens k ≡ Some (Word w)
-  next_word {w} a = let h = kind_next tokens k a.expects in h.1 ∙ ap Some (class_word h.0 w h.2)
+  next_word {w} a = let h = kind_next tokens k a.here.expects in h.1 ∙ ap Some (class_word h.0 w h.2)
 
   pub next_sign : {w : ℕ} {b : List Piece} → Awaits (sign w ∷ b) tokens k → kind_at tokens k ≡ Some (Sign w)
-  next_sign {w} a = let h = kind_next tokens k a.expects in h.1 ∙ ap Some (class_sign h.0 w h.2)
+  next_sign {w} a = let h = kind_next tokens k a.here.expects in h.1 ∙ ap Some (class_sign h.0 w h.2)
 
   pub next_name : {b : List Piece} → Awaits (name ∷ b) tokens k → kind_at tokens k ≡ Some Name
-  next_name a = let h = kind_next tokens k a.expects in h.1 ∙ ap Some (class_name h.0 h.2)
+  next_name a = let h = kind_next tokens k a.here.expects in h.1 ∙ ap Some (class_name h.0 h.2)
 
   -- ---- steps of a reader
 
   -- the first of what is awaited
   pub first : {x : Piece} {b : List Piece} → Awaits (x ∷ b) tokens k → Awaits (x ∷ []) tokens k
-  first {b = b} a = record { rest = b ++ a.rest; expects = a.expects }
+  first {b = b} a = record { rest = b ++ a.rest; here = a.here }
 
   -- the first two
   pub first_two : {x y : Piece} {b : List Piece} → Awaits (x ∷ y ∷ b) tokens k → Awaits (x ∷ y ∷ []) tokens k
-  first_two {b = b} a = record { rest = b ++ a.rest; expects = a.expects }
+  first_two {b = b} a = record { rest = b ++ a.rest; here = a.here }
 
   -- the beginning of what is awaited
   pub front : (a b : List Piece) → Awaits (a ++ b) tokens k → Awaits a tokens k
-  front a b is = record { rest = b ++ is.rest; expects = subst (λ s. Expects s (left tokens k)) (append_assoc a b is.rest) is.expects }
+  front a b is = record { rest = b ++ is.rest; here = subst (λ s. Here s tokens k) (append_assoc a b is.rest) is.here }
 
   -- what is awaited after a step
   pub after : {to : ℕ} {a b : List Piece} → Awaits a tokens k → Turns a tokens k b to → Awaits b tokens to
-  after is f = record { rest = is.rest; expects = f.goes is.rest is.expects }
+  after is f = record { rest = is.rest; here = f.goes is.rest is.here }
 
   -- two steps in turn
   pub then : {m to : ℕ} {a b c : List Piece} → Turns a tokens k b m → Turns b tokens m c to → Turns a tokens k c to
@@ -251,8 +280,8 @@ module _ {tokens : List Token} {k : ℕ} where
 
   -- a step beside what is expected after it
   pub beside : {to : ℕ} {a b : List Piece} (c : List Piece) → Turns a tokens k b to → Turns (a ++ c) tokens k (b ++ c) to
-  beside {to} {a} {b} c f = record { goes = λ rest e. subst (λ s. Expects s (left tokens to)) (sym (append_assoc b c rest))
-      (f.goes (c ++ rest) (subst (λ s. Expects s (left tokens k)) (append_assoc a c rest) e)) }
+  beside {to} {a} {b} c f = record { goes = λ rest e. subst (λ s. Here s tokens to) (sym (append_assoc b c rest))
+      (f.goes (c ++ rest) (subst (λ s. Here s tokens k) (append_assoc a c rest) e)) }
 
   -- a part was read
   pub read : {to : ℕ} {x : Piece} {b : List Piece} → Turns (x ∷ []) tokens k [] to → Turns (x ∷ b) tokens k b to
@@ -262,7 +291,7 @@ module _ {tokens : List Token} {k : ℕ} where
   read_two {b = b} f = record { goes = λ rest e. f.goes (b ++ rest) e }
 
   pub read_all : {to : ℕ} {a b : List Piece} → Turns a tokens k [] to → Turns (a ++ b) tokens k b to
-  read_all {to} {a} {b} f = record { goes = λ rest e. f.goes (b ++ rest) (subst (λ s. Expects s (left tokens k)) (append_assoc a b rest) e) }
+  read_all {to} {a} {b} f = record { goes = λ rest e. f.goes (b ++ rest) (subst (λ s. Here s tokens k) (append_assoc a b rest) e) }
 
   -- a part became another
   pub turned : {to : ℕ} {x y : Piece} {b : List Piece} → Turns (x ∷ []) tokens k (y ∷ []) to → Turns (x ∷ b) tokens k (y ∷ b) to
@@ -270,8 +299,9 @@ module _ {tokens : List Token} {k : ℕ} where
 
   -- a token was passed
   pub pass : {class : Class} {b : List Piece} {to : ℕ} → to ≡ k + 1 → Turns (Terminal class ∷ b) tokens k b to
-  pass {class} {b} {to} next = record { goes = λ rest e. let n = expects_token class (b ++ rest) (left tokens k) e in
-      subst (Expects (b ++ rest)) (sym (ap (left tokens) (next ∙ one_more k) ∙ drop_next k (views tokens) n.stands)) n.expects }
+  pass {class} {b} {to} next = record { goes = λ rest e. let n = expects_token class (b ++ rest) (left tokens k) e.expects in
+      record { within = token_within tokens k next (kind_next tokens k e.expects).1;
+      expects = subst (Expects (b ++ rest)) (sym (ap (left tokens) (next ∙ one_more k) ∙ drop_next k (views tokens) n.stands)) n.expects } }
 
   -- nothing was read
   pub stay : {a : List Piece} → Turns a tokens k a k
@@ -280,17 +310,17 @@ module _ {tokens : List Token} {k : ℕ} where
   -- the production that the next token decides on is expected
   pub opened : {part : Part} {b : List Piece} (p : List Piece) {kind : TokenKind} → ((view : View) → permits part view ≡ true) → kind_at tokens k ≡ Some kind
       → picks part (class_of kind) ≡ Some p → Turns (the part ∷ b) tokens k (p ++ b) k
-  opened {b = b} p may is picked = record { goes = λ rest e. subst (λ s. Expects s (left tokens k)) (sym (append_assoc p b rest)) (opens tokens k may is picked e) }
+  opened {b = b} p may is picked = record { goes = λ rest e. record { within = e.within; expects = subst (λ s. Expects s (left tokens k)) (sym (append_assoc p b rest)) (opens tokens k may is picked e.expects) } }
 
   -- the same where one production is left
   pub opened_last : {part : Part} {b : List Piece} (p : List Piece) (on : Bool) {kind : TokenKind} → ((view : View) → permits part view ≡ true) → kind_at tokens k ≡ Some kind
       → picks part (class_of kind) ≡ or_absent false (cond on (Some p) None) → Turns (the part ∷ b) tokens k (p ++ b) k
-  opened_last {b = b} p on may is picked = record { goes = λ rest e. subst (λ s. Expects s (left tokens k)) (sym (append_assoc p b rest)) (opens_last tokens k p on may is picked e) }
+  opened_last {b = b} p on may is picked = record { goes = λ rest e. record { within = e.within; expects = subst (λ s. Expects s (left tokens k)) (sym (append_assoc p b rest)) (opens_last tokens k p on may is picked e.expects) } }
 
   -- one production is left, whatever the token
   pub opened_rest : {part : Part} {b : List Piece} (p : List Piece) → ((view : View) → permits part view ≡ true) → has_empty (productions part) ≡ false
       → ((kind : TokenKind) → kind_at tokens k ≡ Some kind → (on : Bool) × (picks part (class_of kind) ≡ or_absent false (cond on (Some p) None))) → Turns (the part ∷ b) tokens k (p ++ b) k
-  opened_rest {part} {b} p may never each = record { goes = λ rest e. subst (λ s. Expects s (left tokens k)) (sym (append_assoc p b rest)) (opens_one rest e) }
+  opened_rest {part} {b} p may never each = record { goes = λ rest e. record { within = e.within; expects = subst (λ s. Expects s (left tokens k)) (sym (append_assoc p b rest)) (opens_one rest e.expects) } }
     where
       opens_one : (rest : List Piece) → Expects (the part ∷ b ++ rest) (left tokens k) → Expects (p ++ (b ++ rest)) (left tokens k)
       opens_one rest e = decided tokens k e may (Expects (p ++ (b ++ rest)) (left tokens k)) (λ none may_end expects. absurd (no_truth (sym may_end ∙ never)))
@@ -303,22 +333,22 @@ module _ {tokens : List Token} {k : ℕ} where
 
   -- a part that isn't absent doesn't begin at the end
   pub never_ends : {part : Part} {b : List Piece} → ((view : View) → permits part view ≡ true) → has_empty (productions part) ≡ false → Awaits (the part ∷ b) tokens k → kind_at tokens k ≡ None → ⊥
-  never_ends may never a is = decided tokens k a.expects may ⊥ (λ none may_end expects. no_truth (sym may_end ∙ never)) (λ kind q at on expects. no_some (sym is ∙ at))
+  never_ends may never a is = decided tokens k a.here.expects may ⊥ (λ none may_end expects. no_truth (sym may_end ∙ never)) (λ kind q at on expects. no_some (sym is ∙ at))
 
   -- nor at a token that decides on no production
   pub never : {part : Part} {b : List Piece} {kind : TokenKind} → ((view : View) → permits part view ≡ true) → kind_at tokens k ≡ Some kind → picks part (class_of kind) ≡ None → Awaits (the part ∷ b) tokens k → ⊥
-  never {part} may is picked a = decided tokens k a.expects may ⊥ (λ none may_end expects. no_some (sym none ∙ is))
+  never {part} may is picked a = decided tokens k a.here.expects may ⊥ (λ none may_end expects. no_some (sym none ∙ is))
       (λ kind q at on expects. no_some (sym picked ∙ (ap (λ o. picks_at part o) (sym is ∙ at) ∙ on)))
 
   -- nothing was read of a part that the next token doesn't begin
   pub omit : {part : Part} {b : List Piece} → has_empty (productions part) ≡ true → NoneNext (starts_within 20 part) tokens k
       → Turns (the part ∷ b) tokens k b k
-  omit {b = b} may off = record { goes = λ rest e. omits tokens k may off.off e }
+  omit {b = b} may off = record { goes = λ rest e. record { within = e.within; expects = omits tokens k may off.off e.expects } }
 
   -- a part that may be absent isn't, where what follows it doesn't stand next
   pub filled : {part : Part} {class : Class} {b : List Piece} (p : List Piece) → ((view : View) → permits part view ≡ true) → ((c : Class) → (on : Bool) × (picks part c ≡ or_absent true (cond on (Some p) None)))
       → NoneNext (class ∷ []) tokens k → Turns (the part ∷ Terminal class ∷ b) tokens k (p ++ Terminal class ∷ b) k
-  filled {part} {class} {b} p may each off = record { goes = λ rest e. subst (λ s. Expects s (left tokens k)) (sym (append_assoc p (Terminal class ∷ b) rest)) (fills rest e) }
+  filled {part} {class} {b} p may each off = record { goes = λ rest e. record { within = e.within; expects = subst (λ s. Expects s (left tokens k)) (sym (append_assoc p (Terminal class ∷ b) rest)) (fills rest e.expects) } }
     where
       stuck : (rest : List Piece) → Expects (Terminal class ∷ b ++ rest) (left tokens k) → ⊥
       stuck rest e = let h = kind_next tokens k e in no_truth (sym (subst (λ c. has (c ∷ []) (class_of h.0) ≡ true) (sym h.2) (own_class (class_of h.0))) ∙ subst (λ o. next_among (class ∷ []) o ≡ false) h.1 off.off)
@@ -328,3 +358,13 @@ module _ {tokens : List Token} {k : ℕ} where
       fills : (rest : List Piece) → Expects (the part ∷ (Terminal class ∷ b ++ rest)) (left tokens k) → Expects (p ++ (Terminal class ∷ b ++ rest)) (left tokens k)
       fills rest e = decided tokens k e may (Expects (p ++ (Terminal class ∷ b ++ rest)) (left tokens k)) (λ none may_end expects. absurd (stuck rest expects))
           (λ kind q at on expects. by_test rest (each (class_of kind)).0 q (sym (each (class_of kind)).1 ∙ on) expects)
+
+  -- at a token, a program goes on with an item
+  pub item_next : k < length tokens → Here (the Program ∷ []) tokens k → Here (the Item ∷ the Program ∷ []) tokens k
+  item_next inside here = record { within = here.within; expects = decided tokens k here.expects (λ v. refl) (Expects (the Item ∷ the Program ∷ []) (left tokens k))
+      (λ none may_end e. absurd (kind_inside tokens k inside none))
+      (λ kind q at on e. by_test (has (starts_within 20 Item) (class_of kind)) q on e) }
+    where
+      by_test : (on : Bool) (q : List Piece) → or_absent true (cond on (Some (the Item ∷ the Program ∷ [])) None) ≡ Some q → Expects (q ++ []) (left tokens k) → Expects (the Item ∷ the Program ∷ []) (left tokens k)
+      by_test true q e expects = subst (λ q. Expects (q ++ []) (left tokens k)) (sym (same_some e)) expects
+      by_test false q e expects = absurd (some_left tokens k inside (expects_nothing (left tokens k) (subst (λ q. Expects (q ++ []) (left tokens k)) (sym (same_some e)) expects)))

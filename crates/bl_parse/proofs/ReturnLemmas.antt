@@ -5,18 +5,19 @@ use Rattle.std.proofs.lemmas.Bool.{eq-eqb, eqb-true}
 use Rattle.bl_tree.specs.declared.token.Token.{Token}
 use Rattle.bl_tree.specs.declared.token.TokenKind.{TokenKind}
 use Rattle.bl_tree.specs.declared.token.TokenKind.TheVariants.{Name, Number, Word, Sign}
-use Rattle.bl_lex.specs.declared.word.TheConstants.{NOT, TRUE, FALSE, PREV}
+use Rattle.bl_lex.specs.declared.word.TheConstants.{NOT, TRUE, FALSE, PREV, VAR, LET, CONST, AWAIT, RUN, COBEGIN, WHEN, REPEAT, WHILE, IF, RETURN}
 use Rattle.bl_lex.specs.declared.sign.TheConstants.{OPEN_PAREN, MINUS, TILDE}
 use Rattle.bl_syntax.specs.declared.grammar.View.{View}
 use Rattle.bl_syntax.specs.declared.grammar.Part.TheVariants.{AfterReturn, Expr}
 use Rattle.bl_syntax.specs.Grammar.{Piece, the, class_of, view_of, views_after, views, expression_starts}
+use Rattle.bl_syntax.specs.Follow.{statement_starts}
 use Rattle.bl_syntax.specs.Tables.{has, starts, absent, choices, or_absent, pick}
 use Rattle.bl_syntax.specs.Expects.{Expects}
 use Rattle.bl_syntax.proofs.Expecting.{expects_production, expects_absent}
 use Rattle.bl_parse.specs.At.{kind_at}
 use Rattle.bl_parse.specs.Operators.{begins_expr}
-use Rattle.bl_parse.specs.Reading.{left, Turns}
-use Rattle.bl_parse.specs.Statements.{goes_on, takes_value}
+use Rattle.bl_parse.specs.Reading.{left, next_among, Turns}
+use Rattle.bl_parse.specs.Statements.{begins_stmt, goes_on, takes_value}
 
 eq_sym : (a b : ℕ) → nat_eq a b ≡ nat_eq b a
 eq_sym a b = by_test (nat_eq a b) (nat_eq b a) refl refl
@@ -119,7 +120,7 @@ decided tokens k one {to} b is takes next rest e = subst (λ n. Expects (cond b 
     no_some e = cc
 
 -- a token of a kind is a token
-token_at : (tokens : List Token) (k : ℕ) {kind : TokenKind} → kind_at tokens k ≡ Some kind → (one : Token) × (slice_get tokens k ≡ Some one)
+pub token_at : (tokens : List Token) (k : ℕ) {kind : TokenKind} → kind_at tokens k ≡ Some kind → (one : Token) × (slice_get tokens k ≡ Some one)
 token_at tokens k {kind} is = by_token (slice_get tokens k) refl is
   where
     by_token : (o : Option Token) → slice_get tokens k ≡ o → option_map (λ token. token.kind) o ≡ Some kind → (one : Token) × (slice_get tokens k ≡ Some one)
@@ -130,7 +131,19 @@ token_at tokens k {kind} is = by_token (slice_get tokens k) refl is
     by_token (Some one) at e = (one, at)
 
 pub returned : (tokens : List Token) (k : ℕ) {to : ℕ} {b : List Piece} (kind : TokenKind) → kind_at tokens k ≡ Some kind → takes_value tokens k ≡ true → to ≡ k + 1 → Turns (the AfterReturn ∷ b) tokens to (the Expr ∷ b) to
-returned tokens k {to} {b} kind is takes next = let t = token_at tokens k is in record { goes = λ rest e. decided tokens k t.0 true t.1 takes next (b ++ rest) e }
+returned tokens k {to} {b} kind is takes next = let t = token_at tokens k is in record { goes = λ rest e. record { within = e.within; expects = decided tokens k t.0 true t.1 takes next (b ++ rest) e.expects } }
 
 pub bare : (tokens : List Token) (k : ℕ) {to : ℕ} {b : List Piece} (kind : TokenKind) → kind_at tokens k ≡ Some kind → takes_value tokens k ≡ false → to ≡ k + 1 → Turns (the AfterReturn ∷ b) tokens to b to
-bare tokens k {to} {b} kind is takes next = let t = token_at tokens k is in record { goes = λ rest e. decided tokens k t.0 false t.1 takes next (b ++ rest) e }
+bare tokens k {to} {b} kind is takes next = let t = token_at tokens k is in record { goes = λ rest e. record { within = e.within; expects = decided tokens k t.0 false t.1 takes next (b ++ rest) e.expects } }
+
+or_end : (b : Bool) → b || false ≡ b
+or_end true = refl
+or_end false = refl
+
+-- the tokens that a statement may begin with, as the grammar sees them
+pub stmt_starts : (o : Option TokenKind) → begins_stmt o ≡ next_among statement_starts o
+stmt_starts None = refl
+stmt_starts (Some Name) = refl
+stmt_starts (Some (Number n)) = refl
+stmt_starts (Some (Sign s)) = refl
+stmt_starts (Some (Word k)) = rw (eq_sym k VAR, eq_sym k LET, eq_sym k CONST, eq_sym k AWAIT, eq_sym k RUN, eq_sym k COBEGIN, eq_sym k WHEN, eq_sym k REPEAT, eq_sym k WHILE, eq_sym k IF, eq_sym k RETURN, or_end (nat_eq RETURN k)) refl

@@ -18,19 +18,20 @@ use Rattle.bl_parse.specs.At.{kind_at, start_at, end_at}
 abbrev pub left : List Token → ℕ → List View
 left tokens k = drop k (views tokens)
 
--- from the position on the tokens spell these symbols, and what is expected after them, up to the end
+-- from the position on, up to the end, the tokens are expected to spell these symbols
+pub record Here (symbols : List Piece) (tokens : List Token) (at : ℕ) : Type 0 where
+  pub within : at ≤ length tokens
+  pub expects : Expects symbols (left tokens at)
+
+-- the symbols are expected at the position, and something after them
 pub record Awaits (symbols : List Piece) (tokens : List Token) (at : ℕ) : Type 0 where
   pub rest : List Piece
-  pub expects : Expects (symbols ++ rest) (left tokens at)
+  pub here : Here (symbols ++ rest) tokens at
 
 -- Between two positions a part of what is expected was read: where the first symbols are expected at the one, with anything after
 -- them, the other symbols are expected at the other.
 pub record Turns (symbols : List Piece) (tokens : List Token) (from : ℕ) (more : List Piece) (to : ℕ) : Type 0 where
-  pub goes : (rest : List Piece) → Expects (symbols ++ rest) (left tokens from) → Expects (more ++ rest) (left tokens to)
-
--- between the positions all of the symbols were read
-abbrev pub Follows : List Piece → List Token → ℕ → ℕ → Type 0
-Follows symbols tokens from to = Turns symbols tokens from [] to
+  pub goes : (rest : List Piece) → Here (symbols ++ rest) tokens from → Here (more ++ rest) tokens to
 
 -- whether a token of one of the classes stands next
 abbrev pub next_among : List Class → Option TokenKind → Bool

@@ -1,6 +1,6 @@
 //! Expressions: a loop over the operators of a level and tighter ones, and a function for each kind of operand.
 
-ghost use Rattle.std.specs.Prelude.{◌≡◌, ◌+◌, ◌<◌, ◌≤◌, ℕ, [], ◌∷◌, Some, length, false, IfOk, OnOk, IfSome, IsSome, IsNone, IsTrue};
+ghost use Rattle.std.specs.Prelude.{◌≡◌, ◌+◌, ◌<◌, ◌≤◌, ℕ, [], ◌∷◌, Some, length, false, IfOk, OnOk, IfSome, IsSome, IsNone, IsTrue, ◌&&◌, nat_le};
 ghost use Rattle.bl_tree.specs.declared.scalar.Op.{Op};
 ghost use Rattle.bl_tree.specs.declared.token.TokenKind.{TokenKind};
 ghost use Rattle.bl_lex.specs.declared.word.TheConstants.{AS, PREV};
@@ -69,13 +69,20 @@ fn next_infix(source: &Source, at: usize, level: u8, bound: u8) -> Option<Infix>
     ensures inside { IsSome result → at < length source.now.tokens.now }
 {
     match infix_at(source, at) {
-        Some(found) => if level <= found.level && found.left_level() <= bound {
+        Some(found) => if takes(found, level, bound) {
             Some(found)
         } else {
             None
         },
         None => None,
     }
+}
+
+/// Whether the operator binds as tightly as the level and takes a left operand of the bound.
+fn takes(found: Infix, level: u8, bound: u8) -> bool
+    ensures { result ≡ nat_le level found.level && nat_le (left_level found.level) bound }
+{
+    level <= found.level && found.left_level() <= bound
 }
 
 fn infix_at(source: &Source, at: usize) -> Option<Infix>
@@ -157,7 +164,8 @@ fn unary(source: &Source, at: &mut usize) -> Result<RawExpr, NoMemory>
     } else if source.stands(*at, TokenKind::Word(word::NOT)) {
         one(source, at, Op::Negate)
     } else {
-        primary(source, at)
+        let e = primary(source, at)?;
+        Ok(e)
     }
 }
 
@@ -217,7 +225,10 @@ fn primary(source: &Source, at: &mut usize) -> Result<RawExpr, NoMemory>
     match source.kind_at(*at) {
         Some(TokenKind::Name) => named(source, at),
         Some(TokenKind::Number(value)) => Ok(number(source, at, value)),
-        Some(TokenKind::Sign(_)) => in_parentheses(source, at),
+        Some(TokenKind::Sign(_)) => {
+            let e = in_parentheses(source, at)?;
+            Ok(e)
+        }
         Some(TokenKind::Word(k)) => led(source, at, k),
         None => unreachable!(),
     }
@@ -314,9 +325,11 @@ fn named(source: &Source, at: &mut usize) -> Result<RawExpr, NoMemory>
     let from = *at;
     let root = name(source, at)?;
     if source.stands(*at, TokenKind::Sign(sign::OPEN_PAREN)) {
-        called(source, at, from, root)
+        let call = called(source, at, from, root)?;
+        Ok(call)
     } else {
-        read(source, at, from, root)
+        let value = read(source, at, from, root)?;
+        Ok(value)
     }
 }
 
@@ -431,7 +444,8 @@ fn read_part(source: &Source, at: &mut usize) -> Result<RawPart, NoMemory>
         source.take(at, TokenKind::Sign(sign::DOT));
         Ok(RawPart::Field(name(source, at)?))
     } else {
-        index(source, at)
+        let part = index(source, at)?;
+        Ok(part)
     }
 }
 

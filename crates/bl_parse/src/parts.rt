@@ -131,7 +131,8 @@ pub fn outputs(source: &Source, at: &mut usize) -> Result<List<RawPath>, NoMemor
     ensures ahead { OnOk result (at.old ≤ at.new) }
 {
     if source.stands(*at, TokenKind::Sign(sign::OPEN_PAREN)) {
-        listed_outputs(source, at)
+        let outputs = listed_outputs(source, at)?;
+        Ok(outputs)
     } else {
         Ok(List::new(source.alloc))
     }

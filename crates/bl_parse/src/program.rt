@@ -20,10 +20,12 @@ pub fn parse(alloc: Global, text: &[u8], tokens: &[Token]) -> Result<Raw, Refusa
     ensures spells { IfOk result (Spells text.now tokens.now) }
     ensures refusal { IfErr result (IsRefusalOf (length text.now) tokens.now) }
 {
-    check(alloc, text.len() as u32, tokens)?;
-    match read(alloc, text, tokens) {
-        Ok(raw) => Ok(raw),
-        Err(NoMemory) => Err(Refusal::NoMemory),
+    match check(alloc, text.len() as u32, tokens) {
+        Ok(()) => match read(alloc, text, tokens) {
+            Ok(raw) => Ok(raw),
+            Err(NoMemory) => Err(Refusal::NoMemory),
+        },
+        Err(refusal) => Err(refusal),
     }
 }
 

@@ -3,15 +3,12 @@
 ghost use Rattle.std.specs.Prelude.{◌≡◌, ◌+◌, ◌<◌, ◌≤◌, [], ◌∷◌, Some, length, IfOk, OnOk, IsTrue};
 ghost use Rattle.bl_tree.specs.declared.token.TokenKind.{TokenKind};
 ghost use Rattle.bl_lex.specs.declared.word.TheConstants.{VAR, LET, CONST, AWAIT, RUN, COBEGIN, WHEN, REPEAT, WHILE, IF, THEN, RETURN};
-ghost use Rattle.bl_syntax.specs.declared.grammar.Class.{Class};
 ghost use Rattle.bl_syntax.specs.declared.grammar.Part.{Part};
-ghost use Rattle.bl_syntax.specs.Follow.{statement_starts};
 ghost use Rattle.bl_syntax.specs.Grammar.{the};
 ghost use Rattle.bl_syntax.specs.Grammar as grammar;
-ghost use Rattle.bl_syntax.specs.Tables.{has};
 ghost use Rattle.bl_parse.specs.At.{kind_at};
-ghost use Rattle.bl_parse.specs.Reading.{just, next_among, Awaits, Turns};
-ghost use Rattle.bl_parse.specs.Statements.{SpellsBlock, SpellsStmt, SpellsKind, SpellsBranches, SpellsBranch, SpellsWeak, SpellsGuard, SpellsArms, SpellsArm, SpellsElse, takes_value};
+ghost use Rattle.bl_parse.specs.Reading.{just, Awaits, Turns};
+ghost use Rattle.bl_parse.specs.Statements.{SpellsBlock, SpellsStmt, SpellsKind, SpellsBranches, SpellsBranch, SpellsWeak, SpellsGuard, SpellsArms, SpellsArm, SpellsElse, begins_stmt, leads_stmt, takes_value};
 
 use crate::expr::{read_expr, read_inputs, target_of};
 use crate::name::name;
@@ -41,7 +38,7 @@ pub fn block(source: &Source, at: &mut usize) -> Result<List<RawStmt>, NoMemory>
 
 /// Whether a statement may begin with the token at the position.
 fn begins_stmt(source: &Source, at: usize) -> bool
-    ensures among { result ≡ next_among statement_starts (kind_at source.now.tokens.now at) }
+    ensures among { result ≡ begins_stmt (kind_at source.now.tokens.now at) }
     ensures inside { IsTrue result → at < length source.now.tokens.now }
 {
     match source.kind_at(at) {
@@ -53,7 +50,7 @@ fn begins_stmt(source: &Source, at: usize) -> bool
 
 /// Whether a statement may begin with the keyword.
 fn leads_stmt(k: u8) -> bool
-    ensures { result ≡ has statement_starts (Class.Keyword k) }
+    ensures { result ≡ leads_stmt k }
 {
     k == word::VAR
         || k == word::LET

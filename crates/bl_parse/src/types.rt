@@ -24,7 +24,10 @@ pub fn read_type(source: &Source, at: &mut usize) -> Result<RawType, NoMemory>
     ensures ahead { OnOk result (at.old < at.new) }
 {
     match source.kind_at(*at) {
-        Some(TokenKind::Sign(_)) => array(source, at),
+        Some(TokenKind::Sign(_)) => {
+            let ty = array(source, at)?;
+            Ok(ty)
+        }
         Some(TokenKind::Name) => Ok(RawType::Struct(name(source, at)?)),
         Some(TokenKind::Word(_)) => Ok(RawType::Scalar(read_scalar(source, at)?)),
         Some(TokenKind::Number(_)) => unreachable!(),

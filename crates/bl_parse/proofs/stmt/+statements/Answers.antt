@@ -5,7 +5,9 @@ use Rattle.bl_syntax.specs.Grammar.{word, the}
 use Rattle.bl_parse.specs.Statements.{SpellsBlock, SpellsStmt, SpellsKind, SpellsBranches, SpellsBranch, SpellsArms, SpellsArm, SpellsElse}
 use Rattle.bl_parse.proofs.ExprLemmas.{le_same, pushed_first}
 use Rattle.bl_parse.proofs.StmtLemmas.{placed_stmt}
+use Rattle.bl_parse.specs.At.{kind_at}
 use Rattle.bl_parse.proofs.PartLemmas.{block_opens}
+use Rattle.bl_parse.proofs.ReturnLemmas.{stmt_starts}
 use Rattle.bl_parse.proofs.ReadLemmas.{front, read_all, next_word, first, first_two, after, then, read, read_two, pass, stay, opened, never_ends, never, omit, no_word}
 use Rattle.bl_parse.proofs.stmt.+statements.Goals as goal
 
@@ -13,17 +15,17 @@ pub block-statements-init : goal.block-statements-init
 block-statements-init t c = record { body = SpellsBlock.no_stmts c.new-body.ensures refl; follows = stay; ahead = le_same c.args.at.now }
 
 pub block-stmt-requires : goal.block-stmt-requires
-block-stmt-requires t c = record { awaits = first (after c.requires.awaits (then (c.statements.invariant.follows) (block_opens (sym c.begins_stmt.ensures.among ∙ c.statements-test.true)))) }
+block-stmt-requires t c = (omega (arith, c.decreases, c.statements.invariant.ahead, c.begins_stmt.ensures.inside c.statements-test.true), first (after c.requires.awaits (then (c.statements.invariant.follows) (block_opens (sym (stmt_starts (kind_at c.args.source.now.tokens.now c.statements.at)) ∙ (sym c.begins_stmt.ensures.among ∙ c.statements-test.true))))))
 
 pub block-statements-preserved : goal.block-statements-preserved
 block-statements-preserved t c = record {
   body = SpellsBlock.more_stmts c.statements.invariant.body c.in_ok-stmt.ensures.spelled c.in_ok-push.ensures.ok;
-  follows = then (c.statements.invariant.follows) (then (block_opens (sym c.begins_stmt.ensures.among ∙ c.statements-test.true)) (read c.in_ok-stmt.ensures.follows));
+  follows = then (c.statements.invariant.follows) (then (block_opens (sym (stmt_starts (kind_at c.args.source.now.tokens.now c.statements.at)) ∙ (sym c.begins_stmt.ensures.among ∙ c.statements-test.true))) (read c.in_ok-stmt.ensures.follows));
   ahead = omega (arith, c.statements.invariant.ahead, c.in_ok-stmt.ensures.ahead);
 }
 
 pub block-returns-clause-follows : goal.block-returns-clause-follows
-block-returns-clause-follows t c = then (c.statements.invariant.follows) (omit refl (record { off = sym c.begins_stmt.ensures.among ∙ c.statements-test.false }))
+block-returns-clause-follows t c = then (c.statements.invariant.follows) (omit refl (record { off = sym (stmt_starts (kind_at c.args.source.now.tokens.now c.statements.at)) ∙ (sym c.begins_stmt.ensures.among ∙ c.statements-test.false) }))
 
 pub stmt-returns-clause-spelled : goal.stmt-returns-clause-spelled
 stmt-returns-clause-spelled t c = SpellsStmt.placed c.in_ok-what.ensures.spelled (placed_stmt c.in_ok-what.what c.span.ensures)
@@ -38,7 +40,7 @@ pub kind-unreachable-requires-in-None : goal.kind-unreachable-requires-in-None
 kind-unreachable-requires-in-None t c = never_ends (λ v. refl) refl c.requires.awaits (sym c.kind_at.ensures.kind ∙ c.in-None.is)
 
 pub cobegin-branches-requires : goal.cobegin-branches-requires
-cobegin-branches-requires t c = record { awaits = front (the Weak ∷ the Block ∷ the Branches ∷ []) _ (after c.requires.awaits (then (opened (word COBEGIN ∷ the Weak ∷ the Block ∷ the Branches ∷ word END ∷ []) (λ v. refl) c.requires.stands refl) (pass c.take.ensures.next))) }
+cobegin-branches-requires t c = (omega (arith, c.decreases, c.take.ensures.next, c.take.ensures.inside), front (the Weak ∷ the Block ∷ the Branches ∷ []) _ (after c.requires.awaits (then (opened (word COBEGIN ∷ the Weak ∷ the Block ∷ the Branches ∷ word END ∷ []) (λ v. refl) c.requires.stands refl) (pass c.take.ensures.next))))
 
 pub cobegin-take-requires-2 : goal.cobegin-take-requires-2
 cobegin-take-requires-2 t c = record { stands = next_word (after c.requires.awaits (then (opened (word COBEGIN ∷ the Weak ∷ the Block ∷ the Branches ∷ word END ∷ []) (λ v. refl) c.requires.stands refl) (then (pass c.take.ensures.next) (read_all c.in_ok-branches.ensures.follows)))) }
@@ -50,13 +52,13 @@ pub cobegin-returns-clause-follows : goal.cobegin-returns-clause-follows
 cobegin-returns-clause-follows t c = then (opened (word COBEGIN ∷ the Weak ∷ the Block ∷ the Branches ∷ word END ∷ []) (λ v. refl) c.requires.stands refl) (then (pass c.take.ensures.next) (then (read_all c.in_ok-branches.ensures.follows) (pass c.take-2.ensures.next)))
 
 pub branches-branch-requires : goal.branches-branch-requires
-branches-branch-requires t c = record { awaits = first_two c.requires.awaits }
+branches-branch-requires t c = (omega (arith, c.decreases), first_two c.requires.awaits)
 
 pub branches-withs-init : goal.branches-withs-init
 branches-withs-init t c = record { branches = SpellsBranches.first_branch c.in_ok-branch.ensures.spelled (pushed_first c.new-branches.ensures c.in_ok-push.ensures.ok); follows = read_two c.in_ok-branch.ensures.follows; ahead = c.in_ok-branch.ensures.ahead }
 
 pub branches-branch-requires-in-withs : goal.branches-branch-requires-in-withs
-branches-branch-requires-in-withs t c = record { awaits = first_two (after c.requires.awaits (then (c.withs.invariant.follows) (then (opened (word WITH ∷ the Weak ∷ the Block ∷ the Branches ∷ []) (λ v. refl) (c.stands.ensures.kind.0 c.withs-test.true) refl) (pass c.take.ensures.next)))) }
+branches-branch-requires-in-withs t c = (omega (arith, c.decreases, c.take.ensures.next, c.take.ensures.inside, c.withs.invariant.ahead, c.stands.ensures.inside c.withs-test.true), first_two (after c.requires.awaits (then (c.withs.invariant.follows) (then (opened (word WITH ∷ the Weak ∷ the Block ∷ the Branches ∷ []) (λ v. refl) (c.stands.ensures.kind.0 c.withs-test.true) refl) (pass c.take.ensures.next)))))
 
 pub branches-withs-preserved : goal.branches-withs-preserved
 branches-withs-preserved t c = record {
@@ -72,7 +74,7 @@ pub branch-weak-requires : goal.branch-weak-requires
 branch-weak-requires t c = record { awaits = first c.requires.awaits }
 
 pub branch-block-requires : goal.branch-block-requires
-branch-block-requires t c = record { awaits = after c.requires.awaits (read c.in_ok-weak.ensures.follows) }
+branch-block-requires t c = (omega (arith, c.decreases, c.in_ok-weak.ensures.ahead), after c.requires.awaits (read c.in_ok-weak.ensures.follows))
 
 pub branch-returns-clause-spelled : goal.branch-returns-clause-spelled
 branch-returns-clause-spelled t c = SpellsBranch.branched c.in_ok-weak.ensures.spelled c.in_ok-body.ensures.spelled refl
@@ -87,7 +89,7 @@ pub guarded-guard-requires : goal.guarded-guard-requires
 guarded-guard-requires t c = record { awaits = first (after c.requires.awaits (then (opened (word WHEN ∷ the Expr ∷ the Guard ∷ the Block ∷ word END ∷ []) (λ v. refl) c.requires.stands refl) (then (pass c.take.ensures.next) (read c.in_ok-test.ensures.follows)))) }
 
 pub guarded-block-requires : goal.guarded-block-requires
-guarded-block-requires t c = record { awaits = first (after c.requires.awaits (then (opened (word WHEN ∷ the Expr ∷ the Guard ∷ the Block ∷ word END ∷ []) (λ v. refl) c.requires.stands refl) (then (pass c.take.ensures.next) (then (read c.in_ok-test.ensures.follows) (read c.in_ok-guard.ensures.follows))))) }
+guarded-block-requires t c = (omega (arith, c.decreases, c.take.ensures.next, c.take.ensures.inside, c.in_ok-test.ensures.ahead, c.in_ok-guard.ensures.ahead), first (after c.requires.awaits (then (opened (word WHEN ∷ the Expr ∷ the Guard ∷ the Block ∷ word END ∷ []) (λ v. refl) c.requires.stands refl) (then (pass c.take.ensures.next) (then (read c.in_ok-test.ensures.follows) (read c.in_ok-guard.ensures.follows))))))
 
 pub guarded-take-requires-2 : goal.guarded-take-requires-2
 guarded-take-requires-2 t c = record { stands = next_word (after c.requires.awaits (then (opened (word WHEN ∷ the Expr ∷ the Guard ∷ the Block ∷ word END ∷ []) (λ v. refl) c.requires.stands refl) (then (pass c.take.ensures.next) (then (read c.in_ok-test.ensures.follows) (then (read c.in_ok-guard.ensures.follows) (read c.in_ok-body.ensures.follows)))))) }
@@ -105,7 +107,7 @@ pub while_loop-take-requires-2 : goal.while_loop-take-requires-2
 while_loop-take-requires-2 t c = record { stands = next_word (after c.requires.awaits (then (opened (word WHILE ∷ the Expr ∷ word REPEAT ∷ the Block ∷ word END ∷ []) (λ v. refl) c.requires.stands refl) (then (pass c.take.ensures.next) (read c.in_ok-test.ensures.follows)))) }
 
 pub while_loop-block-requires : goal.while_loop-block-requires
-while_loop-block-requires t c = record { awaits = first (after c.requires.awaits (then (opened (word WHILE ∷ the Expr ∷ word REPEAT ∷ the Block ∷ word END ∷ []) (λ v. refl) c.requires.stands refl) (then (pass c.take.ensures.next) (then (read c.in_ok-test.ensures.follows) (pass c.take-2.ensures.next))))) }
+while_loop-block-requires t c = (omega (arith, c.decreases, c.take.ensures.next, c.take.ensures.inside, c.take-2.ensures.next, c.take-2.ensures.inside, c.in_ok-test.ensures.ahead), first (after c.requires.awaits (then (opened (word WHILE ∷ the Expr ∷ word REPEAT ∷ the Block ∷ word END ∷ []) (λ v. refl) c.requires.stands refl) (then (pass c.take.ensures.next) (then (read c.in_ok-test.ensures.follows) (pass c.take-2.ensures.next))))))
 
 pub while_loop-take-requires-3 : goal.while_loop-take-requires-3
 while_loop-take-requires-3 t c = record { stands = next_word (after c.requires.awaits (then (opened (word WHILE ∷ the Expr ∷ word REPEAT ∷ the Block ∷ word END ∷ []) (λ v. refl) c.requires.stands refl) (then (pass c.take.ensures.next) (then (read c.in_ok-test.ensures.follows) (then (pass c.take-2.ensures.next) (read c.in_ok-body.ensures.follows)))))) }
@@ -117,7 +119,7 @@ pub while_loop-returns-clause-follows : goal.while_loop-returns-clause-follows
 while_loop-returns-clause-follows t c = then (opened (word WHILE ∷ the Expr ∷ word REPEAT ∷ the Block ∷ word END ∷ []) (λ v. refl) c.requires.stands refl) (then (pass c.take.ensures.next) (then (read c.in_ok-test.ensures.follows) (then (pass c.take-2.ensures.next) (then (read c.in_ok-body.ensures.follows) (pass c.take-3.ensures.next)))))
 
 pub repeat-block-requires : goal.repeat-block-requires
-repeat-block-requires t c = record { awaits = first (after c.requires.awaits (then (opened (word REPEAT ∷ the Block ∷ the Until ∷ word END ∷ []) (λ v. refl) c.requires.stands refl) (pass c.take.ensures.next))) }
+repeat-block-requires t c = (omega (arith, c.decreases, c.take.ensures.next, c.take.ensures.inside), first (after c.requires.awaits (then (opened (word REPEAT ∷ the Block ∷ the Until ∷ word END ∷ []) (λ v. refl) c.requires.stands refl) (pass c.take.ensures.next))))
 
 pub repeat-read_expr-requires : goal.repeat-read_expr-requires
 repeat-read_expr-requires t c = record { awaits = first (after c.requires.awaits (then (opened (word REPEAT ∷ the Block ∷ the Until ∷ word END ∷ []) (λ v. refl) c.requires.stands refl) (then (pass c.take.ensures.next) (then (read c.in_ok-body.ensures.follows) (then (opened (word UNTIL ∷ the Expr ∷ []) (λ v. refl) (c.if-stands.ensures.kind.0 refl) refl) (pass c.take-then-stands.ensures.next)))))) }
@@ -141,10 +143,10 @@ pub repeat-returns-else-stands-clause-follows : goal.repeat-returns-else-stands-
 repeat-returns-else-stands-clause-follows t c = then (opened (word REPEAT ∷ the Block ∷ the Until ∷ word END ∷ []) (λ v. refl) c.requires.stands refl) (then (pass c.take.ensures.next) (then (read c.in_ok-body.ensures.follows) (then (omit refl (no_word (c.if-stands.ensures.not refl))) (pass c.take-else-stands.ensures.next))))
 
 pub branching-arms-requires : goal.branching-arms-requires
-branching-arms-requires t c = record { awaits = front (word IF ∷ the Expr ∷ word THEN ∷ the Block ∷ the Elseifs ∷ []) _ (after c.requires.awaits (opened (word IF ∷ the Expr ∷ word THEN ∷ the Block ∷ the Elseifs ∷ the Else ∷ word END ∷ []) (λ v. refl) c.requires.stands refl)) }
+branching-arms-requires t c = (omega (arith, c.decreases), front (word IF ∷ the Expr ∷ word THEN ∷ the Block ∷ the Elseifs ∷ []) _ (after c.requires.awaits (opened (word IF ∷ the Expr ∷ word THEN ∷ the Block ∷ the Elseifs ∷ the Else ∷ word END ∷ []) (λ v. refl) c.requires.stands refl)))
 
 pub branching-otherwise-requires : goal.branching-otherwise-requires
-branching-otherwise-requires t c = record { awaits = first (after c.requires.awaits (then (opened (word IF ∷ the Expr ∷ word THEN ∷ the Block ∷ the Elseifs ∷ the Else ∷ word END ∷ []) (λ v. refl) c.requires.stands refl) (read_all c.in_ok-arms.ensures.follows))) }
+branching-otherwise-requires t c = (omega (arith, c.decreases, c.in_ok-arms.ensures.ahead), first (after c.requires.awaits (then (opened (word IF ∷ the Expr ∷ word THEN ∷ the Block ∷ the Elseifs ∷ the Else ∷ word END ∷ []) (λ v. refl) c.requires.stands refl) (read_all c.in_ok-arms.ensures.follows))))
 
 pub branching-take-requires : goal.branching-take-requires
 branching-take-requires t c = record { stands = next_word (after c.requires.awaits (then (opened (word IF ∷ the Expr ∷ word THEN ∷ the Block ∷ the Elseifs ∷ the Else ∷ word END ∷ []) (λ v. refl) c.requires.stands refl) (then (read_all c.in_ok-arms.ensures.follows) (read c.in_ok-other.ensures.follows)))) }
@@ -156,13 +158,13 @@ pub branching-returns-clause-follows : goal.branching-returns-clause-follows
 branching-returns-clause-follows t c = then (opened (word IF ∷ the Expr ∷ word THEN ∷ the Block ∷ the Elseifs ∷ the Else ∷ word END ∷ []) (λ v. refl) c.requires.stands refl) (then (read_all c.in_ok-arms.ensures.follows) (then (read c.in_ok-other.ensures.follows) (pass c.take.ensures.next)))
 
 pub arms-arm-requires : goal.arms-arm-requires
-arms-arm-requires t c = record { awaits = front (word IF ∷ the Expr ∷ word THEN ∷ the Block ∷ []) _ c.requires.awaits }
+arms-arm-requires t c = (omega (arith, c.decreases), front (word IF ∷ the Expr ∷ word THEN ∷ the Block ∷ []) _ c.requires.awaits)
 
 pub arms-elseifs-init : goal.arms-elseifs-init
 arms-elseifs-init t c = record { arms = SpellsArms.first_arm c.in_ok-arm.ensures.spelled (pushed_first c.new-arms.ensures c.in_ok-push.ensures.ok); follows = read_all c.in_ok-arm.ensures.follows; ahead = c.in_ok-arm.ensures.ahead }
 
 pub arms-arm-requires-in-elseifs : goal.arms-arm-requires-in-elseifs
-arms-arm-requires-in-elseifs t c = record { awaits = front (word ELSEIF ∷ the Expr ∷ word THEN ∷ the Block ∷ []) _ (after c.requires.awaits (then (c.elseifs.invariant.follows) (opened (word ELSEIF ∷ the Expr ∷ word THEN ∷ the Block ∷ the Elseifs ∷ []) (λ v. refl) (c.stands.ensures.kind.0 c.elseifs-test.true) refl))) }
+arms-arm-requires-in-elseifs t c = (omega (arith, c.decreases, c.elseifs.invariant.ahead, c.stands.ensures.inside c.elseifs-test.true), front (word ELSEIF ∷ the Expr ∷ word THEN ∷ the Block ∷ []) _ (after c.requires.awaits (then (c.elseifs.invariant.follows) (opened (word ELSEIF ∷ the Expr ∷ word THEN ∷ the Block ∷ the Elseifs ∷ []) (λ v. refl) (c.stands.ensures.kind.0 c.elseifs-test.true) refl))))
 
 pub arms-elseifs-preserved : goal.arms-elseifs-preserved
 arms-elseifs-preserved t c = record {
@@ -184,7 +186,7 @@ pub arm-take-requires-2 : goal.arm-take-requires-2
 arm-take-requires-2 t c = record { stands = next_word (after c.requires.awaits (then (pass c.take.ensures.next) (read c.in_ok-test.ensures.follows))) }
 
 pub arm-block-requires : goal.arm-block-requires
-arm-block-requires t c = record { awaits = after c.requires.awaits (then (pass c.take.ensures.next) (then (read c.in_ok-test.ensures.follows) (pass c.take-2.ensures.next))) }
+arm-block-requires t c = (omega (arith, c.decreases, c.take.ensures.next, c.take.ensures.inside, c.take-2.ensures.next, c.take-2.ensures.inside, c.in_ok-test.ensures.ahead), after c.requires.awaits (then (pass c.take.ensures.next) (then (read c.in_ok-test.ensures.follows) (pass c.take-2.ensures.next))))
 
 pub arm-returns-clause-spelled : goal.arm-returns-clause-spelled
 arm-returns-clause-spelled t c = SpellsArm.headed c.take.ensures.taken c.in_ok-test.ensures.spelled c.take-2.ensures.taken c.in_ok-body.ensures.spelled refl
@@ -193,7 +195,7 @@ pub arm-returns-clause-follows : goal.arm-returns-clause-follows
 arm-returns-clause-follows t c = then (pass c.take.ensures.next) (then (read c.in_ok-test.ensures.follows) (then (pass c.take-2.ensures.next) (c.in_ok-body.ensures.follows)))
 
 pub otherwise-block-requires : goal.otherwise-block-requires
-otherwise-block-requires t c = record { awaits = after c.requires.awaits (then (opened (word ELSE ∷ the Block ∷ []) (λ v. refl) (c.if-stands.ensures.kind.0 refl) refl) (pass c.take.ensures.next)) }
+otherwise-block-requires t c = (omega (arith, c.decreases, c.take.ensures.next, c.take.ensures.inside, c.if-stands.ensures.inside refl), after c.requires.awaits (then (opened (word ELSE ∷ the Block ∷ []) (λ v. refl) (c.if-stands.ensures.kind.0 refl) refl) (pass c.take.ensures.next)))
 
 pub otherwise-returns-in_ok-body-clause-spelled : goal.otherwise-returns-in_ok-body-clause-spelled
 otherwise-returns-in_ok-body-clause-spelled t c = SpellsElse.with_else c.take.ensures.taken c.in_ok-body.ensures.spelled
