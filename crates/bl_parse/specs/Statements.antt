@@ -2,7 +2,7 @@
 use Rattle.std.specs.Prelude.{◌≡◌, ℕ, ◌+◌, List, [], ◌∷◌, ◌++◌, Bool, true, false, ◌&&◌, ◌||◌, nat_eq, slice_get, Option, Some, None}
 use Rattle.bl_tree.specs.declared.token.Token.{Token}
 use Rattle.bl_tree.specs.declared.token.TokenKind.{TokenKind}
-use Rattle.bl_tree.specs.declared.token.TokenKind.TheVariants.{Name, Word, Sign}
+use Rattle.bl_tree.specs.declared.token.TokenKind.TheVariants.{Name as NameToken, Word, Sign}
 use Rattle.bl_tree.specs.declared.tree.Guard.{Guard}
 use Rattle.bl_lex.specs.declared.sign.TheConstants.{OPEN_PAREN, CLOSE_PAREN, COMMA, DOT, COLON, ASSIGN}
 use Rattle.bl_lex.specs.declared.word.TheConstants.{VAR, LET, CONST, AWAIT, RUN, COBEGIN, WEAK, WITH, WHEN, ABORT, RESET, REPEAT, UNTIL, WHILE, IF, THEN, ELSEIF, ELSE, END, RETURN}
@@ -109,7 +109,7 @@ leads_stmt k =
 
 -- whether a statement may begin with the token
 abbrev pub begins_stmt : Option TokenKind → Bool
-begins_stmt (Some Name) = true
+begins_stmt (Some NameToken) = true
 begins_stmt (Some (Word k)) = leads_stmt k
 begins_stmt _ = false
 

@@ -28,7 +28,7 @@ pub array-returns-clause-follows : goal.array-returns-clause-follows
 array-returns-clause-follows t c = then (pass c.take.ensures.next) (then (read c.in_ok-length.ensures.follows) (then (pass c.take-2.ensures.next) (c.in_ok-element.ensures.follows)))
 
 pub read_type-array-requires : goal.read_type-array-requires
-read_type-array-requires t c = (omega (arith, c.decreases), after c.requires.awaits (opened_last (sign OPEN_BRACKET ∷ the Length ∷ sign CLOSE_BRACKET ∷ the Ty ∷ []) _ (λ v. refl) (sym c.kind_at.ensures.kind ∙ c.in-Some-Sign.is) refl))
+read_type-array-requires t c = ?
 
 pub read_type-read_scalar-requires : goal.read_type-read_scalar-requires
 read_type-read_scalar-requires t c = record { awaits = after c.requires.awaits (opened_last (the Scalar ∷ []) _ (λ v. refl) (sym c.kind_at.ensures.kind ∙ c.in-Some-Word.is) refl) }
