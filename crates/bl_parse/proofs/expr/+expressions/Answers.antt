@@ -1,4 +1,4 @@
-use Rattle.std.proofs.Common.{refl, sym, arith, true, ◌∙◌, ◌∷◌, []}
+use Rattle.std.proofs.Common.{Some, refl, ap, sym, arith, true, ◌∙◌, ◌∷◌, []}
 use Rattle.bl_lex.specs.declared.word.TheConstants.{AS, NOT}
 use Rattle.bl_lex.specs.declared.sign.TheConstants.{OPEN_BRACKET, CLOSE_BRACKET, OPEN_PAREN, CLOSE_PAREN, COMMA, DOT, MINUS, TILDE}
 use Rattle.bl_syntax.specs.declared.grammar.Part.TheVariants.{Scalar, Accesses, Inputs, InputList, InputRest, Expr, CastRest, Unary, Primary, NameUse, NoOutputs}
@@ -132,10 +132,10 @@ pub one-returns-clause-follows : goal.one-returns-clause-follows
 one-returns-clause-follows t c = then (prefixed c.requires.prefix) (then (pass refl) (c.in_ok-operand.ensures.follows))
 
 pub primary-in_parentheses-requires : goal.primary-in_parentheses-requires
-primary-in_parentheses-requires t c = (omega (arith, c.decreases), after c.requires.awaits (opened_last (sign OPEN_PAREN ∷ the Expr ∷ sign CLOSE_PAREN ∷ []) _ (λ v. refl) (sym c.kind_at.ensures.kind ∙ c.in-Some-Sign.is) refl))
+primary-in_parentheses-requires t c = (omega (arith, c.decreases), after c.requires.awaits (opened_last (sign OPEN_PAREN ∷ the Expr ∷ sign CLOSE_PAREN ∷ []) _ (λ v. refl) (sym c.kind_at.ensures.kind ∙ (c.in-Some-Sign.is ∙ ap Some c.in-Some-Sign.field-0-is)) refl))
 
 pub primary-returns-in_ok-e-in-Some-Sign-clause-follows : goal.primary-returns-in_ok-e-in-Some-Sign-clause-follows
-primary-returns-in_ok-e-in-Some-Sign-clause-follows t c = then (opened_last (sign OPEN_PAREN ∷ the Expr ∷ sign CLOSE_PAREN ∷ []) _ (λ v. refl) (sym c.kind_at.ensures.kind ∙ c.in-Some-Sign.is) refl) (c.in_ok-e-in-Some-Sign.ensures.follows)
+primary-returns-in_ok-e-in-Some-Sign-clause-follows t c = then (opened_last (sign OPEN_PAREN ∷ the Expr ∷ sign CLOSE_PAREN ∷ []) _ (λ v. refl) (sym c.kind_at.ensures.kind ∙ (c.in-Some-Sign.is ∙ ap Some c.in-Some-Sign.field-0-is)) refl) (c.in_ok-e-in-Some-Sign.ensures.follows)
 
 pub primary-unreachable-requires : goal.primary-unreachable-requires
 primary-unreachable-requires t c = never_ends (λ v. refl) refl c.requires.awaits (sym c.kind_at.ensures.kind ∙ c.in-None.is)

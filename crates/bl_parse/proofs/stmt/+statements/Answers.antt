@@ -1,4 +1,4 @@
-use Rattle.std.proofs.Common.{refl, sym, arith, ◌∙◌, ◌∷◌, []}
+use Rattle.std.proofs.Common.{Some, refl, ap, sym, arith, ◌∙◌, ◌∷◌, []}
 use Rattle.bl_lex.specs.declared.word.TheConstants.{END, COBEGIN, WHEN, REPEAT, WHILE, IF, THEN, WITH, UNTIL, ELSEIF, ELSE}
 use Rattle.bl_syntax.specs.declared.grammar.Part.TheVariants.{Block, Weak, Branches, Guard, Until, Elseifs, Else, Expr}
 use Rattle.bl_syntax.specs.Grammar.{word, the}
@@ -31,10 +31,10 @@ pub stmt-returns-clause-spelled : goal.stmt-returns-clause-spelled
 stmt-returns-clause-spelled t c = SpellsStmt.placed c.in_ok-what.ensures.spelled (placed_stmt c.in_ok-what.what c.span.ensures)
 
 pub kind-unreachable-requires : goal.kind-unreachable-requires
-kind-unreachable-requires t c = never (λ v. refl) (sym c.kind_at.ensures.kind ∙ c.in-Some-Number.is) refl c.requires.awaits
+kind-unreachable-requires t c = never (λ v. refl) (sym c.kind_at.ensures.kind ∙ (c.in-Some-Number.is ∙ ap Some c.in-Some-Number.field-0-is)) refl c.requires.awaits
 
 pub kind-unreachable-requires-in-Some-Sign : goal.kind-unreachable-requires-in-Some-Sign
-kind-unreachable-requires-in-Some-Sign t c = never (λ v. refl) (sym c.kind_at.ensures.kind ∙ c.in-Some-Sign.is) refl c.requires.awaits
+kind-unreachable-requires-in-Some-Sign t c = never (λ v. refl) (sym c.kind_at.ensures.kind ∙ (c.in-Some-Sign.is ∙ ap Some c.in-Some-Sign.field-0-is)) refl c.requires.awaits
 
 pub kind-unreachable-requires-in-None : goal.kind-unreachable-requires-in-None
 kind-unreachable-requires-in-None t c = never_ends (λ v. refl) refl c.requires.awaits (sym c.kind_at.ensures.kind ∙ c.in-None.is)

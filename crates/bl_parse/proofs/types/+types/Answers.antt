@@ -1,4 +1,4 @@
-use Rattle.std.proofs.Common.{refl, ap, sym, arith, ◌∙◌, ◌∷◌, []}
+use Rattle.std.proofs.Common.{Some, refl, ap, sym, arith, ◌∙◌, ◌∷◌, []}
 use Rattle.bl_lex.specs.declared.sign.TheConstants.{OPEN_BRACKET, CLOSE_BRACKET}
 use Rattle.bl_syntax.specs.declared.grammar.Part.TheVariants.{Ty, Scalar, Length}
 use Rattle.bl_syntax.specs.Grammar.{name, sign, the}
@@ -28,28 +28,28 @@ pub array-returns-clause-follows : goal.array-returns-clause-follows
 array-returns-clause-follows t c = then (pass c.take.ensures.next) (then (read c.in_ok-length.ensures.follows) (then (pass c.take-2.ensures.next) (c.in_ok-element.ensures.follows)))
 
 pub read_type-array-requires : goal.read_type-array-requires
-read_type-array-requires t c = ?
+read_type-array-requires t c = (omega (arith, c.decreases), after c.requires.awaits (opened_last (sign OPEN_BRACKET ∷ the Length ∷ sign CLOSE_BRACKET ∷ the Ty ∷ []) _ (λ v. refl) (sym c.kind_at.ensures.kind ∙ (c.in-Some-Sign.is ∙ ap Some c.in-Some-Sign.field-0-is)) refl))
 
 pub read_type-read_scalar-requires : goal.read_type-read_scalar-requires
-read_type-read_scalar-requires t c = record { awaits = after c.requires.awaits (opened_last (the Scalar ∷ []) _ (λ v. refl) (sym c.kind_at.ensures.kind ∙ c.in-Some-Word.is) refl) }
+read_type-read_scalar-requires t c = record { awaits = after c.requires.awaits (opened_last (the Scalar ∷ []) _ (λ v. refl) (sym c.kind_at.ensures.kind ∙ (c.in-Some-Word.is ∙ ap Some c.in-Some-Word.field-0-is)) refl) }
 
 pub read_type-unreachable-requires : goal.read_type-unreachable-requires
-read_type-unreachable-requires t c = never (λ v. refl) (sym c.kind_at.ensures.kind ∙ c.in-Some-Number.is) refl c.requires.awaits
+read_type-unreachable-requires t c = never (λ v. refl) (sym c.kind_at.ensures.kind ∙ (c.in-Some-Number.is ∙ ap Some c.in-Some-Number.field-0-is)) refl c.requires.awaits
 
 pub read_type-unreachable-requires-in-None : goal.read_type-unreachable-requires-in-None
 read_type-unreachable-requires-in-None t c = never_ends (λ v. refl) refl c.requires.awaits (sym c.kind_at.ensures.kind ∙ c.in-None.is)
 
-pub read_type-returns-in_ok-ty-clause-follows : goal.read_type-returns-in_ok-ty-clause-follows
-read_type-returns-in_ok-ty-clause-follows t c = then (opened_last (sign OPEN_BRACKET ∷ the Length ∷ sign CLOSE_BRACKET ∷ the Ty ∷ []) _ (λ v. refl) (sym c.kind_at.ensures.kind ∙ c.in-Some-Sign.is) refl) (c.in_ok-ty.ensures.follows)
+pub read_type-returns-in_ok-ty-in-Some-Sign-clause-follows : goal.read_type-returns-in_ok-ty-in-Some-Sign-clause-follows
+read_type-returns-in_ok-ty-in-Some-Sign-clause-follows t c = then (opened_last (sign OPEN_BRACKET ∷ the Length ∷ sign CLOSE_BRACKET ∷ the Ty ∷ []) _ (λ v. refl) (sym c.kind_at.ensures.kind ∙ (c.in-Some-Sign.is ∙ ap Some c.in-Some-Sign.field-0-is)) refl) (c.in_ok-ty-in-Some-Sign.ensures.follows)
 
 pub read_type-returns-in_ok-name-in-Some-Name-clause-spelled : goal.read_type-returns-in_ok-name-in-Some-Name-clause-spelled
 read_type-returns-in_ok-name-in-Some-Name-clause-spelled t c = SpellsType.named c.in_ok-name-in-Some-Name.ensures.spelled refl
 
 pub read_type-returns-in_ok-name-in-Some-Name-clause-follows : goal.read_type-returns-in_ok-name-in-Some-Name-clause-follows
-read_type-returns-in_ok-name-in-Some-Name-clause-follows t c = then (opened (name ∷ []) (λ v. refl) ((sym c.kind_at.ensures.kind ∙ c.in-Some-Name.is)) refl) (c.in_ok-name-in-Some-Name.ensures.follows)
+read_type-returns-in_ok-name-in-Some-Name-clause-follows t c = then (opened (name ∷ []) (λ v. refl) ((sym c.kind_at.ensures.kind ∙ (c.in-Some-Name.is ∙ ap Some c.in-Some-Name.field-0-is))) refl) (c.in_ok-name-in-Some-Name.ensures.follows)
 
 pub read_type-returns-in_ok-read_scalar-in-Some-Word-clause-spelled : goal.read_type-returns-in_ok-read_scalar-in-Some-Word-clause-spelled
 read_type-returns-in_ok-read_scalar-in-Some-Word-clause-spelled t c = SpellsType.scalar c.in_ok-read_scalar-in-Some-Word.ensures.spelled refl
 
 pub read_type-returns-in_ok-read_scalar-in-Some-Word-clause-follows : goal.read_type-returns-in_ok-read_scalar-in-Some-Word-clause-follows
-read_type-returns-in_ok-read_scalar-in-Some-Word-clause-follows t c = then (opened_last (the Scalar ∷ []) _ (λ v. refl) (sym c.kind_at.ensures.kind ∙ c.in-Some-Word.is) refl) (c.in_ok-read_scalar-in-Some-Word.ensures.follows)
+read_type-returns-in_ok-read_scalar-in-Some-Word-clause-follows t c = then (opened_last (the Scalar ∷ []) _ (λ v. refl) (sym c.kind_at.ensures.kind ∙ (c.in-Some-Word.is ∙ ap Some c.in-Some-Word.field-0-is)) refl) (c.in_ok-read_scalar-in-Some-Word.ensures.follows)
