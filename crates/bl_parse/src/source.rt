@@ -1,4 +1,4 @@
-ghost use Rattle.std.specs.Prelude.{◌≡◌, ◌+◌, ◌<◌, ◌↔◌, Some, false, IsTrue, IsFalse, IsSome, IsNone, IfSome, length};
+ghost use Rattle.std.specs.Prelude.{◌≡◌, ◌+◌, ◌<◌, ◌↔◌, Some, false, IsTrue, IsFalse, IsSome, IsNone, IfSome, length, slice_get};
 ghost use Rattle.bl_tree.specs.declared.token.TokenKind.{TokenKind};
 ghost use Rattle.bl_parse.specs.At.{kind_at, start_at, end_at, span, Takes};
 ghost use Rattle.bl_parse.specs.Expressions.{is_number};
@@ -18,6 +18,16 @@ pub struct Source<'a> {
 }
 
 impl<'a> Source<'a> {
+    pub fn token_at(&self, k: usize) -> Option<Token>
+        ensures token { result ≡ slice_get self.now.tokens.now k }
+        ensures inside { IsSome result → k < length self.now.tokens.now }
+    {
+        match self.tokens.get(k) {
+            Some(token) => Some(*token),
+            None => None,
+        }
+    }
+
     pub fn kind_at(&self, k: usize) -> Option<TokenKind>
         ensures kind { result ≡ kind_at self.now.tokens.now k }
         ensures inside { IsSome result → k < length self.now.tokens.now }

@@ -8,7 +8,7 @@ ghost use Rattle.bl_syntax.specs.Grammar.{the};
 ghost use Rattle.bl_syntax.specs.Grammar as grammar;
 ghost use Rattle.bl_parse.specs.At.{kind_at};
 ghost use Rattle.bl_parse.specs.Reading.{just, Awaits, Turns};
-ghost use Rattle.bl_parse.specs.Statements.{SpellsBlock, SpellsStmt, SpellsKind, SpellsBranches, SpellsBranch, SpellsWeak, SpellsGuard, SpellsArms, SpellsArm, SpellsElse, begins_stmt, leads_stmt, takes_value};
+ghost use Rattle.bl_parse.specs.Statements.{SpellsBlock, SpellsStmt, SpellsKind, SpellsBranches, SpellsBranch, SpellsWeak, SpellsGuard, SpellsArms, SpellsArm, SpellsElse, begins_stmt, goes_on, leads_stmt, takes_value};
 
 use crate::expr::{read_expr, read_inputs, target_of};
 use crate::name::name;
@@ -18,7 +18,7 @@ use crate::source::Source;
 use bl_lex::{sign, word};
 use bl_raw::stmt::{RawArm, RawBranch, RawStmt, RawStmtKind};
 use bl_tree::{List, NoMemory};
-use bl_tree::token::TokenKind;
+use bl_tree::token::{Token, TokenKind};
 use bl_tree::tree::Guard;
 
 /// Reads statements, as many as there are.
@@ -232,11 +232,18 @@ fn returning(source: &Source, at: &mut usize) -> Result<RawStmtKind, NoMemory>
 fn takes_value(source: &Source, at: usize) -> bool
     ensures { result ≡ takes_value source.now.tokens.now at }
 {
-    match source.tokens.get(at) {
-        Some(first) => match source.tokens.get(at + 1) {
-            Some(second) => first.line == second.line && begins_expr(second.kind),
-            None => false,
-        },
+    match source.token_at(at) {
+        Some(first) => goes_on(first, source.token_at(at + 1)),
+        None => false,
+    }
+}
+
+/// Whether the next token is on the line of the first, and an expression may begin with it.
+fn goes_on(first: Token, next: Option<Token>) -> bool
+    ensures { result ≡ goes_on (Some first) next }
+{
+    match next {
+        Some(second) => first.line == second.line && begins_expr(second.kind),
         None => false,
     }
 }

@@ -55,7 +55,7 @@ pub expr_of-operators-init : goal.expr_of-operators-init
 expr_of-operators-init t c = record { left = c.in_ok-left.ensures.spelled; follows = then (operands c.args.level c.requires.known) (read c.in_ok-left.ensures.follows); ahead = c.in_ok-left.ensures.ahead; low = c.requires.known }
 
 pub expr_of-expr_of-requires : goal.expr_of-expr_of-requires
-expr_of-expr_of-requires t c = (omega (arith, c.decreases, c.operators.invariant.ahead, c.in-Some.ensures.inside refl), omega (arith, c.in-Some.ensures.below), first (after c.requires.awaits (then (c.operators.invariant.follows) (then (next_operator c.in-Some.ensures.spelled c.in-Some.ensures.below c.in-Some.ensures.tight c.in-Some.ensures.left) (pass refl)))))
+expr_of-expr_of-requires t c = (omega (arith, c.decreases, c.operators.invariant.ahead, c.in-Some.ensures.inside refl), (omega (arith, c.in-Some.ensures.below), first (after c.requires.awaits (then (c.operators.invariant.follows) (then (next_operator c.in-Some.ensures.spelled c.in-Some.ensures.below c.in-Some.ensures.tight c.in-Some.ensures.left) (pass refl))))))
 
 pub expr_of-operators-preserved : goal.expr_of-operators-preserved
 expr_of-operators-preserved t c = record {
@@ -103,10 +103,10 @@ pub index-returns-clause-follows : goal.index-returns-clause-follows
 index-returns-clause-follows t c = then (pass c.take.ensures.next) (then (read c.in_ok-e.ensures.follows) (pass c.take-2.ensures.next))
 
 pub named-called-requires : goal.named-called-requires
-named-called-requires t c = (omega (arith, c.decreases, c.in_ok-root.ensures.next, c.in_ok-root.ensures.inside, c.if-stands.ensures.inside refl), c.in_ok-root.ensures.spelled, c.in_ok-root.ensures.next, after c.requires.awaits (then (opened (name ∷ the NameUse ∷ []) (λ v. refl) c.requires.stands refl) (then (read c.in_ok-root.ensures.follows) (opened (the Inputs ∷ the NoOutputs ∷ []) (λ v. refl) (c.if-stands.ensures.kind.0 refl) refl))))
+named-called-requires t c = (omega (arith, c.decreases, c.in_ok-root.ensures.next, c.in_ok-root.ensures.inside, c.if-stands.ensures.inside refl), (c.in_ok-root.ensures.spelled, (c.in_ok-root.ensures.next, after c.requires.awaits (then (opened (name ∷ the NameUse ∷ []) (λ v. refl) c.requires.stands refl) (then (read c.in_ok-root.ensures.follows) (opened (the Inputs ∷ the NoOutputs ∷ []) (λ v. refl) (c.if-stands.ensures.kind.0 refl) refl))))))
 
 pub named-read-requires : goal.named-read-requires
-named-read-requires t c = (omega (arith, c.decreases, c.in_ok-root.ensures.next, c.in_ok-root.ensures.inside), c.in_ok-root.ensures.spelled, c.in_ok-root.ensures.next, after c.requires.awaits (then (opened (name ∷ the NameUse ∷ []) (λ v. refl) c.requires.stands refl) (then (read c.in_ok-root.ensures.follows) (as_accesses (no_sign (c.if-stands.ensures.not refl))))))
+named-read-requires t c = (omega (arith, c.decreases, c.in_ok-root.ensures.next, c.in_ok-root.ensures.inside), (c.in_ok-root.ensures.spelled, (c.in_ok-root.ensures.next, after c.requires.awaits (then (opened (name ∷ the NameUse ∷ []) (λ v. refl) c.requires.stands refl) (then (read c.in_ok-root.ensures.follows) (as_accesses (no_sign (c.if-stands.ensures.not refl))))))))
 
 pub named-returns-in_ok-call-clause-follows : goal.named-returns-in_ok-call-clause-follows
 named-returns-in_ok-call-clause-follows t c = then (opened (name ∷ the NameUse ∷ []) (λ v. refl) c.requires.stands refl) (then (read c.in_ok-root.ensures.follows) (then (opened (the Inputs ∷ the NoOutputs ∷ []) (λ v. refl) (c.if-stands.ensures.kind.0 refl) refl) (c.in_ok-call.ensures.follows)))
@@ -141,7 +141,7 @@ pub primary-unreachable-requires : goal.primary-unreachable-requires
 primary-unreachable-requires t c = never_ends (λ v. refl) refl c.requires.awaits (sym c.kind_at.ensures.kind ∙ c.in-None.is)
 
 pub read-target_of-requires : goal.read-target_of-requires
-read-target_of-requires t c = (omega (arith, c.decreases), c.requires.name, c.requires.next, record { part = Accesses; is = IsPlaceTail.accesses; awaits = c.requires.awaits })
+read-target_of-requires t c = (omega (arith, c.decreases), (c.requires.name, (c.requires.next, record { part = Accesses; is = IsPlaceTail.accesses; awaits = c.requires.awaits })))
 
 pub read-returns-clause-spelled : goal.read-returns-clause-spelled
 read-returns-clause-spelled t c = SpellsExpr.read c.in_ok-target.ensures.spelled (placed (kind.Read c.in_ok-target.target) c.span.ensures)
@@ -228,13 +228,13 @@ pub target_of-returns-clause-spelled : goal.target_of-returns-clause-spelled
 target_of-returns-clause-spelled t c = SpellsTarget.parted c.requires.name c.in_ok-parts.ensures.spelled (placed_target c.args.root c.in_ok-parts.parts c.span.ensures)
 
 pub unary-negative-requires : goal.unary-negative-requires
-unary-negative-requires t c = (omega (arith, c.decreases, c.if-stands.ensures.inside refl), c.if-stands.ensures.inside refl, record { kind = Sign MINUS; token = record { stands = c.if-stands.ensures.kind.0 refl; next = refl }; is = IsPrefix.negation }, c.requires.awaits)
+unary-negative-requires t c = (omega (arith, c.decreases, c.if-stands.ensures.inside refl), (c.if-stands.ensures.inside refl, (record { kind = Sign MINUS; token = record { stands = c.if-stands.ensures.kind.0 refl; next = refl }; is = IsPrefix.negation }, c.requires.awaits)))
 
 pub unary-one-requires : goal.unary-one-requires
-unary-one-requires t c = (omega (arith, c.decreases, c.if-stands-2.ensures.inside refl), c.if-stands-2.ensures.inside refl, record { kind = Sign TILDE; token = record { stands = c.if-stands-2.ensures.kind.0 refl; next = refl }; is = IsPrefix.complement }, (λ e. cc), c.requires.awaits)
+unary-one-requires t c = (omega (arith, c.decreases, c.if-stands-2.ensures.inside refl), (c.if-stands-2.ensures.inside refl, (record { kind = Sign TILDE; token = record { stands = c.if-stands-2.ensures.kind.0 refl; next = refl }; is = IsPrefix.complement }, ((λ e. cc), c.requires.awaits))))
 
 pub unary-one-requires-then-stands-3 : goal.unary-one-requires-then-stands-3
-unary-one-requires-then-stands-3 t c = (omega (arith, c.decreases, c.if-stands-3.ensures.inside refl), c.if-stands-3.ensures.inside refl, record { kind = Word NOT; token = record { stands = c.if-stands-3.ensures.kind.0 refl; next = refl }; is = IsPrefix.denial }, (λ e. cc), c.requires.awaits)
+unary-one-requires-then-stands-3 t c = (omega (arith, c.decreases, c.if-stands-3.ensures.inside refl), (c.if-stands-3.ensures.inside refl, (record { kind = Word NOT; token = record { stands = c.if-stands-3.ensures.kind.0 refl; next = refl }; is = IsPrefix.denial }, ((λ e. cc), c.requires.awaits))))
 
 pub unary-primary-requires : goal.unary-primary-requires
 unary-primary-requires t c = (omega (arith, c.decreases), after c.requires.awaits (opened_rest (the Primary ∷ []) (λ v. refl) refl (λ kind is. unary_primary (class_of kind) (off_at (no_sign (c.if-stands.ensures.not refl)) kind is) (off_at (no_sign (c.if-stands-2.ensures.not refl)) kind is) (off_at (no_word (c.if-stands-3.ensures.not refl)) kind is))))

@@ -2,7 +2,7 @@ use Rattle.std.proofs.Common.{refl, arith, subst, length, [], ◌∷◌}
 use Rattle.bl_syntax.specs.declared.grammar.Part.TheVariants.{Program}
 use Rattle.bl_syntax.specs.Grammar.{the}
 use Rattle.bl_parse.specs.Programs.{SpellsItems}
-use Rattle.bl_parse.proofs.ReadLemmas.{item_next, at_end}
+use Rattle.bl_parse.proofs.ReadLemmas.{item_next}
 use Rattle.bl_parse.proofs.item.items.Goals as goal
 
 pub items-init : goal.items-init

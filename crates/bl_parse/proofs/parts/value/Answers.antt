@@ -9,7 +9,7 @@ pub read_expr-requires : goal.read_expr-requires
 read_expr-requires c = record { awaits = after c.requires.awaits (pass c.take.ensures.next) }
 
 pub returns-clause-spelled : goal.returns-clause-spelled
-returns-clause-spelled c = record { m = c.take.new.at; sign = c.take.ensures.taken; e = c.in_ok-e.ensures.spelled }
+returns-clause-spelled c = record { m = c.take.new.at; sign = c.take.ensures.taken; expr = c.in_ok-e.ensures.spelled }
 
 pub returns-clause-follows : goal.returns-clause-follows
 returns-clause-follows c = then (pass c.take.ensures.next) (c.in_ok-e.ensures.follows)

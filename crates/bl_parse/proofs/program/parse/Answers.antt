@@ -5,4 +5,4 @@ pub read-requires-clause-names : goal.read-requires-clause-names
 read-requires-clause-names c = names_stand c.args.text.now c.args.tokens.now c.requires.tokens
 
 pub read-requires-clause-program : goal.read-requires-clause-program
-read-requires-clause-program c = ?
+read-requires-clause-program c = c.in-Ok.ensures.passes.syntax

@@ -39,6 +39,9 @@ kind-unreachable-requires-in-Some-Sign t c = never (λ v. refl) (sym c.kind_at.e
 pub kind-unreachable-requires-in-None : goal.kind-unreachable-requires-in-None
 kind-unreachable-requires-in-None t c = never_ends (λ v. refl) refl c.requires.awaits (sym c.kind_at.ensures.kind ∙ c.in-None.is)
 
+pub led-returning-requires-clause-stands : goal.led-returning-requires-clause-stands
+led-returning-requires-clause-stands t c = ?
+
 pub cobegin-branches-requires : goal.cobegin-branches-requires
 cobegin-branches-requires t c = (omega (arith, c.decreases, c.take.ensures.next, c.take.ensures.inside), front (the Weak ∷ the Block ∷ the Branches ∷ []) _ (after c.requires.awaits (then (opened (word COBEGIN ∷ the Weak ∷ the Block ∷ the Branches ∷ word END ∷ []) (λ v. refl) c.requires.stands refl) (pass c.take.ensures.next))))
 
@@ -51,14 +54,14 @@ cobegin-returns-clause-spelled t c = SpellsKind.cobegin c.take.ensures.taken c.i
 pub cobegin-returns-clause-follows : goal.cobegin-returns-clause-follows
 cobegin-returns-clause-follows t c = then (opened (word COBEGIN ∷ the Weak ∷ the Block ∷ the Branches ∷ word END ∷ []) (λ v. refl) c.requires.stands refl) (then (pass c.take.ensures.next) (then (read_all c.in_ok-branches.ensures.follows) (pass c.take-2.ensures.next)))
 
-pub branches-branch-requires : goal.branches-branch-requires
-branches-branch-requires t c = (omega (arith, c.decreases), first_two c.requires.awaits)
+pub branches-branch-source-requires : goal.branches-branch-source-requires
+branches-branch-source-requires t c = (omega (arith, c.decreases), first_two c.requires.awaits)
 
 pub branches-withs-init : goal.branches-withs-init
 branches-withs-init t c = record { branches = SpellsBranches.first_branch c.in_ok-branch.ensures.spelled (pushed_first c.new-branches.ensures c.in_ok-push.ensures.ok); follows = read_two c.in_ok-branch.ensures.follows; ahead = c.in_ok-branch.ensures.ahead }
 
-pub branches-branch-requires-in-withs : goal.branches-branch-requires-in-withs
-branches-branch-requires-in-withs t c = (omega (arith, c.decreases, c.take.ensures.next, c.take.ensures.inside, c.withs.invariant.ahead, c.stands.ensures.inside c.withs-test.true), first_two (after c.requires.awaits (then (c.withs.invariant.follows) (then (opened (word WITH ∷ the Weak ∷ the Block ∷ the Branches ∷ []) (λ v. refl) (c.stands.ensures.kind.0 c.withs-test.true) refl) (pass c.take.ensures.next)))))
+pub branches-branch-source-requires-in-withs : goal.branches-branch-source-requires-in-withs
+branches-branch-source-requires-in-withs t c = (omega (arith, c.decreases, c.take.ensures.next, c.take.ensures.inside, c.withs.invariant.ahead, c.stands.ensures.inside c.withs-test.true), first_two (after c.requires.awaits (then (c.withs.invariant.follows) (then (opened (word WITH ∷ the Weak ∷ the Block ∷ the Branches ∷ []) (λ v. refl) (c.stands.ensures.kind.0 c.withs-test.true) refl) (pass c.take.ensures.next)))))
 
 pub branches-withs-preserved : goal.branches-withs-preserved
 branches-withs-preserved t c = record {
