@@ -105,18 +105,28 @@ fn led(source: &Source, at: &mut usize, k: u8) -> Result<RawStmtKind, NoMemory>
     ensures follows { OnOk result (Turns (just Part.Stmt) source.now.tokens.now at.old [] at.new) }
     ensures ahead { OnOk result (at.old < at.new) }
 {
-    match k {
-        word::VAR => variable(source, at),
-        word::LET => fixed(source, at),
-        word::CONST => local_constant(source, at),
-        word::AWAIT => awaiting(source, at),
-        word::RUN => run(source, at),
-        word::COBEGIN => cobegin(source, at),
-        word::WHEN => guarded(source, at),
-        word::REPEAT => repeat(source, at),
-        word::WHILE => while_loop(source, at),
-        word::IF => branching(source, at),
-        _ => returning(source, at),
+    if k == word::VAR {
+        variable(source, at)
+    } else if k == word::LET {
+        fixed(source, at)
+    } else if k == word::CONST {
+        local_constant(source, at)
+    } else if k == word::AWAIT {
+        awaiting(source, at)
+    } else if k == word::RUN {
+        run(source, at)
+    } else if k == word::COBEGIN {
+        cobegin(source, at)
+    } else if k == word::WHEN {
+        guarded(source, at)
+    } else if k == word::REPEAT {
+        repeat(source, at)
+    } else if k == word::WHILE {
+        while_loop(source, at)
+    } else if k == word::IF {
+        branching(source, at)
+    } else {
+        returning(source, at)
     }
 }
 

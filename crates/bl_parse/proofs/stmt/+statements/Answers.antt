@@ -4,7 +4,7 @@ use Rattle.bl_syntax.specs.declared.grammar.Part.TheVariants.{Block, Weak, Branc
 use Rattle.bl_syntax.specs.Grammar.{word, the}
 use Rattle.bl_parse.specs.Statements.{SpellsBlock, SpellsStmt, SpellsKind, SpellsBranches, SpellsBranch, SpellsArms, SpellsArm, SpellsElse}
 use Rattle.bl_parse.proofs.ExprLemmas.{le_same, pushed_first}
-use Rattle.bl_parse.proofs.StmtLemmas.{placed_stmt}
+use Rattle.bl_parse.proofs.StmtLemmas.{placed_stmt, return_left}
 use Rattle.bl_parse.specs.At.{kind_at}
 use Rattle.bl_parse.proofs.PartLemmas.{block_opens}
 use Rattle.bl_parse.proofs.ReturnLemmas.{stmt_starts}
@@ -40,7 +40,7 @@ pub kind-unreachable-requires-in-None : goal.kind-unreachable-requires-in-None
 kind-unreachable-requires-in-None t c = never_ends (λ v. refl) refl c.requires.awaits (sym c.kind_at.ensures.kind ∙ c.in-None.is)
 
 pub led-returning-requires-clause-stands : goal.led-returning-requires-clause-stands
-led-returning-requires-clause-stands t c = ?
+led-returning-requires-clause-stands t c = return_left c.args.k c.requires.stands c.requires.awaits c.if-k-eq-VAR.false c.if-k-eq-LET.false c.if-k-eq-CONST.false c.if-k-eq-AWAIT.false c.if-k-eq-RUN.false c.if-k-eq-COBEGIN.false c.if-k-eq-WHEN.false c.if-k-eq-REPEAT.false c.if-k-eq-WHILE.false c.if-k-eq-IF.false
 
 pub cobegin-branches-requires : goal.cobegin-branches-requires
 cobegin-branches-requires t c = (omega (arith, c.decreases, c.take.ensures.next, c.take.ensures.inside), front (the Weak ∷ the Block ∷ the Branches ∷ []) _ (after c.requires.awaits (then (opened (word COBEGIN ∷ the Weak ∷ the Block ∷ the Branches ∷ word END ∷ []) (λ v. refl) c.requires.stands refl) (pass c.take.ensures.next))))
