@@ -1,12 +1,25 @@
--- Laws of spelled statements.
-use Rattle.std.proofs.Common.{◌≡◌, ℕ, ◌+◌, List, ap, subst, sym, ◌∙◌}
+-- Laws of spelled statements, and which keyword is left at the beginning of one.
+use Rattle.std.proofs.Common.{◌≡◌, ℕ, ◌+◌, Bool, true, false, ◌||◌, List, ◌∷◌, refl, ap, subst, sym, ◌∙◌}
+use Rattle.std.specs.Prelude.{Some, None, nat_eq}
+use Rattle.std.proofs.lemmas.Bool.{eqb-true}
 use Rattle.bl_tree.specs.declared.place.Place.{Place}
 use Rattle.bl_tree.specs.declared.token.Token.{Token}
+use Rattle.bl_tree.specs.declared.token.TokenKind.TheVariants.{Word}
+use Rattle.bl_lex.specs.declared.word.TheConstants.{VAR, LET, CONST, AWAIT, RUN, COBEGIN, WHEN, REPEAT, WHILE, IF, RETURN}
+use Rattle.bl_syntax.specs.declared.grammar.Class.{Class}
+use Rattle.bl_syntax.specs.declared.grammar.Class.TheVariants.{Keyword}
+use Rattle.bl_syntax.specs.declared.grammar.Part.TheVariants.{Stmt}
+use Rattle.bl_syntax.specs.Grammar.{Piece, the, productions}
+use Rattle.bl_syntax.specs.Follow.{statement_starts}
+use Rattle.bl_syntax.specs.Tables.{has, starts, choices_of, or_absent}
+use Rattle.bl_syntax.proofs.Right.{chosen_none}
 use Rattle.bl_raw.specs.declared.stmt.RawPath.{RawPath}
 use Rattle.bl_raw.specs.declared.stmt.RawStmt.{RawStmt, roll-RawStmt}
 use Rattle.bl_raw.specs.declared.stmt.RawStmtKind.{RawStmtKind}
-use Rattle.bl_parse.specs.At.{SpellsName}
+use Rattle.bl_parse.specs.At.{kind_at, SpellsName}
+use Rattle.bl_parse.specs.Reading.{Awaits}
 use Rattle.bl_parse.specs.Statements.{SpellsPath}
+use Rattle.bl_parse.proofs.ReadLemmas.{picks, chosen_is, never}
 
 abbrev stmt : Place → RawStmtKind → RawStmt
 stmt place what = roll-RawStmt (record { place = place; what = what })
@@ -18,3 +31,29 @@ placed_stmt what e = ap (λ place. stmt place what) e
 pub path_alone : {text : List ℕ} {tokens : List Token} {path : RawPath} {from to : ℕ} → SpellsPath text tokens path from to → to ≡ from + 1
     → SpellsName text tokens path.root from to
 path_alone {text} {tokens} {path} {from} h e = subst (λ k. SpellsName text tokens path.root from k) (h.root.token.next ∙ sym e) h.root
+
+stmt_never : (c : Class) → has statement_starts c ≡ false → picks Stmt c ≡ None
+unfolding starts
+stmt_never c off = ap (or_absent false) (sym (chosen_is (productions Stmt) c) ∙ chosen_none (choices_of (productions Stmt)) c off)
+
+all_off : (a b c d e f g h i j l : Bool) → a ≡ false → b ≡ false → c ≡ false → d ≡ false → e ≡ false → f ≡ false → g ≡ false → h ≡ false → i ≡ false
+    → j ≡ false → l ≡ false → a || (b || (c || (false || (d || (e || (f || (g || (h || (i || (j || (l || false))))))))))) ≡ false
+all_off a b c d e f g h i j l ea eb ec ed ee ef eg eh ei ej el = rw (ea, eb, ec, ed, ee, ef, eg, eh, ei, ej, el) refl
+
+no_eq : (a w : ℕ) → (w ≡ a → ⊥) → nat_eq a w ≡ false
+no_eq a w none = by_test (nat_eq a w) refl
+  where
+    by_test : (b : Bool) → nat_eq a w ≡ b → b ≡ false
+    by_test true e = absurd (none (sym (eqb-true a w e)))
+    by_test false e = refl
+
+-- where a statement begins with a keyword that is none of the others, it is `return`
+pub return_left : {tokens : List Token} {k : ℕ} {b : List Piece} (w : ℕ) → kind_at tokens k ≡ Some (Word w) → Awaits (the Stmt ∷ b) tokens k
+    → (w ≡ VAR → ⊥) → (w ≡ LET → ⊥) → (w ≡ CONST → ⊥) → (w ≡ AWAIT → ⊥) → (w ≡ RUN → ⊥) → (w ≡ COBEGIN → ⊥) → (w ≡ WHEN → ⊥)
+    → (w ≡ REPEAT → ⊥) → (w ≡ WHILE → ⊥) → (w ≡ IF → ⊥) → kind_at tokens k ≡ Some (Word RETURN)
+return_left {tokens} {k} w is awaits na nb nc nd ne nf ng nh ni nj = by_test (nat_eq RETURN w) refl
+  where
+    by_test : (b : Bool) → nat_eq RETURN w ≡ b → kind_at tokens k ≡ Some (Word RETURN)
+    by_test true e = is ∙ ap (λ n. Some (Word n)) (sym (eqb-true RETURN w e))
+    by_test false e = absurd (never (λ v. refl) is (stmt_never (Keyword w) (all_off _ _ _ _ _ _ _ _ _ _ _ (no_eq VAR w na) (no_eq LET w nb) (no_eq CONST w nc) (no_eq AWAIT w nd)
+        (no_eq RUN w ne) (no_eq COBEGIN w nf) (no_eq WHEN w ng) (no_eq REPEAT w nh) (no_eq WHILE w ni) (no_eq IF w nj) e)) awaits)

@@ -1,5 +1,5 @@
 -- Operators, and how tightly they bind.
-use Rattle.std.specs.Prelude.{ℕ, List, Bool, true, ◌||◌, nat_eq, if◌then◌else◌}
+use Rattle.std.specs.Prelude.{ℕ, ◌+◌, ◌≤◌, List, [], ◌∷◌, Bool, true, ◌||◌, nat_eq, if◌then◌else◌}
 use Rattle.bl_tree.specs.declared.scalar.Op.{Op}
 use Rattle.bl_tree.specs.declared.scalar.Scalar.{Scalar}
 use Rattle.bl_tree.specs.declared.scalar.Scalar.TheVariants.{Bool as OfBool, Int, Nat, Bits}
@@ -8,6 +8,8 @@ use Rattle.bl_tree.specs.declared.token.Token.{Token}
 use Rattle.bl_tree.specs.declared.token.TokenKind.{TokenKind}
 use Rattle.bl_tree.specs.declared.token.TokenKind.TheVariants.{Name, Number, Word, Sign}
 use Rattle.bl_lex.specs.declared.sign.TheConstants.{EQUAL, NOT_EQUAL, LESS, LESS_OR_EQUAL, GREATER, GREATER_OR_EQUAL, PLUS, MINUS, STAR, SLASH, PERCENT, AMPERSAND, BAR, CARET, TILDE, SHIFT_LEFT, SHIFT_RIGHT, OPEN_PAREN}
+use Rattle.bl_syntax.specs.declared.grammar.Class.{Class}
+use Rattle.bl_syntax.specs.declared.grammar.Class.TheVariants.{Keyword, Mark}
 use Rattle.bl_parse.specs.At.{Takes}
 use Rattle.bl_lex.specs.declared.word.TheConstants.{AND, OR, NOT, TRUE, FALSE, PREV, BOOL, INT8, INT16, INT32, INT64, NAT8, NAT16, NAT32, NAT64, BITS8, BITS16, BITS32, BITS64}
 
@@ -94,3 +96,19 @@ begins_expr Name = true
 begins_expr (Number n) = true
 begins_expr (Sign k) = nat_eq k OPEN_PAREN || (nat_eq k MINUS || nat_eq k TILDE)
 begins_expr (Word k) = nat_eq k NOT || (nat_eq k TRUE || (nat_eq k FALSE || nat_eq k PREV))
+
+-- the words of the types without parts, as the grammar sees them
+abbrev pub scalar_classes : List Class
+scalar_classes =
+    Keyword BOOL ∷ Keyword INT8 ∷ Keyword INT16 ∷ Keyword INT32 ∷ Keyword INT64 ∷ Keyword NAT8 ∷ Keyword NAT16 ∷ Keyword NAT32 ∷ Keyword NAT64 ∷
+    Keyword BITS8 ∷ Keyword BITS16 ∷ Keyword BITS32 ∷ Keyword BITS64 ∷ []
+
+-- the operators with two operands, as the grammar sees them
+abbrev pub operator_classes : List Class
+operator_classes =
+    Keyword OR ∷ Keyword AND ∷ Mark EQUAL ∷ Mark NOT_EQUAL ∷ Mark LESS ∷ Mark LESS_OR_EQUAL ∷ Mark GREATER ∷ Mark GREATER_OR_EQUAL ∷
+    Mark BAR ∷ Mark CARET ∷ Mark AMPERSAND ∷ Mark SHIFT_LEFT ∷ Mark SHIFT_RIGHT ∷ Mark PLUS ∷ Mark MINUS ∷ Mark STAR ∷ Mark SLASH ∷ Mark PERCENT ∷ []
+
+-- no operator stands at the position that binds as tightly as the level and takes a left operand of the bound
+abbrev pub NoInfix : List Token → ℕ → ℕ → ℕ → Type 0
+NoInfix tokens level bound at = (own : ℕ) (op : Op) → SpellsInfix tokens own op at (at + 1) → level ≤ own → left_level own ≤ bound → ⊥

@@ -1,8 +1,8 @@
 -- How tokens spell a statement.
-use Rattle.std.specs.Prelude.{◌≡◌, ℕ, ◌+◌, List, [], ◌∷◌, ◌++◌, Bool, true, false, ◌&&◌, nat_eq, slice_get, Option, Some, None}
+use Rattle.std.specs.Prelude.{◌≡◌, ℕ, ◌+◌, List, [], ◌∷◌, ◌++◌, Bool, true, false, ◌&&◌, ◌||◌, nat_eq, slice_get, Option, Some, None}
 use Rattle.bl_tree.specs.declared.token.Token.{Token}
 use Rattle.bl_tree.specs.declared.token.TokenKind.{TokenKind}
-use Rattle.bl_tree.specs.declared.token.TokenKind.TheVariants.{Word, Sign}
+use Rattle.bl_tree.specs.declared.token.TokenKind.TheVariants.{Name as NameToken, Word, Sign}
 use Rattle.bl_tree.specs.declared.tree.Guard.{Guard}
 use Rattle.bl_lex.specs.declared.sign.TheConstants.{OPEN_PAREN, CLOSE_PAREN, COMMA, DOT, COLON, ASSIGN}
 use Rattle.bl_lex.specs.declared.word.TheConstants.{VAR, LET, CONST, AWAIT, RUN, COBEGIN, WEAK, WITH, WHEN, ABORT, RESET, REPEAT, UNTIL, WHILE, IF, THEN, ELSEIF, ELSE, END, RETURN}
@@ -100,6 +100,18 @@ goes_on None next = false
 -- whether the `return` at a position takes an expression: exactly where one can begin on the same line
 abbrev pub takes_value : List Token → ℕ → Bool
 takes_value tokens k = goes_on (slice_get tokens k) (slice_get tokens (k + 1))
+
+-- the keywords that a statement may begin with
+abbrev pub leads_stmt : ℕ → Bool
+leads_stmt k =
+    nat_eq k VAR || (nat_eq k LET || (nat_eq k CONST || (nat_eq k AWAIT || (nat_eq k RUN || (nat_eq k COBEGIN || (nat_eq k WHEN || (nat_eq k REPEAT ||
+    (nat_eq k WHILE || (nat_eq k IF || nat_eq k RETURN)))))))))
+
+-- whether a statement may begin with the token
+abbrev pub begins_stmt : Option TokenKind → Bool
+begins_stmt (Some NameToken) = true
+begins_stmt (Some (Word k)) = leads_stmt k
+begins_stmt _ = false
 
 -- the words of the two guards
 pub data IsGuard : TokenKind → Guard → Type 0 where

@@ -1,32 +1,38 @@
 //! Expressions: a loop over the operators of a level and tighter ones, and a function for each kind of operand.
 
-ghost use Rattle.std.specs.Prelude.{◌≡◌, ◌+◌, ◌<◌, ◌≤◌, ℕ, length, false, IfOk, OnOk, IfSome, IsSome, IsTrue};
+ghost use Rattle.std.specs.Prelude.{◌≡◌, ◌+◌, ◌<◌, ◌≤◌, ℕ, [], ◌∷◌, Some, length, false, IfOk, OnOk, IfSome, IsSome, IsNone, IsTrue, ◌&&◌, nat_le};
 ghost use Rattle.bl_tree.specs.declared.scalar.Op.{Op};
 ghost use Rattle.bl_tree.specs.declared.token.TokenKind.{TokenKind};
-ghost use Rattle.bl_lex.specs.declared.word.TheConstants.{AS};
+ghost use Rattle.bl_lex.specs.declared.word.TheConstants.{AS, PREV};
 ghost use Rattle.bl_raw.specs.declared.expr.RawExprKind as kind;
+ghost use Rattle.bl_syntax.specs.declared.grammar.Part.{Part};
+ghost use Rattle.bl_syntax.specs.Grammar.{the};
+ghost use Rattle.bl_syntax.specs.Grammar as grammar;
+ghost use Rattle.bl_lex.specs.declared.sign.TheConstants.{OPEN_PAREN, CLOSE_PAREN, OPEN_BRACKET, CLOSE_BRACKET};
 ghost use Rattle.bl_parse.specs.At.{kind_at, span, SpellsName, Takes};
-ghost use Rattle.bl_parse.specs.Expressions.{expr, is_number, SpellsExpr, SpellsTarget, SpellsPart, SpellsParts, SpellsInputs, SpellsExprs, SpellsNone};
-ghost use Rattle.bl_parse.specs.Operators.{IsOperator, IsPrefix, left_level, SpellsInfix, SpellsPrefix};
+ghost use Rattle.bl_parse.specs.Expressions.{expr, is_number, IsTruth, SpellsExpr, SpellsTarget, SpellsPart, SpellsParts, SpellsInputs, SpellsExprs, SpellsNone};
+ghost use Rattle.bl_parse.specs.Operators.{left_level, operator_classes, NoInfix, SpellsInfix, SpellsPrefix};
+ghost use Rattle.bl_parse.specs.Reading.{accessing, next_among, just, operand, Awaits, AwaitsTail, KeepsTail, NoneNext, Turns};
 
 use crate::name::name;
-use crate::operator::{Infix, infix_of, prefix_of};
+use crate::operator::{Infix, infix_of};
 use crate::source::Source;
-use crate::stop::Stop;
 use crate::types::read_scalar;
 use bl_lex::{sign, word};
 use bl_raw::expr::{RawExpr, RawExprKind, RawPart, RawTarget};
 use bl_raw::name::Name;
 use bl_tree::token::TokenKind;
-use bl_tree::{Box, List, Op};
+use bl_tree::{Box, List, NoMemory, Op};
 
 /// The level of `as`, which binds more tightly than all operators with two operands.
 const CASTING: u8 = 9;
 
 /// Reads an expression.
 #[cycle(expressions)]
-pub fn read_expr(source: &Source, at: &mut usize) -> Result<RawExpr, Stop>
+pub fn read_expr(source: &Source, at: &mut usize) -> Result<RawExpr, NoMemory>
+    requires awaits { Awaits (just Part.Expr) source.now.tokens.now at.old }
     ensures spelled { IfOk result (λ e. SpellsExpr source.now.text.now source.now.tokens.now 0 e at.old at.new) }
+    ensures follows { OnOk result (Turns (just Part.Expr) source.now.tokens.now at.old [] at.new) }
     ensures ahead { OnOk result (at.old < at.new) }
 {
     expr_of(source, at, 0)
@@ -34,9 +40,11 @@ pub fn read_expr(source: &Source, at: &mut usize) -> Result<RawExpr, Stop>
 
 /// Reads an expression in which no operator outside of parentheses binds more loosely than the level.
 #[cycle(expressions)]
-fn expr_of(source: &Source, at: &mut usize, level: u8) -> Result<RawExpr, Stop>
-    requires { level ≤ 9 }
+fn expr_of(source: &Source, at: &mut usize, level: u8) -> Result<RawExpr, NoMemory>
+    requires known { level ≤ 9 }
+    requires awaits { Awaits (the (operand level) ∷ []) source.now.tokens.now at.old }
     ensures spelled { IfOk result (λ e. SpellsExpr source.now.text.now source.now.tokens.now level e at.old at.new) }
+    ensures follows { OnOk result (Turns (the (operand level) ∷ []) source.now.tokens.now at.old [] at.new) }
     ensures ahead { OnOk result (at.old < at.new) }
 {
     let from = *at;
@@ -57,10 +65,11 @@ fn next_infix(source: &Source, at: usize, level: u8, bound: u8) -> Option<Infix>
     ensures tight { IfSome result (λ found. level ≤ found.level) }
     ensures below { IfSome result (λ found. found.level ≤ 8) }
     ensures left { IfSome result (λ found. left_level found.level ≤ bound) }
+    ensures none { IsNone result → NoInfix source.now.tokens.now level bound at }
     ensures inside { IsSome result → at < length source.now.tokens.now }
 {
     match infix_at(source, at) {
-        Some(found) => if level <= found.level && found.left_level() <= bound {
+        Some(found) => if takes(found, level, bound) {
             Some(found)
         } else {
             None
@@ -69,9 +78,17 @@ fn next_infix(source: &Source, at: usize, level: u8, bound: u8) -> Option<Infix>
     }
 }
 
+/// Whether the operator binds as tightly as the level and takes a left operand of the bound.
+fn takes(found: Infix, level: u8, bound: u8) -> bool
+    ensures { result ≡ nat_le level found.level && nat_le (left_level found.level) bound }
+{
+    level <= found.level && found.left_level() <= bound
+}
+
 fn infix_at(source: &Source, at: usize) -> Option<Infix>
     ensures spelled { IfSome result (λ found. SpellsInfix source.now.tokens.now found.level found.op at (at + 1)) }
     ensures below { IfSome result (λ found. found.level ≤ 8) }
+    ensures none { IsNone result → next_among operator_classes (kind_at source.now.tokens.now at) ≡ false }
     ensures inside { IsSome result → at < length source.now.tokens.now }
 {
     match source.kind_at(at) {
@@ -87,7 +104,7 @@ fn two(
     op: Op,
     left: RawExpr,
     right: RawExpr,
-) -> Result<RawExpr, Stop>
+) -> Result<RawExpr, NoMemory>
     ensures { IfOk result (λ e. e ≡ expr (span source.now.tokens.now from to) (kind.Two op left right)) }
 {
     let place = source.span(from, to);
@@ -101,21 +118,26 @@ fn two(
 
 /// An operand with its casts.
 #[cycle(expressions)]
-fn cast(source: &Source, at: &mut usize) -> Result<RawExpr, Stop>
+fn cast(source: &Source, at: &mut usize) -> Result<RawExpr, NoMemory>
+    requires awaits { Awaits (just Part.Cast) source.now.tokens.now at.old }
     ensures spelled { IfOk result (λ e. SpellsExpr source.now.text.now source.now.tokens.now 9 e at.old at.new) }
+    ensures follows { OnOk result (Turns (just Part.Cast) source.now.tokens.now at.old [] at.new) }
     ensures ahead { OnOk result (at.old < at.new) }
 {
     let from = *at;
     let mut e = unary(source, at)?;
-    'casts: while source.passes(at, TokenKind::Word(word::AS)) {
+    'casts: while source.stands(*at, TokenKind::Word(word::AS)) {
+        source.take(at, TokenKind::Word(word::AS));
         e = one_cast(source, at, from, e)?;
     }
     Ok(e)
 }
 
 /// The operand, which began at a position, with the type behind an `as`.
-fn one_cast(source: &Source, at: &mut usize, from: usize, operand: RawExpr) -> Result<RawExpr, Stop>
+fn one_cast(source: &Source, at: &mut usize, from: usize, operand: RawExpr) -> Result<RawExpr, NoMemory>
+    requires awaits { Awaits (just Part.Scalar) source.now.tokens.now at.old }
     ensures spelled { IfOk result (λ e. (k : ℕ) → SpellsExpr source.now.text.now source.now.tokens.now 9 operand from k → Takes source.now.tokens.now (TokenKind.Word AS) k at.old → SpellsExpr source.now.text.now source.now.tokens.now 9 e from at.new) }
+    ensures follows { OnOk result (Turns (just Part.Scalar) source.now.tokens.now at.old [] at.new) }
     ensures next { OnOk result (at.new ≡ at.old + 1) }
 {
     let target = read_scalar(source, at)?;
@@ -129,33 +151,32 @@ fn one_cast(source: &Source, at: &mut usize, from: usize, operand: RawExpr) -> R
 
 /// An operand with the operators before it.
 #[cycle(expressions)]
-fn unary(source: &Source, at: &mut usize) -> Result<RawExpr, Stop>
+fn unary(source: &Source, at: &mut usize) -> Result<RawExpr, NoMemory>
+    requires awaits { Awaits (just Part.Unary) source.now.tokens.now at.old }
     ensures spelled { IfOk result (λ e. SpellsExpr source.now.text.now source.now.tokens.now 10 e at.old at.new) }
+    ensures follows { OnOk result (Turns (just Part.Unary) source.now.tokens.now at.old [] at.new) }
     ensures ahead { OnOk result (at.old < at.new) }
 {
-    match prefix_at(source, *at) {
-        Some(Op::Neg) => negative(source, at),
-        Some(op) => one(source, at, op),
-        None => primary(source, at),
-    }
-}
-
-fn prefix_at(source: &Source, at: usize) -> Option<Op>
-    ensures spelled { IfSome result (λ op. SpellsPrefix source.now.tokens.now op at (at + 1)) }
-    ensures inside { IsSome result → at < length source.now.tokens.now }
-{
-    match source.kind_at(at) {
-        Some(kind) => prefix_of(kind),
-        None => None,
+    if source.stands(*at, TokenKind::Sign(sign::MINUS)) {
+        negative(source, at)
+    } else if source.stands(*at, TokenKind::Sign(sign::TILDE)) {
+        one(source, at, Op::Not)
+    } else if source.stands(*at, TokenKind::Word(word::NOT)) {
+        one(source, at, Op::Negate)
+    } else {
+        let e = primary(source, at)?;
+        Ok(e)
     }
 }
 
 /// A minus with the number that it belongs to, or with its operand.
 #[cycle(expressions)]
-fn negative(source: &Source, at: &mut usize) -> Result<RawExpr, Stop>
+fn negative(source: &Source, at: &mut usize) -> Result<RawExpr, NoMemory>
     requires inside { at.old < length source.now.tokens.now }
     requires minus { SpellsPrefix source.now.tokens.now Op.Neg at.old (at.old + 1) }
+    requires awaits { Awaits (just Part.Unary) source.now.tokens.now at.old }
     ensures spelled { IfOk result (λ e. SpellsExpr source.now.text.now source.now.tokens.now 10 e at.old at.new) }
+    ensures follows { OnOk result (Turns (just Part.Unary) source.now.tokens.now at.old [] at.new) }
     ensures ahead { OnOk result (at.old < at.new) }
 {
     match source.number_at(*at + 1) {
@@ -173,11 +194,13 @@ fn negative(source: &Source, at: &mut usize) -> Result<RawExpr, Stop>
 
 /// The operator that stands next, with its operand.
 #[cycle(expressions)]
-fn one(source: &Source, at: &mut usize, op: Op) -> Result<RawExpr, Stop>
+fn one(source: &Source, at: &mut usize, op: Op) -> Result<RawExpr, NoMemory>
     requires inside { at.old < length source.now.tokens.now }
     requires prefix { SpellsPrefix source.now.tokens.now op at.old (at.old + 1) }
     requires no_number { op ≡ Op.Neg → is_number (kind_at source.now.tokens.now (at.old + 1)) ≡ false }
+    requires awaits { Awaits (just Part.Unary) source.now.tokens.now at.old }
     ensures spelled { IfOk result (λ e. SpellsExpr source.now.text.now source.now.tokens.now 10 e at.old at.new) }
+    ensures follows { OnOk result (Turns (just Part.Unary) source.now.tokens.now at.old [] at.new) }
     ensures ahead { OnOk result (at.old < at.new) }
 {
     let from = *at;
@@ -193,62 +216,83 @@ fn one(source: &Source, at: &mut usize, op: Op) -> Result<RawExpr, Stop>
 
 /// An operand without operators outside of parentheses.
 #[cycle(expressions)]
-fn primary(source: &Source, at: &mut usize) -> Result<RawExpr, Stop>
+fn primary(source: &Source, at: &mut usize) -> Result<RawExpr, NoMemory>
+    requires awaits { Awaits (just Part.Primary) source.now.tokens.now at.old }
     ensures spelled { IfOk result (λ e. SpellsExpr source.now.text.now source.now.tokens.now 10 e at.old at.new) }
+    ensures follows { OnOk result (Turns (just Part.Primary) source.now.tokens.now at.old [] at.new) }
     ensures ahead { OnOk result (at.old < at.new) }
 {
     match source.kind_at(*at) {
         Some(TokenKind::Name) => named(source, at),
-        Some(TokenKind::Number(_)) => number(source, at),
-        Some(TokenKind::Sign(_)) => in_parentheses(source, at),
-        Some(TokenKind::Word(word::PREV)) => previous(source, at),
-        Some(TokenKind::Word(_)) => truth(source, at),
-        None => Err(Stop::Unexpected),
-    }
-}
-
-fn number(source: &Source, at: &mut usize) -> Result<RawExpr, Stop>
-    ensures spelled { IfOk result (λ e. SpellsExpr source.now.text.now source.now.tokens.now 10 e at.old at.new) }
-    ensures ahead { OnOk result (at.old < at.new) }
-{
-    match source.number_at(*at) {
-        Some(value) => {
-            let from = *at;
-            *at += 1;
-            Ok(RawExpr {
-                place: source.span(from, *at),
-                what: RawExprKind::Number(false, value),
-            })
+        Some(TokenKind::Number(value)) => Ok(number(source, at, value)),
+        Some(TokenKind::Sign(_)) => {
+            let e = in_parentheses(source, at)?;
+            Ok(e)
         }
-        None => Err(Stop::Unexpected),
+        Some(TokenKind::Word(k)) => led(source, at, k),
+        None => unreachable!(),
     }
 }
 
-fn truth(source: &Source, at: &mut usize) -> Result<RawExpr, Stop>
-    ensures spelled { IfOk result (λ e. SpellsExpr source.now.text.now source.now.tokens.now 10 e at.old at.new) }
-    ensures ahead { OnOk result (at.old < at.new) }
+/// A number without a minus that belongs to it.
+fn number(source: &Source, at: &mut usize, value: u128) -> RawExpr
+    requires awaits { Awaits (just Part.Primary) source.now.tokens.now at.old }
+    requires stands { kind_at source.now.tokens.now at.old ≡ Some (TokenKind.Number value) }
+    ensures spelled { SpellsExpr source.now.text.now source.now.tokens.now 10 result at.old at.new }
+    ensures follows { Turns (just Part.Primary) source.now.tokens.now at.old [] at.new }
+    ensures ahead { at.old < at.new }
 {
     let from = *at;
-    if source.passes(at, TokenKind::Word(word::TRUE)) {
-        Ok(RawExpr {
-            place: source.span(from, *at),
-            what: RawExprKind::Truth(true),
-        })
+    source.take(at, TokenKind::Number(value));
+    RawExpr {
+        place: source.span(from, *at),
+        what: RawExprKind::Number(false, value),
+    }
+}
+
+/// An operand that begins with this keyword.
+fn led(source: &Source, at: &mut usize, k: u8) -> Result<RawExpr, NoMemory>
+    requires awaits { Awaits (just Part.Primary) source.now.tokens.now at.old }
+    requires stands { kind_at source.now.tokens.now at.old ≡ Some (TokenKind.Word k) }
+    ensures spelled { IfOk result (λ e. SpellsExpr source.now.text.now source.now.tokens.now 10 e at.old at.new) }
+    ensures follows { OnOk result (Turns (just Part.Primary) source.now.tokens.now at.old [] at.new) }
+    ensures ahead { OnOk result (at.old < at.new) }
+{
+    if k == word::PREV {
+        previous(source, at)
+    } else if k == word::TRUE {
+        Ok(truth(source, at, word::TRUE, true))
     } else {
-        source.take(at, TokenKind::Word(word::FALSE))?;
-        Ok(RawExpr {
-            place: source.span(from, *at),
-            what: RawExprKind::Truth(false),
-        })
+        Ok(truth(source, at, word::FALSE, false))
     }
 }
 
-fn previous(source: &Source, at: &mut usize) -> Result<RawExpr, Stop>
+/// A truth, by its word.
+fn truth(source: &Source, at: &mut usize, k: u8, b: bool) -> RawExpr
+    requires awaits { Awaits (just Part.Primary) source.now.tokens.now at.old }
+    requires stands { kind_at source.now.tokens.now at.old ≡ Some (TokenKind.Word k) }
+    requires is { IsTruth (TokenKind.Word k) b }
+    ensures spelled { SpellsExpr source.now.text.now source.now.tokens.now 10 result at.old at.new }
+    ensures follows { Turns (just Part.Primary) source.now.tokens.now at.old [] at.new }
+    ensures ahead { at.old < at.new }
+{
+    let from = *at;
+    source.take(at, TokenKind::Word(k));
+    RawExpr {
+        place: source.span(from, *at),
+        what: RawExprKind::Truth(b),
+    }
+}
+
+fn previous(source: &Source, at: &mut usize) -> Result<RawExpr, NoMemory>
+    requires awaits { Awaits (just Part.Primary) source.now.tokens.now at.old }
+    requires stands { kind_at source.now.tokens.now at.old ≡ Some (TokenKind.Word PREV) }
     ensures spelled { IfOk result (λ e. SpellsExpr source.now.text.now source.now.tokens.now 10 e at.old at.new) }
+    ensures follows { OnOk result (Turns (just Part.Primary) source.now.tokens.now at.old [] at.new) }
     ensures ahead { OnOk result (at.old < at.new) }
 {
     let from = *at;
-    source.take(at, TokenKind::Word(word::PREV))?;
+    source.take(at, TokenKind::Word(word::PREV));
     let variable = name(source, at)?;
     Ok(RawExpr {
         place: source.span(from, *at),
@@ -257,37 +301,46 @@ fn previous(source: &Source, at: &mut usize) -> Result<RawExpr, Stop>
 }
 
 #[cycle(expressions)]
-fn in_parentheses(source: &Source, at: &mut usize) -> Result<RawExpr, Stop>
+fn in_parentheses(source: &Source, at: &mut usize) -> Result<RawExpr, NoMemory>
+    requires awaits { Awaits (grammar.sign OPEN_PAREN ∷ the Part.Expr ∷ grammar.sign CLOSE_PAREN ∷ []) source.now.tokens.now at.old }
     ensures spelled { IfOk result (λ e. SpellsExpr source.now.text.now source.now.tokens.now 10 e at.old at.new) }
+    ensures follows { OnOk result (Turns (grammar.sign OPEN_PAREN ∷ the Part.Expr ∷ grammar.sign CLOSE_PAREN ∷ []) source.now.tokens.now at.old [] at.new) }
     ensures ahead { OnOk result (at.old < at.new) }
 {
-    source.take(at, TokenKind::Sign(sign::OPEN_PAREN))?;
+    source.take(at, TokenKind::Sign(sign::OPEN_PAREN));
     let e = read_expr(source, at)?;
-    source.take(at, TokenKind::Sign(sign::CLOSE_PAREN))?;
+    source.take(at, TokenKind::Sign(sign::CLOSE_PAREN));
     Ok(e)
 }
 
 /// A call or a target.
 #[cycle(expressions)]
-fn named(source: &Source, at: &mut usize) -> Result<RawExpr, Stop>
+fn named(source: &Source, at: &mut usize) -> Result<RawExpr, NoMemory>
+    requires awaits { Awaits (just Part.Primary) source.now.tokens.now at.old }
+    requires stands { kind_at source.now.tokens.now at.old ≡ Some (TokenKind.Name) }
     ensures spelled { IfOk result (λ e. SpellsExpr source.now.text.now source.now.tokens.now 10 e at.old at.new) }
+    ensures follows { OnOk result (Turns (just Part.Primary) source.now.tokens.now at.old [] at.new) }
     ensures ahead { OnOk result (at.old < at.new) }
 {
     let from = *at;
     let root = name(source, at)?;
     if source.stands(*at, TokenKind::Sign(sign::OPEN_PAREN)) {
-        called(source, at, from, root)
+        let call = called(source, at, from, root)?;
+        Ok(call)
     } else {
-        read(source, at, from, root)
+        let value = read(source, at, from, root)?;
+        Ok(value)
     }
 }
 
 /// The call of a function whose name was read at a position.
 #[cycle(expressions)]
-fn called(source: &Source, at: &mut usize, from: usize, function: Name) -> Result<RawExpr, Stop>
+fn called(source: &Source, at: &mut usize, from: usize, function: Name) -> Result<RawExpr, NoMemory>
     requires name { SpellsName source.now.text.now source.now.tokens.now function from at.old }
     requires next { at.old ≡ from + 1 }
+    requires awaits { Awaits (the Part.Inputs ∷ the Part.NoOutputs ∷ []) source.now.tokens.now at.old }
     ensures spelled { IfOk result (λ e. SpellsExpr source.now.text.now source.now.tokens.now 10 e from at.new) }
+    ensures follows { OnOk result (Turns (the Part.Inputs ∷ the Part.NoOutputs ∷ []) source.now.tokens.now at.old [] at.new) }
     ensures ahead { OnOk result (from < at.new) }
 {
     let inputs = read_inputs(source, at)?;
@@ -299,12 +352,15 @@ fn called(source: &Source, at: &mut usize, from: usize, function: Name) -> Resul
 }
 
 /// Passes `( )` where a parenthesis stands.
-fn no_outputs(source: &Source, at: &mut usize) -> Result<(), Stop>
+fn no_outputs(source: &Source, at: &mut usize) -> Result<(), NoMemory>
+    requires awaits { Awaits (just Part.NoOutputs) source.now.tokens.now at.old }
     ensures spelled { OnOk result (SpellsNone source.now.tokens.now at.old at.new) }
+    ensures follows { OnOk result (Turns (just Part.NoOutputs) source.now.tokens.now at.old [] at.new) }
     ensures ahead { OnOk result (at.old ≤ at.new) }
 {
-    if source.passes(at, TokenKind::Sign(sign::OPEN_PAREN)) {
-        source.take(at, TokenKind::Sign(sign::CLOSE_PAREN))?;
+    if source.stands(*at, TokenKind::Sign(sign::OPEN_PAREN)) {
+        source.take(at, TokenKind::Sign(sign::OPEN_PAREN));
+        source.take(at, TokenKind::Sign(sign::CLOSE_PAREN));
         Ok(())
     } else {
         Ok(())
@@ -313,10 +369,12 @@ fn no_outputs(source: &Source, at: &mut usize) -> Result<(), Stop>
 
 /// The value of a target whose root was read at a position.
 #[cycle(expressions)]
-fn read(source: &Source, at: &mut usize, from: usize, root: Name) -> Result<RawExpr, Stop>
+fn read(source: &Source, at: &mut usize, from: usize, root: Name) -> Result<RawExpr, NoMemory>
     requires name { SpellsName source.now.text.now source.now.tokens.now root from at.old }
     requires next { at.old ≡ from + 1 }
+    requires awaits { Awaits (just Part.Accesses) source.now.tokens.now at.old }
     ensures spelled { IfOk result (λ e. SpellsExpr source.now.text.now source.now.tokens.now 10 e from at.new) }
+    ensures follows { OnOk result (Turns (just Part.Accesses) source.now.tokens.now at.old [] at.new) }
     ensures ahead { OnOk result (from < at.new) }
 {
     let target = target_of(source, at, from, root)?;
@@ -333,10 +391,13 @@ pub fn target_of(
     at: &mut usize,
     from: usize,
     root: Name,
-) -> Result<RawTarget, Stop>
+) -> Result<RawTarget, NoMemory>
     requires name { SpellsName source.now.text.now source.now.tokens.now root from at.old }
     requires next { at.old ≡ from + 1 }
+    requires awaits { AwaitsTail source.now.tokens.now at.old }
     ensures spelled { IfOk result (λ target. SpellsTarget source.now.text.now source.now.tokens.now target from at.new) }
+    ensures keeps { OnOk result (KeepsTail source.now.tokens.now at.old at.new) }
+    ensures ends { OnOk result (NoneNext accessing source.now.tokens.now at.new) }
     ensures ahead { OnOk result (from < at.new) }
 {
     let parts = read_parts(source, at)?;
@@ -348,8 +409,11 @@ pub fn target_of(
 }
 
 #[cycle(expressions)]
-fn read_parts(source: &Source, at: &mut usize) -> Result<List<RawPart>, Stop>
+fn read_parts(source: &Source, at: &mut usize) -> Result<List<RawPart>, NoMemory>
+    requires awaits { AwaitsTail source.now.tokens.now at.old }
     ensures spelled { IfOk result (λ parts. SpellsParts source.now.text.now source.now.tokens.now parts at.old at.new) }
+    ensures keeps { OnOk result (KeepsTail source.now.tokens.now at.old at.new) }
+    ensures ends { OnOk result (NoneNext accessing source.now.tokens.now at.new) }
     ensures ahead { OnOk result (at.old ≤ at.new) }
 {
     let mut parts = List::new(source.alloc);
@@ -360,60 +424,75 @@ fn read_parts(source: &Source, at: &mut usize) -> Result<List<RawPart>, Stop>
 }
 
 fn is_part(source: &Source, at: usize) -> bool
-    ensures { IsTrue result → at < length source.now.tokens.now }
+    ensures among { result ≡ next_among accessing (kind_at source.now.tokens.now at) }
+    ensures inside { IsTrue result → at < length source.now.tokens.now }
 {
-    source.stands(at, TokenKind::Sign(sign::DOT))
-        || source.stands(at, TokenKind::Sign(sign::OPEN_BRACKET))
-}
-
-#[cycle(expressions)]
-fn read_part(source: &Source, at: &mut usize) -> Result<RawPart, Stop>
-    ensures spelled { IfOk result (λ part. SpellsPart source.now.text.now source.now.tokens.now part at.old at.new) }
-    ensures ahead { OnOk result (at.old < at.new) }
-{
-    if source.passes(at, TokenKind::Sign(sign::DOT)) {
-        Ok(RawPart::Field(name(source, at)?))
-    } else {
-        index(source, at)
+    match source.kind_at(at) {
+        Some(TokenKind::Sign(k)) => k == sign::DOT || k == sign::OPEN_BRACKET,
+        Some(TokenKind::Name | TokenKind::Number(_) | TokenKind::Word(_)) | None => false,
     }
 }
 
 #[cycle(expressions)]
-fn index(source: &Source, at: &mut usize) -> Result<RawPart, Stop>
+fn read_part(source: &Source, at: &mut usize) -> Result<RawPart, NoMemory>
+    requires awaits { Awaits (just Part.Access) source.now.tokens.now at.old }
     ensures spelled { IfOk result (λ part. SpellsPart source.now.text.now source.now.tokens.now part at.old at.new) }
+    ensures follows { OnOk result (Turns (just Part.Access) source.now.tokens.now at.old [] at.new) }
     ensures ahead { OnOk result (at.old < at.new) }
 {
-    source.take(at, TokenKind::Sign(sign::OPEN_BRACKET))?;
+    if source.stands(*at, TokenKind::Sign(sign::DOT)) {
+        source.take(at, TokenKind::Sign(sign::DOT));
+        Ok(RawPart::Field(name(source, at)?))
+    } else {
+        let part = index(source, at)?;
+        Ok(part)
+    }
+}
+
+#[cycle(expressions)]
+fn index(source: &Source, at: &mut usize) -> Result<RawPart, NoMemory>
+    requires awaits { Awaits (grammar.sign OPEN_BRACKET ∷ the Part.Expr ∷ grammar.sign CLOSE_BRACKET ∷ []) source.now.tokens.now at.old }
+    ensures spelled { IfOk result (λ part. SpellsPart source.now.text.now source.now.tokens.now part at.old at.new) }
+    ensures follows { OnOk result (Turns (grammar.sign OPEN_BRACKET ∷ the Part.Expr ∷ grammar.sign CLOSE_BRACKET ∷ []) source.now.tokens.now at.old [] at.new) }
+    ensures ahead { OnOk result (at.old < at.new) }
+{
+    source.take(at, TokenKind::Sign(sign::OPEN_BRACKET));
     let e = read_expr(source, at)?;
-    source.take(at, TokenKind::Sign(sign::CLOSE_BRACKET))?;
+    source.take(at, TokenKind::Sign(sign::CLOSE_BRACKET));
     Ok(RawPart::Index(e))
 }
 
 /// Reads expressions in parentheses.
 #[cycle(expressions)]
-pub fn read_inputs(source: &Source, at: &mut usize) -> Result<List<RawExpr>, Stop>
+pub fn read_inputs(source: &Source, at: &mut usize) -> Result<List<RawExpr>, NoMemory>
+    requires awaits { Awaits (just Part.Inputs) source.now.tokens.now at.old }
     ensures spelled { IfOk result (λ inputs. SpellsInputs source.now.text.now source.now.tokens.now inputs at.old at.new) }
+    ensures follows { OnOk result (Turns (just Part.Inputs) source.now.tokens.now at.old [] at.new) }
     ensures ahead { OnOk result (at.old < at.new) }
 {
-    source.take(at, TokenKind::Sign(sign::OPEN_PAREN))?;
-    if source.passes(at, TokenKind::Sign(sign::CLOSE_PAREN)) {
+    source.take(at, TokenKind::Sign(sign::OPEN_PAREN));
+    if source.stands(*at, TokenKind::Sign(sign::CLOSE_PAREN)) {
+        source.take(at, TokenKind::Sign(sign::CLOSE_PAREN));
         Ok(List::new(source.alloc))
     } else {
         let inputs = read_exprs(source, at)?;
-        source.take(at, TokenKind::Sign(sign::CLOSE_PAREN))?;
+        source.take(at, TokenKind::Sign(sign::CLOSE_PAREN));
         Ok(inputs)
     }
 }
 
 /// One expression or more.
 #[cycle(expressions)]
-fn read_exprs(source: &Source, at: &mut usize) -> Result<List<RawExpr>, Stop>
+fn read_exprs(source: &Source, at: &mut usize) -> Result<List<RawExpr>, NoMemory>
+    requires awaits { Awaits (the Part.Expr ∷ the Part.InputRest ∷ []) source.now.tokens.now at.old }
     ensures spelled { IfOk result (λ es. SpellsExprs source.now.text.now source.now.tokens.now es at.old at.new) }
+    ensures follows { OnOk result (Turns (the Part.Expr ∷ the Part.InputRest ∷ []) source.now.tokens.now at.old [] at.new) }
     ensures ahead { OnOk result (at.old < at.new) }
 {
     let mut exprs = List::new(source.alloc);
     exprs.push(read_expr(source, at)?)?;
-    'commas: while source.passes(at, TokenKind::Sign(sign::COMMA)) {
+    'commas: while source.stands(*at, TokenKind::Sign(sign::COMMA)) {
+        source.take(at, TokenKind::Sign(sign::COMMA));
         exprs.push(read_expr(source, at)?)?;
     }
     Ok(exprs)

@@ -10,11 +10,9 @@ mod program;
 mod scalar;
 mod source;
 mod stmt;
-mod stop;
 mod types;
 
-pub use program::read;
-pub use stop::Stop;
+pub use program::parse;
 
 #[cfg(test)]
 mod tests;

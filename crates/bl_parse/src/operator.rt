@@ -1,5 +1,7 @@
-ghost use Rattle.std.specs.Prelude.{◌≡◌, ◌≤◌, IfSome};
-ghost use Rattle.bl_parse.specs.Operators.{IsOperator, IsPrefix, begins_expr, left_level};
+ghost use Rattle.std.specs.Prelude.{◌≡◌, ◌≤◌, false, IfSome, IsNone};
+ghost use Rattle.bl_syntax.specs.Grammar.{class_of};
+ghost use Rattle.bl_syntax.specs.Tables.{has};
+ghost use Rattle.bl_parse.specs.Operators.{IsOperator, begins_expr, left_level, operator_classes};
 
 use bl_lex::{sign, word};
 use bl_tree::scalar::Op;
@@ -32,6 +34,7 @@ impl Infix {
 pub fn infix_of(kind: TokenKind) -> Option<Infix>
     ensures is { IfSome result (λ found. IsOperator kind found.level found.op) }
     ensures level { IfSome result (λ found. found.level ≤ 8) }
+    ensures none { IsNone result → has operator_classes (class_of kind) ≡ false }
 {
     let (level, op) = match kind {
         TokenKind::Word(word::OR) => (0, Op::Either),
@@ -55,18 +58,6 @@ pub fn infix_of(kind: TokenKind) -> Option<Infix>
         _ => return None,
     };
     Some(Infix { level, op })
-}
-
-/// The operator before one operand.
-pub fn prefix_of(kind: TokenKind) -> Option<Op>
-    ensures { IfSome result (IsPrefix kind) }
-{
-    match kind {
-        TokenKind::Sign(sign::MINUS) => Some(Op::Neg),
-        TokenKind::Sign(sign::TILDE) => Some(Op::Not),
-        TokenKind::Word(word::NOT) => Some(Op::Negate),
-        _ => None,
-    }
 }
 
 /// Whether an expression may begin with a token of this kind.

@@ -1,17 +1,40 @@
-ghost use Rattle.std.specs.Prelude.{◌<◌, ◌^◌, length, IfOk};
+ghost use Rattle.std.specs.Prelude.{◌<◌, ◌^◌, length, IfOk, IfErr, OnOk};
+ghost use Rattle.bl_lex.specs.Tokens.{Lexes};
+ghost use Rattle.bl_syntax.specs.Rules.{Passes, SpellsProgram, IsRefusalOf};
 ghost use Rattle.bl_parse.specs.Programs.{Spells};
+ghost use Rattle.bl_parse.specs.Reading.{NamesStand};
 
 use crate::item::items;
 use crate::source::Source;
-use crate::stop::Stop;
 use bl_raw::Raw;
+use bl_syntax::check;
 use bl_tree::token::Token;
+use bl_tree::{NoMemory, Refusal};
 use std::alloc::Global;
 
-/// The raw tree of a text with its tokens. It gives up where the tokens aren't those of a program.
-pub fn read(alloc: Global, text: &[u8], tokens: &[Token]) -> Result<Raw, Stop>
-    requires { length text.now < 2 ^ 32 }
-    ensures { IfOk result (λ raw. Spells text.now tokens.now raw) }
+/// The raw tree of a text with its tokens (docs/LANGUAGE.md, "Grammar"), or the failure of rule Depth or Syntax.
+pub fn parse(alloc: Global, text: &[u8], tokens: &[Token]) -> Result<Raw, Refusal>
+    requires short { length text.now < 2 ^ 32 }
+    requires tokens { Lexes text.now tokens.now }
+    ensures passes { OnOk result (Passes tokens.now) }
+    ensures spells { IfOk result (Spells text.now tokens.now) }
+    ensures refusal { IfErr result (IsRefusalOf (length text.now) tokens.now) }
+{
+    match check(alloc, text.len() as u32, tokens) {
+        Ok(()) => match read(alloc, text, tokens) {
+            Ok(raw) => Ok(raw),
+            Err(NoMemory) => Err(Refusal::NoMemory),
+        },
+        Err(refusal) => Err(refusal),
+    }
+}
+
+/// The raw tree of a text with the tokens of a program.
+fn read(alloc: Global, text: &[u8], tokens: &[Token]) -> Result<Raw, NoMemory>
+    requires short { length text.now < 2 ^ 32 }
+    requires names { NamesStand text.now tokens.now }
+    requires program { SpellsProgram tokens.now }
+    ensures { IfOk result (Spells text.now tokens.now) }
 {
     let source = Source {
         alloc,

@@ -1,5 +1,7 @@
-ghost use Rattle.std.specs.Prelude.{IfSome};
-ghost use Rattle.bl_parse.specs.Operators.{IsScalar};
+ghost use Rattle.std.specs.Prelude.{◌≡◌, false, IfSome, IsNone};
+ghost use Rattle.bl_syntax.specs.Grammar.{class_of};
+ghost use Rattle.bl_syntax.specs.Tables.{has};
+ghost use Rattle.bl_parse.specs.Operators.{IsScalar, scalar_classes};
 
 use bl_lex::word;
 use bl_tree::scalar::{Scalar, Width};
@@ -7,7 +9,8 @@ use bl_tree::token::TokenKind;
 
 /// The type without parts that the word names.
 pub fn scalar(kind: TokenKind) -> Option<Scalar>
-    ensures { IfSome result (IsScalar kind) }
+    ensures is { IfSome result (IsScalar kind) }
+    ensures none { IsNone result → has (scalar_classes) (class_of kind) ≡ false }
 {
     match kind {
         TokenKind::Word(word::BOOL) => Some(Scalar::Bool),

@@ -1,9 +1,9 @@
-ghost use Rattle.std.specs.Prelude.{◌≡◌, ◌+◌, ◌<◌, ◌↔◌, Some, false, IsTrue, IsFalse, IsSome, IsNone, IfSome, length, OnOk};
+ghost use Rattle.std.specs.Prelude.{◌≡◌, ◌+◌, ◌<◌, ◌↔◌, Some, false, IsTrue, IsFalse, IsSome, IsNone, IfSome, length, slice_get};
 ghost use Rattle.bl_tree.specs.declared.token.TokenKind.{TokenKind};
 ghost use Rattle.bl_parse.specs.At.{kind_at, start_at, end_at, span, Takes};
 ghost use Rattle.bl_parse.specs.Expressions.{is_number};
+ghost use Rattle.bl_parse.specs.Reading.{NamesStand, NotNext};
 
-use crate::stop::Stop;
 use bl_tree::Place;
 use bl_tree::token::{Token, TokenKind};
 use std::alloc::Global;
@@ -14,9 +14,20 @@ pub struct Source<'a> {
     pub alloc: Global,
     pub text: &'a [u8],
     pub tokens: &'a [Token],
+    pub ghost names: { NamesStand text.now tokens.now },
 }
 
 impl<'a> Source<'a> {
+    pub fn token_at(&self, k: usize) -> Option<Token>
+        ensures token { result ≡ slice_get self.now.tokens.now k }
+        ensures inside { IsSome result → k < length self.now.tokens.now }
+    {
+        match self.tokens.get(k) {
+            Some(token) => Some(*token),
+            None => None,
+        }
+    }
+
     pub fn kind_at(&self, k: usize) -> Option<TokenKind>
         ensures kind { result ≡ kind_at self.now.tokens.now k }
         ensures inside { IsSome result → k < length self.now.tokens.now }
@@ -59,6 +70,7 @@ impl<'a> Source<'a> {
 
     pub fn stands(&self, k: usize, kind: TokenKind) -> bool
         ensures kind { IsTrue result ↔ (kind_at self.now.tokens.now k ≡ Some kind) }
+        ensures not { IsFalse result → NotNext self.now.tokens.now k kind }
         ensures inside { IsTrue result → k < length self.now.tokens.now }
     {
         match self.tokens.get(k) {
@@ -79,31 +91,14 @@ impl<'a> Source<'a> {
         }
     }
 
-    /// Passes the next token, where it is of this kind.
-    pub fn passes(&self, at: &mut usize, kind: TokenKind) -> bool
-        ensures taken { IsTrue result → Takes self.now.tokens.now kind at.old at.new }
-        ensures next { IsTrue result → at.new ≡ at.old + 1 }
-        ensures left { IsFalse result → at.new ≡ at.old }
-        ensures inside { IsTrue result → at.old < length self.now.tokens.now }
+    /// Passes the next token, which is of this kind.
+    pub fn take(&self, at: &mut usize, kind: TokenKind)
+        requires stands { kind_at self.now.tokens.now at.old ≡ Some kind }
+        ensures taken { Takes self.now.tokens.now kind at.old at.new }
+        ensures next { at.new ≡ at.old + 1 }
+        ensures inside { at.old < length self.now.tokens.now }
     {
-        if self.stands(*at, kind) {
-            *at += 1;
-            true
-        } else {
-            false
-        }
-    }
-
-    /// Passes the next token, which is to be of this kind.
-    pub fn take(&self, at: &mut usize, kind: TokenKind) -> Result<(), Stop>
-        ensures taken { OnOk result (Takes self.now.tokens.now kind at.old at.new) }
-        ensures next { OnOk result (at.new ≡ at.old + 1) }
-        ensures inside { OnOk result (at.old < length self.now.tokens.now) }
-    {
-        if self.passes(at, kind) {
-            Ok(())
-        } else {
-            Err(Stop::Unexpected)
-        }
+        let _stands = self.stands(*at, kind);
+        *at += 1;
     }
 }

@@ -1,24 +1,32 @@
 //! Statements: a function for each kind.
 
-ghost use Rattle.std.specs.Prelude.{◌≡◌, ◌+◌, ◌<◌, ◌≤◌, length, IfOk, OnOk, IsTrue};
-ghost use Rattle.bl_parse.specs.Statements.{SpellsBlock, SpellsStmt, SpellsKind, SpellsBranches, SpellsBranch, SpellsWeak, SpellsGuard, SpellsArms, SpellsArm, SpellsElse, takes_value};
+ghost use Rattle.std.specs.Prelude.{◌≡◌, ◌+◌, ◌<◌, ◌≤◌, [], ◌∷◌, Some, length, IfOk, OnOk, IsTrue};
+ghost use Rattle.bl_tree.specs.declared.token.TokenKind.{TokenKind};
+ghost use Rattle.bl_lex.specs.declared.word.TheConstants.{VAR, LET, CONST, AWAIT, RUN, COBEGIN, WHEN, REPEAT, WHILE, IF, THEN, RETURN};
+ghost use Rattle.bl_syntax.specs.declared.grammar.Part.{Part};
+ghost use Rattle.bl_syntax.specs.Grammar.{the};
+ghost use Rattle.bl_syntax.specs.Grammar as grammar;
+ghost use Rattle.bl_parse.specs.At.{kind_at};
+ghost use Rattle.bl_parse.specs.Reading.{just, Awaits, Turns};
+ghost use Rattle.bl_parse.specs.Statements.{SpellsBlock, SpellsStmt, SpellsKind, SpellsBranches, SpellsBranch, SpellsWeak, SpellsGuard, SpellsArms, SpellsArm, SpellsElse, begins_stmt, goes_on, leads_stmt, takes_value};
 
 use crate::expr::{read_expr, read_inputs, target_of};
 use crate::name::name;
 use crate::operator::begins_expr;
 use crate::parts::{constant, initial, maybe_typing, outputs, start_of_run, typing, value};
 use crate::source::Source;
-use crate::stop::Stop;
 use bl_lex::{sign, word};
 use bl_raw::stmt::{RawArm, RawBranch, RawStmt, RawStmtKind};
-use bl_tree::List;
-use bl_tree::token::TokenKind;
+use bl_tree::{List, NoMemory};
+use bl_tree::token::{Token, TokenKind};
 use bl_tree::tree::Guard;
 
 /// Reads statements, as many as there are.
 #[cycle(statements)]
-pub fn block(source: &Source, at: &mut usize) -> Result<List<RawStmt>, Stop>
+pub fn block(source: &Source, at: &mut usize) -> Result<List<RawStmt>, NoMemory>
+    requires awaits { Awaits (just Part.Block) source.now.tokens.now at.old }
     ensures spelled { IfOk result (λ body. SpellsBlock source.now.text.now source.now.tokens.now body at.old at.new) }
+    ensures follows { OnOk result (Turns (just Part.Block) source.now.tokens.now at.old [] at.new) }
     ensures ahead { OnOk result (at.old ≤ at.new) }
 {
     let mut body = List::new(source.alloc);
@@ -30,36 +38,38 @@ pub fn block(source: &Source, at: &mut usize) -> Result<List<RawStmt>, Stop>
 
 /// Whether a statement may begin with the token at the position.
 fn begins_stmt(source: &Source, at: usize) -> bool
-    ensures { IsTrue result → at < length source.now.tokens.now }
+    ensures among { result ≡ begins_stmt (kind_at source.now.tokens.now at) }
+    ensures inside { IsTrue result → at < length source.now.tokens.now }
 {
     match source.kind_at(at) {
         Some(TokenKind::Name) => true,
-        Some(TokenKind::Word(k)) => is_first_word(k),
+        Some(TokenKind::Word(k)) => leads_stmt(k),
         Some(TokenKind::Number(_) | TokenKind::Sign(_)) | None => false,
     }
 }
 
 /// Whether a statement may begin with the keyword.
-fn is_first_word(k: u8) -> bool {
-    matches!(
-        k,
-        word::VAR
-            | word::LET
-            | word::CONST
-            | word::AWAIT
-            | word::RUN
-            | word::COBEGIN
-            | word::WHEN
-            | word::REPEAT
-            | word::WHILE
-            | word::IF
-            | word::RETURN
-    )
+fn leads_stmt(k: u8) -> bool
+    ensures { result ≡ leads_stmt k }
+{
+    k == word::VAR
+        || k == word::LET
+        || k == word::CONST
+        || k == word::AWAIT
+        || k == word::RUN
+        || k == word::COBEGIN
+        || k == word::WHEN
+        || k == word::REPEAT
+        || k == word::WHILE
+        || k == word::IF
+        || k == word::RETURN
 }
 
 #[cycle(statements)]
-fn stmt(source: &Source, at: &mut usize) -> Result<RawStmt, Stop>
+fn stmt(source: &Source, at: &mut usize) -> Result<RawStmt, NoMemory>
+    requires awaits { Awaits (just Part.Stmt) source.now.tokens.now at.old }
     ensures spelled { IfOk result (λ s. SpellsStmt source.now.text.now source.now.tokens.now s at.old at.new) }
+    ensures follows { OnOk result (Turns (just Part.Stmt) source.now.tokens.now at.old [] at.new) }
     ensures ahead { OnOk result (at.old < at.new) }
 {
     let from = *at;
@@ -71,42 +81,63 @@ fn stmt(source: &Source, at: &mut usize) -> Result<RawStmt, Stop>
 }
 
 #[cycle(statements)]
-fn kind(source: &Source, at: &mut usize) -> Result<RawStmtKind, Stop>
+fn kind(source: &Source, at: &mut usize) -> Result<RawStmtKind, NoMemory>
+    requires awaits { Awaits (just Part.Stmt) source.now.tokens.now at.old }
     ensures spelled { IfOk result (λ what. SpellsKind source.now.text.now source.now.tokens.now what at.old at.new) }
-    ensures ahead { OnOk result (at.old < at.new) }
-{
-    match source.kind_at(*at) {
-        Some(TokenKind::Word(word::COBEGIN)) => cobegin(source, at),
-        Some(TokenKind::Word(word::WHEN)) => guarded(source, at),
-        Some(TokenKind::Word(word::REPEAT)) => repeat(source, at),
-        Some(TokenKind::Word(word::WHILE)) => while_loop(source, at),
-        Some(TokenKind::Word(word::IF)) => branching(source, at),
-        _ => simple(source, at),
-    }
-}
-
-/// A statement that holds no statement.
-fn simple(source: &Source, at: &mut usize) -> Result<RawStmtKind, Stop>
-    ensures spelled { IfOk result (λ what. SpellsKind source.now.text.now source.now.tokens.now what at.old at.new) }
+    ensures follows { OnOk result (Turns (just Part.Stmt) source.now.tokens.now at.old [] at.new) }
     ensures ahead { OnOk result (at.old < at.new) }
 {
     match source.kind_at(*at) {
         Some(TokenKind::Name) => named(source, at),
-        Some(TokenKind::Word(word::VAR)) => variable(source, at),
-        Some(TokenKind::Word(word::LET)) => fixed(source, at),
-        Some(TokenKind::Word(word::CONST)) => local_constant(source, at),
-        Some(TokenKind::Word(word::AWAIT)) => awaiting(source, at),
-        Some(TokenKind::Word(word::RUN)) => run(source, at),
-        Some(TokenKind::Word(word::RETURN)) => returning(source, at),
-        _ => Err(Stop::Unexpected),
+        Some(TokenKind::Word(k)) => led(source, at, k),
+        Some(TokenKind::Number(_)) => unreachable!(),
+        Some(TokenKind::Sign(_)) => unreachable!(),
+        None => unreachable!(),
     }
 }
 
-fn variable(source: &Source, at: &mut usize) -> Result<RawStmtKind, Stop>
+/// A statement that begins with this keyword.
+#[cycle(statements)]
+fn led(source: &Source, at: &mut usize, k: u8) -> Result<RawStmtKind, NoMemory>
+    requires awaits { Awaits (just Part.Stmt) source.now.tokens.now at.old }
+    requires stands { kind_at source.now.tokens.now at.old ≡ Some (TokenKind.Word k) }
     ensures spelled { IfOk result (λ what. SpellsKind source.now.text.now source.now.tokens.now what at.old at.new) }
+    ensures follows { OnOk result (Turns (just Part.Stmt) source.now.tokens.now at.old [] at.new) }
     ensures ahead { OnOk result (at.old < at.new) }
 {
-    source.take(at, TokenKind::Word(word::VAR))?;
+    if k == word::VAR {
+        variable(source, at)
+    } else if k == word::LET {
+        fixed(source, at)
+    } else if k == word::CONST {
+        local_constant(source, at)
+    } else if k == word::AWAIT {
+        awaiting(source, at)
+    } else if k == word::RUN {
+        run(source, at)
+    } else if k == word::COBEGIN {
+        cobegin(source, at)
+    } else if k == word::WHEN {
+        guarded(source, at)
+    } else if k == word::REPEAT {
+        repeat(source, at)
+    } else if k == word::WHILE {
+        while_loop(source, at)
+    } else if k == word::IF {
+        branching(source, at)
+    } else {
+        returning(source, at)
+    }
+}
+
+fn variable(source: &Source, at: &mut usize) -> Result<RawStmtKind, NoMemory>
+    requires awaits { Awaits (just Part.Stmt) source.now.tokens.now at.old }
+    requires stands { kind_at source.now.tokens.now at.old ≡ Some (TokenKind.Word VAR) }
+    ensures spelled { IfOk result (λ what. SpellsKind source.now.text.now source.now.tokens.now what at.old at.new) }
+    ensures follows { OnOk result (Turns (just Part.Stmt) source.now.tokens.now at.old [] at.new) }
+    ensures ahead { OnOk result (at.old < at.new) }
+{
+    source.take(at, TokenKind::Word(word::VAR));
     let name = name(source, at)?;
     if source.stands(*at, TokenKind::Sign(sign::COLON)) {
         let ty = typing(source, at)?;
@@ -118,19 +149,25 @@ fn variable(source: &Source, at: &mut usize) -> Result<RawStmtKind, Stop>
     }
 }
 
-fn fixed(source: &Source, at: &mut usize) -> Result<RawStmtKind, Stop>
+fn fixed(source: &Source, at: &mut usize) -> Result<RawStmtKind, NoMemory>
+    requires awaits { Awaits (just Part.Stmt) source.now.tokens.now at.old }
+    requires stands { kind_at source.now.tokens.now at.old ≡ Some (TokenKind.Word LET) }
     ensures spelled { IfOk result (λ what. SpellsKind source.now.text.now source.now.tokens.now what at.old at.new) }
+    ensures follows { OnOk result (Turns (just Part.Stmt) source.now.tokens.now at.old [] at.new) }
     ensures ahead { OnOk result (at.old < at.new) }
 {
-    source.take(at, TokenKind::Word(word::LET))?;
+    source.take(at, TokenKind::Word(word::LET));
     let name = name(source, at)?;
     let ty = maybe_typing(source, at)?;
     let value = value(source, at)?;
     Ok(RawStmtKind::Let(name, ty, value))
 }
 
-fn local_constant(source: &Source, at: &mut usize) -> Result<RawStmtKind, Stop>
+fn local_constant(source: &Source, at: &mut usize) -> Result<RawStmtKind, NoMemory>
+    requires awaits { Awaits (just Part.Stmt) source.now.tokens.now at.old }
+    requires stands { kind_at source.now.tokens.now at.old ≡ Some (TokenKind.Word CONST) }
     ensures spelled { IfOk result (λ what. SpellsKind source.now.text.now source.now.tokens.now what at.old at.new) }
+    ensures follows { OnOk result (Turns (just Part.Stmt) source.now.tokens.now at.old [] at.new) }
     ensures ahead { OnOk result (at.old < at.new) }
 {
     let constant = constant(source, at)?;
@@ -138,8 +175,11 @@ fn local_constant(source: &Source, at: &mut usize) -> Result<RawStmtKind, Stop>
 }
 
 /// A call or an assignment.
-fn named(source: &Source, at: &mut usize) -> Result<RawStmtKind, Stop>
+fn named(source: &Source, at: &mut usize) -> Result<RawStmtKind, NoMemory>
+    requires awaits { Awaits (just Part.Stmt) source.now.tokens.now at.old }
+    requires stands { kind_at source.now.tokens.now at.old ≡ Some (TokenKind.Name) }
     ensures spelled { IfOk result (λ what. SpellsKind source.now.text.now source.now.tokens.now what at.old at.new) }
+    ensures follows { OnOk result (Turns (just Part.Stmt) source.now.tokens.now at.old [] at.new) }
     ensures ahead { OnOk result (at.old < at.new) }
 {
     let from = *at;
@@ -155,36 +195,45 @@ fn named(source: &Source, at: &mut usize) -> Result<RawStmtKind, Stop>
     }
 }
 
-fn awaiting(source: &Source, at: &mut usize) -> Result<RawStmtKind, Stop>
+fn awaiting(source: &Source, at: &mut usize) -> Result<RawStmtKind, NoMemory>
+    requires awaits { Awaits (just Part.Stmt) source.now.tokens.now at.old }
+    requires stands { kind_at source.now.tokens.now at.old ≡ Some (TokenKind.Word AWAIT) }
     ensures spelled { IfOk result (λ what. SpellsKind source.now.text.now source.now.tokens.now what at.old at.new) }
+    ensures follows { OnOk result (Turns (just Part.Stmt) source.now.tokens.now at.old [] at.new) }
     ensures ahead { OnOk result (at.old < at.new) }
 {
-    source.take(at, TokenKind::Word(word::AWAIT))?;
+    source.take(at, TokenKind::Word(word::AWAIT));
     let e = read_expr(source, at)?;
     Ok(RawStmtKind::Await(e))
 }
 
-fn run(source: &Source, at: &mut usize) -> Result<RawStmtKind, Stop>
+fn run(source: &Source, at: &mut usize) -> Result<RawStmtKind, NoMemory>
+    requires awaits { Awaits (just Part.Stmt) source.now.tokens.now at.old }
+    requires stands { kind_at source.now.tokens.now at.old ≡ Some (TokenKind.Word RUN) }
     ensures spelled { IfOk result (λ what. SpellsKind source.now.text.now source.now.tokens.now what at.old at.new) }
+    ensures follows { OnOk result (Turns (just Part.Stmt) source.now.tokens.now at.old [] at.new) }
     ensures ahead { OnOk result (at.old < at.new) }
 {
-    source.take(at, TokenKind::Word(word::RUN))?;
+    source.take(at, TokenKind::Word(word::RUN));
     let started = start_of_run(source, at)?;
     let inputs = read_inputs(source, at)?;
     let outputs = outputs(source, at)?;
     Ok(RawStmtKind::Run(started.receiver, started.activity, inputs, outputs))
 }
 
-fn returning(source: &Source, at: &mut usize) -> Result<RawStmtKind, Stop>
+fn returning(source: &Source, at: &mut usize) -> Result<RawStmtKind, NoMemory>
+    requires awaits { Awaits (just Part.Stmt) source.now.tokens.now at.old }
+    requires stands { kind_at source.now.tokens.now at.old ≡ Some (TokenKind.Word RETURN) }
     ensures spelled { IfOk result (λ what. SpellsKind source.now.text.now source.now.tokens.now what at.old at.new) }
+    ensures follows { OnOk result (Turns (just Part.Stmt) source.now.tokens.now at.old [] at.new) }
     ensures ahead { OnOk result (at.old < at.new) }
 {
     if takes_value(source, *at) {
-        source.take(at, TokenKind::Word(word::RETURN))?;
+        source.take(at, TokenKind::Word(word::RETURN));
         let e = read_expr(source, at)?;
         Ok(RawStmtKind::Return(Some(e)))
     } else {
-        source.take(at, TokenKind::Word(word::RETURN))?;
+        source.take(at, TokenKind::Word(word::RETURN));
         Ok(RawStmtKind::Return(None))
     }
 }
@@ -193,43 +242,57 @@ fn returning(source: &Source, at: &mut usize) -> Result<RawStmtKind, Stop>
 fn takes_value(source: &Source, at: usize) -> bool
     ensures { result ≡ takes_value source.now.tokens.now at }
 {
-    match source.tokens.get(at) {
-        Some(first) => match source.tokens.get(at + 1) {
-            Some(second) => first.line == second.line && begins_expr(second.kind),
-            None => false,
-        },
+    match source.token_at(at) {
+        Some(first) => goes_on(first, source.token_at(at + 1)),
+        None => false,
+    }
+}
+
+/// Whether the next token is on the line of the first, and an expression may begin with it.
+fn goes_on(first: Token, next: Option<Token>) -> bool
+    ensures { result ≡ goes_on (Some first) next }
+{
+    match next {
+        Some(second) => first.line == second.line && begins_expr(second.kind),
         None => false,
     }
 }
 
 #[cycle(statements)]
-fn cobegin(source: &Source, at: &mut usize) -> Result<RawStmtKind, Stop>
+fn cobegin(source: &Source, at: &mut usize) -> Result<RawStmtKind, NoMemory>
+    requires awaits { Awaits (just Part.Stmt) source.now.tokens.now at.old }
+    requires stands { kind_at source.now.tokens.now at.old ≡ Some (TokenKind.Word COBEGIN) }
     ensures spelled { IfOk result (λ what. SpellsKind source.now.text.now source.now.tokens.now what at.old at.new) }
+    ensures follows { OnOk result (Turns (just Part.Stmt) source.now.tokens.now at.old [] at.new) }
     ensures ahead { OnOk result (at.old < at.new) }
 {
-    source.take(at, TokenKind::Word(word::COBEGIN))?;
+    source.take(at, TokenKind::Word(word::COBEGIN));
     let branches = branches(source, at)?;
-    source.take(at, TokenKind::Word(word::END))?;
+    source.take(at, TokenKind::Word(word::END));
     Ok(RawStmtKind::Cobegin(branches))
 }
 
 #[cycle(statements)]
-fn branches(source: &Source, at: &mut usize) -> Result<List<RawBranch>, Stop>
+fn branches(source: &Source, at: &mut usize) -> Result<List<RawBranch>, NoMemory>
+    requires awaits { Awaits (the Part.Weak ∷ the Part.Block ∷ the Part.Branches ∷ []) source.now.tokens.now at.old }
     ensures spelled { IfOk result (λ branches. SpellsBranches source.now.text.now source.now.tokens.now branches at.old at.new) }
+    ensures follows { OnOk result (Turns (the Part.Weak ∷ the Part.Block ∷ the Part.Branches ∷ []) source.now.tokens.now at.old [] at.new) }
     ensures ahead { OnOk result (at.old ≤ at.new) }
 {
     let mut branches = List::new(source.alloc);
     branches.push(branch(source, at)?)?;
     'withs: while source.stands(*at, TokenKind::Word(word::WITH)) {
-        source.take(at, TokenKind::Word(word::WITH))?;
+        source.take(at, TokenKind::Word(word::WITH));
         branches.push(branch(source, at)?)?;
     }
     Ok(branches)
 }
 
 #[cycle(statements)]
-fn branch(source: &Source, at: &mut usize) -> Result<RawBranch, Stop>
+fn branch(source: &Source, at: &mut usize) -> Result<RawBranch, NoMemory>
+    requires awaits { Awaits (the Part.Weak ∷ the Part.Block ∷ []) source.now.tokens.now at.old }
     ensures spelled { IfOk result (λ branch. SpellsBranch source.now.text.now source.now.tokens.now branch at.old at.new) }
+    ensures follows { OnOk result (Turns (the Part.Weak ∷ the Part.Block ∷ []) source.now.tokens.now at.old [] at.new) }
     ensures ahead { OnOk result (at.old ≤ at.new) }
 {
     let weak = weak(source, at)?;
@@ -238,12 +301,14 @@ fn branch(source: &Source, at: &mut usize) -> Result<RawBranch, Stop>
 }
 
 /// Passes a `weak`, where one stands.
-fn weak(source: &Source, at: &mut usize) -> Result<bool, Stop>
+fn weak(source: &Source, at: &mut usize) -> Result<bool, NoMemory>
+    requires awaits { Awaits (just Part.Weak) source.now.tokens.now at.old }
     ensures spelled { IfOk result (λ weak. SpellsWeak source.now.tokens.now weak at.old at.new) }
+    ensures follows { OnOk result (Turns (just Part.Weak) source.now.tokens.now at.old [] at.new) }
     ensures ahead { OnOk result (at.old ≤ at.new) }
 {
     if source.stands(*at, TokenKind::Word(word::WEAK)) {
-        source.take(at, TokenKind::Word(word::WEAK))?;
+        source.take(at, TokenKind::Word(word::WEAK));
         Ok(true)
     } else {
         Ok(false)
@@ -251,76 +316,92 @@ fn weak(source: &Source, at: &mut usize) -> Result<bool, Stop>
 }
 
 #[cycle(statements)]
-fn guarded(source: &Source, at: &mut usize) -> Result<RawStmtKind, Stop>
+fn guarded(source: &Source, at: &mut usize) -> Result<RawStmtKind, NoMemory>
+    requires awaits { Awaits (just Part.Stmt) source.now.tokens.now at.old }
+    requires stands { kind_at source.now.tokens.now at.old ≡ Some (TokenKind.Word WHEN) }
     ensures spelled { IfOk result (λ what. SpellsKind source.now.text.now source.now.tokens.now what at.old at.new) }
+    ensures follows { OnOk result (Turns (just Part.Stmt) source.now.tokens.now at.old [] at.new) }
     ensures ahead { OnOk result (at.old < at.new) }
 {
-    source.take(at, TokenKind::Word(word::WHEN))?;
+    source.take(at, TokenKind::Word(word::WHEN));
     let test = read_expr(source, at)?;
     let guard = guard(source, at)?;
     let body = block(source, at)?;
-    source.take(at, TokenKind::Word(word::END))?;
+    source.take(at, TokenKind::Word(word::END));
     Ok(RawStmtKind::When(guard, test, body))
 }
 
-fn guard(source: &Source, at: &mut usize) -> Result<Guard, Stop>
+fn guard(source: &Source, at: &mut usize) -> Result<Guard, NoMemory>
+    requires awaits { Awaits (just Part.Guard) source.now.tokens.now at.old }
     ensures spelled { IfOk result (λ guard. SpellsGuard source.now.tokens.now guard at.old at.new) }
+    ensures follows { OnOk result (Turns (just Part.Guard) source.now.tokens.now at.old [] at.new) }
     ensures ahead { OnOk result (at.old < at.new) }
 {
     if source.stands(*at, TokenKind::Word(word::ABORT)) {
-        source.take(at, TokenKind::Word(word::ABORT))?;
+        source.take(at, TokenKind::Word(word::ABORT));
         Ok(Guard::Abort)
     } else {
-        source.take(at, TokenKind::Word(word::RESET))?;
+        source.take(at, TokenKind::Word(word::RESET));
         Ok(Guard::Reset)
     }
 }
 
 #[cycle(statements)]
-fn repeat(source: &Source, at: &mut usize) -> Result<RawStmtKind, Stop>
+fn repeat(source: &Source, at: &mut usize) -> Result<RawStmtKind, NoMemory>
+    requires awaits { Awaits (just Part.Stmt) source.now.tokens.now at.old }
+    requires stands { kind_at source.now.tokens.now at.old ≡ Some (TokenKind.Word REPEAT) }
     ensures spelled { IfOk result (λ what. SpellsKind source.now.text.now source.now.tokens.now what at.old at.new) }
+    ensures follows { OnOk result (Turns (just Part.Stmt) source.now.tokens.now at.old [] at.new) }
     ensures ahead { OnOk result (at.old < at.new) }
 {
-    source.take(at, TokenKind::Word(word::REPEAT))?;
+    source.take(at, TokenKind::Word(word::REPEAT));
     let body = block(source, at)?;
     if source.stands(*at, TokenKind::Word(word::UNTIL)) {
-        source.take(at, TokenKind::Word(word::UNTIL))?;
+        source.take(at, TokenKind::Word(word::UNTIL));
         let test = read_expr(source, at)?;
-        source.take(at, TokenKind::Word(word::END))?;
+        source.take(at, TokenKind::Word(word::END));
         Ok(RawStmtKind::Until(body, test))
     } else {
-        source.take(at, TokenKind::Word(word::END))?;
+        source.take(at, TokenKind::Word(word::END));
         Ok(RawStmtKind::Repeat(body))
     }
 }
 
 #[cycle(statements)]
-fn while_loop(source: &Source, at: &mut usize) -> Result<RawStmtKind, Stop>
+fn while_loop(source: &Source, at: &mut usize) -> Result<RawStmtKind, NoMemory>
+    requires awaits { Awaits (just Part.Stmt) source.now.tokens.now at.old }
+    requires stands { kind_at source.now.tokens.now at.old ≡ Some (TokenKind.Word WHILE) }
     ensures spelled { IfOk result (λ what. SpellsKind source.now.text.now source.now.tokens.now what at.old at.new) }
+    ensures follows { OnOk result (Turns (just Part.Stmt) source.now.tokens.now at.old [] at.new) }
     ensures ahead { OnOk result (at.old < at.new) }
 {
-    source.take(at, TokenKind::Word(word::WHILE))?;
+    source.take(at, TokenKind::Word(word::WHILE));
     let test = read_expr(source, at)?;
-    source.take(at, TokenKind::Word(word::REPEAT))?;
+    source.take(at, TokenKind::Word(word::REPEAT));
     let body = block(source, at)?;
-    source.take(at, TokenKind::Word(word::END))?;
+    source.take(at, TokenKind::Word(word::END));
     Ok(RawStmtKind::While(test, body))
 }
 
 #[cycle(statements)]
-fn branching(source: &Source, at: &mut usize) -> Result<RawStmtKind, Stop>
+fn branching(source: &Source, at: &mut usize) -> Result<RawStmtKind, NoMemory>
+    requires awaits { Awaits (just Part.Stmt) source.now.tokens.now at.old }
+    requires stands { kind_at source.now.tokens.now at.old ≡ Some (TokenKind.Word IF) }
     ensures spelled { IfOk result (λ what. SpellsKind source.now.text.now source.now.tokens.now what at.old at.new) }
+    ensures follows { OnOk result (Turns (just Part.Stmt) source.now.tokens.now at.old [] at.new) }
     ensures ahead { OnOk result (at.old < at.new) }
 {
     let arms = arms(source, at)?;
     let other = otherwise(source, at)?;
-    source.take(at, TokenKind::Word(word::END))?;
+    source.take(at, TokenKind::Word(word::END));
     Ok(RawStmtKind::If(arms, other))
 }
 
 #[cycle(statements)]
-fn arms(source: &Source, at: &mut usize) -> Result<List<RawArm>, Stop>
+fn arms(source: &Source, at: &mut usize) -> Result<List<RawArm>, NoMemory>
+    requires awaits { Awaits (grammar.word IF ∷ the Part.Expr ∷ grammar.word THEN ∷ the Part.Block ∷ the Part.Elseifs ∷ []) source.now.tokens.now at.old }
     ensures spelled { IfOk result (λ arms. SpellsArms source.now.text.now source.now.tokens.now arms at.old at.new) }
+    ensures follows { OnOk result (Turns (grammar.word IF ∷ the Part.Expr ∷ grammar.word THEN ∷ the Part.Block ∷ the Part.Elseifs ∷ []) source.now.tokens.now at.old [] at.new) }
     ensures ahead { OnOk result (at.old < at.new) }
 {
     let mut arms = List::new(source.alloc);
@@ -333,24 +414,28 @@ fn arms(source: &Source, at: &mut usize) -> Result<List<RawArm>, Stop>
 
 /// An arm that this word heads.
 #[cycle(statements)]
-fn arm(source: &Source, at: &mut usize, head: u8) -> Result<RawArm, Stop>
+fn arm(source: &Source, at: &mut usize, head: u8) -> Result<RawArm, NoMemory>
+    requires awaits { Awaits (grammar.word head ∷ the Part.Expr ∷ grammar.word THEN ∷ the Part.Block ∷ []) source.now.tokens.now at.old }
     ensures spelled { IfOk result (λ arm. SpellsArm source.now.text.now source.now.tokens.now head arm at.old at.new) }
+    ensures follows { OnOk result (Turns (grammar.word head ∷ the Part.Expr ∷ grammar.word THEN ∷ the Part.Block ∷ []) source.now.tokens.now at.old [] at.new) }
     ensures ahead { OnOk result (at.old < at.new) }
 {
-    source.take(at, TokenKind::Word(head))?;
+    source.take(at, TokenKind::Word(head));
     let test = read_expr(source, at)?;
-    source.take(at, TokenKind::Word(word::THEN))?;
+    source.take(at, TokenKind::Word(word::THEN));
     let body = block(source, at)?;
     Ok(RawArm { test, body })
 }
 
 #[cycle(statements)]
-fn otherwise(source: &Source, at: &mut usize) -> Result<List<RawStmt>, Stop>
+fn otherwise(source: &Source, at: &mut usize) -> Result<List<RawStmt>, NoMemory>
+    requires awaits { Awaits (just Part.Else) source.now.tokens.now at.old }
     ensures spelled { IfOk result (λ other. SpellsElse source.now.text.now source.now.tokens.now other at.old at.new) }
+    ensures follows { OnOk result (Turns (just Part.Else) source.now.tokens.now at.old [] at.new) }
     ensures ahead { OnOk result (at.old ≤ at.new) }
 {
     if source.stands(*at, TokenKind::Word(word::ELSE)) {
-        source.take(at, TokenKind::Word(word::ELSE))?;
+        source.take(at, TokenKind::Word(word::ELSE));
         let body = block(source, at)?;
         Ok(body)
     } else {

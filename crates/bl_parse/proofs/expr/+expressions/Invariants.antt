@@ -1,5 +1,9 @@
-use Rattle.std.proofs.Common.{ℕ, ◌+◌, ◌-◌, ◌*◌, ◌<◌, ◌≤◌, length}
+use Rattle.std.proofs.Common.{ℕ, ◌+◌, ◌-◌, ◌*◌, ◌<◌, ◌≤◌, length, [], ◌∷◌}
 use Rattle.bl_parse.specs.Expressions.{SpellsExpr, SpellsParts, SpellsExprs}
+use Rattle.bl_syntax.specs.declared.grammar.Part.TheVariants.{Cast, CastRest, Expr, InputRest}
+use Rattle.bl_syntax.specs.Grammar.{the}
+use Rattle.bl_parse.specs.Reading.{operand, KeepsTail, Turns}
+use Rattle.bl_parse.proofs.OperatorLemmas.{below, tails}
 use Rattle.bl_parse.proofs.expr.+expressions.Given as goal
 
 -- the tokens that are left, and then how far a function is from passing one
@@ -63,6 +67,7 @@ decreases-expr_of-operators l = length l.source.tokens.now - l.at
 abbrev pub invariant-expr_of-operators : goal.invariant-expr_of-operators
 invariant-expr_of-operators l = record {
   left : SpellsExpr l.source.text.now l.source.tokens.now l.bound l.left l.from l.at;
+  follows : Turns (the (operand l.level) ∷ []) l.source.tokens.now l.fn.at (tails (below l.bound) l.level) l.at;
   ahead : l.from < l.at;
   low : l.level ≤ l.bound;
 }
@@ -73,6 +78,7 @@ decreases-cast-casts l = length l.source.tokens.now - l.at
 abbrev pub invariant-cast-casts : goal.invariant-cast-casts
 invariant-cast-casts l = record {
   e : SpellsExpr l.source.text.now l.source.tokens.now 9 l.e l.from l.at;
+  follows : Turns (the Cast ∷ []) l.source.tokens.now l.fn.at (the CastRest ∷ []) l.at;
   ahead : l.from < l.at;
 }
 
@@ -82,6 +88,7 @@ decreases-read_parts-parts l = length l.source.tokens.now - l.at
 abbrev pub invariant-read_parts-parts : goal.invariant-read_parts-parts
 invariant-read_parts-parts l = record {
   parts : SpellsParts l.source.text.now l.source.tokens.now l.parts l.fn.at l.at;
+  keeps : KeepsTail l.source.tokens.now l.fn.at l.at;
   ahead : l.fn.at ≤ l.at;
 }
 
@@ -91,5 +98,6 @@ decreases-read_exprs-commas l = length l.source.tokens.now - l.at
 abbrev pub invariant-read_exprs-commas : goal.invariant-read_exprs-commas
 invariant-read_exprs-commas l = record {
   exprs : SpellsExprs l.source.text.now l.source.tokens.now l.exprs l.fn.at l.at;
+  follows : Turns (the Expr ∷ the InputRest ∷ []) l.source.tokens.now l.fn.at (the InputRest ∷ []) l.at;
   ahead : l.fn.at < l.at;
 }

@@ -1,11 +1,15 @@
-use Rattle.std.proofs.Common.{true, false, refl}
+use Rattle.std.proofs.Common.{refl, ◌∷◌, []}
+use Rattle.bl_syntax.specs.Grammar.{word}
 use Rattle.bl_raw.specs.declared.expr.RawExprKind as kind
+use Rattle.bl_tree.specs.declared.token.TokenKind.TheVariants.{Word}
 use Rattle.bl_parse.specs.Expressions.{SpellsExpr}
-use Rattle.bl_parse.proofs.ExprLemmas.{placed, truth_spelled, false_spelled}
+use Rattle.bl_parse.proofs.ExprLemmas.{placed}
+use Rattle.bl_parse.proofs.PartLemmas.{truth_word}
+use Rattle.bl_parse.proofs.ReadLemmas.{then, pass, opened}
 use Rattle.bl_parse.proofs.expr.truth.Goals as goal
 
-pub returns-then-passes-clause-spelled : goal.returns-then-passes-clause-spelled
-returns-then-passes-clause-spelled c = SpellsExpr.truth (truth_spelled (c.if-passes.ensures.taken refl)) (placed (kind.Truth true) c.span.ensures)
+pub returns-clause-spelled : goal.returns-clause-spelled
+returns-clause-spelled c = SpellsExpr.truth (record { kind = Word c.args.k; token = c.take.ensures.taken; is = c.requires.is }) (placed (kind.Truth c.args.b) c.span.ensures)
 
-pub returns-in_ok-take-clause-spelled : goal.returns-in_ok-take-clause-spelled
-returns-in_ok-take-clause-spelled c = SpellsExpr.truth (false_spelled (c.if-passes.ensures.left refl) c.in_ok-take.ensures.taken) (placed (kind.Truth false) c.span-else-passes.ensures)
+pub returns-clause-follows : goal.returns-clause-follows
+returns-clause-follows c = then (opened (word c.args.k ∷ []) (λ v. refl) c.requires.stands (truth_word c.requires.is)) (pass c.take.ensures.next)

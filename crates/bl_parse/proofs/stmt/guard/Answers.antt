@@ -1,10 +1,23 @@
-use Rattle.bl_tree.specs.declared.token.TokenKind.TheVariants.{Word}
+use Rattle.std.proofs.Common.{refl, ◌∷◌, []}
 use Rattle.bl_lex.specs.declared.word.TheConstants.{ABORT, RESET}
+use Rattle.bl_syntax.specs.Grammar.{word, class_of}
+use Rattle.bl_tree.specs.declared.token.TokenKind.TheVariants.{Word}
 use Rattle.bl_parse.specs.Statements.{IsGuard}
+use Rattle.bl_parse.proofs.PartLemmas.{off_at, guard_reset}
+use Rattle.bl_parse.proofs.ReadLemmas.{next_word, after, then, pass, opened, opened_rest, no_word}
 use Rattle.bl_parse.proofs.stmt.guard.Goals as goal
 
-pub returns-in_ok-take-clause-spelled : goal.returns-in_ok-take-clause-spelled
-returns-in_ok-take-clause-spelled c = record { word = Word ABORT; token = c.in_ok-take.ensures.taken; is = IsGuard.abort }
+pub take-requires-else-stands : goal.take-requires-else-stands
+take-requires-else-stands c = record { stands = next_word (after c.requires.awaits (opened_rest (word RESET ∷ []) (λ v. refl) refl (λ kind is. guard_reset (class_of kind) (off_at (no_word (c.if-stands.ensures.not refl)) kind is)))) }
 
-pub returns-in_ok-take-2-clause-spelled : goal.returns-in_ok-take-2-clause-spelled
-returns-in_ok-take-2-clause-spelled c = record { word = Word RESET; token = c.in_ok-take-2.ensures.taken; is = IsGuard.reset }
+pub returns-then-stands-clause-spelled : goal.returns-then-stands-clause-spelled
+returns-then-stands-clause-spelled c = record { word = Word ABORT; token = c.take.ensures.taken; is = IsGuard.abort }
+
+pub returns-then-stands-clause-follows : goal.returns-then-stands-clause-follows
+returns-then-stands-clause-follows c = then (opened (word ABORT ∷ []) (λ v. refl) (c.if-stands.ensures.kind.0 refl) refl) (pass c.take.ensures.next)
+
+pub returns-else-stands-clause-spelled : goal.returns-else-stands-clause-spelled
+returns-else-stands-clause-spelled c = record { word = Word RESET; token = c.take-else-stands.ensures.taken; is = IsGuard.reset }
+
+pub returns-else-stands-clause-follows : goal.returns-else-stands-clause-follows
+returns-else-stands-clause-follows c = then (opened_rest (word RESET ∷ []) (λ v. refl) refl (λ kind is. guard_reset (class_of kind) (off_at (no_word (c.if-stands.ensures.not refl)) kind is))) (pass c.take-else-stands.ensures.next)
