@@ -1,10 +1,9 @@
 -- Laws of spelled expressions.
-use Rattle.std.proofs.Common.{◌≡◌, ℕ, ◌+◌, ◌≤◌, List, [], ◌∷◌, ◌++◌, true, false, ap, subst, ◌∙◌, arith}
+use Rattle.std.proofs.Common.{◌≡◌, ℕ, ◌+◌, ◌≤◌, List, [], ◌∷◌, ◌++◌, ap, ◌∙◌, arith}
 use Rattle.bl_tree.specs.declared.scalar.Op.{Op}
 use Rattle.bl_tree.specs.declared.token.TokenKind.{TokenKind}
-use Rattle.bl_tree.specs.declared.token.TokenKind.TheVariants.{Sign, Word}
+use Rattle.bl_tree.specs.declared.token.TokenKind.TheVariants.{Sign}
 use Rattle.bl_lex.specs.declared.sign.TheConstants.{MINUS}
-use Rattle.bl_lex.specs.declared.word.TheConstants.{TRUE, FALSE}
 use Rattle.bl_parse.specs.At.{Takes}
 use Rattle.bl_parse.specs.Operators.{IsPrefix, SpellsPrefix}
 use Rattle.bl_tree.specs.declared.place.Place.{Place}
@@ -13,7 +12,7 @@ use Rattle.bl_raw.specs.declared.expr.RawExpr.{RawExpr}
 use Rattle.bl_raw.specs.declared.expr.RawExprKind.{RawExprKind}
 use Rattle.bl_raw.specs.declared.expr.RawPart.{RawPart}
 use Rattle.bl_raw.specs.declared.name.Name.{Name}
-use Rattle.bl_parse.specs.Expressions.{expr, target, IsTruth, SpellsExpr, SpellsExprs, SpellsTruth}
+use Rattle.bl_parse.specs.Expressions.{expr, target, SpellsExpr}
 
 pub le_through : {a b c : ℕ} → a ≤ b → b ≤ c → a ≤ c
 le_through e f = omega arith
@@ -54,15 +53,6 @@ second_next a = omega arith
 -- a list with one element, pushed to an empty one
 pub pushed_first : {A : Type 0} {old new : List A} {x : A} → old ≡ [] → new ≡ old ++ (x ∷ []) → new ≡ x ∷ []
 pushed_first {x = x} e g = g ∙ ap (λ xs. xs ++ (x ∷ [])) e
-
-pub exprs_from : {text : List ℕ} {tokens : List Token} {es : List RawExpr} {a b to : ℕ} → a ≡ b → SpellsExprs text tokens es a to → SpellsExprs text tokens es b to
-exprs_from {text} {tokens} {es} {to = to} e h = subst (λ k. SpellsExprs text tokens es k to) e h
-
-pub truth_spelled : {tokens : List Token} {from to : ℕ} → Takes tokens (Word TRUE) from to → SpellsTruth tokens true from to
-truth_spelled token = record { kind = Word TRUE; token = token; is = IsTruth.yes }
-
-pub false_spelled : {tokens : List Token} {start from to : ℕ} → from ≡ start → Takes tokens (Word FALSE) from to → SpellsTruth tokens false start to
-false_spelled {tokens} {to = to} same token = subst (λ at. SpellsTruth tokens false at to) same (record { kind = Word FALSE; token = token; is = IsTruth.no })
 
 pub placed_target : (root : Name) (parts : List RawPart) {p q : Place} → p ≡ q → target p root parts ≡ target q root parts
 placed_target root parts e = ap (λ place. target place root parts) e

@@ -1,15 +1,14 @@
 -- What the text has where a token is a name.
-use Rattle.std.proofs.Common.{◌≡◌, ℕ, ◌<◌, ◌≤◌, true, List, length, get_or, slice_range, refl, ap, sym, ◌∙◌, subst, arith}
+use Rattle.std.proofs.Common.{◌≡◌, ℕ, ◌≤◌, true, List, length, slice_range, ap, sym, ◌∙◌, subst, arith}
 use Rattle.std.specs.Prelude.{Some, slice_get, option_map}
 use Rattle.std.proofs.lemmas.Option.{slice_get_within, get_or_from_slice_get}
 use Rattle.bl_tree.specs.Words.{is_name}
 use Rattle.bl_tree.specs.declared.token.Token.{Token}
-use Rattle.bl_tree.specs.declared.token.TokenKind.{TokenKind}
 use Rattle.bl_tree.specs.declared.token.TokenKind.TheVariants.{Name}
 use Rattle.bl_lex.specs.Tokens.{Lexes}
 use Rattle.bl_lex.proofs.NameLaws.{names_are_names}
 use Rattle.bl_lex.proofs.RuleLaws.{tokens_inside}
-use Rattle.bl_parse.specs.At.{kind_at, start_at, end_at, start_of, end_of}
+use Rattle.bl_parse.specs.At.{kind_at, start_of, end_of}
 use Rattle.bl_parse.specs.Reading.{NamesStand}
 use Rattle.bl_parse.proofs.ReturnLemmas.{token_at}
 

@@ -2,14 +2,13 @@
 use Rattle.std.proofs.Common.{◌≡◌, ℕ, Bool, true, false, cond, ◌||◌, List, [], ◌∷◌, ◌++◌, refl, sym, ◌∙◌, subst}
 use Rattle.std.specs.Prelude.{Option, Some, None, slice_get, option_map}
 use Rattle.bl_tree.specs.declared.token.Token.{Token}
-use Rattle.bl_grammar.specs.Derivations.{next_of}
 use Rattle.bl_grammar.proofs.Predictive.{fold_in}
 use Rattle.bl_lex.specs.declared.sign.TheConstants.{DOT, OPEN_BRACKET, OPEN_PAREN}
 use Rattle.bl_syntax.specs.declared.grammar.Class.{Class}
 use Rattle.bl_syntax.specs.declared.grammar.Class.TheVariants.{Mark}
 use Rattle.bl_syntax.specs.declared.grammar.View.{View}
-use Rattle.bl_syntax.specs.declared.grammar.Part.TheVariants.{NameUse, Access, Accesses, Inputs, NoOutputs}
-use Rattle.bl_syntax.specs.Grammar.{Piece, the, matches, Produces, IsAmong, class_of}
+use Rattle.bl_syntax.specs.declared.grammar.Part.TheVariants.{NameUse, Access, Accesses}
+use Rattle.bl_syntax.specs.Grammar.{Piece, the, matches, Produces}
 use Rattle.bl_syntax.specs.Grammar.IsAmong.{here, later}
 use Rattle.bl_syntax.specs.Tables.{has, or_absent}
 use Rattle.bl_syntax.specs.Follow.{avoided}

@@ -1,6 +1,6 @@
 -- Chains of operators: what goes on with an expression whose operators bind as tightly as a level.
-use Rattle.std.proofs.Common.{◌≡◌, ℕ, zero, suc, ◌+◌, ◌<◌, ◌≤◌, min, Bool, true, false, cond, ◌||◌, ◌⊎◌, inl, inr, ⊎_elim, List, [], ◌∷◌, ◌++◌, refl, ap, sym, ◌∙◌, subst, arith, lit≤}
-use Rattle.std.specs.Prelude.{Option, Some, None, nat_le, nat_lt, nat_eq}
+use Rattle.std.proofs.Common.{◌≡◌, ℕ, zero, suc, ◌+◌, ◌<◌, ◌≤◌, min, Bool, true, false, cond, ◌||◌, List, [], ◌∷◌, ◌++◌, refl, ap, sym, ◌∙◌, subst, arith}
+use Rattle.std.specs.Prelude.{Some, nat_le, nat_lt, nat_eq}
 use Rattle.std.proofs.lemmas.Bool.{le-leb, leb-true, eqb-true, eqb-false, eq-eqb, ltb-true, ltb-false}
 use Rattle.std.proofs.Math.Nat.{min-le_left, min-le_right, le-min}
 use Rattle.bl_tree.specs.declared.scalar.Op.{Op}
@@ -14,14 +14,13 @@ use Rattle.bl_syntax.specs.declared.grammar.Class.{Class}
 use Rattle.bl_syntax.specs.declared.grammar.Class.TheVariants.{Keyword, Mark}
 use Rattle.bl_syntax.specs.declared.grammar.Part.{Part}
 use Rattle.bl_syntax.specs.declared.grammar.Part.TheVariants.{Expr, And, Comparison, BitOr, BitXor, BitAnd, Shift, Sum, Product, Cast, ExprRest, AndRest, ComparisonRest, BitOrRest, BitXorRest, BitAndRest, ShiftRest, SumRest, ProductRest}
-use Rattle.bl_syntax.specs.declared.grammar.View.{View}
 use Rattle.bl_syntax.specs.Grammar.{Piece, the, class_of, same_class, productions}
-use Rattle.bl_syntax.specs.Tables.{has, has_empty, starts_within, permits}
+use Rattle.bl_syntax.specs.Tables.{has, has_empty, starts_within}
 use Rattle.bl_syntax.proofs.Right.{same_is}
 use Rattle.bl_parse.specs.At.{kind_at}
 use Rattle.bl_parse.specs.Operators.{IsOperator, SpellsInfix, NoInfix, left_level, operator_classes}
 use Rattle.bl_parse.specs.Reading.{next_among, operand, NoneNext, Turns}
-use Rattle.bl_parse.proofs.ReadLemmas.{picks, class_word, class_sign, then, stay, opened, opened_one, omit}
+use Rattle.bl_parse.proofs.ReadLemmas.{class_word, class_sign, then, stay, opened, opened_one, omit}
 use Rattle.bl_parse.proofs.PartLemmas.{kind_among}
 
 -- the part that goes on with operators of a level
@@ -205,8 +204,10 @@ module _ {tokens : List Token} {k : ℕ} where
 
   -- no operator of the level stands next
   lacks : (m : ℕ) → m ≤ 8 → ((kind : TokenKind) (op : Op) → kind_at tokens k ≡ Some kind → IsOperator kind m op → ⊥) → NoneNext (starts_within 20 (rest_of m)) tokens k
-  lacks m le none = record { off = not_true _ (λ on. let h = kind_among (starts_within 20 (rest_of m)) (kind_at tokens k) on in
-      let f = operator_of m h.0 le h.2 in none h.0 f.0 h.1 f.1) }
+  lacks m le none = record {
+    off = not_true _ (λ on. let h = kind_among (starts_within 20 (rest_of m)) (kind_at tokens k) on in
+        let f = operator_of m h.0 le h.2 in none h.0 f.0 h.1 f.1);
+  }
 
   steps : (level own : ℕ) {kind : TokenKind} {op : Op} → kind_at tokens k ≡ Some kind → IsOperator kind own op → level ≤ own
       → Turns (the (rest_of own) ∷ tails own level) tokens k (Terminal (class_of kind) ∷ the (operand (own + 1)) ∷ tails (below own) level) k
@@ -245,8 +246,10 @@ module _ {tokens : List Token} {k : ℕ} where
             where
               same : Some kind ≡ Some other → level_of kind ≡ own → level_of other ≡ m → m ≡ own
               same s a b = cc
+
               no_truth : true ≡ false → ⊥
               no_truth e = cc
+
           smaller : (own m : ℕ) → own < suc m → nat_eq own m ≡ false → own < m
           smaller own m le e = by_less (nat_lt own m) refl
             where
@@ -277,7 +280,6 @@ module _ {tokens : List Token} {k : ℕ} where
   -- no operator goes on
   pub no_operator : {level bound : ℕ} → NoInfix tokens level bound k → Turns (tails (below bound) level) tokens k [] k
   no_operator {level} {bound} none = ends level bound (below bound) (omega arith) none
-
 
 -- at a position there is one operator
 pub infix_one : {tokens : List Token} {own other k to end : ℕ} {op p : Op} → SpellsInfix tokens own op k to → SpellsInfix tokens other p k end → own ≡ other
@@ -311,4 +313,3 @@ no_infix tokens k level bound off = λ own op is le fit. no_truth (sym (is_count
   where
     no_truth : true ≡ false → ⊥
     no_truth e = cc
-

@@ -1,5 +1,5 @@
 -- Which production of a part is left, where others are ruled out.
-use Rattle.std.proofs.Common.{◌≡◌, ℕ, Bool, true, false, cond, ◌||◌, ◌&&◌, ◌≤◌, ◌⊎◌, inl, inr, ⊎_elim, List, [], ◌∷◌, ◌++◌, refl, ap, sym, ◌∙◌, subst}
+use Rattle.std.proofs.Common.{◌≡◌, ℕ, Bool, true, false, cond, ◌||◌, ◌&&◌, ◌≤◌, ◌⊎◌, inl, inr, ⊎_elim, List, [], ◌∷◌, refl, ap, sym, ◌∙◌, subst}
 use Rattle.std.specs.Prelude.{Option, Some, None, IsNone, nat_eq, nat_le}
 use Rattle.bl_tree.specs.declared.scalar.Scalar.{Scalar as ScalarType}
 use Rattle.bl_tree.specs.declared.token.Token.{Token}
@@ -11,7 +11,7 @@ use Rattle.bl_lex.specs.declared.sign.TheConstants.{OPEN_BRACKET, CLOSE_BRACKET,
 use Rattle.bl_syntax.specs.declared.grammar.Class.{Class}
 use Rattle.bl_syntax.specs.declared.grammar.Class.TheVariants.{AnyNumber, Keyword, Mark}
 use Rattle.bl_syntax.specs.declared.grammar.Part.{Part}
-use Rattle.bl_syntax.specs.declared.grammar.Part.TheVariants.{Item, Unit, PlainUnit, UnitTail, Scalar, Guard, RunTail, RunTarget, CallTail, PathRest, Unary, Primary, Access, Accesses, AssignTail, VarTail, Expr, AfterName, Length, Block, Stmt, NameUse}
+use Rattle.bl_syntax.specs.declared.grammar.Part.TheVariants.{Item, Unit, PlainUnit, UnitTail, Scalar, Guard, RunTail, RunTarget, CallTail, PathRest, Unary, Primary, Access, AssignTail, VarTail, Expr, AfterName, Length, Block, Stmt}
 use Rattle.bl_syntax.specs.Grammar.{Piece, the, name, word, sign, class_of, same_class, productions}
 use Rattle.bl_syntax.specs.Follow.{statement_starts}
 use Rattle.bl_syntax.specs.declared.grammar.View.{View}
@@ -24,8 +24,8 @@ use Rattle.bl_parse.specs.Operators.{IsScalar, IsPrefix, SpellsPrefix, scalar_cl
 use Rattle.bl_parse.specs.Expressions.{is_number, IsTruth}
 use Rattle.bl_tree.specs.declared.scalar.Op.{Op}
 use Rattle.bl_parse.proofs.ExprLemmas.{minus_sign}
-use Rattle.bl_parse.specs.Reading.{left, next_among, NoneNext, accessing, IsPathTail, IsPlaceTail, Awaits, Turns}
-use Rattle.bl_parse.proofs.ReadLemmas.{picks, chosen_in, chosen_is, opened}
+use Rattle.bl_parse.specs.Reading.{next_among, NoneNext, accessing, IsPathTail, IsPlaceTail, Turns}
+use Rattle.bl_parse.proofs.ReadLemmas.{picks, chosen_is, opened}
 
 -- what the next token isn't, of its kind
 pub off_at : {tokens : List Token} {k : ℕ} {classes : List Class} → NoneNext classes tokens k → (kind : TokenKind) → kind_at tokens k ≡ Some kind → has classes (class_of kind) ≡ false
@@ -172,6 +172,7 @@ picks_access part is c on = ⊎_elim (λ e. subst (λ c. picks part c ≡ Some (
     at_dot : (part : Part) → IsPlaceTail part → picks part (Mark DOT) ≡ Some (the Access ∷ the part ∷ [])
     at_dot part IsPlaceTail.accesses = refl
     at_dot part IsPlaceTail.assigned = refl
+
     at_bracket : (part : Part) → IsPlaceTail part → picks part (Mark OPEN_BRACKET) ≡ Some (the Access ∷ the part ∷ [])
     at_bracket part IsPlaceTail.accesses = refl
     at_bracket part IsPlaceTail.assigned = refl
@@ -200,7 +201,6 @@ module _ {tokens : List Token} {k : ℕ} where
   dotted part IsPathTail.path is = opened (sign DOT ∷ name ∷ the PathRest ∷ []) (λ v. refl) is refl
   dotted part IsPathTail.target is = opened (sign DOT ∷ name ∷ the RunTarget ∷ []) (λ v. refl) is refl
 
-
   -- a field or an index goes on with a place
   pub accessed : (part : Part) → IsPlaceTail part → {b : List Piece} → next_among accessing (kind_at tokens k) ≡ true → Turns (the part ∷ b) tokens k (the Access ∷ the part ∷ b) k
   accessed part is on = let h = kind_among accessing (kind_at tokens k) on in opened (the Access ∷ the part ∷ []) (permitted part is) h.1 (picks_access part is (class_of h.0) h.2)
@@ -215,4 +215,3 @@ module _ {tokens : List Token} {k : ℕ} where
 
   pub minus_is : {to : ℕ} → SpellsPrefix tokens Op.Neg k to → kind_at tokens k ≡ Some (Sign MINUS)
   minus_is is = (minus_sign is).stands
-

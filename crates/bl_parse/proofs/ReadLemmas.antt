@@ -6,18 +6,18 @@ use Rattle.std.proofs.lemmas.Option.{slice_get_within}
 use Rattle.bl_tree.specs.declared.token.Token.{Token}
 use Rattle.bl_tree.specs.declared.token.TokenKind.{TokenKind}
 use Rattle.bl_tree.specs.declared.token.TokenKind.TheVariants.{Name, Number, Word, Sign}
-use Rattle.bl_grammar.specs.declared.symbol.Symbol.TheVariants.{Terminal, Nonterminal}
+use Rattle.bl_grammar.specs.declared.symbol.Symbol.TheVariants.{Terminal}
 use Rattle.bl_syntax.specs.declared.grammar.Class.{Class}
 use Rattle.bl_syntax.specs.declared.grammar.Class.TheVariants.{AnyName, AnyNumber, Keyword, Mark}
 use Rattle.bl_syntax.specs.declared.grammar.View.{View}
 use Rattle.bl_syntax.specs.declared.grammar.Part.{Part}
 use Rattle.bl_syntax.specs.declared.grammar.Part.TheVariants.{Program, Item}
-use Rattle.bl_syntax.specs.Grammar.{Piece, the, name, number, word, sign, class_of, view_of, views_after, views, same_class, productions}
+use Rattle.bl_syntax.specs.Grammar.{Piece, the, name, word, sign, class_of, view_of, views_after, views, same_class, productions}
 use Rattle.bl_syntax.specs.Tables.{has, firsts, starts_within, starts, absent, has_empty, choices_of, choices, chosen, permits, or_absent, pick}
 use Rattle.bl_syntax.specs.Expects.{Expects, StandsNext}
 use Rattle.bl_syntax.proofs.Right.{same_is, unpicked}
 use Rattle.bl_syntax.proofs.Expecting.{expects_production, expects_absent, expects_token, expects_nothing}
-use Rattle.bl_parse.specs.At.{kind_at, Takes}
+use Rattle.bl_parse.specs.At.{kind_at}
 use Rattle.bl_parse.specs.Reading.{left, next_among, Here, NotNext, NoneNext, Awaits, Turns}
 
 -- ---- positions
@@ -44,10 +44,6 @@ stands_after before (x ∷ xs) zero = record { some = λ token e. (view_of befor
     by_token : (token : Token) → Some x ≡ Some token → class_of x.kind ≡ class_of token.kind
     by_token token e = cc
 stands_after before (x ∷ xs) (suc k) = stands_after (Some x.line) xs k
-
--- the class of the next token, if there is one
-abbrev pub class_at : Option TokenKind → Option Class
-class_at o = option_map class_of o
 
 -- ---- productions
 
@@ -158,7 +154,6 @@ token_within tokens k {to} {kind} next is = by_token (slice_get tokens k) refl i
     by_token (Some one) at e = let h = slice_get_within tokens k one at in omega (arith, h, next)
 
 module _ (tokens : List Token) (k : ℕ) where
-
   -- what the grammar sees at a position
   pub stands_at : Stands (slice_get tokens k) (left tokens k)
   stands_at = stands_after None tokens k
@@ -210,6 +205,7 @@ module _ (tokens : List Token) (k : ℕ) where
     where
       among : (o : Option Token) → slice_get tokens k ≡ o → next_among (starts_within 20 part) (option_map (λ token. token.kind) o) ≡ false
       among o is = subst (λ o. next_among (starts_within 20 part) (option_map (λ token. token.kind) o) ≡ false) is off
+
       by_token : (found : Option Token) → slice_get tokens k ≡ found → Expects rest (left tokens k)
       by_token None is = let nothing = stands_at.none is in
           subst (Expects rest) (sym nothing) (expects_absent part rest (subst (Expects (the part ∷ rest)) nothing e)).1
@@ -225,6 +221,7 @@ module _ (tokens : List Token) (k : ℕ) where
     where
       next : StandsNext class rest (left tokens k)
       next = expects_token class rest (left tokens k) e
+
       by_token : (found : Option Token) → slice_get tokens k ≡ found → (kind : TokenKind) × (kind_at tokens k ≡ Some kind) × (class ≡ class_of kind)
       by_token None is = absurd (no_views (sym (stands_at.none is) ∙ next.stands))
       by_token (Some token) is = let s = stands_at.some token is in
@@ -280,8 +277,10 @@ module _ {tokens : List Token} {k : ℕ} where
 
   -- a step beside what is expected after it
   pub beside : {to : ℕ} {a b : List Piece} (c : List Piece) → Turns a tokens k b to → Turns (a ++ c) tokens k (b ++ c) to
-  beside {to} {a} {b} c f = record { goes = λ rest e. subst (λ s. Here s tokens to) (sym (append_assoc b c rest))
-      (f.goes (c ++ rest) (subst (λ s. Here s tokens k) (append_assoc a c rest) e)) }
+  beside {to} {a} {b} c f = record {
+    goes = λ rest e. subst (λ s. Here s tokens to) (sym (append_assoc b c rest))
+        (f.goes (c ++ rest) (subst (λ s. Here s tokens k) (append_assoc a c rest) e));
+  }
 
   -- a part was read
   pub read : {to : ℕ} {x : Piece} {b : List Piece} → Turns (x ∷ []) tokens k [] to → Turns (x ∷ b) tokens k b to
@@ -293,15 +292,15 @@ module _ {tokens : List Token} {k : ℕ} where
   pub read_all : {to : ℕ} {a b : List Piece} → Turns a tokens k [] to → Turns (a ++ b) tokens k b to
   read_all {to} {a} {b} f = record { goes = λ rest e. f.goes (b ++ rest) (subst (λ s. Here s tokens k) (append_assoc a b rest) e) }
 
-  -- a part became another
-  pub turned : {to : ℕ} {x y : Piece} {b : List Piece} → Turns (x ∷ []) tokens k (y ∷ []) to → Turns (x ∷ b) tokens k (y ∷ b) to
-  turned {b = b} f = record { goes = λ rest e. f.goes (b ++ rest) e }
-
   -- a token was passed
   pub pass : {class : Class} {b : List Piece} {to : ℕ} → to ≡ k + 1 → Turns (Terminal class ∷ b) tokens k b to
-  pass {class} {b} {to} next = record { goes = λ rest e. let n = expects_token class (b ++ rest) (left tokens k) e.expects in
-      record { within = token_within tokens k next (kind_next tokens k e.expects).1;
-      expects = subst (Expects (b ++ rest)) (sym (ap (left tokens) (next ∙ one_more k) ∙ drop_next k (views tokens) n.stands)) n.expects } }
+  pass {class} {b} {to} next = record {
+    goes = λ rest e. let n = expects_token class (b ++ rest) (left tokens k) e.expects in
+        record {
+          within = token_within tokens k next (kind_next tokens k e.expects).1;
+          expects = subst (Expects (b ++ rest)) (sym (ap (left tokens) (next ∙ one_more k) ∙ drop_next k (views tokens) n.stands)) n.expects;
+        };
+  }
 
   -- nothing was read
   pub stay : {a : List Piece} → Turns a tokens k a k
@@ -352,18 +351,23 @@ module _ {tokens : List Token} {k : ℕ} where
     where
       stuck : (rest : List Piece) → Expects (Terminal class ∷ b ++ rest) (left tokens k) → ⊥
       stuck rest e = let h = kind_next tokens k e in no_truth (sym (subst (λ c. has (c ∷ []) (class_of h.0) ≡ true) (sym h.2) (own_class (class_of h.0))) ∙ subst (λ o. next_among (class ∷ []) o ≡ false) h.1 off.off)
+
       by_test : (rest : List Piece) (on : Bool) (q : List Piece) → or_absent true (cond on (Some p) None) ≡ Some q → Expects (q ++ (Terminal class ∷ b ++ rest)) (left tokens k) → Expects (p ++ (Terminal class ∷ b ++ rest)) (left tokens k)
       by_test rest true q is e = subst (λ s. Expects (s ++ (Terminal class ∷ b ++ rest)) (left tokens k)) (sym (same_some is)) e
       by_test rest false q is e = absurd (stuck rest (subst (λ s. Expects (s ++ (Terminal class ∷ b ++ rest)) (left tokens k)) (sym (same_some is)) e))
+
       fills : (rest : List Piece) → Expects (the part ∷ (Terminal class ∷ b ++ rest)) (left tokens k) → Expects (p ++ (Terminal class ∷ b ++ rest)) (left tokens k)
       fills rest e = decided tokens k e may (Expects (p ++ (Terminal class ∷ b ++ rest)) (left tokens k)) (λ none may_end expects. absurd (stuck rest expects))
           (λ kind q at on expects. by_test rest (each (class_of kind)).0 q (sym (each (class_of kind)).1 ∙ on) expects)
 
   -- at a token, a program goes on with an item
   pub item_next : k < length tokens → Here (the Program ∷ []) tokens k → Here (the Item ∷ the Program ∷ []) tokens k
-  item_next inside here = record { within = here.within; expects = decided tokens k here.expects (λ v. refl) (Expects (the Item ∷ the Program ∷ []) (left tokens k))
-      (λ none may_end e. absurd (kind_inside tokens k inside none))
-      (λ kind q at on e. by_test (has (starts_within 20 Item) (class_of kind)) q on e) }
+  item_next inside here = record {
+    within = here.within;
+    expects = decided tokens k here.expects (λ v. refl) (Expects (the Item ∷ the Program ∷ []) (left tokens k))
+        (λ none may_end e. absurd (kind_inside tokens k inside none))
+        (λ kind q at on e. by_test (has (starts_within 20 Item) (class_of kind)) q on e);
+  }
     where
       by_test : (on : Bool) (q : List Piece) → or_absent true (cond on (Some (the Item ∷ the Program ∷ [])) None) ≡ Some q → Expects (q ++ []) (left tokens k) → Expects (the Item ∷ the Program ∷ []) (left tokens k)
       by_test true q e expects = subst (λ q. Expects (q ++ []) (left tokens k)) (sym (same_some e)) expects

@@ -1,6 +1,6 @@
 -- What a `return` has after it.
 use Rattle.std.proofs.Common.{◌≡◌, ℕ, zero, suc, ◌+◌, Bool, true, false, not, cond, ◌&&◌, ◌||◌, List, [], ◌∷◌, ◌++◌, drop, refl, ap, sym, ◌∙◌, subst, arith}
-use Rattle.std.specs.Prelude.{Option, Some, None, slice_get, option_map, nat_eq, ◌==◌}
+use Rattle.std.specs.Prelude.{Option, Some, None, slice_get, option_map, nat_eq}
 use Rattle.std.proofs.lemmas.Bool.{eq-eqb, eqb-true}
 use Rattle.bl_tree.specs.declared.token.Token.{Token}
 use Rattle.bl_tree.specs.declared.token.TokenKind.{TokenKind}
@@ -9,7 +9,7 @@ use Rattle.bl_lex.specs.declared.word.TheConstants.{NOT, TRUE, FALSE, PREV, VAR,
 use Rattle.bl_lex.specs.declared.sign.TheConstants.{OPEN_PAREN, MINUS, TILDE}
 use Rattle.bl_syntax.specs.declared.grammar.View.{View}
 use Rattle.bl_syntax.specs.declared.grammar.Part.TheVariants.{AfterReturn, Expr}
-use Rattle.bl_syntax.specs.Grammar.{Piece, the, class_of, view_of, views_after, views, expression_starts}
+use Rattle.bl_syntax.specs.Grammar.{Piece, the, class_of, view_of, views_after, expression_starts}
 use Rattle.bl_syntax.specs.Follow.{statement_starts}
 use Rattle.bl_syntax.specs.Tables.{has, starts, absent, choices, or_absent, pick}
 use Rattle.bl_syntax.specs.Expects.{Expects}
@@ -116,6 +116,7 @@ decided tokens k one {to} b is takes next rest e = subst (λ n. Expects (cond b 
   where
     same : (other : Token) → slice_get tokens k ≡ Some other → other ≡ one
     same other at = cc
+
     no_some : None ≡ Some one → ⊥
     no_some e = cc
 

@@ -1,5 +1,5 @@
 -- Laws of spelled statements, and which keyword is left at the beginning of one.
-use Rattle.std.proofs.Common.{◌≡◌, ℕ, ◌+◌, Bool, true, false, ◌||◌, List, ◌∷◌, refl, ap, subst, sym, ◌∙◌}
+use Rattle.std.proofs.Common.{◌≡◌, ℕ, Bool, true, false, ◌||◌, List, ◌∷◌, refl, ap, sym, ◌∙◌}
 use Rattle.std.specs.Prelude.{Some, None, nat_eq}
 use Rattle.std.proofs.lemmas.Bool.{eqb-true}
 use Rattle.bl_tree.specs.declared.place.Place.{Place}
@@ -13,12 +13,10 @@ use Rattle.bl_syntax.specs.Grammar.{Piece, the, productions}
 use Rattle.bl_syntax.specs.Follow.{statement_starts}
 use Rattle.bl_syntax.specs.Tables.{has, starts, choices_of, or_absent}
 use Rattle.bl_syntax.proofs.Right.{chosen_none}
-use Rattle.bl_raw.specs.declared.stmt.RawPath.{RawPath}
 use Rattle.bl_raw.specs.declared.stmt.RawStmt.{RawStmt, roll-RawStmt}
 use Rattle.bl_raw.specs.declared.stmt.RawStmtKind.{RawStmtKind}
-use Rattle.bl_parse.specs.At.{kind_at, SpellsName}
+use Rattle.bl_parse.specs.At.{kind_at}
 use Rattle.bl_parse.specs.Reading.{Awaits}
-use Rattle.bl_parse.specs.Statements.{SpellsPath}
 use Rattle.bl_parse.proofs.ReadLemmas.{picks, chosen_is, never}
 
 abbrev stmt : Place → RawStmtKind → RawStmt
@@ -26,11 +24,6 @@ stmt place what = roll-RawStmt (record { place = place; what = what })
 
 pub placed_stmt : (what : RawStmtKind) {p q : Place} → p ≡ q → stmt p what ≡ stmt q what
 placed_stmt what e = ap (λ place. stmt place what) e
-
--- a path of one token is a name
-pub path_alone : {text : List ℕ} {tokens : List Token} {path : RawPath} {from to : ℕ} → SpellsPath text tokens path from to → to ≡ from + 1
-    → SpellsName text tokens path.root from to
-path_alone {text} {tokens} {path} {from} h e = subst (λ k. SpellsName text tokens path.root from k) (h.root.token.next ∙ sym e) h.root
 
 stmt_never : (c : Class) → has statement_starts c ≡ false → picks Stmt c ≡ None
 unfolding starts

@@ -134,7 +134,12 @@ fn cast(source: &Source, at: &mut usize) -> Result<RawExpr, NoMemory>
 }
 
 /// The operand, which began at a position, with the type behind an `as`.
-fn one_cast(source: &Source, at: &mut usize, from: usize, operand: RawExpr) -> Result<RawExpr, NoMemory>
+fn one_cast(
+    source: &Source,
+    at: &mut usize,
+    from: usize,
+    operand: RawExpr,
+) -> Result<RawExpr, NoMemory>
     requires awaits { Awaits (just Part.Scalar) source.now.tokens.now at.old }
     ensures spelled { IfOk result (λ e. (k : ℕ) → SpellsExpr source.now.text.now source.now.tokens.now 9 operand from k → Takes source.now.tokens.now (TokenKind.Word AS) k at.old → SpellsExpr source.now.text.now source.now.tokens.now 9 e from at.new) }
     ensures follows { OnOk result (Turns (just Part.Scalar) source.now.tokens.now at.old [] at.new) }

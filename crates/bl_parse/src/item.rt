@@ -16,9 +16,9 @@ use crate::types::read_type;
 use bl_lex::{sign, word};
 use bl_raw::item::{RawField, RawItem, RawParam, RawStruct, RawUnit};
 use bl_raw::types::RawType;
-use bl_tree::{List, NoMemory};
 use bl_tree::token::TokenKind;
 use bl_tree::tree::UnitKind;
+use bl_tree::{List, NoMemory};
 
 /// Reads all items, up to the last token.
 pub fn items(source: &Source) -> Result<List<RawItem>, NoMemory>

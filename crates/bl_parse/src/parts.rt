@@ -20,8 +20,8 @@ use bl_raw::expr::RawExpr;
 use bl_raw::name::Name;
 use bl_raw::stmt::{RawConstant, RawPath};
 use bl_raw::types::RawType;
-use bl_tree::{List, NoMemory};
 use bl_tree::token::TokenKind;
+use bl_tree::{List, NoMemory};
 
 /// Reads `:` and a type.
 pub fn typing(source: &Source, at: &mut usize) -> Result<RawType, NoMemory>
@@ -199,7 +199,11 @@ pub fn start_of_run(source: &Source, at: &mut usize) -> Result<Started, NoMemory
         source.take(at, TokenKind::Sign(sign::ASSIGN));
         let activity = name(source, at)?;
         Ok(Started {
-            receiver: Some(RawPath { place, root, fields }),
+            receiver: Some(RawPath {
+                place,
+                root,
+                fields,
+            }),
             activity,
         })
     }

@@ -17,9 +17,9 @@ use crate::parts::{constant, initial, maybe_typing, outputs, start_of_run, typin
 use crate::source::Source;
 use bl_lex::{sign, word};
 use bl_raw::stmt::{RawArm, RawBranch, RawStmt, RawStmtKind};
-use bl_tree::{List, NoMemory};
 use bl_tree::token::{Token, TokenKind};
 use bl_tree::tree::Guard;
+use bl_tree::{List, NoMemory};
 
 /// Reads statements, as many as there are.
 #[cycle(statements)]

@@ -109,6 +109,7 @@ fn deep_texts_are_read_up_to_the_limits(rt: HostRuntime) -> Result<(), Fail> {
 #[test]
 fn places_go_from_the_first_token_to_the_last(rt: HostRuntime) -> Result<(), Fail> {
     let raw = tree(rt.alloc(), b"function f () x = (a) + -1 return end").map_err(|_| "refused")?;
+    assert_eq!(rt; raw.items.len(), 1);
     let RawItem::Unit(unit) = &raw.items[0] else {
         return Err("no unit".into());
     };

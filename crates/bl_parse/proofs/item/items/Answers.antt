@@ -1,4 +1,4 @@
-use Rattle.std.proofs.Common.{refl, arith, subst, length, [], ◌∷◌}
+use Rattle.std.proofs.Common.{refl, arith, subst, [], ◌∷◌}
 use Rattle.bl_syntax.specs.declared.grammar.Part.TheVariants.{Program}
 use Rattle.bl_syntax.specs.Grammar.{the}
 use Rattle.bl_parse.specs.Programs.{SpellsItems}

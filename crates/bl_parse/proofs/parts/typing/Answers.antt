@@ -1,4 +1,3 @@
-use Rattle.bl_syntax.specs.Grammar.{sign}
 use Rattle.bl_parse.proofs.ReadLemmas.{next_sign, after, then, pass}
 use Rattle.bl_parse.proofs.parts.typing.Goals as goal
 

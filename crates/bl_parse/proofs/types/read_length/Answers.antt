@@ -1,6 +1,5 @@
 use Rattle.std.proofs.Common.{[], ap, refl, ◌∷◌}
 use Rattle.bl_syntax.specs.Grammar.{name, number, class_of}
-use Rattle.std.proofs.Common.{[], ap, refl, ◌∷◌}
 use Rattle.bl_raw.specs.declared.types.RawLength.{RawLength}
 use Rattle.bl_parse.specs.Types.{SpellsLength}
 use Rattle.bl_parse.proofs.PartLemmas.{off_at, no_number, length_name}
