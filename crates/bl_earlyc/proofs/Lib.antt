@@ -1,8 +1,14 @@
+pub mod Activity
 pub mod Calls
 pub mod Cells
 pub mod Columns
+pub mod Forms
+pub mod Functions
+pub mod Judged
 pub mod Slots
 pub mod Stretches
+pub mod Structs
 pub mod Ticks
 pub mod Traces
+pub mod Typed
 pub mod Values

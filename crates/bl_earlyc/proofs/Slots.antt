@@ -49,7 +49,7 @@ columns-cells : (known : Table (List Inner)) (root : Root) (name : Var → Text)
 columns-cells known root name [] = refl
 columns-cells known root name (var ∷ vars) = ap (λ rest. port_cell root name var ∷ rest) (columns-cells known root name vars)
 
-same-name : (name : Text) → bytes_eq name name ≡ true
+pub same-name : (name : Text) → bytes_eq name name ≡ true
 same-name name = nat_list_eq_equiv.refl name
 
 state-cells : (unit : UnitDef) → cells_at state_object (inner_of (c_structs unit) (codes "bl_state")) ≡ counter ∷ []
@@ -98,15 +98,15 @@ is-hit false h = cc
 abbrev pub names_of : List Var → List Text
 names_of vars = map (λ var. var.name) vars
 
-or-left : (a b : Bool) → (a || b) ≡ false → a ≡ false
+pub or-left : (a b : Bool) → (a || b) ≡ false → a ≡ false
 or-left false b h = refl
 or-left true b h = cc
 
-or-right : (a b : Bool) → (a || b) ≡ false → b ≡ false
+pub or-right : (a b : Bool) → (a || b) ≡ false → b ≡ false
 or-right false b h = h
 or-right true b h = cc
 
-not-false : (a : Bool) → not a ≡ true → a ≡ false
+pub not-false : (a : Bool) → not a ≡ true → a ≡ false
 not-false false h = refl
 not-false true h = cc
 
@@ -138,7 +138,7 @@ any-take p (suc n) [] h = refl
 any-take p (suc n) (v ∷ vars) h =
     ap₂ (λ a b. a || b) (or-left (p v.name) (list_any p (names_of vars)) h) (any-take p n vars (or-right (p v.name) (list_any p (names_of vars)) h))
 
-distinct-take : (n : ℕ) (vars : List Var) → are_distinct (names_of vars) ≡ true → are_distinct (names_of (take n vars)) ≡ true
+pub distinct-take : (n : ℕ) (vars : List Var) → are_distinct (names_of vars) ≡ true → are_distinct (names_of (take n vars)) ≡ true
 distinct-take zero vars h = refl
 distinct-take (suc n) [] h = refl
 distinct-take (suc n) (v ∷ vars) h =
@@ -146,7 +146,7 @@ distinct-take (suc n) (v ∷ vars) h =
     (any-take (bytes_eq v.name) n vars (not-false (is_among v.name (names_of vars)) (and-fst (not (is_among v.name (names_of vars))) (are_distinct (names_of vars)) h)))
     (distinct-take n vars (and-snd (not (is_among v.name (names_of vars))) (are_distinct (names_of vars)) h))
 
-distinct-drop : (n : ℕ) (vars : List Var) → are_distinct (names_of vars) ≡ true → are_distinct (names_of (drop n vars)) ≡ true
+pub distinct-drop : (n : ℕ) (vars : List Var) → are_distinct (names_of vars) ≡ true → are_distinct (names_of (drop n vars)) ≡ true
 distinct-drop zero vars h = h
 distinct-drop (suc n) [] h = refl
 distinct-drop (suc n) (v ∷ vars) h = distinct-drop n vars (and-snd (not (is_among v.name (names_of vars))) (are_distinct (names_of vars)) h)

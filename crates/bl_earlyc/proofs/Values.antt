@@ -25,10 +25,10 @@ use Rattle.bl_cmeaning.specs.Meaning.{Counted, Evaluates, given, next, Passed, b
 use Rattle.bl_cmeaning.specs.Builtin.{builtin_of, builtins}
 use Rattle.bl_early.specs.Emitted.{nowhere, c_step, c_target, c_through, c_variable, c_literal, c_read, c_equal, c_call, c_called, c_set, c_calling, c_when, c_returning}
 
-abbrev kind : CExprKind-F CArg CExprKind CCall CExpr CIndex CPlace CStep → CExpr
+abbrev pub kind : CExprKind-F CArg CExprKind CCall CExpr CIndex CPlace CStep → CExpr
 kind layer = roll-CExpr (record { place = nowhere; what = roll-CExprKind layer })
 
-abbrev what : CStmtKind-F CStmtKind CStmt → CStmt
+abbrev pub what : CStmtKind-F CStmtKind CStmt → CStmt
 what layer = roll-CStmt (record { place = nowhere; what = roll-CStmtKind layer })
 
 abbrev pub ways : CStep → Evaluates (List Part)

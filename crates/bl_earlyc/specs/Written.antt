@@ -1,4 +1,4 @@
--- The trace of the C file that is written for a program of the form.
+-- The C file that is written for a program of the form: its trace, its columns and its form.
 use Rattle.std.specs.Prelude.{◌≡◌, ℤ, List, [], ◌∷◌, map, length, unwrap_or, All}
 use Rattle.bl_tree.specs.declared.row.Column.{Column}
 use Rattle.bl_tree.specs.declared.scalar.Scalar.TheVariants.{Bool as OfBool}
@@ -6,6 +6,7 @@ use Rattle.bl_tree.specs.declared.tree.Unit.{Unit as UnitDef}
 use Rattle.bl_tree.specs.declared.tree.Var.{Var}
 use Rattle.bl_tree.specs.Types.{scalar_in}
 use Rattle.bl_cmeaning.specs.Cells.{inputs_of, outputs_of}
+use Rattle.bl_cmeaning.specs.Faults.{WellFormed}
 use Rattle.bl_cmeaning.specs.Parts.{Parts, parts_from}
 use Rattle.bl_cmeaning.specs.Trace.{c_trace}
 use Rattle.bl_early.specs.Built.{loop_steps}
@@ -44,3 +45,10 @@ pub record HasColumns (unit : UnitDef) : Type 0 where
 abbrev pub WrittenColumns : List UnitDef → Type 0
 WrittenColumns (unit ∷ []) = HasColumns unit
 WrittenColumns _ = Unit {0}
+
+-- ---- its form
+
+-- no clause of a well-formed file fails in that of a program that has one unit alone
+abbrev pub WrittenWellFormed : List UnitDef → Type 0
+WrittenWellFormed (unit ∷ []) = WellFormed (written unit)
+WrittenWellFormed _ = Unit {0}

@@ -5,7 +5,7 @@
 
 ghost use Rattle.std.specs.Prelude.{IsTrue};
 ghost use Rattle.bl_early.specs.Form.{is_early};
-ghost use Rattle.bl_earlyc.specs.Written.{WrittenColumns, WrittenTrace};
+ghost use Rattle.bl_earlyc.specs.Written.{WrittenColumns, WrittenTrace, WrittenWellFormed};
 
 use bl_tree::Program;
 
@@ -19,4 +19,10 @@ pub fn written_trace(_program: &Program)
 /// The file's inputs and outputs have the names and the types of the activity's, in order.
 pub fn written_columns(_program: &Program)
     ensures { WrittenColumns _program.now.units }
+{}
+
+/// The C file of a program of the form is well formed: no clause of docs/C_SUBSET.md, "Well-formed files", fails in it.
+pub fn written_is_well_formed(_program: &Program)
+    requires { IsTrue (is_early _program.now.structs _program.now.units) }
+    ensures { WrittenWellFormed _program.now.units }
 {}
