@@ -69,7 +69,7 @@ fn a_run_has_200_brackets_at_most(rt: HostRuntime) -> Result<(), Fail> {
 /// The lamp, with spaces behind it up to this length.
 fn filled(alloc: Global, length: usize) -> Result<Vec<u8>, Fail> {
     let mut text = LAMP.as_bytes().to_vec(alloc)?;
-    while text.len() < length {
+    for _ in LAMP.len()..length {
         text.push(b' ')?;
     }
     Ok(text)

@@ -7,6 +7,8 @@ use Rattle.std.specs.Prelude.{◌↔◌, Option, Some, None, unwrap_or, nat_eq}
 use Rattle.std.specs.List.{list_all}
 use Rattle.bl_cmeaning.specs.Parts.{parts_of}
 use Rattle.bl_cmeaning.specs.Trace.{c_trace}
+use Rattle.bl_cmeaning.specs.Cells.{inputs_of as file_inputs, outputs_of as file_outputs}
+use Rattle.bl_cmeaning.specs.Faults.{WellFormed}
 use Rattle.bl_ctext.specs.declared.file.CFile.{CFile}
 use Rattle.bl_ctext.specs.SpellsC.{SpellsC}
 use Rattle.bl_ctree.specs.Means.{Means, Shown, shown}
@@ -79,10 +81,13 @@ file_is unit file structs funcs = rw (structs, funcs) refl
 
 one_trace : (unit : UnitDef) (file : CFile) → Keeps [] (unit ∷ []) 0 → is_early [] (unit ∷ []) ≡ true →
     file.structs ≡ c_structs_of (unit ∷ []) → file.funcs ≡ c_funcs_of (unit ∷ []) →
-    EarlyHasOneTrace → EarlyIsBounded → EarlyIsNeverStuck → WrittenTrace (unit ∷ []) → OneTrace unit file
-one_trace unit file keeps form structs funcs one bounded stuck has =
+    EarlyHasOneTrace → EarlyIsBounded → EarlyIsNeverStuck → WrittenTrace (unit ∷ []) → WrittenColumns (unit ∷ []) → WrittenWellFormed (unit ∷ []) → OneTrace unit file
+one_trace unit file keeps form structs funcs one bounded stuck has columns formed =
     let early : Early [] (unit ∷ []) 0 unit (loop_steps unit) = record { keeps = keeps; form = form; is_entry = refl; is_loop = steps_there unit form } in
     record {
+      well_formed = subst WellFormed (sym (file_is unit file structs funcs)) formed;
+      inputs = ap file_inputs (file_is unit file structs funcs) ∙ columns.inputs;
+      outputs = ap file_outputs (file_is unit file structs funcs) ∙ columns.outputs;
       trace = λ rows shows fit. by_trace unit rows shows file
           (ap (λ parts. c_trace parts rows) (file_is unit file structs funcs) ∙ has rows (rows_long unit (inputs_within unit form) rows fit))
           (one [] (unit ∷ []) 0 unit (loop_steps unit) rows shows early fit);
@@ -93,24 +98,24 @@ one_trace unit file keeps form structs funcs one bounded stuck has =
 -- the same where the parts of the program are known by equations
 of_parts : (file : CFile) (unit : UnitDef) (structs : List StructDef) (units : List UnitDef) (entry : ℕ) → Keeps structs units entry → is_early structs units ≡ true →
     file.structs ≡ c_structs_of units → file.funcs ≡ c_funcs_of units →
-    EarlyHasOneTrace → EarlyIsBounded → EarlyIsNeverStuck → WrittenTrace units →
+    EarlyHasOneTrace → EarlyIsBounded → EarlyIsNeverStuck → WrittenTrace units → WrittenColumns units → WrittenWellFormed units →
     structs ≡ [] → units ≡ unit ∷ [] → entry ≡ 0 → OneTrace unit file
-of_parts file unit structs units entry keeps form s f one bounded stuck has no_structs alone first =
+of_parts file unit structs units entry keeps form s f one bounded stuck has columns formed no_structs alone first =
     one_trace unit file
     (subst (λ n. Keeps [] (unit ∷ []) n) first (subst (λ us. Keeps [] us entry) alone (subst (λ ss. Keeps ss units entry) no_structs keeps)))
     (subst (λ us. is_early [] us ≡ true) alone (subst (λ ss. is_early ss units ≡ true) no_structs form))
     (subst (λ us. file.structs ≡ c_structs_of us) alone s) (subst (λ us. file.funcs ≡ c_funcs_of us) alone f)
-    one bounded stuck (subst WrittenTrace alone has)
+    one bounded stuck (subst WrittenTrace alone has) (subst WrittenColumns alone columns) (subst WrittenWellFormed alone formed)
 
 pub text_of_program : (program : Program) (file : CFile) (text : List ℕ) → is_early program.structs program.units ≡ true →
     file.structs ≡ c_structs_of program.units → file.funcs ≡ c_funcs_of program.units → SpellsC file text →
-    EarlyHasOneTrace → EarlyIsBounded → EarlyIsNeverStuck → WrittenTrace program.units → IsTextOfProgram program text
-text_of_program program file text form structs funcs spells one bounded stuck has = record {
+    EarlyHasOneTrace → EarlyIsBounded → EarlyIsNeverStuck → WrittenTrace program.units → WrittenColumns program.units → WrittenWellFormed program.units → IsTextOfProgram program text
+text_of_program program file text form structs funcs spells one bounded stuck has columns formed = record {
   file = file;
   structs = structs;
   funcs = funcs;
   spells = spells;
-  one_trace = λ unit s u e. of_parts file unit program.structs program.units program.entry program.keeps form structs funcs one bounded stuck has s u e;
+  one_trace = λ unit s u e. of_parts file unit program.structs program.units program.entry program.keeps form structs funcs one bounded stuck has columns formed s u e;
 }
 
 -- what is written for the program is written for the tree

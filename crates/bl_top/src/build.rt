@@ -13,7 +13,7 @@ use crate::outcome::Outcome;
 use crate::refusal::line;
 use crate::status::Status;
 use bl_early::emit;
-use bl_earlyc::written_trace;
+use bl_earlyc::{written_columns, written_is_well_formed, written_trace};
 use bl_earlytree::laws::{early_programs_have_one_trace, early_ticks_end};
 use bl_io::{Files, IoFault, Sink, read_up_to, write_all};
 use bl_raw::Raw;
@@ -132,6 +132,8 @@ fn text_of(alloc: Global, program: &Program) -> Result<Vec<u8>, NoMemory>
     early_programs_have_one_trace();
     early_ticks_end();
     written_trace(program);
+    written_columns(program);
+    written_is_well_formed(program);
     let file = emit(alloc, program)?;
     match bl_ctext::print(alloc, &file) {
         Ok(text) => Ok(text),
