@@ -1,0 +1,7 @@
+pub mod Spans
+pub mod Levels
+pub mod Returns
+pub mod Types
+pub mod Expressions
+pub mod Statements
+pub mod Programs
