@@ -1,5 +1,5 @@
 -- The C text of a program of the form has the one trace of the program.
-use Rattle.std.proofs.Common.{◌≡◌, ℕ, suc, ◌+◌, ℤ, List, [], ◌∷◌, Bool, true, false, ◌&&◌, refl, ◌∙◌, ap, subst, length, arith}
+use Rattle.std.proofs.Common.{◌≡◌, ℕ, suc, ◌+◌, ℤ, List, [], ◌∷◌, Bool, true, false, ◌&&◌, refl, sym, ◌∙◌, ap, subst, length, arith}
 use Rattle.std.proofs.lemmas.List.{length-take-le}
 use Rattle.std.proofs.lemmas.List.Elements.{All-cons, All-nil}
 use Rattle.std.proofs.lemmas.Bool.Decides.{nat_tests}
@@ -16,7 +16,7 @@ use Rattle.bl_early.specs.Built.{loop_steps}
 use Rattle.bl_early.specs.Emitted.{c_funcs_of, c_structs_of}
 use Rattle.bl_early.specs.Form.{Step, is_early, is_early_unit, steps_suit, unit_steps}
 use Rattle.bl_early.specs.Run.{trace_of}
-use Rattle.bl_earlyc.specs.Written.{RowsSuit, WrittenTrace, written}
+use Rattle.bl_earlyc.specs.Written.{RowsSuit, WrittenColumns, WrittenTrace, WrittenWellFormed, written}
 use Rattle.bl_earlytree.specs.Laws.{Early, EarlyIsBounded, EarlyIsNeverStuck, OneTrace as EarlyHasOneTrace}
 use Rattle.bl_earlytree.specs.Rows.{numbers_fit, row_fits}
 use Rattle.bl_raw.specs.declared.raw.Raw.{Raw}
