@@ -8,3 +8,5 @@ pub mod Programs
 pub mod Only
 pub mod Chains
 pub mod OnlyExpr
+pub mod OnlyParts
+pub mod OnlyStmt

@@ -36,7 +36,7 @@ differ {tokens = tokens} a b h e g off = among_none (subst (λ n. Begun b tokens
 abbrev prefixes : List Class
 prefixes = Mark MINUS ∷ Mark TILDE ∷ Keyword NOT ∷ []
 
-begun_in : {tokens : List Token} {kind : TokenKind} {k m : ℕ} (all : List Class) → Takes tokens kind k m → are_within (class_of kind ∷ []) all ≡ true → Begun all tokens k
+pub begun_in : {tokens : List Token} {kind : TokenKind} {k m : ℕ} (all : List Class) → Takes tokens kind k m → are_within (class_of kind ∷ []) all ≡ true → Begun all tokens k
 begun_in {kind = kind} all t within = begun_within (class_of kind ∷ []) all within (begun t)
 
 prefix_within : {kind : TokenKind} {op : Op} → IsPrefix kind op → are_within (class_of kind ∷ []) prefixes ≡ true
@@ -67,7 +67,7 @@ heads (SpellsExpr.read place is) = AnyName ∷ []
 heads (SpellsExpr.call n inputs none is) = AnyName ∷ []
 heads (SpellsExpr.parentheses opens e closes) = Mark OPEN_PAREN ∷ []
 
-begun_target : {text : List ℕ} {tokens : List Token} {place : RawTarget} {from to : ℕ} → SpellsTarget text tokens place from to → Begun (AnyName ∷ []) tokens from
+pub begun_target : {text : List ℕ} {tokens : List Token} {place : RawTarget} {from to : ℕ} → SpellsTarget text tokens place from to → Begun (AnyName ∷ []) tokens from
 begun_target (SpellsTarget.parted n parts is) = begun n.token
 
 begun_heads : {text : List ℕ} {tokens : List Token} {level : ℕ} {e : RawExpr} {from to : ℕ} (q : SpellsExpr text tokens level e from to) → 10 ≤ level → Begun (heads q) tokens from
@@ -100,7 +100,7 @@ begun_exprs (SpellsExprs.more_exprs es comma e is) = begun_exprs es
 
 -- ---- lists of parts and of inputs
 
-abbrev parting : List Class
+abbrev pub parting : List Class
 parting = Mark DOT ∷ Mark OPEN_BRACKET ∷ []
 
 begun_part : {text : List ℕ} {tokens : List Token} → Begin (SpellsPart text tokens) parting tokens
@@ -178,11 +178,11 @@ none_same (SpellsNone.empty opens closes) e (SpellsNone.empty u v) s r = next_sa
 behind_root : {text : List ℕ} {tokens : List Token} {parts : List RawPart} {m to : ℕ} → SpellsParts text tokens parts m to → NoneNext after_name tokens to → NoneNext (Mark OPEN_PAREN ∷ []) tokens m
 behind_root {text} {tokens} parts s = follows_plain (SpellsPart text tokens) parting (Mark OPEN_PAREN ∷ []) after_name tokens begun_part refl refl refl (row_of_parts parts) s
 
-no_paren : {P : Type 0} {text : List ℕ} {tokens : List Token} {inputs : List RawExpr} {m k to : ℕ} → m ≡ k → NoneNext (Mark OPEN_PAREN ∷ []) tokens m → SpellsInputs text tokens inputs k to → P
+pub no_paren : {P : Type 0} {text : List ℕ} {tokens : List Token} {inputs : List RawExpr} {m k to : ℕ} → m ≡ k → NoneNext (Mark OPEN_PAREN ∷ []) tokens m → SpellsInputs text tokens inputs k to → P
 no_paren e s (SpellsInputs.no_inputs opens closes none) = token_none opens e refl s
 no_paren e s (SpellsInputs.some_inputs opens es closes) = token_none opens e refl s
 
-not_call : {P : Type 0} {text : List ℕ} {tokens : List Token} {place : RawTarget} {n : Name} {inputs : List RawExpr} {from m k to : ℕ} → SpellsTarget text tokens place from to → NoneNext after_name tokens to
+pub not_call : {P : Type 0} {text : List ℕ} {tokens : List Token} {place : RawTarget} {n : Name} {inputs : List RawExpr} {from m k to : ℕ} → SpellsTarget text tokens place from to → NoneNext after_name tokens to
     → SpellsName text tokens n from m → SpellsInputs text tokens inputs m k → P
 not_call (SpellsTarget.parted root parts is) s n inputs = no_paren (next_same refl root.token n.token) (behind_root parts s) inputs
 
