@@ -1,5 +1,5 @@
 -- Chains of operators are read in one way.
-use Rattle.std.proofs.Common.{◌≡◌, ℕ, zero, suc, ◌+◌, ◌-◌, ◌≤◌, Bool, true, false, cond, List, [], ◌∷◌, refl, ap, sym, ◌∙◌, subst, arith}
+use Rattle.std.proofs.Common.{◌≡◌, ℕ, zero, suc, ◌+◌, ◌-◌, ◌≤◌, Bool, true, false, cond, List, refl, ap, sym, ◌∙◌, subst, arith}
 use Rattle.std.specs.Prelude.{nat_eq, nat_lt}
 use Rattle.std.proofs.lemmas.Bool.{ltb-true, ltb-false}
 use Rattle.bl_tree.specs.declared.scalar.Op.{Op}
@@ -9,8 +9,8 @@ use Rattle.bl_tree.specs.declared.scalar.Width.TheVariants.{W8, W16, W32, W64}
 use Rattle.bl_tree.specs.declared.token.Token.{Token}
 use Rattle.bl_tree.specs.declared.token.TokenKind.{TokenKind}
 use Rattle.bl_tree.specs.declared.token.TokenKind.TheVariants.{Word, Sign}
-use Rattle.bl_lex.specs.declared.word.TheConstants.{OR, AND, AS, BOOL, INT8, INT16, INT32, INT64, NAT8, NAT16, NAT32, NAT64, BITS8, BITS16, BITS32, BITS64}
-use Rattle.bl_lex.specs.declared.sign.TheConstants.{EQUAL, NOT_EQUAL, LESS, LESS_OR_EQUAL, GREATER, GREATER_OR_EQUAL, BAR, CARET, AMPERSAND, SHIFT_LEFT, SHIFT_RIGHT, PLUS, MINUS, STAR, SLASH, PERCENT}
+use Rattle.bl_lex.specs.declared.word.TheConstants.{OR, AS, INT8, INT16, INT32, INT64, NAT8, NAT16, NAT32, NAT64, BITS8, BITS16, BITS32, BITS64}
+use Rattle.bl_lex.specs.declared.sign.TheConstants.{EQUAL, NOT_EQUAL, LESS, LESS_OR_EQUAL, GREATER, GREATER_OR_EQUAL, BAR, CARET, AMPERSAND, SHIFT_LEFT, SHIFT_RIGHT, PLUS, MINUS, STAR, SLASH}
 use Rattle.bl_syntax.specs.declared.grammar.Class.{Class}
 use Rattle.bl_syntax.specs.declared.grammar.Class.TheVariants.{Keyword}
 use Rattle.bl_syntax.specs.Grammar.{class_of, same_class}
@@ -224,8 +224,13 @@ two_flat {text} {tokens} {lower} {own} {e} {a} {b} {op} {from} {m} {n} {to} leve
         let same : own ≡ level = omega (arith, l, low, le) in
         let fit = left_fits op_at.is in
         let d = deeper (omega (arith, fit, low, le)) in
-        record { h = d.h; m = d.m; head = d.head; tail = chain d.tail (Tail.operated (subst (λ k. SpellsInfix tokens k op m n) same op_at)
-        (subst (λ k. SpellsExpr text tokens (k + 1) b n to) same right) is (Tail.ended refl refl)) }
+        record {
+          h = d.h;
+          m = d.m;
+          head = d.head;
+          tail = chain d.tail (Tail.operated (subst (λ k. SpellsInfix tokens k op m n) same op_at)
+              (subst (λ k. SpellsExpr text tokens (k + 1) b n to) same right) is (Tail.ended refl refl));
+        }
 
 cast_flat : {text : List ℕ} {tokens : List Token} {e a : RawExpr} {s : ScalarType} {from m n to : ℕ} (level : ℕ) → level ≤ 9
     → SpellsExpr text tokens 9 a from m → Takes tokens (Word AS) m n → SpellsScalar tokens s n to → e ≡ expr (span tokens from to) (kind.Cast s a)

@@ -10,3 +10,4 @@ pub mod Chains
 pub mod OnlyExpr
 pub mod OnlyParts
 pub mod OnlyStmt
+pub mod OnlyProgram

@@ -1,11 +1,9 @@
 -- What is spelled from a position on is one, where nothing goes on with it.
-use Rattle.std.proofs.Common.{◌≡◌, ℕ, suc, ◌+◌, Bool, true, false, List, [], ◌∷◌, ◌++◌, refl, ap, sym, ◌∙◌, subst, arith}
+use Rattle.std.proofs.Common.{◌≡◌, ℕ, ◌+◌, Bool, true, false, List, [], ◌∷◌, ◌++◌, refl, ap, sym, ◌∙◌, subst}
 use Rattle.std.specs.Prelude.{Option, Some, None}
-use Rattle.std.proofs.lemmas.Bool.{eq-eqb}
 use Rattle.bl_tree.specs.declared.token.Token.{Token}
 use Rattle.bl_tree.specs.declared.token.TokenKind.{TokenKind}
 use Rattle.bl_syntax.specs.declared.grammar.Class.{Class}
-use Rattle.bl_syntax.specs.declared.grammar.Class.TheVariants.{AnyName, AnyNumber, Keyword, Mark}
 use Rattle.bl_syntax.specs.Grammar.{class_of, same_class}
 use Rattle.bl_syntax.specs.Tables.{has}
 use Rattle.bl_syntax.proofs.Checks.{are_apart, are_within}
@@ -13,15 +11,10 @@ use Rattle.bl_syntax.proofs.Right.{all_has, apart}
 use Rattle.bl_raw.specs.declared.name.Name.{Name}
 use Rattle.bl_parse.specs.At.{kind_at, Takes, SpellsName}
 use Rattle.bl_parse.specs.Reading.{next_among, NoneNext}
+use Rattle.bl_spelling.proofs.Spans.{same_self}
 
 no_truth : true ≡ false → ⊥
 no_truth e = cc
-
-own_class : (c : Class) → same_class c c ≡ true
-own_class AnyName = refl
-own_class AnyNumber = refl
-own_class (Keyword k) = eq-eqb k k refl
-own_class (Mark k) = eq-eqb k k refl
 
 some_same : {A : Type 0} {a b : A} → Some a ≡ Some b → a ≡ b
 some_same e = cc
@@ -38,7 +31,7 @@ pub same_kind : {tokens : List Token} {a b : TokenKind} {k j m n : ℕ} → Take
 same_kind t e u = some_same (sym t.stands ∙ there e u)
 
 pub clash : {P : Type 0} {tokens : List Token} {a b : TokenKind} {k j m n : ℕ} → Takes tokens a k m → k ≡ j → Takes tokens b j n → same_class (class_of a) (class_of b) ≡ false → P
-clash {a = a} t e u differ = absurd (no_truth (sym (own_class (class_of a)) ∙ (ap (λ kind. same_class (class_of a) (class_of kind)) (same_kind t e u) ∙ differ)))
+clash {a = a} t e u differ = absurd (no_truth (sym (same_self (class_of a)) ∙ (ap (λ kind. same_class (class_of a) (class_of kind)) (same_kind t e u) ∙ differ)))
 
 pub next_same : {tokens : List Token} {kind other : TokenKind} {a b c d : ℕ} → a ≡ c → Takes tokens kind a b → Takes tokens other c d → b ≡ d
 next_same e t u = t.next ∙ (ap (λ n. n + 1) e ∙ sym u.next)
@@ -147,7 +140,7 @@ module _ {A : Type 0} (Q : A → ℕ → ℕ → Type 0) (on off all : List Clas
       (cons_same m.0 t.0 f i, t.1)
 
 pub begun : {tokens : List Token} {kind : TokenKind} {k m : ℕ} → Takes tokens kind k m → Begun (class_of kind ∷ []) tokens k
-begun {kind = kind} t = record { on = ap (next_among (class_of kind ∷ [])) t.stands ∙ rw (own_class (class_of kind)) refl }
+begun {kind = kind} t = record { on = ap (next_among (class_of kind ∷ [])) t.stands ∙ rw (same_self (class_of kind)) refl }
 
 -- a first element, and a row behind it
 pub record Lined {A : Type 0} (P L : A → ℕ → ℕ → Type 0) (all : List A) (from to : ℕ) : Type 0 where

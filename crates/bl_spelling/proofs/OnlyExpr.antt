@@ -1,10 +1,10 @@
 -- An expression is read in one way.
-use Rattle.std.proofs.Common.{◌≡◌, ℕ, ◌+◌, ◌≤◌, Bool, true, false, cond, List, [], ◌∷◌, ◌++◌, refl, ap, sym, ◌∙◌, subst, arith}
-use Rattle.std.specs.Prelude.{Some, nat_eq}
+use Rattle.std.proofs.Common.{◌≡◌, ℕ, ◌≤◌, Bool, true, false, cond, List, [], ◌∷◌, refl, ap, sym, ◌∙◌, subst, arith}
+use Rattle.std.specs.Prelude.{nat_eq}
 use Rattle.bl_tree.specs.declared.scalar.Op.{Op}
 use Rattle.bl_tree.specs.declared.token.Token.{Token}
 use Rattle.bl_tree.specs.declared.token.TokenKind.{TokenKind}
-use Rattle.bl_tree.specs.declared.token.TokenKind.TheVariants.{Name as NameToken, Number, Word, Sign}
+use Rattle.bl_tree.specs.declared.token.TokenKind.TheVariants.{Number, Word, Sign}
 use Rattle.bl_lex.specs.declared.word.TheConstants.{TRUE, FALSE, PREV, NOT}
 use Rattle.bl_lex.specs.declared.sign.TheConstants.{OPEN_PAREN, CLOSE_PAREN, OPEN_BRACKET, CLOSE_BRACKET, COMMA, DOT, MINUS, TILDE}
 use Rattle.bl_syntax.specs.declared.grammar.Class.{Class}
@@ -24,7 +24,7 @@ use Rattle.bl_parse.specs.Operators.{IsPrefix, SpellsPrefix}
 use Rattle.bl_parse.specs.Expressions.{expr, target, is_number, IsTruth, SpellsTruth, SpellsNone, SpellsExpr, SpellsTarget, SpellsPart, SpellsParts, SpellsInputs, SpellsExprs}
 use Rattle.bl_parse.specs.Reading.{NoneNext}
 use Rattle.bl_spelling.proofs.Levels.{room_left}
-use Rattle.bl_spelling.proofs.Only.{One, Elem, Row, Lined, Linked, Begin, Begun, meets, meets_free, one_name, begun, begun_within, begun_stops, same_kind, next_same, clash, token_none, among_none, stops, fewer, anywhere, add_row, line_one, line_more, rows_same, lines_same, follows_plain, linked, linked_begin}
+use Rattle.bl_spelling.proofs.Only.{One, Elem, Row, Lined, Linked, Begin, Begun, meets, meets_free, one_name, begun, begun_within, begun_stops, same_kind, next_same, clash, token_none, among_none, stops, fewer, add_row, line_one, line_more, rows_same, lines_same, follows_plain, linked, linked_begin}
 use Rattle.bl_spelling.proofs.Chains.{OneExpr, Closed, two_closed, cast_closed, unary_closed}
 
 -- two tokens that can't be one
@@ -135,6 +135,7 @@ no_minus {P} {tokens} {n = n} {from = from} {k = k} {j = j} minus number h none 
   where
     no_truth : true ≡ false → ⊥
     no_truth e = cc
+
     by_prefix : {op : Op} (kind : TokenKind) → Takes tokens kind from j → IsPrefix kind op → (op ≡ Op.Neg → is_number (kind_at tokens j) ≡ false) → P
     by_prefix kind t IsPrefix.negation none = absurd (no_truth (sym (ap (λ i. is_number (kind_at tokens i)) (next_same refl t minus) ∙ ap is_number number.stands) ∙ none refl))
     by_prefix kind t IsPrefix.complement none = clash t refl minus refl
@@ -207,9 +208,9 @@ module _ {text : List ℕ} {tokens : List Token} {e : RawExpr} where
       let x = meets a (next_same refl op.token other.token) b s r in
       let o = sym (prefix_as op.is) ∙ (ap prefix_of (same_kind op.token refl other.token) ∙ prefix_as other.is) in
       (placed tokens from is also (one_same o x.0) x.1, x.1)
-      where
-        one_same : {o p : Op} {a b : RawExpr} → o ≡ p → a ≡ b → kind.One o a ≡ kind.One p b
-        one_same f g = cc
+    where
+      one_same : {o p : Op} {a b : RawExpr} → o ≡ p → a ≡ b → kind.One o a ≡ kind.One p b
+      one_same f g = cc
   only_one {from = from} op none a is f end q s r = differ prefixes (heads q) (begun_prefix op) refl (begun_heads q ten) refl
 
   only_number : {n from to : ℕ} → Takes tokens (Number n) from to → e ≡ expr (span tokens from to) (kind.Number false n) → Only text tokens e from to
@@ -236,9 +237,9 @@ module _ {text : List ℕ} {tokens : List Token} {e : RawExpr} where
   only_call {from = from} n ins one none is f end (SpellsExpr.read q also) s r = not_call q r n ins
   only_call {from = from} n ins one none is f end (SpellsExpr.call other inputs none' also) s r =
       let a = meets_free (one_name n) refl other in let b = meets_free one a.1 inputs in let c = none_same none b.1 none' s r in (placed tokens from is also (call_same a.0 b.0) c, c)
-      where
-        call_same : {n m : Name} {xs ys : List RawExpr} → n ≡ m → xs ≡ ys → kind.Call n xs ≡ kind.Call m ys
-        call_same f g = cc
+    where
+      call_same : {n m : Name} {xs ys : List RawExpr} → n ≡ m → xs ≡ ys → kind.Call n xs ≡ kind.Call m ys
+      call_same f g = cc
   only_call {from = from} n ins one none is f end q s r = differ (AnyName ∷ []) (heads q) (begun n.token) refl (begun_heads q ten) refl
 
   only_parentheses : {from m k to : ℕ} → Takes tokens (Sign OPEN_PAREN) from m → OneExpr text tokens 0 e m k → Takes tokens (Sign CLOSE_PAREN) k to → Only text tokens e from to
@@ -296,7 +297,7 @@ module _ {text : List ℕ} {tokens : List Token} where
       by_inputs y end (SpellsInputs.no_inputs u v nil) = differ (Mark CLOSE_PAREN ∷ []) expression_starts (begun v) (sym (next_same refl opens u)) begins refl
       by_inputs y end (SpellsInputs.some_inputs u es v) =
           let x = lines_same (SpellsExpr text tokens 0) (Link text tokens) (Mark COMMA ∷ []) after_expression (Mark COMMA ∷ after_expression) tokens (linked_begin (Sign COMMA) tokens (SpellsExpr text tokens 0)) refl refl refl
-              line (next_same refl opens u) (line_of_exprs es) (stops closes refl) (stops v refl) in
+          line (next_same refl opens u) (line_of_exprs es) (stops closes refl) (stops v refl) in
           (x.0, next_same x.1 closes v)
 
 -- ---- all

@@ -1,41 +1,34 @@
 -- A statement is read in one way.
-use Rattle.std.proofs.Common.{◌≡◌, ℕ, ◌+◌, Bool, true, false, cond, List, [], ◌∷◌, ◌++◌, refl, ap, sym, ◌∙◌, subst}
-use Rattle.std.specs.Prelude.{Option, Some, None, nat_eq}
+use Rattle.std.proofs.Common.{◌≡◌, ℕ, true, cond, List, [], ◌∷◌, refl, ap, sym, ◌∙◌}
+use Rattle.std.specs.Prelude.{Option, Some, nat_eq}
 use Rattle.bl_tree.specs.declared.scalar.Scalar.{Scalar as ScalarType}
 use Rattle.bl_tree.specs.declared.token.Token.{Token}
 use Rattle.bl_tree.specs.declared.token.TokenKind.{TokenKind}
-use Rattle.bl_tree.specs.declared.token.TokenKind.TheVariants.{Number, Word, Sign}
+use Rattle.bl_tree.specs.declared.token.TokenKind.TheVariants.{Word, Sign}
 use Rattle.bl_tree.specs.declared.tree.Guard.{Guard as GuardKind}
-use Rattle.bl_lex.specs.declared.word.TheConstants.{VAR, LET, CONST, AWAIT, RUN, COBEGIN, WEAK, WITH, WHEN, ABORT, RESET, REPEAT, UNTIL, WHILE, IF, THEN, ELSEIF, ELSE, END, RETURN}
-use Rattle.bl_lex.specs.declared.sign.TheConstants.{OPEN_PAREN, CLOSE_PAREN, OPEN_BRACKET, CLOSE_BRACKET, COMMA, DOT, COLON, ASSIGN}
-use Rattle.bl_syntax.specs.declared.grammar.Class.{Class}
-use Rattle.bl_syntax.specs.declared.grammar.Class.TheVariants.{AnyName, AnyNumber, Keyword, Mark}
+use Rattle.bl_lex.specs.declared.word.TheConstants.{ABORT}
+use Rattle.bl_lex.specs.declared.sign.TheConstants.{OPEN_PAREN, CLOSE_PAREN, OPEN_BRACKET, COMMA, DOT, COLON, ASSIGN}
+use Rattle.bl_syntax.specs.declared.grammar.Class.TheVariants.{AnyName, Mark}
 use Rattle.bl_syntax.specs.Grammar.{class_of}
-use Rattle.bl_syntax.specs.Follow.{after_name, after_expression, statement_starts, after_statement, after_block}
+use Rattle.bl_syntax.specs.Follow.{after_expression, after_statement}
 use Rattle.bl_syntax.proofs.Checks.{are_within}
 use Rattle.bl_raw.specs.declared.expr.RawExpr.{RawExpr}
-use Rattle.bl_raw.specs.declared.expr.RawTarget.{RawTarget}
 use Rattle.bl_raw.specs.declared.name.Name.{Name}
-use Rattle.bl_raw.specs.declared.stmt.RawArm.{RawArm, roll-RawArm}
-use Rattle.bl_raw.specs.declared.stmt.RawBranch.{RawBranch, roll-RawBranch}
 use Rattle.bl_raw.specs.declared.stmt.RawConstant.{RawConstant}
 use Rattle.bl_raw.specs.declared.stmt.RawPath.{RawPath}
-use Rattle.bl_raw.specs.declared.stmt.RawStmt.{RawStmt, roll-RawStmt}
-use Rattle.bl_raw.specs.declared.stmt.RawStmtKind.{RawStmtKind}
-use Rattle.bl_raw.specs.declared.stmt.RawStmtKind as kind
 use Rattle.bl_raw.specs.declared.types.RawLength.{RawLength}
 use Rattle.bl_raw.specs.declared.types.RawType.{RawType}
 use Rattle.bl_raw.specs.declared.types.RawType as form
 use Rattle.bl_tree.specs.declared.place.Place.{Place}
 use Rattle.bl_parse.specs.At.{span, Takes, SpellsName}
-use Rattle.bl_parse.specs.Expressions.{SpellsExpr, SpellsTarget, SpellsInputs}
+use Rattle.bl_parse.specs.Expressions.{SpellsInputs}
 use Rattle.bl_parse.specs.Operators.{IsScalar, SpellsScalar, scalar_classes}
 use Rattle.bl_parse.specs.Reading.{NoneNext}
 use Rattle.bl_parse.specs.Types.{SpellsLength, SpellsType}
-use Rattle.bl_parse.specs.Statements.{SpellsTyping, SpellsMaybeTyping, SpellsValue, SpellsInitial, SpellsConstant, SpellsFields, SpellsPath, SpellsPaths, SpellsOutputs, SpellsReceiver, takes_value, IsGuard, SpellsGuard, SpellsWeak, SpellsStmt, SpellsKind, SpellsBlock, SpellsArm, SpellsArms, SpellsElse, SpellsBranch, SpellsBranches}
-use Rattle.bl_spelling.proofs.Only.{One, Elem, Row, Lined, Linked, Begin, Begun, meets, meets_free, one_name, begun, same_kind, next_same, clash, token_none, among_none, stops, fewer, add_row, line_one, line_more, rows_same, lines_same, follows_plain, linked, linked_begin}
-use Rattle.bl_spelling.proofs.Chains.{OneExpr, same_scalar}
-use Rattle.bl_spelling.proofs.OnlyExpr.{parting, differ, begun_in, begun_target, same_number, no_paren, not_call, only_target, only_inputs, only_expr}
+use Rattle.bl_parse.specs.Statements.{SpellsTyping, SpellsMaybeTyping, SpellsValue, SpellsInitial, SpellsConstant, SpellsFields, SpellsPath, SpellsPaths, SpellsOutputs, SpellsReceiver, IsGuard, SpellsGuard}
+use Rattle.bl_spelling.proofs.Only.{One, Elem, Row, Lined, Linked, Begun, meets, meets_free, one_name, begun, same_kind, next_same, clash, token_none, stops, fewer, add_row, line_one, line_more, rows_same, lines_same, follows_plain, linked, linked_begin}
+use Rattle.bl_spelling.proofs.Chains.{same_scalar}
+use Rattle.bl_spelling.proofs.OnlyExpr.{differ, begun_in, same_number, no_paren, only_inputs, only_expr}
 
 -- ---- equal parts make equal trees
 
@@ -183,7 +176,7 @@ same_outputs (SpellsOutputs.some t qs w) e (SpellsOutputs.absent nil also) s r =
 same_outputs (SpellsOutputs.some t qs w) e (SpellsOutputs.none u v also) s r = differ (AnyName ∷ []) (Mark CLOSE_PAREN ∷ []) (begun_paths qs) (next_same e t u) (begun v) refl
 same_outputs {text} {tokens} (SpellsOutputs.some t qs w) e (SpellsOutputs.some u ps v) s r =
     let x = lines_same (SpellsPath text tokens) (PathLink text tokens) (Mark COMMA ∷ []) (Mark DOT ∷ []) (Mark COMMA ∷ Mark DOT ∷ []) tokens (linked_begin (Sign COMMA) tokens (SpellsPath text tokens)) refl refl refl
-        (only_paths qs) (next_same e t u) (line_of_paths ps) (stops w refl) (stops v refl) in
+    (only_paths qs) (next_same e t u) (line_of_paths ps) (stops w refl) (stops v refl) in
     (x.0, next_same x.1 w v)
 
 -- behind the name of what receives no `(` stands

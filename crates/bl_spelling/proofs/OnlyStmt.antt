@@ -1,14 +1,13 @@
 -- A block of statements is read in one way.
-use Rattle.std.proofs.Common.{◌≡◌, ℕ, ◌+◌, Bool, true, false, List, [], ◌∷◌, ◌++◌, refl, ap, sym, ◌∙◌, subst}
+use Rattle.std.proofs.Common.{◌≡◌, ℕ, Bool, true, false, List, [], ◌∷◌, refl, sym, ◌∙◌, subst}
 use Rattle.std.specs.Prelude.{Option, Some, None}
 use Rattle.bl_tree.specs.declared.token.Token.{Token}
-use Rattle.bl_tree.specs.declared.token.TokenKind.{TokenKind}
-use Rattle.bl_tree.specs.declared.token.TokenKind.TheVariants.{Word, Sign}
+use Rattle.bl_tree.specs.declared.token.TokenKind.TheVariants.{Word}
 use Rattle.bl_tree.specs.declared.tree.Guard.{Guard as GuardKind}
 use Rattle.bl_lex.specs.declared.word.TheConstants.{VAR, LET, CONST, AWAIT, RUN, COBEGIN, WEAK, WITH, WHEN, REPEAT, UNTIL, WHILE, IF, THEN, ELSEIF, ELSE, END, RETURN}
 use Rattle.bl_syntax.specs.declared.grammar.Class.{Class}
-use Rattle.bl_syntax.specs.declared.grammar.Class.TheVariants.{AnyName, Keyword, Mark}
-use Rattle.bl_syntax.specs.Follow.{after_name, after_expression, statement_starts, after_statement, after_block}
+use Rattle.bl_syntax.specs.declared.grammar.Class.TheVariants.{AnyName, Keyword}
+use Rattle.bl_syntax.specs.Follow.{after_expression, statement_starts, after_statement, after_block}
 use Rattle.bl_raw.specs.declared.expr.RawExpr.{RawExpr}
 use Rattle.bl_raw.specs.declared.expr.RawTarget.{RawTarget}
 use Rattle.bl_raw.specs.declared.name.Name.{Name}
@@ -24,7 +23,7 @@ use Rattle.bl_parse.specs.At.{span, Takes, SpellsName}
 use Rattle.bl_parse.specs.Expressions.{SpellsExpr, SpellsTarget, SpellsInputs}
 use Rattle.bl_parse.specs.Reading.{NoneNext}
 use Rattle.bl_parse.specs.Statements.{SpellsTyping, SpellsMaybeTyping, SpellsValue, SpellsInitial, SpellsConstant, SpellsOutputs, SpellsReceiver, takes_value, SpellsGuard, SpellsWeak, SpellsStmt, SpellsKind, SpellsBlock, SpellsArm, SpellsArms, SpellsElse, SpellsBranch, SpellsBranches}
-use Rattle.bl_spelling.proofs.Only.{One, Elem, Row, Lined, Linked, Begin, Begun, meets, meets_free, one_name, begun, next_same, clash, token_none, among_none, stops, fewer, add_row, line_one, line_more, rows_same, lines_same, linked, linked_begin, begun_within, follows_plain}
+use Rattle.bl_spelling.proofs.Only.{One, Elem, Row, Lined, Linked, Begin, Begun, meets, meets_free, one_name, begun, next_same, clash, token_none, stops, fewer, add_row, line_one, line_more, rows_same, lines_same, linked, linked_begin, begun_within, follows_plain}
 use Rattle.bl_spelling.proofs.OnlyExpr.{differ, begun_in, begun_target, not_call, only_target, only_inputs, only_expr}
 use Rattle.bl_spelling.proofs.OnlyParts.{by1, by2, by3, by4, same_typing, same_maybe, same_value, same_initial, same_constant, same_outputs, same_start, same_guard, guard_stops}
 
@@ -152,9 +151,11 @@ one_side {text} {tokens} {branch} {from = from} {to = to} w plain body is = reco
     -- a block doesn't begin with `weak`
     no_weak : {P : Type 0} {body : List RawStmt} {a b c d : ℕ} → SpellsBlock text tokens body a b → NoneNext after_side tokens b → a ≡ c → Takes tokens (Word WEAK) c d → P
     no_weak block s e t = token_none t e refl (follows_plain (SpellsStmt text tokens) statement_starts (Keyword WEAK ∷ []) after_side tokens begun_stmt refl refl refl (row_of_block block) s)
+
     inside : {a b c d : ℕ} {body more : List RawStmt} {weak may : Bool} → weak ≡ may → Stmts text tokens body a b → a ≡ c → SpellsBlock text tokens more c d → branch ≡ roll-RawBranch (record { weak = weak; body = body })
         → {y : RawBranch} → y ≡ roll-RawBranch (record { weak = may; body = more }) → NoneNext after_side tokens b → NoneNext after_side tokens d → (branch ≡ y) × (b ≡ d)
     inside f body e q is also s r = let z = same_block body e q (fewer after_block after_side refl s) (fewer after_block after_side refl r) in (by2 branch_of f z.0 is also, z.1)
+
     by_weak : {y : RawBranch} {may other : Bool} {body more : List RawStmt} {m n end : ℕ} → SpellsWeak tokens may from m → SpellsBlock text tokens body m to → Stmts text tokens body m to
         → branch ≡ roll-RawBranch (record { weak = may; body = body }) → SpellsWeak tokens other from n → SpellsBlock text tokens more n end → y ≡ roll-RawBranch (record { weak = other; body = more })
         → NoneNext after_side tokens to → NoneNext after_side tokens end → (branch ≡ y) × (to ≡ end)
@@ -162,6 +163,7 @@ one_side {text} {tokens} {branch} {from = from} {to = to} w plain body is = reco
     by_weak (SpellsWeak.strong f g) plain body is (SpellsWeak.weak h t) q also s r = no_weak plain s g t
     by_weak (SpellsWeak.weak f t) plain body is (SpellsWeak.strong h i) q also s r = no_weak q r i t
     by_weak (SpellsWeak.weak f t) plain body is (SpellsWeak.weak h u) q also s r = inside (f ∙ sym h) body (next_same refl t u) q is also s r
+
     by_side : (y : RawBranch) (end : ℕ) → SpellsBranch text tokens y from end → NoneNext after_side tokens to → NoneNext after_side tokens end → (branch ≡ y) × (to ≡ end)
     by_side y end (SpellsBranch.branched v more also) s r = by_weak w plain body is v more also s r
 

@@ -1,4 +1,3 @@
-use Rattle.bl_spelling.proofs.OnlyStmt.{only_block}
 use Rattle.bl_spelling.proofs.Programs.{spells_program}
 use Rattle.bl_spelling.proofs.laws.what_is_spelled_is_a_program.Goals as goal
 
