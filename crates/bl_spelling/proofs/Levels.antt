@@ -89,7 +89,7 @@ lower {level} {own} le room o = down_by (own - level) level own (omega (arith, l
 
 -- ---- operators
 
-room_left : {kind : TokenKind} {own : ℕ} {op : Op} → IsOperator kind own op → (left_level own ≤ 10) × (own ≤ 8)
+pub room_left : {kind : TokenKind} {own : ℕ} {op : Op} → IsOperator kind own op → (left_level own ≤ 10) × (own ≤ 8)
 room_left IsOperator.either = (omega arith, omega arith)
 room_left IsOperator.both = (omega arith, omega arith)
 room_left IsOperator.equal = (omega arith, omega arith)

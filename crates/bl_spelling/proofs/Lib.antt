@@ -5,3 +5,9 @@ pub mod Types
 pub mod Expressions
 pub mod Statements
 pub mod Programs
+pub mod Only
+pub mod Chains
+pub mod OnlyExpr
+pub mod OnlyParts
+pub mod OnlyStmt
+pub mod OnlyProgram

@@ -45,14 +45,14 @@ behind before (x ∷ xs) (suc k) one e = behind (Some x.line) xs k one e
 pub position : {k to : ℕ} → to ≡ k + 1 → to ≡ suc k
 position next = omega (arith, next)
 
-own : (c : Class) → same_class c c ≡ true
-own AnyName = refl
-own AnyNumber = refl
-own (Keyword k) = eq-eqb k k refl
-own (Mark k) = eq-eqb k k refl
+pub same_self : (c : Class) → same_class c c ≡ true
+same_self AnyName = refl
+same_self AnyNumber = refl
+same_self (Keyword k) = eq-eqb k k refl
+same_self (Mark k) = eq-eqb k k refl
 
 one_token : (class : Class) {vs ws : List View} (view : View) → vs ≡ view ∷ ws → view.class ≡ class → Derives (Terminal class ∷ []) vs ws
-one_token class {vs} {ws} view is same = subst (λ (us : List View). Derives (Terminal class ∷ []) us ws) (sym is) (terminal (subst (λ (c : Class). same_class class c ≡ true) (sym same) (own class)) done)
+one_token class {vs} {ws} view is same = subst (λ (us : List View). Derives (Terminal class ∷ []) us ws) (sym is) (terminal (subst (λ (c : Class). same_class class c ≡ true) (sym same) (same_self class)) done)
 
 view_there : (tokens : List Token) (k : ℕ) (one : Token) {to : ℕ} → slice_get tokens k ≡ Some one → to ≡ k + 1 → (line : Option ℕ) × (left tokens k ≡ view_of line one ∷ left tokens to)
 view_there tokens k one at next = let s = seen_at None tokens k one at in
