@@ -1,10 +1,10 @@
--- Inputs take the places of the first values.
+-- New elements take the places of the first of a list.
 use Rattle.std.proofs.Common.{◌≡◌, ℕ, zero, suc, ◌+◌, ◌<◌, ◌≤◌, List, [], ◌∷◌, ◌++◌, length, take, drop, get_or, Some, refl, sym, ap, ◌∙◌, arith}
 use Rattle.std.specs.Prelude.{slice_get, slice_set}
 use Rattle.std.proofs.lemmas.Option.{get_or_from_slice_get}
 use Rattle.bl_tree.specs.declared.value.Value.{Value}
 
-pub fill_step : (inputs values : List Value) (k : ℕ) (v d : Value) → k < length inputs → length inputs ≤ length values → v ≡ get_or inputs k d
+pub fill_step : {A : Type 0} (inputs values : List A) (k : ℕ) (v d : A) → k < length inputs → length inputs ≤ length values → v ≡ get_or inputs k d
     → slice_set (take k inputs ++ drop k values) k v ≡ take (suc k) inputs ++ drop (suc k) values
 fill_step [] values k v d within fits is = absurd (omega arith)
 fill_step (x ∷ inputs) [] k v d within fits is = absurd (omega arith)
@@ -43,10 +43,10 @@ fill_left inputs left after k y same is =
     let more : k + 1 ≡ suc k = omega arith in
     ap (λ n. drop n after) more ∙ ap (drop (suc k)) is ∙ drop_set left k y ∙ drop_once left k ∙ ap (drop 1) same ∙ sym (drop_once inputs k) ∙ ap (λ n. drop n inputs) (sym more)
 
-pub fill_long : (left after : List Value) (k n : ℕ) (y : Value) → length left ≡ n → after ≡ slice_set left k y → length after ≡ n
+pub fill_long : {A : Type 0} (left after : List A) (k n : ℕ) (y : A) → length left ≡ n → after ≡ slice_set left k y → length after ≡ n
 fill_long left after k n y long is = ap length is ∙ length_set left k y ∙ long
   where
-    length_set : (xs : List Value) (k : ℕ) (y : Value) → length (slice_set xs k y) ≡ length xs
+    length_set : {A : Type 0} (xs : List A) (k : ℕ) (y : A) → length (slice_set xs k y) ≡ length xs
     length_set [] k y = refl
     length_set (x ∷ xs) zero y = refl
     length_set (x ∷ xs) (suc k) y = ap suc (length_set xs k y)

@@ -1,2 +1,4 @@
+pub mod Deeds
+pub mod Expansion
 pub mod Own
 pub mod Seen

@@ -1,12 +1,12 @@
 -- What the store of the code shows.
-use Rattle.std.specs.Prelude.{ℕ, List, map, length, Option, option_and_then, option_map, slice_get, unwrap_or}
+use Rattle.std.specs.Prelude.{ℕ, List, [], ◌∷◌, map, length, Option, option_and_then, option_map, slice_get, unwrap_or}
 use Rattle.bl_tree.specs.declared.place.Place.{Place}
 use Rattle.bl_tree.specs.declared.tree.Unit.{Unit as UnitDef}
 use Rattle.bl_tree.specs.declared.value.Value.{Value}
 use Rattle.bl_ctree.specs.Instances.{Setting, callee_of, unit_at}
 use Rattle.bl_eval.specs.Meaning.{View}
 use Rattle.bl_eval.specs.Standing.{view_of}
-use Rattle.bl_ctree.specs.Store.{Frame, Location, Store, view_at}
+use Rattle.bl_ctree.specs.Store.{Frame, Location, Store, put, view_at}
 use Rattle.bl_store.specs.declared.callee.Callee.{Callee}
 use Rattle.bl_store.specs.declared.frame.Frame.{Frame as FrameNode}
 use Rattle.bl_store.specs.declared.frame.Moment.{Moment}
@@ -14,6 +14,7 @@ use Rattle.bl_store.specs.declared.frame.Moment.TheVariants.{Now, Before}
 use Rattle.bl_store.specs.declared.home.Home.{Home}
 use Rattle.bl_store.specs.declared.setting.Setting.{Setting as SettingNode}
 use Rattle.bl_store.specs.declared.view.View.{View as ViewNode}
+use Rattle.bl_store.specs.declared.writing.Put.{Put}
 
 -- the program with its instances
 abbrev pub setting_in : SettingNode → Setting
@@ -63,3 +64,13 @@ seen_by v = record { unit = v.now.unit; view = view_of v.now v.before }
 
 abbrev pub sight : Setting → Store → ℕ → Option Sight
 sight w store i = option_map (λ instance. record { unit = instance.unit; view = view_at w store i }) (slice_get w.instances i)
+
+-- ---- what an act writes
+
+abbrev pub put_one : Put → Store → Store
+put_one p store = put (location_of p.at) p.value store
+
+-- the store with each value at its home, one after another
+abbrev pub put_all : List Put → Store → Store
+put_all [] store = store
+put_all (p ∷ rest) store = put_all rest (put_one p store)

@@ -1,11 +1,13 @@
-//! The store of a program that runs: its instances, and the values of their variables (docs/LANGUAGE.md, "How a program
-//! runs").
+//! The store of a program that runs: its instances, the values of their variables, and what one action makes of them
+//! (docs/LANGUAGE.md, "How a program runs").
 #![tactic(auto)]
 
 pub mod callee;
+pub mod expansion;
 pub mod frame;
 pub mod home;
 mod parts;
+pub mod perform;
 pub mod setting;
 mod slices;
 pub mod ticks;
@@ -14,4 +16,5 @@ pub mod writing;
 
 pub use frame::Frame;
 pub use home::Home;
+pub use perform::{Deed, asks, carry_out};
 pub use setting::Setting;

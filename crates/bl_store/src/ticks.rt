@@ -1,10 +1,13 @@
-//! The store at the start of a run and of a tick.
+//! The store at the start of a run and of a tick, and the row of outputs.
 
-ghost use Rattle.std.specs.Prelude.{◌≡◌, map, IfOk};
-ghost use Rattle.bl_ctree.specs.Store.{aged, first_store, frame_at_first, woken_store, zero_result, zeros};
+ghost use Rattle.std.specs.Prelude.{◌≡◌, ◌+◌, pos, map, IfOk, option_map, unwrap_or, length};
+ghost use Rattle.bl_ctree.specs.Instances.{unit_at};
+ghost use Rattle.bl_ctree.specs.Store.{aged, first_store, frame_at_first, number_or_zero, outputs_row, woken_store, zero_result, zeros};
+ghost use Rattle.bl_store.specs.Own.{now_there};
 ghost use Rattle.bl_store.specs.Seen.{frame_of, setting_in, store_of};
 
-use crate::frame::Frame;
+use crate::callee::unit_at;
+use crate::frame::{Frame, now_at};
 use crate::setting::Setting;
 use crate::slices::element;
 use crate::writing::set_inputs;
@@ -125,4 +128,42 @@ pub fn woken(alloc: Global, frames: &[Frame], row: &Row) -> Result<Vec<Frame>, N
     let mut made = all_aged(alloc, frames)?.into_vec();
     set_inputs(&mut made, 0, numbers(alloc, row)?);
     Ok(made)
+}
+
+fn number(value: &Value) -> i128
+    ensures { result ≡ number_or_zero value.now }
+{
+    match value {
+        Value::Number(n) => *n,
+        Value::Parts(_) => 0,
+    }
+}
+
+fn output_at(frames: &[Frame], inputs: u32, k: u32) -> i128
+    ensures { result ≡ unwrap_or (option_map number_or_zero (now_there (store_of frames.now) 0 (inputs + k))) (pos 0) }
+{
+    match now_at(frames, 0, inputs as usize + k as usize) {
+        None => 0,
+        Some(value) => number(value),
+    }
+}
+
+fn entry_inputs(w: &Setting) -> u32
+    ensures { result ≡ unwrap_or (option_map (λ unit. unit.inputs) (unit_at (setting_in w.now) 0)) 0 }
+{
+    match unit_at(w, 0) {
+        None => 0,
+        Some(unit) => unit.inputs,
+    }
+}
+
+/// The row of the entry's outputs.
+pub fn outputs(w: &Setting, frames: &[Frame], into: &mut Row)
+    requires { length into.old ≡ length (outputs_row (setting_in w.now) (store_of frames.now)) }
+    ensures { into.new ≡ outputs_row (setting_in w.now) (store_of frames.now) }
+{
+    let inputs = entry_inputs(w);
+    for k in 0..into.len() {
+        into.set(k, output_at(frames, inputs, k));
+    }
 }

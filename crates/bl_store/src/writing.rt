@@ -1,14 +1,86 @@
-//! Changes of one instance's values.
+//! What acts write, and changes of one instance's values.
 
-ghost use Rattle.std.specs.Prelude.{◌≡◌, ◌++◌, ◌<◌, Some, pos, drop, length, slice_get, slice_set};
+ghost use Rattle.std.specs.Prelude.{◌≡◌, ◌++◌, ◌<◌, Some, pos, drop, length, IfOk, OnOk, slice_get, slice_set};
+ghost use Rattle.bl_effects.specs.Static.{set_of};
 ghost use Rattle.bl_ctree.specs.Actions.{with_result};
-ghost use Rattle.bl_ctree.specs.Store.{with_frame, with_inputs};
-ghost use Rattle.bl_store.specs.Seen.{store_of};
+ghost use Rattle.bl_ctree.specs.Store.{Store, put_path, put_written, with_frame, with_inputs};
 ghost use Rattle.bl_store.specs.Own.{with_before};
+ghost use Rattle.bl_store.specs.Seen.{put_all, setting_in, store_of};
 
-use crate::frame::Frame;
-use bl_tree::{List, Value};
+use crate::frame::{Frame, put, within};
+use crate::home::{Home, home_of};
+use crate::setting::Setting;
+use bl_effects::Static;
+use bl_eval::copy;
+use bl_tree::{List, NoMemory, Value};
+use std::alloc::Global;
 use std::mem;
+
+/// A value that is to be put at a home.
+#[derive(Drop)]
+pub struct Put {
+    pub at: Home,
+    pub value: Value,
+}
+
+/// Appends what stands at a static path of variables of an instance, for the path's home.
+fn append_put(
+    alloc: Global,
+    w: &Setting,
+    i: u32,
+    variables: &[Value],
+    path: &Static,
+    into: &mut List<Put>,
+) -> Result<(), NoMemory>
+    ensures { OnOk result ((store : Store) → put_all into.new store ≡ put_path (setting_in w.now) i variables.now path.now (put_all into.old store)) }
+{
+    match within(variables, path.root as usize, &path.fields) {
+        None => Ok(()),
+        Some(value) => {
+            let at = home_of(alloc, w, i, path.root as usize, &path.fields)?;
+            let value = copy(alloc, value)?;
+            into.push(Put { at, value })?;
+            Ok(())
+        }
+    }
+}
+
+/// What an act puts that left these variables of an instance and wrote these static paths. Fails only for want of memory.
+pub fn puts(
+    alloc: Global,
+    w: &Setting,
+    i: u32,
+    variables: &[Value],
+    paths: &[Static],
+) -> Result<List<Put>, NoMemory>
+    ensures { IfOk result (λ made. (store : Store) → put_all made store ≡ put_written (setting_in w.now) i variables.now paths.now store) }
+{
+    let mut made = List::new(alloc);
+    for path in paths {
+        append_put(alloc, w, i, variables, path, &mut made)?;
+    }
+    Ok(made)
+}
+
+/// Puts each value at its home, one after another.
+pub fn put_all(frames: &mut Vec<Frame>, puts: List<Put>)
+    ensures { store_of frames.new.items ≡ put_all puts (store_of frames.old.items) }
+{
+    for each in puts.into_vec() {
+        let Put { at, value } = each;
+        put(frames, &at, value);
+    }
+}
+
+/// The paths in ascending order, each once.
+pub fn set_of(paths: List<Static>) -> List<Static>
+    ensures { result ≡ set_of paths }
+{
+    let mut paths = paths.into_vec();
+    paths.sort_unstable();
+    paths.dedup();
+    List::from_vec(paths)
+}
 
 /// Takes a value out of a list.
 fn take_at(values: &mut Vec<Value>, k: usize) -> Value

@@ -1,7 +1,6 @@
-use Rattle.std.proofs.Common.{◌≡◌, ◌<◌, refl, ap, sym, ◌∙◌, arith, length}
+use Rattle.std.proofs.Common.{◌<◌, refl, ap, sym, ◌∙◌, arith, length}
 use Rattle.std.proofs.lemmas.Option.{slice_get_read}
 use Rattle.bl_eval.specs.Changes.{with_element_at}
-use Rattle.bl_ctree.specs.Store.{Frame}
 use Rattle.bl_store.specs.Seen.{frame_of, location_of, store_of}
 use Rattle.bl_store.proofs.StoreLemmas.{at_frame, put_changes, put_in}
 use Rattle.bl_store.proofs.frame.put.Goals as goal

@@ -1,4 +1,4 @@
-use Rattle.std.proofs.Common.{◌≡◌, ◌<◌, refl, ap, sym, ◌∙◌, arith, length}
+use Rattle.std.proofs.Common.{◌<◌, refl, ap, arith, length}
 use Rattle.std.proofs.lemmas.Option.{slice_get_read}
 use Rattle.bl_store.specs.Own.{with_before}
 use Rattle.bl_store.specs.Seen.{frame_of}

@@ -1,4 +1,4 @@
-use Rattle.std.proofs.Common.{◌≡◌, ◌<◌, ◌++◌, refl, ap, ◌∙◌, arith, drop, length}
+use Rattle.std.proofs.Common.{◌<◌, ◌++◌, refl, ap, ◌∙◌, arith, drop, length}
 use Rattle.std.proofs.lemmas.Option.{slice_get_read}
 use Rattle.bl_ctree.specs.Store.{with_inputs}
 use Rattle.bl_store.specs.Seen.{frame_of}

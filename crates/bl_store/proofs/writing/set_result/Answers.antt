@@ -1,4 +1,4 @@
-use Rattle.std.proofs.Common.{◌≡◌, ◌<◌, refl, Some, arith, length}
+use Rattle.std.proofs.Common.{◌<◌, refl, Some, arith, length}
 use Rattle.std.proofs.lemmas.Option.{slice_get_read}
 use Rattle.bl_ctree.specs.Actions.{with_result}
 use Rattle.bl_store.proofs.StoreLemmas.{at_frame}

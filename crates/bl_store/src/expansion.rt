@@ -1,0 +1,176 @@
+//! The instances to which a program expands.
+
+ghost use Rattle.std.specs.Prelude.{◌≡◌, ◌<◌, ◌≤◌, ◌+◌, ◌^◌, [], ◌∷◌, ◌++◌, All, cond, length, map, IfOk, OnOk};
+ghost use Rattle.std.specs.List.{list_any};
+ghost use Rattle.bl_ctree.specs.Instances.{called_from, expanded, instances_below, instances_of, one_a_place, origin_under, runs_of};
+ghost use Rattle.bl_effects.specs.Table.{same_place};
+ghost use Rattle.bl_store.specs.Expansion.{Shifts, starts_at};
+
+use crate::slices::element;
+use bl_ctree::instance::{Instance, Origin, Run};
+use bl_ctree::paths::copies_of;
+use bl_ctree::runs::all_in;
+use bl_tree::tree::Unit;
+use bl_tree::{List, NoMemory, Place, Program};
+use std::alloc::Global;
+
+fn same_place(a: Place, b: Place) -> bool
+    ensures { result ≡ same_place a b }
+{
+    a.start == b.start && a.end == b.end
+}
+
+/// Whether one of the `run` statements stands at the place.
+fn is_there(runs: &[Run], place: Place) -> bool
+    ensures { result ≡ list_any (starts_at place) runs.now }
+{
+    for run in runs {
+        if same_place(run.place, place) {
+            return true;
+        }
+    }
+    false
+}
+
+/// Appends the `run` statement where none of its place is there.
+fn add(run: Run, into: &mut List<Run>) -> Result<(), NoMemory>
+    ensures { OnOk result (into.new ≡ cond (list_any (starts_at run.place) into.old) into.old (into.old ++ run ∷ [])) }
+{
+    if is_there(into, run.place) {
+        return Ok(());
+    }
+    into.push(run)?;
+    Ok(())
+}
+
+/// The first of each place.
+fn one_a_place(alloc: Global, runs: List<Run>) -> Result<List<Run>, NoMemory>
+    ensures { IfOk result (λ kept. kept ≡ one_a_place runs) }
+{
+    let mut kept = List::new(alloc);
+    for run in runs.into_vec() {
+        add(run, &mut kept)?;
+    }
+    Ok(kept)
+}
+
+/// The `run` statements of a unit, in source order; those of one place count once.
+fn runs_of(alloc: Global, unit: &Unit) -> Result<List<Run>, NoMemory>
+    ensures { IfOk result (λ runs. runs ≡ runs_of unit.now) }
+{
+    one_a_place(alloc, all_in(alloc, unit)?)
+}
+
+fn origin_under(
+    alloc: Global,
+    n: u32,
+    run: &Run,
+    origin: &Option<Origin>,
+) -> Result<Option<Origin>, NoMemory>
+    requires { Shifts n origin.now }
+    ensures { IfOk result (λ made. made ≡ origin_under n run.now origin.now) }
+{
+    match origin {
+        None => Ok(Some(Origin {
+            caller: 0,
+            place: run.place,
+            outputs: copies_of(alloc, &run.outputs)?,
+        })),
+        Some(origin) => Ok(Some(Origin {
+            caller: n + origin.caller,
+            place: origin.place,
+            outputs: copies_of(alloc, &origin.outputs)?,
+        })),
+    }
+}
+
+/// An instance below the `run` statement, whose own instances are numbered from n on.
+fn called_from(alloc: Global, n: u32, run: &Run, instance: &Instance) -> Result<Instance, NoMemory>
+    requires shift { Shifts n instance.now.origin }
+    requires depth { instance.now.depth + 1 < 2 ^ 32 }
+    ensures { IfOk result (λ made. made ≡ called_from n run.now instance.now) }
+{
+    Ok(Instance {
+        unit: instance.unit,
+        depth: instance.depth + 1,
+        origin: origin_under(alloc, n, run, &instance.origin)?,
+    })
+}
+
+fn append_called(
+    alloc: Global,
+    n: u32,
+    run: &Run,
+    alone: &[Instance],
+    into: &mut List<Instance>,
+) -> Result<(), NoMemory>
+    requires shift { All (λ x. Shifts n x.origin) alone.now }
+    requires depth { All (λ x. x.depth + 1 < 2 ^ 32) alone.now }
+    ensures { OnOk result (into.new ≡ into.old ++ map (called_from n run.now) alone.now) }
+{
+    for instance in alone {
+        into.push(called_from(alloc, n, run, instance)?)?;
+    }
+    Ok(())
+}
+
+/// The instances that the unit at the position expands to, where chains of `run` statements are no longer than this.
+#[cycle(expanding)]
+fn expanded(
+    alloc: Global,
+    units: &[Unit],
+    longest: usize,
+    k: u32,
+) -> Result<List<Instance>, NoMemory>
+    requires few { length (expanded units.now longest k) < 2 ^ 32 }
+    requires short { longest ≤ 2 ^ 32 }
+    ensures { IfOk result (λ all. all ≡ expanded units.now longest k) }
+{
+    if longest == 0 {
+        return Ok(List::new(alloc));
+    }
+    match element(units, k as usize) {
+        None => Ok(List::new(alloc)),
+        Some(unit) => from_unit(alloc, units, longest - 1, k, unit),
+    }
+}
+
+#[cycle(expanding)]
+fn from_unit(
+    alloc: Global,
+    units: &[Unit],
+    longest: usize,
+    k: u32,
+    unit: &Unit,
+) -> Result<List<Instance>, NoMemory>
+    requires few { length (instances_below (expanded units.now longest) 1 (runs_of unit.now)) + 1 < 2 ^ 32 }
+    requires short { longest < 2 ^ 32 }
+    ensures { IfOk result (λ all. all ≡ record { unit = k; depth = 0; origin = None } ∷ instances_below (expanded units.now longest) 1 (runs_of unit.now)) }
+{
+    let mut all = List::new(alloc);
+    all.push(Instance {
+        unit: k,
+        depth: 0,
+        origin: None,
+    })?;
+    let runs = runs_of(alloc, unit)?;
+    for run in runs.iter() {
+        let alone = expanded(alloc, units, longest, run.unit)?;
+        let n = all.len() as u32;
+        append_called(alloc, n, run, &alone, &mut all)?;
+    }
+    Ok(all)
+}
+
+/// The instances of a program. Fails only for want of memory.
+pub fn instances_of(alloc: Global, program: &Program) -> Result<List<Instance>, NoMemory>
+    requires { length (instances_of program.now.units program.now.entry) < 2 ^ 32 }
+    ensures { IfOk result (λ all. all ≡ instances_of program.now.units program.now.entry) }
+{
+    expanded(
+        alloc,
+        &program.units,
+        program.entry as usize + 1,
+        program.entry,
+    )
+}
