@@ -12,7 +12,7 @@ use Rattle.bl_ctree.specs.declared.instance.Origin.{Origin}
 use Rattle.bl_ctree.specs.declared.instance.Run.{Run}
 use Rattle.bl_ctree.specs.Instances.{called_from, expanded, instances_below, one_a_place, origin_under, runs_of}
 use Rattle.bl_store.specs.Expansion.{Shifts, starts_at}
-use Rattle.bl_store.proofs.PositionLemmas.{next_of}
+use Rattle.bl_store.proofs.ElementLemmas.{next_of}
 
 -- ---- one of each place
 
@@ -63,15 +63,6 @@ one_more [] x = refl
 one_more (r ∷ xs) x =
     ap (λ rest. r ∷ others r rest) (one_more xs x)
     ∙ one_case r x (one_a_place xs) (list_any (starts_at x.place) (one_a_place xs)) (same_place r.place x.place) refl refl
-
-pub one_more_there : (xs : List Run) (x : Run) (kept : List Run) → kept ≡ one_a_place xs → list_any (starts_at x.place) kept ≡ true → kept ≡ one_a_place (xs ++ x ∷ [])
-one_more_there xs x kept is there =
-    is ∙ sym (one_more xs x ∙ ap (λ b. cond b (one_a_place xs) (one_a_place xs ++ x ∷ [])) (ap (list_any (starts_at x.place)) (sym is) ∙ there))
-
-pub one_more_new : (xs : List Run) (x : Run) (kept made : List Run) → kept ≡ one_a_place xs → list_any (starts_at x.place) kept ≡ false → made ≡ kept ++ x ∷ [] → made ≡ one_a_place (xs ++ x ∷ [])
-one_more_new xs x kept made is none is_made =
-    is_made ∙ ap (λ kept. kept ++ x ∷ []) is
-    ∙ sym (one_more xs x ∙ ap (λ b. cond b (one_a_place xs) (one_a_place xs ++ x ∷ [])) (ap (list_any (starts_at x.place)) (sym is) ∙ none))
 
 -- ---- numbers
 

@@ -1,7 +1,11 @@
+pub mod CalleeLemmas
+pub mod ElementLemmas
 pub mod ExpansionLemmas
 pub mod FillLemmas
 pub mod HomeLemmas
+pub mod KeyLemmas
 pub mod OutputLemmas
 pub mod PerformLemmas
+pub mod PlaceLemmas
 pub mod PositionLemmas
 pub mod StoreLemmas

@@ -1,3 +1,4 @@
+pub mod Callees
 pub mod Deeds
 pub mod Expansion
 pub mod Own

@@ -1,12 +1,11 @@
 //! The instances that `run` statements begin.
 
-ghost use Rattle.std.specs.Prelude.{◌≡◌, ◌<◌, length, option_map, slice_get};
-ghost use Rattle.bl_ctree.specs.Instances.{begins_at, callee_of, unit_at};
+ghost use Rattle.std.specs.Prelude.{◌≡◌, option_map};
+ghost use Rattle.bl_ctree.specs.Instances.{callee_of, unit_at};
 ghost use Rattle.bl_store.specs.Seen.{called, called_at, setting_in};
 
 use crate::setting::Setting;
 use crate::slices::element;
-use bl_ctree::instance::Origin;
 use bl_tree::Place;
 use bl_tree::tree::Unit;
 
@@ -17,36 +16,11 @@ pub struct Callee<'a> {
     pub unit: &'a Unit,
 }
 
-fn begins_at(caller: u32, place: Place, origin: &Option<Origin>) -> bool
-    ensures { result ≡ begins_at caller place origin.now }
-{
-    match origin {
-        None => false,
-        Some(origin) => {
-            origin.caller == caller
-                && origin.place.start == place.start
-                && origin.place.end == place.end
-        }
-    }
-}
-
-fn begins(w: &Setting, k: usize, caller: u32, place: Place) -> bool
-    requires { k < length w.now.instances }
-    ensures { option_map (λ instance. begins_at caller place instance.origin) (slice_get w.now.instances k) ≡ Some result }
-{
-    begins_at(caller, place, &w.instances[k].origin)
-}
-
 /// The instance that the `run` statement at the place begins in its caller's instance.
 fn callee_of(w: &Setting, caller: u32, place: Place) -> Option<u32>
     ensures { result ≡ callee_of (setting_in w.now) caller place }
 {
-    for k in 0..w.instances.len() {
-        if begins(w, k, caller, place) {
-            return Some(k as u32);
-        }
-    }
-    None
+    w.callees.find(caller, place)
 }
 
 /// The unit of an instance.

@@ -1,42 +1,42 @@
 //! The instances to which a program expands.
 
-ghost use Rattle.std.specs.Prelude.{◌≡◌, ◌<◌, ◌≤◌, ◌+◌, ◌^◌, [], ◌∷◌, ◌++◌, All, cond, length, map, IfOk, OnOk};
+ghost use Rattle.std.specs.Prelude.{◌≡◌, ◌<◌, ◌≤◌, ◌+◌, ◌^◌, [], ◌∷◌, ◌++◌, ◌||◌, All, cond, length, map, not, IfOk, OnOk};
 ghost use Rattle.std.specs.List.{list_any};
-ghost use Rattle.bl_ctree.specs.Instances.{called_from, expanded, instances_below, instances_of, one_a_place, origin_under, runs_of};
+ghost use Rattle.bl_ctree.specs.Instances.{called_from, expanded, instances_below, instances_of, one_a_place, origin_under, runs_of, setting_of};
 ghost use Rattle.bl_effects.specs.Table.{same_place};
-ghost use Rattle.bl_store.specs.Expansion.{Shifts, starts_at};
+ghost use Rattle.bl_store.specs.Expansion.{Sees, Shifts, has_place, starts_at};
+ghost use Rattle.bl_store.specs.Seen.{setting_in};
 
+use crate::index::Callees;
+use crate::setting::Setting;
 use crate::slices::element;
 use bl_ctree::instance::{Instance, Origin, Run};
 use bl_ctree::paths::copies_of;
 use bl_ctree::runs::all_in;
 use bl_tree::tree::Unit;
 use bl_tree::{List, NoMemory, Place, Program};
-use std::alloc::Global;
+use std::alloc::{AllocError, Global};
+use std::collections::BTreeSet;
 
-fn same_place(a: Place, b: Place) -> bool
-    ensures { result ≡ same_place a b }
+/// Adds the place, and tells whether it is new.
+fn see(seen: &mut BTreeSet<(u32, u32)>, place: Place) -> Result<bool, NoMemory>
+    ensures fresh { IfOk result (λ fresh. fresh ≡ not (has_place seen.old place)) }
+    ensures seen { OnOk result ((q : _) → has_place seen.new q ≡ (same_place place q || has_place seen.old q)) }
 {
-    a.start == b.start && a.end == b.end
-}
-
-/// Whether one of the `run` statements stands at the place.
-fn is_there(runs: &[Run], place: Place) -> bool
-    ensures { result ≡ list_any (starts_at place) runs.now }
-{
-    for run in runs {
-        if same_place(run.place, place) {
-            return true;
-        }
+    match seen.insert((place.start, place.end)) {
+        Ok(fresh) => Ok(fresh),
+        Err(e) => Err(AllocError::from(e).into()),
     }
-    false
 }
 
 /// Appends the `run` statement where none of its place is there.
-fn add(run: Run, into: &mut List<Run>) -> Result<(), NoMemory>
-    ensures { OnOk result (into.new ≡ cond (list_any (starts_at run.place) into.old) into.old (into.old ++ run ∷ [])) }
+fn add(run: Run, seen: &mut BTreeSet<(u32, u32)>, into: &mut List<Run>) -> Result<(), NoMemory>
+    requires { Sees seen.old into.old }
+    ensures kept { OnOk result (into.new ≡ cond (list_any (starts_at run.place) into.old) into.old (into.old ++ run ∷ [])) }
+    ensures seen { OnOk result (Sees seen.new into.new) }
 {
-    if is_there(into, run.place) {
+    let fresh = see(seen, run.place)?;
+    if !fresh {
         return Ok(());
     }
     into.push(run)?;
@@ -48,8 +48,9 @@ fn one_a_place(alloc: Global, runs: List<Run>) -> Result<List<Run>, NoMemory>
     ensures { IfOk result (λ kept. kept ≡ one_a_place runs) }
 {
     let mut kept = List::new(alloc);
+    let mut seen = BTreeSet::new(alloc);
     for run in runs.into_vec() {
-        add(run, &mut kept)?;
+        add(run, &mut seen, &mut kept)?;
     }
     Ok(kept)
 }
@@ -173,4 +174,18 @@ pub fn instances_of(alloc: Global, program: &Program) -> Result<List<Instance>, 
         program.entry as usize + 1,
         program.entry,
     )
+}
+
+/// The program with the instances to which it expands. Fails only for want of memory.
+pub fn setting_of<'a>(alloc: Global, program: &'a Program) -> Result<Setting<'a>, NoMemory>
+    requires { length (instances_of program.now.units program.now.entry) < 2 ^ 32 }
+    ensures { IfOk result (λ w. setting_in w ≡ setting_of program.now.structs program.now.units program.now.entry) }
+{
+    let instances = instances_of(alloc, program)?;
+    let callees = Callees::of(alloc, &instances)?;
+    Ok(Setting {
+        program,
+        instances,
+        callees,
+    })
 }

@@ -6,6 +6,7 @@ pub mod callee;
 pub mod expansion;
 pub mod frame;
 pub mod home;
+mod index;
 mod parts;
 pub mod perform;
 pub mod setting;

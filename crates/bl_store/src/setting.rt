@@ -1,7 +1,9 @@
 //! A program with its instances.
 
 ghost use Rattle.std.specs.Prelude.{◌<◌, ◌^◌, length};
+ghost use Rattle.bl_store.specs.Callees.{Finds};
 
+use crate::index::Callees;
 use bl_ctree::instance::Instance;
 use bl_tree::{List, Program};
 
@@ -10,5 +12,7 @@ use bl_tree::{List, Program};
 pub struct Setting<'a> {
     pub program: &'a Program,
     pub instances: List<Instance>,
+    pub(crate) callees: Callees,
     pub ghost few: { length instances < 2 ^ 32 },
+    pub ghost finds: { Finds callees instances },
 }

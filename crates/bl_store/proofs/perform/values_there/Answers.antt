@@ -4,7 +4,7 @@ use Rattle.bl_eval.specs.Standing.{got_value}
 use Rattle.bl_store.specs.Deeds.{value_by}
 use Rattle.bl_store.specs.Seen.{setting_in, store_of}
 use Rattle.bl_store.proofs.PerformLemmas.{value_there_is, values_step, values_stop}
-use Rattle.bl_store.proofs.PositionLemmas.{next_of}
+use Rattle.bl_store.proofs.ElementLemmas.{next_of}
 use Rattle.bl_store.proofs.perform.values_there.Goals as goal
 
 pub returns-in-Trap : goal.returns-in-Trap

@@ -2,7 +2,7 @@ use Rattle.std.proofs.Common.{◌++◌, ◌∷◌, [], ap, ◌∙◌, rules}
 use Rattle.std.specs.Int.{w128}
 use Rattle.std.proofs.lemmas.Int.{to_z-of_z}
 use Rattle.bl_tree.specs.declared.value.Value.TheVariants.{Number}
-use Rattle.bl_store.proofs.PositionLemmas.{one_more}
+use Rattle.bl_store.proofs.ElementLemmas.{one_more}
 use Rattle.bl_store.proofs.ticks.numbers.Goals as goal
 
 pub loop-k-preserved : goal.loop-k-preserved
