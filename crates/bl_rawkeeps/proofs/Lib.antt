@@ -1,3 +1,6 @@
 pub mod Tests
 pub mod Names
 pub mod Stands
+pub mod Moves
+pub mod Rising
+pub mod InOrder

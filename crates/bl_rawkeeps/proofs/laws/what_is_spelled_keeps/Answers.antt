@@ -1,0 +1,9 @@
+use Rattle.bl_rawkeeps.proofs.InOrder.{starts_ascend}
+use Rattle.bl_rawkeeps.proofs.Stands.{what_stands}
+use Rattle.bl_rawkeeps.proofs.laws.what_is_spelled_keeps.Goals as goal
+
+pub returns-clause-stand : goal.returns-clause-stand
+returns-clause-stand c = what_stands
+
+pub returns-clause-in_order : goal.returns-clause-in_order
+returns-clause-in_order c = starts_ascend
