@@ -27,7 +27,7 @@ use Rattle.bl_parse.specs.At.{span, start_at}
 use Rattle.bl_parse.specs.Expressions.{expr, SpellsExpr}
 use Rattle.bl_parse.specs.Programs.{SpellsUnit, SpellsItem, SpellsItems, Spells}
 use Rattle.bl_parse.specs.Statements.{SpellsStmt, SpellsKind, SpellsBlock, SpellsArm, SpellsArms, SpellsElse, SpellsBranch, SpellsBranches}
-use Rattle.bl_rawkeeps.proofs.Moves as moves
+use Rattle.bl_rawkeeps.proofs.Level as level
 use Rattle.bl_rawkeeps.proofs.Rising.{Rising, Rise, earlier, later, join, none_rise, more_rise, one_rises, rising_ascends}
 
 -- where what stands in a statement begins
@@ -106,23 +106,23 @@ nothing is le = same is (Rising.over le)
 record Begins (tokens : List Token) (e : RawExpr) (from to : ℕ) : Type 0 where
   pub at : ℕ
   pub behind : from ≤ at
-  pub within : at < to
+  pub within : at ≤ to
   pub is : start_of e ≡ start_at tokens at
 
-at_first : {tokens : List Token} {e : RawExpr} {what : RawExprKind} {from to : ℕ} → from < to → e ≡ expr (span tokens from to) what → Begins tokens e from to
+at_first : {tokens : List Token} {e : RawExpr} {what : RawExprKind} {from to : ℕ} → from ≤ to → e ≡ expr (span tokens from to) what → Begins tokens e from to
 at_first {tokens} {what = what} {from = from} {to = to} moves is = record { at = from; behind = omega arith; within = moves; is = ap start_of is ∙ expr_is (span tokens from to) what }
 
 module _ {text : List ℕ} {tokens : List Token} where
   begins : {level : ℕ} {e : RawExpr} {from to : ℕ} → SpellsExpr text tokens level e from to → Begins tokens e from to
-  begins (SpellsExpr.two le a op b is) = at_first (moves.expression (SpellsExpr.two le a op b is)) is
-  begins (SpellsExpr.cast le a word s is) = at_first (moves.expression (SpellsExpr.cast le a word s is)) is
+  begins (SpellsExpr.two le a op b is) = at_first (omega (arith, (level.expression a).moves, op.token.next, (level.expression b).moves)) is
+  begins (SpellsExpr.cast le a word s is) = at_first (omega (arith, (level.expression a).moves, word.next, s.token.next)) is
   begins (SpellsExpr.negative le minus n is) = at_first (omega (arith, minus.next, n.next)) is
-  begins (SpellsExpr.one le op no_number a is) = at_first (moves.expression (SpellsExpr.one le op no_number a is)) is
+  begins (SpellsExpr.one le op no_number a is) = at_first (omega (arith, op.token.next, (level.expression a).moves)) is
   begins (SpellsExpr.number n is) = at_first (omega (arith, n.next)) is
   begins (SpellsExpr.truth t is) = at_first (omega (arith, t.token.next)) is
   begins (SpellsExpr.before word n is) = at_first (omega (arith, word.next, n.token.next)) is
-  begins (SpellsExpr.read from is) = at_first (moves.target from) is
-  begins (SpellsExpr.call n given after is) = at_first (omega (arith, n.token.next, moves.inputs given, moves.none after)) is
+  begins (SpellsExpr.read from is) = at_first (level.target from).moves is
+  begins (SpellsExpr.call n given after is) = at_first (omega (arith, n.token.next, (level.inputs given).moves, (level.none after).moves)) is
   begins (SpellsExpr.parentheses opens e closes) = let inner = begins e in
       record { at = inner.at; behind = omega (arith, opens.next, inner.behind); within = omega (arith, closes.next, inner.within); is = inner.is }
 
@@ -133,17 +133,17 @@ module _ {text : List ℕ} {tokens : List Token} where
     statement (SpellsStmt.placed what is) = same (ap starts_of is ∙ stmt_is _ _) (Rising.next (omega arith) refl (says what))
 
     says : {what : RawStmtKind} {from to : ℕ} → SpellsKind text tokens what from to → Rising tokens (kind_starts what) (from + 1) to
-    says (SpellsKind.typed w n t e is) = nothing (ap kind_starts is ∙ var_is _ _ _) (omega (arith, w.next, n.token.next, moves.typed t, moves.initial e))
-    says (SpellsKind.inferred w n e is) = nothing (ap kind_starts is ∙ var_is _ _ _) (omega (arith, w.next, n.token.next, moves.value e))
-    says (SpellsKind.fixed w n t e is) = nothing (ap kind_starts is ∙ let_is _ _ _) (omega (arith, w.next, n.token.next, moves.maybe_typing t, moves.value e))
-    says (SpellsKind.constant c is) = nothing (ap kind_starts is ∙ constant_is _) (omega (arith, moves.constant c))
-    says (SpellsKind.assign to e is) = nothing (ap kind_starts is ∙ assign_is _ _) (omega (arith, moves.target to, moves.value e))
-    says (SpellsKind.call n given taken is) = nothing (ap kind_starts is ∙ call_is _ _ _) (omega (arith, n.token.next, moves.inputs given, moves.outputs taken))
-    says (SpellsKind.await w e is) = nothing (ap kind_starts is ∙ await_is _) (omega (arith, w.next, moves.expression e))
-    says (SpellsKind.run w to n given taken is) = nothing (ap kind_starts is ∙ run_is _ _ _ _) (omega (arith, w.next, moves.receiver to, n.token.next, moves.inputs given, moves.outputs taken))
+    says (SpellsKind.typed w n t e is) = nothing (ap kind_starts is ∙ var_is _ _ _) (omega (arith, w.next, n.token.next, (level.typing t).moves, (level.initial e).moves))
+    says (SpellsKind.inferred w n e is) = nothing (ap kind_starts is ∙ var_is _ _ _) (omega (arith, w.next, n.token.next, (level.value e).moves))
+    says (SpellsKind.fixed w n t e is) = nothing (ap kind_starts is ∙ let_is _ _ _) (omega (arith, w.next, n.token.next, (level.maybe_typing t).moves, (level.value e).moves))
+    says (SpellsKind.constant c is) = nothing (ap kind_starts is ∙ constant_is _) (omega (arith, c.word.next, c.name.token.next, (level.maybe_typing c.typing).moves, (level.value c.value).moves))
+    says (SpellsKind.assign to e is) = nothing (ap kind_starts is ∙ assign_is _ _) (omega (arith, (level.target to).moves, e.sign.next, (level.expression e.expr).moves))
+    says (SpellsKind.call n given taken is) = nothing (ap kind_starts is ∙ call_is _ _ _) (omega (arith, n.token.next, (level.inputs given).moves, (level.outputs taken).moves))
+    says (SpellsKind.await w e is) = nothing (ap kind_starts is ∙ await_is _) (omega (arith, w.next, (level.expression e).moves))
+    says (SpellsKind.run w to n given taken is) = nothing (ap kind_starts is ∙ run_is _ _ _ _) (omega (arith, w.next, (level.receiver to).moves, n.token.next, (level.inputs given).moves, (level.outputs taken).moves))
     says (SpellsKind.cobegin w branches ends is) = same (ap kind_starts is ∙ cobegin_is _) (earlier (omega (arith, w.next)) (later (omega (arith, ends.next)) (each_branch branches).rising))
     says (SpellsKind.guarded w e guard body ends is) = same (ap kind_starts is ∙ when_is _ _ _)
-        (earlier (omega (arith, w.next, moves.expression e, guard.token.next)) (later (omega (arith, ends.next)) (block body).rising))
+        (earlier (omega (arith, w.next, (level.expression e).moves, guard.token.next)) (later (omega (arith, ends.next)) (block body).rising))
     says (SpellsKind.repeat w body ends is) = same (ap kind_starts is ∙ repeat_is _) (earlier (omega (arith, w.next)) (later (omega (arith, ends.next)) (block body).rising))
     says (SpellsKind.until w body u e ends is) = let b = begins e in
         same (ap kind_starts is ∙ until_is _ _) (earlier (omega (arith, w.next)) (join (block body).rising
@@ -153,7 +153,7 @@ module _ {text : List ℕ} {tokens : List Token} where
         (earlier (omega (arith, b.within, r.next)) (later (omega (arith, ends.next)) (block body).rising)))
     says (SpellsKind.branching arms other ends is) = same (ap kind_starts is ∙ if_is _ _) (later (omega (arith, ends.next)) (join (each_arm arms).rising (otherwise other).rising))
     says (SpellsKind.returns w none is) = nothing (ap kind_starts is ∙ return_is _) (omega (arith, w.next))
-    says (SpellsKind.returns_value w on e is) = nothing (ap kind_starts is ∙ return_is _) (omega (arith, w.next, moves.expression e))
+    says (SpellsKind.returns_value w on e is) = nothing (ap kind_starts is ∙ return_is _) (omega (arith, w.next, (level.expression e).moves))
 
     block : {body : List RawStmt} {from to : ℕ} → SpellsBlock text tokens body from to → Rise starts_of tokens body from to
     block (SpellsBlock.no_stmts none is) = none_rise starts_of none (omega (arith, is))
@@ -161,7 +161,7 @@ module _ {text : List ℕ} {tokens : List Token} where
 
     -- an arm begins with a keyword
     arm : {head : ℕ} {one : RawArm} {from to : ℕ} → SpellsArm text tokens head one from to → Rising tokens (one_arm_starts one) (from + 1) to
-    arm (SpellsArm.headed w e t body is) = same (ap one_arm_starts is ∙ arm_is _ _) (earlier (omega (arith, w.next, moves.expression e, t.next)) (block body).rising)
+    arm (SpellsArm.headed w e t body is) = same (ap one_arm_starts is ∙ arm_is _ _) (earlier (omega (arith, w.next, (level.expression e).moves, t.next)) (block body).rising)
 
     each_arm : {arms : List RawArm} {from to : ℕ} → SpellsArms text tokens arms from to → Rise one_arm_starts tokens arms (from + 1) to
     each_arm (SpellsArms.first_arm one is) = one_rises one_arm_starts _ (arm one) is
@@ -172,7 +172,7 @@ module _ {text : List ℕ} {tokens : List Token} where
     otherwise (SpellsElse.with_else w body) = record { rising = earlier (omega (arith, w.next)) (block body).rising }
 
     branch : {one : RawBranch} {from to : ℕ} → SpellsBranch text tokens one from to → Rising tokens (one_branch_starts one) from to
-    branch (SpellsBranch.branched may body is) = same (ap one_branch_starts is ∙ branch_is _ _) (earlier (moves.weakly may) (block body).rising)
+    branch (SpellsBranch.branched may body is) = same (ap one_branch_starts is ∙ branch_is _ _) (earlier (level.weakly may).moves (block body).rising)
 
     each_branch : {branches : List RawBranch} {from to : ℕ} → SpellsBranches text tokens branches from to → Rise one_branch_starts tokens branches from to
     each_branch (SpellsBranches.first_branch one is) = one_rises one_branch_starts _ (branch one) is
@@ -181,12 +181,12 @@ module _ {text : List ℕ} {tokens : List Token} where
   -- ---- items
 
   unit : {one : RawUnit} {from to : ℕ} → SpellsUnit text tokens one from to → Rising tokens (joined (map starts_of one.body)) from to
-  unit h = earlier (omega (arith, moves.mark h.mark, h.kind.token.next, h.name.token.next, moves.params h.inputs, moves.output_params h.outputs, moves.result h.result))
+  unit h = earlier (omega (arith, (level.mark h.mark).moves, h.kind.token.next, h.name.token.next, (level.params h.inputs).moves, (level.output_params h.outputs).moves, (level.result h.result).moves))
       (later (omega (arith, h.end.next)) (block h.body).rising)
 
   item : {one : RawItem} {from to : ℕ} → SpellsItem text tokens one from to → Rising tokens (item_starts one) from to
-  item (SpellsItem.structure def is) = nothing (ap item_starts is) (omega (arith, moves.structure def))
-  item (SpellsItem.constant c is) = nothing (ap item_starts is) (omega (arith, moves.constant c))
+  item (SpellsItem.structure def is) = nothing (ap item_starts is) (level.structure def).moves
+  item (SpellsItem.constant c is) = nothing (ap item_starts is) (level.constant c).moves
   item (SpellsItem.unit u is) = same (ap item_starts is) (unit u)
 
   items : {all : List RawItem} {from to : ℕ} → SpellsItems text tokens all from to → Rise item_starts tokens all from to

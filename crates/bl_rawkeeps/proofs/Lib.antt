@@ -1,6 +1,9 @@
 pub mod Tests
+pub mod Members
 pub mod Names
 pub mod Stands
-pub mod Moves
+pub mod Counts
+pub mod Level
 pub mod Rising
 pub mod InOrder
+pub mod Runs

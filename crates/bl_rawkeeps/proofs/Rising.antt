@@ -10,6 +10,7 @@ use Rattle.bl_lex.proofs.RuleLaws.{tokens_inside, tokens_in_order}
 use Rattle.bl_raw.specs.Starts.{ascends}
 use Rattle.bl_parse.specs.At.{start_at}
 use Rattle.bl_rawkeeps.proofs.Tests.{both}
+use Rattle.bl_rawkeeps.proofs.Members.{mapped_more}
 
 -- numbers at which tokens begin that stand one after another, from a position on and before another
 pub data Rising (tokens : List Token) : List ℕ → ℕ → ℕ → Type 0 where
@@ -37,10 +38,6 @@ join (Rising.next front is rest) h = Rising.next front is (join rest h)
 joined_more : (xss : List (List ℕ)) (xs : List ℕ) → joined (xss ++ xs ∷ []) ≡ joined xss ++ xs
 joined_more [] xs = append-nil xs
 joined_more (ys ∷ xss) xs = ap (λ zs. ys ++ zs) (joined_more xss xs) ∙ sym (append_assoc ys (joined xss) xs)
-
-mapped_more : {A : Type 0} (f : A → List ℕ) (xs : List A) (x : A) → map f (xs ++ x ∷ []) ≡ map f xs ++ f x ∷ []
-mapped_more f [] x = refl
-mapped_more f (y ∷ ys) x = ap (λ zs. f y ∷ zs) (mapped_more f ys x)
 
 -- what the members have, one after another
 pub record Rise {A : Type 0} (f : A → List ℕ) (tokens : List Token) (xs : List A) (from to : ℕ) : Type 0 where
