@@ -6,7 +6,7 @@ use Rattle.bl_tree.specs.declared.token.TokenKind.{TokenKind}
 use Rattle.bl_tree.specs.declared.token.TokenKind.TheVariants.{Name, Number, Word, Sign}
 use Rattle.bl_lex.specs.declared.sign.TheConstants.{ASSIGN, AT}
 use Rattle.bl_lex.specs.declared.word.TheConstants.{END}
-use Rattle.bl_syntax.specs.Depth.{is_one_of, opening_words, counted_words, counted_signs, blocks_after, is_counted, is_last, is_inner_word, begins_run, run_with, open_after, run_after, last_kind}
+use Rattle.bl_syntax.specs.Depth.{is_one_of, opening_words, blocks_after, is_counted, is_last, is_inner_word, begins_run, run_with, open_after, run_after, last_kind}
 use Rattle.bl_syntax.specs.Rules.{PassesDepth}
 use Rattle.bl_syntax.proofs.Depths.{open_next, last_next, run_next}
 use Rattle.bl_parse.specs.At.{Takes}

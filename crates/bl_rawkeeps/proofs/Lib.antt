@@ -7,3 +7,5 @@ pub mod Level
 pub mod Rising
 pub mod InOrder
 pub mod Runs
+pub mod Nested
+pub mod Keeps

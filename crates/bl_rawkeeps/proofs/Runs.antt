@@ -1,5 +1,5 @@
 -- An expression is no deeper than the run that it ends in is long.
-use Rattle.std.proofs.Common.{◌≡◌, ℕ, ◌+◌, ◌≤◌, Bool, true, false, List, [], ◌∷◌, map, max, refl, ap, sym, ◌∙◌, arith}
+use Rattle.std.proofs.Common.{◌≡◌, ℕ, ◌+◌, ◌≤◌, Bool, true, false, List, map, max, refl, ap, sym, ◌∙◌, arith}
 use Rattle.bl_tree.specs.declared.place.Place.{Place}
 use Rattle.bl_tree.specs.declared.scalar.Op.{Op}
 use Rattle.bl_tree.specs.declared.scalar.Scalar.{Scalar as ScalarType}
@@ -19,7 +19,7 @@ use Rattle.bl_raw.specs.declared.name.Name.{Name}
 use Rattle.bl_raw.specs.Depths.{kind_depth, part_depth, expr_layer_depth, target_layer_depth, expr_depth, target_depth}
 use Rattle.bl_parse.specs.Expressions.{expr, target, IsTruth, SpellsNone, SpellsExpr, SpellsTarget, SpellsPart, SpellsParts, SpellsInputs, SpellsExprs}
 use Rattle.bl_parse.specs.Operators.{IsOperator, IsPrefix, IsScalar}
-use Rattle.bl_rawkeeps.proofs.Counts.{run_at, is_inner, counts, keeps, Base, from_nothing, behind}
+use Rattle.bl_rawkeeps.proofs.Counts.{run_at, is_inner, counts, keeps, Base, behind}
 use Rattle.bl_rawkeeps.proofs.Members.{greatest_of_more}
 
 -- how deep what an expression says is nested
