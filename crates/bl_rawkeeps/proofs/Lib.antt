@@ -1,0 +1,11 @@
+pub mod Tests
+pub mod Members
+pub mod Names
+pub mod Stands
+pub mod Counts
+pub mod Level
+pub mod Rising
+pub mod InOrder
+pub mod Runs
+pub mod Nested
+pub mod Keeps
