@@ -1,6 +1,6 @@
 use Rattle.std.proofs.Common.{sym, ◌∙◌}
-use Rattle.bl_cparse.proofs.PieceLemmas.{left_cut}
-use Rattle.bl_cparse.proofs.piece.next_piece.Goals as goal
+use Rattle.bl_csyntax.proofs.PieceLemmas.{left_cut}
+use Rattle.bl_csyntax.proofs.piece.next_piece.Goals as goal
 
 pub returns-then-start-text-clause-left : goal.returns-then-start-text-clause-left
 returns-then-start-text-clause-left c =

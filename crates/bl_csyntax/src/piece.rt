@@ -2,7 +2,7 @@
 
 ghost use Rattle.std.specs.Prelude.{◌≡◌, ◌+◌, ◌<◌, ◌≤◌, ◌∷◌, ◌&&◌, true, false, nat_lt, length, drop, slice_index, slice_range};
 ghost use Rattle.bl_ctext.specs.Token.{is_blank as blank, is_word_byte as word_byte, is_double_sign as double_sign};
-ghost use Rattle.bl_cparse.specs.Pieces.{pieces, left_of};
+ghost use Rattle.bl_csyntax.specs.Pieces.{pieces, left_of};
 
 /// Where a piece stands: both numbers are the text's length where none is left.
 #[derive(Clone, Copy, PartialEq, Eq, Debug)]

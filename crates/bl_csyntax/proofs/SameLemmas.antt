@@ -5,7 +5,7 @@ use Rattle.std.specs.Cmp.Lexicographic.{pointwise}
 use Rattle.bl_ctext.specs.Token.{Token}
 use Rattle.bl_ctext.specs.Spellable.{has_any}
 use Rattle.bl_ctext.proofs.Bytes.{and-fst, and-snd}
-use Rattle.bl_cparse.specs.Pieces.{first_of, is_same}
+use Rattle.bl_csyntax.specs.Pieces.{first_of, is_same}
 
 same_number : (x y : ℕ) → nat_eq x y ≡ true → x ≡ y
 same_number x y h = grind (arith, nat_tests)

@@ -1,6 +1,6 @@
 use Rattle.std.proofs.Common.{sym, ◌∙◌, arith}
-use Rattle.bl_cparse.proofs.PieceLemmas.{pair_is, pair_at, single_at}
-use Rattle.bl_cparse.proofs.piece.piece_end.Goals as goal
+use Rattle.bl_csyntax.proofs.PieceLemmas.{pair_is, pair_at, single_at}
+use Rattle.bl_csyntax.proofs.piece.piece_end.Goals as goal
 
 pub returns-then-is_pair-clause-cut : goal.returns-then-is_pair-clause-cut
 returns-then-is_pair-clause-cut c =
