@@ -1,5 +1,5 @@
 -- What bytes are cut into, by how they begin.
-use Rattle.std.proofs.Common.{◌≡◌, ℕ, suc, ◌+◌, ◌-◌, ◌<◌, ◌≤◌, Bool, true, false, ◌&&◌, nat_lt, cond, List, [], ◌∷◌, ◌++◌, length, map, drop, get_or, refl, sym, ap, ◌∙◌, subst, ◌⊎◌, ⊎_elim, inl, inr, arith}
+use Rattle.std.proofs.Common.{◌≡◌, ℕ, suc, ◌+◌, ◌-◌, ◌<◌, ◌≤◌, Bool, true, false, ◌&&◌, nat_lt, List, [], ◌∷◌, ◌++◌, length, map, drop, get_or, refl, sym, ap, ◌∙◌, ◌⊎◌, ⊎_elim, arith}
 use Rattle.std.specs.Prelude.{slice_range}
 use Rattle.std.proofs.lemmas.Bool.Decides.{nat_tests}
 use Rattle.std.proofs.str.Laws.{order}
@@ -7,10 +7,9 @@ use Rattle.std.proofs.lemmas.List.{drop_all, length-drop}
 use Rattle.std.proofs.lemmas.List.Folds.{drop_split}
 use Rattle.bl_csyntax.proofs.Ranges.{drop_more, range_cons, range_snoc, range_none}
 use Rattle.bl_tree.specs.Reduce.{all_of}
-use Rattle.bl_ctext.specs.Token.{Token, is_blank, is_word_byte, is_double_sign, is_word}
-use Rattle.bl_ctext.specs.Cut.{put_before}
+use Rattle.bl_ctext.specs.Token.{is_blank, is_word_byte, is_double_sign, is_word}
 use Rattle.bl_ctext.proofs.Bytes.{word_byte-not_blank, joined-not_blank, and-fst, and-snd, both, or-snd}
-use Rattle.bl_csyntax.specs.Pieces.{cut_off, pieces, put, left_of, first_of}
+use Rattle.bl_csyntax.specs.Pieces.{cut_off, pieces, left_of, first_of}
 
 pub blank_first : (b : ℕ) (bs : List ℕ) → is_blank b ≡ true → pieces (b ∷ bs) ≡ pieces bs
 blank_first b [] h = rw h refl

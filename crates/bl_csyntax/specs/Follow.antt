@@ -4,7 +4,7 @@ use Rattle.std.specs.Prelude.{nat_lt, nat_le, codes}
 use Rattle.bl_grammar.specs.declared.symbol.Symbol.TheVariants.{Terminal, Nonterminal}
 use Rattle.bl_csyntax.specs.declared.grammar.Group.TheVariants.{ScalarTypes, PlainLiterals, PreludeFunctions}
 use Rattle.bl_csyntax.specs.declared.grammar.Part.{Part}
-use Rattle.bl_csyntax.specs.declared.grammar.Part.TheVariants.{File, Structs, Struct, StructName, Members, Member, TypeName, Length, Funcs, Func, PlainFunc, FuncRest, FuncName, Params, ParamRest, Param, Star, Locals, Local, Stmts, Stmt, Else, Turns, AfterName, AssignTail, Value, AfterOpen, Result, Expr, Simple, Constant, Inside, Negative, NameUse, Steps, Index, Args, ArgRest, Arg, Place}
+use Rattle.bl_csyntax.specs.declared.grammar.Part.TheVariants.{File, Structs, Struct, Members, Member, Length, Funcs, Func, PlainFunc, FuncRest, Params, ParamRest, Param, Star, Locals, Stmts, Stmt, Else, Turns, AfterName, AssignTail, Value, AfterOpen, Expr, Simple, Inside, NameUse, Steps, Index, Args, ArgRest, Arg, Place}
 use Rattle.bl_csyntax.specs.Classes.{Class}
 use Rattle.bl_csyntax.specs.Classes.Class.{exactly, one_of, a_name}
 use Rattle.bl_csyntax.specs.Grammar.{Shape, Production, plain, productions}

@@ -1,7 +1,6 @@
 -- The grammar of C texts over their pieces (docs/C_SUBSET.md, "Grammar"), with common beginnings joined. Each part knows how
 -- many brackets may still be opened in it.
-use Rattle.std.specs.Prelude.{◌≡◌, ℕ, ◌-◌, ◌≤◌, Bool, true, List, [], ◌∷◌, ◌++◌, map, Option, codes}
-use Rattle.bl_tree.specs.declared.scalar.Width.{Width}
+use Rattle.std.specs.Prelude.{◌≡◌, ℕ, ◌-◌, ◌≤◌, true, List, [], ◌∷◌, map, Option, codes}
 use Rattle.bl_tree.specs.declared.scalar.Width.TheVariants.{W8, W16, W32, W64}
 use Rattle.bl_ctext.specs.Token.{Token}
 use Rattle.bl_ctext.specs.Names.{is_turn_name}
@@ -151,16 +150,16 @@ productions Place = plain (name ∷ the Steps ∷ []) ∷ needing 1 (word (codes
 
 -- the class, where this is the name of the loop's turns
 abbrev pub named : Token → Class → Class
-named name turn = exactly name
-named name (exactly bytes) = exactly bytes
-named name (one_of group) = one_of group
-named name a_name = a_name
-named name (number of) = number of
+named own turn = exactly own
+named own (exactly bytes) = exactly bytes
+named own (one_of group) = one_of group
+named own a_name = a_name
+named own (number of) = number of
 
 -- what stands in a production, where so many brackets may still be opened around it and this is the name of the loop's turns
 abbrev pub placed : ℕ → Token → Shape → Wanted
-placed room name (Terminal class) = Terminal (named name class)
-placed room name (Nonterminal within) = Nonterminal (record { part = within.part; room = room - within.around })
+placed room own (Terminal class) = Terminal (named own class)
+placed room own (Nonterminal within) = Nonterminal (record { part = within.part; room = room - within.around })
 
 -- it is one of the productions
 pub data IsAmong (production : Production) : List Production → Type 0 where

@@ -1,5 +1,5 @@
 -- Where a text stops beginning one of the subset.
-use Rattle.std.specs.Prelude.{◌≡◌, ℕ, ◌<◌, ◌⊎◌, Bool, false, List, [], ◌∷◌, ◌++◌, length, drop, slice_index}
+use Rattle.std.specs.Prelude.{◌≡◌, ℕ, ◌<◌, ◌⊎◌, false, List, [], ◌∷◌, ◌++◌, length, drop, slice_index}
 use Rattle.bl_ctext.specs.Token.{Token, is_blank}
 use Rattle.bl_csyntax.specs.Pieces.{pieces}
 use Rattle.bl_csyntax.specs.Grammar.{SpellText}

@@ -1,5 +1,5 @@
 -- What the stack of the recogniser says of the pieces that were read.
-use Rattle.std.specs.Prelude.{ℕ, Bool, true, false, ◌&&◌, List, [], ◌∷◌, Option, Some, None, codes}
+use Rattle.std.specs.Prelude.{ℕ, Bool, true, false, List, codes}
 use Rattle.bl_ctext.specs.Token.{Token}
 use Rattle.bl_grammar.specs.declared.symbol.Symbol.{Symbol}
 use Rattle.bl_grammar.specs.declared.symbol.Symbol.TheVariants.{Terminal, Nonterminal}

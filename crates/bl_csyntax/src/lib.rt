@@ -2,7 +2,17 @@
 //! text fails").
 #![tactic(auto)]
 
+mod choice;
+mod classes;
+mod expressions;
 pub mod grammar;
+mod items;
+pub mod laws;
 pub mod piece;
+mod rules;
+mod stack;
+mod statements;
 #[tactic(auto, unfolding(crate::specs::Pieces::is_same, bl_ctext::specs::Names::is_among, bl_ctext::specs::Names::is_name, bl_ctext::specs::Names::is_struct_name, bl_ctext::specs::Names::is_callee, bl_ctext::specs::Names::is_function_name, bl_ctext::specs::Names::is_turn_name))]
 pub mod words;
+
+pub use rules::check;

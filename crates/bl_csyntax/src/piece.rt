@@ -18,6 +18,8 @@ pub fn next_piece(text: &[u8], at: usize) -> Piece
     ensures inside { result.end ≤ length text.now }
     ensures at_end { result.start ≡ result.end → result.end ≡ length text.now }
     ensures left { left_of text.now result.start result.end ≡ pieces (drop at text.now) }
+    ensures starts { pieces (drop result.start text.now) ≡ pieces (drop at text.now) }
+    ensures no_blank { result.start < length text.now → blank (slice_index text.now result.start) ≡ false }
 {
     let start = blanks_end(text, at);
     let end = if start < text.len() {

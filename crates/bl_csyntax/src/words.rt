@@ -86,7 +86,7 @@ static C_KEYWORDS: [&str; 37] = [
 static OTHER_WORDS: [&str; 1] = ["abort"];
 
 /// The functions of the prelude.
-static PRELUDE_FUNCTIONS: [&str; 120] = [
+pub static PRELUDE_FUNCTIONS: [&str; 120] = [
     "bl_turn",
     "bl_ix_s",
     "bl_ix_u",
@@ -209,13 +209,33 @@ static PRELUDE_FUNCTIONS: [&str; 120] = [
     "bl_shr_b64",
 ];
 
+pub static SCALAR_TYPES: [&str; 9] = [
+    "bool", "int8_t", "int16_t", "int32_t", "int64_t", "uint8_t", "uint16_t", "uint32_t",
+    "uint64_t",
+];
+
+/// The literals that are one word.
+pub static PLAIN_LITERALS: [&str; 6] = [
+    "true",
+    "false",
+    "INT8_MIN",
+    "INT16_MIN",
+    "INT32_MIN",
+    "INT64_MIN",
+];
+
+pub static OPERATORS: [&str; 8] = ["==", "!=", "<", "<=", ">", ">=", "&&", "||"];
+
+pub static INDEX_FUNCTIONS: [&str; 2] = ["bl_ix_s", "bl_ix_u"];
+
 /// What may stand behind `struct` beside names.
-static STRUCT_WORDS: [&str; 3] = ["bl_state", "bl_in", "bl_out"];
+pub static STRUCT_WORDS: [&str; 3] = ["bl_state", "bl_in", "bl_out"];
 
 /// What may name a function beside names.
-static FUNCTION_WORDS: [&str; 2] = ["bl_init", "bl_tick"];
+pub static FUNCTION_WORDS: [&str; 2] = ["bl_init", "bl_tick"];
 
-fn is_among(word: &[u8], words: &[&str]) -> bool
+/// Whether the word is one of these.
+pub fn is_among(word: &[u8], words: &[&str]) -> bool
     ensures { result ≡ among word.now (map (λ known. known.now) words.now) }
 {
     for known in words {
@@ -244,7 +264,8 @@ fn are_word_bytes(bytes: &[u8]) -> bool
     true
 }
 
-fn are_digits(bytes: &[u8]) -> bool
+/// Whether all of the bytes are digits.
+pub fn are_digits(bytes: &[u8]) -> bool
     ensures { result ≡ all_of (map is_ascii_digit bytes.now) }
 {
     for byte in bytes {

@@ -1,4 +1,4 @@
-use Rattle.std.proofs.Common.{sym, ◌∙◌, arith}
+use Rattle.std.proofs.Common.{sym, ◌∙◌}
 use Rattle.bl_csyntax.proofs.PieceLemmas.{pair_is, pair_at, single_at}
 use Rattle.bl_csyntax.proofs.piece.piece_end.Goals as goal
 
