@@ -2,10 +2,7 @@ pub mod FileLemmas
 pub mod ListLemmas
 pub mod NestLemmas
 pub mod PartialLemmas
-pub mod PieceLemmas
 pub mod PlaceLemmas
-pub mod Ranges
-pub mod SameLemmas
 pub mod Spaced
 pub mod StmtLemmas
 pub mod TokenLemmas

@@ -5,7 +5,7 @@ use Rattle.bl_tree.specs.Reduce.{all_of}
 use Rattle.bl_ctext.specs.Token.{Token, is_blank, is_word_byte, is_sign_byte, is_double_sign, is_word, is_sign, is_token, IsLongest, SpacedC}
 use Rattle.bl_ctext.specs.Cut.{put_before, are_tokens}
 use Rattle.bl_ctext.proofs.Bytes.{and-fst, and-snd, both, either, or-fst, or-snd, joined-not_blank, word_byte-not_blank}
-use Rattle.bl_cparse.specs.Pieces.{cut_off, pieces}
+use Rattle.bl_csyntax.specs.Pieces.{cut_off, pieces}
 
 -- whether the bytes may go on a piece: a word by a byte of words, a single byte by the second of a sign
 abbrev goes : ℕ → List ℕ → List ℕ → Bool

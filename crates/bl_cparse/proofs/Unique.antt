@@ -5,8 +5,8 @@ use Rattle.std.proofs.lemmas.List.{length-append}
 use Rattle.bl_tree.specs.Reduce.{all_of}
 use Rattle.bl_ctext.specs.Token.{Token, is_blank, is_word_byte, is_sign_byte, is_double_sign, is_word, is_sign, is_token, IsLongest, SpacedC}
 use Rattle.bl_ctext.proofs.Bytes.{and-fst, and-snd, either, or-fst, or-snd, sign_byte-not_blank}
-use Rattle.bl_cparse.specs.Pieces.{pieces}
-use Rattle.bl_cparse.proofs.PieceLemmas.{blank_first, begins_word, word_more, word_pieces, begins_pair, single_piece, pair_pieces}
+use Rattle.bl_csyntax.specs.Pieces.{pieces}
+use Rattle.bl_csyntax.proofs.PieceLemmas.{blank_first, begins_word, word_more, word_pieces, begins_pair, single_piece, pair_pieces}
 
 blanks_first : (blanks rest : List ℕ) → all_of (map is_blank blanks) ≡ true → pieces (blanks ++ rest) ≡ pieces rest
 blanks_first [] rest h = refl

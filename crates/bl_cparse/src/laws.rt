@@ -2,7 +2,7 @@
 
 ghost use Rattle.std.specs.Prelude.{◌≡◌, ℕ, List};
 ghost use Rattle.bl_ctext.specs.Token.{Token, SpacedC};
-ghost use Rattle.bl_cparse.specs.Pieces.{pieces};
+ghost use Rattle.bl_csyntax.specs.Pieces.{pieces};
 
 /// Bytes that are spaced into tokens are cut into just these, so they are spaced in one way.
 pub fn tokens_are_pieces()
