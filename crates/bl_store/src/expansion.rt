@@ -77,17 +77,10 @@ fn origin_under(
             place: run.place,
             outputs: copies_of(alloc, &run.outputs)?,
         })),
-        Some(
-            Origin {
-                caller,
-                place,
-                outputs,
-            },
-        ) => Ok(Some(Origin {
-            caller: n + caller,
-            place,
-            outputs,
-        })),
+        Some(mut origin) => {
+            origin.caller += n;
+            Ok(Some(origin))
+        }
     }
 }
 
