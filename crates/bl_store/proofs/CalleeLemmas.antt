@@ -52,7 +52,3 @@ pub begun_more : (old new : List ((ℕ × (ℕ × ℕ)) × ℕ)) (o : Origin) (k
 begun_more old new o k absent caller place is =
     kept_more (begun old caller place) (begun new caller place) (begins_at caller place (Some o)) k (λ b. ap is_some (begun_same old caller place o b) ∙ absent)
     (is ∙ ap (λ b. cond b (Some k) (begun old caller place)) (same_key caller place o))
-
-pub or_none : (found : Option ℕ) → found ≡ option_or found None
-or_none None = refl
-or_none (Some k) = refl

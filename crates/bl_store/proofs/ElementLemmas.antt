@@ -1,6 +1,6 @@
 -- Elements one after another.
-use Rattle.std.proofs.Common.{◌≡◌, ℕ, zero, suc, ◌+◌, ◌<◌, List, [], ◌∷◌, ◌++◌, length, map, take, drop, get_or, Some, refl, sym, ap, ◌∙◌, arith, add-one}
-use Rattle.std.specs.Prelude.{slice_get}
+use Rattle.std.proofs.Common.{◌≡◌, ℕ, zero, suc, ◌+◌, ◌<◌, List, [], ◌∷◌, ◌++◌, length, map, take, drop, get_or, Some, refl, sym, ap, ◌∙◌, subst, arith, add-one, append_assoc}
+use Rattle.std.specs.Prelude.{All, slice_get}
 use Rattle.std.proofs.Math.Seq.{drop-cons}
 
 pub next_of : {A : Type 0} (xs : List A) (k : ℕ) (x : A) → k < length xs → x ≡ get_or xs k x → drop k xs ≡ x ∷ drop (k + 1) xs
@@ -19,3 +19,12 @@ pub one_more : {A B : Type 0} (f : A → B) (k : ℕ) (xs : List A) (x : A) (mad
     → more ≡ map f (take (k + 1) xs)
 one_more f k xs x made more is here is_more =
     is_more ∙ ap (λ made. made ++ f x ∷ []) is ∙ sym (ap (map f) (take_next k xs x here) ∙ map-append f (take k xs) (x ∷ []))
+
+-- what holds of all elements holds of all but the first
+pub all_others : {A : Type 0} (P : A → Type 0) (xs rest : List A) (x : A) → xs ≡ x ∷ rest → All P xs → All P rest
+all_others P xs rest x is all k d below = subst (All P) is all (suc k) d (omega arith)
+
+-- one more element of a list, mapped
+pub mapped_more : {A B : Type 0} (f : A → B) (first made more : List B) (xs : List A) (x : A) (y : B) → made ≡ first ++ map f xs → y ≡ f x → more ≡ made ++ y ∷ [] → more ≡ first ++ map f (xs ++ x ∷ [])
+mapped_more f first made more xs x y is given is_more =
+    is_more ∙ ap (λ made. made ++ y ∷ []) is ∙ append_assoc first (map f xs) (y ∷ []) ∙ ap (λ y. first ++ (map f xs ++ y ∷ [])) given ∙ ap (λ ys. first ++ ys) (sym (map-append f xs (x ∷ [])))

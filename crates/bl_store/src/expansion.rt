@@ -66,10 +66,10 @@ fn origin_under(
     alloc: Global,
     n: u32,
     run: &Run,
-    origin: &Option<Origin>,
+    origin: Option<Origin>,
 ) -> Result<Option<Origin>, NoMemory>
-    requires { Shifts n origin.now }
-    ensures { IfOk result (λ made. made ≡ origin_under n run.now origin.now) }
+    requires { Shifts n origin }
+    ensures { IfOk result (λ made. made ≡ origin_under n run.now origin) }
 {
     match origin {
         None => Ok(Some(Origin {
@@ -77,24 +77,28 @@ fn origin_under(
             place: run.place,
             outputs: copies_of(alloc, &run.outputs)?,
         })),
-        Some(origin) => Ok(Some(Origin {
-            caller: n + origin.caller,
-            place: origin.place,
-            outputs: copies_of(alloc, &origin.outputs)?,
-        })),
+        Some(mut origin) => {
+            origin.caller += n;
+            Ok(Some(origin))
+        }
     }
 }
 
 /// An instance below the `run` statement, whose own instances are numbered from n on.
-fn called_from(alloc: Global, n: u32, run: &Run, instance: &Instance) -> Result<Instance, NoMemory>
-    requires shift { Shifts n instance.now.origin }
-    requires depth { instance.now.depth + 1 < 2 ^ 32 }
-    ensures { IfOk result (λ made. made ≡ called_from n run.now instance.now) }
+fn called_from(alloc: Global, n: u32, run: &Run, instance: Instance) -> Result<Instance, NoMemory>
+    requires shift { Shifts n instance.origin }
+    requires depth { instance.depth + 1 < 2 ^ 32 }
+    ensures { IfOk result (λ made. made ≡ called_from n run.now instance) }
 {
+    let Instance {
+        unit,
+        depth,
+        origin,
+    } = instance;
     Ok(Instance {
-        unit: instance.unit,
-        depth: instance.depth + 1,
-        origin: origin_under(alloc, n, run, &instance.origin)?,
+        unit,
+        depth: depth + 1,
+        origin: origin_under(alloc, n, run, origin)?,
     })
 }
 
@@ -102,14 +106,14 @@ fn append_called(
     alloc: Global,
     n: u32,
     run: &Run,
-    alone: &[Instance],
+    alone: List<Instance>,
     into: &mut List<Instance>,
 ) -> Result<(), NoMemory>
-    requires shift { All (λ x. Shifts n x.origin) alone.now }
-    requires depth { All (λ x. x.depth + 1 < 2 ^ 32) alone.now }
-    ensures { OnOk result (into.new ≡ into.old ++ map (called_from n run.now) alone.now) }
+    requires shift { All (λ x. Shifts n x.origin) alone }
+    requires depth { All (λ x. x.depth + 1 < 2 ^ 32) alone }
+    ensures { OnOk result (into.new ≡ into.old ++ map (called_from n run.now) alone) }
 {
-    for instance in alone {
+    for instance in alone.into_vec() {
         into.push(called_from(alloc, n, run, instance)?)?;
     }
     Ok(())
@@ -158,7 +162,7 @@ fn from_unit(
     for run in runs.iter() {
         let alone = expanded(alloc, units, longest, run.unit)?;
         let n = all.len() as u32;
-        append_called(alloc, n, run, &alone, &mut all)?;
+        append_called(alloc, n, run, alone, &mut all)?;
     }
     Ok(all)
 }

@@ -23,8 +23,8 @@ from_unit-append_called-requires-clause-shift t c =
     run_room c.args.units.now c.args.longest c.loop-run.all c.deref-run-items.result.now (runs_of c.args.unit.now) _ c.loop-run.run-index c.run-item.result
     c.loop-run.invariant.below (c.deref-run-items.ensures ∙ c.in_ok-runs.ensures) c.requires.few c.loop-run-test.true c.run-item.is in
     let fits : c.len-n.result + length (expanded c.args.units.now c.args.longest c.run-item.result.unit) < 2 ^ 32 = omega (arith, c.len-n.ensures) in
-    shifts c.args.units.now c.args.longest c.run-item.result.unit c.len-n.result c.deref.result.now (c.deref.ensures ∙ c.in_ok-alone.ensures) fits
+    shifts c.args.units.now c.args.longest c.run-item.result.unit c.len-n.result c.in_ok-alone.alone c.in_ok-alone.ensures fits
 
 pub from_unit-append_called-requires-clause-depth : goal.from_unit-append_called-requires-clause-depth
 from_unit-append_called-requires-clause-depth t c =
-    deepens c.args.units.now c.args.longest c.run-item.result.unit c.deref.result.now (c.deref.ensures ∙ c.in_ok-alone.ensures) c.requires.short
+    deepens c.args.units.now c.args.longest c.run-item.result.unit c.in_ok-alone.alone c.in_ok-alone.ensures c.requires.short
