@@ -1,0 +1,111 @@
+//! The set `o = o + i`, as an expression and as an act, where the sum is in its type and where it isn't.
+
+use bl_eval::{Did, Got, Values, act, value};
+use bl_lex::lex;
+use bl_parse::parse;
+use bl_recognise::recognise;
+use bl_tree::tree::{Expr, Stmt, StmtKind};
+use bl_tree::{List, NoMemory, Program, Value};
+use std::alloc::Global;
+
+const ADDS: &str =
+    "@[EntryPoint] activity M (i: int32)(o: int32) repeat o = o + i await true end end";
+
+/// The program that a short text spells; none where a rule refuses it or memory ends.
+fn program_of(alloc: Global, text: &[u8]) -> Option<Program> {
+    if text.len() > 1_000 {
+        return None;
+    }
+    let Ok(tokens) = lex(alloc, text) else {
+        return None;
+    };
+    let Ok(raw) = parse(alloc, text, &tokens) else {
+        return None;
+    };
+    let Ok(program) = recognise(alloc, &raw) else {
+        return None;
+    };
+    Some(program)
+}
+
+/// The first statement in the loop that is a program's body.
+fn first_of(program: &Program) -> Option<&Stmt> {
+    let [unit] = program.units.as_slice() else {
+        return None;
+    };
+    let [around] = unit.body.as_slice() else {
+        return None;
+    };
+    let StmtKind::Repeat(body) = &around.what else {
+        return None;
+    };
+    body.as_slice().first()
+}
+
+/// What an assignment gives its target.
+fn given_by(set: &Stmt) -> Option<&Expr> {
+    let StmtKind::Assign(_, e) = &set.what else {
+        return None;
+    };
+    Some(e)
+}
+
+fn values(alloc: Global, input: i128, output: i128) -> Result<Values, NoMemory> {
+    let mut list = List::new(alloc);
+    list.push(Value::Number(input))?;
+    list.push(Value::Number(output))?;
+    Ok(Values { unit: 0, list })
+}
+
+fn number_of(got: Got) -> Option<i128> {
+    match got {
+        Got::Val(Value::Number(n)) => Some(n),
+        _ => None,
+    }
+}
+
+/// The value of the output.
+fn output_of(now: &Values) -> Option<i128> {
+    match now.list.as_slice() {
+        [_, Value::Number(n)] => Some(*n),
+        _ => None,
+    }
+}
+
+/// How a set ends with these values: what its expression gives, whether it is done, and what the output has then.
+fn tried(
+    alloc: Global,
+    input: i128,
+    output: i128,
+) -> Result<Option<(Option<i128>, bool, Option<i128>)>, NoMemory> {
+    let Some(program) = program_of(alloc, ADDS.as_bytes()) else {
+        return Ok(None);
+    };
+    let Some(set) = first_of(&program) else {
+        return Ok(None);
+    };
+    let Some(e) = given_by(set) else {
+        return Ok(None);
+    };
+    let before = values(alloc, input, output)?;
+    let mut now = values(alloc, input, output)?;
+    let got = number_of(value(alloc, &program, &now, &before, e)?);
+    let did = act(alloc, &program, &mut now, &before, set)?;
+    Ok(Some((got, did == Did::Done, output_of(&now))))
+}
+
+#[test]
+fn a_sum_in_its_type_is_set(rt: HostRuntime) -> Result<(), NoMemory> {
+    let alloc = rt.alloc();
+    let ended = tried(alloc, 5, 2)?;
+    assert!(rt; ended == Some((Some(7), true, Some(7))));
+    Ok(())
+}
+
+#[test]
+fn a_sum_outside_of_its_type_traps_and_changes_nothing(rt: HostRuntime) -> Result<(), NoMemory> {
+    let alloc = rt.alloc();
+    let ended = tried(alloc, 1, 2_147_483_647)?;
+    assert!(rt; ended == Some((None, false, Some(2_147_483_647))));
+    Ok(())
+}
