@@ -1,6 +1,7 @@
 //! The rules on names, and the program with positions in place of names.
 
 ghost use Rattle.std.specs.Prelude.{◌≡◌, IfErr, IfOk, OnOk};
+ghost use Rattle.bl_named.specs.Placed.{IsPlaced};
 ghost use Rattle.bl_names.specs.Cause.{IsCause};
 ghost use Rattle.bl_names.specs.Rules.{Passes};
 ghost use Rattle.bl_resolve.specs.Named.{named_program};
@@ -19,6 +20,7 @@ pub fn resolve(alloc: Global, raw: &Raw) -> Result<Named, Refusal>
     ensures passes { OnOk result (Passes raw.now.items) }
     ensures cause { IfErr result (IsCause raw.now.items) }
     ensures named { IfOk result (λ named. named ≡ named_program raw.now.items raw.now.bytes) }
+    ensures placed { IfOk result (λ named. IsPlaced named) }
 {
     check(alloc, raw)?;
     match name(alloc, raw) {
