@@ -3,7 +3,5 @@ pub mod Failures
 pub mod Judged
 pub mod Kinds
 pub mod Marks
-pub mod Named
-pub mod Naming
 pub mod Rules
 pub mod Scopes

@@ -4,15 +4,14 @@
 ghost use Rattle.std.specs.Prelude.{◌≡◌, OnOk, ◌++◌, ◌∷◌, [], map};
 ghost use Rattle.bl_tree.specs.Reduce.{joined};
 ghost use Rattle.bl_names.specs.Judged.{judged_by};
-ghost use Rattle.bl_names.specs.Marks.{field_mark, field_type_marks, in_scope, inside_unit, item_marks, kind_of_unit, marks_of, param_marks, struct_marks, unit_marks};
+ghost use Rattle.bl_names.specs.Marks.{field_mark, field_type_marks, in_scope, inside_unit, item_marks, marks_of, param_marks, struct_marks, unit_marks};
 
 use crate::expr::{optional_ty, ty};
 use crate::judge::Judge;
-use crate::kind::Kind;
+use crate::kind::{Kind, of_unit};
 use crate::stmt::{block, constant};
 use bl_raw::item::{RawField, RawItem, RawParam, RawStruct, RawUnit};
 use bl_tree::NoMemory;
-use bl_tree::tree::UnitKind;
 use std::alloc::Global;
 
 pub fn items<'a>(alloc: Global, all: &'a [RawItem], judge: &mut Judge<'a>) -> Result<(), NoMemory>
@@ -75,16 +74,7 @@ fn unit<'a>(alloc: Global, def: &'a RawUnit, judge: &mut Judge<'a>) -> Result<()
     judge.open(alloc)?;
     inside(alloc, def, judge)?;
     judge.close(alloc);
-    judge.declare(&def.name, kind_of_unit(def.kind))
-}
-
-fn kind_of_unit(kind: UnitKind) -> Kind
-    ensures { result ≡ kind_of_unit kind }
-{
-    match kind {
-        UnitKind::Function => Kind::Function,
-        UnitKind::Activity => Kind::Activity,
-    }
+    judge.declare(&def.name, of_unit(def.kind))
 }
 
 /// The parameters of a unit and the statements directly in its body.

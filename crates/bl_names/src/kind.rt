@@ -2,6 +2,9 @@
 
 ghost use Rattle.std.specs.Prelude.{◌≡◌};
 ghost use Rattle.bl_names.specs.Kinds.{suits};
+ghost use Rattle.bl_names.specs.Marks.{kind_of_unit};
+
+use bl_tree::tree::UnitKind;
 
 /// What a declaration declares.
 #[derive(Clone, Copy, PartialEq, Eq, Debug)]
@@ -44,5 +47,15 @@ pub fn suits(wanted: Wanted, kind: Kind) -> bool
         Wanted::Activity => matches!(kind, Kind::Activity),
         Wanted::Variable => matches!(kind, Kind::Variable),
         Wanted::Value => matches!(kind, Kind::Variable | Kind::Constant),
+    }
+}
+
+/// What a unit's declaration declares.
+pub fn of_unit(kind: UnitKind) -> Kind
+    ensures { result ≡ kind_of_unit kind }
+{
+    match kind {
+        UnitKind::Function => Kind::Function,
+        UnitKind::Activity => Kind::Activity,
     }
 }

@@ -6,10 +6,9 @@ mod expr;
 mod failure;
 mod item;
 mod judge;
-mod kind;
-mod naming;
+pub mod kind;
 mod rules;
-mod scopes;
+pub mod scopes;
 mod stmt;
 
 pub use rules::check;

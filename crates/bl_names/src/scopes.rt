@@ -217,6 +217,13 @@ impl<'a> Scopes<'a> {
         Ok(earlier)
     }
 
+    /// The position that the next declaration of the kind has.
+    pub fn next(&self, kind: Kind) -> u32
+        ensures { result ≡ count_of self.now.counts kind }
+    {
+        self.counts.of(kind)
+    }
+
     /// What a name stands for.
     pub fn find(&self, name: &str) -> Option<Declaration>
         ensures { result ≡ bound self.now name.now }

@@ -11,8 +11,11 @@ use Rattle.bl_raw.specs.declared.item.RawParam.{RawParam}
 use Rattle.bl_raw.specs.declared.item.RawStruct.{RawStruct}
 use Rattle.bl_raw.specs.declared.item.RawUnit.{RawUnit}
 use Rattle.bl_raw.specs.declared.name.Name.{Name}
+use Rattle.bl_raw.specs.declared.stmt.RawArm.{RawArm, fold-RawArm}
+use Rattle.bl_raw.specs.declared.stmt.RawBranch.{RawBranch, fold-RawBranch}
 use Rattle.bl_raw.specs.declared.stmt.RawConstant.{RawConstant}
 use Rattle.bl_raw.specs.declared.stmt.RawStmt.{RawStmt, fold-RawStmt}
+use Rattle.bl_raw.specs.declared.stmt.RawStmtKind.{RawStmtKind, fold-RawStmtKind}
 use Rattle.bl_raw.specs.declared.stmt.RawStmtKind.TheOpen.{RawStmtKind-F, RawArm-F, RawBranch-F, RawStmt-F}
 use Rattle.bl_raw.specs.declared.types.RawType.{RawType}
 use Rattle.bl_named.specs.declared.item.NamedConstant.{NamedConstant}
@@ -29,7 +32,7 @@ use Rattle.bl_named.specs.declared.stmt.NamedStmtKind.TheVariants as what
 use Rattle.bl_names.specs.declared.kind.Kind.TheVariants as kind
 use Rattle.bl_names.specs.declared.kind.Wanted.TheVariants as wanted
 use Rattle.bl_names.specs.Marks.{Marks, opens, uses, argument_marks, constant_marks, declared_after, expr_marks, in_scope, item_marks, optional, param_marks, path_marks, target_marks, type_marks}
-use Rattle.bl_names.specs.Naming.{named_expr, named_path, named_target, named_type, position}
+use Rattle.bl_resolve.specs.Naming.{named_expr, named_path, named_target, named_type, position}
 use Rattle.bl_names.specs.Scopes.{Scopes, after, enter, file_scope}
 
 -- a part of a program: what it does to names, what it becomes where these scopes are open, and the variables and constants
@@ -56,11 +59,32 @@ abbrev pub constants_of_all : {A : Type 0} → List (Piece A) → Scopes → Lis
 constants_of_all [] scopes = []
 constants_of_all (piece ∷ rest) scopes = piece.constants scopes ++ constants_of_all rest (after scopes piece.marks)
 
+abbrev pub all : {A : Type 0} → List (Piece A) → Piece (List A)
+all pieces = record { marks = marks_of_all pieces; made = made_of_all pieces; vars = vars_of_all pieces; constants = constants_of_all pieces }
+
 abbrev pub none : {A : Type 0} → Scopes → List A
 none scopes = []
 
 abbrev pub opened : Scopes → Scopes
 opened scopes = enter scopes opens
+
+-- a part, and then another, which is what is made
+abbrev pub followed : {A B : Type 0} → Piece A → Piece B → Piece B
+followed first second = record {
+  marks = first.marks ++ second.marks;
+  made = λ scopes. second.made (after scopes first.marks);
+  vars = λ scopes. first.vars scopes ++ second.vars (after scopes first.marks);
+  constants = λ scopes. first.constants scopes ++ second.constants (after scopes first.marks);
+}
+
+-- a part in a scope of its own
+abbrev pub own_scope : {A : Type 0} → Piece A → Piece A
+own_scope piece = record {
+  marks = in_scope piece.marks;
+  made = λ scopes. piece.made (opened scopes);
+  vars = λ scopes. piece.vars (opened scopes);
+  constants = λ scopes. piece.constants (opened scopes);
+}
 
 -- a part that declares nothing
 abbrev pub plain : {A : Type 0} → Marks → (Scopes → A) → Piece A
@@ -146,6 +170,26 @@ stmt_layer_piece s = record {
 abbrev pub stmt_piece : RawStmt → Piece NamedStmt
 stmt_piece = fold-RawStmt (Piece NamedStmtKind) (Piece NamedArm) (Piece NamedBranch) (Piece NamedStmt) kind_piece arm_piece branch_piece stmt_layer_piece
 
+-- the same of what a statement does, of an arm and of a branch
+abbrev pub piece_of_kind : RawStmtKind → Piece NamedStmtKind
+piece_of_kind = fold-RawStmtKind (Piece NamedStmtKind) (Piece NamedArm) (Piece NamedBranch) (Piece NamedStmt) kind_piece arm_piece branch_piece stmt_layer_piece
+
+abbrev pub piece_of_arm : RawArm → Piece NamedArm
+piece_of_arm = fold-RawArm (Piece NamedStmtKind) (Piece NamedArm) (Piece NamedBranch) (Piece NamedStmt) kind_piece arm_piece branch_piece stmt_layer_piece
+
+abbrev pub piece_of_branch : RawBranch → Piece NamedBranch
+piece_of_branch = fold-RawBranch (Piece NamedStmtKind) (Piece NamedArm) (Piece NamedBranch) (Piece NamedStmt) kind_piece arm_piece branch_piece stmt_layer_piece
+
+-- statements, arms and branches one after another
+abbrev pub block_piece : List RawStmt → Piece (List NamedStmt)
+block_piece body = all (map stmt_piece body)
+
+abbrev pub arms_piece : List RawArm → Piece (List NamedArm)
+arms_piece arms = all (map piece_of_arm arms)
+
+abbrev pub branches_piece : List RawBranch → Piece (List NamedBranch)
+branches_piece branches = all (map piece_of_branch branches)
+
 -- ---- items
 
 abbrev pub named_field : Scopes → RawField → NamedField
@@ -155,32 +199,44 @@ abbrev pub named_struct : Scopes → RawStruct → NamedStruct
 named_struct scopes def = record { name = def.name; fields = map (named_field scopes) def.fields }
 
 abbrev pub param_piece : Role → RawParam → Piece NamedVar
-param_piece role param = plain (param_marks param) (λ scopes. named_var scopes param.name (Some param.ty) role)
+param_piece role param = record {
+  marks = param_marks param;
+  made = λ scopes. named_var scopes param.name (Some param.ty) role;
+  vars = λ scopes. named_var scopes param.name (Some param.ty) role ∷ [];
+  constants = none;
+}
+
+abbrev pub role_piece : Role → List RawParam → Piece (List NamedVar)
+role_piece role params = all (map (param_piece role) params)
+
+-- the parameters of a unit
+abbrev pub params_piece : RawUnit → Piece (List NamedVar)
+params_piece def = followed (role_piece role.Input def.inputs) (role_piece role.Output def.outputs)
+
+-- its parameters, and then the statements directly in its body
+abbrev pub inside_piece : RawUnit → Piece (List NamedStmt)
+inside_piece def = followed (params_piece def) (block_piece def.body)
+
+-- a unit, where these scopes are open in it
+abbrev pub unit_inside : Scopes → RawUnit → NamedUnit
+unit_inside scopes def = record {
+  entry = def.entry;
+  kind = def.kind;
+  name = def.name;
+  vars = (inside_piece def).vars scopes;
+  inputs = length def.inputs;
+  outputs = length def.outputs;
+  result = option_map (named_type (after scopes (params_piece def).marks)) def.result;
+  body = (inside_piece def).made scopes;
+}
 
 -- a unit, where these scopes are open before it
 abbrev pub named_unit : Scopes → RawUnit → NamedUnit
-named_unit scopes def =
-    let inputs = map (param_piece role.Input) def.inputs in
-    let outputs = map (param_piece role.Output) def.outputs in
-    let body = map stmt_piece def.body in
-    let begun = opened scopes in
-    let past_inputs = after begun (marks_of_all inputs) in
-    let inside = after past_inputs (marks_of_all outputs) in
-    record {
-      entry = def.entry;
-      kind = def.kind;
-      name = def.name;
-      vars = made_of_all inputs begun ++ (made_of_all outputs past_inputs ++ vars_of_all body inside);
-      inputs = length def.inputs;
-      outputs = length def.outputs;
-      result = option_map (named_type inside) def.result;
-      body = made_of_all body inside;
-    }
+named_unit scopes = unit_inside (opened scopes)
 
 -- the constants in the body of a unit
 abbrev pub constants_in_unit : Scopes → RawUnit → List NamedConstant
-constants_in_unit scopes def =
-    constants_of_all (map stmt_piece def.body) (after (after (opened scopes) (joined (map param_marks def.inputs))) (joined (map param_marks def.outputs)))
+constants_in_unit scopes def = (inside_piece def).constants (opened scopes)
 
 abbrev pub structs_of : Scopes → RawItem → List NamedStruct
 structs_of scopes (item.Struct def) = named_struct scopes def ∷ []

@@ -1,6 +1,6 @@
 use Rattle.std.proofs.Common.{◌≡◌, ◌++◌, drop, map}
-use Rattle.bl_names.specs.Naming.{named_expr, named_step}
-use Rattle.bl_names.proofs.naming.+named_expressions.Given as goal
+use Rattle.bl_resolve.specs.Naming.{named_expr, named_step}
+use Rattle.bl_resolve.proofs.expr.+named_expressions.Given as goal
 
 abbrev pub invariant-exprs-loop-e : goal.invariant-exprs-loop-e
 invariant-exprs-loop-e l = l.made ++ map (named_expr l.scopes) (drop l.e-index l.all) ≡ map (named_expr l.scopes) l.all

@@ -1,13 +1,13 @@
 //! Types, expressions, targets and paths with positions in place of names.
 
-ghost use Rattle.std.specs.Prelude.{◌≡◌, IfOk, map};
-ghost use Rattle.bl_names.specs.Naming.{named_expr, named_length, named_path, named_root, named_step, named_target, named_type, position};
+ghost use Rattle.std.specs.Prelude.{◌≡◌, IfOk, map, option_map};
+ghost use Rattle.bl_resolve.specs.Naming.{named_expr, named_length, named_path, named_root, named_step, named_target, named_type, position};
 
-use crate::kind::Kind;
-use crate::scopes::Scopes;
 use bl_named::expr::{NamedExpr, NamedExprKind, NamedPart, NamedTarget, Root};
 use bl_named::stmt::NamedPath;
 use bl_named::types::{NamedLength, NamedType};
+use bl_names::kind::Kind;
+use bl_names::scopes::Scopes;
 use bl_raw::expr::{RawExpr, RawExprKind, RawPart, RawTarget};
 use bl_raw::name::Name;
 use bl_raw::stmt::RawPath;
@@ -63,7 +63,7 @@ pub fn ty(alloc: Global, ty: &RawType, scopes: &Scopes<'_>) -> Result<NamedType,
         RawType::Scalar(scalar) => Ok(NamedType::Scalar(*scalar)),
         RawType::Struct(name) => Ok(NamedType::Struct(position(scopes, name))),
         RawType::Array(n, element) => {
-            let element = crate::naming::ty(alloc, element, scopes)?;
+            let element = crate::expr::ty(alloc, element, scopes)?;
             Ok(NamedType::Array(length(n, scopes), Box::new(alloc, element)?))
         }
     }
@@ -162,6 +162,32 @@ fn part(alloc: Global, part: &RawPart, scopes: &Scopes<'_>) -> Result<NamedPart,
     }
 }
 
+pub fn optional_ty(
+    alloc: Global,
+    ty: &Option<RawType>,
+    scopes: &Scopes<'_>,
+) -> Result<Option<NamedType>, NoMemory>
+    ensures { IfOk result (λ made. made ≡ option_map (named_type scopes.now) ty.now) }
+{
+    match ty {
+        Some(ty) => Ok(Some(crate::expr::ty(alloc, ty, scopes)?)),
+        None => Ok(None),
+    }
+}
+
+pub fn optional_expr(
+    alloc: Global,
+    e: &Option<RawExpr>,
+    scopes: &Scopes<'_>,
+) -> Result<Option<NamedExpr>, NoMemory>
+    ensures { IfOk result (λ made. made ≡ option_map (named_expr scopes.now) e.now) }
+{
+    match e {
+        Some(e) => Ok(Some(expr(alloc, e, scopes)?)),
+        None => Ok(None),
+    }
+}
+
 pub fn path(alloc: Global, path: &RawPath, scopes: &Scopes<'_>) -> Result<NamedPath, NoMemory>
     ensures { IfOk result (λ made. made ≡ named_path scopes.now path.now) }
 {
@@ -184,4 +210,17 @@ pub fn paths(
         made.push(path(alloc, one, scopes)?)?;
     }
     Ok(made)
+}
+
+pub fn optional_path(
+    alloc: Global,
+    path: &Option<RawPath>,
+    scopes: &Scopes<'_>,
+) -> Result<Option<NamedPath>, NoMemory>
+    ensures { IfOk result (λ made. made ≡ option_map (named_path scopes.now) path.now) }
+{
+    match path {
+        Some(path) => Ok(Some(crate::expr::path(alloc, path, scopes)?)),
+        None => Ok(None),
+    }
 }

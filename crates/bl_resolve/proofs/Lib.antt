@@ -1,0 +1,13 @@
+pub mod BelowLemmas
+pub mod FitLemmas
+pub mod ItemLemmas
+pub mod KindLemmas
+pub mod PastLemmas
+pub mod PieceLemmas
+pub mod PlacedExpr
+pub mod PlacedItem
+pub mod PlacedProgram
+pub mod PlacedStmt
+pub mod RawExprInduction
+pub mod RawStmtInduction
+pub mod StillLemmas
