@@ -1,0 +1,5 @@
+pub mod Tests
+pub mod Rows
+pub mod Words
+pub mod Layers
+pub mod OnlyExpr
