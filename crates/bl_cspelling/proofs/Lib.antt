@@ -3,3 +3,5 @@ pub mod Rows
 pub mod Words
 pub mod Layers
 pub mod OnlyExpr
+pub mod OnlyStmt
+pub mod OnlyFile

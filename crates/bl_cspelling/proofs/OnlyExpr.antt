@@ -54,7 +54,7 @@ foreign = codes "-" ∷ codes "*" ∷ codes "!" ∷ codes "&" ∷ codes ")" ∷ 
 abbrev pub Lacks : List Token → List Token → Type 0
 Lacks words ts = among (first ts) words ≡ false
 
-not_false : (b : Bool) → not b ≡ true → b ≡ false
+pub not_false : (b : Bool) → not b ≡ true → b ≡ false
 not_false true h = cc
 not_false false h = refl
 
@@ -212,7 +212,7 @@ step_front = of_steps (λ ts. (r : List Token) → is (first (ts ++ r)) (codes "
 step_plain : (s : CStep) → spells_step s ≡ true → Front (codes "(" ∷ codes "[" ∷ []) (step_tokens s)
 step_plain = of_steps (Front (codes "(" ∷ codes "[" ∷ [])) (λ z h r. refl)
 
-steps_open : (steps : List CStep) (a : List Token) → all_of (map spells_step steps) ≡ true → ends a ≡ true → is (first (joined (map step_tokens steps) ++ a)) (codes "(") ≡ false
+pub steps_open : (steps : List CStep) (a : List Token) → all_of (map spells_step steps) ≡ true → ends a ≡ true → is (first (joined (map step_tokens steps) ++ a)) (codes "(") ≡ false
 steps_open [] a h e = ends_open a e
 steps_open (s ∷ steps) a h e =
     ap (λ ts. is (first ts) (codes "(")) (append_assoc (step_tokens s) (joined (map step_tokens steps)) a)
@@ -365,7 +365,7 @@ arg_close =
     level_close (CArg-F.Value e) h r = lacks (first (expr_tokens e ++ r)) foreign (codes ")") (expr_front e h r) refl
     level_close (CArg-F.Address p) h r = refl
 
-args_row : InCommas arg_tokens spells_arg ends
+pub args_row : InCommas arg_tokens spells_arg ends
 args_row = record { starts = λ y r h. arg_close y h r; comma = λ r. refl; close = λ r. refl }
 
 by_call : {n m : List ℕ} {xs ys : List CArg} → n ≡ m → xs ≡ ys → roll-CCall (record { name = n; args = xs }) ≡ roll-CCall (record { name = m; args = ys })

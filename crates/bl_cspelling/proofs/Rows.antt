@@ -2,7 +2,7 @@
 use Rattle.std.proofs.Common.{◌≡◌, ℕ, Bool, true, false, not, ◌&&◌, List, [], ◌∷◌, ◌++◌, map, refl, sym, ap, ◌∙◌, subst, append_assoc, codes}
 use Rattle.bl_tree.specs.Reduce.{all_of, joined}
 use Rattle.bl_ctext.specs.Token.{Token}
-use Rattle.bl_ctext.specs.Spelling.{listed, with_commas}
+use Rattle.bl_ctext.specs.Spelling.{listed, with_commas, braced}
 use Rattle.bl_ctext.proofs.Bytes.{and-fst, and-snd}
 use Rattle.bl_cspelling.proofs.Tests.{is, first, tail, no_truth, is_same}
 
@@ -115,3 +115,18 @@ module _ {A B : Type 0} (tokens : A → List Token) (bare : A → B) (ok : A →
       let m = one (and-fst _ _ h) y (and-fst _ _ k) xr yr (off_more xs a) (off_more ys b) apart in
       let rest = more_same xs ys each (and-snd _ _ h) (and-snd _ _ k) a b m.1 in
       (ap (λ z. z ∷ map bare xs) m.0 ∙ ap (λ zs. bare y ∷ zs) rest.0, ap tail rest.1)
+
+-- ---- lists in braces
+
+braces : (xs a : List Token) → (xs ++ codes "}" ∷ []) ++ a ≡ xs ++ (codes "}" ∷ a)
+braces xs a = append_assoc xs (codes "}" ∷ []) a
+
+module _ {A B : Type 0} (tokens : A → List Token) (bare : A → B) (ok : A → Bool) (off : List Token → Bool) (row : InRow tokens ok off (stands (codes "}"))) where
+  -- a list up to the brace behind it
+  pub closed_same : (xs ys : List A) → Each (Only tokens bare ok off) xs → all_of (map ok xs) ≡ true → all_of (map ok ys) ≡ true → (a b : List Token)
+      → joined (map tokens xs) ++ (codes "}" ∷ a) ≡ joined (map tokens ys) ++ (codes "}" ∷ b) → (map bare xs ≡ map bare ys) × (a ≡ b)
+  closed_same xs ys each h k a b e = let r = rows_same tokens bare ok off (stands (codes "}")) row xs ys each h k (codes "}" ∷ a) (codes "}" ∷ b) refl refl e in (r.0, ap tail r.1)
+
+  pub braced_same : (xs ys : List A) → Each (Only tokens bare ok off) xs → all_of (map ok xs) ≡ true → all_of (map ok ys) ≡ true → (a b : List Token)
+      → braced (map tokens xs) ++ a ≡ braced (map tokens ys) ++ b → (map bare xs ≡ map bare ys) × (a ≡ b)
+  braced_same xs ys each h k a b e = closed_same xs ys each h k a b (sym (braces (joined (map tokens xs)) a) ∙ (ap tail e ∙ braces (joined (map tokens ys)) b))
