@@ -13,8 +13,8 @@ use Rattle.bl_ctext.specs.Cut.{are_tokens}
 use Rattle.bl_ctext.specs.Spelling.{struct_tokens, func_tokens, tokens_of}
 use Rattle.bl_ctext.specs.Spellable.{has_any, is_spellable, shallow, most_open, spells_func, spells_struct}
 use Rattle.bl_ctext.proofs.Bytes.{both}
-use Rattle.bl_cparse.specs.Pieces.{pieces}
-use Rattle.bl_cparse.proofs.Spaced.{spaced}
+use Rattle.bl_csyntax.specs.Pieces.{pieces}
+use Rattle.bl_cspelling.proofs.Spaced.{spaced}
 
 at_most : (a b : ℕ) → a ≤ b → nat_le a b ≡ true
 at_most a b h = grind (arith, nat_tests)

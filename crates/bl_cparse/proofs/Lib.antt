@@ -2,11 +2,6 @@ pub mod FileLemmas
 pub mod ListLemmas
 pub mod NestLemmas
 pub mod PartialLemmas
-pub mod PieceLemmas
 pub mod PlaceLemmas
-pub mod Ranges
-pub mod SameLemmas
-pub mod Spaced
 pub mod StmtLemmas
 pub mod TokenLemmas
-pub mod Unique

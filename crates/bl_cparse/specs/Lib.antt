@@ -1,5 +1,4 @@
 pub mod Nest
 pub mod Partial
 pub mod Parts
-pub mod Pieces
 pub mod Places

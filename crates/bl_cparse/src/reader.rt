@@ -2,10 +2,10 @@
 
 ghost use Rattle.std.specs.Prelude.{◌≡◌, ◌≤◌, true, false, List, [], ◌∷◌, length, drop, IsTrue, IfOk, IfSome, OnOk};
 ghost use Rattle.bl_ctext.specs.Spellable.{has_any};
-ghost use Rattle.bl_cparse.specs.Pieces.{pieces, first_of, is_same};
+ghost use Rattle.bl_csyntax.specs.Pieces.{pieces, first_of, is_same};
 
-use crate::piece::next_piece;
 use crate::refusal::CRefusal;
+use bl_csyntax::piece::next_piece;
 use bl_tree::{Place, Text};
 use std::alloc::{AllocError, Global};
 use std::marker::Model;
@@ -24,7 +24,7 @@ pub struct Reader<'a> {
 
 impl<'a> Model for Reader<'a> {
     ghost use Rattle.std.specs.Prelude.{ℕ, List};
-    ghost use Rattle.bl_cparse.specs.Pieces.{left_of, IsAt};
+    ghost use Rattle.bl_csyntax.specs.Pieces.{left_of, IsAt};
 
     ghost Value = { List (List ℕ) };
 

@@ -5,11 +5,11 @@ ghost use Rattle.bl_tree.specs.Reduce.{any_of};
 ghost use Rattle.bl_ctext.specs.Token.{is_token as token, is_sign as sign, is_double_sign as double_sign};
 ghost use Rattle.bl_ctext.specs.Cut.{are_tokens};
 ghost use Rattle.bl_ctext.specs.Spellable.{open_behind as behind, most_open};
-ghost use Rattle.bl_cparse.specs.Pieces.{pieces};
+ghost use Rattle.bl_csyntax.specs.Pieces.{pieces};
 
 use crate::parser::MOST_OPEN;
 use crate::reader::Reader;
-use crate::words;
+use bl_csyntax::words;
 use std::alloc::Global;
 
 /// Whether all that stands behind a place are tokens that open no more brackets at once than may be.

@@ -1,3 +1,5 @@
+pub mod Spaced
+pub mod Unique
 pub mod Tests
 pub mod Rows
 pub mod Words

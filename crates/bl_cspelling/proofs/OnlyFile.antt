@@ -1,5 +1,5 @@
 -- A file is told by its tokens.
-use Rattle.std.proofs.Common.{◌≡◌, ℕ, ◌^◌, ◌<◌, Bool, true, false, not, ◌&&◌, List, [], ◌∷◌, ◌++◌, map, Option, Some, None, refl, sym, ap, ◌∙◌, append_assoc, append-nil, codes}
+use Rattle.std.proofs.Common.{◌≡◌, ℕ, ◌^◌, ◌<◌, Bool, true, false, not, ◌&&◌, List, [], ◌∷◌, ◌++◌, map, Option, Some, None, refl, sym, ap, ◌∙◌, subst, append_assoc, append-nil, codes}
 use Rattle.std.proofs.lemmas.Fmt.{decimal_injective}
 use Rattle.std.specs.Fmt.{decimal}
 use Rattle.bl_tree.specs.declared.scalar.Width.TheVariants.{W8, W16, W32, W64}
@@ -14,14 +14,18 @@ use Rattle.bl_tree.specs.declared.c.CParam.{CParam}
 use Rattle.bl_tree.specs.declared.c.CLocal.{CLocal}
 use Rattle.bl_tree.specs.declared.c.CFunc.{CFunc}
 use Rattle.bl_tree.specs.Reduce.{all_of, joined}
-use Rattle.bl_ctext.specs.Token.{Token}
+use Rattle.bl_ctext.specs.Token.{Token, SpacedC}
 use Rattle.bl_ctext.specs.Names.{is_name, is_function_name}
+use Rattle.bl_ctext.specs.Prelude.{prelude}
+use Rattle.bl_ctext.specs.SpellsC.{SpellsC}
+use Rattle.bl_ctext.specs.declared.file.CFile.{CFile}
 use Rattle.bl_ctext.specs.Spelling.{scalar_word, type_tokens, with_commas, braced, stmt_tokens, length_tokens, member_tokens, struct_tokens, star_if, param_tokens, zero_tokens, local_tokens, returned_tokens, static_if, func_front, func_rest, func_tokens, tokens_of}
 use Rattle.bl_ctext.specs.Spellable.{has_any, is_c_scalar, is_length, is_spellable, shallow, spells_type, spells_length, spells_member, spells_struct, spells_param, spells_local, spells_returned, spells_func, spells_stmt}
 use Rattle.bl_ctext.proofs.Bytes.{and-fst, and-snd}
-use Rattle.bl_cspelling.specs.Placeless.{nowhere, placeless_stmt, placeless_struct, placeless_func}
+use Rattle.bl_cspelling.specs.Placeless.{nowhere, placeless_stmt, placeless_struct, placeless_func, SameButPlaces}
 use Rattle.bl_cspelling.proofs.Tests.{is, among, first, tail, second, no_truth, lacks, fewer_lacks, name_off}
 use Rattle.bl_cspelling.proofs.Rows.{Only, Each, InRow, InCommas, stands, stands_is, each_by, rows_same, commas_same, closed_same, braced_same}
+use Rattle.bl_cspelling.proofs.Unique.{one_list}
 use Rattle.bl_cspelling.proofs.Words.{scalar_same}
 use Rattle.bl_cspelling.proofs.OnlyExpr.{anywhere, short}
 use Rattle.bl_cspelling.proofs.OnlyStmt.{no_else, strange, stmt_front, stmts_row, one_stmt}
@@ -312,3 +316,13 @@ file_same structs funcs others rest h k e =
     let f = rows_same func_tokens placeless_func spells_func anywhere is_none funcs_row funcs rest (each_by (Only func_tokens placeless_func spells_func anywhere) one_func funcs) hf kf [] [] refl refl
     (append-nil (joined (map func_tokens funcs)) ∙ (s.1 ∙ sym (append-nil (joined (map func_tokens rest))))) in
     (s.0, f.0)
+
+same_behind : (front a b : List ℕ) → front ++ a ≡ front ++ b → a ≡ b
+same_behind [] a b e = e
+same_behind (x ∷ front) a b e = same_behind front a b (cc)
+
+pub one_file : (file other : CFile) (bytes : List ℕ) → SpellsC file bytes → SpellsC other bytes → SameButPlaces file other
+one_file file other bytes (text, (is, spaced)) (text', (also, spaced')) =
+    let same : text ≡ text' = same_behind prelude text text' (sym is ∙ also) in
+    file_same file.structs file.funcs other.structs other.funcs file.spellable other.spellable
+    (one_list (tokens_of file.structs file.funcs) (tokens_of other.structs other.funcs) text spaced (subst (SpacedC (tokens_of other.structs other.funcs)) (sym same) spaced'))

@@ -4,7 +4,7 @@ ghost use Rattle.std.specs.Prelude.{◌≡◌, ◌≤◌, ◌<◌, ◌+◌, ◌*
 ghost use Rattle.std.specs.Fmt.{decimal};
 ghost use Rattle.bl_ctext.specs.Spelling.{scalar_word, operator_sign, constant_word, width_digits, negatives, kind_tokens};
 ghost use Rattle.bl_ctext.specs.Spellable.{is_c_scalar, is_c_operator, has_any, spells_kind};
-ghost use Rattle.bl_cparse.specs.Pieces.{first_of};
+ghost use Rattle.bl_csyntax.specs.Pieces.{first_of};
 ghost use Rattle.bl_cparse.specs.Parts.{MaybeKind};
 
 use crate::make;

@@ -5,7 +5,7 @@ ghost use Rattle.bl_ctext.specs.Names.{is_name, is_struct_name, is_function_name
 
 use crate::reader::Reader;
 use crate::refusal::CRefusal;
-use crate::words;
+use bl_csyntax::words;
 use bl_tree::Text;
 
 pub fn name(r: &mut Reader<'_>) -> Result<Text, CRefusal>

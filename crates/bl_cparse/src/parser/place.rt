@@ -11,7 +11,8 @@ ghost use Rattle.bl_ctext.specs.Spellable.{is_length, spells_place, spells_step,
 use crate::parser::{expr, literal, name};
 use crate::reader::Reader;
 use crate::refusal::CRefusal;
-use crate::{make, words};
+use crate::make;
+use bl_csyntax::words;
 use bl_tree::c::{CArg, CCall, CIndex, CPlace, CStep};
 use bl_tree::{List, Text};
 

@@ -1,7 +1,7 @@
 use Rattle.std.proofs.Common.{◌≡◌, ◌≤◌, true, length, drop}
 use Rattle.bl_ctext.specs.Cut.{are_tokens}
 use Rattle.bl_ctext.specs.Spellable.{most_open}
-use Rattle.bl_cparse.specs.Pieces.{pieces}
+use Rattle.bl_csyntax.specs.Pieces.{pieces}
 use Rattle.bl_cparse.proofs.scan.is_kept.Given as goal
 
 abbrev pub invariant-loop-r : goal.invariant-loop-r

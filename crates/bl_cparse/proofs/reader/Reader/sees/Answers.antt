@@ -1,5 +1,5 @@
 use Rattle.std.proofs.Common.{◌∙◌, refl}
-use Rattle.bl_cparse.specs.Pieces.{is_same}
+use Rattle.bl_csyntax.specs.Pieces.{is_same}
 use Rattle.bl_cparse.proofs.reader.Reader.sees.Goals as goal
 
 pub returns : goal.returns

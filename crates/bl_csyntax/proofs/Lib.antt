@@ -1,0 +1,12 @@
+pub mod ClassLemmas
+pub mod Checks
+pub mod Digits
+pub mod Expecting
+pub mod Failing
+pub mod Picking
+pub mod PieceLemmas
+pub mod Predictive
+pub mod Ranges
+pub mod Reading
+pub mod Right
+pub mod SameLemmas

@@ -1,0 +1,45 @@
+-- Bytes cut into pieces: tokens, and bytes that begin none.
+use Rattle.std.specs.Prelude.{◌≡◌, ℕ, ◌≤◌, Bool, true, false, ◌&&◌, cond, List, [], ◌∷◌, length, drop, slice_range, nat_eq}
+use Rattle.std.specs.Cmp.Lexicographic.{pointwise}
+use Rattle.bl_ctext.specs.Token.{Token, is_blank, is_word_byte, is_double_sign}
+use Rattle.bl_ctext.specs.Cut.{put_before}
+
+-- the pieces of bytes that begin with two: white space is no part of them, and the two are a sign, go on in one word, or
+-- the first is a piece of its own; `far` are the pieces behind the two, and `near` those behind the first
+abbrev pub cut_off : (blank pair word : Bool) → ℕ → ℕ → (far near : List Token) → List Token
+cut_off true pair word a b far near = near
+cut_off false true word a b far near = (a ∷ b ∷ []) ∷ far
+cut_off false false true a b far near = put_before a near
+cut_off false false false a b far near = (a ∷ []) ∷ near
+
+-- the bytes cut from their front on, white space left out: words and signs as long as possible, and else single bytes
+abbrev pub pieces : List ℕ → List Token
+pieces [] = []
+pieces (a ∷ []) = cond (is_blank a) [] ((a ∷ []) ∷ [])
+pieces (a ∷ b ∷ bs) = cut_off (is_blank a) (is_double_sign a b) (is_word_byte a && is_word_byte b) a b (pieces bs) (pieces (b ∷ bs))
+
+-- a piece before others, where it has a byte
+abbrev pub put : Token → List Token → List Token
+put [] ts = ts
+put (b ∷ bs) ts = (b ∷ bs) ∷ ts
+
+-- the piece that stands between two offsets, and those behind it
+abbrev pub left_of : List ℕ → ℕ → ℕ → List Token
+left_of text start end = put (slice_range text start end) (pieces (drop end text))
+
+-- a piece stands between the offsets, or the text ends at both
+pub record IsAt (text : List ℕ) (start end last : ℕ) : Type 0 where
+  pub short : length text ≤ 67108864
+  pub in_order : start ≤ end
+  pub inside : end ≤ length text
+  pub at_end : start ≡ end → end ≡ length text
+  pub behind : last ≤ length text
+
+-- the first piece, and no bytes where there is none
+abbrev pub first_of : List Token → Token
+first_of [] = []
+first_of (t ∷ ts) = t
+
+-- whether two runs of bytes are the same
+unfoldable pub is_same : List ℕ → List ℕ → Bool
+is_same one other = pointwise nat_eq one other

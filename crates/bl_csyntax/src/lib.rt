@@ -1,0 +1,18 @@
+//! Which pieces spell a text of the C subset, and where the others fail first (docs/C_SUBSET.md, "Grammar" and "Where a
+//! text fails").
+#![tactic(auto)]
+
+mod choice;
+mod classes;
+mod expressions;
+pub mod grammar;
+mod items;
+pub mod laws;
+pub mod piece;
+mod rules;
+mod stack;
+mod statements;
+#[tactic(auto, unfolding(crate::specs::Pieces::is_same, bl_ctext::specs::Names::is_among, bl_ctext::specs::Names::is_name, bl_ctext::specs::Names::is_struct_name, bl_ctext::specs::Names::is_callee, bl_ctext::specs::Names::is_function_name, bl_ctext::specs::Names::is_turn_name))]
+pub mod words;
+
+pub use rules::check;
