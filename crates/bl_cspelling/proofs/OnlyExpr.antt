@@ -1,5 +1,5 @@
 -- An expression, a place and a call are told by their tokens.
-use Rattle.std.proofs.Common.{◌≡◌, ℕ, ◌≤◌, ◌<◌, ◌^◌, ℤ, pos, negsuc, zero, suc, ◌==◌, cond, Bool, true, false, not, ◌&&◌, ◌||◌, nat_le, List, [], ◌∷◌, ◌++◌, map, Option, Some, None, refl, sym, ap, ◌∙◌, subst, append_assoc, codes, arith}
+use Rattle.std.proofs.Common.{◌≡◌, ℕ, ◌<◌, ◌^◌, ℤ, pos, negsuc, suc, ◌==◌, cond, Bool, true, false, not, ◌&&◌, nat_le, List, [], ◌∷◌, ◌++◌, map, Option, Some, None, refl, sym, ap, ◌∙◌, subst, append_assoc, codes, arith}
 use Rattle.std.proofs.lemmas.Bool.Decides.{nat_tests}
 use Rattle.std.proofs.lemmas.Fmt.{decimal_injective}
 use Rattle.std.specs.Fmt.{decimal}
@@ -9,12 +9,12 @@ use Rattle.bl_tree.specs.declared.scalar.Width.TheVariants.{W8, W16, W32, W64}
 use Rattle.bl_tree.specs.declared.scalar.Scalar.{Scalar}
 use Rattle.bl_tree.specs.declared.scalar.Scalar.TheVariants as scalar
 use Rattle.bl_tree.specs.declared.scalar.Op.{Op}
-use Rattle.bl_tree.specs.declared.c.CPlace.{CPlace, CPlace-F, roll-CPlace, out-CPlace, roll-out-CPlace, ind-CPlace}
+use Rattle.bl_tree.specs.declared.c.CPlace.{CPlace, roll-CPlace, out-CPlace, roll-out-CPlace, ind-CPlace}
 use Rattle.bl_tree.specs.declared.c.CStep.{CStep, CStep-F, map-CStep, roll-CStep, out-CStep, roll-out-CStep}
-use Rattle.bl_tree.specs.declared.c.CIndex.{CIndex, CIndex-F, roll-CIndex, out-CIndex, roll-out-CIndex}
-use Rattle.bl_tree.specs.declared.c.CExpr.{CExpr, CExpr-F, roll-CExpr, out-CExpr, roll-out-CExpr, ind-CExpr}
+use Rattle.bl_tree.specs.declared.c.CIndex.{CIndex, roll-CIndex, out-CIndex, roll-out-CIndex}
+use Rattle.bl_tree.specs.declared.c.CExpr.{CExpr, roll-CExpr, out-CExpr, roll-out-CExpr, ind-CExpr}
 use Rattle.bl_tree.specs.declared.c.CExprKind.{CExprKind, CExprKind-F, map-CExprKind, roll-CExprKind, out-CExprKind, roll-out-CExprKind}
-use Rattle.bl_tree.specs.declared.c.CCall.{CCall, CCall-F, roll-CCall, out-CCall, roll-out-CCall, ind-CCall}
+use Rattle.bl_tree.specs.declared.c.CCall.{CCall, roll-CCall, out-CCall, roll-out-CCall, ind-CCall}
 use Rattle.bl_tree.specs.declared.c.CArg.{CArg, CArg-F, map-CArg, roll-CArg, out-CArg, roll-out-CArg}
 use Rattle.bl_tree.specs.Reduce.{all_of, joined}
 use Rattle.bl_ctext.specs.Token.{Token}
@@ -25,9 +25,9 @@ use Rattle.bl_ctext.proofs.Bytes.{and-fst, and-snd}
 use Rattle.bl_ctext.proofs.PrefixedNames.{name-callee}
 use Rattle.bl_cspelling.specs.Placeless.{nowhere, placeless_expr, placeless_kind, placeless_place, placeless_step, placeless_index, placeless_call, placeless_arg}
 use Rattle.bl_cspelling.proofs.Tests.{is, among, are_reserved, first, tail, second, no_truth, lacks, callee_off, name_off}
-use Rattle.bl_cspelling.proofs.Rows.{Only, Each, InRow, InCommas, stands, each_shown, rows_same, commas_same}
+use Rattle.bl_cspelling.proofs.Rows.{Only, InRow, InCommas, stands, each_shown, rows_same, commas_same}
 use Rattle.bl_cspelling.proofs.Words.{operator_same, operator_off, literal_same}
-use Rattle.bl_cspelling.proofs.Layers.{by_level, Args, Kinds, Calls, Exprs, Indices, Places, Steps, OnlyLevel, Levels, only_whole, arg_level, arg_ok, arg_bare, kind_level, kind_ok, kind_bare, call_level, call_ok, call_bare, expr_level, expr_ok, expr_bare, index_level, index_ok, index_bare, place_level, place_ok, place_bare, maybe_index, maybe_ok, maybe_bare, step_level, step_ok, step_bare, arg_levels, kind_levels, call_levels, expr_levels, index_levels, place_levels, step_levels}
+use Rattle.bl_cspelling.proofs.Layers.{by_level, Args, Kinds, Calls, Exprs, Indices, Places, Steps, OnlyLevel, only_whole, arg_level, arg_ok, arg_bare, kind_level, kind_ok, kind_bare, call_level, call_ok, call_bare, expr_level, expr_ok, expr_bare, index_level, index_ok, index_bare, place_level, place_ok, place_bare, step_level, step_ok, step_bare, arg_levels, kind_levels, call_levels, expr_levels, index_levels, place_levels, step_levels}
 
 -- ---- what stands first
 
@@ -394,7 +394,6 @@ index_rest s t u v n m is h k a b e =
     let r = before_same expr_tokens placeless_expr spells_expr ends u.0 u.1 (and-fst _ _ h) v (and-fst _ _ k)
     (codes "," ∷ decimal n ∷ codes ")" ∷ codes "]" ∷ []) (codes "," ∷ decimal m ∷ codes ")" ∷ codes "]" ∷ []) a b refl refl e in
     (by_index is r.0 (decimal_injective n m (short n (and-snd _ _ h)) (short m (and-snd _ _ k)) (ap second r.1)), ap (λ ts. tail (tail (tail (tail ts)))) r.1)
-
 
 index_same : (s : Bool) (u : Expr) (n : ℕ) (t : Bool) (v : CExpr) (m : ℕ) → (spells_expr u.0 && is_length n) ≡ true → (spells_expr v && is_length m) ≡ true → (a b : List Token)
     → index_level (record { signed = s; at = u.0; length = n }) ++ a ≡ index_level (record { signed = t; at = v; length = m }) ++ b

@@ -20,9 +20,9 @@ use Rattle.bl_ctext.specs.Spellable.{is_literal, spells_expr, spells_kind, spell
 use Rattle.bl_ctext.proofs.Bytes.{and-fst, and-snd}
 use Rattle.bl_cspelling.specs.Placeless.{nowhere, placeless_expr, placeless_place, placeless_call, placeless_result, placeless_stmt, placeless_stmt_kind}
 use Rattle.bl_cspelling.proofs.Tests.{is, among, first, tail, second, no_truth, lacks, callee_off, name_off}
-use Rattle.bl_cspelling.proofs.Rows.{Only, Each, InRow, stands, stands_is, each_shown, closed_same, braced_same}
-use Rattle.bl_cspelling.proofs.Layers.{by_level, Places, Kinds, Calls, OnlyLevel, Levels, only_whole, place_level, place_ok, kind_level, kind_ok, call_level, call_ok}
-use Rattle.bl_cspelling.proofs.OnlyExpr.{ends, anywhere, foreign, Front, of_places, of_calls, of_kinds, of_exprs, place_front, call_front, expr_front, steps_open, not_false, before_same, one_expr, one_place, one_call}
+use Rattle.bl_cspelling.proofs.Rows.{Only, InRow, stands, stands_is, each_shown, closed_same, braced_same}
+use Rattle.bl_cspelling.proofs.Layers.{by_level, Kinds, OnlyLevel, Levels, only_whole, kind_level, kind_ok}
+use Rattle.bl_cspelling.proofs.OnlyExpr.{ends, foreign, Front, of_places, of_calls, of_kinds, of_exprs, place_front, call_front, expr_front, steps_open, before_same, one_expr, one_place, one_call}
 
 -- ---- levels
 

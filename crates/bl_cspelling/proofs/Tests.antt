@@ -1,11 +1,11 @@
 -- Tests of the first tokens of a list: which one stands there, and which don't.
-use Rattle.std.proofs.Common.{◌≡◌, ℕ, Bool, true, false, not, ◌&&◌, ◌||◌, nat_eq, List, [], ◌∷◌, map, refl, sym, ap, ◌∙◌, subst, inl, inr, arith, codes}
+use Rattle.std.proofs.Common.{◌≡◌, ℕ, Bool, true, false, not, nat_eq, List, [], ◌∷◌, map, refl, sym, ◌∙◌, subst, inl, inr, arith, codes}
 use Rattle.std.proofs.lemmas.Bool.Decides.{nat_tests}
 use Rattle.std.specs.Cmp.Lexicographic.{pointwise}
 use Rattle.bl_tree.specs.Reduce.{all_of, any_of}
 use Rattle.bl_ctext.specs.Token.{Token}
 use Rattle.bl_ctext.specs.Names.{is_among, is_name, is_callee}
-use Rattle.bl_ctext.proofs.Bytes.{and-fst, and-snd, either, or-fst, or-snd}
+use Rattle.bl_ctext.proofs.Bytes.{and-fst, and-snd, either}
 use Rattle.bl_ctext.proofs.PrefixedNames.{name-callee}
 
 abbrev pub is : Token → Token → Bool

@@ -1,15 +1,15 @@
 -- Files of the C subset with the places of their parts left aside.
-use Rattle.std.specs.Prelude.{◌≡◌, ℕ, List, map, Option, Some, None}
+use Rattle.std.specs.Prelude.{◌≡◌, map, Option, Some, None}
 use Rattle.bl_tree.specs.declared.place.Place.{Place}
 use Rattle.bl_tree.specs.declared.c.CStruct.{CStruct}
 use Rattle.bl_tree.specs.declared.c.CFunc.{CFunc}
-use Rattle.bl_tree.specs.declared.c.CPlace.{CPlace, CPlace-F, fold-CPlace, roll-CPlace}
-use Rattle.bl_tree.specs.declared.c.CStep.{CStep, CStep-F, fold-CStep, roll-CStep}
-use Rattle.bl_tree.specs.declared.c.CIndex.{CIndex, CIndex-F, fold-CIndex, roll-CIndex}
+use Rattle.bl_tree.specs.declared.c.CPlace.{CPlace, fold-CPlace, roll-CPlace}
+use Rattle.bl_tree.specs.declared.c.CStep.{CStep, fold-CStep, roll-CStep}
+use Rattle.bl_tree.specs.declared.c.CIndex.{CIndex, fold-CIndex, roll-CIndex}
 use Rattle.bl_tree.specs.declared.c.CExpr.{CExpr, CExpr-F, fold-CExpr, roll-CExpr}
-use Rattle.bl_tree.specs.declared.c.CExprKind.{CExprKind, CExprKind-F, fold-CExprKind, roll-CExprKind}
-use Rattle.bl_tree.specs.declared.c.CCall.{CCall, CCall-F, fold-CCall, roll-CCall}
-use Rattle.bl_tree.specs.declared.c.CArg.{CArg, CArg-F, fold-CArg, roll-CArg}
+use Rattle.bl_tree.specs.declared.c.CExprKind.{CExprKind, fold-CExprKind, roll-CExprKind}
+use Rattle.bl_tree.specs.declared.c.CCall.{CCall, fold-CCall, roll-CCall}
+use Rattle.bl_tree.specs.declared.c.CArg.{CArg, fold-CArg, roll-CArg}
 use Rattle.bl_tree.specs.declared.c.CStmt.{CStmt, CStmt-F, fold-CStmt, roll-CStmt}
 use Rattle.bl_tree.specs.declared.c.CStmtKind.{CStmtKind, CStmtKind-F, fold-CStmtKind, roll-CStmtKind}
 use Rattle.bl_ctext.specs.declared.file.CFile.{CFile}
