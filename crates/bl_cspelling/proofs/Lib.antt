@@ -7,3 +7,6 @@ pub mod Layers
 pub mod OnlyExpr
 pub mod OnlyStmt
 pub mod OnlyFile
+pub mod Pieces
+pub mod Told
+pub mod Trees

@@ -118,7 +118,7 @@ module _ {A B : Type 0} (tokens : A → List Token) (bare : A → B) (ok : A →
 
 -- ---- lists in braces
 
-braces : (xs a : List Token) → (xs ++ codes "}" ∷ []) ++ a ≡ xs ++ (codes "}" ∷ a)
+pub braces : (xs a : List Token) → (xs ++ codes "}" ∷ []) ++ a ≡ xs ++ (codes "}" ∷ a)
 braces xs a = append_assoc xs (codes "}" ∷ []) a
 
 module _ {A B : Type 0} (tokens : A → List Token) (bare : A → B) (ok : A → Bool) (off : List Token → Bool) (row : InRow tokens ok off (stands (codes "}"))) where
