@@ -10,3 +10,5 @@ pub mod OnlyFile
 pub mod Pieces
 pub mod Told
 pub mod Trees
+pub mod Depths
+pub mod Passing

@@ -1,5 +1,5 @@
 -- What a piece of a class is.
-use Rattle.std.proofs.Common.{◌≡◌, ℕ, suc, ◌+◌, ◌*◌, ◌^◌, ◌≤◌, ◌<◌, Bool, true, false, not, ◌&&◌, ◌||◌, ◌==◌, nat_eq, nat_le, nat_lt, List, [], ◌∷◌, length, get_or, map, refl, sym, ap, ◌∙◌, subst, inl, inr, codes, arith}
+use Rattle.std.proofs.Common.{◌≡◌, ℕ, suc, ◌^◌, ◌≤◌, ◌<◌, true, not, ◌||◌, ◌==◌, nat_eq, nat_le, nat_lt, List, [], ◌∷◌, length, map, refl, sym, subst, inl, inr, arith}
 use Rattle.std.proofs.lemmas.Bool.Decides.{nat_tests}
 use Rattle.std.proofs.lemmas.Fmt.{decimal-digits_value}
 use Rattle.std.proofs.lemmas.Str.Parse.{IsNumeralModel, numerals_by_value, tells_all_ascii_digits}
@@ -8,26 +8,25 @@ use Rattle.std.specs.Fmt.{decimal}
 use Rattle.std.specs.Str.{all_ascii_digits}
 use Rattle.std.specs.Str.Parse.{digits_value}
 use Rattle.std.specs.Cmp.Lexicographic.{pointwise}
-use Rattle.bl_tree.specs.declared.scalar.Width.{Width}
 use Rattle.bl_tree.specs.declared.scalar.Width.TheVariants.{W8, W16, W32, W64}
 use Rattle.bl_tree.specs.declared.scalar.Scalar.{Scalar}
 use Rattle.bl_tree.specs.declared.scalar.Scalar.TheVariants as scalar
 use Rattle.bl_tree.specs.declared.scalar.Op.{Op}
 use Rattle.bl_tree.specs.declared.scalar.Op.TheVariants as op
-use Rattle.bl_tree.specs.Reduce.{all_of, any_of}
+use Rattle.bl_tree.specs.Reduce.{all_of}
 use Rattle.bl_ctext.specs.Token.{Token}
 use Rattle.bl_ctext.specs.Names.{is_among, is_name, is_struct_name, is_function_name, is_callee, prelude_functions}
-use Rattle.bl_ctext.specs.Spelling.{scalar_word, operator_sign, negatives}
+use Rattle.bl_ctext.specs.Spelling.{scalar_word, operator_sign}
 use Rattle.bl_ctext.specs.Spellable.{is_c_scalar, is_c_operator}
-use Rattle.bl_ctext.proofs.Bytes.{and-fst, and-snd, either, or-fst, or-snd}
+use Rattle.bl_ctext.proofs.Bytes.{and-fst, and-snd, either, or-snd}
 use Rattle.bl_csyntax.specs.declared.grammar.Group.{Group}
-use Rattle.bl_csyntax.specs.declared.grammar.Group.TheVariants.{ScalarTypes, PlainLiterals, Operators, IndexFunctions, StructWords, FunctionWords, PreludeFunctions}
+use Rattle.bl_csyntax.specs.declared.grammar.Group.TheVariants.{ScalarTypes, Operators, StructWords, FunctionWords, PreludeFunctions}
 use Rattle.bl_csyntax.specs.declared.grammar.Digits.{Digits}
 use Rattle.bl_csyntax.specs.declared.grammar.Digits.TheVariants.{Elements, Int, Negated, Unsigned}
-use Rattle.bl_csyntax.specs.Classes.{Class, words_of, least, bound, are_digits, is_number, matches}
-use Rattle.bl_csyntax.specs.Classes.Class.{exactly, one_of, a_name, number, turn}
+use Rattle.bl_csyntax.specs.Classes.{words_of, least, bound, are_digits, is_number, matches}
+use Rattle.bl_csyntax.specs.Classes.Class.{exactly, one_of, a_name, number}
 use Rattle.bl_csyntax.proofs.ClassLemmas.{exactly_is}
-use Rattle.bl_cspelling.proofs.Tests.{is, is_same, among}
+use Rattle.bl_cspelling.proofs.Tests.{is_same}
 use Rattle.bl_cspelling.proofs.Words.{negatives_le}
 
 pub word_is : {w t : Token} → matches (exactly w) t ≡ true → w ≡ t
@@ -85,7 +84,7 @@ pub record Spelled (of : Digits) (t : Token) : Type 0 where
 lone : (b : ℕ) (bs : List ℕ) → (not (b == 48) || nat_le (length bs) 0) ≡ true → b ≡ 48 → suc (length bs) ≡ 1
 lone b bs h e = elim (either (not (b == 48)) (nat_le (length bs) 0) h) [ inl differs ↦ absurd (grind (arith, nat_tests)) | inr short ↦ grind (arith, nat_tests) ]
 
-bound_le : (of : Digits) → bound of ≤ 2 ^ 64
+pub bound_le : (of : Digits) → bound of ≤ 2 ^ 64
 bound_le Elements = omega arith
 bound_le (Int w) = omega (arith, negatives_le w)
 bound_le (Negated w) = omega (arith, negatives_le w)

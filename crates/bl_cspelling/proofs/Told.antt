@@ -1,36 +1,25 @@
 -- Which tokens each part of the grammar stands for, by trees that have them, and how a tree is put together.
-use Rattle.std.proofs.Common.{◌≡◌, ℕ, zero, suc, ◌+◌, ◌*◌, ◌≤◌, ◌<◌, ◌==◌, cond, ℤ, pos, negsuc, Bool, true, false, ◌&&◌, nat_le, nat_lt, List, [], ◌∷◌, ◌++◌, map, Option, Some, None, refl, sym, ap, ◌∙◌, subst, append_assoc, append-nil, codes, arith}
+use Rattle.std.proofs.Common.{◌≡◌, ℕ, zero, suc, ◌*◌, ◌≤◌, ◌<◌, ◌==◌, pos, negsuc, Bool, true, false, ◌&&◌, nat_le, nat_lt, List, [], ◌∷◌, ◌++◌, map, Option, Some, refl, sym, ap, ◌∙◌, append_assoc, append-nil, codes, arith}
 use Rattle.std.proofs.lemmas.Bool.Decides.{nat_tests}
 use Rattle.std.specs.Fmt.{decimal}
-use Rattle.bl_tree.specs.declared.place.Place.{Place as TextPlace}
 use Rattle.bl_tree.specs.declared.scalar.Width.{Width}
 use Rattle.bl_tree.specs.declared.scalar.Width.TheVariants.{W8, W16, W32, W64}
 use Rattle.bl_tree.specs.declared.scalar.Scalar.{Scalar}
 use Rattle.bl_tree.specs.declared.scalar.Scalar.TheVariants as scalar
 use Rattle.bl_tree.specs.declared.scalar.Op.{Op}
-use Rattle.bl_tree.specs.declared.c.CType.{CType}
 use Rattle.bl_tree.specs.declared.c.CType.TheVariants as ctype
 use Rattle.bl_tree.specs.declared.c.CMember.{CMember}
 use Rattle.bl_tree.specs.declared.c.CStruct.{CStruct}
-use Rattle.bl_tree.specs.declared.c.CParam.{CParam}
-use Rattle.bl_tree.specs.declared.c.CLocal.{CLocal}
 use Rattle.bl_tree.specs.declared.c.CFunc.{CFunc}
 use Rattle.bl_tree.specs.declared.c.CPlace.{CPlace, roll-CPlace, out-CPlace, roll-out-CPlace}
-use Rattle.bl_tree.specs.declared.c.CStep.{CStep, roll-CStep}
-use Rattle.bl_tree.specs.declared.c.CIndex.{CIndex, roll-CIndex}
-use Rattle.bl_tree.specs.declared.c.CExpr.{CExpr, roll-CExpr}
-use Rattle.bl_tree.specs.declared.c.CExprKind.{CExprKind, CExprKind-F, roll-CExprKind}
-use Rattle.bl_tree.specs.declared.c.CCall.{CCall, roll-CCall}
-use Rattle.bl_tree.specs.declared.c.CArg.{CArg, CArg-F, roll-CArg}
-use Rattle.bl_tree.specs.declared.c.CStmt.{CStmt, roll-CStmt}
-use Rattle.bl_tree.specs.declared.c.CStmtKind.{CStmtKind, CStmtKind-F, roll-CStmtKind}
+use Rattle.bl_tree.specs.declared.c.CExprKind.{CExprKind-F}
+use Rattle.bl_tree.specs.declared.c.CStmtKind.{CStmtKind-F}
 use Rattle.bl_tree.specs.Reduce.{all_of, joined}
 use Rattle.bl_ctext.specs.Token.{Token}
 use Rattle.bl_ctext.specs.Names.{is_name, is_struct_name, is_function_name, is_callee, is_turn_name}
-use Rattle.bl_ctext.specs.Spelling.{scalar_word, type_tokens, constant_word, negatives, operator_sign, listed, with_commas, braced, root_tokens, index_front, expr_tokens, kind_tokens, place_tokens, step_tokens, index_tokens, ccall_tokens, arg_tokens, condition_tokens, zeros_tokens, turn_declared, turn_counted, stmt_tokens, stmt_kind_tokens, length_tokens, member_tokens, struct_tokens, star_if, param_tokens, local_tokens, returned_tokens, static_if, func_front, func_rest, func_tokens, tokens_of}
+use Rattle.bl_ctext.specs.Spelling.{scalar_word, type_tokens, constant_word, negatives, operator_sign, listed, with_commas, braced, root_tokens, index_front, expr_tokens, kind_tokens, place_tokens, step_tokens, index_tokens, ccall_tokens, arg_tokens, turn_declared, turn_counted, stmt_tokens, stmt_kind_tokens, length_tokens, member_tokens, struct_tokens, star_if, param_tokens, local_tokens, returned_tokens, static_if, func_tokens, tokens_of}
 use Rattle.bl_ctext.specs.Spellable.{has_any, is_c_scalar, is_c_operator, is_length, spells_expr, spells_kind, spells_place, spells_step, spells_index, spells_call, spells_arg, spells_stmt, spells_stmt_kind, spells_type, spells_length, spells_member, spells_struct, spells_param, spells_local, spells_returned, spells_func}
 use Rattle.bl_ctext.proofs.Bytes.{and-fst, and-snd, both}
-use Rattle.bl_ctext.proofs.PrefixedNames.{name-callee}
 use Rattle.bl_csyntax.specs.declared.grammar.Part.{Part}
 use Rattle.bl_csyntax.specs.declared.grammar.Part.TheVariants.{File, Structs, Struct, StructName, Members, Member, TypeName, Length, Funcs, Func, PlainFunc, FuncRest, FuncName, Params, ParamRest, Param, Star, Locals, Local, Stmts, Stmt, Else, Turns, AfterName, AssignTail, Value, AfterOpen, Result, Expr, Simple, Constant, Inside, Negative, NameUse, Steps, Index, Args, ArgRest, Arg, Place}
 use Rattle.bl_csyntax.specs.declared.grammar.Group.TheVariants.{PlainLiterals, IndexFunctions}
@@ -39,8 +28,8 @@ use Rattle.bl_csyntax.specs.Classes.{words_of, matches}
 use Rattle.bl_csyntax.specs.Classes.Class.{exactly}
 use Rattle.bl_cspelling.specs.Placeless.{nowhere}
 use Rattle.bl_cspelling.proofs.Rows.{braces}
-use Rattle.bl_cspelling.proofs.Layers.{Levels, Args as ArgLevel, Kinds, Calls, Exprs, Indices, Places, Steps as StepLevel, arg_level, arg_ok, kind_level, kind_ok, call_level, call_ok, expr_level, expr_ok, index_level, index_ok, place_level, place_ok, maybe_index, maybe_ok, step_level, step_ok, arg_levels, kind_levels, call_levels, expr_levels, index_levels, place_levels, step_levels}
-use Rattle.bl_cspelling.proofs.OnlyStmt.{StmtKinds, else_level, else_ok, stmt_level, stmt_ok, stmt_kind_levels, whole_level, whole_ok, stmt_levels}
+use Rattle.bl_cspelling.proofs.Layers.{Levels, Places, arg_level, arg_ok, kind_level, kind_ok, call_level, call_ok, expr_level, expr_ok, index_level, index_ok, place_level, place_ok, maybe_index, maybe_ok, step_level, step_ok, arg_levels, kind_levels, call_levels, expr_levels, index_levels, place_levels, step_levels}
+use Rattle.bl_cspelling.proofs.OnlyStmt.{else_level, else_ok, stmt_level, stmt_ok, stmt_kind_levels, whole_level, whole_ok, stmt_levels}
 use Rattle.bl_cspelling.proofs.Pieces.{OneOf, Spelled, word_is}
 
 -- something with a spelling has these tokens
@@ -190,10 +179,14 @@ call_expr (c, (e, h)) = kind_from (CExprKind-F.Call c, (e, h))
 pub two_told : {a b : List Token} → Told expr_tokens spells_expr a → (t : Token) → (o : Op) × ((t ≡ operator_sign o) × (is_c_operator o ≡ true)) → Told expr_tokens spells_expr b
     → Told expr_tokens spells_expr (codes "(" ∷ (a ++ (t ∷ (b ++ codes ")" ∷ []))))
 two_told {a} {b} (x, (i, h)) t (o, (f, c)) (y, (j, k)) =
-    kind_from (CExprKind-F.Two o x y, (
-      ap (λ a. codes "(" ∷ (a ++ (t ∷ (b ++ codes ")" ∷ [])))) i
-      ∙ (ap (λ t. codes "(" ∷ (expr_tokens x ++ (t ∷ (b ++ codes ")" ∷ [])))) f ∙ ap (λ b. codes "(" ∷ (expr_tokens x ++ (operator_sign o ∷ (b ++ codes ")" ∷ [])))) j),
-      both (is_c_operator o) (spells_expr x && spells_expr y) c (both (spells_expr x) (spells_expr y) h k)))
+    kind_from (
+      CExprKind-F.Two o x y,
+      (
+        ap (λ a. codes "(" ∷ (a ++ (t ∷ (b ++ codes ")" ∷ [])))) i
+            ∙ (ap (λ t. codes "(" ∷ (expr_tokens x ++ (t ∷ (b ++ codes ")" ∷ [])))) f ∙ ap (λ b. codes "(" ∷ (expr_tokens x ++ (operator_sign o ∷ (b ++ codes ")" ∷ [])))) j),
+        both (is_c_operator o) (spells_expr x && spells_expr y) c (both (spells_expr x) (spells_expr y) h k),
+      ),
+    )
 
 less : (a b : ℕ) → a < b → nat_lt a b ≡ true
 less a b h = grind (arith, nat_tests)
@@ -218,10 +211,13 @@ lower n k h = less n k (omega (arith, h))
 negated_at : (w : Width) (t : Token) (n : ℕ) → t ≡ decimal n → 1 ≤ n → n < negatives w → {ts : List Token} → ts ≡ constant_word (codes "INT") w ∷ codes "(" ∷ t ∷ codes ")" ∷ []
     → Told kind_level kind_ok (codes "(" ∷ codes "-" ∷ (ts ++ codes ")" ∷ []))
 negated_at w t zero is low high e = absurd (omega (arith, low))
-negated_at w t (suc n) is low high e =
-    (CExprKind-F.Literal (scalar.Int w) (negsuc n), (
-      ap (λ ts. codes "(" ∷ codes "-" ∷ (ts ++ codes ")" ∷ [])) (e ∙ ap (λ t. constant_word (codes "INT") w ∷ codes "(" ∷ t ∷ codes ")" ∷ []) is) ∙ rw (not_least (suc n) (negatives w) high) refl,
-      lower n (negatives w) high))
+negated_at w t (suc n) is low high e = (
+  CExprKind-F.Literal (scalar.Int w) (negsuc n),
+  (
+    ap (λ ts. codes "(" ∷ codes "-" ∷ (ts ++ codes ")" ∷ [])) (e ∙ ap (λ t. constant_word (codes "INT") w ∷ codes "(" ∷ t ∷ codes ")" ∷ []) is) ∙ rw (not_least (suc n) (negatives w) high) refl,
+    lower n (negatives w) high,
+  ),
+)
 
 pub negated_told : (w : Width) (t : Token) → Spelled (Negated w) t → {ts : List Token} → ts ≡ constant_word (codes "INT") w ∷ codes "(" ∷ t ∷ codes ")" ∷ []
     → Told kind_level kind_ok (codes "(" ∷ codes "-" ∷ (ts ++ codes ")" ∷ []))
@@ -259,13 +255,17 @@ some_index (i, (e, h)) = (Some i, (e, h))
 pub index_told : (t : Token) → (signed : Bool) × (t ≡ index_word signed) → {a : List Token} → Told expr_tokens spells_expr a → (u : Token) → Spelled Elements u → {ts : List Token}
     → ts ≡ codes "[" ∷ t ∷ codes "(" ∷ (a ++ (codes "," ∷ u ∷ codes ")" ∷ codes "]" ∷ [])) → Told maybe_index maybe_ok ts
 index_told t (signed, f) {a} (x, (i, h)) u s e =
-    some_index (index_from (record { signed = signed; at = x; length = s.n }, (
-      e
-      ∙ (ap (λ t. codes "[" ∷ t ∷ codes "(" ∷ (a ++ (codes "," ∷ u ∷ codes ")" ∷ codes "]" ∷ []))) f
-      ∙ (ap (λ a. codes "[" ∷ index_word signed ∷ codes "(" ∷ (a ++ (codes "," ∷ u ∷ codes ")" ∷ codes "]" ∷ []))) i
-      ∙ (ap (λ u. codes "[" ∷ index_word signed ∷ codes "(" ∷ (expr_tokens x ++ (codes "," ∷ u ∷ codes ")" ∷ codes "]" ∷ []))) s.is
-      ∙ fronted signed (expr_tokens x ++ (codes "," ∷ decimal s.n ∷ codes ")" ∷ codes "]" ∷ []))))),
-      both (spells_expr x) (is_length s.n) h (is_a_length s.n s.low s.high))))
+    some_index (index_from (
+      record { signed = signed; at = x; length = s.n },
+      (
+        e
+            ∙ (ap (λ t. codes "[" ∷ t ∷ codes "(" ∷ (a ++ (codes "," ∷ u ∷ codes ")" ∷ codes "]" ∷ []))) f
+            ∙ (ap (λ a. codes "[" ∷ index_word signed ∷ codes "(" ∷ (a ++ (codes "," ∷ u ∷ codes ")" ∷ codes "]" ∷ []))) i
+            ∙ (ap (λ u. codes "[" ∷ index_word signed ∷ codes "(" ∷ (expr_tokens x ++ (codes "," ∷ u ∷ codes ")" ∷ codes "]" ∷ []))) s.is
+            ∙ fronted signed (expr_tokens x ++ (codes "," ∷ decimal s.n ∷ codes ")" ∷ codes "]" ∷ []))))),
+        both (spells_expr x) (is_length s.n) h (is_a_length s.n s.low s.high),
+      ),
+    ))
 
 -- ---- statements
 
@@ -293,10 +293,14 @@ all_more p (y ∷ xs) x h k = both (p y) (all_of (map p (xs ++ x ∷ []))) (and-
 -- the place with one step more
 longer : (z : Places) → place_ok z ≡ true → {a : List Token} → Told step_tokens spells_step a → Told place_tokens spells_place (place_level z ++ a)
 longer z h {a} (s, (e, k)) =
-    place_from (record { through = z.through; name = z.name; steps = z.steps ++ s ∷ [] }, (
-      append_assoc (root_tokens z.through z.name) (joined (map step_tokens z.steps)) a
-      ∙ ap (λ us. root_tokens z.through z.name ++ us) (ap (λ a. joined (map step_tokens z.steps) ++ a) e ∙ sym (joined_more step_tokens z.steps s)),
-      both (is_name z.name) (all_of (map spells_step (z.steps ++ s ∷ []))) (and-fst _ _ h) (all_more spells_step z.steps s (and-snd _ _ h) k)))
+    place_from (
+      record { through = z.through; name = z.name; steps = z.steps ++ s ∷ [] },
+      (
+        append_assoc (root_tokens z.through z.name) (joined (map step_tokens z.steps)) a
+            ∙ ap (λ us. root_tokens z.through z.name ++ us) (ap (λ a. joined (map step_tokens z.steps) ++ a) e ∙ sym (joined_more step_tokens z.steps s)),
+        both (is_name z.name) (all_of (map spells_step (z.steps ++ s ∷ []))) (and-fst _ _ h) (all_more spells_step z.steps s (and-snd _ _ h) k),
+      ),
+    )
 
 longer_place : (p : CPlace) → spells_place p ≡ true → {a : List Token} → Told step_tokens spells_step a → Told place_tokens spells_place (place_tokens p ++ a)
 longer_place p h {a} step = by_out (out-CPlace p) (roll-out-CPlace p)
@@ -324,23 +328,29 @@ pub if_told : {a b c : List Token} → Told expr_tokens spells_expr a → Row st
     → Told stmt_level stmt_ok (codes "if" ∷ codes "(" ∷ (a ++ (codes ")" ∷ codes "{" ∷ (b ++ (codes "}" ∷ c)))))
 if_told {a} {b} {c} (x, (i, h)) (xs, (j, k)) (o, (f, s)) =
     let inner : b ++ (codes "}" ∷ c) ≡ (joined (map stmt_tokens xs) ++ codes "}" ∷ []) ++ else_level o =
-    ap (λ b. b ++ (codes "}" ∷ c)) j ∙ (ap (λ c. joined (map stmt_tokens xs) ++ (codes "}" ∷ c)) f ∙ sym (braces (joined (map stmt_tokens xs)) (else_level o))) in
-    (CStmtKind-F.If x xs o, (
-      ap (λ a. codes "if" ∷ codes "(" ∷ (a ++ (codes ")" ∷ codes "{" ∷ (b ++ (codes "}" ∷ c))))) i
-      ∙ (ap (λ us. codes "if" ∷ codes "(" ∷ (expr_tokens x ++ (codes ")" ∷ codes "{" ∷ us))) inner
-      ∙ ap (λ us. codes "if" ∷ codes "(" ∷ us) (sym (parens (expr_tokens x) (braced (map stmt_tokens xs) ++ else_level o)))),
-      both (spells_expr x) (all_of (map spells_stmt xs) && else_ok o) h (both (all_of (map spells_stmt xs)) (else_ok o) k s)))
+    ap (λ b. b ++ (codes "}" ∷ c)) j ∙ (ap (λ c. joined (map stmt_tokens xs) ++ (codes "}" ∷ c)) f ∙ sym (braces (joined (map stmt_tokens xs)) (else_level o))) in (
+      CStmtKind-F.If x xs o,
+      (
+        ap (λ a. codes "if" ∷ codes "(" ∷ (a ++ (codes ")" ∷ codes "{" ∷ (b ++ (codes "}" ∷ c))))) i
+            ∙ (ap (λ us. codes "if" ∷ codes "(" ∷ (expr_tokens x ++ (codes ")" ∷ codes "{" ∷ us))) inner
+            ∙ ap (λ us. codes "if" ∷ codes "(" ∷ us) (sym (parens (expr_tokens x) (braced (map stmt_tokens xs) ++ else_level o)))),
+        both (spells_expr x) (all_of (map spells_stmt xs) && else_ok o) h (both (all_of (map spells_stmt xs)) (else_ok o) k s),
+      ),
+    )
 
 pub loop_told : (own : Token) → is_turn_name own ≡ true → {ts a b : List Token}
     → ts ≡ own ∷ codes "=" ∷ codes "0" ∷ codes ";" ∷ codes "while" ∷ codes "(" ∷ (a ++ (codes ")" ∷ codes "{" ∷ own ∷ codes "=" ∷ codes "bl_turn" ∷ codes "(" ∷ own ∷ codes ")" ∷ codes ";" ∷ (b ++ (codes "}" ∷ codes "}" ∷ []))))
     → Told expr_tokens spells_expr a → Row stmt_tokens spells_stmt b → Told stmt_level stmt_ok (codes "{" ∷ codes "uint32_t" ∷ ts)
-loop_told own turned {ts} {a} {b} e (x, (i, h)) (xs, (j, k)) =
-    (CStmtKind-F.Loop own x xs, (
-      ap (λ ts. codes "{" ∷ codes "uint32_t" ∷ ts) e
-      ∙ (ap (λ a. turn_declared own ++ (codes "(" ∷ (a ++ (codes ")" ∷ (turn_counted own ++ (b ++ (codes "}" ∷ codes "}" ∷ []))))))) i
-      ∙ (ap (λ b. turn_declared own ++ (codes "(" ∷ (expr_tokens x ++ (codes ")" ∷ (turn_counted own ++ (b ++ (codes "}" ∷ codes "}" ∷ []))))))) j
-      ∙ ap (λ us. turn_declared own ++ (codes "(" ∷ us)) (sym (parens (expr_tokens x) (turn_counted own ++ (joined (map stmt_tokens xs) ++ (codes "}" ∷ codes "}" ∷ []))))))),
-      both (is_turn_name own) (spells_expr x && all_of (map spells_stmt xs)) turned (both (spells_expr x) (all_of (map spells_stmt xs)) h k)))
+loop_told own turned {ts} {a} {b} e (x, (i, h)) (xs, (j, k)) = (
+  CStmtKind-F.Loop own x xs,
+  (
+    ap (λ ts. codes "{" ∷ codes "uint32_t" ∷ ts) e
+        ∙ (ap (λ a. turn_declared own ++ (codes "(" ∷ (a ++ (codes ")" ∷ (turn_counted own ++ (b ++ (codes "}" ∷ codes "}" ∷ []))))))) i
+        ∙ (ap (λ b. turn_declared own ++ (codes "(" ∷ (expr_tokens x ++ (codes ")" ∷ (turn_counted own ++ (b ++ (codes "}" ∷ codes "}" ∷ []))))))) j
+        ∙ ap (λ us. turn_declared own ++ (codes "(" ∷ us)) (sym (parens (expr_tokens x) (turn_counted own ++ (joined (map stmt_tokens xs) ++ (codes "}" ∷ codes "}" ∷ []))))))),
+    both (is_turn_name own) (spells_expr x && all_of (map spells_stmt xs)) turned (both (spells_expr x) (all_of (map spells_stmt xs)) h k),
+  ),
+)
 
 -- ---- structs and functions
 
@@ -351,20 +361,27 @@ pub length_told : (t : Token) → Spelled Elements t → {ts : List Token} → t
 length_told t s e = (Some s.n, (e ∙ ap (λ t. codes "[" ∷ t ∷ codes "]" ∷ []) s.is, is_a_length s.n s.low s.high))
 
 pub member_told : {a c ts : List Token} (name : List ℕ) → ts ≡ a ++ (name ∷ (c ++ codes ";" ∷ [])) → Told type_tokens spells_type a → is_name name ≡ true → Told length_tokens spells_length c → Told member_tokens spells_member ts
-member_told {a} {c} name e (ty, (i, h)) named (l, (j, k)) =
-    (record { ty = ty; name = name; length = l }, (e ∙ (ap (λ a. a ++ (name ∷ (c ++ codes ";" ∷ []))) i ∙ ap (λ c. type_tokens ty ++ (name ∷ (c ++ codes ";" ∷ []))) j),
-    both (spells_type ty) (is_name name && spells_length l) h (both (is_name name) (spells_length l) named k)))
+member_told {a} {c} name e (ty, (i, h)) named (l, (j, k)) = (
+  record { ty = ty; name = name; length = l },
+  (
+    e ∙ (ap (λ a. a ++ (name ∷ (c ++ codes ";" ∷ []))) i ∙ ap (λ c. type_tokens ty ++ (name ∷ (c ++ codes ";" ∷ []))) j),
+    both (spells_type ty) (is_name name && spells_length l) h (both (is_name name) (spells_length l) named k),
+  ),
+)
 
 pub structure_told : (name : List ℕ) → is_struct_name name ≡ true → {ts a b : List Token} → ts ≡ codes "struct" ∷ name ∷ codes "{" ∷ (a ++ (b ++ (codes "}" ∷ codes ";" ∷ [])))
     → Told member_tokens spells_member a → Row member_tokens spells_member b → Told struct_tokens spells_struct ts
 structure_told name h {ts} {a} {b} e x xs = by_row (row_more member_tokens spells_member {ts = a ++ b} refl x xs)
   where
     by_members : (ms : List CMember) → a ++ b ≡ joined (map member_tokens ms) → has_any ms ≡ true → all_of (map spells_member ms) ≡ true → Told struct_tokens spells_struct ts
-    by_members ms i any k =
-        (record { place = nowhere; name = name; members = ms }, (
-          e
-          ∙ ap (λ us. codes "struct" ∷ name ∷ codes "{" ∷ us) (sym (append_assoc a b (codes "}" ∷ codes ";" ∷ [])) ∙ (ap (λ us. us ++ (codes "}" ∷ codes ";" ∷ [])) i ∙ sym (braces (joined (map member_tokens ms)) (codes ";" ∷ [])))),
-          both (is_struct_name name) (has_any ms && all_of (map spells_member ms)) h (both (has_any ms) (all_of (map spells_member ms)) any k)))
+    by_members ms i any k = (
+      record { place = nowhere; name = name; members = ms },
+      (
+        e
+            ∙ ap (λ us. codes "struct" ∷ name ∷ codes "{" ∷ us) (sym (append_assoc a b (codes "}" ∷ codes ";" ∷ [])) ∙ (ap (λ us. us ++ (codes "}" ∷ codes ";" ∷ [])) i ∙ sym (braces (joined (map member_tokens ms)) (codes ";" ∷ [])))),
+        both (is_struct_name name) (has_any ms && all_of (map spells_member ms)) h (both (has_any ms) (all_of (map spells_member ms)) any k),
+      ),
+    )
 
     by_row : Row member_tokens spells_member (a ++ b) → Told struct_tokens spells_struct ts
     by_row (ms, (i, k)) = by_members (x.0 ∷ xs.0) (ap (λ a. a ++ b) x.1.0 ∙ ap (λ b. member_tokens x.0 ++ b) xs.1.0) refl (both (spells_member x.0) (all_of (map spells_member xs.0)) x.1.1 xs.1.1)
@@ -391,17 +408,26 @@ function_told fixed result returned name h {ts} {a} {b} {c} e (ps, (i, p)) (ls, 
     let inner : ts ≡ name ∷ codes "(" ∷ rest =
     e ∙ (ap (λ a. name ∷ codes "(" ∷ (a ++ (codes ")" ∷ codes "{" ∷ (b ++ (c ++ codes "}" ∷ []))))) i
     ∙ (ap (λ b. name ∷ codes "(" ∷ (with_commas (map param_tokens ps) ++ (codes ")" ∷ codes "{" ∷ (b ++ (c ++ codes "}" ∷ []))))) j
-    ∙ ap (λ c. name ∷ codes "(" ∷ (with_commas (map param_tokens ps) ++ (codes ")" ∷ codes "{" ∷ (joined (map local_tokens ls) ++ (c ++ codes "}" ∷ []))))) k)) in
-    (record { place = nowhere; fixed = fixed; result = result; name = name; params = ps; locals = ls; body = ss }, (
-      ap (λ ts. static_if fixed ++ (ret ++ ts)) inner
-      ∙ (ap (λ us. static_if fixed ++ us) (sym (append_assoc ret (name ∷ codes "(" ∷ []) rest)) ∙ sym (append_assoc (static_if fixed) (ret ++ (name ∷ codes "(" ∷ [])) rest)),
-      both (spells_returned result) _ returned (both (is_function_name name) _ h (both (all_of (map spells_param ps)) _ p (both (all_of (map spells_local ls)) (all_of (map spells_stmt ss)) l s)))))
+    ∙ ap (λ c. name ∷ codes "(" ∷ (with_commas (map param_tokens ps) ++ (codes ")" ∷ codes "{" ∷ (joined (map local_tokens ls) ++ (c ++ codes "}" ∷ []))))) k)) in (
+      record { place = nowhere; fixed = fixed; result = result; name = name; params = ps; locals = ls; body = ss },
+      (
+        ap (λ ts. static_if fixed ++ (ret ++ ts)) inner
+            ∙ (ap (λ us. static_if fixed ++ us) (sym (append_assoc ret (name ∷ codes "(" ∷ []) rest)) ∙ sym (append_assoc (static_if fixed) (ret ++ (name ∷ codes "(" ∷ [])) rest)),
+        both (spells_returned result) _ returned (both (is_function_name name) _ h (both (all_of (map spells_param ps)) _ p (both (all_of (map spells_local ls)) (all_of (map spells_stmt ss)) l s))),
+      ),
+    )
 
 pub file_told : {ts a b c d e f : List Token} → ts ≡ a ++ d → d ≡ b ++ e → e ≡ c ++ f → Told struct_tokens spells_struct a → Row struct_tokens spells_struct b → Told func_tokens spells_func c → Row func_tokens spells_func f → ToldFile ts
-file_told {ts} {a} {b} {c} {d} {e} {f} p q s (x, (i, h)) (xs, (j, k)) (y, (u, v)) (ys, (w, z)) =
-    (x ∷ xs, (y ∷ ys, (
+file_told {ts} {a} {b} {c} {d} {e} {f} p q s (x, (i, h)) (xs, (j, k)) (y, (u, v)) (ys, (w, z)) = (
+  x ∷ xs,
+  (
+    y ∷ ys,
+    (
       p ∙ (ap (λ d. a ++ d) (q ∙ ap (λ e. b ++ e) (s ∙ (ap (λ c. c ++ f) u ∙ ap (λ f. func_tokens y ++ f) w)))
-      ∙ (ap (λ a. a ++ (b ++ (func_tokens y ++ joined (map func_tokens ys)))) i
-      ∙ (ap (λ b. struct_tokens x ++ (b ++ (func_tokens y ++ joined (map func_tokens ys)))) j
-      ∙ sym (append_assoc (struct_tokens x) (joined (map struct_tokens xs)) (func_tokens y ++ joined (map func_tokens ys)))))),
-      (both (spells_struct x) (all_of (map spells_struct xs)) h k, both (spells_func y) (all_of (map spells_func ys)) v z))))
+          ∙ (ap (λ a. a ++ (b ++ (func_tokens y ++ joined (map func_tokens ys)))) i
+          ∙ (ap (λ b. struct_tokens x ++ (b ++ (func_tokens y ++ joined (map func_tokens ys)))) j
+          ∙ sym (append_assoc (struct_tokens x) (joined (map struct_tokens xs)) (func_tokens y ++ joined (map func_tokens ys)))))),
+      (both (spells_struct x) (all_of (map spells_struct xs)) h k, both (spells_func y) (all_of (map spells_func ys)) v z),
+    ),
+  ),
+)

@@ -1,5 +1,5 @@
 -- The tokens that a derivation of a text is the derivation of are those of a file.
-use Rattle.std.proofs.Common.{◌≡◌, ℕ, Bool, true, false, ◌&&◌, List, [], ◌∷◌, ◌++◌, map, Option, Some, None, refl, sym, ap, ◌∙◌, subst, append_assoc, append-nil, codes}
+use Rattle.std.proofs.Common.{◌≡◌, ℕ, true, false, List, [], ◌∷◌, ◌++◌, map, Option, Some, None, refl, sym, ap, ◌∙◌, subst, append_assoc, append-nil, codes}
 use Rattle.bl_tree.specs.declared.scalar.Width.TheVariants.{W8, W16, W32, W64}
 use Rattle.bl_tree.specs.declared.c.CType.TheVariants as ctype
 use Rattle.bl_tree.specs.declared.c.CExprKind.{CExprKind-F}
@@ -18,7 +18,7 @@ use Rattle.bl_csyntax.specs.declared.grammar.Part.TheVariants.{File, Structs, St
 use Rattle.bl_csyntax.specs.declared.grammar.Group.TheVariants.{ScalarTypes, PlainLiterals, Operators, IndexFunctions}
 use Rattle.bl_csyntax.specs.declared.grammar.Digits.TheVariants.{Elements, Int, Negated, Unsigned}
 use Rattle.bl_csyntax.specs.declared.grammar.Roomed.{Roomed}
-use Rattle.bl_csyntax.specs.Classes.{Class, matches}
+use Rattle.bl_csyntax.specs.Classes.{matches}
 use Rattle.bl_csyntax.specs.Grammar.{Wanted, Production, productions, placed, IsAmong, Produces, Derives}
 use Rattle.bl_csyntax.specs.Grammar.IsAmong.{here, later}
 use Rattle.bl_cspelling.proofs.Pieces.{name_is, group_is, callee_is, struct_word, function_word, number_is, scalar_is, operator_is}
@@ -494,6 +494,7 @@ tree_of Args p one room own turned ts h = args_of p one room own turned ts h
 tree_of ArgRest p one room own turned ts h = arg_rest_of p one room own turned ts h
 tree_of Arg p one room own turned ts h = arg_of p one room own turned ts h
 tree_of Place p one room own turned ts h = place_of p one room own turned ts h
+
 built : (whole : Roomed) (next : Option Token) (wanted : List Wanted) → Produces whole next wanted → (ts : List Token) → Trees wanted ts → Tree whole.part ts
 built whole next wanted made ts h = tree_of whole.part made.production made.is_one whole.room made.name made.is_turn ts (subst (λ w. Trees w ts) made.made h)
 
