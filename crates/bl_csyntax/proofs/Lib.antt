@@ -3,6 +3,7 @@ pub mod Checks
 pub mod Digits
 pub mod Expecting
 pub mod Failing
+pub mod Once
 pub mod Picking
 pub mod PieceLemmas
 pub mod Predictive

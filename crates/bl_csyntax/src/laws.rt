@@ -9,6 +9,13 @@ ghost use Rattle.bl_csyntax.specs.Grammar.{Wanted, whole, Derives, SpellText};
 ghost use Rattle.bl_csyntax.specs.Tables.{absent, pick};
 ghost use Rattle.bl_csyntax.specs.Expects.{Expects, StandsNext};
 ghost use Rattle.bl_csyntax.specs.Stack.{Stands};
+ghost use Rattle.bl_csyntax.specs.Rules.{Passes, FailsFirst};
+
+/// A text fails at one place, or at none.
+pub fn first_failure_is_one()
+    ensures one { (text : List ℕ) (start at other : ℕ) → FailsFirst text start at → FailsFirst text start other → at ≡ other }
+    ensures none { (text : List ℕ) (start at : ℕ) → Passes text start → ¬ FailsFirst text start at }
+{}
 
 /// In a text the pieces that parts stand for are determined: the grammar is read in one way.
 pub fn a_text_is_read_in_one_way()
