@@ -6,7 +6,6 @@ mod make_stmt;
 mod parser;
 mod reader;
 mod refusal;
-mod scan;
 
 pub use parser::parse;
 pub use refusal::CRefusal;
