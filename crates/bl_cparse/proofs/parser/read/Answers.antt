@@ -1,4 +1,4 @@
-use Rattle.std.proofs.Common.{length, drop, refl, sym, ◌∙◌}
+use Rattle.std.proofs.Common.{length, drop, sym, ◌∙◌}
 use Rattle.bl_ctext.specs.declared.prelude.TheConstants.{PRELUDE}
 use Rattle.bl_csyntax.specs.Pieces.{pieces}
 use Rattle.bl_cparse.proofs.FileLemmas.{spells, is_file, whole_tokens, passes_tokens, passes_flat}
