@@ -1,5 +1,6 @@
 -- From the pieces of a text to the file that it spells.
-use Rattle.std.proofs.Common.{◌≡◌, ◌≢◌, ℕ, ◌≤◌, Bool, true, false, ◌&&◌, nat_le, ◌==◌, List, ◌++◌, length, map, drop, refl, sym, ap, ◌∙◌, subst, arith}
+use Rattle.std.proofs.Common.{◌≡◌, ◌≢◌, ℕ, ◌≤◌, ◌<◌, ◌^◌, Bool, true, false, nat_le, ◌==◌, List, ◌++◌, length, map, drop, refl, sym, ap, ◌∙◌, subst, inl, inr, arith}
+use Rattle.std.specs.Prelude.{Option, Some, None, MatchOption}
 use Rattle.std.specs.List.{starts_with}
 use Rattle.std.proofs.lemmas.Slice.Eq.{starts_is}
 use Rattle.std.proofs.lemmas.Bool.Decides.{nat_tests, Decides-eqb}
@@ -11,10 +12,15 @@ use Rattle.bl_ctext.specs.declared.prelude.TheConstants.{PRELUDE}
 use Rattle.bl_ctext.specs.Token.{Token, SpacedC}
 use Rattle.bl_ctext.specs.Cut.{are_tokens}
 use Rattle.bl_ctext.specs.Spelling.{struct_tokens, func_tokens, tokens_of}
-use Rattle.bl_ctext.specs.Spellable.{has_any, is_spellable, shallow, most_open, spells_func, spells_struct}
+use Rattle.bl_ctext.specs.Spellable.{has_any, is_spellable, most_open, spells_func, spells_struct}
 use Rattle.bl_ctext.proofs.Bytes.{both}
 use Rattle.bl_csyntax.specs.Pieces.{pieces}
-use Rattle.bl_cparse.proofs.Spaced.{spaced}
+use Rattle.bl_ctext.specs.declared.file.CFile.{CFile}
+use Rattle.bl_csyntax.specs.Rules.{Passes, FailsFirst}
+use Rattle.bl_cspelling.proofs.Depths.{text_kept}
+use Rattle.bl_cspelling.proofs.Passing.{spells_some}
+use Rattle.bl_cspelling.proofs.Spaced.{spaced}
+use Rattle.bl_cparse.specs.Places.{SpellsNone}
 
 at_most : (a b : ℕ) → a ≤ b → nat_le a b ≡ true
 at_most a b h = grind (arith, nat_tests)
@@ -51,3 +57,37 @@ other_front text r h k rest e =
     let front : text ≡ PRELUDE.now ++ rest = e ∙ ap (λ (p : List ℕ). p ++ rest) (sym prelude_is) in
     let yes : r ≡ true = (starts_is Decides-eqb text PRELUDE.now r h).1 rest front in
     cc
+
+-- the pieces of a text that passes are tokens, and few enough brackets are open
+pub passes_tokens : (text : List ℕ) (start : ℕ) → Passes text start → are_tokens (pieces (drop start text)) ≡ true
+passes_tokens text start passes = (text_kept (pieces (drop start text)) passes).0
+
+pub passes_flat : (text : List ℕ) (start : ℕ) → Passes text start → most_open 0 (pieces (drop start text)) ≤ 2000
+passes_flat text start passes = (text_kept (pieces (drop start text)) passes).1
+
+-- a text that passes spells a file
+pub passes_some : (text : List ℕ) → text ≡ prelude ++ drop (length PRELUDE.now) text → Passes text (length PRELUDE.now) → SpellsNone text → ⊥
+passes_some text front passes none = by_file (spells_some (drop (length PRELUDE.now) text) passes)
+  where
+    by_file : (file : CFile) × SpacedC (tokens_of file.structs file.funcs) (drop (length PRELUDE.now) text) → ⊥
+    by_file (file, spaced) = none file (drop (length PRELUDE.now) text, (front, spaced))
+
+-- the place at which a text fails
+pub place_short : (text : List ℕ) (start at : ℕ) → length text ≤ 67108864 → FailsFirst text start at → at < 2 ^ 32
+place_short text start at short (inl piece) = let inside : at < length text = piece.there.inside in omega (arith, short, inside)
+place_short text start at short (inr end) = let is : at ≡ length text = end.at_end in omega (arith, short, is)
+
+pub place_is : (text : List ℕ) (at : ℕ) → FailsFirst text (length PRELUDE.now) at → FailsFirst text (length prelude) at
+place_is text at fails = subst (λ (p : List ℕ). FailsFirst text (length p) at) prelude_is fails
+
+-- what the test of the pieces says, by its answer
+pub failed_at : (text : List ℕ) (start : ℕ) (fault : Option ℕ) (at : ℕ) → fault ≡ Some at → MatchOption fault (Passes text start) (FailsFirst text start) → FailsFirst text start at
+failed_at text start None at e h = cc
+failed_at text start (Some found) at e h = subst (FailsFirst text start) (some_same e) h
+  where
+    some_same : {a b : ℕ} → Some a ≡ Some b → a ≡ b
+    some_same e = cc
+
+pub passed : (text : List ℕ) (start : ℕ) (fault : Option ℕ) → fault ≡ None → MatchOption fault (Passes text start) (FailsFirst text start) → Passes text start
+passed text start None e h = h
+passed text start (Some found) e h = cc

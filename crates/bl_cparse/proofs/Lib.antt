@@ -3,7 +3,5 @@ pub mod ListLemmas
 pub mod NestLemmas
 pub mod PartialLemmas
 pub mod PlaceLemmas
-pub mod Spaced
 pub mod StmtLemmas
 pub mod TokenLemmas
-pub mod Unique

@@ -1,5 +1,5 @@
 -- How what is read of an expression changes, where a part of it is read.
-use Rattle.std.proofs.Common.{◌≡◌, Bool, true, List, [], ◌∷◌, ◌++◌, map, refl, sym, ap, ◌∙◌, append_assoc, append-nil}
+use Rattle.std.proofs.Common.{◌≡◌, true, List, [], ◌∷◌, ◌++◌, map, refl, sym, ap, ◌∙◌, append_assoc, append-nil}
 use Rattle.std.specs.Prelude.{codes}
 use Rattle.bl_tree.specs.Reduce.{joined}
 use Rattle.bl_tree.specs.declared.c.CArg.{CArg}

@@ -1,10 +1,10 @@
 -- A statement has a token.
-use Rattle.std.proofs.Common.{◌≡◌, ℕ, ◌≤◌, List, [], ◌∷◌, ◌++◌, length, map, Some, None, subst, arith}
+use Rattle.std.proofs.Common.{◌≤◌, [], length, Some, None, subst, arith}
 use Rattle.std.specs.Prelude.{codes}
 use Rattle.bl_tree.specs.declared.place.Place.{Place as TextPlace}
-use Rattle.bl_tree.specs.declared.c.CStmt.{CStmt, fold-roll-CStmt, roll-CStmt, ind-CStmt}
+use Rattle.bl_tree.specs.declared.c.CStmt.{CStmt, fold-roll-CStmt, roll-CStmt}
 use Rattle.bl_tree.specs.declared.c.CStmtKind.{CStmtKind, CStmtKind-F, fold-roll-CStmtKind, map-CStmtKind, roll-CStmtKind, ind-CStmtKind}
-use Rattle.bl_ctext.specs.Spelling.{stmt_tokens, stmt_kind_tokens, place_tokens, ccall_tokens, turn_declared}
+use Rattle.bl_ctext.specs.Spelling.{stmt_tokens, stmt_kind_tokens, place_tokens, ccall_tokens}
 use Rattle.bl_cparse.proofs.ListLemmas.{some_behind}
 
 abbrev OfKind : CStmtKind → Type 0

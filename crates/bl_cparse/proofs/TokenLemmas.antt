@@ -1,5 +1,5 @@
 -- Tokens have bytes.
-use Rattle.std.proofs.Common.{◌≡◌, ℕ, ◌<◌, ◌^◌, true, List, [], ◌∷◌, refl}
+use Rattle.std.proofs.Common.{◌≡◌, ℕ, ◌<◌, ◌^◌, true, [], ◌∷◌, refl}
 use Rattle.std.specs.Fmt.{decimal}
 use Rattle.bl_ctext.specs.Token.{Token, is_token}
 use Rattle.bl_ctext.specs.Names.{is_name, is_struct_name, is_function_name, is_callee, is_turn_name}

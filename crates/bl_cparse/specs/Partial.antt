@@ -10,7 +10,6 @@ use Rattle.bl_cparse.specs.declared.parser.expr.CallFront.{CallFront}
 use Rattle.bl_cparse.specs.declared.parser.expr.PlaceFront.{PlaceFront}
 use Rattle.bl_cparse.specs.declared.parser.expr.Use.{Use}
 use Rattle.bl_cparse.specs.declared.parser.expr.Use.TheVariants.{Value, Address}
-use Rattle.bl_cparse.specs.declared.parser.expr.IndexFront.{IndexFront}
 use Rattle.bl_cparse.specs.declared.parser.expr.Held.{Held}
 use Rattle.bl_cparse.specs.declared.parser.expr.Held.TheVariants as held
 use Rattle.bl_cparse.specs.declared.parser.expr.Next.{Next}

@@ -1,6 +1,9 @@
 -- Where a text shows that it spells no file.
-use Rattle.std.specs.Prelude.{◌≡◌, ◌≢◌, ℕ, ◌<◌, ◌≤◌, List, length, slice_index}
+use Rattle.std.specs.Prelude.{◌≡◌, ◌≢◌, ℕ, ◌<◌, ◌≤◌, ⊤, List, length, slice_index}
 use Rattle.bl_ctext.specs.Prelude.{prelude}
+use Rattle.bl_ctext.specs.SpellsC.{SpellsC}
+use Rattle.bl_ctext.specs.declared.file.CFile.{CFile}
+use Rattle.bl_csyntax.specs.Rules.{FailsFirst}
 use Rattle.bl_cparse.specs.declared.refusal.CRefusal.{CRefusal}
 use Rattle.bl_cparse.specs.declared.refusal.CRefusal.TheVariants.{NotSubset, NoMemory}
 
@@ -15,3 +18,12 @@ pub record Leaves (text : List ℕ) (at : ℕ) : Type 0 where
 abbrev pub LeavesPrelude : List ℕ → CRefusal → Type 0
 LeavesPrelude text (NotSubset at) = Leaves text at
 LeavesPrelude text NoMemory = ⊥
+
+-- the bytes spell no file
+abbrev pub SpellsNone : List ℕ → Type 0
+SpellsNone text = (file : CFile) → SpellsC file text → ⊥
+
+-- the refusal names the place where what stands behind the prelude stops beginning a text, or memory was wanting
+abbrev pub RefusesAt : List ℕ → CRefusal → Type 0
+RefusesAt text (NotSubset at) = FailsFirst text (length prelude) at
+RefusesAt text NoMemory = ⊤

@@ -1,13 +1,11 @@
 //! Texts of the C subset read back (docs/C_SUBSET.md, "Grammar").
 #![tactic(auto)]
 
-pub mod laws;
 mod make;
 mod make_stmt;
 mod parser;
 mod reader;
 mod refusal;
-mod scan;
 
 pub use parser::parse;
 pub use refusal::CRefusal;

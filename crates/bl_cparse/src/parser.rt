@@ -13,11 +13,12 @@ ghost use Rattle.std.specs.Prelude.{◌≡◌, ◌≢◌, ℕ, ◌<◌, ◌≤�
 ghost use Rattle.bl_ctext.specs.Prelude.{prelude};
 ghost use Rattle.bl_ctext.specs.declared.prelude.TheConstants.{PRELUDE};
 ghost use Rattle.bl_ctext.specs.SpellsC.{SpellsC};
-ghost use Rattle.bl_cparse.specs.Places.{LeavesPrelude};
+ghost use Rattle.bl_csyntax.specs.Rules.{Passes};
+ghost use Rattle.bl_cparse.specs.Places.{LeavesPrelude, RefusesAt, SpellsNone};
 
 use crate::reader::Reader;
 use crate::refusal::CRefusal;
-use crate::scan;
+use bl_csyntax::check;
 use bl_ctext::{CFile, PRELUDE};
 use std::alloc::Global;
 
@@ -29,11 +30,15 @@ pub fn parse(alloc: Global, text: &[u8]) -> Result<CFile, CRefusal>
     requires { length text.now ≤ 67108864 }
     ensures file { IfOk result (λ file. SpellsC file text.now) }
     ensures prelude { ((rest : List ℕ) → text.now ≢ prelude ++ rest) → IsErrAnd result (LeavesPrelude text.now) }
+    ensures place { (rest : List ℕ) → text.now ≡ prelude ++ rest → SpellsNone text.now → IsErrAnd result (RefusesAt text.now) }
 {
     if !text.starts_with(PRELUDE) {
         return Err(left_prelude(text));
     }
-    behind_prelude(alloc, text)
+    match behind_prelude(alloc, text) {
+        Ok(file) => Ok(file),
+        Err(refusal) => Err(refusal),
+    }
 }
 
 /// Why a text spells no file that doesn't begin with the prelude.
@@ -52,14 +57,30 @@ fn behind_prelude(alloc: Global, text: &[u8]) -> Result<CFile, CRefusal>
     requires short { length text.now ≤ 67108864 }
     requires long { length PRELUDE.now ≤ length text.now }
     requires begins { text.now ≡ prelude ++ drop (length PRELUDE.now) text.now }
+    ensures file { IfOk result (λ file. SpellsC file text.now) }
+    ensures place { SpellsNone text.now → IsErrAnd result (RefusesAt text.now) }
+{
+    match check(alloc, text, PRELUDE.len()) {
+        Ok(Some(at)) => Err(CRefusal::NotSubset { at: at as u32 }),
+        Ok(None) => match read(alloc, text) {
+            Ok(file) => Ok(file),
+            Err(refusal) => Err(refusal),
+        },
+        Err(_) => Err(CRefusal::NoMemory),
+    }
+}
+
+/// The file that a text spells whose pieces behind the prelude spell one.
+fn read(alloc: Global, text: &[u8]) -> Result<CFile, CRefusal>
+    requires short { length text.now ≤ 67108864 }
+    requires long { length PRELUDE.now ≤ length text.now }
+    requires begins { text.now ≡ prelude ++ drop (length PRELUDE.now) text.now }
+    requires passes { Passes text.now (length PRELUDE.now) }
     ensures { IfOk result (λ file. SpellsC file text.now) }
 {
     let mut reader = Reader::new(alloc, text, PRELUDE.len());
     let structs = item::structs(&mut reader)?;
     let funcs = item::funcs(&mut reader)?;
-    if !scan::is_kept(alloc, text, PRELUDE.len()) {
-        return Err(reader.refusal());
-    }
     Ok(CFile { structs, funcs })
 }
 

@@ -8,10 +8,10 @@ ghost use Rattle.bl_ctext.specs.Names.{is_name, is_callee};
 ghost use Rattle.bl_ctext.specs.Spelling.{with_commas, root_tokens, index_front, place_tokens, step_tokens, index_tokens, ccall_tokens, arg_tokens};
 ghost use Rattle.bl_ctext.specs.Spellable.{is_length, spells_place, spells_step, spells_index, spells_call, spells_arg};
 
+use crate::make;
 use crate::parser::{expr, literal, name};
 use crate::reader::Reader;
 use crate::refusal::CRefusal;
-use crate::make;
 use bl_csyntax::words;
 use bl_tree::c::{CArg, CCall, CIndex, CPlace, CStep};
 use bl_tree::{List, Text};

@@ -1,10 +1,12 @@
-use Rattle.std.proofs.Common.{length, drop, refl, sym, ◌∙◌}
+use Rattle.std.proofs.Common.{length}
 use Rattle.bl_ctext.specs.declared.prelude.TheConstants.{PRELUDE}
-use Rattle.bl_cparse.proofs.FileLemmas.{spells}
+use Rattle.bl_cparse.proofs.FileLemmas.{passes_some, place_is, failed_at, passed}
 use Rattle.bl_cparse.proofs.parser.behind_prelude.Goals as goal
 
-pub returns : goal.returns
-returns c =
-    spells c.in_ok-structs.structs c.in_ok-funcs.funcs c.args.text.now (drop (length PRELUDE.now) c.args.text.now) c.structs.new.r
-    c.requires.begins
-    (sym c.new-reader.ensures ∙ c.in_ok-structs.ensures.0) c.in_ok-funcs.ensures.0 (c.if-not-is_kept.ensures.tokens refl)
+pub returns-in-Ok-Some-clause-place : goal.returns-in-Ok-Some-clause-place
+returns-in-Ok-Some-clause-place c =
+    λ none. place_is c.args.text.now c.in-Ok-Some.at (failed_at c.args.text.now (length PRELUDE.now) c.in-Ok-Some.field-0 c.in-Ok-Some.at c.in-Ok-Some.field-0-is c.in-Ok-Some.ensures)
+
+pub returns-in-Err-read-clause-place : goal.returns-in-Err-read-clause-place
+returns-in-Err-read-clause-place c =
+    λ none. absurd (passes_some c.args.text.now c.requires.begins (passed c.args.text.now (length PRELUDE.now) c.in-Ok-None.field-0 c.in-Ok-None.field-0-is c.in-Ok-None.ensures) none)

@@ -1,4 +1,4 @@
-use Rattle.std.proofs.Common.{refl, ◌++◌, ◌∷◌, [], map}
+use Rattle.std.proofs.Common.{map}
 use Rattle.std.specs.Prelude.{codes}
 use Rattle.bl_ctext.specs.Spelling.{with_commas, arg_tokens}
 use Rattle.bl_cparse.specs.Partial.{on_stack, called_front, args_before, partial_tokens}

@@ -1,5 +1,4 @@
-use Rattle.std.proofs.Common.{◌∙◌, ◌++◌}
-use Rattle.bl_ctext.specs.Spelling.{expr_tokens}
+use Rattle.std.proofs.Common.{◌∙◌}
 use Rattle.bl_cparse.specs.Partial.{held_tokens, spells_held}
 use Rattle.bl_cparse.proofs.NestLemmas.{all_but}
 use Rattle.bl_cparse.proofs.PartialLemmas.{taken_off}

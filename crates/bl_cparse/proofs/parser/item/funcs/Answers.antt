@@ -1,7 +1,6 @@
-use Rattle.std.proofs.Common.{◌≡◌, ◌++◌, IsTrue, map}
 use Rattle.bl_ctext.specs.Spelling.{func_tokens}
 use Rattle.bl_ctext.specs.Spellable.{spells_func}
-use Rattle.bl_cparse.proofs.ListLemmas.{joined_more, commas_more, any_more, all_more}
+use Rattle.bl_cparse.proofs.ListLemmas.{joined_more, any_more, all_more}
 use Rattle.bl_cparse.proofs.parser.item.funcs.Goals as goal
 
 pub loop-funcs-preserved : goal.loop-funcs-preserved

@@ -1,7 +1,6 @@
-use Rattle.std.proofs.Common.{◌≡◌, ◌++◌, IsTrue, map}
 use Rattle.bl_ctext.specs.Spelling.{local_tokens}
 use Rattle.bl_ctext.specs.Spellable.{spells_local}
-use Rattle.bl_cparse.proofs.ListLemmas.{joined_more, commas_more, any_more, all_more}
+use Rattle.bl_cparse.proofs.ListLemmas.{joined_more, all_more}
 use Rattle.bl_cparse.proofs.parser.item.locals.Goals as goal
 
 pub loop-locals-preserved : goal.loop-locals-preserved

@@ -1,7 +1,7 @@
 use Rattle.std.proofs.Common.{◌≡◌, ◌++◌, IsTrue, length, map}
 use Rattle.bl_tree.specs.Reduce.{all_of, joined}
 use Rattle.bl_ctext.specs.Spelling.{local_tokens}
-use Rattle.bl_ctext.specs.Spellable.{has_any, spells_local}
+use Rattle.bl_ctext.specs.Spellable.{spells_local}
 use Rattle.bl_cparse.proofs.parser.item.locals.Given as goal
 
 abbrev pub invariant-loop-locals : goal.invariant-loop-locals

@@ -1,7 +1,6 @@
-use Rattle.std.proofs.Common.{◌≡◌, ◌++◌, IsTrue, map}
 use Rattle.bl_ctext.specs.Spelling.{member_tokens}
 use Rattle.bl_ctext.specs.Spellable.{spells_member}
-use Rattle.bl_cparse.proofs.ListLemmas.{joined_more, commas_more, any_more, all_more}
+use Rattle.bl_cparse.proofs.ListLemmas.{joined_more, any_more, all_more}
 use Rattle.bl_cparse.proofs.parser.item.members.Goals as goal
 
 pub loop-members-preserved : goal.loop-members-preserved

@@ -1,7 +1,6 @@
-use Rattle.std.proofs.Common.{◌≡◌, ◌++◌, IsTrue, map}
 use Rattle.bl_ctext.specs.Spelling.{param_tokens}
 use Rattle.bl_ctext.specs.Spellable.{spells_param}
-use Rattle.bl_cparse.proofs.ListLemmas.{joined_more, commas_more, any_more, all_more}
+use Rattle.bl_cparse.proofs.ListLemmas.{commas_more, any_more, all_more}
 use Rattle.bl_cparse.proofs.parser.item.params.Goals as goal
 
 pub loop-params-preserved : goal.loop-params-preserved

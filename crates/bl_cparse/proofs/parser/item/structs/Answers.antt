@@ -1,7 +1,6 @@
-use Rattle.std.proofs.Common.{◌≡◌, ◌++◌, IsTrue, map}
 use Rattle.bl_ctext.specs.Spelling.{struct_tokens}
 use Rattle.bl_ctext.specs.Spellable.{spells_struct}
-use Rattle.bl_cparse.proofs.ListLemmas.{joined_more, commas_more, any_more, all_more}
+use Rattle.bl_cparse.proofs.ListLemmas.{joined_more, any_more, all_more}
 use Rattle.bl_cparse.proofs.parser.item.structs.Goals as goal
 
 pub loop-structs-preserved : goal.loop-structs-preserved

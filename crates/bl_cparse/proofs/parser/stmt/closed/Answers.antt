@@ -1,7 +1,7 @@
-use Rattle.std.proofs.Common.{ap, map, refl, ◌++◌, ◌∙◌}
+use Rattle.std.proofs.Common.{map, refl, ◌∙◌}
 use Rattle.bl_tree.specs.Reduce.{joined}
 use Rattle.bl_ctext.specs.Spelling.{stmt_tokens}
-use Rattle.bl_ctext.proofs.Bytes.{and-fst, and-snd}
+use Rattle.bl_ctext.proofs.Bytes.{and-fst}
 use Rattle.bl_cparse.specs.Nest.{frame_tokens, spells_frame}
 use Rattle.bl_cparse.proofs.NestLemmas.{all_but, one_more, read_close}
 use Rattle.bl_cparse.proofs.parser.stmt.closed.Goals as goal

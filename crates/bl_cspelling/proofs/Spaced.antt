@@ -1,10 +1,10 @@
 -- The pieces of bytes, where each is a token, are the tokens that the bytes are spaced into.
-use Rattle.std.proofs.Common.{◌≡◌, ◌⊎◌, ℕ, suc, ◌+◌, ◌≤◌, Bool, true, false, ◌&&◌, ◌||◌, cond, List, [], ◌∷◌, ◌++◌, length, map, refl, sym, ap, ◌∙◌, subst, inl, inr, arith}
+use Rattle.std.proofs.Common.{◌≡◌, ◌⊎◌, ℕ, ◌≤◌, Bool, true, false, ◌&&◌, ◌||◌, cond, List, [], ◌∷◌, ◌++◌, length, map, refl, sym, ap, ◌∙◌, subst, inl, inr, arith}
 use Rattle.std.proofs.lemmas.Bool.Decides.{nat_tests}
 use Rattle.bl_tree.specs.Reduce.{all_of}
-use Rattle.bl_ctext.specs.Token.{Token, is_blank, is_word_byte, is_sign_byte, is_double_sign, is_word, is_sign, is_token, IsLongest, SpacedC}
+use Rattle.bl_ctext.specs.Token.{Token, is_blank, is_word_byte, is_double_sign, is_word, is_sign, is_token, IsLongest, SpacedC}
 use Rattle.bl_ctext.specs.Cut.{put_before, are_tokens}
-use Rattle.bl_ctext.proofs.Bytes.{and-fst, and-snd, both, either, or-fst, or-snd, joined-not_blank, word_byte-not_blank}
+use Rattle.bl_ctext.proofs.Bytes.{and-fst, and-snd, both, either, or-fst, or-snd, word_byte-not_blank}
 use Rattle.bl_csyntax.specs.Pieces.{cut_off, pieces}
 
 -- whether the bytes may go on a piece: a word by a byte of words, a single byte by the second of a sign

@@ -1,5 +1,5 @@
-use Rattle.bl_cparse.proofs.Unique.{tokens_are, one_list}
-use Rattle.bl_cparse.proofs.laws.tokens_are_pieces.Goals as goal
+use Rattle.bl_cspelling.proofs.Unique.{tokens_are, one_list}
+use Rattle.bl_cspelling.proofs.laws.tokens_are_pieces.Goals as goal
 
 pub returns-clause-cut : goal.returns-clause-cut
 returns-clause-cut c = tokens_are

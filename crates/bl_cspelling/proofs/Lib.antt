@@ -1,0 +1,14 @@
+pub mod Spaced
+pub mod Unique
+pub mod Tests
+pub mod Rows
+pub mod Words
+pub mod Layers
+pub mod OnlyExpr
+pub mod OnlyStmt
+pub mod OnlyFile
+pub mod Pieces
+pub mod Told
+pub mod Trees
+pub mod Depths
+pub mod Passing

@@ -1,0 +1,26 @@
+//! Laws of spelled files, each the contract of a function that does nothing.
+
+ghost use Rattle.std.specs.Prelude.{◌≡◌, ℕ, List};
+ghost use Rattle.bl_ctext.specs.Token.{Token, SpacedC};
+ghost use Rattle.bl_ctext.specs.SpellsC.{SpellsC};
+ghost use Rattle.bl_ctext.specs.declared.file.CFile.{CFile};
+ghost use Rattle.bl_ctext.specs.Spelling.{tokens_of};
+ghost use Rattle.bl_csyntax.specs.Pieces.{pieces};
+ghost use Rattle.bl_csyntax.specs.Grammar.{SpellText};
+ghost use Rattle.bl_cspelling.specs.Placeless.{SameButPlaces};
+
+/// Bytes that are spaced into tokens are cut into just these, so they are spaced in one way.
+pub fn tokens_are_pieces()
+    ensures cut { (tokens : List Token) (text : List ℕ) → SpacedC tokens text → pieces text ≡ tokens }
+    ensures one { (tokens others : List Token) (text : List ℕ) → SpacedC tokens text → SpacedC others text → tokens ≡ others }
+{}
+
+/// Bytes spell at most one file, if the places that its parts have are left aside.
+pub fn bytes_spell_one_file()
+    ensures { (file other : CFile) (bytes : List ℕ) → SpellsC file bytes → SpellsC other bytes → SameButPlaces file other }
+{}
+
+/// Bytes whose pieces derive a text of the grammar are spaced into the tokens of a file.
+pub fn what_derives_is_spelled()
+    ensures { (text : List ℕ) → SpellText (pieces text) → (file : CFile) × SpacedC (tokens_of file.structs file.funcs) text }
+{}
