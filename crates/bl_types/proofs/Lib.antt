@@ -1,0 +1,4 @@
+pub mod GatherLemmas
+pub mod JudgedLemmas
+pub mod NoteLemmas
+pub mod SettleLemmas

@@ -1,5 +1,6 @@
 -- Expressions and targets with their types, and what fails in them.
 use Rattle.std.specs.Prelude.{ℕ, ℤ, pos, neg_ℤ, ◌+◌, min, ◌^◌, Bool, true, false, ◌&&◌, nat_eq, is_some, List, [], ◌∷◌, ◌++◌, map, length, slice_get, bytes_eq, filter_map, Option, Some, None, option_map, option_and_then, if◌then◌else◌}
+use Rattle.std.specs.List.{cons_option}
 use Rattle.bl_tree.specs.declared.place.Place.{Place}
 use Rattle.bl_tree.specs.declared.scalar.Op.{Op}
 use Rattle.bl_tree.specs.declared.scalar.Scalar.{Scalar as ScalarType}
@@ -76,13 +77,22 @@ after_failures earlier formed = record { form = formed.form; failures = earlier 
 abbrev pub same_or_unfit : Ty → Place → Ty → Expr → Settled
 same_or_unfit wanted at ty e = if same_type wanted ty then kept e else unfit at
 
--- an expression, of which a type or nothing is wanted; an open one takes it, and `int32` where nothing is wanted
+-- an expression of which this type is wanted; an open one takes it
+abbrev pub wanted_as : Ty → Place → Form → Settled
+wanted_as wanted at Failing = nothing
+wanted_as wanted at (Open e) = given wanted e
+wanted_as wanted at (Of ty e) = same_or_unfit wanted at ty e
+
+-- an expression of which nothing is wanted; an open one takes `int32`
+abbrev pub unwanted : Form → Settled
+unwanted Failing = nothing
+unwanted (Open e) = settled int32 e
+unwanted (Of ty e) = kept e
+
+-- an expression of which a type or nothing is wanted
 abbrev pub fitting : Option Ty → Place → Form → Settled
-fitting wanted at Failing = nothing
-fitting (Some ty) at (Open e) = given ty e
-fitting None at (Open e) = settled int32 e
-fitting (Some wanted) at (Of ty e) = same_or_unfit wanted at ty e
-fitting None at (Of ty e) = kept e
+fitting (Some wanted) at form = wanted_as wanted at form
+fitting None at form = unwanted form
 
 abbrev pub in_context : Option Ty → Judged → Settled
 in_context wanted judged = behind judged.failures (fitting wanted judged.place judged.form)
@@ -109,33 +119,34 @@ one_formed at op (Of ty a) = formed_as (option_and_then (one_type op) (scalar_in
 abbrev pub type_of_two : Op → Ty → Ty → Option Ty
 type_of_two op ty other = option_and_then (λ s. option_and_then (two_type op s) (scalar_in other)) (scalar_in ty)
 
--- both operands have these types, or one of them fails
-abbrev pub two_made : Place → Op → Ty → Ty → Option Expr → Option Expr → Formed
-two_made at op ty other (Some a) (Some b) = formed_as (type_of_two op ty other) at (two at op a b)
-two_made at op ty other _ _ = failing
+-- operands that are made, where this is the type of what the operator gives; none where it doesn't take them
+abbrev pub operands_made : Place → Op → Option Ty → Option Expr → Option Expr → Formed
+operands_made at op ty (Some a) (Some b) = formed_as ty at (two at op a b)
+operands_made at op ty _ _ = failing
 
-abbrev pub two_of : Place → Op → Ty → Ty → Settled → Settled → Formed
-two_of at op ty other a b = after_failures a.failures (after_failures b.failures (two_made at op ty other a.made b.made))
+abbrev pub two_of : Place → Op → Option Ty → Settled → Settled → Formed
+two_of at op ty a b = after_failures a.failures (after_failures b.failures (operands_made at op ty a.made b.made))
 
 -- an open operand beside one of this type: a logical operator wants a bool of it, which it never is
 abbrev pub beside : Op → Ty → Expr → Settled
 beside op ty e = if is_logical op then unfit (out-Expr e).place else given ty e
 
+-- two open operands that take `int32`
+abbrev pub settled_two : Place → Op → Expr → Expr → Formed
+settled_two at op a b = two_of at op (type_of_two op (scalar int32) (scalar int32)) (beside op (scalar int32) a) (beside op (scalar int32) b)
+
 -- two open operands: they stay open, or take `int32`
 abbrev pub open_two : Place → Op → Expr → Expr → Formed
-open_two at op a b =
-    if keeps_two_open op
-    then record { form = Open (two at op a b); failures = [] }
-    else two_of at op (scalar int32) (scalar int32) (beside op (scalar int32) a) (beside op (scalar int32) b)
+open_two at op a b = if keeps_two_open op then record { form = Open (two at op a b); failures = [] } else settled_two at op a b
 
 abbrev pub two_formed : Place → Op → Form → Form → Formed
 two_formed at op Failing b = failing
 two_formed at op (Open a) Failing = failing
 two_formed at op (Open a) (Open b) = open_two at op a b
-two_formed at op (Open a) (Of ty b) = two_of at op ty ty (beside op ty a) (kept b)
+two_formed at op (Open a) (Of ty b) = two_of at op (type_of_two op ty ty) (beside op ty a) (kept b)
 two_formed at op (Of ty a) Failing = failing
-two_formed at op (Of ty a) (Open b) = two_of at op ty ty (kept a) (beside op ty b)
-two_formed at op (Of ty a) (Of other b) = two_of at op ty other (kept a) (kept b)
+two_formed at op (Of ty a) (Open b) = two_of at op (type_of_two op ty ty) (kept a) (beside op ty b)
+two_formed at op (Of ty a) (Of other b) = two_of at op (type_of_two op ty other) (kept a) (kept b)
 
 abbrev pub cast : Place → ScalarType → Expr → Expr
 cast at target a = roll-Expr (record { place = at; what = what.Cast target a })
@@ -186,18 +197,18 @@ abbrev pub field_in : List StructDef → List ℕ → Ty-F Ty → Option FieldAt
 field_in structs name (Ty-F.Struct s) = option_and_then (λ def. field_among name def.fields 0) (slice_get structs s)
 field_in structs name _ = None
 
--- how far one part leads, and what fails at it
+-- where one part leads, and what fails at it
 pub record Stepped : Type 0 where
   pub ty : Option Ty
-  pub parts : List Part
+  pub part : Option Part
   pub failures : List Failure
 
 -- a part leads nowhere, and this fails
 abbrev pub lost : List Failure → Stepped
-lost failures = record { ty = None; parts = []; failures = failures }
+lost failures = record { ty = None; part = None; failures = failures }
 
 abbrev pub field_found : Place → Option FieldAt → Stepped
-field_found at (Some field) = record { ty = Some field.ty; parts = part.Field field.position ∷ []; failures = [] }
+field_found at (Some field) = record { ty = Some field.ty; part = Some (part.Field field.position); failures = [] }
 field_found at None = lost (fails_at 9 at)
 
 -- a step to a field: it fails at the field's name where what is reached has no such field
@@ -215,27 +226,39 @@ as_index at Failing = nothing
 as_index at (Open e) = settled int32 e
 as_index at (Of ty e) = whole_or_unfit at (scalar_in ty) e
 
-abbrev pub index_made : Ty → Option Expr → List Failure → Stepped
-index_made element (Some e) failures = record { ty = Some element; parts = part.Index e ∷ []; failures = failures }
-index_made element None failures = lost failures
+abbrev pub index_made : Ty → Settled → Stepped
+index_made element index = record { ty = option_map (λ e. element) index.made; part = option_map part.Index index.made; failures = index.failures }
 
-abbrev pub index_of : Option Ty → Judged → Stepped
-index_of (Some element) index =
-    let settled : Settled = behind index.failures (as_index index.place index.form) in index_made element settled.made settled.failures
-index_of None index = lost (index.failures ++ fails_at 9 index.place)
+-- it fails at the index where what is reached is no array
+abbrev pub element_found : Option Ty → Place → Form → Stepped
+element_found (Some element) at index = index_made element (as_index at index)
+element_found None at index = lost (fails_at 9 at)
 
--- a step to an element: it fails at the index where what is reached is no array
-abbrev pub to_element : Judged → Option Ty → Stepped
-to_element index (Some ty) = index_of (element_in (out-Ty ty)) index
-to_element index None = lost index.failures
+-- a step to an element, behind the form of its index
+abbrev pub to_element : Place → Form → Option Ty → Stepped
+to_element at index (Some ty) = element_found (element_in (out-Ty ty)) at index
+to_element at index None = lost []
+
+abbrev pub after_index : Judged → Stepped → Stepped
+after_index index step = record { ty = step.ty; part = step.part; failures = index.failures ++ step.failures }
+
+-- how far parts lead, and what fails at them
+pub record Led : Type 0 where
+  pub ty : Option Ty
+  pub parts : List Part
+  pub failures : List Failure
+
+-- the one, where it is made, and then the rest
+abbrev pub with_made : {A : Type 0} → Option A → List A → List A
+with_made one rest = cons_option one rest
 
 -- one part after another
-abbrev pub stepped : List (Option Ty → Stepped) → Option Ty → Stepped
+abbrev pub stepped : List (Option Ty → Stepped) → Option Ty → Led
 stepped [] ty = record { ty = ty; parts = []; failures = [] }
 stepped (step ∷ rest) ty =
     let first : Stepped = step ty in
-    let further : Stepped = stepped rest first.ty in
-    record { ty = further.ty; parts = first.parts ++ further.parts; failures = first.failures ++ further.failures }
+    let further : Led = stepped rest first.ty in
+    record { ty = further.ty; parts = with_made first.part further.parts; failures = first.failures ++ further.failures }
 
 -- what a target leads to, and what fails in it
 pub record Targeted : Type 0 where
@@ -265,10 +288,10 @@ constant_found n None = found.Nothing
 
 abbrev pub targeted_from : Environment → Place → Root → List (Option Ty → Stepped) → Targeted
 targeted_from env at (root.Variable k) steps =
-    let reached : Stepped = stepped steps (type_of_variable (slice_get env.vars k)) in
+    let reached : Led = stepped steps (type_of_variable (slice_get env.vars k)) in
     record { found = path_found at k reached.parts reached.ty; failures = reached.failures }
 targeted_from env at (root.Constant k) steps =
-    let reached : Stepped = stepped steps (type_of_constant (slice_get env.constants k)) in
+    let reached : Led = stepped steps (type_of_constant (slice_get env.constants k)) in
     record { found = constant_found (value_of_constant (slice_get env.constants k)) (option_and_then scalar_in reached.ty); failures = reached.failures }
 
 abbrev pub read : Place → Path → Expr
@@ -348,8 +371,8 @@ judged_kind env (NamedExprKind-F.Call name f inputs) at =
     call_formed at name f (fitted inputs (params_of (slice_get env.units f))) (slice_get env.units f)
 
 abbrev pub judged_part : Environment → NamedPart-F (Place → Formed) (Option Ty → Stepped) Judged Targeted → Option Ty → Stepped
-judged_part env (NamedPart-F.Field name) = to_field env.structs name
-judged_part env (NamedPart-F.Index index) = to_element index
+judged_part env (NamedPart-F.Field name) ty = to_field env.structs name ty
+judged_part env (NamedPart-F.Index index) ty = after_index index (to_element index.place index.form ty)
 
 abbrev pub judged_layer : NamedExpr-F (Place → Formed) (Option Ty → Stepped) Judged Targeted → Judged
 judged_layer e = let formed : Formed = e.what e.place in record { place = e.place; form = formed.form; failures = formed.failures }
@@ -360,6 +383,10 @@ judged_target env target = targeted_from env target.place target.root target.par
 -- an expression
 abbrev pub judged : Environment → NamedExpr → Judged
 judged env = fold-NamedExpr (Place → Formed) (Option Ty → Stepped) Judged Targeted (judged_kind env) (judged_part env) judged_layer (judged_target env)
+
+-- a call in an expression; the name of the function stands at the second place
+abbrev pub called : Environment → Place → Place → ℕ → List NamedExpr → Formed
+called env at name f inputs = call_formed at name f (fitted (map (judged env) inputs) (params_of (slice_get env.units f))) (slice_get env.units f)
 
 -- a part of a target, from the type of what is reached before it
 abbrev pub step_of : Environment → NamedPart → Option Ty → Stepped

@@ -34,7 +34,7 @@ use Rattle.bl_types.specs.declared.failure.Failure.{Failure}
 use Rattle.bl_types.specs.declared.form.Found.{Found}
 use Rattle.bl_types.specs.declared.form.Found.TheVariants as found
 use Rattle.bl_types.specs.Declarations.{Declaring, Initial, after_constant, after_variable, initial, unchanged, with_variable}
-use Rattle.bl_types.specs.Expressions.{Stepped, Targeted, all_failures, all_made, but_first, first_type, fitted, in_context, judged, miscounted, params_of, path_found, stepped, targeted, to_field, type_of_variable}
+use Rattle.bl_types.specs.Expressions.{Led, Targeted, all_failures, all_made, but_first, first_type, fitted, in_context, judged, miscounted, params_of, path_found, stepped, targeted, to_field, type_of_variable, with_made}
 use Rattle.bl_types.specs.Failures.{fails_at, unless}
 use Rattle.bl_types.specs.Settled.{Settled}
 
@@ -51,10 +51,6 @@ pub record Block (A : Type 0) : Type 0 where
   pub env : Environment
   pub made : List A
   pub failures : List Failure
-
-abbrev pub with_made : {A : Type 0} → Option A → List A → List A
-with_made (Some x) rest = x ∷ rest
-with_made None rest = rest
 
 -- one part after another
 abbrev pub in_order : {A : Type 0} → List (Environment → Walked A) → Environment → Block A
@@ -93,7 +89,7 @@ type_found _ = None
 -- a path, which leads by fields alone
 abbrev pub targeted_path : Environment → NamedPath → Targeted
 targeted_path env path =
-    let reached : Stepped = stepped (map (to_field env.structs) path.fields) (type_of_variable (slice_get env.vars path.root)) in
+    let reached : Led = stepped (map (to_field env.structs) path.fields) (type_of_variable (slice_get env.vars path.root)) in
     record { found = path_found path.place path.root reached.parts reached.ty; failures = reached.failures }
 
 -- a path that stands for an output or takes a result: it is made where its type fits

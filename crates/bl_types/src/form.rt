@@ -1,5 +1,7 @@
 //! What is known of expressions and targets.
 
+ghost use Rattle.std.specs.Prelude.{◌≡◌, None};
+
 use bl_tree::tree::{Expr, Part, Path, Ty};
 use bl_tree::{List, Scalar};
 
@@ -38,4 +40,24 @@ pub struct Valued {
     pub ty: Option<Ty>,
     /// The value, where it has a type that fits.
     pub value: Option<Expr>,
+}
+
+/// Where one part of a target leads.
+#[derive(Drop)]
+pub struct Step {
+    /// The type there, unless the part fails.
+    pub ty: Option<Ty>,
+    pub part: Option<Part>,
+}
+
+impl Step {
+    pub fn lost() -> Step
+        ensures ty { result.ty ≡ None }
+        ensures part { result.part ≡ None }
+    {
+        Step {
+            ty: None,
+            part: None,
+        }
+    }
 }

@@ -2,5 +2,11 @@
 #![tactic(auto)]
 
 mod environment;
+mod expr;
 mod failure;
 mod form;
+mod operators;
+mod settle;
+mod slices;
+mod target;
+mod types;
