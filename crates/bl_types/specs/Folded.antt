@@ -6,6 +6,7 @@ use Rattle.bl_tree.specs.declared.tree.ExprKind.TheOpen.{ExprKind-F, Part-F, Pat
 use Rattle.bl_eval.specs.declared.datum.Operand.{Operand}
 use Rattle.bl_eval.specs.Meaning.{Scope, View, meaning_of, operand}
 use Rattle.bl_types.specs.declared.failure.Failure.{Failure}
+use Rattle.bl_types.specs.declared.fold.Number.{Number}
 use Rattle.bl_types.specs.Failures.{fails_at}
 
 abbrev pub constant_kind : ExprKind-F Bool (Unit {0}) Bool (Unit {0}) → Bool
@@ -38,6 +39,10 @@ no_values = record { now = []; before = [] }
 -- the number that an expression gives there, with its type; none where it traps
 abbrev pub number_in : Expr → Option Operand
 number_in e = operand (meaning_of nowhere e) no_values
+
+-- a number with its type, as an operator takes it
+abbrev pub as_operand : Number → Operand
+as_operand a = record { ty = a.ty; n = a.n }
 
 -- the number of a constant's value; none where that is made of other things too, or traps
 abbrev pub folded : Expr → Option Operand

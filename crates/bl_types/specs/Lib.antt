@@ -10,3 +10,4 @@ pub mod Units
 pub mod Programs
 pub mod Rules
 pub mod Cause
+pub mod States

@@ -36,36 +36,36 @@ surely_returns = fold-NamedStmt Bool Bool Bool Bool kind_returns arm_returns bra
 abbrev pub arm_surely_returns : NamedArm → Bool
 arm_surely_returns = fold-NamedArm Bool Bool Bool Bool kind_returns arm_returns branch_returns layer_returns
 
--- ---- the places at which a `return` stands
+-- ---- each `return` in a part of a body, where none may stand; at the `return`
 
-abbrev pub kind_returned_at : NamedStmtKind-F (Place → List Place) (List Place) (List Place) (List Place) → Place → List Place
-kind_returned_at (NamedStmtKind-F.Return e) at = at ∷ []
-kind_returned_at (NamedStmtKind-F.If arms other) at = joined arms ++ joined other
-kind_returned_at (NamedStmtKind-F.Cobegin branches) at = joined branches
-kind_returned_at (NamedStmtKind-F.When guard e body) at = joined body
-kind_returned_at (NamedStmtKind-F.Repeat body) at = joined body
-kind_returned_at (NamedStmtKind-F.Until body e) at = joined body
-kind_returned_at (NamedStmtKind-F.While e body) at = joined body
-kind_returned_at _ at = []
+abbrev pub kind_strays : NamedStmtKind-F (Place → List Failure) (List Failure) (List Failure) (List Failure) → Place → List Failure
+kind_strays (NamedStmtKind-F.Return e) at = fails_at 15 at
+kind_strays (NamedStmtKind-F.If arms other) at = joined arms ++ joined other
+kind_strays (NamedStmtKind-F.Cobegin branches) at = joined branches
+kind_strays (NamedStmtKind-F.When guard e body) at = joined body
+kind_strays (NamedStmtKind-F.Repeat body) at = joined body
+kind_strays (NamedStmtKind-F.Until body e) at = joined body
+kind_strays (NamedStmtKind-F.While e body) at = joined body
+kind_strays _ at = []
 
-abbrev pub arm_returned_at : NamedArm-F (Place → List Place) (List Place) (List Place) (List Place) → List Place
-arm_returned_at arm = joined arm.body
+abbrev pub arm_layer_strays : NamedArm-F (Place → List Failure) (List Failure) (List Failure) (List Failure) → List Failure
+arm_layer_strays arm = joined arm.body
 
-abbrev pub branch_returned_at : NamedBranch-F (Place → List Place) (List Place) (List Place) (List Place) → List Place
-branch_returned_at branch = joined branch.body
+abbrev pub branch_layer_strays : NamedBranch-F (Place → List Failure) (List Failure) (List Failure) (List Failure) → List Failure
+branch_layer_strays branch = joined branch.body
 
-abbrev pub layer_returned_at : NamedStmt-F (Place → List Place) (List Place) (List Place) (List Place) → List Place
-layer_returned_at s = s.what s.place
+abbrev pub layer_strays : NamedStmt-F (Place → List Failure) (List Failure) (List Failure) (List Failure) → List Failure
+layer_strays s = s.what s.place
 
--- those in a statement, itself included
-abbrev pub returned_at : NamedStmt → List Place
-returned_at = fold-NamedStmt (Place → List Place) (List Place) (List Place) (List Place) kind_returned_at arm_returned_at branch_returned_at layer_returned_at
+-- in a statement, itself included
+abbrev pub strays_in : NamedStmt → List Failure
+strays_in = fold-NamedStmt (Place → List Failure) (List Failure) (List Failure) (List Failure) kind_strays arm_layer_strays branch_layer_strays layer_strays
 
-abbrev pub returned_in_arm : NamedArm → List Place
-returned_in_arm = fold-NamedArm (Place → List Place) (List Place) (List Place) (List Place) kind_returned_at arm_returned_at branch_returned_at layer_returned_at
+abbrev pub strays_in_arm : NamedArm → List Failure
+strays_in_arm = fold-NamedArm (Place → List Failure) (List Failure) (List Failure) (List Failure) kind_strays arm_layer_strays branch_layer_strays layer_strays
 
-abbrev pub returned_in_branch : NamedBranch → List Place
-returned_in_branch = fold-NamedBranch (Place → List Place) (List Place) (List Place) (List Place) kind_returned_at arm_returned_at branch_returned_at layer_returned_at
+abbrev pub strays_in_branch : NamedBranch → List Failure
+strays_in_branch = fold-NamedBranch (Place → List Failure) (List Failure) (List Failure) (List Failure) kind_strays arm_layer_strays branch_layer_strays layer_strays
 
 abbrev pub is_return_kind : {A B C D : Type 0} → NamedStmtKind-F A B C D → Bool
 is_return_kind (NamedStmtKind-F.Return e) = true
@@ -74,14 +74,11 @@ is_return_kind _ = false
 abbrev pub is_return : NamedStmt → Bool
 is_return s = is_return_kind (out-NamedStmtKind (out-NamedStmt s).what)
 
--- those in a body that stand anywhere but last directly in it
-abbrev pub strays : List NamedStmt → List Place
+-- in a body, but for a `return` that stands last directly in it
+abbrev pub strays : List NamedStmt → List Failure
 strays [] = []
-strays (s ∷ []) = if is_return s then [] else returned_at s
-strays (s ∷ t ∷ rest) = returned_at s ++ strays (t ∷ rest)
-
-abbrev pub stray_failures : List Place → List Failure
-stray_failures places = joined (map (fails_at 15) places)
+strays (s ∷ []) = if is_return s then [] else strays_in s
+strays (s ∷ t ∷ rest) = strays_in s ++ strays (t ∷ rest)
 
 -- ---- what a unit owes
 
@@ -97,5 +94,5 @@ activity_returns unit = is_none unit.result || last_of (map is_return unit.body)
 abbrev pub return_failures : NamedUnit → List Failure
 return_failures unit =
     if is_activity unit.kind
-    then unless (activity_returns unit) 15 unit.name.place ++ stray_failures (strays unit.body)
+    then unless (activity_returns unit) 15 unit.name.place ++ strays unit.body
     else unless (function_returns unit) 15 unit.name.place

@@ -26,7 +26,8 @@ use Rattle.bl_named.specs.declared.item.NamedVar.{NamedVar}
 use Rattle.bl_named.specs.declared.stmt.NamedArm.{NamedArm, fold-NamedArm}
 use Rattle.bl_named.specs.declared.stmt.NamedBranch.{NamedBranch, fold-NamedBranch}
 use Rattle.bl_named.specs.declared.stmt.NamedPath.{NamedPath}
-use Rattle.bl_named.specs.declared.stmt.NamedStmt.{NamedStmt, fold-NamedStmt}
+use Rattle.bl_named.specs.declared.stmt.NamedStmt.{NamedStmt, fold-NamedStmt, out-NamedStmt}
+use Rattle.bl_named.specs.declared.stmt.NamedStmtKind.{fold-NamedStmtKind}
 use Rattle.bl_named.specs.declared.stmt.NamedStmtKind.TheOpen.{NamedStmtKind-F, NamedArm-F, NamedBranch-F, NamedStmt-F}
 use Rattle.bl_types.specs.declared.environment.Environment.{Environment}
 use Rattle.bl_types.specs.declared.environment.Variable.{Variable}
@@ -279,6 +280,12 @@ walked_layer s env = let kind : Walked StmtKind = s.what s.place env in walked k
 -- a statement, where these are the constants of the program and the variables of its unit
 abbrev pub walked_stmt : List NamedConstant → List NamedVar → NamedStmt → Walk Stmt
 walked_stmt constants vars = fold-NamedStmt (Place → Walk StmtKind) (Walk Arm) (Walk Branch) (Walk Stmt) (walked_kind constants vars) walked_arm walked_branch walked_layer
+
+-- what a statement is made of, in its place
+abbrev pub kind_walked : List NamedConstant → List NamedVar → NamedStmt → Walk StmtKind
+kind_walked constants vars s =
+    fold-NamedStmtKind (Place → Walk StmtKind) (Walk Arm) (Walk Branch) (Walk Stmt) (walked_kind constants vars) walked_arm walked_branch walked_layer
+    (out-NamedStmt s).what (out-NamedStmt s).place
 
 abbrev pub arm_walked : List NamedConstant → List NamedVar → NamedArm → Walk Arm
 arm_walked constants vars = fold-NamedArm (Place → Walk StmtKind) (Walk Arm) (Walk Branch) (Walk Stmt) (walked_kind constants vars) walked_arm walked_branch walked_layer

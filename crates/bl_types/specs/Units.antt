@@ -34,9 +34,9 @@ pub record Result : Type 0 where
 abbrev pub result_typed : Place → List Failure → Ty → Result
 result_typed name earlier ty = record { result = scalar_in ty; failures = earlier ++ unless (is_some (scalar_in ty)) 9 name }
 
-abbrev pub result_of : List NamedConstant → Environment → Place → Option NamedType → Result
-result_of constants env name (Some written) = result_typed name (bad_lengths env.constants written) (written_type env.constants written)
-result_of constants env name None = record { result = None; failures = [] }
+abbrev pub result_of : Environment → Place → Option NamedType → Result
+result_of env name (Some written) = result_typed name (bad_lengths env.constants written) (written_type env.constants written)
+result_of env name None = record { result = None; failures = [] }
 
 abbrev pub var_typed : Variable → Ty → Var
 var_typed var ty = record { name = var.name; place = var.place; ty = ty; role = var.role }
@@ -52,30 +52,30 @@ vars_of vars = filter_map var_of vars
 abbrev pub entered : NamedUnit → Environment → Environment
 entered unit env = record env { vars = []; kind = unit.kind; result = None }
 
-abbrev pub unit_of : NamedUnit → Option ScalarType → Block Stmt → UnitDef
-unit_of unit result body = record {
+abbrev pub unit_of : NamedUnit → List Stmt → Environment → UnitDef
+unit_of unit body env = record {
   name = unit.name.text;
   place = unit.name.place;
   kind = unit.kind;
-  vars = vars_of body.env.vars;
+  vars = vars_of env.vars;
   inputs = unit.inputs;
   outputs = unit.outputs;
-  result = result;
-  body = body.made;
+  result = env.result;
+  body = body;
 }
 
--- what is known as a unit is over
-abbrev pub left : NamedUnit → Option ScalarType → Block Stmt → Environment
-left unit result body = record body.env { units = body.env.units ++ unit_of unit result body ∷ []; vars = []; result = None }
+-- what is known as a unit with this body is over
+abbrev pub left : NamedUnit → List Stmt → Environment → Environment
+left unit body env = record env { units = env.units ++ unit_of unit body env ∷ []; vars = []; result = None }
 
 -- after a unit, where these are the constants of the program
 abbrev pub after_unit : List NamedConstant → NamedUnit → Environment → Declaring
 after_unit constants unit env =
     let inside : Declaring = after_parameters unit.vars (entered unit env) in
-    let result : Result = result_of constants inside.env unit.name.place unit.result in
+    let result : Result = result_of inside.env unit.name.place unit.result in
     let body : Block Stmt = walked_block constants unit.vars unit.body (record inside.env { result = result.result }) in
     record {
-      env = left unit result.result body;
+      env = left unit body.made body.env;
       failures = inside.failures ++ (result.failures ++ (body.failures ++ return_failures unit));
     }
 

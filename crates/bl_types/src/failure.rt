@@ -20,7 +20,7 @@ fn same_place(a: Place, b: Place) -> bool
 }
 
 /// By their starts, and then by their ends.
-fn is_before(a: Place, b: Place) -> bool
+pub fn is_before(a: Place, b: Place) -> bool
     ensures { result ≡ is_before a b }
 {
     a.start < b.start || (a.start == b.start && a.end < b.end)
