@@ -1,6 +1,7 @@
 -- What is remembered of failures after some and then others.
-use Rattle.std.proofs.Common.{◌≡◌, List, [], ◌∷◌, ◌++◌, Option, refl, sym, ap, ◌∙◌}
+use Rattle.std.proofs.Common.{◌≡◌, map, List, [], ◌∷◌, ◌++◌, Option, refl, sym, ap, ◌∙◌}
 use Rattle.std.specs.Prelude.{Result, Ok, Err, OnOk}
+use Rattle.bl_tree.specs.Reduce.{joined}
 use Rattle.bl_types.specs.declared.failure.Failure.{Failure}
 use Rattle.bl_types.specs.declared.failure.Notes.{Notes}
 use Rattle.bl_types.specs.Failures.{first_of_all, lesser, noted}
@@ -36,5 +37,11 @@ three_noted_ok r old middle later last first second third given one two same =
 -- one more part of a list
 pub next_noted : (old middle found : Notes) (first given rest : List Failure) → middle ≡ noted old given → given ≡ first → noted old (first ++ rest) ≡ found → noted middle rest ≡ found
 next_noted old middle found first given rest one same h = ap (λ n. noted n rest) (one ∙ ap (noted old) same) ∙ sym (noted-append old first rest) ∙ h
+
+-- one more list of failures
+pub joined_noted : {X : Type 0} (f : X → List Failure) (all rest : List X) (x : X) (old middle found : Notes) → all ≡ x ∷ rest → middle ≡ noted old (f x)
+    → noted old (joined (map f all)) ≡ found → noted middle (joined (map f rest)) ≡ found
+joined_noted f all rest x old middle found is one h =
+    next_noted old middle found (f x) (f x) (joined (map f rest)) one refl (sym (ap (λ l. noted old (joined (map f l))) is) ∙ h)
 
 pub ruleset notes = (noted-append)

@@ -113,10 +113,14 @@ and_then first then_ = record { env = (then_ first.env).env; failures = first.fa
 abbrev pub unchanged : Environment → Declaring
 unchanged env = record { env = env; failures = [] }
 
+-- after one of a unit's variables, where it is a parameter
+abbrev pub after_parameter : NamedVar → Environment → Declaring
+after_parameter var env = if is_parameter var.role then after_variable var env else unchanged env
+
 -- after the parameters among the variables of a unit
 abbrev pub after_parameters : List NamedVar → Environment → Declaring
 after_parameters [] env = unchanged env
-after_parameters (var ∷ rest) env = and_then (if is_parameter var.role then after_variable var env else unchanged env) (after_parameters rest)
+after_parameters (var ∷ rest) env = and_then (after_parameter var env) (after_parameters rest)
 
 -- ---- structs
 

@@ -3,7 +3,7 @@ use Rattle.std.specs.Prelude.{Bool, true, false, ◌&&◌, ◌||◌, is_none, na
 use Rattle.bl_tree.specs.declared.place.Place.{Place}
 use Rattle.bl_tree.specs.Reduce.{all_of, joined}
 use Rattle.bl_tree.specs.Returns.{last_of}
-use Rattle.bl_tree.specs.Typing.{is_activity}
+use Rattle.bl_tree.specs.Typing.{is_activity, is_inhabited}
 use Rattle.bl_named.specs.declared.item.NamedUnit.{NamedUnit}
 use Rattle.bl_named.specs.declared.stmt.NamedArm.{NamedArm, fold-NamedArm}
 use Rattle.bl_named.specs.declared.stmt.NamedBranch.{NamedBranch, fold-NamedBranch}
@@ -74,11 +74,15 @@ is_return_kind _ = false
 abbrev pub is_return : NamedStmt → Bool
 is_return s = is_return_kind (out-NamedStmtKind (out-NamedStmt s).what)
 
+-- a statement directly in a body, by whether another follows it: it may be a `return` where it is the last
+abbrev pub stray : Bool → NamedStmt → List Failure
+stray true s = strays_in s
+stray false s = if is_return s then [] else strays_in s
+
 -- in a body, but for a `return` that stands last directly in it
 abbrev pub strays : List NamedStmt → List Failure
 strays [] = []
-strays (s ∷ []) = if is_return s then [] else strays_in s
-strays (s ∷ t ∷ rest) = strays_in s ++ strays (t ∷ rest)
+strays (s ∷ rest) = stray (is_inhabited rest) s ++ strays rest
 
 -- ---- what a unit owes
 

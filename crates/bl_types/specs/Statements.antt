@@ -264,8 +264,11 @@ walked_kind constants vars (NamedStmtKind-F.Until body e) at env = let all : Blo
 walked_kind constants vars (NamedStmtKind-F.While e body) at env = under [] (condition env e) (in_order body env) what.While
 walked_kind constants vars (NamedStmtKind-F.Return e) at env = returned at e env.result env
 
+abbrev pub arm_of : Expr → List Stmt → Arm
+arm_of test body = roll-Arm (record { test = test; body = body })
+
 abbrev pub walked_arm : NamedArm-F (Place → Walk StmtKind) (Walk Arm) (Walk Branch) (Walk Stmt) → Walk Arm
-walked_arm arm env = under [] (condition env arm.test) (in_order arm.body env) (λ e body. roll-Arm (record { test = e; body = body }))
+walked_arm arm env = under [] (condition env arm.test) (in_order arm.body env) arm_of
 
 abbrev pub walked_branch : NamedBranch-F (Place → Walk StmtKind) (Walk Arm) (Walk Branch) (Walk Stmt) → Walk Branch
 walked_branch branch env =

@@ -68,16 +68,19 @@ unit_of unit body env = record {
 abbrev pub left : NamedUnit → List Stmt → Environment → Environment
 left unit body env = record env { units = env.units ++ unit_of unit body env ∷ []; vars = []; result = None }
 
+-- after the head of a unit: its parameters and its result
+abbrev pub after_head : NamedUnit → Environment → Declaring
+after_head unit env =
+    let inside : Declaring = after_parameters unit.vars (entered unit env) in
+    let result : Result = result_of inside.env unit.name.place unit.result in
+    record { env = record inside.env { result = result.result }; failures = inside.failures ++ result.failures }
+
 -- after a unit, where these are the constants of the program
 abbrev pub after_unit : List NamedConstant → NamedUnit → Environment → Declaring
 after_unit constants unit env =
-    let inside : Declaring = after_parameters unit.vars (entered unit env) in
-    let result : Result = result_of inside.env unit.name.place unit.result in
-    let body : Block Stmt = walked_block constants unit.vars unit.body (record inside.env { result = result.result }) in
-    record {
-      env = left unit body.made body.env;
-      failures = inside.failures ++ (result.failures ++ (body.failures ++ return_failures unit));
-    }
+    let head : Declaring = after_head unit env in
+    let body : Block Stmt = walked_block constants unit.vars unit.body head.env in
+    record { env = left unit body.made body.env; failures = head.failures ++ (body.failures ++ return_failures unit) }
 
 -- ---- the entry
 

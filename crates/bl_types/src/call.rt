@@ -6,19 +6,19 @@ ghost use Rattle.bl_tree.specs.declared.tree.StmtKind.TheVariants.{Call as ACall
 ghost use Rattle.bl_tree.specs.Typing.{may_change};
 ghost use Rattle.bl_types.specs.Expressions.{stepped, to_field};
 ghost use Rattle.bl_types.specs.Failures.{noted};
-ghost use Rattle.bl_types.specs.Statements.{all_lent, arguments, call_walked, counted, has_result, immutable_variable, lent, lent_as, no_result, paths_failures, paths_made, result_type, run_made, run_target, targeted_path};
+ghost use Rattle.bl_types.specs.Statements.{all_lent, arguments, call_walked, counted, has_result, immutable_variable, lent, lent_as, misplaced, no_result, paths_failures, paths_made, result_type, run_target, run_walked, targeted_path};
 
 use crate::environment::Environment;
 use crate::expr::{arguments, miscounted};
 use crate::failure::Notes;
-use crate::form::{Found, Reached};
-use crate::slices::{but_first, element, first_type, inputs_of, outputs_of};
+use crate::form::{Found, Reached, Step};
+use crate::slices::{but_first, element, first_type, inputs_of, keep, outputs_of};
 use crate::target::{path_found, to_field, type_of_variable};
 use crate::types::same_type;
 use bl_named::expr::NamedExpr;
 use bl_named::stmt::NamedPath;
 use bl_raw::name::Name;
-use bl_tree::tree::{Expr, Path, Role, StmtKind, Ty, Unit, Var};
+use bl_tree::tree::{Expr, Path, Role, StmtKind, Ty, Unit, UnitKind, Var};
 use bl_tree::{List, NoMemory, Place};
 use std::alloc::Global;
 
@@ -38,9 +38,13 @@ fn fields(
     let mut parts = List::new(alloc);
     for name in all {
         let next = to_field(alloc, &env.structs, name, ty, notes)?;
-        ty = next.ty;
-        if let Some(part) = next.part {
-            parts.push(part)?;
+        let Step {
+            ty: there,
+            part: made,
+        } = next;
+        ty = there;
+        if let Some(made) = made {
+            parts.push(made)?;
         }
     }
     Ok(Reached { ty, parts })
@@ -74,6 +78,16 @@ fn lent_as(wanted: Option<&Ty>, at: Place, found: Found, notes: &mut Notes) -> O
         }
     }
     Some(path)
+}
+
+/// `await`, `run`, `cobegin` and `when` stand in no function.
+pub fn placed(at: Place, kind: UnitKind, notes: &mut Notes)
+    ensures { notes.new ≡ noted notes.old (misplaced kind at) }
+{
+    match kind {
+        UnitKind::Function => notes.fail(16, at),
+        UnitKind::Activity => {}
+    }
 }
 
 /// Whether a body may write the variable: it is declared by `var`, or an output.
@@ -125,9 +139,8 @@ fn all_lent(
     let mut params = params;
     let mut made = List::new(alloc);
     for path in all {
-        if let Some(output) = lent(alloc, first_type(params), path, env, notes)? {
-            made.push(output)?;
-        }
+        let output = lent(alloc, first_type(params), path, env, notes)?;
+        keep(&mut made, output)?;
         params = but_first(params);
     }
     Ok(made)
@@ -169,7 +182,7 @@ fn given(
     let made = arguments(alloc, inputs, inputs_of(callee), env, notes)?;
     let lent = all_lent(alloc, outputs, outputs_of(callee), env, notes)?;
     counted(at, inputs.len(), outputs.len(), callee, notes);
-    let complete = made.len() == inputs.len() && lent.len() == outputs.len();
+    let complete = (made.len() == inputs.len()) & (lent.len() == outputs.len());
     Ok(Arguments {
         inputs: made,
         outputs: lent,
@@ -266,21 +279,24 @@ fn run_target(
     }
 }
 
+/// A run, whose statement stands at the first place and the name of its activity at the second.
 pub fn run(
     alloc: Global,
-    place: &Option<NamedPath>,
     at: Place,
+    place: &Option<NamedPath>,
+    name: Place,
     a: u32,
     inputs: &[NamedExpr],
     outputs: &[NamedPath],
     env: &Environment,
     notes: &mut Notes,
 ) -> Result<Option<StmtKind>, NoMemory>
-    ensures made { IfOk result (λ made. made ≡ run_made (run_target env.now (slice_get env.now.units a) place.now).made a (arguments env.now at a inputs.now outputs.now)) }
-    ensures notes { OnOk result (notes.new ≡ noted notes.old ((run_target env.now (slice_get env.now.units a) place.now).failures ++ (arguments env.now at a inputs.now outputs.now).failures)) }
+    ensures made { IfOk result (λ made. made ≡ (run_walked at a (run_target env.now (slice_get env.now.units a) place.now) (arguments env.now name a inputs.now outputs.now) env.now).made) }
+    ensures notes { OnOk result (notes.new ≡ noted notes.old (run_walked at a (run_target env.now (slice_get env.now.units a) place.now) (arguments env.now name a inputs.now outputs.now) env.now).failures) }
 {
+    placed(at, env.kind, notes);
     let target = run_target(alloc, place, element(&env.units, a as usize), env, notes)?;
-    let given = given(alloc, at, a, inputs, outputs, env, notes)?;
+    let given = given(alloc, name, a, inputs, outputs, env, notes)?;
     Ok(run_made(target, a, given))
 }
 

@@ -1,10 +1,10 @@
 //! Declarations: initial values, constants, variables, parameters and structs.
-#![tactic(auto, using(crate::proofs::NoteLemmas::notes))]
+#![tactic(auto, using(crate::proofs::NoteLemmas::notes, crate::proofs::StateLemmas::states))]
 
 ghost use Rattle.std.specs.Prelude.{◌≡◌, IfOk, OnOk, map, option_and_then, option_map};
 ghost use Rattle.bl_tree.specs.Types.{scalar_in};
 ghost use Rattle.bl_tree.specs.Reduce.{joined};
-ghost use Rattle.bl_types.specs.Declarations.{after_constant, after_parameters, after_struct, after_variable, constant_failures, constant_of, expr_of_form, field_lengths, field_of, initial, is_parameter, not_folded, optional_lengths, type_of_form, with_variable};
+ghost use Rattle.bl_types.specs.Declarations.{after_constant, after_parameter, after_parameters, after_struct, after_variable, constant_failures, constant_of, expr_of_form, field_lengths, field_of, initial, is_parameter, not_folded, optional_lengths, type_of_form, with_variable};
 ghost use Rattle.bl_types.specs.Failures.{noted};
 ghost use Rattle.bl_types.specs.Folded.{folded, number_or_zero};
 ghost use Rattle.bl_types.specs.States.{after};
@@ -176,14 +176,22 @@ pub fn is_parameter(role: Role) -> bool
     matches!(role, Role::Input | Role::Output)
 }
 
+fn parameter(alloc: Global, var: &NamedVar, state: &mut State) -> Result<(), NoMemory>
+    ensures { OnOk result (state.new ≡ after state.old (after_parameter var.now)) }
+{
+    if is_parameter(var.role) {
+        variable(alloc, var, state)
+    } else {
+        Ok(())
+    }
+}
+
 /// After the parameters among the variables of a unit.
 pub fn parameters(alloc: Global, vars: &[NamedVar], state: &mut State) -> Result<(), NoMemory>
     ensures { OnOk result (state.new ≡ after state.old (after_parameters vars.now)) }
 {
     for var in vars {
-        if is_parameter(var.role) {
-            variable(alloc, var, state)?;
-        }
+        parameter(alloc, var, state)?;
     }
     Ok(())
 }

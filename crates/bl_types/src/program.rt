@@ -1,5 +1,5 @@
 //! The items of a program in source order, and what is said of the whole.
-#![tactic(auto, using(crate::proofs::NoteLemmas::notes))]
+#![tactic(auto, using(crate::proofs::NoteLemmas::notes, crate::proofs::StateLemmas::states))]
 
 ghost use Rattle.std.specs.Prelude.{◌≡◌, IfErr, IfOk, None, OnOk, option_map};
 ghost use Rattle.bl_tree.specs.declared.place.Refusal.TheVariants.{NoMemory as AnyMemory};

@@ -5,7 +5,7 @@ ghost use Rattle.std.specs.Prelude.{◌≡◌, map};
 ghost use Rattle.bl_tree.specs.Reduce.{all_of, joined};
 ghost use Rattle.bl_tree.specs.Returns.{last_of};
 ghost use Rattle.bl_types.specs.Failures.{noted};
-ghost use Rattle.bl_types.specs.Returns.{activity_returns, arm_surely_returns, function_returns, is_return, return_failures, strays, strays_in, strays_in_arm, strays_in_branch, surely_returns};
+ghost use Rattle.bl_types.specs.Returns.{activity_returns, arm_surely_returns, function_returns, is_return, return_failures, stray, strays, strays_in, strays_in_arm, strays_in_branch, surely_returns};
 
 use crate::failure::Notes;
 use bl_named::item::NamedUnit;
@@ -100,14 +100,23 @@ fn strays_in_branches(all: &[NamedBranch], notes: &mut Notes)
     }
 }
 
+/// A statement directly in a body may be a `return` where it is the last.
+fn stray(is_followed: bool, s: &NamedStmt, notes: &mut Notes)
+    ensures { notes.new ≡ noted notes.old (stray is_followed s.now) }
+{
+    if is_followed {
+        strays_in(s, notes);
+    } else if !is_return(s) {
+        strays_in(s, notes);
+    }
+}
+
 /// Each `return` in a body fails, but for one that stands last directly in it.
 fn strays(body: &[NamedStmt], notes: &mut Notes)
     ensures { notes.new ≡ noted notes.old (strays body.now) }
 {
     for (k, s) in body.iter().enumerate() {
-        if k + 1 < body.len() || !is_return(s) {
-            strays_in(s, notes);
-        }
+        stray(k + 1 < body.len(), s, notes);
     }
 }
 

@@ -1,22 +1,22 @@
 //! Statements with their types.
-#![tactic(auto, using(crate::proofs::NoteLemmas::notes))]
+#![tactic(auto, using(crate::proofs::NoteLemmas::notes, crate::proofs::StateLemmas::states))]
 
-ghost use Rattle.std.specs.Prelude.{◌≡◌, IfOk, OnOk, Some, map};
+ghost use Rattle.std.specs.Prelude.{◌≡◌, ◌++◌, IfOk, OnOk, Some, map, option_map};
+ghost use Rattle.bl_tree.specs.declared.tree.StmtKind.TheVariants.{Await, Return, Until, When, While};
 ghost use Rattle.bl_types.specs.Expressions.{targeted};
 ghost use Rattle.bl_types.specs.States.{passed};
-ghost use Rattle.bl_types.specs.Statements.{arm_walked, assign, branch_walked, condition, declare, in_order, kind_walked, misplaced, returned, walked_block};
+ghost use Rattle.bl_types.specs.Statements.{arm_of, arm_walked, assign, branch_walked, condition, declare, in_order, kind_walked, misplaced, returned, stmt_made, walked_block, walked_stmt};
 
-use crate::call::{call, changes, run};
+use crate::call::{call, changes, placed, run};
 use crate::declare::{constant, declare, initial, variable};
 use crate::environment::State;
 use crate::expr::{in_context, target};
-use crate::failure::Notes;
 use crate::form::Found;
-use crate::slices::element;
+use crate::slices::{element, keep};
 use bl_named::expr::{NamedExpr, NamedTarget, Root};
 use bl_named::item::{NamedConstant, NamedVar};
 use bl_named::stmt::{NamedArm, NamedBranch, NamedStmt, NamedStmtKind};
-use bl_tree::tree::{Arm, Branch, Expr, Role, Stmt, StmtKind, Ty, UnitKind};
+use bl_tree::tree::{Arm, Branch, Expr, Guard, Stmt, StmtKind, Ty};
 use bl_tree::{List, NoMemory, Place, Scalar};
 use std::alloc::Global;
 
@@ -33,9 +33,66 @@ fn condition(alloc: Global, e: &NamedExpr, state: &mut State) -> Result<Option<E
 fn in_activity(at: Place, state: &mut State)
     ensures { state.new ≡ passed state.old state.old.env (misplaced state.old.env.kind at) }
 {
-    if matches!(state.env.kind, UnitKind::Function) {
-        state.notes.fail(16, at);
+    placed(at, state.env.kind, &mut state.notes);
+}
+
+fn await_made(test: Option<Expr>) -> Option<StmtKind>
+    ensures { result ≡ option_map Await test }
+{
+    match test {
+        Some(e) => Some(StmtKind::Await(e)),
+        None => None,
     }
+}
+
+fn when_made(guard: Guard, test: Option<Expr>, body: List<Stmt>) -> Option<StmtKind>
+    ensures { result ≡ option_map (λ e. When guard e body) test }
+{
+    match test {
+        Some(e) => Some(StmtKind::When(guard, e, body)),
+        None => None,
+    }
+}
+
+fn while_made(test: Option<Expr>, body: List<Stmt>) -> Option<StmtKind>
+    ensures { result ≡ option_map (λ e. While e body) test }
+{
+    match test {
+        Some(e) => Some(StmtKind::While(e, body)),
+        None => None,
+    }
+}
+
+fn until_made(body: List<Stmt>, test: Option<Expr>) -> Option<StmtKind>
+    ensures { result ≡ option_map (λ e. Until body e) test }
+{
+    match test {
+        Some(e) => Some(StmtKind::Until(body, e)),
+        None => None,
+    }
+}
+
+fn return_made(e: Option<Expr>) -> Option<StmtKind>
+    ensures { result ≡ option_map (λ e. Return (Some e)) e }
+{
+    match e {
+        Some(e) => Some(StmtKind::Return(Some(e))),
+        None => None,
+    }
+}
+
+/// A condition of a statement that stands in no function.
+fn guarded(
+    alloc: Global,
+    at: Place,
+    e: &NamedExpr,
+    state: &mut State,
+) -> Result<Option<Expr>, NoMemory>
+    ensures made { IfOk result (λ made. made ≡ (condition state.old.env e.now).made) }
+    ensures state { OnOk result (state.new ≡ passed state.old state.old.env (misplaced state.old.env.kind at ++ (condition state.old.env e.now).failures)) }
+{
+    in_activity(at, state);
+    condition(alloc, e, state)
 }
 
 fn declared(
@@ -92,6 +149,29 @@ fn assign(
     Ok(made)
 }
 
+/// The expression of a `return`, which stands only where the unit has a result.
+fn returned_value(
+    alloc: Global,
+    at: Place,
+    e: &NamedExpr,
+    state: &mut State,
+) -> Result<Option<Expr>, NoMemory>
+    ensures made { IfOk result (λ made. option_map (λ e. Return (Some e)) made ≡ (returned at (Some e.now) state.old.env.result state.old.env).made) }
+    ensures state { OnOk result (state.new ≡ passed state.old state.old.env (returned at (Some e.now) state.old.env.result state.old.env).failures) }
+{
+    match state.env.result {
+        Some(s) => {
+            let ty = Ty::Scalar(s);
+            in_context(alloc, Some(&ty), e, &state.env, &mut state.notes)
+        }
+        None => {
+            let made = in_context(alloc, None, e, &state.env, &mut state.notes)?;
+            state.notes.fail(15, at);
+            Ok(made)
+        }
+    }
+}
+
 /// A `return` has an expression exactly where its unit has a result.
 fn returned(
     alloc: Global,
@@ -100,29 +180,19 @@ fn returned(
     state: &mut State,
 ) -> Result<Option<StmtKind>, NoMemory>
     ensures made { IfOk result (λ made. made ≡ (returned at e.now state.old.env.result state.old.env).made) }
-    ensures state { OnOk result (state.new ≡ passed state.old (returned at e.now state.old.env.result state.old.env).env (returned at e.now state.old.env.result state.old.env).failures) }
+    ensures state { OnOk result (state.new ≡ passed state.old state.old.env (returned at e.now state.old.env.result state.old.env).failures) }
 {
-    let outcome = state.env.result;
-    let Some(e) = e else {
-        if outcome.is_some() {
-            state.notes.fail(15, at);
-        }
-        return Ok(Some(StmtKind::Return(None)));
-    };
-    let made = match outcome {
-        Some(s) => {
-            let ty = Ty::Scalar(s);
-            in_context(alloc, Some(&ty), e, &state.env, &mut state.notes)?
+    match e {
+        Some(e) => {
+            let made = returned_value(alloc, at, e, state)?;
+            Ok(return_made(made))
         }
         None => {
-            let made = in_context(alloc, None, e, &state.env, &mut state.notes)?;
-            state.notes.fail(15, at);
-            made
+            if state.env.result.is_some() {
+                state.notes.fail(15, at);
+            }
+            Ok(Some(StmtKind::Return(None)))
         }
-    };
-    match made {
-        Some(e) => Ok(Some(StmtKind::Return(Some(e)))),
-        None => Ok(None),
     }
 }
 
@@ -167,25 +237,20 @@ fn kind(
             )
         }
         NamedStmtKind::Await(e) => {
-            in_activity(s.place, state);
-            match condition(alloc, e, state)? {
-                Some(e) => Ok(Some(StmtKind::Await(e))),
-                None => Ok(None),
-            }
+            let test = guarded(alloc, s.place, e, state)?;
+            Ok(await_made(test))
         }
-        NamedStmtKind::Run(place, name, a, inputs, outputs) => {
-            in_activity(s.place, state);
-            run(
-                alloc,
-                place,
-                *name,
-                *a,
-                inputs,
-                outputs,
-                &state.env,
-                &mut state.notes,
-            )
-        }
+        NamedStmtKind::Run(place, name, a, inputs, outputs) => run(
+            alloc,
+            s.place,
+            place,
+            *name,
+            *a,
+            inputs,
+            outputs,
+            &state.env,
+            &mut state.notes,
+        ),
         NamedStmtKind::If(all, other) => {
             let arms = arms(alloc, all, source, state)?;
             let other = block(alloc, other, source, state)?;
@@ -197,13 +262,9 @@ fn kind(
             Ok(Some(StmtKind::Cobegin(branches)))
         }
         NamedStmtKind::When(guard, e, body) => {
-            in_activity(s.place, state);
-            let test = condition(alloc, e, state)?;
+            let test = guarded(alloc, s.place, e, state)?;
             let body = block(alloc, body, source, state)?;
-            match test {
-                Some(e) => Ok(Some(StmtKind::When(*guard, e, body))),
-                None => Ok(None),
-            }
+            Ok(when_made(*guard, test, body))
         }
         NamedStmtKind::Repeat(body) => {
             let body = block(alloc, body, source, state)?;
@@ -211,21 +272,39 @@ fn kind(
         }
         NamedStmtKind::Until(body, e) => {
             let body = block(alloc, body, source, state)?;
-            match condition(alloc, e, state)? {
-                Some(e) => Ok(Some(StmtKind::Until(body, e))),
-                None => Ok(None),
-            }
+            let test = condition(alloc, e, state)?;
+            Ok(until_made(body, test))
         }
         NamedStmtKind::While(e, body) => {
             let test = condition(alloc, e, state)?;
             let body = block(alloc, body, source, state)?;
-            match test {
-                Some(e) => Ok(Some(StmtKind::While(e, body))),
-                None => Ok(None),
-            }
+            Ok(while_made(test, body))
         }
         NamedStmtKind::Return(e) => returned(alloc, s.place, e, state),
     }
+}
+
+fn stmt_made(place: Place, what: Option<StmtKind>) -> Option<Stmt>
+    ensures { result ≡ option_map (stmt_made place) what }
+{
+    match what {
+        Some(what) => Some(Stmt { place, what }),
+        None => None,
+    }
+}
+
+#[cycle(statements)]
+fn statement(
+    alloc: Global,
+    s: &NamedStmt,
+    source: Source<'_>,
+    state: &mut State,
+) -> Result<Option<Stmt>, NoMemory>
+    ensures made { IfOk result (λ made. made ≡ (walked_stmt source.entry.constants.now source.entry.vars.now s.now state.old.env).made) }
+    ensures state { OnOk result (state.new ≡ passed state.old (walked_stmt source.entry.constants.now source.entry.vars.now s.now state.old.env).env (walked_stmt source.entry.constants.now source.entry.vars.now s.now state.old.env).failures) }
+{
+    let what = kind(alloc, s, source, state)?;
+    Ok(stmt_made(s.place, what))
 }
 
 #[cycle(statements)]
@@ -240,14 +319,34 @@ pub fn block(
 {
     let mut made = List::new(alloc);
     for s in body {
-        if let Some(what) = kind(alloc, s, source, state)? {
-            made.push(Stmt {
-                place: s.place,
-                what,
-            })?;
-        }
+        let one = statement(alloc, s, source, state)?;
+        keep(&mut made, one)?;
     }
     Ok(made)
+}
+
+fn arm_made(test: Option<Expr>, body: List<Stmt>) -> Option<Arm>
+    ensures { result ≡ option_map (λ e. arm_of e body) test }
+{
+    match test {
+        Some(test) => Some(Arm { test, body }),
+        None => None,
+    }
+}
+
+#[cycle(statements)]
+fn arm(
+    alloc: Global,
+    arm: &NamedArm,
+    source: Source<'_>,
+    state: &mut State,
+) -> Result<Option<Arm>, NoMemory>
+    ensures made { IfOk result (λ made. made ≡ (arm_walked source.entry.constants.now source.entry.vars.now arm.now state.old.env).made) }
+    ensures state { OnOk result (state.new ≡ passed state.old (arm_walked source.entry.constants.now source.entry.vars.now arm.now state.old.env).env (arm_walked source.entry.constants.now source.entry.vars.now arm.now state.old.env).failures) }
+{
+    let test = condition(alloc, &arm.test, state)?;
+    let body = block(alloc, &arm.body, source, state)?;
+    Ok(arm_made(test, body))
 }
 
 #[cycle(statements)]
@@ -261,14 +360,28 @@ fn arms(
     ensures state { OnOk result (state.new ≡ passed state.old (in_order (map (arm_walked source.entry.constants.now source.entry.vars.now) all.now) state.old.env).env (in_order (map (arm_walked source.entry.constants.now source.entry.vars.now) all.now) state.old.env).failures) }
 {
     let mut made = List::new(alloc);
-    for arm in all {
-        let test = condition(alloc, &arm.test, state)?;
-        let body = block(alloc, &arm.body, source, state)?;
-        if let Some(test) = test {
-            made.push(Arm { test, body })?;
-        }
+    for one in all {
+        let one = arm(alloc, one, source, state)?;
+        keep(&mut made, one)?;
     }
     Ok(made)
+}
+
+#[cycle(statements)]
+fn branch(
+    alloc: Global,
+    branch: &NamedBranch,
+    source: Source<'_>,
+    state: &mut State,
+) -> Result<Option<Branch>, NoMemory>
+    ensures made { IfOk result (λ made. made ≡ (branch_walked source.entry.constants.now source.entry.vars.now branch.now state.old.env).made) }
+    ensures state { OnOk result (state.new ≡ passed state.old (branch_walked source.entry.constants.now source.entry.vars.now branch.now state.old.env).env (branch_walked source.entry.constants.now source.entry.vars.now branch.now state.old.env).failures) }
+{
+    let body = block(alloc, &branch.body, source, state)?;
+    Ok(Some(Branch {
+        weak: branch.weak,
+        body,
+    }))
 }
 
 #[cycle(statements)]
@@ -282,12 +395,9 @@ fn branches(
     ensures state { OnOk result (state.new ≡ passed state.old (in_order (map (branch_walked source.entry.constants.now source.entry.vars.now) all.now) state.old.env).env (in_order (map (branch_walked source.entry.constants.now source.entry.vars.now) all.now) state.old.env).failures) }
 {
     let mut made = List::new(alloc);
-    for branch in all {
-        let body = block(alloc, &branch.body, source, state)?;
-        made.push(Branch {
-            weak: branch.weak,
-            body,
-        })?;
+    for one in all {
+        let one = branch(alloc, one, source, state)?;
+        keep(&mut made, one)?;
     }
     Ok(made)
 }

@@ -1,11 +1,13 @@
 //! Units, the entry, and the items of a program in source order.
-#![tactic(auto, using(crate::proofs::NoteLemmas::notes))]
+#![tactic(auto, using(crate::proofs::NoteLemmas::notes, crate::proofs::StateLemmas::states))]
 
-ghost use Rattle.std.specs.Prelude.{◌≡◌, IfOk, OnOk, false};
+ghost use Rattle.std.specs.Prelude.{◌≡◌, IfOk, OnOk, false, is_some};
 ghost use Rattle.std.specs.List.{list_all};
-ghost use Rattle.bl_types.specs.Failures.{noted};
-ghost use Rattle.bl_types.specs.States.{after};
-ghost use Rattle.bl_types.specs.Units.{after_unit, can_be_driven, drives, entries, entry_among, entered, is_scalar, left, result_of, vars_of};
+ghost use Rattle.bl_tree.specs.Types.{scalar_in};
+ghost use Rattle.bl_types.specs.Failures.{noted, unless};
+ghost use Rattle.bl_types.specs.Returns.{return_failures};
+ghost use Rattle.bl_types.specs.States.{after, passed};
+ghost use Rattle.bl_types.specs.Units.{after_head, after_unit, can_be_driven, drives, entries, entry_among, entered, is_scalar, left, result_of, vars_of};
 
 use crate::declare::{is_parameter, parameters};
 use crate::environment::{Environment, State, Variable};
@@ -15,7 +17,7 @@ use crate::stmt::{Source, block};
 use crate::types::{scalar_in, typed};
 use bl_named::item::{NamedConstant, NamedUnit, NamedVar};
 use bl_named::types::NamedType;
-use bl_tree::tree::{Stmt, Unit, UnitKind, Var};
+use bl_tree::tree::{Stmt, Ty, Unit, UnitKind, Var};
 use bl_tree::{List, NoMemory, Place, Scalar, Text};
 use std::alloc::Global;
 use std::mem;
@@ -35,11 +37,20 @@ fn outcome(
         return Ok(None);
     };
     let ty = typed(alloc, &env.constants, written, notes)?;
-    let outcome = scalar_in(&ty);
-    if outcome.is_none() {
-        notes.fail(9, name);
+    Ok(scalar_outcome(name, &ty, notes))
+}
+
+fn scalar_outcome(name: Place, ty: &Ty, notes: &mut Notes) -> Option<Scalar>
+    ensures outcome { result ≡ scalar_in ty.now }
+    ensures notes { notes.new ≡ noted notes.old (unless (is_some (scalar_in ty.now)) 9 name) }
+{
+    match scalar_in(ty) {
+        Some(s) => Some(s),
+        None => {
+            notes.fail(9, name);
+            None
+        }
     }
-    Ok(outcome)
 }
 
 /// The variables that have types.
@@ -100,14 +111,9 @@ fn leave(
     Ok(())
 }
 
-/// After a unit, where these are the constants of the program.
-pub fn unit(
-    alloc: Global,
-    constants: &[NamedConstant],
-    unit: &NamedUnit,
-    state: &mut State,
-) -> Result<(), NoMemory>
-    ensures { OnOk result (state.new ≡ after state.old (after_unit constants.now unit.now)) }
+/// After the head of a unit.
+fn begin(alloc: Global, unit: &NamedUnit, state: &mut State) -> Result<(), NoMemory>
+    ensures { OnOk result (state.new ≡ after state.old (after_head unit.now)) }
 {
     enter(alloc, unit, &mut state.env);
     parameters(alloc, &unit.vars, state)?;
@@ -118,13 +124,33 @@ pub fn unit(
         &state.env,
         &mut state.notes,
     )?;
+    Ok(())
+}
+
+/// After the body of a unit.
+fn end(alloc: Global, unit: &NamedUnit, body: List<Stmt>, state: &mut State) -> Result<(), NoMemory>
+    ensures { OnOk result (state.new ≡ passed state.old (left unit.now body state.old.env) (return_failures unit.now)) }
+{
+    judge_returns(unit, &mut state.notes);
+    leave(alloc, unit, body, &mut state.env)
+}
+
+/// After a unit, where these are the constants of the program.
+pub fn unit(
+    alloc: Global,
+    constants: &[NamedConstant],
+    unit: &NamedUnit,
+    state: &mut State,
+) -> Result<(), NoMemory>
+    ensures { OnOk result (state.new ≡ after state.old (after_unit constants.now unit.now)) }
+{
+    begin(alloc, unit, state)?;
     let source = Source {
         constants,
         vars: &unit.vars,
     };
     let body = block(alloc, &unit.body, source, state)?;
-    judge_returns(unit, &mut state.notes);
-    leave(alloc, unit, body, &mut state.env)
+    end(alloc, unit, body, state)
 }
 
 fn is_scalar(written: &Option<NamedType>) -> bool
