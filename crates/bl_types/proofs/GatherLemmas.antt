@@ -26,7 +26,7 @@ pub mapped_one : {A B : Type 0} (f : A → B) (all rest : List A) (item : A) (ma
 mapped_one f all rest item made grown found x is same push h =
     ap (λ l. l ++ map f rest) (push ∙ ap (λ y. made ++ y ∷ []) same) ∙ append_assoc made (f item ∷ []) (map f rest) ∙ ap (λ l. made ++ map f l) (sym is) ∙ h
 
-append-none : {A : Type 0} (xs : List A) → xs ++ [] ≡ xs
+pub append-none : {A : Type 0} (xs : List A) → xs ++ [] ≡ xs
 append-none [] = λ i. []
 append-none (x ∷ xs) = ap (λ rest. x ∷ rest) (append-none xs)
 

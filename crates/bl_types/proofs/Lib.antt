@@ -1,6 +1,7 @@
 pub mod CallLemmas
 pub mod CauseLemmas
 pub mod GatherLemmas
+pub mod ItemLemmas
 pub mod JudgedLemmas
 pub mod LastLemmas
 pub mod NoteLemmas

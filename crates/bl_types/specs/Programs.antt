@@ -7,6 +7,7 @@ use Rattle.bl_named.specs.declared.item.NamedStruct.{NamedStruct}
 use Rattle.bl_named.specs.declared.item.NamedUnit.{NamedUnit}
 use Rattle.bl_named.specs.declared.named.Named.{Named}
 use Rattle.bl_types.specs.declared.environment.Environment.{Environment}
+use Rattle.bl_types.specs.declared.environment.State.{State}
 use Rattle.bl_types.specs.declared.environment.Typed.{Typed}
 use Rattle.bl_types.specs.declared.failure.Failure.{Failure}
 use Rattle.bl_types.specs.Declarations.{Declaring, after_constant, after_struct, and_then, unchanged}
@@ -16,6 +17,10 @@ use Rattle.bl_types.specs.Units.{after_unit, entries, entry_among}
 -- what is known before a program
 abbrev pub fresh : Environment
 fresh = record { structs = []; constants = []; units = []; vars = []; kind = Function; result = None }
+
+-- the same, where no rule fails so far
+abbrev pub start : State
+start = record { env = fresh; notes = record { first = None } }
 
 -- ---- the items of a program in source order: of the next struct, constant and unit that one whose name stands first. The
 -- constants in the body of a unit are among those of the program, and are over with the unit

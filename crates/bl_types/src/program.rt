@@ -1,13 +1,12 @@
 //! The items of a program in source order, and what is said of the whole.
 #![tactic(auto, using(crate::proofs::NoteLemmas::notes, crate::proofs::StateLemmas::states))]
 
-ghost use Rattle.std.specs.Prelude.{◌≡◌, IfErr, IfOk, None, OnOk, option_map};
-ghost use Rattle.bl_tree.specs.declared.place.Refusal.TheVariants.{NoMemory as AnyMemory};
+ghost use Rattle.std.specs.Prelude.{◌≡◌, IfErr, IfOk, OnOk, option_map};
 ghost use Rattle.bl_types.specs.Cause.{IsCause};
-ghost use Rattle.bl_types.specs.Failures.{Refuses, noted};
-ghost use Rattle.bl_types.specs.Programs.{after_item, after_items, after_next_constant, after_next_unit, after_program, comes_first, failures_of, fresh, place_of_constant, place_of_unit, typed_program};
+ghost use Rattle.bl_types.specs.Failures.{Refuses};
+ghost use Rattle.bl_types.specs.Programs.{after_item, after_items, after_next_constant, after_next_unit, after_program, comes_first, failures_of, item_count, place_of_constant, place_of_unit, start, typed_program};
 ghost use Rattle.bl_types.specs.Rules.{Passes, further_of};
-ghost use Rattle.bl_types.specs.States.{after};
+ghost use Rattle.bl_types.specs.States.{after, passed};
 
 use crate::declare::{constant, structure};
 use crate::environment::{Environment, State, Typed};
@@ -34,8 +33,7 @@ pub fn judge(alloc: Global, named: &Named) -> Result<Typed, Refusal>
 }
 
 fn fresh(alloc: Global) -> State
-    ensures env { result.env ≡ fresh }
-    ensures notes { result.notes ≡ record { first = None } }
+    ensures { result ≡ start }
 {
     State {
         env: Environment {
@@ -144,15 +142,22 @@ fn items(alloc: Global, count: usize, named: &Named, state: &mut State) -> Resul
     Ok(())
 }
 
-/// What is known after the whole program.
-fn walk(alloc: Global, named: &Named) -> Result<State, NoMemory>
-    ensures env { IfOk result (λ state. state.env ≡ (after_program named.now).env) }
-    ensures notes { IfOk result (λ state. state.notes ≡ noted (record { first = None }) (failures_of named.now)) }
+/// What is known after all items of the program.
+fn all_items(alloc: Global, named: &Named) -> Result<State, NoMemory>
+    ensures { IfOk result (λ state. state ≡ after start (after_items (item_count named.now) named.now)) }
 {
     let mut state = fresh(alloc);
     items(alloc, named.structs.len(), named, &mut state)?;
     items(alloc, named.constants.len(), named, &mut state)?;
     items(alloc, named.units.len(), named, &mut state)?;
+    Ok(state)
+}
+
+/// What is known after the whole program.
+fn walk(alloc: Global, named: &Named) -> Result<State, NoMemory>
+    ensures { IfOk result (λ state. state ≡ passed start (after_program named.now).env (failures_of named.now)) }
+{
+    let mut state = all_items(alloc, named)?;
     let end = Place {
         start: named.bytes,
         end: named.bytes,
@@ -162,31 +167,29 @@ fn walk(alloc: Global, named: &Named) -> Result<State, NoMemory>
 }
 
 fn verdict(alloc: Global, named: &Named, state: State) -> Result<Typed, Refusal>
-    requires env { state.env ≡ (after_program named.now).env }
-    requires notes { state.notes ≡ noted (record { first = None }) (failures_of named.now) }
+    requires { state ≡ passed start (after_program named.now).env (failures_of named.now) }
     ensures typed { IfOk result (λ typed. typed ≡ typed_program named.now) }
     ensures passes { OnOk result (Passes named.now) }
     ensures cause { IfErr result (IsCause named.now) }
 {
-    match state.notes.first {
-        None => typed(named, state.env),
+    let State { env, notes } = state;
+    match notes.first {
+        None => match entry(&named.units) {
+            Ok(entry) => Ok(typed(env, entry)),
+            Err(NoMemory) => Err(Refusal::NoMemory),
+        },
         Some(failure) => Err(refusal(alloc, failure)),
     }
 }
 
-fn typed(named: &Named, env: Environment) -> Result<Typed, Refusal>
-    requires { env ≡ (after_program named.now).env }
-    ensures typed { IfOk result (λ typed. typed ≡ typed_program named.now) }
-    ensures memory { IfErr result (λ refusal. refusal ≡ AnyMemory) }
+fn typed(env: Environment, entry: u32) -> Typed
+    ensures { result ≡ record { structs = env.structs; units = env.units; entry = entry } }
 {
     let Environment { structs, units, .. } = env;
-    match entry(&named.units) {
-        Ok(entry) => Ok(Typed {
-            structs,
-            units,
-            entry,
-        }),
-        Err(NoMemory) => Err(Refusal::NoMemory),
+    Typed {
+        structs,
+        units,
+        entry,
     }
 }
 
