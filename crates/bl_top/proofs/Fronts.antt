@@ -1,12 +1,12 @@
 -- A source is read one byte past the longest that is accepted: what is judged of that front holds of the whole.
-use Rattle.std.proofs.Common.{◌≡◌, ℕ, ◌<◌, List, take, length, min, refl, sym, ap, ◌∙◌, inl, inr, arith}
+use Rattle.std.proofs.Common.{◌≡◌, ℕ, ◌<◌, List, take, length, min, refl, sym, ap, subst, ◌∙◌, inl, inr, arith}
 use Rattle.std.proofs.lemmas.Bool.{cases_lt}
 use Rattle.std.proofs.lemmas.List.{length-take, take_all}
 use Rattle.std.specs.Prelude.{◌⊎◌, Option, Some, None}
 use Rattle.bl_io.specs.Left.{GivesUpTo}
 use Rattle.bl_lex.specs.Rules.{FailsFirst, FailsSize, Passes, IsRefusalOf as IsLexRefusalOf}
 use Rattle.bl_lex.specs.Tokens.{Lexes}
-use Rattle.bl_names.specs.Cause.{IsCause}
+use Rattle.bl_names.specs.Cause.{IsCause as IsNamesCause}
 use Rattle.bl_names.specs.Rules.{Passes as NamesPass}
 use Rattle.bl_parse.specs.Programs.{Spells}
 use Rattle.bl_syntax.specs.Rules.{IsRefusalOf as IsSyntaxRefusalOf, Passes as SyntaxPasses}
@@ -14,13 +14,16 @@ use Rattle.bl_tree.specs.declared.token.Token.{Token}
 use Rattle.bl_tree.specs.declared.place.Place.{Place}
 use Rattle.bl_tree.specs.declared.place.Refusal.{Refusal}
 use Rattle.bl_tree.specs.declared.place.Refusal.TheVariants.{Rule, NoMemory}
+use Rattle.bl_types.specs.Cause.{IsCause as IsTypesCause}
+use Rattle.bl_types.specs.Rules.{Passes as TypesPass}
 use Rattle.bl_top.specs.Build.{Leaves, source_limit}
 use Rattle.bl_top.specs.declared.outcome.Outcome.{Outcome}
 use Rattle.bl_top.specs.declared.status.Status.{Status}
 use Rattle.bl_top.specs.declared.status.Status.TheVariants as status
 use Rattle.bl_top.proofs.Ends.{leaves_as, left_nothing, refused_is_no_end, want_is_no_end}
-use Rattle.bl_top.specs.Refusals.{AcceptedText, IsJudged, IsRefusalOf, IsRefusedBy, RefusedBy, RefusedText, done, lexer, names, refusal_line, short, syntax, unbuilt, unwritten}
-use Rattle.bl_top.specs.Sources.{HasTree, IsOfNoForm, IsTextOf, IsTextOfTree, IsTreeOf, Parses}
+use Rattle.bl_top.specs.Refusals.{AcceptedText, IsJudged, IsRefusalOf, IsRefusedBy, IsTreeRefusalOf, RefusedBy, RefusedText, done, lexer, names, refusal_line, short, syntax, tree, types, unbuilt, unwritten}
+use Rattle.bl_top.specs.Sources.{HasTree, IsOfNoForm, IsTextOf, IsTextOfTree, IsTreeOf, Parses, named_of}
+use Rattle.bl_named.specs.declared.named.Named.{Named}
 use Rattle.bl_raw.specs.declared.raw.Raw.{Raw}
 use Rattle.bl_recognise.specs.Early.{early_of}
 
@@ -86,8 +89,8 @@ first_of_long whole got number place got_long whole_long first =
 refused_whole : (whole got : List ℕ) → got ≡ take source_limit whole → (number : ℕ) (place : Place) (also : List Place) → RefusedBy got number place also → RefusedBy whole number place also
 refused_whole whole got front _ _ _ (syntax tokens number place passes lexes first) =
     rw (whole_of_passing whole got front passes) (syntax tokens number place passes lexes first)
-refused_whole whole got front _ _ _ (names raw number place also passes parses first) =
-    rw (whole_of_passing whole got front passes) (names raw number place also passes parses first)
+refused_whole whole got front _ _ _ (tree raw number place also passes parses first) =
+    rw (whole_of_passing whole got front passes) (tree raw number place also passes parses first)
 refused_whole whole got front _ _ _ (lexer number place first) = elim (front_or_long whole got front) [
   | inl same ↦ rw same (lexer number place first)
   | inr long ↦ lexer number place (first_of_long whole got number place long.0 long.1 first)
@@ -110,15 +113,23 @@ pub parsed_refusal : (text : List ℕ) (tokens : List Token) (refusal : Refusal)
 parsed_refusal text tokens (Rule number place also) passes lexes is = rw is.1 (syntax tokens number place passes lexes is.0)
 parsed_refusal text tokens NoMemory passes lexes is = tt
 
--- and that of the names of its tree
-pub named_refusal : (text : List ℕ) (raw : Raw) (refusal : Refusal) → Passes text → Parses text raw → IsCause raw.items refusal → IsRefusalOf text refusal
-named_refusal text raw (Rule number place also) passes parses first = names raw number place also passes parses first
-named_refusal text raw NoMemory passes parses first = tt
+-- and that of its tree
+pub tree_refusal : (text : List ℕ) (raw : Raw) (refusal : Refusal) → Passes text → Parses text raw → IsTreeRefusalOf raw refusal → IsRefusalOf text refusal
+tree_refusal text raw (Rule number place also) passes parses first = tree raw number place also passes parses first
+tree_refusal text raw NoMemory passes parses first = tt
+
+pub names_refusal : (raw : Raw) (refusal : Refusal) → IsNamesCause raw.items refusal → IsTreeRefusalOf raw refusal
+names_refusal raw (Rule number place also) first = names number place also first
+names_refusal raw NoMemory first = tt
+
+pub types_refusal : (raw : Raw) (named : Named) (refusal : Refusal) → named ≡ named_of raw → NamesPass raw.items → IsTypesCause named refusal → IsTreeRefusalOf raw refusal
+types_refusal raw named (Rule number place also) same passes first = types number place also passes (subst (λ n. IsTypesCause n (Rule number place also)) same first)
+types_refusal raw named NoMemory same passes first = tt
 
 -- what passed all rules has its tree
-pub tree_that_passes : (text : List ℕ) (tokens : List Token) (raw : Raw) → Passes text → Lexes text tokens → SyntaxPasses tokens → Spells text tokens raw → NamesPass raw.items → HasTree text raw
-tree_that_passes text tokens raw passes lexes nests spells named =
-    record { passes = passes; parses = record { tokens = tokens; lexes = lexes; passes = nests; spells = spells }; names = named }
+pub tree_that_passes : (text : List ℕ) (tokens : List Token) (raw : Raw) → Passes text → Lexes text tokens → SyntaxPasses tokens → Spells text tokens raw → NamesPass raw.items → TypesPass (named_of raw) → HasTree text raw
+tree_that_passes text tokens raw passes lexes nests spells named typed =
+    record { passes = passes; parses = record { tokens = tokens; lexes = lexes; passes = nests; spells = spells }; names = named; types = typed }
 
 pub tree_parsed : (text : List ℕ) (tokens : List Token) (raw : Raw) → Lexes text tokens → SyntaxPasses tokens → Spells text tokens raw → Parses text raw
 tree_parsed text tokens raw lexes nests spells = record { tokens = tokens; lexes = lexes; passes = nests; spells = spells }

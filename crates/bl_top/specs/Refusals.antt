@@ -2,7 +2,7 @@
 use Rattle.std.specs.Prelude.{◌≡◌, ◌⊎◌, ℕ, List, [], ◌∷◌, ◌++◌, map, length, codes, decimal, slice_index_or, Option, Some, ⊤}
 use Rattle.bl_lex.specs.Rules.{FailsFirst, Passes}
 use Rattle.bl_lex.specs.Tokens.{Lexes}
-use Rattle.bl_names.specs.Rules.{FailsFirst as NamesFailFirst}
+use Rattle.bl_names.specs.Rules.{FailsFirst as NamesFailFirst, Passes as NamesPass}
 use Rattle.bl_raw.specs.declared.raw.Raw.{Raw}
 use Rattle.bl_syntax.specs.Rules.{FailsFirst as SyntaxFailsFirst}
 use Rattle.bl_tree.specs.declared.token.Token.{Token}
@@ -10,8 +10,9 @@ use Rattle.bl_tree.specs.declared.place.Place.{Place}
 use Rattle.bl_tree.specs.declared.place.Refusal.{Refusal}
 use Rattle.bl_tree.specs.declared.place.Refusal.TheVariants.{Rule, NoMemory}
 use Rattle.bl_tree.specs.Reduce.{joined}
+use Rattle.bl_types.specs.Rules.{FailsFirst as TypesFailFirst}
 use Rattle.bl_io.specs.Held.{Appends}
-use Rattle.bl_top.specs.Sources.{IsSource, IsTreeOf, IsOfNoForm, Parses}
+use Rattle.bl_top.specs.Sources.{IsSource, IsTreeOf, IsOfNoForm, Parses, named_of}
 use Rattle.bl_top.specs.declared.outcome.Outcome.{Outcome}
 use Rattle.bl_top.specs.declared.status.Status.{Status}
 use Rattle.bl_top.specs.declared.status.Status.TheVariants as status
@@ -43,6 +44,18 @@ refusal_line number place also =
 
 -- ---- the first rule that fails
 
+-- the first of the rules on names and types that fails for a tree, with its place and its further places
+pub data RefusedTree (raw : Raw) : ℕ → Place → List Place → Type 0 where
+  -- one of Duplicate, Unknown and Kind
+  names : (number : ℕ) (place : Place) (also : List Place) → NamesFailFirst raw.items number place also → RefusedTree raw number place also
+  -- none of these, and one of Type, Literal, Immutable, Constant, Arity, Prev, Return, Where and Entry
+  types : (number : ℕ) (place : Place) (also : List Place) → NamesPass raw.items → TypesFailFirst (named_of raw) number place also → RefusedTree raw number place also
+
+-- the refusal names the first of these; want of memory has no cause in the tree
+abbrev pub IsTreeRefusalOf : Raw → Refusal → Type 0
+IsTreeRefusalOf raw (Rule number place also) = RefusedTree raw number place also
+IsTreeRefusalOf raw NoMemory = ⊤
+
 -- the first of the rules decided so far that fails for a text, with its place and its further places
 pub data RefusedBy (text : List ℕ) : ℕ → Place → List Place → Type 0 where
   -- one of Size, Lex and Profile
@@ -50,9 +63,9 @@ pub data RefusedBy (text : List ℕ) : ℕ → Place → List Place → Type 0 w
   -- none of these, and one of Depth and Syntax
   syntax : (tokens : List Token) (number : ℕ) (place : Place) → Passes text → Lexes text tokens →
       SyntaxFailsFirst (length text) tokens number place → RefusedBy text number place []
-  -- none of these, and one of Duplicate, Unknown and Kind
-  names : (raw : Raw) (number : ℕ) (place : Place) (also : List Place) → Passes text → Parses text raw →
-      NamesFailFirst raw.items number place also → RefusedBy text number place also
+  -- none of these, and one of those on names and types
+  tree : (raw : Raw) (number : ℕ) (place : Place) (also : List Place) → Passes text → Parses text raw →
+      RefusedTree raw number place also → RefusedBy text number place also
 
 -- the refusal names the first rule that fails; want of memory has no cause in the text
 abbrev pub IsRefusalOf : List ℕ → Refusal → Type 0

@@ -5,15 +5,18 @@ use Rattle.bl_ctext.specs.SpellsC.{SpellsC}
 use Rattle.bl_early.specs.Emitted.{c_funcs_of, c_structs_of}
 use Rattle.bl_lex.specs.Rules.{Passes}
 use Rattle.bl_lex.specs.Tokens.{Lexes}
+use Rattle.bl_named.specs.declared.named.Named.{Named}
 use Rattle.bl_names.specs.Rules.{Passes as NamesPass}
 use Rattle.bl_parse.specs.Programs.{Spells}
 use Rattle.bl_raw.specs.declared.raw.Raw.{Raw}
 use Rattle.bl_recognise.specs.Early.{early_of}
+use Rattle.bl_resolve.specs.Named.{named_program}
 use Rattle.bl_syntax.specs.Rules.{Passes as SyntaxPasses}
 use Rattle.bl_top.specs.Traces.{OneTrace}
 use Rattle.bl_tree.specs.declared.program.Program.{Program}
 use Rattle.bl_tree.specs.declared.token.Token.{Token}
 use Rattle.bl_tree.specs.declared.tree.Unit.{Unit as UnitDef}
+use Rattle.bl_types.specs.Rules.{Passes as TypesPass}
 
 -- the tokens of the text keep the rules Depth and Syntax and spell the tree
 pub record Parses (source : List ℕ) (raw : Raw) : Type 0 where
@@ -22,11 +25,16 @@ pub record Parses (source : List ℕ) (raw : Raw) : Type 0 where
   pub passes : SyntaxPasses tokens
   pub spells : Spells source tokens raw
 
+-- the tree with positions in place of names
+abbrev pub named_of : Raw → Named
+named_of raw = named_program raw.items raw.bytes
+
 -- none of the rules decided so far fails for the text, and this is its tree
 pub record HasTree (source : List ℕ) (raw : Raw) : Type 0 where
   pub passes : Passes source
   pub parses : Parses source raw
   pub names : NamesPass raw.items
+  pub types : TypesPass (named_of raw)
 
 -- the tree is of the form that is built, and the bytes spell the C file of its unit, which has the one trace of the program
 pub record IsTextOfTree (raw : Raw) (text : List ℕ) : Type 0 where

@@ -1,13 +1,15 @@
 //! The command `build P`.
 
-ghost use Rattle.std.specs.Prelude.{◌≡◌, ◌≢◌, ◌≤◌, length, true, None, IfErr, IfOk};
+ghost use Rattle.std.specs.Prelude.{◌≡◌, ◌≢◌, ◌≤◌, length, true, None, IfErr, IfOk, OnOk};
 ghost use Rattle.bl_io.specs.Count.{NeverFell, Rose};
 ghost use Rattle.bl_io.specs.Left.{KeepsOthers, StandsFurther};
 ghost use Rattle.bl_early.specs.Form.{is_early};
+ghost use Rattle.bl_names.specs.Rules.{Passes as NamesPass};
 ghost use Rattle.bl_recognise.specs.Early.{early_of};
 ghost use Rattle.bl_top.specs.Build.{Leaves, source_limit};
-ghost use Rattle.bl_top.specs.Refusals.{AcceptedText, IsJudged, IsRefusalOf, IsRefusedBy, RefusedText, WasAccepted};
-ghost use Rattle.bl_top.specs.Sources.{HasTree, IsOfNoForm, IsTextOf, IsTextOfProgram, IsTextOfTree};
+ghost use Rattle.bl_top.specs.Refusals.{AcceptedText, IsJudged, IsRefusalOf, IsRefusedBy, IsTreeRefusalOf, RefusedText, WasAccepted};
+ghost use Rattle.bl_top.specs.Sources.{HasTree, IsOfNoForm, IsTextOf, IsTextOfProgram, IsTextOfTree, named_of};
+ghost use Rattle.bl_types.specs.Rules.{Passes as TypesPass};
 
 use crate::outcome::Outcome;
 use crate::refusal::line;
@@ -63,8 +65,24 @@ fn judged(alloc: Global, source: &[u8]) -> Result<Raw, Refusal>
         Ok(raw) => raw,
         Err(refusal) => return Err(refusal),
     };
-    match bl_names::check(alloc, &raw) {
+    match judge_tree(alloc, &raw) {
         Ok(()) => Ok(raw),
+        Err(refusal) => Err(refusal),
+    }
+}
+
+/// Judges the rules on names and types of the tree of a source.
+fn judge_tree(alloc: Global, raw: &Raw) -> Result<(), Refusal>
+    ensures names { OnOk result (NamesPass raw.now.items) }
+    ensures types { OnOk result (TypesPass (named_of raw.now)) }
+    ensures refused { IfErr result (IsTreeRefusalOf raw.now) }
+{
+    let named = match bl_resolve::resolve(alloc, raw) {
+        Ok(named) => named,
+        Err(refusal) => return Err(refusal),
+    };
+    match bl_types::judge(alloc, &named) {
+        Ok(_) => Ok(()),
         Err(refusal) => Err(refusal),
     }
 }

@@ -1,7 +1,7 @@
 use Rattle.std.proofs.Common.{length, subst}
 use Rattle.bl_parse.specs.Programs.{Spells}
 use Rattle.bl_syntax.specs.Rules.{IsRefusalOf, Passes}
-use Rattle.bl_top.proofs.Fronts.{lexed_refusal, named_refusal, parsed_refusal, tree_parsed, tree_that_passes}
+use Rattle.bl_top.proofs.Fronts.{lexed_refusal, parsed_refusal, tree_parsed, tree_refusal, tree_that_passes}
 use Rattle.bl_top.proofs.build.judged.Goals as goal
 
 pub returns-in-Err-clause-refused : goal.returns-in-Err-clause-refused
@@ -12,17 +12,17 @@ returns-in-Err-parse-clause-refused c =
     parsed_refusal c.args.source.now c.in-Ok.tokens.items c.in-Err-parse.refusal c.in-Ok.ensures.passes c.in-Ok.ensures.tokens
     (subst (λ tokens. IsRefusalOf (length c.args.source.now) tokens c.in-Err-parse.refusal) c.deref.ensures.value c.in-Err-parse.ensures.refusal)
 
-pub returns-in-Ok-check-clause-accepted : goal.returns-in-Ok-check-clause-accepted
-returns-in-Ok-check-clause-accepted c =
+pub returns-in-Ok-judge_tree-clause-accepted : goal.returns-in-Ok-judge_tree-clause-accepted
+returns-in-Ok-judge_tree-clause-accepted c =
     tree_that_passes c.args.source.now c.in-Ok.tokens.items c.in-Ok-parse.raw c.in-Ok.ensures.passes c.in-Ok.ensures.tokens
     (subst Passes c.deref.ensures.value c.in-Ok-parse.ensures.passes)
     (subst (λ tokens. Spells c.args.source.now tokens c.in-Ok-parse.raw) c.deref.ensures.value c.in-Ok-parse.ensures.spells)
-    c.in-Ok-check.ensures.passes
+    c.in-Ok-judge_tree.ensures.names c.in-Ok-judge_tree.ensures.types
 
 pub returns-clause-refused : goal.returns-clause-refused
 returns-clause-refused c =
-    named_refusal c.args.source.now c.in-Ok-parse.raw c.in-Err-check.refusal c.in-Ok.ensures.passes
+    tree_refusal c.args.source.now c.in-Ok-parse.raw c.in-Err-judge_tree.refusal c.in-Ok.ensures.passes
     (tree_parsed c.args.source.now c.in-Ok.tokens.items c.in-Ok-parse.raw c.in-Ok.ensures.tokens
     (subst Passes c.deref.ensures.value c.in-Ok-parse.ensures.passes)
     (subst (λ tokens. Spells c.args.source.now tokens c.in-Ok-parse.raw) c.deref.ensures.value c.in-Ok-parse.ensures.spells))
-    c.in-Err-check.ensures.cause
+    c.in-Err-judge_tree.ensures.refused
