@@ -81,6 +81,10 @@ from_group group other piece none is = not_true _ (λ one. not_both _ is (group_
 prelude_begin : list_all (λ word. starts_with nat_eq word (codes "bl_")) prelude_functions ≡ true
 prelude_begin = refl
 
+-- no other word is a function of the prelude
+pub prelude_begins : (word : Token) → starts_with nat_eq word (codes "bl_") ≡ false → is_among word prelude_functions ≡ false
+prelude_begins word none = not_true _ (λ one. not_both _ (among_all (λ w. starts_with nat_eq w (codes "bl_")) prelude_functions word prelude_begin one) none)
+
 no_name : (word : Token) → starts_with nat_eq word (codes "bl_") ≡ true → is_name word ≡ false
 unfolding is_name
 no_name word h = by_word (is_word word) (not (begins_with_digit word)) _ h

@@ -33,17 +33,18 @@ module _ (text : List ℕ) (start from end : ℕ) where
     };
   }
 
-  pub fails_here : (stack rest : List Wanted) (taken : Bool) → Read stack → from < end → end ≤ length text → pieces (drop from text) ≡ left_of text from end
-      → (from < length text → is_blank (slice_index text from) ≡ false) → Answers (slice_range text from end) stack taken rest → taken ≡ false → FailsFirst text start from
-  fails_here stack rest taken read beyond inside there no_blank answers is_no =
-      inl (fails_at read.0 stack rest read.1.0 read.1.1 beyond inside there no_blank (subst (λ b. Answers (slice_range text from end) stack b rest) is_no answers))
+  pub fails_here : (piece : Token) (stack rest : List Wanted) (taken : Bool) → piece ≡ slice_range text from end → Read stack → from < end → end ≤ length text → pieces (drop from text) ≡ left_of text from end
+      → (from < length text → is_blank (slice_index text from) ≡ false) → Answers piece stack taken rest → taken ≡ false → FailsFirst text start from
+  fails_here piece stack rest taken is read beyond inside there no_blank answers is_no =
+      inl (fails_at read.0 stack rest read.1.0 read.1.1 beyond inside there no_blank
+      (subst (λ (t : Token). Answers t stack false rest) is (subst (λ b. Answers piece stack b rest) is_no answers)))
 
-  pub reads_on : (stack rest : List Wanted) (taken : Bool) → Read stack → from < end → end ≤ length text → (left : List Token) → left ≡ pieces (drop end text)
-      → Answers (slice_range text from end) stack taken rest → taken ≡ true → (front : List Token) × (Stands front rest × (pieces (drop start text) ≡ front ++ left))
-  reads_on stack rest taken read beyond inside left is answers is_yes = (
+  pub reads_on : (piece : Token) (stack rest : List Wanted) (taken : Bool) → piece ≡ slice_range text from end → Read stack → from < end → end ≤ length text → (left : List Token) → left ≡ pieces (drop end text)
+      → Answers piece stack taken rest → taken ≡ true → (front : List Token) × (Stands front rest × (pieces (drop start text) ≡ front ++ left))
+  reads_on piece stack rest taken of read beyond inside left is answers is_yes = (
     read.0 ++ slice_range text from end ∷ [],
     (
-      read_one read.0 (slice_range text from end) stack rest read.1.0 (subst (λ b. Answers (slice_range text from end) stack b rest) is_yes answers),
+      read_one read.0 (slice_range text from end) stack rest read.1.0 (subst (λ (t : Token). Answers t stack true rest) of (subst (λ b. Answers piece stack b rest) is_yes answers)),
       read.1.1 ∙ ap (λ (ts : List Token). read.0 ++ ts) (left_cut text from end beyond inside ∙ ap (λ (ts : List Token). slice_range text from end ∷ ts) (sym is))
           ∙ sym (append_assoc read.0 (slice_range text from end ∷ []) left),
     ),

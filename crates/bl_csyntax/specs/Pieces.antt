@@ -3,6 +3,7 @@ use Rattle.std.specs.Prelude.{◌≡◌, ℕ, ◌≤◌, Bool, true, false, ◌&
 use Rattle.std.specs.Cmp.Lexicographic.{pointwise}
 use Rattle.bl_ctext.specs.Token.{Token, is_blank, is_word_byte, is_double_sign}
 use Rattle.bl_ctext.specs.Cut.{put_before}
+use Rattle.bl_ctext.specs.Names.{is_among, is_name, prelude_functions}
 
 -- the pieces of bytes that begin with two: white space is no part of them, and the two are a sign, go on in one word, or
 -- the first is a piece of its own; `far` are the pieces behind the two, and `near` those behind the first
@@ -43,3 +44,8 @@ first_of (t ∷ ts) = t
 -- whether two runs of bytes are the same
 unfoldable pub is_same : List ℕ → List ℕ → Bool
 is_same one other = pointwise nat_eq one other
+
+-- what is known of a piece: whether it is a name, and whether a function of the prelude
+pub record IsSeen (piece : Token) (named of_prelude : Bool) : Type 0 where
+  pub name : named ≡ is_name piece
+  pub prelude : of_prelude ≡ is_among piece prelude_functions

@@ -8,6 +8,7 @@ ghost use Rattle.bl_csyntax.specs.Rows.{choice_shown, wanted_from, production_sh
 
 use crate::classes::is_of;
 use crate::grammar::{Class, Part, Roomed, Within};
+use crate::seen::Seen;
 use crate::{expressions, items, statements};
 use bl_grammar::Symbol;
 
@@ -25,7 +26,7 @@ pub struct Choice {
 
 /// The production of the part that stands before this next piece. It is empty where the part is absent.
 #[tactic(auto, unfolding(crate::specs::Tables::pick))]
-pub fn pick(whole: Roomed, piece: &[u8]) -> Option<&'static [Shape]>
+pub fn pick(whole: Roomed, piece: &Seen<'_>) -> Option<&'static [Shape]>
     ensures { option_map (λ shapes. wanted_from whole.room piece.now shapes.now) result ≡ pick whole piece.now }
 {
     let productions = productions_of(whole.part);
@@ -59,7 +60,7 @@ fn empty_if(absent: bool) -> Option<&'static [Shape]>
     if absent { Some(&[]) } else { None }
 }
 
-fn chosen(choices: &'static [Choice], piece: &[u8]) -> Option<Choice>
+fn chosen(choices: &'static [Choice], piece: &Seen<'_>) -> Option<Choice>
     ensures { option_map production_shown result ≡ chosen (map choice_shown choices.now) piece.now }
 {
     for choice in choices {
@@ -70,7 +71,7 @@ fn chosen(choices: &'static [Choice], piece: &[u8]) -> Option<Choice>
     None
 }
 
-fn has(classes: &[Class<'_>], piece: &[u8]) -> bool
+fn has(classes: &[Class<'_>], piece: &Seen<'_>) -> bool
     ensures { result ≡ has (map class_shown classes.now) piece.now }
 {
     for class in classes {

@@ -3,27 +3,38 @@
 ghost use Rattle.std.specs.Prelude.{◌≡◌, ◌+◌, ◌*◌, ◌≤◌, ◌^◌, ◌&&◌, map, true, nat_le, nat_lt, IfSome, IfNone};
 ghost use Rattle.std.specs.Char.{is_ascii_digit, digit_value};
 ghost use Rattle.std.specs.Str.Parse.{digits_value};
+ghost use Rattle.bl_ctext.specs.Names.{is_among};
 ghost use Rattle.bl_ctext.specs.Spelling.{negatives};
 ghost use Rattle.bl_csyntax.specs.Pieces.{is_same};
 ghost use Rattle.bl_csyntax.specs.Classes.{words_of, least, bound, are_digits, is_number, matches};
 ghost use Rattle.bl_csyntax.specs.Stack.{class_shown};
 
 use crate::grammar::{Class, Digits, Group};
+use crate::seen::Seen;
 use crate::words;
 use bl_tree::Width;
 
 /// Whether the piece is of the class.
 #[tactic(auto, unfolding(crate::specs::Classes::matches))]
-pub fn is_of(class: Class<'_>, piece: &[u8]) -> bool
+pub fn is_of(class: Class<'_>, piece: &Seen<'_>) -> bool
     ensures { result ≡ matches (class_shown class.entry) piece.now }
 {
     match class {
-        Class::Exactly(word) => is_same(word.as_bytes(), piece),
-        Class::OneOf(group) => words::is_among(piece, words_of(group)),
-        Class::Name => words::is_name(piece),
-        Class::Number(digits) => is_number(digits, piece),
-        Class::Turn => words::is_turn_name(piece),
-        Class::Named(name) => is_same(name, piece),
+        Class::Exactly(word) => is_same(word.as_bytes(), piece.bytes()),
+        Class::OneOf(group) => is_one_of(group, piece),
+        Class::Name => piece.is_name(),
+        Class::Number(digits) => is_number(digits, piece.bytes()),
+        Class::Turn => words::is_turn_name(piece.bytes()),
+        Class::Named(name) => is_same(name, piece.bytes()),
+    }
+}
+
+fn is_one_of(group: Group, piece: &Seen<'_>) -> bool
+    ensures { result ≡ is_among piece.now (words_of group) }
+{
+    match group {
+        Group::PreludeFunctions => piece.is_prelude(),
+        _ => words::is_among(piece.bytes(), words_of(group)),
     }
 }
 

@@ -10,9 +10,13 @@ mod items;
 pub mod laws;
 pub mod piece;
 mod rules;
+mod seen;
 mod stack;
 mod statements;
 #[tactic(auto, unfolding(crate::specs::Pieces::is_same, bl_ctext::specs::Names::is_among, bl_ctext::specs::Names::is_name, bl_ctext::specs::Names::is_struct_name, bl_ctext::specs::Names::is_callee, bl_ctext::specs::Names::is_function_name, bl_ctext::specs::Names::is_turn_name))]
 pub mod words;
 
 pub use rules::check;
+
+#[cfg(test)]
+mod tests;

@@ -4,6 +4,7 @@ ghost use Rattle.std.specs.Prelude.{◌≡◌, ◌≤◌, length, IfOk, MatchOpt
 ghost use Rattle.bl_csyntax.specs.Rules.{Passes, FailsFirst};
 
 use crate::piece::next_piece;
+use crate::seen::Seen;
 use crate::stack::Stack;
 use bl_tree::NoMemory;
 use std::alloc::Global;
@@ -17,7 +18,8 @@ pub fn check(alloc: Global, text: &[u8], start: usize) -> Result<Option<usize>, 
     let mut stack = Stack::new(alloc)?;
     let mut piece = next_piece(text, start);
     while piece.start < piece.end {
-        if !stack.take(&text[piece.start..piece.end])? {
+        let seen = Seen::new(&text[piece.start..piece.end]);
+        if !stack.take(&seen)? {
             return Ok(Some(piece.start));
         }
         piece = next_piece(text, piece.end);

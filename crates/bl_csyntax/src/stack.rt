@@ -10,6 +10,7 @@ ghost use Rattle.bl_csyntax.specs.Stack.{IsGood, Stands, Answers, may_vanish, cl
 use crate::choice::{Shape, may_be_absent, pick};
 use crate::classes::is_of;
 use crate::grammar::{Class, Part, Roomed};
+use crate::seen::Seen;
 use crate::words::is_turn_name;
 use bl_grammar::Symbol;
 use bl_tree::NoMemory;
@@ -44,7 +45,7 @@ impl<'a> Stack<'a> {
     }
 
     /// Whether the piece can follow. If so, it is taken off.
-    pub fn take(&mut self, piece: &'a [u8]) -> Result<bool, NoMemory>
+    pub fn take(&mut self, piece: &Seen<'a>) -> Result<bool, NoMemory>
         requires { IsGood (reverse (map shown self.old.wanted.items)) }
         ensures { IfOk result (λ taken. Answers piece.now (reverse (map shown self.old.wanted.items)) taken (reverse (map shown self.new.wanted.items))) }
     {
@@ -52,7 +53,12 @@ impl<'a> Stack<'a> {
             match first {
                 Symbol::Terminal(class) => return Ok(is_of(class, piece)),
                 Symbol::Nonterminal(whole) => match pick(whole, piece) {
-                    Some(shapes) => push_all(&mut self.wanted, shapes, whole.room, turn_of(piece))?,
+                    Some(shapes) => push_all(
+                        &mut self.wanted,
+                        shapes,
+                        whole.room,
+                        turn_of(piece.bytes()),
+                    )?,
                     None => return Ok(false),
                 },
             }

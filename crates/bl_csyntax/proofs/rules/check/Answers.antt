@@ -5,7 +5,7 @@ use Rattle.bl_csyntax.proofs.rules.check.Goals as goal
 pub returns-then-not-branch : goal.returns-then-not-branch
 returns-then-not-branch c =
     let i = c.loop-piece.invariant in
-    fails_here c.args.text.now c.args.start c.loop-piece.piece.start c.loop-piece.piece.end _ _ _ i.read c.loop-piece-test.true i.inside i.there i.no_blank c.in_ok-take.ensures c.if-not-branch.true
+    fails_here c.args.text.now c.args.start c.loop-piece.piece.start c.loop-piece.piece.end c.new-seen.result _ _ _ c.new-seen.ensures i.read c.loop-piece-test.true i.inside i.there i.no_blank c.in_ok-take.ensures c.if-not-branch.true
 
 pub loop-piece-smaller : goal.loop-piece-smaller
 loop-piece-smaller c =
@@ -16,7 +16,7 @@ loop-piece-preserved c =
     let i = c.loop-piece.invariant in
     let n = c.next_piece-piece-in-loop-piece.ensures in
     record {
-      read = reads_on c.args.text.now c.args.start c.loop-piece.piece.start c.loop-piece.piece.end _ _ _ i.read c.loop-piece-test.true i.inside _ n.left c.in_ok-take.ensures c.if-not-branch.false;
+      read = reads_on c.args.text.now c.args.start c.loop-piece.piece.start c.loop-piece.piece.end c.new-seen.result _ _ _ c.new-seen.ensures i.read c.loop-piece-test.true i.inside _ n.left c.in_ok-take.ensures c.if-not-branch.false;
       in_order = n.in_order;
       inside = n.inside;
       at_end = n.at_end;
