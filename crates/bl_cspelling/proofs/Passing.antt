@@ -1,5 +1,5 @@
 -- A text whose pieces derive spells a file.
-use Rattle.std.proofs.Common.{◌≡◌, ℕ, ◌≤◌, true, ◌&&◌, nat_le, List, map, subst, arith}
+use Rattle.std.proofs.Common.{◌≡◌, ℕ, ◌≤◌, true, ◌&&◌, nat_le, List, [], ◌∷◌, ◌++◌, length, drop, map, refl, sym, ap, ◌∙◌, subst, arith}
 use Rattle.std.proofs.lemmas.Bool.Decides.{nat_tests}
 use Rattle.bl_tree.specs.declared.c.CStruct.{CStruct}
 use Rattle.bl_tree.specs.declared.c.CFunc.{CFunc}
@@ -16,6 +16,11 @@ use Rattle.bl_cspelling.proofs.Told.{ToldFile}
 use Rattle.bl_cspelling.proofs.Trees.{tree_there}
 use Rattle.bl_cspelling.proofs.Depths.{text_kept}
 use Rattle.bl_cspelling.proofs.Spaced.{spaced}
+use Rattle.bl_cspelling.proofs.Unique.{tokens_are}
+use Rattle.bl_cderives.proofs.Files.{file_derives}
+use Rattle.bl_csyntax.specs.Rules.{Passes}
+use Rattle.bl_ctext.specs.Prelude.{prelude}
+use Rattle.bl_ctext.specs.SpellsC.{SpellsC}
 
 at_most : (a b : ℕ) → a ≤ b → nat_le a b ≡ true
 at_most a b h = grind (arith, nat_tests)
@@ -33,3 +38,18 @@ spells_some text spells = by_file (tree_there file (pieces text) spells)
     by_file (structs, (funcs, (is, (s, f)))) =
         let kept = text_kept (pieces text) spells in
         (record { structs = structs; funcs = funcs; spellable = spellable structs funcs (pieces text) is s f kept.1 }, subst (λ ts. SpacedC ts text) is (spaced text kept.0))
+
+behind : (front rest : List ℕ) → drop (length front) (front ++ rest) ≡ rest
+behind [] rest = refl
+behind (b ∷ front) rest = behind front rest
+
+pub passing_spelled : (bytes rest : List ℕ) → bytes ≡ prelude ++ rest → Passes bytes (length prelude) → (file : CFile) × SpellsC file bytes
+passing_spelled bytes rest begins passes = by_file (spells_some (drop (length prelude) bytes) passes)
+  where
+    by_file : (file : CFile) × SpacedC (tokens_of file.structs file.funcs) (drop (length prelude) bytes) → (file : CFile) × SpellsC file bytes
+    by_file (file, spaced) = (file, (rest, (begins, subst (SpacedC (tokens_of file.structs file.funcs)) (ap (drop (length prelude)) begins ∙ behind prelude rest) spaced)))
+
+pub spelled_passing : (file : CFile) (bytes : List ℕ) → SpellsC file bytes → Passes bytes (length prelude)
+spelled_passing file bytes (rest, (begins, spaced)) =
+    subst SpellText (sym (tokens_are (tokens_of file.structs file.funcs) rest spaced) ∙ sym (ap pieces (ap (drop (length prelude)) begins ∙ behind prelude rest)))
+    (file_derives file.structs file.funcs file.spellable)
