@@ -1,4 +1,4 @@
-use Rattle.std.proofs.Common.{◌≡◌, ◌∙◌, ◌+◌, ap}
+use Rattle.std.proofs.Common.{◌∙◌, ◌+◌, ap}
 use Rattle.bl_types.specs.Programs.{after_items, start}
 use Rattle.bl_types.specs.States.{after}
 use Rattle.bl_types.proofs.ItemLemmas.{items_more}

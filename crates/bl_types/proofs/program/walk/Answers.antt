@@ -1,4 +1,4 @@
-use Rattle.std.proofs.Common.{◌≡◌, ◌∙◌, ap, false}
+use Rattle.std.proofs.Common.{◌∙◌, ap, false}
 use Rattle.bl_types.specs.declared.environment.State.{State}
 use Rattle.bl_types.specs.declared.failure.Notes.{Notes}
 use Rattle.bl_types.specs.Failures.{noted}

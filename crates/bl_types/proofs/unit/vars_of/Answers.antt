@@ -1,4 +1,4 @@
-use Rattle.std.proofs.Common.{◌≡◌, ◌∙◌, ◌++◌, ◌∷◌, [], ap, sym}
+use Rattle.std.proofs.Common.{◌∙◌, ◌++◌, ◌∷◌, [], ap, sym}
 use Rattle.bl_types.specs.Units.{var_typed}
 use Rattle.bl_types.proofs.GatherLemmas.{vars_of-none, vars_of-some}
 use Rattle.bl_types.proofs.unit.vars_of.Goals as goal
