@@ -1,0 +1,141 @@
+-- What declarations give: initial values, constants, structs and parameters.
+use Rattle.std.specs.Prelude.{Bool, true, false, is_some, List, [], ◌∷◌, ◌++◌, map, Option, Some, None, option_map, option_and_then, if◌then◌else◌}
+use Rattle.bl_tree.specs.declared.place.Place.{Place}
+use Rattle.bl_tree.specs.declared.tree.Expr.{Expr}
+use Rattle.bl_tree.specs.declared.tree.Field.{Field}
+use Rattle.bl_tree.specs.declared.tree.Role.{Role}
+use Rattle.bl_tree.specs.declared.tree.Role.TheVariants.{Input, Output, Variable as Var, Fixed}
+use Rattle.bl_tree.specs.declared.tree.StructDef.{StructDef}
+use Rattle.bl_tree.specs.declared.tree.Ty.{Ty}
+use Rattle.bl_tree.specs.Reduce.{joined}
+use Rattle.bl_tree.specs.Types.{scalar_in}
+use Rattle.bl_named.specs.declared.expr.NamedExpr.{NamedExpr, out-NamedExpr}
+use Rattle.bl_named.specs.declared.item.NamedConstant.{NamedConstant}
+use Rattle.bl_named.specs.declared.item.NamedField.{NamedField}
+use Rattle.bl_named.specs.declared.item.NamedStruct.{NamedStruct}
+use Rattle.bl_named.specs.declared.item.NamedVar.{NamedVar}
+use Rattle.bl_named.specs.declared.types.NamedType.{NamedType}
+use Rattle.bl_types.specs.declared.environment.Constant.{Constant}
+use Rattle.bl_types.specs.declared.environment.Environment.{Environment}
+use Rattle.bl_types.specs.declared.failure.Failure.{Failure}
+use Rattle.bl_types.specs.declared.form.Form.{Form}
+use Rattle.bl_types.specs.declared.form.Form.TheVariants.{Of}
+use Rattle.bl_types.specs.declared.form.Valued.{Valued}
+use Rattle.bl_types.specs.Expressions.{Formed, closed_form, in_context, judged}
+use Rattle.bl_types.specs.Failures.{unless}
+use Rattle.bl_types.specs.Folded.{folded, not_constant, number_or_zero}
+use Rattle.bl_types.specs.Settled.{Settled}
+use Rattle.bl_types.specs.Written.{bad_lengths, written_type}
+
+-- what is known after a part of the program, and what fails in it
+pub record Declaring : Type 0 where
+  pub env : Environment
+  pub failures : List Failure
+
+-- ---- initial values
+
+-- an initial value with its type, and what fails in it
+pub record Initial : Type 0 where
+  pub valued : Valued
+  pub failures : List Failure
+
+abbrev pub type_of_form : Form → Option Ty
+type_of_form (Of ty e) = Some ty
+type_of_form _ = None
+
+abbrev pub expr_of_form : Form → Option Expr
+expr_of_form (Of ty e) = Some e
+expr_of_form _ = None
+
+abbrev pub typed_initial : Ty → List Failure → Settled → Initial
+typed_initial ty earlier value = record { valued = record { ty = Some ty; value = value.made }; failures = earlier ++ value.failures }
+
+abbrev pub closed_initial : List Failure → Formed → Initial
+closed_initial earlier formed = record { valued = record { ty = type_of_form formed.form; value = expr_of_form formed.form }; failures = earlier ++ formed.failures }
+
+-- what is declared has the type that is written, and without one that of its value
+abbrev pub initial : Environment → Option NamedType → NamedExpr → Initial
+initial env (Some written) e = typed_initial (written_type env.constants written) (bad_lengths env.constants written) (in_context (Some (written_type env.constants written)) (judged env e))
+initial env None e = closed_initial (judged env e).failures (closed_form (judged env e).form)
+
+-- ---- constants
+
+-- Type: a constant isn't scalar; at its name
+abbrev pub not_scalar : Place → Option Ty → List Failure
+not_scalar at (Some ty) = unless (is_some (scalar_in ty)) 9 at
+not_scalar at None = []
+
+abbrev pub not_folded : Place → Option Expr → List Failure
+not_folded at (Some e) = not_constant at (folded e)
+not_folded at None = []
+
+abbrev pub constant_of : Valued → Constant
+constant_of valued = record { ty = option_and_then scalar_in valued.ty; value = number_or_zero (option_and_then folded valued.value) }
+
+abbrev pub constant_failures : Place → Place → Valued → List Failure
+constant_failures name at valued = not_scalar name valued.ty ++ not_folded at valued.value
+
+abbrev pub with_constant : Environment → Constant → Environment
+with_constant env constant = record env { constants = env.constants ++ constant ∷ [] }
+
+-- after a constant
+abbrev pub after_constant : NamedConstant → Environment → Declaring
+after_constant constant env =
+    let value : Initial = initial env constant.ty constant.value in
+    record {
+      env = with_constant env (constant_of value.valued);
+      failures = value.failures ++ constant_failures constant.name.place (out-NamedExpr constant.value).place value.valued;
+    }
+
+-- ---- variables
+
+abbrev pub with_variable : Environment → NamedVar → Option Ty → Environment
+with_variable env var ty = record env { vars = env.vars ++ record { name = var.name.text; place = var.name.place; ty = ty; role = var.role } ∷ [] }
+
+abbrev pub optional_lengths : Environment → Option NamedType → List Failure
+optional_lengths env (Some written) = bad_lengths env.constants written
+optional_lengths env None = []
+
+-- after a variable without a value
+abbrev pub after_variable : NamedVar → Environment → Declaring
+after_variable var env = record { env = with_variable env var (option_map (written_type env.constants) var.ty); failures = optional_lengths env var.ty }
+
+abbrev pub is_parameter : Role → Bool
+is_parameter Input = true
+is_parameter Output = true
+is_parameter Var = false
+is_parameter Fixed = false
+
+-- after one thing and then another
+abbrev pub and_then : Declaring → (Environment → Declaring) → Declaring
+and_then first then_ = record { env = (then_ first.env).env; failures = first.failures ++ (then_ first.env).failures }
+
+abbrev pub unchanged : Environment → Declaring
+unchanged env = record { env = env; failures = [] }
+
+-- after one of a unit's variables, where it is a parameter
+abbrev pub after_parameter : NamedVar → Environment → Declaring
+after_parameter var env = if is_parameter var.role then after_variable var env else unchanged env
+
+-- after the parameters among the variables of a unit
+abbrev pub after_parameters : List NamedVar → Environment → Declaring
+after_parameters [] env = unchanged env
+after_parameters (var ∷ rest) env = and_then (after_parameter var env) (after_parameters rest)
+
+-- ---- structs
+
+abbrev pub field_of : Environment → NamedField → Field
+field_of env field = record { name = field.name.text; ty = written_type env.constants field.ty }
+
+abbrev pub field_lengths : Environment → NamedField → List Failure
+field_lengths env field = bad_lengths env.constants field.ty
+
+abbrev pub struct_of : Environment → NamedStruct → StructDef
+struct_of env def = record { name = def.name.text; place = def.name.place; fields = map (field_of env) def.fields }
+
+-- after a struct
+abbrev pub after_struct : NamedStruct → Environment → Declaring
+after_struct def env = record {
+  env = record env { structs = env.structs ++ struct_of env def ∷ [] };
+  failures = joined (map (field_lengths env) def.fields);
+}

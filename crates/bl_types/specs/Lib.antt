@@ -1,0 +1,13 @@
+pub mod Failures
+pub mod Written
+pub mod Settled
+pub mod Folded
+pub mod Expressions
+pub mod Declarations
+pub mod Statements
+pub mod Returns
+pub mod Units
+pub mod Programs
+pub mod Rules
+pub mod Cause
+pub mod States

@@ -1,0 +1,15 @@
+-- What is known on the way through a program, after more of it.
+use Rattle.std.specs.Prelude.{List}
+use Rattle.bl_types.specs.declared.environment.Environment.{Environment}
+use Rattle.bl_types.specs.declared.environment.State.{State}
+use Rattle.bl_types.specs.declared.failure.Failure.{Failure}
+use Rattle.bl_types.specs.Declarations.{Declaring}
+use Rattle.bl_types.specs.Failures.{noted}
+
+-- names stand for this, and these rules fail too
+abbrev pub passed : State → Environment → List Failure → State
+passed state env failures = record { env = env; notes = noted state.notes failures }
+
+-- after a part of the program
+abbrev pub after : State → (Environment → Declaring) → State
+after state part = passed state (part state.env).env (part state.env).failures

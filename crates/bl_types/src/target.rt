@@ -1,0 +1,234 @@
+//! Steps to fields and elements, and what targets and paths lead to.
+#![tactic(auto, using(crate::proofs::NoteLemmas::notes))]
+
+ghost use Rattle.std.specs.Prelude.{◌≡◌, IfOk, OnOk, Some, option_and_then, option_map};
+ghost use Rattle.bl_tree.specs.Types.{scalar_in};
+ghost use Rattle.bl_types.specs.Expressions.{as_index, constant_found, element_found, field_among, field_in, path_found, to_element, to_field, type_of_constant, type_of_variable, value_of_constant, whole_or_unfit};
+ghost use Rattle.bl_tree.specs.declared.tree.Part.TheVariants.{Field as ToField};
+ghost use Rattle.bl_tree.specs.declared.tree.Ty.{out-Ty};
+ghost use Rattle.bl_types.specs.Failures.{noted};
+
+use crate::environment::{Constant, Variable};
+use crate::failure::Notes;
+use crate::form::{Form, Found, Reached, Step};
+use crate::settle::{INT32, settle};
+use crate::slices::element;
+use crate::types::{copy_of, scalar_in};
+use bl_raw::name::Name;
+use bl_tree::tree::{Expr, Field, Part, Path, StructDef, Ty};
+use bl_tree::{NoMemory, Place};
+use std::alloc::Global;
+
+/// A field of a struct.
+#[derive(Clone, Copy)]
+struct FieldAt<'a> {
+    position: usize,
+    ty: &'a Ty,
+}
+
+/// The field of the name among these.
+fn field_among<'a>(fields: &'a [Field], name: &str) -> Option<FieldAt<'a>>
+    ensures { option_map (λ field. record { position = field.position; ty = field.ty.now }) result ≡ field_among name.now fields.now 0 }
+{
+    for (k, field) in fields.iter().enumerate() {
+        if field.name.as_str() == name {
+            return Some(FieldAt {
+                position: k,
+                ty: &field.ty,
+            });
+        }
+    }
+    None
+}
+
+/// The field of the name in a type, where that is a struct that has one.
+fn field_in<'a>(structs: &'a [StructDef], name: &str, ty: &Ty) -> Option<FieldAt<'a>>
+    ensures { option_map (λ field. record { position = field.position; ty = field.ty.now }) result ≡ field_in structs.now name.now (out-Ty ty.now) }
+{
+    match ty {
+        Ty::Struct(s) => match element(structs, *s as usize) {
+            Some(def) => field_among(&def.fields, name),
+            None => None,
+        },
+        _ => None,
+    }
+}
+
+fn field_step(alloc: Global, position: usize, ty: &Ty) -> Result<Step, NoMemory>
+    ensures ty { IfOk result (λ step. step.ty ≡ Some ty.now) }
+    ensures part { IfOk result (λ step. step.part ≡ Some (ToField position)) }
+{
+    match u32::try_from(position) {
+        Ok(position) => Ok(Step {
+            ty: Some(copy_of(alloc, ty)?),
+            part: Some(Part::Field(position)),
+        }),
+        // A position is a 32-bit number, so a struct with more fields is no struct.
+        Err(_) => Err(NoMemory),
+    }
+}
+
+/// Fails at the field's name where what is reached has no such field.
+pub fn to_field(
+    alloc: Global,
+    structs: &[StructDef],
+    name: &Name,
+    ty: Option<Ty>,
+    notes: &mut Notes,
+) -> Result<Step, NoMemory>
+    ensures ty { IfOk result (λ step. step.ty ≡ (to_field structs.now name.now ty).ty) }
+    ensures part { IfOk result (λ step. step.part ≡ (to_field structs.now name.now ty).part) }
+    ensures notes { OnOk result (notes.new ≡ noted notes.old (to_field structs.now name.now ty).failures) }
+{
+    let Some(ty) = ty else {
+        return Ok(Step::lost());
+    };
+    match field_in(structs, &name.text, &ty) {
+        Some(field) => field_step(alloc, field.position, field.ty),
+        None => {
+            notes.fail(9, name.place);
+            Ok(Step::lost())
+        }
+    }
+}
+
+/// An expression as an index.
+fn as_index(
+    alloc: Global,
+    at: Place,
+    form: Form,
+    notes: &mut Notes,
+) -> Result<Option<Expr>, NoMemory>
+    ensures made { IfOk result (λ made. made ≡ (as_index at form).made) }
+    ensures notes { OnOk result (notes.new ≡ noted notes.old (as_index at form).failures) }
+{
+    match form {
+        Form::Failing => Ok(None),
+        Form::Open(e) => settle(alloc, INT32, &e, notes),
+        Form::Of(ty, e) => Ok(whole(at, &ty, e, notes)),
+    }
+}
+
+fn whole(at: Place, ty: &Ty, e: Expr, notes: &mut Notes) -> Option<Expr>
+    ensures made { result ≡ (whole_or_unfit at (scalar_in ty.now) e).made }
+    ensures notes { notes.new ≡ noted notes.old (whole_or_unfit at (scalar_in ty.now) e).failures }
+{
+    match scalar_in(ty) {
+        Some(s) => {
+            if s.is_whole() {
+                Some(e)
+            } else {
+                notes.fail(9, at);
+                None
+            }
+        }
+        None => {
+            notes.fail(9, at);
+            None
+        }
+    }
+}
+
+fn index_step(
+    alloc: Global,
+    element: &Ty,
+    at: Place,
+    form: Form,
+    notes: &mut Notes,
+) -> Result<Step, NoMemory>
+    ensures ty { IfOk result (λ step. step.ty ≡ (element_found (Some element.now) at form).ty) }
+    ensures part { IfOk result (λ step. step.part ≡ (element_found (Some element.now) at form).part) }
+    ensures notes { OnOk result (notes.new ≡ noted notes.old (element_found (Some element.now) at form).failures) }
+{
+    match as_index(alloc, at, form, notes)? {
+        Some(e) => Ok(Step {
+            ty: Some(copy_of(alloc, element)?),
+            part: Some(Part::Index(e)),
+        }),
+        None => Ok(Step::lost()),
+    }
+}
+
+/// Fails at the index where what is reached is no array.
+pub fn to_element(
+    alloc: Global,
+    at: Place,
+    form: Form,
+    ty: Option<Ty>,
+    notes: &mut Notes,
+) -> Result<Step, NoMemory>
+    ensures ty { IfOk result (λ step. step.ty ≡ (to_element at form ty).ty) }
+    ensures part { IfOk result (λ step. step.part ≡ (to_element at form ty).part) }
+    ensures notes { OnOk result (notes.new ≡ noted notes.old (to_element at form ty).failures) }
+{
+    let Some(ty) = ty else {
+        return Ok(Step::lost());
+    };
+    match &ty {
+        Ty::Array(_, element) => index_step(alloc, element, at, form, notes),
+        _ => {
+            notes.fail(9, at);
+            Ok(Step::lost())
+        }
+    }
+}
+
+pub fn type_of_variable(alloc: Global, var: Option<&Variable>) -> Result<Option<Ty>, NoMemory>
+    ensures { IfOk result (λ ty. ty ≡ type_of_variable (option_map (λ var. var.now) var.entry)) }
+{
+    match var {
+        Some(var) => match &var.ty {
+            Some(ty) => Ok(Some(copy_of(alloc, ty)?)),
+            None => Ok(None),
+        },
+        None => Ok(None),
+    }
+}
+
+pub fn type_of_constant(constant: Option<&Constant>) -> Option<Ty>
+    ensures { result ≡ type_of_constant (option_map (λ constant. constant.now) constant.entry) }
+{
+    match constant {
+        Some(constant) => match constant.ty {
+            Some(s) => Some(Ty::Scalar(s)),
+            None => None,
+        },
+        None => None,
+    }
+}
+
+fn value_of(constant: Option<&Constant>) -> i128
+    ensures { result ≡ value_of_constant (option_map (λ constant. constant.now) constant.entry) }
+{
+    match constant {
+        Some(constant) => constant.value,
+        None => 0,
+    }
+}
+
+pub fn path_found(at: Place, k: u32, reached: Reached) -> Found
+    ensures { result ≡ path_found at k reached.parts reached.ty }
+{
+    let Reached { ty, parts } = reached;
+    match ty {
+        Some(ty) => Found::Place(Path {
+            place: at,
+            root: k,
+            parts,
+            ty,
+        }),
+        None => Found::Nothing,
+    }
+}
+
+pub fn constant_found(constant: Option<&Constant>, reached: Reached) -> Found
+    ensures { result ≡ constant_found (value_of_constant (option_map (λ constant. constant.now) constant.entry)) (option_and_then scalar_in reached.ty) }
+{
+    match &reached.ty {
+        Some(ty) => match scalar_in(ty) {
+            Some(s) => Found::Constant(s, value_of(constant)),
+            None => Found::Nothing,
+        },
+        None => Found::Nothing,
+    }
+}
