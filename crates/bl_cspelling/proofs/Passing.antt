@@ -1,5 +1,5 @@
 -- A text whose pieces derive spells a file.
-use Rattle.std.proofs.Common.{◌≡◌, ℕ, ◌≤◌, true, ◌&&◌, nat_le, List, [], ◌∷◌, ◌++◌, map, ◌∙◌, subst, append-nil, arith}
+use Rattle.std.proofs.Common.{◌≡◌, ℕ, ◌≤◌, true, ◌&&◌, nat_le, List, [], ◌∷◌, ◌++◌, length, drop, map, refl, sym, ap, ◌∙◌, subst, arith}
 use Rattle.std.proofs.lemmas.Bool.Decides.{nat_tests}
 use Rattle.bl_tree.specs.declared.c.CStruct.{CStruct}
 use Rattle.bl_tree.specs.declared.c.CFunc.{CFunc}
@@ -10,11 +10,17 @@ use Rattle.bl_ctext.specs.Spellable.{has_any, is_spellable, most_open, shallow, 
 use Rattle.bl_ctext.specs.declared.file.CFile.{CFile}
 use Rattle.bl_ctext.proofs.Bytes.{and-fst, and-snd, both}
 use Rattle.bl_csyntax.specs.Pieces.{pieces}
-use Rattle.bl_csyntax.specs.Grammar.{whole, SpellText}
+use Rattle.bl_csyntax.specs.Grammar.{SpellText}
+use Rattle.bl_csyntax.specs.Stack.{file}
 use Rattle.bl_cspelling.proofs.Told.{ToldFile}
-use Rattle.bl_cspelling.proofs.Trees.{Trees, trees}
+use Rattle.bl_cspelling.proofs.Trees.{tree_there}
 use Rattle.bl_cspelling.proofs.Depths.{text_kept}
 use Rattle.bl_cspelling.proofs.Spaced.{spaced}
+use Rattle.bl_cspelling.proofs.Unique.{tokens_are}
+use Rattle.bl_cderives.proofs.Files.{file_derives}
+use Rattle.bl_csyntax.specs.Rules.{Passes}
+use Rattle.bl_ctext.specs.Prelude.{prelude}
+use Rattle.bl_ctext.specs.SpellsC.{SpellsC}
 
 at_most : (a b : ℕ) → a ≤ b → nat_le a b ≡ true
 at_most a b h = grind (arith, nat_tests)
@@ -26,12 +32,24 @@ spellable structs funcs ts is s f few =
     both (has_any structs) _ (and-fst _ _ s) (both (has_any funcs) _ (and-fst _ _ f) (both (all_of (map spells_struct structs)) _ (and-snd _ _ s) (both (all_of (map spells_func funcs)) _ (and-snd _ _ f) flat)))
 
 pub spells_some : (text : List ℕ) → SpellText (pieces text) → (file : CFile) × SpacedC (tokens_of file.structs file.funcs) text
-spells_some text spells = by_trees (trees spells)
+spells_some text spells = by_file (tree_there file (pieces text) spells)
   where
-    by_file : (ts : List Token) → pieces text ≡ ts → ToldFile ts → (file : CFile) × SpacedC (tokens_of file.structs file.funcs) text
-    by_file ts e (structs, (funcs, (is, (s, f)))) =
+    by_file : ToldFile (pieces text) → (file : CFile) × SpacedC (tokens_of file.structs file.funcs) text
+    by_file (structs, (funcs, (is, (s, f)))) =
         let kept = text_kept (pieces text) spells in
-        (record { structs = structs; funcs = funcs; spellable = spellable structs funcs (pieces text) (e ∙ is) s f kept.1 }, subst (λ ts. SpacedC ts text) (e ∙ is) (spaced text kept.0))
+        (record { structs = structs; funcs = funcs; spellable = spellable structs funcs (pieces text) is s f kept.1 }, subst (λ ts. SpacedC ts text) is (spaced text kept.0))
 
-    by_trees : (ts : List Token) × ((pieces text ≡ ts ++ []) × Trees (whole ∷ []) ts) → (file : CFile) × SpacedC (tokens_of file.structs file.funcs) text
-    by_trees (ts, (e, t)) = by_file ts (e ∙ append-nil ts) t
+behind : (front rest : List ℕ) → drop (length front) (front ++ rest) ≡ rest
+behind [] rest = refl
+behind (b ∷ front) rest = behind front rest
+
+pub passing_spelled : (bytes rest : List ℕ) → bytes ≡ prelude ++ rest → Passes bytes (length prelude) → (file : CFile) × SpellsC file bytes
+passing_spelled bytes rest begins passes = by_file (spells_some (drop (length prelude) bytes) passes)
+  where
+    by_file : (file : CFile) × SpacedC (tokens_of file.structs file.funcs) (drop (length prelude) bytes) → (file : CFile) × SpellsC file bytes
+    by_file (file, spaced) = (file, (rest, (begins, subst (SpacedC (tokens_of file.structs file.funcs)) (ap (drop (length prelude)) begins ∙ behind prelude rest) spaced)))
+
+pub spelled_passing : (file : CFile) (bytes : List ℕ) → SpellsC file bytes → Passes bytes (length prelude)
+spelled_passing file bytes (rest, (begins, spaced)) =
+    subst SpellText (sym (tokens_are (tokens_of file.structs file.funcs) rest spaced) ∙ sym (ap pieces (ap (drop (length prelude)) begins ∙ behind prelude rest)))
+    (file_derives file.structs file.funcs file.spellable)

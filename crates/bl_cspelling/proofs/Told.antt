@@ -8,7 +8,6 @@ use Rattle.bl_tree.specs.declared.scalar.Scalar.{Scalar}
 use Rattle.bl_tree.specs.declared.scalar.Scalar.TheVariants as scalar
 use Rattle.bl_tree.specs.declared.scalar.Op.{Op}
 use Rattle.bl_tree.specs.declared.c.CType.TheVariants as ctype
-use Rattle.bl_tree.specs.declared.c.CMember.{CMember}
 use Rattle.bl_tree.specs.declared.c.CStruct.{CStruct}
 use Rattle.bl_tree.specs.declared.c.CFunc.{CFunc}
 use Rattle.bl_tree.specs.declared.c.CPlace.{CPlace, roll-CPlace, out-CPlace, roll-out-CPlace}
@@ -24,13 +23,12 @@ use Rattle.bl_csyntax.specs.declared.grammar.Part.{Part}
 use Rattle.bl_csyntax.specs.declared.grammar.Part.TheVariants.{File, Structs, Struct, StructName, Members, Member, TypeName, Length, Funcs, Func, PlainFunc, FuncRest, FuncName, Params, ParamRest, Param, Star, Locals, Local, Stmts, Stmt, Else, Turns, AfterName, AssignTail, Value, AfterOpen, Result, Expr, Simple, Constant, Inside, Negative, NameUse, Steps, Index, Args, ArgRest, Arg, Place}
 use Rattle.bl_csyntax.specs.declared.grammar.Group.TheVariants.{PlainLiterals, IndexFunctions}
 use Rattle.bl_csyntax.specs.declared.grammar.Digits.TheVariants.{Elements, Int, Negated, Unsigned}
-use Rattle.bl_csyntax.specs.Classes.{words_of, matches}
-use Rattle.bl_csyntax.specs.Classes.Class.{exactly}
+use Rattle.bl_csyntax.specs.Classes.{words_of}
 use Rattle.bl_cspelling.specs.Placeless.{nowhere}
 use Rattle.bl_cspelling.proofs.Rows.{braces}
 use Rattle.bl_cspelling.proofs.Layers.{Levels, Places, arg_level, arg_ok, kind_level, kind_ok, call_level, call_ok, expr_level, expr_ok, index_level, index_ok, place_level, place_ok, maybe_index, maybe_ok, step_level, step_ok, arg_levels, kind_levels, call_levels, expr_levels, index_levels, place_levels, step_levels}
 use Rattle.bl_cspelling.proofs.OnlyStmt.{else_level, else_ok, stmt_level, stmt_ok, stmt_kind_levels, whole_level, whole_ok, stmt_levels}
-use Rattle.bl_cspelling.proofs.Pieces.{OneOf, Spelled, word_is}
+use Rattle.bl_cspelling.proofs.Pieces.{OneOf, Spelled}
 
 -- something with a spelling has these tokens
 abbrev pub Told : {A : Type 0} → (A → List Token) → (A → Bool) → List Token → Type 0
@@ -98,21 +96,18 @@ Tree Place ts = Told place_tokens spells_place ts
 
 -- ---- lists of tokens
 
-pub at_word : {ts b : List Token} {t w : Token} → ts ≡ t ∷ b → matches (exactly w) t ≡ true → ts ≡ w ∷ b
-at_word {b = b} e m = e ∙ ap (λ u. u ∷ b) (sym (word_is m))
-
 pub moved : {A : Type 0} {tokens : A → List Token} {ok : A → Bool} {ts us : List Token} → ts ≡ us → Told tokens ok us → Told tokens ok ts
 moved e (x, (i, h)) = (x, (e ∙ i, h))
 
-pub row_more : {A : Type 0} (tokens : A → List Token) (ok : A → Bool) {ts a b : List Token} → ts ≡ a ++ b → Told tokens ok a → Row tokens ok b → Row tokens ok ts
-row_more tokens ok {ts} {a} {b} e (x, (i, h)) (xs, (j, k)) = (x ∷ xs, (e ∙ (ap (λ a. a ++ b) i ∙ ap (λ b. tokens x ++ b) j), both (ok x) (all_of (map ok xs)) h k))
+pub row_more : {A : Type 0} (tokens : A → List Token) (ok : A → Bool) {a b : List Token} → Told tokens ok a → Row tokens ok b → Row tokens ok (a ++ b)
+row_more tokens ok {a} {b} (x, (i, h)) (xs, (j, k)) = (x ∷ xs, (ap (λ a. a ++ b) i ∙ ap (λ b. tokens x ++ b) j, both (ok x) (all_of (map ok xs)) h k))
 
-pub comma_more : {A : Type 0} (tokens : A → List Token) (ok : A → Bool) {ts a b c : List Token} → ts ≡ codes "," ∷ c → c ≡ a ++ b → Told tokens ok a → Commas false tokens ok b → Commas false tokens ok ts
-comma_more tokens ok {ts} {a} {b} {c} o e (x, (i, h)) (xs, (j, k)) =
-    (x ∷ xs, (o ∙ ap (λ c. codes "," ∷ c) (e ∙ (ap (λ a. a ++ b) i ∙ ap (λ b. tokens x ++ b) j)), both (ok x) (all_of (map ok xs)) h k))
+pub comma_more : {A : Type 0} (tokens : A → List Token) (ok : A → Bool) {a b : List Token} → Told tokens ok a → Commas false tokens ok b → Commas false tokens ok (codes "," ∷ (a ++ b))
+comma_more tokens ok {a} {b} (x, (i, h)) (xs, (j, k)) =
+    (x ∷ xs, (ap (λ c. codes "," ∷ c) (ap (λ a. a ++ b) i ∙ ap (λ b. tokens x ++ b) j), both (ok x) (all_of (map ok xs)) h k))
 
-pub first_more : {A : Type 0} (tokens : A → List Token) (ok : A → Bool) {ts a b : List Token} → ts ≡ a ++ b → Told tokens ok a → Commas false tokens ok b → Commas true tokens ok ts
-first_more tokens ok {ts} {a} {b} e (x, (i, h)) (xs, (j, k)) = (x ∷ xs, (e ∙ (ap (λ a. a ++ b) i ∙ ap (λ b. tokens x ++ b) j), both (ok x) (all_of (map ok xs)) h k))
+pub first_more : {A : Type 0} (tokens : A → List Token) (ok : A → Bool) {a b : List Token} → Told tokens ok a → Commas false tokens ok b → Commas true tokens ok (a ++ b)
+first_more tokens ok {a} {b} (x, (i, h)) (xs, (j, k)) = (x ∷ xs, (ap (λ a. a ++ b) i ∙ ap (λ b. tokens x ++ b) j, both (ok x) (all_of (map ok xs)) h k))
 
 parens : (xs a : List Token) → (xs ++ codes ")" ∷ []) ++ a ≡ xs ++ (codes ")" ∷ a)
 parens xs a = append_assoc xs (codes ")" ∷ []) a
@@ -194,13 +189,15 @@ less a b h = grind (arith, nat_tests)
 less_or_same : (a b : ℕ) → a ≤ b → nat_le a b ≡ true
 less_or_same a b h = grind (arith, nat_tests)
 
-pub int_told : (w : Width) (t : Token) → Spelled (Int w) t → {ts : List Token} → ts ≡ constant_word (codes "INT") w ∷ codes "(" ∷ t ∷ codes ")" ∷ [] → Told kind_level kind_ok ts
-int_told w t s e =
-    (CExprKind-F.Literal (scalar.Int w) (pos s.n), (e ∙ ap (λ t. constant_word (codes "INT") w ∷ codes "(" ∷ t ∷ codes ")" ∷ []) s.is, less s.n (negatives w) s.high))
+-- a constant by its word, with digits in parentheses
+abbrev pub constant : Token → Token → List Token
+constant word t = word ∷ codes "(" ∷ t ∷ codes ")" ∷ []
 
-pub nat_told : (w : Width) (t : Token) → Spelled (Unsigned w) t → {ts : List Token} → ts ≡ constant_word (codes "UINT") w ∷ codes "(" ∷ t ∷ codes ")" ∷ [] → Told kind_level kind_ok ts
-nat_told w t s e =
-    (CExprKind-F.Literal (scalar.Nat w) (pos s.n), (e ∙ ap (λ t. constant_word (codes "UINT") w ∷ codes "(" ∷ t ∷ codes ")" ∷ []) s.is, less s.n (2 * negatives w) s.high))
+pub int_told : (w : Width) (t : Token) → Spelled (Int w) t → Told kind_level kind_ok (constant (constant_word (codes "INT") w) t)
+int_told w t s = (CExprKind-F.Literal (scalar.Int w) (pos s.n), (ap (constant (constant_word (codes "INT") w)) s.is, less s.n (negatives w) s.high))
+
+pub nat_told : (w : Width) (t : Token) → Spelled (Unsigned w) t → Told kind_level kind_ok (constant (constant_word (codes "UINT") w) t)
+nat_told w t s = (CExprKind-F.Literal (scalar.Nat w) (pos s.n), (ap (constant (constant_word (codes "UINT") w)) s.is, less s.n (2 * negatives w) s.high))
 
 not_least : (n k : ℕ) → n < k → (n == k) ≡ false
 not_least n k h = grind (arith, nat_tests)
@@ -208,20 +205,17 @@ not_least n k h = grind (arith, nat_tests)
 lower : (n k : ℕ) → suc n < k → nat_lt n k ≡ true
 lower n k h = less n k (omega (arith, h))
 
-negated_at : (w : Width) (t : Token) (n : ℕ) → t ≡ decimal n → 1 ≤ n → n < negatives w → {ts : List Token} → ts ≡ constant_word (codes "INT") w ∷ codes "(" ∷ t ∷ codes ")" ∷ []
-    → Told kind_level kind_ok (codes "(" ∷ codes "-" ∷ (ts ++ codes ")" ∷ []))
-negated_at w t zero is low high e = absurd (omega (arith, low))
-negated_at w t (suc n) is low high e = (
-  CExprKind-F.Literal (scalar.Int w) (negsuc n),
-  (
-    ap (λ ts. codes "(" ∷ codes "-" ∷ (ts ++ codes ")" ∷ [])) (e ∙ ap (λ t. constant_word (codes "INT") w ∷ codes "(" ∷ t ∷ codes ")" ∷ []) is) ∙ rw (not_least (suc n) (negatives w) high) refl,
-    lower n (negatives w) high,
-  ),
-)
+-- a constant behind `(-`, and the parenthesis behind it
+abbrev pub behind_minus : List Token → List Token
+behind_minus ts = codes "(" ∷ codes "-" ∷ (ts ++ codes ")" ∷ [])
 
-pub negated_told : (w : Width) (t : Token) → Spelled (Negated w) t → {ts : List Token} → ts ≡ constant_word (codes "INT") w ∷ codes "(" ∷ t ∷ codes ")" ∷ []
-    → Told kind_level kind_ok (codes "(" ∷ codes "-" ∷ (ts ++ codes ")" ∷ []))
-negated_told w t s e = negated_at w t s.n s.is s.low s.high e
+negated_at : (w : Width) (t : Token) (n : ℕ) → t ≡ decimal n → 1 ≤ n → n < negatives w → Told kind_level kind_ok (behind_minus (constant (constant_word (codes "INT") w) t))
+negated_at w t zero is low high = absurd (omega (arith, low))
+negated_at w t (suc n) is low high =
+    (CExprKind-F.Literal (scalar.Int w) (negsuc n), (ap (λ t. behind_minus (constant (constant_word (codes "INT") w) t)) is ∙ rw (not_least (suc n) (negatives w) high) refl, lower n (negatives w) high))
+
+pub negated_told : (w : Width) (t : Token) → Spelled (Negated w) t → Told kind_level kind_ok (behind_minus (constant (constant_word (codes "INT") w) t))
+negated_told w t s = negated_at w t s.n s.is s.low s.high
 
 pub plain_literal : {t : Token} → OneOf t (words_of PlainLiterals) → Told kind_level kind_ok (t ∷ [])
 plain_literal OneOf.this = (CExprKind-F.Literal scalar.Bool (pos 1), (refl, refl))
@@ -252,17 +246,16 @@ is_a_length n low high = both (nat_le 1 n) (nat_le n 65536) (less_or_same 1 n lo
 some_index : {ts : List Token} → Told index_tokens spells_index ts → Told maybe_index maybe_ok ts
 some_index (i, (e, h)) = (Some i, (e, h))
 
-pub index_told : (t : Token) → (signed : Bool) × (t ≡ index_word signed) → {a : List Token} → Told expr_tokens spells_expr a → (u : Token) → Spelled Elements u → {ts : List Token}
-    → ts ≡ codes "[" ∷ t ∷ codes "(" ∷ (a ++ (codes "," ∷ u ∷ codes ")" ∷ codes "]" ∷ [])) → Told maybe_index maybe_ok ts
-index_told t (signed, f) {a} (x, (i, h)) u s e =
+pub index_told : (t : Token) → (signed : Bool) × (t ≡ index_word signed) → {a : List Token} → Told expr_tokens spells_expr a → (u : Token) → Spelled Elements u
+    → Told maybe_index maybe_ok (codes "[" ∷ t ∷ codes "(" ∷ (a ++ (codes "," ∷ u ∷ codes ")" ∷ codes "]" ∷ [])))
+index_told t (signed, f) {a} (x, (i, h)) u s =
     some_index (index_from (
       record { signed = signed; at = x; length = s.n },
       (
-        e
-            ∙ (ap (λ t. codes "[" ∷ t ∷ codes "(" ∷ (a ++ (codes "," ∷ u ∷ codes ")" ∷ codes "]" ∷ []))) f
+        ap (λ t. codes "[" ∷ t ∷ codes "(" ∷ (a ++ (codes "," ∷ u ∷ codes ")" ∷ codes "]" ∷ []))) f
             ∙ (ap (λ a. codes "[" ∷ index_word signed ∷ codes "(" ∷ (a ++ (codes "," ∷ u ∷ codes ")" ∷ codes "]" ∷ []))) i
             ∙ (ap (λ u. codes "[" ∷ index_word signed ∷ codes "(" ∷ (expr_tokens x ++ (codes "," ∷ u ∷ codes ")" ∷ codes "]" ∷ []))) s.is
-            ∙ fronted signed (expr_tokens x ++ (codes "," ∷ decimal s.n ∷ codes ")" ∷ codes "]" ∷ []))))),
+            ∙ fronted signed (expr_tokens x ++ (codes "," ∷ decimal s.n ∷ codes ")" ∷ codes "]" ∷ [])))),
         both (spells_expr x) (is_length s.n) h (is_a_length s.n s.low s.high),
       ),
     ))
@@ -319,10 +312,15 @@ stepped p h {a} b step k = by_place (longer_place p h step)
 pub set_told : (p : CPlace) → spells_place p ≡ true → {a : List Token} → Told expr_tokens spells_expr a → Told stmt_level stmt_ok (place_tokens p ++ (codes "=" ∷ (a ++ codes ";" ∷ [])))
 set_told p h (x, (e, k)) = (CStmtKind-F.Set p x, (ap (λ a. place_tokens p ++ (codes "=" ∷ (a ++ codes ";" ∷ []))) e, both (spells_place p) (spells_expr x) h k))
 
-pub clear_told : (p : CPlace) → spells_place p ≡ true → (name : List ℕ) → is_struct_name name ≡ true → {ts : List Token} → ts ≡ codes "struct" ∷ name ∷ codes ")" ∷ codes "{" ∷ codes "0" ∷ codes "}" ∷ []
-    → Told stmt_level stmt_ok (place_tokens p ++ (codes "=" ∷ codes "(" ∷ (ts ++ codes ";" ∷ [])))
-clear_told p h name k e =
-    (CStmtKind-F.Clear p name, (ap (λ ts. place_tokens p ++ (codes "=" ∷ codes "(" ∷ (ts ++ codes ";" ∷ []))) e, both (spells_place p) (is_struct_name name) h k))
+pub clear_told : (p : CPlace) → spells_place p ≡ true → {a : List Token} → Told alone is_struct_name a
+    → Told stmt_level stmt_ok (place_tokens p ++ (codes "=" ∷ codes "(" ∷ codes "struct" ∷ ((a ++ (codes ")" ∷ codes "{" ∷ codes "0" ∷ codes "}" ∷ [])) ++ codes ";" ∷ [])))
+clear_told p h (name, (i, k)) = (
+  CStmtKind-F.Clear p name,
+  (
+    ap (λ a. place_tokens p ++ (codes "=" ∷ codes "(" ∷ codes "struct" ∷ ((a ++ (codes ")" ∷ codes "{" ∷ codes "0" ∷ codes "}" ∷ [])) ++ codes ";" ∷ []))) i,
+    both (spells_place p) (is_struct_name name) h k,
+  ),
+)
 
 pub if_told : {a b c : List Token} → Told expr_tokens spells_expr a → Row stmt_tokens spells_stmt b → Told else_level else_ok c
     → Told stmt_level stmt_ok (codes "if" ∷ codes "(" ∷ (a ++ (codes ")" ∷ codes "{" ∷ (b ++ (codes "}" ∷ c)))))
@@ -338,75 +336,76 @@ if_told {a} {b} {c} (x, (i, h)) (xs, (j, k)) (o, (f, s)) =
       ),
     )
 
-pub loop_told : (own : Token) → is_turn_name own ≡ true → {ts a b : List Token}
-    → ts ≡ own ∷ codes "=" ∷ codes "0" ∷ codes ";" ∷ codes "while" ∷ codes "(" ∷ (a ++ (codes ")" ∷ codes "{" ∷ own ∷ codes "=" ∷ codes "bl_turn" ∷ codes "(" ∷ own ∷ codes ")" ∷ codes ";" ∷ (b ++ (codes "}" ∷ codes "}" ∷ []))))
-    → Told expr_tokens spells_expr a → Row stmt_tokens spells_stmt b → Told stmt_level stmt_ok (codes "{" ∷ codes "uint32_t" ∷ ts)
-loop_told own turned {ts} {a} {b} e (x, (i, h)) (xs, (j, k)) = (
+pub loop_told : (own : Token) → is_turn_name own ≡ true → {a b : List Token} → Told expr_tokens spells_expr a → Row stmt_tokens spells_stmt b
+    → Told stmt_level stmt_ok (turn_declared own ++ (codes "(" ∷ (a ++ (codes ")" ∷ (turn_counted own ++ (b ++ (codes "}" ∷ codes "}" ∷ [])))))))
+loop_told own turned {a} {b} (x, (i, h)) (xs, (j, k)) = (
   CStmtKind-F.Loop own x xs,
   (
-    ap (λ ts. codes "{" ∷ codes "uint32_t" ∷ ts) e
-        ∙ (ap (λ a. turn_declared own ++ (codes "(" ∷ (a ++ (codes ")" ∷ (turn_counted own ++ (b ++ (codes "}" ∷ codes "}" ∷ []))))))) i
+    ap (λ a. turn_declared own ++ (codes "(" ∷ (a ++ (codes ")" ∷ (turn_counted own ++ (b ++ (codes "}" ∷ codes "}" ∷ []))))))) i
         ∙ (ap (λ b. turn_declared own ++ (codes "(" ∷ (expr_tokens x ++ (codes ")" ∷ (turn_counted own ++ (b ++ (codes "}" ∷ codes "}" ∷ []))))))) j
-        ∙ ap (λ us. turn_declared own ++ (codes "(" ∷ us)) (sym (parens (expr_tokens x) (turn_counted own ++ (joined (map stmt_tokens xs) ++ (codes "}" ∷ codes "}" ∷ []))))))),
+        ∙ ap (λ us. turn_declared own ++ (codes "(" ∷ us)) (sym (parens (expr_tokens x) (turn_counted own ++ (joined (map stmt_tokens xs) ++ (codes "}" ∷ codes "}" ∷ [])))))),
     both (is_turn_name own) (spells_expr x && all_of (map spells_stmt xs)) turned (both (spells_expr x) (all_of (map spells_stmt xs)) h k),
   ),
 )
 
 -- ---- structs and functions
 
-pub scalar_type : (t : Token) {ts : List Token} → ts ≡ t ∷ [] → (s : Scalar) × ((t ≡ scalar_word s) × (is_c_scalar s ≡ true)) → Told type_tokens spells_type ts
-scalar_type t e (s, (f, c)) = (ctype.Scalar s, (e ∙ ap (λ t. t ∷ []) f, c))
+pub scalar_type : (t : Token) → (s : Scalar) × ((t ≡ scalar_word s) × (is_c_scalar s ≡ true)) → Told type_tokens spells_type (t ∷ [])
+scalar_type t (s, (f, c)) = (ctype.Scalar s, (ap (λ t. t ∷ []) f, c))
 
-pub length_told : (t : Token) → Spelled Elements t → {ts : List Token} → ts ≡ codes "[" ∷ t ∷ codes "]" ∷ [] → Told length_tokens spells_length ts
-length_told t s e = (Some s.n, (e ∙ ap (λ t. codes "[" ∷ t ∷ codes "]" ∷ []) s.is, is_a_length s.n s.low s.high))
+pub length_told : (t : Token) → Spelled Elements t → Told length_tokens spells_length (codes "[" ∷ t ∷ codes "]" ∷ [])
+length_told t s = (Some s.n, (ap (λ t. codes "[" ∷ t ∷ codes "]" ∷ []) s.is, is_a_length s.n s.low s.high))
 
-pub member_told : {a c ts : List Token} (name : List ℕ) → ts ≡ a ++ (name ∷ (c ++ codes ";" ∷ [])) → Told type_tokens spells_type a → is_name name ≡ true → Told length_tokens spells_length c → Told member_tokens spells_member ts
-member_told {a} {c} name e (ty, (i, h)) named (l, (j, k)) = (
+pub member_told : {a c : List Token} → Told type_tokens spells_type a → (name : List ℕ) → is_name name ≡ true → Told length_tokens spells_length c → Told member_tokens spells_member (a ++ (name ∷ (c ++ codes ";" ∷ [])))
+member_told {a} {c} (ty, (i, h)) name named (l, (j, k)) = (
   record { ty = ty; name = name; length = l },
   (
-    e ∙ (ap (λ a. a ++ (name ∷ (c ++ codes ";" ∷ []))) i ∙ ap (λ c. type_tokens ty ++ (name ∷ (c ++ codes ";" ∷ []))) j),
+    ap (λ a. a ++ (name ∷ (c ++ codes ";" ∷ []))) i ∙ ap (λ c. type_tokens ty ++ (name ∷ (c ++ codes ";" ∷ []))) j,
     both (spells_type ty) (is_name name && spells_length l) h (both (is_name name) (spells_length l) named k),
   ),
 )
 
-pub structure_told : (name : List ℕ) → is_struct_name name ≡ true → {ts a b : List Token} → ts ≡ codes "struct" ∷ name ∷ codes "{" ∷ (a ++ (b ++ (codes "}" ∷ codes ";" ∷ [])))
-    → Told member_tokens spells_member a → Row member_tokens spells_member b → Told struct_tokens spells_struct ts
-structure_told name h {ts} {a} {b} e x xs = by_row (row_more member_tokens spells_member {ts = a ++ b} refl x xs)
-  where
-    by_members : (ms : List CMember) → a ++ b ≡ joined (map member_tokens ms) → has_any ms ≡ true → all_of (map spells_member ms) ≡ true → Told struct_tokens spells_struct ts
-    by_members ms i any k = (
-      record { place = nowhere; name = name; members = ms },
+pub structure_told : {n a b : List Token} → Told alone is_struct_name n → Told member_tokens spells_member a → Row member_tokens spells_member b
+    → Told struct_tokens spells_struct (codes "struct" ∷ (n ++ (codes "{" ∷ (a ++ (b ++ (codes "}" ∷ codes ";" ∷ []))))))
+structure_told {n} {a} {b} (name, (f, g)) (x, (i, h)) (xs, (j, k)) =
+    let ms = joined (map member_tokens xs) in (
+      record { place = nowhere; name = name; members = x ∷ xs },
       (
-        e
-            ∙ ap (λ us. codes "struct" ∷ name ∷ codes "{" ∷ us) (sym (append_assoc a b (codes "}" ∷ codes ";" ∷ [])) ∙ (ap (λ us. us ++ (codes "}" ∷ codes ";" ∷ [])) i ∙ sym (braces (joined (map member_tokens ms)) (codes ";" ∷ [])))),
-        both (is_struct_name name) (has_any ms && all_of (map spells_member ms)) h (both (has_any ms) (all_of (map spells_member ms)) any k),
+        ap (λ n. codes "struct" ∷ (n ++ (codes "{" ∷ (a ++ (b ++ (codes "}" ∷ codes ";" ∷ [])))))) f
+            ∙ ap (λ us. codes "struct" ∷ name ∷ codes "{" ∷ us)
+            (ap (λ a. a ++ (b ++ (codes "}" ∷ codes ";" ∷ []))) i
+            ∙ (ap (λ b. member_tokens x ++ (b ++ (codes "}" ∷ codes ";" ∷ []))) j
+            ∙ (sym (append_assoc (member_tokens x) ms (codes "}" ∷ codes ";" ∷ [])) ∙ sym (braces (member_tokens x ++ ms) (codes ";" ∷ []))))),
+        both (is_struct_name name) (spells_member x && all_of (map spells_member xs)) g (both (spells_member x) (all_of (map spells_member xs)) h k),
       ),
     )
 
-    by_row : Row member_tokens spells_member (a ++ b) → Told struct_tokens spells_struct ts
-    by_row (ms, (i, k)) = by_members (x.0 ∷ xs.0) (ap (λ a. a ++ b) x.1.0 ∙ ap (λ b. member_tokens x.0 ++ b) xs.1.0) refl (both (spells_member x.0) (all_of (map spells_member xs.0)) x.1.1 xs.1.1)
+pub param_told : {a b : List Token} → Told type_tokens spells_type a → Told star_if always b → (name : List ℕ) → is_name name ≡ true → Told param_tokens spells_param (a ++ (b ++ name ∷ []))
+param_told {a} {b} (ty, (i, h)) (star, (j, k)) name named =
+    (record { ty = ty; pointer = star; name = name }, (ap (λ a. a ++ (b ++ name ∷ [])) i ∙ ap (λ b. type_tokens ty ++ (b ++ name ∷ [])) j, both (spells_type ty) (is_name name) h named))
 
-pub param_told : {a b ts : List Token} (name : List ℕ) → ts ≡ a ++ (b ++ name ∷ []) → Told type_tokens spells_type a → Told star_if always b → is_name name ≡ true → Told param_tokens spells_param ts
-param_told {a} {b} name e (ty, (i, h)) (star, (j, k)) named =
-    (record { ty = ty; pointer = star; name = name }, (e ∙ (ap (λ a. a ++ (b ++ name ∷ [])) i ∙ ap (λ b. type_tokens ty ++ (b ++ name ∷ [])) j), both (spells_type ty) (is_name name) h named))
+pub scalar_local : (t : Token) → (s : Scalar) × ((t ≡ scalar_word s) × (is_c_scalar s ≡ true)) → (name : List ℕ) → is_name name ≡ true
+    → Told local_tokens spells_local (t ∷ name ∷ codes "=" ∷ codes "0" ∷ codes ";" ∷ [])
+scalar_local t (s, (f, c)) name named =
+    (record { ty = ctype.Scalar s; name = name }, (ap (λ t. t ∷ name ∷ codes "=" ∷ codes "0" ∷ codes ";" ∷ []) f, both (is_c_scalar s) (is_name name) c named))
 
-pub scalar_local : (t : Token) → (s : Scalar) × ((t ≡ scalar_word s) × (is_c_scalar s ≡ true)) → (name : List ℕ) → is_name name ≡ true → {ts : List Token}
-    → ts ≡ t ∷ name ∷ codes "=" ∷ codes "0" ∷ codes ";" ∷ [] → Told local_tokens spells_local ts
-scalar_local t (s, (f, c)) name named e =
-    (record { ty = ctype.Scalar s; name = name }, (e ∙ ap (λ t. t ∷ name ∷ codes "=" ∷ codes "0" ∷ codes ";" ∷ []) f, both (is_c_scalar s) (is_name name) c named))
+pub struct_local : {a : List Token} → Told alone is_struct_name a → (name : List ℕ) → is_name name ≡ true
+    → Told local_tokens spells_local (codes "struct" ∷ (a ++ (name ∷ codes "=" ∷ codes "{" ∷ codes "0" ∷ codes "}" ∷ codes ";" ∷ [])))
+struct_local (of, (i, h)) name named =
+    (record { ty = ctype.Struct of; name = name }, (ap (λ a. codes "struct" ∷ (a ++ (name ∷ codes "=" ∷ codes "{" ∷ codes "0" ∷ codes "}" ∷ codes ";" ∷ []))) i, both (is_struct_name of) (is_name name) h named))
 
-pub scalar_func : (t : Token) → (s : Scalar) × ((t ≡ scalar_word s) × (is_c_scalar s ≡ true)) → {ts b : List Token} → ts ≡ t ∷ b → (fixed : Bool) → Tree FuncRest b → Told func_tokens spells_func (static_if fixed ++ ts)
-scalar_func t (s, (f, c)) {ts} {b} e fixed k = moved (ap (λ us. static_if fixed ++ us) (e ∙ ap (λ t. t ∷ b) f)) (k fixed (Some s) c)
+pub scalar_func : (t : Token) → (s : Scalar) × ((t ≡ scalar_word s) × (is_c_scalar s ≡ true)) → {b : List Token} → Tree FuncRest b → (fixed : Bool) → Told func_tokens spells_func (static_if fixed ++ (t ∷ b))
+scalar_func t (s, (f, c)) {b} k fixed = moved (ap (λ t. static_if fixed ++ (t ∷ b)) f) (k fixed (Some s) c)
 
-pub function_told : (fixed : Bool) (result : Option Scalar) → spells_returned result ≡ true → (name : List ℕ) → is_function_name name ≡ true → {ts a b c : List Token}
-    → ts ≡ name ∷ codes "(" ∷ (a ++ (codes ")" ∷ codes "{" ∷ (b ++ (c ++ codes "}" ∷ []))))
+pub function_told : (fixed : Bool) (result : Option Scalar) → spells_returned result ≡ true → {n a b c : List Token} → Told alone is_function_name n
     → Commas true param_tokens spells_param a → Row local_tokens spells_local b → Row stmt_tokens spells_stmt c
-    → Told func_tokens spells_func (static_if fixed ++ (returned_tokens result ++ ts))
-function_told fixed result returned name h {ts} {a} {b} {c} e (ps, (i, p)) (ls, (j, l)) (ss, (k, s)) =
+    → Told func_tokens spells_func (static_if fixed ++ (returned_tokens result ++ (n ++ (codes "(" ∷ (a ++ (codes ")" ∷ codes "{" ∷ (b ++ (c ++ codes "}" ∷ []))))))))
+function_told fixed result returned {n} {a} {b} {c} (name, (g, h)) (ps, (i, p)) (ls, (j, l)) (ss, (k, s)) =
     let ret = returned_tokens result in
     let rest = with_commas (map param_tokens ps) ++ (codes ")" ∷ codes "{" ∷ (joined (map local_tokens ls) ++ (joined (map stmt_tokens ss) ++ codes "}" ∷ []))) in
-    let inner : ts ≡ name ∷ codes "(" ∷ rest =
-    e ∙ (ap (λ a. name ∷ codes "(" ∷ (a ++ (codes ")" ∷ codes "{" ∷ (b ++ (c ++ codes "}" ∷ []))))) i
+    let inner : n ++ (codes "(" ∷ (a ++ (codes ")" ∷ codes "{" ∷ (b ++ (c ++ codes "}" ∷ []))))) ≡ name ∷ codes "(" ∷ rest =
+    ap (λ n. n ++ (codes "(" ∷ (a ++ (codes ")" ∷ codes "{" ∷ (b ++ (c ++ codes "}" ∷ [])))))) g
+    ∙ (ap (λ a. name ∷ codes "(" ∷ (a ++ (codes ")" ∷ codes "{" ∷ (b ++ (c ++ codes "}" ∷ []))))) i
     ∙ (ap (λ b. name ∷ codes "(" ∷ (with_commas (map param_tokens ps) ++ (codes ")" ∷ codes "{" ∷ (b ++ (c ++ codes "}" ∷ []))))) j
     ∙ ap (λ c. name ∷ codes "(" ∷ (with_commas (map param_tokens ps) ++ (codes ")" ∷ codes "{" ∷ (joined (map local_tokens ls) ++ (c ++ codes "}" ∷ []))))) k)) in (
       record { place = nowhere; fixed = fixed; result = result; name = name; params = ps; locals = ls; body = ss },
@@ -417,15 +416,16 @@ function_told fixed result returned name h {ts} {a} {b} {c} e (ps, (i, p)) (ls, 
       ),
     )
 
-pub file_told : {ts a b c d e f : List Token} → ts ≡ a ++ d → d ≡ b ++ e → e ≡ c ++ f → Told struct_tokens spells_struct a → Row struct_tokens spells_struct b → Told func_tokens spells_func c → Row func_tokens spells_func f → ToldFile ts
-file_told {ts} {a} {b} {c} {d} {e} {f} p q s (x, (i, h)) (xs, (j, k)) (y, (u, v)) (ys, (w, z)) = (
+pub file_told : {a b c d : List Token} → Told struct_tokens spells_struct a → Row struct_tokens spells_struct b → Told func_tokens spells_func c → Row func_tokens spells_func d → ToldFile (a ++ (b ++ (c ++ d)))
+file_told {a} {b} {c} {d} (x, (i, h)) (xs, (j, k)) (y, (u, v)) (ys, (w, z)) = (
   x ∷ xs,
   (
     y ∷ ys,
     (
-      p ∙ (ap (λ d. a ++ d) (q ∙ ap (λ e. b ++ e) (s ∙ (ap (λ c. c ++ f) u ∙ ap (λ f. func_tokens y ++ f) w)))
-          ∙ (ap (λ a. a ++ (b ++ (func_tokens y ++ joined (map func_tokens ys)))) i
-          ∙ (ap (λ b. struct_tokens x ++ (b ++ (func_tokens y ++ joined (map func_tokens ys)))) j
+      ap (λ a. a ++ (b ++ (c ++ d))) i
+          ∙ (ap (λ b. struct_tokens x ++ (b ++ (c ++ d))) j
+          ∙ (ap (λ c. struct_tokens x ++ (joined (map struct_tokens xs) ++ (c ++ d))) u
+          ∙ (ap (λ d. struct_tokens x ++ (joined (map struct_tokens xs) ++ (func_tokens y ++ d))) w
           ∙ sym (append_assoc (struct_tokens x) (joined (map struct_tokens xs)) (func_tokens y ++ joined (map func_tokens ys)))))),
       (both (spells_struct x) (all_of (map spells_struct xs)) h k, both (spells_func y) (all_of (map spells_func ys)) v z),
     ),

@@ -6,507 +6,327 @@ use Rattle.bl_tree.specs.declared.c.CExprKind.{CExprKind-F}
 use Rattle.bl_tree.specs.declared.c.CArg.{CArg-F}
 use Rattle.bl_tree.specs.declared.c.CStmtKind.{CStmtKind-F}
 use Rattle.bl_ctext.specs.Token.{Token}
-use Rattle.bl_ctext.specs.Names.{is_name, is_struct_name, is_turn_name}
-use Rattle.bl_ctext.specs.Spelling.{place_tokens, step_tokens, arg_tokens, stmt_tokens, member_tokens, struct_tokens, param_tokens, local_tokens, static_if, func_tokens}
+use Rattle.bl_ctext.specs.Names.{is_name, is_turn_name}
+use Rattle.bl_ctext.specs.Spelling.{step_tokens, arg_tokens, stmt_tokens, member_tokens, struct_tokens, param_tokens, local_tokens, func_tokens}
 use Rattle.bl_ctext.specs.Spellable.{spells_step, spells_arg, spells_stmt, spells_member, spells_struct, spells_param, spells_local, spells_func}
-use Rattle.bl_ctext.proofs.Bytes.{both}
 use Rattle.bl_ctext.proofs.PrefixedNames.{name-struct, name-function, name-callee}
 use Rattle.bl_grammar.specs.declared.symbol.Symbol.TheVariants.{Terminal, Nonterminal}
 use Rattle.bl_grammar.specs.Derivations.Derives.{done, terminal, part}
 use Rattle.bl_csyntax.specs.declared.grammar.Part.{Part}
 use Rattle.bl_csyntax.specs.declared.grammar.Part.TheVariants.{File, Structs, Struct, StructName, Members, Member, TypeName, Length, Funcs, Func, PlainFunc, FuncRest, FuncName, Params, ParamRest, Param, Star, Locals, Local, Stmts, Stmt, Else, Turns, AfterName, AssignTail, Value, AfterOpen, Result, Expr, Simple, Constant, Inside, Negative, NameUse, Steps, Index, Args, ArgRest, Arg, Place}
 use Rattle.bl_csyntax.specs.declared.grammar.Group.TheVariants.{ScalarTypes, PlainLiterals, Operators, IndexFunctions}
-use Rattle.bl_csyntax.specs.declared.grammar.Digits.TheVariants.{Elements, Int, Negated, Unsigned}
 use Rattle.bl_csyntax.specs.declared.grammar.Roomed.{Roomed}
-use Rattle.bl_csyntax.specs.Classes.{matches}
+use Rattle.bl_csyntax.specs.Classes.{Class, matches}
 use Rattle.bl_csyntax.specs.Grammar.{Wanted, Production, productions, placed, IsAmong, Produces, Derives}
 use Rattle.bl_csyntax.specs.Grammar.IsAmong.{here, later}
-use Rattle.bl_cspelling.proofs.Pieces.{name_is, group_is, callee_is, struct_word, function_word, number_is, scalar_is, operator_is}
-use Rattle.bl_cspelling.proofs.Told.{Tree, at_word, moved, row_more, comma_more, first_more, arg_from, kind_from, stmt_from, step_told, place_told, read_expr, called, call_expr, two_told, int_told, nat_told, negated_told, plain_literal, function_is, index_told, call_stmt, rooted, stepped, set_told, clear_told, if_told, loop_told, scalar_type, length_told, member_told, structure_told, param_told, scalar_local, scalar_func, function_told, file_told}
+use Rattle.bl_csyntax.specs.Classes.Class.{exactly, one_of, a_name, number, turn}
+use Rattle.bl_csyntax.specs.declared.grammar.Group.{Group}
+use Rattle.bl_csyntax.specs.declared.grammar.Digits.{Digits}
+use Rattle.bl_cspelling.proofs.Pieces.{Spelled, word_is, name_is, group_is, callee_is, struct_word, function_word, number_is, scalar_is, operator_is}
+use Rattle.bl_cspelling.proofs.Told.{Tree, row_more, comma_more, first_more, arg_from, kind_from, stmt_from, step_told, place_told, read_expr, called, call_expr, two_told, int_told, nat_told, negated_told, plain_literal, function_is, index_told, call_stmt, rooted, stepped, set_told, clear_told, if_told, loop_told, scalar_type, length_told, member_told, structure_told, param_told, scalar_local, struct_local, scalar_func, function_told, file_told}
+
+-- what a piece of the class is
+pub data Fits : Class → Token → Type 0 where
+  same : {w : Token} → Fits (exactly w) w
+  among : {g : Group} (t : Token) → matches (one_of g) t ≡ true → Fits (one_of g) t
+  named : (t : Token) → is_name t ≡ true → Fits a_name t
+  counted : {of : Digits} (t : Token) → Spelled of t → Fits (number of) t
+  turned : (t : Token) → matches turn t ≡ true → Fits turn t
+
+fits : (class : Class) (t : Token) → matches class t ≡ true → Fits class t
+fits (exactly w) t m = subst (Fits (exactly w)) (word_is m) Fits.same
+fits (one_of g) t m = Fits.among t m
+fits a_name t m = Fits.named t (name_is t m)
+fits (number of) t m = Fits.counted t (number_is of t m)
+fits turn t m = Fits.turned t m
 
 -- the tokens that some symbols stand for, one after the other
-abbrev pub Trees : List Wanted → List Token → Type 0
-Trees [] ts = ts ≡ []
-Trees (Terminal class ∷ wanted) ts = (t : Token) × ((b : List Token) × ((ts ≡ t ∷ b) × ((matches class t ≡ true) × Trees wanted b)))
-Trees (Nonterminal whole ∷ []) ts = Tree whole.part ts
-Trees (Nonterminal whole ∷ next ∷ wanted) ts = (a : List Token) × ((b : List Token) × ((ts ≡ a ++ b) × (Tree whole.part a × Trees (next ∷ wanted) b)))
+pub data Trees : List Wanted → List Token → Type 0 where
+  none : Trees [] []
+  token : {class : Class} {t : Token} {wanted : List Wanted} {ts : List Token} → Fits class t → Trees wanted ts → Trees (Terminal class ∷ wanted) (t ∷ ts)
+  last : {whole : Roomed} {ts : List Token} → Tree whole.part ts → Trees (Nonterminal whole ∷ []) ts
+  tree : {whole : Roomed} {next : Wanted} {wanted : List Wanted} {us : List Token} (ts : List Token) → Tree whole.part ts → Trees (next ∷ wanted) us → Trees (Nonterminal whole ∷ next ∷ wanted) (ts ++ us)
 
-structs_of : (p : Production) → IsAmong p (productions Structs) → (room : ℕ) (own : Token) → is_turn_name own ≡ true → (ts : List Token) → Trees (map (placed room own) p.shapes) ts → Tree Structs ts
-structs_of p here room own turned ts (a1, (b1, (e1, (x, xs)))) = row_more struct_tokens spells_struct e1 x xs
-structs_of p (later here) room own turned ts r = ([], (r, refl))
-structs_of p (later (later none)) room own turned ts r = elim none [ ]
+-- the tokens of each production are those of its part
+abbrev Case : Part → Type 0
+Case of = (p : Production) → IsAmong p (productions of) → (room : ℕ) (own : Token) → is_turn_name own ≡ true → (ts : List Token) → Trees (map (placed room own) p.shapes) ts → Tree of ts
 
-struct_of : (p : Production) → IsAmong p (productions Struct) → (room : ℕ) (own : Token) → is_turn_name own ≡ true → (ts : List Token) → Trees (map (placed room own) p.shapes) ts → Tree Struct ts
-struct_of p here room own turned ts (t1, (b1, (e1, (m1, (a2, (b2, (e2, ((n, (i, h)), (t3, (b3, (e3, (m3, (a4, (b4, (e4, ((x, (j, k)), (a5, (b5, (e5, ((xs, (u, c)), (t6, (b6, (e6, (m6, (t7, (b7, (e7, (m7, r)))))))))))))))))))))))))))) =
-    let o1 = at_word e1 m1 in
-    let o3 = at_word e3 m3 in
-    let o6 = at_word e6 m6 in
-    let o7 = at_word e7 m7 in
-    let f2 : b1 ≡ n ∷ b2 = e2 ∙ ap (λ a. a ++ b2) i in
-    let is : ts ≡ codes "struct" ∷ n ∷ codes "{" ∷ (a4 ++ (a5 ++ (codes "}" ∷ codes ";" ∷ []))) = cc in
-    structure_told n h is (x, (j, k)) (xs, (u, c))
-struct_of p (later none) room own turned ts r = elim none [ ]
+file_of : Case File
+file_of p here room own turns ts (Trees.tree _ x (Trees.tree _ xs (Trees.tree _ f (Trees.last fs)))) = file_told x xs f fs
+file_of p (later gone) room own turns ts h = elim gone [ ]
 
-struct_name_of : (p : Production) → IsAmong p (productions StructName) → (room : ℕ) (own : Token) → is_turn_name own ≡ true → (ts : List Token) → Trees (map (placed room own) p.shapes) ts → Tree StructName ts
-struct_name_of p here room own turned ts (t1, (b1, (e1, (m1, r)))) = (t1, (e1 ∙ ap (λ b. t1 ∷ b) r, name-struct t1 (name_is t1 m1)))
-struct_name_of p (later here) room own turned ts (t1, (b1, (e1, (m1, r)))) = (t1, (e1 ∙ ap (λ b. t1 ∷ b) r, struct_word t1 m1))
-struct_name_of p (later (later none)) room own turned ts r = elim none [ ]
+structs_of : Case Structs
+structs_of p here room own turns ts (Trees.tree _ x (Trees.last xs)) = row_more struct_tokens spells_struct x xs
+structs_of p (later here) room own turns ts Trees.none = ([], (refl, refl))
+structs_of p (later (later gone)) room own turns ts h = elim gone [ ]
 
-members_of : (p : Production) → IsAmong p (productions Members) → (room : ℕ) (own : Token) → is_turn_name own ≡ true → (ts : List Token) → Trees (map (placed room own) p.shapes) ts → Tree Members ts
-members_of p here room own turned ts (a1, (b1, (e1, (x, xs)))) = row_more member_tokens spells_member e1 x xs
-members_of p (later here) room own turned ts r = ([], (r, refl))
-members_of p (later (later none)) room own turned ts r = elim none [ ]
+struct_of : Case Struct
+struct_of p here room own turns ts (Trees.token Fits.same (Trees.tree _ name (Trees.token Fits.same (Trees.tree _ x (Trees.tree _ xs (Trees.token Fits.same (Trees.token Fits.same Trees.none))))))) = structure_told name x xs
+struct_of p (later gone) room own turns ts h = elim gone [ ]
 
-member_of : (p : Production) → IsAmong p (productions Member) → (room : ℕ) (own : Token) → is_turn_name own ≡ true → (ts : List Token) → Trees (map (placed room own) p.shapes) ts → Tree Member ts
-member_of p here room own turned ts (a1, (b1, (e1, ((ty, (i, h)), (t2, (b2, (e2, (m2, (a3, (b3, (e3, ((l, (j, k)), (t4, (b4, (e4, (m4, r)))))))))))))))) =
-    let o4 = at_word e4 m4 in
-    let is : ts ≡ a1 ++ (t2 ∷ (a3 ++ codes ";" ∷ [])) = cc in
-    member_told t2 is (ty, (i, h)) (name_is t2 m2) (l, (j, k))
-member_of p (later none) room own turned ts r = elim none [ ]
+struct_name_of : Case StructName
+struct_name_of p here room own turns ts (Trees.token (Fits.named name named_so) Trees.none) = (name, (refl, name-struct name named_so))
+struct_name_of p (later here) room own turns ts (Trees.token (Fits.among word m) Trees.none) = (word, (refl, struct_word word m))
+struct_name_of p (later (later gone)) room own turns ts h = elim gone [ ]
 
-type_name_of : (p : Production) → IsAmong p (productions TypeName) → (room : ℕ) (own : Token) → is_turn_name own ≡ true → (ts : List Token) → Trees (map (placed room own) p.shapes) ts → Tree TypeName ts
-type_name_of p here room own turned ts (t1, (b1, (e1, (m1, r)))) = scalar_type t1 (e1 ∙ ap (λ b. t1 ∷ b) r) (scalar_is (group_is ScalarTypes t1 m1))
-type_name_of p (later here) room own turned ts (t1, (b1, (e1, (m1, (n, (i, h)))))) = (ctype.Struct n, (at_word e1 m1 ∙ ap (λ b. codes "struct" ∷ b) i, h))
-type_name_of p (later (later none)) room own turned ts r = elim none [ ]
+members_of : Case Members
+members_of p here room own turns ts (Trees.tree _ x (Trees.last xs)) = row_more member_tokens spells_member x xs
+members_of p (later here) room own turns ts Trees.none = ([], (refl, refl))
+members_of p (later (later gone)) room own turns ts h = elim gone [ ]
 
-length_of : (p : Production) → IsAmong p (productions Length) → (room : ℕ) (own : Token) → is_turn_name own ≡ true → (ts : List Token) → Trees (map (placed room own) p.shapes) ts → Tree Length ts
-length_of p here room own turned ts (t1, (b1, (e1, (m1, (t2, (b2, (e2, (m2, (t3, (b3, (e3, (m3, r)))))))))))) =
-    let o1 = at_word e1 m1 in
-    let o3 = at_word e3 m3 in
-    let is : ts ≡ codes "[" ∷ t2 ∷ codes "]" ∷ [] = cc in
-    length_told t2 (number_is Elements t2 m2) is
-length_of p (later here) room own turned ts r = (None, (r, refl))
-length_of p (later (later none)) room own turned ts r = elim none [ ]
+member_of : Case Member
+member_of p here room own turns ts (Trees.tree _ ty (Trees.token (Fits.named name named_so) (Trees.tree _ length (Trees.token Fits.same Trees.none)))) = member_told ty name named_so length
+member_of p (later gone) room own turns ts h = elim gone [ ]
 
-funcs_of : (p : Production) → IsAmong p (productions Funcs) → (room : ℕ) (own : Token) → is_turn_name own ≡ true → (ts : List Token) → Trees (map (placed room own) p.shapes) ts → Tree Funcs ts
-funcs_of p here room own turned ts (a1, (b1, (e1, (x, xs)))) = row_more func_tokens spells_func e1 x xs
-funcs_of p (later here) room own turned ts r = ([], (r, refl))
-funcs_of p (later (later none)) room own turned ts r = elim none [ ]
+type_name_of : Case TypeName
+type_name_of p here room own turns ts (Trees.token (Fits.among word m) Trees.none) = scalar_type word (scalar_is (group_is ScalarTypes word m))
+type_name_of p (later here) room own turns ts (Trees.token Fits.same (Trees.last (name, (i, h)))) = (ctype.Struct name, (ap (λ b. codes "struct" ∷ b) i, h))
+type_name_of p (later (later gone)) room own turns ts h = elim gone [ ]
 
-func_of : (p : Production) → IsAmong p (productions Func) → (room : ℕ) (own : Token) → is_turn_name own ≡ true → (ts : List Token) → Trees (map (placed room own) p.shapes) ts → Tree Func ts
-func_of p here room own turned ts (t1, (b1, (e1, (m1, k)))) = moved (at_word e1 m1) (k true)
-func_of p (later here) room own turned ts k = k false
-func_of p (later (later none)) room own turned ts r = elim none [ ]
+length_of : Case Length
+length_of p here room own turns ts (Trees.token Fits.same (Trees.token (Fits.counted digits s) (Trees.token Fits.same Trees.none))) = length_told digits s
+length_of p (later here) room own turns ts Trees.none = (None, (refl, refl))
+length_of p (later (later gone)) room own turns ts h = elim gone [ ]
 
-plain_func_of : (p : Production) → IsAmong p (productions PlainFunc) → (room : ℕ) (own : Token) → is_turn_name own ≡ true → (ts : List Token) → Trees (map (placed room own) p.shapes) ts → Tree PlainFunc ts
-plain_func_of p here room own turned ts (t1, (b1, (e1, (m1, k)))) fixed = moved (ap (λ us. static_if fixed ++ us) (at_word e1 m1)) (k fixed None refl)
-plain_func_of p (later here) room own turned ts (t1, (b1, (e1, (m1, k)))) fixed = scalar_func t1 (scalar_is (group_is ScalarTypes t1 m1)) e1 fixed k
-plain_func_of p (later (later none)) room own turned ts r x0 = elim none [ ]
+funcs_of : Case Funcs
+funcs_of p here room own turns ts (Trees.tree _ x (Trees.last xs)) = row_more func_tokens spells_func x xs
+funcs_of p (later here) room own turns ts Trees.none = ([], (refl, refl))
+funcs_of p (later (later gone)) room own turns ts h = elim gone [ ]
 
-func_rest_of : (p : Production) → IsAmong p (productions FuncRest) → (room : ℕ) (own : Token) → is_turn_name own ≡ true → (ts : List Token) → Trees (map (placed room own) p.shapes) ts → Tree FuncRest ts
-func_rest_of p here room own turned ts (a1, (b1, (e1, ((n, (i, h)), (t2, (b2, (e2, (m2, (a3, (b3, (e3, (ps, (t4, (b4, (e4, (m4, (t5, (b5, (e5, (m5, (a6, (b6, (e6, (ls, (a7, (b7, (e7, (ss, (t8, (b8, (e8, (m8, r)))))))))))))))))))))))))))))))) fixed result returned =
-    let o2 = at_word e2 m2 in
-    let o4 = at_word e4 m4 in
-    let o5 = at_word e5 m5 in
-    let o8 = at_word e8 m8 in
-    let f1 : ts ≡ n ∷ b1 = e1 ∙ ap (λ a. a ++ b1) i in
-    let is : ts ≡ n ∷ codes "(" ∷ (a3 ++ (codes ")" ∷ codes "{" ∷ (a6 ++ (a7 ++ codes "}" ∷ [])))) = cc in
-    function_told fixed result returned n h is ps ls ss
-func_rest_of p (later none) room own turned ts r x0 x1 x2 = elim none [ ]
+func_of : Case Func
+func_of p here room own turns ts (Trees.token Fits.same (Trees.last f)) = f true
+func_of p (later here) room own turns ts (Trees.last f) = f false
+func_of p (later (later gone)) room own turns ts h = elim gone [ ]
 
-func_name_of : (p : Production) → IsAmong p (productions FuncName) → (room : ℕ) (own : Token) → is_turn_name own ≡ true → (ts : List Token) → Trees (map (placed room own) p.shapes) ts → Tree FuncName ts
-func_name_of p here room own turned ts (t1, (b1, (e1, (m1, r)))) = (t1, (e1 ∙ ap (λ b. t1 ∷ b) r, name-function t1 (name_is t1 m1)))
-func_name_of p (later here) room own turned ts (t1, (b1, (e1, (m1, r)))) = (t1, (e1 ∙ ap (λ b. t1 ∷ b) r, function_word t1 m1))
-func_name_of p (later (later none)) room own turned ts r = elim none [ ]
+plain_func_of : Case PlainFunc
+plain_func_of p here room own turns ts (Trees.token Fits.same (Trees.last f)) fixed = f fixed None refl
+plain_func_of p (later here) room own turns ts (Trees.token (Fits.among word m) (Trees.last f)) fixed = scalar_func word (scalar_is (group_is ScalarTypes word m)) f fixed
+plain_func_of p (later (later gone)) room own turns ts h fixed = elim gone [ ]
 
-params_of : (p : Production) → IsAmong p (productions Params) → (room : ℕ) (own : Token) → is_turn_name own ≡ true → (ts : List Token) → Trees (map (placed room own) p.shapes) ts → Tree Params ts
-params_of p here room own turned ts (a1, (b1, (e1, (x, xs)))) = first_more param_tokens spells_param e1 x xs
-params_of p (later here) room own turned ts r = ([], (r, refl))
-params_of p (later (later none)) room own turned ts r = elim none [ ]
+func_rest_of : Case FuncRest
+func_rest_of p here room own turns ts (Trees.tree _ name (Trees.token Fits.same (Trees.tree _ params (Trees.token Fits.same (Trees.token Fits.same (Trees.tree _ locals (Trees.tree _ body (Trees.token Fits.same Trees.none)))))))) fixed result returned = function_told fixed result returned name params locals body
+func_rest_of p (later gone) room own turns ts h fixed result returned = elim gone [ ]
 
-param_rest_of : (p : Production) → IsAmong p (productions ParamRest) → (room : ℕ) (own : Token) → is_turn_name own ≡ true → (ts : List Token) → Trees (map (placed room own) p.shapes) ts → Tree ParamRest ts
-param_rest_of p here room own turned ts (t1, (b1, (e1, (m1, (a2, (b2, (e2, (x, xs)))))))) = comma_more param_tokens spells_param (at_word e1 m1) e2 x xs
-param_rest_of p (later here) room own turned ts r = ([], (r, refl))
-param_rest_of p (later (later none)) room own turned ts r = elim none [ ]
+func_name_of : Case FuncName
+func_name_of p here room own turns ts (Trees.token (Fits.named name named_so) Trees.none) = (name, (refl, name-function name named_so))
+func_name_of p (later here) room own turns ts (Trees.token (Fits.among word m) Trees.none) = (word, (refl, function_word word m))
+func_name_of p (later (later gone)) room own turns ts h = elim gone [ ]
 
-param_of : (p : Production) → IsAmong p (productions Param) → (room : ℕ) (own : Token) → is_turn_name own ≡ true → (ts : List Token) → Trees (map (placed room own) p.shapes) ts → Tree Param ts
-param_of p here room own turned ts (a1, (b1, (e1, ((ty, (i, h)), (a2, (b2, (e2, ((star, (j, k)), (t3, (b3, (e3, (m3, r)))))))))))) =
-    let is : ts ≡ a1 ++ (a2 ++ t3 ∷ []) = cc in
-    param_told t3 is (ty, (i, h)) (star, (j, k)) (name_is t3 m3)
-param_of p (later none) room own turned ts r = elim none [ ]
+params_of : Case Params
+params_of p here room own turns ts (Trees.tree _ x (Trees.last xs)) = first_more param_tokens spells_param x xs
+params_of p (later here) room own turns ts Trees.none = ([], (refl, refl))
+params_of p (later (later gone)) room own turns ts h = elim gone [ ]
 
-star_of : (p : Production) → IsAmong p (productions Star) → (room : ℕ) (own : Token) → is_turn_name own ≡ true → (ts : List Token) → Trees (map (placed room own) p.shapes) ts → Tree Star ts
-star_of p here room own turned ts (t1, (b1, (e1, (m1, r)))) = (true, (at_word e1 m1 ∙ ap (λ b. codes "*" ∷ b) r, refl))
-star_of p (later here) room own turned ts r = (false, (r, refl))
-star_of p (later (later none)) room own turned ts r = elim none [ ]
+param_rest_of : Case ParamRest
+param_rest_of p here room own turns ts (Trees.token Fits.same (Trees.tree _ x (Trees.last xs))) = comma_more param_tokens spells_param x xs
+param_rest_of p (later here) room own turns ts Trees.none = ([], (refl, refl))
+param_rest_of p (later (later gone)) room own turns ts h = elim gone [ ]
 
-locals_of : (p : Production) → IsAmong p (productions Locals) → (room : ℕ) (own : Token) → is_turn_name own ≡ true → (ts : List Token) → Trees (map (placed room own) p.shapes) ts → Tree Locals ts
-locals_of p here room own turned ts (a1, (b1, (e1, (x, xs)))) = row_more local_tokens spells_local e1 x xs
-locals_of p (later here) room own turned ts r = ([], (r, refl))
-locals_of p (later (later none)) room own turned ts r = elim none [ ]
+param_of : Case Param
+param_of p here room own turns ts (Trees.tree _ ty (Trees.tree _ star (Trees.token (Fits.named name named_so) Trees.none))) = param_told ty star name named_so
+param_of p (later gone) room own turns ts h = elim gone [ ]
 
-local_of : (p : Production) → IsAmong p (productions Local) → (room : ℕ) (own : Token) → is_turn_name own ≡ true → (ts : List Token) → Trees (map (placed room own) p.shapes) ts → Tree Local ts
-local_of p here room own turned ts (t1, (b1, (e1, (m1, (t2, (b2, (e2, (m2, (t3, (b3, (e3, (m3, (t4, (b4, (e4, (m4, (t5, (b5, (e5, (m5, r)))))))))))))))))))) =
-    let o3 = at_word e3 m3 in
-    let o4 = at_word e4 m4 in
-    let o5 = at_word e5 m5 in
-    let is : ts ≡ t1 ∷ t2 ∷ codes "=" ∷ codes "0" ∷ codes ";" ∷ [] = cc in
-    scalar_local t1 (scalar_is (group_is ScalarTypes t1 m1)) t2 (name_is t2 m2) is
-local_of p (later here) room own turned ts (t1, (b1, (e1, (m1, (a2, (b2, (e2, ((n, (i, h)), (t3, (b3, (e3, (m3, (t4, (b4, (e4, (m4, (t5, (b5, (e5, (m5, (t6, (b6, (e6, (m6, (t7, (b7, (e7, (m7, (t8, (b8, (e8, (m8, r)))))))))))))))))))))))))))))))) =
-    let o1 = at_word e1 m1 in
-    let o4 = at_word e4 m4 in
-    let o5 = at_word e5 m5 in
-    let o6 = at_word e6 m6 in
-    let o7 = at_word e7 m7 in
-    let o8 = at_word e8 m8 in
-    let f2 : b1 ≡ n ∷ b2 = e2 ∙ ap (λ a. a ++ b2) i in
-    let is : ts ≡ codes "struct" ∷ n ∷ t3 ∷ codes "=" ∷ codes "{" ∷ codes "0" ∷ codes "}" ∷ codes ";" ∷ [] = cc in
-    (record { ty = ctype.Struct n; name = t3 }, (is, both (is_struct_name n) (is_name t3) h (name_is t3 m3)))
-local_of p (later (later none)) room own turned ts r = elim none [ ]
+star_of : Case Star
+star_of p here room own turns ts (Trees.token Fits.same Trees.none) = (true, (refl, refl))
+star_of p (later here) room own turns ts Trees.none = (false, (refl, refl))
+star_of p (later (later gone)) room own turns ts h = elim gone [ ]
 
-stmts_of : (p : Production) → IsAmong p (productions Stmts) → (room : ℕ) (own : Token) → is_turn_name own ≡ true → (ts : List Token) → Trees (map (placed room own) p.shapes) ts → Tree Stmts ts
-stmts_of p here room own turned ts (a1, (b1, (e1, (x, xs)))) = row_more stmt_tokens spells_stmt e1 x xs
-stmts_of p (later here) room own turned ts r = ([], (r, refl))
-stmts_of p (later (later none)) room own turned ts r = elim none [ ]
+locals_of : Case Locals
+locals_of p here room own turns ts (Trees.tree _ x (Trees.last xs)) = row_more local_tokens spells_local x xs
+locals_of p (later here) room own turns ts Trees.none = ([], (refl, refl))
+locals_of p (later (later gone)) room own turns ts h = elim gone [ ]
 
-stmt_of : (p : Production) → IsAmong p (productions Stmt) → (room : ℕ) (own : Token) → is_turn_name own ≡ true → (ts : List Token) → Trees (map (placed room own) p.shapes) ts → Tree Stmt ts
-stmt_of p here room own turned ts (t1, (b1, (e1, (m1, k)))) = stmt_from (moved e1 (k t1 (name_is t1 m1)))
-stmt_of p (later here) room own turned ts (t1, (b1, (e1, (m1, (t2, (b2, (e2, (m2, (a3, (b3, (e3, (xs, (t4, (b4, (e4, (m4, (t5, (b5, (e5, (m5, r)))))))))))))))))))) =
-    let o2 = at_word e2 m2 in
-    let o4 = at_word e4 m4 in
-    let o5 = at_word e5 m5 in
-    let is : ts ≡ t1 ∷ codes "(" ∷ (a3 ++ (codes ")" ∷ codes ";" ∷ [])) = cc in
-    stmt_from (moved is (call_stmt t1 (callee_is t1 m1) xs))
-stmt_of p (later (later here)) room own turned ts (t1, (b1, (e1, (m1, (t2, (b2, (e2, (m2, (t3, (b3, (e3, (m3, (t4, (b4, (e4, (m4, k)))))))))))))))) =
-    let o1 = at_word e1 m1 in
-    let o2 = at_word e2 m2 in
-    let o4 = at_word e4 m4 in
-    let is : ts ≡ codes "(" ∷ codes "*" ∷ t3 ∷ codes ")" ∷ b4 = cc in
-    stmt_from (moved is (rooted true t3 (name_is t3 m3) b4 k))
-stmt_of p (later (later (later here))) room own turned ts (t1, (b1, (e1, (m1, (t2, (b2, (e2, (m2, (a3, (b3, (e3, (x, (t4, (b4, (e4, (m4, (t5, (b5, (e5, (m5, (a6, (b6, (e6, (xs, (t7, (b7, (e7, (m7, o)))))))))))))))))))))))))))) =
-    let o1 = at_word e1 m1 in
-    let o2 = at_word e2 m2 in
-    let o4 = at_word e4 m4 in
-    let o5 = at_word e5 m5 in
-    let o7 = at_word e7 m7 in
-    let is : ts ≡ codes "if" ∷ codes "(" ∷ (a3 ++ (codes ")" ∷ codes "{" ∷ (a6 ++ (codes "}" ∷ b7)))) = cc in
-    stmt_from (moved is (if_told x xs o))
-stmt_of p (later (later (later (later here)))) room own turned ts (t1, (b1, (e1, (m1, (t2, (b2, (e2, (m2, k)))))))) =
-    let o1 = at_word e1 m1 in
-    let o2 = at_word e2 m2 in
-    let is : ts ≡ codes "{" ∷ codes "uint32_t" ∷ b2 = cc in
-    stmt_from (moved is k)
-stmt_of p (later (later (later (later (later here))))) room own turned ts (t1, (b1, (e1, (m1, (t2, (b2, (e2, (m2, r)))))))) =
-    let o1 = at_word e1 m1 in
-    let o2 = at_word e2 m2 in
-    let is : ts ≡ codes "break" ∷ codes ";" ∷ [] = cc in
-    stmt_from (CStmtKind-F.Break, (is, refl))
-stmt_of p (later (later (later (later (later (later here)))))) room own turned ts (t1, (b1, (e1, (m1, k)))) = stmt_from (moved (at_word e1 m1) k)
-stmt_of p (later (later (later (later (later (later (later none))))))) room own turned ts r = elim none [ ]
+local_of : Case Local
+local_of p here room own turns ts (Trees.token (Fits.among word m) (Trees.token (Fits.named name named_so) (Trees.token Fits.same (Trees.token Fits.same (Trees.token Fits.same Trees.none))))) = scalar_local word (scalar_is (group_is ScalarTypes word m)) name named_so
+local_of p (later here) room own turns ts (Trees.token Fits.same (Trees.tree _ of (Trees.token (Fits.named name named_so) (Trees.token Fits.same (Trees.token Fits.same (Trees.token Fits.same (Trees.token Fits.same (Trees.token Fits.same Trees.none)))))))) = struct_local of name named_so
+local_of p (later (later gone)) room own turns ts h = elim gone [ ]
 
-else_of : (p : Production) → IsAmong p (productions Else) → (room : ℕ) (own : Token) → is_turn_name own ≡ true → (ts : List Token) → Trees (map (placed room own) p.shapes) ts → Tree Else ts
-else_of p here room own turned ts (t1, (b1, (e1, (m1, (t2, (b2, (e2, (m2, (a3, (b3, (e3, ((xs, (i, h)), (t4, (b4, (e4, (m4, r)))))))))))))))) =
-    let o1 = at_word e1 m1 in
-    let o2 = at_word e2 m2 in
-    let o4 = at_word e4 m4 in
-    let is : ts ≡ codes "else" ∷ codes "{" ∷ (a3 ++ codes "}" ∷ []) = cc in
-    (Some xs, (is ∙ ap (λ a. codes "else" ∷ codes "{" ∷ (a ++ codes "}" ∷ [])) i, h))
-else_of p (later here) room own turned ts r = (None, (r, refl))
-else_of p (later (later none)) room own turned ts r = elim none [ ]
+stmts_of : Case Stmts
+stmts_of p here room own turns ts (Trees.tree _ x (Trees.last xs)) = row_more stmt_tokens spells_stmt x xs
+stmts_of p (later here) room own turns ts Trees.none = ([], (refl, refl))
+stmts_of p (later (later gone)) room own turns ts h = elim gone [ ]
 
-turns_of : (p : Production) → IsAmong p (productions Turns) → (room : ℕ) (own : Token) → is_turn_name own ≡ true → (ts : List Token) → Trees (map (placed room own) p.shapes) ts → Tree Turns ts
-turns_of p here room own turned ts (t1, (b1, (e1, (m1, (t2, (b2, (e2, (m2, (t3, (b3, (e3, (m3, (t4, (b4, (e4, (m4, (t5, (b5, (e5, (m5, (t6, (b6, (e6, (m6, (a7, (b7, (e7, (x, (t8, (b8, (e8, (m8, (t9, (b9, (e9, (m9, (t10, (b10, (e10, (m10, (t11, (b11, (e11, (m11, (t12, (b12, (e12, (m12, (t13, (b13, (e13, (m13, (t14, (b14, (e14, (m14, (t15, (b15, (e15, (m15, (t16, (b16, (e16, (m16, (a17, (b17, (e17, (xs, (t18, (b18, (e18, (m18, (t19, (b19, (e19, (m19, r)))))))))))))))))))))))))))))))))))))))))))))))))))))))))))))))))))))))))))) =
-    let o1 = at_word e1 m1 in
-    let o2 = at_word e2 m2 in
-    let o3 = at_word e3 m3 in
-    let o4 = at_word e4 m4 in
-    let o5 = at_word e5 m5 in
-    let o6 = at_word e6 m6 in
-    let o8 = at_word e8 m8 in
-    let o9 = at_word e9 m9 in
-    let o10 = at_word e10 m10 in
-    let o11 = at_word e11 m11 in
-    let o12 = at_word e12 m12 in
-    let o13 = at_word e13 m13 in
-    let o14 = at_word e14 m14 in
-    let o15 = at_word e15 m15 in
-    let o16 = at_word e16 m16 in
-    let o18 = at_word e18 m18 in
-    let o19 = at_word e19 m19 in
-    let is : ts ≡ own ∷ codes "=" ∷ codes "0" ∷ codes ";" ∷ codes "while" ∷ codes "(" ∷ (a7 ++ (codes ")" ∷ codes "{" ∷ own ∷ codes "=" ∷ codes "bl_turn" ∷ codes "(" ∷ own ∷ codes ")" ∷ codes ";" ∷ (a17 ++ (codes "}" ∷ codes "}" ∷ [])))) = cc in
-    loop_told own turned is x xs
-turns_of p (later none) room own turned ts r = elim none [ ]
+stmt_of : Case Stmt
+stmt_of p here room own turns ts (Trees.token (Fits.named name named_so) (Trees.last tail)) = stmt_from (tail name named_so)
+stmt_of p (later here) room own turns ts (Trees.token (Fits.among word m) (Trees.token Fits.same (Trees.tree _ args (Trees.token Fits.same (Trees.token Fits.same Trees.none))))) = stmt_from (call_stmt word (callee_is word m) args)
+stmt_of p (later (later here)) room own turns ts (Trees.token Fits.same (Trees.token Fits.same (Trees.token (Fits.named name named_so) (Trees.token Fits.same (Trees.last tail))))) = stmt_from (rooted true name named_so _ tail)
+stmt_of p (later (later (later here))) room own turns ts (Trees.token Fits.same (Trees.token Fits.same (Trees.tree _ test (Trees.token Fits.same (Trees.token Fits.same (Trees.tree _ body (Trees.token Fits.same (Trees.last other)))))))) = stmt_from (if_told test body other)
+stmt_of p (later (later (later (later here)))) room own turns ts (Trees.token Fits.same (Trees.token Fits.same (Trees.last loop))) = stmt_from loop
+stmt_of p (later (later (later (later (later here))))) room own turns ts (Trees.token Fits.same (Trees.token Fits.same Trees.none)) = stmt_from (CStmtKind-F.Break, (refl, refl))
+stmt_of p (later (later (later (later (later (later here)))))) room own turns ts (Trees.token Fits.same (Trees.last result)) = stmt_from result
+stmt_of p (later (later (later (later (later (later (later gone))))))) room own turns ts h = elim gone [ ]
 
-after_name_of : (p : Production) → IsAmong p (productions AfterName) → (room : ℕ) (own : Token) → is_turn_name own ≡ true → (ts : List Token) → Trees (map (placed room own) p.shapes) ts → Tree AfterName ts
-after_name_of p here room own turned ts (t1, (b1, (e1, (m1, (a2, (b2, (e2, (xs, (t3, (b3, (e3, (m3, (t4, (b4, (e4, (m4, r)))))))))))))))) name named =
-    let o1 = at_word e1 m1 in
-    let o3 = at_word e3 m3 in
-    let o4 = at_word e4 m4 in
-    let is : ts ≡ codes "(" ∷ (a2 ++ (codes ")" ∷ codes ";" ∷ [])) = cc in
-    moved (ap (λ us. name ∷ us) is) (call_stmt name (name-callee name named) xs)
-after_name_of p (later here) room own turned ts k name named = rooted false name named ts k
-after_name_of p (later (later none)) room own turned ts r x0 x1 = elim none [ ]
+else_of : Case Else
+else_of p here room own turns ts (Trees.token Fits.same (Trees.token Fits.same (Trees.tree _ (xs, (i, h)) (Trees.token Fits.same Trees.none)))) = (Some xs, (ap (λ a. codes "else" ∷ codes "{" ∷ (a ++ codes "}" ∷ [])) i, h))
+else_of p (later here) room own turns ts Trees.none = (None, (refl, refl))
+else_of p (later (later gone)) room own turns ts h = elim gone [ ]
 
-assign_tail_of : (p : Production) → IsAmong p (productions AssignTail) → (room : ℕ) (own : Token) → is_turn_name own ≡ true → (ts : List Token) → Trees (map (placed room own) p.shapes) ts → Tree AssignTail ts
-assign_tail_of p here room own turned ts (t1, (b1, (e1, (m1, (a2, (b2, (e2, (k, (t3, (b3, (e3, (m3, r)))))))))))) p' spelled =
-    let o1 = at_word e1 m1 in
-    let o3 = at_word e3 m3 in
-    let is : ts ≡ codes "=" ∷ (a2 ++ codes ";" ∷ []) = cc in
-    moved (ap (λ us. place_tokens p' ++ us) is) (k p' spelled)
-assign_tail_of p (later here) room own turned ts (t1, (b1, (e1, (m1, (t2, (b2, (e2, (m2, (a3, (b3, (e3, (j, k)))))))))))) p' spelled =
-    let o1 = at_word e1 m1 in
-    let is : ts ≡ codes "." ∷ t2 ∷ (a3 ++ b3) = cc in
-    moved (ap (λ us. place_tokens p' ++ us) is) (stepped p' spelled b3 (step_told t2 (name_is t2 m2) j) k)
-assign_tail_of p (later (later none)) room own turned ts r x0 x1 = elim none [ ]
+turns_of : Case Turns
+turns_of p here room own turns ts (Trees.token Fits.same (Trees.token Fits.same (Trees.token Fits.same (Trees.token Fits.same (Trees.token Fits.same (Trees.token Fits.same (Trees.tree _ test (Trees.token Fits.same (Trees.token Fits.same (Trees.token Fits.same (Trees.token Fits.same (Trees.token Fits.same (Trees.token Fits.same (Trees.token Fits.same (Trees.token Fits.same (Trees.token Fits.same (Trees.tree _ body (Trees.token Fits.same (Trees.token Fits.same Trees.none))))))))))))))))))) = loop_told own turns test body
+turns_of p (later gone) room own turns ts h = elim gone [ ]
 
-value_of : (p : Production) → IsAmong p (productions Value) → (room : ℕ) (own : Token) → is_turn_name own ≡ true → (ts : List Token) → Trees (map (placed room own) p.shapes) ts → Tree Value ts
-value_of p here room own turned ts (t1, (b1, (e1, (m1, k)))) p' spelled = moved (ap (λ us. place_tokens p' ++ (codes "=" ∷ (us ++ codes ";" ∷ []))) (at_word e1 m1)) (k p' spelled)
-value_of p (later here) room own turned ts x p' spelled = set_told p' spelled x
-value_of p (later (later none)) room own turned ts r x0 x1 = elim none [ ]
+after_name_of : Case AfterName
+after_name_of p here room own turns ts (Trees.token Fits.same (Trees.tree _ args (Trees.token Fits.same (Trees.token Fits.same Trees.none)))) name named_so = call_stmt name (name-callee name named_so) args
+after_name_of p (later here) room own turns ts (Trees.last tail) name named_so = rooted false name named_so _ tail
+after_name_of p (later (later gone)) room own turns ts h name named_so = elim gone [ ]
 
-after_open_of : (p : Production) → IsAmong p (productions AfterOpen) → (room : ℕ) (own : Token) → is_turn_name own ≡ true → (ts : List Token) → Trees (map (placed room own) p.shapes) ts → Tree AfterOpen ts
-after_open_of p here room own turned ts (t1, (b1, (e1, (m1, (a2, (b2, (e2, ((n, (i, h)), (t3, (b3, (e3, (m3, (t4, (b4, (e4, (m4, (t5, (b5, (e5, (m5, (t6, (b6, (e6, (m6, r)))))))))))))))))))))))) p' spelled =
-    let o1 = at_word e1 m1 in
-    let o3 = at_word e3 m3 in
-    let o4 = at_word e4 m4 in
-    let o5 = at_word e5 m5 in
-    let o6 = at_word e6 m6 in
-    let f2 : b1 ≡ n ∷ b2 = e2 ∙ ap (λ a. a ++ b2) i in
-    let is : ts ≡ codes "struct" ∷ n ∷ codes ")" ∷ codes "{" ∷ codes "0" ∷ codes "}" ∷ [] = cc in
-    clear_told p' spelled n h is
-after_open_of p (later here) room own turned ts x p' spelled = set_told p' spelled x
-after_open_of p (later (later none)) room own turned ts r x0 x1 = elim none [ ]
+assign_tail_of : Case AssignTail
+assign_tail_of p here room own turns ts (Trees.token Fits.same (Trees.tree _ value (Trees.token Fits.same Trees.none))) place spelled = value place spelled
+assign_tail_of p (later here) room own turns ts (Trees.token Fits.same (Trees.token (Fits.named name named_so) (Trees.tree _ index (Trees.last tail)))) place spelled = stepped place spelled _ (step_told name named_so index) tail
+assign_tail_of p (later (later gone)) room own turns ts h place spelled = elim gone [ ]
 
-result_of : (p : Production) → IsAmong p (productions Result) → (room : ℕ) (own : Token) → is_turn_name own ≡ true → (ts : List Token) → Trees (map (placed room own) p.shapes) ts → Tree Result ts
-result_of p here room own turned ts (t1, (b1, (e1, (m1, r)))) = (CStmtKind-F.Return None, (ap (λ us. codes "return" ∷ us) (at_word e1 m1 ∙ ap (λ b. codes ";" ∷ b) r), refl))
-result_of p (later here) room own turned ts (a1, (b1, (e1, ((x, (i, h)), (t2, (b2, (e2, (m2, r)))))))) =
-    let o2 = at_word e2 m2 in
-    let is : ts ≡ a1 ++ codes ";" ∷ [] = cc in
-    (CStmtKind-F.Return (Some x), (ap (λ us. codes "return" ∷ us) (is ∙ ap (λ a. a ++ codes ";" ∷ []) i), h))
-result_of p (later (later none)) room own turned ts r = elim none [ ]
+value_of : Case Value
+value_of p here room own turns ts (Trees.token Fits.same (Trees.last value)) place spelled = value place spelled
+value_of p (later here) room own turns ts (Trees.last x) place spelled = set_told place spelled x
+value_of p (later (later gone)) room own turns ts h place spelled = elim gone [ ]
 
-expr_of : (p : Production) → IsAmong p (productions Expr) → (room : ℕ) (own : Token) → is_turn_name own ≡ true → (ts : List Token) → Trees (map (placed room own) p.shapes) ts → Tree Expr ts
-expr_of p here room own turned ts (t1, (b1, (e1, (m1, (x, (i, h)))))) = (x, (at_word e1 m1 ∙ i, h))
-expr_of p (later here) room own turned ts x = x
-expr_of p (later (later none)) room own turned ts r = elim none [ ]
+after_open_of : Case AfterOpen
+after_open_of p here room own turns ts (Trees.token Fits.same (Trees.tree _ name (Trees.token Fits.same (Trees.token Fits.same (Trees.token Fits.same (Trees.token Fits.same Trees.none)))))) place spelled = clear_told place spelled name
+after_open_of p (later here) room own turns ts (Trees.last x) place spelled = set_told place spelled x
+after_open_of p (later (later gone)) room own turns ts h place spelled = elim gone [ ]
 
-simple_of : (p : Production) → IsAmong p (productions Simple) → (room : ℕ) (own : Token) → is_turn_name own ≡ true → (ts : List Token) → Trees (map (placed room own) p.shapes) ts → Tree Simple ts
-simple_of p here room own turned ts (t1, (b1, (e1, (m1, used)))) = moved e1 (used t1 (name_is t1 m1))
-simple_of p (later here) room own turned ts (t1, (b1, (e1, (m1, (t2, (b2, (e2, (m2, (a3, (b3, (e3, (xs, (t4, (b4, (e4, (m4, r)))))))))))))))) =
-    let o2 = at_word e2 m2 in
-    let o4 = at_word e4 m4 in
-    let is : ts ≡ t1 ∷ codes "(" ∷ (a3 ++ codes ")" ∷ []) = cc in
-    moved is (call_expr (called t1 (callee_is t1 m1) xs))
-simple_of p (later (later here)) room own turned ts (t1, (b1, (e1, (m1, r)))) = kind_from (moved (e1 ∙ ap (λ b. t1 ∷ b) r) (plain_literal (group_is PlainLiterals t1 m1)))
-simple_of p (later (later (later here))) room own turned ts k = kind_from k
-simple_of p (later (later (later (later none)))) room own turned ts r = elim none [ ]
+result_of : Case Result
+result_of p here room own turns ts (Trees.token Fits.same Trees.none) = (CStmtKind-F.Return None, (refl, refl))
+result_of p (later here) room own turns ts (Trees.tree _ (x, (i, h)) (Trees.token Fits.same Trees.none)) = (CStmtKind-F.Return (Some x), (ap (λ a. codes "return" ∷ (a ++ codes ";" ∷ [])) i, h))
+result_of p (later (later gone)) room own turns ts h = elim gone [ ]
 
-constant_of : (p : Production) → IsAmong p (productions Constant) → (room : ℕ) (own : Token) → is_turn_name own ≡ true → (ts : List Token) → Trees (map (placed room own) p.shapes) ts → Tree Constant ts
-constant_of p here room own turned ts (t1, (b1, (e1, (m1, (t2, (b2, (e2, (m2, (t3, (b3, (e3, (m3, (t4, (b4, (e4, (m4, r)))))))))))))))) =
-    let o1 = at_word e1 m1 in
-    let o2 = at_word e2 m2 in
-    let o4 = at_word e4 m4 in
-    let is : ts ≡ codes "INT8_C" ∷ codes "(" ∷ t3 ∷ codes ")" ∷ [] = cc in
-    int_told W8 t3 (number_is (Int W8) t3 m3) is
-constant_of p (later here) room own turned ts (t1, (b1, (e1, (m1, (t2, (b2, (e2, (m2, (t3, (b3, (e3, (m3, (t4, (b4, (e4, (m4, r)))))))))))))))) =
-    let o1 = at_word e1 m1 in
-    let o2 = at_word e2 m2 in
-    let o4 = at_word e4 m4 in
-    let is : ts ≡ codes "INT16_C" ∷ codes "(" ∷ t3 ∷ codes ")" ∷ [] = cc in
-    int_told W16 t3 (number_is (Int W16) t3 m3) is
-constant_of p (later (later here)) room own turned ts (t1, (b1, (e1, (m1, (t2, (b2, (e2, (m2, (t3, (b3, (e3, (m3, (t4, (b4, (e4, (m4, r)))))))))))))))) =
-    let o1 = at_word e1 m1 in
-    let o2 = at_word e2 m2 in
-    let o4 = at_word e4 m4 in
-    let is : ts ≡ codes "INT32_C" ∷ codes "(" ∷ t3 ∷ codes ")" ∷ [] = cc in
-    int_told W32 t3 (number_is (Int W32) t3 m3) is
-constant_of p (later (later (later here))) room own turned ts (t1, (b1, (e1, (m1, (t2, (b2, (e2, (m2, (t3, (b3, (e3, (m3, (t4, (b4, (e4, (m4, r)))))))))))))))) =
-    let o1 = at_word e1 m1 in
-    let o2 = at_word e2 m2 in
-    let o4 = at_word e4 m4 in
-    let is : ts ≡ codes "INT64_C" ∷ codes "(" ∷ t3 ∷ codes ")" ∷ [] = cc in
-    int_told W64 t3 (number_is (Int W64) t3 m3) is
-constant_of p (later (later (later (later here)))) room own turned ts (t1, (b1, (e1, (m1, (t2, (b2, (e2, (m2, (t3, (b3, (e3, (m3, (t4, (b4, (e4, (m4, r)))))))))))))))) =
-    let o1 = at_word e1 m1 in
-    let o2 = at_word e2 m2 in
-    let o4 = at_word e4 m4 in
-    let is : ts ≡ codes "UINT8_C" ∷ codes "(" ∷ t3 ∷ codes ")" ∷ [] = cc in
-    nat_told W8 t3 (number_is (Unsigned W8) t3 m3) is
-constant_of p (later (later (later (later (later here))))) room own turned ts (t1, (b1, (e1, (m1, (t2, (b2, (e2, (m2, (t3, (b3, (e3, (m3, (t4, (b4, (e4, (m4, r)))))))))))))))) =
-    let o1 = at_word e1 m1 in
-    let o2 = at_word e2 m2 in
-    let o4 = at_word e4 m4 in
-    let is : ts ≡ codes "UINT16_C" ∷ codes "(" ∷ t3 ∷ codes ")" ∷ [] = cc in
-    nat_told W16 t3 (number_is (Unsigned W16) t3 m3) is
-constant_of p (later (later (later (later (later (later here)))))) room own turned ts (t1, (b1, (e1, (m1, (t2, (b2, (e2, (m2, (t3, (b3, (e3, (m3, (t4, (b4, (e4, (m4, r)))))))))))))))) =
-    let o1 = at_word e1 m1 in
-    let o2 = at_word e2 m2 in
-    let o4 = at_word e4 m4 in
-    let is : ts ≡ codes "UINT32_C" ∷ codes "(" ∷ t3 ∷ codes ")" ∷ [] = cc in
-    nat_told W32 t3 (number_is (Unsigned W32) t3 m3) is
-constant_of p (later (later (later (later (later (later (later here))))))) room own turned ts (t1, (b1, (e1, (m1, (t2, (b2, (e2, (m2, (t3, (b3, (e3, (m3, (t4, (b4, (e4, (m4, r)))))))))))))))) =
-    let o1 = at_word e1 m1 in
-    let o2 = at_word e2 m2 in
-    let o4 = at_word e4 m4 in
-    let is : ts ≡ codes "UINT64_C" ∷ codes "(" ∷ t3 ∷ codes ")" ∷ [] = cc in
-    nat_told W64 t3 (number_is (Unsigned W64) t3 m3) is
-constant_of p (later (later (later (later (later (later (later (later none)))))))) room own turned ts r = elim none [ ]
+expr_of : Case Expr
+expr_of p here room own turns ts (Trees.token Fits.same (Trees.last x)) = x
+expr_of p (later here) room own turns ts (Trees.last x) = x
+expr_of p (later (later gone)) room own turns ts h = elim gone [ ]
 
-inside_of : (p : Production) → IsAmong p (productions Inside) → (room : ℕ) (own : Token) → is_turn_name own ≡ true → (ts : List Token) → Trees (map (placed room own) p.shapes) ts → Tree Inside ts
-inside_of p here room own turned ts (t1, (b1, (e1, (m1, (t2, (b2, (e2, (m2, (t3, (b3, (e3, (m3, steps)))))))))))) =
-    let o1 = at_word e1 m1 in
-    let o3 = at_word e3 m3 in
-    let is : ts ≡ codes "*" ∷ t2 ∷ codes ")" ∷ b3 = cc in
-    moved (ap (λ us. codes "(" ∷ us) is) (read_expr (place_told true t2 (name_is t2 m2) steps))
-inside_of p (later here) room own turned ts (t1, (b1, (e1, (m1, (a2, (b2, (e2, ((x, (i, h)), (t3, (b3, (e3, (m3, r)))))))))))) =
-    let o1 = at_word e1 m1 in
-    let o3 = at_word e3 m3 in
-    let is : ts ≡ codes "!" ∷ (a2 ++ codes ")" ∷ []) = cc in
-    moved (ap (λ us. codes "(" ∷ us) is) (kind_from (CExprKind-F.Not x, (ap (λ a. codes "(" ∷ codes "!" ∷ (a ++ codes ")" ∷ [])) i, h)))
-inside_of p (later (later here)) room own turned ts (t1, (b1, (e1, (m1, (a2, (b2, (e2, (k, (t3, (b3, (e3, (m3, r)))))))))))) =
-    let o1 = at_word e1 m1 in
-    let o3 = at_word e3 m3 in
-    let is : ts ≡ codes "-" ∷ (a2 ++ codes ")" ∷ []) = cc in
-    moved (ap (λ us. codes "(" ∷ us) is) (kind_from k)
-inside_of p (later (later (later here))) room own turned ts (a1, (b1, (e1, (x, (t2, (b2, (e2, (m2, (a3, (b3, (e3, (y, (t4, (b4, (e4, (m4, r)))))))))))))))) =
-    let o4 = at_word e4 m4 in
-    let is : ts ≡ a1 ++ (t2 ∷ (a3 ++ codes ")" ∷ [])) = cc in
-    moved (ap (λ us. codes "(" ∷ us) is) (two_told x t2 (operator_is (group_is Operators t2 m2)) y)
-inside_of p (later (later (later (later none)))) room own turned ts r = elim none [ ]
+simple_of : Case Simple
+simple_of p here room own turns ts (Trees.token (Fits.named name named_so) (Trees.last rest)) = rest name named_so
+simple_of p (later here) room own turns ts (Trees.token (Fits.among word m) (Trees.token Fits.same (Trees.tree _ args (Trees.token Fits.same Trees.none)))) = call_expr (called word (callee_is word m) args)
+simple_of p (later (later here)) room own turns ts (Trees.token (Fits.among word m) Trees.none) = kind_from (plain_literal (group_is PlainLiterals word m))
+simple_of p (later (later (later here))) room own turns ts (Trees.last k) = kind_from k
+simple_of p (later (later (later (later gone)))) room own turns ts h = elim gone [ ]
 
-negative_of : (p : Production) → IsAmong p (productions Negative) → (room : ℕ) (own : Token) → is_turn_name own ≡ true → (ts : List Token) → Trees (map (placed room own) p.shapes) ts → Tree Negative ts
-negative_of p here room own turned ts (t1, (b1, (e1, (m1, (t2, (b2, (e2, (m2, (t3, (b3, (e3, (m3, (t4, (b4, (e4, (m4, r)))))))))))))))) =
-    let o1 = at_word e1 m1 in
-    let o2 = at_word e2 m2 in
-    let o4 = at_word e4 m4 in
-    let is : ts ≡ codes "INT8_C" ∷ codes "(" ∷ t3 ∷ codes ")" ∷ [] = cc in
-    negated_told W8 t3 (number_is (Negated W8) t3 m3) is
-negative_of p (later here) room own turned ts (t1, (b1, (e1, (m1, (t2, (b2, (e2, (m2, (t3, (b3, (e3, (m3, (t4, (b4, (e4, (m4, r)))))))))))))))) =
-    let o1 = at_word e1 m1 in
-    let o2 = at_word e2 m2 in
-    let o4 = at_word e4 m4 in
-    let is : ts ≡ codes "INT16_C" ∷ codes "(" ∷ t3 ∷ codes ")" ∷ [] = cc in
-    negated_told W16 t3 (number_is (Negated W16) t3 m3) is
-negative_of p (later (later here)) room own turned ts (t1, (b1, (e1, (m1, (t2, (b2, (e2, (m2, (t3, (b3, (e3, (m3, (t4, (b4, (e4, (m4, r)))))))))))))))) =
-    let o1 = at_word e1 m1 in
-    let o2 = at_word e2 m2 in
-    let o4 = at_word e4 m4 in
-    let is : ts ≡ codes "INT32_C" ∷ codes "(" ∷ t3 ∷ codes ")" ∷ [] = cc in
-    negated_told W32 t3 (number_is (Negated W32) t3 m3) is
-negative_of p (later (later (later here))) room own turned ts (t1, (b1, (e1, (m1, (t2, (b2, (e2, (m2, (t3, (b3, (e3, (m3, (t4, (b4, (e4, (m4, r)))))))))))))))) =
-    let o1 = at_word e1 m1 in
-    let o2 = at_word e2 m2 in
-    let o4 = at_word e4 m4 in
-    let is : ts ≡ codes "INT64_C" ∷ codes "(" ∷ t3 ∷ codes ")" ∷ [] = cc in
-    negated_told W64 t3 (number_is (Negated W64) t3 m3) is
-negative_of p (later (later (later (later none)))) room own turned ts r = elim none [ ]
+constant_of : Case Constant
+constant_of p here room own turns ts (Trees.token Fits.same (Trees.token Fits.same (Trees.token (Fits.counted digits s) (Trees.token Fits.same Trees.none)))) = int_told W8 digits s
+constant_of p (later here) room own turns ts (Trees.token Fits.same (Trees.token Fits.same (Trees.token (Fits.counted digits s) (Trees.token Fits.same Trees.none)))) = int_told W16 digits s
+constant_of p (later (later here)) room own turns ts (Trees.token Fits.same (Trees.token Fits.same (Trees.token (Fits.counted digits s) (Trees.token Fits.same Trees.none)))) = int_told W32 digits s
+constant_of p (later (later (later here))) room own turns ts (Trees.token Fits.same (Trees.token Fits.same (Trees.token (Fits.counted digits s) (Trees.token Fits.same Trees.none)))) = int_told W64 digits s
+constant_of p (later (later (later (later here)))) room own turns ts (Trees.token Fits.same (Trees.token Fits.same (Trees.token (Fits.counted digits s) (Trees.token Fits.same Trees.none)))) = nat_told W8 digits s
+constant_of p (later (later (later (later (later here))))) room own turns ts (Trees.token Fits.same (Trees.token Fits.same (Trees.token (Fits.counted digits s) (Trees.token Fits.same Trees.none)))) = nat_told W16 digits s
+constant_of p (later (later (later (later (later (later here)))))) room own turns ts (Trees.token Fits.same (Trees.token Fits.same (Trees.token (Fits.counted digits s) (Trees.token Fits.same Trees.none)))) = nat_told W32 digits s
+constant_of p (later (later (later (later (later (later (later here))))))) room own turns ts (Trees.token Fits.same (Trees.token Fits.same (Trees.token (Fits.counted digits s) (Trees.token Fits.same Trees.none)))) = nat_told W64 digits s
+constant_of p (later (later (later (later (later (later (later (later gone)))))))) room own turns ts h = elim gone [ ]
 
-name_use_of : (p : Production) → IsAmong p (productions NameUse) → (room : ℕ) (own : Token) → is_turn_name own ≡ true → (ts : List Token) → Trees (map (placed room own) p.shapes) ts → Tree NameUse ts
-name_use_of p here room own turned ts (t1, (b1, (e1, (m1, (a2, (b2, (e2, (xs, (t3, (b3, (e3, (m3, r)))))))))))) name named =
-    let o1 = at_word e1 m1 in
-    let o3 = at_word e3 m3 in
-    let is : ts ≡ codes "(" ∷ (a2 ++ codes ")" ∷ []) = cc in
-    moved (ap (λ us. name ∷ us) is) (call_expr (called name (name-callee name named) xs))
-name_use_of p (later here) room own turned ts (t1, (b1, (e1, (m1, (t2, (b2, (e2, (m2, (a3, (b3, (e3, (j, ss)))))))))))) name named =
-    let o1 = at_word e1 m1 in
-    let is : ts ≡ codes "." ∷ t2 ∷ (a3 ++ b3) = cc in
-    read_expr (place_told false name named (row_more step_tokens spells_step is (step_told t2 (name_is t2 m2) j) ss))
-name_use_of p (later (later here)) room own turned ts r name named = read_expr (place_told false name named ([], (r, refl)))
-name_use_of p (later (later (later none))) room own turned ts r x0 x1 = elim none [ ]
+inside_of : Case Inside
+inside_of p here room own turns ts (Trees.token Fits.same (Trees.token (Fits.named name named_so) (Trees.token Fits.same (Trees.last steps)))) = read_expr (place_told true name named_so steps)
+inside_of p (later here) room own turns ts (Trees.token Fits.same (Trees.tree _ (x, (i, h)) (Trees.token Fits.same Trees.none))) = kind_from (CExprKind-F.Not x, (ap (λ a. codes "(" ∷ codes "!" ∷ (a ++ codes ")" ∷ [])) i, h))
+inside_of p (later (later here)) room own turns ts (Trees.token Fits.same (Trees.tree _ k (Trees.token Fits.same Trees.none))) = kind_from k
+inside_of p (later (later (later here))) room own turns ts (Trees.tree _ x (Trees.token (Fits.among word m) (Trees.tree _ y (Trees.token Fits.same Trees.none)))) = two_told x word (operator_is (group_is Operators word m)) y
+inside_of p (later (later (later (later gone)))) room own turns ts h = elim gone [ ]
 
-steps_of : (p : Production) → IsAmong p (productions Steps) → (room : ℕ) (own : Token) → is_turn_name own ≡ true → (ts : List Token) → Trees (map (placed room own) p.shapes) ts → Tree Steps ts
-steps_of p here room own turned ts (t1, (b1, (e1, (m1, (t2, (b2, (e2, (m2, (a3, (b3, (e3, (j, ss)))))))))))) =
-    let o1 = at_word e1 m1 in
-    let is : ts ≡ codes "." ∷ t2 ∷ (a3 ++ b3) = cc in
-    row_more step_tokens spells_step is (step_told t2 (name_is t2 m2) j) ss
-steps_of p (later here) room own turned ts r = ([], (r, refl))
-steps_of p (later (later none)) room own turned ts r = elim none [ ]
+negative_of : Case Negative
+negative_of p here room own turns ts (Trees.token Fits.same (Trees.token Fits.same (Trees.token (Fits.counted digits s) (Trees.token Fits.same Trees.none)))) = negated_told W8 digits s
+negative_of p (later here) room own turns ts (Trees.token Fits.same (Trees.token Fits.same (Trees.token (Fits.counted digits s) (Trees.token Fits.same Trees.none)))) = negated_told W16 digits s
+negative_of p (later (later here)) room own turns ts (Trees.token Fits.same (Trees.token Fits.same (Trees.token (Fits.counted digits s) (Trees.token Fits.same Trees.none)))) = negated_told W32 digits s
+negative_of p (later (later (later here))) room own turns ts (Trees.token Fits.same (Trees.token Fits.same (Trees.token (Fits.counted digits s) (Trees.token Fits.same Trees.none)))) = negated_told W64 digits s
+negative_of p (later (later (later (later gone)))) room own turns ts h = elim gone [ ]
 
-index_of : (p : Production) → IsAmong p (productions Index) → (room : ℕ) (own : Token) → is_turn_name own ≡ true → (ts : List Token) → Trees (map (placed room own) p.shapes) ts → Tree Index ts
-index_of p here room own turned ts (t1, (b1, (e1, (m1, (t2, (b2, (e2, (m2, (t3, (b3, (e3, (m3, (a4, (b4, (e4, (x, (t5, (b5, (e5, (m5, (t6, (b6, (e6, (m6, (t7, (b7, (e7, (m7, (t8, (b8, (e8, (m8, r)))))))))))))))))))))))))))))))) =
-    let o1 = at_word e1 m1 in
-    let o3 = at_word e3 m3 in
-    let o5 = at_word e5 m5 in
-    let o7 = at_word e7 m7 in
-    let o8 = at_word e8 m8 in
-    let is : ts ≡ codes "[" ∷ t2 ∷ codes "(" ∷ (a4 ++ (codes "," ∷ t6 ∷ codes ")" ∷ codes "]" ∷ [])) = cc in
-    index_told t2 (function_is (group_is IndexFunctions t2 m2)) x t6 (number_is Elements t6 m6) is
-index_of p (later here) room own turned ts r = (None, (r, refl))
-index_of p (later (later none)) room own turned ts r = elim none [ ]
+name_use_of : Case NameUse
+name_use_of p here room own turns ts (Trees.token Fits.same (Trees.tree _ args (Trees.token Fits.same Trees.none))) name named_so = call_expr (called name (name-callee name named_so) args)
+name_use_of p (later here) room own turns ts (Trees.token Fits.same (Trees.token (Fits.named member h) (Trees.tree _ index (Trees.last steps)))) name named_so = read_expr (place_told false name named_so (row_more step_tokens spells_step (step_told member h index) steps))
+name_use_of p (later (later here)) room own turns ts Trees.none name named_so = read_expr (place_told false name named_so ([], (refl, refl)))
+name_use_of p (later (later (later gone))) room own turns ts h name named_so = elim gone [ ]
 
-args_of : (p : Production) → IsAmong p (productions Args) → (room : ℕ) (own : Token) → is_turn_name own ≡ true → (ts : List Token) → Trees (map (placed room own) p.shapes) ts → Tree Args ts
-args_of p here room own turned ts (a1, (b1, (e1, (x, xs)))) = first_more arg_tokens spells_arg e1 x xs
-args_of p (later here) room own turned ts r = ([], (r, refl))
-args_of p (later (later none)) room own turned ts r = elim none [ ]
+steps_of : Case Steps
+steps_of p here room own turns ts (Trees.token Fits.same (Trees.token (Fits.named name named_so) (Trees.tree _ index (Trees.last steps)))) = row_more step_tokens spells_step (step_told name named_so index) steps
+steps_of p (later here) room own turns ts Trees.none = ([], (refl, refl))
+steps_of p (later (later gone)) room own turns ts h = elim gone [ ]
 
-arg_rest_of : (p : Production) → IsAmong p (productions ArgRest) → (room : ℕ) (own : Token) → is_turn_name own ≡ true → (ts : List Token) → Trees (map (placed room own) p.shapes) ts → Tree ArgRest ts
-arg_rest_of p here room own turned ts (t1, (b1, (e1, (m1, (a2, (b2, (e2, (x, xs)))))))) = comma_more arg_tokens spells_arg (at_word e1 m1) e2 x xs
-arg_rest_of p (later here) room own turned ts r = ([], (r, refl))
-arg_rest_of p (later (later none)) room own turned ts r = elim none [ ]
+index_of : Case Index
+index_of p here room own turns ts (Trees.token Fits.same (Trees.token (Fits.among word m) (Trees.token Fits.same (Trees.tree _ x (Trees.token Fits.same (Trees.token (Fits.counted digits s) (Trees.token Fits.same (Trees.token Fits.same Trees.none)))))))) = index_told word (function_is (group_is IndexFunctions word m)) x digits s
+index_of p (later here) room own turns ts Trees.none = (None, (refl, refl))
+index_of p (later (later gone)) room own turns ts h = elim gone [ ]
 
-arg_of : (p : Production) → IsAmong p (productions Arg) → (room : ℕ) (own : Token) → is_turn_name own ≡ true → (ts : List Token) → Trees (map (placed room own) p.shapes) ts → Tree Arg ts
-arg_of p here room own turned ts (t1, (b1, (e1, (m1, (x, (i, h)))))) = arg_from (CArg-F.Address x, (at_word e1 m1 ∙ ap (λ b. codes "&" ∷ b) i, h))
-arg_of p (later here) room own turned ts (x, (i, h)) = arg_from (CArg-F.Value x, (i, h))
-arg_of p (later (later none)) room own turned ts r = elim none [ ]
+args_of : Case Args
+args_of p here room own turns ts (Trees.tree _ x (Trees.last xs)) = first_more arg_tokens spells_arg x xs
+args_of p (later here) room own turns ts Trees.none = ([], (refl, refl))
+args_of p (later (later gone)) room own turns ts h = elim gone [ ]
 
-place_of : (p : Production) → IsAmong p (productions Place) → (room : ℕ) (own : Token) → is_turn_name own ≡ true → (ts : List Token) → Trees (map (placed room own) p.shapes) ts → Tree Place ts
-place_of p here room own turned ts (t1, (b1, (e1, (m1, ss)))) = moved e1 (place_told false t1 (name_is t1 m1) ss)
-place_of p (later here) room own turned ts (t1, (b1, (e1, (m1, (t2, (b2, (e2, (m2, (t3, (b3, (e3, (m3, (t4, (b4, (e4, (m4, ss)))))))))))))))) =
-    let o1 = at_word e1 m1 in
-    let o2 = at_word e2 m2 in
-    let o4 = at_word e4 m4 in
-    let is : ts ≡ codes "(" ∷ codes "*" ∷ t3 ∷ codes ")" ∷ b4 = cc in
-    moved is (place_told true t3 (name_is t3 m3) ss)
-place_of p (later (later none)) room own turned ts r = elim none [ ]
+arg_rest_of : Case ArgRest
+arg_rest_of p here room own turns ts (Trees.token Fits.same (Trees.tree _ x (Trees.last xs))) = comma_more arg_tokens spells_arg x xs
+arg_rest_of p (later here) room own turns ts Trees.none = ([], (refl, refl))
+arg_rest_of p (later (later gone)) room own turns ts h = elim gone [ ]
 
-file_of : (p : Production) → IsAmong p (productions File) → (room : ℕ) (own : Token) → is_turn_name own ≡ true → (ts : List Token) → Trees (map (placed room own) p.shapes) ts → Tree File ts
-file_of p here room own turned ts (a1, (b1, (e1, (x, (a2, (b2, (e2, (xs, (a3, (b3, (e3, (y, ys)))))))))))) = file_told e1 e2 e3 x xs y ys
-file_of p (later none) room own turned ts r = elim none [ ]
+arg_of : Case Arg
+arg_of p here room own turns ts (Trees.token Fits.same (Trees.last (place, (i, h)))) = arg_from (CArg-F.Address place, (ap (λ b. codes "&" ∷ b) i, h))
+arg_of p (later here) room own turns ts (Trees.last (x, (i, h))) = arg_from (CArg-F.Value x, (i, h))
+arg_of p (later (later gone)) room own turns ts h = elim gone [ ]
 
-tree_of : (part : Part) (p : Production) → IsAmong p (productions part) → (room : ℕ) (own : Token) → is_turn_name own ≡ true → (ts : List Token) → Trees (map (placed room own) p.shapes) ts → Tree part ts
-tree_of File p one room own turned ts h = file_of p one room own turned ts h
-tree_of Structs p one room own turned ts h = structs_of p one room own turned ts h
-tree_of Struct p one room own turned ts h = struct_of p one room own turned ts h
-tree_of StructName p one room own turned ts h = struct_name_of p one room own turned ts h
-tree_of Members p one room own turned ts h = members_of p one room own turned ts h
-tree_of Member p one room own turned ts h = member_of p one room own turned ts h
-tree_of TypeName p one room own turned ts h = type_name_of p one room own turned ts h
-tree_of Length p one room own turned ts h = length_of p one room own turned ts h
-tree_of Funcs p one room own turned ts h = funcs_of p one room own turned ts h
-tree_of Func p one room own turned ts h = func_of p one room own turned ts h
-tree_of PlainFunc p one room own turned ts h = plain_func_of p one room own turned ts h
-tree_of FuncRest p one room own turned ts h = func_rest_of p one room own turned ts h
-tree_of FuncName p one room own turned ts h = func_name_of p one room own turned ts h
-tree_of Params p one room own turned ts h = params_of p one room own turned ts h
-tree_of ParamRest p one room own turned ts h = param_rest_of p one room own turned ts h
-tree_of Param p one room own turned ts h = param_of p one room own turned ts h
-tree_of Star p one room own turned ts h = star_of p one room own turned ts h
-tree_of Locals p one room own turned ts h = locals_of p one room own turned ts h
-tree_of Local p one room own turned ts h = local_of p one room own turned ts h
-tree_of Stmts p one room own turned ts h = stmts_of p one room own turned ts h
-tree_of Stmt p one room own turned ts h = stmt_of p one room own turned ts h
-tree_of Else p one room own turned ts h = else_of p one room own turned ts h
-tree_of Turns p one room own turned ts h = turns_of p one room own turned ts h
-tree_of AfterName p one room own turned ts h = after_name_of p one room own turned ts h
-tree_of AssignTail p one room own turned ts h = assign_tail_of p one room own turned ts h
-tree_of Value p one room own turned ts h = value_of p one room own turned ts h
-tree_of AfterOpen p one room own turned ts h = after_open_of p one room own turned ts h
-tree_of Result p one room own turned ts h = result_of p one room own turned ts h
-tree_of Expr p one room own turned ts h = expr_of p one room own turned ts h
-tree_of Simple p one room own turned ts h = simple_of p one room own turned ts h
-tree_of Constant p one room own turned ts h = constant_of p one room own turned ts h
-tree_of Inside p one room own turned ts h = inside_of p one room own turned ts h
-tree_of Negative p one room own turned ts h = negative_of p one room own turned ts h
-tree_of NameUse p one room own turned ts h = name_use_of p one room own turned ts h
-tree_of Steps p one room own turned ts h = steps_of p one room own turned ts h
-tree_of Index p one room own turned ts h = index_of p one room own turned ts h
-tree_of Args p one room own turned ts h = args_of p one room own turned ts h
-tree_of ArgRest p one room own turned ts h = arg_rest_of p one room own turned ts h
-tree_of Arg p one room own turned ts h = arg_of p one room own turned ts h
-tree_of Place p one room own turned ts h = place_of p one room own turned ts h
+place_of : Case Place
+place_of p here room own turns ts (Trees.token (Fits.named name named_so) (Trees.last steps)) = place_told false name named_so steps
+place_of p (later here) room own turns ts (Trees.token Fits.same (Trees.token Fits.same (Trees.token (Fits.named name named_so) (Trees.token Fits.same (Trees.last steps))))) = place_told true name named_so steps
+place_of p (later (later gone)) room own turns ts h = elim gone [ ]
+
+tree_of : (of : Part) → Case of
+tree_of File p one room own turns ts h = file_of p one room own turns ts h
+tree_of Structs p one room own turns ts h = structs_of p one room own turns ts h
+tree_of Struct p one room own turns ts h = struct_of p one room own turns ts h
+tree_of StructName p one room own turns ts h = struct_name_of p one room own turns ts h
+tree_of Members p one room own turns ts h = members_of p one room own turns ts h
+tree_of Member p one room own turns ts h = member_of p one room own turns ts h
+tree_of TypeName p one room own turns ts h = type_name_of p one room own turns ts h
+tree_of Length p one room own turns ts h = length_of p one room own turns ts h
+tree_of Funcs p one room own turns ts h = funcs_of p one room own turns ts h
+tree_of Func p one room own turns ts h = func_of p one room own turns ts h
+tree_of PlainFunc p one room own turns ts h = plain_func_of p one room own turns ts h
+tree_of FuncRest p one room own turns ts h = func_rest_of p one room own turns ts h
+tree_of FuncName p one room own turns ts h = func_name_of p one room own turns ts h
+tree_of Params p one room own turns ts h = params_of p one room own turns ts h
+tree_of ParamRest p one room own turns ts h = param_rest_of p one room own turns ts h
+tree_of Param p one room own turns ts h = param_of p one room own turns ts h
+tree_of Star p one room own turns ts h = star_of p one room own turns ts h
+tree_of Locals p one room own turns ts h = locals_of p one room own turns ts h
+tree_of Local p one room own turns ts h = local_of p one room own turns ts h
+tree_of Stmts p one room own turns ts h = stmts_of p one room own turns ts h
+tree_of Stmt p one room own turns ts h = stmt_of p one room own turns ts h
+tree_of Else p one room own turns ts h = else_of p one room own turns ts h
+tree_of Turns p one room own turns ts h = turns_of p one room own turns ts h
+tree_of AfterName p one room own turns ts h = after_name_of p one room own turns ts h
+tree_of AssignTail p one room own turns ts h = assign_tail_of p one room own turns ts h
+tree_of Value p one room own turns ts h = value_of p one room own turns ts h
+tree_of AfterOpen p one room own turns ts h = after_open_of p one room own turns ts h
+tree_of Result p one room own turns ts h = result_of p one room own turns ts h
+tree_of Expr p one room own turns ts h = expr_of p one room own turns ts h
+tree_of Simple p one room own turns ts h = simple_of p one room own turns ts h
+tree_of Constant p one room own turns ts h = constant_of p one room own turns ts h
+tree_of Inside p one room own turns ts h = inside_of p one room own turns ts h
+tree_of Negative p one room own turns ts h = negative_of p one room own turns ts h
+tree_of NameUse p one room own turns ts h = name_use_of p one room own turns ts h
+tree_of Steps p one room own turns ts h = steps_of p one room own turns ts h
+tree_of Index p one room own turns ts h = index_of p one room own turns ts h
+tree_of Args p one room own turns ts h = args_of p one room own turns ts h
+tree_of ArgRest p one room own turns ts h = arg_rest_of p one room own turns ts h
+tree_of Arg p one room own turns ts h = arg_of p one room own turns ts h
+tree_of Place p one room own turns ts h = place_of p one room own turns ts h
 
 built : (whole : Roomed) (next : Option Token) (wanted : List Wanted) → Produces whole next wanted → (ts : List Token) → Trees wanted ts → Tree whole.part ts
 built whole next wanted made ts h = tree_of whole.part made.production made.is_one whole.room made.name made.is_turn ts (subst (λ w. Trees w ts) made.made h)
 
+nothing : {ts : List Token} → Trees [] ts → ts ≡ []
+nothing Trees.none = refl
+
 put : (whole : Roomed) (wanted : List Wanted) (a b : List Token) → Tree whole.part a → Trees wanted b → Trees (Nonterminal whole ∷ wanted) (a ++ b)
-put whole [] a b h r = subst (λ ts. Tree whole.part ts) (sym (append-nil a) ∙ ap (λ b. a ++ b) (sym r)) h
-put whole (next ∷ wanted) a b h r = (a, (b, (refl, (h, r))))
+put whole [] a b h r = Trees.last (subst (λ ts. Tree whole.part ts) (sym (append-nil a) ∙ ap (λ b. a ++ b) (sym (nothing r))) h)
+put whole (next ∷ wanted) a b h r = Trees.tree a h r
 
 -- what is derived are such tokens, before those that are left
 pub trees : {wanted : List Wanted} {pieces left : List Token} → Derives wanted pieces left → (ts : List Token) × ((pieces ≡ ts ++ left) × Trees wanted ts)
-trees done = ([], (refl, refl))
-trees (terminal {token = t} m r) = let h = trees r in (t ∷ h.0, (ap (λ us. t ∷ us) h.1.0, (t, (h.0, (refl, (m, h.1.1))))))
-trees (part {A = whole} {production = production} {symbols = wanted} {tokens = pieces} {between = between} {left = left} made inner r) =
+trees done = ([], (refl, Trees.none))
+trees (terminal {class = class} {token = t} m r) = let h = trees r in (t ∷ h.0, (ap (λ us. t ∷ us) h.1.0, Trees.token (fits class t m) h.1.1))
+trees (part {A = whole} {production = production} {symbols = wanted} {left = left} made inner r) =
     let h = trees inner in
     let k = trees r in
     (h.0 ++ k.0, (h.1.0 ∙ (ap (λ us. h.0 ++ us) k.1.0 ∙ sym (append_assoc h.0 k.0 left)), put whole wanted h.0 k.0 (built whole _ production made h.0 h.1.1) k.1.1))
+
+whole_tree : {whole : Roomed} {ts : List Token} → Trees (Nonterminal whole ∷ []) ts → Tree whole.part ts
+whole_tree (Trees.last h) = h
+
+-- what a part derives up to the end
+pub tree_there : (whole : Roomed) (pieces : List Token) → Derives (Nonterminal whole ∷ []) pieces [] → Tree whole.part pieces
+tree_there whole pieces d = let h = trees d in subst (λ ts. Tree whole.part ts) (sym (h.1.0 ∙ append-nil h.0)) (whole_tree h.1.1)

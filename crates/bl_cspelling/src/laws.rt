@@ -1,12 +1,12 @@
 //! Laws of spelled files, each the contract of a function that does nothing.
 
-ghost use Rattle.std.specs.Prelude.{◌≡◌, ℕ, List};
+ghost use Rattle.std.specs.Prelude.{◌≡◌, ℕ, List, ◌++◌, length};
+ghost use Rattle.bl_ctext.specs.Prelude.{prelude};
 ghost use Rattle.bl_ctext.specs.Token.{Token, SpacedC};
 ghost use Rattle.bl_ctext.specs.SpellsC.{SpellsC};
 ghost use Rattle.bl_ctext.specs.declared.file.CFile.{CFile};
-ghost use Rattle.bl_ctext.specs.Spelling.{tokens_of};
 ghost use Rattle.bl_csyntax.specs.Pieces.{pieces};
-ghost use Rattle.bl_csyntax.specs.Grammar.{SpellText};
+ghost use Rattle.bl_csyntax.specs.Rules.{Passes};
 ghost use Rattle.bl_cspelling.specs.Placeless.{SameButPlaces};
 
 /// Bytes that are spaced into tokens are cut into just these, so they are spaced in one way.
@@ -20,7 +20,8 @@ pub fn bytes_spell_one_file()
     ensures { (file other : CFile) (bytes : List ℕ) → SpellsC file bytes → SpellsC other bytes → SameButPlaces file other }
 {}
 
-/// Bytes whose pieces derive a text of the grammar are spaced into the tokens of a file.
-pub fn what_derives_is_spelled()
-    ensures { (text : List ℕ) → SpellText (pieces text) → (file : CFile) × SpacedC (tokens_of file.structs file.funcs) text }
+/// Bytes that begin with the prelude spell a file exactly where what stands behind it is a text of the grammar.
+pub fn what_passes_is_spelled()
+    ensures spelled { (bytes rest : List ℕ) → bytes ≡ prelude ++ rest → Passes bytes (length prelude) → (file : CFile) × SpellsC file bytes }
+    ensures passes { (file : CFile) (bytes : List ℕ) → SpellsC file bytes → Passes bytes (length prelude) }
 {}

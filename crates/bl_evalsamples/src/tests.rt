@@ -72,12 +72,18 @@ fn output_of(now: &Values) -> Option<i128> {
     }
 }
 
-/// How a set ends with these values: what its expression gives, whether it is done, and what the output has then.
-fn tried(
-    alloc: Global,
-    input: i128,
-    output: i128,
-) -> Result<Option<(Option<i128>, bool, Option<i128>)>, NoMemory> {
+/// How a set ended.
+#[derive(Clone, Copy)]
+struct Ended {
+    /// What its expression gives; none where it traps.
+    given: Option<i128>,
+    is_done: bool,
+    /// The value of the output afterwards.
+    output: Option<i128>,
+}
+
+/// How the set ends from these values.
+fn tried(alloc: Global, input: i128, output: i128) -> Result<Option<Ended>, NoMemory> {
     let Some(program) = program_of(alloc, ADDS.as_bytes()) else {
         return Ok(None);
     };
@@ -89,16 +95,29 @@ fn tried(
     };
     let before = values(alloc, input, output)?;
     let mut now = values(alloc, input, output)?;
-    let got = number_of(value(alloc, &program, &now, &before, e)?);
+    let given = number_of(value(alloc, &program, &now, &before, e)?);
     let did = act(alloc, &program, &mut now, &before, set)?;
-    Ok(Some((got, did == Did::Done, output_of(&now))))
+    Ok(Some(Ended {
+        given,
+        is_done: did == Did::Done,
+        output: output_of(&now),
+    }))
 }
 
 #[test]
 fn a_sum_in_its_type_is_set(rt: HostRuntime) -> Result<(), NoMemory> {
     let alloc = rt.alloc();
     let ended = tried(alloc, 5, 2)?;
-    assert!(rt; ended == Some((Some(7), true, Some(7))));
+    assert!(rt;
+        matches!(
+            ended,
+            Some(Ended {
+                given: Some(7),
+                is_done: true,
+                output: Some(7)
+            })
+        )
+    );
     Ok(())
 }
 
@@ -106,6 +125,15 @@ fn a_sum_in_its_type_is_set(rt: HostRuntime) -> Result<(), NoMemory> {
 fn a_sum_outside_of_its_type_traps_and_changes_nothing(rt: HostRuntime) -> Result<(), NoMemory> {
     let alloc = rt.alloc();
     let ended = tried(alloc, 1, 2_147_483_647)?;
-    assert!(rt; ended == Some((None, false, Some(2_147_483_647))));
+    assert!(rt;
+        matches!(
+            ended,
+            Some(Ended {
+                given: None,
+                is_done: false,
+                output: Some(2_147_483_647)
+            })
+        )
+    );
     Ok(())
 }

@@ -15,10 +15,12 @@ use Rattle.bl_resolve.proofs.StillLemmas.{Still, after-append}
 pub next_of : {X : Type 0} (xs : List X) (k : ℕ) (x : X) → k < length xs → x ≡ get_or xs k x → drop k xs ≡ x ∷ drop (k + 1) xs
 next_of xs k x within is = rw add-one (drop-cons xs k x within ∙ ap (λ y. y ∷ drop (suc k) xs) (sym is))
 
+-- what follows from what holds of an Ok
 pub on_ok : {A E : Type 0} (P Q : Type 0) (r : Result A E) → (P → Q) → OnOk r P → OnOk r Q
 on_ok P Q (Ok x) f h = f h
 on_ok P Q (Err e) f h = h
 
+-- what holds anyway
 pub sure : {A E : Type 0} (P : Type 0) (r : Result A E) → P → OnOk r P
 sure P (Ok x) h = h
 sure P (Err e) h = tt
@@ -105,6 +107,3 @@ closed_past state new begun ended piece one two three =
     ∙ (λ i. record (two i) { scopes = enter (two i).scopes closes })
     ∙ (λ i. record (past (record state { scopes = one i }) piece) { scopes = enter (past (record state { scopes = one i }) piece).scopes closes })
     ∙ past-own state piece
-
-pub closed_made : {A : Type 0} (state : State) (begun : Scopes) (piece : Piece A) (made : A) → begun ≡ enter state.scopes opens → made ≡ piece.made begun → made ≡ (own_scope piece).made state.scopes
-closed_made state begun piece made one is = is ∙ ap piece.made one

@@ -58,9 +58,6 @@ all_marks piece marks (x ∷ xs) all =
 same_marks : (place : Place) (layer : RawStmtKind-F RawStmtKind RawArm RawBranch RawStmt) → (kind_piece (parts layer)).marks ≡ stmt_kind_marks (mark_parts layer) → Marked (stmt place layer)
 same_marks place layer is = piece_at place layer ∙ is ∙ sym (marks_at place layer)
 
-abbrev body_is : List RawStmt → Type 0
-body_is body = marks_of_all (map stmt_piece body) ≡ joined (map stmt_marks body)
-
 marked : Cases Marked MarkedArm MarkedBranch
 marked = record {
   var = λ place name ty value. same_marks place (RawStmtKind-F.Var name ty value) refl;

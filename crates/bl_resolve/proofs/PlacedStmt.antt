@@ -303,9 +303,6 @@ module _ (all_vars : List NamedVar) (all_constants : List NamedConstant) where
       (sym (takes_at place ((kind_piece (parts layer)).made scopes) (made scopes) (is scopes)))
       (gives scopes below fits vars constants))
 
-  one_more : (n : ℕ) → n + 1 ≡ n + 1
-  one_more n = refl
-
   var_is : (scopes : Scopes) (name : Name) (ty : Option RawType) (role : Role) → Below scopes → Fits scopes (optional type_marks ty) →
       Within all_vars scopes.counts.variables (named_var scopes name ty role ∷ []) → holds_of (var_placed (earlier scopes)) (slice_get all_vars scopes.counts.variables) ≡ true
   var_is scopes name ty role below fits vars =
@@ -332,7 +329,7 @@ module _ (all_vars : List NamedVar) (all_constants : List NamedConstant) where
         steps = refl;
         below = variable_below scopes name below;
         outer = refl;
-        more_vars = one_more k;
+        more_vars = refl;
         more_constants = none_more scopes.counts.constants;
         same_structs = refl;
         same_units = refl;
@@ -361,7 +358,7 @@ module _ (all_vars : List NamedVar) (all_constants : List NamedConstant) where
         below = constant_below scopes constant.name below;
         outer = refl;
         more_vars = none_more scopes.counts.variables;
-        more_constants = one_more k;
+        more_constants = refl;
         same_structs = refl;
         same_units = refl;
         locals = refl;

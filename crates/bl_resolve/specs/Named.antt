@@ -43,6 +43,7 @@ pub record Piece (A : Type 0) : Type 0 where
   pub vars : Scopes → List NamedVar
   pub constants : Scopes → List NamedConstant
 
+-- what parts do one after another
 abbrev pub marks_of_all : {A : Type 0} → List (Piece A) → Marks
 marks_of_all pieces = joined (map (λ piece. piece.marks) pieces)
 
@@ -59,12 +60,14 @@ abbrev pub constants_of_all : {A : Type 0} → List (Piece A) → Scopes → Lis
 constants_of_all [] scopes = []
 constants_of_all (piece ∷ rest) scopes = piece.constants scopes ++ constants_of_all rest (after scopes piece.marks)
 
+-- parts one after another, as one
 abbrev pub all : {A : Type 0} → List (Piece A) → Piece (List A)
 all pieces = record { marks = marks_of_all pieces; made = made_of_all pieces; vars = vars_of_all pieces; constants = constants_of_all pieces }
 
 abbrev pub none : {A : Type 0} → Scopes → List A
 none scopes = []
 
+-- where a scope begins
 abbrev pub opened : Scopes → Scopes
 opened scopes = enter scopes opens
 
@@ -206,6 +209,7 @@ param_piece role param = record {
   constants = none;
 }
 
+-- parameters of one role
 abbrev pub role_piece : Role → List RawParam → Piece (List NamedVar)
 role_piece role params = all (map (param_piece role) params)
 

@@ -1,5 +1,5 @@
 -- The failure that is kept is why a program is refused, and where none is kept it passes.
-use Rattle.std.proofs.Common.{◌≡◌, ℕ, ◌<◌, ◌≤◌, Bool, true, false, cond, List, [], ◌∷◌, ◌⊎◌, inl, inr, ⊎_elim, Option, Some, None, refl, sym, ap, ◌∙◌, subst, arith}
+use Rattle.std.proofs.Common.{◌≡◌, ℕ, ◌<◌, true, false, cond, List, [], ◌∷◌, inl, inr, ⊎_elim, Some, None, refl, sym, ap, ◌∙◌, subst, arith}
 use Rattle.std.specs.Prelude.{nat_eq}
 use Rattle.bl_tree.specs.declared.place.Place.{Place}
 use Rattle.bl_tree.specs.declared.place.Refusal.{Refusal}
@@ -10,8 +10,8 @@ use Rattle.bl_types.specs.declared.failure.Notes.{Notes}
 use Rattle.bl_types.specs.Cause.{IsCause}
 use Rattle.bl_types.specs.Failures.{Refuses, first_of_all, noted}
 use Rattle.bl_types.specs.Programs.{failures_of}
-use Rattle.bl_types.specs.Rules.{AreNoLater, Fails, FailsFirst, Passes, further_of}
-use Rattle.bl_types.proofs.OrderLemmas.{IsFirst, NoLater, contains_in, first_is, in_contains, none_is, places}
+use Rattle.bl_types.specs.Rules.{AreNoLater, FailsFirst, Passes, further_of}
+use Rattle.bl_types.proofs.OrderLemmas.{contains_in, first_is, in_contains, none_is, places}
 
 -- places that come no later, less the second of each
 one_of : (f g : Failure) → AreNoLater (places f) (places g) → AreNoLater (f.at ∷ []) (g.at ∷ [])

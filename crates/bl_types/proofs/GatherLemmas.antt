@@ -1,10 +1,9 @@
 -- Lists that grow by what is made.
 use Rattle.std.proofs.Common.{refl, ◌≡◌, map, List, [], ◌∷◌, ◌++◌, Option, Some, None, sym, ap, ◌∙◌, append_assoc}
-use Rattle.std.specs.Prelude.{option_map}
 use Rattle.std.specs.List.{cons_option}
-use Rattle.bl_tree.specs.declared.tree.Ty.{Ty}
+use Rattle.bl_tree.specs.declared.tree.Var.{Var}
 use Rattle.bl_types.specs.declared.environment.Variable.{Variable}
-use Rattle.bl_types.specs.Units.{var_of, var_typed, vars_of}
+use Rattle.bl_types.specs.Units.{var_of, vars_of}
 
 -- one more is made
 pub made_one : {A : Type 0} (made grown rest whole : List A) (one : Option A) (x : A) → one ≡ Some x → grown ≡ made ++ x ∷ [] → made ++ cons_option one rest ≡ whole → grown ++ rest ≡ whole
@@ -38,9 +37,6 @@ vars_of-append : (xs ys : List Variable) → vars_of (xs ++ ys) ≡ vars_of xs +
 vars_of-append [] ys = refl
 vars_of-append (x ∷ xs) ys = ap (cons_option (var_of x)) (vars_of-append xs ys) ∙ with_option (var_of x) (vars_of xs) (vars_of ys)
 
--- one more variable, which has a type
-pub vars_of-some : (xs : List Variable) (var : Variable) (ty : Ty) → var.ty ≡ Some ty → vars_of (xs ++ var ∷ []) ≡ vars_of xs ++ var_typed var ty ∷ []
-vars_of-some xs var ty is = vars_of-append xs (var ∷ []) ∙ ap (λ o. vars_of xs ++ cons_option (option_map (var_typed var) o) []) is
-
-pub vars_of-none : (xs : List Variable) (var : Variable) → var.ty ≡ None → vars_of (xs ++ var ∷ []) ≡ vars_of xs
-vars_of-none xs var is = vars_of-append xs (var ∷ []) ∙ ap (λ o. vars_of xs ++ cons_option (option_map (var_typed var) o) []) is ∙ append-none (vars_of xs)
+-- one more variable
+pub vars_of-next : (xs : List Variable) (var : Variable) (made grown : List Var) (one : Option Var) → one ≡ var_of var → made ≡ vars_of xs → grown ≡ made ++ cons_option one [] → grown ≡ vars_of (xs ++ var ∷ [])
+vars_of-next xs var made grown one is same push = push ∙ (λ i. same i ++ cons_option (is i) []) ∙ sym (vars_of-append xs (var ∷ []))

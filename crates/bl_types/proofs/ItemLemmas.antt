@@ -1,9 +1,8 @@
 -- Items of a program, one after another.
-use Rattle.std.proofs.Common.{◌≡◌, ℕ, zero, suc, ◌+◌, List, [], ◌∷◌, ◌++◌, refl, sym, ap, ◌∙◌, append_assoc, arith}
+use Rattle.std.proofs.Common.{◌≡◌, ℕ, zero, suc, ◌+◌, ◌++◌, sym, ap, ◌∙◌, append_assoc, arith}
 use Rattle.bl_named.specs.declared.named.Named.{Named}
 use Rattle.bl_types.specs.declared.environment.Environment.{Environment}
 use Rattle.bl_types.specs.declared.environment.State.{State}
-use Rattle.bl_types.specs.declared.failure.Failure.{Failure}
 use Rattle.bl_types.specs.Declarations.{Declaring, and_then}
 use Rattle.bl_types.specs.Programs.{after_item, after_items}
 use Rattle.bl_types.specs.States.{after, passed}

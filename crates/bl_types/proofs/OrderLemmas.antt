@@ -1,10 +1,10 @@
 -- The first of several failures is one of them, and comes no later than each.
-use Rattle.std.proofs.Common.{◌≡◌, ℕ, ◌+◌, ◌<◌, ◌≤◌, zero, suc, Bool, true, false, ◌&&◌, ◌||◌, cond, List, [], ◌∷◌, ◌⊎◌, inl, inr, ⊎_elim, Option, Some, None, refl, sym, ap, ◌∙◌, subst, arith}
+use Rattle.std.proofs.Common.{◌≡◌, ◌<◌, zero, suc, Bool, true, false, ◌&&◌, ◌||◌, cond, List, [], ◌∷◌, ◌⊎◌, inl, inr, ⊎_elim, Some, None, refl, sym, ◌∙◌, subst, arith}
 use Rattle.std.specs.Prelude.{Contains, nat_eq, nat_lt}
 use Rattle.std.proofs.lemmas.Bool.Decides.{nat_tests}
 use Rattle.bl_tree.specs.declared.place.Place.{Place}
 use Rattle.bl_types.specs.declared.failure.Failure.{Failure}
-use Rattle.bl_types.specs.Failures.{comes_before, first_of_all, is_before, lesser, same_place}
+use Rattle.bl_types.specs.Failures.{comes_before, first_of_all, is_before, same_place}
 use Rattle.bl_types.specs.Rules.{AreNoLater, IsBefore}
 
 -- ---- places

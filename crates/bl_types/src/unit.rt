@@ -7,12 +7,13 @@ ghost use Rattle.bl_tree.specs.Types.{scalar_in};
 ghost use Rattle.bl_types.specs.Failures.{noted, unless};
 ghost use Rattle.bl_types.specs.Returns.{return_failures};
 ghost use Rattle.bl_types.specs.States.{after, passed};
-ghost use Rattle.bl_types.specs.Units.{after_head, after_unit, can_be_driven, drives, entries, entry_among, entered, is_scalar, left, result_of, vars_of};
+ghost use Rattle.bl_types.specs.Units.{after_head, after_unit, can_be_driven, drives, entries, entry_among, entered, is_scalar, left, result_of, var_of, vars_of};
 
 use crate::declare::{is_parameter, parameters};
 use crate::environment::{Environment, State, Variable};
 use crate::failure::Notes;
 use crate::returns::judge_returns;
+use crate::slices::keep;
 use crate::stmt::{Source, block};
 use crate::types::{scalar_in, typed};
 use bl_named::item::{NamedConstant, NamedUnit, NamedVar};
@@ -53,26 +54,34 @@ fn scalar_outcome(name: Place, ty: &Ty, notes: &mut Notes) -> Option<Scalar>
     }
 }
 
+/// The variable, where it has a type.
+fn var_of(var: Variable) -> Option<Var>
+    ensures { result ≡ var_of var }
+{
+    let Variable {
+        name,
+        place,
+        ty,
+        role,
+    } = var;
+    match ty {
+        Some(ty) => Some(Var {
+            name,
+            place,
+            ty,
+            role,
+        }),
+        None => None,
+    }
+}
+
 /// The variables that have types.
 fn vars_of(alloc: Global, vars: List<Variable>) -> Result<List<Var>, NoMemory>
     ensures { IfOk result (λ made. made ≡ vars_of vars) }
 {
     let mut made = List::new(alloc);
     for var in vars.into_vec() {
-        let Variable {
-            name,
-            place,
-            ty,
-            role,
-        } = var;
-        if let Some(ty) = ty {
-            made.push(Var {
-                name,
-                place,
-                ty,
-                role,
-            })?;
-        }
+        keep(&mut made, var_of(var))?;
     }
     Ok(made)
 }

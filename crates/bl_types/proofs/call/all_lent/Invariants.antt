@@ -1,4 +1,4 @@
-use Rattle.std.proofs.Common.{◌≡◌, ◌++◌, ◌&&◌, drop, map}
+use Rattle.std.proofs.Common.{◌≡◌, ◌++◌, drop}
 use Rattle.bl_types.specs.Failures.{noted}
 use Rattle.bl_types.specs.Statements.{all_lent, paths_failures, paths_made}
 use Rattle.bl_types.proofs.call.all_lent.Given as goal

@@ -1,4 +1,4 @@
-use Rattle.std.proofs.Common.{◌≡◌, ◌++◌, ◌&&◌, drop, map}
+use Rattle.std.proofs.Common.{◌≡◌, ◌++◌, drop, map}
 use Rattle.bl_types.specs.Expressions.{stepped, to_field}
 use Rattle.bl_types.specs.Failures.{noted}
 use Rattle.bl_types.proofs.call.fields.Given as goal

@@ -1,12 +1,12 @@
-use Rattle.std.proofs.Common.{◌≡◌, ◌∙◌, ◌++◌, ◌&&◌, ap, length, map, nat_eq, refl, sym}
+use Rattle.std.proofs.Common.{◌∙◌, ◌++◌, ◌&&◌, ap, length, map, nat_eq, refl, sym}
 use Rattle.std.proofs.lemmas.List.{length-map}
 use Rattle.std.specs.Prelude.{slice_get}
 use Rattle.bl_types.specs.Expressions.{all_failures, all_made, fitted, judged, params_of}
 use Rattle.bl_types.specs.Failures.{noted}
-use Rattle.bl_types.specs.Statements.{all_lent, arguments, counted, outputs_wanted, paths_failures, paths_made}
+use Rattle.bl_types.specs.Statements.{all_lent, counted, outputs_wanted, paths_failures, paths_made}
 use Rattle.bl_types.proofs.CallLemmas.{all_lent-length}
 use Rattle.bl_types.proofs.JudgedLemmas.{fitted-length}
-use Rattle.bl_types.proofs.NoteLemmas.{noted-append, then_noted}
+use Rattle.bl_types.proofs.NoteLemmas.{then_noted}
 use Rattle.bl_types.proofs.call.given.Goals as goal
 
 pub returns-clause-complete : goal.returns-clause-complete

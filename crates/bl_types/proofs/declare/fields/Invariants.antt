@@ -1,4 +1,4 @@
-use Rattle.std.proofs.Common.{◌≡◌, ◌++◌, ◌&&◌, drop, map}
+use Rattle.std.proofs.Common.{◌≡◌, ◌++◌, drop, map}
 use Rattle.bl_tree.specs.Reduce.{joined}
 use Rattle.bl_types.specs.Declarations.{field_lengths, field_of}
 use Rattle.bl_types.specs.Failures.{noted}

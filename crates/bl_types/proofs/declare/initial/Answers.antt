@@ -1,4 +1,4 @@
-use Rattle.std.proofs.Common.{◌≡◌, ◌∙◌, Some, ap, sym}
+use Rattle.std.proofs.Common.{◌∙◌, Some, ap, sym}
 use Rattle.bl_types.specs.Declarations.{initial}
 use Rattle.bl_types.specs.Expressions.{in_context, judged}
 use Rattle.bl_types.specs.Failures.{noted}

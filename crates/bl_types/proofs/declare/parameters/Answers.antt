@@ -1,4 +1,4 @@
-use Rattle.std.proofs.Common.{◌≡◌, ◌∙◌, ◌+◌, ap, drop, sym}
+use Rattle.std.proofs.Common.{◌∙◌, ◌+◌, ap, drop, sym}
 use Rattle.bl_types.specs.Declarations.{after_parameter, after_parameters}
 use Rattle.bl_types.specs.States.{after}
 use Rattle.bl_types.proofs.JudgedLemmas.{next_of}

@@ -1,4 +1,4 @@
-use Rattle.std.proofs.Common.{◌≡◌, ◌++◌, ◌&&◌, drop, map}
+use Rattle.std.proofs.Common.{◌≡◌, drop}
 use Rattle.bl_types.specs.Declarations.{after_parameters}
 use Rattle.bl_types.specs.States.{after}
 use Rattle.bl_types.proofs.declare.parameters.Given as goal

@@ -1,4 +1,4 @@
-use Rattle.std.proofs.Common.{◌≡◌, ◌∙◌, ap, sym}
+use Rattle.std.proofs.Common.{ap}
 use Rattle.bl_types.proofs.CauseLemmas.{cause, passes}
 use Rattle.bl_types.proofs.program.verdict.Goals as goal
 

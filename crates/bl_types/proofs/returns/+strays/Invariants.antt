@@ -1,4 +1,4 @@
-use Rattle.std.proofs.Common.{◌≡◌, ◌++◌, ◌&&◌, drop, map}
+use Rattle.std.proofs.Common.{◌≡◌, drop, map}
 use Rattle.bl_tree.specs.Reduce.{joined}
 use Rattle.bl_types.specs.Failures.{noted}
 use Rattle.bl_types.specs.Returns.{strays_in, strays_in_arm, strays_in_branch}

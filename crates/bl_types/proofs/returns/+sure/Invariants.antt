@@ -1,4 +1,4 @@
-use Rattle.std.proofs.Common.{◌≡◌, ◌++◌, ◌&&◌, drop, map}
+use Rattle.std.proofs.Common.{◌≡◌, ◌&&◌, drop, map}
 use Rattle.bl_tree.specs.Reduce.{all_of}
 use Rattle.bl_tree.specs.Returns.{last_of}
 use Rattle.bl_types.specs.Returns.{arm_surely_returns, surely_returns}

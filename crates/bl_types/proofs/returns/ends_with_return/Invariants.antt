@@ -1,4 +1,4 @@
-use Rattle.std.proofs.Common.{◌≡◌, ◌++◌, ◌&&◌, drop, map}
+use Rattle.std.proofs.Common.{◌≡◌, drop, map}
 use Rattle.bl_tree.specs.Returns.{last_of}
 use Rattle.bl_types.specs.Returns.{is_return}
 use Rattle.bl_types.proofs.LastLemmas.{last_or}

@@ -1,4 +1,4 @@
-use Rattle.std.proofs.Common.{◌≡◌, ◌∙◌, ◌+◌, ap, drop, sym}
+use Rattle.std.proofs.Common.{◌∙◌, ◌+◌, ap, drop, sym}
 use Rattle.bl_tree.specs.Typing.{is_inhabited}
 use Rattle.bl_types.specs.Failures.{noted}
 use Rattle.bl_types.specs.Returns.{stray, strays}

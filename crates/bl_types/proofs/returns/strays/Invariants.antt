@@ -1,4 +1,4 @@
-use Rattle.std.proofs.Common.{◌≡◌, ◌++◌, ◌&&◌, drop, map}
+use Rattle.std.proofs.Common.{◌≡◌, drop}
 use Rattle.bl_types.specs.Failures.{noted}
 use Rattle.bl_types.specs.Returns.{strays}
 use Rattle.bl_types.proofs.returns.strays.Given as goal

@@ -1,4 +1,4 @@
-use Rattle.std.proofs.Common.{◌≡◌, IfOk, OnOk, ap, subst}
+use Rattle.std.proofs.Common.{◌≡◌, IfOk, ap, subst}
 use Rattle.bl_types.specs.States.{passed}
 use Rattle.bl_types.specs.Statements.{condition, misplaced}
 use Rattle.bl_types.proofs.NoteLemmas.{on_ok}

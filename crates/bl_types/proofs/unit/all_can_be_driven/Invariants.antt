@@ -1,4 +1,4 @@
-use Rattle.std.proofs.Common.{◌≡◌, ◌++◌, ◌&&◌, drop, map}
+use Rattle.std.proofs.Common.{◌≡◌, drop}
 use Rattle.std.specs.List.{list_all}
 use Rattle.bl_types.specs.Units.{can_be_driven}
 use Rattle.bl_types.proofs.unit.all_can_be_driven.Given as goal

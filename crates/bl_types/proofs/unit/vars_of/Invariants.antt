@@ -1,4 +1,4 @@
-use Rattle.std.proofs.Common.{◌≡◌, ◌++◌, ◌&&◌, drop, map}
+use Rattle.std.proofs.Common.{◌≡◌}
 use Rattle.bl_types.specs.Units.{vars_of}
 use Rattle.bl_types.proofs.unit.vars_of.Given as goal
 
