@@ -28,11 +28,13 @@ end
 end
 ";
 
-/// Whether a front of the text was refused by the rules Profile or Syntax, or is a program, which is in no form that is
-/// built.
+/// Whether a front of the text was refused by the rules Profile, Syntax or Entry, or is a program, which is in no form
+/// that is built.
 fn is_fitting(answer: &Answer) -> bool {
     let notes = answer.notes.held();
-    let refused = notes.starts_with(b"rule 3 Profile ") || notes.starts_with(b"rule 5 Syntax ");
+    let refused = notes.starts_with(b"rule 3 Profile ")
+        || notes.starts_with(b"rule 5 Syntax ")
+        || notes.starts_with(b"rule 17 Entry ");
     (answer.status == 1 && refused) || (answer.status == 12 && notes == b"not built\n".as_slice())
 }
 

@@ -12,3 +12,5 @@ mod names;
 mod run;
 #[cfg(test)]
 mod texts;
+#[cfg(test)]
+mod types;

@@ -5,16 +5,15 @@ use std::alloc::Global;
 use std::test::Fail;
 
 /// Inner names hide outer ones, and each use is of a declaration that ends before it. None of these is of a form that is built.
-const PASSING: [&str; 9] = [
-    "",
-    "const N: int32 = 5 function F (N: int32) returns int32 return N end",
-    "const N: int32 = 5 activity A () var N: int32 N = 1 end",
-    "activity A (a: int32) if true then var a: int32 a = 1 else var a: bool a = true end end",
-    "activity A () var x: bool repeat var x: int32 x = 1 until x end end",
-    "const n: int32 = 2 struct S var n: int32 var a: [n]int32 end struct T var n: S end",
-    "activity A () end activity B () var C: int32 run A() end",
-    "function F () return end function G () F() end activity A (x: int32)(y: int32) y = prev x end",
-    "function F () returns int32 return 1 end activity A () var F: int32 = F() F = 2 end",
+const PASSING: [&str; 8] = [
+    "const N: int32 = 5 function F (N: int32) returns int32 return N end @[EntryPoint] activity M () await true end",
+    "const N: int32 = 5 activity A () var N: int32 N = 1 end @[EntryPoint] activity M () await true end",
+    "activity A (a: int32) if true then var a: int32 a = 1 else var a: bool a = true end end @[EntryPoint] activity M () await true end",
+    "activity A () var x: bool repeat var x: int32 x = 1 until x end end @[EntryPoint] activity M () await true end",
+    "const n: int32 = 2 struct S var n: int32 var a: [n]int32 end struct T var n: S end @[EntryPoint] activity M () await true end",
+    "activity A () end activity B () var C: int32 run A() end @[EntryPoint] activity M () await true end",
+    "function F () return end function G () F() end activity A ()(y: int32) var x: int32 y = prev x end @[EntryPoint] activity M () await true end",
+    "function F () returns int32 return 1 end activity A () var F: int32 = F() F = 2 end @[EntryPoint] activity M () await true end",
 ];
 
 /// A text, and the line that refuses it.

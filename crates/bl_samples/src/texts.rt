@@ -54,8 +54,9 @@ const ROWS: [Row; 35] = [
     // other forms
     Row {
         text: "",
-        status: 12,
-        line: UNBUILT,
+        status: 1,
+        line: "rule 17 Entry 0-0
+",
     },
     Row {
         text: "@[EntryPoint] activity M ()() cobegin end end",
@@ -69,23 +70,27 @@ const ROWS: [Row; 35] = [
     },
     Row {
         text: "activity M ()(o: int32) repeat o = 1 await true end end",
-        status: 12,
-        line: UNBUILT,
+        status: 1,
+        line: "rule 17 Entry 55-55
+",
     },
     Row {
         text: "@[EntryPoint] activity M (i: int32)(o: int32) repeat i = 1 await true end end",
-        status: 12,
-        line: UNBUILT,
+        status: 1,
+        line: "rule 11 Immutable 53-54 26-27
+",
     },
     Row {
         text: "@[EntryPoint] activity M ()(o: bool) repeat o = true + false await true end end",
-        status: 12,
-        line: UNBUILT,
+        status: 1,
+        line: "rule 9 Type 48-60
+",
     },
     Row {
         text: "@[EntryPoint] activity M ()(o: int32) repeat o = 2147483648 await true end end",
-        status: 12,
-        line: UNBUILT,
+        status: 1,
+        line: "rule 10 Literal 49-59
+",
     },
     Row {
         text: "@[EntryPoint] activity M ()(o: int32) repeat o = - 1 await true end end",
@@ -104,13 +109,15 @@ const ROWS: [Row; 35] = [
     },
     Row {
         text: "@[EntryPoint] activity M ()(n: int32) repeat n = true await true end end",
-        status: 12,
-        line: UNBUILT,
+        status: 1,
+        line: "rule 9 Type 49-53
+",
     },
     Row {
         text: "@[EntryPoint] activity M ()(n: int32) repeat await n end end",
-        status: 12,
-        line: UNBUILT,
+        status: 1,
+        line: "rule 9 Type 51-52
+",
     },
     Row {
         text: "@[EntryPoint] activity M ()(n: int8) repeat await true end end",
@@ -176,8 +183,9 @@ const ROWS: [Row; 35] = [
     },
     Row {
         text: "function F () returns int32 return 1 end",
-        status: 12,
-        line: UNBUILT,
+        status: 1,
+        line: "rule 17 Entry 40-40
+",
     },
     // the rules on names
     Row {
