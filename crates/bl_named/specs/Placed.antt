@@ -225,8 +225,7 @@ item_step named unit earlier = option_and_then (λ def. unit_step named.constant
 abbrev pub all_earlier : Named → Earlier
 all_earlier named = record { structs = length named.structs; constants = length named.constants; units = length named.units; variables = 0 }
 
--- in some order of its structs, constants and units each position in a program is that of what is declared before, and
+-- in this order of its structs, constants and units each position in a program is that of what is declared before, and
 -- everything is declared once
-pub record IsPlaced (named : Named) : Type 0 where
-  pub order : List Item
-  pub is_placed : in_turn (map (item_step named) order) nothing_earlier ≡ Some (all_earlier named)
+abbrev pub IsPlaced : List Item → Named → Type 0
+IsPlaced order named = in_turn (map (item_step named) order) nothing_earlier ≡ Some (all_earlier named)

@@ -6,7 +6,7 @@ use Rattle.bl_named.specs.declared.item.NamedConstant.{NamedConstant}
 use Rattle.bl_named.specs.declared.item.NamedStruct.{NamedStruct}
 use Rattle.bl_named.specs.declared.item.NamedUnit.{NamedUnit}
 use Rattle.bl_named.specs.declared.named.Named.{Named}
-use Rattle.bl_named.specs.Placed.{Earlier, IsPlaced, Item, structure, constant, unit, holds_of, in_turn, item_step, struct_placed, unit_step, with_constant}
+use Rattle.bl_named.specs.Placed.{Earlier, IsPlaced, structure, constant, unit, holds_of, in_turn, item_step, struct_placed, unit_step, with_constant}
 use Rattle.bl_names.specs.declared.kind.Kind.TheVariants as kinds
 use Rattle.bl_names.specs.Marks.{constant_marks, declares, expr_marks, item_marks, marks_of, optional, struct_marks, type_marks, unit_marks}
 use Rattle.bl_names.specs.Rules.{Passes}
@@ -17,6 +17,7 @@ use Rattle.bl_raw.specs.declared.item.RawStruct.{RawStruct}
 use Rattle.bl_raw.specs.declared.item.RawUnit.{RawUnit}
 use Rattle.bl_raw.specs.declared.stmt.RawConstant.{RawConstant}
 use Rattle.bl_resolve.specs.Named.{along, constants_in_unit, constants_of, named_constant, named_program, named_struct, named_unit, structs_of, units_of}
+use Rattle.bl_resolve.specs.Order.{kind_of_item, order_of}
 use Rattle.bl_resolve.proofs.BelowLemmas.{Below, constant_below, struct_below}
 use Rattle.bl_resolve.proofs.FitLemmas.{Fits, fits_first, fits_second, program_fits}
 use Rattle.bl_resolve.proofs.ItemLemmas.{struct_scopes}
@@ -43,11 +44,6 @@ sums a b c x y one two = omega arith
 
 more : {A : Type 0} (xs ys : List A) (a b c : ℕ) → b ≡ a + length xs → c ≡ b + length ys → c ≡ a + length (xs ++ ys)
 more xs ys a b c one two = sums a b c (length xs) (length ys) one two ∙ ap (λ n. a + n) (sym (length-append xs ys))
-
-abbrev item_of : RawItem → Item
-item_of (item.Struct def) = structure
-item_of (item.Constant def) = constant
-item_of (item.Unit def) = unit
 
 module _ (named : Named) where
   struct_holds : (scopes : Scopes) (def : RawStruct) → Below scopes → scopes.counts.variables ≡ 0 → Fits scopes (struct_marks def) →
@@ -98,7 +94,7 @@ module _ (named : Named) where
 
   item_holds : (one : RawItem) (scopes : Scopes) → Below scopes → scopes.counts.variables ≡ 0 → Fits scopes (item_marks one) →
       Within named.structs scopes.counts.structs (structs_of scopes one) → Within named.constants scopes.counts.constants (constants_of scopes one) → Within named.units scopes.counts.units (units_of scopes one) →
-      ItemsHold (item_step named (item_of one) (earlier scopes)) scopes (after scopes (item_marks one)) (structs_of scopes one) (constants_of scopes one) (units_of scopes one)
+      ItemsHold (item_step named (kind_of_item one) (earlier scopes)) scopes (after scopes (item_marks one)) (structs_of scopes one) (constants_of scopes one) (units_of scopes one)
   item_holds (item.Struct def) scopes below none fits structs constants units = struct_holds scopes def below none fits structs
   item_holds (item.Constant def) scopes below none fits structs constants units = constant_holds scopes def below none fits constants
   item_holds (item.Unit def) scopes below none fits structs constants units = unit_hold scopes def below none fits constants units
@@ -106,7 +102,7 @@ module _ (named : Named) where
   items_hold : (items : List RawItem) (scopes : Scopes) → Below scopes → scopes.counts.variables ≡ 0 → Fits scopes (marks_of items) →
       Within named.structs scopes.counts.structs (along structs_of scopes items) → Within named.constants scopes.counts.constants (along constants_of scopes items) →
       Within named.units scopes.counts.units (along units_of scopes items) →
-      ItemsHold (in_turn (map (item_step named) (map item_of items)) (earlier scopes)) scopes (after scopes (marks_of items)) (along structs_of scopes items) (along constants_of scopes items) (along units_of scopes items)
+      ItemsHold (in_turn (map (item_step named) (map kind_of_item items)) (earlier scopes)) scopes (after scopes (marks_of items)) (along structs_of scopes items) (along constants_of scopes items) (along units_of scopes items)
   items_hold [] scopes below none fits structs constants units = record {
     steps = refl;
     below = below;
@@ -125,10 +121,10 @@ module _ (named : Named) where
       (subst (λ at. Within named.structs at (along structs_of new items)) (sym first.more_structs) (within_second named.structs scopes.counts.structs (structs_of scopes one) (along structs_of new items) structs))
       (subst (λ at. Within named.constants at (along constants_of new items)) (sym first.more_constants) (within_second named.constants scopes.counts.constants (constants_of scopes one) (along constants_of new items) constants))
       (subst (λ at. Within named.units at (along units_of new items)) (sym first.more_units) (within_second named.units scopes.counts.units (units_of scopes one) (along units_of new items) units)) in
-      subst (λ last. ItemsHold (in_turn (map (item_step named) (map item_of (one ∷ items))) (earlier scopes)) scopes last
+      subst (λ last. ItemsHold (in_turn (map (item_step named) (map kind_of_item (one ∷ items))) (earlier scopes)) scopes last
       (along structs_of scopes (one ∷ items)) (along constants_of scopes (one ∷ items)) (along units_of scopes (one ∷ items))) (sym (after-append scopes (item_marks one) (marks_of items)))
       (record {
-        steps = ap (option_and_then (in_turn (map (item_step named) (map item_of items)))) first.steps ∙ later.steps;
+        steps = ap (option_and_then (in_turn (map (item_step named) (map kind_of_item items)))) first.steps ∙ later.steps;
         below = later.below;
         no_variables = later.no_variables;
         more_structs = more (structs_of scopes one) (along structs_of new items) scopes.counts.structs new.counts.structs (after new (marks_of items)).counts.structs first.more_structs later.more_structs;
@@ -142,16 +138,13 @@ from_none n = omega arith
 whole : {A : Type 0} (xs : List A) → Within xs 0 xs
 whole xs = record { before = []; rest = []; there = sym (append-nil xs); is_at = refl }
 
-pub is_placed : (items : List RawItem) (bytes : ℕ) → Passes items → IsPlaced (named_program items bytes)
+pub is_placed : (items : List RawItem) (bytes : ℕ) → Passes items → IsPlaced (order_of items) (named_program items bytes)
 is_placed items bytes passes =
     let named = named_program items bytes in
     let holds = items_hold named items file_scope (tt, tt) refl (program_fits items passes) (whole named.structs) (whole named.constants) (whole named.units) in
-    record {
-      order = map item_of items;
-      is_placed = holds.steps ∙ (λ i. Some (record {
-        structs = (holds.more_structs ∙ from_none (length named.structs)) i;
-        constants = (holds.more_constants ∙ from_none (length named.constants)) i;
-        units = (holds.more_units ∙ from_none (length named.units)) i;
-        variables = holds.no_variables i;
-      }));
-    }
+    holds.steps ∙ (λ i. Some (record {
+      structs = (holds.more_structs ∙ from_none (length named.structs)) i;
+      constants = (holds.more_constants ∙ from_none (length named.constants)) i;
+      units = (holds.more_units ∙ from_none (length named.units)) i;
+      variables = holds.no_variables i;
+    }))

@@ -5,6 +5,7 @@ ghost use Rattle.bl_named.specs.Placed.{IsPlaced};
 ghost use Rattle.bl_names.specs.Cause.{IsCause};
 ghost use Rattle.bl_names.specs.Rules.{Passes};
 ghost use Rattle.bl_resolve.specs.Named.{named_program};
+ghost use Rattle.bl_resolve.specs.Order.{order_of};
 
 use crate::item::items;
 use crate::state::State;
@@ -20,7 +21,7 @@ pub fn resolve(alloc: Global, raw: &Raw) -> Result<Named, Refusal>
     ensures passes { OnOk result (Passes raw.now.items) }
     ensures cause { IfErr result (IsCause raw.now.items) }
     ensures named { IfOk result (λ named. named ≡ named_program raw.now.items raw.now.bytes) }
-    ensures placed { IfOk result (λ named. IsPlaced named) }
+    ensures placed { IfOk result (λ named. IsPlaced (order_of raw.now.items) named) }
 {
     check(alloc, raw)?;
     match name(alloc, raw) {
