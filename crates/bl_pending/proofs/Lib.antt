@@ -1,0 +1,2 @@
+pub mod SurfaceLemmas
+pub mod WriteLemmas
