@@ -1,5 +1,7 @@
 //! Control trees as the code has them: statements by reference, with their positions (docs/LANGUAGE.md, "Control trees").
 
+ghost use Rattle.std.specs.Prelude.{◌+◌, ◌<◌, ◌^◌, length};
+
 use bl_tree::tree::{Arm, Stmt};
 use bl_tree::{Box, List};
 
@@ -43,6 +45,8 @@ pub struct Arms<'a> {
     /// Those after it.
     pub arms: &'a [Arm],
     pub other: &'a [Stmt],
+    /// All arms of the `if` can be counted.
+    pub ghost counted: { passed + length arms.now + 1 < 2 ^ 64 },
 }
 
 /// How far a guard or a `run` is in this tick.

@@ -1,0 +1,30 @@
+//! Actions that may be done next, as a caller is told of them.
+
+ghost use Rattle.std.specs.Prelude.{◌≡◌, map, IfOk};
+ghost use Rattle.bl_steps.specs.Running.{action_at};
+ghost use Rattle.bl_steps.specs.Spots.{spot_of};
+
+use crate::point::Point;
+use bl_tree::{List, NoMemory, Place};
+use std::alloc::Global;
+
+/// An action that a tree may do: the place of its statement, and the instance in which that stands.
+#[derive(Clone, Copy, PartialEq, Eq, Debug)]
+pub struct Action {
+    pub place: Place,
+    pub instance: u32,
+}
+
+/// Tells of points. Fails only for want of memory.
+pub fn told(alloc: Global, found: &[Point]) -> Result<List<Action>, NoMemory>
+    ensures { IfOk result (λ actions. actions ≡ map action_at (map spot_of found.now)) }
+{
+    let mut actions = List::new(alloc);
+    for point in found {
+        actions.push(Action {
+            place: point.place,
+            instance: point.instance,
+        })?;
+    }
+    Ok(actions)
+}
