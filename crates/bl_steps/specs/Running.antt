@@ -39,7 +39,7 @@ stepped_by w s p = option_map (λ done. record { control = p.after done.answer; 
 abbrev pub stepped : Setting → State → ℕ → Option State
 stepped w s n = option_and_then (stepped_by w s) (slice_get (points w 0 s.control) n)
 
--- how a step went: it leads to the state to which it is to lead, or it traps or takes no memory and leaves the state as it was
+-- how a step went: it leads to the state to which it is to lead, or it traps or memory is refused, and the state is as it was
 abbrev pub Acted : Option State → State → State → Result Did NoMemory → Type 0
 Acted outcome old new (Ok Done) = outcome ≡ Some new
 Acted outcome old new (Ok Trap) = (outcome ≡ None) × (new ≡ old)
