@@ -1,11 +1,11 @@
 -- What a statement that begins becomes, by its kind.
-use Rattle.std.proofs.Common.{◌≡◌, ℕ, zero, suc, Bool, true, false, List, [], ◌∷◌, ◌++◌, refl, sym, ap, ◌∙◌}
+use Rattle.std.proofs.Common.{◌≡◌, ℕ, suc, Bool, true, false, List, [], ◌∷◌, refl, sym, ap, ◌∙◌}
 use Rattle.bl_tree.specs.declared.tree.Arm.{Arm}
 use Rattle.bl_tree.specs.declared.tree.Branch.{Branch as BranchOf, out-Branch}
 use Rattle.bl_tree.specs.declared.tree.Stmt.{Stmt, out-Stmt}
 use Rattle.bl_tree.specs.declared.tree.StmtKind.{StmtKind, out-StmtKind}
 use Rattle.bl_tree.specs.declared.tree.StmtKind.TheOpen.{StmtKind-F}
-use Rattle.bl_ctree.specs.Control.{Control, Branches, Nil, Par, branch, begun, do_all}
+use Rattle.bl_ctree.specs.Control.{Nil, Par, branch, begun, do_all}
 use Rattle.bl_ctree.specs.Instances.{Setting}
 use Rattle.bl_ctree.specs.Nodes.{Seen, branches_of}
 use Rattle.bl_ctree.specs.Points.{begins}

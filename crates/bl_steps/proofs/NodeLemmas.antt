@@ -1,5 +1,5 @@
 -- What nodes with others inside them show.
-use Rattle.std.proofs.Common.{◌≡◌, ℕ, Bool, List, map, refl, sym, ap, ◌∙◌, rules}
+use Rattle.std.proofs.Common.{◌≡◌, ℕ, Bool, List, map, ap, ◌∙◌, rules}
 use Rattle.bl_ctree.specs.declared.node.At.{At}
 use Rattle.bl_ctree.specs.declared.node.Branch.{Branch as BranchNode}
 use Rattle.bl_ctree.specs.declared.node.Node.{Node, the_lemmas}
@@ -8,8 +8,8 @@ use Rattle.bl_ctree.specs.declared.node.Node.TheViews.{Seq as SeqNode, Par as Pa
 use Rattle.bl_ctree.specs.declared.node.Phase.{Phase as PhaseNode}
 use Rattle.bl_ctree.specs.declared.node.Phase.TheVariants.{Body as AtBody}
 use Rattle.bl_ctree.specs.declared.node.Rest.{Rest}
-use Rattle.bl_ctree.specs.Control.{Control, Nil, Seq, Par, Guard, Run, Body}
-use Rattle.bl_ctree.specs.Nodes.{Seen, branches_of, control_of, items_of, located, phase_of, seen_of}
+use Rattle.bl_ctree.specs.Control.{Nil, Seq, Par, Guard, Run, Body}
+use Rattle.bl_ctree.specs.Nodes.{branches_of, control_of, items_of, located, phase_of, seen_of}
 
 pub control_of_nil : control_of NilNode ≡ Nil
 control_of_nil = search (rules, the_lemmas)

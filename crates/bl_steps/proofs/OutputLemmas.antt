@@ -1,5 +1,5 @@
 -- No action takes a variable from an instance, so the store has a value for each output throughout.
-use Rattle.std.proofs.Common.{◌≡◌, ◌≢◌, ℕ, zero, suc, ◌+◌, ◌-◌, ◌<◌, ◌≤◌, ℤ, Bool, true, false, List, [], ◌∷◌, ◌++◌, length, map, min, take, drop, Option, Some, None, refl, sym, ap, ◌∙◌, subst, arith, ◌&&◌}
+use Rattle.std.proofs.Common.{◌≡◌, ℕ, zero, suc, ◌+◌, ◌-◌, ◌≤◌, ℤ, Bool, true, false, List, [], ◌∷◌, ◌++◌, length, map, min, take, drop, Option, Some, None, refl, sym, ap, ◌∙◌, subst, arith, ◌&&◌}
 use Rattle.std.specs.Prelude.{nat_le, option_and_then, option_map, slice_get, slice_set, unwrap_or}
 use Rattle.std.proofs.lemmas.Bool.{leb-true}
 use Rattle.std.proofs.lemmas.List.{length-append, length-drop, length-map, length-take}

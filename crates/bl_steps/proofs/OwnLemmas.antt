@@ -1,7 +1,7 @@
 -- The point of a node itself, and those inside it.
-use Rattle.std.proofs.Common.{◌≡◌, ℕ, Bool, true, false, ◌&&◌, List, [], ◌∷◌, ◌++◌, map, Option, Some, None, refl, sym, ap, ◌∙◌, subst, append_assoc, append-nil, if◌then◌else◌}
+use Rattle.std.proofs.Common.{◌≡◌, ℕ, Bool, true, false, ◌&&◌, List, [], ◌∷◌, ◌++◌, map, Option, Some, None, refl, sym, ap, ◌∙◌, append_assoc, append-nil, if◌then◌else◌}
 use Rattle.std.specs.Prelude.{option_and_then, option_map, OnOk, Result, Ok, Err}
-use Rattle.bl_tree.specs.declared.tree.Arm.{Arm, out-Arm}
+use Rattle.bl_tree.specs.declared.tree.Arm.{Arm}
 use Rattle.bl_tree.specs.declared.tree.Branch.{Branch}
 use Rattle.bl_tree.specs.declared.tree.Expr.{Expr}
 use Rattle.bl_tree.specs.declared.tree.Stmt.{Stmt}
@@ -9,12 +9,12 @@ use Rattle.bl_tree.specs.declared.tree.StmtKind.{StmtKind}
 use Rattle.bl_tree.specs.declared.tree.StmtKind.TheOpen.{StmtKind-F}
 use Rattle.bl_tree.specs.declared.tree.Unit.{Unit as UnitDef}
 use Rattle.bl_ctree.specs.Actions.{Action, Effect, Silent, Acts, Asks, Copies, Gives, effect_reads, reads_of}
-use Rattle.bl_ctree.specs.Control.{Control, Branches, Nil, Wait, Test, Idle, Do, Turn, Seq, Par, Guard, Run, Phase, Check, Body, is_nil, seq, are_done, are_settled}
+use Rattle.bl_ctree.specs.Control.{Control, Branches, Nil, Wait, Test, Idle, Do, Turn, Seq, Par, Guard, Run, Check, Body, is_nil, seq, are_done, are_settled}
 use Rattle.bl_ctree.specs.Instances.{Setting, callee_of, unit_at}
-use Rattle.bl_ctree.specs.Points.{Among, here, there, Point, begins, branch_points, checks, copying, giving, guard_points, joining, or_nothing, points, run_begins, run_points, sure, tests, turns_on, within}
+use Rattle.bl_ctree.specs.Points.{Point, begins, branch_points, checks, copying, giving, joining, or_nothing, points, run_begins, sure, tests, turns_on, within}
 use Rattle.bl_ctree.specs.Positions.{Located, kind_of, place_of}
 use Rattle.bl_ctree.specs.Store.{homes}
-use Rattle.bl_steps.specs.Spots.{Spot, Told, effect_paths, first_after, own, spot_below, spot_told, told_point}
+use Rattle.bl_steps.specs.Spots.{Spot, Told, effect_paths, own, spot_below, spot_told, told_point}
 
 -- no point, or one to which no branch leads
 pub data Own : List (Point Control) → Type 0 where

@@ -3,7 +3,7 @@ use Rattle.std.specs.Prelude.{ℕ, List, Option, Some, None, option_map, option_
 use Rattle.bl_tree.specs.declared.memory.NoMemory.{NoMemory}
 use Rattle.bl_eval.specs.declared.values.Did.{Did}
 use Rattle.bl_eval.specs.declared.values.Did.TheVariants.{Done, Trap}
-use Rattle.bl_ctree.specs.Actions.{Effect, Performed, effect_on, perform}
+use Rattle.bl_ctree.specs.Actions.{Effect, effect_on, perform}
 use Rattle.bl_ctree.specs.Control.{Control}
 use Rattle.bl_ctree.specs.Instances.{Setting}
 use Rattle.bl_ctree.specs.Nodes.{control_of}
@@ -39,7 +39,7 @@ stepped_by w s p = option_map (λ done. record { control = p.after done.answer; 
 abbrev pub stepped : Setting → State → ℕ → Option State
 stepped w s n = option_and_then (stepped_by w s) (slice_get (points w 0 s.control) n)
 
--- how a step went: it leads to the state to which it is to lead, or it traps or takes no memory and leaves the state as it was
+-- how a step went: it leads to the state to which it is to lead, or it traps or memory is refused, and the state is as it was
 abbrev pub Acted : Option State → State → State → Result Did NoMemory → Type 0
 Acted outcome old new (Ok Done) = outcome ≡ Some new
 Acted outcome old new (Ok Trap) = (outcome ≡ None) × (new ≡ old)

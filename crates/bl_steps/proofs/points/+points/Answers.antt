@@ -1,9 +1,9 @@
-use Rattle.std.proofs.Common.{◌≡◌, ◌+◌, ◌<◌, ◌++◌, get_or, length, map, suc, [], ◌∷◌, ap, sym, refl, ◌∙◌, arith}
+use Rattle.std.proofs.Common.{◌≡◌, ◌+◌, ◌<◌, ◌++◌, get_or, length, map, suc, ap, sym, ◌∙◌, arith}
 use Rattle.bl_ctree.specs.Nodes.{branches_of, control_of, items_of, located, seen_of}
 use Rattle.bl_ctree.specs.Control.{Body, Guard, Par, Run, Seq}
 use Rattle.bl_ctree.specs.Points.{branch_points, points}
 use Rattle.bl_store.specs.Seen.{setting_in}
-use Rattle.bl_steps.specs.Spots.{homes_seen, locations, own, spot_below, spot_of, spot_told, told_all, told_point}
+use Rattle.bl_steps.specs.Spots.{locations, own, spot_below, spot_of, spot_told, told_all, told_point}
 use Rattle.bl_steps.proofs.AfterLemmas.{seen_out}
 use Rattle.bl_steps.proofs.BranchLemmas.{branch_here, loop_goes_on, loop_starts}
 use Rattle.bl_steps.proofs.NodeLemmas.{guard_is, par_is, run_is, seq_is}
