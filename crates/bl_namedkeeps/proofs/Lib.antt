@@ -1,0 +1,9 @@
+mod Along
+mod ExprDepth
+mod ExprMade
+mod Filled
+mod Made
+mod Moves
+mod Names
+mod StmtDepth
+mod Tests
