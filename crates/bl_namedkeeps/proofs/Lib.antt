@@ -1,9 +1,14 @@
 mod Along
+mod Apart
+mod ApartProgram
 mod ExprDepth
 mod ExprMade
+mod ExprRoots
 mod Filled
+mod Foreign
 mod Made
 mod Moves
 mod Names
+mod Only
 mod StmtDepth
 mod Tests

@@ -5,8 +5,9 @@ ghost use Rattle.std.specs.List.{list_all};
 ghost use Rattle.bl_tree.specs.Words.{is_name};
 ghost use Rattle.bl_raw.specs.declared.item.RawItem.{RawItem};
 ghost use Rattle.bl_raw.specs.Keeps.{Keeps as RawKeeps};
+ghost use Rattle.bl_names.specs.Rules.{Passes};
 ghost use Rattle.bl_resolve.specs.Named.{named_program};
-ghost use Rattle.bl_namedkeeps.specs.Keeps.{all_names, body_filled, body_shallow, fields_named, variables_named};
+ghost use Rattle.bl_namedkeeps.specs.Keeps.{all_names, body_apart, body_filled, body_shallow, fields_named, variables_named};
 
 /// What a named tree keeps that a raw tree becomes.
 pub fn what_is_named_keeps()
@@ -15,4 +16,5 @@ pub fn what_is_named_keeps()
     ensures variables { (items : List RawItem) (bytes : ℕ) → RawKeeps items → IsTrue (list_all variables_named (named_program items bytes).units) }
     ensures filled { (items : List RawItem) (bytes : ℕ) → RawKeeps items → IsTrue (list_all body_filled (named_program items bytes).units) }
     ensures shallow { (items : List RawItem) (bytes : ℕ) → RawKeeps items → IsTrue (list_all body_shallow (named_program items bytes).units) }
+    ensures apart { (items : List RawItem) (bytes : ℕ) → Passes items → IsTrue (list_all body_apart (named_program items bytes).units) }
 {}

@@ -1,3 +1,4 @@
+use Rattle.bl_namedkeeps.proofs.ApartProgram.{units_are_apart}
 use Rattle.bl_namedkeeps.proofs.Filled.{units_are_filled}
 use Rattle.bl_namedkeeps.proofs.Names.{fields_are_named, names_are, variables_are_named}
 use Rattle.bl_namedkeeps.proofs.StmtDepth.{units_are_shallow}
@@ -17,3 +18,6 @@ returns-clause-shallow c = λ items bytes keeps. units_are_shallow items bytes k
 
 pub returns-clause-filled : goal.returns-clause-filled
 returns-clause-filled c = λ items bytes keeps. units_are_filled items bytes keeps.stand
+
+pub returns-clause-apart : goal.returns-clause-apart
+returns-clause-apart c = units_are_apart
