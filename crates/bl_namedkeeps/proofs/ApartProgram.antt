@@ -86,7 +86,7 @@ unit_apart scopes def none fits =
 abbrev Known : Scopes → List RawItem → Type 0
 Known scopes items = Only never scopes × Fits scopes (marks_of items)
 
-inside_moves : (def : RawUnit) → PieceMoves (inside_piece def)
+pub inside_moves : (def : RawUnit) → PieceMoves (inside_piece def)
 inside_moves def = moving_then (params_piece def).marks (block_piece def.body).marks (params_piece def).vars (block_piece def.body).vars (params_move def) (body_moves def.body)
 
 unit_only : (kind : UnitKind) (name : Name) (scopes : Scopes) → Only never scopes → Only never (enter scopes (declares name (kind_of_unit kind)))

@@ -1,3 +1,5 @@
+use Rattle.bl_namedkeeps.proofs.Distinct.{all_fields_differ, all_parameters_differ, names_differ}
+use Rattle.bl_namedkeeps.proofs.WhatKeeps.{what_keeps}
 use Rattle.bl_namedkeeps.proofs.ApartProgram.{units_are_apart}
 use Rattle.bl_namedkeeps.proofs.Filled.{units_are_filled}
 use Rattle.bl_namedkeeps.proofs.Names.{fields_are_named, names_are, variables_are_named}
@@ -21,3 +23,15 @@ returns-clause-filled c = λ items bytes keeps. units_are_filled items bytes kee
 
 pub returns-clause-apart : goal.returns-clause-apart
 returns-clause-apart c = units_are_apart
+
+pub returns-clause-distinct : goal.returns-clause-distinct
+returns-clause-distinct c = names_differ
+
+pub returns-clause-distinct_fields : goal.returns-clause-distinct_fields
+returns-clause-distinct_fields c = all_fields_differ
+
+pub returns-clause-distinct_parameters : goal.returns-clause-distinct_parameters
+returns-clause-distinct_parameters c = all_parameters_differ
+
+pub returns-clause-keeps : goal.returns-clause-keeps
+returns-clause-keeps c = what_keeps
