@@ -1,6 +1,6 @@
 -- Which statements of a named tree have what the grammar wants: each `if` an arm, each `cobegin` a branch, and each
 -- variable of a body a type or a value.
-use Rattle.std.specs.Prelude.{Bool, true, not, ◌&&◌, ◌||◌, is_some, List, slice_get, Option, Some, None}
+use Rattle.std.specs.Prelude.{Bool, true, false, not, ◌&&◌, ◌||◌, is_some, List, slice_get, Option, Some, None}
 use Rattle.bl_tree.specs.Reduce.{all_of}
 use Rattle.bl_tree.specs.Typing.{is_inhabited, is_fixed}
 use Rattle.bl_named.specs.declared.item.NamedVar.{NamedVar}
@@ -15,7 +15,7 @@ is_told var has_value = has_value || (is_some var.ty && not (is_fixed var.role))
 
 abbrev pub declaration_filled : Option NamedVar → Bool → Bool
 declaration_filled (Some var) has_value = is_told var has_value
-declaration_filled None has_value = true
+declaration_filled None has_value = false
 
 abbrev pub kind_filled : List NamedVar → NamedStmtKind-F Bool Bool Bool Bool → Bool
 kind_filled vars (NamedStmtKind-F.Declare k value) = declaration_filled (slice_get vars k) (is_some value)
