@@ -1,0 +1,17 @@
+mod Along
+mod Apart
+mod ApartProgram
+mod Distinct
+mod ExprDepth
+mod ExprMade
+mod ExprRoots
+mod Filled
+mod Foreign
+mod Fresh
+mod Made
+mod Moves
+mod Names
+mod Only
+mod StmtDepth
+mod Tests
+mod WhatKeeps
