@@ -1,0 +1,14 @@
+pub mod NamedExprInduction
+pub mod Typed
+pub mod Forms
+pub mod Targets
+pub mod Expressions
+pub mod Paths
+pub mod Initials
+pub mod NamedStmtInduction
+pub mod Walks
+pub mod MorePlaced
+pub mod Arguments
+pub mod Declared
+pub mod Statements
+pub mod Blocks

@@ -1,0 +1,54 @@
+//! Laws of what is made of named trees, each the contract of a function that does nothing.
+
+ghost use Rattle.std.specs.Prelude.{◌≡◌, List, true, false, [], Option, Some, length, map, ◌&&◌};
+ghost use Rattle.std.specs.List.{list_all};
+ghost use Rattle.bl_tree.specs.declared.tree.Path.{Path};
+ghost use Rattle.bl_tree.specs.declared.tree.Ty.{Ty};
+ghost use Rattle.bl_tree.specs.declared.tree.Var.{Var};
+ghost use Rattle.bl_tree.specs.Typing.{Site, fits, is_assignable, is_inhabited};
+ghost use Rattle.bl_named.specs.declared.expr.NamedExpr.{NamedExpr};
+ghost use Rattle.bl_named.specs.declared.expr.NamedTarget.{NamedTarget, out-NamedTarget};
+ghost use Rattle.bl_named.specs.declared.stmt.NamedPath.{NamedPath};
+ghost use Rattle.bl_named.specs.declared.item.NamedConstant.{NamedConstant};
+ghost use Rattle.bl_named.specs.declared.item.NamedVar.{NamedVar};
+ghost use Rattle.bl_named.specs.declared.stmt.NamedStmt.{NamedStmt};
+ghost use Rattle.bl_named.specs.declared.types.NamedType.{NamedType};
+ghost use Rattle.bl_named.specs.Placed.{Earlier, expr_placed, in_turn, path_placed, stmt_step, target_placed};
+ghost use Rattle.bl_types.specs.declared.environment.Environment.{Environment};
+ghost use Rattle.bl_types.specs.declared.form.Found.TheVariants.{Place};
+ghost use Rattle.bl_types.specs.Declarations.{after_constant, constant_of, initial};
+ghost use Rattle.bl_types.specs.Expressions.{in_context, judged, targeted};
+ghost use Rattle.bl_types.specs.Statements.{all_lent, immutable, lent, paths_failures, walked_block, walked_stmt};
+ghost use Rattle.bl_fits.specs.Fitting.{AllLent, FormFits, FoundFits, InitialFits, IsLent, SettledFits};
+ghost use Rattle.bl_fits.specs.Standing.{Around, BlockPassed, Known, Passed, stmt_named};
+ghost use Rattle.bl_fits.specs.Within.{ConstantStands, Within, calls_functions, known_in, target_calls};
+
+/// An expression in which no rule on types fails is open or has a type, and the type that is wanted of it where one is;
+/// a target leads to what is there. Its positions are of what is known, and its calls name functions.
+pub fn expressions_fit()
+    ensures expressions { (env : Environment) (site : Site) → Within env site → (e : NamedExpr) → expr_placed (known_in env) e ≡ true → calls_functions env.units e ≡ true → (judged env e).failures ≡ [] → FormFits site (judged env e).form }
+    ensures targets { (env : Environment) (site : Site) → Within env site → (target : NamedTarget) → target_placed (known_in env) target ≡ true → target_calls env.units target ≡ true → (targeted env target).failures ≡ [] → FoundFits site (targeted env target).found }
+    ensures wanted { (env : Environment) (site : Site) → Within env site → (e : NamedExpr) → expr_placed (known_in env) e ≡ true → calls_functions env.units e ≡ true → (ty : Ty) → SettledFits site ty (in_context (Some ty) (judged env e)) }
+{}
+
+/// A path that stands for an output or takes a result has the type that is wanted of it, and goes by fields alone from a root
+/// that may be changed; so does each of the paths for the outputs of a unit. What a target leads to may be changed where its root may.
+pub fn paths_fit()
+    ensures one { (env : Environment) (site : Site) → Within env site → (path : NamedPath) → path_placed (known_in env) path ≡ true → (ty : Ty) → (lent env (Some ty) path).failures ≡ [] → IsLent site ty (lent env (Some ty) path).made }
+    ensures all { (env : Environment) (site : Site) → Within env site → (paths : List NamedPath) (params : List Var) → list_all (path_placed (known_in env)) paths ≡ true → length paths ≡ length params → paths_failures (all_lent env paths params) ≡ [] → AllLent site params (all_lent env paths params) }
+    ensures assigned { (env : Environment) (site : Site) → Within env site → (target : NamedTarget) (path : Path) → target_placed (known_in env) target ≡ true → (targeted env target).found ≡ Place path → immutable env (out-NamedTarget target).place (out-NamedTarget target).root ≡ [] → is_assignable site path ≡ true }
+{}
+
+/// An initial value in which no rule fails has a type, and is made with it; a constant in which none fails has a scalar type, and
+/// its number is one of that type.
+pub fn declarations_fit()
+    ensures initial { (env : Environment) (site : Site) → Within env site → (ty : Option NamedType) (e : NamedExpr) → expr_placed (known_in env) e ≡ true → calls_functions env.units e ≡ true → (initial env ty e).failures ≡ [] → InitialFits site (initial env ty e).valued }
+    ensures constant { (env : Environment) (site : Site) → Within env site → (constant : NamedConstant) → expr_placed (known_in env) constant.value ≡ true → calls_functions env.units constant.value ≡ true → (after_constant constant env).failures ≡ [] → ConstantStands (constant_of (initial env constant.ty constant.value).valued) }
+{}
+
+/// Where no rule fails in a statement, as many variables and constants are known after it as are counted, and what is made of it fits the
+/// site whose variables are those that are known after it. So it is with each of the statements of a block.
+pub fn statements_fit()
+    ensures one { (constants : List NamedConstant) (vars : List NamedVar) (site : Site) (s : NamedStmt) → stmt_named constants vars site.earlier s ≡ true → (env : Environment) → Around env site → Known env → (counts : Earlier) → stmt_step vars constants s (known_in env) ≡ Some counts → (walked_stmt constants vars s env).failures ≡ [] → Passed false site (fits site) env counts (walked_stmt constants vars s env) }
+    ensures all { (constants : List NamedConstant) (vars : List NamedVar) (site : Site) (body : List NamedStmt) → list_all (stmt_named constants vars site.earlier) body ≡ true → (env : Environment) → Around env site → Known env → (counts : Earlier) → in_turn (map (stmt_step vars constants) body) (known_in env) ≡ Some counts → (walked_block constants vars body env).failures ≡ [] → BlockPassed site (fits site) false env counts (walked_block constants vars body env) }
+{}
