@@ -28,7 +28,7 @@ use Rattle.bl_resolve.proofs.FitLemmas.{Fits, fits_behind, fits_first, fits_seco
 use Rattle.bl_resolve.proofs.PastLemmas.{enter-behind}
 use Rattle.bl_resolve.proofs.PieceLemmas.{parts}
 use Rattle.bl_resolve.proofs.PlacedExpr.{variable_read}
-use Rattle.bl_resolve.proofs.RawStmtInduction.{Cases, induct, stmt}
+use Rattle.bl_namedkeeps.proofs.RawStmtInduction.{Cases, induct, stmt}
 use Rattle.bl_resolve.proofs.StillLemmas.{Still, after-append, still_append, still_arguments, still_expr, still_optional, still_target, still_type, still_use, still_value}
 use Rattle.bl_namedkeeps.specs.Apart.{arm_naming, branch_naming, naming_of, naming_of_arm, naming_of_branch, optional_roots, roots_in, stmt_kind_naming}
 use Rattle.bl_namedkeeps.proofs.Along.{all_append}

@@ -30,7 +30,7 @@ use Rattle.bl_resolve.specs.Named.{Piece, block_piece, kind_piece, made_of_all, 
 use Rattle.bl_resolve.specs.Naming.{named_expr, named_path, named_target, position}
 use Rattle.bl_resolve.proofs.PieceLemmas.{parts}
 use Rattle.bl_resolve.proofs.PlacedStmt.{Within, within_first, within_one, within_second}
-use Rattle.bl_resolve.proofs.RawStmtInduction.{Cases, induct, stmt}
+use Rattle.bl_namedkeeps.proofs.RawStmtInduction.{Cases, induct, stmt}
 use Rattle.bl_resolve.proofs.StillLemmas.{still_expr, still_type}
 use Rattle.bl_namedkeeps.specs.Filled.{arm_filled, arm_is_filled, branch_filled, branch_is_filled, declaration_filled, is_filled, is_told, kind_filled}
 use Rattle.bl_namedkeeps.specs.Keeps.{body_filled}

@@ -12,6 +12,7 @@ mod Made
 mod Moves
 mod Names
 mod Only
+mod RawStmtInduction
 mod StmtDepth
 mod Tests
 mod WhatKeeps

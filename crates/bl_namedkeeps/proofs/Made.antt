@@ -15,7 +15,7 @@ use Rattle.bl_raw.specs.declared.stmt.RawStmtKind.{RawStmtKind, fold-RawStmtKind
 use Rattle.bl_raw.specs.declared.stmt.RawStmtKind.TheOpen.{RawStmtKind-F, RawArm-F, RawBranch-F, RawStmt-F}
 use Rattle.bl_resolve.specs.Named.{arm_piece, branch_piece, kind_piece, piece_of_arm, piece_of_branch, stmt_layer_piece, stmt_piece}
 use Rattle.bl_resolve.proofs.PieceLemmas.{parts}
-use Rattle.bl_resolve.proofs.RawStmtInduction.{stmt}
+use Rattle.bl_namedkeeps.proofs.RawStmtInduction.{stmt}
 
 abbrev pub RawLayer : Type 0
 RawLayer = RawStmtKind-F RawStmtKind RawArm RawBranch RawStmt

@@ -22,7 +22,7 @@ use Rattle.bl_names.specs.Scopes.{Scopes, after, left}
 use Rattle.bl_resolve.specs.Named.{Piece, kind_piece, marks_of_all, named_var, none, opened, piece_of_arm, piece_of_branch, stmt_piece, vars_of_all}
 use Rattle.bl_resolve.proofs.PastLemmas.{enter-behind}
 use Rattle.bl_resolve.proofs.PieceLemmas.{parts}
-use Rattle.bl_resolve.proofs.RawStmtInduction.{Cases, induct, induct_arm, induct_branch, stmt}
+use Rattle.bl_namedkeeps.proofs.RawStmtInduction.{Cases, induct, induct_arm, induct_branch, stmt}
 use Rattle.bl_resolve.proofs.StillLemmas.{Still, after-append, still_append, still_arguments, still_expr, still_optional, still_target, still_use, still_value}
 use Rattle.bl_namedkeeps.proofs.Made.{RawLayer, arm_is, branch_is, stmt_is}
 

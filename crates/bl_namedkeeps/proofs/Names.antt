@@ -25,7 +25,7 @@ use Rattle.bl_names.specs.Marks.{expr_marks, param_marks}
 use Rattle.bl_names.specs.Scopes.{Scopes, after, file_scope}
 use Rattle.bl_resolve.specs.Named.{Piece, block_piece, kind_piece, marks_of_all, named_field, named_program, named_struct, named_unit, opened, params_piece, piece_of_arm, piece_of_branch, role_piece, stmt_piece, structs_of, units_of, vars_of_all}
 use Rattle.bl_resolve.proofs.PieceLemmas.{parts}
-use Rattle.bl_resolve.proofs.RawStmtInduction.{Cases, induct, stmt}
+use Rattle.bl_namedkeeps.proofs.RawStmtInduction.{Cases, induct, stmt}
 use Rattle.bl_namedkeeps.specs.Keeps.{all_names, fields_named, has_name, variables_named}
 use Rattle.bl_namedkeeps.proofs.Along.{all_append, along_holds}
 use Rattle.bl_namedkeeps.proofs.Made.{RawLayer, arm_is, branch_is, raw_arm_at, raw_at, raw_branch_at, raw_parts, stmt_is}

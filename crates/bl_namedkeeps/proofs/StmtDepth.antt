@@ -21,7 +21,7 @@ use Rattle.bl_names.specs.Scopes.{Scopes, after, file_scope}
 use Rattle.bl_resolve.specs.Named.{Piece, kind_piece, made_of_all, marks_of_all, named_program, named_unit, opened, params_piece, piece_of_arm, piece_of_branch, stmt_piece, units_of}
 use Rattle.bl_resolve.specs.Naming.{named_expr, named_path, named_target, position}
 use Rattle.bl_resolve.proofs.PieceLemmas.{parts}
-use Rattle.bl_resolve.proofs.RawStmtInduction.{Cases, induct, stmt}
+use Rattle.bl_namedkeeps.proofs.RawStmtInduction.{Cases, induct, stmt}
 use Rattle.bl_namedkeeps.specs.Depths.{arm_depth, branch_depth, depth_of, depth_of_arm, depth_of_branch, is_shallow, stmt_kind_depth}
 use Rattle.bl_namedkeeps.specs.Keeps.{body_shallow}
 use Rattle.bl_namedkeeps.proofs.Along.{along_holds}
