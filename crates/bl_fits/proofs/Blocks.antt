@@ -50,7 +50,7 @@ each_walk named W (x ∷ xs) each all =
     All-cons W x xs (All-head (λ x. named x ≡ true → W x) x xs each (and_left (named x) (all_of (map named xs)) all))
     (each_walk named W xs (All-tail (λ x. named x ≡ true → W x) x xs each) (and_right (named x) (all_of (map named xs)) all))
 
-all_mapped : {X : Type 0} (named : X → Bool) (xs : List X) → list_all named xs ≡ true → all_of (map named xs) ≡ true
+pub all_mapped : {X : Type 0} (named : X → Bool) (xs : List X) → list_all named xs ≡ true → all_of (map named xs) ≡ true
 all_mapped named [] all = refl
 all_mapped named (x ∷ xs) all = both (named x) (all_of (map named xs)) (and_left (named x) (list_all named xs) all) (all_mapped named xs (and_right (named x) (list_all named xs) all))
 

@@ -40,7 +40,7 @@ push_each P [] x each one (suc k) y is = absurd (cc)
 push_each P (z ∷ xs) x each one zero y is = each 0 y is
 push_each P (z ∷ xs) x each one (suc k) y is = push_each P xs x (λ k y is. each (suc k) y is) one k y is
 
-variable_grown : (env : Environment) (var : NamedVar) (ty : Option Ty) → Grown env (with_variable env var ty)
+pub variable_grown : (env : Environment) (var : NamedVar) (ty : Option Ty) → Grown env (with_variable env var ty)
 variable_grown env var ty = record {
   vars = record { name = var.name.text; place = var.name.place; ty = ty; role = var.role } ∷ [];
   has_vars = refl;
@@ -64,7 +64,7 @@ constant_grown env constant = record {
   result = refl;
 }
 
-variable_known : (env : Environment) (var : NamedVar) (ty : Option Ty) (found : Ty) → Known env → ty ≡ Some found → Known (with_variable env var ty)
+pub variable_known : (env : Environment) (var : NamedVar) (ty : Option Ty) (found : Ty) → Known env → ty ≡ Some found → Known (with_variable env var ty)
 variable_known env var ty found known is = record {
   vars = push_each (λ (known : Variable). (ty : Ty) × (known.ty ≡ Some ty)) env.vars (record { name = var.name.text; place = var.name.place; ty = ty; role = var.role }) known.vars (found, is);
   constants = known.constants;

@@ -12,3 +12,6 @@ pub mod Arguments
 pub mod Declared
 pub mod Statements
 pub mod Blocks
+pub mod Heads
+pub mod Units
+pub mod TypesStand

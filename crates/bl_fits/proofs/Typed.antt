@@ -32,7 +32,7 @@ module _ (site : Site) where
       ∙ ap (λ layer. kind_type site (map-ExprKind ExprKind Part Expr Path (Option Ty) (Ty → Option Ty) (Option Ty) (Option Ty)
       (fold-ExprKind (Option Ty) (Ty → Option Ty) (Option Ty) (Option Ty) (kind_type site) (part_type site) expr_type (path_type site)) (type_of_part site) (type_of site) (type_of_path site) layer)) is)
 
-  part_at : (part : Part) (layer : Part-F ExprKind Part Expr Path) (ty : Ty) → out-Part part ≡ layer →
+  pub part_at : (part : Part) (layer : Part-F ExprKind Part Expr Path) (ty : Ty) → out-Part part ≡ layer →
       type_of_part site part ty
       ≡ part_type site (map-Part ExprKind Part Expr Path (Option Ty) (Ty → Option Ty) (Option Ty) (Option Ty)
       (fold-ExprKind (Option Ty) (Ty → Option Ty) (Option Ty) (Option Ty) (kind_type site) (part_type site) expr_type (path_type site)) (type_of_part site) (type_of site) (type_of_path site) layer) ty

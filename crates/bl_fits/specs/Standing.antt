@@ -1,19 +1,21 @@
 -- What stands around statements: what they see, what is known before and after them, and how it grows.
-use Rattle.std.specs.Prelude.{◌≡◌, ℕ, Bool, true, ◌&&◌, ◌||◌, is_some, List, ◌++◌, map, slice_get, Option, Some, None}
+use Rattle.std.specs.Prelude.{◌≡◌, ℕ, Bool, true, ◌&&◌, ◌||◌, is_some, List, [], ◌∷◌, ◌++◌, map, take, slice_get, Option, Some, None}
 use Rattle.std.specs.List.{list_all}
 use Rattle.bl_tree.specs.declared.tree.StructDef.{StructDef}
 use Rattle.bl_tree.specs.declared.tree.Ty.{Ty}
 use Rattle.bl_tree.specs.declared.tree.Unit.{Unit as UnitDef}
 use Rattle.bl_tree.specs.Reduce.{all_of}
-use Rattle.bl_tree.specs.Typing.{Site, is_activity, is_fixed, is_function, is_inhabited, is_variable}
+use Rattle.bl_tree.specs.Types.{type_stands}
+use Rattle.bl_tree.specs.Typing.{Site, fits, is_activity, is_fixed, is_function, is_inhabited, is_variable, site_of}
 use Rattle.bl_named.specs.declared.expr.NamedExpr.{NamedExpr}
 use Rattle.bl_named.specs.declared.item.NamedConstant.{NamedConstant}
+use Rattle.bl_named.specs.declared.item.NamedUnit.{NamedUnit}
 use Rattle.bl_named.specs.declared.item.NamedVar.{NamedVar}
 use Rattle.bl_named.specs.declared.stmt.NamedArm.{NamedArm, fold-NamedArm}
 use Rattle.bl_named.specs.declared.stmt.NamedBranch.{NamedBranch, fold-NamedBranch}
 use Rattle.bl_named.specs.declared.stmt.NamedStmt.{NamedStmt, fold-NamedStmt}
 use Rattle.bl_named.specs.declared.stmt.NamedStmtKind.TheOpen.{NamedStmtKind-F, NamedArm-F, NamedBranch-F, NamedStmt-F}
-use Rattle.bl_named.specs.Placed.{Earlier, holds_if, holds_of}
+use Rattle.bl_named.specs.Placed.{Earlier, holds_if, holds_of, parameters}
 use Rattle.bl_types.specs.declared.environment.Constant.{Constant}
 use Rattle.bl_types.specs.declared.environment.Environment.{Environment}
 use Rattle.bl_types.specs.declared.environment.Variable.{Variable}
@@ -64,6 +66,10 @@ named_branch constants vars units = fold-NamedBranch Bool Bool Bool Bool (kind_n
 
 -- ---- what is known before and after
 
+-- the fields of each struct have types that name earlier structs alone
+abbrev pub FieldsStand : List StructDef → Type 0
+FieldsStand structs = (k : ℕ) (def : StructDef) → slice_get structs k ≡ Some def → list_all (λ field. type_stands k field.ty) def.fields ≡ true
+
 -- what a statement sees beside variables and constants is that of the site
 pub record Around (env : Environment) (site : Site) : Type 0 where
   pub later : List StructDef
@@ -109,3 +115,24 @@ pub record BlockPassed {A : Type 0} (site : Site) (good : A → Bool) (inhabited
   pub counts_are : known_in after.env ≡ counts
   pub is_good : VariablesThere after.env site → all_of (map good after.made) ≡ true
   pub is_inhabited_still : inhabited ≡ true → VariablesThere after.env site → is_inhabited after.made ≡ true
+
+-- ---- units
+
+-- what is known between units: no variable, and units whose parameters are among their variables
+pub record Between (env : Environment) : Type 0 where
+  pub vars : env.vars ≡ []
+  pub known : Known env
+  pub heads : list_all has_parameters env.units ≡ true
+
+-- whether the parameters of a unit have types, and its statements are named
+abbrev pub unit_named : List NamedConstant → List UnitDef → NamedUnit → Bool
+unit_named constants units unit = list_all (λ var. is_some var.ty) (take (parameters unit) unit.vars) && list_all (stmt_named constants unit.vars units) unit.body
+
+-- what is known after a unit: as much as is counted, and the unit with its types, each of whose statements fits
+pub record UnitPassed (structs : List StructDef) (before : Environment) (counts : Earlier) (after : Environment) : Type 0 where
+  pub between : Between after
+  pub counts_are : known_in after ≡ counts
+  pub same_structs : after.structs ≡ before.structs
+  pub made : UnitDef
+  pub is_made : after.units ≡ before.units ++ made ∷ []
+  pub is_good : list_all (fits (site_of structs before.units made)) made.body ≡ true

@@ -1,26 +1,35 @@
 //! Laws of what is made of named trees, each the contract of a function that does nothing.
 
-ghost use Rattle.std.specs.Prelude.{◌≡◌, List, true, false, [], Option, Some, length, map, ◌&&◌};
+ghost use Rattle.std.specs.Prelude.{◌≡◌, List, true, false, [], ◌++◌, Option, Some, length, map};
 ghost use Rattle.std.specs.List.{list_all};
+ghost use Rattle.bl_tree.specs.declared.tree.Expr.{Expr};
+ghost use Rattle.bl_tree.specs.declared.tree.Field.{Field};
 ghost use Rattle.bl_tree.specs.declared.tree.Path.{Path};
+ghost use Rattle.bl_tree.specs.declared.tree.StructDef.{StructDef};
 ghost use Rattle.bl_tree.specs.declared.tree.Ty.{Ty};
 ghost use Rattle.bl_tree.specs.declared.tree.Var.{Var};
-ghost use Rattle.bl_tree.specs.Typing.{Site, fits, is_assignable, is_inhabited};
+ghost use Rattle.bl_tree.specs.Types.{type_stands};
+ghost use Rattle.bl_tree.specs.Typing.{Site, fits, is_assignable, type_of};
 ghost use Rattle.bl_named.specs.declared.expr.NamedExpr.{NamedExpr};
 ghost use Rattle.bl_named.specs.declared.expr.NamedTarget.{NamedTarget, out-NamedTarget};
 ghost use Rattle.bl_named.specs.declared.stmt.NamedPath.{NamedPath};
 ghost use Rattle.bl_named.specs.declared.item.NamedConstant.{NamedConstant};
+ghost use Rattle.bl_named.specs.declared.item.NamedStruct.{NamedStruct};
+ghost use Rattle.bl_named.specs.declared.item.NamedUnit.{NamedUnit};
 ghost use Rattle.bl_named.specs.declared.item.NamedVar.{NamedVar};
 ghost use Rattle.bl_named.specs.declared.stmt.NamedStmt.{NamedStmt};
 ghost use Rattle.bl_named.specs.declared.types.NamedType.{NamedType};
-ghost use Rattle.bl_named.specs.Placed.{Earlier, expr_placed, in_turn, path_placed, stmt_step, target_placed};
+ghost use Rattle.bl_named.specs.Placed.{Earlier, expr_placed, in_turn, path_placed, stmt_step, struct_placed, target_placed, type_placed, unit_step};
+ghost use Rattle.bl_types.specs.declared.environment.Constant.{Constant};
 ghost use Rattle.bl_types.specs.declared.environment.Environment.{Environment};
 ghost use Rattle.bl_types.specs.declared.form.Found.TheVariants.{Place};
-ghost use Rattle.bl_types.specs.Declarations.{after_constant, constant_of, initial};
+ghost use Rattle.bl_types.specs.Declarations.{after_constant, after_struct, constant_of, initial, struct_of};
 ghost use Rattle.bl_types.specs.Expressions.{in_context, judged, targeted};
 ghost use Rattle.bl_types.specs.Statements.{all_lent, immutable, lent, paths_failures, walked_block, walked_stmt};
+ghost use Rattle.bl_types.specs.Units.{after_unit};
+ghost use Rattle.bl_types.specs.Written.{bad_lengths, written_type};
 ghost use Rattle.bl_fits.specs.Fitting.{AllLent, FormFits, FoundFits, InitialFits, IsLent, SettledFits};
-ghost use Rattle.bl_fits.specs.Standing.{Around, BlockPassed, Known, Passed, stmt_named};
+ghost use Rattle.bl_fits.specs.Standing.{Around, Between, BlockPassed, FieldsStand, Known, Passed, UnitPassed, stmt_named, unit_named};
 ghost use Rattle.bl_fits.specs.Within.{ConstantStands, Within, calls_functions, known_in, target_calls};
 
 /// An expression in which no rule on types fails is open or has a type, and the type that is wanted of it where one is;
@@ -51,4 +60,18 @@ pub fn declarations_fit()
 pub fn statements_fit()
     ensures one { (constants : List NamedConstant) (vars : List NamedVar) (site : Site) (s : NamedStmt) → stmt_named constants vars site.earlier s ≡ true → (env : Environment) → Around env site → Known env → (counts : Earlier) → stmt_step vars constants s (known_in env) ≡ Some counts → (walked_stmt constants vars s env).failures ≡ [] → Passed false site (fits site) env counts (walked_stmt constants vars s env) }
     ensures all { (constants : List NamedConstant) (vars : List NamedVar) (site : Site) (body : List NamedStmt) → list_all (stmt_named constants vars site.earlier) body ≡ true → (env : Environment) → Around env site → Known env → (counts : Earlier) → in_turn (map (stmt_step vars constants) body) (known_in env) ≡ Some counts → (walked_block constants vars body env).failures ≡ [] → BlockPassed site (fits site) false env counts (walked_block constants vars body env) }
+{}
+
+/// Where no rule fails in a unit, each statement of the unit with its types fits: it sees the units before its own, and the structs of
+/// the whole program, of which those that are known are the first.
+pub fn units_fit()
+    ensures one { (constants : List NamedConstant) (unit : NamedUnit) (env : Environment) (structs later : List StructDef) → structs ≡ env.structs ++ later → Between env → unit_named constants env.units unit ≡ true → (counts : Earlier) → unit_step constants unit (known_in env) ≡ Some counts → (after_unit constants unit env).failures ≡ [] → UnitPassed structs env counts (after_unit constants unit env).env }
+{}
+
+/// A written type none of whose lengths fails names structs that are declared before it, and its lengths are from 1 to 65536; so do the
+/// types of the fields of a struct, and the type of an expression, where those of fields and variables do.
+pub fn types_stand()
+    ensures written { (earlier : Earlier) (constants : List Constant) (ty : NamedType) → type_placed earlier ty ≡ true → bad_lengths constants ty ≡ [] → type_stands earlier.structs (written_type constants ty) ≡ true }
+    ensures fields { (def : NamedStruct) (env : Environment) → struct_placed (known_in env) def ≡ true → (after_struct def env).failures ≡ [] → list_all (λ (field : Field). type_stands (length env.structs) field.ty) (struct_of env def).fields ≡ true }
+    ensures typed { (site : Site) → FieldsStand site.structs → list_all (λ (var : Var). type_stands (length site.structs) var.ty) site.vars ≡ true → (e : Expr) (ty : Ty) → type_of site e ≡ Some ty → type_stands (length site.structs) ty ≡ true }
 {}
