@@ -1,6 +1,6 @@
 -- Conditions, and the arguments of calls and runs.
-use Rattle.std.proofs.Common.{◌≡◌, ℕ, suc, ◌+◌, List, [], ◌∷◌, ◌++◌, map, length, drop, Option, Some, refl, ap, sym, subst, ◌∙◌, arith}
-use Rattle.std.specs.Prelude.{All, Bool, true, ◌&&◌, nat_eq, slice_get}
+use Rattle.std.proofs.Common.{◌≡◌, ℕ, suc, ◌+◌, List, [], ◌∷◌, ◌++◌, map, length, drop, Option, Some, None, refl, ap, sym, subst, ◌∙◌, arith}
+use Rattle.std.specs.Prelude.{if◌then◌else◌, false, All, Bool, true, ◌&&◌, nat_eq, slice_get}
 use Rattle.std.specs.List.{list_all}
 use Rattle.std.proofs.lemmas.Bool.{eqb-true}
 use Rattle.std.proofs.lemmas.List.{length-drop, length-take-le}
@@ -8,6 +8,9 @@ use Rattle.std.proofs.lemmas.List.Elements.{All-cons, All-nil}
 use Rattle.bl_tree.specs.declared.place.Place.{Place}
 use Rattle.bl_tree.specs.declared.scalar.Scalar.TheVariants.{Bool as OfBool}
 use Rattle.bl_tree.specs.declared.tree.Expr.{Expr}
+use Rattle.std.proofs.lemmas.Option.{same_Some}
+use Rattle.bl_tree.specs.declared.tree.Path.{Path}
+use Rattle.bl_tree.specs.declared.tree.StmtKind.{StmtKind}
 use Rattle.bl_tree.specs.declared.tree.Unit.{Unit as UnitDef}
 use Rattle.bl_tree.specs.declared.tree.Var.{Var}
 use Rattle.bl_tree.specs.Reduce.{all_of}
@@ -46,6 +49,11 @@ outputs_length : (unit : UnitDef) → has_parameters unit ≡ true → length (o
 outputs_length unit has =
     let dropped : length (drop unit.inputs unit.vars) + unit.inputs ≡ length unit.vars = grind (arith, has, length-drop unit.inputs unit.vars) in
     length-take-le unit.outputs (drop unit.inputs unit.vars) (grind (arith, has, dropped))
+
+-- what is complete is what is made of it
+pub complete_if : (holds : Bool) (make : List Expr → List Path → StmtKind) (inputs : List Expr) (outputs : List Path) (a : StmtKind) → (if holds then Some (make inputs outputs) else None) ≡ Some a → make inputs outputs ≡ a
+complete_if true make inputs outputs a is = same_Some (make inputs outputs) a is
+complete_if false make inputs outputs a is = absurd (cc)
 
 -- arguments that fit are those that are made
 pub record Complete (site : Site) (arguments : Arguments) (callee : UnitDef) : Type 0 where

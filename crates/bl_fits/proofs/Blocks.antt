@@ -27,21 +27,22 @@ use Rattle.bl_named.specs.declared.stmt.NamedBranch.{NamedBranch, fold-roll-Name
 use Rattle.bl_named.specs.declared.stmt.NamedStmt.{NamedStmt, fold-roll-NamedStmt}
 use Rattle.bl_named.specs.declared.stmt.NamedStmtKind.{NamedStmtKind, fold-NamedStmtKind, fold-roll-NamedStmtKind, map-NamedStmtKind}
 use Rattle.bl_named.specs.declared.stmt.NamedStmtKind.TheOpen.{NamedStmtKind-F}
-use Rattle.bl_named.specs.Placed.{Earlier, Step, arm_step, branch_step, expr_placed, in_turn, step_of_arm, step_of_branch, stmt_kind_step, stmt_layer_step, stmt_step, tested}
+use Rattle.bl_named.specs.Placed.{Earlier, Step, expr_placed, in_turn, step_of_arm, step_of_branch, stmt_step, tested}
 use Rattle.bl_types.specs.declared.environment.Environment.{Environment}
 use Rattle.bl_types.specs.declared.failure.Failure.{Failure}
 use Rattle.bl_types.specs.Settled.{Settled}
-use Rattle.bl_types.specs.Statements.{Block, Walk, Walked, arm_of, arm_walked, branch_walked, condition, in_order, misplaced, stmt_made, under, walked, walked_arm, walked_block, walked_branch, walked_kind, walked_layer, walked_stmt}
+use Rattle.bl_types.specs.Statements.{Block, Walk, Walked, arm_of, arm_walked, branch_walked, condition, in_order, misplaced, stmt_made, under, walked, walked_arm, walked_block, walked_branch, walked_stmt}
 use Rattle.bl_fits.specs.Fitting.{IsMade}
 use Rattle.bl_fits.specs.Standing.{Around, BlockPassed, Known, Passed, VariablesThere, arm_named, branch_named, kind_named, named_arm, named_branch, stmt_layer_named, stmt_named}
 use Rattle.bl_fits.specs.Within.{calls_functions, known_in}
 use Rattle.bl_fits.proofs.Arguments.{condition_fits}
-use Rattle.bl_fits.proofs.Declared.{constant_walk_fits, declare_fits, map_found}
-use Rattle.bl_fits.proofs.Forms.{nil_left, nil_right}
+use Rattle.bl_fits.proofs.Declared.{constant_walk_fits, declare_fits}
+use Rattle.bl_fits.proofs.Forms.{map_found, nil_left, nil_right}
 use Rattle.bl_fits.proofs.MorePlaced.{placed_still}
-use Rattle.bl_fits.proofs.NamedStmtInduction.{Cases, induct, stmt}
-use Rattle.bl_fits.proofs.Statements.{arm_is, assign_fits, await_fits, call_fit, fits_is, good_arm, good_branch, own_calls, own_kind, return_walk_fits, run_fit, truth_made}
-use Rattle.bl_fits.proofs.Walks.{WalkFits, block_fits, grown_around, grown_further, grown_there, not_must, within_of}
+use Rattle.bl_fits.proofs.NamedStmtInduction.{Cases, induct, induct_arm, stmt}
+use Rattle.bl_fits.proofs.Statements.{arm_is, assign_fits, await_fits, call_fit, fits_is, good_arm, good_branch, own_kind, return_walk_fits, run_fit, truth_made}
+use Rattle.bl_fits.proofs.StmtLayers.{Layer, step_by, step_is, walked_by, walked_is}
+use Rattle.bl_fits.proofs.Walks.{own_calls, WalkFits, block_fits, grown_around, grown_further, grown_there, not_must, within_of}
 
 -- what holds of each that passes a test, where all pass
 each_walk : {X : Type 0} (named : X → Bool) (W : X → Type 0) (xs : List X) → All (λ x. named x ≡ true → W x) xs → all_of (map named xs) ≡ true → All W xs
@@ -109,7 +110,7 @@ module _ (constants : List NamedConstant) (vars : List NamedVar) (site : Site) w
       let behind : test.failures ++ all.failures ≡ [] = nil_right earlier (test.failures ++ all.failures) none in
       let passed = body_fits body each named env around known counts holds.1 (nil_right test.failures all.failures behind) in
       let tests : VariablesThere all.env site → IsMade site (scalar OfBool) test.made =
-      λ there. condition_fits env site (within_of env site around known (grown_there env all.env site passed.grown there)) e holds.0 (own_calls site (record { start = 0; end = 0 }) env around e calls)
+      λ there. condition_fits env site (within_of env site around known (grown_there env all.env site passed.grown there)) e holds.0 (own_calls env site around e calls)
       (nil_left test.failures all.failures behind) in
       record {
         grown = passed.grown;
@@ -123,35 +124,14 @@ module _ (constants : List NamedConstant) (vars : List NamedVar) (site : Site) w
 
   -- ---- by the kind of a statement
 
-  abbrev Layer : Type 0
-  Layer = NamedStmtKind-F NamedStmtKind NamedArm NamedBranch NamedStmt
-
-  abbrev named_by : Layer → Bool
+  abbrev pub named_by : Layer → Bool
   named_by layer = kind_named constants vars site.earlier
       (map-NamedStmtKind NamedStmtKind NamedArm NamedBranch NamedStmt Bool Bool Bool Bool
       (fold-NamedStmtKind Bool Bool Bool Bool (kind_named constants vars site.earlier) (arm_named site.earlier) branch_named stmt_layer_named)
       (named_arm constants vars site.earlier) (named_branch constants vars site.earlier) (stmt_named constants vars site.earlier) layer)
 
-  abbrev walked_by : Layer → Place → Walk StmtKind
-  walked_by layer = walked_kind constants vars
-      (map-NamedStmtKind NamedStmtKind NamedArm NamedBranch NamedStmt (Place → Walk StmtKind) (Walk Arm) (Walk Branch) (Walk Stmt)
-      (fold-NamedStmtKind (Place → Walk StmtKind) (Walk Arm) (Walk Branch) (Walk Stmt) (walked_kind constants vars) walked_arm walked_branch walked_layer)
-      (arm_walked constants vars) (branch_walked constants vars) (walked_stmt constants vars) layer)
-
-  abbrev step_by : Layer → Step
-  step_by layer = stmt_kind_step vars constants
-      (map-NamedStmtKind NamedStmtKind NamedArm NamedBranch NamedStmt Step Step Step Step
-      (fold-NamedStmtKind Step Step Step Step (stmt_kind_step vars constants) arm_step branch_step stmt_layer_step)
-      (step_of_arm vars constants) (step_of_branch vars constants) (stmt_step vars constants) layer)
-
-  named_is : (place : Place) (layer : Layer) → stmt_named constants vars site.earlier (stmt place layer) ≡ named_by layer
+  pub named_is : (place : Place) (layer : Layer) → stmt_named constants vars site.earlier (stmt place layer) ≡ named_by layer
   named_is place layer = rw (fold-roll-NamedStmt, fold-roll-NamedStmtKind) refl
-
-  walked_is : (place : Place) (layer : Layer) → walked_stmt constants vars (stmt place layer) ≡ walked_layer (record { place = place; what = walked_by layer })
-  walked_is place layer = rw (fold-roll-NamedStmt, fold-roll-NamedStmtKind) refl
-
-  step_is : (place : Place) (layer : Layer) → stmt_step vars constants (stmt place layer) ≡ step_by layer
-  step_is place layer = rw (fold-roll-NamedStmt, fold-roll-NamedStmtKind) refl
 
   abbrev good : Place → StmtKind → Bool
   good place kind = fits site (stmt_made place kind)
@@ -168,12 +148,12 @@ module _ (constants : List NamedConstant) (vars : List NamedVar) (site : Site) w
     is_made = λ must there. absurd (not_must must);
   }
 
-  by_kind : (place : Place) (layer : Layer) → (named_by layer ≡ true → WalkFits false site (good place) (walked_by layer place) (step_by layer)) → P (stmt place layer)
+  by_kind : (place : Place) (layer : Layer) → (named_by layer ≡ true → WalkFits false site (good place) (walked_by constants vars layer place) (step_by constants vars layer)) → P (stmt place layer)
   by_kind place layer fit named env around known counts step none =
-      subst (λ (walk : Walk Stmt). Passed false site (fits site) env counts (walk env)) (sym (walked_is place layer))
-      (in_place place env counts (walked_by layer place env)
-      (fit (sym (named_is place layer) ∙ named) env around known counts (ap (λ (step : Step). step (known_in env)) (sym (step_is place layer)) ∙ step)
-      (ap (λ (walk : Walk Stmt). (walk env).failures) (sym (walked_is place layer)) ∙ none)))
+      subst (λ (walk : Walk Stmt). Passed false site (fits site) env counts (walk env)) (sym (walked_is constants vars place layer))
+      (in_place place env counts (walked_by constants vars layer place env)
+      (fit (sym (named_is place layer) ∙ named) env around known counts (ap (λ (step : Step). step (known_in env)) (sym (step_is constants vars place layer)) ∙ step)
+      (ap (λ (walk : Walk Stmt). (walk env).failures) (sym (walked_is constants vars place layer)) ∙ none)))
 
   -- ---- statements with blocks
 
@@ -271,7 +251,7 @@ module _ (constants : List NamedConstant) (vars : List NamedVar) (site : Site) w
         is_good = λ there a is.
             let found = map_found (λ e. what.Until all.made e) test.made a is in
             let made = condition_fits all.env site (within_of all.env site after passed.known there) e (placed_still env all.env passed.grown e holds.0)
-            (own_calls site place all.env after e (and_right (all_of (map (stmt_named constants vars site.earlier) body)) (calls_functions site.earlier e) named)) (nil_right all.failures test.failures none) in
+            (own_calls all.env site after e (and_right (all_of (map (stmt_named constants vars site.earlier) body)) (calls_functions site.earlier e) named)) (nil_right all.failures test.failures none) in
             subst (λ a. good place a ≡ true) found.2 (until_good place all.made found.0 (passed.is_good there) (truth_made site test.made found.0 made found.1));
         is_made = λ must there. absurd (not_must must);
       })
@@ -341,6 +321,22 @@ module _ (constants : List NamedConstant) (vars : List NamedVar) (site : Site) w
   -- a statement in which nothing fails fits
   pub statement_fits : (s : NamedStmt) → stmt_named constants vars site.earlier s ≡ true → WalkFits false site (fits site) (walked_stmt constants vars s) (stmt_step vars constants s)
   statement_fits = induct P Q R cases
+
+  -- and so does an arm
+  pub arm_fits_there : (arm : NamedArm) → named_arm constants vars site.earlier arm ≡ true → WalkFits true site (good_arm site) (arm_walked constants vars arm) (step_of_arm vars constants arm)
+  arm_fits_there = induct_arm P Q R cases
+
+  each_arm : (arms : List NamedArm) → all_of (map (named_arm constants vars site.earlier) arms) ≡ true → All (λ arm. WalkFits true site (good_arm site) (arm_walked constants vars arm) (step_of_arm vars constants arm)) arms
+  each_arm [] named = All-nil (λ arm. WalkFits true site (good_arm site) (arm_walked constants vars arm) (step_of_arm vars constants arm))
+  each_arm (arm ∷ rest) named =
+      All-cons (λ arm. WalkFits true site (good_arm site) (arm_walked constants vars arm) (step_of_arm vars constants arm)) arm rest
+      (arm_fits_there arm (and_left (named_arm constants vars site.earlier arm) (all_of (map (named_arm constants vars site.earlier) rest)) named))
+      (each_arm rest (and_right (named_arm constants vars site.earlier arm) (all_of (map (named_arm constants vars site.earlier) rest)) named))
+
+  pub arms_fit : (arms : List NamedArm) → all_of (map (named_arm constants vars site.earlier) arms) ≡ true → (env : Environment) → Around env site → Known env → (counts : Earlier) →
+      in_turn (map (step_of_arm vars constants) arms) (known_in env) ≡ Some counts → (in_order (map (arm_walked constants vars) arms) env).failures ≡ [] →
+      BlockPassed site (good_arm site) (true && is_inhabited arms) env counts (in_order (map (arm_walked constants vars) arms) env)
+  arms_fit arms named = block_fits true site (good_arm site) (arm_walked constants vars) (step_of_arm vars constants) arms (each_arm arms named)
 
   each_fits : (body : List NamedStmt) → All P body
   each_fits [] = All-nil P

@@ -8,7 +8,7 @@ use Rattle.bl_tree.specs.declared.tree.Expr.{Expr}
 use Rattle.bl_tree.specs.declared.tree.StmtKind.{StmtKind}
 use Rattle.bl_tree.specs.declared.tree.StmtKind.TheVariants as what
 use Rattle.bl_tree.specs.declared.tree.Ty.{Ty}
-use Rattle.bl_tree.specs.Types.{same_type}
+use Rattle.bl_tree.specs.Types.{same_type, type_stands}
 use Rattle.bl_tree.specs.Typing.{Site, are_same, declaration_fits, is_fixed, is_variable, type_of, var_at}
 use Rattle.bl_eval.proofs.OperatorFits.{where_holds}
 use Rattle.bl_eval.proofs.PassLemmas.{and_left, and_right, both, get_seam}
@@ -19,19 +19,17 @@ use Rattle.bl_named.specs.Placed.{Earlier, constant_placed, expr_placed, holds_i
 use Rattle.bl_types.specs.declared.environment.Constant.{Constant}
 use Rattle.bl_types.specs.declared.environment.Environment.{Environment}
 use Rattle.bl_types.specs.declared.environment.Variable.{Variable}
-use Rattle.bl_types.specs.Declarations.{Initial, after_variable, constant_of, initial, with_constant, with_variable}
+use Rattle.bl_types.specs.Declarations.{optional_lengths, Initial, after_variable, constant_of, initial, with_constant, with_variable}
 use Rattle.bl_types.specs.Statements.{after_optional_constant, constant_walked, declare, declared_with, declared_without}
 use Rattle.bl_types.specs.Written.{written_type}
-use Rattle.bl_fits.specs.Standing.{Around, Grown, Known, Passed, VariablesThere, declared_by}
+use Rattle.bl_fits.specs.Standing.{Around, Grown, Known, Passed, VariableKnown, VariablesThere, declared_by}
 use Rattle.bl_fits.specs.Within.{ConstantStands, VariableThere, calls_functions, known_in}
 use Rattle.bl_fits.proofs.Expressions.{some_of}
-use Rattle.bl_fits.proofs.Forms.{same_type_self}
+use Rattle.bl_fits.proofs.Forms.{map_found, same_type_self}
 use Rattle.bl_fits.proofs.Initials.{constant_fits, initial_fits}
+use Rattle.bl_fits.proofs.TypesStand.{typed_stands, vars_stand, written_stands}
+use Rattle.bl_named.specs.declared.types.NamedType.{NamedType}
 use Rattle.bl_fits.proofs.Walks.{WalkFits, grown_there, not_must, site_in, within_in, within_of}
-
-pub map_found : {A B : Type 0} (f : A → B) (o : Option A) (y : B) → option_map f o ≡ Some y → (x : A) × (o ≡ Some x) × (f x ≡ y)
-map_found f None y is = absurd (cc)
-map_found f (Some x) y is = (x, refl, same_Some (f x) y is)
 
 -- what holds of each before and of one more
 push_each : {A : Type 0} (P : A → Type 0) (xs : List A) (x : A) → ((k : ℕ) (y : A) → slice_get xs k ≡ Some y → P y) → P x → (k : ℕ) (y : A) → slice_get (xs ++ x ∷ []) k ≡ Some y → P y
@@ -64,21 +62,28 @@ constant_grown env constant = record {
   result = refl;
 }
 
-pub variable_known : (env : Environment) (var : NamedVar) (ty : Option Ty) (found : Ty) → Known env → ty ≡ Some found → Known (with_variable env var ty)
-variable_known env var ty found known is = record {
-  vars = push_each (λ (known : Variable). (ty : Ty) × (known.ty ≡ Some ty)) env.vars (record { name = var.name.text; place = var.name.place; ty = ty; role = var.role }) known.vars (found, is);
+pub variable_known : (env : Environment) (var : NamedVar) (ty : Option Ty) (found : Ty) → Known env → ty ≡ Some found → type_stands (length env.structs) found ≡ true → Known (with_variable env var ty)
+variable_known env var ty found known is stands = record {
+  vars = push_each (VariableKnown (length env.structs)) env.vars (record { name = var.name.text; place = var.name.place; ty = ty; role = var.role }) known.vars (record { ty = found; is_typed = is; stands = stands });
+  fields = known.fields;
   constants = known.constants;
 }
 
-constant_known : (env : Environment) (constant : Constant) → Known env → ConstantStands constant → Known (with_constant env constant)
-constant_known env constant known stands = record { vars = known.vars; constants = push_each ConstantStands env.constants constant known.constants stands }
+pub constant_known : (env : Environment) (constant : Constant) → Known env → ConstantStands constant → Known (with_constant env constant)
+constant_known env constant known stands = record { vars = known.vars; fields = known.fields; constants = push_each ConstantStands env.constants constant known.constants stands }
 
-variable_counts : (env : Environment) (var : NamedVar) (ty : Option Ty) (counts : Earlier) → Some (variable_counted (known_in env)) ≡ Some counts → known_in (with_variable env var ty) ≡ counts
+-- an optional type that is written stands
+pub optional_stands : (earlier : Earlier) (env : Environment) (ty : Option NamedType) (written : NamedType) → ty ≡ Some written → holds_if (type_placed earlier) ty ≡ true → optional_lengths env ty ≡ [] →
+    type_stands earlier.structs (written_type env.constants written) ≡ true
+optional_stands earlier env ty written is placed none =
+    written_stands earlier env.constants written (ap (holds_if (type_placed earlier)) (sym is) ∙ placed) (ap (optional_lengths env) (sym is) ∙ none)
+
+pub variable_counts : (env : Environment) (var : NamedVar) (ty : Option Ty) (counts : Earlier) → Some (variable_counted (known_in env)) ≡ Some counts → known_in (with_variable env var ty) ≡ counts
 variable_counts env var ty counts is =
     ap (λ n. record { structs = length env.structs; constants = length env.constants; units = length env.units; variables = n }) (length-append env.vars (record { name = var.name.text; place = var.name.place; ty = ty; role = var.role } ∷ []))
     ∙ same_Some (variable_counted (known_in env)) counts is
 
-constant_counts : (env : Environment) (constant : Constant) (counts : Earlier) → Some (constant_counted (known_in env)) ≡ Some counts → known_in (with_constant env constant) ≡ counts
+pub constant_counts : (env : Environment) (constant : Constant) (counts : Earlier) → Some (constant_counted (known_in env)) ≡ Some counts → known_in (with_constant env constant) ≡ counts
 constant_counts env constant counts is =
     ap (λ n. record { structs = length env.structs; constants = n; units = length env.units; variables = length env.vars }) (length-append env.constants (constant ∷ []))
     ∙ same_Some (constant_counted (known_in env)) counts is
@@ -111,7 +116,7 @@ module _ (site : Site) (good : StmtKind → Bool) where
       let typed = initial_fits env (site_in env) (within_in env site around known) var.ty e placed own none in
       record {
         grown = variable_grown env var value.valued.ty;
-        known = variable_known env var value.valued.ty typed.ty known typed.is_typed;
+        known = variable_known env var value.valued.ty typed.ty known typed.is_typed (typed_stands (site_in env) known.fields (vars_stand (length env.structs) env.vars known.vars) typed.it typed.ty typed.fits);
         counts_are = variable_counts env var value.valued.ty counts count;
         is_good = λ there a is.
             let made = map_found (λ e. what.Declare k (Some e)) value.valued.value a is in
@@ -127,14 +132,15 @@ module _ (site : Site) (good : StmtKind → Bool) where
 
   -- a declaration without one
   without_value : (k : ℕ) (var : NamedVar) → (declaration_fits site None (var_at site k) ≡ true → good (what.Declare k None) ≡ true) →
-      (is_variable var.role && is_some var.ty) ≡ true → (env : Environment) → Around env site → Known env → k ≡ length env.vars →
-      (counts : Earlier) → Some (variable_counted (known_in env)) ≡ Some counts → Passed false site good env counts (declared_without k (after_variable var env))
-  without_value k var fits declared env around known next counts count =
+      (is_variable var.role && is_some var.ty) ≡ true → (env : Environment) → Around env site → Known env → k ≡ length env.vars → var_placed (known_in env) var ≡ true →
+      (counts : Earlier) → Some (variable_counted (known_in env)) ≡ Some counts → optional_lengths env var.ty ≡ [] → Passed false site good env counts (declared_without k (after_variable var env))
+  without_value k var fits declared env around known next placed counts count none =
       let ty : Option Ty = option_map (written_type env.constants) var.ty in
       let written = some_of var.ty (and_right (is_variable var.role) (is_some var.ty) declared) in
       record {
         grown = variable_grown env var ty;
-        known = variable_known env var ty (written_type env.constants written.0) known (ap (option_map (written_type env.constants)) written.1);
+        known = variable_known env var ty (written_type env.constants written.0) known (ap (option_map (written_type env.constants)) written.1)
+            (optional_stands (known_in env) env var.ty written.0 written.1 placed none);
         counts_are = variable_counts env var ty counts count;
         is_good = λ there a is.
             subst (λ a. good a ≡ true) (same_Some (what.Declare k None) a is)
@@ -151,7 +157,8 @@ module _ (site : Site) (good : StmtKind → Bool) where
   declare_fits k (Some var) None fits named env around known counts step none =
       let holds = where_holds (nat_eq k (length env.vars) && (var_placed (known_in env) var && true)) (Some (variable_counted (known_in env))) counts step in
       without_value k var (fits None) (and_left (is_variable var.role && is_some var.ty) true named) env around known
-      (eqb-true k (length env.vars) (and_left (nat_eq k (length env.vars)) (var_placed (known_in env) var && true) holds.0)) counts holds.1
+      (eqb-true k (length env.vars) (and_left (nat_eq k (length env.vars)) (var_placed (known_in env) var && true) holds.0))
+      (and_left (var_placed (known_in env) var) true (and_right (nat_eq k (length env.vars)) (var_placed (known_in env) var && true) holds.0)) counts holds.1 none
   declare_fits k (Some var) (Some e) fits named env around known counts step none =
       let holds = where_holds (nat_eq k (length env.vars) && (var_placed (known_in env) var && expr_placed (known_in env) e)) (Some (variable_counted (known_in env))) counts step in
       with_value k var e (λ it. fits (Some it)) (and_left (is_variable var.role || is_fixed var.role) (calls_functions site.earlier e) named) (and_right (is_variable var.role || is_fixed var.role) (calls_functions site.earlier e) named)

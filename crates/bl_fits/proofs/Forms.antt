@@ -1,6 +1,6 @@
 -- What fits stays so: under operators and casts, and where a type is wanted.
 use Rattle.std.proofs.Common.{◌≡◌, ℕ, ℤ, List, [], ◌∷◌, ◌++◌, Option, Some, None, refl, ap, sym, subst, ◌∙◌, arith}
-use Rattle.std.specs.Prelude.{Bool, true, false, ◌&&◌, nat_eq, option_and_then, if◌then◌else◌}
+use Rattle.std.specs.Prelude.{option_map, Bool, true, false, ◌&&◌, nat_eq, option_and_then, if◌then◌else◌}
 use Rattle.std.proofs.lemmas.Option.{same_Some}
 use Rattle.bl_tree.specs.declared.place.Place.{Place}
 use Rattle.bl_tree.specs.declared.scalar.Op.{Op}
@@ -44,6 +44,12 @@ nil_right (x ∷ xs) ys is = absurd (cc)
 pub unless_holds : (test : Bool) (rule : ℕ) (at : Place) → unless test rule at ≡ [] → test ≡ true
 unless_holds true rule at is = refl
 unless_holds false rule at is = absurd (cc)
+
+-- ---- what there is
+
+pub map_found : {A B : Type 0} (f : A → B) (o : Option A) (y : B) → option_map f o ≡ Some y → (x : A) × (o ≡ Some x) × (f x ≡ y)
+map_found f None y is = absurd (cc)
+map_found f (Some x) y is = (x, refl, same_Some (f x) y is)
 
 -- ---- types are the same as themselves
 

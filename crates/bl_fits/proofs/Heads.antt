@@ -1,5 +1,5 @@
 -- The head of a unit: its parameters and its result.
-use Rattle.std.proofs.Common.{◌≡◌, ℕ, suc, ◌+◌, List, [], ◌∷◌, ◌++◌, length, take, drop, Option, Some, refl, ap, sym, subst, ◌∙◌, arith}
+use Rattle.std.proofs.Common.{◌≡◌, ℕ, suc, ◌+◌, List, [], ◌∷◌, ◌++◌, length, take, drop, Option, Some, None, refl, ap, sym, subst, ◌∙◌, arith}
 use Rattle.std.specs.Prelude.{Bool, true, false, ◌&&◌, ◌||◌, is_some, option_map, slice_get, if◌then◌else◌}
 use Rattle.std.specs.List.{cons_option, list_all}
 use Rattle.std.proofs.Math.Seq.{take-add}
@@ -14,10 +14,16 @@ use Rattle.bl_eval.proofs.PassLemmas.{and_left, and_right, both}
 use Rattle.bl_named.specs.declared.item.NamedVar.{NamedVar}
 use Rattle.bl_types.specs.declared.environment.Environment.{Environment}
 use Rattle.bl_types.specs.declared.environment.Variable.{Variable}
-use Rattle.bl_types.specs.Declarations.{after_parameter, after_parameters, after_variable, is_parameter, unchanged, with_variable}
+use Rattle.bl_types.specs.Declarations.{Declaring, optional_lengths, after_parameter, after_parameters, after_variable, is_parameter, unchanged, with_variable}
 use Rattle.bl_types.specs.Units.{var_typed, vars_of}
 use Rattle.bl_types.specs.Written.{written_type}
-use Rattle.bl_fits.specs.Standing.{Grown, Known}
+use Rattle.bl_named.specs.declared.types.NamedType.{NamedType}
+use Rattle.bl_named.specs.Placed.{Earlier, holds_if, type_placed, var_placed}
+use Rattle.bl_tree.specs.Types.{type_stands}
+use Rattle.bl_types.specs.declared.environment.Constant.{Constant}
+use Rattle.bl_fits.proofs.Forms.{nil_left, nil_right}
+use Rattle.bl_fits.proofs.TypesStand.{written_stands}
+use Rattle.bl_fits.specs.Standing.{Grown, Known, VariableKnown}
 use Rattle.bl_fits.proofs.Declared.{variable_grown, variable_known}
 use Rattle.bl_fits.proofs.Expressions.{some_of}
 use Rattle.bl_fits.proofs.Walks.{grown_further, grown_self}
@@ -32,16 +38,22 @@ pub record ParametersPassed (before : Environment) (count : ℕ) (after : Enviro
 abbrev pub is_typed_parameter : NamedVar → Bool
 is_typed_parameter var = is_parameter var.role && is_some var.ty
 
-parameter_is : (var : NamedVar) (env : Environment) → is_parameter var.role ≡ true → (after_parameter var env).env ≡ with_variable env var (option_map (written_type env.constants) var.ty)
+pub parameter_is : (var : NamedVar) (env : Environment) → is_parameter var.role ≡ true → (after_parameter var env).env ≡ with_variable env var (option_map (written_type env.constants) var.ty)
 parameter_is var env is = ap (λ holds. (if holds then after_variable var env else unchanged env).env) is
 
-one_parameter : (var : NamedVar) (env : Environment) → Known env → is_typed_parameter var ≡ true → ParametersPassed env 1 (with_variable env var (option_map (written_type env.constants) var.ty))
-one_parameter var env known is =
+-- the type of a variable stands, where one is written
+abbrev pub written_good : ℕ → List Constant → NamedVar → Bool
+written_good n constants var = holds_if (λ ty. type_stands n (written_type constants ty)) var.ty
+
+one_parameter : (n : ℕ) (constants : List Constant) (var : NamedVar) (env : Environment) → length env.structs ≡ n → env.constants ≡ constants → Known env → is_typed_parameter var ≡ true → written_good n constants var ≡ true →
+    ParametersPassed env 1 (with_variable env var (option_map (written_type env.constants) var.ty))
+one_parameter n constants var env structs same known is good =
     let ty : Option Ty = option_map (written_type env.constants) var.ty in
     let written = some_of var.ty (and_right (is_parameter var.role) (is_some var.ty) is) in
     record {
       grown = variable_grown env var ty;
-      known = variable_known env var ty (written_type env.constants written.0) known (ap (option_map (written_type env.constants)) written.1);
+      known = variable_known env var ty (written_type env.constants written.0) known (ap (option_map (written_type env.constants)) written.1)
+          ((λ i. type_stands (structs i) (written_type (same i) written.0)) ∙ ap (holds_if (λ ty. type_stands n (written_type constants ty))) (sym written.1) ∙ good);
       longer = length-append env.vars (record { name = var.name.text; place = var.name.place; ty = ty; role = var.role } ∷ []);
       same_constants = refl;
     }
@@ -54,16 +66,49 @@ further_parameters a b c count one more = record {
   same_constants = more.same_constants ∙ one.same_constants;
 }
 
-pub parameters_pass : (vars : List NamedVar) (env : Environment) → Known env → list_all is_typed_parameter vars ≡ true → ParametersPassed env (length vars) (after_parameters vars env).env
-parameters_pass [] env known all = record { grown = grown_self env; known = known; longer = omega arith; same_constants = refl }
-parameters_pass (var ∷ rest) env known all =
+parameters_pass : (n : ℕ) (constants : List Constant) (vars : List NamedVar) (env : Environment) → length env.structs ≡ n → env.constants ≡ constants → Known env → list_all is_typed_parameter vars ≡ true →
+    list_all (written_good n constants) vars ≡ true → ParametersPassed env (length vars) (after_parameters vars env).env
+parameters_pass n constants [] env structs same known all good = record { grown = grown_self env; known = known; longer = omega arith; same_constants = refl }
+parameters_pass n constants (var ∷ rest) env structs same known all good =
     let typed : is_typed_parameter var ≡ true = and_left (is_typed_parameter var) (list_all is_typed_parameter rest) all in
     let first : Environment = (after_parameter var env).env in
     let one : ParametersPassed env 1 first =
-    subst (ParametersPassed env 1) (sym (parameter_is var env (and_left (is_parameter var.role) (is_some var.ty) typed))) (one_parameter var env known typed) in
-    further_parameters env first (after_parameters rest first).env (length rest) one (parameters_pass rest first one.known (and_right (is_typed_parameter var) (list_all is_typed_parameter rest) all))
+    subst (ParametersPassed env 1) (sym (parameter_is var env (and_left (is_parameter var.role) (is_some var.ty) typed)))
+    (one_parameter n constants var env structs same known typed (and_left (written_good n constants var) (list_all (written_good n constants) rest) good)) in
+    further_parameters env first (after_parameters rest first).env (length rest) one
+    (parameters_pass n constants rest first (ap length one.grown.structs ∙ structs) (one.same_constants ∙ same) one.known (and_right (is_typed_parameter var) (list_all is_typed_parameter rest) all)
+    (and_right (written_good n constants var) (list_all (written_good n constants) rest) good))
 
-abbrev is_local : NamedVar → Bool
+optional_good : (earlier : Earlier) (constants : List Constant) (env : Environment) (ty : Option NamedType) → env.constants ≡ constants → holds_if (type_placed earlier) ty ≡ true → optional_lengths env ty ≡ [] →
+    holds_if (λ ty. type_stands earlier.structs (written_type constants ty)) ty ≡ true
+optional_good earlier constants env None same placed none = refl
+optional_good earlier constants env (Some written) same placed none =
+    ap (λ constants. type_stands earlier.structs (written_type constants written)) (sym same) ∙ written_stands earlier env.constants written placed none
+
+-- parameters none of whose lengths fails have types that stand
+parameters_good : (earlier : Earlier) (constants : List Constant) (vars : List NamedVar) (env : Environment) → env.constants ≡ constants → list_all is_typed_parameter vars ≡ true → list_all (var_placed earlier) vars ≡ true →
+    (after_parameters vars env).failures ≡ [] → list_all (written_good earlier.structs constants) vars ≡ true
+parameters_good earlier constants [] env same all placed none = refl
+parameters_good earlier constants (var ∷ rest) env same all placed none =
+    let first : Declaring = after_parameter var env in
+    let role : is_parameter var.role ≡ true = and_left (is_parameter var.role) (is_some var.ty) (and_left (is_typed_parameter var) (list_all is_typed_parameter rest) all) in
+    let lengths : optional_lengths env var.ty ≡ [] =
+    ap (λ holds. (if holds then after_variable var env else unchanged env).failures) (sym role) ∙ nil_left first.failures (after_parameters rest first.env).failures none in
+    both (written_good earlier.structs constants var) (list_all (written_good earlier.structs constants) rest)
+    (optional_good earlier constants env var.ty same (and_left (var_placed earlier var) (list_all (var_placed earlier) rest) placed) lengths)
+    (parameters_good earlier constants rest first.env (ap (λ (env : Environment). env.constants) (parameter_is var env role) ∙ same) (and_right (is_typed_parameter var) (list_all is_typed_parameter rest) all)
+    (and_right (var_placed earlier var) (list_all (var_placed earlier) rest) placed) (nil_right first.failures (after_parameters rest first.env).failures none))
+
+-- what fails in some fails in all
+failures_front : (xs ys : List NamedVar) (env : Environment) → (after_parameters (xs ++ ys) env).failures ≡ [] → (after_parameters xs env).failures ≡ []
+failures_front [] ys env none = refl
+failures_front (x ∷ xs) ys env none =
+    let first : Declaring = after_parameter x env in
+    let one : first.failures ≡ [] = nil_left first.failures (after_parameters (xs ++ ys) first.env).failures none in
+    let more : (after_parameters xs first.env).failures ≡ [] = failures_front xs ys first.env (nil_right first.failures (after_parameters (xs ++ ys) first.env).failures none) in
+    λ i. one i ++ more i
+
+abbrev pub is_local : NamedVar → Bool
 is_local var = is_variable var.role || is_fixed var.role
 
 local_role : (role : Role) → (is_variable role || is_fixed role) ≡ true → is_parameter role ≡ false
@@ -94,7 +139,7 @@ output_role Output is = refl
 output_role Var is = absurd (cc)
 output_role Fixed is = absurd (cc)
 
-all_weaker : {X : Type 0} (p q : X → Bool) → ((x : X) → p x ≡ true → q x ≡ true) → (xs : List X) → list_all p xs ≡ true → list_all q xs ≡ true
+pub all_weaker : {X : Type 0} (p q : X → Bool) → ((x : X) → p x ≡ true → q x ≡ true) → (xs : List X) → list_all p xs ≡ true → list_all q xs ≡ true
 all_weaker p q each [] all = refl
 all_weaker p q each (x ∷ xs) all = both (q x) (list_all q xs) (each x (and_left (p x) (list_all p xs) all)) (all_weaker p q each xs (and_right (p x) (list_all p xs) all))
 
@@ -120,18 +165,21 @@ typed_parameters vars inputs outputs first next typed =
     typed
 
 -- after all the variables of a unit as many are known as it has parameters
-pub head_passes : (vars : List NamedVar) (n : ℕ) (env : Environment) → Known env → list_all is_typed_parameter (take n vars) ≡ true → list_all is_local (drop n vars) ≡ true →
-    ParametersPassed env (length (take n vars)) (after_parameters vars env).env
-head_passes vars n env known first rest =
+pub head_passes : (vars : List NamedVar) (n : ℕ) (earlier : Earlier) (env : Environment) → length env.structs ≡ earlier.structs → Known env → list_all is_typed_parameter (take n vars) ≡ true → list_all (var_placed earlier) (take n vars) ≡ true →
+    list_all is_local (drop n vars) ≡ true → (after_parameters vars env).failures ≡ [] → ParametersPassed env (length (take n vars)) (after_parameters vars env).env
+head_passes vars n earlier env structs known first placed rest none =
     let inside : Environment = (after_parameters (take n vars) env).env in
     let is : (after_parameters vars env).env ≡ inside =
     ap (λ vars. (after_parameters vars env).env) (sym (take-append-drop n vars)) ∙ parameters_append (take n vars) (drop n vars) env ∙ locals_pass (drop n vars) inside rest in
-    subst (ParametersPassed env (length (take n vars))) (sym is) (parameters_pass (take n vars) env known first)
+    let front : (after_parameters (take n vars) env).failures ≡ [] =
+    failures_front (take n vars) (drop n vars) env (ap (λ vars. (after_parameters vars env).failures) (take-append-drop n vars) ∙ none) in
+    subst (ParametersPassed env (length (take n vars))) (sym is)
+    (parameters_pass earlier.structs env.constants (take n vars) env structs refl known first (parameters_good earlier env.constants (take n vars) env refl first placed front))
 
 -- each variable that has a type is one of the unit
-pub length-vars_of : (xs : List Variable) → ((k : ℕ) (known : Variable) → slice_get xs k ≡ Some known → (ty : Ty) × (known.ty ≡ Some ty)) → length (vars_of xs) ≡ length xs
-length-vars_of [] typed = refl
-length-vars_of (x ∷ xs) typed =
+pub length-vars_of : (n : ℕ) (xs : List Variable) → ((k : ℕ) (known : Variable) → slice_get xs k ≡ Some known → VariableKnown n known) → length (vars_of xs) ≡ length xs
+length-vars_of n [] typed = refl
+length-vars_of n (x ∷ xs) typed =
     let first = typed 0 x refl in
-    ap (λ found. length (cons_option (option_map (var_typed x) found) (vars_of xs))) first.1
-    ∙ ap suc (length-vars_of xs (λ k known is. typed (suc k) known is))
+    ap (λ found. length (cons_option (option_map (var_typed x) found) (vars_of xs))) first.is_typed
+    ∙ ap suc (length-vars_of n xs (λ k known is. typed (suc k) known is))

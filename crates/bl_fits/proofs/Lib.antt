@@ -15,3 +15,12 @@ pub mod Blocks
 pub mod Heads
 pub mod Units
 pub mod TypesStand
+pub mod StmtLayers
+pub mod Turns
+pub mod Roles
+pub mod Entry
+pub mod Items
+pub mod Returning
+pub mod Straying
+pub mod LastReturns
+pub mod UnitReturns

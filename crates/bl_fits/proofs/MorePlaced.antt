@@ -20,7 +20,7 @@ use Rattle.bl_fits.specs.Standing.{Grown}
 use Rattle.bl_fits.specs.Within.{known_in}
 use Rattle.bl_fits.proofs.NamedExprInduction.{Cases, EachIndex, OfIndex, expr, induct}
 
-more_below : (k n m : ℕ) → n ≤ m → nat_lt k n ≡ true → nat_lt k m ≡ true
+pub more_below : (k n m : ℕ) → n ≤ m → nat_lt k n ≡ true → nat_lt k m ≡ true
 more_below k n m less is = lt-ltb k m (let below = ltb-true k n is in omega arith)
 
 abbrev Layer : Type 0

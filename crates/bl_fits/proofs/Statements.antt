@@ -1,6 +1,6 @@
 -- What is made of statements fits.
 use Rattle.std.proofs.Common.{◌≡◌, ℕ, List, [], ◌++◌, map, length, Option, Some, None, refl, ap, sym, subst, ◌∙◌}
-use Rattle.std.specs.Prelude.{Bool, true, false, ◌&&◌, is_none, is_some, nat_lt, option_map, slice_get, if◌then◌else◌}
+use Rattle.std.specs.Prelude.{Bool, true, false, ◌&&◌, is_none, is_some, nat_lt, option_map, slice_get}
 use Rattle.std.specs.List.{list_all}
 use Rattle.std.proofs.lemmas.Option.{same_Some}
 use Rattle.bl_tree.specs.declared.place.Place.{Place}
@@ -36,12 +36,11 @@ use Rattle.bl_types.specs.Statements.{Arguments, RunTarget, arguments, arm_of, a
 use Rattle.bl_fits.specs.Fitting.{FoundFits, IsLent, IsMade}
 use Rattle.bl_fits.specs.Standing.{Around, Known, Passed}
 use Rattle.bl_fits.specs.Within.{Within, calls_functions, known_in, target_calls}
-use Rattle.bl_fits.proofs.Arguments.{arguments_good, condition_fits, truth_is}
-use Rattle.bl_fits.proofs.Declared.{map_found}
+use Rattle.bl_fits.proofs.Arguments.{complete_if, arguments_good, condition_fits, truth_is}
 use Rattle.bl_fits.proofs.Expressions.{targets_fit, there_at, wanted_fits}
-use Rattle.bl_fits.proofs.Forms.{nil_left, nil_right, same_type_self, unless_holds}
+use Rattle.bl_fits.proofs.Forms.{map_found, nil_left, nil_right, same_type_self, unless_holds}
 use Rattle.bl_fits.proofs.Paths.{lent_fits, target_assignable}
-use Rattle.bl_fits.proofs.Walks.{WalkFits, passed_still}
+use Rattle.bl_fits.proofs.Walks.{own_calls, WalkFits, passed_still}
 
 -- ---- statements by their kinds
 
@@ -81,14 +80,10 @@ module _ (site : Site) where
 
   -- ---- calls and runs
 
-  complete_by : (holds : Bool) (make : List Expr → List Path → StmtKind) (inputs : List Expr) (outputs : List Path) (a : StmtKind) → (if holds then Some (make inputs outputs) else None) ≡ Some a → make inputs outputs ≡ a
-  complete_by true make inputs outputs a is = same_Some (make inputs outputs) a is
-  complete_by false make inputs outputs a is = absurd (cc)
-
   call_good : (at : Place) (f : ℕ) (arguments : Arguments) (unit : UnitDef) (a : StmtKind) → slice_get site.earlier f ≡ Some unit → is_function unit.kind ≡ true → is_none unit.result ≡ true →
       arguments_fit site arguments.inputs arguments.outputs unit ≡ true → if_complete arguments (what.Call f) ≡ Some a → fits site (stmt_made at a) ≡ true
   call_good at f arguments unit a there function none fit is =
-      subst (λ a. fits site (stmt_made at a) ≡ true) (complete_by arguments.complete (what.Call f) arguments.inputs arguments.outputs a is)
+      subst (λ a. fits site (stmt_made at a) ≡ true) (complete_if arguments.complete (what.Call f) arguments.inputs arguments.outputs a is)
       (fits_is at (what.Call f arguments.inputs arguments.outputs) (StmtKind-F.Call f arguments.inputs arguments.outputs) (what.outs-Call f arguments.inputs arguments.outputs)
       ∙ ap (call_fits site arguments.inputs arguments.outputs) there
       ∙ both (is_function unit.kind && is_none unit.result) (arguments_fit site arguments.inputs arguments.outputs unit) (both (is_function unit.kind) (is_none unit.result) function none) fit)
@@ -98,7 +93,7 @@ module _ (site : Site) where
       fits site (stmt_made at a) ≡ true
   run_good at f None arguments unit a there own activity leads fit is = absurd (cc)
   run_good at f (Some path) arguments unit a there own activity leads fit is =
-      subst (λ a. fits site (stmt_made at a) ≡ true) (complete_by arguments.complete (what.Run path f) arguments.inputs arguments.outputs a is)
+      subst (λ a. fits site (stmt_made at a) ≡ true) (complete_if arguments.complete (what.Run path f) arguments.inputs arguments.outputs a is)
       (fits_is at (what.Run path f arguments.inputs arguments.outputs) (StmtKind-F.Run path f arguments.inputs arguments.outputs) (what.outs-Run path f arguments.inputs arguments.outputs)
       ∙ ap (run_fits site path arguments.inputs arguments.outputs) there
       ∙ both (is_activity site.kind && is_activity unit.kind) _ (both (is_activity site.kind) (is_activity unit.kind) own activity)
@@ -146,9 +141,6 @@ module _ (site : Site) (at : Place) where
   abbrev pub good : StmtKind → Bool
   good kind = fits site (stmt_made at kind)
 
-  pub own_calls : (env : Environment) → Around env site → (e : NamedExpr) → calls_functions site.earlier e ≡ true → calls_functions env.units e ≡ true
-  own_calls env around e calls = ap (λ units. calls_functions units e) around.units ∙ calls
-
   own_all : (env : Environment) → Around env site → (inputs : List NamedExpr) → list_all (calls_functions site.earlier) inputs ≡ true → list_all (calls_functions env.units) inputs ≡ true
   own_all env around inputs calls = ap (λ units. list_all (calls_functions units) inputs) around.units ∙ calls
 
@@ -166,7 +158,7 @@ module _ (site : Site) (at : Place) where
       let target_in : target_placed (known_in env) target ≡ true = and_left (target_placed (known_in env) target) (expr_placed (known_in env) e) placed.0 in
       let expr_in : expr_placed (known_in env) e ≡ true = and_right (target_placed (known_in env) target) (expr_placed (known_in env) e) placed.0 in
       let target_own : target_calls env.units target ≡ true = ap (λ units. target_calls units target) around.units ∙ and_left (target_calls site.earlier target) (calls_functions site.earlier e) named in
-      let expr_own : calls_functions env.units e ≡ true = own_calls env around e (and_right (target_calls site.earlier target) (calls_functions site.earlier e) named) in
+      let expr_own : calls_functions env.units e ≡ true = own_calls env site around e (and_right (target_calls site.earlier target) (calls_functions site.earlier e) named) in
       passed_still site good env counts (assign_made leads.found value.made) (leads.failures ++ (value.failures ++ may)) around known placed.1
       (λ within a is.
       assign_by site at leads.found value.made a (targets_fit env site within target target_in target_own (nil_left leads.failures (value.failures ++ may) none))
@@ -250,7 +242,7 @@ module _ (site : Site) (at : Place) where
       passed_still site good env counts (option_map what.Await test.made) (misplaced env.kind at ++ test.failures) around known placed.1
       (λ within a is.
       await_good site at test.made a (own_kind env around (nil_left (misplaced env.kind at) test.failures none))
-      (condition_fits env site within e placed.0 (own_calls env around e named) (nil_right (misplaced env.kind at) test.failures none)) is)
+      (condition_fits env site within e placed.0 (own_calls env site around e named) (nil_right (misplaced env.kind at) test.failures none)) is)
 
   return_by : (e : Option NamedExpr) (result : Option ScalarType) (env : Environment) → env.result ≡ result → holds_if (calls_functions site.earlier) e ≡ true → Around env site → Known env → (counts : Earlier) →
       declares_none (holds_if (expr_placed (known_in env)) e) (known_in env) ≡ Some counts → (returned at e result env).failures ≡ [] → Passed false site good env counts (returned at e result env)
@@ -258,7 +250,7 @@ module _ (site : Site) (at : Place) where
       let placed = placed_of env (expr_placed (known_in env) e) counts step in
       let value : Settled = in_context (Some (scalar s)) (judged env e) in
       passed_still site good env counts (option_map (λ e. what.Return (Some e)) value.made) value.failures around known placed.1
-      (λ within a is. return_good site at s value.made a (sym around.result ∙ result) (wanted_fits env site within e placed.0 (own_calls env around e named) (scalar s) none) is)
+      (λ within a is. return_good site at s value.made a (sym around.result ∙ result) (wanted_fits env site within e placed.0 (own_calls env site around e named) (scalar s) none) is)
   return_by (Some e) None env result named around known counts step none =
       absurd (let fails = nil_right (in_context None (judged env e)).failures _ none in cc)
   return_by None (Some s) env result named around known counts step none = absurd (cc)

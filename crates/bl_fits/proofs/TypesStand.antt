@@ -1,8 +1,9 @@
 -- Types that are written or that expressions have name structs that are declared, and have lengths.
-use Rattle.std.proofs.Common.{◌≡◌, ℕ, ◌≤◌, List, [], ◌∷◌, ◌++◌, map, length, nat_lt, Option, Some, None, refl, ap, sym, subst, ◌∙◌, arith}
-use Rattle.std.specs.Prelude.{Bool, true, ◌&&◌, nat_le, option_and_then, option_map, slice_get, if◌then◌else◌}
-use Rattle.std.specs.List.{list_all}
-use Rattle.std.proofs.lemmas.Bool.{lt-ltb, ltb-true}
+use Rattle.std.proofs.Common.{◌≡◌, ℕ, suc, ◌≤◌, List, [], ◌∷◌, ◌++◌, map, length, nat_lt, Option, Some, None, refl, ap, sym, subst, ◌∙◌, arith}
+use Rattle.std.specs.Prelude.{is_some, Bool, true, ◌&&◌, nat_le, option_and_then, option_map, slice_get, if◌then◌else◌}
+use Rattle.std.specs.List.{cons_option, list_all}
+use Rattle.bl_types.specs.declared.environment.Variable.{Variable}
+use Rattle.bl_types.specs.Units.{is_scalar, is_scalar_level, var_typed, vars_of}
 use Rattle.std.proofs.lemmas.Option.{same_Some, slice_get_within}
 use Rattle.bl_tree.specs.declared.place.Place.{Place}
 use Rattle.bl_tree.specs.declared.scalar.Op.{Op}
@@ -21,7 +22,7 @@ use Rattle.bl_tree.specs.declared.tree.Var.{Var}
 use Rattle.bl_tree.specs.Numbers.{takes_one, takes_two, type_of_result}
 use Rattle.bl_tree.specs.Reduce.{joined}
 use Rattle.bl_tree.specs.Scalar.{in_range, is_whole}
-use Rattle.bl_tree.specs.Types.{same_scalar, same_type, scalar, scalar_in, type_stands, type_stands_level}
+use Rattle.bl_tree.specs.Types.{scalar_at, same_scalar, same_type, scalar, scalar_in, type_stands, type_stands_level}
 use Rattle.bl_tree.specs.Typing.{Site, after_parts, call_type, cast_type, element_in, field_in, one_type, prev_type, two_type, type_of, type_of_path, var_at, where_same, where_whole}
 use Rattle.bl_tree.proofs.ExprInduction.{Cases, induct}
 use Rattle.bl_eval.proofs.OperatorFits.{some_found, where_holds}
@@ -31,17 +32,18 @@ use Rattle.bl_named.specs.declared.item.NamedField.{NamedField}
 use Rattle.bl_named.specs.declared.item.NamedStruct.{NamedStruct}
 use Rattle.bl_named.specs.declared.types.NamedLength.{NamedLength}
 use Rattle.bl_named.specs.declared.types.NamedLength.TheVariants as length_of
-use Rattle.bl_named.specs.declared.types.NamedType.{NamedType, fold-roll-NamedType, ind-NamedType, map-NamedType, roll-NamedType}
+use Rattle.bl_named.specs.declared.types.NamedType.{NamedType, fold_out-NamedType, out-NamedType, fold-roll-NamedType, ind-NamedType, map-NamedType, roll-NamedType}
 use Rattle.bl_named.specs.declared.types.NamedType.TheOpen.{NamedType-F}
 use Rattle.bl_named.specs.Placed.{Earlier, length_placed, struct_placed, type_placed}
 use Rattle.bl_types.specs.declared.environment.Constant.{Constant}
 use Rattle.bl_types.specs.declared.environment.Environment.{Environment}
-use Rattle.bl_types.specs.Declarations.{after_struct, field_lengths, field_of, struct_of}
-use Rattle.bl_types.specs.Written.{as_length, bad_length, bad_lengths, constant_length, is_whole_type, natural, or_zero, place_of_length, written_length, written_type}
-use Rattle.bl_fits.specs.Standing.{FieldsStand}
+use Rattle.bl_named.specs.declared.expr.NamedExpr.{NamedExpr}
+use Rattle.bl_types.specs.Declarations.{initial, after_struct, field_lengths, field_of, struct_of}
+use Rattle.bl_types.specs.Written.{type_level, as_length, bad_length, bad_lengths, constant_length, is_whole_type, natural, or_zero, place_of_length, written_length, written_type}
+use Rattle.bl_fits.specs.Standing.{has_scalar, FieldsStand, VariableKnown}
 use Rattle.bl_fits.specs.Within.{known_in}
-use Rattle.bl_fits.proofs.Declared.{map_found}
-use Rattle.bl_fits.proofs.Forms.{nil_left, nil_right}
+use Rattle.bl_fits.proofs.Forms.{map_found, nil_left, nil_right}
+use Rattle.bl_fits.proofs.MorePlaced.{more_below}
 use Rattle.bl_fits.proofs.Typed.{kind_at, part_at}
 
 -- ---- written types
@@ -106,9 +108,6 @@ fields_stand earlier env (field ∷ rest) placed none =
 
 pub scalar_stands : (n : ℕ) (s : ScalarType) → type_stands n (scalar s) ≡ true
 scalar_stands n s = rw fold-roll-Ty refl
-
-more_below : (k n m : ℕ) → n ≤ m → nat_lt k n ≡ true → nat_lt k m ≡ true
-more_below k n m less is = lt-ltb k m (let below = ltb-true k n is in omega arith)
 
 module _ (n m : ℕ) (less : n ≤ m) where
   abbrev More : Ty → Type 0
@@ -218,3 +217,32 @@ module _ (site : Site) (fields : FieldsStand site.structs) (vars : list_all (λ 
 
 pub struct_stands : (def : NamedStruct) (env : Environment) → struct_placed (known_in env) def ≡ true → (after_struct def env).failures ≡ [] → list_all (λ (field : Field). type_stands (length env.structs) field.ty) (struct_of env def).fields ≡ true
 struct_stands def env placed none = fields_stand (known_in env) env def.fields placed none
+
+-- the types of variables that stand do so in the site of what is known
+pub vars_stand : (n : ℕ) (xs : List Variable) → ((k : ℕ) (known : Variable) → slice_get xs k ≡ Some known → VariableKnown n known) → list_all (λ (var : Var). type_stands n var.ty) (vars_of xs) ≡ true
+vars_stand n [] each = refl
+vars_stand n (x ∷ xs) each =
+    let first = each 0 x refl in
+    ap (λ found. list_all (λ (var : Var). type_stands n var.ty) (cons_option (option_map (var_typed x) found) (vars_of xs))) first.is_typed
+    ∙ both (type_stands n first.ty) (list_all (λ (var : Var). type_stands n var.ty) (vars_of xs)) first.stands (vars_stand n xs (λ k known is. each (suc k) known is))
+
+-- ---- scalar types
+
+scalar_level : (constants : List Constant) (ty : NamedType) (layer : NamedType-F NamedType) → out-NamedType ty ≡ layer → is_scalar_level layer ≡ true → is_some (scalar_in (written_type constants ty)) ≡ true
+scalar_level constants ty (NamedType-F.Scalar s) is whole =
+    ap (λ ty. is_some (scalar_in ty)) (fold_out-NamedType Ty (type_level constants) ty ∙ ap (λ layer. type_level constants (map-NamedType NamedType Ty (written_type constants) layer)) is)
+    ∙ ap (λ layer. is_some (scalar_at layer)) (type.outs-Scalar s)
+scalar_level constants ty (NamedType-F.Struct k) is whole = absurd (cc)
+scalar_level constants ty (NamedType-F.Array n element) is whole = absurd (cc)
+
+-- what is written as a scalar type is one
+pub scalar_written : (constants : List Constant) (ty : NamedType) → is_scalar (Some ty) ≡ true → is_some (scalar_in (written_type constants ty)) ≡ true
+scalar_written constants ty = scalar_level constants ty (out-NamedType ty) refl
+
+pub scalar_optional : (constants : List Constant) (ty : Option NamedType) → is_scalar ty ≡ true → has_scalar (option_map (written_type constants) ty) ≡ true
+scalar_optional constants None is = absurd (cc)
+scalar_optional constants (Some ty) is = scalar_written constants ty is
+
+pub scalar_initial : (env : Environment) (ty : Option NamedType) (e : NamedExpr) → is_scalar ty ≡ true → has_scalar (initial env ty e).valued.ty ≡ true
+scalar_initial env None e is = absurd (cc)
+scalar_initial env (Some ty) e is = scalar_written env.constants ty is

@@ -1,5 +1,5 @@
 -- One part of a body after another.
-use Rattle.std.proofs.Common.{◌≡◌, ℕ, zero, suc, List, [], ◌∷◌, ◌++◌, map, Option, Some, None, refl, ap, sym, subst, ◌∙◌, append_assoc}
+use Rattle.std.proofs.Common.{◌≡◌, ℕ, zero, suc, List, [], ◌∷◌, ◌++◌, map, length, Option, Some, None, refl, ap, sym, subst, ◌∙◌, append_assoc}
 use Rattle.std.specs.Prelude.{All, Bool, true, false, ◌&&◌, option_map, slice_get}
 use Rattle.std.specs.List.{cons_option, list_all}
 use Rattle.std.proofs.lemmas.List.{append-nil}
@@ -10,14 +10,15 @@ use Rattle.bl_tree.specs.Reduce.{all_of}
 use Rattle.bl_tree.specs.Typing.{Site, is_inhabited}
 use Rattle.bl_eval.proofs.OperatorFits.{some_found}
 use Rattle.bl_eval.proofs.PassLemmas.{both, get_front}
+use Rattle.bl_named.specs.declared.expr.NamedExpr.{NamedExpr}
 use Rattle.bl_named.specs.Placed.{Earlier, in_turn}
 use Rattle.bl_types.specs.declared.environment.Environment.{Environment}
 use Rattle.bl_types.specs.declared.environment.Variable.{Variable}
 use Rattle.bl_types.specs.declared.failure.Failure.{Failure}
 use Rattle.bl_types.specs.Statements.{Block, Walked, in_order, walked}
 use Rattle.bl_types.specs.Units.{var_of, var_typed, vars_of}
-use Rattle.bl_fits.specs.Standing.{Around, BlockPassed, Grown, Known, Passed, VariablesThere}
-use Rattle.bl_fits.specs.Within.{Within, has_parameters, known_in}
+use Rattle.bl_fits.specs.Standing.{Around, BlockPassed, Grown, Known, Passed, VariableKnown, VariablesThere}
+use Rattle.bl_fits.specs.Within.{Within, calls_functions, has_parameters, known_in}
 use Rattle.bl_fits.proofs.Forms.{nil_left, nil_right}
 
 pub within_of : (env : Environment) (site : Site) → Around env site → Known env → VariablesThere env site → Within env site
@@ -31,6 +32,10 @@ within_of env site around known there = record {
   constants = known.constants;
   heads = around.heads;
 }
+
+-- calls that name functions of the site name those that are known
+pub own_calls : (env : Environment) (site : Site) → Around env site → (e : NamedExpr) → calls_functions site.earlier e ≡ true → calls_functions env.units e ≡ true
+own_calls env site around e calls = ap (λ units. calls_functions units e) around.units ∙ calls
 
 -- ---- growth
 
@@ -74,17 +79,17 @@ grown_there before after site grown there k known is =
 
 -- ---- a site of what is known
 
-typed_at : (xs : List Variable) → ((k : ℕ) (known : Variable) → slice_get xs k ≡ Some known → (ty : Ty) × (known.ty ≡ Some ty)) → (k : ℕ) (known : Variable) (ty : Ty) → slice_get xs k ≡ Some known → known.ty ≡ Some ty →
+typed_at : (n : ℕ) (xs : List Variable) → ((k : ℕ) (known : Variable) → slice_get xs k ≡ Some known → VariableKnown n known) → (k : ℕ) (known : Variable) (ty : Ty) → slice_get xs k ≡ Some known → known.ty ≡ Some ty →
     slice_get (vars_of xs) k ≡ Some (var_typed known ty)
-typed_at [] typed k known ty is are = absurd (cc)
-typed_at (x ∷ xs) typed zero known ty is are =
+typed_at n [] typed k known ty is are = absurd (cc)
+typed_at n (x ∷ xs) typed zero known ty is are =
     let same : x ≡ known = same_Some x known is in
     ap (λ (x : Variable). slice_get (cons_option (var_of x) (vars_of xs)) 0) same
     ∙ ap (λ found. slice_get (cons_option (option_map (var_typed known) found) (vars_of xs)) 0) are
-typed_at (x ∷ xs) typed (suc k) known ty is are =
+typed_at n (x ∷ xs) typed (suc k) known ty is are =
     let first = typed 0 x refl in
-    ap (λ found. slice_get (cons_option (option_map (var_typed x) found) (vars_of xs)) (suc k)) first.1
-    ∙ typed_at xs (λ k known is. typed (suc k) known is) k known ty is are
+    ap (λ found. slice_get (cons_option (option_map (var_typed x) found) (vars_of xs)) (suc k)) first.is_typed
+    ∙ typed_at n xs (λ k known is. typed (suc k) known is) k known ty is are
 
 abbrev pub site_in : Environment → Site
 site_in env = record { structs = env.structs; earlier = env.units; kind = env.kind; vars = vars_of env.vars; result = env.result }
@@ -93,7 +98,7 @@ site_in env = record { structs = env.structs; earlier = env.units; kind = env.ki
 pub there_in : (env : Environment) → Known env → VariablesThere env (site_in env)
 there_in env known k var is =
     let typed = known.vars k var is in
-    record { var = var_typed var typed.0; is_there = typed_at env.vars known.vars k var typed.0 is typed.1; name = refl; ty = typed.1; role = refl }
+    record { var = var_typed var typed.ty; is_there = typed_at (length env.structs) env.vars known.vars k var typed.ty is typed.is_typed; name = refl; ty = typed.is_typed; role = refl }
 
 pub within_in : (env : Environment) (site : Site) → Around env site → Known env → Within env (site_in env)
 within_in env site around known = record {

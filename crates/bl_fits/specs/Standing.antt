@@ -1,11 +1,13 @@
 -- What stands around statements: what they see, what is known before and after them, and how it grows.
-use Rattle.std.specs.Prelude.{◌≡◌, ℕ, Bool, true, ◌&&◌, ◌||◌, is_some, List, [], ◌∷◌, ◌++◌, map, take, slice_get, Option, Some, None}
+use Rattle.std.specs.Prelude.{◌≡◌, ℕ, Bool, true, ◌&&◌, ◌||◌, is_some, List, [], ◌∷◌, ◌++◌, length, map, take, slice_get, Option, Some, None, option_and_then}
 use Rattle.std.specs.List.{list_all}
 use Rattle.bl_tree.specs.declared.tree.StructDef.{StructDef}
 use Rattle.bl_tree.specs.declared.tree.Ty.{Ty}
 use Rattle.bl_tree.specs.declared.tree.Unit.{Unit as UnitDef}
+use Rattle.bl_tree.specs.Program.{is_entry, names_of, roles_stand}
 use Rattle.bl_tree.specs.Reduce.{all_of}
-use Rattle.bl_tree.specs.Types.{type_stands}
+use Rattle.bl_tree.specs.Returns.{unit_returns}
+use Rattle.bl_tree.specs.Types.{scalar_in, type_stands}
 use Rattle.bl_tree.specs.Typing.{Site, fits, is_activity, is_fixed, is_function, is_inhabited, is_variable, site_of}
 use Rattle.bl_named.specs.declared.expr.NamedExpr.{NamedExpr}
 use Rattle.bl_named.specs.declared.item.NamedConstant.{NamedConstant}
@@ -20,6 +22,7 @@ use Rattle.bl_types.specs.declared.environment.Constant.{Constant}
 use Rattle.bl_types.specs.declared.environment.Environment.{Environment}
 use Rattle.bl_types.specs.declared.environment.Variable.{Variable}
 use Rattle.bl_types.specs.Statements.{Block, Walked}
+use Rattle.bl_types.specs.Units.{drives, is_scalar}
 use Rattle.bl_fits.specs.Within.{ConstantStands, VariableThere, calls_functions, has_parameters, known_in, target_calls}
 
 -- ---- what naming a spelled tree gives
@@ -79,14 +82,38 @@ pub record Around (env : Environment) (site : Site) : Type 0 where
   pub result : env.result ≡ site.result
   pub heads : list_all has_parameters site.earlier ≡ true
 
--- each variable has a type, and each constant is a number of a scalar type
+-- a variable has a type, which names structs that are declared before it
+pub record VariableKnown (structs : ℕ) (known : Variable) : Type 0 where
+  pub ty : Ty
+  pub is_typed : known.ty ≡ Some ty
+  pub stands : type_stands structs ty ≡ true
+
+-- each variable has a type, each constant is a number of a scalar type, and the fields of structs have types
 pub record Known (env : Environment) : Type 0 where
-  pub vars : (k : ℕ) (known : Variable) → slice_get env.vars k ≡ Some known → (ty : Ty) × (known.ty ≡ Some ty)
+  pub vars : (k : ℕ) (known : Variable) → slice_get env.vars k ≡ Some known → VariableKnown (length env.structs) known
+  pub fields : FieldsStand env.structs
   pub constants : (k : ℕ) (constant : Constant) → slice_get env.constants k ≡ Some constant → ConstantStands constant
 
 -- each variable is the one of the site at its position
 abbrev pub VariablesThere : Environment → Site → Type 0
 VariablesThere env site = (k : ℕ) (known : Variable) → slice_get env.vars k ≡ Some known → VariableThere site k known
+
+-- whether a type is there, and is scalar
+abbrev pub has_scalar : Option Ty → Bool
+has_scalar ty = is_some (option_and_then scalar_in ty)
+
+-- a variable is that of the unit at this position, and has a scalar type where one is written
+pub record NamedAs (vars : List NamedVar) (k : ℕ) (known : Variable) : Type 0 where
+  pub var : NamedVar
+  pub is_there : slice_get vars k ≡ Some var
+  pub name : known.name ≡ var.name.text
+  pub place : known.place ≡ var.name.place
+  pub role : known.role ≡ var.role
+  pub scalar : is_scalar var.ty ≡ true → has_scalar known.ty ≡ true
+
+-- each of the variables is that of the unit at its position
+abbrev pub VariablesNamed : List NamedVar → List Variable → Type 0
+VariablesNamed vars variables = (k : ℕ) (known : Variable) → slice_get variables k ≡ Some known → NamedAs vars k known
 
 -- variables and constants are added alone
 pub record Grown (before after : Environment) : Type 0 where
@@ -128,11 +155,24 @@ pub record Between (env : Environment) : Type 0 where
 abbrev pub unit_named : List NamedConstant → List UnitDef → NamedUnit → Bool
 unit_named constants units unit = list_all (λ var. is_some var.ty) (take (parameters unit) unit.vars) && list_all (stmt_named constants unit.vars units) unit.body
 
--- what is known after a unit: as much as is counted, and the unit with its types, each of whose statements fits
-pub record UnitPassed (structs : List StructDef) (before : Environment) (counts : Earlier) (after : Environment) : Type 0 where
+-- what is known after a unit: as much as is counted, and the unit with its types, each of whose
+-- statements fits, and whose variables have types that stand, and the names and roles that are named
+pub record UnitPassed (structs : List StructDef) (unit : NamedUnit) (before : Environment) (counts : Earlier) (after : Environment) : Type 0 where
   pub between : Between after
   pub counts_are : known_in after ≡ counts
   pub same_structs : after.structs ≡ before.structs
   pub made : UnitDef
   pub is_made : after.units ≡ before.units ++ made ∷ []
   pub is_good : list_all (fits (site_of structs before.units made)) made.body ≡ true
+  pub vars_stand : list_all (λ var. type_stands (length structs) var.ty) made.vars ≡ true
+  pub roles : roles_stand made ≡ true
+  pub names : names_of made.vars ≡ map (λ var. var.name.text) unit.vars
+  pub kind : made.kind ≡ unit.kind
+  pub entry : drives unit ≡ true → is_entry (Some made) ≡ true
+  pub returns : unit_returns made ≡ true
+
+-- the unit at the position is one that the environment can drive
+pub record IsDriven (units : List NamedUnit) (k : ℕ) : Type 0 where
+  pub unit : NamedUnit
+  pub is_there : slice_get units k ≡ Some unit
+  pub is_driven : drives unit ≡ true

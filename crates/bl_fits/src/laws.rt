@@ -2,6 +2,7 @@
 
 ghost use Rattle.std.specs.Prelude.{◌≡◌, List, true, false, [], ◌++◌, Option, Some, length, map};
 ghost use Rattle.std.specs.List.{list_all};
+ghost use Rattle.bl_tree.specs.declared.place.Place.{Place as TextPlace};
 ghost use Rattle.bl_tree.specs.declared.tree.Expr.{Expr};
 ghost use Rattle.bl_tree.specs.declared.tree.Field.{Field};
 ghost use Rattle.bl_tree.specs.declared.tree.Path.{Path};
@@ -19,17 +20,17 @@ ghost use Rattle.bl_named.specs.declared.item.NamedUnit.{NamedUnit};
 ghost use Rattle.bl_named.specs.declared.item.NamedVar.{NamedVar};
 ghost use Rattle.bl_named.specs.declared.stmt.NamedStmt.{NamedStmt};
 ghost use Rattle.bl_named.specs.declared.types.NamedType.{NamedType};
-ghost use Rattle.bl_named.specs.Placed.{Earlier, expr_placed, in_turn, path_placed, stmt_step, struct_placed, target_placed, type_placed, unit_step};
+ghost use Rattle.bl_named.specs.Placed.{Earlier, constant_placed, expr_placed, in_turn, path_placed, stmt_step, struct_placed, target_placed, type_placed, unit_step};
 ghost use Rattle.bl_types.specs.declared.environment.Constant.{Constant};
 ghost use Rattle.bl_types.specs.declared.environment.Environment.{Environment};
 ghost use Rattle.bl_types.specs.declared.form.Found.TheVariants.{Place};
 ghost use Rattle.bl_types.specs.Declarations.{after_constant, after_struct, constant_of, initial, struct_of};
 ghost use Rattle.bl_types.specs.Expressions.{in_context, judged, targeted};
 ghost use Rattle.bl_types.specs.Statements.{all_lent, immutable, lent, paths_failures, walked_block, walked_stmt};
-ghost use Rattle.bl_types.specs.Units.{after_unit};
+ghost use Rattle.bl_types.specs.Units.{after_unit, entries, entry_among};
 ghost use Rattle.bl_types.specs.Written.{bad_lengths, written_type};
 ghost use Rattle.bl_fits.specs.Fitting.{AllLent, FormFits, FoundFits, InitialFits, IsLent, SettledFits};
-ghost use Rattle.bl_fits.specs.Standing.{Around, Between, BlockPassed, FieldsStand, Known, Passed, UnitPassed, stmt_named, unit_named};
+ghost use Rattle.bl_fits.specs.Standing.{Around, Between, BlockPassed, FieldsStand, IsDriven, Known, Passed, UnitPassed, stmt_named, unit_named};
 ghost use Rattle.bl_fits.specs.Within.{ConstantStands, Within, calls_functions, known_in, target_calls};
 
 /// An expression in which no rule on types fails is open or has a type, and the type that is wanted of it where one is;
@@ -63,9 +64,11 @@ pub fn statements_fit()
 {}
 
 /// Where no rule fails in a unit, each statement of the unit with its types fits: it sees the units before its own, and the structs of
-/// the whole program, of which those that are known are the first.
+/// the whole program, of which those that are known are the first. Its variables have types that stand, and names and roles as they
+/// are named; it returns as its result asks. Where rule Entry doesn't fail, the entry is a unit that the environment can drive.
 pub fn units_fit()
-    ensures one { (constants : List NamedConstant) (unit : NamedUnit) (env : Environment) (structs later : List StructDef) → structs ≡ env.structs ++ later → Between env → unit_named constants env.units unit ≡ true → (counts : Earlier) → unit_step constants unit (known_in env) ≡ Some counts → (after_unit constants unit env).failures ≡ [] → UnitPassed structs env counts (after_unit constants unit env).env }
+    ensures one { (constants : List NamedConstant) (unit : NamedUnit) (env : Environment) (structs later : List StructDef) → structs ≡ env.structs ++ later → Between env → unit_named constants env.units unit ≡ true → (counts : Earlier) → unit_step constants unit (known_in env) ≡ Some counts → (after_unit constants unit env).failures ≡ [] → UnitPassed structs unit env counts (after_unit constants unit env).env }
+    ensures entry { (end : TextPlace) (units : List NamedUnit) → entries false end units ≡ [] → IsDriven units (entry_among units 0) }
 {}
 
 /// A written type none of whose lengths fails names structs that are declared before it, and its lengths are from 1 to 65536; so do the
@@ -74,4 +77,10 @@ pub fn types_stand()
     ensures written { (earlier : Earlier) (constants : List Constant) (ty : NamedType) → type_placed earlier ty ≡ true → bad_lengths constants ty ≡ [] → type_stands earlier.structs (written_type constants ty) ≡ true }
     ensures fields { (def : NamedStruct) (env : Environment) → struct_placed (known_in env) def ≡ true → (after_struct def env).failures ≡ [] → list_all (λ (field : Field). type_stands (length env.structs) field.ty) (struct_of env def).fields ≡ true }
     ensures typed { (site : Site) → FieldsStand site.structs → list_all (λ (var : Var). type_stands (length site.structs) var.ty) site.vars ≡ true → (e : Expr) (ty : Ty) → type_of site e ≡ Some ty → type_stands (length site.structs) ty ≡ true }
+{}
+
+/// What is known between units is so after a struct and after a constant in which no rule fails, as it is after a unit.
+pub fn items_fit()
+    ensures structure { (def : NamedStruct) (env : Environment) → Between env → struct_placed (known_in env) def ≡ true → (after_struct def env).failures ≡ [] → Between (after_struct def env).env }
+    ensures constant { (constant : NamedConstant) (env : Environment) → Between env → constant_placed (known_in env) constant ≡ true → calls_functions env.units constant.value ≡ true → (after_constant constant env).failures ≡ [] → Between (after_constant constant env).env }
 {}
