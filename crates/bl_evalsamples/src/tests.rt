@@ -3,7 +3,8 @@
 use bl_eval::{Did, Got, Values, act, value};
 use bl_lex::lex;
 use bl_parse::parse;
-use bl_recognise::recognise;
+use bl_program::check;
+use bl_rawkeeps::laws::what_is_spelled_keeps;
 use bl_tree::tree::{Expr, Stmt, StmtKind};
 use bl_tree::{List, NoMemory, Program, Value};
 use std::alloc::Global;
@@ -13,6 +14,7 @@ const ADDS: &str =
 
 /// The program that a short text spells; none where a rule refuses it or memory ends.
 fn program_of(alloc: Global, text: &[u8]) -> Option<Program> {
+    what_is_spelled_keeps();
     if text.len() > 1_000 {
         return None;
     }
@@ -22,7 +24,7 @@ fn program_of(alloc: Global, text: &[u8]) -> Option<Program> {
     let Ok(raw) = parse(alloc, text, &tokens) else {
         return None;
     };
-    let Ok(program) = recognise(alloc, &raw) else {
+    let Ok(program) = check(alloc, &raw) else {
         return None;
     };
     Some(program)

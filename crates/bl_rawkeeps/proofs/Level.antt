@@ -184,7 +184,7 @@ module _ {text : List ℕ} {tokens : List Token} where
   field : {one : RawField} {from to : ℕ} → SpellsField text tokens one from to → Level tokens from to
   field h = then (token h.word refl) (then (token h.name.token refl) (typing h.ty))
 
-  field_list : {all : List RawField} {from to : ℕ} → SpellsFieldList text tokens all from to → Level tokens from to
+  pub field_list : {all : List RawField} {from to : ℕ} → SpellsFieldList text tokens all from to → Level tokens from to
   field_list (SpellsFieldList.first one is) = field one
   field_list (SpellsFieldList.more others one is) = then (field_list others) (field one)
 

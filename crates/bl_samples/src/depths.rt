@@ -20,11 +20,11 @@ struct Nest {
 }
 
 const IFS: Nest = Nest {
-    before: "@[EntryPoint] activity M ()() ",
+    before: "@[EntryPoint] activity M ()(o: int8) ",
     open: "if true then ",
-    middle: "await true",
+    middle: "o = 1",
     close: " end",
-    after: " end",
+    after: " await true end",
 };
 
 const PARENTHESES: Nest = Nest {
@@ -53,7 +53,7 @@ fn the_activity_and_99_blocks_are_open_at_most(rt: HostRuntime) -> Result<(), Fa
     let text = nested(rt.alloc(), &IFS, 99)?;
     assert!(rt; answers(rt.alloc(), &text, 12, "not built\n")?);
     let text = nested(rt.alloc(), &IFS, 100)?;
-    assert!(rt; answers(rt.alloc(), &text, 1, "rule 4 Depth 1317-1319\n")?);
+    assert!(rt; answers(rt.alloc(), &text, 1, "rule 4 Depth 1324-1326\n")?);
     Ok(())
 }
 

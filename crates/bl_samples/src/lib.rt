@@ -14,3 +14,5 @@ mod run;
 mod texts;
 #[cfg(test)]
 mod types;
+#[cfg(test)]
+mod units;

@@ -1,23 +1,19 @@
 //! Texts that pass the rules on names, and texts that fail one of them (docs/LANGUAGE.md, "Scopes" and "Kinds").
 
-use crate::run::answers;
-use std::alloc::Global;
+use crate::run::{Row, answers, are_refused};
 use std::test::Fail;
 
 /// Inner names hide outer ones, and each use is of a declaration that ends before it. None of these is of a form that is built.
 const PASSING: [&str; 8] = [
     "const N: int32 = 5 function F (N: int32) returns int32 return N end @[EntryPoint] activity M () await true end",
-    "const N: int32 = 5 activity A () var N: int32 N = 1 end @[EntryPoint] activity M () await true end",
-    "activity A (a: int32) if true then var a: int32 a = 1 else var a: bool a = true end end @[EntryPoint] activity M () await true end",
-    "activity A () var x: bool repeat var x: int32 x = 1 until x end end @[EntryPoint] activity M () await true end",
+    "const N: int32 = 5 activity A () var N: int32 N = 1 await true end @[EntryPoint] activity M () await true end",
+    "activity A (a: int32) if true then var a: int32 a = 1 else var a: bool a = true end await true end @[EntryPoint] activity M () await true end",
+    "activity A () var x: bool repeat var x: int32 x = 1 await true until x end end @[EntryPoint] activity M () await true end",
     "const n: int32 = 2 struct S var n: int32 var a: [n]int32 end struct T var n: S end @[EntryPoint] activity M () await true end",
-    "activity A () end activity B () var C: int32 run A() end @[EntryPoint] activity M () await true end",
-    "function F () return end function G () F() end activity A ()(y: int32) var x: int32 y = prev x end @[EntryPoint] activity M () await true end",
-    "function F () returns int32 return 1 end activity A () var F: int32 = F() F = 2 end @[EntryPoint] activity M () await true end",
+    "activity A () await true end activity B () var C: int32 run A() end @[EntryPoint] activity M () await true end",
+    "function F () return end function G () F() end activity A ()(y: int32) var x: int32 y = prev x await true end @[EntryPoint] activity M () await true end",
+    "function F () returns int32 return 1 end activity A () var F: int32 = F() F = 2 await true end @[EntryPoint] activity M () await true end",
 ];
-
-/// A text, and the line that refuses it.
-type Row = (&'static str, &'static str);
 
 /// Names that a scope declares twice, and fields of one struct.
 const DUPLICATE: [Row; 6] = [
@@ -133,15 +129,6 @@ fn names_that_pass(rt: HostRuntime) -> Result<(), Fail> {
         assert!(rt; answers(rt.alloc(), text, 12, "not built\n")?, "{text}");
     }
     Ok(())
-}
-
-fn are_refused(alloc: Global, rows: &[Row]) -> Result<bool, Fail> {
-    for (text, line) in rows.iter() {
-        if !answers(alloc, text, 1, line)? {
-            return Ok(false);
-        }
-    }
-    Ok(true)
 }
 
 #[test]

@@ -5,6 +5,9 @@ use bl_top::blechc;
 use std::alloc::Global;
 use std::test::Fail;
 
+/// A text, and the line that refuses it.
+pub type Row = (&'static str, &'static str);
+
 /// What a call of `build` answers to a text.
 #[derive(Drop)]
 pub struct Answer {
@@ -30,4 +33,14 @@ pub fn built(alloc: Global, text: &[u8]) -> Result<Answer, Fail> {
 pub fn answers(alloc: Global, text: &str, status: u8, line: &str) -> Result<bool, Fail> {
     let answer = built(alloc, text.as_bytes())?;
     Ok(answer.status == status && answer.notes.held() == line.as_bytes())
+}
+
+/// Whether each text is refused with its line.
+pub fn are_refused(alloc: Global, rows: &[Row]) -> Result<bool, Fail> {
+    for (text, line) in rows.iter() {
+        if !answers(alloc, text, 1, line)? {
+            return Ok(false);
+        }
+    }
+    Ok(true)
 }

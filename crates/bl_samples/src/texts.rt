@@ -14,7 +14,7 @@ const BUILT: &str = "";
 
 const UNBUILT: &str = "not built\n";
 
-const ROWS: [Row; 35] = [
+const ROWS: [Row; 42] = [
     Row {
         text: "@[EntryPoint] activity M ()(on: bool) repeat on = true await true on = false await true end end",
         status: 0,
@@ -51,6 +51,27 @@ const ROWS: [Row; 35] = [
         status: 0,
         line: BUILT,
     },
+    // and the typed tree alone: a constant is its number, and its declaration is no statement
+    Row {
+        text: "const C = 1 @[EntryPoint] activity M () repeat await true end end",
+        status: 0,
+        line: BUILT,
+    },
+    Row {
+        text: "const C = 2 * 3 @[EntryPoint] activity M ()(o: int32) repeat o = o + C await true end end",
+        status: 0,
+        line: BUILT,
+    },
+    Row {
+        text: "@[EntryPoint] activity M ()(o: int32) repeat const C: int32 = 5 o = C await true end end",
+        status: 0,
+        line: BUILT,
+    },
+    Row {
+        text: "@[EntryPoint] activity M ()(o: int32) repeat o = -0 await true end end",
+        status: 0,
+        line: BUILT,
+    },
     // other forms
     Row {
         text: "",
@@ -60,13 +81,13 @@ const ROWS: [Row; 35] = [
     },
     Row {
         text: "@[EntryPoint] activity M ()() cobegin end end",
-        status: 12,
-        line: UNBUILT,
+        status: 1,
+        line: "rule 18 Pause 23-24\n",
     },
     Row {
         text: "@[EntryPoint] activity M ()(o: int32) repeat o = 1 end end",
-        status: 12,
-        line: UNBUILT,
+        status: 1,
+        line: "rule 21 Instant 38-54\n",
     },
     Row {
         text: "activity M ()(o: int32) repeat o = 1 await true end end",
@@ -125,12 +146,27 @@ const ROWS: [Row; 35] = [
         line: UNBUILT,
     },
     Row {
-        text: "const C = 1 @[EntryPoint] activity M () repeat await true end end",
+        text: "@[EntryPoint] activity M () await true end",
         status: 12,
         line: UNBUILT,
     },
     Row {
-        text: "@[EntryPoint] activity M () await true end",
+        text: "@[EntryPoint] activity M ()(o: int32) repeat o = 5 as int32 await true end end",
+        status: 12,
+        line: UNBUILT,
+    },
+    Row {
+        text: "@[EntryPoint] activity M ()(o: int32) repeat const C: int32 = -5 o = C await true end end",
+        status: 12,
+        line: UNBUILT,
+    },
+    Row {
+        text: "@[EntryPoint] activity M ()(o: int32) const C: int32 = 1 repeat var x: int32 = C o = x await true end end",
+        status: 12,
+        line: UNBUILT,
+    },
+    Row {
+        text: "function F () end @[EntryPoint] activity M ()(o: int32) repeat o = 1 await true end end",
         status: 12,
         line: UNBUILT,
     },

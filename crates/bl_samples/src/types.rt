@@ -1,11 +1,7 @@
 //! Texts that pass the rules on types, and texts that fail one of them (docs/LANGUAGE.md, "Types" and "Rules").
 
-use crate::run::answers;
-use std::alloc::Global;
+use crate::run::{Row, answers, are_refused};
 use std::test::Fail;
-
-/// A text, and the line that refuses it.
-type Row = (&'static str, &'static str);
 
 /// None of these is of a form that is built.
 const PASSING: [&str; 4] = [
@@ -316,15 +312,6 @@ fn types_that_pass(rt: HostRuntime) -> Result<(), Fail> {
         assert!(rt; answers(rt.alloc(), text, 12, "not built\n")?, "{text}");
     }
     Ok(())
-}
-
-fn are_refused(alloc: Global, rows: &[Row]) -> Result<bool, Fail> {
-    for (text, line) in rows.iter() {
-        if !answers(alloc, text, 1, line)? {
-            return Ok(false);
-        }
-    }
-    Ok(true)
 }
 
 #[test]

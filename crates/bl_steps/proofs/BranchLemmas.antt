@@ -1,8 +1,6 @@
 -- The points of branches, one branch after another.
-use Rattle.std.proofs.Common.{◌≡◌, ℕ, zero, suc, ◌+◌, ◌-◌, ◌<◌, ◌≤◌, Bool, true, false, not, ◌&&◌, ◌||◌, cond, List, [], ◌∷◌, ◌++◌, map, filter, take, drop, length, get_or, refl, sym, ap, ◌∙◌, arith, append_assoc, append-nil}
+use Rattle.std.proofs.Common.{◌≡◌, ℕ, zero, suc, ◌+◌, ◌<◌, ◌≤◌, Bool, true, false, not, ◌&&◌, ◌||◌, cond, List, [], ◌∷◌, ◌++◌, map, filter, take, drop, length, get_or, refl, sym, ap, ◌∙◌, arith, append_assoc, append-nil}
 use Rattle.std.specs.List.{list_any}
-use Rattle.std.proofs.Math.Seq.{take-length}
-use Rattle.std.proofs.lemmas.List.{length-drop}
 use Rattle.std.proofs.lemmas.List.Elements.{filter-append}
 use Rattle.std.proofs.lemmas.List.Folds.{list_any-append}
 use Rattle.bl_ctree.specs.Actions.{Action, reads_of}
@@ -17,7 +15,7 @@ use Rattle.bl_pending.proofs.WriteLemmas.{writes_over}
 
 -- ---- what meets what
 
-any_same : {A : Type 0} (f g : A → Bool) (xs : List A) → ((x : A) → f x ≡ g x) → list_any f xs ≡ list_any g xs
+pub any_same : {A : Type 0} (f g : A → Bool) (xs : List A) → ((x : A) → f x ≡ g x) → list_any f xs ≡ list_any g xs
 any_same f g [] same = refl
 any_same f g (x ∷ xs) same = λ i. same x i || any_same f g xs same i
 
@@ -29,7 +27,7 @@ or_four false true false d = refl
 or_four false false true d = refl
 or_four false false false d = refl
 
-any_or : {A : Type 0} (f g : A → Bool) (xs : List A) → list_any (λ x. f x || g x) xs ≡ (list_any f xs || list_any g xs)
+pub any_or : {A : Type 0} (f g : A → Bool) (xs : List A) → list_any (λ x. f x || g x) xs ≡ (list_any f xs || list_any g xs)
 any_or f g [] = refl
 any_or f g (x ∷ xs) = ap (λ b. (f x || g x) || b) (any_or f g xs) ∙ or_four (f x) (g x) (list_any f xs) (list_any g xs)
 
@@ -95,7 +93,7 @@ spot_from w path k p = record (spot_below w [] p) { path = path ++ numbered k p.
 abbrev pub is_free : List (List Location) → Spot → Bool
 is_free others spot = not (taken others spot.reads)
 
-not_or : (a b : Bool) → not (a || b) ≡ (not a && not b)
+pub not_or : (a b : Bool) → not (a || b) ≡ (not a && not b)
 not_or true b = refl
 not_or false b = refl
 
@@ -110,6 +108,17 @@ take_more zero [] x rest e = absurd cc
 take_more zero (y ∷ xs) x rest e = let same : y ≡ x = cc in ap (λ z. z ∷ []) same
 take_more (suc k) [] x rest e = absurd cc
 take_more (suc k) (y ∷ xs) x rest e = ap (λ zs. y ∷ zs) (take_more k xs x rest e)
+
+-- nothing is left behind the last
+pub none_left : {A : Type 0} (xs : List A) (k : ℕ) → length xs ≤ k → drop k xs ≡ []
+none_left [] zero past = refl
+none_left [] (suc k) past = refl
+none_left (x ∷ xs) zero past = absurd (omega arith)
+none_left (x ∷ xs) (suc k) past = none_left xs k (omega arith)
+
+pub drop_all : {A : Type 0} (xs : List A) → drop 0 xs ≡ xs
+drop_all [] = refl
+drop_all (x ∷ xs) = refl
 
 module _ (w : Setting) (i : ℕ) (path : List ℕ) where
   abbrev behind : List Seen → List (Point Branches)
@@ -184,10 +193,6 @@ module _ (w : Setting) (i : ℕ) (path : List ℕ) where
       ∙ ap (λ front. filter (is_free_of ps k) (map (spot_below w (path ++ k ∷ [])) (points w i b.tree)) ++ filter (is_free front) (map (spot_from w path (suc k)) (behind rest)))
       (sym (take_more k ps (homes_seen w i b) (map (homes_seen w i) rest) ahead))
 
-  drop_all : {A : Type 0} (xs : List A) → drop 0 xs ≡ xs
-  drop_all [] = refl
-  drop_all (x ∷ xs) = refl
-
   -- before the loop over the branches
   pub loop_starts : (ps : List (List Location)) (bs : List Seen) (done : List Spot)
       → done ++ filter (is_free (take 0 ps)) (map (spot_from w path 0) (behind (drop 0 bs))) ≡ done ++ map (spot_below w path) (behind bs)
@@ -220,42 +225,9 @@ module _ (w : Setting) (i : ℕ) (path : List ℕ) where
       → done ++ filter (is_free (take k ps)) (map (spot_from w path k) (behind (drop k all))) ≡ start → done ≡ start
   loop_ends all ps k done start past before =
       sym (ap (λ rest. done ++ filter (is_free (take k ps)) (map (spot_from w path k) (behind rest))) (none_left all k past) ∙ append-nil done) ∙ before
-    where
-      none_left : (all : List Seen) (k : ℕ) → length all ≤ k → drop k all ≡ []
-      none_left [] zero past = refl
-      none_left [] (suc k) past = refl
-      none_left (b ∷ all) zero past = absurd (omega arith)
-      none_left (b ∷ all) (suc k) past = none_left all k (omega arith)
 
 -- the branch with number k
 pub branch_here : {A : Type 0} (f : A → Seen) (xs : List A) (k : ℕ) (x : A) → k < length xs → x ≡ get_or xs k x → drop k (map f xs) ≡ f x ∷ drop (suc k) (map f xs)
 branch_here f [] k x within is = absurd (omega arith)
-branch_here f (y ∷ xs) zero x within is = ap (λ z. f z ∷ map f xs) (sym is) ∙ ap (λ rest. f x ∷ rest) (sym (drop_none (map f xs)))
-  where
-    drop_none : (ys : List Seen) → drop 0 ys ≡ ys
-    drop_none [] = refl
-    drop_none (y ∷ ys) = refl
+branch_here f (y ∷ xs) zero x within is = ap (λ z. f z ∷ map f xs) (sym is) ∙ ap (λ rest. f x ∷ rest) (sym (drop_all (map f xs)))
 branch_here f (y ∷ xs) (suc k) x within is = branch_here f xs k x (omega arith) is
-
--- ---- as the code tests it
-
-map-take : {A B : Type 0} (f : A → B) (k : ℕ) (xs : List A) → take k (map f xs) ≡ map f (take k xs)
-map-take f zero [] = refl
-map-take f zero (x ∷ xs) = refl
-map-take f (suc k) [] = refl
-map-take f (suc k) (x ∷ xs) = ap (λ rest. f x ∷ rest) (map-take f k xs)
-
-take_rest : {A : Type 0} (k : ℕ) (xs : List A) → take (length xs - k) (drop k xs) ≡ drop k xs
-take_rest k xs = ap (λ n. take n (drop k xs)) (sym (length-drop k xs)) ∙ take-length (drop k xs)
-
-pub not_free : {P : Type 0} (f : P → List Location) (pending : List P) (k : ℕ) (reads : List Location) (a : Bool) → a ≡ taken (map f (take k pending)) reads → a ≡ true
-    → not a ≡ (not (taken (take k (map f pending)) reads) && not (taken (drop (k + 1) (map f pending)) reads))
-not_free f pending k reads a is holds =
-    ap not holds ∙ sym (ap (λ b. not b && not (taken (drop (k + 1) (map f pending)) reads)) (ap (λ front. taken front reads) (map-take f k pending) ∙ sym is ∙ holds))
-
-pub free_beside : {P : Type 0} (f : P → List Location) (pending : List P) (k : ℕ) (reads : List Location) (a b : Bool) → k < length pending → a ≡ taken (map f (take k pending)) reads → a ≡ false
-    → b ≡ taken (map f (take (length pending - (k + 1)) (drop (k + 1) pending))) reads
-    → not b ≡ (not (taken (take k (map f pending)) reads) && not (taken (drop (k + 1) (map f pending)) reads))
-free_beside f pending k reads a b within is none is_b =
-    ap not (is_b ∙ ap (λ rest. taken (map f rest) reads) (take_rest (k + 1) pending) ∙ ap (λ rest. taken rest reads) (sym (drop_map f (k + 1) pending)))
-    ∙ sym (ap (λ b. not b && not (taken (drop (k + 1) (map f pending)) reads)) (ap (λ front. taken front reads) (map-take f k pending) ∙ sym is ∙ none))

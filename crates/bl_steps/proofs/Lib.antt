@@ -5,3 +5,4 @@ pub mod NodeLemmas
 pub mod OutputLemmas
 pub mod OwnLemmas
 pub mod TreeLemmas
+pub mod WriterLemmas

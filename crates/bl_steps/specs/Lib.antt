@@ -1,3 +1,4 @@
 pub mod Outputs
 pub mod Running
 pub mod Spots
+pub mod Writers

@@ -20,7 +20,6 @@ use Rattle.bl_ctree.specs.Steps.{arm_items}
 use Rattle.bl_ctree.specs.Store.{Location, homes, overlap}
 use Rattle.bl_store.specs.Deeds.{effect_of}
 use Rattle.bl_store.specs.Seen.{Called, called_at, location_of}
-use Rattle.bl_steps.specs.declared.enabled.Pending.{Pending}
 use Rattle.bl_steps.specs.declared.point.Act.{Act}
 use Rattle.bl_steps.specs.declared.point.Effect.{Effect as EffectNode}
 use Rattle.bl_steps.specs.declared.point.Effect.TheVariants.{Asks as IsAsked, Does as IsDone}
@@ -120,10 +119,6 @@ own w i (Run s callee Body stood c) = if is_nil c then giving i s callee (kind_o
 -- what a branch may still write
 abbrev pub homes_seen : Setting → ℕ → Seen → List Location
 homes_seen w i b = homes w i (write_paths b.tree)
-
--- what the code has for a branch
-abbrev pub locations : Pending → List Location
-locations p = map location_of p.homes
 
 -- whether one of the lists of homes overlaps the home
 abbrev pub meets_one : List (List Location) → Location → Bool

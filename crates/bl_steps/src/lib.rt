@@ -10,6 +10,7 @@ mod point;
 mod points;
 mod start;
 pub mod tree;
+mod writers;
 
 pub use action::Action;
 pub use tree::Tree;

@@ -6,8 +6,9 @@ ghost use Rattle.bl_ctree.specs.Points.{branch_points, points};
 ghost use Rattle.bl_store.specs.Seen.{setting_in};
 ghost use Rattle.bl_steps.specs.Spots.{spot_below, spot_of};
 
-use crate::enabled::{all_pending, append_free};
+use crate::enabled::append_free;
 use crate::point::{Point, own, push};
+use crate::writers::Writers;
 use bl_ctree::copying::inside;
 use bl_ctree::node::{Branch, Node, Phase};
 use bl_store::Setting;
@@ -54,13 +55,12 @@ fn branch_points<'a>(
 ) -> Result<(), NoMemory>
     ensures { OnOk result (map spot_of into.new ≡ map spot_of into.old ++ map (spot_below (setting_in w.now) path.now) (branch_points (setting_in w.now) i (branches_of (map seen_of branches.now)))) }
 {
-    let all = all_pending(alloc, w, i, branches)?;
-    let pending = all.as_slice();
+    let writers = Writers::of(alloc, w, i, branches)?;
     for k in 0..branches.len() {
         let inner = inside(alloc, path, k)?;
         let mut found = List::new(alloc);
         points(alloc, w, i, &branches[k].tree, &inner, &mut found)?;
-        append_free(found, pending, k, into)?;
+        append_free(found, &writers, k, into)?;
     }
     Ok(())
 }

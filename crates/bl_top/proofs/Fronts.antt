@@ -1,31 +1,35 @@
 -- A source is read one byte past the longest that is accepted: what is judged of that front holds of the whole.
-use Rattle.std.proofs.Common.{◌≡◌, ℕ, ◌<◌, List, take, length, min, refl, sym, ap, subst, ◌∙◌, inl, inr, arith}
+use Rattle.std.proofs.Common.{◌≡◌, ℕ, ◌<◌, Bool, false, List, take, length, min, refl, sym, ap, subst, ◌∙◌, inl, inr, arith}
 use Rattle.std.proofs.lemmas.Bool.{cases_lt}
 use Rattle.std.proofs.lemmas.List.{length-take, take_all}
 use Rattle.std.specs.Prelude.{◌⊎◌, Option, Some, None}
 use Rattle.bl_io.specs.Left.{GivesUpTo}
 use Rattle.bl_lex.specs.Rules.{FailsFirst, FailsSize, Passes, IsRefusalOf as IsLexRefusalOf}
 use Rattle.bl_lex.specs.Tokens.{Lexes}
-use Rattle.bl_names.specs.Cause.{IsCause as IsNamesCause}
+use Rattle.bl_conflict.specs.Cause.{IsCause as IsUnitsCause}
+use Rattle.bl_early.specs.Form.{is_early}
+use Rattle.bl_effects.specs.Rules.{Passes as UnitsPass}
 use Rattle.bl_names.specs.Rules.{Passes as NamesPass}
 use Rattle.bl_parse.specs.Programs.{Spells}
+use Rattle.bl_program.specs.Cause.{IsCause as IsTypingCause}
+use Rattle.bl_program.specs.Programs.{IsProgramOf, named_of, typed_of}
 use Rattle.bl_syntax.specs.Rules.{IsRefusalOf as IsSyntaxRefusalOf, Passes as SyntaxPasses}
+use Rattle.bl_tree.specs.declared.program.Program.{Program}
 use Rattle.bl_tree.specs.declared.token.Token.{Token}
 use Rattle.bl_tree.specs.declared.place.Place.{Place}
 use Rattle.bl_tree.specs.declared.place.Refusal.{Refusal}
 use Rattle.bl_tree.specs.declared.place.Refusal.TheVariants.{Rule, NoMemory}
-use Rattle.bl_types.specs.Cause.{IsCause as IsTypesCause}
 use Rattle.bl_types.specs.Rules.{Passes as TypesPass}
 use Rattle.bl_top.specs.Build.{Leaves, source_limit}
 use Rattle.bl_top.specs.declared.outcome.Outcome.{Outcome}
 use Rattle.bl_top.specs.declared.status.Status.{Status}
 use Rattle.bl_top.specs.declared.status.Status.TheVariants as status
 use Rattle.bl_top.proofs.Ends.{leaves_as, left_nothing, refused_is_no_end, want_is_no_end}
-use Rattle.bl_top.specs.Refusals.{AcceptedText, IsJudged, IsRefusalOf, IsRefusedBy, IsTreeRefusalOf, RefusedBy, RefusedText, done, lexer, names, refusal_line, short, syntax, tree, types, unbuilt, unwritten}
-use Rattle.bl_top.specs.Sources.{HasTree, IsOfNoForm, IsTextOf, IsTextOfTree, IsTreeOf, Parses, named_of}
-use Rattle.bl_named.specs.declared.named.Named.{Named}
+use Rattle.bl_top.specs.Refusals.{AcceptedText, IsJudged, IsRefusalOf, IsRefusedBy, IsTreeRefusalOf, RefusedBy, RefusedText, done, lexer, refusal_line, short, syntax, tree, typing, unbuilt, units as failing_units, unwritten}
+use Rattle.bl_top.specs.Sources.{HasProgram, HasTree, IsOfNoForm, IsTextOf, IsTextOfParts, IsTextOfTree, IsTreeOf, Parses}
 use Rattle.bl_raw.specs.declared.raw.Raw.{Raw}
-use Rattle.bl_recognise.specs.Early.{early_of}
+use Rattle.bl_tree.specs.declared.tree.StructDef.{StructDef}
+use Rattle.bl_tree.specs.declared.tree.Unit.{Unit as UnitDef}
 
 -- a front that was cut is too long itself
 long_front : (whole got : List ℕ) → got ≡ take source_limit whole → source_limit < length whole → (1_048_576 < length got) × (1_048_576 < length whole)
@@ -48,21 +52,44 @@ whole_of_passing whole got front passes = elim (front_or_long whole got front) [
   | inr long ↦ absurd (passes 1 (record { start = 1_048_576; end = 1_048_577 }) (inl (refl, record { too_long = long.0; at = refl })))
 ]
 
-pub tree_of : (before : Option (List ℕ)) (got : List ℕ) (after : Option (List ℕ)) (raw : Raw) → GivesUpTo source_limit before got after → HasTree got raw → IsTreeOf before raw
+tree_of : (before : Option (List ℕ)) (got : List ℕ) (after : Option (List ℕ)) (raw : Raw) → GivesUpTo source_limit before got after → HasTree got raw → IsTreeOf before raw
 tree_of None got after raw read has = record { source = got; of_source = tt; has = has }
 tree_of (Some whole) got after raw read has = record { source = got; of_source = whole_of_passing whole got read.front has.passes; has = has }
 
-pub accepted_text : (before : Option (List ℕ)) (got : List ℕ) (after : Option (List ℕ)) (raw : Raw) → GivesUpTo source_limit before got after → HasTree got raw → AcceptedText before
-accepted_text before got after raw read has = record { raw = raw; tree = tree_of before got after raw read has }
+pub accepted_text : (before : Option (List ℕ)) (got : List ℕ) (after : Option (List ℕ)) (program : Program) → GivesUpTo source_limit before got after → HasProgram got program → AcceptedText before
+accepted_text before got after program read made = record { raw = made.raw; tree = tree_of before got after made.raw read made.has }
 
-pub unbuilt_text : (before : Option (List ℕ)) (got : List ℕ) (after : Option (List ℕ)) (raw : Raw) → GivesUpTo source_limit before got after → HasTree got raw → early_of raw ≡ None → IsOfNoForm before
-unbuilt_text before got after raw read has none = record { raw = raw; tree = tree_of before got after raw read has; none = none }
+-- the form of a program is that of its structs and units
+form_of : (b : Bool) (structs structs' : List StructDef) (units units' : List UnitDef) → structs ≡ structs' → units ≡ units' → is_early structs units ≡ b → is_early structs' units' ≡ b
+form_of b structs structs' units units' s u form = subst (λ us. is_early structs' us ≡ b) u (subst (λ ss. is_early ss units ≡ b) s form)
 
--- what is written for the tree is written for the source
-pub text_leaves : (left : Option (List ℕ)) (got : List ℕ) (rest : Option (List ℕ)) (raw : Raw) (before after : Option (List ℕ)) (ended : Status) → GivesUpTo source_limit left got rest → HasTree got raw →
-    Leaves (IsTextOfTree raw) before ended after → Leaves (IsTextOf left) before ended after
-text_leaves left got rest raw before after ended read has leaves =
-    leaves_as (IsTextOfTree raw) (IsTextOf left) before after ended (λ text is. record { raw = raw; tree = tree_of left got rest raw read has; is = is }) leaves
+pub unbuilt_text : (before : Option (List ℕ)) (got : List ℕ) (after : Option (List ℕ)) (program : Program) → GivesUpTo source_limit before got after → HasProgram got program →
+    is_early program.structs program.units ≡ false → IsOfNoForm before
+unbuilt_text before got after program read made none = record {
+  raw = made.raw;
+  tree = tree_of before got after made.raw read made.has;
+  none = form_of false program.structs (typed_of made.raw).structs program.units (typed_of made.raw).units made.is.structs made.is.units none;
+}
+
+-- what is written for the program is written for the tree
+text_of_tree : (text : List ℕ) (structs structs' : List StructDef) (units units' : List UnitDef) (entry entry' : ℕ) → structs ≡ structs' → units ≡ units' → entry ≡ entry' →
+    IsTextOfParts structs units entry text → IsTextOfParts structs' units' entry' text
+text_of_tree text structs structs' units units' entry entry' s u e is =
+    subst (λ n. IsTextOfParts structs' units' n text) e (subst (λ us. IsTextOfParts structs' us entry text) u (subst (λ ss. IsTextOfParts ss units entry text) s is))
+
+-- and so for the source
+text_of_source : (left : Option (List ℕ)) (got : List ℕ) (rest : Option (List ℕ)) (program : Program) (text : List ℕ) → GivesUpTo source_limit left got rest → HasProgram got program →
+    IsTextOfParts program.structs program.units program.entry text → IsTextOf left text
+text_of_source left got rest program text read made is = record {
+  raw = made.raw;
+  tree = tree_of left got rest made.raw read made.has;
+  is = text_of_tree text program.structs (typed_of made.raw).structs program.units (typed_of made.raw).units program.entry (typed_of made.raw).entry made.is.structs made.is.units made.is.entry is;
+}
+
+pub text_leaves : (left : Option (List ℕ)) (got : List ℕ) (rest : Option (List ℕ)) (program : Program) (before after : Option (List ℕ)) (ended : Status) → GivesUpTo source_limit left got rest → HasProgram got program →
+    Leaves (IsTextOfParts program.structs program.units program.entry) before ended after → Leaves (IsTextOf left) before ended after
+text_leaves left got rest program before after ended read made leaves =
+    leaves_as (IsTextOfParts program.structs program.units program.entry) (IsTextOf left) before after ended (λ text is. text_of_source left got rest program text read made is) leaves
 
 -- ---- what is refused
 
@@ -118,18 +145,25 @@ pub tree_refusal : (text : List ℕ) (raw : Raw) (refusal : Refusal) → Passes 
 tree_refusal text raw (Rule number place also) passes parses first = tree raw number place also passes parses first
 tree_refusal text raw NoMemory passes parses first = tt
 
-pub names_refusal : (raw : Raw) (refusal : Refusal) → IsNamesCause raw.items refusal → IsTreeRefusalOf raw refusal
-names_refusal raw (Rule number place also) first = names number place also first
-names_refusal raw NoMemory first = tt
+-- the tree has no typed program
+pub typing_refusal : (raw : Raw) (refusal : Refusal) → IsTypingCause raw refusal → IsTreeRefusalOf raw refusal
+typing_refusal raw (Rule number place also) first = typing number place also first
+typing_refusal raw NoMemory first = tt
 
-pub types_refusal : (raw : Raw) (named : Named) (refusal : Refusal) → named ≡ named_of raw → NamesPass raw.items → IsTypesCause named refusal → IsTreeRefusalOf raw refusal
-types_refusal raw named (Rule number place also) same passes first = types number place also passes (subst (λ n. IsTypesCause n (Rule number place also)) same first)
-types_refusal raw named NoMemory same passes first = tt
+-- or its units fail
+pub units_refusal : (raw : Raw) (program : Program) (refusal : Refusal) → IsProgramOf raw program → NamesPass raw.items → TypesPass (named_of raw) → IsUnitsCause program.units refusal → IsTreeRefusalOf raw refusal
+units_refusal raw program (Rule number place also) is names types first =
+    failing_units number place also names types (subst (λ us. IsUnitsCause us (Rule number place also)) is.units first)
+units_refusal raw program NoMemory is names types first = tt
 
--- what passed all rules has its tree
-pub tree_that_passes : (text : List ℕ) (tokens : List Token) (raw : Raw) → Passes text → Lexes text tokens → SyntaxPasses tokens → Spells text tokens raw → NamesPass raw.items → TypesPass (named_of raw) → HasTree text raw
-tree_that_passes text tokens raw passes lexes nests spells named typed =
-    record { passes = passes; parses = record { tokens = tokens; lexes = lexes; passes = nests; spells = spells }; names = named; types = typed }
+pub units_pass : (raw : Raw) (program : Program) → IsProgramOf raw program → UnitsPass program.units → UnitsPass (typed_of raw).units
+units_pass raw program is passes = subst UnitsPass is.units passes
+
+-- what passed all rules has its program
+pub program_that_passes : (text : List ℕ) (raw : Raw) (program : Program) → Passes text → Parses text raw → NamesPass raw.items → TypesPass (named_of raw) → UnitsPass (typed_of raw).units →
+    IsProgramOf raw program → HasProgram text program
+program_that_passes text raw program passes parses names types units is =
+    record { raw = raw; has = record { passes = passes; parses = parses; names = names; types = types; units = units }; is = is }
 
 pub tree_parsed : (text : List ℕ) (tokens : List Token) (raw : Raw) → Lexes text tokens → SyntaxPasses tokens → Spells text tokens raw → Parses text raw
 tree_parsed text tokens raw lexes nests spells = record { tokens = tokens; lexes = lexes; passes = nests; spells = spells }

@@ -1,9 +1,9 @@
 -- The C text of a program of the form has the one trace of the program.
-use Rattle.std.proofs.Common.{◌≡◌, ℕ, suc, ◌+◌, ℤ, List, [], ◌∷◌, Bool, true, false, ◌&&◌, refl, sym, ◌∙◌, ap, subst, length, arith}
+use Rattle.std.proofs.Common.{◌≡◌, ℕ, zero, suc, ◌+◌, ℤ, List, [], ◌∷◌, Bool, true, false, ◌&&◌, refl, sym, ◌∙◌, ap, subst, length, arith}
 use Rattle.std.proofs.lemmas.List.{length-take-le}
 use Rattle.std.proofs.lemmas.List.Elements.{All-cons, All-nil}
 use Rattle.std.proofs.lemmas.Bool.Decides.{nat_tests}
-use Rattle.std.specs.Prelude.{◌↔◌, Option, Some, None, unwrap_or, nat_eq}
+use Rattle.std.specs.Prelude.{◌↔◌, Option, Some, None, unwrap_or, nat_eq, slice_get}
 use Rattle.std.specs.List.{list_all}
 use Rattle.bl_cmeaning.specs.Parts.{parts_of}
 use Rattle.bl_cmeaning.specs.Trace.{c_trace}
@@ -19,15 +19,12 @@ use Rattle.bl_early.specs.Run.{trace_of}
 use Rattle.bl_earlyc.specs.Written.{RowsSuit, WrittenColumns, WrittenTrace, WrittenWellFormed, written}
 use Rattle.bl_earlytree.specs.Laws.{Early, EarlyIsBounded, EarlyIsNeverStuck, OneTrace as EarlyHasOneTrace}
 use Rattle.bl_earlytree.specs.Rows.{numbers_fit, row_fits}
-use Rattle.bl_raw.specs.declared.raw.Raw.{Raw}
-use Rattle.bl_recognise.specs.Early.{StandsFor}
-use Rattle.bl_tree.specs.declared.program.Program.{Program}
 use Rattle.bl_tree.specs.declared.tree.StructDef.{StructDef}
 use Rattle.bl_tree.specs.declared.tree.Unit.{Unit as UnitDef}
 use Rattle.bl_tree.specs.declared.tree.Var.{Var}
-use Rattle.bl_tree.specs.Program.{Keeps}
+use Rattle.bl_tree.specs.Program.{Keeps, is_entry}
 use Rattle.bl_tree.specs.Typing.{inputs_of}
-use Rattle.bl_top.specs.Sources.{IsTextOfProgram, IsTextOfTree}
+use Rattle.bl_top.specs.Sources.{IsTextOfParts}
 use Rattle.bl_top.specs.Traces.{OneTrace}
 
 -- ---- tests
@@ -71,61 +68,52 @@ rows_long unit same (row ∷ rows) e =
 
 -- ---- the one trace
 
-by_trace : (unit : UnitDef) (rows : List (List ℤ)) (shows : Shown) (file : CFile) → c_trace (parts_of file) rows ≡ trace_of unit (loop_steps unit) rows →
-    Means [] (unit ∷ []) 0 rows shows ↔ (shows ≡ shown (trace_of unit (loop_steps unit) rows)) →
-    Means [] (unit ∷ []) 0 rows shows ↔ (shows ≡ shown (c_trace (parts_of file) rows))
-by_trace unit rows shows file same law = rw same law
+by_trace : (unit : UnitDef) (entry : ℕ) (rows : List (List ℤ)) (shows : Shown) (file : CFile) → c_trace (parts_of file) rows ≡ trace_of unit (loop_steps unit) rows →
+    Means [] (unit ∷ []) entry rows shows ↔ (shows ≡ shown (trace_of unit (loop_steps unit) rows)) →
+    Means [] (unit ∷ []) entry rows shows ↔ (shows ≡ shown (c_trace (parts_of file) rows))
+by_trace unit entry rows shows file same law = rw same law
 
 file_is : (unit : UnitDef) (file : CFile) → file.structs ≡ c_structs_of (unit ∷ []) → file.funcs ≡ c_funcs_of (unit ∷ []) → parts_of file ≡ written unit
 file_is unit file structs funcs = rw (structs, funcs) refl
 
-one_trace : (unit : UnitDef) (file : CFile) → Keeps [] (unit ∷ []) 0 → is_early [] (unit ∷ []) ≡ true →
+one_trace : (unit : UnitDef) (entry : ℕ) (file : CFile) → Early [] (unit ∷ []) entry unit (loop_steps unit) →
     file.structs ≡ c_structs_of (unit ∷ []) → file.funcs ≡ c_funcs_of (unit ∷ []) →
-    EarlyHasOneTrace → EarlyIsBounded → EarlyIsNeverStuck → WrittenTrace (unit ∷ []) → WrittenColumns (unit ∷ []) → WrittenWellFormed (unit ∷ []) → OneTrace unit file
-one_trace unit file keeps form structs funcs one bounded stuck has columns formed =
-    let early : Early [] (unit ∷ []) 0 unit (loop_steps unit) = record { keeps = keeps; form = form; is_entry = refl; is_loop = steps_there unit form } in
+    EarlyHasOneTrace → EarlyIsBounded → EarlyIsNeverStuck → WrittenTrace (unit ∷ []) → WrittenColumns (unit ∷ []) → WrittenWellFormed (unit ∷ []) → OneTrace [] (unit ∷ []) entry unit file
+one_trace unit entry file early structs funcs one bounded stuck has columns formed = record {
+  well_formed = subst WellFormed (sym (file_is unit file structs funcs)) formed;
+  inputs = ap file_inputs (file_is unit file structs funcs) ∙ columns.inputs;
+  outputs = ap file_outputs (file_is unit file structs funcs) ∙ columns.outputs;
+  trace = λ rows shows fit. by_trace unit entry rows shows file
+      (ap (λ parts. c_trace parts rows) (file_is unit file structs funcs) ∙ has rows (rows_long unit (inputs_within unit early.form) rows fit))
+      (one [] (unit ∷ []) entry unit (loop_steps unit) rows shows early fit);
+  bounded = bounded [] (unit ∷ []) entry unit (loop_steps unit) early;
+  never_stuck = stuck [] (unit ∷ []) entry unit (loop_steps unit) early;
+}
+
+-- the entry of a program of one unit is that unit
+entry_there : (unit : UnitDef) (entry : ℕ) → is_entry (slice_get (unit ∷ []) entry) ≡ true → slice_get (unit ∷ []) entry ≡ Some unit
+entry_there unit zero e = refl
+entry_there unit (suc k) e = absurd cc
+
+early_of : (unit : UnitDef) (entry : ℕ) → Keeps [] (unit ∷ []) entry → is_early_unit unit ≡ true → Early [] (unit ∷ []) entry unit (loop_steps unit)
+early_of unit entry keeps form =
+    record { keeps = keeps; form = form; is_entry = entry_there unit entry keeps.entry_stands; is_loop = steps_there unit form }
+
+pub text_of_parts : (file : CFile) (text : List ℕ) (structs : List StructDef) (units : List UnitDef) (entry : ℕ) → Keeps structs units entry → is_early structs units ≡ true →
+    file.structs ≡ c_structs_of units → file.funcs ≡ c_funcs_of units → SpellsC file text →
+    EarlyHasOneTrace → EarlyIsBounded → EarlyIsNeverStuck → WrittenTrace units → WrittenColumns units → WrittenWellFormed units → IsTextOfParts structs units entry text
+text_of_parts file text (def ∷ structs) units entry keeps form s f spells one bounded stuck has columns formed = absurd cc
+text_of_parts file text [] [] entry keeps form s f spells one bounded stuck has columns formed = absurd cc
+text_of_parts file text [] (unit ∷ other ∷ rest) entry keeps form s f spells one bounded stuck has columns formed = absurd cc
+text_of_parts file text [] (unit ∷ []) entry keeps form s f spells one bounded stuck has columns formed =
+    let early : Early [] (unit ∷ []) entry unit (loop_steps unit) = early_of unit entry keeps form in
     record {
-      well_formed = subst WellFormed (sym (file_is unit file structs funcs)) formed;
-      inputs = ap file_inputs (file_is unit file structs funcs) ∙ columns.inputs;
-      outputs = ap file_outputs (file_is unit file structs funcs) ∙ columns.outputs;
-      trace = λ rows shows fit. by_trace unit rows shows file
-          (ap (λ parts. c_trace parts rows) (file_is unit file structs funcs) ∙ has rows (rows_long unit (inputs_within unit form) rows fit))
-          (one [] (unit ∷ []) 0 unit (loop_steps unit) rows shows early fit);
-      bounded = bounded [] (unit ∷ []) 0 unit (loop_steps unit) early;
-      never_stuck = stuck [] (unit ∷ []) 0 unit (loop_steps unit) early;
+      form = form;
+      unit = unit;
+      is_entry = early.is_entry;
+      file = file;
+      file_structs = s;
+      file_funcs = f;
+      spells = spells;
+      one_trace = one_trace unit entry file early s f one bounded stuck has columns formed;
     }
-
--- the same where the parts of the program are known by equations
-of_parts : (file : CFile) (unit : UnitDef) (structs : List StructDef) (units : List UnitDef) (entry : ℕ) → Keeps structs units entry → is_early structs units ≡ true →
-    file.structs ≡ c_structs_of units → file.funcs ≡ c_funcs_of units →
-    EarlyHasOneTrace → EarlyIsBounded → EarlyIsNeverStuck → WrittenTrace units → WrittenColumns units → WrittenWellFormed units →
-    structs ≡ [] → units ≡ unit ∷ [] → entry ≡ 0 → OneTrace unit file
-of_parts file unit structs units entry keeps form s f one bounded stuck has columns formed no_structs alone first =
-    one_trace unit file
-    (subst (λ n. Keeps [] (unit ∷ []) n) first (subst (λ us. Keeps [] us entry) alone (subst (λ ss. Keeps ss units entry) no_structs keeps)))
-    (subst (λ us. is_early [] us ≡ true) alone (subst (λ ss. is_early ss units ≡ true) no_structs form))
-    (subst (λ us. file.structs ≡ c_structs_of us) alone s) (subst (λ us. file.funcs ≡ c_funcs_of us) alone f)
-    one bounded stuck (subst WrittenTrace alone has) (subst WrittenColumns alone columns) (subst WrittenWellFormed alone formed)
-
-pub text_of_program : (program : Program) (file : CFile) (text : List ℕ) → is_early program.structs program.units ≡ true →
-    file.structs ≡ c_structs_of program.units → file.funcs ≡ c_funcs_of program.units → SpellsC file text →
-    EarlyHasOneTrace → EarlyIsBounded → EarlyIsNeverStuck → WrittenTrace program.units → WrittenColumns program.units → WrittenWellFormed program.units → IsTextOfProgram program text
-text_of_program program file text form structs funcs spells one bounded stuck has columns formed = record {
-  file = file;
-  structs = structs;
-  funcs = funcs;
-  spells = spells;
-  one_trace = λ unit s u e. of_parts file unit program.structs program.units program.entry program.keeps form structs funcs one bounded stuck has columns formed s u e;
-}
-
--- what is written for the program is written for the tree
-pub text_of_tree : (raw : Raw) (program : Program) (text : List ℕ) → StandsFor raw program → IsTextOfProgram program text → IsTextOfTree raw text
-text_of_tree raw program text stands is = record {
-  unit = stands.unit;
-  form = stands.stands;
-  file = is.file;
-  structs = subst (λ units. is.file.structs ≡ c_structs_of units) stands.units is.structs;
-  funcs = subst (λ units. is.file.funcs ≡ c_funcs_of units) stands.units is.funcs;
-  spells = is.spells;
-  one_trace = is.one_trace stands.unit stands.structs stands.units stands.entry;
-}

@@ -1,8 +1,11 @@
 -- Which rule refuses a source text, and the line that tells it.
 use Rattle.std.specs.Prelude.{◌≡◌, ◌⊎◌, ℕ, List, [], ◌∷◌, ◌++◌, map, length, codes, decimal, slice_index_or, Option, Some, ⊤}
+use Rattle.bl_effects.specs.Rules.{FailsFirst as UnitsFailFirst}
 use Rattle.bl_lex.specs.Rules.{FailsFirst, Passes}
 use Rattle.bl_lex.specs.Tokens.{Lexes}
-use Rattle.bl_names.specs.Rules.{FailsFirst as NamesFailFirst, Passes as NamesPass}
+use Rattle.bl_names.specs.Rules.{Passes as NamesPass}
+use Rattle.bl_program.specs.Cause.{FailsFirst as TypingFailsFirst}
+use Rattle.bl_program.specs.Programs.{named_of, typed_of}
 use Rattle.bl_raw.specs.declared.raw.Raw.{Raw}
 use Rattle.bl_syntax.specs.Rules.{FailsFirst as SyntaxFailsFirst}
 use Rattle.bl_tree.specs.declared.token.Token.{Token}
@@ -10,9 +13,9 @@ use Rattle.bl_tree.specs.declared.place.Place.{Place}
 use Rattle.bl_tree.specs.declared.place.Refusal.{Refusal}
 use Rattle.bl_tree.specs.declared.place.Refusal.TheVariants.{Rule, NoMemory}
 use Rattle.bl_tree.specs.Reduce.{joined}
-use Rattle.bl_types.specs.Rules.{FailsFirst as TypesFailFirst}
+use Rattle.bl_types.specs.Rules.{Passes as TypesPass}
 use Rattle.bl_io.specs.Held.{Appends}
-use Rattle.bl_top.specs.Sources.{IsSource, IsTreeOf, IsOfNoForm, Parses, named_of}
+use Rattle.bl_top.specs.Sources.{IsSource, IsTreeOf, IsOfNoForm, Parses}
 use Rattle.bl_top.specs.declared.outcome.Outcome.{Outcome}
 use Rattle.bl_top.specs.declared.status.Status.{Status}
 use Rattle.bl_top.specs.declared.status.Status.TheVariants as status
@@ -44,12 +47,13 @@ refusal_line number place also =
 
 -- ---- the first rule that fails
 
--- the first of the rules on names and types that fails for a tree, with its place and its further places
+-- the first of the rules on names, types and units that fails for a tree, with its place and its further places
 pub data RefusedTree (raw : Raw) : ℕ → Place → List Place → Type 0 where
-  -- one of Duplicate, Unknown and Kind
-  names : (number : ℕ) (place : Place) (also : List Place) → NamesFailFirst raw.items number place also → RefusedTree raw number place also
-  -- none of these, and one of Type, Literal, Immutable, Constant, Arity, Prev, Return, Where and Entry
-  types : (number : ℕ) (place : Place) (also : List Place) → NamesPass raw.items → TypesFailFirst (named_of raw) number place also → RefusedTree raw number place also
+  -- the tree has no typed program: one of the rules Duplicate to Entry
+  typing : (number : ℕ) (place : Place) (also : List Place) → TypingFailsFirst raw number place also → RefusedTree raw number place also
+  -- none of these, and one of Pause, Conflict, Alias and Instant
+  units : (number : ℕ) (place : Place) (also : List Place) → NamesPass raw.items → TypesPass (named_of raw) →
+      UnitsFailFirst (typed_of raw).units number place also → RefusedTree raw number place also
 
 -- the refusal names the first of these; want of memory has no cause in the tree
 abbrev pub IsTreeRefusalOf : Raw → Refusal → Type 0
@@ -63,7 +67,7 @@ pub data RefusedBy (text : List ℕ) : ℕ → Place → List Place → Type 0 w
   -- none of these, and one of Depth and Syntax
   syntax : (tokens : List Token) (number : ℕ) (place : Place) → Passes text → Lexes text tokens →
       SyntaxFailsFirst (length text) tokens number place → RefusedBy text number place []
-  -- none of these, and one of those on names and types
+  -- none of these, and one of those on names, types and units
   tree : (raw : Raw) (number : ℕ) (place : Place) (also : List Place) → Passes text → Parses text raw →
       RefusedTree raw number place also → RefusedBy text number place also
 

@@ -1,25 +1,28 @@
 //! The command `build P`.
 
-ghost use Rattle.std.specs.Prelude.{◌≡◌, ◌≢◌, ◌≤◌, length, true, None, IfErr, IfOk, OnOk};
+ghost use Rattle.std.specs.Prelude.{◌≡◌, ◌≢◌, ◌≤◌, length, true, false, IfErr, IfOk, OnOk};
 ghost use Rattle.bl_io.specs.Count.{NeverFell, Rose};
 ghost use Rattle.bl_io.specs.Left.{KeepsOthers, StandsFurther};
 ghost use Rattle.bl_early.specs.Form.{is_early};
-ghost use Rattle.bl_names.specs.Rules.{Passes as NamesPass};
-ghost use Rattle.bl_recognise.specs.Early.{early_of};
 ghost use Rattle.bl_top.specs.Build.{Leaves, source_limit};
+ghost use Rattle.bl_effects.specs.Rules.{Passes as UnitsPass};
+ghost use Rattle.bl_names.specs.Rules.{Passes as NamesPass};
+ghost use Rattle.bl_rawkeeps.specs.ItemOrder.{NamesAscend};
+ghost use Rattle.bl_program.specs.Programs.{IsProgramOf, named_of, typed_of};
+ghost use Rattle.bl_raw.specs.Keeps.{Keeps as RawKeeps};
 ghost use Rattle.bl_top.specs.Refusals.{AcceptedText, IsJudged, IsRefusalOf, IsRefusedBy, IsTreeRefusalOf, RefusedText, WasAccepted};
-ghost use Rattle.bl_top.specs.Sources.{HasTree, IsOfNoForm, IsTextOf, IsTextOfProgram, IsTextOfTree, named_of};
+ghost use Rattle.bl_top.specs.Sources.{HasProgram, IsOfNoForm, IsTextOf, IsTextOfParts};
 ghost use Rattle.bl_types.specs.Rules.{Passes as TypesPass};
 
 use crate::outcome::Outcome;
 use crate::refusal::line;
 use crate::status::Status;
-use bl_early::emit;
+use bl_early::{emit, is_early};
 use bl_earlyc::{written_columns, written_is_well_formed, written_trace};
 use bl_earlytree::laws::{early_programs_have_one_trace, early_ticks_end};
 use bl_io::{Files, IoFault, Sink, read_up_to, write_all};
 use bl_raw::Raw;
-use bl_recognise::{Stop, recognise};
+use bl_rawkeeps::laws::what_is_spelled_keeps;
 use bl_tree::{NoMemory, Program, Refusal};
 use std::alloc::Global;
 
@@ -46,17 +49,18 @@ pub fn build<F: Files, O: Sink>(alloc: Global, source: &str, files: &mut F, out:
         Err(IoFault::NoMemory) => return Outcome::plain(alloc, Status::NoMemory),
     };
     match judged(alloc, &bytes) {
-        Ok(raw) => write_c(alloc, &raw, out),
+        Ok(program) => write_c(alloc, &program, out),
         Err(refusal) => refused(alloc, &refusal),
     }
 }
 
-/// The tree of a source that no rule decided so far refuses.
-fn judged(alloc: Global, source: &[u8]) -> Result<Raw, Refusal>
+/// The program of a source that no rule decided so far refuses.
+fn judged(alloc: Global, source: &[u8]) -> Result<Program, Refusal>
     requires { length source.now ≤ source_limit }
-    ensures accepted { IfOk result (λ raw. HasTree source.now raw) }
+    ensures accepted { IfOk result (λ program. HasProgram source.now program) }
     ensures refused { IfErr result (IsRefusalOf source.now) }
 {
+    what_is_spelled_keeps();
     let tokens = match bl_lex::lex(alloc, source) {
         Ok(tokens) => tokens,
         Err(refusal) => return Err(refusal),
@@ -66,23 +70,27 @@ fn judged(alloc: Global, source: &[u8]) -> Result<Raw, Refusal>
         Err(refusal) => return Err(refusal),
     };
     match judge_tree(alloc, &raw) {
-        Ok(()) => Ok(raw),
+        Ok(program) => Ok(program),
         Err(refusal) => Err(refusal),
     }
 }
 
-/// Judges the rules on names and types of the tree of a source.
-fn judge_tree(alloc: Global, raw: &Raw) -> Result<(), Refusal>
+/// Judges the rules on names, types and units of the tree of a source, and makes its program.
+fn judge_tree(alloc: Global, raw: &Raw) -> Result<Program, Refusal>
+    requires keeps { RawKeeps raw.now.items }
+    requires in_order { NamesAscend raw.now.items }
     ensures names { OnOk result (NamesPass raw.now.items) }
     ensures types { OnOk result (TypesPass (named_of raw.now)) }
+    ensures units { OnOk result (UnitsPass (typed_of raw.now).units) }
+    ensures program { IfOk result (λ program. IsProgramOf raw.now program) }
     ensures refused { IfErr result (IsTreeRefusalOf raw.now) }
 {
-    let named = match bl_resolve::resolve(alloc, raw) {
-        Ok(named) => named,
+    let program = match bl_program::check(alloc, raw) {
+        Ok(program) => program,
         Err(refusal) => return Err(refusal),
     };
-    match bl_types::judge(alloc, &named) {
-        Ok(_) => Ok(()),
+    match bl_conflict::check(alloc, &program) {
+        Ok(()) => Ok(program),
         Err(refusal) => Err(refusal),
     }
 }
@@ -107,18 +115,20 @@ fn refused(alloc: Global, refusal: &Refusal) -> Outcome
     }
 }
 
-/// Writes the C text of a source with this tree.
-fn write_c<O: Sink>(alloc: Global, raw: &Raw, out: &mut O) -> Outcome
-    ensures leaves { Leaves (IsTextOfTree raw.now) (O.held out.old) result.status (O.held out.new) }
+/// Writes the C text of a program, where it is of a form that is built.
+fn write_c<O: Sink>(alloc: Global, program: &Program, out: &mut O) -> Outcome
+    ensures leaves { Leaves (IsTextOfParts program.now.structs program.now.units program.now.entry) (O.held out.old) result.status (O.held out.new) }
     ensures judged { IsJudged result.status }
-    ensures unbuilt { result.status ≡ Status.Unbuilt → early_of raw.now ≡ None }
+    ensures unbuilt { result.status ≡ Status.Unbuilt → is_early program.now.structs program.now.units ≡ false }
     ensures write_fault { result.status ≡ Status.WriteFault → Rose (O.faults out.old) (O.faults out.new) }
     ensures out_count { O.faults out.old ≤ O.faults out.new }
 {
-    let text = match c_text(alloc, raw) {
+    if !is_early(program) {
+        return Outcome::plain(alloc, Status::Unbuilt);
+    }
+    let text = match c_text(alloc, program) {
         Ok(text) => text,
-        Err(Stop::Unbuilt) => return Outcome::plain(alloc, Status::Unbuilt),
-        Err(Stop::NoMemory) => return Outcome::plain(alloc, Status::NoMemory),
+        Err(_) => return Outcome::plain(alloc, Status::NoMemory),
     };
     match write_all(out, &text) {
         Ok(()) => Outcome::plain(alloc, Status::Ok),
@@ -127,25 +137,10 @@ fn write_c<O: Sink>(alloc: Global, raw: &Raw, out: &mut O) -> Outcome
     }
 }
 
-/// The C text of a source with this tree.
-fn c_text(alloc: Global, raw: &Raw) -> Result<Vec<u8>, Stop>
-    ensures text { IfOk result (λ text. IsTextOfTree raw.now text.items) }
-    ensures stop { IfErr result (λ stop. stop ≡ Stop.Unbuilt → early_of raw.now ≡ None) }
-{
-    let program = match recognise(alloc, raw) {
-        Ok(program) => program,
-        Err(stop) => return Err(stop),
-    };
-    match text_of(alloc, &program) {
-        Ok(text) => Ok(text),
-        Err(_) => Err(Stop::NoMemory),
-    }
-}
-
 /// The C text of a program of the form.
-fn text_of(alloc: Global, program: &Program) -> Result<Vec<u8>, NoMemory>
+fn c_text(alloc: Global, program: &Program) -> Result<Vec<u8>, NoMemory>
     requires { is_early program.now.structs program.now.units ≡ true }
-    ensures { IfOk result (λ text. IsTextOfProgram program.now text.items) }
+    ensures { IfOk result (λ text. IsTextOfParts program.now.structs program.now.units program.now.entry text.items) }
 {
     early_programs_have_one_trace();
     early_ticks_end();

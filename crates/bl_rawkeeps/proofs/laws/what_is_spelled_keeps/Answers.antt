@@ -1,3 +1,4 @@
+use Rattle.bl_rawkeeps.proofs.Declared.{names_ascend}
 use Rattle.bl_rawkeeps.proofs.InOrder.{starts_ascend}
 use Rattle.bl_rawkeeps.proofs.Keeps.{what_keeps}
 use Rattle.bl_rawkeeps.proofs.Nested.{what_is_shallow}
@@ -12,6 +13,9 @@ returns-clause-shallow c = what_is_shallow
 
 pub returns-clause-in_order : goal.returns-clause-in_order
 returns-clause-in_order c = starts_ascend
+
+pub returns-clause-names_ascend : goal.returns-clause-names_ascend
+returns-clause-names_ascend c = names_ascend
 
 pub returns-clause-keeps : goal.returns-clause-keeps
 returns-clause-keeps c = what_keeps

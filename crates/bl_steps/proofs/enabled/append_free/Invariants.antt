@@ -1,6 +1,7 @@
 use Rattle.std.proofs.Common.{◌≡◌, ◌++◌, map, filter}
-use Rattle.bl_steps.specs.Spots.{is_free_of, locations, spot_of}
+use Rattle.bl_steps.specs.Spots.{spot_of}
+use Rattle.bl_steps.specs.Writers.{is_free}
 use Rattle.bl_steps.proofs.enabled.append_free.Given as goal
 
 abbrev pub invariant-loop-point : goal.invariant-loop-point
-invariant-loop-point l = map spot_of l.into ≡ map spot_of l.initial.into ++ filter (is_free_of (map locations l.pending) l.k) (map spot_of l.yielded)
+invariant-loop-point l = map spot_of l.into ≡ map spot_of l.initial.into ++ filter (is_free l.writers l.k) (map spot_of l.yielded)

@@ -1,7 +1,8 @@
 use Rattle.std.proofs.Common.{◌≡◌, map, drop}
+use Rattle.std.specs.List.{list_any}
 use Rattle.bl_store.specs.Seen.{location_of}
-use Rattle.bl_steps.specs.Spots.{locations, meets_one}
+use Rattle.bl_steps.specs.Writers.{is_beside, write_of}
 use Rattle.bl_steps.proofs.enabled.is_taken.Given as goal
 
-abbrev pub invariant-loop-other : goal.invariant-loop-other
-invariant-loop-other l = meets_one (map locations (drop l.other-index l.others)) (location_of l.at) ≡ meets_one (map locations l.others) (location_of l.at)
+abbrev pub invariant-loop-write : goal.invariant-loop-write
+invariant-loop-write l = list_any (is_beside l.k (location_of l.at)) (map write_of (drop l.write-index l.writes)) ≡ list_any (is_beside l.k (location_of l.at)) (map write_of l.writes)

@@ -1,18 +1,20 @@
-use Rattle.std.proofs.Common.{◌≡◌, ◌+◌, ◌<◌, ◌++◌, get_or, length, map, suc, ap, sym, ◌∙◌, arith}
+use Rattle.std.proofs.Common.{◌≡◌, ◌+◌, ◌<◌, ◌++◌, get_or, length, map, suc, refl, ap, sym, ◌∙◌, arith}
 use Rattle.bl_ctree.specs.Nodes.{branches_of, control_of, items_of, located, seen_of}
 use Rattle.bl_ctree.specs.Control.{Body, Guard, Par, Run, Seq}
 use Rattle.bl_ctree.specs.Points.{branch_points, points}
 use Rattle.bl_store.specs.Seen.{setting_in}
-use Rattle.bl_steps.specs.Spots.{locations, own, spot_below, spot_of, spot_told, told_all, told_point}
+use Rattle.bl_steps.specs.Spots.{homes_seen, own, spot_below, spot_of, spot_told, told_all, told_point}
 use Rattle.bl_steps.proofs.AfterLemmas.{seen_out}
 use Rattle.bl_steps.proofs.BranchLemmas.{branch_here, loop_goes_on, loop_starts}
 use Rattle.bl_steps.proofs.NodeLemmas.{guard_is, par_is, run_is, seq_is}
 use Rattle.bl_steps.proofs.OwnLemmas.{guard_inside, listed_inside, par_inside, run_inside, seq_points, told_inside}
+use Rattle.bl_steps.proofs.WriterLemmas.{all_free}
 use Rattle.bl_steps.proofs.points.+points.Goals as goal
 
 pub branch_points-loop-k-init : goal.branch_points-loop-k-init
 branch_points-loop-k-init t c =
-    loop_starts (setting_in c.args.w.now) c.args.i c.args.path.now (map locations c.as_slice-pending.result.now) (map seen_of c.args.branches.now) (map spot_of c.args.into.now)
+    let w = setting_in c.args.w.now in
+    loop_starts w c.args.i c.args.path.now (map (homes_seen w c.args.i) (map seen_of c.args.branches.now)) (map seen_of c.args.branches.now) (map spot_of c.args.into.now)
 
 pub branch_points-loop-k-preserved : goal.branch_points-loop-k-preserved
 branch_points-loop-k-preserved t c =
@@ -21,15 +23,17 @@ branch_points-loop-k-preserved t c =
     let x = get_or c.args.branches.now k c.index-branches-k.result in
     let within : k < length c.args.branches.now = omega arith in
     let next : k + 1 ≡ suc k = omega arith in
-    loop_goes_on w c.args.i c.args.path.now (map seen_of c.args.branches.now) (map locations c.as_slice-pending.result.now) k (k + 1) (seen_of x)
+    loop_goes_on w c.args.i c.args.path.now (map seen_of c.args.branches.now) (map (homes_seen w c.args.i) (map seen_of c.args.branches.now)) k (k + 1) (seen_of x)
     (map spot_of c.loop-k.into) (map spot_of c.append_free.new.into)
     (map spot_of c.args.into.now ++ map (spot_below w c.args.path.now) (branch_points w c.args.i (branches_of (map seen_of c.args.branches.now))))
     (map spot_of c.points.new.into) c.deref.result.now
-    next (ap (map locations) c.as_slice-pending.ensures ∙ c.in_ok-all.ensures) (branch_here seen_of c.args.branches.now k x within (ap (get_or c.args.branches.now k) c.index-branches-k.is))
+    next refl (branch_here seen_of c.args.branches.now k x within (ap (get_or c.args.branches.now k) c.index-branches-k.is))
     (c.deref.ensures ∙ c.in_ok-inner.ensures)
     (c.in_ok-points.ensures ∙ ap (λ found. map spot_of found ++ map (spot_below w c.deref.result.now) (points w c.args.i (control_of x.tree))) c.new-found.ensures
     ∙ ap (λ b. map (spot_below w c.deref.result.now) (points w c.args.i b.tree)) (sym (seen_out x)))
-    c.in_ok-append_free.ensures c.loop-k.invariant
+    (c.in_ok-append_free.ensures
+    ∙ ap (λ free. map spot_of c.loop-k.into ++ free) (all_free c.in_ok-writers.writers (map (homes_seen w c.args.i) (map seen_of c.args.branches.now)) k (map spot_of c.points.new.into) c.in_ok-writers.ensures))
+    c.loop-k.invariant
 
 pub points-returns-in-Par :
     goal.points-returns-in-Par

@@ -1,7 +1,7 @@
 -- What stands on `out`, what is left of the source, and what was judged of it, at each end.
 use Rattle.std.proofs.Common.{subst}
 use Rattle.bl_top.specs.Refusals.{IsRefusalOf}
-use Rattle.bl_top.specs.Sources.{HasTree}
+use Rattle.bl_top.specs.Sources.{HasProgram}
 use Rattle.bl_top.proofs.Ends.{fault_is_no_end, further_from_up_to, left_nothing, want_is_no_end}
 use Rattle.bl_top.proofs.Fronts.{accepted_text, refused_is_formed, refused_source, refused_leaves, judged_is_used, judged_unrefused, judged_was_read, text_leaves, unbuilt_text}
 use Rattle.bl_top.proofs.build.build.Goals as goal
@@ -13,7 +13,7 @@ pub returns-in-Err-NoMemory-clause-leaves : goal.returns-in-Err-NoMemory-clause-
 returns-in-Err-NoMemory-clause-leaves g c = left_nothing _ _ _ _ c.plain-in-Err-NoMemory.ensures want_is_no_end
 
 pub returns-in-Ok-judged-clause-leaves : goal.returns-in-Ok-judged-clause-leaves
-returns-in-Ok-judged-clause-leaves g c = text_leaves _ c.in-Ok.bytes.items _ c.in-Ok-judged.raw _ _ _ c.in-Ok.ensures.front (subst (λ text. HasTree text c.in-Ok-judged.raw) c.deref.ensures.value c.in-Ok-judged.ensures.accepted) c.write_c.ensures.leaves
+returns-in-Ok-judged-clause-leaves g c = text_leaves _ c.in-Ok.bytes.items _ c.in-Ok-judged.program _ _ _ c.in-Ok.ensures.front (subst (λ text. HasProgram text c.in-Ok-judged.program) c.deref.ensures.value c.in-Ok-judged.ensures.accepted) c.write_c.ensures.leaves
 
 pub returns-in-Ok-judged-clause-refused : goal.returns-in-Ok-judged-clause-refused
 returns-in-Ok-judged-clause-refused g c = λ e. judged_unrefused _ c.write_c.ensures.judged e
@@ -25,10 +25,10 @@ pub returns-in-Ok-judged-clause-read_fault : goal.returns-in-Ok-judged-clause-re
 returns-in-Ok-judged-clause-read_fault g c = λ e. judged_was_read _ c.write_c.ensures.judged e
 
 pub returns-in-Ok-judged-clause-accepted : goal.returns-in-Ok-judged-clause-accepted
-returns-in-Ok-judged-clause-accepted g c = λ e. accepted_text _ c.in-Ok.bytes.items _ c.in-Ok-judged.raw c.in-Ok.ensures.front (subst (λ text. HasTree text c.in-Ok-judged.raw) c.deref.ensures.value c.in-Ok-judged.ensures.accepted)
+returns-in-Ok-judged-clause-accepted g c = λ e. accepted_text _ c.in-Ok.bytes.items _ c.in-Ok-judged.program c.in-Ok.ensures.front (subst (λ text. HasProgram text c.in-Ok-judged.program) c.deref.ensures.value c.in-Ok-judged.ensures.accepted)
 
 pub returns-in-Ok-judged-clause-unbuilt : goal.returns-in-Ok-judged-clause-unbuilt
-returns-in-Ok-judged-clause-unbuilt g c = λ e. unbuilt_text _ c.in-Ok.bytes.items _ c.in-Ok-judged.raw c.in-Ok.ensures.front (subst (λ text. HasTree text c.in-Ok-judged.raw) c.deref.ensures.value c.in-Ok-judged.ensures.accepted) (c.write_c.ensures.unbuilt e)
+returns-in-Ok-judged-clause-unbuilt g c = λ e. unbuilt_text _ c.in-Ok.bytes.items _ c.in-Ok-judged.program c.in-Ok.ensures.front (subst (λ text. HasProgram text c.in-Ok-judged.program) c.deref.ensures.value c.in-Ok-judged.ensures.accepted) (c.write_c.ensures.unbuilt e)
 
 pub returns-in-Ok-judged-clause-further : goal.returns-in-Ok-judged-clause-further
 returns-in-Ok-judged-clause-further g c = further_from_up_to _ _ _ _ c.in-Ok.ensures.front

@@ -1,10 +1,30 @@
-use Rattle.std.proofs.Common.{◌≡◌, Some, subst}
+use Rattle.std.proofs.Common.{◌≡◌, Some, ap, subst}
 use Rattle.std.specs.Prelude.{Ok}
 use Rattle.bl_eval.specs.declared.values.Did.{Did}
+use Rattle.bl_eval.specs.declared.values.Did.TheVariants.{Trap}
+use Rattle.bl_ctree.specs.Nodes.{control_of}
 use Rattle.bl_store.specs.Deeds.{Carried, deed_on}
 use Rattle.bl_store.specs.Seen.{setting_in, store_of}
+use Rattle.bl_steps.specs.Running.{setting, state}
 use Rattle.bl_steps.proofs.OutputLemmas.{deed_grows, outputs_keep}
+use Rattle.bl_steps.proofs.TreeLemmas.{deed_done, deed_traps}
 use Rattle.bl_steps.proofs.tree.Tree.carry.Goals as goal
+
+pub returns-in-Done-clause-step : goal.returns-in-Done-clause-step
+returns-in-Done-clause-step c =
+    let w = setting c.args.self.now in
+    let old = store_of c.args.self.now.frames.items in
+    let new = store_of c.carry_out.new.frames.items in
+    deed_done w (state c.args.self.now) c.args.i c.args.deed c.args.path.now (control_of c.in_ok-node.node) new c.in_ok-node.ensures
+    (subst (λ (did : Did). Carried (deed_on w c.args.i c.args.deed old) old new (Ok did)) c.in-Done.is c.in_ok-carry_out.ensures)
+
+pub returns-in-Trap-clause-step : goal.returns-in-Trap-clause-step
+returns-in-Trap-clause-step c =
+    let w = setting c.args.self.now in
+    let old = store_of c.args.self.now.frames.items in
+    let new = store_of c.carry_out.new.frames.items in
+    let carried : Carried (deed_on w c.args.i c.args.deed old) old new (Ok Trap) = subst (λ (did : Did). Carried (deed_on w c.args.i c.args.deed old) old new (Ok did)) c.in-Trap.is c.in_ok-carry_out.ensures in
+    (deed_traps w (state c.args.self.now) c.args.i c.args.deed c.args.path.now carried.0, ap (λ store. record { control = control_of c.args.self.now.node; store = store }) carried.1)
 
 pub invariant_of-self-in-Done : goal.invariant_of-self-in-Done
 invariant_of-self-in-Done c =

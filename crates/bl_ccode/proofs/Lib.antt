@@ -1,0 +1,9 @@
+pub mod Runs
+pub mod Evaluations
+pub mod Places
+pub mod Calls
+pub mod Expressions
+pub mod Endings
+pub mod Statements
+pub mod Loops
+pub mod Files

@@ -1,0 +1,20 @@
+-- What the answers share.
+pub mod Entries
+pub mod Ways
+pub mod Spans
+pub mod Standing
+pub mod Evaluations
+pub mod Running
+pub mod Values
+pub mod Places
+pub mod Calls
+pub mod Expressions
+pub mod Statements
+pub mod Effects
+pub mod Layouts
+pub mod Frames
+pub mod Begun
+pub mod Functions
+pub mod Files
+pub mod Inners
+pub mod Entry

@@ -1,0 +1,4 @@
+pub mod Layout
+pub mod Reaching
+pub mod Flat
+pub mod Laws

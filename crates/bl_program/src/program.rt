@@ -1,0 +1,54 @@
+ghost use Rattle.std.specs.Prelude.{◌≡◌, IfErr, IfOk, OnOk};
+ghost use Rattle.bl_names.specs.Rules.{Passes as NamesPass};
+ghost use Rattle.bl_program.specs.Cause.{IsCause};
+ghost use Rattle.bl_program.specs.Programs.{IsProgramOf, named_of};
+ghost use Rattle.bl_raw.specs.Keeps.{Keeps as RawKeeps};
+ghost use Rattle.bl_rawkeeps.specs.ItemOrder.{NamesAscend};
+ghost use Rattle.bl_tree.specs.Program.{Keeps};
+ghost use Rattle.bl_types.specs.Rules.{Passes as TypesPass};
+
+use bl_raw::Raw;
+use bl_tree::{Program, Refusal};
+use bl_typedkeeps::laws::what_is_typed_keeps;
+use bl_types::Typed;
+use std::alloc::Global;
+
+/// Judges the rules on names, and where none of them fails those on types, and makes the typed program of a tree that
+/// passes. The tree is one that a text spells: it keeps what such trees keep, and its names stand in the order of its items.
+pub fn check(alloc: Global, raw: &Raw) -> Result<Program, Refusal>
+    requires keeps { RawKeeps raw.now.items }
+    requires in_order { NamesAscend raw.now.items }
+    ensures names { OnOk result (NamesPass raw.now.items) }
+    ensures types { OnOk result (TypesPass (named_of raw.now)) }
+    ensures typed { IfOk result (λ program. IsProgramOf raw.now program) }
+    ensures cause { IfErr result (IsCause raw.now) }
+{
+    what_is_typed_keeps();
+    let named = match bl_resolve::resolve(alloc, raw) {
+        Ok(named) => named,
+        Err(refusal) => return Err(refusal),
+    };
+    match bl_types::judge(alloc, &named) {
+        Ok(typed) => Ok(program_of(typed)),
+        Err(refusal) => Err(refusal),
+    }
+}
+
+/// The program that has these structs and units.
+fn program_of(typed: Typed) -> Program
+    requires { Keeps typed.structs typed.units typed.entry }
+    ensures structs { result.structs ≡ typed.structs }
+    ensures units { result.units ≡ typed.units }
+    ensures entry { result.entry ≡ typed.entry }
+{
+    let Typed {
+        structs,
+        units,
+        entry,
+    } = typed;
+    Program {
+        structs,
+        units,
+        entry,
+    }
+}

@@ -1,5 +1,0 @@
-mod Choices
-mod Facts
-mod MadeLemmas
-mod ParamLemmas
-mod Recognised

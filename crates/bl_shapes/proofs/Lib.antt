@@ -1,0 +1,10 @@
+pub mod Orders
+pub mod Sizes
+pub mod Opens
+pub mod NamedSizes
+pub mod Forms
+pub mod Exprs
+pub mod Paths
+pub mod Shapes
+pub mod Statements
+pub mod Made

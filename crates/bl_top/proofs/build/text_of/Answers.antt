@@ -1,7 +1,0 @@
-use Rattle.bl_top.proofs.Texts.{text_of_program}
-use Rattle.bl_top.proofs.build.text_of.Goals as goal
-
-pub returns-in-Ok : goal.returns-in-Ok
-returns-in-Ok c =
-    text_of_program c.args.program.now c.in_ok-file.file c.in-Ok.text.items c.requires c.in_ok-file.ensures.structs c.in_ok-file.ensures.funcs c.in-Ok.ensures
-    c.early_programs_have_one_trace.ensures c.early_ticks_end.ensures.bounded c.early_ticks_end.ensures.never_stuck c.written_trace.ensures c.written_columns.ensures c.written_is_well_formed.ensures

@@ -1,0 +1,12 @@
+pub mod Premises
+pub mod Choices
+pub mod Behind
+pub mod Ends
+pub mod Onward
+pub mod Standing
+pub mod Reached
+pub mod StructTurn
+pub mod ConstantTurn
+pub mod UnitTurn
+pub mod Turns
+pub mod WhatKeeps
