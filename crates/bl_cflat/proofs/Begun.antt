@@ -480,7 +480,6 @@ module _ (known : Sizes) (lists : Lists) (structs : Structs) (shaped : Shaped kn
     pub begun-stands : (cells : Cells) → Stands known lists structs shaped limit w memory cells →
         Stands known lists structs shaped limit (begun pointers) (with_params depth params passed (without_frame depth memory)) (with_args base args (zeroed (sum_of (variable_size known) vars) base cells))
     begun-stands cells stands =
-        let size = sum_of (variable_size known) vars in
         let s : Stands known lists structs shaped limit (begun []) (with_params depth params passed (without_frame depth memory)) (with_args (base + 0) args (zeroed (sum_of (variable_size known) vars) base cells)) =
         args-stand params 0 passed args memory (without_frame depth memory) (zeroed (sum_of (variable_size known) vars) base cells) places single all (zeroed-stands memory cells stands) in
         let t : Stands known lists structs shaped limit (begun []) (with_params depth params passed (without_frame depth memory)) (with_args base args (zeroed (sum_of (variable_size known) vars) base cells)) =

@@ -25,19 +25,20 @@ use Rattle.bl_cfit.specs.Fitting.{Spot, cell_holds, scalars, whole, walk}
 use Rattle.bl_cfit.proofs.Lists.{all-append, and-both, and-left, and-right}
 use Rattle.bl_cflat.specs.Laws.{SameCall, StartsAgree, TicksAgree, behind_objects, cells_in, entered_flat, input_at, output_at, routines}
 use Rattle.bl_cflat.specs.Flat.{Cells, applied, cell_at}
+use Rattle.bl_cflat.proofs.Faultless.{unless-nil}
 use Rattle.bl_cflat.proofs.Entries.{Apart}
 use Rattle.bl_cflat.proofs.Ways.{Lists, Shaped, Structs, left-is, walk-append, walk-within, way_offset, ways-apart}
 use Rattle.bl_cflat.proofs.Standing.{Separate, Stand, Stands, World}
-use Rattle.bl_cflat.proofs.Running.{AddressAt, PassedAll}
+use Rattle.bl_cflat.proofs.Running.{AddressAt, CallAgrees, PassedAll}
 use Rattle.bl_cflat.proofs.Values.{same-type}
-use Rattle.bl_cflat.proofs.Layouts.{entries-all, inner-file, lists_of, shaped-file, unless-nil}
+use Rattle.bl_cflat.proofs.Layouts.{entries-all, inner-file, lists_of, shaped-file}
 use Rattle.bl_cflat.proofs.Files.{FoundAs, Interface, functions-found, interface-of, named}
 use Rattle.bl_cflat.proofs.Inners.{Led, LedType, led-all}
 
 -- ---- lists of numbers in cells
 
 -- these numbers stand in the cells from one on
-abbrev Begins : Cells → ℕ → List ℤ → Type 0
+abbrev pub Begins : Cells → ℕ → List ℤ → Type 0
 Begins cells at [] = Unit {0}
 Begins cells at (n ∷ ns) = (cell_at cells at ≡ n) × Begins cells (suc at) ns
 
@@ -47,7 +48,7 @@ begins-append cells at (x ∷ xs) ys h k =
     let e : at + suc (length xs) ≡ suc at + length xs = omega arith in
     (h.0, begins-append cells (suc at) xs ys h.1 (subst (λ n. Begins cells n ys) e k))
 
-begins-taken : (cells : Cells) (at : ℕ) (ns : List ℤ) → at + length ns ≤ length cells → Begins cells at ns → take (length ns) (drop at cells) ≡ ns
+pub begins-taken : (cells : Cells) (at : ℕ) (ns : List ℤ) → at + length ns ≤ length cells → Begins cells at ns → take (length ns) (drop at cells) ≡ ns
 begins-taken cells at [] fits h = refl
 begins-taken cells at (n ∷ ns) fits h =
     ap (take (suc (length ns))) (drop-cons cells at (pos 0) (omega arith)) ∙ ap (λ x. x ∷ take (length ns) (drop (suc at) cells)) h.0
@@ -66,7 +67,7 @@ numbers-append : (xs ys : List Cell) (memory : Memory) → numbers_of (xs ++ ys)
 numbers-append [] ys memory = refl
 numbers-append (x ∷ xs) ys memory = ap (λ l. number_in (value_at memory x.location) ∷ l) (numbers-append xs ys memory)
 
-numbers-length : (cells : List Cell) (memory : Memory) → length (numbers_of cells memory) ≡ length cells
+pub numbers-length : (cells : List Cell) (memory : Memory) → length (numbers_of cells memory) ≡ length cells
 numbers-length [] memory = refl
 numbers-length (c ∷ cells) memory = ap suc (numbers-length cells memory)
 
@@ -99,19 +100,19 @@ module _ (file : Parts) (formed : WellFormed file) where
   abbrev structs : Structs
   structs = struct_table file.structs
 
-  shaped : Shaped (sizes file.structs) (lists_of file.structs) (struct_table file.structs)
+  pub shaped : Shaped (sizes file.structs) (lists_of file.structs) (struct_table file.structs)
   shaped = shaped-file file formed
 
-  abbrev Leads : Spot → ℕ → List Inner → Type 0
+  abbrev pub Leads : Spot → ℕ → List Inner → Type 0
   Leads = Led (sizes file.structs) (lists_of file.structs) (struct_table file.structs) shaped (scalars file.structs) (inner-file file formed)
 
-  abbrev Typed : CType → Type 0
+  abbrev pub Typed : CType → Type 0
   Typed = LedType (sizes file.structs) (lists_of file.structs) (struct_table file.structs) shaped (scalars file.structs) (inner-file file formed)
 
-  abbrev Offset : Spot → List Part → ℕ
+  abbrev pub Offset : Spot → List Part → ℕ
   Offset spot parts = way_offset (sizes file.structs) (lists_of file.structs) (struct_table file.structs) (Some spot) parts
 
-  struct-led : (name : Text) → is_some (struct_table file.structs name) ≡ true → Typed (OfStruct name)
+  pub struct-led : (name : Text) → is_some (struct_table file.structs name) ≡ true → Typed (OfStruct name)
   unfolding faults_in
   struct-led name there =
       let none : struct_faults_after no_entries no_entries file.structs ≡ [] = nil-left (struct_faults_after no_entries no_entries file.structs) _ formed.none in
@@ -163,22 +164,22 @@ module _ (file : Parts) (formed : WellFormed file) where
 
   -- ---- the three objects
 
-  abbrev stand_of_object : Root → Option Stand
+  abbrev pub stand_of_object : Root → Option Stand
   stand_of_object state_object = Some (record { at = 0; ty = OfStruct (codes "bl_state") })
   stand_of_object input_object = Some (record { at = input_at file; ty = OfStruct (codes "bl_in") })
   stand_of_object output_object = Some (record { at = output_at file; ty = OfStruct (codes "bl_out") })
   stand_of_object (variable d name) = None
 
-  abbrev objects : World
+  abbrev pub objects : World
   objects = record { stand = stand_of_object; kept = []; top = behind_objects file }
 
-  abbrev Standing : Memory → Cells → Type 0
+  abbrev pub Standing : Memory → Cells → Type 0
   Standing = Stands (sizes file.structs) (lists_of file.structs) (struct_table file.structs) shaped (cells_needed file) objects
 
   some_stand : (a b : Stand) → Some a ≡ Some b → a ≡ b
   some_stand a b h = cc
 
-  objects-separate : Separate (sizes file.structs) objects
+  pub objects-separate : Separate (sizes file.structs) objects
   objects-separate = record { below = below; apart = apart; away = λ root s there. tt; low = tt }
     where
       below : (root : Root) (s : Stand) → stand_of_object root ≡ Some s → s.at + size_of_type (sizes file.structs) s.ty ≤ behind_objects file
@@ -210,13 +211,13 @@ module _ (file : Parts) (formed : WellFormed file) where
       apart output_object (variable d name) s t h k differ = cc
 
   module _ (declared : (is_some (struct_table file.structs (codes "bl_state")) && (is_some (struct_table file.structs (codes "bl_in")) && is_some (struct_table file.structs (codes "bl_out")))) ≡ true) where
-    state-typed : Typed (OfStruct (codes "bl_state"))
+    pub state-typed : Typed (OfStruct (codes "bl_state"))
     state-typed = struct-led (codes "bl_state") (and-left _ _ declared)
 
-    input-typed : Typed (OfStruct (codes "bl_in"))
+    pub input-typed : Typed (OfStruct (codes "bl_in"))
     input-typed = struct-led (codes "bl_in") (and-left _ _ (and-right (is_some (struct_table file.structs (codes "bl_state"))) _ declared))
 
-    output-typed : Typed (OfStruct (codes "bl_out"))
+    pub output-typed : Typed (OfStruct (codes "bl_out"))
     output-typed = struct-led (codes "bl_out") (and-right (is_some (struct_table file.structs (codes "bl_in"))) _ (and-right (is_some (struct_table file.structs (codes "bl_state"))) _ declared))
 
     abbrev inners : Text → List Inner
@@ -276,7 +277,7 @@ module _ (file : Parts) (formed : WellFormed file) where
     output-long : length (inners (codes "bl_state")) + length (inners (codes "bl_in")) ≡ output_at file
     output-long = let a = input-long in let b : length (inner_of file.structs (codes "bl_in")) ≡ cells_in file (codes "bl_in") = input-typed.long in omega arith
 
-    begins-standing : (memory : Memory) (others : List ℤ) → list_all (cell_holds memory) (cells_of file) ≡ true → cells_needed file ≤ length (numbers_of (cells_of file) memory ++ others) →
+    pub begins-standing : (memory : Memory) (others : List ℤ) → list_all (cell_holds memory) (cells_of file) ≡ true → cells_needed file ≤ length (numbers_of (cells_of file) memory ++ others) →
         Standing memory (numbers_of (cells_of file) memory ++ others)
     unfolding cells_of
     begins-standing memory others all room =
@@ -284,9 +285,6 @@ module _ (file : Parts) (formed : WellFormed file) where
         let split = sym (all-append (cell_holds memory) (first ++ second) third) ∙ parts in
         let fit-third = and-right (list_all (cell_holds memory) (first ++ second)) _ split in
         let split-two = sym (all-append (cell_holds memory) first second) ∙ and-left _ _ split in
-        let one = numbers_of first memory in
-        let two = numbers_of second memory in
-        let three = numbers_of third memory in
         let numbers : numbers_of ((first ++ second) ++ third) memory ≡ (numbers_of first memory ++ numbers_of second memory) ++ numbers_of third memory =
         numbers-append (first ++ second) third memory ∙ ap (λ l. l ++ numbers_of third memory) (numbers-append first second memory) in
         let whole-is : numbers_of ((first ++ second) ++ third) memory ++ others ≡ numbers_of first memory ++ (numbers_of second memory ++ (numbers_of third memory ++ others)) =
@@ -322,7 +320,7 @@ module _ (file : Parts) (formed : WellFormed file) where
           and-both _ _ (ap (in_range i.kind) (sym same) ∙ stands.ranges root s i.parts i.kind there led.0.0) rest.1,
         )
 
-    ends-standing : (memory : Memory) (cells : Cells) → Standing memory cells → (take (length (cells_of file)) cells ≡ numbers_of (cells_of file) memory) × (list_all (cell_holds memory) (cells_of file) ≡ true)
+    pub ends-standing : (memory : Memory) (cells : Cells) → Standing memory cells → (take (length (cells_of file)) cells ≡ numbers_of (cells_of file) memory) × (list_all (cell_holds memory) (cells_of file) ≡ true)
     unfolding cells_of
     ends-standing memory cells stands =
         let z : input_at file + 0 ≡ input_at file = omega arith in
@@ -364,7 +362,7 @@ module _ (file : Parts) (formed : WellFormed file) where
       unfolding faults_in
       faultless = nil-left _ _ (nil-right (struct_faults_after no_entries no_entries file.structs) _ formed.none)
 
-      interface : Interface file.funcs
+      pub interface : Interface file.funcs
       unfolding faults_in
       interface =
           let h1 = nil-right (struct_faults_after no_entries no_entries file.structs) _ formed.none in
@@ -378,20 +376,27 @@ module _ (file : Parts) (formed : WellFormed file) where
           functions-found file shaped (cells_needed file) small no_entries no_entries no_entries no_entries no_entries file.funcs (record { a = λ n. refl; b = λ n. refl; c = λ n. refl }) (λ n s h. cc)
           faultless spelled-functions interface.last name g there
 
-      same-call : (name : Text) (g : CFunc) (passed : List Passed) (args : List ℤ) → found name (named file.funcs) ≡ Some g → (memory : Memory) (others : List ℤ) → list_all (cell_holds memory) (cells_of file) ≡ true →
+      -- a call where memory stands in cells
+      pub call-from : (name : Text) (g : CFunc) (passed : List Passed) (args : List ℤ) → found name (named file.funcs) ≡ Some g → (memory : Memory) (cells : Cells) → Standing memory cells →
+          PassedAll (sizes file.structs) (lists_of file.structs) (struct_table file.structs) shaped (cells_needed file) objects memory (signature_in g).params passed args →
+          CallAgrees (sizes file.structs) (lists_of file.structs) (struct_table file.structs) shaped (cells_needed file) objects (signature_in g).result (entered file name passed memory) (entered_flat file name args cells)
+      unfolding entered entered_flat
+      call-from name g passed args there memory cells stands passes =
+          let f = found-as name g there in
+          let l = f.least in
+          subst (λ o. CallAgrees (sizes file.structs) (lists_of file.structs) (struct_table file.structs) shaped (cells_needed file) objects (signature_in g).result (applied_c o 0 passed memory)
+          (applied (found name (routines file)) (behind_objects file) args cells)) (sym f.is)
+          (subst (λ o. CallAgrees (sizes file.structs) (lists_of file.structs) (struct_table file.structs) shaped (cells_needed file) objects (signature_in g).result (f.c 0 passed memory) (applied o (behind_objects file) args cells)) (sym f.also)
+          (f.agrees.agree objects 0 (behind_objects file) passed args memory cells objects-separate (λ d n deep. refl) (omega arith) (omega arith) stands passes))
+
+      pub same-call : (name : Text) (g : CFunc) (passed : List Passed) (args : List ℤ) → found name (named file.funcs) ≡ Some g → (memory : Memory) (others : List ℤ) → list_all (cell_holds memory) (cells_of file) ≡ true →
           cells_needed file ≤ length (numbers_of (cells_of file) memory ++ others) →
           PassedAll (sizes file.structs) (lists_of file.structs) (struct_table file.structs) shaped (cells_needed file) objects memory (signature_in g).params passed args →
           SameCall file (entered file name passed memory) (entered_flat file name args (numbers_of (cells_of file) memory ++ others))
-      unfolding entered entered_flat
       same-call name g passed args there memory others all room passes =
-          let f = found-as name g there in
-          let l = f.least in
-          let stands = begins-standing memory others all room in
-          let agree = f.agrees.agree objects 0 (behind_objects file) passed args memory (numbers_of (cells_of file) memory ++ others) objects-separate (λ d n deep. refl) (omega arith) (omega arith) stands passes in
-          let ended = ends-standing (f.c 0 passed memory).memory (f.flat (behind_objects file) args (numbers_of (cells_of file) memory ++ others)).cells agree.stands in
-          subst (λ o. SameCall file (applied_c o 0 passed memory) (applied (found name (routines file)) (behind_objects file) args (numbers_of (cells_of file) memory ++ others))) (sym f.is)
-          (subst (λ o. SameCall file (f.c 0 passed memory) (applied o (behind_objects file) args (numbers_of (cells_of file) memory ++ others))) (sym f.also)
-          (record { count = agree.count; answer = agree.answer; cells = ended.0; room = agree.stands.room; fits = ended.1 }))
+          let agree = call-from name g passed args there memory (numbers_of (cells_of file) memory ++ others) (begins-standing memory others all room) passes in
+          let ended = ends-standing (entered file name passed memory).memory (entered_flat file name args (numbers_of (cells_of file) memory ++ others)).cells agree.stands in
+          record { count = agree.count; answer = agree.answer; cells = ended.0; room = agree.stands.room; fits = ended.1 }
 
       -- the address of an object
       object-passed : (root : Root) (s : Stand) (struct name : Text) (p : CParam) (memory : Memory) → stand_of_object root ≡ Some s → s.ty ≡ OfStruct struct → points_to struct name p ≡ true →
@@ -401,13 +406,13 @@ module _ (file : Parts) (formed : WellFormed file) where
           let ty : p.ty ≡ OfStruct struct = same-type p.ty (OfStruct struct) (and-right (bytes_eq p.name name) _ rest) in
           (and-left p.pointer _ h, record { k = s.at; from = refl; placed = record { it = s; there = there; leads = ap (λ t. Some (whole t)) (is ∙ sym ty); is = omega arith } })
 
-      init-passes : (ps : List CParam) (memory : Memory) → init_params ps ≡ true →
+      pub init-passes : (ps : List CParam) (memory : Memory) → init_params ps ≡ true →
           PassedAll (sizes file.structs) (lists_of file.structs) (struct_table file.structs) shaped (cells_needed file) objects memory (map (λ p. record { pointer = p.pointer; ty = p.ty }) ps) (object state_object ∷ []) (pos 0 ∷ [])
       init-passes [] memory h = cc
       init-passes (s ∷ i ∷ ps) memory h = cc
       init-passes (s ∷ []) memory h = (object-passed state_object (record { at = 0; ty = OfStruct (codes "bl_state") }) (codes "bl_state") (codes "s") s memory refl refl h, tt)
 
-      tick-passes : (ps : List CParam) (memory : Memory) → tick_params ps ≡ true →
+      pub tick-passes : (ps : List CParam) (memory : Memory) → tick_params ps ≡ true →
           PassedAll (sizes file.structs) (lists_of file.structs) (struct_table file.structs) shaped (cells_needed file) objects memory (map (λ p. record { pointer = p.pointer; ty = p.ty }) ps)
           (object state_object ∷ object input_object ∷ object output_object ∷ []) (pos 0 ∷ pos (input_at file) ∷ pos (output_at file) ∷ [])
       tick-passes [] memory h = cc
@@ -423,7 +428,7 @@ module _ (file : Parts) (formed : WellFormed file) where
             ),
           )
 
-objects-declared : (file : Parts) → WellFormed file →
+pub objects-declared : (file : Parts) → WellFormed file →
     (is_some (struct_table file.structs (codes "bl_state")) && (is_some (struct_table file.structs (codes "bl_in")) && is_some (struct_table file.structs (codes "bl_out")))) ≡ true
 unfolding faults_in
 objects-declared file formed =

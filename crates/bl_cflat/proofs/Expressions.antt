@@ -29,13 +29,14 @@ use Rattle.bl_cmeaning.specs.Tables.{Table, entry_or}
 use Rattle.bl_cmeaning.specs.Calls.{Names, arg_calls, call_calls, calls_in, calls_in_arg, calls_in_call, calls_in_place, calls_in_step, expr_calls, index_calls, kind_calls, most, place_calls, step_calls}
 use Rattle.bl_ctext.specs.Names.{is_callee, is_name}
 use Rattle.bl_cmeaning.specs.Builtin.{index_within}
-use Rattle.bl_cmeaning.specs.Faults.{Clause, declared_before, arguments, changes_nothing, hands_on, indexes, indices, operand_type, void_as_statement, Context, Judged, JudgedArg, JudgedCall, JudgedIndex, JudgedPlace, Judges, Signature, Steps, agree, bool_type, fit_args, if_typed, is_void, judge_arg, judge_call, judge_expr, judge_index, judge_into, judge_kind, judge_place, judge_root, judge_step, judge_steps, judged_arg, judged_call, judged_expr, judged_index, judged_place, judged_step, known_result, result_type, same_type, signature_of, takes, unless}
+use Rattle.bl_cmeaning.specs.Faults.{declared_before, arguments, changes_nothing, hands_on, indexes, indices, operand_type, void_as_statement, Context, Judged, JudgedArg, JudgedCall, JudgedIndex, JudgedPlace, Judges, Signature, Steps, agree, bool_type, fit_args, if_typed, is_void, judge_arg, judge_call, judge_expr, judge_index, judge_into, judge_kind, judge_place, judge_root, judge_step, judge_steps, judged_arg, judged_call, judged_expr, judged_index, judged_place, judged_step, known_result, result_type, same_type, signature_of, takes, unless}
 use Rattle.bl_cmeaning.proofs.CallLemmas.{most-append}
 use Rattle.bl_cmeaning.proofs.EndLemmas.{nil-left, nil-right}
 use Rattle.bl_cmeaning.proofs.Induction.{ExprCases, Optional, induct_call, induct_expr, induct_place}
 use Rattle.bl_cfit.proofs.Lists.{and-left, and-right}
 use Rattle.bl_cflat.specs.Reaching.{Ground, Index, Reach, Step, reach_along, start_of_slot}
 use Rattle.bl_cflat.specs.Flat.{Cells, Evaluates, Grounded, Left, Routine, address_of, arg_step, at_once, call_flat, call_step, called, cell_at, compared, each_of, expr_step, index_step, kind_step, left, next, place_step, reach_flat, read_at, step_step, two_values, value_flat}
+use Rattle.bl_cflat.proofs.Faultless.{unless-nil}
 use Rattle.bl_cflat.proofs.Ways.{Lists, Shaped, Structs}
 use Rattle.bl_cflat.proofs.Standing.{PlacedAt, Stands, World, range-part, read-scalar, same-memory}
 use Rattle.bl_cflat.proofs.Evaluations.{Agree, Matches, made-agrees, next-agrees}
@@ -89,10 +90,6 @@ module _ (chains : Table ℕ) (top limit : ℕ) where
 
   pub room-right : (xs ys : List Text) → RoomFor chains top limit (xs ++ ys) → RoomFor chains top limit ys
   room-right xs ys r = let e = most-append chains xs ys in let h = r.enough in record { enough = omega arith }
-
-unless-nil : (holds : Bool) (clause : Clause) (place : Place) → unless holds clause place ≡ [] → holds ≡ true
-unless-nil true clause place h = refl
-unless-nil false clause place h = cc
 
 module _ (known : Sizes) (lists : Lists) (structs : Structs) (shaped : Shaped known lists structs) (limit : ℕ) (context : Context) (scope : Scope) (ground : Ground Routine) (chains : Table ℕ)
     (base : ℕ) (w : World) (running : Running known lists structs shaped limit context scope ground chains base w) (memory : Memory) where
@@ -321,8 +318,6 @@ module _ (known : Sizes) (lists : Lists) (structs : Structs) (shaped : Shaped kn
       Alike (PassedList known lists structs shaped limit w memory (map (λ judge. judge context at) (map judged_arg args))) (each_of_c (map arg_c args) scope memory) (each_of (map (λ arg. arg ground) (map arg_flat args)) base cells)
   args-agree [] h at none room spelled cells stood = record { count = refl; stands = stood; answer = tt }
   args-agree (a ∷ args) h at none room spelled cells stood =
-      let j = judged_arg a context at in
-      let js = map (λ judge. judge context at) (map judged_arg args) in
       next-agrees known lists structs shaped limit w memory (Passing (judged_arg a context at)) (PassedList known lists structs shaped limit w memory (map (λ judge. judge context at) (map judged_arg (a ∷ args))))
       (arg_c a scope memory) (arg_flat a ground base cells) (λ v. next_c (each_of_c (map arg_c args) scope memory) (λ others. given (Some (v ∷ others))))
       (λ after n. next (each_of (map (λ arg. arg ground) (map arg_flat args)) base after) (λ last others. left last (Some (n ∷ others))))
@@ -381,7 +376,6 @@ module _ (known : Sizes) (lists : Lists) (structs : Structs) (shaped : Shaped kn
       (called_after scope memory name (each_of_c (map arg_c args) scope memory).count (each_of_c (map arg_c args) scope memory).answer)
       (next (each_of (map (λ arg. arg ground) (map arg_flat args)) base cells) (λ after ns. called ground name base ns after))
   calling-case name args h at none room spelled cells stood =
-      let js = map (λ judge. judge context at) (map judged_arg args) in
       let there = unless-nil (is_some (signature_of context name)) declared_before at (nil-left _ _ none) in
       let h1 = nil-right (unless (is_some (signature_of context name)) declared_before at) _ none in
       let h2 = nil-right (joined (map (λ a. a.faults) (map (λ judge. judge context at) (map judged_arg args)))) _ h1 in

@@ -13,20 +13,17 @@ use Rattle.bl_ctext.specs.Spellable.{spells_func}
 use Rattle.bl_cmeaning.specs.Meaning.{Meaning, function_c, meanings_after}
 use Rattle.bl_cmeaning.specs.Sizes.{chain_cells, chains_after, sizes}
 use Rattle.bl_cmeaning.specs.Tables.{Table, entry_or, found, with_entry}
-use Rattle.bl_cmeaning.specs.Faults.{Clause, Fault, Signature, depth_of_function, faults_in_function, faults_of_two, function_faults_after, gives, init_faults, init_params, interface_faults, interface_functions, last_two, signature_in, struct_table, tick_faults, tick_params, unless}
+use Rattle.bl_cmeaning.specs.Faults.{Fault, Signature, depth_of_function, faults_in_function, faults_of_two, function_faults_after, gives, init_faults, init_params, interface_faults, interface_functions, last_two, signature_in, struct_table, tick_faults, tick_params, unless}
 use Rattle.bl_cmeaning.specs.Parts.{Parts}
 use Rattle.bl_cmeaning.proofs.EndLemmas.{nil-left, nil-right}
 use Rattle.bl_cfit.proofs.Lists.{and-left, and-right}
 use Rattle.bl_cflat.specs.Layout.{capped_sizes, layouts}
 use Rattle.bl_cflat.specs.Flat.{Routine, routine_flat, routines_after}
+use Rattle.bl_cflat.proofs.Faultless.{unless-nil}
 use Rattle.bl_cflat.proofs.Ways.{Shaped, Structs}
 use Rattle.bl_cflat.proofs.Running.{Agrees, FunctionAs, Keeps}
 use Rattle.bl_cflat.proofs.Layouts.{lists_of}
 use Rattle.bl_cflat.proofs.Functions.{FunctionsAs, function-agrees, function-keeps, sound}
-
-unless-nil : (holds : Bool) (clause : Clause) (place : Place) → unless holds clause place ≡ [] → holds ≡ true
-unless-nil true clause place h = refl
-unless-nil false clause place h = cc
 
 some_of : {A : Type 0} (a b : A) → Some a ≡ Some b → a ≡ b
 some_of a b h = cc

@@ -4,7 +4,6 @@ use Rattle.std.specs.Prelude.{bytes_eq, is_some, is_none, ◌==◌, codes, if◌
 use Rattle.std.specs.List.{list_all}
 use Rattle.std.proofs.lemmas.Grind.{common_steps}
 use Rattle.bl_tree.specs.declared.text.Text.{Text}
-use Rattle.bl_tree.specs.declared.place.Place.{Place}
 use Rattle.bl_tree.specs.declared.scalar.Scalar.{Scalar}
 use Rattle.bl_tree.specs.declared.c.CParam.{CParam}
 use Rattle.bl_tree.specs.declared.c.CLocal.{CLocal}
@@ -17,13 +16,14 @@ use Rattle.bl_cmeaning.specs.Meaning.{Meaning, Passed, by_address, by_value, Sco
 use Rattle.bl_cmeaning.specs.Sizes.{Sizes, chain_cells, sizes}
 use Rattle.bl_cmeaning.specs.Tables.{Table, entry_or, found, no_entries, table_of}
 use Rattle.bl_cmeaning.specs.Loops.{counters_in_block}
-use Rattle.bl_cmeaning.specs.Faults.{Clause, distinct_names, declared_before, scalar_parameter, Signature, all_distinct, block_faults, context_in, faults_in_function, faults_in_head, faults_in_stmt, is_declared, is_scalar, local_variable, names_table, repeated, signature_in, struct_table, unless, variable_names}
+use Rattle.bl_cmeaning.specs.Faults.{distinct_names, declared_before, scalar_parameter, Signature, all_distinct, block_faults, context_in, faults_in_function, faults_in_head, faults_in_stmt, is_declared, is_scalar, local_variable, names_table, repeated, signature_in, struct_table, unless, variable_names}
 use Rattle.bl_cmeaning.specs.Parts.{Parts}
 use Rattle.bl_cmeaning.proofs.EndLemmas.{nil-left, nil-right}
 use Rattle.bl_cfit.proofs.Lists.{and-right}
 use Rattle.bl_cflat.specs.Layout.{capped, capped_sizes, frame_cells, layouts, slots_of}
 use Rattle.bl_cflat.specs.Reaching.{Ground}
 use Rattle.bl_cflat.specs.Flat.{Routine, block_flat, frame_begun, ground_of, routine_flat, with_args, zeroed}
+use Rattle.bl_cflat.proofs.Faultless.{unless-nil}
 use Rattle.bl_cflat.proofs.Entries.{offset_of, sum_of}
 use Rattle.bl_cflat.proofs.Ways.{Lists, Shaped, Structs}
 use Rattle.bl_cflat.proofs.Standing.{Stands, World, zero-fits}
@@ -33,10 +33,6 @@ use Rattle.bl_cflat.proofs.Effects.{Stays, body-stays, set-stays}
 use Rattle.bl_cflat.proofs.Layouts.{laying-file, lists_of, none-before}
 use Rattle.bl_cflat.proofs.Frames.{SlotFor, entries, frame-sum, frame-total, params-slot, variable_size}
 use Rattle.bl_cflat.proofs.Begun.{begun-stands, begun_world, deeper-shallow, ended-stands, inner-separate, pointer_cells, variable-as}
-
-unless-nil : (holds : Bool) (clause : Clause) (place : Place) → unless holds clause place ≡ [] → holds ≡ true
-unless-nil true clause place h = refl
-unless-nil false clause place h = cc
 
 -- what is known of a function in which nothing fails
 pub record Sound (structs : Structs) (functions : Table Signature) (f : CFunc) : Type 0 where

@@ -20,8 +20,9 @@ use Rattle.bl_cmeaning.proofs.EndLemmas.{nil-left, nil-right}
 use Rattle.bl_cmeaning.proofs.MapLemmas.{next_entry}
 use Rattle.bl_cfit.specs.Fitting.{Spot, whole, row, spot_if, spot_of, spot_of_length, step_in, walk}
 use Rattle.bl_cfit.proofs.Lists.{and-left, and-right}
+use Rattle.bl_cflat.proofs.Faultless.{unless-nil}
 use Rattle.bl_cflat.proofs.Entries.{Positioned, positioned}
-use Rattle.bl_cflat.proofs.Layouts.{entries_after, unless-nil}
+use Rattle.bl_cflat.proofs.Layouts.{entries_after}
 use Rattle.bl_cflat.proofs.Ways.{Lists, Shaped, Structs, by_name, offset_in, part_offset, way_offset}
 
 -- the tables of a file
@@ -94,7 +95,6 @@ module _ (known : Sizes) (lists : Lists) (structs : Structs) (shaped : Shaped kn
       × (length (flat_map (λ k. map (inside (member name ∷ element k ∷ [])) (inner_of_type scalars ty)) (below m)) ≡ m * size_of_type known ty)
   led-row spot name n zero ty steps t fits = (tt, sym (zero-mul (size_of_type known ty)))
   led-row spot name n (suc m) ty steps t fits =
-      let f : ℕ → List Inner = λ k. map (inside (member name ∷ element k ∷ [])) (inner_of_type scalars ty) in
       let before = led-row spot name n m ty steps t (omega arith) in
       let split : flat_map (λ k. map (inside (member name ∷ element k ∷ [])) (inner_of_type scalars ty)) (below m ++ m ∷ [])
       ≡ flat_map (λ k. map (inside (member name ∷ element k ∷ [])) (inner_of_type scalars ty)) (below m) ++ (map (inside (member name ∷ element m ∷ [])) (inner_of_type scalars ty) ++ []) =
@@ -175,7 +175,6 @@ module _ (known : Sizes) (lists : Lists) (structs : Structs) (shaped : Shaped kn
   led-struct : (table : Structs) (name : Text) (ms : List CMember) → Done table → lists name ≡ Some ms → all_distinct no_entries (map (λ m. m.name) ms) ≡ true → list_all (λ m. is_declared table m.ty) ms ≡ true → LedType (OfStruct name)
   led-struct table name ms done is apart declared =
       let places : Positioned (size_of_member known) (by_name ms) 0 (by_name ms) = positioned (size_of_member known) no_entries (by_name ms) (ap (all_distinct no_entries) (sym (member-names ms)) ∙ apart) in
-      let table-is = shaped.tables name in
       let steps : (m : CMember) → found m.name (by_name ms) ≡ Some m → step_in structs (whole (OfStruct name)) (member m.name) ≡ Some (spot_of m) =
       λ m there. ap (λ o. spot_if (option_and_then (λ members. members m.name) o)) (shaped.tables name ∙ ap (option_map (λ xs. table_of (by_name xs))) is) ∙ ap spot_if there in
       let all = led-members name ms 0 ms is places steps (λ m there. led-declared table done m.ty (all-so (λ x. is_declared table x.ty) m.name m ms there declared)) in

@@ -4,7 +4,6 @@ use Rattle.std.specs.Prelude.{flat_map, is_some, is_none, bytes_eq, unwrap_or, o
 use Rattle.std.specs.List.{list_all}
 use Rattle.std.specs.Option.{option_or}
 use Rattle.bl_tree.specs.declared.text.Text.{Text}
-use Rattle.bl_tree.specs.declared.place.Place.{Place}
 use Rattle.bl_tree.specs.declared.c.CType.{CType}
 use Rattle.bl_tree.specs.declared.c.CType.TheVariants.{Scalar as OfScalar, Struct as OfStruct}
 use Rattle.bl_tree.specs.declared.c.CMember.{CMember}
@@ -12,7 +11,7 @@ use Rattle.bl_tree.specs.declared.c.CStruct.{CStruct}
 use Rattle.bl_tree.specs.Reduce.{total}
 use Rattle.bl_cmeaning.specs.Cells.{Inner, inner_of_length, inner_of_type, inner_of_member, inner_after}
 use Rattle.bl_cmeaning.specs.Sizes.{Sizes, size_of_length, size_of_member, size_of_struct, size_of_type, sizes, sizes_after}
-use Rattle.bl_cmeaning.specs.Faults.{Clause, distinct_names, declared_before, WellFormed, depth_of_struct, faults_in, faults_in_struct, is_declared, member_table, struct_faults_after, struct_table, unless}
+use Rattle.bl_cmeaning.specs.Faults.{distinct_names, declared_before, WellFormed, depth_of_struct, faults_in, faults_in_struct, is_declared, member_table, struct_faults_after, struct_table, unless}
 use Rattle.bl_cmeaning.specs.Parts.{Parts}
 use Rattle.bl_cmeaning.specs.Tables.{Table, found, no_entries, table_of, with_entry}
 use Rattle.bl_cmeaning.proofs.EndLemmas.{nil-left, nil-right}
@@ -20,6 +19,7 @@ use Rattle.bl_cmeaning.proofs.MapLemmas.{next_entry, nothing_after, same_table}
 use Rattle.bl_cfit.specs.Fitting.{scalars}
 use Rattle.bl_cfit.proofs.Lists.{and-both, and-left, and-right}
 use Rattle.bl_cflat.specs.Layout.{capped, capped_sizes, layouts, members_laid}
+use Rattle.bl_cflat.proofs.Faultless.{unless-nil}
 use Rattle.bl_cflat.proofs.Entries.{found-made}
 use Rattle.bl_cflat.proofs.Ways.{Lists, Shaped, Structs, by_name, offset_in}
 use Rattle.bl_cflat.proofs.Places.{capped-factor}
@@ -27,10 +27,6 @@ use Rattle.bl_cflat.proofs.Running.{LaidAs, Laying}
 
 some_of : {A : Type 0} (a b : A) → Some a ≡ Some b → a ≡ b
 some_of a b h = cc
-
-pub unless-nil : (holds : Bool) (clause : Clause) (place : Place) → unless holds clause place ≡ [] → holds ≡ true
-unless-nil true clause place h = refl
-unless-nil false clause place h = cc
 
 -- ---- tables that grow
 
@@ -184,7 +180,6 @@ inners-same known more structs keeps (m ∷ ms) h =
 inners-are : (known : Table (List Inner)) (list : List CStruct) (name : Text) → values_after (λ known ms. flat_map (inner_of_member known) ms) inners-same known list name ≡ option_or (known name) (found name (inner_after known list))
 inners-are known [] name = sym (nothing_after (known name))
 inners-are known (s ∷ rest) name =
-    let cells = flat_map (inner_of_member known) s.members in
     inners-are (with_entry known s.name (flat_map (inner_of_member known) s.members)) rest name
     ∙ next_entry (known name) (bytes_eq s.name name) (flat_map (inner_of_member known) s.members) (found name (inner_after (with_entry known s.name (flat_map (inner_of_member known) s.members)) rest))
 

@@ -1,5 +1,6 @@
 -- What the answers share.
 pub mod Entries
+pub mod Faultless
 pub mod Ways
 pub mod Spans
 pub mod Standing
@@ -18,3 +19,5 @@ pub mod Functions
 pub mod Files
 pub mod Inners
 pub mod Entry
+pub mod Numbers
+pub mod Runs

@@ -176,10 +176,6 @@ module _ (known : Sizes) (lists : Lists) (structs : Structs) (shaped : Shaped kn
         ⊎_elim (λ (l : p.it.at + size_of_type known p.it.ty ≤ s.at). inl (omega arith)) (λ (r : s.at + size_of_type known s.ty ≤ p.it.at). inr (omega arith))
         (separate.apart place.root root p.it s p.there there differ)
 
-    -- what is left of the way in the place that was written, if anything
-    abbrev Rest : Root → List Part → Type 0
-    Rest root parts = Option (List Part)
-
     read-left : (parts : List Part) (kind : Scalar) (o : Option (List Part)) → left_after place.parts parts ≡ o → walk structs (Some (whole p.it.ty)) parts ≡ Some (whole (OfScalar kind)) →
         cell_at after (p.it.at + Offset (Some (whole p.it.ty)) parts) ≡ number_or o value (memory place.root parts)
     read-left parts kind (Some rest) is leads =

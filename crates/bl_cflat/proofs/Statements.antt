@@ -22,12 +22,13 @@ use Rattle.bl_cmeaning.specs.Meaning.{Called, Counted, Evaluates as EvaluatesC, 
 use Rattle.bl_cmeaning.specs.Sizes.{Sizes, size_of_type}
 use Rattle.bl_cmeaning.specs.Tables.{Table, entry_or}
 use Rattle.bl_cmeaning.specs.Calls.{calls_in, calls_in_place, calls_in_stmt}
-use Rattle.bl_cmeaning.specs.Faults.{Clause, Context, Signature, agree, assigned_type, block_faults, bool_type, changes_nothing, condition_faults, condition_type, declared_before, faults_in_stmt, judged_call, judged_expr, judged_place, return_faults, returns_result, unless}
+use Rattle.bl_cmeaning.specs.Faults.{Context, Signature, agree, assigned_type, block_faults, bool_type, changes_nothing, condition_faults, condition_type, declared_before, faults_in_stmt, judged_call, judged_expr, judged_place, return_faults, returns_result, unless}
 use Rattle.bl_cmeaning.proofs.EndLemmas.{nil-left, nil-right}
 use Rattle.bl_cmeaning.proofs.Induction.{Optional, StmtCases, induct_stmt, stmt}
 use Rattle.bl_cfit.proofs.Lists.{and-left, and-right}
 use Rattle.bl_cflat.specs.Reaching.{Ground}
 use Rattle.bl_cflat.specs.Flat.{Cells, Evaluates, Left, Ran, Routine, Runs, address_of, after, block_of, block_or_none, call_flat, cell_number, copied, ended_by, ending, executed, following_end, going, going_on, left, next, once_more, reach_flat, runs_flat, turn_end, turn_or_none, turns, value_flat, written_at, zeroed}
+use Rattle.bl_cflat.proofs.Faultless.{unless-nil}
 use Rattle.bl_cflat.proofs.Ways.{Lists, Shaped, Structs}
 use Rattle.bl_cflat.proofs.Standing.{PlacedAt, Stands, World, clear-stands, copy-stands, placed-below, set-stands, zero-fits}
 use Rattle.bl_cflat.proofs.Evaluations.{Agree, Matches}
@@ -36,10 +37,6 @@ use Rattle.bl_cflat.proofs.Values.{same-type, value-agrees}
 use Rattle.bl_cflat.proofs.Places.{sized-type}
 use Rattle.bl_cflat.proofs.Calls.{CallFacts}
 use Rattle.bl_cflat.proofs.Expressions.{RoomFor, call-facts, expr-agrees, place-facts, room-left, room-right}
-
-unless-nil : (holds : Bool) (clause : Clause) (place : Place) → unless holds clause place ≡ [] → holds ≡ true
-unless-nil true clause place h = refl
-unless-nil false clause place h = cc
 
 -- a number that is returned is one of the function's result
 abbrev pub EndRanged : Option Scalar → End → Type 0
@@ -179,7 +176,6 @@ module _ (known : Sizes) (lists : Lists) (structs : Structs) (shaped : Shaped kn
       Stood memory cells → Stood (set_at memory l v) (written_at ground.sizes (Some goal) k n cells)
   written-as (OfScalar kind) memory l k v n cells placed valued stood = set-stands known lists structs shaped limit w running.separate running.low memory cells stood l kind k v n placed valued.0 valued.1
   written-as (OfStruct name) memory l k v n cells placed valued stood =
-      let size : ℕ = size_of_type known (OfStruct name) in
       let a : k + size_of_type known (OfStruct name) ≤ w.top = placed-below known lists structs shaped limit w l (OfStruct name) k running.separate placed in
       let b : valued.k + size_of_type known (OfStruct name) ≤ w.top = placed-below known lists structs shaped limit w valued.place (OfStruct name) valued.k running.separate valued.placed in
       let low = running.low in
@@ -270,7 +266,6 @@ module _ (known : Sizes) (lists : Lists) (structs : Structs) (shaped : Shaped kn
       (location_c p scope memory).answer (address_of (reach_flat p ground) base cells).answer f.goal (λ l. next_c (value_c e scope memory) (λ v. given (Some (set_at memory l v))))
       (λ c k. next (value_flat e ground base c) (λ d v. left (written_at ground.sizes (reach_flat p ground).ty k v d) (Some v))) l.count l.stands l.answer
       (λ x k placed.
-      let after : Cells = (address_of (reach_flat p ground) base cells).cells in
       let v = expr-agrees known lists structs shaped limit context scope ground chains base w running memory e (nil-left _ _ h1) (room-right chains w.top limit (calls_in_place p) (calls_in e) room) (and-right (spells_place p) _ spelled)
       (address_of (reach_flat p ground) base cells).cells l.stands in
       set-value memory x k (value_c e scope memory).count (value_flat e ground base (address_of (reach_flat p ground) base cells).cells).count (value_flat e ground base (address_of (reach_flat p ground) base cells).cells).cells

@@ -1,18 +1,19 @@
 -- What holds of every C file that is run over numbered cells.
-use Rattle.std.specs.Prelude.{◌≡◌, ◌≤◌, ℕ, ◌+◌, ℤ, pos, true, List, [], ◌∷◌, ◌++◌, length, take, codes}
+use Rattle.std.specs.Prelude.{◌≡◌, ◌≤◌, ℕ, ◌+◌, ℤ, pos, true, List, [], ◌∷◌, ◌++◌, map, length, take, drop, replicate, codes, Option, option_map, IfSome}
 use Rattle.std.specs.List.{list_all}
 use Rattle.bl_tree.specs.declared.text.Text.{Text}
+use Rattle.bl_tree.specs.declared.scalar.Scalar.{Scalar}
 use Rattle.bl_cmeaning.specs.Parts.{Parts}
 use Rattle.bl_cmeaning.specs.Memory.{Memory, state_object, input_object, output_object}
 use Rattle.bl_cmeaning.specs.Tables.{entry_or, found, no_entries}
 use Rattle.bl_cmeaning.specs.Meaning.{Called}
-use Rattle.bl_cmeaning.specs.Cells.{cells_of, numbers_of}
+use Rattle.bl_cmeaning.specs.Cells.{cells_of, inputs_of, numbers_of, outputs_of}
 use Rattle.bl_cmeaning.specs.Sizes.{cells_needed, sizes}
-use Rattle.bl_cmeaning.specs.Trace.{entered, object}
+use Rattle.bl_cmeaning.specs.Trace.{Tick, entered, object, reply_of, start_c, tick_c}
 use Rattle.bl_cmeaning.specs.Faults.{WellFormed}
-use Rattle.bl_cfit.specs.Fitting.{cell_holds}
+use Rattle.bl_cfit.specs.Fitting.{cell_holds, in_ranges}
 use Rattle.bl_cflat.specs.Layout.{capped_sizes, layouts}
-use Rattle.bl_cflat.specs.Flat.{Cells, Left, Routine, applied, routines_after}
+use Rattle.bl_cflat.specs.Flat.{Cells, Left, Routine, applied, routines_after, with_args}
 
 -- ---- a call from outside
 
@@ -63,3 +64,40 @@ TicksAgree file =
 -- the start
 abbrev pub StartsAgree : Parts → Type 0
 StartsAgree file = CallsAgree file (codes "bl_init") (entered file (codes "bl_init") (object state_object ∷ [])) (pos 0 ∷ [])
+
+-- ---- ticks and the start, by the numbers alone
+
+-- the types of the three objects' scalars
+abbrev pub kinds_of : Parts → List Scalar
+kinds_of file = map (λ cell. cell.kind) (cells_of file)
+
+-- whether there is a number for each of the scalars, in its range
+abbrev pub Fitting : Parts → List ℤ → Type 0
+Fitting file numbers = in_ranges (kinds_of file) numbers ≡ true
+
+-- a tick in a C text and over numbered cells
+pub record SameTick (file : Parts) (t : Tick) (l : Left ℤ) : Type 0 where
+  pub count : t.count ≡ l.count
+  pub reply : t.reply ≡ reply_of l.answer
+  pub cells : take (length (cells_of file)) l.cells ≡ t.cells
+  pub outputs : take (length (outputs_of file)) (drop (output_at file + 1) l.cells) ≡ t.outputs
+  pub room : cells_needed file ≤ length l.cells
+  pub fits : Fitting file t.cells
+
+-- a tick over cells of which the first have the numbers of the three objects' scalars, once those of the inputs are set to a row
+abbrev pub TicksRun : Parts → Type 0
+TicksRun file = WellFormed file → cells_needed file ≤ 1000000 → (numbers others ins : List ℤ) → Fitting file numbers → in_ranges (map (λ column. column.ty) (inputs_of file)) ins ≡ true →
+    cells_needed file ≤ length (numbers ++ others) →
+    SameTick file (tick_c file numbers ins)
+    (entered_flat file (codes "bl_tick") (pos 0 ∷ pos (input_at file) ∷ pos (output_at file) ∷ []) (with_args (input_at file + 1) ins (numbers ++ others)))
+
+-- a start in a C text and over numbered cells
+pub record SameStart (file : Parts) (start : Option (List ℤ)) (l : Left ℤ) : Type 0 where
+  pub cells : start ≡ option_map (λ n. take (length (cells_of file)) l.cells) l.answer
+  pub room : cells_needed file ≤ length l.cells
+  pub fits : IfSome start (Fitting file)
+
+-- a start over cells of which those of the three objects are 0
+abbrev pub StartsRun : Parts → Type 0
+StartsRun file = WellFormed file → cells_needed file ≤ 1000000 → (others : List ℤ) → cells_needed file ≤ length (replicate (length (cells_of file)) (pos 0) ++ others) →
+    SameStart file (start_c file) (entered_flat file (codes "bl_init") (pos 0 ∷ []) (replicate (length (cells_of file)) (pos 0) ++ others))

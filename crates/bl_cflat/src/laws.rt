@@ -2,7 +2,7 @@
 //! law.
 
 ghost use Rattle.bl_cmeaning.specs.Parts.{parts_of};
-ghost use Rattle.bl_cflat.specs.Laws.{StartsAgree, TicksAgree};
+ghost use Rattle.bl_cflat.specs.Laws.{StartsAgree, StartsRun, TicksAgree, TicksRun};
 
 use bl_ctext::CFile;
 
@@ -15,4 +15,14 @@ pub fn ticks_agree(_file: &CFile)
 /// The same of the start.
 pub fn starts_agree(_file: &CFile)
     ensures { StartsAgree (parts_of _file.now) }
+{}
+
+/// A tick by the numbers of its cells and a row of inputs, which are set before it.
+pub fn ticks_run(_file: &CFile)
+    ensures { TicksRun (parts_of _file.now) }
+{}
+
+/// The start, from cells that are 0.
+pub fn starts_run(_file: &CFile)
+    ensures { StartsRun (parts_of _file.now) }
 {}

@@ -1,5 +1,5 @@
 -- From the pieces of a text to the file that it spells.
-use Rattle.std.proofs.Common.{◌≡◌, ◌≢◌, ℕ, ◌≤◌, ◌<◌, ◌^◌, Bool, true, false, nat_le, ◌==◌, List, ◌++◌, length, map, drop, refl, sym, ap, ◌∙◌, subst, inl, inr, arith}
+use Rattle.std.proofs.Common.{◌≡◌, ◌≢◌, ℕ, ◌≤◌, ◌<◌, ◌^◌, Bool, true, false, nat_le, ◌==◌, List, [], ◌∷◌, ◌++◌, length, map, drop, refl, sym, ap, ◌∙◌, subst, inl, inr, arith}
 use Rattle.std.specs.Prelude.{Option, Some, None, MatchOption}
 use Rattle.std.specs.List.{starts_with}
 use Rattle.std.proofs.lemmas.Slice.Eq.{starts_is}
@@ -18,9 +18,18 @@ use Rattle.bl_csyntax.specs.Pieces.{pieces}
 use Rattle.bl_ctext.specs.declared.file.CFile.{CFile}
 use Rattle.bl_csyntax.specs.Rules.{Passes, FailsFirst}
 use Rattle.bl_cspelling.proofs.Depths.{text_kept}
-use Rattle.bl_cspelling.proofs.Passing.{spells_some}
+use Rattle.bl_cspelling.proofs.Passing.{spells_some, spelled_passing}
 use Rattle.bl_cspelling.proofs.Spaced.{spaced}
-use Rattle.bl_cparse.specs.Places.{SpellsNone}
+use Rattle.bl_csyntax.specs.declared.grammar.Part.TheVariants.{File, Struct, Structs, Func, Funcs}
+use Rattle.bl_csyntax.specs.Grammar as grammar
+use Rattle.bl_csyntax.specs.Expects.{Expects}
+use Rattle.bl_csyntax.proofs.Expecting.{expects_text}
+use Rattle.bl_csyntax.proofs.Once.{no_failure}
+use Rattle.bl_cparse.specs.declared.refusal.CRefusal.{CRefusal}
+use Rattle.bl_cparse.specs.declared.refusal.CRefusal.TheVariants.{NotSubset, NoMemory}
+use Rattle.bl_cparse.specs.Places.{SpellsNone, RefusesNone, RefusesAt}
+use Rattle.bl_cparse.specs.Reading.{part, WantsMemory}
+use Rattle.bl_cparse.proofs.ItemOpening.{file_opens}
 
 at_most : (a b : ℕ) → a ≤ b → nat_le a b ≡ true
 at_most a b h = grind (arith, nat_tests)
@@ -91,3 +100,24 @@ failed_at text start (Some found) at e h = subst (FailsFirst text start) (some_s
 pub passed : (text : List ℕ) (start : ℕ) (fault : Option ℕ) → fault ≡ None → MatchOption fault (Passes text start) (FailsFirst text start) → Passes text start
 passed text start None e h = h
 passed text start (Some found) e h = cc
+
+-- a text that fails spells no file
+pub fails_none : (text : List ℕ) (at : ℕ) → FailsFirst text (length PRELUDE.now) at → SpellsNone text
+fails_none text at fails file spelled = no_failure text (length prelude) at (spelled_passing file text spelled) (place_is text at fails)
+
+-- nor does one that doesn't begin with the prelude
+pub other_none : (text : List ℕ) → ((rest : List ℕ) → text ≢ prelude ++ rest) → SpellsNone text
+other_none text other file (rest, (begins, spaced)) = other rest begins
+
+-- what is expected of a text that passes
+pub expected : (ts : List Token) (text : List ℕ) → ts ≡ pieces (drop (length PRELUDE.now) text) → Passes text (length PRELUDE.now)
+    → Expects (part Struct grammar.most_open ∷ part Structs grammar.most_open ∷ part Func grammar.most_open ∷ part Funcs grammar.most_open ∷ []) ts
+expected ts text is passes = file_opens (subst (λ (us : List Token). Expects (part File grammar.most_open ∷ []) us) (sym is) (expects_text (pieces (drop (length PRELUDE.now) text)) passes))
+
+pub wants_memory : (text : List ℕ) (r : CRefusal) → WantsMemory r → RefusesNone text r
+wants_memory text (NotSubset at) w = absurd w
+wants_memory text NoMemory w = tt
+
+pub may_refuse : (text : List ℕ) (r : CRefusal) → WantsMemory r → RefusesAt text r
+may_refuse text (NotSubset at) w = absurd w
+may_refuse text NoMemory w = tt

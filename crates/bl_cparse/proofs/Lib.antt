@@ -1,7 +1,14 @@
+pub mod AwaitLemmas
+pub mod ExprOpening
 pub mod FileLemmas
+pub mod ItemOpening
 pub mod ListLemmas
 pub mod NestLemmas
+pub mod NumberLemmas
 pub mod PartialLemmas
 pub mod PlaceLemmas
+pub mod ReadLemmas
 pub mod StmtLemmas
+pub mod StmtOpening
 pub mod TokenLemmas
+pub mod WordLemmas

@@ -1,4 +1,6 @@
+pub mod Awaiting
 pub mod Nest
 pub mod Partial
 pub mod Parts
 pub mod Places
+pub mod Reading

@@ -27,3 +27,8 @@ SpellsNone text = (file : CFile) → SpellsC file text → ⊥
 abbrev pub RefusesAt : List ℕ → CRefusal → Type 0
 RefusesAt text (NotSubset at) = FailsFirst text (length prelude) at
 RefusesAt text NoMemory = ⊤
+
+-- the refusal says that the bytes spell no file, and they spell none, or memory was wanting
+abbrev pub RefusesNone : List ℕ → CRefusal → Type 0
+RefusesNone text (NotSubset at) = SpellsNone text
+RefusesNone text NoMemory = ⊤

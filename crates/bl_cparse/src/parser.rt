@@ -4,17 +4,18 @@
 mod expr;
 mod item;
 mod literal;
-#[tactic(auto, using(crate::proofs::TokenLemmas::name_any, crate::proofs::TokenLemmas::struct_name_any, crate::proofs::TokenLemmas::function_name_any, crate::proofs::TokenLemmas::callee_any, crate::proofs::TokenLemmas::turn_name_any))]
+#[tactic(auto, using(crate::proofs::TokenLemmas::name_word, crate::proofs::TokenLemmas::struct_name_word, crate::proofs::TokenLemmas::function_name_word, crate::proofs::TokenLemmas::callee_word, crate::proofs::TokenLemmas::turn_name_word))]
 mod name;
 mod place;
 mod stmt;
 
-ghost use Rattle.std.specs.Prelude.{◌≡◌, ◌≢◌, ℕ, ◌<◌, ◌≤◌, List, ◌++◌, length, drop, slice_index, IfOk, IsErrAnd};
+ghost use Rattle.std.specs.Prelude.{◌≡◌, ◌≢◌, ℕ, ◌<◌, ◌≤◌, List, ◌++◌, length, drop, slice_index, IfOk, IfErr, IsErrAnd};
 ghost use Rattle.bl_ctext.specs.Prelude.{prelude};
 ghost use Rattle.bl_ctext.specs.declared.prelude.TheConstants.{PRELUDE};
 ghost use Rattle.bl_ctext.specs.SpellsC.{SpellsC};
 ghost use Rattle.bl_csyntax.specs.Rules.{Passes};
-ghost use Rattle.bl_cparse.specs.Places.{LeavesPrelude, RefusesAt, SpellsNone};
+ghost use Rattle.bl_cparse.specs.Places.{LeavesPrelude, RefusesAt, RefusesNone, SpellsNone};
+ghost use Rattle.bl_cparse.specs.Reading.{WantsMemory};
 
 use crate::reader::Reader;
 use crate::refusal::CRefusal;
@@ -31,6 +32,7 @@ pub fn parse(alloc: Global, text: &[u8]) -> Result<CFile, CRefusal>
     ensures file { IfOk result (λ file. SpellsC file text.now) }
     ensures prelude { ((rest : List ℕ) → text.now ≢ prelude ++ rest) → IsErrAnd result (LeavesPrelude text.now) }
     ensures place { (rest : List ℕ) → text.now ≡ prelude ++ rest → SpellsNone text.now → IsErrAnd result (RefusesAt text.now) }
+    ensures none { IfErr result (RefusesNone text.now) }
 {
     if !text.starts_with(PRELUDE) {
         return Err(left_prelude(text));
@@ -45,7 +47,8 @@ pub fn parse(alloc: Global, text: &[u8]) -> Result<CFile, CRefusal>
 fn left_prelude(text: &[u8]) -> CRefusal
     requires short { length text.now ≤ 67108864 }
     requires other { (rest : List ℕ) → text.now ≢ prelude ++ rest }
-    ensures { LeavesPrelude text.now result }
+    ensures leaves { LeavesPrelude text.now result }
+    ensures none { RefusesNone text.now result }
 {
     CRefusal::NotSubset {
         at: shared_length(text, PRELUDE) as u32,
@@ -59,6 +62,7 @@ fn behind_prelude(alloc: Global, text: &[u8]) -> Result<CFile, CRefusal>
     requires begins { text.now ≡ prelude ++ drop (length PRELUDE.now) text.now }
     ensures file { IfOk result (λ file. SpellsC file text.now) }
     ensures place { SpellsNone text.now → IsErrAnd result (RefusesAt text.now) }
+    ensures none { IfErr result (RefusesNone text.now) }
 {
     match check(alloc, text, PRELUDE.len()) {
         Ok(Some(at)) => Err(CRefusal::NotSubset { at: at as u32 }),
@@ -76,7 +80,8 @@ fn read(alloc: Global, text: &[u8]) -> Result<CFile, CRefusal>
     requires long { length PRELUDE.now ≤ length text.now }
     requires begins { text.now ≡ prelude ++ drop (length PRELUDE.now) text.now }
     requires passes { Passes text.now (length PRELUDE.now) }
-    ensures { IfOk result (λ file. SpellsC file text.now) }
+    ensures file { IfOk result (λ file. SpellsC file text.now) }
+    ensures memory { IfErr result WantsMemory }
 {
     let mut reader = Reader::new(alloc, text, PRELUDE.len());
     let structs = item::structs(&mut reader)?;

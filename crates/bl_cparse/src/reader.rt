@@ -1,8 +1,14 @@
 //! A text behind its prelude, read from its front on.
 
-ghost use Rattle.std.specs.Prelude.{◌≡◌, ◌≤◌, true, false, List, [], ◌∷◌, length, drop, IsTrue, IfOk, IfSome, OnOk};
+ghost use Rattle.std.specs.Prelude.{◌≡◌, ◌≤◌, true, false, List, [], ◌∷◌, length, drop, IsTrue, IsFalse, IsNone, IfOk, IfSome, OnOk, MatchResult};
+ghost use Rattle.bl_grammar.specs.declared.symbol.Symbol.{Symbol};
+ghost use Rattle.bl_ctext.specs.Token.{is_word};
 ghost use Rattle.bl_ctext.specs.Spellable.{has_any};
 ghost use Rattle.bl_csyntax.specs.Pieces.{pieces, first_of, is_same};
+ghost use Rattle.bl_csyntax.specs.Classes.{Class, matches};
+ghost use Rattle.bl_csyntax.specs.Grammar.{Wanted};
+ghost use Rattle.bl_csyntax.specs.Expects.{Expects};
+ghost use Rattle.bl_cparse.specs.Reading.{sign, WantsMemory};
 
 use crate::refusal::CRefusal;
 use bl_csyntax::piece::next_piece;
@@ -54,7 +60,8 @@ impl<'a> Reader<'a> {
     }
 
     pub fn is_at_end(&self) -> bool
-        ensures { IsTrue result → self.now ≡ [] }
+        ensures yes { IsTrue result → self.now ≡ [] }
+        ensures no { IsFalse result → IsTrue (has_any self.now) }
     {
         self.start == self.end
     }
@@ -85,7 +92,8 @@ impl<'a> Reader<'a> {
     }
 
     pub fn sees(&self, what: &str) -> bool
-        ensures { result ≡ is_same (first_of self.now) what.now }
+        ensures same { result ≡ is_same (first_of self.now) what.now }
+        ensures is { result ≡ matches (Class.exactly what.now) (first_of self.now) }
     {
         self.piece() == what.as_bytes()
     }
@@ -103,7 +111,8 @@ impl<'a> Reader<'a> {
     /// Goes on behind the next piece, of which there is one.
     pub fn skip(&mut self)
         requires { IsTrue (has_any (first_of self.old)) }
-        ensures { self.old ≡ first_of self.old ∷ self.new }
+        ensures passed { self.old ≡ first_of self.old ∷ self.new }
+        ensures follows { (class : Class) (rest : List Wanted) → Expects (Symbol.Terminal class ∷ rest) self.old → Expects rest self.new }
     {
         self.pass();
     }
@@ -113,6 +122,8 @@ impl<'a> Reader<'a> {
         requires { IsTrue (has_any what.now) }
         ensures yes { IsTrue result → self.old ≡ what.now ∷ self.new }
         ensures no { result ≡ false → self.new ≡ self.old }
+        ensures is { result ≡ matches (Class.exactly what.now) (first_of self.old) }
+        ensures follows { IsTrue result → (rest : List Wanted) → Expects (sign what.now ∷ rest) self.old → Expects rest self.new }
     {
         let seen = self.sees(what);
         if seen {
@@ -124,7 +135,8 @@ impl<'a> Reader<'a> {
     /// Passes the next piece, which is this one.
     pub fn take(&mut self, what: &str) -> Result<(), CRefusal>
         requires { IsTrue (has_any what.now) }
-        ensures { OnOk result (self.old ≡ what.now ∷ self.new) }
+        ensures read { OnOk result (self.old ≡ what.now ∷ self.new) }
+        ensures follows { (rest : List Wanted) → Expects (sign what.now ∷ rest) self.old → MatchResult result (λ _. Expects rest self.new) WantsMemory }
     {
         if self.eat(what) {
             Ok(())
@@ -133,27 +145,25 @@ impl<'a> Reader<'a> {
         }
     }
 
-    /// Passes the next piece, and answers a copy of it.
+    /// Passes the next piece, which is a word, and answers a copy of it.
     pub fn copy(&mut self) -> Result<Text, CRefusal>
-        requires { IsTrue (has_any (first_of self.old)) }
-        ensures { IfOk result (λ t. self.old ≡ t ∷ self.new) }
+        requires { IsTrue (is_word (first_of self.old)) }
+        ensures read { IfOk result (λ t. self.old ≡ t ∷ self.new) }
+        ensures follows { (class : Class) (rest : List Wanted) → Expects (Symbol.Terminal class ∷ rest) self.old → MatchResult result (λ _. Expects rest self.new) WantsMemory }
     {
-        match text_of(self.alloc, self.piece())? {
-            Some(text) => {
-                self.pass();
-                Ok(text)
-            }
-            None => Err(self.refusal()),
-        }
+        let text = text_of(self.alloc, self.piece())?;
+        self.pass();
+        Ok(text)
     }
 }
 
-/// A copy of the bytes, where they are a text.
-fn text_of(alloc: Global, bytes: &[u8]) -> Result<Option<Text>, AllocError>
-    ensures { IfOk result (λ found. IfSome found (λ text. text ≡ bytes.now)) }
+/// A copy of the bytes of a word.
+fn text_of(alloc: Global, bytes: &[u8]) -> Result<Text, AllocError>
+    requires { IsTrue (is_word bytes.now) }
+    ensures { IfOk result (λ text. text ≡ bytes.now) }
 {
     match str::from_utf8(bytes) {
-        Ok(text) => Ok(Some(Text::copy_of(alloc, text)?)),
-        Err(_) => Ok(None),
+        Ok(text) => Ok(Text::copy_of(alloc, text)?),
+        Err(_) => unreachable!(),
     }
 }

@@ -1,3 +1,5 @@
+ghost use Rattle.bl_cparse.specs.Reading.{WantsMemory};
+
 use bl_tree::NoMemory;
 use std::alloc::AllocError;
 
@@ -10,12 +12,16 @@ pub enum CRefusal {
 }
 
 impl From<AllocError> for CRefusal {
+    ghost from_gives = { λ _ e. WantsMemory e };
+
     fn from(_: AllocError) -> CRefusal {
         CRefusal::NoMemory
     }
 }
 
 impl From<NoMemory> for CRefusal {
+    ghost from_gives = { λ _ e. WantsMemory e };
+
     fn from(_: NoMemory) -> CRefusal {
         CRefusal::NoMemory
     }

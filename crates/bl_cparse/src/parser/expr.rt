@@ -1,17 +1,27 @@
 //! Expressions. Brackets that are open are kept on a stack of our own, so that nested expressions take no more of the
 //! machine's. `room` is how many brackets may still be opened.
 
-ghost use Rattle.std.specs.Prelude.{◌≡◌, ◌+◌, ◌*◌, ◌<◌, ◌≤◌, [], ◌∷◌, ◌++◌, codes, length, map, IsTrue, IfOk, IfSome};
+ghost use Rattle.std.specs.Prelude.{◌≡◌, ℕ, ◌+◌, ◌-◌, ◌*◌, ◌<◌, ◌≤◌, false, List, [], ◌∷◌, ◌++◌, codes, length, map, IsTrue, IsFalse, IfOk, MatchResult};
 ghost use Rattle.bl_tree.specs.Reduce.{all_of};
 ghost use Rattle.bl_ctext.specs.Names.{is_name, is_callee};
 ghost use Rattle.bl_ctext.specs.Spelling.{with_commas, operator_sign, expr_tokens, step_tokens, arg_tokens};
 ghost use Rattle.bl_ctext.specs.Spellable.{has_any, is_c_operator, spells_expr, spells_step, spells_arg};
 ghost use Rattle.bl_cparse.specs.Partial.{called_front, use_tokens, place_front, held_tokens, on_stack, partial_tokens, spells_called, spells_use, spells_root, spells_held, spells_partial, work_left};
+ghost use Rattle.bl_ctext.specs.Token.{Token};
+ghost use Rattle.bl_csyntax.specs.declared.grammar.Part.{Part};
+ghost use Rattle.bl_csyntax.specs.Pieces.{first_of};
+ghost use Rattle.bl_csyntax.specs.Classes.{Class, matches};
+ghost use Rattle.bl_csyntax.specs.Grammar.{Wanted};
+ghost use Rattle.bl_csyntax.specs.Tables.{has};
+ghost use Rattle.bl_csyntax.specs.Expects.{Expects};
+ghost use Rattle.bl_cparse.specs.Reading.{sign, name_of, prelude_function, elements, part, literal_starts, Follows, WantsMemory};
+ghost use Rattle.bl_cparse.specs.Awaiting.{use_wanted, held_wanted, behind, partial_wanted, is_whole_next, GoesOn, Stays, Awaits};
 
 use crate::make;
 use crate::parser::{literal, name, place};
 use crate::reader::Reader;
 use crate::refusal::CRefusal;
+use bl_csyntax::words;
 use bl_tree::c::{CArg, CExpr, CStep};
 use bl_tree::{Box, List, Op, Text};
 use std::alloc::AllocError;
@@ -87,7 +97,8 @@ pub struct Partial {
 }
 
 pub fn expr(r: &mut Reader<'_>, room: u32) -> Result<CExpr, CRefusal>
-    ensures { IfOk result (λ e. (r.old ≡ expr_tokens e ++ r.new) × IsTrue (spells_expr e)) }
+    ensures read { IfOk result (λ e. (r.old ≡ expr_tokens e ++ r.new) × IsTrue (spells_expr e)) }
+    ensures follows { Follows result (part Part.Expr room ∷ []) [] r.old r.new }
 {
     let outer = Vec::new(r.alloc());
     whole(
@@ -102,7 +113,8 @@ pub fn expr(r: &mut Reader<'_>, room: u32) -> Result<CExpr, CRefusal>
 /// An expression whose `(` is read and begins at `start`, where there was room for it.
 pub fn bracketed(r: &mut Reader<'_>, start: u32, room: u32) -> Result<CExpr, CRefusal>
     requires { 1 ≤ room }
-    ensures { IfOk result (λ e. (codes "(" ∷ r.old ≡ expr_tokens e ++ r.new) × IsTrue (spells_expr e)) }
+    ensures read { IfOk result (λ e. (codes "(" ∷ r.old ≡ expr_tokens e ++ r.new) × IsTrue (spells_expr e)) }
+    ensures follows { Follows result (part Part.Inside room ∷ []) [] r.old r.new }
 {
     let outer = Vec::new(r.alloc());
     let partial = opened(r, outer, start, room)?;
@@ -112,47 +124,55 @@ pub fn bracketed(r: &mut Reader<'_>, start: u32, room: u32) -> Result<CExpr, CRe
 /// The rest of an expression.
 fn whole(r: &mut Reader<'_>, partial: Partial) -> Result<CExpr, CRefusal>
     requires { IsTrue (spells_partial partial) }
-    ensures { IfOk result (λ e. (partial_tokens partial ++ r.old ≡ expr_tokens e ++ r.new) × IsTrue (spells_expr e)) }
+    ensures read { IfOk result (λ e. (partial_tokens partial ++ r.old ≡ expr_tokens e ++ r.new) × IsTrue (spells_expr e)) }
+    ensures follows { Follows result (partial_wanted partial) [] r.old r.new }
 {
     let mut partial = partial;
     while !is_whole(&partial) {
         partial = further(r, partial)?;
     }
-    match last(partial) {
-        Some(e) => Ok(e),
-        None => Err(r.refusal()),
-    }
+    Ok(last(partial))
 }
 
 /// The expression that is whole.
-fn last(partial: Partial) -> Option<CExpr>
+fn last(partial: Partial) -> CExpr
     requires outer { partial.outer.items ≡ [] }
+    requires whole { IsTrue (is_whole_next partial.next) }
     requires spells { IsTrue (spells_partial partial) }
-    ensures { IfSome result (λ e. (partial_tokens partial ≡ expr_tokens e) × IsTrue (spells_expr e)) }
+    ensures tokens { partial_tokens partial ≡ expr_tokens result }
+    ensures spells { IsTrue (spells_expr result) }
+    ensures nothing { partial_wanted partial ≡ [] }
 {
     let Partial {
         outer: _outer,
         next,
     } = partial;
     match next {
-        Next::Whole(e) => Some(e),
-        Next::Wanted(_room) => None,
-        Next::Argument(_call) => None,
-        Next::Place(_of, _place) => None,
+        Next::Whole(e) => e,
+        Next::Wanted(_room) => unreachable!(),
+        Next::Argument(_call) => unreachable!(),
+        Next::Place(_of, _place) => unreachable!(),
     }
 }
 
 fn is_whole(partial: &Partial) -> bool
-    ensures { IsTrue result → partial.now.outer.items ≡ [] }
+    ensures outer { IsTrue result → partial.now.outer.items ≡ [] }
+    ensures whole { IsTrue result → IsTrue (is_whole_next partial.now.next) }
+    ensures open { IsFalse result → IsTrue (is_whole_next partial.now.next) → IsTrue (has_any partial.now.outer.items) }
 {
-    partial.outer.is_empty() && matches!(partial.next, Next::Whole(_))
+    match partial.next {
+        Next::Whole(_) => partial.outer.is_empty(),
+        _ => false,
+    }
 }
 
 /// One part more.
 fn further(r: &mut Reader<'_>, partial: Partial) -> Result<Partial, CRefusal>
-    requires { IsTrue (spells_partial partial) }
+    requires spells { IsTrue (spells_partial partial) }
+    requires open { IsTrue (is_whole_next partial.next) → IsTrue (has_any partial.outer.items) }
     ensures read { IfOk result (λ p. (partial_tokens partial ++ r.old ≡ partial_tokens p ++ r.new) × IsTrue (spells_partial p)) }
     ensures less { IfOk result (λ p. 2 * length r.new + work_left p.next < 2 * length r.old + work_left partial.next) }
+    ensures follows { GoesOn result (partial_wanted partial) r.old r.new }
 {
     let Partial { outer, next } = partial;
     match next {
@@ -181,6 +201,7 @@ fn inside(outer: Vec<Held>, held: Held, room: u32) -> Result<Partial, CRefusal>
     requires held { IsTrue (spells_held held) }
     ensures tokens { IfOk result (λ p. (partial_tokens p ≡ on_stack outer.items ++ held_tokens held) × IsTrue (spells_partial p)) }
     ensures wanted { IfOk result (λ p. work_left p.next ≡ 0) }
+    ensures awaits { Stays result (part Part.Expr room ∷ (held_wanted held ++ behind outer.items)) }
 {
     let mut outer = outer;
     match outer.push(held) {
@@ -199,6 +220,7 @@ fn ended(outer: Vec<Held>, e: CExpr) -> Partial
     ensures tokens { partial_tokens result ≡ on_stack outer.items ++ expr_tokens e }
     ensures spells { IsTrue (spells_partial result) }
     ensures work { work_left result.next ≡ 0 }
+    ensures awaits { Awaits result (behind outer.items) }
 {
     Partial {
         outer,
@@ -213,6 +235,7 @@ fn awaiting(outer: Vec<Held>, call: CallFront) -> Partial
     ensures tokens { partial_tokens result ≡ on_stack outer.items ++ called_front call }
     ensures spells { IsTrue (spells_partial result) }
     ensures work { work_left result.next ≡ 1 }
+    ensures awaits { Awaits result (part Part.Arg call.room ∷ part Part.ArgRest call.room ∷ sign (codes ")") ∷ behind outer.items) }
 {
     Partial {
         outer,
@@ -228,6 +251,7 @@ fn rooted(outer: Vec<Held>, of: Use, place: PlaceFront) -> Partial
     ensures tokens { partial_tokens result ≡ on_stack outer.items ++ (use_tokens of ++ place_front place) }
     ensures spells { IsTrue (spells_partial result) }
     ensures work { work_left result.next ≡ 1 }
+    ensures awaits { Awaits result (part Part.Steps place.room ∷ (use_wanted of ++ behind outer.items)) }
 {
     Partial {
         outer,
@@ -240,13 +264,26 @@ fn begun(r: &mut Reader<'_>, outer: Vec<Held>, room: u32) -> Result<Partial, CRe
     requires outer { IsTrue (all_of (map spells_held outer.items)) }
     ensures read { IfOk result (λ p. (on_stack outer.items ++ r.old ≡ partial_tokens p ++ r.new) × IsTrue (spells_partial p)) }
     ensures less { IfOk result (λ p. 2 * length r.new + work_left p.next < 2 * length r.old) }
+    ensures follows { GoesOn result (part Part.Expr room ∷ behind outer.items) r.old r.new }
 {
     if r.sees("(") {
         let p = open(r, outer, room)?;
-        return Ok(p);
+        Ok(p)
+    } else {
+        let p = simple(r, outer, room)?;
+        Ok(p)
     }
+}
+
+/// The front of an expression that begins with no parenthesis.
+fn simple(r: &mut Reader<'_>, outer: Vec<Held>, room: u32) -> Result<Partial, CRefusal>
+    requires outer { IsTrue (all_of (map spells_held outer.items)) }
+    ensures read { IfOk result (λ p. (on_stack outer.items ++ r.old ≡ partial_tokens p ++ r.new) × IsTrue (spells_partial p)) }
+    ensures less { IfOk result (λ p. 2 * length r.new + work_left p.next < 2 * length r.old) }
+    ensures follows { GoesOn result (part Part.Simple room ∷ behind outer.items) r.old r.new }
+{
     let start = r.start();
-    match literal::literal(r, room)? {
+    match literal::literal(r)? {
         Some(what) => Ok(ended(outer, make::expr(r.place_from(start), what))),
         None => {
             let p = named(r, outer, room)?;
@@ -260,6 +297,7 @@ fn open(r: &mut Reader<'_>, outer: Vec<Held>, room: u32) -> Result<Partial, CRef
     requires outer { IsTrue (all_of (map spells_held outer.items)) }
     ensures read { IfOk result (λ p. (on_stack outer.items ++ r.old ≡ partial_tokens p ++ r.new) × IsTrue (spells_partial p)) }
     ensures less { IfOk result (λ p. 2 * length r.new + work_left p.next < 2 * length r.old) }
+    ensures follows { 1 ≤ room → GoesOn result (sign (codes "(") ∷ part Part.Inside room ∷ behind outer.items) r.old r.new }
 {
     if room == 0 {
         return Err(r.refusal());
@@ -276,13 +314,14 @@ fn opened(r: &mut Reader<'_>, outer: Vec<Held>, start: u32, room: u32) -> Result
     requires room { 1 ≤ room }
     ensures read { IfOk result (λ p. (on_stack outer.items ++ codes "(" ∷ r.old ≡ partial_tokens p ++ r.new) × IsTrue (spells_partial p)) }
     ensures less { IfOk result (λ p. 2 * length r.new + work_left p.next < 2 * length r.old + 2) }
+    ensures follows { GoesOn result (part Part.Inside room ∷ behind outer.items) r.old r.new }
 {
     if r.eat("*") {
         let p = starred(r, outer, start, room)?;
         return Ok(p);
     }
     if r.sees("-") {
-        let p = negative(r, outer, start, room - 1)?;
+        let p = negative(r, outer, start)?;
         return Ok(p);
     }
     if r.eat("!") {
@@ -298,6 +337,7 @@ fn starred(r: &mut Reader<'_>, outer: Vec<Held>, start: u32, room: u32) -> Resul
     requires outer { IsTrue (all_of (map spells_held outer.items)) }
     ensures read { IfOk result (λ p. (on_stack outer.items ++ codes "(" ∷ codes "*" ∷ r.old ≡ partial_tokens p ++ r.new) × IsTrue (spells_partial p)) }
     ensures less { IfOk result (λ p. 2 * length r.new + work_left p.next < 2 * length r.old + 2) }
+    ensures follows { GoesOn result (name_of ∷ sign (codes ")") ∷ part Part.Steps room ∷ behind outer.items) r.old r.new }
 {
     let name = place::pointer(r)?;
     let root = PlaceFront {
@@ -310,35 +350,63 @@ fn starred(r: &mut Reader<'_>, outer: Vec<Held>, start: u32, room: u32) -> Resul
 }
 
 /// A negative number behind its `(`.
-fn negative(
-    r: &mut Reader<'_>,
-    outer: Vec<Held>,
-    start: u32,
-    room: u32,
-) -> Result<Partial, CRefusal>
+fn negative(r: &mut Reader<'_>, outer: Vec<Held>, start: u32) -> Result<Partial, CRefusal>
     requires outer { IsTrue (all_of (map spells_held outer.items)) }
     ensures read { IfOk result (λ p. (on_stack outer.items ++ codes "(" ∷ r.old ≡ partial_tokens p ++ r.new) × IsTrue (spells_partial p)) }
     ensures less { IfOk result (λ p. 2 * length r.new + work_left p.next < 2 * length r.old + 2) }
+    ensures follows { (room : ℕ) → GoesOn result (sign (codes "-") ∷ part Part.Negative room ∷ sign (codes ")") ∷ behind outer.items) r.old r.new }
 {
-    let what = literal::minus(r, room)?;
+    r.take("-")?;
+    let what = literal::negative(r)?;
     Ok(ended(outer, make::expr(r.place_from(start), what)))
 }
 
-/// An expression that begins with a name.
+/// An expression that begins with a name or a function of the prelude.
 fn named(r: &mut Reader<'_>, outer: Vec<Held>, room: u32) -> Result<Partial, CRefusal>
     requires outer { IsTrue (all_of (map spells_held outer.items)) }
     ensures read { IfOk result (λ p. (on_stack outer.items ++ r.old ≡ partial_tokens p ++ r.new) × IsTrue (spells_partial p)) }
     ensures less { IfOk result (λ p. 2 * length r.new + work_left p.next < 2 * length r.old) }
+    ensures follows { has literal_starts (first_of r.old) ≡ false → GoesOn result (part Part.Simple room ∷ behind outer.items) r.old r.new }
+{
+    if words::is_name(r.piece()) {
+        let p = name_used(r, outer, room)?;
+        Ok(p)
+    } else {
+        let p = prelude_called(r, outer, room)?;
+        Ok(p)
+    }
+}
+
+/// A call of a function of the prelude.
+fn prelude_called(r: &mut Reader<'_>, outer: Vec<Held>, room: u32) -> Result<Partial, CRefusal>
+    requires outer { IsTrue (all_of (map spells_held outer.items)) }
+    ensures read { IfOk result (λ p. (on_stack outer.items ++ r.old ≡ partial_tokens p ++ r.new) × IsTrue (spells_partial p)) }
+    ensures less { IfOk result (λ p. 2 * length r.new + work_left p.next < 2 * length r.old) }
+    ensures follows { 1 ≤ room → GoesOn result (prelude_function ∷ sign (codes "(") ∷ part Part.Args (room - 1) ∷ sign (codes ")") ∷ behind outer.items) r.old r.new }
 {
     let start = r.start();
-    let first = place::leading_name(r, room)?;
-    if first.is_call {
-        let p = call(r, outer, start, first.name, room)?;
+    let name = name::callee(r)?;
+    let p = call(r, outer, start, name, room)?;
+    Ok(p)
+}
+
+/// A name, and the `(` behind it where it is called.
+#[tactic(auto, using(crate::proofs::TokenLemmas::name_callee))]
+fn name_used(r: &mut Reader<'_>, outer: Vec<Held>, room: u32) -> Result<Partial, CRefusal>
+    requires outer { IsTrue (all_of (map spells_held outer.items)) }
+    ensures read { IfOk result (λ p. (on_stack outer.items ++ r.old ≡ partial_tokens p ++ r.new) × IsTrue (spells_partial p)) }
+    ensures less { IfOk result (λ p. 2 * length r.new + work_left p.next < 2 * length r.old) }
+    ensures follows { GoesOn result (name_of ∷ part Part.NameUse room ∷ behind outer.items) r.old r.new }
+{
+    let start = r.start();
+    let name = name::name(r)?;
+    if r.sees("(") {
+        let p = call(r, outer, start, name, room)?;
         return Ok(p);
     }
     let root = PlaceFront {
         through: false,
-        name: first.name,
+        name,
         steps: List::new(r.alloc()),
         room,
     };
@@ -357,6 +425,7 @@ fn call(
     requires name { IsTrue (is_callee name) }
     ensures read { IfOk result (λ p. (on_stack outer.items ++ name ∷ r.old ≡ partial_tokens p ++ r.new) × IsTrue (spells_partial p)) }
     ensures less { IfOk result (λ p. 2 * length r.new + work_left p.next < 2 * length r.old) }
+    ensures follows { 1 ≤ room → GoesOn result (sign (codes "(") ∷ part Part.Args (room - 1) ∷ sign (codes ")") ∷ behind outer.items) r.old r.new }
 {
     place::open(r, room)?;
     let front = CallFront {
@@ -378,6 +447,7 @@ fn called(r: &Reader<'_>, outer: Vec<Held>, front: CallFront) -> Partial
     ensures tokens { partial_tokens result ≡ on_stack outer.items ++ front.name ∷ codes "(" ∷ (with_commas (map arg_tokens front.args) ++ codes ")" ∷ []) }
     ensures spells { IsTrue (spells_partial result) }
     ensures work { work_left result.next ≡ 0 }
+    ensures awaits { Awaits result (behind outer.items) }
 {
     let place = r.place_from(front.start);
     let what = make::called(make::call(front.name, front.args));
@@ -390,6 +460,7 @@ fn argument(r: &mut Reader<'_>, outer: Vec<Held>, call: CallFront) -> Result<Par
     requires call { IsTrue (spells_called call) }
     ensures read { IfOk result (λ p. (on_stack outer.items ++ (called_front call ++ r.old) ≡ partial_tokens p ++ r.new) × IsTrue (spells_partial p)) }
     ensures less { IfOk result (λ p. 2 * length r.new + work_left p.next < 2 * length r.old + 1) }
+    ensures follows { GoesOn result (part Part.Arg call.room ∷ part Part.ArgRest call.room ∷ sign (codes ")") ∷ behind outer.items) r.old r.new }
 {
     if r.eat("&") {
         let p = address(r, outer, call)?;
@@ -406,6 +477,7 @@ fn address(r: &mut Reader<'_>, outer: Vec<Held>, call: CallFront) -> Result<Part
     requires call { IsTrue (spells_called call) }
     ensures read { IfOk result (λ p. (on_stack outer.items ++ (called_front call ++ codes "&" ∷ r.old) ≡ partial_tokens p ++ r.new) × IsTrue (spells_partial p)) }
     ensures less { IfOk result (λ p. 2 * length r.new + work_left p.next < 2 * length r.old + 3) }
+    ensures follows { GoesOn result (part Part.Place call.room ∷ part Part.ArgRest call.room ∷ sign (codes ")") ∷ behind outer.items) r.old r.new }
 {
     let root = place::place_root(r, call.room)?;
     let front = PlaceFront {
@@ -429,6 +501,7 @@ fn step(
     requires place { IsTrue (spells_root place) }
     ensures read { IfOk result (λ p. (on_stack outer.items ++ ((use_tokens of ++ place_front place) ++ r.old) ≡ partial_tokens p ++ r.new) × IsTrue (spells_partial p)) }
     ensures less { IfOk result (λ p. 2 * length r.new + work_left p.next < 2 * length r.old + 1) }
+    ensures follows { GoesOn result (part Part.Steps place.room ∷ (use_wanted of ++ behind outer.items)) r.old r.new }
 {
     if !r.eat(".") {
         let p = placed(r, outer, of, place)?;
@@ -447,7 +520,8 @@ fn step(
 fn stepped(place: PlaceFront, step: CStep) -> Result<PlaceFront, CRefusal>
     requires place { IsTrue (spells_root place) }
     requires step { IsTrue (spells_step step) }
-    ensures { IfOk result (λ longer. (place_front longer ≡ place_front place ++ step_tokens step) × IsTrue (spells_root longer)) }
+    ensures read { IfOk result (λ longer. (place_front longer ≡ place_front place ++ step_tokens step) × IsTrue (spells_root longer)) }
+    ensures awaits { (rest : List Wanted) (pieces : List Token) → Expects (part Part.Steps place.room ∷ rest) pieces → MatchResult result (λ longer. Expects (part Part.Steps longer.room ∷ rest) pieces) WantsMemory }
 {
     let mut place = place;
     place.steps.push(step)?;
@@ -468,6 +542,7 @@ fn indexed(
     requires member { IsTrue (is_name member) }
     ensures read { IfOk result (λ p. (on_stack outer.items ++ ((use_tokens of ++ place_front place) ++ codes "." ∷ member ∷ r.old) ≡ partial_tokens p ++ r.new) × IsTrue (spells_partial p)) }
     ensures less { IfOk result (λ p. 2 * length r.new + work_left p.next < 2 * length r.old) }
+    ensures follows { IsTrue (matches (Class.exactly (codes "[")) (first_of r.old)) → GoesOn result (part Part.Index place.room ∷ part Part.Steps place.room ∷ (use_wanted of ++ behind outer.items)) r.old r.new }
 {
     if place.room < 2 {
         return Err(r.refusal());
@@ -496,6 +571,7 @@ fn placed(
     requires place { IsTrue (spells_root place) }
     ensures read { IfOk result (λ p. (on_stack outer.items ++ ((use_tokens of ++ place_front place) ++ r.old) ≡ partial_tokens p ++ r.new) × IsTrue (spells_partial p)) }
     ensures less { IfOk result (λ p. 2 * length r.new + work_left p.next < 2 * length r.old + 1) }
+    ensures follows { GoesOn result (use_wanted of ++ behind outer.items) r.old r.new }
 {
     let at = make::place(place.through, place.name, place.steps);
     match of {
@@ -522,6 +598,7 @@ fn argued(
     requires arg { IsTrue (spells_arg arg) }
     ensures read { IfOk result (λ p. (on_stack outer.items ++ (called_front call ++ (arg_tokens arg ++ r.old)) ≡ partial_tokens p ++ r.new) × IsTrue (spells_partial p)) }
     ensures less { IfOk result (λ p. 2 * length r.new + work_left p.next < 2 * length r.old) }
+    ensures follows { GoesOn result (part Part.ArgRest call.room ∷ sign (codes ")") ∷ behind outer.items) r.old r.new }
 {
     let call = with_argument(call, arg)?;
     if r.eat(",") {
@@ -537,6 +614,7 @@ fn with_argument(call: CallFront, arg: CArg) -> Result<CallFront, CRefusal>
     requires arg { IsTrue (spells_arg arg) }
     ensures tokens { IfOk result (λ more. more.name ∷ codes "(" ∷ with_commas (map arg_tokens more.args) ≡ called_front call ++ arg_tokens arg) }
     ensures spells { IfOk result (λ more. IsTrue (spells_called more) × IsTrue (has_any more.args)) }
+    ensures awaits { (rest : List Wanted) (pieces : List Token) → Expects (part Part.ArgRest call.room ∷ rest) pieces → MatchResult result (λ more. Expects (part Part.ArgRest more.room ∷ rest) pieces) WantsMemory }
 {
     let mut call = call;
     call.args.push(arg)?;
@@ -546,9 +624,11 @@ fn with_argument(call: CallFront, arg: CArg) -> Result<CallFront, CRefusal>
 /// What follows an expression in the innermost open bracket.
 fn closed(r: &mut Reader<'_>, outer: Vec<Held>, e: CExpr) -> Result<Partial, CRefusal>
     requires outer { IsTrue (all_of (map spells_held outer.items)) }
+    requires open { IsTrue (has_any outer.items) }
     requires whole { IsTrue (spells_expr e) }
     ensures read { IfOk result (λ p. (on_stack outer.items ++ (expr_tokens e ++ r.old) ≡ partial_tokens p ++ r.new) × IsTrue (spells_partial p)) }
     ensures less { IfOk result (λ p. 2 * length r.new + work_left p.next < 2 * length r.old) }
+    ensures follows { GoesOn result (behind outer.items) r.old r.new }
 {
     let mut outer = outer;
     match outer.pop() {
@@ -556,7 +636,7 @@ fn closed(r: &mut Reader<'_>, outer: Vec<Held>, e: CExpr) -> Result<Partial, CRe
             let p = closed_held(r, outer, held, e)?;
             Ok(p)
         }
-        None => Err(r.refusal()),
+        None => unreachable!(),
     }
 }
 
@@ -571,6 +651,7 @@ fn closed_held(
     requires whole { IsTrue (spells_expr e) }
     ensures read { IfOk result (λ p. (on_stack outer.items ++ (held_tokens held ++ (expr_tokens e ++ r.old)) ≡ partial_tokens p ++ r.new) × IsTrue (spells_partial p)) }
     ensures less { IfOk result (λ p. 2 * length r.new + work_left p.next < 2 * length r.old) }
+    ensures follows { GoesOn result (held_wanted held ++ behind outer.items) r.old r.new }
 {
     match held {
         Held::Negation(start) => {
@@ -603,6 +684,7 @@ fn negated(r: &mut Reader<'_>, outer: Vec<Held>, start: u32, e: CExpr) -> Result
     requires whole { IsTrue (spells_expr e) }
     ensures read { IfOk result (λ p. (on_stack outer.items ++ codes "(" ∷ codes "!" ∷ (expr_tokens e ++ r.old) ≡ partial_tokens p ++ r.new) × IsTrue (spells_partial p)) }
     ensures less { IfOk result (λ p. 2 * length r.new + work_left p.next < 2 * length r.old) }
+    ensures follows { GoesOn result (sign (codes ")") ∷ behind outer.items) r.old r.new }
 {
     r.take(")")?;
     let what = make::not(Box::new(r.alloc(), e)?);
@@ -630,6 +712,7 @@ fn compared(
     requires right { IsTrue (spells_expr operands.right) }
     ensures read { IfOk result (λ p. (on_stack outer.items ++ codes "(" ∷ (expr_tokens operands.left ++ operator_sign operands.op ∷ (expr_tokens operands.right ++ r.old)) ≡ partial_tokens p ++ r.new) × IsTrue (spells_partial p)) }
     ensures less { IfOk result (λ p. 2 * length r.new + work_left p.next < 2 * length r.old) }
+    ensures follows { GoesOn result (sign (codes ")") ∷ behind outer.items) r.old r.new }
 {
     r.take(")")?;
     let left = Box::new(r.alloc(), operands.left)?;
@@ -650,6 +733,7 @@ fn closed_index(
     requires whole { IsTrue (spells_expr e) }
     ensures read { IfOk result (λ p. (on_stack outer.items ++ (held_tokens (Held.Index front) ++ (expr_tokens e ++ r.old)) ≡ partial_tokens p ++ r.new) × IsTrue (spells_partial p)) }
     ensures less { IfOk result (λ p. 2 * length r.new + work_left p.next < 2 * length r.old) }
+    ensures follows { GoesOn result (sign (codes ",") ∷ elements ∷ sign (codes ")") ∷ sign (codes "]") ∷ part Part.Steps front.place.room ∷ (use_wanted front.of ++ behind outer.items)) r.old r.new }
 {
     let length = place::index_length(r)?;
     let index = make::index(front.signed, e, length);

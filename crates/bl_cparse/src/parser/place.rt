@@ -1,18 +1,21 @@
 //! Places and calls as statements begin with them, and parts that they share with those in expressions. `room` is how
 //! many brackets may still be opened.
 
-ghost use Rattle.std.specs.Prelude.{◌≡◌, ◌≤◌, ◌<◌, length, false, [], ◌∷◌, ◌++◌, codes, map, IsTrue, IfOk, OnOk};
+ghost use Rattle.std.specs.Prelude.{◌≡◌, ◌≤◌, ◌<◌, ◌-◌, length, false, [], ◌∷◌, ◌++◌, codes, map, option_map, IsTrue, IfOk, OnOk};
 ghost use Rattle.bl_tree.specs.Reduce.{all_of};
 ghost use Rattle.std.specs.Fmt.{decimal};
 ghost use Rattle.bl_ctext.specs.Names.{is_name, is_callee};
-ghost use Rattle.bl_ctext.specs.Spelling.{with_commas, root_tokens, index_front, place_tokens, step_tokens, index_tokens, ccall_tokens, arg_tokens};
-ghost use Rattle.bl_ctext.specs.Spellable.{is_length, spells_place, spells_step, spells_index, spells_call, spells_arg};
+ghost use Rattle.bl_ctext.specs.Spelling.{with_commas, if_any, root_tokens, index_front, place_tokens, step_tokens, index_tokens, ccall_tokens, arg_tokens};
+ghost use Rattle.bl_ctext.specs.Spellable.{is_length, none_or, spells_place, spells_step, spells_index, spells_call, spells_arg};
+ghost use Rattle.bl_csyntax.specs.declared.grammar.Part.{Part};
+ghost use Rattle.bl_csyntax.specs.Pieces.{first_of};
+ghost use Rattle.bl_csyntax.specs.Classes.{Class, matches};
+ghost use Rattle.bl_cparse.specs.Reading.{sign, name_of, index_function, elements, part, index_word, GoesOnAPlace, Follows};
 
 use crate::make;
 use crate::parser::{expr, literal, name};
 use crate::reader::Reader;
 use crate::refusal::CRefusal;
-use bl_csyntax::words;
 use bl_tree::c::{CArg, CCall, CIndex, CPlace, CStep};
 use bl_tree::{List, Text};
 
@@ -20,6 +23,7 @@ use bl_tree::{List, Text};
 pub fn open(r: &mut Reader<'_>, room: u32) -> Result<(), CRefusal>
     ensures read { OnOk result (r.old ≡ codes "(" ∷ r.new) }
     ensures room { OnOk result (1 ≤ room) }
+    ensures follows { 1 ≤ room → Follows result (sign (codes "(") ∷ []) [] r.old r.new }
 {
     if room == 0 {
         return Err(r.refusal());
@@ -27,37 +31,10 @@ pub fn open(r: &mut Reader<'_>, room: u32) -> Result<(), CRefusal>
     r.take("(")
 }
 
-/// A name that a call or a place begins with.
-#[derive(Drop)]
-pub struct Leading {
-    pub name: Text,
-    /// Whether `(` stands behind it.
-    pub is_call: bool,
-}
-
-/// What begins a call or a place. A function of the prelude can't stand where there is no room for its `(`.
-#[tactic(auto, using(crate::proofs::TokenLemmas::name_callee))]
-pub fn leading_name(r: &mut Reader<'_>, room: u32) -> Result<Leading, CRefusal>
-    ensures { IfOk result (λ first. (r.old ≡ first.name ∷ r.new) × (IsTrue (is_callee first.name) × (first.is_call ≡ false → IsTrue (is_name first.name)))) }
-{
-    if words::is_name(r.piece()) {
-        let name = name::name(r)?;
-        let is_call = r.sees("(");
-        return Ok(Leading { name, is_call });
-    }
-    if room == 0 {
-        return Err(r.refusal());
-    }
-    let name = name::callee(r)?;
-    Ok(Leading {
-        name,
-        is_call: true,
-    })
-}
-
 /// A pointer's name and the `)` behind it.
 pub fn pointer(r: &mut Reader<'_>) -> Result<Text, CRefusal>
-    ensures { IfOk result (λ name. (r.old ≡ name ∷ codes ")" ∷ r.new) × IsTrue (is_name name)) }
+    ensures read { IfOk result (λ name. (r.old ≡ name ∷ codes ")" ∷ r.new) × IsTrue (is_name name)) }
+    ensures follows { Follows result (name_of ∷ sign (codes ")") ∷ []) [] r.old r.new }
 {
     let name = name::name(r)?;
     r.take(")")?;
@@ -66,7 +43,8 @@ pub fn pointer(r: &mut Reader<'_>) -> Result<Text, CRefusal>
 
 /// `(*`, a pointer's name and `)`.
 pub fn star(r: &mut Reader<'_>, room: u32) -> Result<Text, CRefusal>
-    ensures { IfOk result (λ name. (r.old ≡ codes "(" ∷ codes "*" ∷ name ∷ codes ")" ∷ r.new) × IsTrue (is_name name)) }
+    ensures read { IfOk result (λ name. (r.old ≡ codes "(" ∷ codes "*" ∷ name ∷ codes ")" ∷ r.new) × IsTrue (is_name name)) }
+    ensures follows { 1 ≤ room → Follows result (sign (codes "(") ∷ sign (codes "*") ∷ name_of ∷ sign (codes ")") ∷ []) [] r.old r.new }
 {
     open(r, room)?;
     r.take("*")?;
@@ -82,7 +60,8 @@ pub struct Root {
 }
 
 pub fn place_root(r: &mut Reader<'_>, room: u32) -> Result<Root, CRefusal>
-    ensures { IfOk result (λ root. (r.old ≡ root_tokens root.through root.name ++ r.new) × IsTrue (is_name root.name)) }
+    ensures read { IfOk result (λ root. (r.old ≡ root_tokens root.through root.name ++ r.new) × IsTrue (is_name root.name)) }
+    ensures follows { Follows result (part Part.Place room ∷ []) (part Part.Steps room ∷ []) r.old r.new }
 {
     if r.sees("(") {
         let name = star(r, room)?;
@@ -101,7 +80,9 @@ pub fn place_root(r: &mut Reader<'_>, room: u32) -> Result<Root, CRefusal>
 /// The steps of a place whose root is read.
 pub fn place(r: &mut Reader<'_>, through: bool, name: Text, room: u32) -> Result<CPlace, CRefusal>
     requires { IsTrue (is_name name) }
-    ensures { IfOk result (λ at. (root_tokens through name ++ r.old ≡ place_tokens at ++ r.new) × IsTrue (spells_place at)) }
+    ensures read { IfOk result (λ at. (root_tokens through name ++ r.old ≡ place_tokens at ++ r.new) × IsTrue (spells_place at)) }
+    ensures follows { (tail : Part) → GoesOnAPlace tail → Follows result (part tail room ∷ []) (part tail room ∷ []) r.old r.new }
+    ensures ends { OnOk result (matches (Class.exactly (codes ".")) (first_of r.new) ≡ false) }
 {
     let mut steps = List::new(r.alloc());
     while r.sees(".") {
@@ -113,19 +94,29 @@ pub fn place(r: &mut Reader<'_>, through: bool, name: Text, room: u32) -> Result
 fn step(r: &mut Reader<'_>, room: u32) -> Result<CStep, CRefusal>
     ensures read { IfOk result (λ s. (r.old ≡ step_tokens s ++ r.new) × IsTrue (spells_step s)) }
     ensures shorter { OnOk result (length r.new < length r.old) }
+    ensures follows { Follows result (sign (codes ".") ∷ name_of ∷ part Part.Index room ∷ []) [] r.old r.new }
 {
     r.take(".")?;
     let member = name::name(r)?;
-    let index = if r.sees("[") {
-        Some(index(r, room)?)
-    } else {
-        None
-    };
+    let index = maybe_index(r, room)?;
     Ok(make::step(member, index))
 }
 
+/// The index behind a member, where there is one.
+fn maybe_index(r: &mut Reader<'_>, room: u32) -> Result<Option<CIndex>, CRefusal>
+    ensures read { IfOk result (λ i. (r.old ≡ if_any (option_map index_tokens i) ++ r.new) × IsTrue (none_or (option_map spells_index i))) }
+    ensures follows { Follows result (part Part.Index room ∷ []) [] r.old r.new }
+{
+    if r.sees("[") {
+        return Ok(Some(index(r, room)?));
+    }
+    Ok(None)
+}
+
 fn index(r: &mut Reader<'_>, room: u32) -> Result<CIndex, CRefusal>
-    ensures { IfOk result (λ i. (r.old ≡ index_tokens i ++ r.new) × IsTrue (spells_index i)) }
+    requires { IsTrue (matches (Class.exactly (codes "[")) (first_of r.old)) }
+    ensures read { IfOk result (λ i. (r.old ≡ index_tokens i ++ r.new) × IsTrue (spells_index i)) }
+    ensures follows { Follows result (part Part.Index room ∷ []) [] r.old r.new }
 {
     if room < 2 {
         return Err(r.refusal());
@@ -138,20 +129,31 @@ fn index(r: &mut Reader<'_>, room: u32) -> Result<CIndex, CRefusal>
 
 /// The front of an index, and whether it is a signed one.
 pub fn index_front(r: &mut Reader<'_>) -> Result<bool, CRefusal>
-    ensures { IfOk result (λ signed. r.old ≡ index_front signed ++ r.new) }
+    ensures read { IfOk result (λ signed. r.old ≡ index_front signed ++ r.new) }
+    ensures follows { Follows result (sign (codes "[") ∷ index_function ∷ sign (codes "(") ∷ []) [] r.old r.new }
 {
     r.take("[")?;
-    let signed = r.eat("bl_ix_s");
-    if !signed {
-        r.take("bl_ix_u")?;
-    }
+    let signed = index_sign(r)?;
     r.take("(")?;
     Ok(signed)
 }
 
+/// The function that takes an index, and whether that is a signed one.
+fn index_sign(r: &mut Reader<'_>) -> Result<bool, CRefusal>
+    ensures read { IfOk result (λ signed. r.old ≡ index_word signed ∷ r.new) }
+    ensures follows { Follows result (index_function ∷ []) [] r.old r.new }
+{
+    if r.eat("bl_ix_s") {
+        return Ok(true);
+    }
+    r.take("bl_ix_u")?;
+    Ok(false)
+}
+
 /// What follows the expression of an index.
 pub fn index_length(r: &mut Reader<'_>) -> Result<u32, CRefusal>
-    ensures { IfOk result (λ n. (r.old ≡ codes "," ∷ decimal n ∷ codes ")" ∷ codes "]" ∷ r.new) × IsTrue (is_length n)) }
+    ensures read { IfOk result (λ n. (r.old ≡ codes "," ∷ decimal n ∷ codes ")" ∷ codes "]" ∷ r.new) × IsTrue (is_length n)) }
+    ensures follows { Follows result (sign (codes ",") ∷ elements ∷ sign (codes ")") ∷ sign (codes "]") ∷ []) [] r.old r.new }
 {
     r.take(",")?;
     let length = length(r)?;
@@ -162,7 +164,8 @@ pub fn index_length(r: &mut Reader<'_>) -> Result<u32, CRefusal>
 
 /// The number of elements of an array.
 pub fn length(r: &mut Reader<'_>) -> Result<u32, CRefusal>
-    ensures { IfOk result (λ n. (r.old ≡ decimal n ∷ r.new) × IsTrue (is_length n)) }
+    ensures read { IfOk result (λ n. (r.old ≡ decimal n ∷ r.new) × IsTrue (is_length n)) }
+    ensures follows { Follows result (elements ∷ []) [] r.old r.new }
 {
     Ok(literal::number(r, 1, 65_536)? as u32)
 }
@@ -170,7 +173,8 @@ pub fn length(r: &mut Reader<'_>) -> Result<u32, CRefusal>
 /// The arguments of a call whose name is read.
 pub fn call(r: &mut Reader<'_>, name: Text, room: u32) -> Result<CCall, CRefusal>
     requires { IsTrue (is_callee name) }
-    ensures { IfOk result (λ c. (name ∷ r.old ≡ ccall_tokens c ++ r.new) × IsTrue (spells_call c)) }
+    ensures read { IfOk result (λ c. (name ∷ r.old ≡ ccall_tokens c ++ r.new) × IsTrue (spells_call c)) }
+    ensures follows { 1 ≤ room → Follows result (sign (codes "(") ∷ part Part.Args (room - 1) ∷ sign (codes ")") ∷ []) [] r.old r.new }
 {
     open(r, room)?;
     let args = arguments(r, room - 1)?;
@@ -180,7 +184,8 @@ pub fn call(r: &mut Reader<'_>, name: Text, room: u32) -> Result<CCall, CRefusal
 
 /// The arguments before a `)`.
 fn arguments(r: &mut Reader<'_>, room: u32) -> Result<List<CArg>, CRefusal>
-    ensures { IfOk result (λ args. (r.old ≡ with_commas (map arg_tokens args) ++ r.new) × IsTrue (all_of (map spells_arg args))) }
+    ensures read { IfOk result (λ args. (r.old ≡ with_commas (map arg_tokens args) ++ r.new) × IsTrue (all_of (map spells_arg args))) }
+    ensures follows { Follows result (part Part.Args room ∷ sign (codes ")") ∷ []) (sign (codes ")") ∷ []) r.old r.new }
 {
     let mut args = List::new(r.alloc());
     if r.sees(")") {
@@ -194,7 +199,8 @@ fn arguments(r: &mut Reader<'_>, room: u32) -> Result<List<CArg>, CRefusal>
 }
 
 fn argument(r: &mut Reader<'_>, room: u32) -> Result<CArg, CRefusal>
-    ensures { IfOk result (λ arg. (r.old ≡ arg_tokens arg ++ r.new) × IsTrue (spells_arg arg)) }
+    ensures read { IfOk result (λ arg. (r.old ≡ arg_tokens arg ++ r.new) × IsTrue (spells_arg arg)) }
+    ensures follows { Follows result (part Part.Arg room ∷ []) [] r.old r.new }
 {
     if r.eat("&") {
         let root = place_root(r, room)?;

@@ -1,8 +1,14 @@
-use Rattle.std.proofs.Common.{map}
-use Rattle.std.specs.Prelude.{codes}
+use Rattle.std.proofs.Common.{map, rules, subst, sym, ◌++◌, ◌∙◌, ◌∷◌}
+use Rattle.std.specs.Prelude.{codes, List}
 use Rattle.bl_ctext.specs.Spelling.{with_commas, arg_tokens}
 use Rattle.bl_cparse.specs.Partial.{on_stack, called_front, args_before, partial_tokens}
 use Rattle.bl_cparse.proofs.PartialLemmas.{go_on, argument_on, before_any}
+use Rattle.bl_csyntax.specs.Expects.{Expects}
+use Rattle.bl_ctext.specs.Token.{Token}
+use Rattle.bl_cparse.proofs.ExprOpening.{arg_more, args_end}
+use Rattle.bl_cparse.specs.Awaiting.{behind}
+use Rattle.bl_cparse.proofs.ReadLemmas.{passed}
+use Rattle.bl_cparse.specs.Reading.{sign}
 use Rattle.bl_cparse.proofs.parser.expr.argued.Goals as goal
 
 pub returns-then-eat-clause-read : goal.returns-then-eat-clause-read
@@ -12,3 +18,12 @@ returns-then-eat-clause-read c = (
       c.in_ok-call.ensures.tokens (before_any c.in_ok-call.call.args c.in_ok-call.ensures.spells.1) (c.eat.ensures.yes c.if-eat.true)),
   c.awaiting.ensures.spells,
 )
+
+pub returns-then-eat-clause-follows : goal.returns-then-eat-clause-follows
+returns-then-eat-clause-follows c = λ rest e. let o = passed (c.eat.ensures.yes c.if-eat.true) (arg_more (sym c.eat.ensures.is ∙ c.if-eat.true) (c.in_ok-call.ensures.awaits _ _ e)) in search rules
+
+pub returns-in_err-take-clause-follows : goal.returns-in_err-take-clause-follows
+returns-in_err-take-clause-follows c = λ rest e. let o = args_end (sym c.eat.ensures.is ∙ c.if-eat.false) (c.in_ok-call.ensures.awaits _ _ e) in let q = subst (λ (ts : List Token). Expects (sign (codes ")") ∷ (behind c.args.outer.items ++ rest)) ts) (sym (c.eat.ensures.no c.if-eat.false)) o in search rules
+
+pub returns-clause-follows : goal.returns-clause-follows
+returns-clause-follows c = λ rest e. let o = args_end (sym c.eat.ensures.is ∙ c.if-eat.false) (c.in_ok-call.ensures.awaits _ _ e) in let q = subst (λ (ts : List Token). Expects (sign (codes ")") ∷ (behind c.args.outer.items ++ rest)) ts) (sym (c.eat.ensures.no c.if-eat.false)) o in search rules

@@ -1,7 +1,13 @@
-use Rattle.std.proofs.Common.{[], refl}
+use Rattle.std.proofs.Common.{[], ◌∷◌, ◌++◌, List, refl, sym, subst}
 use Rattle.bl_ctext.proofs.Bytes.{both}
+use Rattle.bl_csyntax.specs.declared.grammar.Part.TheVariants.{Expr}
+use Rattle.bl_csyntax.specs.Grammar.{Wanted}
+use Rattle.bl_csyntax.specs.Expects.{Expects}
+use Rattle.bl_cparse.specs.Reading.{part}
 use Rattle.bl_cparse.specs.Partial.{held_tokens, spells_held}
+use Rattle.bl_cparse.specs.Awaiting.{held_wanted}
 use Rattle.bl_cparse.proofs.NestLemmas.{pushed, all_with}
+use Rattle.bl_cparse.proofs.AwaitLemmas.{unwound_one}
 use Rattle.bl_cparse.proofs.parser.expr.inside.Goals as goal
 
 pub returns-in-Ok-clause-tokens : goal.returns-in-Ok-clause-tokens
@@ -9,3 +15,6 @@ returns-in-Ok-clause-tokens c = (
   pushed held_tokens c.args.outer.items c.push.new.self.items c.args.held [] c.in-Ok.ensures.items refl,
   both _ _ (all_with spells_held c.args.outer.items c.push.new.self.items c.args.held c.in-Ok.ensures.items c.requires.outer c.requires.held) refl,
 )
+
+pub returns-in-Ok-clause-awaits : goal.returns-in-Ok-clause-awaits
+returns-in-Ok-clause-awaits c = λ rest pieces e. subst (λ (w : List Wanted). Expects (part Expr c.args.room ∷ (w ++ rest)) pieces) (sym (unwound_one held_wanted c.args.outer.items c.push.new.self.items c.args.held c.in-Ok.ensures.items)) e

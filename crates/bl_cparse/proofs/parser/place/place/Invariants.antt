@@ -1,11 +1,18 @@
-use Rattle.std.proofs.Common.{◌≡◌, ◌++◌, IsTrue, length, map}
+use Rattle.std.proofs.Common.{◌≡◌, List, [], ◌∷◌, ◌++◌, IsTrue, length, map}
 use Rattle.bl_tree.specs.Reduce.{all_of, joined}
 use Rattle.bl_ctext.specs.Spelling.{step_tokens}
 use Rattle.bl_ctext.specs.Spellable.{spells_step}
+use Rattle.bl_csyntax.specs.declared.grammar.Part.{Part}
+use Rattle.bl_csyntax.specs.Grammar.{Wanted}
+use Rattle.bl_csyntax.specs.Expects.{Expects}
+use Rattle.bl_cparse.specs.Reading.{part, GoesOnAPlace}
 use Rattle.bl_cparse.proofs.parser.place.place.Given as goal
 
 abbrev pub invariant-loop-steps : goal.invariant-loop-steps
-invariant-loop-steps l = (l.fn.r ≡ joined (map step_tokens l.steps) ++ l.r) × IsTrue (all_of (map spells_step l.steps))
+invariant-loop-steps l = record {
+  read : (l.fn.r ≡ joined (map step_tokens l.steps) ++ l.r) × IsTrue (all_of (map spells_step l.steps));
+  follows : (tail : Part) → GoesOnAPlace tail → (rest : List Wanted) → Expects (part tail l.room ∷ rest) l.fn.r → Expects (part tail l.room ∷ rest) l.r;
+}
 
 abbrev pub decreases-loop-steps : goal.decreases-loop-steps
 decreases-loop-steps l = length l.r

@@ -10,6 +10,6 @@ use Rattle.bl_cparse.proofs.parser.stmt.closed_else.Goals as goal
 pub returns-clause-read : goal.returns-clause-read
 returns-clause-read c = (
   whole (joined (map frame_tokens c.args.outer.items)) (joined (map stmt_tokens c.args.place.before)) (opened_tokens (Else c.args.parts.test c.args.parts.then_part)) (joined (map stmt_tokens c.args.body)) (codes "}" ∷ []) (stmt_kind_tokens c.branches-what.result) (nest_tokens c.in_ok-next.next) _ _
-      c.in_ok-next.ensures.0 (c.branches-what.ensures.tokens ∙ else_whole (condition_tokens c.args.parts.test) (braced (map stmt_tokens c.args.parts.then_part)) (joined (map stmt_tokens c.args.body))) c.in_ok-take.ensures,
-  c.in_ok-next.ensures.1,
+      c.in_ok-next.ensures.read.0 (c.branches-what.ensures.tokens ∙ else_whole (condition_tokens c.args.parts.test) (braced (map stmt_tokens c.args.parts.then_part)) (joined (map stmt_tokens c.args.body))) c.in_ok-take.ensures.read,
+  c.in_ok-next.ensures.read.1,
 )

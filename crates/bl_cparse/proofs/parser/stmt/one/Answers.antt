@@ -12,9 +12,9 @@ use Rattle.bl_cparse.proofs.parser.stmt.one.Goals as goal
 pub returns-clause-read : goal.returns-clause-read
 returns-clause-read c = (
   read_one (joined (map frame_tokens c.args.nest.outer.items)) (joined (map stmt_tokens c.args.nest.body)) (joined (map stmt_tokens c.in_ok-body.body)) (stmt_kind_tokens c.in_ok-what.what) _ _
-      (one_more stmt_tokens c.args.nest.body c.in_ok-body.body c.stmt.result (stmt_kind_tokens c.in_ok-what.what) c.in_ok-body.ensures c.stmt.ensures.tokens) c.in_ok-what.ensures.0,
-  both _ _ (and-fst _ _ c.requires) (all_with spells_stmt c.args.nest.body c.in_ok-body.body c.stmt.result c.in_ok-body.ensures (and-snd _ _ c.requires) (c.stmt.ensures.spells ∙ c.in_ok-what.ensures.1)),
+      (one_more stmt_tokens c.args.nest.body c.in_ok-body.body c.stmt.result (stmt_kind_tokens c.in_ok-what.what) c.in_ok-body.ensures.read c.stmt.ensures.tokens) c.in_ok-what.ensures.read.0,
+  both _ _ (and-fst _ _ c.requires) (all_with spells_stmt c.args.nest.body c.in_ok-body.body c.stmt.result c.in_ok-body.ensures.read (and-snd _ _ c.requires) (c.stmt.ensures.spells ∙ c.in_ok-what.ensures.read.1)),
 )
 
 pub returns-clause-shorter : goal.returns-clause-shorter
-returns-clause-shorter c = shorter _ (stmt_kind_tokens c.in_ok-what.what) _ c.in_ok-what.ensures.0 (kind_some c.in_ok-what.what)
+returns-clause-shorter c = shorter _ (stmt_kind_tokens c.in_ok-what.what) _ c.in_ok-what.ensures.read.0 (kind_some c.in_ok-what.what)

@@ -9,9 +9,9 @@ use Rattle.bl_cparse.proofs.parser.stmt.opened_branch.Goals as goal
 
 pub returns-clause-read : goal.returns-clause-read
 returns-clause-read c = (
-  read_open (joined (map frame_tokens c.args.nest.outer.items)) (joined (map stmt_tokens c.args.nest.body)) (opened_tokens (Then c.in_ok-test.test)) (nest_tokens c.in_ok-next.next) _ _ c.in_ok-next.ensures.0 c.in_ok-test.ensures.0,
-  c.in_ok-next.ensures.1,
+  read_open (joined (map frame_tokens c.args.nest.outer.items)) (joined (map stmt_tokens c.args.nest.body)) (opened_tokens (Then c.in_ok-test.test)) (nest_tokens c.in_ok-next.next) _ _ c.in_ok-next.ensures.read.0 c.in_ok-test.ensures.read.0,
+  c.in_ok-next.ensures.read.1,
 )
 
 pub returns-clause-shorter : goal.returns-clause-shorter
-returns-clause-shorter c = shorter _ (opened_tokens (Then c.in_ok-test.test)) _ c.in_ok-test.ensures.0 (omega arith)
+returns-clause-shorter c = shorter _ (opened_tokens (Then c.in_ok-test.test)) _ c.in_ok-test.ensures.read.0 (omega arith)

@@ -4,5 +4,5 @@ use Rattle.bl_cparse.proofs.reader.Reader.eat.Goals as goal
 
 pub returns-then-seen-clause-yes : goal.returns-then-seen-clause-yes
 returns-then-seen-clause-yes c h =
-    seen c.args.self.now c.args.what.now (sym c.sees-seen.ensures ∙ c.if-seen.true) c.requires
+    seen c.args.self.now c.args.what.now (sym c.sees-seen.ensures.same ∙ c.if-seen.true) c.requires
     ∙ ap (λ ts. c.args.what.now ∷ ts) (sym c.pass.ensures)

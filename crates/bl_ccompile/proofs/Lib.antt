@@ -1,0 +1,4 @@
+pub mod Walking
+pub mod Emitting
+pub mod Blocks
+pub mod Layouts

@@ -1,0 +1,5 @@
+pub mod Shown
+pub mod Steps
+pub mod Ends
+pub mod Odd
+pub mod Halting

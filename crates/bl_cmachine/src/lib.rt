@@ -1,0 +1,19 @@
+//! The machine that runs the code of C texts (docs/C_SUBSET.md, "Meaning").
+#![tactic(auto)]
+
+mod address;
+mod caller;
+mod calls;
+mod flow;
+mod frame;
+mod jumps;
+pub mod machine;
+mod numbers;
+mod odd;
+mod places;
+mod prelude;
+mod run;
+#[cfg(test)]
+mod tests;
+
+pub use machine::Machine;

@@ -1,0 +1,124 @@
+-- What the digits of a number are.
+use Rattle.std.proofs.Common.{◌≡◌, ℕ, suc, ◌+◌, ◌-◌, ◌*◌, ◌^◌, ◌≤◌, ◌<◌, Bool, true, false, not, ◌||◌, ◌==◌, nat_eq, nat_le, nat_lt, List, [], ◌∷◌, length, map, refl, sym, ap, ◌∙◌, subst, inl, inr, arith}
+use Rattle.std.proofs.lemmas.Bool.Decides.{nat_tests}
+use Rattle.std.proofs.lemmas.Fmt.{decimal-digits_value, decimal_injective}
+use Rattle.std.proofs.lemmas.Str.{IsUtf8-from_ascii}
+use Rattle.std.proofs.lemmas.Str.Ascii.{IsAscii-nil, IsAscii-cons}
+use Rattle.std.proofs.lemmas.Str.Parse.{IsNumeralModel, numerals_by_value, tells_all_ascii_digits, parse_gives}
+use Rattle.std.specs.Char.{is_ascii_digit}
+use Rattle.std.specs.Fmt.{decimal}
+use Rattle.std.specs.Str.{IsAscii, IsUtf8, all_ascii_digits}
+use Rattle.std.specs.Str.Parse.{digits_value, ParsesUnsigned}
+use Rattle.std.specs.Prelude.{Result, Ok, Err}
+use Rattle.std.specs.Cmp.Lexicographic.{pointwise}
+use Rattle.bl_tree.specs.Reduce.{all_of}
+use Rattle.bl_tree.specs.declared.scalar.Width.{Width}
+use Rattle.bl_tree.specs.declared.scalar.Width.TheVariants.{W8, W16, W32, W64}
+use Rattle.bl_ctext.specs.Token.{Token}
+use Rattle.bl_ctext.specs.Spelling.{negatives}
+use Rattle.bl_ctext.proofs.Bytes.{and-fst, and-snd, either}
+use Rattle.bl_csyntax.specs.declared.grammar.Digits.{Digits}
+use Rattle.bl_csyntax.specs.Classes.{least, bound, are_digits, is_number, matches}
+use Rattle.bl_csyntax.specs.Classes.Class.{number}
+use Rattle.bl_csyntax.specs.Pieces.{is_same}
+use Rattle.bl_csyntax.proofs.ClassLemmas.{is_same-self}
+use Rattle.bl_grammar.proofs.Predictive.{not_both}
+use Rattle.bl_cspelling.proofs.Pieces.{bound_le}
+
+digits_own : IsNumeralModel (λ (ds : List ℕ). all_ascii_digits ds ≡ true) (digits_value 10)
+digits_own = numerals_by_value (λ (ds : List ℕ). all_ascii_digits ds ≡ true) tells_all_ascii_digits
+
+all_digits : (ds : List ℕ) → all_of (map is_ascii_digit ds) ≡ true → all_ascii_digits ds ≡ true
+all_digits [] h = refl
+all_digits (d ∷ ds) h = rw (and-fst (is_ascii_digit d) (all_of (map is_ascii_digit ds)) h) (all_digits ds (and-snd (is_ascii_digit d) (all_of (map is_ascii_digit ds)) h))
+
+digit_ascii : (d : ℕ) → is_ascii_digit d ≡ true → d < 128
+digit_ascii d h = grind (arith, nat_tests)
+
+digits_ascii : (ds : List ℕ) → all_ascii_digits ds ≡ true → IsAscii ds
+digits_ascii [] h = IsAscii-nil
+digits_ascii (d ∷ ds) h = IsAscii-cons d ds (digit_ascii d (and-fst _ _ h)) (digits_ascii ds (and-snd _ _ h))
+
+lone : (b : ℕ) (bs : List ℕ) → (not (b == 48) || nat_le (length bs) 0) ≡ true → b ≡ 48 → suc (length bs) ≡ 1
+lone b bs h e = elim (either (not (b == 48)) (nat_le (length bs) 0) h) [ inl differs ↦ absurd (grind (arith, nat_tests)) | inr short ↦ grind (arith, nat_tests) ]
+
+at_least : (a b : ℕ) → nat_le a b ≡ true → a ≤ b
+at_least a b h = grind (arith, nat_tests)
+
+below : (a b : ℕ) → nat_lt a b ≡ true → a < b
+below a b h = grind (arith, nat_tests)
+
+has_some : (bs : List ℕ) → 0 < suc (length bs)
+has_some bs = omega arith
+
+wide : (a b : ℕ) → a < b → b ≤ 2 ^ 64 → a < 2 ^ 64
+wide a b h k = omega (arith, h, k)
+
+-- the number of digits that are of the class
+pub record Numeral (of : Digits) (t : Token) : Type 0 where
+  pub text : IsUtf8 t
+  pub digits : all_ascii_digits t ≡ true
+  pub some : 0 < length t
+  pub small : digits_value 10 t < 2 ^ 64
+  pub is : t ≡ decimal (digits_value 10 t)
+  pub low : least of ≤ digits_value 10 t
+  pub high : digits_value 10 t < bound of
+
+numeral_of : (of : Digits) (t : Token) → is_number of t ≡ true → Numeral of t
+unfolding is_number
+numeral_of of [] h = absurd (cc)
+numeral_of of (b ∷ bs) h =
+    let digits = and-fst (are_digits (b ∷ bs)) _ h in
+    let range = and-snd (are_digits (b ∷ bs)) _ h in
+    let high : digits_value 10 (b ∷ bs) < bound of = below (digits_value 10 (b ∷ bs)) (bound of) (and-snd _ _ range) in
+    let all : all_ascii_digits (b ∷ bs) ≡ true = all_digits (b ∷ bs) (and-fst (all_of (map is_ascii_digit (b ∷ bs))) (not (b == 48) || nat_le (length bs) 0) digits) in
+    let zero_alone = and-snd (all_of (map is_ascii_digit (b ∷ bs))) (not (b == 48) || nat_le (length bs) 0) digits in
+    let small : digits_value 10 (b ∷ bs) < 2 ^ 64 = wide (digits_value 10 (b ∷ bs)) (bound of) high (bound_le of) in
+    record {
+      text = IsUtf8-from_ascii (b ∷ bs) (digits_ascii (b ∷ bs) all);
+      digits = all;
+      some = has_some bs;
+      small = small;
+      is = sym (decimal-digits_value digits_own (b ∷ bs) all (has_some bs) (λ (e : b ≡ 48). lone b bs zero_alone e) small);
+      low = at_least (least of) (digits_value 10 (b ∷ bs)) (and-fst _ _ range);
+      high = high;
+    }
+
+pub numeral : (of : Digits) (t : Token) → matches (number of) t ≡ true → Numeral of t
+unfolding matches
+numeral of t m = numeral_of of t m
+
+pub parsed : {E : Type 0} (of : Digits) (t : Token) (r : Result ℕ E) → ParsesUnsigned 64 10 t r → matches (number of) t ≡ true → r ≡ Ok (digits_value 10 t)
+parsed of t r p m = let n = numeral of t m in parse_gives digits_own 64 t r p n.digits n.some n.small
+
+-- of a number that the digits spell, that it is in the range
+pub in_range : (of : Digits) (t : Token) (n low high : ℕ) → n < 2 ^ 64 → t ≡ decimal n → least of ≡ low → bound of ≡ high + 1 → matches (number of) t ≡ true → (low ≤ n) × (n ≤ high)
+in_range of t n low high small is l h m =
+    let k = numeral of t m in
+    let same : digits_value 10 t ≡ n = decimal_injective (digits_value 10 t) n k.small small (sym k.is ∙ is) in
+    (omega (arith, k.low, l, same), omega (arith, k.high, h, same))
+
+pub not_parsed : {E : Type 0} (of : Digits) (t : Token) (r : Result ℕ E) {e : E} → ParsesUnsigned 64 10 t r → r ≡ Err e → matches (number of) t ≡ true → ⊥
+not_parsed of t r {e} p is m = no_value (sym is ∙ parsed of t r p m)
+  where
+    no_value : {A E : Type 0} {a : A} {e : E} → ◌≡◌ {A = Result A E} (Err e) (Ok a) → ⊥
+    no_value e = cc
+
+-- the test that the number is written as the digits fails for none of them
+pub written : {E : Type 0} (of : Digits) (t w : Token) (r : Result ℕ E) (same : Bool) {n : ℕ} → ParsesUnsigned 64 10 t r → r ≡ Ok n → w ≡ decimal n → same ≡ pointwise nat_eq w t → same ≡ false → matches (number of) t ≡ true → ⊥
+unfolding is_same
+written of t w r same {n} p is text test off m =
+    let k : Numeral of t = numeral of t m in
+    let value : digits_value 10 t ≡ n = same_value (sym (parsed of t r p m) ∙ is) in
+    let alike : t ≡ w = k.is ∙ (ap decimal value ∙ sym text) in
+    not_both same (test ∙ subst (λ (u : Token). pointwise nat_eq w u ≡ true) (sym alike) (is_same-self w)) off
+  where
+    same_value : {A E : Type 0} {a b : A} → ◌≡◌ {A = Result A E} (Ok a) (Ok b) → a ≡ b
+    same_value e = cc
+
+-- the numbers up to one below another
+pub up_to : (w : Width) {n : ℕ} → n ≡ negatives w → negatives w ≡ (n - 1) + 1
+up_to W8 is = omega (arith, is)
+up_to W16 is = omega (arith, is)
+up_to W32 is = omega (arith, is)
+up_to W64 is = omega (arith, is)

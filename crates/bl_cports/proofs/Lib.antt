@@ -1,0 +1,4 @@
+pub mod KindLemmas
+pub mod LayLemmas
+pub mod PortLemmas
+pub mod SpanLemmas

@@ -1,0 +1,20 @@
+use Rattle.std.proofs.Common.{ap, ◌∙◌, rules}
+use Rattle.std.specs.Int.{w128}
+use Rattle.std.specs.Prelude.{slice_set}
+use Rattle.std.proofs.lemmas.Int.{to_z-of_z}
+use Rattle.bl_cmachine.specs.Steps.{holding}
+use Rattle.bl_cmeaning.specs.Parts.{parts_of}
+use Rattle.bl_crun.proofs.Puts.{shown-keeps, shown-put}
+use Rattle.bl_crun.proofs.runner.Runner.put.Goals as goal
+
+pub invariant_of-self : goal.invariant_of-self
+invariant_of-self c =
+    shown-keeps (parts_of c.self.inside.file) c.self.inside.prepared c.self.invariant c.self.inside.ready c.self.inside.live c.args.self.now c.args.k c.args.n c.set.new.self c.self.view_is c.requires.within c.requires.range
+    (c.set.ensures
+    ∙ ap (λ x. holding c.self.inside.prepared.machine (slice_set c.self.inside.prepared.machine.state.cells c.args.k x)) (to_z-of_z w128 c.args.n (search rules)))
+
+pub returns : goal.returns
+returns c =
+    shown-put (parts_of c.self.inside.file) c.self.inside.prepared c.self.invariant c.self.inside.ready c.self.inside.live c.args.self.now c.args.k c.args.n c.set.new.self c.self.view_is
+    (c.set.ensures
+    ∙ ap (λ x. holding c.self.inside.prepared.machine (slice_set c.self.inside.prepared.machine.state.cells c.args.k x)) (to_z-of_z w128 c.args.n (search rules)))

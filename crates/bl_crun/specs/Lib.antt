@@ -1,0 +1,4 @@
+pub mod Cause
+pub mod Done
+pub mod Prepared
+pub mod Running

@@ -1,0 +1,51 @@
+-- What a runner keeps of its file.
+use Rattle.std.specs.Prelude.{◌≡◌, ◌≤◌, ◌<◌, ◌+◌, ◌-◌, ◌^◌, ℕ, min, ℤ, Bool, true, false, List, length, take, drop, Option, Some, None, option_map, codes}
+use Rattle.bl_ccode.specs.Laws.{code_of_file, entry_in_file}
+use Rattle.bl_ccompile.specs.Views.{entry_for}
+use Rattle.bl_cflat.specs.Laws.{behind_objects}
+use Rattle.bl_cmeaning.specs.Cells.{inputs_of, outputs_of}
+use Rattle.bl_cmeaning.specs.Parts.{Parts}
+use Rattle.bl_cmeaning.specs.Trace.{reply_of, tick_c}
+use Rattle.bl_cports.specs.Layout.{kinds_of}
+use Rattle.bl_cports.specs.Ports.{inputs_start, outputs_start}
+use Rattle.bl_crun.specs.Cause.{Runs}
+use Rattle.bl_crun.specs.Done.{CellsKeep}
+use Rattle.bl_crun.specs.declared.call.Called.{Called}
+use Rattle.bl_crun.specs.declared.prepared.Prepared.{Prepared}
+
+-- what is prepared is the file's; the machine has room for its code
+pub record Keeps (file : Parts) (p : Prepared) : Type 0 where
+  pub runs : Runs file
+  pub code : p.code.items ≡ code_of_file file.structs file.funcs
+  pub init : option_map entry_for p.init ≡ entry_in_file file.structs file.funcs (codes "bl_init")
+  pub tick : option_map entry_for p.tick ≡ entry_in_file file.structs file.funcs (codes "bl_tick")
+  pub inputs : p.inputs ≡ inputs_of file
+  pub outputs : p.outputs ≡ outputs_of file
+  pub kinds : p.kinds.items ≡ kinds_of file
+  pub input_at : p.input_at ≡ inputs_start file.structs
+  pub output_at : p.output_at ≡ outputs_start file.structs
+  pub base : p.base ≡ behind_objects file
+  pub numbers : length p.code.items ≤ p.machine.numbers
+  pub calls : length file.funcs ≤ p.machine.calls
+  pub cells : CellsKeep file p.machine.state.cells
+
+-- the numbers of the cells
+abbrev pub numbers_in : Prepared → List ℤ
+numbers_in p = take (length p.kinds.items) p.machine.state.cells
+
+-- the same, where the start hasn't trapped
+abbrev pub state_of : Bool → Prepared → Option (List ℤ)
+state_of false p = None
+state_of true p = Some (numbers_in p)
+
+-- the numbers of the outputs
+abbrev pub outputs_in : Prepared → List ℤ
+outputs_in p = take (length p.outputs) (drop (p.output_at + 1) p.machine.state.cells)
+
+-- a tick was done
+pub record Ticked (file : Parts) (cells ins : List ℤ) (called : Called) (p : Prepared) : Type 0 where
+  pub reply : reply_of called.answer ≡ (tick_c file cells ins).reply
+  pub count : called.count ≡ min (tick_c file cells ins).count (2 ^ 128 - 1)
+  pub after : numbers_in p ≡ (tick_c file cells ins).cells
+  pub outputs : outputs_in p ≡ (tick_c file cells ins).outputs
+  pub within : (k : ℕ) → k < length p.outputs → p.output_at + 1 + k < length p.machine.state.cells

@@ -1,0 +1,30 @@
+//! Rows of inputs and outputs in a machine's cells.
+
+ghost use Rattle.std.specs.Prelude.{◌≡◌, ℕ, ◌+◌, ◌≤◌, ◌<◌, drop, length, take};
+ghost use Rattle.bl_cflat.specs.Flat.{with_args};
+ghost use Rattle.bl_cmachine.specs.Steps.{holding};
+
+use bl_cmachine::Machine;
+use bl_tree::Row;
+
+/// Sets the cells from one on to the numbers of a row.
+pub fn set_inputs(machine: &mut Machine, at: usize, ins: &Row)
+    requires within { (k : ℕ) → k < length ins.now → at + k < length machine.old.state.cells }
+    requires small { at ≤ 4294967296 }
+    ensures { machine.new ≡ holding machine.old (with_args at ins.now machine.old.state.cells) }
+{
+    for k in 0..ins.len() {
+        machine.set(at + k as usize, ins.at(k));
+    }
+}
+
+/// Fills a row with the numbers of the cells from one on.
+pub fn read_outputs(machine: &Machine, at: usize, outs: &mut Row)
+    requires within { (k : ℕ) → k < length outs.old → at + k < length machine.now.state.cells }
+    requires small { at ≤ 4294967296 }
+    ensures { outs.new ≡ take (length outs.old) (drop at machine.now.state.cells) }
+{
+    for k in 0..outs.len() {
+        outs.set(k, machine.get(at + k as usize));
+    }
+}

@@ -1,0 +1,151 @@
+//! What a runner keeps of its file, and the calls of the start and of ticks.
+
+ghost use Rattle.std.specs.Prelude.{◌≡◌, [], ◌∷◌, ℕ, ◌+◌, ◌<◌, pos, true, length, replicate, IfErr, IfOk};
+ghost use Rattle.bl_cmeaning.specs.Parts.{parts_of};
+ghost use Rattle.bl_cmeaning.specs.Sizes.{cells_needed};
+ghost use Rattle.bl_cmeaning.specs.Trace.{start_c};
+ghost use Rattle.bl_crun.specs.Cause.{IsCause, Runs};
+ghost use Rattle.bl_crun.specs.Prepared.{Keeps, Ticked, numbers_in, outputs_in, state_of};
+ghost use Rattle.bl_crun.specs.Running.{row_fits, unless_trapped};
+
+use crate::call::{Called, call};
+use crate::fault::{LoadFault, needed};
+use crate::ports::{read_outputs, set_inputs};
+use crate::tick::Tick;
+use bl_ccode::instruction::Instruction;
+use bl_ccompile::{Compiled, Entry, compile};
+use bl_cflat::laws::{starts_agree, ticks_agree};
+use bl_cmachine::Machine;
+use bl_cports::laws::ports_stand;
+use bl_cports::{CellKinds, inputs, lay_out, outputs};
+use bl_ctext::CFile;
+use bl_tree::{Column, List, NoMemory, Row, Scalar};
+use std::alloc::Global;
+
+/// What a runner keeps of its file.
+#[derive(Drop)]
+pub struct Prepared {
+    pub code: Vec<Instruction>,
+    pub init: Option<Entry>,
+    pub tick: Option<Entry>,
+    pub inputs: List<Column>,
+    pub outputs: List<Column>,
+    /// The types of the cells of the three objects.
+    pub kinds: Vec<Scalar>,
+    /// Where the cells of the input object begin.
+    pub input_at: u32,
+    /// Where the cells of the output object begin.
+    pub output_at: u32,
+    /// The first cell behind the objects.
+    pub base: u32,
+    pub machine: Machine,
+}
+
+/// Prepares a file, if it can be loaded. All cells of its machine are 0.
+pub fn prepare(alloc: Global, file: &CFile) -> Result<Prepared, LoadFault>
+    ensures keeps { IfOk result (Keeps (parts_of file.now)) }
+    ensures cleared { IfOk result (λ p. p.machine.state.cells ≡ replicate (cells_needed (parts_of file.now)) (pos 0)) }
+    ensures fault { IfErr result (IsCause (parts_of file.now)) }
+{
+    let cells = match needed(alloc, file) {
+        Ok(cells) => cells,
+        Err(fault) => return Err(fault),
+    };
+    match prepare_for(alloc, file, cells) {
+        Ok(prepared) => Ok(prepared),
+        Err(_) => Err(LoadFault::NoMemory),
+    }
+}
+
+/// Prepares a file that needs so many cells.
+fn prepare_for(alloc: Global, file: &CFile, cells: usize) -> Result<Prepared, NoMemory>
+    requires runs { Runs (parts_of file.now) }
+    requires cells { cells ≡ cells_needed (parts_of file.now) }
+    ensures keeps { IfOk result (Keeps (parts_of file.now)) }
+    ensures cleared { IfOk result (λ p. p.machine.state.cells ≡ replicate (cells_needed (parts_of file.now)) (pos 0)) }
+{
+    let Compiled { code, init, tick } = compile(alloc, &file.structs, &file.funcs)?;
+    let cells_of = lay_out(alloc, &file.structs)?;
+    let inputs = inputs(alloc, &file.structs)?;
+    let outputs = outputs(alloc, &file.structs)?;
+    let machine = Machine::new(alloc, cells, code.len(), file.funcs.len())?;
+    let CellKinds {
+        kinds,
+        inputs: input_at,
+        outputs: output_at,
+    } = cells_of;
+    let base = kinds.len() as u32;
+    Ok(Prepared {
+        code,
+        init,
+        tick,
+        inputs,
+        outputs,
+        kinds,
+        input_at: input_at as u32,
+        output_at: output_at as u32,
+        base,
+        machine,
+    })
+}
+
+/// Does the start, and tells whether it hasn't trapped.
+pub fn start(file: &CFile, prepared: &mut Prepared) -> bool
+    requires keeps { Keeps (parts_of file.now) prepared.old }
+    requires cleared { prepared.old.machine.state.cells ≡ replicate (cells_needed (parts_of file.now)) (pos 0) }
+    ensures keeps { Keeps (parts_of file.now) prepared.new }
+    ensures state { state_of result prepared.new ≡ start_c (parts_of file.now) }
+{
+    starts_agree(file);
+    let called = call(
+        file,
+        &mut prepared.machine,
+        &prepared.code,
+        prepared.init,
+        prepared.base,
+        &[0],
+    );
+    called.answer.is_some()
+}
+
+/// The arguments of a tick's function: where the three objects begin.
+fn tick_args(input_at: u32, output_at: u32) -> [i128; 3]
+    ensures { result ≡ pos 0 ∷ pos input_at ∷ pos output_at ∷ [] }
+{
+    [0, i128::from(input_at), i128::from(output_at)]
+}
+
+/// Does a tick with a row of inputs.
+pub fn do_tick(file: &CFile, prepared: &mut Prepared, ins: &Row) -> Called
+    requires keeps { Keeps (parts_of file.now) prepared.old }
+    requires fits { row_fits (parts_of file.now) ins.now ≡ true }
+    ensures keeps { Keeps (parts_of file.now) prepared.new }
+    ensures ticked { Ticked (parts_of file.now) (numbers_in prepared.old) ins.now result prepared.new }
+{
+    ticks_agree(file);
+    ports_stand(file);
+    set_inputs(&mut prepared.machine, prepared.input_at as usize + 1, ins);
+    let args = tick_args(prepared.input_at, prepared.output_at);
+    call(
+        file,
+        &mut prepared.machine,
+        &prepared.code,
+        prepared.tick,
+        prepared.base,
+        &args,
+    )
+}
+
+/// Fills the row of outputs after a tick with this answer, unless it has trapped.
+pub fn tell(prepared: &Prepared, answer: Tick, outs: &mut Row)
+    requires within { (k : ℕ) → k < length prepared.now.outputs → prepared.now.output_at + 1 + k < length prepared.now.machine.state.cells }
+    requires long { length outs.old ≡ length prepared.now.outputs }
+    ensures { outs.new ≡ unless_trapped answer (outputs_in prepared.now) outs.old }
+{
+    match answer {
+        Tick::Trap => {}
+        Tick::Row | Tick::Ended => {
+            read_outputs(&prepared.machine, prepared.output_at as usize + 1, outs);
+        }
+    }
+}

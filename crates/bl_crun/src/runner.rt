@@ -1,0 +1,174 @@
+//! The runner of a file.
+
+ghost use Rattle.std.specs.Prelude.{◌≡◌, ◌↔◌, ◌<◌, ℤ, List as Elements, Some, true, length, slice_get, is_some, IfErr, IfOk, IsTrue, OnOk};
+ghost use Rattle.bl_tree.specs.declared.scalar.Scalar.{Scalar as Kind};
+ghost use Rattle.bl_tree.specs.Scalar.{in_range};
+ghost use Rattle.bl_cfit.specs.Fitting.{in_ranges};
+ghost use Rattle.bl_cmeaning.specs.Cells.{cells_of, inputs_of, outputs_of};
+ghost use Rattle.bl_cports.specs.Layout.{kinds_of};
+
+use crate::answer::{goes_on, tick_of};
+use crate::fault::LoadFault;
+use crate::fits::fit_all;
+use crate::prepared::{Prepared, do_tick, prepare, start, tell};
+use crate::tick::Tick;
+use bl_ctext::CFile;
+use bl_tree::{Column, List, Row, Scalar};
+use std::alloc::Global;
+use std::marker::Model;
+
+/// A file that runs. All memory that it needs was taken as it was loaded.
+#[derive(Drop)]
+pub struct Runner {
+    file: CFile,
+    prepared: Prepared,
+    ready: bool,
+    live: bool,
+}
+
+impl Model for Runner {
+    ghost use Rattle.std.specs.Coded.{codes};
+    ghost use Rattle.bl_tree.specs.contracts.c.CStmt as stmt;
+    ghost use Rattle.bl_tree.specs.contracts.c.CStmtKind as kind;
+    ghost use Rattle.bl_cmeaning.specs.Parts.{parts_of};
+    ghost use Rattle.bl_crun.specs.Prepared.{Keeps, state_of};
+    ghost use Rattle.bl_crun.specs.Running.{Running};
+
+    ghost Value = { Running };
+
+    ghost coded = { Prim.hlevel (codes, stmt.the_row.coded, kind.the_row.coded) };
+
+    ghost view = { λ r. record { parts = parts_of r.file; state = state_of r.ready r.prepared; live = r.live } };
+
+    ghost invariant = { λ r. Keeps (parts_of r.file) r.prepared };
+}
+
+impl Runner {
+    ghost use Rattle.bl_cmeaning.specs.Parts.{parts_of};
+    ghost use Rattle.bl_crun.specs.Cause.{IsCause, Runs};
+    ghost use Rattle.bl_crun.specs.Running.{after_tick, answer_of, count_after, loaded, outputs_after, reply_at, row_fits, with_cell};
+
+    /// Loads a file: clears its cells and does its start. After a fault the file comes back.
+    pub fn load(alloc: Global, file: CFile) -> Result<Runner, (CFile, LoadFault)>
+        ensures loaded { IfOk result (λ r. r ≡ loaded (parts_of file)) }
+        ensures runs { OnOk result (Runs (parts_of file)) }
+        ensures back { IfErr result (λ e. e.0 ≡ file) }
+        ensures fault { IfErr result (λ e. IsCause (parts_of file) e.1) }
+    {
+        match prepare(alloc, &file) {
+            Ok(mut prepared) => {
+                let ready = start(&file, &mut prepared);
+                Ok(Runner {
+                    file,
+                    prepared,
+                    ready,
+                    live: true,
+                })
+            }
+            Err(fault) => Err((file, fault)),
+        }
+    }
+
+    pub fn inputs(&self) -> &List<Column>
+        ensures { result.now ≡ inputs_of self.now.parts }
+    {
+        &self.prepared.inputs
+    }
+
+    pub fn outputs(&self) -> &List<Column>
+        ensures { result.now ≡ outputs_of self.now.parts }
+    {
+        &self.prepared.outputs
+    }
+
+    /// Whether a row has a number for each input, in the range of its type.
+    pub fn fits(&self, ins: &Row) -> bool
+        ensures { result ≡ row_fits self.now.parts ins.now }
+    {
+        fit_all(&self.prepared.inputs, ins)
+    }
+
+    /// Whether no tick has ended the run or trapped.
+    pub fn live(&self) -> bool
+        ensures { result ≡ self.now.live }
+    {
+        self.live
+    }
+
+    /// Whether the start hasn't trapped.
+    pub fn ready(&self) -> bool
+        ensures { result ≡ is_some self.now.state }
+    {
+        self.ready
+    }
+
+    /// Does a tick with a row of inputs, and fills the row of outputs unless it traps. Where the start has trapped, the
+    /// first tick traps.
+    pub fn tick(&mut self, ins: &Row, outs: &mut Row) -> Tick
+        requires fits { row_fits self.old.parts ins.now ≡ true }
+        requires long { length outs.old ≡ length (outputs_of self.old.parts) }
+        requires live { self.old.live ≡ true }
+        ensures answer { result ≡ answer_of (reply_at self.old ins.now) }
+        ensures after { self.new ≡ after_tick self.old ins.now }
+        ensures outputs { outs.new ≡ outputs_after self.old ins.now outs.old }
+    {
+        let mut count = 0;
+        self.tick_counted(ins, outs, &mut count)
+    }
+
+    /// Does a tick and tells how many statements it executed, at most 2^128 - 1.
+    pub fn tick_counted(&mut self, ins: &Row, outs: &mut Row, count: &mut u128) -> Tick
+        requires fits { row_fits self.old.parts ins.now ≡ true }
+        requires long { length outs.old ≡ length (outputs_of self.old.parts) }
+        requires live { self.old.live ≡ true }
+        ensures answer { result ≡ answer_of (reply_at self.old ins.now) }
+        ensures after { self.new ≡ after_tick self.old ins.now }
+        ensures outputs { outs.new ≡ outputs_after self.old ins.now outs.old }
+        ensures count { count.new ≡ count_after self.old ins.now }
+    {
+        if !self.ready {
+            self.live = false;
+            *count = 0;
+            return Tick::Trap;
+        }
+        let called = do_tick(&self.file, &mut self.prepared, ins);
+        *count = called.count;
+        let answer = tick_of(called.answer);
+        self.live = goes_on(answer);
+        tell(&self.prepared, answer, outs);
+        answer
+    }
+
+    /// How many cells the three objects have.
+    pub fn cells(&self) -> u32
+        ensures { result ≡ length (cells_of self.now.parts) }
+    {
+        self.prepared.base
+    }
+
+    /// The type of a cell.
+    pub fn kind(&self, k: u32) -> Scalar
+        requires { k < length (cells_of self.now.parts) }
+        ensures { slice_get (kinds_of self.now.parts) k ≡ Some result }
+    {
+        self.prepared.kinds[k as usize]
+    }
+
+    /// The number of a cell.
+    pub fn cell(&self, k: u32) -> i128
+        requires { k < length (cells_of self.now.parts) }
+        ensures number { (state : Elements ℤ) → self.now.state ≡ Some state → slice_get state k ≡ Some result }
+        ensures range { (kind : Kind) → slice_get (kinds_of self.now.parts) k ≡ Some kind → in_range kind result ≡ true }
+    {
+        self.prepared.machine.get(k as usize)
+    }
+
+    /// Sets a cell alone.
+    pub fn put(&mut self, k: u32, n: i128)
+        requires within { k < length (cells_of self.old.parts) }
+        requires range { (kind : Kind) → slice_get (kinds_of self.old.parts) k ≡ Some kind → in_range kind n ≡ true }
+        ensures { self.new ≡ with_cell self.old k n }
+    {
+        self.prepared.machine.set(k as usize, n);
+    }
+}

@@ -1,0 +1,9 @@
+/// What a tick comes to.
+#[derive(Clone, Copy, PartialEq, Eq, Debug)]
+pub enum Tick {
+    /// A row of outputs, and the run can go on.
+    Row,
+    /// A row of outputs, and the run has ended.
+    Ended,
+    Trap,
+}
