@@ -1,0 +1,14 @@
+-- What the tests ask of a program.
+use Rattle.std.specs.Prelude.{ℕ, ◌<◌, ◌^◌, List, length}
+use Rattle.bl_tree.specs.declared.tree.StructDef.{StructDef}
+use Rattle.bl_tree.specs.declared.tree.Unit.{Unit as UnitDef}
+use Rattle.bl_tree.specs.Program.{Keeps}
+use Rattle.bl_ctree.specs.Instances.{instances_of}
+
+-- few activities run in it
+abbrev pub AreFew : List UnitDef → ℕ → Type 0
+AreFew units entry = length (instances_of units entry) < 2 ^ 32
+
+pub record Stands (structs : List StructDef) (units : List UnitDef) (entry : ℕ) : Type 0 where
+  pub keeps : Keeps structs units entry
+  pub few : AreFew units entry
