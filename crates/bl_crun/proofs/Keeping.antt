@@ -2,6 +2,7 @@
 use Rattle.std.proofs.Common.{◌≡◌, ℕ, ◌+◌, ◌≤◌, ◌<◌, ◌^◌, ℤ, pos, true, List, [], ◌∷◌, length, take, drop, ◌-◌, replicate, Option, Some, None, refl, ap, sym, subst, ◌∙◌, arith}
 use Rattle.std.specs.Prelude.{codes, is_some, min, option_map}
 use Rattle.bl_ccode.specs.Code.{Code}
+use Rattle.bl_cfit.specs.Fitting.{in_ranges}
 use Rattle.bl_cflat.specs.Flat.{Left, with_args}
 use Rattle.bl_cflat.specs.Laws.{StartsAgree, TicksAgree, behind_objects, entered_flat, input_at, output_at}
 use Rattle.bl_cmachine.specs.Shown.{Shown}
@@ -18,7 +19,7 @@ use Rattle.bl_crun.specs.declared.call.Called.{Called}
 use Rattle.bl_crun.specs.declared.prepared.Prepared.{Prepared}
 use Rattle.bl_crun.specs.Done.{CallDone, CellsKeep, Comes, IsStart, IsTick, first_cells}
 use Rattle.bl_crun.specs.Prepared.{Keeps, Ticked, numbers_in, state_of}
-use Rattle.bl_crun.specs.Running.{row_fits}
+use Rattle.bl_crun.specs.Running.{row_fits, types_of}
 use Rattle.bl_crun.proofs.Calls.{file-comes, steps_of}
 use Rattle.bl_crun.proofs.Cells.{cells-long, input-start, output-start}
 use Rattle.bl_crun.proofs.Ticks.{inputs-within, outputs-within, start-is, tick-is}
@@ -175,6 +176,11 @@ module _ (file : Parts) (p : Prepared) (k : Keeps file p) (agrees : TicksAgree f
     outputs =
         ap (λ cols. take (length cols) (drop (p.output_at + 1) after.state.cells)) k.outputs ∙ ap (λ a. take (length (outputs_of file)) (drop (a + 1) after.state.cells)) k.output_at
         ∙ ap (λ cs. take (length (outputs_of file)) (drop (outputs_start file.structs + 1) cs)) done.cells ∙ ticks.outputs;
+    ranges =
+        ap (λ cols. in_ranges (types_of cols) (take (length cols) (drop (p.output_at + 1) after.state.cells))) k.outputs
+        ∙ ap (λ a. in_ranges (types_of (outputs_of file)) (take (length (outputs_of file)) (drop (a + 1) after.state.cells))) k.output_at
+        ∙ ap (λ cs. in_ranges (types_of (outputs_of file)) (take (length (outputs_of file)) (drop (outputs_start file.structs + 1) cs))) done.cells
+        ∙ ap (in_ranges (types_of (outputs_of file))) ticks.outputs ∙ ticks.ranges;
     within = λ j low.
         let at = k.output_at in
         let long : length p.outputs ≡ length (outputs_of file) = ap length k.outputs in

@@ -1,9 +1,9 @@
 -- Rows of inputs and outputs in the cells.
-use Rattle.std.proofs.Common.{◌≡◌, ℕ, zero, suc, ◌+◌, ◌-◌, ◌≤◌, ℤ, pos, true, ◌&&◌, List, [], ◌∷◌, map, length, take, drop, slice_get, slice_set, Some, refl, ap, sym, ◌∙◌, arith, drop-cons, get_or}
+use Rattle.std.proofs.Common.{◌≡◌, ℕ, zero, suc, ◌+◌, ◌-◌, ◌<◌, ◌≤◌, ℤ, pos, true, ◌&&◌, List, [], ◌∷◌, map, length, take, drop, slice_get, slice_set, Some, refl, ap, sym, ◌∙◌, arith, drop-cons, get_or}
 use Rattle.std.specs.Prelude.{filter_map, option_map}
 use Rattle.std.specs.List.{cons_option, list_all}
 use Rattle.std.proofs.lemmas.List.{drop-take, length-map}
-use Rattle.std.proofs.lemmas.Option.{get_or_from_slice_get, slice_get-map, slice_get_within}
+use Rattle.std.proofs.lemmas.Option.{get_or_from_slice_get, slice_get-get_or, slice_get-map, slice_get_within}
 use Rattle.bl_tree.specs.declared.scalar.Scalar.{Scalar}
 use Rattle.bl_tree.specs.declared.scalar.Scalar.TheVariants.{Bool as OfBool}
 use Rattle.bl_tree.specs.declared.c.CMember.{CMember}
@@ -147,6 +147,26 @@ pub inputs-fit : (cs : List Cell) (at : ℕ) (ms : List CMember) (ins ns : List 
     in_ranges (map (λ c. c.kind) cs) ns ≡ true → in_ranges (map (λ c. c.kind) cs) (with_args at ins ns) ≡ true
 inputs-fit cs at ms ins ns stand fit all =
     inputs-range cs at ms ins ns stand (ap (λ ts. in_ranges ts ins) (sym (ap types_of (columns-are cs at input_object ms stand) ∙ types-are ms)) ∙ fit) all
+
+-- the numbers of ports, of cells in their ranges
+ports-range : (cs : List Cell) (at : ℕ) (root : Root) (ms : List CMember) (ns : List ℤ) → StandAt cs at root ms → in_ranges (map (λ c. c.kind) cs) ns ≡ true →
+    in_ranges (map (λ m. kind_in m.ty) ms) (take (length ms) (drop at ns)) ≡ true
+ports-range cs at root [] ns stand all = refl
+ports-range cs at root (m ∷ ms) ns stand all =
+    let p = stand-first cs at root m ms stand in
+    let kind : slice_get (map (λ c. c.kind) cs) at ≡ Some p.0 = slice_get-map (λ (c : Cell). c.kind) cs at ∙ ap (option_map (λ (c : Cell). c.kind)) p.1.1 in
+    let low = slice_get_within (map (λ (c : Cell). c.kind) cs) at p.0 kind in
+    let long = ranges-long (map (λ (c : Cell). c.kind) cs) ns all in
+    let within : at < length ns = omega arith in
+    ap (λ l. in_ranges (kind_in m.ty ∷ map (λ m. kind_in m.ty) ms) (take (suc (length ms)) l)) (drop-cons ns at (pos 0) within)
+    ∙ and-both _ _
+    (ap (λ t. in_range (kind_in t) (get_or ns at (pos 0))) p.1.0 ∙ ranges-at (map (λ (c : Cell). c.kind) cs) ns at p.0 (get_or ns at (pos 0)) all kind (slice_get-get_or ns at (pos 0) within))
+    (ports-range cs (suc at) root ms ns (stand-later cs at root m ms stand) all)
+
+pub outputs-fit : (cs : List Cell) (at : ℕ) (ms : List CMember) (ns : List ℤ) → StandAt cs at output_object ms → in_ranges (map (λ c. c.kind) cs) ns ≡ true →
+    in_ranges (types_of (filter_map column_of ms)) (take (length ms) (drop at ns)) ≡ true
+outputs-fit cs at ms ns stand all =
+    ap (λ ts. in_ranges ts (take (length ms) (drop at ns))) (ap types_of (columns-are cs at output_object ms stand) ∙ types-are ms) ∙ ports-range cs at output_object ms ns stand all
 
 pub inputs-long : (cs : List Cell) (at : ℕ) (ms : List CMember) (ins : List ℤ) → StandAt cs at input_object ms → in_ranges (types_of (filter_map column_of ms)) ins ≡ true → length ins ≡ length ms
 inputs-long cs at ms ins stand fit =

@@ -24,9 +24,9 @@ use Rattle.bl_cports.specs.Layout.{kinds_of}
 use Rattle.bl_cports.specs.Ports.{PortsStand, inputs_start, outputs_start}
 use Rattle.bl_crun.specs.Cause.{Runs}
 use Rattle.bl_crun.specs.Done.{CellsKeep, IsStart, IsTick, first_cells}
-use Rattle.bl_crun.specs.Running.{row_fits}
+use Rattle.bl_crun.specs.Running.{row_fits, types_of}
 use Rattle.bl_crun.proofs.Cells.{cells-long, cells-separate, numbers-made}
-use Rattle.bl_crun.proofs.Rows.{args-taken, columns-long, inputs-fit, inputs-long, inputs-set, outputs-taken, ranges-are, within-taken}
+use Rattle.bl_crun.proofs.Rows.{args-taken, columns-long, inputs-fit, inputs-long, inputs-set, outputs-fit, outputs-taken, ranges-are, within-taken}
 
 -- ---- a call from outside
 
@@ -178,11 +178,18 @@ module _ (file : Parts) (runs : Runs file) where
         record {
           reply = ap reply_of (sym same.answer);
           outputs = outs-are c l same;
+          ranges = outs-fit c l same;
           after = first-are c l same;
           count = sym same.count;
           keeps = call-keeps c l same;
         }
       where
+        outs-fit : (c : Called) (l : Left ℤ) → SameCall file c l → in_ranges (types_of (outputs_of file)) (outputs_in out_ports c.memory) ≡ true
+        outs-fit c l same =
+            let ports = stand runs.formed in
+            ap (in_ranges (types_of (outputs_of file))) (outputs-taken (cells_of file) outs_at out_ports c.memory ports.1)
+            ∙ outputs-fit (cells_of file) outs_at out_ports (numbers_of (cells_of file) c.memory) ports.1 (sym (ranges-are (cells_of file) c.memory) ∙ same.fits)
+
         outs-are : (c : Called) (l : Left ℤ) → SameCall file c l → take (length (outputs_of file)) (drop outs_at l.cells) ≡ outputs_in out_ports c.memory
         outs-are c l same =
             let ports = stand runs.formed in

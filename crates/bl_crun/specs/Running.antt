@@ -1,5 +1,5 @@
 -- What a runner shows, and what its ticks do to it.
-use Rattle.std.specs.Prelude.{ℕ, ◌-◌, ◌^◌, min, ℤ, Bool, true, false, List, map, slice_set, Option, Some, None, option_map}
+use Rattle.std.specs.Prelude.{◌≡◌, ℕ, ◌-◌, ◌^◌, min, ℤ, Bool, true, false, List, map, slice_set, Option, Some, None, option_map}
 use Rattle.bl_tree.specs.declared.row.Column.{Column}
 use Rattle.bl_tree.specs.declared.scalar.Scalar.{Scalar}
 use Rattle.bl_cmeaning.specs.Cells.{inputs_of}
@@ -64,6 +64,12 @@ abbrev pub unless_trapped : Tick → List ℤ → List ℤ → List ℤ
 unless_trapped Row outputs before = outputs
 unless_trapped Ended outputs before = outputs
 unless_trapped Trap outputs before = before
+
+-- a row of outputs that a tick has filled has a number for each output, in the range of its type
+abbrev pub OutputsFit : List Column → Tick → List ℤ → Type 0
+OutputsFit outs Row numbers = in_ranges (types_of outs) numbers ≡ true
+OutputsFit outs Ended numbers = in_ranges (types_of outs) numbers ≡ true
+OutputsFit outs Trap numbers = Unit {0}
 
 -- a runner's tick with a row of inputs: what it replies, the runner after it, the row of outputs, and how many statements it executed
 abbrev pub reply_at : Running → List ℤ → Reply

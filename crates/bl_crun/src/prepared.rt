@@ -1,12 +1,13 @@
 //! What a runner keeps of its file, and the calls of the start and of ticks.
 
 ghost use Rattle.std.specs.Prelude.{◌≡◌, [], ◌∷◌, ℕ, ◌+◌, ◌<◌, pos, true, length, replicate, IfErr, IfOk};
+ghost use Rattle.bl_cfit.specs.Fitting.{in_ranges};
 ghost use Rattle.bl_cmeaning.specs.Parts.{parts_of};
 ghost use Rattle.bl_cmeaning.specs.Sizes.{cells_needed};
 ghost use Rattle.bl_cmeaning.specs.Trace.{start_c};
 ghost use Rattle.bl_crun.specs.Cause.{IsCause, Runs};
 ghost use Rattle.bl_crun.specs.Prepared.{Keeps, Ticked, numbers_in, outputs_in, state_of};
-ghost use Rattle.bl_crun.specs.Running.{row_fits, unless_trapped};
+ghost use Rattle.bl_crun.specs.Running.{OutputsFit, row_fits, types_of, unless_trapped};
 
 use crate::call::{Called, call};
 use crate::fault::{LoadFault, needed};
@@ -140,7 +141,9 @@ pub fn do_tick(file: &CFile, prepared: &mut Prepared, ins: &Row) -> Called
 pub fn tell(prepared: &Prepared, answer: Tick, outs: &mut Row)
     requires within { (k : ℕ) → k < length prepared.now.outputs → prepared.now.output_at + 1 + k < length prepared.now.machine.state.cells }
     requires long { length outs.old ≡ length prepared.now.outputs }
-    ensures { outs.new ≡ unless_trapped answer (outputs_in prepared.now) outs.old }
+    requires ranges { in_ranges (types_of prepared.now.outputs) (outputs_in prepared.now) ≡ true }
+    ensures told { outs.new ≡ unless_trapped answer (outputs_in prepared.now) outs.old }
+    ensures fit { OutputsFit prepared.now.outputs answer outs.new }
 {
     match answer {
         Tick::Trap => {}

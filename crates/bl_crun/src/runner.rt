@@ -46,7 +46,7 @@ impl Model for Runner {
 impl Runner {
     ghost use Rattle.bl_cmeaning.specs.Parts.{parts_of};
     ghost use Rattle.bl_crun.specs.Cause.{IsCause, Runs};
-    ghost use Rattle.bl_crun.specs.Running.{after_tick, answer_of, count_after, loaded, outputs_after, reply_at, row_fits, with_cell};
+    ghost use Rattle.bl_crun.specs.Running.{OutputsFit, after_tick, answer_of, count_after, loaded, outputs_after, reply_at, row_fits, with_cell};
 
     /// Loads a file: clears its cells and does its start. After a fault the file comes back.
     pub fn load(alloc: Global, file: CFile) -> Result<Runner, (CFile, LoadFault)>
@@ -111,6 +111,7 @@ impl Runner {
         ensures answer { result ≡ answer_of (reply_at self.old ins.now) }
         ensures after { self.new ≡ after_tick self.old ins.now }
         ensures outputs { outs.new ≡ outputs_after self.old ins.now outs.old }
+        ensures fit { OutputsFit (outputs_of self.old.parts) result outs.new }
     {
         let mut count = 0;
         self.tick_counted(ins, outs, &mut count)
@@ -124,6 +125,7 @@ impl Runner {
         ensures answer { result ≡ answer_of (reply_at self.old ins.now) }
         ensures after { self.new ≡ after_tick self.old ins.now }
         ensures outputs { outs.new ≡ outputs_after self.old ins.now outs.old }
+        ensures fit { OutputsFit (outputs_of self.old.parts) result outs.new }
         ensures count { count.new ≡ count_after self.old ins.now }
     {
         if !self.ready {

@@ -1,0 +1,18 @@
+//! C texts that are read, loaded and run over rows of inputs (docs/C_SUBSET.md, "Meaning"). There is nothing in this crate
+//! but its tests.
+#![tactic(auto)]
+
+#[cfg(test)]
+mod arithmetic;
+#[cfg(test)]
+mod control;
+#[cfg(test)]
+mod drive;
+#[cfg(test)]
+mod faults;
+#[cfg(test)]
+mod hand;
+#[cfg(test)]
+mod memory;
+#[cfg(test)]
+mod ports;

@@ -1,0 +1,9 @@
+pub mod Ends
+pub mod Fits
+pub mod PieceEnds
+pub mod Reaches
+pub mod Readers
+pub mod RowLoop
+pub mod Steps
+pub mod Texts
+pub mod Traces
