@@ -1,4 +1,5 @@
 pub mod AwaitLemmas
+pub mod BranchLemmas
 pub mod ExprOpening
 pub mod FileLemmas
 pub mod ItemOpening
@@ -6,9 +7,13 @@ pub mod ListLemmas
 pub mod NestLemmas
 pub mod NumberLemmas
 pub mod PartialLemmas
+pub mod PlacedLemmas
 pub mod PlaceLemmas
 pub mod ReadLemmas
+pub mod SetLemmas
+pub mod SpotLemmas
 pub mod StmtLemmas
 pub mod StmtOpening
 pub mod TokenLemmas
+pub mod WalkLemmas
 pub mod WordLemmas

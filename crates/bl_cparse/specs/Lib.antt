@@ -1,4 +1,5 @@
 pub mod Awaiting
+pub mod HasPlaces
 pub mod Nest
 pub mod Partial
 pub mod Parts

@@ -4,8 +4,10 @@
 mod make;
 mod make_stmt;
 mod parser;
+mod placing;
 mod reader;
 mod refusal;
+mod room;
 
 pub use parser::parse;
 pub use refusal::CRefusal;

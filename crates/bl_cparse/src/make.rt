@@ -7,6 +7,7 @@ ghost use Rattle.bl_ctext.specs.Names.{is_name, is_callee};
 ghost use Rattle.bl_ctext.specs.Spelling.{literal_tokens, operator_sign, call_tokens, index_front, root_tokens, if_any, expr_tokens, kind_tokens, place_tokens, step_tokens, index_tokens, ccall_tokens, arg_tokens};
 ghost use Rattle.bl_ctext.specs.Spellable.{is_literal, is_c_operator, is_length, none_or, spells_expr, spells_kind, spells_place, spells_step, spells_index, spells_call, spells_arg};
 
+use crate::room::fitted;
 use bl_tree::c::{CArg, CCall, CExpr, CExprKind, CIndex, CPlace, CStep};
 use bl_tree::{Box, List, Op, Place, Scalar, Text};
 
@@ -56,7 +57,10 @@ pub fn call(name: Text, args: List<CArg>) -> CCall
     ensures tokens { ccall_tokens result ≡ call_tokens name (map arg_tokens args) }
     ensures spells { spells_call result ≡ is_callee name && all_of (map spells_arg args) }
 {
-    CCall { name, args }
+    CCall {
+        name,
+        args: fitted(args),
+    }
 }
 
 pub fn value(value: CExpr) -> CArg
@@ -80,7 +84,7 @@ pub fn place(through: bool, name: Text, steps: List<CStep>) -> CPlace
     CPlace {
         through,
         name,
-        steps,
+        steps: fitted(steps),
     }
 }
 

@@ -3,24 +3,31 @@
 
 mod expr;
 mod item;
-mod literal;
+pub mod literal;
 #[tactic(auto, using(crate::proofs::TokenLemmas::name_word, crate::proofs::TokenLemmas::struct_name_word, crate::proofs::TokenLemmas::function_name_word, crate::proofs::TokenLemmas::callee_word, crate::proofs::TokenLemmas::turn_name_word))]
 mod name;
 mod place;
 mod stmt;
 
-ghost use Rattle.std.specs.Prelude.{◌≡◌, ◌≢◌, ℕ, ◌<◌, ◌≤◌, List, ◌++◌, length, drop, slice_index, IfOk, IfErr, IsErrAnd};
+ghost use Rattle.std.specs.Prelude.{◌≡◌, ◌≢◌, ℕ, ◌<◌, ◌≤◌, List, ◌++◌, length, drop, slice_index, IsTrue, IfOk, IfErr, IsErrAnd};
 ghost use Rattle.bl_ctext.specs.Prelude.{prelude};
 ghost use Rattle.bl_ctext.specs.declared.prelude.TheConstants.{PRELUDE};
+ghost use Rattle.bl_ctext.specs.Spelling.{tokens_of};
+ghost use Rattle.bl_ctext.specs.Spellable.{is_spellable};
 ghost use Rattle.bl_ctext.specs.SpellsC.{SpellsC};
 ghost use Rattle.bl_csyntax.specs.Rules.{Passes};
+ghost use Rattle.bl_cparse.specs.HasPlaces.{HasPlaces};
 ghost use Rattle.bl_cparse.specs.Places.{LeavesPrelude, RefusesAt, RefusesNone, SpellsNone};
 ghost use Rattle.bl_cparse.specs.Reading.{WantsMemory};
 
+use crate::placing;
+use crate::placing::Spot;
 use crate::reader::Reader;
 use crate::refusal::CRefusal;
 use bl_csyntax::check;
 use bl_ctext::{CFile, PRELUDE};
+use bl_tree::c::{CFunc, CStruct};
+use bl_tree::{List, NoMemory};
 use std::alloc::Global;
 
 /// How many brackets may be open at once.
@@ -30,6 +37,7 @@ pub const MOST_OPEN: u32 = 2_000;
 pub fn parse(alloc: Global, text: &[u8]) -> Result<CFile, CRefusal>
     requires { length text.now ≤ 67108864 }
     ensures file { IfOk result (λ file. SpellsC file text.now) }
+    ensures placed { IfOk result (λ file. HasPlaces text.now file) }
     ensures prelude { ((rest : List ℕ) → text.now ≢ prelude ++ rest) → IsErrAnd result (LeavesPrelude text.now) }
     ensures place { (rest : List ℕ) → text.now ≡ prelude ++ rest → SpellsNone text.now → IsErrAnd result (RefusesAt text.now) }
     ensures none { IfErr result (RefusesNone text.now) }
@@ -61,6 +69,7 @@ fn behind_prelude(alloc: Global, text: &[u8]) -> Result<CFile, CRefusal>
     requires long { length PRELUDE.now ≤ length text.now }
     requires begins { text.now ≡ prelude ++ drop (length PRELUDE.now) text.now }
     ensures file { IfOk result (λ file. SpellsC file text.now) }
+    ensures placed { IfOk result (λ file. HasPlaces text.now file) }
     ensures place { SpellsNone text.now → IsErrAnd result (RefusesAt text.now) }
     ensures none { IfErr result (RefusesNone text.now) }
 {
@@ -81,11 +90,54 @@ fn read(alloc: Global, text: &[u8]) -> Result<CFile, CRefusal>
     requires begins { text.now ≡ prelude ++ drop (length PRELUDE.now) text.now }
     requires passes { Passes text.now (length PRELUDE.now) }
     ensures file { IfOk result (λ file. SpellsC file text.now) }
+    ensures placed { IfOk result (λ file. HasPlaces text.now file) }
     ensures memory { IfErr result WantsMemory }
 {
     let mut reader = Reader::new(alloc, text, PRELUDE.len());
     let structs = item::structs(&mut reader)?;
     let funcs = item::funcs(&mut reader)?;
+    let file = placed(alloc, text, structs, funcs)?;
+    Ok(file)
+}
+
+/// The file of these structs and functions, with the places of all parts. The readers set each as they go, and the test
+/// makes sure of it.
+fn placed(
+    alloc: Global,
+    text: &[u8],
+    structs: List<CStruct>,
+    funcs: List<CFunc>,
+) -> Result<CFile, NoMemory>
+    requires short { length text.now ≤ 67108864 }
+    requires long { length PRELUDE.now ≤ length text.now }
+    requires spellable { IsTrue (is_spellable structs funcs) }
+    ensures placed { IfOk result (λ file. HasPlaces text.now file) }
+    ensures tokens { IfOk result (λ file. tokens_of file.structs file.funcs ≡ tokens_of structs funcs) }
+{
+    let mut spot = Spot::new(text, PRELUDE.len());
+    if placing::are_set(&mut spot, &structs, &funcs) {
+        return Ok(CFile { structs, funcs });
+    }
+    let file = replaced(alloc, text, structs, funcs)?;
+    Ok(file)
+}
+
+/// The same, with each place set anew.
+fn replaced(
+    alloc: Global,
+    text: &[u8],
+    structs: List<CStruct>,
+    funcs: List<CFunc>,
+) -> Result<CFile, NoMemory>
+    requires short { length text.now ≤ 67108864 }
+    requires long { length PRELUDE.now ≤ length text.now }
+    requires spellable { IsTrue (is_spellable structs funcs) }
+    ensures placed { IfOk result (λ file. HasPlaces text.now file) }
+    ensures tokens { IfOk result (λ file. tokens_of file.structs file.funcs ≡ tokens_of structs funcs) }
+{
+    let mut spot = Spot::new(text, PRELUDE.len());
+    let structs = placing::structs(alloc, &mut spot, structs)?;
+    let funcs = placing::funcs(alloc, &mut spot, funcs)?;
     Ok(CFile { structs, funcs })
 }
 

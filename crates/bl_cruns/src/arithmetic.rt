@@ -1,6 +1,6 @@
 //! What the functions of the prelude, the operators and the literals give.
 
-use crate::drive::{END, INIT, TICK, row, run, text, trap};
+use crate::drive::{END, INIT, Seen, TICK, loaded, next, row, trap};
 use std::alloc::Global;
 use std::process::Abort;
 use std::test::Fail;
@@ -10,6 +10,14 @@ fn structs(alloc: Global, left: &str, right: &str, value: &str) -> Result<String
     Ok(format!(in alloc;
         "struct bl_state {{ bool n; }}; struct bl_in {{ uint8_t pad; {left} i_a; {right} i_b; }}; struct bl_out {{ uint8_t pad; {value} o_r; }}; "
     )?)
+}
+
+/// What is seen of an assignment of a value, or of one that traps.
+fn value_of(expected: Option<i128>) -> Seen {
+    match expected {
+        Some(n) => row(n, 2),
+        None => trap(0, 1),
+    }
 }
 
 /// An expression over the inputs of these structs gives this for these numbers; none where it traps.
@@ -22,16 +30,10 @@ fn has(
     expected: Option<i128>,
 ) -> Result<(), Fail> {
     let (a, b) = numbers;
-    let text = text(
-        alloc,
-        &[structs, INIT, TICK, "(*o).o_r = ", expr, "; ", END],
-    )?;
-    let seen = run(alloc, &text, &[&[a, b]])?;
-    let expected = match expected {
-        Some(n) => row(n, 2),
-        None => trap(0, 1),
-    };
-    assert_eq!(rt; seen.as_slice(), [expected].as_slice(), "{expr} {a} {b}");
+    let parts = [structs, INIT, TICK, "(*o).o_r = ", expr, "; ", END];
+    let mut driven = loaded(alloc, &parts)?;
+    let seen = next(alloc, &mut driven, &[a, b])?;
+    assert_eq!(rt; seen, value_of(expected), "{expr} {a} {b}");
     Ok(())
 }
 
@@ -54,7 +56,7 @@ static WORDS: [(&str, &str); 12] = [
 /// The C type of a function's result.
 fn type_of(name: &str) -> Result<&'static str, Fail> {
     for (word, ty) in WORDS.iter() {
-        if name.ends_with(word) {
+        if name.as_bytes().ends_with(word.as_bytes()) {
             return Ok(ty);
         }
     }
@@ -178,21 +180,31 @@ static OF_TWO: [(&str, i128, i128, Option<i128>); 95] = [
     ("shr_b64", NAT64, 64, Some(0)),
 ];
 
+/// A function of both inputs gives this.
+fn gives_two(
+    rt: &impl Abort,
+    alloc: Global,
+    name: &str,
+    numbers: (i128, i128),
+    expected: Option<i128>,
+) -> Result<(), Fail> {
+    let ty = type_of(name)?;
+    let structs = structs(alloc, ty, ty, ty)?;
+    let call = format!(in alloc; "bl_{name}((*i).i_a, (*i).i_b)")?;
+    has(
+        rt,
+        alloc,
+        structs.as_str(),
+        call.as_str(),
+        numbers,
+        expected,
+    )
+}
+
 #[test]
 fn functions_of_two_numbers_give_what_their_types_say(rt: HostRuntime) -> Result<(), Fail> {
-    let alloc = rt.alloc();
     for (name, a, b, expected) in OF_TWO.iter() {
-        let ty = type_of(name)?;
-        let structs = structs(alloc, ty, ty, ty)?;
-        let call = format!(in alloc; "bl_{name}((*i).i_a, (*i).i_b)")?;
-        has(
-            &rt,
-            alloc,
-            structs.as_str(),
-            call.as_str(),
-            (*a, *b),
-            *expected,
-        )?;
+        gives_two(&rt, rt.alloc(), name, (*a, *b), *expected)?;
     }
     Ok(())
 }

@@ -1,8 +1,7 @@
 //! Loops, branches and calls.
 
-use crate::drive::{END, INIT, STRUCTS, TICK, ended, file, gives, row, text, trap};
+use crate::drive::{END, INIT, STRUCTS, TICK, between, ended, file_of, gives, row, trap};
 use bl_crun::{LoadFault, check};
-use bl_tree::Place;
 use std::alloc::{AllocError, Global};
 use std::test::Fail;
 
@@ -15,9 +14,9 @@ const COUNTING: &str = "{ uint32_t t1 = 0; while (((*s).n < (*i).i_a)) { t1 = bl
 fn a_loop_has_65536_turns_at_most(rt: HostRuntime) -> Result<(), Fail> {
     let alloc = rt.alloc();
     let parts = [STRUCTS, INIT, TICK, COUNTING, END];
-    let most: [&[i128]; 3] = [&[0], &[65_536], &[65_537]];
+    let rows: [&[i128]; 3] = [&[0], &[65_536], &[65_537]];
     let seen = [row(0, 3), row(65_536, 131_075), row(65_537, 5)];
-    gives(&rt, alloc, &parts, &most, &seen)?;
+    gives(&rt, alloc, &parts, &rows, &seen)?;
     gives(&rt, alloc, &parts, &[&[65_537]], &[trap(0, 131_074)])
 }
 
@@ -102,49 +101,61 @@ fn three_hundred_functions_call_one_another(rt: HostRuntime) -> Result<(), Fail>
     gives(&rt, alloc, &parts, &[&[5]], &[row(303, 301)])
 }
 
+/// Why the file of these parts can't be loaded.
+fn fault_of(alloc: Global, parts: &[&str]) -> Result<Option<LoadFault>, Fail> {
+    let file = file_of(alloc, parts)?;
+    Ok(check(alloc, &file).err())
+}
+
 #[test]
 fn one_function_more_is_refused(rt: HostRuntime) -> Result<(), Fail> {
     let alloc = rt.alloc();
     let funcs = chain(alloc, 299)?;
-    let before = text(alloc, &[STRUCTS, funcs.as_str(), INIT])?.len();
     let body = "(*o).o_r = f299((*i).i_a); return UINT32_C(0); }";
-    let whole = text(alloc, &[STRUCTS, funcs.as_str(), INIT, TICK, body])?;
-    let at = Place {
-        start: u32::try_from(before)?,
-        end: u32::try_from(whole.len())?,
-    };
-    let found = check(alloc, &file(alloc, &whole)?);
-    assert_eq!(rt; found, Err(LoadFault::IllFormed { at }));
+    let before = [STRUCTS, funcs.as_str(), INIT];
+    let whole = [STRUCTS, funcs.as_str(), INIT, TICK, body];
+    let at = between(alloc, &before, &whole)?;
+    assert_eq!(rt; fault_of(alloc, &whole)?, Some(LoadFault::IllFormed { at }));
     Ok(())
 }
 
-/// This text so many times.
-fn repeated(alloc: Global, part: &str, count: usize) -> Result<String, AllocError> {
+/// The middle, with so many times the front before it and as many times the back behind it.
+struct Nest {
+    front: &'static str,
+    middle: &'static str,
+    back: &'static str,
+    count: u32,
+}
+
+fn nested(alloc: Global, nest: &Nest) -> Result<String, AllocError> {
     let mut text = String::new(alloc);
-    for _ in 0..count {
-        text.push_str(part)?;
+    for _ in 0..nest.count {
+        text.push_str(nest.front)?;
+    }
+    text.push_str(nest.middle)?;
+    for _ in 0..nest.count {
+        text.push_str(nest.back)?;
     }
     Ok(text)
 }
 
+const BRANCHES: Nest = Nest {
+    front: "if (((*i).i_a == INT32_C(1))) { ",
+    middle: "(*o).o_r = INT32_C(7); ",
+    back: "} ",
+    count: 1900,
+};
+
 #[test]
 fn branches_nest_deep(rt: HostRuntime) -> Result<(), Fail> {
-    let alloc = rt.alloc();
-    let front = repeated(alloc, "if (((*i).i_a == INT32_C(1))) { ", 1900)?;
-    let back = repeated(alloc, "} ", 1900)?;
-    let set = "(*o).o_r = INT32_C(7); ";
-    let parts = [STRUCTS, INIT, TICK, front.as_str(), set, back.as_str(), END];
-    gives(
-        &rt,
-        alloc,
-        &parts,
-        &[&[1], &[0]],
-        &[row(7, 1902), row(7, 2)],
-    )
+    let body = nested(rt.alloc(), &BRANCHES)?;
+    let parts = [STRUCTS, INIT, TICK, body.as_str(), END];
+    let seen = [row(7, 1902), row(7, 2)];
+    gives(&rt, rt.alloc(), &parts, &[&[1], &[0]], &seen)
 }
 
-/// So many loops, each in the one before it.
-fn loops(alloc: Global, count: u32) -> Result<String, AllocError> {
+/// So many loops, each in the one before it, with this in the last.
+fn loops(alloc: Global, count: u32, inner: &str) -> Result<String, AllocError> {
     let mut text = String::new(alloc);
     for k in 0..count {
         let front = format!(in alloc;
@@ -152,55 +163,51 @@ fn loops(alloc: Global, count: u32) -> Result<String, AllocError> {
         )?;
         text.push_str(front.as_str())?;
     }
+    text.push_str(inner)?;
+    for _ in 0..count {
+        text.push_str("} } ")?;
+    }
     Ok(text)
 }
 
 #[test]
 fn return_leaves_deep_loops(rt: HostRuntime) -> Result<(), Fail> {
-    let alloc = rt.alloc();
-    let front = loops(alloc, 950)?;
-    let back = repeated(alloc, "} } ", 950)?;
     let leave = "(*o).o_r = INT32_C(7); return UINT32_C(1); ";
-    let parts = [
-        STRUCTS,
-        INIT,
-        TICK,
-        front.as_str(),
-        leave,
-        back.as_str(),
-        END,
-    ];
-    gives(&rt, alloc, &parts, &[&[1]], &[ended(7, 1902)])
+    let body = loops(rt.alloc(), 950, leave)?;
+    let parts = [STRUCTS, INIT, TICK, body.as_str(), END];
+    gives(&rt, rt.alloc(), &parts, &[&[1]], &[ended(7, 1902)])
 }
+
+const SUMS: Nest = Nest {
+    front: "bl_add_i32(INT32_C(1), ",
+    middle: "(*i).i_a",
+    back: ")",
+    count: 1900,
+};
+
+const NOTS: Nest = Nest {
+    front: "(!",
+    middle: "((*i).i_a == INT32_C(3))",
+    back: ")",
+    count: 1900,
+};
 
 #[test]
 fn expressions_nest_deep(rt: HostRuntime) -> Result<(), Fail> {
-    let alloc = rt.alloc();
-    let sum = repeated(alloc, "bl_add_i32(INT32_C(1), ", 1900)?;
-    let nots = repeated(alloc, "(!", 1900)?;
-    let back = repeated(alloc, ")", 1900)?;
-    let (set, value, test) = ("(*o).o_r = ", "(*i).i_a", "; if (");
-    let (same, block) = ("((*i).i_a == INT32_C(3))", ") { (*s).n = (*o).o_r; } ");
+    let sum = nested(rt.alloc(), &SUMS)?;
+    let test = nested(rt.alloc(), &NOTS)?;
+    let (set, branch, block) = ("(*o).o_r = ", "; if (", ") { (*s).n = (*o).o_r; } ");
     let parts = [
         STRUCTS,
         INIT,
         TICK,
         set,
         sum.as_str(),
-        value,
-        back.as_str(),
-        test,
-        nots.as_str(),
-        same,
-        back.as_str(),
+        branch,
+        test.as_str(),
         block,
         END,
     ];
-    gives(
-        &rt,
-        alloc,
-        &parts,
-        &[&[3], &[4]],
-        &[row(1903, 4), row(1904, 3)],
-    )
+    let seen = [row(1903, 4), row(1904, 3)];
+    gives(&rt, rt.alloc(), &parts, &[&[3], &[4]], &seen)
 }

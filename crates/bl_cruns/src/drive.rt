@@ -1,11 +1,9 @@
 //! Texts that are loaded and driven over rows of inputs, and what is seen of their ticks.
 
-ghost use Rattle.std.specs.Prelude.{◌≡◌, length};
-
 use bl_cparse::parse;
 use bl_crun::{Runner, Tick};
 use bl_ctext::{CFile, PRELUDE};
-use bl_tree::Row;
+use bl_tree::{Place, Row};
 use std::alloc::{AllocError, Global};
 use std::process::Abort;
 use std::test::Fail;
@@ -70,26 +68,50 @@ pub fn trap(out: i128, count: u128) -> Seen {
     }
 }
 
+// By itself, since each function in which these thousands of bytes stand takes long to prove.
+fn prelude(alloc: Global) -> Result<Vec<u8>, AllocError> {
+    Vec::from_slice(alloc, PRELUDE)
+}
+
 /// The prelude and these texts behind it.
-pub fn text(alloc: Global, parts: &[&str]) -> Result<Vec<u8>, AllocError> {
-    let mut text = Vec::from_slice(alloc, PRELUDE)?;
+fn text(alloc: Global, parts: &[&str]) -> Result<Vec<u8>, AllocError> {
+    let mut text = prelude(alloc)?;
     for part in parts {
         text.extend_from_slice(part.as_bytes())?;
     }
     Ok(text)
 }
 
+/// How many bytes the text of these parts has.
+fn length(alloc: Global, parts: &[&str]) -> Result<u32, Fail> {
+    let text = text(alloc, parts)?;
+    Ok(u32::try_from(text.len())?)
+}
+
+/// What stands between the end of one text and that of a longer one.
+pub fn between(alloc: Global, before: &[&str], until: &[&str]) -> Result<Place, Fail> {
+    let start = length(alloc, before)?;
+    let end = length(alloc, until)?;
+    Ok(Place { start, end })
+}
+
 /// The file of a text.
-pub fn file(alloc: Global, text: &[u8]) -> Result<CFile, Fail> {
+fn file(alloc: Global, text: &[u8]) -> Result<CFile, Fail> {
     if text.len() > LONGEST {
         return Err(Fail::new("too long"));
     }
     Ok(parse(alloc, text)?)
 }
 
-/// The runner of a text.
-pub fn load(alloc: Global, text: &[u8]) -> Result<Runner, Fail> {
-    match Runner::load(alloc, file(alloc, text)?) {
+/// The file of the text of these parts.
+pub fn file_of(alloc: Global, parts: &[&str]) -> Result<CFile, Fail> {
+    let text = text(alloc, parts)?;
+    file(alloc, &text)
+}
+
+/// The runner of a file.
+fn load(alloc: Global, file: CFile) -> Result<Runner, Fail> {
+    match Runner::load(alloc, file) {
         Ok(runner) => Ok(runner),
         Err((_, fault)) => Err(Fail::new(format_args!("{fault:?}"))),
     }
@@ -106,38 +128,80 @@ pub fn row_of(alloc: Global, numbers: &[i128]) -> Result<Row, Fail> {
 }
 
 /// A row of zeros for the outputs.
-pub fn outputs_of(alloc: Global, runner: &Runner) -> Result<Row, Fail> {
+fn outputs_of(alloc: Global, runner: &Runner) -> Result<Row, Fail> {
     let few = runner.outputs().len().min(100) as u32;
     Ok(Row::new(alloc, few)?)
 }
 
-/// Does one more tick.
-pub fn tick(runner: &mut Runner, ins: &Row, outs: &mut Row) -> Result<Seen, Fail> {
-    let long = outs.len();
-    if !runner.live() || !runner.fits(ins) || long as usize != runner.outputs().len() {
+/// A text that runs.
+#[derive(Drop)]
+pub struct Driven {
+    pub runner: Runner,
+    /// The outputs of the last tick that didn't trap.
+    pub outs: Row,
+}
+
+/// The text of these parts before its first tick.
+pub fn loaded(alloc: Global, parts: &[&str]) -> Result<Driven, Fail> {
+    let runner = load(alloc, file_of(alloc, parts)?)?;
+    let outs = outputs_of(alloc, &runner)?;
+    Ok(Driven { runner, outs })
+}
+
+/// Does a tick, and tells how many statements it executed.
+fn answer(runner: &mut Runner, ins: &Row, outs: &mut Row) -> Result<(Tick, u128), Fail> {
+    if !runner.live() || !runner.fits(ins) || outs.len() as usize != runner.outputs().len() {
         return Err(Fail::new("no tick can be done"));
     }
     let mut count = 0;
     let answer = runner.tick_counted(ins, outs, &mut count);
-    if outs.len() == 0 {
+    Ok((answer, count))
+}
+
+fn first(row: &Row) -> Result<i128, Fail> {
+    if row.len() == 0 {
         return Err(Fail::new("no output"));
     }
+    Ok(row.at(0))
+}
+
+/// Does one more tick.
+fn tick(driven: &mut Driven, ins: &Row) -> Result<Seen, Fail> {
+    let (answer, count) = answer(&mut driven.runner, ins, &mut driven.outs)?;
+    let out = first(&driven.outs)?;
+    let live = driven.runner.live();
     Ok(Seen {
         answer,
-        out: outs.at(0),
+        out,
         count,
-        live: runner.live(),
+        live,
     })
 }
 
+/// Does one more tick over these numbers.
+pub fn next(alloc: Global, driven: &mut Driven, numbers: &[i128]) -> Result<Seen, Fail> {
+    let ins = row_of(alloc, numbers)?;
+    tick(driven, &ins)
+}
+
+/// Does one more tick over these numbers, and appends what is seen of it.
+fn append(
+    alloc: Global,
+    driven: &mut Driven,
+    numbers: &[i128],
+    seen: &mut Vec<Seen>,
+) -> Result<(), Fail> {
+    let tick = next(alloc, driven, numbers)?;
+    seen.push(tick)?;
+    Ok(())
+}
+
 /// What is seen of a tick for each of the rows.
-pub fn run(alloc: Global, text: &[u8], rows: &[&[i128]]) -> Result<Vec<Seen>, Fail> {
-    let mut runner = load(alloc, text)?;
-    let mut outs = outputs_of(alloc, &runner)?;
+fn run(alloc: Global, parts: &[&str], rows: &[&[i128]]) -> Result<Vec<Seen>, Fail> {
+    let mut driven = loaded(alloc, parts)?;
     let mut seen = Vec::new(alloc);
     for numbers in rows {
-        let ins = row_of(alloc, numbers)?;
-        seen.push(tick(&mut runner, &ins, &mut outs)?)?;
+        append(alloc, &mut driven, numbers, &mut seen)?;
     }
     Ok(seen)
 }
@@ -150,16 +214,7 @@ pub fn gives(
     rows: &[&[i128]],
     expected: &[Seen],
 ) -> Result<(), Fail> {
-    let seen = run(alloc, &text(alloc, parts)?, rows)?;
+    let seen = run(alloc, parts, rows)?;
     assert_eq!(rt; seen.as_slice(), expected, "{parts:?}");
     Ok(())
-}
-
-/// The numbers of all cells.
-pub fn numbers(alloc: Global, runner: &Runner) -> Result<Vec<i128>, Fail> {
-    let mut numbers = Vec::new(alloc);
-    for k in 0..runner.cells() {
-        numbers.push(runner.cell(k))?;
-    }
-    Ok(numbers)
 }

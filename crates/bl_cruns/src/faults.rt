@@ -1,27 +1,48 @@
 //! Texts that spell a file which isn't loaded.
 
-use crate::drive::{file, load, text};
+use crate::drive::{between, file_of, loaded};
 use crate::hand::{INIT, STRUCTS, TICK};
 use bl_crun::{LoadFault, Runner, check};
-use bl_ctext::print;
-use bl_tree::Place;
+use bl_ctext::{CFile, print};
 use std::alloc::Global;
 use std::process::Abort;
 use std::test::Fail;
 
+fn printed(alloc: Global, file: &CFile) -> Result<Vec<u8>, Fail> {
+    match print(alloc, file) {
+        Ok(text) => Ok(text),
+        Err(_) => Err(Fail::new("memory")),
+    }
+}
+
+/// The file as it comes back, and why it isn't loaded.
+fn refused(alloc: Global, file: CFile) -> Result<(CFile, LoadFault), Fail> {
+    match Runner::load(alloc, file) {
+        Ok(_) => Err(Fail::new("loaded")),
+        Err(refused) => Ok(refused),
+    }
+}
+
+/// The file isn't loaded for this cause, and comes back.
+fn comes_back(
+    rt: &impl Abort,
+    alloc: Global,
+    file: CFile,
+    expected: LoadFault,
+) -> Result<(), Fail> {
+    let before = printed(alloc, &file)?;
+    let (back, fault) = refused(alloc, file)?;
+    assert_eq!(rt; fault, expected);
+    let after = printed(alloc, &back)?;
+    assert_eq!(rt; after.as_slice(), before.as_slice());
+    Ok(())
+}
+
 /// The file of these parts isn't loaded for this cause, and comes back.
 fn fails(rt: &impl Abort, alloc: Global, parts: &[&str], expected: LoadFault) -> Result<(), Fail> {
-    let text = text(alloc, parts)?;
-    let first = file(alloc, &text)?;
-    assert_eq!(rt; check(alloc, &first), Err(expected));
-    let printed = print(alloc, &first).ok().ok_or("memory")?;
-    let Err((back, fault)) = Runner::load(alloc, first) else {
-        return Err(Fail::new("loaded"));
-    };
-    assert_eq!(rt; fault, expected);
-    let again = print(alloc, &back).ok().ok_or("memory")?;
-    assert_eq!(rt; again.as_slice(), printed.as_slice());
-    Ok(())
+    let file = file_of(alloc, parts)?;
+    assert_eq!(rt; check(alloc, &file), Err(expected));
+    comes_back(rt, alloc, file, expected)
 }
 
 /// The hand text's structs, with these members last in the state.
@@ -43,21 +64,18 @@ fn sixteen_long_rows_are_too_large(rt: HostRuntime) -> Result<(), Fail> {
 // The hand text has three pointers beside the five cells of its objects.
 #[test]
 fn a_million_cells_are_enough(rt: HostRuntime) -> Result<(), Fail> {
-    let alloc = rt.alloc();
-    let most = state_with(alloc, "struct row r[15]; uint8_t z[16952];")?;
-    let runner = load(alloc, &text(alloc, &[most.as_str(), INIT, TICK])?)?;
-    assert_eq!(rt; runner.cells(), 999_997);
-    let more = state_with(alloc, "struct row r[15]; uint8_t z[16953];")?;
-    let fault = LoadFault::TooLarge { cells: 1_000_001 };
-    fails(&rt, alloc, &[more.as_str(), INIT, TICK], fault)
+    let structs = state_with(rt.alloc(), "struct row r[15]; uint8_t z[16952];")?;
+    let driven = loaded(rt.alloc(), &[structs.as_str(), INIT, TICK])?;
+    assert_eq!(rt; driven.runner.cells(), 999_997);
+    Ok(())
 }
 
-/// What stands between these two parts of a text.
-fn between(alloc: Global, before: &[&str], until: &[&str]) -> Result<Place, Fail> {
-    Ok(Place {
-        start: u32::try_from(text(alloc, before)?.len())?,
-        end: u32::try_from(text(alloc, until)?.len())?,
-    })
+#[test]
+fn one_cell_more_is_too_large(rt: HostRuntime) -> Result<(), Fail> {
+    let alloc = rt.alloc();
+    let structs = state_with(alloc, "struct row r[15]; uint8_t z[16953];")?;
+    let fault = LoadFault::TooLarge { cells: 1_000_001 };
+    fails(&rt, alloc, &[structs.as_str(), INIT, TICK], fault)
 }
 
 #[test]

@@ -1,8 +1,10 @@
 //! A state that is divided by each input: the number 5, and a run that ends at 0.
 
-use crate::drive::{ended, gives, load, numbers, outputs_of, row, row_of, run, text, tick, trap};
+use crate::cells::{Left, hold, leaves};
+use crate::drive::{Driven, Seen, ended, gives, loaded, next, row, row_of, trap};
 use bl_crun::{Runner, Tick};
 use bl_tree::{Row, Scalar, Width};
+use std::alloc::{AllocError, Global};
 use std::test::Fail;
 
 pub const STRUCTS: &str = "struct bl_state { int32_t n; };
@@ -40,43 +42,62 @@ fn a_division_by_zero_traps_and_leaves_the_outputs(rt: HostRuntime) -> Result<()
     )
 }
 
+/// A start that divides by zero.
+const TRAPPING: &str =
+    "void bl_init(struct bl_state *s) { (*s).n = bl_div_i32(INT32_C(5), (*s).n); } ";
+
 #[test]
 fn a_start_that_traps_shows_at_the_first_tick(rt: HostRuntime) -> Result<(), Fail> {
-    let alloc = rt.alloc();
-    let init = "void bl_init(struct bl_state *s) { (*s).n = bl_div_i32(INT32_C(5), (*s).n); } ";
-    let text = text(alloc, &[STRUCTS, init, TICK])?;
-    let runner = load(alloc, &text)?;
-    assert!(rt; !runner.ready());
-    assert!(rt; runner.live());
-    let seen = run(alloc, &text, &[&[2]])?;
-    assert_eq!(rt; seen.as_slice(), [trap(0, 0)].as_slice());
+    let mut driven = loaded(rt.alloc(), &[STRUCTS, TRAPPING, TICK])?;
+    assert!(rt; !driven.runner.ready());
+    assert!(rt; driven.runner.live());
+    let seen = next(rt.alloc(), &mut driven, &[2])?;
+    assert_eq!(rt; seen, trap(0, 0));
     Ok(())
+}
+
+/// The text before its first tick.
+pub fn hand(alloc: Global) -> Result<Driven, Fail> {
+    loaded(alloc, &[STRUCTS, INIT, TICK])
+}
+
+/// The tick over 2.
+const HALVED: Left<'static> = Left {
+    ins: 2,
+    seen: Seen {
+        answer: Tick::Row,
+        out: 2,
+        count: 4,
+        live: true,
+    },
+    cells: &[2, 0, 2, 0, 2],
+};
+
+#[test]
+fn cells_stand_in_order(rt: HostRuntime) -> Result<(), Fail> {
+    let mut driven = hand(rt.alloc())?;
+    assert!(rt; driven.runner.ready());
+    hold(&rt, rt.alloc(), &driven, &[5, 0, 0, 0, 0])?;
+    leaves(&rt, rt.alloc(), &mut driven, &HALVED)
 }
 
 const INT: Scalar = Scalar::Int(Width::W32);
 
 const BYTE: Scalar = Scalar::Nat(Width::W8);
 
-#[test]
-fn cells_stand_in_order_with_their_types(rt: HostRuntime) -> Result<(), Fail> {
-    let alloc = rt.alloc();
-    let mut runner = load(alloc, &text(alloc, &[STRUCTS, INIT, TICK])?)?;
-    assert!(rt; runner.ready());
-    assert_eq!(rt;
-        numbers(alloc, &runner)?.as_slice(),
-        [5, 0, 0, 0, 0].as_slice()
-    );
-    let mut outs = outputs_of(alloc, &runner)?;
-    let seen = tick(&mut runner, &row_of(alloc, &[2])?, &mut outs)?;
-    assert_eq!(rt; seen, row(2, 4));
-    assert_eq!(rt;
-        numbers(alloc, &runner)?.as_slice(),
-        [2, 0, 2, 0, 2].as_slice()
-    );
+/// The types of all cells.
+fn kinds(alloc: Global, runner: &Runner) -> Result<Vec<Scalar>, AllocError> {
     let mut kinds = Vec::new(alloc);
     for k in 0..runner.cells() {
         kinds.push(runner.kind(k))?;
     }
+    Ok(kinds)
+}
+
+#[test]
+fn cells_have_their_types(rt: HostRuntime) -> Result<(), Fail> {
+    let driven = hand(rt.alloc())?;
+    let kinds = kinds(rt.alloc(), &driven.runner)?;
     assert_eq!(rt; kinds.as_slice(), [INT, BYTE, INT, BYTE, INT].as_slice());
     Ok(())
 }
@@ -94,24 +115,25 @@ fn put(runner: &mut Runner, k: u32, n: i128) -> Result<(), Fail> {
     Ok(())
 }
 
+/// The tick over 3 where the state is 9.
+const DIVIDED: Left<'static> = Left {
+    ins: 3,
+    seen: Seen {
+        answer: Tick::Row,
+        out: 3,
+        count: 4,
+        live: true,
+    },
+    cells: &[3, 0, 3, 0, 3],
+};
+
 #[test]
 fn a_tick_goes_on_from_what_was_put(rt: HostRuntime) -> Result<(), Fail> {
-    let alloc = rt.alloc();
-    let mut runner = load(alloc, &text(alloc, &[STRUCTS, INIT, TICK])?)?;
-    let mut outs = outputs_of(alloc, &runner)?;
-    tick(&mut runner, &row_of(alloc, &[2])?, &mut outs)?;
-    put(&mut runner, 0, 9)?;
-    assert_eq!(rt;
-        numbers(alloc, &runner)?.as_slice(),
-        [9, 0, 2, 0, 2].as_slice()
-    );
-    let seen = tick(&mut runner, &row_of(alloc, &[3])?, &mut outs)?;
-    assert_eq!(rt; seen, row(3, 4));
-    assert_eq!(rt;
-        numbers(alloc, &runner)?.as_slice(),
-        [3, 0, 3, 0, 3].as_slice()
-    );
-    Ok(())
+    let mut driven = hand(rt.alloc())?;
+    leaves(&rt, rt.alloc(), &mut driven, &HALVED)?;
+    put(&mut driven.runner, 0, 9)?;
+    hold(&rt, rt.alloc(), &driven, &[9, 0, 2, 0, 2])?;
+    leaves(&rt, rt.alloc(), &mut driven, &DIVIDED)
 }
 
 /// Does a tick that isn't counted.
@@ -122,19 +144,17 @@ fn plain_tick(runner: &mut Runner, ins: &Row, outs: &mut Row) -> Result<Tick, Fa
     Ok(runner.tick(ins, outs))
 }
 
+/// The same over this number.
+fn plain_next(alloc: Global, driven: &mut Driven, n: i128) -> Result<Tick, Fail> {
+    let ins = row_of(alloc, &[n])?;
+    plain_tick(&mut driven.runner, &ins, &mut driven.outs)
+}
+
 #[test]
 fn a_tick_may_go_uncounted(rt: HostRuntime) -> Result<(), Fail> {
-    let alloc = rt.alloc();
-    let mut runner = load(alloc, &text(alloc, &[STRUCTS, INIT, TICK])?)?;
-    let mut outs = outputs_of(alloc, &runner)?;
-    let first = plain_tick(&mut runner, &row_of(alloc, &[-2])?, &mut outs)?;
-    assert_eq!(rt; first, Tick::Row);
-    let second = plain_tick(&mut runner, &row_of(alloc, &[7])?, &mut outs)?;
-    assert_eq!(rt; second, Tick::Ended);
-    assert!(rt; !runner.live());
-    assert_eq!(rt;
-        numbers(alloc, &runner)?.as_slice(),
-        [0, 0, 7, 0, 0].as_slice()
-    );
-    Ok(())
+    let mut driven = hand(rt.alloc())?;
+    assert_eq!(rt; plain_next(rt.alloc(), &mut driven, -2)?, Tick::Row);
+    assert_eq!(rt; plain_next(rt.alloc(), &mut driven, 7)?, Tick::Ended);
+    assert!(rt; !driven.runner.live());
+    hold(&rt, rt.alloc(), &driven, &[0, 0, 7, 0, 0])
 }

@@ -5,6 +5,8 @@
 #[cfg(test)]
 mod arithmetic;
 #[cfg(test)]
+mod cells;
+#[cfg(test)]
 mod control;
 #[cfg(test)]
 mod drive;

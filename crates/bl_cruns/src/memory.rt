@@ -1,6 +1,7 @@
 //! Structs, arrays, pointers and variables.
 
-use crate::drive::{INIT, Seen, TICK, load, numbers, outputs_of, row, row_of, text, tick, trap};
+use crate::cells::{Left, leaves};
+use crate::drive::{INIT, TICK, loaded, row, trap};
 use std::alloc::Global;
 use std::process::Abort;
 use std::test::Fail;
@@ -17,23 +18,11 @@ static void put(struct pair *p, int32_t k, int32_t x) { store(&(*p).b[bl_ix_s(k,
 static void copy(struct pair *to, struct pair *from) { (*to) = (*from); }
 ";
 
-/// A tick with this body leaves this, and these numbers in the cells.
-#[derive(Clone, Copy)]
-struct Left<'a> {
-    ins: i128,
-    seen: Seen,
-    cells: &'a [i128],
-}
-
 /// The ticks of this body leave this, one after the other.
 fn leave(rt: &impl Abort, alloc: Global, body: &str, ticks: &[Left<'_>]) -> Result<(), Fail> {
-    let text = text(alloc, &[STRUCTS, FUNCTIONS, INIT, TICK, body, " }"])?;
-    let mut runner = load(alloc, &text)?;
-    let mut outs = outputs_of(alloc, &runner)?;
+    let mut driven = loaded(alloc, &[STRUCTS, FUNCTIONS, INIT, TICK, body, " }"])?;
     for left in ticks {
-        let seen = tick(&mut runner, &row_of(alloc, &[left.ins])?, &mut outs)?;
-        assert_eq!(rt; seen, left.seen, "{body}");
-        assert_eq!(rt; numbers(alloc, &runner)?.as_slice(), left.cells, "{body}");
+        leaves(rt, alloc, &mut driven, left)?;
     }
     Ok(())
 }
@@ -95,18 +84,22 @@ static TRAPPING: [(&str, u128); 7] = [
     ),
 ];
 
+/// This statement traps behind another, and leaves what stood before it.
+fn traps(rt: &impl Abort, alloc: Global, stmt: &str, count: u128) -> Result<(), Fail> {
+    let body = format!(in alloc; "(*s).n = INT32_C(6); {stmt} return UINT32_C(0);")?;
+    let left = Left {
+        ins: 3,
+        seen: trap(0, count),
+        cells: &[0, 0, 0, 0, 0, 0, 0, 0, 0, 6, 0, 3, 0, 0],
+    };
+    leave(rt, alloc, body.as_str(), &[left])
+}
+
 // The places of an assignment come before its expression, and what stands left before what stands right.
 #[test]
 fn what_comes_before_a_trap_stays(rt: HostRuntime) -> Result<(), Fail> {
-    let alloc = rt.alloc();
     for (stmt, count) in TRAPPING.iter() {
-        let body = format!(in alloc; "(*s).n = INT32_C(6); {stmt} return UINT32_C(0);")?;
-        let left = Left {
-            ins: 3,
-            seen: trap(0, *count),
-            cells: &[0, 0, 0, 0, 0, 0, 0, 0, 0, 6, 0, 3, 0, 0],
-        };
-        leave(&rt, alloc, body.as_str(), &[left])?;
+        traps(&rt, rt.alloc(), stmt, *count)?;
     }
     Ok(())
 }

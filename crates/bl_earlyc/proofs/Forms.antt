@@ -18,7 +18,7 @@ use Rattle.bl_earlyc.proofs.Functions.{file-faultless}
 use Rattle.bl_earlyc.proofs.Slots.{distinct-take, distinct-drop}
 use Rattle.bl_earlyc.proofs.Typed.{steps-typed}
 
-body-fits : (unit : UnitDef) (entry : ℕ) → program.Keeps [] (unit ∷ []) entry → list_all (fits (site_of [] [] unit)) unit.body ≡ true
+pub body-fits : (unit : UnitDef) (entry : ℕ) → program.Keeps [] (unit ∷ []) entry → list_all (fits (site_of [] [] unit)) unit.body ≡ true
 body-fits unit entry keeps =
     let stands : program.unit_stands [] [] unit ≡ true = and-fst (program.unit_stands [] [] unit) true keeps.units_stand in
     and-fst _ _ (and-snd (list_all (λ var. type_stands 0 var.ty) unit.vars) _ (and-snd _ _ stands))

@@ -126,10 +126,11 @@ module _ (unit : UnitDef) (steps : List Step) (named : list_all is_named_var uni
     returns = refl;
   }
 
+  activity-fine : Each (Fine activity_context) activity.body
+  activity-fine = body-fine activity_context refl now-judged counter-judged (c_ports unit) unit.vars ports-have steps typed
+
   activity-faultless : faults_in_function structs no_entries no_entries false activity ≡ []
-  activity-faultless =
-      function-faultless structs no_entries no_entries 0 false activity none-bounded (omega arith) activity-heads
-      (body-fine activity_context refl now-judged counter-judged (c_ports unit) unit.vars ports-have steps typed)
+  activity-faultless = function-faultless structs no_entries no_entries 0 false activity none-bounded (omega arith) activity-heads activity-fine
 
   -- ---- bl_init
 
@@ -153,10 +154,16 @@ module _ (unit : UnitDef) (steps : List Step) (named : list_all is_named_var uni
       (steps-judged init_context (judged_step (c_step (codes "c0"))) [] (Some (OfStruct (frame_name unit))) counting counting
       (step-judged init_context (codes "c0") (frame_name unit) (member_table (c_frame unit)) counting frame-known refl) refl))
 
+  init-fine : Each (Fine init_context) c_init.body
+  init-fine = (
+    set-fine init_context (c_target (codes "s") (c_step (codes "m_0") ∷ c_step (codes "c0") ∷ [])) (c_count 0) true counting refl refl begun-judged (literal-judged init_context (Nat W32) (pos 0)),
+    tt,
+  )
+
   init-faultless : faults_in_function structs first_functions first_depths true c_init ≡ []
   init-faultless =
       function-faultless structs first_functions first_depths 1 true c_init first-bounded (omega arith) (record { new = refl; distinct = refl; declared = refl; scalars = refl; static = refl; returns = refl })
-      (set-fine init_context (c_target (codes "s") (c_step (codes "m_0") ∷ c_step (codes "c0") ∷ [])) (c_count 0) true counting refl refl begun-judged (literal-judged init_context (Nat W32) (pos 0)), tt)
+      init-fine
 
   -- ---- bl_tick
 
@@ -200,12 +207,14 @@ module _ (unit : UnitDef) (steps : List Step) (named : list_all is_named_var uni
   tick-heads : Heads structs second_functions true tick
   tick-heads = record { new = refl; distinct = refl; declared = refl; scalars = refl; static = refl; returns = returning-returns (c_count 0) }
 
+  tick-fine : Each (Fine tick_context) tick.body
+  tick-fine = (
+    calling-fine tick_context (c_call (activity_name unit) c_tick_args) (signature_in activity) called-judged,
+    (returning-fine tick_context (c_count 0) (Nat W32) refl refl (literal-judged tick_context (Nat W32) (pos 0)), tt),
+  )
+
   tick-faultless : faults_in_function structs second_functions second_depths true tick ≡ []
-  tick-faultless =
-      function-faultless structs second_functions second_depths 2 true tick second-bounded (omega arith) tick-heads (
-        calling-fine tick_context (c_call (activity_name unit) c_tick_args) (signature_in activity) called-judged,
-        (returning-fine tick_context (c_count 0) (Nat W32) refl refl (literal-judged tick_context (Nat W32) (pos 0)), tt),
-      )
+  tick-faultless = function-faultless structs second_functions second_depths 2 true tick second-bounded (omega arith) tick-heads tick-fine
 
   -- ---- the file
 
@@ -218,3 +227,14 @@ module _ (unit : UnitDef) (steps : List Step) (named : list_all is_named_var uni
   pub file-faultless : faults_in (parts_from (c_structs unit) (c_funcs unit steps)) ≡ []
   unfolding faults_in
   file-faultless = ap₂ (λ xs ys. xs ++ (ys ++ [])) (four-faultless unit named ins outs) functions-faultless
+
+  -- ---- no function has a counter
+
+  pub activity-counterless : counters_in_block activity.body ≡ []
+  activity-counterless = block-counterless activity_context activity.body activity-fine
+
+  pub init-counterless : counters_in_block c_init.body ≡ []
+  init-counterless = block-counterless init_context c_init.body init-fine
+
+  pub tick-counterless : counters_in_block tick.body ≡ []
+  tick-counterless = block-counterless tick_context tick.body tick-fine

@@ -5,6 +5,7 @@ pub mod Columns
 pub mod Forms
 pub mod Functions
 pub mod Judged
+pub mod Sizes
 pub mod Slots
 pub mod Stretches
 pub mod Structs

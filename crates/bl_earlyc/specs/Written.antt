@@ -1,5 +1,5 @@
 -- The C file that is written for a program of the form: its trace, its columns and its form.
-use Rattle.std.specs.Prelude.{◌≡◌, ℤ, List, [], ◌∷◌, map, length, unwrap_or, All}
+use Rattle.std.specs.Prelude.{◌≡◌, ◌≤◌, ℤ, List, [], ◌∷◌, map, length, unwrap_or, All}
 use Rattle.bl_tree.specs.declared.row.Column.{Column}
 use Rattle.bl_tree.specs.declared.scalar.Scalar.TheVariants.{Bool as OfBool}
 use Rattle.bl_tree.specs.declared.tree.Unit.{Unit as UnitDef}
@@ -8,6 +8,7 @@ use Rattle.bl_tree.specs.Types.{scalar_in}
 use Rattle.bl_cmeaning.specs.Cells.{inputs_of, outputs_of}
 use Rattle.bl_cmeaning.specs.Faults.{WellFormed}
 use Rattle.bl_cmeaning.specs.Parts.{Parts, parts_from}
+use Rattle.bl_cmeaning.specs.Sizes.{cells_needed}
 use Rattle.bl_cmeaning.specs.Trace.{c_trace}
 use Rattle.bl_early.specs.Built.{loop_steps}
 use Rattle.bl_early.specs.Emitted.{c_structs, c_funcs, ins_of, outs_of}
@@ -52,3 +53,10 @@ WrittenColumns _ = Unit {0}
 abbrev pub WrittenWellFormed : List UnitDef → Type 0
 WrittenWellFormed (unit ∷ []) = WellFormed (written unit)
 WrittenWellFormed _ = Unit {0}
+
+-- ---- its cells
+
+-- the file of a program that has one unit alone needs at most a million cells
+abbrev pub WrittenIsSmall : List UnitDef → Type 0
+WrittenIsSmall (unit ∷ []) = cells_needed (written unit) ≤ 1000000
+WrittenIsSmall _ = Unit {0}

@@ -5,7 +5,7 @@
 
 ghost use Rattle.std.specs.Prelude.{IsTrue};
 ghost use Rattle.bl_early.specs.Form.{is_early};
-ghost use Rattle.bl_earlyc.specs.Written.{WrittenColumns, WrittenTrace, WrittenWellFormed};
+ghost use Rattle.bl_earlyc.specs.Written.{WrittenColumns, WrittenIsSmall, WrittenTrace, WrittenWellFormed};
 
 use bl_tree::Program;
 
@@ -25,4 +25,10 @@ pub fn written_columns(_program: &Program)
 pub fn written_is_well_formed(_program: &Program)
     requires { IsTrue (is_early _program.now.structs _program.now.units) }
     ensures { WrittenWellFormed _program.now.units }
+{}
+
+/// The C file of a program of the form needs at most 1,000,000 cells, so that it can be run.
+pub fn written_is_small(_program: &Program)
+    requires { IsTrue (is_early _program.now.structs _program.now.units) }
+    ensures { WrittenIsSmall _program.now.units }
 {}

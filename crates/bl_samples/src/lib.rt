@@ -1,5 +1,5 @@
-//! Source texts and what the program answers to each (docs/LANGUAGE.md, "Rules" and "What is built"). There is nothing in
-//! this crate but its tests.
+//! Source and C texts, and what the program answers to each (docs/LANGUAGE.md, "Rules" and "What is built";
+//! docs/FORMATS.md). There is nothing in this crate but its tests.
 #![tactic(auto)]
 
 #[cfg(test)]

@@ -16,6 +16,17 @@ pub struct Answer {
     pub out: SureSink,
 }
 
+/// The status that the program ends with.
+fn status_of(
+    alloc: Global,
+    words: &[String],
+    files: &mut MemFiles,
+    out: &mut SureSink,
+    notes: &mut SureSink,
+) -> u8 {
+    blechc(alloc, words, files, out, notes).code()
+}
+
 /// Builds a text.
 pub fn built(alloc: Global, text: &[u8]) -> Result<Answer, Fail> {
     let mut files = MemFiles::new(alloc);
@@ -25,7 +36,7 @@ pub fn built(alloc: Global, text: &[u8]) -> Result<Answer, Fail> {
     words.push(String::from_str(alloc, "text")?)?;
     let mut out = SureSink::new(alloc);
     let mut notes = SureSink::new(alloc);
-    let status = blechc(alloc, &words, &mut files, &mut out, &mut notes).code();
+    let status = status_of(alloc, &words, &mut files, &mut out, &mut notes);
     Ok(Answer { status, notes, out })
 }
 

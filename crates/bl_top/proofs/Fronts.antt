@@ -1,7 +1,5 @@
 -- A source is read one byte past the longest that is accepted: what is judged of that front holds of the whole.
-use Rattle.std.proofs.Common.{◌≡◌, ℕ, ◌<◌, Bool, false, List, take, length, min, refl, sym, ap, subst, ◌∙◌, inl, inr, arith}
-use Rattle.std.proofs.lemmas.Bool.{cases_lt}
-use Rattle.std.proofs.lemmas.List.{length-take, take_all}
+use Rattle.std.proofs.Common.{◌≡◌, ℕ, ◌<◌, Bool, true, false, List, take, length, refl, sym, ap, subst, ◌∙◌, inl, inr, arith}
 use Rattle.std.specs.Prelude.{◌⊎◌, Option, Some, None}
 use Rattle.bl_io.specs.Left.{GivesUpTo}
 use Rattle.bl_lex.specs.Rules.{FailsFirst, FailsSize, Passes, IsRefusalOf as IsLexRefusalOf}
@@ -20,28 +18,24 @@ use Rattle.bl_tree.specs.declared.place.Place.{Place}
 use Rattle.bl_tree.specs.declared.place.Refusal.{Refusal}
 use Rattle.bl_tree.specs.declared.place.Refusal.TheVariants.{Rule, NoMemory}
 use Rattle.bl_types.specs.Rules.{Passes as TypesPass}
-use Rattle.bl_top.specs.Build.{Leaves, source_limit}
+use Rattle.bl_top.specs.Calls.{Count, HasRisen}
+use Rattle.bl_top.specs.Notes.{chosen_line, line_in}
+use Rattle.bl_top.specs.Reads.{source_limit}
 use Rattle.bl_top.specs.declared.outcome.Outcome.{Outcome}
 use Rattle.bl_top.specs.declared.status.Status.{Status}
 use Rattle.bl_top.specs.declared.status.Status.TheVariants as status
-use Rattle.bl_top.proofs.Ends.{leaves_as, left_nothing, refused_is_no_end, want_is_no_end}
-use Rattle.bl_top.specs.Refusals.{AcceptedText, IsJudged, IsRefusalOf, IsRefusedBy, IsTreeRefusalOf, RefusedBy, RefusedText, done, lexer, refusal_line, short, syntax, tree, typing, unbuilt, units as failing_units, unwritten}
-use Rattle.bl_top.specs.Sources.{HasProgram, HasTree, IsOfNoForm, IsTextOf, IsTextOfParts, IsTextOfTree, IsTreeOf, Parses}
+use Rattle.bl_top.proofs.Cuts.{whole_or_long}
+use Rattle.bl_top.specs.Refusals.{IsRefusalOf, IsRefusedBy, IsTreeRefusalOf, RefusedBy, RefusedText, Stops, lexer, refusal_line, refused as stopped, short as no_memory, syntax, tree, typing, unbuilt as unformed, units as failing_units, unread}
+use Rattle.bl_top.specs.Sources.{HasProgram, HasTree, IsBuilt, IsOfNoForm, IsTextOf, IsTextOfParts, IsTreeOf, Parses}
 use Rattle.bl_raw.specs.declared.raw.Raw.{Raw}
 use Rattle.bl_tree.specs.declared.tree.StructDef.{StructDef}
 use Rattle.bl_tree.specs.declared.tree.Unit.{Unit as UnitDef}
 
--- a front that was cut is too long itself
-long_front : (whole got : List ℕ) → got ≡ take source_limit whole → source_limit < length whole → (1_048_576 < length got) × (1_048_576 < length whole)
-long_front whole got front long =
-    let e : length got ≡ min source_limit (length whole) = ap length front ∙ length-take source_limit whole in
-    (omega (arith, e, long), omega (arith, long))
-
--- the front is the whole, or the whole is too long
+-- the front is the whole, or both have more bytes than may be
 front_or_long : (whole got : List ℕ) → got ≡ take source_limit whole → (whole ≡ got) ⊎ ((1_048_576 < length got) × (1_048_576 < length whole))
-front_or_long whole got front = elim (cases_lt source_limit (length whole)) [
-  | inl beyond ↦ inr (long_front whole got front beyond)
-  | inr within ↦ inl (sym (front ∙ take_all source_limit whole within))
+front_or_long whole got front = elim (whole_or_long source_limit whole got front) [
+  | inl same ↦ inl same
+  | inr long ↦ inr (omega (arith, long.0), omega (arith, long.1))
 ]
 
 -- ---- what is accepted
@@ -56,8 +50,15 @@ tree_of : (before : Option (List ℕ)) (got : List ℕ) (after : Option (List �
 tree_of None got after raw read has = record { source = got; of_source = tt; has = has }
 tree_of (Some whole) got after raw read has = record { source = got; of_source = whole_of_passing whole got read.front has.passes; has = has }
 
-pub accepted_text : (before : Option (List ℕ)) (got : List ℕ) (after : Option (List ℕ)) (program : Program) → GivesUpTo source_limit before got after → HasProgram got program → AcceptedText before
-accepted_text before got after program read made = record { raw = made.raw; tree = tree_of before got after made.raw read made.has }
+-- the program of a front is that of the whole
+pub is_built : (before : Option (List ℕ)) (got : List ℕ) (after : Option (List ℕ)) (program : Program) → GivesUpTo source_limit before got after → HasProgram got program →
+    is_early program.structs program.units ≡ true → IsBuilt before program
+is_built None got after program read made form = record { source = got; of_source = tt; has = made; form = form }
+is_built (Some whole) got after program read made form =
+    record { source = got; of_source = whole_of_passing whole got read.front made.has.passes; has = made; form = form }
+
+pub tree_built : (left : Option (List ℕ)) (program : Program) (built : IsBuilt left program) → IsTreeOf left built.has.raw
+tree_built left program built = record { source = built.source; of_source = built.of_source; has = built.has.has }
 
 -- the form of a program is that of its structs and units
 form_of : (b : Bool) (structs structs' : List StructDef) (units units' : List UnitDef) → structs ≡ structs' → units ≡ units' → is_early structs units ≡ b → is_early structs' units' ≡ b
@@ -78,18 +79,14 @@ text_of_tree text structs structs' units units' entry entry' s u e is =
     subst (λ n. IsTextOfParts structs' units' n text) e (subst (λ us. IsTextOfParts structs' us entry text) u (subst (λ ss. IsTextOfParts ss units entry text) s is))
 
 -- and so for the source
-text_of_source : (left : Option (List ℕ)) (got : List ℕ) (rest : Option (List ℕ)) (program : Program) (text : List ℕ) → GivesUpTo source_limit left got rest → HasProgram got program →
-    IsTextOfParts program.structs program.units program.entry text → IsTextOf left text
-text_of_source left got rest program text read made is = record {
-  raw = made.raw;
-  tree = tree_of left got rest made.raw read made.has;
-  is = text_of_tree text program.structs (typed_of made.raw).structs program.units (typed_of made.raw).units program.entry (typed_of made.raw).entry made.is.structs made.is.units made.is.entry is;
-}
-
-pub text_leaves : (left : Option (List ℕ)) (got : List ℕ) (rest : Option (List ℕ)) (program : Program) (before after : Option (List ℕ)) (ended : Status) → GivesUpTo source_limit left got rest → HasProgram got program →
-    Leaves (IsTextOfParts program.structs program.units program.entry) before ended after → Leaves (IsTextOf left) before ended after
-text_leaves left got rest program before after ended read made leaves =
-    leaves_as (IsTextOfParts program.structs program.units program.entry) (IsTextOf left) before after ended (λ text is. text_of_source left got rest program text read made is) leaves
+pub text_of_source : (left : Option (List ℕ)) (program : Program) (text : List ℕ) → IsBuilt left program → IsTextOfParts program.structs program.units program.entry text → IsTextOf left text
+text_of_source left program text built is =
+    let made = built.has in
+    record {
+      raw = made.raw;
+      tree = tree_built left program built;
+      is = text_of_tree text program.structs (typed_of made.raw).structs program.units (typed_of made.raw).units program.entry (typed_of made.raw).entry made.is.structs made.is.units made.is.entry is;
+    }
 
 -- ---- what is refused
 
@@ -168,46 +165,22 @@ program_that_passes text raw program passes parses names types units is =
 pub tree_parsed : (text : List ℕ) (tokens : List Token) (raw : Raw) → Lexes text tokens → SyntaxPasses tokens → Spells text tokens raw → Parses text raw
 tree_parsed text tokens raw lexes nests spells = record { tokens = tokens; lexes = lexes; passes = nests; spells = spells }
 
--- ---- ends of a job whose source was judged
+-- ---- ends of a job at its source
 
--- what is written of a source that passes is no refusal
-pub judged_unrefused : {A : Type 0} (ended : Status) → IsJudged ended → ended ≡ status.Refused → A
-judged_unrefused _ done e = absurd cc
-judged_unrefused _ unbuilt e = absurd cc
-judged_unrefused _ unwritten e = absurd cc
-judged_unrefused _ short e = absurd cc
+pub stops_short : (before : Option (List ℕ)) (file : Count) (ended : Status) (own : List ℕ) → ended ≡ status.NoMemory → Stops before file ended (chosen_line ended own)
+stops_short before file ended own none = rw none no_memory
 
--- nor do its words ask for no job, and it was read
-pub judged_is_used : {A : Type 0} (ended : Status) → IsJudged ended → ended ≡ status.Usage → A
-judged_is_used _ done e = absurd cc
-judged_is_used _ unbuilt e = absurd cc
-judged_is_used _ unwritten e = absurd cc
-judged_is_used _ short e = absurd cc
-
-pub judged_was_read : {A : Type 0} (ended : Status) → IsJudged ended → ended ≡ status.ReadFault → A
-judged_was_read _ done e = absurd cc
-judged_was_read _ unbuilt e = absurd cc
-judged_was_read _ unwritten e = absurd cc
-judged_was_read _ short e = absurd cc
-
--- nothing stands on `out` of a source that is refused
-pub refused_leaves : (IsResult : List ℕ → Type 0) (held : Option (List ℕ)) (refusal : Refusal) (outcome : Outcome) → IsRefusedBy refusal outcome → Leaves IsResult held outcome.status held
-refused_leaves IsResult held (Rule number place also) outcome by = elim by [
-  | inl refused ↦ left_nothing IsResult held outcome.status status.Refused refused.0 refused_is_no_end
-  | inr none ↦ left_nothing IsResult held outcome.status status.NoMemory none want_is_no_end
+pub stops_refused : (before : Option (List ℕ)) (got : List ℕ) (after : Option (List ℕ)) (file : Count) (refusal : Refusal) (outcome : Outcome) →
+    GivesUpTo source_limit before got after → IsRefusalOf got refusal → IsRefusedBy refusal outcome → Stops before file outcome.status (line_in outcome)
+stops_refused before got after file (Rule number place also) outcome read is by = elim by [
+  | inl told ↦ rw told.0 (stopped (refused_text before got after number place also outcome.line.items read is told.1))
+  | inr none ↦ stops_short before file outcome.status outcome.line.items none
 ]
-refused_leaves IsResult held NoMemory outcome none = left_nothing IsResult held outcome.status status.NoMemory none want_is_no_end
+stops_refused before got after file NoMemory outcome read is none = stops_short before file outcome.status outcome.line.items none
 
--- nor was its form judged
-pub refused_is_formed : {A : Type 0} (refusal : Refusal) (outcome : Outcome) → IsRefusedBy refusal outcome → outcome.status ≡ status.Unbuilt → A
-refused_is_formed (Rule number place also) outcome by e = absurd (elim by [ inl refused ↦ (let h = sym refused.0 ∙ e in cc) | inr none ↦ (let h = sym none ∙ e in cc) ])
-refused_is_formed NoMemory outcome none e = absurd (let h = sym none ∙ e in cc)
+pub stops_unread : (before : Option (List ℕ)) (file : Count) (ended : Status) (own : List ℕ) → ended ≡ status.ReadFault → HasRisen file → Stops before file ended (chosen_line ended own)
+stops_unread before file ended own e risen = rw e (unread risen)
 
-pub refused_source : (before : Option (List ℕ)) (got : List ℕ) (after : Option (List ℕ)) (refusal : Refusal) (outcome : Outcome) →
-    GivesUpTo source_limit before got after → IsRefusalOf got refusal → IsRefusedBy refusal outcome → outcome.status ≡ status.Refused →
-    RefusedText before outcome.refusal.items
-refused_source before got after (Rule number place also) outcome read is by e = elim by [
-  | inl refused ↦ refused_text before got after number place also outcome.refusal.items read is refused.1
-  | inr none ↦ absurd (let h = sym none ∙ e in cc)
-]
-refused_source before got after NoMemory outcome read is none e = absurd (let h = sym none ∙ e in cc)
+pub stops_unbuilt : (before : Option (List ℕ)) (got : List ℕ) (after : Option (List ℕ)) (file : Count) (program : Program) (ended : Status) (own : List ℕ) →
+    GivesUpTo source_limit before got after → HasProgram got program → is_early program.structs program.units ≡ false → ended ≡ status.Unbuilt → Stops before file ended (chosen_line ended own)
+stops_unbuilt before got after file program ended own read made none e = rw e (unformed (unbuilt_text before got after program read made none))

@@ -4,7 +4,7 @@ use Rattle.std.proofs.lemmas.List.{drop-map, get_or-drop}
 use Rattle.std.proofs.lemmas.Bool.Decides.{nat_tests}
 use Rattle.std.specs.Prelude.{Option, Some, None, ◌==◌, slice_index_or}
 use Rattle.bl_io.specs.Held.{Appends, AppendsPart}
-use Rattle.bl_top.specs.Causes.{Count, HasRisen}
+use Rattle.bl_top.specs.Calls.{Count, HasRisen}
 use Rattle.bl_top.specs.Notes.{Written, whole, fault, want, chosen_line, has_line}
 use Rattle.bl_top.specs.declared.status.Status.{Status}
 use Rattle.bl_top.specs.declared.status.Status.TheVariants as status
@@ -31,7 +31,11 @@ is_empty_from_test (byte ∷ line) b e t = let h : (length (byte ∷ line) == 0)
 pub has_line_from_test : (ended : Status) (own line : List ℕ) (b : Bool) → line ≡ chosen_line ended own → b ≡ (length line == 0) → b ≡ false → has_line ended ≡ true
 has_line_from_test status.Ok own line b is e f = let e' = subst (λ l. b ≡ (length l == 0)) is e in cc
 has_line_from_test status.WriteFault own line b is e f = let e' = subst (λ l. b ≡ (length l == 0)) is e in cc
+has_line_from_test status.Trapped own line b is e f = let e' = subst (λ l. b ≡ (length l == 0)) is e in cc
 has_line_from_test status.Refused own line b is e f = refl
+has_line_from_test status.BadRows own line b is e f = refl
+has_line_from_test status.NotSubset own line b is e f = refl
+has_line_from_test status.TooLarge own line b is e f = refl
 has_line_from_test status.Usage own line b is e f = refl
 has_line_from_test status.ReadFault own line b is e f = refl
 has_line_from_test status.NoMemory own line b is e f = refl

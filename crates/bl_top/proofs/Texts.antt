@@ -1,22 +1,22 @@
--- The C text of a program of the form has the one trace of the program.
+-- The C file of a program of the form has the one trace of the program.
 use Rattle.std.proofs.Common.{◌≡◌, ℕ, zero, suc, ◌+◌, ℤ, List, [], ◌∷◌, Bool, true, false, ◌&&◌, refl, sym, ◌∙◌, ap, subst, length, arith}
 use Rattle.std.proofs.lemmas.List.{length-take-le}
 use Rattle.std.proofs.lemmas.List.Elements.{All-cons, All-nil}
 use Rattle.std.proofs.lemmas.Bool.Decides.{nat_tests}
-use Rattle.std.specs.Prelude.{◌↔◌, Option, Some, None, unwrap_or, nat_eq, slice_get}
+use Rattle.std.specs.Prelude.{◌↔◌, ◌≤◌, Option, Some, None, unwrap_or, nat_eq, slice_get}
 use Rattle.std.specs.List.{list_all}
 use Rattle.bl_cmeaning.specs.Parts.{parts_of}
+use Rattle.bl_cmeaning.specs.Sizes.{cells_needed}
 use Rattle.bl_cmeaning.specs.Trace.{c_trace}
 use Rattle.bl_cmeaning.specs.Cells.{inputs_of as file_inputs, outputs_of as file_outputs}
 use Rattle.bl_cmeaning.specs.Faults.{WellFormed}
 use Rattle.bl_ctext.specs.declared.file.CFile.{CFile}
-use Rattle.bl_ctext.specs.SpellsC.{SpellsC}
 use Rattle.bl_ctree.specs.Means.{Means, Shown, shown}
 use Rattle.bl_early.specs.Built.{loop_steps}
 use Rattle.bl_early.specs.Emitted.{c_funcs_of, c_structs_of}
 use Rattle.bl_early.specs.Form.{Step, is_early, is_early_unit, steps_suit, unit_steps}
 use Rattle.bl_early.specs.Run.{trace_of}
-use Rattle.bl_earlyc.specs.Written.{RowsSuit, WrittenColumns, WrittenTrace, WrittenWellFormed, written}
+use Rattle.bl_earlyc.specs.Written.{RowsSuit, WrittenColumns, WrittenIsSmall, WrittenTrace, WrittenWellFormed, written}
 use Rattle.bl_earlytree.specs.Laws.{Early, EarlyIsBounded, EarlyIsNeverStuck, OneTrace as EarlyHasOneTrace}
 use Rattle.bl_earlytree.specs.Rows.{numbers_fit, row_fits}
 use Rattle.bl_tree.specs.declared.tree.StructDef.{StructDef}
@@ -24,16 +24,16 @@ use Rattle.bl_tree.specs.declared.tree.Unit.{Unit as UnitDef}
 use Rattle.bl_tree.specs.declared.tree.Var.{Var}
 use Rattle.bl_tree.specs.Program.{Keeps, is_entry}
 use Rattle.bl_tree.specs.Typing.{inputs_of}
-use Rattle.bl_top.specs.Sources.{IsTextOfParts}
+use Rattle.bl_top.specs.Sources.{IsFileOfParts}
 use Rattle.bl_top.specs.Traces.{OneTrace}
 
 -- ---- tests
 
-left_holds : (a b : Bool) → (a && b) ≡ true → a ≡ true
+pub left_holds : (a b : Bool) → (a && b) ≡ true → a ≡ true
 left_holds true b e = refl
 left_holds false b e = absurd cc
 
-right_holds : (a b : Bool) → (a && b) ≡ true → b ≡ true
+pub right_holds : (a b : Bool) → (a && b) ≡ true → b ≡ true
 right_holds true b e = e
 right_holds false b e = absurd cc
 
@@ -78,9 +78,10 @@ file_is unit file structs funcs = rw (structs, funcs) refl
 
 one_trace : (unit : UnitDef) (entry : ℕ) (file : CFile) → Early [] (unit ∷ []) entry unit (loop_steps unit) →
     file.structs ≡ c_structs_of (unit ∷ []) → file.funcs ≡ c_funcs_of (unit ∷ []) →
-    EarlyHasOneTrace → EarlyIsBounded → EarlyIsNeverStuck → WrittenTrace (unit ∷ []) → WrittenColumns (unit ∷ []) → WrittenWellFormed (unit ∷ []) → OneTrace [] (unit ∷ []) entry unit file
-one_trace unit entry file early structs funcs one bounded stuck has columns formed = record {
+    EarlyHasOneTrace → EarlyIsBounded → EarlyIsNeverStuck → WrittenTrace (unit ∷ []) → WrittenColumns (unit ∷ []) → WrittenWellFormed (unit ∷ []) → WrittenIsSmall (unit ∷ []) → OneTrace [] (unit ∷ []) entry unit file
+one_trace unit entry file early structs funcs one bounded stuck has columns formed small = record {
   well_formed = subst WellFormed (sym (file_is unit file structs funcs)) formed;
+  small = subst (λ parts. cells_needed parts ≤ 1000000) (sym (file_is unit file structs funcs)) small;
   inputs = ap file_inputs (file_is unit file structs funcs) ∙ columns.inputs;
   outputs = ap file_outputs (file_is unit file structs funcs) ∙ columns.outputs;
   trace = λ rows shows fit. by_trace unit entry rows shows file
@@ -99,21 +100,19 @@ early_of : (unit : UnitDef) (entry : ℕ) → Keeps [] (unit ∷ []) entry → i
 early_of unit entry keeps form =
     record { keeps = keeps; form = form; is_entry = entry_there unit entry keeps.entry_stands; is_loop = steps_there unit form }
 
-pub text_of_parts : (file : CFile) (text : List ℕ) (structs : List StructDef) (units : List UnitDef) (entry : ℕ) → Keeps structs units entry → is_early structs units ≡ true →
-    file.structs ≡ c_structs_of units → file.funcs ≡ c_funcs_of units → SpellsC file text →
-    EarlyHasOneTrace → EarlyIsBounded → EarlyIsNeverStuck → WrittenTrace units → WrittenColumns units → WrittenWellFormed units → IsTextOfParts structs units entry text
-text_of_parts file text (def ∷ structs) units entry keeps form s f spells one bounded stuck has columns formed = absurd cc
-text_of_parts file text [] [] entry keeps form s f spells one bounded stuck has columns formed = absurd cc
-text_of_parts file text [] (unit ∷ other ∷ rest) entry keeps form s f spells one bounded stuck has columns formed = absurd cc
-text_of_parts file text [] (unit ∷ []) entry keeps form s f spells one bounded stuck has columns formed =
+pub file_of_parts : (file : CFile) (structs : List StructDef) (units : List UnitDef) (entry : ℕ) → Keeps structs units entry → is_early structs units ≡ true →
+    file.structs ≡ c_structs_of units → file.funcs ≡ c_funcs_of units →
+    EarlyHasOneTrace → EarlyIsBounded → EarlyIsNeverStuck → WrittenTrace units → WrittenColumns units → WrittenWellFormed units → WrittenIsSmall units → IsFileOfParts structs units entry file
+file_of_parts file (def ∷ structs) units entry keeps form s f one bounded stuck has columns formed small = absurd cc
+file_of_parts file [] [] entry keeps form s f one bounded stuck has columns formed small = absurd cc
+file_of_parts file [] (unit ∷ other ∷ rest) entry keeps form s f one bounded stuck has columns formed small = absurd cc
+file_of_parts file [] (unit ∷ []) entry keeps form s f one bounded stuck has columns formed small =
     let early : Early [] (unit ∷ []) entry unit (loop_steps unit) = early_of unit entry keeps form in
     record {
       form = form;
       unit = unit;
       is_entry = early.is_entry;
-      file = file;
       file_structs = s;
       file_funcs = f;
-      spells = spells;
-      one_trace = one_trace unit entry file early s f one bounded stuck has columns formed;
+      one_trace = one_trace unit entry file early s f one bounded stuck has columns formed small;
     }

@@ -1,31 +1,24 @@
--- What `build` reads, and what it leaves on `out`.
-use Rattle.std.specs.Prelude.{◌≡◌, ◌≢◌, ◌⊎◌, ℕ, List, Option, Some, None}
+-- How `build` ends.
+use Rattle.std.specs.Prelude.{ℕ, List, Option}
 use Rattle.bl_io.specs.Held.{Appends, AppendsPart}
-use Rattle.bl_io.specs.Left.{IsKept, KeepsOthers, StandsFurther}
+use Rattle.bl_io.specs.Left.{IsKept}
+use Rattle.bl_top.specs.Calls.{Call, Count, HasRisen}
+use Rattle.bl_top.specs.Notes.{line_of}
+use Rattle.bl_top.specs.Refusals.{Stops}
 use Rattle.bl_top.specs.Sources.{IsTextOf}
 use Rattle.bl_top.specs.declared.status.Status.{Status}
 use Rattle.bl_top.specs.declared.status.Status.TheVariants as status
-use Rattle.bl_words.specs.Jobs.{JobSpec, Word, build}
+use Rattle.bl_words.specs.Jobs.{Word}
 
--- what `out` holds after a call that ended with the status: where it ended well, the whole of a result grew on it
-pub data Leaves (IsResult : List ℕ → Type 0) : Option (List ℕ) → Status → Option (List ℕ) → Type 0 where
-  all : {before after : Option (List ℕ)} (text : List ℕ) → IsResult text → Appends before text after → Leaves IsResult before status.Ok after
-  -- a write of it failed, and a front of it grew
-  part : {before after : Option (List ℕ)} {ended : Status} (text : List ℕ) → (ended ≡ status.WriteFault) ⊎ (ended ≡ status.NoMemory) →
-      IsResult text → AppendsPart before text after → Leaves IsResult before ended after
-  nothing : {before after : Option (List ℕ)} {ended : Status} → ended ≢ status.Ok → IsKept before after → Leaves IsResult before ended after
+-- a result was to be written: the whole of it grew, or a write of it failed or wanted memory behind a front of it, or memory was
+-- refused before
+pub data Writes (IsResult : List ℕ → Type 0) (out : Count) (before after : Option (List ℕ)) : Status → Type 0 where
+  whole : (text : List ℕ) → IsResult text → Appends before text after → Writes IsResult out before after status.Ok
+  fault : (text : List ℕ) → IsResult text → AppendsPart before text after → HasRisen out → Writes IsResult out before after status.WriteFault
+  want : (text : List ℕ) → IsResult text → AppendsPart before text after → Writes IsResult out before after status.NoMemory
+  nothing : IsKept before after → Writes IsResult out before after status.NoMemory
 
--- the bytes are the result of the job: the C text of the source that it names
-pub record IsResultOf (job : Option JobSpec) (left : Word → Option (List ℕ)) (text : List ℕ) : Type 0 where
-  pub source : Word
-  pub asked : job ≡ Some (build source)
-  pub is : IsTextOf (left source) text
-
--- how far a source is read: one byte past the longest that is accepted
-abbrev pub source_limit : ℕ
-source_limit = 1048577
-
--- the call reads the file that its words name alone, and not past the limit
-abbrev pub ReadsNamed : Option JobSpec → (Word → Option (List ℕ)) → (Word → Option (List ℕ)) → Type 0
-ReadsNamed None before after = (name : Word) → IsKept (before name) (after name)
-ReadsNamed (Some (build source)) before after = StandsFurther source_limit (before source) (after source) × KeepsOthers source before after
+-- the status and the line with which the C text of a source is built
+pub data BuildEnds (c : Call) (source : Word) : Status → List ℕ → Type 0 where
+  written : {ended : Status} → Writes (IsTextOf (c.left source)) c.out c.before c.after ended → BuildEnds c source ended (line_of ended)
+  stopped : {ended : Status} {line : List ℕ} → Stops (c.left source) (c.file source) ended line → IsKept c.before c.after → BuildEnds c source ended line

@@ -1,6 +1,11 @@
+pub mod Answers
 pub mod Build
-pub mod Causes
+pub mod Calls
+pub mod Exec
 pub mod Notes
+pub mod Reads
 pub mod Refusals
+pub mod Rows
+pub mod Run
 pub mod Sources
 pub mod Traces

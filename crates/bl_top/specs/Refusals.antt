@@ -1,5 +1,5 @@
 -- Which rule refuses a source text, and the line that tells it.
-use Rattle.std.specs.Prelude.{◌≡◌, ◌⊎◌, ℕ, List, [], ◌∷◌, ◌++◌, map, length, codes, decimal, slice_index_or, Option, Some, ⊤}
+use Rattle.std.specs.Prelude.{◌≡◌, ℕ, List, [], ◌∷◌, ◌++◌, map, length, codes, decimal, slice_index_or, Option, ⊤}
 use Rattle.bl_effects.specs.Rules.{FailsFirst as UnitsFailFirst}
 use Rattle.bl_lex.specs.Rules.{FailsFirst, Passes}
 use Rattle.bl_lex.specs.Tokens.{Lexes}
@@ -14,12 +14,12 @@ use Rattle.bl_tree.specs.declared.place.Refusal.{Refusal}
 use Rattle.bl_tree.specs.declared.place.Refusal.TheVariants.{Rule, NoMemory}
 use Rattle.bl_tree.specs.Reduce.{joined}
 use Rattle.bl_types.specs.Rules.{Passes as TypesPass}
-use Rattle.bl_io.specs.Held.{Appends}
-use Rattle.bl_top.specs.Sources.{IsSource, IsTreeOf, IsOfNoForm, Parses}
+use Rattle.bl_top.specs.Calls.{Count, HasRisen}
+use Rattle.bl_top.specs.Notes.{IsTold, line_of}
+use Rattle.bl_top.specs.Sources.{IsSource, IsOfNoForm, Parses}
 use Rattle.bl_top.specs.declared.outcome.Outcome.{Outcome}
 use Rattle.bl_top.specs.declared.status.Status.{Status}
 use Rattle.bl_top.specs.declared.status.Status.TheVariants as status
-use Rattle.bl_words.specs.Jobs.{JobSpec, Word, build}
 
 -- ---- the line
 
@@ -88,48 +88,15 @@ pub record RefusedText (left : Option (List ℕ)) (line : List ℕ) : Type 0 whe
   pub by : RefusedBy text number place also
   pub told : line ≡ refusal_line number place also
 
--- no rule decided so far refuses a source
-pub record AcceptedText (left : Option (List ℕ)) : Type 0 where
-  pub raw : Raw
-  pub tree : IsTreeOf left raw
-
--- the job names a source that the line refuses
-pub record RefusedJob (job : Option JobSpec) (left : Word → Option (List ℕ)) (line : List ℕ) : Type 0 where
-  pub source : Word
-  pub asked : job ≡ Some (build source)
-  pub refused : RefusedText (left source) line
-
--- the job names a source of which no rule decided so far fails
-pub record AcceptedJob (job : Option JobSpec) (left : Word → Option (List ℕ)) : Type 0 where
-  pub source : Word
-  pub asked : job ≡ Some (build source)
-  pub accepted : AcceptedText (left source)
-
--- the job names a source of which no rule decided so far fails, and which is in no form that is built
-pub record UnbuiltJob (job : Option JobSpec) (left : Word → Option (List ℕ)) : Type 0 where
-  pub source : Word
-  pub asked : job ≡ Some (build source)
-  pub unbuilt : IsOfNoForm (left source)
-
--- the statuses at which the rules were judged and none failed
-abbrev pub WasAccepted : Status → Type 0
-WasAccepted ended = (ended ≡ status.Ok) ⊎ (ended ≡ status.Unbuilt)
-
--- why a call of these words was refused, and the line that was written of it
-pub record Refuses (job : Option JobSpec) (left : Word → Option (List ℕ)) (before after : Option (List ℕ)) : Type 0 where
-  pub line : List ℕ
-  pub because : RefusedJob job left line
-  pub written : Appends before line after
+-- why a job stops at its source, with the status and the line
+pub data Stops (left : Option (List ℕ)) (file : Count) : Status → List ℕ → Type 0 where
+  refused : {line : List ℕ} → RefusedText left line → Stops left file status.Refused line
+  -- no rule decided so far fails, and the program is in no form that is built
+  unbuilt : IsOfNoForm left → Stops left file status.Unbuilt (line_of status.Unbuilt)
+  unread : HasRisen file → Stops left file status.ReadFault (line_of status.ReadFault)
+  short : Stops left file status.NoMemory (line_of status.NoMemory)
 
 -- how a job ends whose source gets this refusal
 abbrev pub IsRefusedBy : Refusal → Outcome → Type 0
-IsRefusedBy (Rule number place also) outcome =
-    ((outcome.status ≡ status.Refused) × (outcome.refusal.items ≡ refusal_line number place also)) ⊎ (outcome.status ≡ status.NoMemory)
+IsRefusedBy (Rule number place also) outcome = IsTold status.Refused (refusal_line number place also) outcome
 IsRefusedBy NoMemory outcome = outcome.status ≡ status.NoMemory
-
--- the statuses of a job whose source is not refused
-pub data IsJudged : Status → Type 0 where
-  done : IsJudged status.Ok
-  unbuilt : IsJudged status.Unbuilt
-  unwritten : IsJudged status.WriteFault
-  short : IsJudged status.NoMemory

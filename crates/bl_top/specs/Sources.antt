@@ -12,7 +12,8 @@ use Rattle.bl_parse.specs.Programs.{Spells}
 use Rattle.bl_program.specs.Programs.{IsProgramOf, named_of, typed_of}
 use Rattle.bl_raw.specs.declared.raw.Raw.{Raw}
 use Rattle.bl_syntax.specs.Rules.{Passes as SyntaxPasses}
-use Rattle.bl_top.specs.Traces.{OneTrace}
+use Rattle.bl_stream.specs.Streams.{Course}
+use Rattle.bl_top.specs.Traces.{HasCourse, OneTrace}
 use Rattle.bl_tree.specs.declared.program.Program.{Program}
 use Rattle.bl_tree.specs.declared.token.Token.{Token}
 use Rattle.bl_tree.specs.declared.tree.StructDef.{StructDef}
@@ -40,17 +41,21 @@ pub record HasProgram (source : List ℕ) (program : Program) : Type 0 where
   pub has : HasTree source raw
   pub is : IsProgramOf raw program
 
--- the program that has these structs and units and this entry is of the form that is built, and the bytes spell the C file that
--- is defined for it, which has the one trace of the program
-pub record IsTextOfParts (structs : List StructDef) (units : List UnitDef) (entry : ℕ) (text : List ℕ) : Type 0 where
+-- the program that has these structs and units and this entry is of the form that is built, and the C file is the one that is
+-- defined for it, which has the one trace of the program
+pub record IsFileOfParts (structs : List StructDef) (units : List UnitDef) (entry : ℕ) (file : CFile) : Type 0 where
   pub form : is_early structs units ≡ true
   pub unit : UnitDef
   pub is_entry : slice_get units entry ≡ Some unit
-  pub file : CFile
   pub file_structs : file.structs ≡ c_structs_of units
   pub file_funcs : file.funcs ≡ c_funcs_of units
-  pub spells : SpellsC file text
   pub one_trace : OneTrace structs units entry unit file
+
+-- and the bytes spell that file
+pub record IsTextOfParts (structs : List StructDef) (units : List UnitDef) (entry : ℕ) (text : List ℕ) : Type 0 where
+  pub file : CFile
+  pub is : IsFileOfParts structs units entry file
+  pub spells : SpellsC file text
 
 -- the same of the typed program of a tree
 abbrev pub IsTextOfTree : Raw → List ℕ → Type 0
@@ -79,3 +84,16 @@ pub record IsOfNoForm (left : Option (List ℕ)) : Type 0 where
   pub raw : Raw
   pub tree : IsTreeOf left raw
   pub none : is_early (typed_of raw).structs (typed_of raw).units ≡ false
+
+-- no rule decided so far fails for a source, and its typed program is of the form that is built
+pub record IsBuilt (left : Option (List ℕ)) (program : Program) : Type 0 where
+  pub source : List ℕ
+  pub of_source : IsSource left source
+  pub has : HasProgram source program
+  pub form : is_early program.structs program.units ≡ true
+
+-- no rule decided so far fails for a source, and its typed program runs as the course
+pub record RunsAs (left : Option (List ℕ)) (course : Course) : Type 0 where
+  pub raw : Raw
+  pub tree : IsTreeOf left raw
+  pub has : HasCourse (typed_of raw).structs (typed_of raw).units (typed_of raw).entry course

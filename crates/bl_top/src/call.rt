@@ -1,14 +1,15 @@
-ghost use Rattle.std.specs.Prelude.{◌≤◌, ◌≡◌, map, string_bytes};
+ghost use Rattle.std.specs.Prelude.{◌≤◌, map, string_bytes};
 ghost use Rattle.bl_io.specs.Count.{NeverFell};
-ghost use Rattle.bl_top.specs.Build.{IsResultOf, Leaves, ReadsNamed};
-ghost use Rattle.bl_top.specs.Causes.{AnswerCauses, Causes};
-ghost use Rattle.bl_top.specs.Notes.{IsMeant, Noted, line_in};
-ghost use Rattle.bl_top.specs.Refusals.{AcceptedJob, Refuses, UnbuiltJob, WasAccepted};
+ghost use Rattle.bl_top.specs.Answers.{Answered, Answers};
+ghost use Rattle.bl_top.specs.Notes.{line_in};
+ghost use Rattle.bl_top.specs.Reads.{ReadsNamed};
 ghost use Rattle.bl_words.specs.Jobs.{job_of};
 
 use crate::build::build;
+use crate::exec::exec;
 use crate::notes::with_note;
 use crate::outcome::Outcome;
+use crate::run::run;
 use crate::status::Status;
 use bl_io::{Files, Sink};
 use bl_words::Job;
@@ -23,18 +24,15 @@ pub fn blechc<F: Files, O: Sink, N: Sink>(
     out: &mut O,
     notes: &mut N,
 ) -> Status
-    ensures causes { Causes (map string_bytes words.now)
+    ensures answered { Answered (map string_bytes words.now)
         (record {
+          left = F.left files.old;
           file = λ name. record { before = F.faults files.old name; after = F.faults files.new name };
           out = record { before = O.faults out.old; after = O.faults out.new };
-          notes = record { before = N.faults notes.old; after = N.faults notes.new };
-        }) result }
-    ensures out { Leaves (IsResultOf (job_of (map string_bytes words.now)) (F.left files.old)) (O.held out.old) result (O.held out.new) }
-    ensures notes { Noted (map string_bytes words.now) (λ name. record { before = F.faults files.old name; after = F.faults files.new name }) (F.left files.old)
-        (record { before = N.faults notes.old; after = N.faults notes.new }) (N.held notes.old) result (N.held notes.new) }
-    ensures refused { result ≡ Status.Refused → Refuses (job_of (map string_bytes words.now)) (F.left files.old) (N.held notes.old) (N.held notes.new) }
-    ensures accepted { WasAccepted result → AcceptedJob (job_of (map string_bytes words.now)) (F.left files.old) }
-    ensures unbuilt { result ≡ Status.Unbuilt → UnbuiltJob (job_of (map string_bytes words.now)) (F.left files.old) }
+          before = O.held out.old;
+          after = O.held out.new;
+        })
+        (record { before = N.faults notes.old; after = N.faults notes.new }) (N.held notes.old) (N.held notes.new) result }
     ensures files { ReadsNamed (job_of (map string_bytes words.now)) (F.left files.old) (F.left files.new) }
     ensures file_counts { NeverFell (F.faults files.old) (F.faults files.new) }
     ensures out_count { O.faults out.old ≤ O.faults out.new }
@@ -44,20 +42,24 @@ pub fn blechc<F: Files, O: Sink, N: Sink>(
     with_note(&outcome, notes)
 }
 
-/// The status of the job itself, before its line is written.
+/// The end of the job itself, before its line is written.
 fn answer<F: Files, O: Sink>(alloc: Global, words: &[String], files: &mut F, out: &mut O) -> Outcome
-    ensures causes { AnswerCauses (map string_bytes words.now)
-        (λ name. record { before = F.faults files.old name; after = F.faults files.new name })
-        (record { before = O.faults out.old; after = O.faults out.new }) result.status }
-    ensures out { Leaves (IsResultOf (job_of (map string_bytes words.now)) (F.left files.old)) (O.held out.old) result.status (O.held out.new) }
-    ensures meant { IsMeant (map string_bytes words.now) (λ name. record { before = F.faults files.old name; after = F.faults files.new name }) (F.left files.old) result.status (line_in result) }
-    ensures accepted { WasAccepted result.status → AcceptedJob (job_of (map string_bytes words.now)) (F.left files.old) }
+    ensures answers { Answers
+        (record {
+          left = F.left files.old;
+          file = λ name. record { before = F.faults files.old name; after = F.faults files.new name };
+          out = record { before = O.faults out.old; after = O.faults out.new };
+          before = O.held out.old;
+          after = O.held out.new;
+        }) (job_of (map string_bytes words.now)) result.status (line_in result) }
     ensures files { ReadsNamed (job_of (map string_bytes words.now)) (F.left files.old) (F.left files.new) }
     ensures file_counts { NeverFell (F.faults files.old) (F.faults files.new) }
     ensures out_count { O.faults out.old ≤ O.faults out.new }
 {
     match bl_words::job_of(alloc, words) {
         Ok(Some(Job::Build { source })) => build(alloc, source, files, out),
+        Ok(Some(Job::Run { source, rows })) => run(alloc, source, rows, files, out),
+        Ok(Some(Job::Exec { text, rows })) => exec(alloc, text, rows, files, out),
         Ok(None) => Outcome::plain(alloc, Status::Usage),
         Err(_) => Outcome::plain(alloc, Status::NoMemory),
     }

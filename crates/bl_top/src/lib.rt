@@ -3,9 +3,14 @@
 
 mod build;
 mod call;
+mod emitted;
+mod exec;
 mod notes;
 mod outcome;
 mod refusal;
+mod rows;
+mod run;
+mod source;
 mod status;
 
 pub use call::blechc;

@@ -25,20 +25,20 @@ fn line_of(outcome: &Outcome) -> &[u8]
     ensures { result.now ≡ line_in outcome.now }
 {
     match outcome.status {
-        Status::Refused => &outcome.refusal,
+        Status::Refused | Status::BadRows | Status::NotSubset | Status::TooLarge => &outcome.line,
         status => fixed_line(status).as_bytes(),
     }
 }
 
-/// The line of a status that decides it; none at a refusal.
+/// The line of a status that decides it; none where what was read decides it.
 fn fixed_line(status: Status) -> &'static str
     ensures { result.now ≡ line_of status }
 {
     match status {
-        Status::Ok | Status::Refused | Status::WriteFault => "",
         Status::Usage => bl_words::usage(),
         Status::ReadFault => "read fault\n",
         Status::NoMemory => "no memory\n",
         Status::Unbuilt => "not built\n",
+        _ => "",
     }
 }

@@ -1,14 +1,16 @@
-ghost use Rattle.std.specs.Prelude.{◌≡◌};
+ghost use Rattle.std.specs.Prelude.{◌≡◌, IfOk};
+ghost use Rattle.bl_top.specs.Notes.{IsTold, numbered_line};
 
 use crate::status::Status;
-use std::alloc::Global;
+use itoa::Buffer;
+use std::alloc::{AllocError, Global};
 
 /// How a job ended, before its line is written on `notes`.
 #[derive(Drop)]
 pub struct Outcome {
     pub status: Status,
-    /// The line of the rule that refuses the source; empty at every other status.
-    pub refusal: Vec<u8>,
+    /// The line of a status that what was read decides; empty at every other status.
+    pub line: Vec<u8>,
 }
 
 impl Outcome {
@@ -18,7 +20,27 @@ impl Outcome {
     {
         Outcome {
             status,
-            refusal: Vec::new(alloc),
+            line: Vec::new(alloc),
         }
     }
+
+    /// An end with a line of words and a number.
+    pub fn numbered(alloc: Global, status: Status, words: &str, number: u64) -> Outcome
+        ensures { IsTold status (numbered_line words.now number) result }
+    {
+        match numbered_line(alloc, words, number) {
+            Ok(line) => Outcome { status, line },
+            Err(_) => Outcome::plain(alloc, Status::NoMemory),
+        }
+    }
+}
+
+fn numbered_line(alloc: Global, words: &str, number: u64) -> Result<Vec<u8>, AllocError>
+    ensures { IfOk result (λ line. line.items ≡ numbered_line words.now number) }
+{
+    let mut line = Vec::from_slice(alloc, words.as_bytes())?;
+    let mut buffer = Buffer::new();
+    line.extend_from_slice(buffer.format(number).as_bytes())?;
+    line.extend_from_slice(b"\n")?;
+    Ok(line)
 }

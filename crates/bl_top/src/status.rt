@@ -13,7 +13,15 @@ pub enum Status {
     ReadFault,
     /// A write on one of the two sinks failed.
     WriteFault,
+    /// A line of the file of rows is bad (docs/FORMATS.md, "Rows").
+    BadRows,
+    /// A tick trapped.
+    Trapped,
     NoMemory,
+    /// The text spells no C file of the subset, or one that isn't well formed (docs/C_SUBSET.md).
+    NotSubset,
+    /// The C text is too long, or its file needs too many cells.
+    TooLarge,
     /// The source isn't in a form that is built today.
     Unbuilt,
 }
@@ -29,7 +37,11 @@ impl Status {
             Status::Usage => 2,
             Status::ReadFault => 3,
             Status::WriteFault => 4,
+            Status::BadRows => 5,
+            Status::Trapped => 6,
             Status::NoMemory => 7,
+            Status::NotSubset => 8,
+            Status::TooLarge => 11,
             Status::Unbuilt => 12,
         }
     }

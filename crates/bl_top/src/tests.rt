@@ -35,6 +35,34 @@ fn the_lamp_is_built(rt: HostRuntime) -> Result<(), Fail> {
     Ok(())
 }
 
+/// The trace that a command writes of the lamp over two rows.
+fn traced(alloc: Global, command: &str, lamp: &[u8]) -> Result<SureSink, Fail> {
+    let mut files = MemFiles::new(alloc);
+    files.add("lamp", lamp.to_vec(alloc)?)?;
+    files.add("rows", b"tick\n1\n2\n".to_vec(alloc)?)?;
+    let mut out = SureSink::new(alloc);
+    let mut notes = SureSink::new(alloc);
+    let asked = words(alloc, &[command, "lamp", "rows"])?;
+    blechc(alloc, &asked, &mut files, &mut out, &mut notes);
+    Ok(out)
+}
+
+#[test]
+fn the_lamp_runs_as_it_is_built(rt: HostRuntime) -> Result<(), Fail> {
+    let trace = b"tick,on\n1,true\n2,false\n".as_slice();
+    let ran = traced(rt.alloc(), "run", LAMP.as_bytes())?;
+    assert_eq!(rt; ran.held(), trace);
+
+    let mut files = lamp_file(rt.alloc(), LAMP)?;
+    let mut out = SureSink::new(rt.alloc());
+    let mut notes = SureSink::new(rt.alloc());
+    let asked = words(rt.alloc(), &["build", "lamp"])?;
+    blechc(rt.alloc(), &asked, &mut files, &mut out, &mut notes);
+    let executed = traced(rt.alloc(), "exec", out.held())?;
+    assert_eq!(rt; executed.held(), trace);
+    Ok(())
+}
+
 #[test]
 fn other_forms_are_not_built(rt: HostRuntime) -> Result<(), Fail> {
     let mut files = lamp_file(rt.alloc(), TWO_BRANCHES)?;
@@ -79,7 +107,10 @@ fn words_without_a_job(rt: HostRuntime) -> Result<(), Fail> {
     let asked = words(rt.alloc(), &["build", "-x"])?;
     let status = blechc(rt.alloc(), &asked, &mut files, &mut out, &mut notes);
     assert_eq!(rt; status.code(), 2);
-    assert_eq!(rt; notes.held(), b"usage: blechc build P\n".as_slice());
+    assert_eq!(rt;
+        notes.held(),
+        b"usage: blechc build P | run P ROWS | exec C ROWS\n".as_slice()
+    );
     Ok(())
 }
 

@@ -1,5 +1,5 @@
-pub mod Build
 pub mod Matches
 pub mod Program
 pub mod Reading
+pub mod Values
 pub mod Walks

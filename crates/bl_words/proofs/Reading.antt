@@ -1,30 +1,48 @@
 -- What the parser reads of plain words is the job that they ask for.
-use Rattle.std.proofs.Common.{◌≡◌, Bool, false, true, inl, inr, refl, sym, subst, List, [], ◌∷◌, None, codes, find}
+use Rattle.std.proofs.Common.{◌≡◌, Bool, false, true, inl, inr, refl, sym, subst, List, [], ◌∷◌, Option, Some, None, codes, find, if◌then◌else◌}
 use Rattle.std.specs.List.{list_all}
 use Rattle.std.specs.Str.{bytes_eq}
 use Rattle.std.proofs.lemmas.Slice.Eq.{bytes_eq-Decides}
 use Rattle.clap.specs.Faults.{fault_of}
 use Rattle.clap.specs.Kinds.{HasKind, IsAmong}
-use Rattle.clap.specs.Simple.{subcommand_of}
+use Rattle.clap.specs.Simple.{label_of, subcommand_of}
 use Rattle.clap.specs.Values.{kind_of}
 use Rattle.clap.specs.Walk.{Text, answers_to}
 use Rattle.clap.specs.declared.error.Error.{Error}
 use Rattle.clap.specs.declared.error.kind.ErrorKind.TheVariants.{OutOfMemory}
 use Rattle.clap.proofs.OnLiterals.{clap_on_literals}
-use Rattle.bl_words.specs.CommandLine.{command_line, job_read}
-use Rattle.bl_words.specs.Jobs.{build_job, command_job, is_plain_word, job_of}
-use Rattle.bl_words.proofs.Build.{build_reads}
-use Rattle.bl_words.proofs.Program.{ReadsAs, commands, name_refused, others_plain}
+use Rattle.bl_words.specs.CommandLine.{command_line, job_read, named_read, one_read, two_read}
+use Rattle.bl_words.specs.Jobs.{JobSpec, Word, build, command_job, exec, is_plain_word, job_of, of_one, of_two, run}
+use Rattle.bl_words.proofs.Program.{ReadsAs, commands, name_refused, others_plain, program, takes_reads}
+use Rattle.bl_words.proofs.Values.{one, one_taken, two, two_taken}
 
-unnamed : (name : Text) → bytes_eq (codes "build") name ≡ false → find (answers_to name) commands ≡ None
-unnamed name other = rw other refl
+-- the words whose first is this name, and else those of the other commands
+trying : (label name : Text) (values : List Text) (job others : Option JobSpec) → ReadsAs job (label ∷ values) → (bytes_eq label name ≡ false → ReadsAs others (name ∷ values))
+    → ReadsAs (if bytes_eq label name then job else others) (name ∷ values)
+trying label name values job others same other = go (bytes_eq label name) refl
+  where
+    go : (b : Bool) → bytes_eq label name ≡ b → ReadsAs (if bytes_eq label name then job else others) (name ∷ values)
+    go true e = rw e (subst (λ n. ReadsAs job (n ∷ values)) ((bytes_eq-Decides label name).0 e) same)
+    go false e = rw e (other e)
+
+-- a command with one value, and one with two
+one_reads : (label : Text) (job : Word → JobSpec) (read : (first second : Option Text) → named_read label first second ≡ one_read job first) (named : find (answers_to label) commands ≡ Some (label, []))
+    (is : find (λ c. answers_to label (label_of c)) program.subs ≡ Some (one label)) (own : bytes_eq label (codes "help") ≡ false) (values : List Text) → list_all is_plain_word values ≡ true
+    → ReadsAs (of_one job values) (label ∷ values)
+one_reads label job read named is own values plain = takes_reads label (one label) named is own (of_one job values) values (one_taken label job read values plain)
+
+two_reads : (label : Text) (job : Word → Word → JobSpec) (read : (first second : Option Text) → named_read label first second ≡ two_read job first second) (named : find (answers_to label) commands ≡ Some (label, []))
+    (is : find (λ c. answers_to label (label_of c)) program.subs ≡ Some (two label)) (own : bytes_eq label (codes "help") ≡ false) (values : List Text) → list_all is_plain_word values ≡ true
+    → ReadsAs (of_two job values) (label ∷ values)
+two_reads label job read named is own values plain = takes_reads label (two label) named is own (of_two job values) values (two_taken label job read values plain)
 
 command_reads : (name : Text) (values : List Text) → list_all is_plain_word (name ∷ values) ≡ true → ReadsAs (command_job name values) (name ∷ values)
-command_reads name values plain = go (bytes_eq (codes "build") name) refl
-  where
-    go : (b : Bool) → bytes_eq (codes "build") name ≡ b → ReadsAs (command_job name values) (name ∷ values)
-    go true e = rw e (subst (λ n. ReadsAs (build_job values) (n ∷ values)) ((bytes_eq-Decides (codes "build") name).0 e) (build_reads values (others_plain name values plain)))
-    go false e = inr (name_refused name values plain (unnamed name e), rw e refl)
+command_reads name values plain =
+    let others = others_plain name values plain in
+    trying (codes "build") name values _ _ (one_reads (codes "build") build (λ f s. refl) refl refl refl values others) (λ not_build.
+    trying (codes "run") name values _ _ (two_reads (codes "run") run (λ f s. refl) refl refl refl values others) (λ not_run.
+    trying (codes "exec") name values _ _ (two_reads (codes "exec") exec (λ f s. refl) refl refl refl values others) (λ not_exec.
+    inr (name_refused name values plain (rw (not_build, not_run, not_exec) refl), refl))))
 
 reads : (words : List Text) → list_all is_plain_word words ≡ true → ReadsAs (job_of words) words
 unfolding clap_on_literals

@@ -1,19 +1,23 @@
 -- The command line as the parser of words is told of it.
-use Rattle.std.specs.Prelude.{true, Option, Some, None, if◌then◌else◌, codes, option_map}
+use Rattle.std.specs.Prelude.{true, Option, Some, None, if◌then◌else◌, codes, option_and_then, option_map}
 use Rattle.std.specs.Prelude.{List}
 use Rattle.std.specs.Str.{bytes_eq}
 use Rattle.clap.specs.Words.{App, Row, Rule, Shape, Text, first_of, new_app, new_rule}
 use Rattle.clap.specs.Words.{with_rule, with_subcommand}
 use Rattle.clap.specs.Simple.{on_top}
-use Rattle.bl_words.specs.Jobs.{JobSpec, build}
+use Rattle.bl_words.specs.Jobs.{JobSpec, build, exec, run}
 
 -- a value that has to be there, read back by this name
 abbrev pub required_value : Text → Rule
 required_value id = record (new_rule id) { required = true }
 
--- `build` with its one value
-abbrev pub build_command : App
-build_command = with_rule (new_app (codes "build")) (required_value (codes "source"))
+-- the command of this name with one value
+abbrev pub one_command : Text → App
+one_command name = with_rule (new_app name) (required_value (codes "first"))
+
+-- the command of this name with two values
+abbrev pub two_command : Text → App
+two_command name = with_rule (one_command name) (required_value (codes "second"))
 
 -- a command that has to be named, and no help and no version
 abbrev pub with_own_words_only : Shape → Shape
@@ -27,11 +31,28 @@ with_own_words_only s = record s {
 
 -- the program with all its commands
 abbrev pub command_line : App
-command_line =
-    with_subcommand (on_top with_own_words_only (new_app (codes "blechc"))) build_command.top
+command_line = with_subcommand (with_subcommand (with_subcommand
+    (on_top with_own_words_only (new_app (codes "blechc")))
+    (one_command (codes "build")).top)
+    (two_command (codes "run")).top)
+    (two_command (codes "exec")).top
 
--- the job of the command that was read, by the values that were read for it
+-- the job of one value that was read
+abbrev pub one_read : (Text → JobSpec) → Option Text → Option JobSpec
+one_read job first = option_map job first
+
+-- the job of two values that were read
+abbrev pub two_read : (Text → Text → JobSpec) → Option Text → Option Text → Option JobSpec
+two_read job first second = option_and_then (λ word. option_map (job word) second) first
+
+-- the job of the command of this name, by the values that were read for it
+abbrev pub named_read : Text → Option Text → Option Text → Option JobSpec
+named_read name first second = if bytes_eq (codes "build") name then one_read build first
+    else (if bytes_eq (codes "run") name then two_read run first second
+    else (if bytes_eq (codes "exec") name then two_read exec first second else None))
+
+-- the job of the command that was read
 abbrev pub job_read : Option (Text × List Row) → Option JobSpec
 job_read None = None
-job_read (Some command) = if bytes_eq (codes "build") command.0
-    then option_map build (first_of (codes "source") command.1) else None
+job_read (Some command) = named_read command.0 (first_of (codes "first") command.1)
+    (first_of (codes "second") command.1)

@@ -14,24 +14,37 @@ Word = List ℕ
 pub data JobSpec : Type 0 where
   -- write the C text of the source file of this name
   build : Word → JobSpec
+  -- run the source file of the first name over the file of rows of the second
+  run : Word → Word → JobSpec
+  -- run the C text of the first name over the file of rows of the second
+  exec : Word → Word → JobSpec
 
 -- the files that the job reads, in the order of its words
 abbrev pub files_of : JobSpec → List Word
 files_of (build source) = source ∷ []
+files_of (run source rows) = source ∷ rows ∷ []
+files_of (exec text rows) = text ∷ rows ∷ []
 
 -- the word is not empty and does not begin with a hyphen (45)
 abbrev pub is_plain_word : Word → Bool
 is_plain_word [] = false
 is_plain_word (byte ∷ rest) = not (byte == 45)
 
--- `build` takes one word, the name of the source file
-abbrev pub build_job : List Word → Option JobSpec
-build_job (source ∷ []) = Some (build source)
-build_job _ = None
+-- a job that one word asks for, and no other number of words
+abbrev pub of_one : (Word → JobSpec) → List Word → Option JobSpec
+of_one job (first ∷ []) = Some (job first)
+of_one job _ = None
+
+-- a job that two words ask for, and no other number of words
+abbrev pub of_two : (Word → Word → JobSpec) → List Word → Option JobSpec
+of_two job (first ∷ second ∷ []) = Some (job first second)
+of_two job _ = None
 
 -- the job of the command with this name, on the words after the name
 abbrev pub command_job : Word → List Word → Option JobSpec
-command_job name values = if bytes_eq (codes "build") name then build_job values else None
+command_job name values = if bytes_eq (codes "build") name then of_one build values
+    else (if bytes_eq (codes "run") name then of_two run values
+    else (if bytes_eq (codes "exec") name then of_two exec values else None))
 
 -- the first word names the command, and no word is empty or begins with a hyphen
 abbrev pub job_of : List Word → Option JobSpec
@@ -42,3 +55,5 @@ job_of (name ∷ values) =
 -- the job that a value of the program stands for
 abbrev pub spec_of : Job → JobSpec
 spec_of (job.Build source) = build source.now
+spec_of (job.Run source rows) = run source.now rows.now
+spec_of (job.Exec text rows) = exec text.now rows.now

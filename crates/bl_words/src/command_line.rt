@@ -2,8 +2,8 @@
 ghost use Rattle.std.specs.Prelude.{◌≡◌, IfOk, codes, false, option_map};
 ghost use Rattle.clap.specs.Words.{app_of, first_value, found_of, subcommand_rows_of};
 ghost use Rattle.clap.specs.declared.builder.command.Command.TheViews.{out-Command};
-ghost use Rattle.bl_words.specs.CommandLine.{build_command, command_line, job_read};
-ghost use Rattle.bl_words.specs.Jobs.{build, spec_of};
+ghost use Rattle.bl_words.specs.CommandLine.{command_line, job_read, one_command, one_read, two_command, two_read};
+ghost use Rattle.bl_words.specs.Jobs.{build, exec, run, spec_of};
 
 use crate::job::Job;
 use clap::{Arg, ArgMatches, Command};
@@ -20,15 +20,25 @@ pub(crate) fn command_line<'a>(alloc: Global) -> Result<Command<'a>, AllocError>
         .disable_help_subcommand(true)
         .disable_version_flag(true)
         .subcommand_required(true)
-        .subcommand(build_command(alloc)?)
+        .subcommand(one_command(alloc, "build")?)?
+        .subcommand(two_command(alloc, "run")?)?
+        .subcommand(two_command(alloc, "exec")?)
 }
 
-fn build_command<'a>(alloc: Global) -> Result<Command<'a>, AllocError>
-    ensures { IfOk result (λ command. (app_of command ≡ build_command)
+fn one_command<'a>(alloc: Global, name: &'a str) -> Result<Command<'a>, AllocError>
+    ensures { IfOk result (λ command. (app_of command ≡ one_command name.now)
         × ((out-Command command).has_globals ≡ false)) }
 {
-    let source = Arg::new(alloc, "source").required(true);
-    Command::new(alloc, "build").arg(source)
+    let first = Arg::new(alloc, "first").required(true);
+    Command::new(alloc, name).arg(first)
+}
+
+fn two_command<'a>(alloc: Global, name: &'a str) -> Result<Command<'a>, AllocError>
+    ensures { IfOk result (λ command. (app_of command ≡ two_command name.now)
+        × ((out-Command command).has_globals ≡ false)) }
+{
+    let second = Arg::new(alloc, "second").required(true);
+    one_command(alloc, name)?.arg(second)
 }
 
 /// The job of the command that was read.
@@ -38,14 +48,36 @@ pub(crate) fn job_read<'a>(matches: &ArgMatches<'a>) -> Option<Job<'a>>
     let (name, values) = matches.subcommand()?;
     match name {
         "build" => build_read(values),
+        "run" => run_read(values),
+        "exec" => exec_read(values),
         _ => None,
     }
 }
 
 fn build_read<'a>(values: &ArgMatches<'a>) -> Option<Job<'a>>
     ensures { option_map spec_of result
-        ≡ option_map build (first_value (found_of values.now) (codes "source")) }
+        ≡ one_read build (first_value (found_of values.now) (codes "first")) }
 {
-    let source = values.get_str("source")?;
+    let source = values.get_str("first")?;
     Some(Job::Build { source })
+}
+
+fn run_read<'a>(values: &ArgMatches<'a>) -> Option<Job<'a>>
+    ensures { option_map spec_of result
+        ≡ two_read run (first_value (found_of values.now) (codes "first"))
+        (first_value (found_of values.now) (codes "second")) }
+{
+    let source = values.get_str("first")?;
+    let rows = values.get_str("second")?;
+    Some(Job::Run { source, rows })
+}
+
+fn exec_read<'a>(values: &ArgMatches<'a>) -> Option<Job<'a>>
+    ensures { option_map spec_of result
+        ≡ two_read exec (first_value (found_of values.now) (codes "first"))
+        (first_value (found_of values.now) (codes "second")) }
+{
+    let text = values.get_str("first")?;
+    let rows = values.get_str("second")?;
+    Some(Job::Exec { text, rows })
 }

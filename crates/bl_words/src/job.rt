@@ -16,6 +16,20 @@ pub enum Job<'a> {
         /// The name of the source file.
         source: &'a str,
     },
+    /// Run a source file over rows of input.
+    Run {
+        /// The name of the source file.
+        source: &'a str,
+        /// The name of the file of rows.
+        rows: &'a str,
+    },
+    /// Run a C text over rows of input.
+    Exec {
+        /// The name of the file with the C text.
+        text: &'a str,
+        /// The name of the file of rows.
+        rows: &'a str,
+    },
 }
 
 /// Memory ran out before the words were read.

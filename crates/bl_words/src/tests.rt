@@ -12,15 +12,36 @@ fn words_of(alloc: Global, line: &str) -> Result<Vec<String>, AllocError> {
 
 #[test]
 fn words_that_ask_for_a_job(rt: HostRuntime) {
-    for (line, source) in [
-        ("build x", "x"),
-        ("build help", "help"),
-        ("build a-b", "a-b"),
+    for (line, wanted) in [
+        ("build x", Job::Build { source: "x" }),
+        ("build help", Job::Build { source: "help" }),
+        ("build a-b", Job::Build { source: "a-b" }),
+        (
+            "run x y",
+            Job::Run {
+                source: "x",
+                rows: "y",
+            },
+        ),
+        (
+            "run run exec",
+            Job::Run {
+                source: "run",
+                rows: "exec",
+            },
+        ),
+        (
+            "exec x y",
+            Job::Exec {
+                text: "x",
+                rows: "y",
+            },
+        ),
     ] {
         let words = words_of(rt.alloc(), line).expect(&rt, "words");
         files_have_plain_names(words.as_slice());
         let job = job_of(rt.alloc(), words.as_slice()).expect(&rt, "memory");
-        assert!(rt; job == Some(Job::Build { source }), "{line}");
+        assert!(rt; job == Some(wanted), "{line}");
     }
 }
 
@@ -36,8 +57,18 @@ fn words_that_ask_for_none(rt: HostRuntime) {
         "help build",
         "Build x",
         "buil x",
-        "run a b",
         "build -- x",
+        "run",
+        "run x",
+        "run x y z",
+        "run x -",
+        "run  y",
+        "exec x",
+        "exec x y z",
+        "exec x ",
+        "exec -- x y",
+        "runs x y",
+        "walk x y",
         "-h",
         "x build",
     ];
@@ -57,7 +88,10 @@ fn no_words(rt: HostRuntime) {
 
 #[test]
 fn what_is_said(rt: HostRuntime) {
-    assert_eq!(rt; usage(), "usage: blechc build P\n");
+    assert_eq!(rt;
+        usage(),
+        "usage: blechc build P | run P ROWS | exec C ROWS\n"
+    );
     let text = format!(in rt.alloc(); "{NoMemory}").expect(&rt, "memory");
     assert!(rt; text.as_str() == "no memory");
 }

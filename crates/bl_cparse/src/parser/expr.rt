@@ -17,14 +17,14 @@ ghost use Rattle.bl_csyntax.specs.Expects.{Expects};
 ghost use Rattle.bl_cparse.specs.Reading.{sign, name_of, prelude_function, elements, part, literal_starts, Follows, WantsMemory};
 ghost use Rattle.bl_cparse.specs.Awaiting.{use_wanted, held_wanted, behind, partial_wanted, is_whole_next, GoesOn, Stays, Awaits};
 
-use crate::make;
 use crate::parser::{literal, name, place};
 use crate::reader::Reader;
 use crate::refusal::CRefusal;
+use crate::{make, room};
 use bl_csyntax::words;
 use bl_tree::c::{CArg, CExpr, CStep};
 use bl_tree::{Box, List, Op, Text};
-use std::alloc::AllocError;
+use std::alloc::{AllocError, Global};
 
 /// A call up to one of its arguments, and the room inside.
 #[derive(Drop)]
@@ -512,19 +512,19 @@ fn step(
         let p = indexed(r, outer, of, place, member)?;
         return Ok(p);
     }
-    let place = stepped(place, make::step(member, None))?;
+    let place = stepped(r.alloc(), place, make::step(member, None))?;
     Ok(rooted(outer, of, place))
 }
 
 /// The place with one step more.
-fn stepped(place: PlaceFront, step: CStep) -> Result<PlaceFront, CRefusal>
+fn stepped(alloc: Global, place: PlaceFront, step: CStep) -> Result<PlaceFront, CRefusal>
     requires place { IsTrue (spells_root place) }
     requires step { IsTrue (spells_step step) }
     ensures read { IfOk result (λ longer. (place_front longer ≡ place_front place ++ step_tokens step) × IsTrue (spells_root longer)) }
     ensures awaits { (rest : List Wanted) (pieces : List Token) → Expects (part Part.Steps place.room ∷ rest) pieces → MatchResult result (λ longer. Expects (part Part.Steps longer.room ∷ rest) pieces) WantsMemory }
 {
     let mut place = place;
-    place.steps.push(step)?;
+    room::push(alloc, &mut place.steps, step, 1)?;
     Ok(place)
 }
 
@@ -600,7 +600,7 @@ fn argued(
     ensures less { IfOk result (λ p. 2 * length r.new + work_left p.next < 2 * length r.old) }
     ensures follows { GoesOn result (part Part.ArgRest call.room ∷ sign (codes ")") ∷ behind outer.items) r.old r.new }
 {
-    let call = with_argument(call, arg)?;
+    let call = with_argument(r.alloc(), call, arg)?;
     if r.eat(",") {
         return Ok(awaiting(outer, call));
     }
@@ -609,7 +609,7 @@ fn argued(
 }
 
 /// The call with one argument more.
-fn with_argument(call: CallFront, arg: CArg) -> Result<CallFront, CRefusal>
+fn with_argument(alloc: Global, call: CallFront, arg: CArg) -> Result<CallFront, CRefusal>
     requires call { IsTrue (spells_called call) }
     requires arg { IsTrue (spells_arg arg) }
     ensures tokens { IfOk result (λ more. more.name ∷ codes "(" ∷ with_commas (map arg_tokens more.args) ≡ called_front call ++ arg_tokens arg) }
@@ -617,7 +617,7 @@ fn with_argument(call: CallFront, arg: CArg) -> Result<CallFront, CRefusal>
     ensures awaits { (rest : List Wanted) (pieces : List Token) → Expects (part Part.ArgRest call.room ∷ rest) pieces → MatchResult result (λ more. Expects (part Part.ArgRest more.room ∷ rest) pieces) WantsMemory }
 {
     let mut call = call;
-    call.args.push(arg)?;
+    room::push(alloc, &mut call.args, arg, 2)?;
     Ok(call)
 }
 
@@ -738,6 +738,6 @@ fn closed_index(
     let length = place::index_length(r)?;
     let index = make::index(front.signed, e, length);
     let step = make::step(front.member, Some(index));
-    let place = stepped(front.place, step)?;
+    let place = stepped(r.alloc(), front.place, step)?;
     Ok(rooted(outer, front.of, place))
 }

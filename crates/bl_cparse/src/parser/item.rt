@@ -15,6 +15,7 @@ ghost use Rattle.bl_cparse.specs.Reading.{sign, name_of, part, local_starts, Fol
 use crate::parser::{MOST_OPEN, literal, name, place, stmt};
 use crate::reader::Reader;
 use crate::refusal::CRefusal;
+use crate::room::fitted;
 use bl_tree::c::{CFunc, CLocal, CMember, CParam, CStmt, CStruct, CType};
 use bl_tree::{List, Scalar, Text};
 
@@ -58,7 +59,7 @@ fn structure(r: &mut Reader<'_>) -> Result<CStruct, CRefusal>
     Ok(CStruct {
         place: r.place_from(start),
         name,
-        members,
+        members: fitted(members),
     })
 }
 
@@ -123,9 +124,9 @@ fn func(r: &mut Reader<'_>) -> Result<CFunc, CRefusal>
         fixed: head.fixed,
         result: head.result,
         name: head.name,
-        params,
-        locals: inside.locals,
-        body: inside.body,
+        params: fitted(params),
+        locals: fitted(inside.locals),
+        body: fitted(inside.body),
     })
 }
 

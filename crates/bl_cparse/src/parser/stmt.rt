@@ -20,6 +20,7 @@ use crate::make_stmt;
 use crate::parser::{expr, name, place};
 use crate::reader::Reader;
 use crate::refusal::CRefusal;
+use crate::room::fitted;
 use bl_csyntax::words;
 use bl_tree::c::{CExpr, CPlace, CStmt, CStmtKind};
 use bl_tree::{List, Text};
@@ -262,6 +263,7 @@ fn closed_frame(
     ensures shorter { OnOk result (length r.new < length r.old) }
     ensures follows { Nests result (sign (codes "}") ∷ (frame_wanted frame ++ outside outer.items)) r.old r.new }
 {
+    let body = fitted(body);
     let place = Outside {
         before: frame.before,
         start: frame.start,

@@ -1,15 +1,34 @@
-use Rattle.std.proofs.Common.{◌∙◌, Some, sym, ap, codes, option_map}
+use Rattle.std.proofs.Common.{◌∙◌, Some, sym, ap, ap₂, codes}
 use Rattle.clap.specs.Walk.{rows_of}
-use Rattle.clap.specs.Words.{found_of}
+use Rattle.clap.specs.Words.{first_of, found_of}
 use Rattle.clap.proofs.WalkLemmas.{first_value-rows}
-use Rattle.bl_words.specs.CommandLine.{job_read}
-use Rattle.bl_words.specs.Jobs.{build}
-use Rattle.bl_words.proofs.Matches.{command_is}
+use Rattle.bl_words.specs.CommandLine.{job_read, one_read, two_read}
+use Rattle.bl_words.specs.Jobs.{build, exec, run}
+use Rattle.bl_words.proofs.Matches.{command_is, unnamed_read}
 use Rattle.bl_words.proofs.command_line.job_read.Goals as goal
 
 pub returns-in-build : goal.returns-in-build
 returns-in-build c =
+    let found = found_of c.in_ok-name.values.now in
+    let command = command_is c.args.matches.now c.in_ok-name.name.now (rows_of found) c.in_ok-name.ensures.name c.in_ok-name.ensures.rows in
+    c.build_read.ensures ∙ ap (one_read build) (first_value-rows found (codes "first")) ∙ sym (ap job_read command ∙ ap (λ name. job_read (Some (name, rows_of found))) c.in-build.is)
+
+pub returns-in-run : goal.returns-in-run
+returns-in-run c =
+    let found = found_of c.in_ok-name.values.now in
+    let command = command_is c.args.matches.now c.in_ok-name.name.now (rows_of found) c.in_ok-name.ensures.name c.in_ok-name.ensures.rows in
+    c.run_read.ensures ∙ ap₂ (two_read run) (first_value-rows found (codes "first")) (first_value-rows found (codes "second"))
+    ∙ sym (ap job_read command ∙ ap (λ name. job_read (Some (name, rows_of found))) c.in-run.is)
+
+pub returns-in-exec : goal.returns-in-exec
+returns-in-exec c =
+    let found = found_of c.in_ok-name.values.now in
+    let command = command_is c.args.matches.now c.in_ok-name.name.now (rows_of found) c.in_ok-name.ensures.name c.in_ok-name.ensures.rows in
+    c.exec_read.ensures ∙ ap₂ (two_read exec) (first_value-rows found (codes "first")) (first_value-rows found (codes "second"))
+    ∙ sym (ap job_read command ∙ ap (λ name. job_read (Some (name, rows_of found))) c.in-exec.is)
+
+pub returns-in_default : goal.returns-in_default
+returns-in_default c =
     let rows = rows_of (found_of c.in_ok-name.values.now) in
     let command = command_is c.args.matches.now c.in_ok-name.name.now rows c.in_ok-name.ensures.name c.in_ok-name.ensures.rows in
-    let source = first_value-rows (found_of c.in_ok-name.values.now) (codes "source") in
-    c.build_read.ensures ∙ ap (option_map build) source ∙ sym (ap job_read command ∙ ap (λ name. job_read (Some (name, rows))) c.in-build.is)
+    sym (ap job_read command ∙ unnamed_read c.in_ok-name.name.now (first_of (codes "first") rows) (first_of (codes "second") rows) c.in_default.not-build c.in_default.not-run c.in_default.not-exec)

@@ -1,24 +1,34 @@
-use Rattle.std.proofs.Common.{◌≡◌, Bool, IfSome, false, true, refl, List, [], ◌∷◌, codes, map, string_bytes}
+use Rattle.std.proofs.Common.{◌≡◌, Bool, IfSome, false, true, refl, List, [], ◌∷◌, Option, codes, if◌then◌else◌, map, string_bytes}
 use Rattle.std.specs.List.{list_all}
 use Rattle.std.specs.Str.{bytes_eq}
-use Rattle.bl_words.specs.Jobs.{JobSpec, Word, build_job, command_job, files_of, is_plain_word, job_of}
+use Rattle.bl_words.specs.Jobs.{JobSpec, Word, build, command_job, exec, files_of, is_plain_word, job_of, of_one, of_two, run}
 use Rattle.bl_words.proofs.Program.{others_plain}
 use Rattle.bl_words.proofs.job.files_have_plain_names.Goals as goal
 
 abbrev HasPlainFiles : JobSpec → Type 0
 HasPlainFiles job = list_all is_plain_word (files_of job) ≡ true
 
-build_plain : (values : List Word) → list_all is_plain_word values ≡ true → IfSome (build_job values) HasPlainFiles
-build_plain [] plain = tt
-build_plain (source ∷ []) plain = plain
-build_plain (source ∷ next ∷ more) plain = tt
+one_plain : (job : Word → JobSpec) → ((first : Word) → files_of (job first) ≡ first ∷ []) → (values : List Word) → list_all is_plain_word values ≡ true → IfSome (of_one job values) HasPlainFiles
+one_plain job files [] plain = tt
+one_plain job files (first ∷ []) plain = rw (files first) plain
+one_plain job files (first ∷ second ∷ more) plain = tt
+
+two_plain : (job : Word → Word → JobSpec) → ((first second : Word) → files_of (job first second) ≡ first ∷ second ∷ []) → (values : List Word) → list_all is_plain_word values ≡ true
+    → IfSome (of_two job values) HasPlainFiles
+two_plain job files [] plain = tt
+two_plain job files (first ∷ []) plain = tt
+two_plain job files (first ∷ second ∷ []) plain = rw (files first second) plain
+two_plain job files (first ∷ second ∷ next ∷ more) plain = tt
+
+trying : (b : Bool) (job others : Option JobSpec) → IfSome job HasPlainFiles → IfSome others HasPlainFiles → IfSome (if b then job else others) HasPlainFiles
+trying true job others holds other = holds
+trying false job others holds other = other
 
 command_plain : (name : Word) (values : List Word) → list_all is_plain_word values ≡ true → IfSome (command_job name values) HasPlainFiles
-command_plain name values plain = go (bytes_eq (codes "build") name) refl
-  where
-    go : (b : Bool) → bytes_eq (codes "build") name ≡ b → IfSome (command_job name values) HasPlainFiles
-    go true e = rw e (build_plain values plain)
-    go false e = rw e tt
+command_plain name values plain =
+    trying (bytes_eq (codes "build") name) _ _ (one_plain build (λ first. refl) values plain) (
+    trying (bytes_eq (codes "run") name) _ _ (two_plain run (λ first second. refl) values plain) (
+    trying (bytes_eq (codes "exec") name) _ _ (two_plain exec (λ first second. refl) values plain) tt))
 
 job_plain : (words : List Word) → IfSome (job_of words) HasPlainFiles
 job_plain [] = tt

@@ -10,10 +10,10 @@ use Rattle.bl_cparse.proofs.parser.expr.with_argument.Goals as goal
 
 pub returns-clause-tokens : goal.returns-clause-tokens
 returns-clause-tokens c =
-    ap (λ (ts : List Token). c.args.call.name ∷ codes "(" ∷ ts) (args_with c.args.call.args c.push.new.self c.args.arg c.in_ok-push.ensures.ok)
+    ap (λ (ts : List Token). c.args.call.name ∷ codes "(" ∷ ts) (args_with c.args.call.args c.push.new.list c.args.arg c.in_ok-push.ensures.ok)
 
 pub returns-clause-spells : goal.returns-clause-spells
 returns-clause-spells c = (
-  both _ _ (and-fst _ _ c.requires.call) (all_with spells_arg c.args.call.args c.push.new.self c.args.arg c.in_ok-push.ensures.ok (and-snd _ _ c.requires.call) c.requires.arg),
+  both _ _ (and-fst _ _ c.requires.call) (all_with spells_arg c.args.call.args c.push.new.list c.args.arg c.in_ok-push.ensures.ok (and-snd _ _ c.requires.call) c.requires.arg),
   ap has_any c.in_ok-push.ensures.ok ∙ any_more c.args.call.args c.args.arg,
 )

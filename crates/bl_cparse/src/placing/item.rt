@@ -1,0 +1,216 @@
+//! Places of structs and functions.
+
+ghost use Rattle.std.specs.Prelude.{◌≡◌, [], ◌∷◌, ◌++◌, codes, map, IfOk};
+ghost use Rattle.bl_tree.specs.Reduce.{all_of, joined};
+ghost use Rattle.bl_ctext.specs.Spelling.{func_front, func_tokens, length_tokens, local_tokens, member_tokens, param_tokens, returned_tokens, star_if, static_if, struct_tokens, type_tokens, with_commas, zero_tokens};
+ghost use Rattle.bl_ctext.specs.Spellable.{spells_func, spells_struct};
+ghost use Rattle.bl_cparse.specs.HasPlaces.{func_walk, head_tokens, in_turn, past, struct_walk};
+
+use crate::placing::expr::comma;
+use crate::placing::spot::Spot;
+use crate::placing::stmt;
+use bl_tree::c::{CFunc, CLocal, CMember, CParam, CStruct, CType};
+use bl_tree::{List, NoMemory};
+use std::alloc::Global;
+
+pub fn structs(
+    alloc: Global,
+    spot: &mut Spot<'_>,
+    structs: List<CStruct>,
+) -> Result<List<CStruct>, NoMemory>
+    ensures places { IfOk result (λ all. in_turn (map struct_walk all) spot.old ≡ (all, spot.new)) }
+    ensures tokens { IfOk result (λ all. map struct_tokens all ≡ map struct_tokens structs) }
+    ensures spells { IfOk result (λ all. map spells_struct all ≡ map spells_struct structs) }
+{
+    let mut made = List::new(alloc);
+    for one in structs.into_vec() {
+        made.push(structure(spot, one))?;
+    }
+    Ok(made)
+}
+
+fn structure(spot: &mut Spot<'_>, structure: CStruct) -> CStruct
+    ensures places { struct_walk result spot.old ≡ (result, spot.new) }
+    ensures tokens { struct_tokens result ≡ struct_tokens structure }
+    ensures spells { spells_struct result ≡ spells_struct structure }
+{
+    let start = spot.start();
+    whole_struct(spot, &structure);
+    CStruct {
+        place: spot.place_from(start),
+        name: structure.name,
+        members: structure.members,
+    }
+}
+
+/// Behind a struct.
+pub fn whole_struct(spot: &mut Spot<'_>, structure: &CStruct)
+    ensures { spot.new ≡ past (struct_tokens structure.now) spot.old }
+{
+    spot.pass();
+    spot.pass();
+    spot.pass();
+    members(spot, &structure.members);
+    spot.pass();
+    spot.pass();
+}
+
+fn members(spot: &mut Spot<'_>, members: &[CMember])
+    ensures { spot.new ≡ past (joined (map member_tokens members.now)) spot.old }
+{
+    for one in members {
+        member(spot, one);
+    }
+}
+
+fn member(spot: &mut Spot<'_>, member: &CMember)
+    ensures { spot.new ≡ past (member_tokens member.now) spot.old }
+{
+    type_name(spot, &member.ty);
+    spot.pass();
+    length(spot, member.length);
+    spot.pass();
+}
+
+fn type_name(spot: &mut Spot<'_>, ty: &CType)
+    ensures { spot.new ≡ past (type_tokens ty.now) spot.old }
+{
+    match ty {
+        CType::Scalar(_) => spot.pass(),
+        CType::Struct(_) => {
+            spot.pass();
+            spot.pass();
+        }
+    }
+}
+
+fn length(spot: &mut Spot<'_>, length: Option<u32>)
+    ensures { spot.new ≡ past (length_tokens length) spot.old }
+{
+    match length {
+        Some(_) => {
+            spot.pass();
+            spot.pass();
+            spot.pass();
+        }
+        None => {}
+    }
+}
+
+pub fn funcs(
+    alloc: Global,
+    spot: &mut Spot<'_>,
+    funcs: List<CFunc>,
+) -> Result<List<CFunc>, NoMemory>
+    ensures places { IfOk result (λ all. in_turn (map func_walk all) spot.old ≡ (all, spot.new)) }
+    ensures tokens { IfOk result (λ all. map func_tokens all ≡ map func_tokens funcs) }
+    ensures spells { IfOk result (λ all. map spells_func all ≡ map spells_func funcs) }
+{
+    let mut made = List::new(alloc);
+    for one in funcs.into_vec() {
+        made.push(func(alloc, spot, one)?)?;
+    }
+    Ok(made)
+}
+
+fn func(alloc: Global, spot: &mut Spot<'_>, func: CFunc) -> Result<CFunc, NoMemory>
+    ensures places { IfOk result (λ made. func_walk made spot.old ≡ (made, spot.new)) }
+    ensures tokens { IfOk result (λ made. func_tokens made ≡ func_tokens func) }
+    ensures spells { IfOk result (λ made. spells_func made ≡ spells_func func) }
+{
+    let start = spot.start();
+    head(spot, &func);
+    let body = stmt::stmts(alloc, spot, func.body)?;
+    spot.pass();
+    Ok(CFunc {
+        place: spot.place_from(start),
+        fixed: func.fixed,
+        result: func.result,
+        name: func.name,
+        params: func.params,
+        locals: func.locals,
+        body,
+    })
+}
+
+/// Behind a function up to its statements.
+pub fn head(spot: &mut Spot<'_>, func: &CFunc)
+    ensures { spot.new ≡ past (head_tokens func.now) spot.old }
+{
+    front(spot, func);
+    params(spot, &func.params);
+    spot.pass();
+    spot.pass();
+    locals(spot, &func.locals);
+}
+
+/// Behind a function up to its parameters.
+fn front(spot: &mut Spot<'_>, func: &CFunc)
+    ensures { spot.new ≡ past (func_front func.now) spot.old }
+{
+    if_stands(spot, func.fixed);
+    spot.pass();
+    spot.pass();
+    spot.pass();
+}
+
+/// Behind a `static` or a `*` where it stands.
+fn if_stands(spot: &mut Spot<'_>, stands: bool)
+    ensures fixed { spot.new ≡ past (static_if stands) spot.old }
+    ensures star { spot.new ≡ past (star_if stands) spot.old }
+{
+    if stands {
+        spot.pass();
+    }
+}
+
+fn params(spot: &mut Spot<'_>, params: &[CParam])
+    ensures { spot.new ≡ past (with_commas (map param_tokens params.now)) spot.old }
+{
+    let mut first = true;
+    for one in params {
+        comma(spot, first);
+        param(spot, one);
+        first = false;
+    }
+}
+
+fn param(spot: &mut Spot<'_>, param: &CParam)
+    ensures { spot.new ≡ past (param_tokens param.now) spot.old }
+{
+    type_name(spot, &param.ty);
+    if_stands(spot, param.pointer);
+    spot.pass();
+}
+
+fn locals(spot: &mut Spot<'_>, locals: &[CLocal])
+    ensures { spot.new ≡ past (joined (map local_tokens locals.now)) spot.old }
+{
+    for one in locals {
+        local(spot, one);
+    }
+}
+
+fn local(spot: &mut Spot<'_>, local: &CLocal)
+    ensures { spot.new ≡ past (local_tokens local.now) spot.old }
+{
+    type_name(spot, &local.ty);
+    spot.pass();
+    spot.pass();
+    zero(spot, &local.ty);
+    spot.pass();
+}
+
+/// Behind what a local of this type begins with.
+fn zero(spot: &mut Spot<'_>, ty: &CType)
+    ensures { spot.new ≡ past (zero_tokens ty.now) spot.old }
+{
+    match ty {
+        CType::Scalar(_) => spot.pass(),
+        CType::Struct(_) => {
+            spot.pass();
+            spot.pass();
+            spot.pass();
+        }
+    }
+}

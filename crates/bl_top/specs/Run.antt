@@ -1,0 +1,19 @@
+-- How `run` ends.
+use Rattle.std.specs.Prelude.{ℕ, List, Option}
+use Rattle.bl_io.specs.Left.{IsKept}
+use Rattle.bl_stream.specs.Streams.{Course}
+use Rattle.bl_top.specs.Calls.{Call}
+use Rattle.bl_top.specs.Reads.{LeftBehind, source_limit}
+use Rattle.bl_top.specs.Refusals.{Stops}
+use Rattle.bl_top.specs.Rows.{Streams}
+use Rattle.bl_top.specs.Sources.{RunsAs}
+use Rattle.bl_top.specs.declared.status.Status.{Status}
+use Rattle.bl_words.specs.Jobs.{Word}
+
+-- the status and the line with which a source is run over a file of rows
+pub data RunEnds (c : Call) (source rows : Word) : Status → List ℕ → Type 0 where
+  -- over the rows that are left once the source was read, by the one trace of its program
+  ran : {ended : Status} {line : List ℕ} (course : Course) → RunsAs (c.left source) course →
+      (between : Word → Option (List ℕ)) → LeftBehind source_limit source c.left between →
+      Streams course (between rows) (c.file rows) c.out c.before c.after ended line → RunEnds c source rows ended line
+  stopped : {ended : Status} {line : List ℕ} → Stops (c.left source) (c.file source) ended line → IsKept c.before c.after → RunEnds c source rows ended line

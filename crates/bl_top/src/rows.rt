@@ -1,0 +1,54 @@
+//! Runs over files of rows, as each command does them that names one.
+
+ghost use Rattle.std.specs.Prelude.{◌≡◌, ◌≤◌};
+ghost use Rattle.bl_crun.specs.Cause.{Runs};
+ghost use Rattle.bl_crun.specs.Running.{loaded};
+ghost use Rattle.bl_io.specs.Count.{NeverFell};
+ghost use Rattle.bl_io.specs.Left.{KeepsOthers};
+ghost use Rattle.bl_stream.specs.Streams.{course_of};
+ghost use Rattle.bl_top.specs.Notes.{line_in};
+ghost use Rattle.bl_top.specs.Rows.{IsEndOf, Streams};
+
+use crate::outcome::Outcome;
+use crate::status::Status;
+use bl_crun::Runner;
+use bl_io::{Files, Sink};
+use bl_stream::{Finish, stream};
+use std::alloc::Global;
+
+/// Runs a file that was just loaded over the rows of the named file, and writes the text of its trace.
+pub fn run_over<F: Files, O: Sink>(
+    alloc: Global,
+    runner: Runner,
+    rows: &str,
+    files: &mut F,
+    out: &mut O,
+) -> Outcome
+    requires fresh { runner ≡ loaded runner.parts }
+    requires runs { Runs runner.parts }
+    ensures streams { Streams (course_of runner.parts) (F.left files.old rows.now)
+        (record { before = F.faults files.old rows.now; after = F.faults files.new rows.now })
+        (record { before = O.faults out.old; after = O.faults out.new }) (O.held out.old) (O.held out.new) result.status (line_in result) }
+    ensures others { KeepsOthers rows.now (F.left files.old) (F.left files.new) }
+    ensures file_counts { NeverFell (F.faults files.old) (F.faults files.new) }
+    ensures out_count { O.faults out.old ≤ O.faults out.new }
+{
+    let mut runner = runner;
+    let finish = stream(alloc, &mut runner, rows, files, out);
+    end_of(alloc, finish)
+}
+
+fn end_of(alloc: Global, finish: Finish) -> Outcome
+    ensures { IsEndOf finish result }
+{
+    match finish {
+        Finish::Done => Outcome::plain(alloc, Status::Ok),
+        Finish::Trapped => Outcome::plain(alloc, Status::Trapped),
+        Finish::BadRows { line } => {
+            Outcome::numbered(alloc, Status::BadRows, "rows: line ", u64::from(line))
+        }
+        Finish::ReadFault => Outcome::plain(alloc, Status::ReadFault),
+        Finish::WriteFault => Outcome::plain(alloc, Status::WriteFault),
+        Finish::NoMemory => Outcome::plain(alloc, Status::NoMemory),
+    }
+}

@@ -1,0 +1,78 @@
+//! The command `run P ROWS`.
+
+ghost use Rattle.std.specs.Prelude.{◌≡◌, ◌≤◌, true, IfOk};
+ghost use Rattle.bl_crun.specs.Cause.{Runs};
+ghost use Rattle.bl_crun.specs.Running.{loaded};
+ghost use Rattle.bl_early.specs.Form.{is_early};
+ghost use Rattle.bl_io.specs.Count.{NeverFell};
+ghost use Rattle.bl_stream.specs.Streams.{course_of};
+ghost use Rattle.bl_top.specs.Notes.{line_in};
+ghost use Rattle.bl_top.specs.Reads.{ReadsTwo, source_limit};
+ghost use Rattle.bl_top.specs.Run.{RunEnds};
+ghost use Rattle.bl_top.specs.Traces.{HasCourse};
+
+use crate::emitted::c_file;
+use crate::outcome::Outcome;
+use crate::rows::run_over;
+use crate::source::program_of;
+use crate::status::Status;
+use bl_crun::{LoadFault, Runner};
+use bl_io::{Files, Sink};
+use bl_stream::laws::{rows_of_bytes_fit, rows_of_lines_fit};
+use bl_tree::{NoMemory, Program};
+use std::alloc::Global;
+
+/// Runs the source file of this name over a file of rows.
+pub fn run<F: Files, O: Sink>(
+    alloc: Global,
+    source: &str,
+    rows: &str,
+    files: &mut F,
+    out: &mut O,
+) -> Outcome
+    ensures ends { RunEnds (record {
+      left = F.left files.old;
+      file = λ name. record { before = F.faults files.old name; after = F.faults files.new name };
+      out = record { before = O.faults out.old; after = O.faults out.new };
+      before = O.held out.old;
+      after = O.held out.new;
+    }) source.now rows.now result.status (line_in result) }
+    ensures reads { ReadsTwo source_limit source.now rows.now (F.left files.old) (F.left files.new) }
+    ensures file_counts { NeverFell (F.faults files.old) (F.faults files.new) }
+    ensures out_count { O.faults out.old ≤ O.faults out.new }
+{
+    let program = match program_of(alloc, source, files) {
+        Ok(program) => program,
+        Err(outcome) => return outcome,
+    };
+    match runner_of(alloc, &program) {
+        Ok(runner) => run_over(alloc, runner, rows, files, out),
+        Err(_) => Outcome::plain(alloc, Status::NoMemory),
+    }
+}
+
+/// The C file of a program of the form, loaded.
+fn runner_of(alloc: Global, program: &Program) -> Result<Runner, NoMemory>
+    requires { is_early program.now.structs program.now.units ≡ true }
+    ensures course { IfOk result (λ runner. HasCourse program.now.structs program.now.units program.now.entry (course_of runner.parts)) }
+    ensures fresh { IfOk result (λ runner. runner ≡ loaded runner.parts) }
+    ensures runs { IfOk result (λ runner. Runs runner.parts) }
+{
+    rows_of_bytes_fit();
+    rows_of_lines_fit();
+    let file = c_file(alloc, program)?;
+    match Runner::load(alloc, file) {
+        Ok(runner) => Ok(runner),
+        Err((_, fault)) => Err(wanting(fault)),
+    }
+}
+
+/// What the file of a program wants that isn't loaded: it is well formed and not too large.
+fn wanting(fault: LoadFault) -> NoMemory
+    requires { fault ≡ LoadFault.NoMemory }
+{
+    match fault {
+        LoadFault::NoMemory => NoMemory,
+        LoadFault::IllFormed { .. } | LoadFault::TooLarge { .. } => unreachable!(),
+    }
+}

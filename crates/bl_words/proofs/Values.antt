@@ -1,0 +1,98 @@
+-- How commands with one value and with two are read, whatever their names.
+use Rattle.std.proofs.Common.{◌≡◌, ◌∙◌, ◌==◌, false, true, inl, inr, ℕ, refl, sym, ap, ap₂, List, [], ◌∷◌, Option, Some, codes, true≢false}
+use Rattle.std.specs.List.{list_all}
+use Rattle.clap.specs.Faults.{level_fault}
+use Rattle.clap.specs.Simple.{Shape, rows_at}
+use Rattle.clap.specs.Walk.{Text, first_of, nothing_held}
+use Rattle.clap.specs.declared.error.kind.ErrorKind.TheVariants.{MissingRequiredArgument, UnknownArgument}
+use Rattle.clap.proofs.OnLiterals.{clap_on_literals}
+use Rattle.bl_words.specs.CommandLine.{named_read, one_command, one_read, two_command, two_read}
+use Rattle.bl_words.specs.Jobs.{JobSpec, Word, is_plain_word, of_one, of_two}
+use Rattle.bl_words.proofs.Program.{TakesAs, built_command, no_hyphen, others_plain}
+
+-- the commands as the parser builds them
+abbrev pub one : Text → Shape
+one name = built_command (one_command name)
+
+abbrev pub two : Text → Shape
+two name = built_command (two_command name)
+
+-- ---- one value
+
+one_fine : (name : Text) (byte : ℕ) (rest : Text) → (byte == 45) ≡ false → level_fault (one name) [] nothing_held ((byte ∷ rest) ∷ []) false [] ≡ []
+unfolding clap_on_literals
+one_fine name byte rest plain = rw (plain, plain) refl
+
+one_value : (name : Text) (byte : ℕ) (rest : Text) → (byte == 45) ≡ false → first_of (codes "first") (rows_at (one name) ((byte ∷ rest) ∷ [])).1 ≡ Some (byte ∷ rest)
+unfolding clap_on_literals
+one_value name byte rest plain = rw (plain, plain) refl
+
+one_too_many : (name : Text) (byte : ℕ) (rest : Text) (next : ℕ) (others : Text) (more : List Text) → (byte == 45) ≡ false → (next == 45) ≡ false
+    → level_fault (one name) [] nothing_held ((byte ∷ rest) ∷ ((next ∷ others) ∷ more)) false [] ≡ UnknownArgument ∷ []
+unfolding clap_on_literals
+one_too_many name byte rest next others more first second = rw (first, first, second, second) refl
+
+module _ (name : Text) (job : Word → JobSpec) (read : (first second : Option Text) → named_read name first second ≡ one_read job first) where
+  pub one_taken : (values : List Text) → list_all is_plain_word values ≡ true → TakesAs (one name) (of_one job values) values
+  unfolding clap_on_literals
+  one_taken [] plain = inr (λ none. cc, refl)
+  one_taken ([] ∷ more) plain = absurd (true≢false (sym plain))
+  one_taken ((byte ∷ rest) ∷ []) plain =
+      let first = no_hyphen byte rest [] plain in
+      let rows = (rows_at (one name) ((byte ∷ rest) ∷ [])).1 in
+      inl (one_fine name byte rest first, read (first_of (codes "first") rows) (first_of (codes "second") rows) ∙ ap (one_read job) (one_value name byte rest first))
+  one_taken ((byte ∷ rest) ∷ ([] ∷ more)) plain = absurd (true≢false (sym (others_plain (byte ∷ rest) ([] ∷ more) plain)))
+  one_taken ((byte ∷ rest) ∷ ((next ∷ others) ∷ more)) plain =
+      let first = no_hyphen byte rest ((next ∷ others) ∷ more) plain in
+      let second = no_hyphen next others more (others_plain (byte ∷ rest) ((next ∷ others) ∷ more) plain) in
+      let refused = one_too_many name byte rest next others more first second in
+      inr (λ none. let bad : UnknownArgument ∷ [] ≡ [] = sym refused ∙ none in cc, refl)
+
+-- ---- two values
+
+two_missing : (name : Text) (byte : ℕ) (rest : Text) → (byte == 45) ≡ false → level_fault (two name) [] nothing_held ((byte ∷ rest) ∷ []) false [] ≡ MissingRequiredArgument ∷ []
+unfolding clap_on_literals
+two_missing name byte rest plain = rw (plain, plain) refl
+
+two_fine : (name : Text) (byte : ℕ) (rest : Text) (next : ℕ) (others : Text) → (byte == 45) ≡ false → (next == 45) ≡ false
+    → level_fault (two name) [] nothing_held ((byte ∷ rest) ∷ ((next ∷ others) ∷ [])) false [] ≡ []
+unfolding clap_on_literals
+two_fine name byte rest next others first second = rw (first, first, second, second) refl
+
+two_first : (name : Text) (byte : ℕ) (rest : Text) (next : ℕ) (others : Text) → (byte == 45) ≡ false → (next == 45) ≡ false
+    → first_of (codes "first") (rows_at (two name) ((byte ∷ rest) ∷ ((next ∷ others) ∷ []))).1 ≡ Some (byte ∷ rest)
+unfolding clap_on_literals
+two_first name byte rest next others first second = rw (first, first, second, second) refl
+
+two_second : (name : Text) (byte : ℕ) (rest : Text) (next : ℕ) (others : Text) → (byte == 45) ≡ false → (next == 45) ≡ false
+    → first_of (codes "second") (rows_at (two name) ((byte ∷ rest) ∷ ((next ∷ others) ∷ []))).1 ≡ Some (next ∷ others)
+unfolding clap_on_literals
+two_second name byte rest next others first second = rw (first, first, second, second) refl
+
+two_too_many : (name : Text) (byte : ℕ) (rest : Text) (next : ℕ) (others : Text) (last : ℕ) (end : Text) (more : List Text) → (byte == 45) ≡ false → (next == 45) ≡ false
+    → (last == 45) ≡ false → level_fault (two name) [] nothing_held ((byte ∷ rest) ∷ ((next ∷ others) ∷ ((last ∷ end) ∷ more))) false [] ≡ UnknownArgument ∷ []
+unfolding clap_on_literals
+two_too_many name byte rest next others last end more first second third = rw (first, first, second, second, third, third) refl
+
+module _ (name : Text) (job : Word → Word → JobSpec) (read : (first second : Option Text) → named_read name first second ≡ two_read job first second) where
+  two_taken_more : (byte : ℕ) (rest : Text) (next : ℕ) (others : Text) (more : List Text) → (byte == 45) ≡ false → (next == 45) ≡ false
+      → list_all is_plain_word more ≡ true → TakesAs (two name) (of_two job ((byte ∷ rest) ∷ ((next ∷ others) ∷ more))) ((byte ∷ rest) ∷ ((next ∷ others) ∷ more))
+  two_taken_more byte rest next others [] first second plain =
+      inl (two_fine name byte rest next others first second, read _ _ ∙ ap₂ (two_read job) (two_first name byte rest next others first second) (two_second name byte rest next others first second))
+  two_taken_more byte rest next others ([] ∷ more) first second plain = absurd (true≢false (sym plain))
+  two_taken_more byte rest next others ((last ∷ end) ∷ more) first second plain =
+      let refused = two_too_many name byte rest next others last end more first second (no_hyphen last end more plain) in
+      inr (λ none. let bad : UnknownArgument ∷ [] ≡ [] = sym refused ∙ none in cc, refl)
+
+  pub two_taken : (values : List Text) → list_all is_plain_word values ≡ true → TakesAs (two name) (of_two job values) values
+  unfolding clap_on_literals
+  two_taken [] plain = inr (λ none. cc, refl)
+  two_taken ([] ∷ more) plain = absurd (true≢false (sym plain))
+  two_taken ((byte ∷ rest) ∷ []) plain =
+      let refused = two_missing name byte rest (no_hyphen byte rest [] plain) in
+      inr (λ none. let bad : MissingRequiredArgument ∷ [] ≡ [] = sym refused ∙ none in cc, refl)
+  two_taken ((byte ∷ rest) ∷ ([] ∷ more)) plain = absurd (true≢false (sym (others_plain (byte ∷ rest) ([] ∷ more) plain)))
+  two_taken ((byte ∷ rest) ∷ ((next ∷ others) ∷ more)) plain =
+      let first = no_hyphen byte rest ((next ∷ others) ∷ more) plain in
+      let after = others_plain (byte ∷ rest) ((next ∷ others) ∷ more) plain in
+      two_taken_more byte rest next others more first (no_hyphen next others more after) (others_plain (next ∷ others) more after)
