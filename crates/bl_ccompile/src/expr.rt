@@ -14,7 +14,7 @@ use crate::maps::find;
 use crate::place::{Walk, walk_to};
 use bl_ccode::instruction::{Callee, Instruction};
 use bl_tree::c::{CArg, CCall, CExpr, CExprKind, CIndex, CPlace, CStep, CType};
-use bl_tree::{NoMemory, Op};
+use bl_tree::{Box, NoMemory, Op};
 
 /// Code that pushes the value of an expression.
 #[cycle(expressions)]
@@ -83,7 +83,7 @@ fn measured(here: &Here<'_, '_>, code: &mut Front, e: &CExpr) -> Result<u32, NoM
 fn element(
     here: &Here<'_, '_>,
     code: &mut Front,
-    index: &Option<CIndex>,
+    index: &Option<Box<CIndex>>,
     found: Option<Laid<'_>>,
 ) -> Result<(), NoMemory>
     ensures { OnOk result (code.new ≡ joined (map term_code (term_if (ground_of here.now) (option_map laid_of found.entry) index.now)) ++ code.old) }

@@ -13,8 +13,8 @@ use crate::front::{Front, small};
 use crate::here::{Here, Sizes, struct_size};
 use crate::place::walk_to;
 use bl_ccode::instruction::Instruction;
-use bl_tree::NoMemory;
 use bl_tree::c::{CCall, CExpr, CPlace, CStmt, CStmtKind, CType};
+use bl_tree::{Box, NoMemory};
 
 /// The code of a statement. Behind the loop around it stands so much code.
 #[cycle(statements)]
@@ -97,7 +97,11 @@ fn call_alone(here: &Here<'_, '_>, code: &mut Front, called: &CCall) -> Result<(
     code.put(Instruction::Count)
 }
 
-fn give_back(here: &Here<'_, '_>, code: &mut Front, value: &Option<CExpr>) -> Result<(), NoMemory>
+fn give_back(
+    here: &Here<'_, '_>,
+    code: &mut Front,
+    value: &Option<Box<CExpr>>,
+) -> Result<(), NoMemory>
     ensures { OnOk result (code.new ≡ return_code value.now (ground_of here.now) ++ code.old) }
 {
     code.put(Instruction::Return)?;
@@ -106,7 +110,7 @@ fn give_back(here: &Here<'_, '_>, code: &mut Front, value: &Option<CExpr>) -> Re
 }
 
 /// Code that pushes what is returned.
-fn given(here: &Here<'_, '_>, code: &mut Front, value: &Option<CExpr>) -> Result<(), NoMemory>
+fn given(here: &Here<'_, '_>, code: &mut Front, value: &Option<Box<CExpr>>) -> Result<(), NoMemory>
     ensures { OnOk result (code.new ≡ given_code value.now (ground_of here.now) ++ code.old) }
 {
     match value {

@@ -13,7 +13,5 @@ mod odd;
 mod places;
 mod prelude;
 mod run;
-#[cfg(test)]
-mod tests;
 
 pub use machine::Machine;

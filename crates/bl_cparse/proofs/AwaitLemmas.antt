@@ -1,5 +1,5 @@
 -- What is expected behind parts that are open, where one is opened or closed.
-use Rattle.std.proofs.Common.{◌≡◌, List, [], ◌∷◌, ◌++◌, refl, sym, ap, ◌∙◌, append_assoc, append-nil}
+use Rattle.std.proofs.Common.{◌≡◌, List, [], ◌∷◌, ◌++◌, sym, ap, ◌∙◌, append_assoc, append-nil}
 use Rattle.bl_csyntax.specs.Grammar.{Wanted}
 use Rattle.bl_cparse.specs.Awaiting.{unwound}
 

@@ -9,7 +9,7 @@ use Rattle.bl_grammar.specs.declared.symbol.Symbol.TheVariants.{Terminal}
 use Rattle.bl_grammar.specs.Derivations.Derives.{terminal}
 use Rattle.bl_grammar.proofs.Predictive.{not_both, or_left, or_right, expansion, fold_in, join}
 use Rattle.bl_csyntax.specs.declared.grammar.Digits.TheVariants.{Elements, Int, Negated, Unsigned}
-use Rattle.bl_csyntax.specs.declared.grammar.Group.TheVariants.{PlainLiterals, Operators, IndexFunctions, PreludeFunctions}
+use Rattle.bl_csyntax.specs.declared.grammar.Group.TheVariants.{PlainLiterals, IndexFunctions}
 use Rattle.bl_csyntax.specs.declared.grammar.Part.TheVariants.{Expr, Simple, Constant, Inside, Negative, NameUse, Steps, Index, Args, ArgRest, Arg, Place}
 use Rattle.bl_csyntax.specs.Pieces.{is_same, first_of}
 use Rattle.bl_csyntax.specs.Classes.{Class, is_number, matches}

@@ -1,15 +1,15 @@
 -- What is expected of structs and functions, by the piece that stands next.
-use Rattle.std.proofs.Common.{◌≡◌, ℕ, ◌-◌, Bool, true, false, List, [], ◌∷◌, ◌++◌, map, codes, refl, sym, ap, ◌∙◌, subst}
+use Rattle.std.proofs.Common.{◌≡◌, ℕ, ◌-◌, Bool, true, false, List, [], ◌∷◌, ◌++◌, map, codes, refl, sym, subst}
 use Rattle.bl_ctext.specs.Token.{Token}
 use Rattle.bl_ctext.specs.Names.{is_among, is_name, is_struct_name, is_function_name, is_turn_name}
 use Rattle.bl_grammar.specs.declared.symbol.Symbol.TheVariants.{Terminal}
 use Rattle.bl_csyntax.specs.declared.grammar.Digits.TheVariants.{Elements}
-use Rattle.bl_csyntax.specs.declared.grammar.Group.TheVariants.{ScalarTypes, StructWords, FunctionWords}
+use Rattle.bl_csyntax.specs.declared.grammar.Group.TheVariants.{StructWords, FunctionWords}
 use Rattle.bl_csyntax.specs.declared.grammar.Part.TheVariants.{File, Structs, Struct, StructName, Members, Member, TypeName, Length, Funcs, Func, PlainFunc, FuncRest, FuncName, Params, ParamRest, Param, Star, Locals, Local, Stmts}
 use Rattle.bl_csyntax.specs.Pieces.{is_same, first_of}
 use Rattle.bl_csyntax.specs.Classes.{Class, is_number, matches}
 use Rattle.bl_csyntax.specs.Classes.Class.{exactly, one_of, a_name, number}
-use Rattle.bl_csyntax.specs.Grammar.{Wanted, Production, IsAmong, productions, plain, word, name, digits, the, inside}
+use Rattle.bl_csyntax.specs.Grammar.{Wanted, Production, IsAmong, productions, plain, word, name, digits, the}
 use Rattle.bl_csyntax.specs.Grammar.IsAmong.{here, later}
 use Rattle.bl_csyntax.specs.Tables.{has, starts, absent}
 use Rattle.bl_csyntax.specs.Expects.{Expects}

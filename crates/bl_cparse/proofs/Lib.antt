@@ -10,7 +10,7 @@ pub mod PartialLemmas
 pub mod PlacedLemmas
 pub mod PlaceLemmas
 pub mod ReadLemmas
-pub mod SetLemmas
+pub mod LoopLemmas
 pub mod SpotLemmas
 pub mod StmtLemmas
 pub mod StmtOpening

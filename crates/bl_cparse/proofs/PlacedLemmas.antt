@@ -1,5 +1,5 @@
 -- A file whose places are set keeps its tokens and its spelling.
-use Rattle.std.proofs.Common.{◌≡◌, ℕ, Bool, nat_le, List, [], ◌∷◌, ◌++◌, length, map, refl, sym, ap, subst, ◌∙◌}
+use Rattle.std.proofs.Common.{◌≡◌, ℕ, Bool, nat_le, List, [], ◌∷◌, ◌++◌, length, map, refl, sym, ap, ◌∙◌}
 use Rattle.std.specs.Prelude.{◌&&◌}
 use Rattle.bl_tree.specs.declared.c.CStruct.{CStruct}
 use Rattle.bl_tree.specs.declared.c.CFunc.{CFunc}
@@ -52,14 +52,3 @@ pub walked : (text : List ℕ) (structs : List CStruct) (funcs : List CFunc) (fr
 walked text structs funcs from between behind is h k =
     ap (λ spot. (and_then pair (in_turn (map struct_walk structs) spot) (in_turn (map func_walk funcs))).0) (there text from is)
     ∙ (ap (λ r. (and_then pair r (in_turn (map func_walk funcs))).0) h ∙ ap (λ (r : List CFunc × Spot). pair structs r.0) k)
-
-already : (text : List ℕ) (structs : List CStruct) (funcs : List CFunc) (from behind : Spot) → from ≡ standing text PRELUDE.now →
-    and_then pair (in_turn (map struct_walk structs) from) (in_turn (map func_walk funcs)) ≡ (pair structs funcs, behind) → has_places text structs funcs
-already text structs funcs from behind is h =
-    ap (λ spot. (and_then pair (in_turn (map struct_walk structs) spot) (in_turn (map func_walk funcs))).0) (there text from is) ∙ ap (λ r. r.0) h
-
--- of the lists that were tested
-pub set_already : (text : List ℕ) (structs tested : List CStruct) (funcs others : List CFunc) (from behind : Spot) → from ≡ standing text PRELUDE.now → tested ≡ structs → others ≡ funcs →
-    and_then pair (in_turn (map struct_walk tested) from) (in_turn (map func_walk others)) ≡ (pair tested others, behind) → has_places text structs funcs
-set_already text structs tested funcs others from behind is same_structs same_funcs h =
-    subst (λ all. has_places text all funcs) same_structs (subst (λ all. has_places text tested all) same_funcs (already text tested others from behind is h))

@@ -1,5 +1,5 @@
 -- How a reader knows what stands next.
-use Rattle.std.proofs.Common.{◌≡◌, ℕ, zero, suc, ◌-◌, ◌≤◌, Bool, true, false, cond, ◌||◌, List, [], ◌∷◌, ◌++◌, map, refl, ap, sym, ◌∙◌, subst, arith}
+use Rattle.std.proofs.Common.{◌≡◌, ℕ, zero, suc, ◌-◌, ◌≤◌, Bool, true, false, cond, List, [], ◌∷◌, ◌++◌, map, refl, ap, sym, ◌∙◌, subst, arith}
 use Rattle.std.specs.Prelude.{Option, Some, None, nat_le, Result, Ok, Err, IsErrAnd, MatchOption, MatchResult}
 use Rattle.std.proofs.lemmas.Bool.{leb-true}
 use Rattle.bl_ctext.specs.Token.{Token}
@@ -9,18 +9,17 @@ use Rattle.bl_grammar.specs.declared.symbol.Symbol.TheVariants.{Terminal, Nonter
 use Rattle.bl_grammar.specs.Derivations.Derives.{terminal}
 use Rattle.bl_grammar.proofs.Predictive.{same_some, no_some, not_both, expansion, good_expand, join}
 use Rattle.bl_csyntax.specs.declared.grammar.Part.{Part}
-use Rattle.bl_csyntax.specs.declared.grammar.Roomed.{Roomed}
 use Rattle.bl_csyntax.specs.Pieces.{first_of}
 use Rattle.bl_csyntax.specs.Classes.{Class, matches}
 use Rattle.bl_csyntax.specs.Classes.Class.{exactly}
 use Rattle.bl_csyntax.specs.Grammar.{Shape, Wanted, Production, Produces, IsAmong, productions, named, placed}
-use Rattle.bl_csyntax.specs.Tables.{has, firsts, starts, absent, choices, chosen, decided, pick, turn_of, wanted_of}
-use Rattle.bl_csyntax.specs.Stack.{tables, IsGood}
-use Rattle.bl_csyntax.specs.Expects.{Expects, StandsNext}
+use Rattle.bl_csyntax.specs.Tables.{has, firsts, starts, absent, decided, pick, turn_of, wanted_of}
+use Rattle.bl_csyntax.specs.Stack.{tables}
+use Rattle.bl_csyntax.specs.Expects.{Expects}
 use Rattle.bl_csyntax.proofs.Right.{chosen_of, unpicked}
 use Rattle.bl_csyntax.proofs.ClassLemmas.{exactly_is}
 use Rattle.bl_csyntax.proofs.Predictive.{predictive}
-use Rattle.bl_csyntax.proofs.Expecting.{expects_production, expects_absent, expects_token, expects_nothing}
+use Rattle.bl_csyntax.proofs.Expecting.{expects_production, expects_absent, expects_token}
 use Rattle.bl_cparse.specs.declared.refusal.CRefusal.{CRefusal}
 use Rattle.bl_cparse.specs.Reading.{sign, part, WantsMemory}
 

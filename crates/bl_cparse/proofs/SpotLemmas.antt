@@ -1,8 +1,8 @@
 -- Where the next piece of a text stands.
-use Rattle.std.proofs.Common.{◌≡◌, ℕ, zero, suc, ◌+◌, ◌-◌, ◌<◌, ◌≤◌, Bool, true, false, cond, ◌⊎◌, inl, inr, ⊎_elim, List, [], ◌∷◌, length, drop, take, get_or, refl, sym, ap, ◌∙◌, subst, arith}
+use Rattle.std.proofs.Common.{◌≡◌, ℕ, zero, suc, ◌+◌, ◌-◌, ◌<◌, ◌≤◌, Bool, true, false, cond, ⊎_elim, List, [], ◌∷◌, length, drop, get_or, refl, sym, ap, ◌∙◌, subst, arith}
 use Rattle.std.specs.Prelude.{slice_range}
 use Rattle.std.proofs.str.Laws.{order}
-use Rattle.std.proofs.lemmas.List.{drop_all, length-drop, length-take-le, drop-drop, get_or-drop}
+use Rattle.std.proofs.lemmas.List.{length-drop, length-take-le, drop-drop, get_or-drop}
 use Rattle.bl_ctext.specs.Token.{Token, is_blank, is_double_sign, is_word_byte}
 use Rattle.std.specs.Prelude.{◌&&◌}
 use Rattle.bl_ctext.specs.Cut.{put_before}
@@ -10,7 +10,7 @@ use Rattle.bl_ctext.proofs.Bytes.{joined-not_blank, or-snd}
 use Rattle.bl_csyntax.specs.Pieces.{cut_off, pieces, left_of, first_of}
 use Rattle.bl_csyntax.proofs.Ranges.{drop_more}
 use Rattle.bl_csyntax.proofs.PieceLemmas.{first_left}
-use Rattle.bl_cparse.specs.HasPlaces.{Spot, blanks, start_of, end_of, next, past}
+use Rattle.bl_cparse.specs.HasPlaces.{Spot, blanks, next, past}
 
 -- how many of the bytes are no blanks
 abbrev solid : List ℕ → ℕ

@@ -1,20 +1,18 @@
 -- What is expected of statements, by the piece that stands next.
-use Rattle.std.proofs.Common.{◌≡◌, ℕ, ◌-◌, ◌≤◌, Bool, true, false, ◌||◌, List, [], ◌∷◌, ◌++◌, map, codes, refl, sym, ap, ◌∙◌, subst, arith}
+use Rattle.std.proofs.Common.{◌≡◌, ℕ, ◌-◌, ◌≤◌, true, false, List, [], ◌∷◌, ◌++◌, map, codes, refl, sym, ap, ◌∙◌, subst}
 use Rattle.std.specs.Prelude.{Result, Ok, Err, IfOk, MatchResult}
 use Rattle.bl_ctext.specs.Token.{Token}
 use Rattle.bl_ctext.specs.Names.{is_among, is_name, is_turn_name}
-use Rattle.bl_grammar.specs.declared.symbol.Symbol.TheVariants.{Terminal}
 use Rattle.bl_grammar.proofs.Predictive.{not_both}
-use Rattle.bl_csyntax.specs.declared.grammar.Group.TheVariants.{PreludeFunctions}
 use Rattle.bl_csyntax.specs.declared.grammar.Part.{Part}
 use Rattle.bl_csyntax.specs.declared.grammar.Part.TheVariants.{Stmts, Stmt, Else, Turns, AfterName, AssignTail, Value, AfterOpen, Expr, Simple, Inside, StructName, Index, Steps, Args}
 use Rattle.bl_csyntax.specs.declared.grammar.Part.TheVariants as APart
 use Rattle.bl_csyntax.specs.Pieces.{is_same, first_of}
 use Rattle.bl_csyntax.specs.Classes.{is_number, matches}
-use Rattle.bl_csyntax.specs.Classes.Class.{exactly, one_of, a_name}
-use Rattle.bl_csyntax.specs.Grammar.{Wanted, Production, IsAmong, productions, plain, needing, word, name, the, inside, turn_name, turns}
+use Rattle.bl_csyntax.specs.Classes.Class.{exactly}
+use Rattle.bl_csyntax.specs.Grammar.{Wanted, Production, IsAmong, productions, plain, needing, word, name, the, inside}
 use Rattle.bl_csyntax.specs.Grammar.IsAmong.{here, later}
-use Rattle.bl_csyntax.specs.Tables.{has, starts, absent, turn_of}
+use Rattle.bl_csyntax.specs.Tables.{has, starts, absent}
 use Rattle.bl_csyntax.specs.Expects.{Expects}
 use Rattle.bl_csyntax.proofs.ClassLemmas.{exactly_is}
 use Rattle.bl_cspelling.proofs.Pieces.{name_is}

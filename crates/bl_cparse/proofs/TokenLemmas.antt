@@ -8,7 +8,7 @@ use Rattle.std.proofs.lemmas.Str.{IsUtf8-from_ascii}
 use Rattle.std.proofs.lemmas.Str.Ascii.{IsAscii-nil, IsAscii-cons}
 use Rattle.bl_tree.specs.Reduce.{all_of}
 use Rattle.bl_ctext.specs.Token.{Token, is_word_byte, is_word, is_token}
-use Rattle.bl_ctext.specs.Names.{is_among, is_name, is_struct_name, is_function_name, is_callee, is_turn_name}
+use Rattle.bl_ctext.specs.Names.{is_name, is_struct_name, is_function_name, is_callee, is_turn_name}
 use Rattle.bl_ctext.specs.Spellable.{has_any}
 use Rattle.bl_ctext.proofs.Bytes.{and-fst, and-snd, both, either}
 use Rattle.bl_ctext.proofs.Words.{turn_name-token, decimal-token}

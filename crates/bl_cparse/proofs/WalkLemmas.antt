@@ -1,11 +1,10 @@
 -- Walks over lists, with one part more.
-use Rattle.std.proofs.Common.{◌≡◌, ℕ, suc, ◌+◌, ◌<◌, Bool, true, false, List, [], ◌∷◌, ◌++◌, length, drop, get_or, map, refl, sym, ap, ◌∙◌, add-one}
-use Rattle.std.proofs.Math.Seq.{drop-cons}
-use Rattle.std.specs.Prelude.{codes}
-use Rattle.std.proofs.lemmas.List.{map-append}
+use Rattle.std.proofs.Common.{◌≡◌, ℕ, zero, suc, ◌+◌, ◌<◌, Bool, true, false, nat_eq, List, [], ◌∷◌, ◌++◌, length, take, get_or, map, slice_set, refl, sym, ap, subst, ◌∙◌, arith}
+use Rattle.std.proofs.Math.Seq.{map-set_same}
+use Rattle.std.proofs.lemmas.Bool.{eqb-true}
+use Rattle.std.proofs.lemmas.List.{take_more_set}
 use Rattle.bl_ctext.specs.Spelling.{comma_before}
-use Rattle.bl_ctext.specs.Spellable.{has_any}
-use Rattle.bl_cparse.specs.HasPlaces.{Spot, Walk, past, and_then, in_turn, in_list}
+use Rattle.bl_cparse.specs.HasPlaces.{Spot, Walk, past, in_turn, in_list}
 
 first_is : {A : Type 0} (a b : A) (us vs : List A) → a ∷ us ≡ b ∷ vs → a ≡ b
 first_is a b us vs e = cc
@@ -47,27 +46,27 @@ list_more f true (y ∷ xs) x from between behind none empty h k = absurd (no_co
     no_cons e = cc
 list_more f false (y ∷ xs) x from between behind none empty h k = list_on f true y xs x from between behind h k
 
-pub mapped_more : {A B : Type 0} (f : A → B) (xs ys : List A) (x y : A) → map f xs ≡ map f ys → f x ≡ f y → map f (xs ++ x ∷ []) ≡ map f (ys ++ y ∷ [])
-mapped_more f xs ys x y h k = map-append f xs (x ∷ []) ∙ (ap (λ vs. vs ++ f x ∷ []) h ∙ (ap (λ b. map f ys ++ b ∷ []) k ∙ sym (map-append f ys (y ∷ []))))
+-- the same where the part stands in a list, behind those that have their places
+pub turn_set : {A : Type 0} (f : A → Walk A) (xs : List A) (k : ℕ) (x : A) (from between behind : Spot) → k < length xs → in_turn (map f (take k xs)) from ≡ (take k xs, between) →
+    f x between ≡ (x, behind) → in_turn (map f (take (k + 1) (slice_set xs k x))) from ≡ (take (k + 1) (slice_set xs k x), behind)
+turn_set f xs k x from between behind within h step =
+    subst (λ ys. in_turn (map f ys) from ≡ (ys, behind)) (sym (take_more_set xs k x within)) (turn_more f (take k xs) x from between behind h step)
 
--- what is left of a list has its places where its first part has them, and then the rest
-pub turn_begun : {A : Type 0} (f : A → Walk A) (all rest : List A) (x : A) (from between behind : Spot) → all ≡ x ∷ rest → f x from ≡ (x, between) → in_turn (map f rest) between ≡ (rest, behind) →
-    in_turn (map f all) from ≡ (all, behind)
-turn_begun f all rest x from between behind is h k =
-    ap (λ ys. in_turn (map f ys) from) is
-    ∙ (ap (λ walked. and_then (λ y ys. y ∷ ys) walked (in_turn (map f rest))) h ∙ (ap (λ r. (x ∷ r.0, r.1)) k ∙ ap (λ ys. (ys, behind)) (sym is)))
+none_taken : {A : Type 0} (xs : List A) (k : ℕ) → k < length xs → nat_eq k 0 ≡ true → take k xs ≡ []
+none_taken xs zero within h = refl
+none_taken xs (suc k) within h = absurd (omega (arith, eqb-true (suc k) 0 h))
 
-pub list_begun : {A : Type 0} (f : A → Walk A) (first : Bool) (all rest : List A) (x : A) (from between behind : Spot) → all ≡ x ∷ rest → f x (past (comma_before first) from) ≡ (x, between) →
-    in_list false (map f rest) between ≡ (rest, behind) → in_list first (map f all) from ≡ (all, behind)
-list_begun f first all rest x from between behind is h k =
-    ap (λ ys. in_list first (map f ys) from) is
-    ∙ (ap (λ walked. and_then (λ y ys. y ∷ ys) walked (in_list false (map f rest))) h ∙ (ap (λ r. (x ∷ r.0, r.1)) k ∙ ap (λ ys. (ys, behind)) (sym is)))
+taken_none : {A : Type 0} (xs : List A) (k : ℕ) → k < length xs → take k xs ≡ [] → nat_eq k 0 ≡ true
+taken_none xs zero within h = refl
+taken_none [] (suc k) within h = elim within [ ]
+taken_none (x ∷ xs) (suc k) within h = cc
 
-pub turn_ended : {A : Type 0} (f : A → Walk A) (left : List A) (at : Spot) → left ≡ [] → in_turn (map f left) at ≡ (left, at)
-turn_ended f left at is = ap (λ ys. in_turn (map f ys) at) is ∙ ap (λ ys. (ys, at)) (sym is)
+pub list_set : {A : Type 0} (f : A → Walk A) (xs : List A) (k : ℕ) (x : A) (from between behind : Spot) → k < length xs → in_list true (map f (take k xs)) from ≡ (take k xs, between) →
+    f x (past (comma_before (nat_eq k 0)) between) ≡ (x, behind) → in_list true (map f (take (k + 1) (slice_set xs k x))) from ≡ (take (k + 1) (slice_set xs k x), behind)
+list_set f xs k x from between behind within h step =
+    subst (λ ys. in_list true (map f ys) from ≡ (ys, behind)) (sym (take_more_set xs k x within))
+    (list_more f (nat_eq k 0) (take k xs) x from between behind (none_taken xs k within) (taken_none xs k within) h step)
 
-pub list_ended : {A : Type 0} (f : A → Walk A) (first : Bool) (left : List A) (at : Spot) → left ≡ [] → in_list first (map f left) at ≡ (left, at)
-list_ended f first left at is = ap (λ ys. in_list first (map f ys) at) is ∙ ap (λ ys. (ys, at)) (sym is)
-
-pub next_of : {X : Type 0} (xs : List X) (k : ℕ) (x : X) → k < length xs → x ≡ get_or xs k x → drop k xs ≡ x ∷ drop (k + 1) xs
-next_of xs k x within is = rw add-one (drop-cons xs k x within ∙ ap (λ y. y ∷ drop (suc k) xs) (sym is))
+-- what tells nothing of a part's place tells the same of the list
+pub mapped_set : {A B : Type 0} (f : A → B) (xs : List A) (k : ℕ) (x was : A) → was ≡ get_or xs k was → f x ≡ f was → map f (slice_set xs k x) ≡ map f xs
+mapped_set f xs k x was is same = map-set_same f xs k x was (same ∙ ap f is)

@@ -26,14 +26,14 @@ unwound f (x ∷ xs) = unwound f xs ++ f x
 
 -- behind a place
 abbrev pub use_wanted : Use → List Wanted
-use_wanted (Value start) = []
+use_wanted Value = []
 use_wanted (Address call) = part ArgRest call.room ∷ sign (codes ")") ∷ []
 
 -- behind an expression that is held
 abbrev pub held_wanted : Held → List Wanted
-held_wanted (held.Negation start) = sign (codes ")") ∷ []
-held_wanted (held.First start room) = operator ∷ part Expr room ∷ sign (codes ")") ∷ []
-held_wanted (held.Second start left o) = sign (codes ")") ∷ []
+held_wanted held.Negation = sign (codes ")") ∷ []
+held_wanted (held.First room) = operator ∷ part Expr room ∷ sign (codes ")") ∷ []
+held_wanted (held.Second left o) = sign (codes ")") ∷ []
 held_wanted (held.Argument call) = part ArgRest call.room ∷ sign (codes ")") ∷ []
 held_wanted (held.Index i) = sign (codes ",") ∷ elements ∷ sign (codes ")") ∷ sign (codes "]") ∷ part Steps i.place.room ∷ use_wanted i.of
 

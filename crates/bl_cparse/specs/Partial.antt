@@ -37,25 +37,25 @@ spells_root p = is_name p.name && all_of (map spells_step p.steps)
 
 -- what stands before a place
 abbrev pub use_tokens : Use → List Token
-use_tokens (Value start) = []
+use_tokens Value = []
 use_tokens (Address call) = called_front call ++ codes "&" ∷ []
 
 abbrev pub spells_use : Use → Bool
-spells_use (Value start) = true
+spells_use Value = true
 spells_use (Address call) = spells_called call
 
 -- the front of what holds an expression, up to that expression
 abbrev pub held_tokens : Held → List Token
-held_tokens (held.Negation start) = codes "(" ∷ codes "!" ∷ []
-held_tokens (held.First start room) = codes "(" ∷ []
-held_tokens (held.Second start left o) = codes "(" ∷ (expr_tokens left ++ operator_sign o ∷ [])
+held_tokens held.Negation = codes "(" ∷ codes "!" ∷ []
+held_tokens (held.First room) = codes "(" ∷ []
+held_tokens (held.Second left o) = codes "(" ∷ (expr_tokens left ++ operator_sign o ∷ [])
 held_tokens (held.Argument call) = called_front call
 held_tokens (held.Index i) = (use_tokens i.of ++ place_front i.place) ++ codes "." ∷ i.member ∷ index_front i.signed
 
 abbrev pub spells_held : Held → Bool
-spells_held (held.Negation start) = true
-spells_held (held.First start room) = true
-spells_held (held.Second start left o) = is_c_operator o && spells_expr left
+spells_held held.Negation = true
+spells_held (held.First room) = true
+spells_held (held.Second left o) = is_c_operator o && spells_expr left
 spells_held (held.Argument call) = spells_called call
 spells_held (held.Index i) = spells_use i.of && (spells_root i.place && is_name i.member)
 

@@ -1,4 +1,4 @@
-//! Parts of a tree, with what spells them.
+//! Parts of a tree, with what spells them. Their places are set when the whole file is read.
 
 ghost use Rattle.std.specs.Prelude.{◌≡◌, [], ◌∷◌, ◌++◌, ◌&&◌, map, option_map, codes};
 ghost use Rattle.std.specs.Fmt.{decimal};
@@ -11,6 +11,9 @@ use crate::room::fitted;
 use bl_tree::c::{CArg, CCall, CExpr, CExprKind, CIndex, CPlace, CStep};
 use bl_tree::{Box, List, Op, Place, Scalar, Text};
 
+/// The place of a part until that is done.
+pub const NOWHERE: Place = Place { start: 0, end: 0 };
+
 pub fn literal(scalar: Scalar, n: i128) -> CExprKind
     ensures tokens { kind_tokens result ≡ literal_tokens scalar n }
     ensures spells { spells_kind result ≡ is_literal scalar n }
@@ -18,11 +21,14 @@ pub fn literal(scalar: Scalar, n: i128) -> CExprKind
     CExprKind::Literal(scalar, n)
 }
 
-pub fn expr(place: Place, what: CExprKind) -> CExpr
+pub fn expr(what: CExprKind) -> CExpr
     ensures tokens { expr_tokens result ≡ kind_tokens what }
     ensures spells { spells_expr result ≡ spells_kind what }
 {
-    CExpr { place, what }
+    CExpr {
+        place: NOWHERE,
+        what,
+    }
 }
 
 pub fn not(operand: Box<CExpr>) -> CExprKind
@@ -88,7 +94,7 @@ pub fn place(through: bool, name: Text, steps: List<CStep>) -> CPlace
     }
 }
 
-pub fn step(member: Text, index: Option<CIndex>) -> CStep
+pub fn step(member: Text, index: Option<Box<CIndex>>) -> CStep
     ensures tokens { step_tokens result ≡ codes "." ∷ member ∷ if_any (option_map index_tokens index) }
     ensures spells { spells_step result ≡ is_name member && none_or (option_map spells_index index) }
 {

@@ -26,8 +26,8 @@ use crate::reader::Reader;
 use crate::refusal::CRefusal;
 use bl_csyntax::check;
 use bl_ctext::{CFile, PRELUDE};
+use bl_tree::List;
 use bl_tree::c::{CFunc, CStruct};
-use bl_tree::{List, NoMemory};
 use std::alloc::Global;
 
 /// How many brackets may be open at once.
@@ -96,49 +96,23 @@ fn read(alloc: Global, text: &[u8]) -> Result<CFile, CRefusal>
     let mut reader = Reader::new(alloc, text, PRELUDE.len());
     let structs = item::structs(&mut reader)?;
     let funcs = item::funcs(&mut reader)?;
-    let file = placed(alloc, text, structs, funcs)?;
-    Ok(file)
+    Ok(placed(text, structs, funcs))
 }
 
-/// The file of these structs and functions, with the places of all parts. The readers set each as they go, and the test
-/// makes sure of it.
-fn placed(
-    alloc: Global,
-    text: &[u8],
-    structs: List<CStruct>,
-    funcs: List<CFunc>,
-) -> Result<CFile, NoMemory>
+/// The file of these structs and functions, with the places of all parts.
+fn placed(text: &[u8], structs: List<CStruct>, funcs: List<CFunc>) -> CFile
     requires short { length text.now ≤ 67108864 }
     requires long { length PRELUDE.now ≤ length text.now }
     requires spellable { IsTrue (is_spellable structs funcs) }
-    ensures placed { IfOk result (λ file. HasPlaces text.now file) }
-    ensures tokens { IfOk result (λ file. tokens_of file.structs file.funcs ≡ tokens_of structs funcs) }
+    ensures placed { HasPlaces text.now result }
+    ensures tokens { tokens_of result.structs result.funcs ≡ tokens_of structs funcs }
 {
     let mut spot = Spot::new(text, PRELUDE.len());
-    if placing::are_set(&mut spot, &structs, &funcs) {
-        return Ok(CFile { structs, funcs });
-    }
-    let file = replaced(alloc, text, structs, funcs)?;
-    Ok(file)
-}
-
-/// The same, with each place set anew.
-fn replaced(
-    alloc: Global,
-    text: &[u8],
-    structs: List<CStruct>,
-    funcs: List<CFunc>,
-) -> Result<CFile, NoMemory>
-    requires short { length text.now ≤ 67108864 }
-    requires long { length PRELUDE.now ≤ length text.now }
-    requires spellable { IsTrue (is_spellable structs funcs) }
-    ensures placed { IfOk result (λ file. HasPlaces text.now file) }
-    ensures tokens { IfOk result (λ file. tokens_of file.structs file.funcs ≡ tokens_of structs funcs) }
-{
-    let mut spot = Spot::new(text, PRELUDE.len());
-    let structs = placing::structs(alloc, &mut spot, structs)?;
-    let funcs = placing::funcs(alloc, &mut spot, funcs)?;
-    Ok(CFile { structs, funcs })
+    let mut structs = structs;
+    let mut funcs = funcs;
+    placing::structs(&mut spot, &mut structs);
+    placing::funcs(&mut spot, &mut funcs);
+    CFile { structs, funcs }
 }
 
 /// How many bytes the two begin with in common.

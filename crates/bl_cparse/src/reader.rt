@@ -12,7 +12,7 @@ ghost use Rattle.bl_cparse.specs.Reading.{sign, WantsMemory};
 
 use crate::refusal::CRefusal;
 use bl_csyntax::piece::next_piece;
-use bl_tree::{Place, Text};
+use bl_tree::Text;
 use std::alloc::{AllocError, Global};
 use std::marker::Model;
 
@@ -24,8 +24,6 @@ pub struct Reader<'a> {
     /// Where the next piece stands; both are the text's length where none is left.
     start: usize,
     end: usize,
-    /// Where the piece ends that was read last.
-    last: usize,
 }
 
 impl<'a> Model for Reader<'a> {
@@ -36,7 +34,7 @@ impl<'a> Model for Reader<'a> {
 
     ghost view = { λ r. left_of r.text.now r.start r.end };
 
-    ghost invariant = { λ r. IsAt r.text.now r.start r.end r.last };
+    ghost invariant = { λ r. IsAt r.text.now r.start r.end };
 }
 
 impl<'a> Reader<'a> {
@@ -51,7 +49,6 @@ impl<'a> Reader<'a> {
             text,
             start: first.start,
             end: first.end,
-            last: at,
         }
     }
 
@@ -66,22 +63,11 @@ impl<'a> Reader<'a> {
         self.start == self.end
     }
 
-    /// Where the next piece begins, the text's length where none is left.
-    pub fn start(&self) -> u32 {
-        self.start as u32
-    }
-
-    /// The place from an offset up to the end of what was read last.
-    pub fn place_from(&self, start: u32) -> Place {
-        Place {
-            start,
-            end: self.last as u32,
-        }
-    }
-
     /// The refusal of a text in which the next piece can't stand.
     pub fn refusal(&self) -> CRefusal {
-        CRefusal::NotSubset { at: self.start() }
+        CRefusal::NotSubset {
+            at: self.start as u32,
+        }
     }
 
     /// The bytes of the next piece; no bytes where none is left.
@@ -102,7 +88,6 @@ impl<'a> Reader<'a> {
     fn pass(&mut self)
         ensures { self.new ≡ drop 1 self.old }
     {
-        self.last = self.end;
         let next = next_piece(self.text, self.end);
         self.start = next.start;
         self.end = next.end;

@@ -8,8 +8,6 @@ mod names;
 mod places;
 mod ports;
 mod repeat;
-#[cfg(test)]
-mod tests;
 
 pub use layout::{CellKinds, kinds, lay_out};
 pub use ports::{inputs, outputs};

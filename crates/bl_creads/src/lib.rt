@@ -3,4 +3,6 @@
 #![tactic(auto)]
 
 #[cfg(test)]
+mod syntax;
+#[cfg(test)]
 mod tests;

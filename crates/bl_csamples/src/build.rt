@@ -153,7 +153,7 @@ pub fn functions(
     mut funcs: List<CFunc>,
     mut body: List<CStmt>,
 ) -> Result<List<CFunc>, Fail> {
-    body.push(returning(290, literal(291, COUNT, 0)))?;
+    body.push(returning(alloc, 290, literal(291, COUNT, 0))?)?;
     funcs.push(init(alloc)?)?;
     funcs.push(tick(alloc, body)?)?;
     Ok(funcs)
@@ -208,8 +208,9 @@ pub fn stmt(start: u32, what: CStmtKind) -> CStmt {
     }
 }
 
-pub fn returning(start: u32, value: CExpr) -> CStmt {
-    stmt(start, CStmtKind::Return(Some(value)))
+pub fn returning(alloc: Global, start: u32, value: CExpr) -> Result<CStmt, Fail> {
+    let value = Box::new(alloc, value)?;
+    Ok(stmt(start, CStmtKind::Return(Some(value))))
 }
 
 /// `(*name).of = value;`, or without the star.
@@ -222,7 +223,7 @@ pub fn set(
     value: CExpr,
 ) -> Result<CStmt, Fail> {
     let place = part(alloc, through, name, of)?;
-    Ok(stmt(start, CStmtKind::Set(place, value)))
+    Ok(stmt(start, CStmtKind::Set(place, Box::new(alloc, value)?)))
 }
 
 /// `(*s).n = value;`
@@ -230,13 +231,14 @@ pub fn set_state(alloc: Global, start: u32, value: CExpr) -> Result<CStmt, Fail>
     set(alloc, start, true, "s", "n", value)
 }
 
-pub fn when(alloc: Global, start: u32, condition: CExpr) -> CStmt {
-    stmt(start, CStmtKind::If(condition, List::new(alloc), None))
+pub fn when(alloc: Global, start: u32, condition: CExpr) -> Result<CStmt, Fail> {
+    let condition = Box::new(alloc, condition)?;
+    Ok(stmt(start, CStmtKind::If(condition, List::new(alloc), None)))
 }
 
 /// A loop with an empty body.
 pub fn turning(alloc: Global, start: u32, turn: &str) -> Result<CStmt, Fail> {
-    let test = literal(start, Scalar::Bool, 0);
+    let test = Box::new(alloc, literal(start, Scalar::Bool, 0))?;
     let turn = text(alloc, turn)?;
     Ok(stmt(start, CStmtKind::Loop(turn, test, List::new(alloc))))
 }
@@ -276,9 +278,10 @@ pub fn element(
     at: CExpr,
     length: u32,
 ) -> Result<CPlace, Fail> {
+    let index = Box::new(alloc, CIndex { signed, at, length })?;
     let step = CStep {
         member: text(alloc, of)?,
-        index: Some(CIndex { signed, at, length }),
+        index: Some(index),
     };
     Ok(CPlace {
         through: true,

@@ -6,7 +6,7 @@ use crate::build::{
 };
 use bl_cmeaning::check::{cells_of, first_failing};
 use bl_tree::c::{CArg, CExprKind, CFunc, CParam, CStmt, CStmtKind, CStruct, CType};
-use bl_tree::{List, Op, Scalar};
+use bl_tree::{Box, List, Op, Scalar};
 use std::alloc::Global;
 use std::test::Fail;
 
@@ -45,8 +45,8 @@ fn divided(alloc: Global) -> Result<CStmt, Fail> {
 fn ended(alloc: Global) -> Result<CStmt, Fail> {
     let left = expr(242, CExprKind::Read(part(alloc, true, "s", "n")?));
     let test = two(alloc, 241, Op::Eq, left, literal(243, INT, 0))?;
-    let block = one(alloc, returning(250, literal(251, COUNT, 1)))?;
-    Ok(stmt(240, CStmtKind::If(test, block, None)))
+    let block = one(alloc, returning(alloc, 250, literal(251, COUNT, 1))?)?;
+    Ok(stmt(240, CStmtKind::If(Box::new(alloc, test)?, block, None)))
 }
 
 fn hand_funcs(alloc: Global) -> Result<List<CFunc>, Fail> {
@@ -299,7 +299,7 @@ fn missing_init(alloc: Global) -> Result<Sample, Fail> {
 
 fn with_last_two(alloc: Global, of: CFunc) -> Result<Sample, Fail> {
     let mut funcs = one(alloc, of)?;
-    let body = one(alloc, returning(290, literal(291, COUNT, 0)))?;
+    let body = one(alloc, returning(alloc, 290, literal(291, COUNT, 0))?)?;
     funcs.push(tick(alloc, body)?)?;
     Ok(Sample {
         structs: interface(alloc)?,
@@ -351,10 +351,8 @@ fn too_few_arguments(alloc: Global) -> Result<Sample, Fail> {
 
 fn index_of_no_array(alloc: Global) -> Result<Sample, Fail> {
     let place = element(alloc, "n", true, literal(221, INT, 0), 1)?;
-    with_statement(
-        alloc,
-        stmt(213, CStmtKind::Set(place, literal(222, INT, 1))),
-    )
+    let value = Box::new(alloc, literal(222, INT, 1))?;
+    with_statement(alloc, stmt(213, CStmtKind::Set(place, value)))
 }
 
 fn assigned_byte(alloc: Global) -> Result<Sample, Fail> {
@@ -369,11 +367,11 @@ fn compared_with_byte(alloc: Global) -> Result<Sample, Fail> {
         literal(223, INT, 1),
         literal(224, BYTE, 1),
     )?;
-    with_statement(alloc, when(alloc, 215, test))
+    with_statement(alloc, when(alloc, 215, test)?)
 }
 
 fn number_as_condition(alloc: Global) -> Result<Sample, Fail> {
-    with_statement(alloc, when(alloc, 215, literal(225, INT, 1)))
+    with_statement(alloc, when(alloc, 215, literal(225, INT, 1))?)
 }
 
 fn break_outside(alloc: Global) -> Result<Sample, Fail> {
@@ -411,7 +409,7 @@ fn without_return(alloc: Global) -> Result<Sample, Fail> {
 
 // A wrong type fails at the expression, a missing one at the statement.
 fn byte_returned(alloc: Global) -> Result<Sample, Fail> {
-    with_statement(alloc, returning(210, literal(226, BYTE, 1)))
+    with_statement(alloc, returning(alloc, 210, literal(226, BYTE, 1))?)
 }
 
 fn nothing_returned(alloc: Global) -> Result<Sample, Fail> {
@@ -428,7 +426,7 @@ fn void_in_expression(alloc: Global) -> Result<Sample, Fail> {
 fn with_result(alloc: Global, funcs: List<CFunc>, stmt: CStmt) -> Result<Sample, Fail> {
     let mut funcs = funcs;
     let mut body = one(alloc, stmt)?;
-    body.push(returning(70, literal(71, INT, 0)))?;
+    body.push(returning(alloc, 70, literal(71, INT, 0))?)?;
     let params = one(alloc, pointer(alloc, "bl_state", "s")?)?;
     funcs.push(function(alloc, 56, "g", Some(INT), params, body)?)?;
     with_functions(alloc, funcs)

@@ -29,12 +29,11 @@ abbrev pub left_of : List ℕ → ℕ → ℕ → List Token
 left_of text start end = put (slice_range text start end) (pieces (drop end text))
 
 -- a piece stands between the offsets, or the text ends at both
-pub record IsAt (text : List ℕ) (start end last : ℕ) : Type 0 where
+pub record IsAt (text : List ℕ) (start end : ℕ) : Type 0 where
   pub short : length text ≤ 67108864
   pub in_order : start ≤ end
   pub inside : end ≤ length text
   pub at_end : start ≡ end → end ≡ length text
-  pub behind : last ≤ length text
 
 -- the first piece, and no bytes where there is none
 abbrev pub first_of : List Token → Token

@@ -17,6 +17,3 @@ mod statements;
 pub mod words;
 
 pub use rules::check;
-
-#[cfg(test)]
-mod tests;

@@ -9,8 +9,6 @@ mod operators;
 mod parts;
 mod slices;
 mod steps;
-#[cfg(test)]
-mod tests;
 mod values;
 mod zero;
 

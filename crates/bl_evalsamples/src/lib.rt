@@ -3,4 +3,8 @@
 #![tactic(auto)]
 
 #[cfg(test)]
+mod program;
+#[cfg(test)]
+mod rows;
+#[cfg(test)]
 mod tests;

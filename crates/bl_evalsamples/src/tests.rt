@@ -1,48 +1,13 @@
 //! The set `o = o + i`, as an expression and as an act, where the sum is in its type and where it isn't.
 
+use crate::program::{first_of, program_of};
 use bl_eval::{Did, Got, Values, act, value};
-use bl_lex::lex;
-use bl_parse::parse;
-use bl_program::check;
-use bl_rawkeeps::laws::what_is_spelled_keeps;
 use bl_tree::tree::{Expr, Stmt, StmtKind};
-use bl_tree::{List, NoMemory, Program, Value};
+use bl_tree::{List, NoMemory, Value};
 use std::alloc::Global;
 
 const ADDS: &str =
     "@[EntryPoint] activity M (i: int32)(o: int32) repeat o = o + i await true end end";
-
-/// The program that a short text spells; none where a rule refuses it or memory ends.
-fn program_of(alloc: Global, text: &[u8]) -> Option<Program> {
-    what_is_spelled_keeps();
-    if text.len() > 1_000 {
-        return None;
-    }
-    let Ok(tokens) = lex(alloc, text) else {
-        return None;
-    };
-    let Ok(raw) = parse(alloc, text, &tokens) else {
-        return None;
-    };
-    let Ok(program) = check(alloc, &raw) else {
-        return None;
-    };
-    Some(program)
-}
-
-/// The first statement in the loop that is a program's body.
-fn first_of(program: &Program) -> Option<&Stmt> {
-    let [unit] = program.units.as_slice() else {
-        return None;
-    };
-    let [around] = unit.body.as_slice() else {
-        return None;
-    };
-    let StmtKind::Repeat(body) = &around.what else {
-        return None;
-    };
-    body.as_slice().first()
-}
 
 /// What an assignment gives its target.
 fn given_by(set: &Stmt) -> Option<&Expr> {

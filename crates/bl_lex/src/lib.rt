@@ -10,6 +10,3 @@ pub mod sign;
 pub mod word;
 
 pub use scan::lex;
-
-#[cfg(test)]
-mod tests;

@@ -13,6 +13,3 @@ mod stmt;
 mod types;
 
 pub use program::parse;
-
-#[cfg(test)]
-mod tests;

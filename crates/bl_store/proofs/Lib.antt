@@ -1,9 +1,13 @@
+pub mod ActLemmas
+pub mod AgreeLemmas
 pub mod CalleeLemmas
 pub mod ElementLemmas
 pub mod ExpansionLemmas
 pub mod FillLemmas
+pub mod GlimpseLemmas
 pub mod HomeLemmas
 pub mod KeyLemmas
+pub mod NamedLemmas
 pub mod OutputLemmas
 pub mod PerformLemmas
 pub mod PlaceLemmas

@@ -2,32 +2,21 @@
 use Rattle.std.proofs.Common.{◌≡◌, ℕ, List, [], ◌∷◌, ◌++◌, Option, Some, None, refl, sym, ap, ◌∙◌, append_assoc}
 use Rattle.std.specs.Prelude.{option_and_then, option_map, slice_get, unwrap_or}
 use Rattle.bl_tree.specs.declared.tree.Expr.{Expr}
-use Rattle.bl_tree.specs.declared.tree.Stmt.{Stmt}
 use Rattle.bl_tree.specs.declared.value.Value.{Value}
-use Rattle.bl_eval.specs.Standing.{outcome_in_unit, value_in_unit}
 use Rattle.bl_eval.specs.Values.{value_at}
 use Rattle.bl_effects.specs.declared.static_path.Static.{Static}
 use Rattle.bl_effects.specs.Static.{whole}
-use Rattle.bl_ctree.specs.Actions.{outcome_there, value_there, values_there}
+use Rattle.bl_ctree.specs.Actions.{value_there, values_there}
 use Rattle.bl_ctree.specs.Instances.{Setting}
 use Rattle.bl_ctree.specs.Store.{Location, Store, home, put, put_path, put_written, remember, whole_of, with_frame}
 use Rattle.bl_store.specs.declared.writing.Put.{Put}
-use Rattle.bl_store.specs.Deeds.{outcome_by, value_by}
 use Rattle.bl_store.specs.Own.{now_there, with_value_before}
-use Rattle.bl_store.specs.Seen.{Sight, location_of, put_all, put_one, sight}
+use Rattle.bl_store.specs.Seen.{location_of, put_all, put_one}
 use Rattle.bl_store.proofs.StoreLemmas.{remembers}
 
-and_then_map : {A B C : Type 0} (f : B → Option C) (g : A → B) (o : Option A) → option_and_then f (option_map g o) ≡ option_and_then (λ x. f (g x)) o
+pub and_then_map : {A B C : Type 0} (f : B → Option C) (g : A → B) (o : Option A) → option_and_then f (option_map g o) ≡ option_and_then (λ x. f (g x)) o
 and_then_map f g None = refl
 and_then_map f g (Some x) = refl
-
--- ---- by what is seen
-
-pub value_there_is : (w : Setting) (store : Store) (i : ℕ) (e : Expr) → value_by w (sight w store i) e ≡ value_there w store i e
-value_there_is w store i e = and_then_map (λ (s : Sight). value_in_unit w.structs w.units s.unit e s.view) _ (slice_get w.instances i)
-
-pub outcome_there_is : (w : Setting) (store : Store) (i : ℕ) (s : Stmt) → outcome_by w (sight w store i) s ≡ outcome_there w store i s
-outcome_there_is w store i s = and_then_map (λ (seen : Sight). outcome_in_unit w.structs w.units seen.unit s seen.view) _ (slice_get w.instances i)
 
 -- ---- values one after another
 

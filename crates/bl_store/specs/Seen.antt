@@ -6,7 +6,7 @@ use Rattle.bl_tree.specs.declared.value.Value.{Value}
 use Rattle.bl_ctree.specs.Instances.{Setting, callee_of, unit_at}
 use Rattle.bl_eval.specs.Meaning.{View}
 use Rattle.bl_eval.specs.Standing.{view_of}
-use Rattle.bl_ctree.specs.Store.{Frame, Location, Store, put, view_at}
+use Rattle.bl_ctree.specs.Store.{Frame, Location, Store, put}
 use Rattle.bl_store.specs.declared.callee.Callee.{Callee}
 use Rattle.bl_store.specs.declared.frame.Frame.{Frame as FrameNode}
 use Rattle.bl_store.specs.declared.frame.Moment.{Moment}
@@ -61,9 +61,6 @@ pub record Sight : Type 0 where
 
 abbrev pub seen_by : ViewNode → Sight
 seen_by v = record { unit = v.now.unit; view = view_of v.now v.before }
-
-abbrev pub sight : Setting → Store → ℕ → Option Sight
-sight w store i = option_map (λ instance. record { unit = instance.unit; view = view_at w store i }) (slice_get w.instances i)
 
 -- ---- what an act writes
 

@@ -7,6 +7,7 @@ pub mod expansion;
 pub mod frame;
 pub mod home;
 mod index;
+mod naming;
 mod parts;
 pub mod perform;
 pub mod setting;

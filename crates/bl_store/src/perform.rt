@@ -7,12 +7,15 @@ ghost use Rattle.bl_ctree.specs.Actions.{acted_kind, given_to, is_true_value, ou
 ghost use Rattle.bl_ctree.specs.Positions.{stmt_kind};
 ghost use Rattle.bl_effects.specs.Static.{whole};
 ghost use Rattle.bl_ctree.specs.Store.{put, put_written, remember, with_frame, with_inputs};
+ghost use Rattle.bl_store.specs.Agree.{Covers, roots_of_act};
 ghost use Rattle.bl_store.specs.Deeds.{Carried, deed_on, outcome_by, value_by};
+ghost use Rattle.bl_store.specs.Glimpse.{glimpse};
 ghost use Rattle.bl_store.specs.Own.{now_there, with_value_before};
 ghost use Rattle.bl_store.specs.Seen.{location_of, seen_by, setting_in, store_of};
 
 use crate::frame::{Frame, now_at, put};
 use crate::home::{Home, home_of};
+use crate::naming::{all_named, named, named_by_act};
 use crate::parts::with_part;
 use crate::setting::Setting;
 use crate::slices::element;
@@ -57,7 +60,8 @@ fn value_there(
 ) -> Result<Got, NoMemory>
     ensures { IfOk result (λ got. got_value got ≡ value_there (setting_in w.now) (store_of frames.now) i e.now) }
 {
-    let seen = look(alloc, w, frames, i)?;
+    let asked = named(alloc, e)?;
+    let seen = look(alloc, w, frames, i, &asked)?;
     value_seen(alloc, w, &seen, e)
 }
 
@@ -71,7 +75,8 @@ fn values_there(
 ) -> Result<Option<List<Value>>, NoMemory>
     ensures { IfOk result (λ values. values ≡ values_there (setting_in w.now) (store_of frames.now) i inputs.now) }
 {
-    let seen = look(alloc, w, frames, i)?;
+    let asked = all_named(alloc, inputs)?;
+    let seen = look(alloc, w, frames, i, &asked)?;
     let mut values = List::new(alloc);
     for e in inputs {
         match value_seen(alloc, w, &seen, e)? {
@@ -128,7 +133,7 @@ fn outcome_seen(
     }
 }
 
-/// The variables of an instance after an act; none where it traps.
+/// The variables that an act names, after it, among blank ones; none where it traps.
 fn outcome(
     alloc: Global,
     w: &Setting,
@@ -136,13 +141,14 @@ fn outcome(
     i: u32,
     s: &Stmt,
 ) -> Result<Option<List<Value>>, NoMemory>
-    ensures { IfOk result (λ left. left ≡ outcome_there (setting_in w.now) (store_of frames.now) i s.now) }
+    ensures { IfOk result (λ left. left ≡ outcome_by (setting_in w.now) (glimpse (roots_of_act (stmt_kind s.now)) (setting_in w.now) (store_of frames.now) i) s.now) }
 {
-    let seen = look(alloc, w, frames, i)?;
+    let asked = named_by_act(alloc, &s.what)?;
+    let seen = look(alloc, w, frames, i, &asked)?;
     outcome_seen(alloc, w, seen, s)
 }
 
-/// An act that writes these paths.
+/// An act that writes these paths, which lead into variables that it names.
 fn writes(
     alloc: Global,
     w: &Setting,
@@ -151,6 +157,7 @@ fn writes(
     s: &Stmt,
     paths: &[Static],
 ) -> Result<Did, NoMemory>
+    requires { Covers (roots_of_act (stmt_kind s.now)) paths.now }
     ensures { Carried (option_map (λ values. put_written (setting_in w.now) i values paths.now (store_of frames.old.items)) (outcome_there (setting_in w.now) (store_of frames.old.items) i s.now)) (store_of frames.old.items) (store_of frames.new.items) result }
 {
     let Some(variables) = outcome(alloc, w, frames, i, s)? else {
@@ -219,6 +226,7 @@ fn declares(
     s: &Stmt,
     k: u32,
 ) -> Result<Did, NoMemory>
+    requires { Covers (roots_of_act (stmt_kind s.now)) (whole k ∷ []) }
     ensures { Carried (option_map (λ values. with_frame i (remember k) (put_written (setting_in w.now) i values (whole k ∷ []) (store_of frames.old.items))) (outcome_there (setting_in w.now) (store_of frames.old.items) i s.now)) (store_of frames.old.items) (store_of frames.new.items) result }
 {
     let Some(variables) = outcome(alloc, w, frames, i, s)? else {

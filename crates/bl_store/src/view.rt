@@ -1,19 +1,21 @@
 //! What the statements of an instance see.
 
-ghost use Rattle.std.specs.Prelude.{◌≡◌, map, IfOk, option_map};
-ghost use Rattle.std.specs.List.{range_with_len};
+ghost use Rattle.std.specs.Prelude.{◌≡◌, IfOk, option_map};
 ghost use Rattle.bl_ctree.specs.Store.{variable_among};
-ghost use Rattle.bl_store.specs.Seen.{count_of, seen_by, setting_in, side, sight, store_of};
+ghost use Rattle.bl_store.specs.Agree.{blanks, filled};
+ghost use Rattle.bl_store.specs.Glimpse.{glimpse};
+ghost use Rattle.bl_store.specs.Seen.{count_of, seen_by, setting_in, side, store_of};
 
 use crate::frame::{Frame, Moment, find};
 use crate::home::home_of;
 use crate::setting::Setting;
 use crate::slices::element;
+use crate::writing::set_element;
 use bl_eval::{Values, copy};
 use bl_tree::{List, NoMemory, Value};
 use std::alloc::Global;
 
-/// The values of the variables of an instance, those of outputs from their homes.
+/// The values of the variables of an instance as far as they are asked for, those of outputs from their homes.
 #[derive(Drop)]
 pub struct View {
     pub now: Values,
@@ -38,6 +40,18 @@ fn variable(
     }
 }
 
+/// Nothing yet of so many variables.
+fn blanks(alloc: Global, count: usize) -> Result<List<Value>, NoMemory>
+    ensures { IfOk result (λ made. made ≡ blanks count) }
+{
+    let mut made = List::new(alloc);
+    for _ in 0..count {
+        made.push(Value::Number(0))?;
+    }
+    Ok(made)
+}
+
+/// The values of those variables that are asked for. The others are left blank, since to copy a value takes as long as it is large.
 fn variables(
     alloc: Global,
     w: &Setting,
@@ -45,14 +59,16 @@ fn variables(
     moment: Moment,
     i: u32,
     count: usize,
+    asked: &[u32],
 ) -> Result<List<Value>, NoMemory>
-    ensures { IfOk result (λ made. made ≡ map (variable_among (side moment) (setting_in w.now) (store_of frames.now) i) (range_with_len 0 count)) }
+    ensures { IfOk result (λ made. made ≡ filled (variable_among (side moment) (setting_in w.now) (store_of frames.now) i) asked.now (blanks count)) }
 {
-    let mut made = List::new(alloc);
-    for k in 0..count {
-        made.push(variable(alloc, w, frames, moment, i, k)?)?;
+    let mut made = blanks(alloc, count)?.into_vec();
+    for k in asked {
+        let value = variable(alloc, w, frames, moment, i, *k as usize)?;
+        set_element(&mut made, *k as usize, value);
     }
-    Ok(made)
+    Ok(List::from_vec(made))
 }
 
 fn count(w: &Setting, unit: u32) -> usize
@@ -64,17 +80,23 @@ fn count(w: &Setting, unit: u32) -> usize
     }
 }
 
-/// What the statements of an instance see; none where there is no such instance.
-pub fn look(alloc: Global, w: &Setting, frames: &[Frame], i: u32) -> Result<Option<View>, NoMemory>
-    ensures { IfOk result (λ made. option_map seen_by made ≡ sight (setting_in w.now) (store_of frames.now) i) }
+/// What the statements of an instance see of the variables that are asked for; none where there is no such instance.
+pub fn look(
+    alloc: Global,
+    w: &Setting,
+    frames: &[Frame],
+    i: u32,
+    asked: &[u32],
+) -> Result<Option<View>, NoMemory>
+    ensures { IfOk result (λ made. option_map seen_by made ≡ glimpse asked.now (setting_in w.now) (store_of frames.now) i) }
 {
     match element(&w.instances, i as usize) {
         None => Ok(None),
         Some(instance) => {
             let unit = instance.unit;
             let count = count(w, unit);
-            let now = variables(alloc, w, frames, Moment::Now, i, count)?;
-            let before = variables(alloc, w, frames, Moment::Before, i, count)?;
+            let now = variables(alloc, w, frames, Moment::Now, i, count, asked)?;
+            let before = variables(alloc, w, frames, Moment::Before, i, count, asked)?;
             Ok(Some(View {
                 now: Values { unit, list: now },
                 before: Values { unit, list: before },

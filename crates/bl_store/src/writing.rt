@@ -131,7 +131,7 @@ pub fn set_result(frames: &mut Vec<Frame>, i: usize, value: Value)
     }
 }
 
-fn set_element(values: &mut Vec<Value>, k: usize, value: Value)
+pub fn set_element(values: &mut Vec<Value>, k: usize, value: Value)
     ensures { values.new.items ≡ slice_set values.old.items k value }
 {
     if k < values.len() {

@@ -13,6 +13,3 @@ mod stack;
 mod statements;
 
 pub use rules::check;
-
-#[cfg(test)]
-mod tests;

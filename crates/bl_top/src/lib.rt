@@ -15,6 +15,3 @@ mod status;
 
 pub use call::blechc;
 pub use status::Status;
-
-#[cfg(test)]
-mod tests;

@@ -1,5 +1,5 @@
 -- Induction over expressions and paths: one case for each kind, with what is known of the parts inside.
-use Rattle.std.proofs.Common.{◌≡◌, ℕ, ℤ, List, [], ◌∷◌, map, subst, ap, sym, ◌∙◌}
+use Rattle.std.proofs.Common.{ℕ, ℤ, List, subst, sym, ◌∙◌}
 use Rattle.std.specs.Prelude.{All}
 use Rattle.bl_tree.specs.declared.place.Place.{Place}
 use Rattle.bl_tree.specs.declared.scalar.Op.{Op}
@@ -7,8 +7,8 @@ use Rattle.bl_tree.specs.declared.scalar.Scalar.{Scalar}
 use Rattle.bl_tree.specs.declared.tree.Expr.{Expr, ind-Expr, roll-Expr}
 use Rattle.bl_tree.specs.declared.tree.ExprKind.{ExprKind, roll-ExprKind}
 use Rattle.bl_tree.specs.declared.tree.ExprKind.TheFolds.{map-ExprKind, map-Part}
-use Rattle.bl_tree.specs.declared.tree.ExprKind.TheOpen.{ExprKind-F, Part-F, Path-F, Expr-F}
-use Rattle.bl_tree.specs.declared.tree.Part.{Part, out-Part, roll-Part, out-roll-Part}
+use Rattle.bl_tree.specs.declared.tree.ExprKind.TheOpen.{ExprKind-F, Part-F}
+use Rattle.bl_tree.specs.declared.tree.Part.{Part, out-Part, out-roll-Part}
 use Rattle.bl_tree.specs.declared.tree.Path.{Path, ind-Path, roll-Path}
 use Rattle.bl_tree.specs.declared.tree.Ty.{Ty}
 use Rattle.bl_tree.proofs.StmtInduction.{each_such}

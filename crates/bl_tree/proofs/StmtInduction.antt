@@ -1,5 +1,5 @@
 -- Induction over statements: one case for each kind, with what is known of the blocks inside.
-use Rattle.std.proofs.Common.{◌≡◌, ℕ, List, [], ◌∷◌, map, subst, ap, sym, ◌∙◌}
+use Rattle.std.proofs.Common.{ℕ, List, [], ◌∷◌, map, subst, ap, sym, ◌∙◌}
 use Rattle.std.specs.Prelude.{All, Option}
 use Rattle.std.proofs.lemmas.List.Elements.{All-nil, All-cons}
 use Rattle.bl_tree.specs.declared.place.Place.{Place}
@@ -8,10 +8,10 @@ use Rattle.bl_tree.specs.declared.tree.Branch.{Branch, out-Branch, out-roll-Bran
 use Rattle.bl_tree.specs.declared.tree.Expr.{Expr}
 use Rattle.bl_tree.specs.declared.tree.Guard.{Guard}
 use Rattle.bl_tree.specs.declared.tree.Path.{Path}
-use Rattle.bl_tree.specs.declared.tree.Stmt.{Stmt, ind-Stmt, roll-Stmt, out-Stmt}
+use Rattle.bl_tree.specs.declared.tree.Stmt.{Stmt, ind-Stmt, roll-Stmt}
 use Rattle.bl_tree.specs.declared.tree.StmtKind.{StmtKind, roll-StmtKind}
 use Rattle.bl_tree.specs.declared.tree.StmtKind.TheFolds.{map-StmtKind}
-use Rattle.bl_tree.specs.declared.tree.StmtKind.TheOpen.{StmtKind-F, Arm-F, Branch-F, Stmt-F}
+use Rattle.bl_tree.specs.declared.tree.StmtKind.TheOpen.{StmtKind-F}
 
 -- a statement by its place and its kind's parts
 abbrev pub stmt : Place → StmtKind-F StmtKind Arm Branch Stmt → Stmt

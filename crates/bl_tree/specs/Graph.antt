@@ -1,5 +1,5 @@
 -- What a tick graph keeps.
-use Rattle.std.specs.Prelude.{Bool, ◌&&◌, nat_lt, List, length, IsTrue}
+use Rattle.std.specs.Prelude.{◌&&◌, nat_lt, List, length, IsTrue}
 use Rattle.std.specs.List.{list_all}
 use Rattle.bl_tree.specs.declared.graph.Edge.{Edge}
 use Rattle.bl_tree.specs.declared.graph.Node.{Node}

@@ -1,10 +1,8 @@
 -- What a typed program keeps.
-use Rattle.std.specs.Prelude.{ℕ, ◌+◌, ◌-◌, Bool, true, false, ◌&&◌, ◌||◌, nat_lt, nat_le, is_none, is_some, List, [], ◌∷◌, ◌++◌, map, length, take, drop, slice_get, Option, Some, None, IsTrue, zero, suc}
+use Rattle.std.specs.Prelude.{ℕ, ◌+◌, Bool, true, false, ◌&&◌, ◌||◌, nat_le, is_none, is_some, List, [], ◌∷◌, ◌++◌, map, length, take, drop, slice_get, Option, Some, None, IsTrue}
 use Rattle.std.specs.List.{list_all}
-use Rattle.bl_tree.specs.declared.tree.Field.{Field}
 use Rattle.bl_tree.specs.declared.tree.Role.{Role}
-use Rattle.bl_tree.specs.declared.tree.Role.TheVariants.{Input, Output, Variable, Fixed}
-use Rattle.bl_tree.specs.declared.tree.Stmt.{Stmt}
+use Rattle.bl_tree.specs.declared.tree.Role.TheVariants.{Input, Output}
 use Rattle.bl_tree.specs.declared.tree.StructDef.{StructDef}
 use Rattle.bl_tree.specs.declared.tree.Unit.{Unit as UnitDef}
 use Rattle.bl_tree.specs.declared.tree.Var.{Var}

@@ -1,5 +1,5 @@
 -- Where a unit's `return` may stand.
-use Rattle.std.specs.Prelude.{Bool, true, false, not, ◌&&◌, ◌||◌, is_none, is_some, nat_eq, List, [], ◌∷◌, map, Option, Some, None, if◌then◌else◌}
+use Rattle.std.specs.Prelude.{Bool, true, false, not, ◌&&◌, ◌||◌, is_none, nat_eq, List, [], ◌∷◌, map, if◌then◌else◌}
 use Rattle.bl_tree.specs.declared.tree.Stmt.{Stmt, fold-Stmt, out-Stmt}
 use Rattle.bl_tree.specs.declared.tree.StmtKind.{out-StmtKind}
 use Rattle.bl_tree.specs.declared.tree.StmtKind.TheOpen.{StmtKind-F, Arm-F, Branch-F, Stmt-F}

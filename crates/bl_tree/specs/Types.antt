@@ -1,6 +1,5 @@
 -- Types of a typed program.
-use Rattle.std.specs.Prelude.{ℕ, ◌+◌, Bool, true, false, ◌&&◌, nat_eq, nat_lt, nat_le, List, [], ◌∷◌, map, Option, Some, None}
-use Rattle.bl_tree.specs.declared.scalar.Width.{Width}
+use Rattle.std.specs.Prelude.{ℕ, Bool, true, false, ◌&&◌, nat_eq, nat_lt, nat_le, Option, Some, None}
 use Rattle.bl_tree.specs.declared.scalar.Scalar.{Scalar as ScalarType}
 use Rattle.bl_tree.specs.declared.scalar.Scalar.TheVariants.{Bool as OfBool, Int, Nat, Bits}
 use Rattle.bl_tree.specs.declared.tree.Ty.{Ty, fold-Ty, out-Ty, roll-Ty}

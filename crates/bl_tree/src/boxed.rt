@@ -2,7 +2,7 @@ ghost use Rattle.std.specs.Prelude.{◌≡◌, IfOk};
 
 use std::alloc::{AllocError, Global};
 use std::marker::Model;
-use std::ops::Deref;
+use std::ops::{Deref, DerefMut};
 
 /// An owned value that contracts see as the value itself.
 #[derive(Drop)]
@@ -45,5 +45,19 @@ impl<T> Deref for Box<T> {
 
     fn deref(&self) -> &T {
         &self.inner
+    }
+}
+
+impl<T> DerefMut for Box<T> {
+    ghost use Rattle.std.specs.Borrow.{Lends, sem};
+    ghost use Rattle.bl_tree.specs.contracts.boxed.Box.{the_row};
+
+    ghost deref_mut_gives = { λ owner value. value ≡ owner };
+
+    fn deref_mut(&mut self) -> &mut T
+        ensures* writes_back { sem 𝓛 (Lends (the_row T.row) T.row self.entry result (λ v. v)) }
+        ensures value { result.now ≡ self.old }
+    {
+        &mut self.inner
     }
 }

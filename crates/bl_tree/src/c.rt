@@ -67,7 +67,7 @@ pub struct CPlace {
 #[derive(Drop)]
 pub struct CStep {
     pub member: Text,
-    pub index: Option<CIndex>,
+    pub index: Option<Box<CIndex>>,
 }
 
 #[cycle(c_expressions)]
@@ -119,16 +119,17 @@ pub struct CStmt {
     pub what: CStmtKind,
 }
 
+/// What a statement seldom has is boxed: a text of many statements takes the room of the largest of them for each.
 #[cycle(c_statements)]
 #[derive(Drop)]
 pub enum CStmtKind {
-    Set(CPlace, CExpr),
+    Set(CPlace, Box<CExpr>),
     /// A place whose struct, of this name, is set to zeros.
-    Clear(CPlace, Text),
+    Clear(Box<CPlace>, Text),
     Call(CCall),
-    If(CExpr, List<CStmt>, Option<List<CStmt>>),
+    If(Box<CExpr>, List<CStmt>, Option<List<CStmt>>),
     /// The name of the turn counter, the condition and the body.
-    Loop(Text, CExpr, List<CStmt>),
+    Loop(Text, Box<CExpr>, List<CStmt>),
     Break,
-    Return(Option<CExpr>),
+    Return(Option<Box<CExpr>>),
 }

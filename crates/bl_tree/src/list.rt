@@ -63,6 +63,21 @@ impl<T> List<T> {
     }
 }
 
+impl<T> List<T> {
+    ghost use Rattle.std.specs.Prelude.{◌≡◌, ◌<◌, length, slice_index_or, slice_set};
+    ghost use Rattle.std.specs.Borrow.{Lends, sem};
+    ghost use Rattle.bl_tree.specs.contracts.list.List.{the_row};
+
+    /// The element at a position, to be changed where it lies.
+    pub fn get_mut(&mut self, at: usize) -> &mut T
+        requires { at < length self.old }
+        ensures* writes_back { sem 𝓛 (Lends (the_row T.row) T.row self.entry result (λ element. slice_set self.old at element)) }
+        ensures value { result.now ≡ slice_index_or self.old at result.now }
+    {
+        &mut self.elements[at]
+    }
+}
+
 impl<T: Drop> List<T> {
     /// After want of memory the list is as before, and the element is dropped.
     pub fn push(&mut self, element: T) -> Result<(), AllocError>

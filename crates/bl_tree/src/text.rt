@@ -1,19 +1,32 @@
-ghost use Rattle.std.specs.Prelude.{◌≡◌, ℕ, List, string_bytes, IfOk};
+ghost use Rattle.std.specs.Prelude.{◌≡◌, string_bytes, IfOk};
 
+use arrayvec::ArrayString;
 use std::alloc::{AllocError, Global};
 use std::marker::Model;
 use std::ops::DerefStr;
 
+/// How many bytes a text keeps in itself. Most names are no longer, and a name of a tree takes no memory of its own then.
+const SHORT: usize = 16;
+
+#[derive(Drop)]
+enum Held {
+    Short(ArrayString<SHORT>),
+    Long(String),
+}
+
 /// Text that contracts see as its bytes.
 #[derive(Drop)]
 pub struct Text {
-    text: String,
+    held: Held,
 }
 
 impl Model for Text {
+    ghost use Rattle.std.specs.Prelude.{ℕ, List};
+    ghost use Rattle.bl_tree.specs.Held.{held_bytes};
+
     ghost Value = { List ℕ };
 
-    ghost view = { λ owner. string_bytes owner.text };
+    ghost view = { λ owner. held_bytes owner.held };
 }
 
 impl Text {
@@ -21,28 +34,31 @@ impl Text {
     pub fn copy_of(alloc: Global, text: &str) -> Result<Text, AllocError>
         ensures { IfOk result (λ copy. copy ≡ text.now) }
     {
+        if let Ok(short) = ArrayString::from(text) {
+            return Ok(Text {
+                held: Held::Short(short),
+            });
+        }
         Ok(Text {
-            text: String::from_str(alloc, text)?,
+            held: Held::Long(String::from_str(alloc, text)?),
         })
     }
 
     pub fn from_string(text: String) -> Text
         ensures { result ≡ string_bytes text }
     {
-        Text { text }
-    }
-
-    pub fn into_string(self) -> String
-        ensures { string_bytes result ≡ self }
-    {
-        let Text { text } = self;
-        text
+        Text {
+            held: Held::Long(text),
+        }
     }
 
     pub fn as_str(&self) -> &str
         ensures { result.now ≡ self.now }
     {
-        self.text.as_str()
+        match &self.held {
+            Held::Short(text) => text.as_str(),
+            Held::Long(text) => text.as_str(),
+        }
     }
 }
 
@@ -50,6 +66,6 @@ impl DerefStr for Text {
     ghost deref_gives = { λ owner text. text ≡ owner };
 
     fn deref(&self) -> &str {
-        self.text.as_str()
+        self.as_str()
     }
 }

@@ -15,8 +15,6 @@ mod settle;
 mod slices;
 mod stmt;
 mod target;
-#[cfg(test)]
-mod tests;
 mod types;
 mod unit;
 

@@ -11,7 +11,7 @@ use crate::check::expr::{judge_call, judge_expr, judge_place};
 use crate::check::first::{both, earlier, unless};
 use crate::check::types::{Ty, agree};
 use bl_tree::c::{CExpr, CPlace, CStmt, CStmtKind};
-use bl_tree::{Place, Scalar, Text};
+use bl_tree::{Box, Place, Scalar, Text};
 
 /// Where something in a statement fails first.
 #[cycle(statements)]
@@ -105,7 +105,11 @@ fn judge_condition<'a>(context: &Context<'_, 'a>, condition: &'a CExpr) -> Optio
     )
 }
 
-fn judge_return<'a>(context: &Context<'_, 'a>, value: &'a Option<CExpr>, at: Place) -> Option<Place>
+fn judge_return<'a>(
+    context: &Context<'_, 'a>,
+    value: &'a Option<Box<CExpr>>,
+    at: Place,
+) -> Option<Place>
     ensures { result ≡ first_place (return_faults value.now context.now.result (context_of context.now) at) }
 {
     match (value, context.result) {

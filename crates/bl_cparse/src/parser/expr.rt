@@ -29,7 +29,6 @@ use std::alloc::{AllocError, Global};
 /// A call up to one of its arguments, and the room inside.
 #[derive(Drop)]
 pub struct CallFront {
-    pub start: u32,
     pub name: Text,
     pub args: List<CArg>,
     pub room: u32,
@@ -47,8 +46,8 @@ pub struct PlaceFront {
 /// What a place is read for.
 #[derive(Drop)]
 pub enum Use {
-    /// Its value; the place begins here.
-    Value(u32),
+    /// Its value.
+    Value,
     /// Its address, as an argument of a call.
     Address(CallFront),
 }
@@ -65,12 +64,12 @@ pub struct IndexFront {
 /// The front of what holds an expression, up to that expression.
 #[derive(Drop)]
 pub enum Held {
-    /// `(!`, and where it begins.
-    Negation(u32),
-    /// The `(` before a first operand, where it begins, and the room inside.
-    First(u32, u32),
+    /// `(!`.
+    Negation,
+    /// The `(` before a first operand, and the room inside.
+    First(u32),
     /// The `(`, a first operand and its operator.
-    Second(u32, CExpr, Op),
+    Second(CExpr, Op),
     Argument(CallFront),
     Index(IndexFront),
 }
@@ -110,14 +109,23 @@ pub fn expr(r: &mut Reader<'_>, room: u32) -> Result<CExpr, CRefusal>
     )
 }
 
-/// An expression whose `(` is read and begins at `start`, where there was room for it.
-pub fn bracketed(r: &mut Reader<'_>, start: u32, room: u32) -> Result<CExpr, CRefusal>
+/// The same in a box.
+pub fn boxed(r: &mut Reader<'_>, room: u32) -> Result<Box<CExpr>, CRefusal>
+    ensures read { IfOk result (λ e. (r.old ≡ expr_tokens e ++ r.new) × IsTrue (spells_expr e)) }
+    ensures follows { Follows result (part Part.Expr room ∷ []) [] r.old r.new }
+{
+    let e = expr(r, room)?;
+    Ok(Box::new(r.alloc(), e)?)
+}
+
+/// An expression whose `(` is read, where there was room for it.
+pub fn bracketed(r: &mut Reader<'_>, room: u32) -> Result<CExpr, CRefusal>
     requires { 1 ≤ room }
     ensures read { IfOk result (λ e. (codes "(" ∷ r.old ≡ expr_tokens e ++ r.new) × IsTrue (spells_expr e)) }
     ensures follows { Follows result (part Part.Inside room ∷ []) [] r.old r.new }
 {
     let outer = Vec::new(r.alloc());
-    let partial = opened(r, outer, start, room)?;
+    let partial = opened(r, outer, room)?;
     whole(r, partial)
 }
 
@@ -282,9 +290,8 @@ fn simple(r: &mut Reader<'_>, outer: Vec<Held>, room: u32) -> Result<Partial, CR
     ensures less { IfOk result (λ p. 2 * length r.new + work_left p.next < 2 * length r.old) }
     ensures follows { GoesOn result (part Part.Simple room ∷ behind outer.items) r.old r.new }
 {
-    let start = r.start();
     match literal::literal(r)? {
-        Some(what) => Ok(ended(outer, make::expr(r.place_from(start), what))),
+        Some(what) => Ok(ended(outer, make::expr(what))),
         None => {
             let p = named(r, outer, room)?;
             Ok(p)
@@ -302,14 +309,13 @@ fn open(r: &mut Reader<'_>, outer: Vec<Held>, room: u32) -> Result<Partial, CRef
     if room == 0 {
         return Err(r.refusal());
     }
-    let start = r.start();
     r.take("(")?;
-    let p = opened(r, outer, start, room)?;
+    let p = opened(r, outer, room)?;
     Ok(p)
 }
 
 /// What follows the `(` of an expression, for which there was room.
-fn opened(r: &mut Reader<'_>, outer: Vec<Held>, start: u32, room: u32) -> Result<Partial, CRefusal>
+fn opened(r: &mut Reader<'_>, outer: Vec<Held>, room: u32) -> Result<Partial, CRefusal>
     requires outer { IsTrue (all_of (map spells_held outer.items)) }
     requires room { 1 ≤ room }
     ensures read { IfOk result (λ p. (on_stack outer.items ++ codes "(" ∷ r.old ≡ partial_tokens p ++ r.new) × IsTrue (spells_partial p)) }
@@ -317,23 +323,23 @@ fn opened(r: &mut Reader<'_>, outer: Vec<Held>, start: u32, room: u32) -> Result
     ensures follows { GoesOn result (part Part.Inside room ∷ behind outer.items) r.old r.new }
 {
     if r.eat("*") {
-        let p = starred(r, outer, start, room)?;
+        let p = starred(r, outer, room)?;
         return Ok(p);
     }
     if r.sees("-") {
-        let p = negative(r, outer, start)?;
+        let p = negative(r, outer)?;
         return Ok(p);
     }
     if r.eat("!") {
-        let p = inside(outer, Held::Negation(start), room - 1)?;
+        let p = inside(outer, Held::Negation, room - 1)?;
         return Ok(p);
     }
-    let p = inside(outer, Held::First(start, room - 1), room - 1)?;
+    let p = inside(outer, Held::First(room - 1), room - 1)?;
     Ok(p)
 }
 
 /// A pointer behind its `(*`.
-fn starred(r: &mut Reader<'_>, outer: Vec<Held>, start: u32, room: u32) -> Result<Partial, CRefusal>
+fn starred(r: &mut Reader<'_>, outer: Vec<Held>, room: u32) -> Result<Partial, CRefusal>
     requires outer { IsTrue (all_of (map spells_held outer.items)) }
     ensures read { IfOk result (λ p. (on_stack outer.items ++ codes "(" ∷ codes "*" ∷ r.old ≡ partial_tokens p ++ r.new) × IsTrue (spells_partial p)) }
     ensures less { IfOk result (λ p. 2 * length r.new + work_left p.next < 2 * length r.old + 2) }
@@ -346,11 +352,11 @@ fn starred(r: &mut Reader<'_>, outer: Vec<Held>, start: u32, room: u32) -> Resul
         steps: List::new(r.alloc()),
         room,
     };
-    Ok(rooted(outer, Use::Value(start), root))
+    Ok(rooted(outer, Use::Value, root))
 }
 
 /// A negative number behind its `(`.
-fn negative(r: &mut Reader<'_>, outer: Vec<Held>, start: u32) -> Result<Partial, CRefusal>
+fn negative(r: &mut Reader<'_>, outer: Vec<Held>) -> Result<Partial, CRefusal>
     requires outer { IsTrue (all_of (map spells_held outer.items)) }
     ensures read { IfOk result (λ p. (on_stack outer.items ++ codes "(" ∷ r.old ≡ partial_tokens p ++ r.new) × IsTrue (spells_partial p)) }
     ensures less { IfOk result (λ p. 2 * length r.new + work_left p.next < 2 * length r.old + 2) }
@@ -358,7 +364,7 @@ fn negative(r: &mut Reader<'_>, outer: Vec<Held>, start: u32) -> Result<Partial,
 {
     r.take("-")?;
     let what = literal::negative(r)?;
-    Ok(ended(outer, make::expr(r.place_from(start), what)))
+    Ok(ended(outer, make::expr(what)))
 }
 
 /// An expression that begins with a name or a function of the prelude.
@@ -384,9 +390,8 @@ fn prelude_called(r: &mut Reader<'_>, outer: Vec<Held>, room: u32) -> Result<Par
     ensures less { IfOk result (λ p. 2 * length r.new + work_left p.next < 2 * length r.old) }
     ensures follows { 1 ≤ room → GoesOn result (prelude_function ∷ sign (codes "(") ∷ part Part.Args (room - 1) ∷ sign (codes ")") ∷ behind outer.items) r.old r.new }
 {
-    let start = r.start();
     let name = name::callee(r)?;
-    let p = call(r, outer, start, name, room)?;
+    let p = call(r, outer, name, room)?;
     Ok(p)
 }
 
@@ -398,10 +403,9 @@ fn name_used(r: &mut Reader<'_>, outer: Vec<Held>, room: u32) -> Result<Partial,
     ensures less { IfOk result (λ p. 2 * length r.new + work_left p.next < 2 * length r.old) }
     ensures follows { GoesOn result (name_of ∷ part Part.NameUse room ∷ behind outer.items) r.old r.new }
 {
-    let start = r.start();
     let name = name::name(r)?;
     if r.sees("(") {
-        let p = call(r, outer, start, name, room)?;
+        let p = call(r, outer, name, room)?;
         return Ok(p);
     }
     let root = PlaceFront {
@@ -410,17 +414,11 @@ fn name_used(r: &mut Reader<'_>, outer: Vec<Held>, room: u32) -> Result<Partial,
         steps: List::new(r.alloc()),
         room,
     };
-    Ok(rooted(outer, Use::Value(start), root))
+    Ok(rooted(outer, Use::Value, root))
 }
 
 /// The `(` of a call whose name is read, and the `)` where it has no arguments.
-fn call(
-    r: &mut Reader<'_>,
-    outer: Vec<Held>,
-    start: u32,
-    name: Text,
-    room: u32,
-) -> Result<Partial, CRefusal>
+fn call(r: &mut Reader<'_>, outer: Vec<Held>, name: Text, room: u32) -> Result<Partial, CRefusal>
     requires outer { IsTrue (all_of (map spells_held outer.items)) }
     requires name { IsTrue (is_callee name) }
     ensures read { IfOk result (λ p. (on_stack outer.items ++ name ∷ r.old ≡ partial_tokens p ++ r.new) × IsTrue (spells_partial p)) }
@@ -429,19 +427,18 @@ fn call(
 {
     place::open(r, room)?;
     let front = CallFront {
-        start,
         name,
         args: List::new(r.alloc()),
         room: room - 1,
     };
     if r.eat(")") {
-        return Ok(called(r, outer, front));
+        return Ok(called(outer, front));
     }
     Ok(awaiting(outer, front))
 }
 
 /// A call that is read.
-fn called(r: &Reader<'_>, outer: Vec<Held>, front: CallFront) -> Partial
+fn called(outer: Vec<Held>, front: CallFront) -> Partial
     requires outer { IsTrue (all_of (map spells_held outer.items)) }
     requires call { IsTrue (spells_called front) }
     ensures tokens { partial_tokens result ≡ on_stack outer.items ++ front.name ∷ codes "(" ∷ (with_commas (map arg_tokens front.args) ++ codes ")" ∷ []) }
@@ -449,9 +446,8 @@ fn called(r: &Reader<'_>, outer: Vec<Held>, front: CallFront) -> Partial
     ensures work { work_left result.next ≡ 0 }
     ensures awaits { Awaits result (behind outer.items) }
 {
-    let place = r.place_from(front.start);
     let what = make::called(make::call(front.name, front.args));
-    ended(outer, make::expr(place, what))
+    ended(outer, make::expr(what))
 }
 
 /// The front of an argument.
@@ -575,8 +571,8 @@ fn placed(
 {
     let at = make::place(place.through, place.name, place.steps);
     match of {
-        Use::Value(start) => {
-            let e = make::expr(r.place_from(start), make::read(at));
+        Use::Value => {
+            let e = make::expr(make::read(at));
             Ok(ended(outer, e))
         }
         Use::Address(call) => {
@@ -605,7 +601,7 @@ fn argued(
         return Ok(awaiting(outer, call));
     }
     r.take(")")?;
-    Ok(called(r, outer, call))
+    Ok(called(outer, call))
 }
 
 /// The call with one argument more.
@@ -654,17 +650,17 @@ fn closed_held(
     ensures follows { GoesOn result (held_wanted held ++ behind outer.items) r.old r.new }
 {
     match held {
-        Held::Negation(start) => {
-            let p = negated(r, outer, start, e)?;
+        Held::Negation => {
+            let p = negated(r, outer, e)?;
             Ok(p)
         }
-        Held::First(start, room) => {
+        Held::First(room) => {
             let op = literal::operator(r)?;
-            let p = inside(outer, Held::Second(start, e, op), room)?;
+            let p = inside(outer, Held::Second(e, op), room)?;
             Ok(p)
         }
-        Held::Second(start, left, op) => {
-            let p = compared(r, outer, start, Operands { op, left, right: e })?;
+        Held::Second(left, op) => {
+            let p = compared(r, outer, Operands { op, left, right: e })?;
             Ok(p)
         }
         Held::Argument(call) => {
@@ -679,7 +675,7 @@ fn closed_held(
 }
 
 /// The `)` behind the operand of `!`.
-fn negated(r: &mut Reader<'_>, outer: Vec<Held>, start: u32, e: CExpr) -> Result<Partial, CRefusal>
+fn negated(r: &mut Reader<'_>, outer: Vec<Held>, e: CExpr) -> Result<Partial, CRefusal>
     requires outer { IsTrue (all_of (map spells_held outer.items)) }
     requires whole { IsTrue (spells_expr e) }
     ensures read { IfOk result (λ p. (on_stack outer.items ++ codes "(" ∷ codes "!" ∷ (expr_tokens e ++ r.old) ≡ partial_tokens p ++ r.new) × IsTrue (spells_partial p)) }
@@ -688,7 +684,7 @@ fn negated(r: &mut Reader<'_>, outer: Vec<Held>, start: u32, e: CExpr) -> Result
 {
     r.take(")")?;
     let what = make::not(Box::new(r.alloc(), e)?);
-    Ok(ended(outer, make::expr(r.place_from(start), what)))
+    Ok(ended(outer, make::expr(what)))
 }
 
 /// What a comparison, `&&` or `||` is made of.
@@ -700,12 +696,7 @@ struct Operands {
 }
 
 /// The `)` behind the second operand.
-fn compared(
-    r: &mut Reader<'_>,
-    outer: Vec<Held>,
-    start: u32,
-    operands: Operands,
-) -> Result<Partial, CRefusal>
+fn compared(r: &mut Reader<'_>, outer: Vec<Held>, operands: Operands) -> Result<Partial, CRefusal>
     requires outer { IsTrue (all_of (map spells_held outer.items)) }
     requires op { IsTrue (is_c_operator operands.op) }
     requires left { IsTrue (spells_expr operands.left) }
@@ -718,7 +709,7 @@ fn compared(
     let left = Box::new(r.alloc(), operands.left)?;
     let right = Box::new(r.alloc(), operands.right)?;
     let what = make::two(operands.op, left, right);
-    Ok(ended(outer, make::expr(r.place_from(start), what)))
+    Ok(ended(outer, make::expr(what)))
 }
 
 /// The end of an index behind its expression.
@@ -737,7 +728,7 @@ fn closed_index(
 {
     let length = place::index_length(r)?;
     let index = make::index(front.signed, e, length);
-    let step = make::step(front.member, Some(index));
+    let step = make::step(front.member, Some(Box::new(r.alloc(), index)?));
     let place = stepped(r.alloc(), front.place, step)?;
     Ok(rooted(outer, front.of, place))
 }

@@ -12,6 +12,7 @@ ghost use Rattle.bl_csyntax.specs.Tables.{has};
 ghost use Rattle.bl_csyntax.specs.Expects.{Expects};
 ghost use Rattle.bl_cparse.specs.Reading.{sign, name_of, part, local_starts, Follows, Turns, WantsMemory};
 
+use crate::make::NOWHERE;
 use crate::parser::{MOST_OPEN, literal, name, place, stmt};
 use crate::reader::Reader;
 use crate::refusal::CRefusal;
@@ -49,7 +50,6 @@ fn structure(r: &mut Reader<'_>) -> Result<CStruct, CRefusal>
     ensures read { IfOk result (λ s. (r.old ≡ struct_tokens s ++ r.new) × IsTrue (spells_struct s)) }
     ensures follows { (room : ℕ) → Follows result (part Part.Struct room ∷ []) [] r.old r.new }
 {
-    let start = r.start();
     r.take("struct")?;
     let name = name::struct_name(r)?;
     r.take("{")?;
@@ -57,7 +57,7 @@ fn structure(r: &mut Reader<'_>) -> Result<CStruct, CRefusal>
     r.take("}")?;
     r.take(";")?;
     Ok(CStruct {
-        place: r.place_from(start),
+        place: NOWHERE,
         name,
         members: fitted(members),
     })
@@ -113,14 +113,13 @@ fn func(r: &mut Reader<'_>) -> Result<CFunc, CRefusal>
     ensures read { IfOk result (λ f. (r.old ≡ func_tokens f ++ r.new) × IsTrue (spells_func f)) }
     ensures follows { Follows result (part Part.Func most_open ∷ []) [] r.old r.new }
 {
-    let start = r.start();
     let head = func_head(r)?;
     let params = params(r)?;
     r.take(")")?;
     r.take("{")?;
     let inside = func_body(r)?;
     Ok(CFunc {
-        place: r.place_from(start),
+        place: NOWHERE,
         fixed: head.fixed,
         result: head.result,
         name: head.name,

@@ -17,7 +17,7 @@ use crate::parser::{expr, literal, name};
 use crate::reader::Reader;
 use crate::refusal::CRefusal;
 use bl_tree::c::{CArg, CCall, CIndex, CPlace, CStep};
-use bl_tree::{List, Text};
+use bl_tree::{Box, List, Text};
 
 /// The `(` of an expression or a place, where there is room for it.
 pub fn open(r: &mut Reader<'_>, room: u32) -> Result<(), CRefusal>
@@ -103,12 +103,13 @@ fn step(r: &mut Reader<'_>, room: u32) -> Result<CStep, CRefusal>
 }
 
 /// The index behind a member, where there is one.
-fn maybe_index(r: &mut Reader<'_>, room: u32) -> Result<Option<CIndex>, CRefusal>
+fn maybe_index(r: &mut Reader<'_>, room: u32) -> Result<Option<Box<CIndex>>, CRefusal>
     ensures read { IfOk result (λ i. (r.old ≡ if_any (option_map index_tokens i) ++ r.new) × IsTrue (none_or (option_map spells_index i))) }
     ensures follows { Follows result (part Part.Index room ∷ []) [] r.old r.new }
 {
     if r.sees("[") {
-        return Ok(Some(index(r, room)?));
+        let index = index(r, room)?;
+        return Ok(Some(Box::new(r.alloc(), index)?));
     }
     Ok(None)
 }

@@ -23,26 +23,25 @@ use crate::refusal::CRefusal;
 use crate::room::fitted;
 use bl_csyntax::words;
 use bl_tree::c::{CExpr, CPlace, CStmt, CStmtKind};
-use bl_tree::{List, Text};
+use bl_tree::{Box, List, Text};
 use std::alloc::AllocError;
 
 /// The front of a statement up to its open brace.
 #[derive(Drop)]
 pub enum Opened {
     /// The condition of an `if`.
-    Then(CExpr),
+    Then(Box<CExpr>),
     /// A condition, and the statements before its `else`.
-    Else(CExpr, List<CStmt>),
+    Else(Box<CExpr>, List<CStmt>),
     /// The name of a loop's turns, and its condition.
-    Turns(Text, CExpr),
+    Turns(Text, Box<CExpr>),
 }
 
 /// An open brace, and what stands before it.
 #[derive(Drop)]
 pub struct Frame {
     pub before: List<CStmt>,
-    /// Where the open statement begins, and the room there.
-    pub start: u32,
+    /// The room where the open statement begins.
     pub room: u32,
     pub opened: Opened,
 }
@@ -117,9 +116,8 @@ fn one(r: &mut Reader<'_>, nest: Nest) -> Result<Nest, CRefusal>
     ensures follows { matches (Class.exactly (codes "if")) (first_of r.old) ≡ false → matches (Class.exactly (codes "{")) (first_of r.old) ≡ false → Nests result (part Part.Stmt nest.room ∷ nest_wanted nest) r.old r.new }
 {
     let Nest { outer, body, room } = nest;
-    let start = r.start();
     let what = simple(r, room)?;
-    let body = with(body, make_stmt::stmt(r.place_from(start), what))?;
+    let body = with(body, make_stmt::stmt(what))?;
     Ok(Nest { outer, body, room })
 }
 
@@ -143,11 +141,9 @@ fn opened_branch(r: &mut Reader<'_>, nest: Nest) -> Result<Nest, CRefusal>
     if room == 0 {
         return Err(r.refusal());
     }
-    let start = r.start();
     let test = branch_front(r, room - 1)?;
     let frame = Frame {
         before: body,
-        start,
         room,
         opened: Opened::Then(test),
     };
@@ -156,7 +152,7 @@ fn opened_branch(r: &mut Reader<'_>, nest: Nest) -> Result<Nest, CRefusal>
 }
 
 /// The front of an `if`, where so many brackets may be opened in its parts.
-fn branch_front(r: &mut Reader<'_>, room: u32) -> Result<CExpr, CRefusal>
+fn branch_front(r: &mut Reader<'_>, room: u32) -> Result<Box<CExpr>, CRefusal>
     ensures read { IfOk result (λ test. (r.old ≡ opened_tokens (Opened.Then test) ++ r.new) × IsTrue (spells_expr test)) }
     ensures follows { Follows result (sign (codes "if") ∷ sign (codes "(") ∷ part Part.Expr room ∷ sign (codes ")") ∷ sign (codes "{") ∷ []) [] r.old r.new }
 {
@@ -195,11 +191,9 @@ fn opened_turns(r: &mut Reader<'_>, nest: Nest) -> Result<Nest, CRefusal>
     if room < 3 {
         return Err(r.refusal());
     }
-    let start = r.start();
     let front = turns_front(r, room)?;
     let frame = Frame {
         before: body,
-        start,
         room,
         opened: Opened::Turns(front.turn, front.test),
     };
@@ -211,7 +205,7 @@ fn opened_turns(r: &mut Reader<'_>, nest: Nest) -> Result<Nest, CRefusal>
 #[derive(Drop)]
 struct TurnsFront {
     turn: Text,
-    test: CExpr,
+    test: Box<CExpr>,
 }
 
 /// The front of a loop, where so many brackets may be opened around it.
@@ -266,7 +260,6 @@ fn closed_frame(
     let body = fitted(body);
     let place = Outside {
         before: frame.before,
-        start: frame.start,
         room: frame.room,
     };
     match frame.opened {
@@ -285,18 +278,17 @@ fn closed_frame(
     }
 }
 
-/// What stands before a statement, where it begins, and the room there.
+/// What stands before a statement, and the room there.
 #[derive(Drop)]
 struct Outside {
     before: List<CStmt>,
-    start: u32,
     room: u32,
 }
 
 /// The condition of an `if` and the statements before its `else`.
 #[derive(Drop)]
 struct Parts {
-    test: CExpr,
+    test: Box<CExpr>,
     then_part: List<CStmt>,
 }
 
@@ -305,7 +297,7 @@ fn closed_then(
     r: &mut Reader<'_>,
     outer: Vec<Frame>,
     place: Outside,
-    test: CExpr,
+    test: Box<CExpr>,
     body: List<CStmt>,
 ) -> Result<Nest, CRefusal>
     requires outer { IsTrue (all_of (map spells_frame outer.items)) }
@@ -319,7 +311,7 @@ fn closed_then(
     r.take("}")?;
     if !r.eat("else") {
         let what = make_stmt::branch(test, body);
-        let next = ended(r, outer, place, what)?;
+        let next = ended(outer, place, what)?;
         return Ok(next);
     }
     let next = reopened(
@@ -358,7 +350,6 @@ fn reopened(
     let room = one_less(place.room);
     let frame = Frame {
         before: place.before,
-        start: place.start,
         room: place.room,
         opened: Opened::Else(parts.test, parts.then_part),
     };
@@ -384,7 +375,7 @@ fn closed_else(
 {
     r.take("}")?;
     let what = make_stmt::branches(parts.test, parts.then_part, body);
-    let next = ended(r, outer, place, what)?;
+    let next = ended(outer, place, what)?;
     Ok(next)
 }
 
@@ -407,24 +398,19 @@ fn closed_turns(
     r.take("}")?;
     r.take("}")?;
     let what = make_stmt::turns(front.turn, front.test, body);
-    let next = ended(r, outer, place, what)?;
+    let next = ended(outer, place, what)?;
     Ok(next)
 }
 
 /// The statements outside of a brace, with the one that it closed.
-fn ended(
-    r: &Reader<'_>,
-    outer: Vec<Frame>,
-    place: Outside,
-    what: CStmtKind,
-) -> Result<Nest, CRefusal>
+fn ended(outer: Vec<Frame>, place: Outside, what: CStmtKind) -> Result<Nest, CRefusal>
     requires outer { IsTrue (all_of (map spells_frame outer.items)) }
     requires before { IsTrue (all_of (map spells_stmt place.before)) }
     requires what { IsTrue (spells_stmt_kind what) }
     ensures read { IfOk result (λ next. (nest_tokens next ≡ joined (map frame_tokens outer.items) ++ (joined (map stmt_tokens place.before) ++ stmt_kind_tokens what)) × IsTrue (spells_nest next)) }
     ensures awaits { NestStays result (part Part.Stmts place.room ∷ sign (codes "}") ∷ outside outer.items) }
 {
-    let stmt = make_stmt::stmt(r.place_from(place.start), what);
+    let stmt = make_stmt::stmt(what);
     let body = with(place.before, stmt)?;
     Ok(Nest {
         outer,
@@ -484,7 +470,7 @@ fn returned(r: &mut Reader<'_>, room: u32) -> Result<CStmtKind, CRefusal>
     if r.eat(";") {
         return Ok(make_stmt::give(None));
     }
-    let value = expr::expr(r, room)?;
+    let value = expr::boxed(r, room)?;
     r.take(";")?;
     Ok(make_stmt::give(Some(value)))
 }
@@ -531,12 +517,11 @@ fn bracketed(r: &mut Reader<'_>, at: CPlace, room: u32) -> Result<CStmtKind, CRe
     if room == 0 {
         return Err(r.refusal());
     }
-    let start = r.start();
     r.take("(")?;
     if r.eat("struct") {
         return cleared(r, at);
     }
-    let value = expr::bracketed(r, start, room)?;
+    let value = expr::bracketed(r, room)?;
     stored(r, at, value)
 }
 
@@ -547,7 +532,7 @@ fn stored(r: &mut Reader<'_>, at: CPlace, value: CExpr) -> Result<CStmtKind, CRe
     ensures follows { Follows result (sign (codes ";") ∷ []) [] r.old r.new }
 {
     r.take(";")?;
-    Ok(make_stmt::set(at, value))
+    Ok(make_stmt::set(at, Box::new(r.alloc(), value)?))
 }
 
 /// What follows `(struct` where a place is set to zeros.
@@ -560,7 +545,7 @@ fn cleared(r: &mut Reader<'_>, at: CPlace) -> Result<CStmtKind, CRefusal>
     r.take(")")?;
     zeros(r)?;
     r.take(";")?;
-    Ok(make_stmt::clear(at, of))
+    Ok(make_stmt::clear(Box::new(r.alloc(), at)?, of))
 }
 
 /// A struct of zeros.
@@ -574,12 +559,12 @@ pub fn zeros(r: &mut Reader<'_>) -> Result<(), CRefusal>
 }
 
 /// A condition in its parentheses, where so many brackets may be opened in it.
-fn condition(r: &mut Reader<'_>, room: u32) -> Result<CExpr, CRefusal>
+fn condition(r: &mut Reader<'_>, room: u32) -> Result<Box<CExpr>, CRefusal>
     ensures read { IfOk result (λ test. (r.old ≡ condition_tokens test ++ r.new) × IsTrue (spells_expr test)) }
     ensures follows { Follows result (sign (codes "(") ∷ part Part.Expr room ∷ sign (codes ")") ∷ []) [] r.old r.new }
 {
     r.take("(")?;
-    let test = expr::expr(r, room)?;
+    let test = expr::boxed(r, room)?;
     r.take(")")?;
     Ok(test)
 }

@@ -1,63 +1,54 @@
-//! Places of expressions. Each function goes behind the tokens of its part, and keeps them as they are.
+//! Places of expressions. Each function goes behind the tokens of its part.
 
-ghost use Rattle.std.specs.Prelude.{◌≡◌, ℕ, ◌<ℤ◌, pos, List, [], ◌∷◌, ◌++◌, ◌&&◌, codes, length, map, option_map, true, IfOk};
+ghost use Rattle.std.specs.Prelude.{◌≡◌, ℕ, ◌<ℤ◌, pos, List, [], ◌∷◌, ◌++◌, codes, length, map, option_map, true};
 ghost use Rattle.std.specs.Fmt.{decimal};
-ghost use Rattle.bl_tree.specs.Reduce.{all_of};
-ghost use Rattle.bl_ctext.specs.Names.{is_callee};
-ghost use Rattle.bl_ctext.specs.Spelling.{arg_tokens, comma_before, ccall_tokens, expr_tokens, index_front, index_tokens, kind_tokens, literal_tokens, operator_sign, place_tokens, root_tokens, step_tokens};
-ghost use Rattle.bl_ctext.specs.Spellable.{is_c_operator, spells_arg, spells_call, spells_expr, spells_index, spells_kind, spells_place, spells_step};
+ghost use Rattle.bl_ctext.specs.Spelling.{arg_tokens, comma_before, ccall_tokens, expr_tokens, index_front, index_tokens, kind_tokens, literal_tokens, place_tokens, root_tokens, step_tokens};
+ghost use Rattle.bl_ctext.specs.Spellable.{spells_arg, spells_call, spells_expr, spells_index, spells_kind, spells_place, spells_step};
 ghost use Rattle.bl_cparse.specs.HasPlaces.{arg_walk, call_walk, expr_walk, if_there, in_list, in_turn, index_walk, kind_walk, past, place_walk, step_walk};
 
 use crate::parser::literal::negatives_of;
 use crate::placing::spot::Spot;
 use bl_tree::c::{CArg, CCall, CExpr, CExprKind, CIndex, CPlace, CStep};
-use bl_tree::{Box, List, NoMemory, Scalar, Width};
-use std::alloc::Global;
+use bl_tree::{Box, List, Scalar, Width};
 
 #[cycle(placed_expressions)]
-pub fn expr(alloc: Global, spot: &mut Spot<'_>, e: CExpr) -> Result<CExpr, NoMemory>
-    ensures places { IfOk result (λ made. expr_walk made spot.old ≡ (made, spot.new)) }
-    ensures tokens { IfOk result (λ made. expr_tokens made ≡ expr_tokens e) }
-    ensures spells { IfOk result (λ made. spells_expr made ≡ spells_expr e) }
+pub fn expr(spot: &mut Spot<'_>, e: &mut CExpr)
+    ensures places { expr_walk e.new spot.old ≡ (e.new, spot.new) }
+    ensures tokens { expr_tokens e.new ≡ expr_tokens e.old }
+    ensures spells { spells_expr e.new ≡ spells_expr e.old }
 {
     let start = spot.start();
-    let what = kind(alloc, spot, e.what)?;
-    Ok(CExpr {
-        place: spot.place_from(start),
-        what,
-    })
+    kind(spot, &mut e.what);
+    e.place = spot.place_from(start);
 }
 
 #[cycle(placed_expressions)]
-fn kind(alloc: Global, spot: &mut Spot<'_>, what: CExprKind) -> Result<CExprKind, NoMemory>
-    ensures places { IfOk result (λ made. kind_walk made spot.old ≡ (made, spot.new)) }
-    ensures tokens { IfOk result (λ made. kind_tokens made ≡ kind_tokens what) }
-    ensures spells { IfOk result (λ made. spells_kind made ≡ spells_kind what) }
+fn kind(spot: &mut Spot<'_>, what: &mut CExprKind)
+    ensures places { kind_walk what.new spot.old ≡ (what.new, spot.new) }
+    ensures tokens { kind_tokens what.new ≡ kind_tokens what.old }
+    ensures spells { spells_kind what.new ≡ spells_kind what.old }
 {
     match what {
-        CExprKind::Literal(scalar, n) => {
-            spot.skip(literal_length(scalar, n));
-            Ok(CExprKind::Literal(scalar, n))
+        CExprKind::Literal(scalar, _) => {
+            let scalar = *scalar;
+            if let CExprKind::Literal(_, n) = what {
+                spot.skip(literal_length(scalar, *n));
+            }
         }
-        CExprKind::Read(at) => {
-            let at = place(alloc, spot, at)?;
-            Ok(CExprKind::Read(at))
-        }
-        CExprKind::Call(called) => {
-            let called = call(alloc, spot, called)?;
-            Ok(CExprKind::Call(called))
-        }
+        CExprKind::Read(at) => place(spot, at),
+        CExprKind::Call(called) => call(spot, called),
         CExprKind::Not(operand) => {
-            let made = not(alloc, spot, operand.into_inner())?;
-            Ok(made)
+            spot.pass();
+            spot.pass();
+            expr(spot, operand);
+            spot.pass();
         }
-        CExprKind::Two(op, left, right) => {
+        CExprKind::Two(_, left, right) => {
             spot.pass();
-            let left = expr(alloc, spot, left.into_inner())?;
+            expr(spot, left);
             spot.pass();
-            let right = expr(alloc, spot, right.into_inner())?;
+            expr(spot, right);
             spot.pass();
-            Ok(CExprKind::Two(op, Box::new(alloc, left)?, Box::new(alloc, right)?))
         }
     }
 }
@@ -87,31 +78,13 @@ fn negative_length(width: Width, n: i128) -> usize
 }
 
 #[cycle(placed_expressions)]
-fn not(alloc: Global, spot: &mut Spot<'_>, operand: CExpr) -> Result<CExprKind, NoMemory>
-    ensures places { IfOk result (λ made. kind_walk made spot.old ≡ (made, spot.new)) }
-    ensures tokens { IfOk result (λ made. kind_tokens made ≡ codes "(" ∷ codes "!" ∷ (expr_tokens operand ++ codes ")" ∷ [])) }
-    ensures spells { IfOk result (λ made. spells_kind made ≡ spells_expr operand) }
-{
-    spot.pass();
-    spot.pass();
-    let operand = expr(alloc, spot, operand)?;
-    spot.pass();
-    Ok(CExprKind::Not(Box::new(alloc, operand)?))
-}
-
-#[cycle(placed_expressions)]
-pub fn place(alloc: Global, spot: &mut Spot<'_>, at: CPlace) -> Result<CPlace, NoMemory>
-    ensures places { IfOk result (λ made. place_walk made spot.old ≡ (made, spot.new)) }
-    ensures tokens { IfOk result (λ made. place_tokens made ≡ place_tokens at) }
-    ensures spells { IfOk result (λ made. spells_place made ≡ spells_place at) }
+pub fn place(spot: &mut Spot<'_>, at: &mut CPlace)
+    ensures places { place_walk at.new spot.old ≡ (at.new, spot.new) }
+    ensures tokens { place_tokens at.new ≡ place_tokens at.old }
+    ensures spells { spells_place at.new ≡ spells_place at.old }
 {
     root(spot, at.through);
-    let steps = steps(alloc, spot, at.steps)?;
-    Ok(CPlace {
-        through: at.through,
-        name: at.name,
-        steps,
-    })
+    steps(spot, &mut at.steps);
 }
 
 /// Behind what a place begins with.
@@ -126,66 +99,47 @@ pub fn root(spot: &mut Spot<'_>, through: bool)
 }
 
 #[cycle(placed_expressions)]
-fn steps(alloc: Global, spot: &mut Spot<'_>, steps: List<CStep>) -> Result<List<CStep>, NoMemory>
-    ensures places { IfOk result (λ made. in_turn (map step_walk made) spot.old ≡ (made, spot.new)) }
-    ensures tokens { IfOk result (λ made. map step_tokens made ≡ map step_tokens steps) }
-    ensures spells { IfOk result (λ made. map spells_step made ≡ map spells_step steps) }
+fn steps(spot: &mut Spot<'_>, steps: &mut List<CStep>)
+    ensures places { in_turn (map step_walk steps.new) spot.old ≡ (steps.new, spot.new) }
+    ensures tokens { map step_tokens steps.new ≡ map step_tokens steps.old }
+    ensures spells { map spells_step steps.new ≡ map spells_step steps.old }
 {
-    let mut made = List::new(alloc);
-    for one in steps.into_vec() {
-        made.push(step(alloc, spot, one)?)?;
-    }
-    Ok(made)
-}
-
-#[cycle(placed_expressions)]
-fn step(alloc: Global, spot: &mut Spot<'_>, step: CStep) -> Result<CStep, NoMemory>
-    ensures places { IfOk result (λ made. step_walk made spot.old ≡ (made, spot.new)) }
-    ensures tokens { IfOk result (λ made. step_tokens made ≡ step_tokens step) }
-    ensures spells { IfOk result (λ made. spells_step made ≡ spells_step step) }
-{
-    spot.pass();
-    spot.pass();
-    let index = maybe_index(alloc, spot, step.index)?;
-    Ok(CStep {
-        member: step.member,
-        index,
-    })
-}
-
-#[cycle(placed_expressions)]
-fn maybe_index(
-    alloc: Global,
-    spot: &mut Spot<'_>,
-    index: Option<CIndex>,
-) -> Result<Option<CIndex>, NoMemory>
-    ensures places { IfOk result (λ made. if_there (option_map index_walk made) spot.old ≡ (made, spot.new)) }
-    ensures tokens { IfOk result (λ made. option_map index_tokens made ≡ option_map index_tokens index) }
-    ensures spells { IfOk result (λ made. option_map spells_index made ≡ option_map spells_index index) }
-{
-    match index {
-        Some(inside) => {
-            let made = crate::placing::expr::index(alloc, spot, inside)?;
-            Ok(Some(made))
-        }
-        None => Ok(None),
+    for k in 0..steps.len() {
+        step(spot, steps.get_mut(k));
     }
 }
 
 #[cycle(placed_expressions)]
-fn index(alloc: Global, spot: &mut Spot<'_>, index: CIndex) -> Result<CIndex, NoMemory>
-    ensures places { IfOk result (λ made. index_walk made spot.old ≡ (made, spot.new)) }
-    ensures tokens { IfOk result (λ made. index_tokens made ≡ index_tokens index) }
-    ensures spells { IfOk result (λ made. spells_index made ≡ spells_index index) }
+fn step(spot: &mut Spot<'_>, step: &mut CStep)
+    ensures places { step_walk step.new spot.old ≡ (step.new, spot.new) }
+    ensures tokens { step_tokens step.new ≡ step_tokens step.old }
+    ensures spells { spells_step step.new ≡ spells_step step.old }
+{
+    spot.pass();
+    spot.pass();
+    maybe_index(spot, &mut step.index);
+}
+
+#[cycle(placed_expressions)]
+fn maybe_index(spot: &mut Spot<'_>, index: &mut Option<Box<CIndex>>)
+    ensures places { if_there (option_map index_walk index.new) spot.old ≡ (index.new, spot.new) }
+    ensures tokens { option_map index_tokens index.new ≡ option_map index_tokens index.old }
+    ensures spells { option_map spells_index index.new ≡ option_map spells_index index.old }
+{
+    if let Some(inside) = index {
+        crate::placing::expr::index(spot, inside);
+    }
+}
+
+#[cycle(placed_expressions)]
+fn index(spot: &mut Spot<'_>, index: &mut CIndex)
+    ensures places { index_walk index.new spot.old ≡ (index.new, spot.new) }
+    ensures tokens { index_tokens index.new ≡ index_tokens index.old }
+    ensures spells { spells_index index.new ≡ spells_index index.old }
 {
     index_front(spot, index.signed);
-    let at = expr(alloc, spot, index.at)?;
+    expr(spot, &mut index.at);
     index_rest(spot, index.length);
-    Ok(CIndex {
-        signed: index.signed,
-        at,
-        length: index.length,
-    })
 }
 
 /// Behind the front of an index, which has as many tokens for each function that takes one.
@@ -203,19 +157,15 @@ pub fn index_rest(spot: &mut Spot<'_>, length: u32)
 }
 
 #[cycle(placed_expressions)]
-pub fn call(alloc: Global, spot: &mut Spot<'_>, call: CCall) -> Result<CCall, NoMemory>
-    ensures places { IfOk result (λ made. call_walk made spot.old ≡ (made, spot.new)) }
-    ensures tokens { IfOk result (λ made. ccall_tokens made ≡ ccall_tokens call) }
-    ensures spells { IfOk result (λ made. spells_call made ≡ spells_call call) }
+pub fn call(spot: &mut Spot<'_>, call: &mut CCall)
+    ensures places { call_walk call.new spot.old ≡ (call.new, spot.new) }
+    ensures tokens { ccall_tokens call.new ≡ ccall_tokens call.old }
+    ensures spells { spells_call call.new ≡ spells_call call.old }
 {
     spot.pass();
     spot.pass();
-    let args = args(alloc, spot, call.args)?;
+    args(spot, &mut call.args);
     spot.pass();
-    Ok(CCall {
-        name: call.name,
-        args,
-    })
 }
 
 /// Behind the comma before a part that isn't the first.
@@ -228,34 +178,28 @@ pub fn comma(spot: &mut Spot<'_>, first: bool)
 }
 
 #[cycle(placed_expressions)]
-fn args(alloc: Global, spot: &mut Spot<'_>, args: List<CArg>) -> Result<List<CArg>, NoMemory>
-    ensures places { IfOk result (λ made. in_list true (map arg_walk made) spot.old ≡ (made, spot.new)) }
-    ensures tokens { IfOk result (λ made. map arg_tokens made ≡ map arg_tokens args) }
-    ensures spells { IfOk result (λ made. map spells_arg made ≡ map spells_arg args) }
+fn args(spot: &mut Spot<'_>, args: &mut List<CArg>)
+    ensures places { in_list true (map arg_walk args.new) spot.old ≡ (args.new, spot.new) }
+    ensures tokens { map arg_tokens args.new ≡ map arg_tokens args.old }
+    ensures spells { map spells_arg args.new ≡ map spells_arg args.old }
 {
-    let mut made = List::new(alloc);
-    for one in args.into_vec() {
-        comma(spot, made.is_empty());
-        made.push(arg(alloc, spot, one)?)?;
+    for k in 0..args.len() {
+        comma(spot, k == 0);
+        arg(spot, args.get_mut(k));
     }
-    Ok(made)
 }
 
 #[cycle(placed_expressions)]
-fn arg(alloc: Global, spot: &mut Spot<'_>, arg: CArg) -> Result<CArg, NoMemory>
-    ensures places { IfOk result (λ made. arg_walk made spot.old ≡ (made, spot.new)) }
-    ensures tokens { IfOk result (λ made. arg_tokens made ≡ arg_tokens arg) }
-    ensures spells { IfOk result (λ made. spells_arg made ≡ spells_arg arg) }
+fn arg(spot: &mut Spot<'_>, arg: &mut CArg)
+    ensures places { arg_walk arg.new spot.old ≡ (arg.new, spot.new) }
+    ensures tokens { arg_tokens arg.new ≡ arg_tokens arg.old }
+    ensures spells { spells_arg arg.new ≡ spells_arg arg.old }
 {
     match arg {
-        CArg::Value(value) => {
-            let value = expr(alloc, spot, value)?;
-            Ok(CArg::Value(value))
-        }
+        CArg::Value(value) => expr(spot, value),
         CArg::Address(at) => {
             spot.pass();
-            let at = place(alloc, spot, at)?;
-            Ok(CArg::Address(at))
+            place(spot, at);
         }
     }
 }

@@ -1,50 +1,39 @@
 //! Places of structs and functions.
 
-ghost use Rattle.std.specs.Prelude.{◌≡◌, [], ◌∷◌, ◌++◌, codes, map, IfOk};
-ghost use Rattle.bl_tree.specs.Reduce.{all_of, joined};
-ghost use Rattle.bl_ctext.specs.Spelling.{func_front, func_tokens, length_tokens, local_tokens, member_tokens, param_tokens, returned_tokens, star_if, static_if, struct_tokens, type_tokens, with_commas, zero_tokens};
+ghost use Rattle.std.specs.Prelude.{◌≡◌, [], ◌∷◌, ◌++◌, codes, map};
+ghost use Rattle.bl_tree.specs.Reduce.{joined};
+ghost use Rattle.bl_ctext.specs.Spelling.{func_front, func_tokens, length_tokens, local_tokens, member_tokens, param_tokens, star_if, static_if, struct_tokens, type_tokens, with_commas, zero_tokens};
 ghost use Rattle.bl_ctext.specs.Spellable.{spells_func, spells_struct};
 ghost use Rattle.bl_cparse.specs.HasPlaces.{func_walk, head_tokens, in_turn, past, struct_walk};
 
 use crate::placing::expr::comma;
 use crate::placing::spot::Spot;
 use crate::placing::stmt;
+use bl_tree::List;
 use bl_tree::c::{CFunc, CLocal, CMember, CParam, CStruct, CType};
-use bl_tree::{List, NoMemory};
-use std::alloc::Global;
 
-pub fn structs(
-    alloc: Global,
-    spot: &mut Spot<'_>,
-    structs: List<CStruct>,
-) -> Result<List<CStruct>, NoMemory>
-    ensures places { IfOk result (λ all. in_turn (map struct_walk all) spot.old ≡ (all, spot.new)) }
-    ensures tokens { IfOk result (λ all. map struct_tokens all ≡ map struct_tokens structs) }
-    ensures spells { IfOk result (λ all. map spells_struct all ≡ map spells_struct structs) }
+pub fn structs(spot: &mut Spot<'_>, structs: &mut List<CStruct>)
+    ensures places { in_turn (map struct_walk structs.new) spot.old ≡ (structs.new, spot.new) }
+    ensures tokens { map struct_tokens structs.new ≡ map struct_tokens structs.old }
+    ensures spells { map spells_struct structs.new ≡ map spells_struct structs.old }
 {
-    let mut made = List::new(alloc);
-    for one in structs.into_vec() {
-        made.push(structure(spot, one))?;
+    for k in 0..structs.len() {
+        structure(spot, structs.get_mut(k));
     }
-    Ok(made)
 }
 
-fn structure(spot: &mut Spot<'_>, structure: CStruct) -> CStruct
-    ensures places { struct_walk result spot.old ≡ (result, spot.new) }
-    ensures tokens { struct_tokens result ≡ struct_tokens structure }
-    ensures spells { spells_struct result ≡ spells_struct structure }
+fn structure(spot: &mut Spot<'_>, structure: &mut CStruct)
+    ensures places { struct_walk structure.new spot.old ≡ (structure.new, spot.new) }
+    ensures tokens { struct_tokens structure.new ≡ struct_tokens structure.old }
+    ensures spells { spells_struct structure.new ≡ spells_struct structure.old }
 {
     let start = spot.start();
-    whole_struct(spot, &structure);
-    CStruct {
-        place: spot.place_from(start),
-        name: structure.name,
-        members: structure.members,
-    }
+    whole_struct(spot, structure);
+    structure.place = spot.place_from(start);
 }
 
 /// Behind a struct.
-pub fn whole_struct(spot: &mut Spot<'_>, structure: &CStruct)
+fn whole_struct(spot: &mut Spot<'_>, structure: &CStruct)
     ensures { spot.new ≡ past (struct_tokens structure.now) spot.old }
 {
     spot.pass();
@@ -97,44 +86,30 @@ fn length(spot: &mut Spot<'_>, length: Option<u32>)
     }
 }
 
-pub fn funcs(
-    alloc: Global,
-    spot: &mut Spot<'_>,
-    funcs: List<CFunc>,
-) -> Result<List<CFunc>, NoMemory>
-    ensures places { IfOk result (λ all. in_turn (map func_walk all) spot.old ≡ (all, spot.new)) }
-    ensures tokens { IfOk result (λ all. map func_tokens all ≡ map func_tokens funcs) }
-    ensures spells { IfOk result (λ all. map spells_func all ≡ map spells_func funcs) }
+pub fn funcs(spot: &mut Spot<'_>, funcs: &mut List<CFunc>)
+    ensures places { in_turn (map func_walk funcs.new) spot.old ≡ (funcs.new, spot.new) }
+    ensures tokens { map func_tokens funcs.new ≡ map func_tokens funcs.old }
+    ensures spells { map spells_func funcs.new ≡ map spells_func funcs.old }
 {
-    let mut made = List::new(alloc);
-    for one in funcs.into_vec() {
-        made.push(func(alloc, spot, one)?)?;
+    for k in 0..funcs.len() {
+        func(spot, funcs.get_mut(k));
     }
-    Ok(made)
 }
 
-fn func(alloc: Global, spot: &mut Spot<'_>, func: CFunc) -> Result<CFunc, NoMemory>
-    ensures places { IfOk result (λ made. func_walk made spot.old ≡ (made, spot.new)) }
-    ensures tokens { IfOk result (λ made. func_tokens made ≡ func_tokens func) }
-    ensures spells { IfOk result (λ made. spells_func made ≡ spells_func func) }
+fn func(spot: &mut Spot<'_>, func: &mut CFunc)
+    ensures places { func_walk func.new spot.old ≡ (func.new, spot.new) }
+    ensures tokens { func_tokens func.new ≡ func_tokens func.old }
+    ensures spells { spells_func func.new ≡ spells_func func.old }
 {
     let start = spot.start();
-    head(spot, &func);
-    let body = stmt::stmts(alloc, spot, func.body)?;
+    head(spot, func);
+    stmt::stmts(spot, &mut func.body);
     spot.pass();
-    Ok(CFunc {
-        place: spot.place_from(start),
-        fixed: func.fixed,
-        result: func.result,
-        name: func.name,
-        params: func.params,
-        locals: func.locals,
-        body,
-    })
+    func.place = spot.place_from(start);
 }
 
 /// Behind a function up to its statements.
-pub fn head(spot: &mut Spot<'_>, func: &CFunc)
+fn head(spot: &mut Spot<'_>, func: &CFunc)
     ensures { spot.new ≡ past (head_tokens func.now) spot.old }
 {
     front(spot, func);

@@ -1,6 +1,6 @@
 //! Where a walk over the pieces of a text stands.
 
-ghost use Rattle.std.specs.Prelude.{◌≡◌, ◌≤◌, List, length, IsTrue};
+ghost use Rattle.std.specs.Prelude.{◌≡◌, ◌≤◌, List, length};
 ghost use Rattle.bl_ctext.specs.Token.{Token};
 ghost use Rattle.bl_cparse.specs.HasPlaces.{start_of, span, next, past};
 
@@ -51,13 +51,6 @@ impl<'a> Spot<'a> {
             start,
             end: self.at as u32,
         }
-    }
-
-    /// Whether a place goes from an offset up to here.
-    pub fn is_place(&self, start: u32, place: Place) -> bool
-        ensures { IsTrue result → place ≡ record { start = start; end = self.now.at } }
-    {
-        place.start == start && place.end as usize == self.at
     }
 
     /// Goes on behind the next piece.

@@ -9,7 +9,7 @@ ghost use Rattle.bl_ctext.specs.Spellable.{spells_expr, spells_place, spells_stm
 use crate::printer::{expr, name};
 use crate::writer::Writer;
 use bl_tree::c::{CExpr, CPlace, CStmt, CStmtKind};
-use bl_tree::{List, NoMemory, Text};
+use bl_tree::{Box, List, NoMemory, Text};
 
 /// Each statement on lines of its own, inside so many blocks.
 #[cycle(statements)]
@@ -150,7 +150,7 @@ fn close_loop(out: &mut Writer, level: u8) -> Result<(), NoMemory>
     out.write("}")
 }
 
-fn returned(out: &mut Writer, value: &Option<CExpr>) -> Result<(), NoMemory>
+fn returned(out: &mut Writer, value: &Option<Box<CExpr>>) -> Result<(), NoMemory>
     requires { IsTrue (spells_result value.now) }
     ensures { OnOk result (out.new ≡ out.old ++ codes "return" ∷ (result_tokens value.now ++ codes ";" ∷ [])) }
 {

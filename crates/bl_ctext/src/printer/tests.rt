@@ -1,8 +1,8 @@
 ghost use Rattle.std.specs.Prelude.{◌≡◌, ◌≤◌, ◌&&◌, length, map, IsTrue, IfOk};
 ghost use Rattle.bl_tree.specs.Reduce.{all_of, joined};
 ghost use Rattle.bl_ctext.specs.Names.{is_name};
-ghost use Rattle.bl_ctext.specs.Spelling.{kind_tokens, expr_tokens, place_tokens, stmt_tokens, stmt_kind_tokens, ccall_tokens, literal_tokens, with_commas, param_tokens, local_tokens, arg_tokens, struct_tokens, func_tokens, tokens_of};
-ghost use Rattle.bl_ctext.specs.Spellable.{has_any, is_literal, is_c_operator, spells_kind, spells_expr, spells_place, spells_stmt, spells_stmt_kind, spells_arg, spells_member, spells_struct, spells_param, spells_local, spells_func};
+ghost use Rattle.bl_ctext.specs.Spelling.{kind_tokens, expr_tokens, place_tokens, index_tokens, stmt_tokens, stmt_kind_tokens, ccall_tokens, literal_tokens, with_commas, param_tokens, local_tokens, arg_tokens, struct_tokens, func_tokens, tokens_of};
+ghost use Rattle.bl_ctext.specs.Spellable.{has_any, is_literal, is_c_operator, spells_kind, spells_expr, spells_place, spells_index, spells_stmt, spells_stmt_kind, spells_arg, spells_member, spells_struct, spells_param, spells_local, spells_func};
 
 use super::print;
 use crate::file::CFile;
@@ -72,17 +72,23 @@ fn read(alloc: Global, name: &str) -> Result<CExpr, NoMemory>
     Ok(expr(CExprKind::Read(local(alloc, name)?)))
 }
 
+fn index(alloc: Global) -> Result<CIndex, NoMemory>
+    ensures { IfOk result (λ i. IsTrue (spells_index i) × (length (index_tokens i) ≤ 8)) }
+{
+    Ok(CIndex {
+        signed: true,
+        at: read(alloc, "x")?,
+        length: 3,
+    })
+}
+
 fn element(alloc: Global) -> Result<CPlace, NoMemory>
     ensures { IfOk result (λ at. IsTrue (spells_place at) × (length (place_tokens at) ≤ 14)) }
 {
     let mut steps = List::new(alloc);
     steps.push(CStep {
         member: text(alloc, "a")?,
-        index: Some(CIndex {
-            signed: true,
-            at: read(alloc, "x")?,
-            length: 3,
-        }),
+        index: Some(Box::new(alloc, index(alloc)?)?),
     })?;
     Ok(CPlace {
         through: true,
@@ -103,7 +109,8 @@ fn set(alloc: Global) -> Result<CStmt, NoMemory>
     ensures { IfOk result (λ s. IsTrue (spells_stmt s) × (length (stmt_tokens s) ≤ 30)) }
 {
     let value = literal(Scalar::Nat(Width::W8), 255);
-    Ok(stmt(CStmtKind::Set(element(alloc)?, value)))
+    let at = element(alloc)?;
+    Ok(stmt(CStmtKind::Set(at, Box::new(alloc, value)?)))
 }
 
 fn loop_body(alloc: Global) -> Result<List<CStmt>, NoMemory>
@@ -115,11 +122,11 @@ fn loop_body(alloc: Global) -> Result<List<CStmt>, NoMemory>
     Ok(body)
 }
 
-fn negation(alloc: Global) -> Result<CExpr, NoMemory>
+fn negation(alloc: Global) -> Result<Box<CExpr>, NoMemory>
     ensures { IfOk result (λ e. IsTrue (spells_expr e) × (length (expr_tokens e) ≤ 10)) }
 {
     let operand = Box::new(alloc, literal(Scalar::Bool, 0))?;
-    Ok(expr(CExprKind::Not(operand)))
+    Ok(Box::new(alloc, expr(CExprKind::Not(operand)))?)
 }
 
 fn turns(alloc: Global) -> Result<CStmt, NoMemory>
@@ -135,7 +142,8 @@ fn then_part(alloc: Global) -> Result<List<CStmt>, NoMemory>
     ensures { IfOk result (λ b. IsTrue (all_of (map spells_stmt b)) × (length (joined (map stmt_tokens b)) ≤ 10)) }
 {
     let mut body = List::new(alloc);
-    body.push(stmt(CStmtKind::Return(Some(literal(INT, -7)))))?;
+    let value = Box::new(alloc, literal(INT, -7))?;
+    body.push(stmt(CStmtKind::Return(Some(value))))?;
     Ok(body)
 }
 
@@ -143,7 +151,7 @@ fn else_part(alloc: Global) -> Result<List<CStmt>, NoMemory>
     ensures { IfOk result (λ b. IsTrue (all_of (map spells_stmt b)) × (length (joined (map stmt_tokens b)) ≤ 12)) }
 {
     let mut body = List::new(alloc);
-    let at = local(alloc, "z")?;
+    let at = Box::new(alloc, local(alloc, "z")?)?;
     body.push(stmt(CStmtKind::Clear(at, text(alloc, "r")?)))?;
     Ok(body)
 }
@@ -151,12 +159,12 @@ fn else_part(alloc: Global) -> Result<List<CStmt>, NoMemory>
 fn choice(alloc: Global) -> Result<CStmt, NoMemory>
     ensures { IfOk result (λ s. IsTrue (spells_stmt s) × (length (stmt_tokens s) ≤ 60)) }
 {
-    let test = comparison(alloc)?;
+    let test = Box::new(alloc, comparison(alloc)?)?;
     let then_part = then_part(alloc)?;
     Ok(branches(test, then_part, else_part(alloc)?))
 }
 
-fn branches(test: CExpr, then_part: List<CStmt>, else_part: List<CStmt>) -> CStmt
+fn branches(test: Box<CExpr>, then_part: List<CStmt>, else_part: List<CStmt>) -> CStmt
     requires test { IsTrue (spells_expr test) × (length (expr_tokens test) ≤ 20) }
     requires then_part { IsTrue (all_of (map spells_stmt then_part)) × (length (joined (map stmt_tokens then_part)) ≤ 10) }
     requires else_part { IsTrue (all_of (map spells_stmt else_part)) × (length (joined (map stmt_tokens else_part)) ≤ 12) }

@@ -57,5 +57,5 @@ fn statements(alloc: Global, unit: &Unit, body: &[Stmt]) -> Result<List<CStmt>, 
 fn begin(alloc: Global) -> Result<CStmt, NoMemory>
     ensures { IfOk result (λ s. s ≡ c_set c_now (c_read c_counter)) }
 {
-    Ok(set(now(alloc)?, read(counter(alloc)?)))
+    set(alloc, now(alloc)?, read(counter(alloc)?))
 }

@@ -101,7 +101,7 @@ pub fn init(alloc: Global) -> Result<CFunc, NoMemory>
     steps.push(step(named(alloc, "m_0")?))?;
     steps.push(step(named(alloc, "c0")?))?;
     let mut body = List::new(alloc);
-    body.push(set(target(alloc, "s", steps)?, count(0)))?;
+    body.push(set(alloc, target(alloc, "s", steps)?, count(0))?)?;
     let name = named(alloc, "bl_init")?;
     Ok(outer_function(alloc, None, name, params, body))
 }
@@ -113,7 +113,7 @@ pub fn tick(alloc: Global, unit: &Unit) -> Result<CFunc, NoMemory>
     let activity = prefixed(alloc, "a_", &unit.name)?;
     let mut body = List::new(alloc);
     body.push(calling(call(activity, tick_args(alloc)?)))?;
-    body.push(returning(count(0)))?;
+    body.push(returning(alloc, count(0))?)?;
     let name = named(alloc, "bl_tick")?;
     let params = tick_params(alloc)?;
     Ok(outer_function(alloc, Some(UINT32), name, params, body))

@@ -156,13 +156,13 @@ pub fn called(call: CCall) -> CExpr
     }
 }
 
-pub fn set(place: CPlace, value: CExpr) -> CStmt
-    ensures { result ≡ c_set place value }
+pub fn set(alloc: Global, place: CPlace, value: CExpr) -> Result<CStmt, NoMemory>
+    ensures { IfOk result (λ s. s ≡ c_set place value) }
 {
-    CStmt {
+    Ok(CStmt {
         place: NOWHERE,
-        what: CStmtKind::Set(place, value),
-    }
+        what: CStmtKind::Set(place, Box::new(alloc, value)?),
+    })
 }
 
 /// A call whose value is dropped.
@@ -175,23 +175,23 @@ pub fn calling(call: CCall) -> CStmt
     }
 }
 
-pub fn returning(value: CExpr) -> CStmt
-    ensures { result ≡ c_returning value }
+pub fn returning(alloc: Global, value: CExpr) -> Result<CStmt, NoMemory>
+    ensures { IfOk result (λ s. s ≡ c_returning value) }
 {
-    CStmt {
+    Ok(CStmt {
         place: NOWHERE,
-        what: CStmtKind::Return(Some(value)),
-    }
+        what: CStmtKind::Return(Some(Box::new(alloc, value)?)),
+    })
 }
 
 /// `if` without `else`.
-pub fn when(test: CExpr, body: List<CStmt>) -> CStmt
-    ensures { result ≡ c_when test body }
+pub fn when(alloc: Global, test: CExpr, body: List<CStmt>) -> Result<CStmt, NoMemory>
+    ensures { IfOk result (λ s. s ≡ c_when test body) }
 {
-    CStmt {
+    Ok(CStmt {
         place: NOWHERE,
-        what: CStmtKind::If(test, body, None),
-    }
+        what: CStmtKind::If(Box::new(alloc, test)?, body, None),
+    })
 }
 
 /// A `static` function without a result.

@@ -1,15 +1,15 @@
 //! The stretches of the loop, from one pause to the next. The stretch of number 0 begins at the head of the loop and
 //! stands last, since the last of the others leads to it in the same tick.
 
-ghost use Rattle.std.specs.Prelude.{◌≡◌, ◌≤◌, ◌++◌, [], ◌∷◌, IsTrue, IfOk, length};
+ghost use Rattle.std.specs.Prelude.{◌≡◌, ◌<◌, ◌≤◌, ◌++◌, [], ◌∷◌, IsTrue, IfOk, length};
 ghost use Rattle.std.specs.List.{list_all};
-ghost use Rattle.bl_early.specs.Built.{is_step, steps_at};
-ghost use Rattle.bl_early.specs.Emitted.{c_count, c_counter, c_now, c_numbered, c_ports, c_resumed, c_set, c_stretch, c_when};
+ghost use Rattle.bl_early.specs.Built.{is_source, is_step, source_at, steps_at};
+ghost use Rattle.bl_early.specs.Emitted.{c_count, c_counter, c_now, c_numbered, c_port, c_ports, c_resumed, c_set, c_source, c_stretch, c_when};
 
 use super::expressions::{item, place, source};
 use super::parts::{count, equal, named, read, set, through, variable, when};
 use bl_tree::c::{CExpr, CPlace, CStmt};
-use bl_tree::tree::{Stmt, StmtKind, Unit};
+use bl_tree::tree::{Expr, Stmt, StmtKind, Unit};
 use bl_tree::{List, NoMemory};
 use std::alloc::Global;
 
@@ -32,7 +32,7 @@ pub fn numbered(alloc: Global, number: u32, body: List<CStmt>) -> Result<CStmt, 
     ensures { IfOk result (λ s. s ≡ c_numbered number body) }
 {
     let test = equal(alloc, read(now(alloc)?), count(number))?;
-    Ok(when(test, body))
+    when(alloc, test, body)
 }
 
 /// What is done where the condition holds.
@@ -40,8 +40,18 @@ fn guarded(alloc: Global, condition: CExpr, body: List<CStmt>) -> Result<List<CS
     ensures { IfOk result (λ all. all ≡ c_when condition body ∷ []) }
 {
     let mut inner = List::new(alloc);
-    inner.push(when(condition, body))?;
+    inner.push(when(alloc, condition, body)?)?;
     Ok(inner)
+}
+
+/// What sets a parameter of the activity.
+fn assigned(alloc: Global, unit: &Unit, root: u32, e: &Expr) -> Result<CStmt, NoMemory>
+    requires root { root < length unit.now.vars }
+    requires source { IsTrue (is_source (length unit.now.vars) e.now) }
+    ensures { IfOk result (λ s. s ≡ c_set (c_port (c_ports unit.now) root) (c_source (c_ports unit.now) (source_at e.now))) }
+{
+    let to = place(alloc, unit, root)?;
+    set(alloc, to, source(alloc, unit, e)?)
 }
 
 /// The statements up to the first pause, which has this number.
@@ -57,16 +67,14 @@ pub fn stretch(
     let mut all = List::new(alloc);
     for statement in body {
         match &statement.what {
-            StmtKind::Assign(path, e) => {
-                all.push(set(place(alloc, unit, path.root)?, source(alloc, unit, e)?))?
-            }
+            StmtKind::Assign(path, e) => { all.push(assigned(alloc, unit, path.root, e)?)? }
             _ => {
-                all.push(set(counter(alloc)?, count(number)))?;
+                all.push(set(alloc, counter(alloc)?, count(number))?)?;
                 return Ok(all);
             }
         }
     }
-    all.push(set(now(alloc)?, count(0)))?;
+    all.push(set(alloc, now(alloc)?, count(0))?)?;
     Ok(all)
 }
 

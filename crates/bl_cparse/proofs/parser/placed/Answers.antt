@@ -1,6 +1,17 @@
-use Rattle.bl_cparse.proofs.PlacedLemmas.{set_already}
+use Rattle.std.proofs.Common.{◌∙◌}
+use Rattle.bl_cparse.proofs.PlacedLemmas.{tokens_same, spellable_same, walked}
 use Rattle.bl_cparse.proofs.parser.placed.Goals as goal
 
-pub returns-then-are_set-clause-placed : goal.returns-then-are_set-clause-placed
-returns-then-are_set-clause-placed c =
-    set_already c.args.text.now c.args.structs c.deref.result.now c.args.funcs c.deref-2.result.now c.new-spot.result _ c.new-spot.ensures c.deref.ensures c.deref-2.ensures (c.are_set.ensures c.if-are_set.true)
+pub returns-clause-placed : goal.returns-clause-placed
+returns-clause-placed c = walked c.args.text.now c.structs.new.structs c.funcs.new.funcs c.new-spot.result _ _ c.new-spot.ensures c.structs.ensures.places c.funcs.ensures.places
+
+pub returns-clause-tokens : goal.returns-clause-tokens
+returns-clause-tokens c = tokens_same c.args.structs c.structs.new.structs c.args.funcs c.funcs.new.funcs c.structs.ensures.tokens c.funcs.ensures.tokens
+
+pub invariant_of-result : goal.invariant_of-result
+invariant_of-result c = record {
+  spellable =
+      spellable_same c.args.structs c.structs.new.structs c.args.funcs c.funcs.new.funcs c.structs.ensures.tokens c.funcs.ensures.tokens
+      c.structs.ensures.spells c.funcs.ensures.spells
+      ∙ c.requires.spellable;
+}

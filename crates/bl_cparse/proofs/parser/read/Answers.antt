@@ -10,7 +10,7 @@ use Rattle.bl_cparse.proofs.parser.read.Goals as goal
 
 pub returns-clause-file : goal.returns-clause-file
 returns-clause-file c =
-    subst (λ (ts : List Token). (rest : List ℕ) × ((c.args.text.now ≡ prelude ++ rest) × SpacedC ts rest)) (sym c.in_ok-file.ensures.tokens)
+    subst (λ (ts : List Token). (rest : List ℕ) × ((c.args.text.now ≡ prelude ++ rest) × SpacedC ts rest)) (sym c.placed.ensures.tokens)
     (spells c.in_ok-structs.structs c.in_ok-funcs.funcs c.args.text.now (drop (length PRELUDE.now) c.args.text.now) c.structs.new.r
     c.requires.begins
     (sym c.new-reader.ensures ∙ c.in_ok-structs.ensures.read.0) c.in_ok-funcs.ensures.read.0 (passes_tokens c.args.text.now (length PRELUDE.now) c.requires.passes))

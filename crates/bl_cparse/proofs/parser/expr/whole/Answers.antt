@@ -1,4 +1,4 @@
-use Rattle.std.proofs.Common.{rules, List, ◌++◌, sym, ◌∙◌, subst}
+use Rattle.std.proofs.Common.{rules, List, ◌++◌, subst}
 use Rattle.bl_csyntax.specs.Grammar.{Wanted}
 use Rattle.bl_csyntax.specs.Expects.{Expects}
 use Rattle.bl_cparse.proofs.parser.expr.whole.Goals as goal

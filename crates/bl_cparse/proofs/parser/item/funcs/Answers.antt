@@ -1,6 +1,6 @@
 use Rattle.bl_ctext.specs.Spelling.{func_tokens}
 use Rattle.bl_ctext.specs.Spellable.{spells_func}
-use Rattle.std.proofs.Common.{rules, sym, ◌∙◌}
+use Rattle.std.proofs.Common.{rules}
 use Rattle.bl_cparse.proofs.ItemOpening.{funcs_more}
 use Rattle.bl_cparse.proofs.ReadLemmas.{some_left}
 use Rattle.bl_cparse.proofs.ListLemmas.{joined_more, any_more, all_more}

@@ -1,4 +1,4 @@
-use Rattle.std.proofs.Common.{◌≡◌, ℕ, List, [], ◌∷◌, ◌++◌, IsTrue, length, map}
+use Rattle.std.proofs.Common.{◌≡◌, [], ◌∷◌, ◌++◌, IsTrue, length, map}
 use Rattle.bl_tree.specs.Reduce.{all_of, joined}
 use Rattle.bl_ctext.specs.Spelling.{func_tokens}
 use Rattle.bl_ctext.specs.Spellable.{has_any, spells_func}

@@ -2,7 +2,7 @@ use Rattle.bl_csyntax.specs.Expects.{Expects}
 use Rattle.std.specs.Prelude.{List, codes}
 use Rattle.bl_csyntax.specs.declared.grammar.Part.TheVariants.{Simple}
 use Rattle.bl_ctext.specs.Token.{Token}
-use Rattle.std.proofs.Common.{ap, false, refl, subst, sym, ◌∙◌, ◌∷◌, ◌≡◌}
+use Rattle.std.proofs.Common.{ap, refl, subst, sym, ◌∙◌, ◌∷◌, ◌≡◌}
 use Rattle.bl_csyntax.specs.Follow.{constant_starts}
 use Rattle.bl_csyntax.specs.Classes.Class.{exactly}
 use Rattle.bl_cparse.proofs.ExprOpening.{false_passed, least_passed, true_passed}

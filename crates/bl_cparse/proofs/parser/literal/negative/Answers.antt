@@ -1,5 +1,4 @@
 use Rattle.std.proofs.Common.{sym, refl, ◌∙◌}
-use Rattle.bl_tree.specs.declared.scalar.Width.{Width}
 use Rattle.bl_csyntax.specs.declared.grammar.Digits.TheVariants.{Negated}
 use Rattle.bl_cparse.proofs.NumberLemmas.{up_to}
 use Rattle.bl_cparse.proofs.ReadLemmas.{wanting}

@@ -1,4 +1,4 @@
-use Rattle.std.proofs.Common.{◌≡◌, List, [], ◌∷◌, ◌++◌, IsTrue, length, map}
+use Rattle.std.proofs.Common.{◌≡◌, List, ◌∷◌, ◌++◌, IsTrue, length, map}
 use Rattle.bl_tree.specs.Reduce.{all_of, joined}
 use Rattle.bl_ctext.specs.Spelling.{step_tokens}
 use Rattle.bl_ctext.specs.Spellable.{spells_step}

@@ -1,6 +1,5 @@
-use Rattle.std.proofs.Common.{rules, List, ◌∷◌, ◌++◌, codes, sym, ◌∙◌, subst}
+use Rattle.std.proofs.Common.{rules, List, ◌∷◌, ◌++◌, codes, subst}
 use Rattle.bl_csyntax.specs.declared.grammar.Part.TheVariants.{Stmts}
-use Rattle.bl_csyntax.specs.Grammar.{Wanted}
 use Rattle.bl_csyntax.specs.Expects.{Expects}
 use Rattle.bl_cparse.specs.declared.parser.stmt.Frame.{Frame}
 use Rattle.bl_cparse.specs.Reading.{sign, part}

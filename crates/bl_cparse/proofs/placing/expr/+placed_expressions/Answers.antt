@@ -1,22 +1,29 @@
-use Rattle.std.proofs.Common.{ap, sym, ◌∙◌}
+use Rattle.std.proofs.Common.{◌≡◌, ◌<◌, length, length-set, arith, sym, ap, ◌∙◌}
+use Rattle.std.proofs.lemmas.List.{get_or-set_other}
 use Rattle.bl_ctext.specs.Spelling.{arg_tokens, step_tokens}
 use Rattle.bl_ctext.specs.Spellable.{spells_arg, spells_step}
 use Rattle.bl_cparse.specs.HasPlaces.{arg_walk, step_walk}
-use Rattle.bl_cparse.proofs.WalkLemmas.{list_more, mapped_more, turn_more}
+use Rattle.bl_cparse.proofs.WalkLemmas.{list_set, mapped_set, turn_set}
 use Rattle.bl_cparse.proofs.placing.expr.+placed_expressions.Goals as goal
 
-pub args-loop-one-preserved : goal.args-loop-one-preserved
-args-loop-one-preserved t c = record {
-  places = rw c.in_ok-push.ensures.ok (
-      list_more arg_walk c.is_empty.result c.loop-one.made c.in_ok-arg.field-0 _ _ _ c.is_empty.ensures.0 c.is_empty.ensures.1 c.loop-one.invariant.places
-      (ap (arg_walk c.in_ok-arg.field-0) (sym c.comma.ensures) ∙ c.in_ok-arg.ensures.places));
-  tokens = rw c.in_ok-push.ensures.ok (mapped_more arg_tokens c.loop-one.made c.loop-one.yielded c.in_ok-arg.field-0 c.in-Some.one c.loop-one.invariant.tokens c.in_ok-arg.ensures.tokens);
-  spells = rw c.in_ok-push.ensures.ok (mapped_more spells_arg c.loop-one.made c.loop-one.yielded c.in_ok-arg.field-0 c.in-Some.one c.loop-one.invariant.spells c.in_ok-arg.ensures.spells);
-}
+pub args-loop-k-preserved : goal.args-loop-k-preserved
+args-loop-k-preserved t c =
+    let within : c.loop-k.k < length c.loop-k.args = omega (arith, c.loop-k-test.true, c.len-k-end.ensures, c.loop-k.invariant.many) in
+    record {
+      places = list_set arg_walk c.loop-k.args c.loop-k.k c.arg.new.arg _ _ _ within c.loop-k.invariant.places (ap (arg_walk c.arg.new.arg) (sym c.comma.ensures) ∙ c.arg.ensures.places);
+      tokens = mapped_set arg_tokens c.loop-k.args c.loop-k.k c.arg.new.arg c.get_mut.result.now c.get_mut.ensures.value c.arg.ensures.tokens ∙ c.loop-k.invariant.tokens;
+      spells = mapped_set spells_arg c.loop-k.args c.loop-k.k c.arg.new.arg c.get_mut.result.now c.get_mut.ensures.value c.arg.ensures.spells ∙ c.loop-k.invariant.spells;
+      many = length-set c.loop-k.args c.loop-k.k c.arg.new.arg ∙ c.loop-k.invariant.many;
+      rest = λ n d h. get_or-set_other c.loop-k.args c.loop-k.k n c.arg.new.arg d (λ (e : n ≡ c.loop-k.k). omega (arith, e, h)) ∙ c.loop-k.invariant.rest n d (omega (arith, h));
+    }
 
-pub steps-loop-one-preserved : goal.steps-loop-one-preserved
-steps-loop-one-preserved t c = record {
-  places = rw c.in_ok-push.ensures.ok (turn_more step_walk c.loop-one.made c.in_ok-step.field-0 _ _ _ c.loop-one.invariant.places c.in_ok-step.ensures.places);
-  tokens = rw c.in_ok-push.ensures.ok (mapped_more step_tokens c.loop-one.made c.loop-one.yielded c.in_ok-step.field-0 c.in-Some.one c.loop-one.invariant.tokens c.in_ok-step.ensures.tokens);
-  spells = rw c.in_ok-push.ensures.ok (mapped_more spells_step c.loop-one.made c.loop-one.yielded c.in_ok-step.field-0 c.in-Some.one c.loop-one.invariant.spells c.in_ok-step.ensures.spells);
-}
+pub steps-loop-k-preserved : goal.steps-loop-k-preserved
+steps-loop-k-preserved t c =
+    let within : c.loop-k.k < length c.loop-k.steps = omega (arith, c.loop-k-test.true, c.len-k-end.ensures, c.loop-k.invariant.many) in
+    record {
+      places = turn_set step_walk c.loop-k.steps c.loop-k.k c.step.new.step _ _ _ within c.loop-k.invariant.places c.step.ensures.places;
+      tokens = mapped_set step_tokens c.loop-k.steps c.loop-k.k c.step.new.step c.get_mut.result.now c.get_mut.ensures.value c.step.ensures.tokens ∙ c.loop-k.invariant.tokens;
+      spells = mapped_set spells_step c.loop-k.steps c.loop-k.k c.step.new.step c.get_mut.result.now c.get_mut.ensures.value c.step.ensures.spells ∙ c.loop-k.invariant.spells;
+      many = length-set c.loop-k.steps c.loop-k.k c.step.new.step ∙ c.loop-k.invariant.many;
+      rest = λ n d h. get_or-set_other c.loop-k.steps c.loop-k.k n c.step.new.step d (λ (e : n ≡ c.loop-k.k). omega (arith, e, h)) ∙ c.loop-k.invariant.rest n d (omega (arith, h));
+    }

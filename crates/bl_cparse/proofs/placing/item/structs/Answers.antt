@@ -1,12 +1,16 @@
+use Rattle.std.proofs.Common.{◌<◌, length, length-set, arith, ◌∙◌}
 use Rattle.bl_ctext.specs.Spelling.{struct_tokens}
 use Rattle.bl_ctext.specs.Spellable.{spells_struct}
 use Rattle.bl_cparse.specs.HasPlaces.{struct_walk}
-use Rattle.bl_cparse.proofs.WalkLemmas.{mapped_more, turn_more}
+use Rattle.bl_cparse.proofs.WalkLemmas.{mapped_set, turn_set}
 use Rattle.bl_cparse.proofs.placing.item.structs.Goals as goal
 
-pub loop-one-preserved : goal.loop-one-preserved
-loop-one-preserved c = record {
-  places = rw c.in_ok-push.ensures.ok (turn_more struct_walk c.loop-one.made c.structure.result _ _ _ c.loop-one.invariant.places c.structure.ensures.places);
-  tokens = rw c.in_ok-push.ensures.ok (mapped_more struct_tokens c.loop-one.made c.loop-one.yielded c.structure.result c.in-Some.one c.loop-one.invariant.tokens c.structure.ensures.tokens);
-  spells = rw c.in_ok-push.ensures.ok (mapped_more spells_struct c.loop-one.made c.loop-one.yielded c.structure.result c.in-Some.one c.loop-one.invariant.spells c.structure.ensures.spells);
-}
+pub loop-k-preserved : goal.loop-k-preserved
+loop-k-preserved c =
+    let within : c.loop-k.k < length c.loop-k.structs = omega (arith, c.loop-k-test.true, c.len-k-end.ensures, c.loop-k.invariant.many) in
+    record {
+      places = turn_set struct_walk c.loop-k.structs c.loop-k.k c.structure.new.structure _ _ _ within c.loop-k.invariant.places c.structure.ensures.places;
+      tokens = mapped_set struct_tokens c.loop-k.structs c.loop-k.k c.structure.new.structure c.get_mut.result.now c.get_mut.ensures.value c.structure.ensures.tokens ∙ c.loop-k.invariant.tokens;
+      spells = mapped_set spells_struct c.loop-k.structs c.loop-k.k c.structure.new.structure c.get_mut.result.now c.get_mut.ensures.value c.structure.ensures.spells ∙ c.loop-k.invariant.spells;
+      many = length-set c.loop-k.structs c.loop-k.k c.structure.new.structure ∙ c.loop-k.invariant.many;
+    }
