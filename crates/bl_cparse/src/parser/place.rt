@@ -12,10 +12,10 @@ ghost use Rattle.bl_csyntax.specs.Pieces.{first_of};
 ghost use Rattle.bl_csyntax.specs.Classes.{Class, matches};
 ghost use Rattle.bl_cparse.specs.Reading.{sign, name_of, index_function, elements, part, index_word, GoesOnAPlace, Follows};
 
-use crate::make;
 use crate::parser::{expr, literal, name};
 use crate::reader::Reader;
 use crate::refusal::CRefusal;
+use crate::{make, room};
 use bl_tree::c::{CArg, CCall, CIndex, CPlace, CStep};
 use bl_tree::{Box, List, Text};
 
@@ -86,7 +86,8 @@ pub fn place(r: &mut Reader<'_>, through: bool, name: Text, room: u32) -> Result
 {
     let mut steps = List::new(r.alloc());
     while r.sees(".") {
-        steps.push(step(r, room)?)?;
+        let step = step(r, room)?;
+        room::push(r.alloc(), &mut steps, step, 1)?;
     }
     Ok(make::place(through, name, steps))
 }
@@ -192,9 +193,11 @@ fn arguments(r: &mut Reader<'_>, room: u32) -> Result<List<CArg>, CRefusal>
     if r.sees(")") {
         return Ok(args);
     }
-    args.push(argument(r, room)?)?;
+    let first = argument(r, room)?;
+    room::push(r.alloc(), &mut args, first, 2)?;
     while r.eat(",") {
-        args.push(argument(r, room)?)?;
+        let next = argument(r, room)?;
+        room::push(r.alloc(), &mut args, next, 2)?;
     }
     Ok(args)
 }

@@ -54,7 +54,7 @@ fn kind(spot: &mut Spot<'_>, what: &mut CExprKind)
 }
 
 /// How many tokens a literal has.
-pub fn literal_length(scalar: Scalar, n: i128) -> usize
+fn literal_length(scalar: Scalar, n: i128) -> usize
     ensures { length (literal_tokens scalar n) ≡ result }
 {
     match scalar {
@@ -88,7 +88,7 @@ pub fn place(spot: &mut Spot<'_>, at: &mut CPlace)
 }
 
 /// Behind what a place begins with.
-pub fn root(spot: &mut Spot<'_>, through: bool)
+fn root(spot: &mut Spot<'_>, through: bool)
     ensures { (name : List ℕ) → spot.new ≡ past (root_tokens through name) spot.old }
 {
     if through {
@@ -143,14 +143,14 @@ fn index(spot: &mut Spot<'_>, index: &mut CIndex)
 }
 
 /// Behind the front of an index, which has as many tokens for each function that takes one.
-pub fn index_front(spot: &mut Spot<'_>, signed: bool)
+fn index_front(spot: &mut Spot<'_>, signed: bool)
     ensures { spot.new ≡ past (index_front signed) spot.old }
 {
     spot.skip(3);
 }
 
 /// Behind what follows the expression of an index.
-pub fn index_rest(spot: &mut Spot<'_>, length: u32)
+fn index_rest(spot: &mut Spot<'_>, length: u32)
     ensures { spot.new ≡ past (codes "," ∷ decimal length ∷ codes ")" ∷ codes "]" ∷ []) spot.old }
 {
     spot.skip(4);

@@ -9,11 +9,11 @@ use Rattle.bl_csyntax.specs.Expects.{Expects}
 use Rattle.bl_cparse.specs.Reading.{sign, part}
 use Rattle.bl_cparse.proofs.parser.place.arguments.Given as goal
 
-abbrev pub invariant-loop-args : goal.invariant-loop-args
-invariant-loop-args l = record {
+abbrev pub invariant-loop-r : goal.invariant-loop-r
+invariant-loop-r l = record {
   read : (l.fn.r ≡ with_commas (map arg_tokens l.args) ++ l.r) × (IsTrue (has_any l.args) × IsTrue (all_of (map spells_arg l.args)));
   follows : (rest : List Wanted) → Expects (part Args l.room ∷ sign (codes ")") ∷ rest) l.fn.r → Expects (part ArgRest l.room ∷ sign (codes ")") ∷ rest) l.r;
 }
 
-abbrev pub decreases-loop-args : goal.decreases-loop-args
-decreases-loop-args l = length l.r
+abbrev pub decreases-loop-r : goal.decreases-loop-r
+decreases-loop-r l = length l.r

@@ -5,24 +5,24 @@ use Rattle.bl_cparse.proofs.StmtOpening.{tail_more}
 use Rattle.bl_cparse.proofs.ListLemmas.{joined_more, all_more}
 use Rattle.bl_cparse.proofs.parser.place.place.Goals as goal
 
-pub loop-steps-preserved : goal.loop-steps-preserved
-loop-steps-preserved c = record {
+pub loop-r-preserved : goal.loop-r-preserved
+loop-r-preserved c = record {
   read =
       rw c.in_ok-push.ensures.ok (
-        joined_more step_tokens _ _ _ c.loop-steps.steps c.in_ok-step.field-0 c.loop-steps.invariant.read.0 c.in_ok-step.ensures.read.0,
-        all_more spells_step c.loop-steps.steps c.in_ok-step.field-0 c.loop-steps.invariant.read.1 c.in_ok-step.ensures.read.1,
+        joined_more step_tokens _ _ _ c.loop-r.steps c.in_ok-step.step c.loop-r.invariant.read.0 c.in_ok-step.ensures.read.0,
+        all_more spells_step c.loop-r.steps c.in_ok-step.step c.loop-r.invariant.read.1 c.in_ok-step.ensures.read.1,
       );
-  follows = λ tail is rest e. let o = tail_more tail is (sym c.sees.ensures.is ∙ c.loop-steps-test.true) (c.loop-steps.invariant.follows tail is rest e) in search rules;
+  follows = λ tail is rest e. let o = tail_more tail is (sym c.sees.ensures.is ∙ c.loop-r-test.true) (c.loop-r.invariant.follows tail is rest e) in search rules;
 }
 
-pub loop-steps-init : goal.loop-steps-init
-loop-steps-init c = record { read = search rules; follows = λ tail is rest e. e }
+pub loop-r-init : goal.loop-r-init
+loop-r-init c = record { read = search rules; follows = λ tail is rest e. e }
 
 pub returns-in_err-step-clause-follows : goal.returns-in_err-step-clause-follows
-returns-in_err-step-clause-follows c = λ tail is rest e. let o = tail_more tail is (sym c.sees.ensures.is ∙ c.loop-steps-test.true) (c.loop-steps.invariant.follows tail is rest e) in search rules
+returns-in_err-step-clause-follows c = λ tail is rest e. let o = tail_more tail is (sym c.sees.ensures.is ∙ c.loop-r-test.true) (c.loop-r.invariant.follows tail is rest e) in search rules
 
 pub returns-clause-follows : goal.returns-clause-follows
-returns-clause-follows c = λ tail is rest e. c.loop-steps.invariant.follows tail is rest e
+returns-clause-follows c = λ tail is rest e. c.loop-r.invariant.follows tail is rest e
 
 pub returns-clause-ends : goal.returns-clause-ends
-returns-clause-ends c = sym c.sees.ensures.is ∙ c.loop-steps-test.false
+returns-clause-ends c = sym c.sees.ensures.is ∙ c.loop-r-test.false

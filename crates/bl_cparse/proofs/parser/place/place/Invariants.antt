@@ -8,11 +8,11 @@ use Rattle.bl_csyntax.specs.Expects.{Expects}
 use Rattle.bl_cparse.specs.Reading.{part, GoesOnAPlace}
 use Rattle.bl_cparse.proofs.parser.place.place.Given as goal
 
-abbrev pub invariant-loop-steps : goal.invariant-loop-steps
-invariant-loop-steps l = record {
+abbrev pub invariant-loop-r : goal.invariant-loop-r
+invariant-loop-r l = record {
   read : (l.fn.r ≡ joined (map step_tokens l.steps) ++ l.r) × IsTrue (all_of (map spells_step l.steps));
   follows : (tail : Part) → GoesOnAPlace tail → (rest : List Wanted) → Expects (part tail l.room ∷ rest) l.fn.r → Expects (part tail l.room ∷ rest) l.r;
 }
 
-abbrev pub decreases-loop-steps : goal.decreases-loop-steps
-decreases-loop-steps l = length l.r
+abbrev pub decreases-loop-r : goal.decreases-loop-r
+decreases-loop-r l = length l.r
