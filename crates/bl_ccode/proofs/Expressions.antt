@@ -5,7 +5,7 @@ use Rattle.std.proofs.lemmas.List.{length-map}
 use Rattle.std.proofs.lemmas.List.Elements.{All-head, All-tail}
 use Rattle.bl_tree.specs.declared.text.Text.{Text}
 use Rattle.bl_tree.specs.declared.scalar.Op.{Op}
-use Rattle.bl_tree.specs.declared.scalar.Op.TheVariants.{Both, Either}
+use Rattle.bl_tree.specs.declared.scalar.Op.TheVariants.{And, Or}
 use Rattle.bl_tree.specs.declared.c.CType.{CType}
 use Rattle.bl_tree.specs.declared.c.CType.TheVariants.{Scalar as OfScalar, Struct as OfStruct}
 use Rattle.bl_tree.specs.declared.c.CArg.{CArg, fold-CArg, fold-roll-CArg}
@@ -197,7 +197,7 @@ module _ (code : Code) (room : Room) (top calls : ℕ) where
       goes-on code room t u (ins.Either (length b)) _ (fits-has room top calls t _ fits) (span-first code t.at (ins.Either (length b)) b at span) comes
       (k.runs u at (span-tail code t.at (ins.Either (length b)) b at span) (fits-to room top calls t u _ (length b) fits refl refl (omega arith)))
 
-  both-runs : (a b : Code) (f g : Evaluates ℤ) → P a f → P b g → P (two_code Both a b) (two_values Both f g)
+  both-runs : (a b : Code) (f g : Evaluates ℤ) → P a f → P b g → P (two_code And a b) (two_values And f g)
   both-runs a b f g h k = record {
     filled = omega (arith, length-append a (ins.Both (length b) ∷ b));
     runs = λ s at span fits.
@@ -213,7 +213,7 @@ module _ (code : Code) (room : Room) (top calls : ℕ) where
         both-last (is_one x) t s.stack b g at k refl (span-back code s.at a last at span) (fits-to room top calls s t _ (length b) fits refl same (omega arith)) (omega arith));
   }
 
-  either-runs : (a b : Code) (f g : Evaluates ℤ) → P a f → P b g → P (two_code Either a b) (two_values Either f g)
+  either-runs : (a b : Code) (f g : Evaluates ℤ) → P a f → P b g → P (two_code Or a b) (two_values Or f g)
   either-runs a b f g h k = record {
     filled = omega (arith, length-append a (ins.Either (length b) ∷ b));
     runs = λ s at span fits.
@@ -230,8 +230,8 @@ module _ (code : Code) (room : Room) (top calls : ℕ) where
   }
 
   two-runs : (op : Op) (a b : Code) (f g : Evaluates ℤ) → P a f → P b g → P (two_code op a b) (two_values op f g)
-  two-runs Both a b f g h k = both-runs a b f g h k
-  two-runs Either a b f g h k = either-runs a b f g h k
+  two-runs And a b f g h k = both-runs a b f g h k
+  two-runs Or a b f g h k = either-runs a b f g h k
   two-runs op a b f g h k = plain-runs op a b f g h k
 
 -- ---- how places are reached

@@ -1,7 +1,7 @@
 -- The code of C expressions, statements, functions and files.
 use Rattle.std.specs.Prelude.{ℕ, ◌+◌, pos, List, [], ◌∷◌, ◌++◌, map, length, Option, Some, None, option_map}
 use Rattle.bl_tree.specs.declared.scalar.Op.{Op}
-use Rattle.bl_tree.specs.declared.scalar.Op.TheVariants.{Both, Either}
+use Rattle.bl_tree.specs.declared.scalar.Op.TheVariants.{And, Or}
 use Rattle.bl_tree.specs.declared.c.CType.{CType}
 use Rattle.bl_tree.specs.declared.c.CType.TheVariants.{Scalar as OfScalar, Struct as OfStruct}
 use Rattle.bl_tree.specs.declared.c.CArg.TheOpen.{CArg-F, CExprKind-F, CCall-F, CExpr-F, CIndex-F, CPlace-F, CStep-F}
@@ -53,8 +53,8 @@ fetch_code (Some (OfScalar s)) = ins.Fetch ∷ []
 fetch_code _ = []
 
 abbrev pub two_code : Op → Code → Code → Code
-two_code Both first second = first ++ ins.Both (length second) ∷ second
-two_code Either first second = first ++ ins.Either (length second) ∷ second
+two_code And first second = first ++ ins.Both (length second) ∷ second
+two_code Or first second = first ++ ins.Either (length second) ∷ second
 two_code op first second = first ++ (second ++ ins.Two op ∷ [])
 
 abbrev pub known_call : Ground Entry → ℕ → Option Entry → Instruction

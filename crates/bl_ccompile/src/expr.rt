@@ -29,12 +29,12 @@ pub fn expr(here: &Here<'_, '_>, code: &mut Front, e: &CExpr) -> Result<(), NoMe
             code.put(Instruction::Negate)?;
             expr(here, code, operand)
         }
-        CExprKind::Two(Op::Both, left, right) => {
+        CExprKind::Two(Op::And, left, right) => {
             let passed = measured(here, code, right)?;
             code.put(Instruction::Both(passed))?;
             expr(here, code, left)
         }
-        CExprKind::Two(Op::Either, left, right) => {
+        CExprKind::Two(Op::Or, left, right) => {
             let passed = measured(here, code, right)?;
             code.put(Instruction::Either(passed))?;
             expr(here, code, left)

@@ -39,8 +39,8 @@ sign_is op.Lt h = (refl, refl)
 sign_is op.Le h = (refl, refl)
 sign_is op.Gt h = (refl, refl)
 sign_is op.Ge h = (refl, refl)
-sign_is op.Both h = (refl, refl)
-sign_is op.Either h = (refl, refl)
+sign_is op.And h = (refl, refl)
+sign_is op.Or h = (refl, refl)
 sign_is _ h = absurd (let e : false ≡ true = h in cc)
 
 -- an index

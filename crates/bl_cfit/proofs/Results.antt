@@ -10,7 +10,7 @@ use Rattle.bl_tree.specs.declared.scalar.Scalar.{Scalar}
 use Rattle.bl_tree.specs.declared.scalar.Scalar.TheVariants.{Bool as OfBool, Int, Nat, Bits}
 use Rattle.bl_tree.specs.declared.scalar.Width.TheVariants.{W32}
 use Rattle.bl_tree.specs.declared.scalar.Op.{Op}
-use Rattle.bl_tree.specs.declared.scalar.Op.TheVariants.{Add, Sub, Mul, Div, Rem, Neg, And, Or, Xor, Not, Shl, Shr, Eq, Ne, Lt, Le, Gt, Ge, Both, Either, Negate}
+use Rattle.bl_tree.specs.declared.scalar.Op.TheVariants.{Add, Sub, Mul, Div, Rem, Minus, BitAnd, BitOr, BitXor, BitNot, Shl, Shr, Eq, Ne, Lt, Le, Gt, Ge, And, Or, Not}
 use Rattle.bl_tree.specs.Scalar.{in_range, InRange}
 use Rattle.bl_tree.specs.Numbers.{checked_of, checked_one_of, takes_two, takes_one, type_of_result}
 use Rattle.bl_tree.proofs.NumberLemmas.{checked_of-in_range, checked_one_of-in_range, fitted-in_range, in_range_holds, in_range_passes}
@@ -29,9 +29,9 @@ keeps_type Lt = false
 keeps_type Le = false
 keeps_type Gt = false
 keeps_type Ge = false
-keeps_type Both = false
-keeps_type Either = false
-keeps_type Negate = false
+keeps_type And = false
+keeps_type Or = false
+keeps_type Not = false
 keeps_type _ = true
 
 type-kept : (op : Op) (t : Scalar) → keeps_type op ≡ true → type_of_result op t ≡ t
@@ -41,19 +41,19 @@ type-kept Lt t h = cc
 type-kept Le t h = cc
 type-kept Gt t h = cc
 type-kept Ge t h = cc
-type-kept Both t h = cc
-type-kept Either t h = cc
-type-kept Negate t h = cc
+type-kept And t h = cc
+type-kept Or t h = cc
+type-kept Not t h = cc
 type-kept Add t h = refl
 type-kept Sub t h = refl
 type-kept Mul t h = refl
 type-kept Div t h = refl
 type-kept Rem t h = refl
-type-kept Neg t h = refl
-type-kept And t h = refl
-type-kept Or t h = refl
-type-kept Xor t h = refl
-type-kept Not t h = refl
+type-kept Minus t h = refl
+type-kept BitAnd t h = refl
+type-kept BitOr t h = refl
+type-kept BitXor t h = refl
+type-kept BitNot t h = refl
 type-kept Shl t h = refl
 type-kept Shr t h = refl
 

@@ -8,7 +8,7 @@ use Rattle.bl_tree.specs.declared.place.Place.{Place}
 use Rattle.bl_tree.specs.declared.scalar.Scalar.{Scalar}
 use Rattle.bl_tree.specs.declared.scalar.Scalar.TheVariants.{Bool as OfBool}
 use Rattle.bl_tree.specs.declared.scalar.Op.{Op}
-use Rattle.bl_tree.specs.declared.scalar.Op.TheVariants.{Add, Sub, Mul, Div, Rem, Neg, And, Or, Xor, Not, Shl, Shr, Eq, Ne, Lt, Le, Gt, Ge, Both, Either, Negate}
+use Rattle.bl_tree.specs.declared.scalar.Op.TheVariants.{Add, Sub, Mul, Div, Rem, Minus, BitAnd, BitOr, BitXor, BitNot, Shl, Shr, Eq, Ne, Lt, Le, Gt, Ge, And, Or, Not}
 use Rattle.bl_tree.specs.declared.c.CType.{CType}
 use Rattle.bl_tree.specs.declared.c.CType.TheVariants.{Scalar as OfScalar, Struct as OfStruct}
 use Rattle.bl_tree.specs.declared.c.CArg.{CArg, fold-CArg, fold-roll-CArg}
@@ -209,17 +209,17 @@ module _ (known : Sizes) (lists : Lists) (structs : Structs) (shaped : Shaped kn
 
   -- ---- operators
 
-  negated : (v : CValue) (n : ℤ) → number_in v ≡ n → Matches (Value (Some bool_type)) (option_map scalar (checked_one_of Negate OfBool (number_in v))) (Some (number_of (if is_one n then false else true)))
-  negated v n is = subst (λ x. Matches (Value (Some bool_type)) (option_map scalar (checked_one_of Negate OfBool x)) (Some (number_of (if is_one n then false else true)))) (sym is) (chosen (is_one n))
+  negated : (v : CValue) (n : ℤ) → number_in v ≡ n → Matches (Value (Some bool_type)) (option_map scalar (checked_one_of Not OfBool (number_in v))) (Some (number_of (if is_one n then false else true)))
+  negated v n is = subst (λ x. Matches (Value (Some bool_type)) (option_map scalar (checked_one_of Not OfBool x)) (Some (number_of (if is_one n then false else true)))) (sym is) (chosen (is_one n))
     where
       chosen : (b : Bool) → Value (Some bool_type) (scalar (number_of (not b))) (number_of (if b then false else true))
       chosen true = (refl, refl)
       chosen false = (refl, refl)
 
   not-case : (ty : Option CType) (c : Counted CValue) (f : Left ℤ) → agree ty (Some bool_type) ≡ true → Alike (Value ty) c f →
-      Alike (Value (Some bool_type)) (next_c c (λ a. given (option_map scalar (checked_one_of Negate OfBool (number_in a))))) (next f (λ after a. left after (Some (number_of (if is_one a then false else true)))))
+      Alike (Value (Some bool_type)) (next_c c (λ a. given (option_map scalar (checked_one_of Not OfBool (number_in a))))) (next f (λ after a. left after (Some (number_of (if is_one a then false else true)))))
   not-case ty c f typed h =
-      next-agrees known lists structs shaped limit w memory (Value ty) (Value (Some bool_type)) c f (λ a. given (option_map scalar (checked_one_of Negate OfBool (number_in a))))
+      next-agrees known lists structs shaped limit w memory (Value ty) (Value (Some bool_type)) c f (λ a. given (option_map scalar (checked_one_of Not OfBool (number_in a))))
       (λ after a. left after (Some (number_of (if is_one a then false else true)))) h
       (λ v n after valued there. record {
         count = refl;
@@ -283,33 +283,33 @@ module _ (known : Sizes) (lists : Lists) (structs : Structs) (shaped : Shaped kn
   two-agree Le s t a b f g spelled ts tu cells h k = both-sides Le (λ x y. int_le x y) (λ x y. refl) (λ x y. refl) s t a b f g ts tu cells h k
   two-agree Gt s t a b f g spelled ts tu cells h k = both-sides Gt (λ x y. int_lt y x) (λ x y. refl) (λ x y. refl) s t a b f g ts tu cells h k
   two-agree Ge s t a b f g spelled ts tu cells h k = both-sides Ge (λ x y. int_le y x) (λ x y. refl) (λ x y. refl) s t a b f g ts tu cells h k
-  two-agree Both s t a b f g spelled ts tu cells h k =
+  two-agree And s t a b f g spelled ts tu cells h k =
       next-agrees known lists structs shaped limit w memory (Value s) (Value (Some bool_type)) (a scope memory) (f base cells)
       (λ x. (if is_one (number_in x) then b else at_once_c (pos 0)) scope memory) (λ after x. (if is_one x then g else at_once (pos 0)) base after) h
       (λ v n after first there.
       subst (λ x. Alike (Value (Some bool_type)) ((if is_one x then b else at_once_c (pos 0)) scope memory) ((if is_one n then g else at_once (pos 0)) base after))
-      (sym (operand-number known lists structs shaped limit w memory Both s v n ts first))
+      (sym (operand-number known lists structs shaped limit w memory And s v n ts first))
       (side-or-once (is_one n) false b g after there (as-bool t (b scope memory) (g base after) tu (k after there))))
-  two-agree Either s t a b f g spelled ts tu cells h k =
+  two-agree Or s t a b f g spelled ts tu cells h k =
       next-agrees known lists structs shaped limit w memory (Value s) (Value (Some bool_type)) (a scope memory) (f base cells)
       (λ x. (if is_one (number_in x) then at_once_c (pos 1) else b) scope memory) (λ after x. (if is_one x then at_once (pos 1) else g) base after) h
       (λ v n after first there.
       subst (λ x. Alike (Value (Some bool_type)) ((if is_one x then at_once_c (pos 1) else b) scope memory) ((if is_one n then at_once (pos 1) else g) base after))
-      (sym (operand-number known lists structs shaped limit w memory Either s v n ts first))
+      (sym (operand-number known lists structs shaped limit w memory Or s v n ts first))
       (once-or-side (is_one n) true b g after there (as-bool t (b scope memory) (g base after) tu (k after there))))
   two-agree Add s t a b f g spelled ts tu cells h k = cc
   two-agree Sub s t a b f g spelled ts tu cells h k = cc
   two-agree Mul s t a b f g spelled ts tu cells h k = cc
   two-agree Div s t a b f g spelled ts tu cells h k = cc
   two-agree Rem s t a b f g spelled ts tu cells h k = cc
-  two-agree Neg s t a b f g spelled ts tu cells h k = cc
-  two-agree And s t a b f g spelled ts tu cells h k = cc
-  two-agree Or s t a b f g spelled ts tu cells h k = cc
-  two-agree Xor s t a b f g spelled ts tu cells h k = cc
-  two-agree Not s t a b f g spelled ts tu cells h k = cc
+  two-agree Minus s t a b f g spelled ts tu cells h k = cc
+  two-agree BitAnd s t a b f g spelled ts tu cells h k = cc
+  two-agree BitOr s t a b f g spelled ts tu cells h k = cc
+  two-agree BitXor s t a b f g spelled ts tu cells h k = cc
+  two-agree BitNot s t a b f g spelled ts tu cells h k = cc
   two-agree Shl s t a b f g spelled ts tu cells h k = cc
   two-agree Shr s t a b f g spelled ts tu cells h k = cc
-  two-agree Negate s t a b f g spelled ts tu cells h k = cc
+  two-agree Not s t a b f g spelled ts tu cells h k = cc
 
   -- ---- lists of arguments and steps
 

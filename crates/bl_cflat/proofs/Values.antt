@@ -8,7 +8,7 @@ use Rattle.bl_tree.specs.declared.scalar.Scalar.TheVariants.{Bool as OfBool, Int
 use Rattle.bl_tree.specs.declared.scalar.Width.{Width}
 use Rattle.bl_tree.specs.declared.scalar.Width.TheVariants.{W8, W16, W32, W64}
 use Rattle.bl_tree.specs.declared.scalar.Op.{Op}
-use Rattle.bl_tree.specs.declared.scalar.Op.TheVariants.{Add, Sub, Mul, Div, Rem, Neg, And, Or, Xor, Not, Shl, Shr, Eq, Ne, Lt, Le, Gt, Ge, Both, Either, Negate}
+use Rattle.bl_tree.specs.declared.scalar.Op.TheVariants.{Add, Sub, Mul, Div, Rem, Minus, BitAnd, BitOr, BitXor, BitNot, Shl, Shr, Eq, Ne, Lt, Le, Gt, Ge, And, Or, Not}
 use Rattle.bl_tree.specs.declared.c.CType.{CType}
 use Rattle.bl_tree.specs.declared.c.CType.TheVariants.{Scalar as OfScalar, Struct as OfStruct}
 use Rattle.bl_tree.specs.Scalar.{in_range}
@@ -122,21 +122,21 @@ module _ (known : Sizes) (lists : Lists) (structs : Structs) (shaped : Shaped kn
   operand-number Le (Some (OfStruct name)) v n h valued = cc
   operand-number Gt (Some (OfStruct name)) v n h valued = cc
   operand-number Ge (Some (OfStruct name)) v n h valued = cc
-  operand-number Both (Some (OfStruct name)) v n h valued = cc
-  operand-number Either (Some (OfStruct name)) v n h valued = cc
+  operand-number And (Some (OfStruct name)) v n h valued = cc
+  operand-number Or (Some (OfStruct name)) v n h valued = cc
   operand-number Add (Some (OfStruct name)) v n h valued = cc
   operand-number Sub (Some (OfStruct name)) v n h valued = cc
   operand-number Mul (Some (OfStruct name)) v n h valued = cc
   operand-number Div (Some (OfStruct name)) v n h valued = cc
   operand-number Rem (Some (OfStruct name)) v n h valued = cc
-  operand-number Neg (Some (OfStruct name)) v n h valued = cc
-  operand-number And (Some (OfStruct name)) v n h valued = cc
-  operand-number Or (Some (OfStruct name)) v n h valued = cc
-  operand-number Xor (Some (OfStruct name)) v n h valued = cc
-  operand-number Not (Some (OfStruct name)) v n h valued = cc
+  operand-number Minus (Some (OfStruct name)) v n h valued = cc
+  operand-number BitAnd (Some (OfStruct name)) v n h valued = cc
+  operand-number BitOr (Some (OfStruct name)) v n h valued = cc
+  operand-number BitXor (Some (OfStruct name)) v n h valued = cc
+  operand-number BitNot (Some (OfStruct name)) v n h valued = cc
   operand-number Shl (Some (OfStruct name)) v n h valued = cc
   operand-number Shr (Some (OfStruct name)) v n h valued = cc
-  operand-number Negate (Some (OfStruct name)) v n h valued = cc
+  operand-number Not (Some (OfStruct name)) v n h valued = cc
 
   -- a value of a type that agrees with another is one of the other
   pub value-agrees : (ty : Option CType) (other : CType) (v : CValue) (n : ℤ) → agree ty (Some other) ≡ true → Value ty v n → ValueAs other v n

@@ -6,7 +6,7 @@ use Rattle.std.specs.List.{copy_within}
 use Rattle.std.specs.Ordering.{int_eq}
 use Rattle.bl_tree.specs.declared.text.Text.{Text}
 use Rattle.bl_tree.specs.declared.scalar.Op.{Op}
-use Rattle.bl_tree.specs.declared.scalar.Op.TheVariants.{Both, Either, Eq, Ne, Lt, Le, Gt, Ge}
+use Rattle.bl_tree.specs.declared.scalar.Op.TheVariants.{And, Or, Eq, Ne, Lt, Le, Gt, Ge}
 use Rattle.bl_tree.specs.declared.c.CType.{CType}
 use Rattle.bl_tree.specs.declared.c.CType.TheVariants.{Scalar as OfScalar, Struct as OfStruct}
 use Rattle.bl_tree.specs.declared.c.CArg.TheOpen.{CArg-F, CExprKind-F, CCall-F, CExpr-F, CIndex-F, CPlace-F, CStep-F}
@@ -121,8 +121,8 @@ compared _ a b = None
 
 -- the value of a comparison, or of `&&` and `||`, whose right side counts only where the left doesn't decide
 abbrev pub two_values : Op → Evaluates ℤ → Evaluates ℤ → Evaluates ℤ
-two_values Both first second base cells = next (first base cells) (λ after a. (if is_one a then second else at_once (pos 0)) base after)
-two_values Either first second base cells = next (first base cells) (λ after a. (if is_one a then at_once (pos 1) else second) base after)
+two_values And first second base cells = next (first base cells) (λ after a. (if is_one a then second else at_once (pos 0)) base after)
+two_values Or first second base cells = next (first base cells) (λ after a. (if is_one a then at_once (pos 1) else second) base after)
 two_values op first second base cells =
     next (first base cells) (λ after a. next (second base after) (λ last b. left last (compared op a b)))
 

@@ -4,7 +4,7 @@ use Rattle.bl_tree.specs.declared.scalar.Width.TheVariants.{W64}
 use Rattle.bl_tree.specs.declared.scalar.Scalar.{Scalar}
 use Rattle.bl_tree.specs.declared.scalar.Scalar.TheVariants.{Bool as OfBool, Int, Bits}
 use Rattle.bl_tree.specs.declared.scalar.Op.{Op}
-use Rattle.bl_tree.specs.declared.scalar.Op.TheVariants.{Add, Sub, Mul, Div, Rem, And, Or, Xor, Shl, Shr, Lt, Le, Gt, Ge, Both, Either}
+use Rattle.bl_tree.specs.declared.scalar.Op.TheVariants.{Add, Sub, Mul, Div, Rem, BitAnd, BitOr, BitXor, Shl, Shr, Lt, Le, Gt, Ge, And, Or}
 use Rattle.bl_tree.specs.Scalar.{in_range}
 use Rattle.bl_tree.specs.Numbers.{checked_of, is_one, number_of}
 
@@ -19,13 +19,13 @@ magnitude z = pos (unsigned_abs z)
 
 -- an operator on binary digits, or on truths
 abbrev pub on_digits : Op → Scalar → ℤ → ℤ → Option ℤ
-on_digits And t a b = checked_of And t (magnitude a) (magnitude b)
-on_digits Or t a b = checked_of Or t (magnitude a) (magnitude b)
-on_digits Xor t a b = checked_of Xor t (magnitude a) (magnitude b)
+on_digits BitAnd t a b = checked_of BitAnd t (magnitude a) (magnitude b)
+on_digits BitOr t a b = checked_of BitOr t (magnitude a) (magnitude b)
+on_digits BitXor t a b = checked_of BitXor t (magnitude a) (magnitude b)
 on_digits Shl t a b = checked_of Shl t (magnitude a) (magnitude b)
 on_digits Shr t a b = checked_of Shr t (magnitude a) (magnitude b)
-on_digits Both t a b = Some (number_of (is_one a && is_one b))
-on_digits Either t a b = Some (number_of (is_one a || is_one b))
+on_digits And t a b = Some (number_of (is_one a && is_one b))
+on_digits Or t a b = Some (number_of (is_one a || is_one b))
 on_digits _ t a b = None
 
 -- a number of bool moved by so many digits: it stays, or nothing of it

@@ -28,13 +28,13 @@ fn of_digits(op: Op, width: Width, a: i128, b: i128) -> Option<i128>
     ensures { result ≡ on_digits op (Scalar.Bits width) a b }
 {
     match op {
-        Op::And => digits(op, width, a, b),
-        Op::Or => digits(op, width, a, b),
-        Op::Xor => digits(op, width, a, b),
+        Op::BitAnd => digits(op, width, a, b),
+        Op::BitOr => digits(op, width, a, b),
+        Op::BitXor => digits(op, width, a, b),
         Op::Shl => digits(op, width, a, b),
         Op::Shr => digits(op, width, a, b),
-        Op::Both => Some(number(a == 1 && b == 1)),
-        Op::Either => Some(number(a == 1 || b == 1)),
+        Op::And => Some(number(a == 1 && b == 1)),
+        Op::Or => Some(number(a == 1 || b == 1)),
         _ => None,
     }
 }
@@ -112,17 +112,17 @@ pub fn one(op: Op, t: Scalar, a: i128) -> Option<i128>
     ensures { result ≡ checked_one_of op t a }
 {
     match op {
-        Op::Neg => opposite(t, a),
-        Op::Not => Some(complement(t, a)),
-        Op::Negate => Some(number(a != 1)),
+        Op::Minus => opposite(t, a),
+        Op::BitNot => Some(complement(t, a)),
+        Op::Not => Some(number(a != 1)),
         _ => None,
     }
 }
 
 fn opposite(t: Scalar, a: i128) -> Option<i128>
     requires operand { InRange t a }
-    requires odd { takes_one Op.Neg t ≡ false }
-    ensures { result ≡ checked_one_of Op.Neg t a }
+    requires odd { takes_one Op.Minus t ≡ false }
+    ensures { result ≡ checked_one_of Op.Minus t a }
 {
     let range = t.range();
     if range.low <= -a && -a <= range.high {

@@ -19,7 +19,7 @@ use Rattle.bl_tree.specs.declared.place.Place.{Place}
 use Rattle.bl_tree.specs.Reduce.{joined, total}
 use Rattle.bl_tree.proofs.ReduceLemmas.{total-append}
 use Rattle.bl_tree.specs.declared.scalar.Op.{Op}
-use Rattle.bl_tree.specs.declared.scalar.Op.TheVariants.{Both, Either, Negate}
+use Rattle.bl_tree.specs.declared.scalar.Op.TheVariants.{And, Or, Not}
 use Rattle.bl_tree.specs.declared.scalar.Scalar.TheVariants.{Bool as OfBool}
 use Rattle.bl_tree.specs.Numbers.{checked_of, checked_one_of, is_one}
 use Rattle.bl_cmeaning.specs.Memory.{Memory, CValue, Location, Part, member, number_in, scalar, value_at, set_at, zeros, without_frame}
@@ -131,8 +131,8 @@ module _ (costs : Costs) (scope : Scope) (covers : Covers scope.known costs) (me
   choice-le false f g n h k = k
 
   two_values-le : (op : Op) (left right : Evaluates CValue) (n k : ℕ) → (left scope memory).count ≤ n → (right scope memory).count ≤ k → (two_values op left right scope memory).count ≤ n + k
-  two_values-le Both left right n k h r = next-le _ _ n k h (λ a. choice-le (is_one (number_in a)) right (at_once (pos 0)) k r (omega arith))
-  two_values-le Either left right n k h r = next-le _ _ n k h (λ a. choice-le (is_one (number_in a)) (at_once (pos 1)) right k (omega arith) r)
+  two_values-le And left right n k h r = next-le _ _ n k h (λ a. choice-le (is_one (number_in a)) right (at_once (pos 0)) k r (omega arith))
+  two_values-le Or left right n k h r = next-le _ _ n k h (λ a. choice-le (is_one (number_in a)) (at_once (pos 1)) right k (omega arith) r)
   two_values-le op left right n k h r =
       let all : (next (left scope memory) (λ a. next (right scope memory) (λ b. given (option_map scalar (checked_of op OfBool (number_in a) (number_in b)))))).count ≤ n + (k + 0) =
       next-le _ _ n (k + 0) h (λ a. next-le _ _ k 0 r (λ b. omega arith)) in
@@ -159,7 +159,7 @@ module _ (costs : Costs) (scope : Scope) (covers : Covers scope.known costs) (me
         rw (fold-roll-CExprKind, fold-roll-CExprKind) (omega arith);
     call = λ c h. rw (fold-roll-CExprKind, fold-roll-CExprKind) h;
     negation = λ e h.
-        let all : (next (value_c e scope memory) (λ a. given (option_map scalar (checked_one_of Negate OfBool (number_in a))))).count ≤ cost_of_calls costs (calls_in e) + 0 = next-le _ _ _ 0 h (λ a. omega arith) in
+        let all : (next (value_c e scope memory) (λ a. given (option_map scalar (checked_one_of Not OfBool (number_in a))))).count ≤ cost_of_calls costs (calls_in e) + 0 = next-le _ _ _ 0 h (λ a. omega arith) in
         rw (fold-roll-CExprKind, fold-roll-CExprKind) (omega arith);
     two = λ op a b h k.
         let all : (two_values op (value_c a) (value_c b) scope memory).count ≤ cost_of_calls costs (calls_in a) + cost_of_calls costs (calls_in b) = two_values-le op _ _ _ _ h k in

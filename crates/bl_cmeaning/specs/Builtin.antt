@@ -8,7 +8,7 @@ use Rattle.bl_tree.specs.declared.scalar.Scalar.TheVariants.{Bool as OfBool, Int
 use Rattle.bl_tree.specs.declared.scalar.Width.{Width}
 use Rattle.bl_tree.specs.declared.scalar.Width.TheVariants.{W8, W16, W32, W64}
 use Rattle.bl_tree.specs.declared.scalar.Op.{Op}
-use Rattle.bl_tree.specs.declared.scalar.Op.TheVariants.{Add, Sub, Mul, Div, Rem, Neg, And, Or, Xor, Not, Shl, Shr}
+use Rattle.bl_tree.specs.declared.scalar.Op.TheVariants.{Add, Sub, Mul, Div, Rem, Minus, BitAnd, BitOr, BitXor, BitNot, Shl, Shr}
 use Rattle.bl_cmeaning.specs.declared.builtin.Builtin.{Builtin}
 use Rattle.bl_cmeaning.specs.declared.builtin.Builtin.TheVariants.{Two, One, Cast, Index, Turn, Stop}
 use Rattle.bl_tree.specs.Scalar.{in_range}
@@ -26,10 +26,10 @@ words_of_all t =
 
 -- those that a type has beside them
 abbrev pub words_of_own : Scalar → List (Text × Builtin)
-words_of_own (Int w) = (codes "bl_neg_", One Neg (Int w)) ∷ []
+words_of_own (Int w) = (codes "bl_neg_", One Minus (Int w)) ∷ []
 words_of_own (Bits w) =
-    (codes "bl_neg_", One Neg (Bits w)) ∷ (codes "bl_not_", One Not (Bits w))
-    ∷ (codes "bl_and_", Two And (Bits w)) ∷ (codes "bl_or_", Two Or (Bits w)) ∷ (codes "bl_xor_", Two Xor (Bits w))
+    (codes "bl_neg_", One Minus (Bits w)) ∷ (codes "bl_not_", One BitNot (Bits w))
+    ∷ (codes "bl_and_", Two BitAnd (Bits w)) ∷ (codes "bl_or_", Two BitOr (Bits w)) ∷ (codes "bl_xor_", Two BitXor (Bits w))
     ∷ (codes "bl_shl_", Two Shl (Bits w)) ∷ (codes "bl_shr_", Two Shr (Bits w)) ∷ []
 words_of_own (Nat w) = []
 words_of_own OfBool = []

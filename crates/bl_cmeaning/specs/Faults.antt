@@ -8,7 +8,7 @@ use Rattle.bl_tree.specs.declared.scalar.Width.TheVariants.{W8, W16, W32, W64}
 use Rattle.bl_tree.specs.declared.scalar.Scalar.{Scalar}
 use Rattle.bl_tree.specs.declared.scalar.Scalar.TheVariants.{Bool as OfBool, Int, Nat, Bits}
 use Rattle.bl_tree.specs.declared.scalar.Op.{Op}
-use Rattle.bl_tree.specs.declared.scalar.Op.TheVariants.{Eq, Ne, Lt, Le, Gt, Ge, Both, Either}
+use Rattle.bl_tree.specs.declared.scalar.Op.TheVariants.{Eq, Ne, Lt, Le, Gt, Ge, And, Or}
 use Rattle.bl_tree.specs.declared.c.CType.{CType}
 use Rattle.bl_tree.specs.declared.c.CType.TheVariants.{Scalar as OfScalar, Struct as OfStruct}
 use Rattle.bl_tree.specs.declared.c.CMember.{CMember}
@@ -141,8 +141,8 @@ takes Lt t = is_number t
 takes Le t = is_number t
 takes Gt t = is_number t
 takes Ge t = is_number t
-takes Both t = same_type t bool_type
-takes Either t = same_type t bool_type
+takes And t = same_type t bool_type
+takes Or t = same_type t bool_type
 takes _ t = false
 
 -- ---- what is declared

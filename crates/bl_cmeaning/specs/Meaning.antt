@@ -4,7 +4,7 @@ use Rattle.std.specs.Prelude.{ℕ, zero, suc, ◌+◌, ℤ, pos, Bool, true, fal
 use Rattle.bl_tree.specs.declared.text.Text.{Text}
 use Rattle.bl_tree.specs.declared.scalar.Scalar.TheVariants.{Bool as OfBool}
 use Rattle.bl_tree.specs.declared.scalar.Op.{Op}
-use Rattle.bl_tree.specs.declared.scalar.Op.TheVariants.{Both, Either, Negate}
+use Rattle.bl_tree.specs.declared.scalar.Op.TheVariants.{And, Or, Not}
 use Rattle.bl_tree.specs.declared.c.CArg.TheOpen.{CArg-F, CExprKind-F, CCall-F, CExpr-F, CIndex-F, CPlace-F, CStep-F}
 use Rattle.bl_tree.specs.declared.c.CExpr.{CExpr, fold-CExpr}
 use Rattle.bl_tree.specs.declared.c.CPlace.{CPlace, fold-CPlace}
@@ -135,9 +135,9 @@ at_once n scope memory = given (Some (scalar n))
 
 -- the value of a comparison, or of `&&` and `||`, whose right side counts only where the left doesn't decide
 abbrev pub two_values : Op → Evaluates CValue → Evaluates CValue → Evaluates CValue
-two_values Both left right scope memory =
+two_values And left right scope memory =
     next (left scope memory) (λ a. (if is_one (number_in a) then right else at_once (pos 0)) scope memory)
-two_values Either left right scope memory =
+two_values Or left right scope memory =
     next (left scope memory) (λ a. (if is_one (number_in a) then at_once (pos 1) else right) scope memory)
 two_values op left right scope memory =
     next (left scope memory) (λ a. next (right scope memory) (λ b. given (option_map scalar (checked_of op OfBool (number_in a) (number_in b)))))
@@ -155,7 +155,7 @@ kind_step (CExprKind-F.Literal type n) scope memory = given (Some (scalar n))
 kind_step (CExprKind-F.Read place) scope memory = next (place scope memory) (λ p. given (Some (value_at memory p)))
 kind_step (CExprKind-F.Call call) scope memory = result_of (call scope memory)
 kind_step (CExprKind-F.Not operand) scope memory =
-    next (operand scope memory) (λ a. given (option_map scalar (checked_one_of Negate OfBool (number_in a))))
+    next (operand scope memory) (λ a. given (option_map scalar (checked_one_of Not OfBool (number_in a))))
 kind_step (CExprKind-F.Two op left right) scope memory = two_values op left right scope memory
 
 abbrev pub call_step : CCall-F (Evaluates Passed) (Evaluates CValue) (Scope → Memory → Called) (Evaluates CValue) (Evaluates (List Part)) (Evaluates Location) (Evaluates (List Part)) → Scope → Memory → Called

@@ -42,7 +42,7 @@ scalar_same s t h k e = sym (scalar_back s h) ∙ (ap scalar_in e ∙ scalar_bac
 operator_in : Token → Op
 operator_in t =
     cond (is t (codes "==")) op.Eq (cond (is t (codes "!=")) op.Ne (cond (is t (codes "<")) op.Lt (cond (is t (codes "<=")) op.Le
-    (cond (is t (codes ">")) op.Gt (cond (is t (codes ">=")) op.Ge (cond (is t (codes "&&")) op.Both op.Either))))))
+    (cond (is t (codes ">")) op.Gt (cond (is t (codes ">=")) op.Ge (cond (is t (codes "&&")) op.And op.Or))))))
 
 operator_back : (o : Op) → is_c_operator o ≡ true → operator_in (operator_sign o) ≡ o
 unfolding operator_in
@@ -52,8 +52,8 @@ operator_back op.Lt h = refl
 operator_back op.Le h = refl
 operator_back op.Gt h = refl
 operator_back op.Ge h = refl
-operator_back op.Both h = refl
-operator_back op.Either h = refl
+operator_back op.And h = refl
+operator_back op.Or h = refl
 operator_back _ h = cc
 
 pub operator_same : (o p : Op) → is_c_operator o ≡ true → is_c_operator p ≡ true → operator_sign o ≡ operator_sign p → o ≡ p
@@ -66,8 +66,8 @@ operator_off op.Lt h = refl
 operator_off op.Le h = refl
 operator_off op.Gt h = refl
 operator_off op.Ge h = refl
-operator_off op.Both h = refl
-operator_off op.Either h = refl
+operator_off op.And h = refl
+operator_off op.Or h = refl
 operator_off _ h = cc
 
 -- ---- literals

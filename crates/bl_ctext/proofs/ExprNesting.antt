@@ -103,8 +103,8 @@ sign-plain op.Lt = refl
 sign-plain op.Le = refl
 sign-plain op.Gt = refl
 sign-plain op.Ge = refl
-sign-plain op.Both = refl
-sign-plain op.Either = refl
+sign-plain op.And = refl
+sign-plain op.Or = refl
 sign-plain _ = refl
 
 not-nests : (d : ℕ) (ts : List Token) → Nests d ts → Nests (d + 1) (codes "(" ∷ codes "!" ∷ (ts ++ codes ")" ∷ []))

@@ -48,8 +48,8 @@ is_c_operator op.Lt = true
 is_c_operator op.Le = true
 is_c_operator op.Gt = true
 is_c_operator op.Ge = true
-is_c_operator op.Both = true
-is_c_operator op.Either = true
+is_c_operator op.And = true
+is_c_operator op.Or = true
 is_c_operator _ = false
 
 -- how many elements an array may have

@@ -96,8 +96,8 @@ operator_sign op.Lt = codes "<"
 operator_sign op.Le = codes "<="
 operator_sign op.Gt = codes ">"
 operator_sign op.Ge = codes ">="
-operator_sign op.Both = codes "&&"
-operator_sign op.Either = codes "||"
+operator_sign op.And = codes "&&"
+operator_sign op.Or = codes "||"
 operator_sign _ = []
 
 -- a call of these arguments

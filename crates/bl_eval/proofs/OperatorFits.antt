@@ -3,7 +3,7 @@ use Rattle.std.proofs.Common.{◌≡◌, ℤ, Bool, true, false, ◌&&◌, List,
 use Rattle.std.proofs.lemmas.Option.{same_Some, IfSome_then}
 use Rattle.std.specs.Prelude.{option_and_then, if◌then◌else◌}
 use Rattle.bl_tree.specs.declared.scalar.Op.{Op}
-use Rattle.bl_tree.specs.declared.scalar.Op.TheVariants.{Both, Either}
+use Rattle.bl_tree.specs.declared.scalar.Op.TheVariants.{And, Or}
 use Rattle.bl_tree.specs.declared.scalar.Scalar.{Scalar as ScalarType}
 use Rattle.bl_tree.specs.declared.scalar.Scalar.TheVariants.{Bool as OfBool}
 use Rattle.bl_tree.specs.declared.tree.StructDef.{StructDef}
@@ -116,8 +116,8 @@ bool_is OfBool is = refl
 bool_is _ is = absurd (cc)
 
 decided : (op : Op) (s : ScalarType) (n : ℤ) → decides op n ≡ true → takes_two op s ≡ true → type_of_result op s ≡ s
-decided Both s n holds takes = bool_is s takes
-decided Either s n holds takes = bool_is s takes
+decided And s n holds takes = bool_is s takes
+decided Or s n holds takes = bool_is s takes
 decided _ s n holds takes = absurd (cc)
 
 module _ (structs : List StructDef) (ty : Ty) (op : Op) (s t : ScalarType) (a : Operand) (fit : OperandFits s a) (typed : two_type op s t ≡ Some ty) where

@@ -1,7 +1,7 @@
 -- The value of an expression.
 use Rattle.std.specs.Prelude.{ℕ, ℤ, Bool, false, not, ◌&&◌, List, [], ◌∷◌, slice_get, Option, Some, None, option_map, option_and_then, if◌then◌else◌}
 use Rattle.bl_tree.specs.declared.scalar.Op.{Op}
-use Rattle.bl_tree.specs.declared.scalar.Op.TheVariants.{Both, Either}
+use Rattle.bl_tree.specs.declared.scalar.Op.TheVariants.{And, Or}
 use Rattle.bl_tree.specs.declared.scalar.Scalar.{Scalar as ScalarType}
 use Rattle.bl_tree.specs.declared.tree.Expr.{Expr, fold-Expr}
 use Rattle.bl_tree.specs.declared.tree.ExprKind.TheOpen.{ExprKind-F, Part-F, Path-F, Expr-F}
@@ -82,8 +82,8 @@ applied_two op a n = if takes_two op a.ty && (in_range a.ty a.n && in_range a.ty
 
 -- whether the left operand alone decides: false does for `and`, true for `or`. It is the value then
 abbrev pub decides : Op → ℤ → Bool
-decides Both a = not (is_one a)
-decides Either a = is_one a
+decides And a = not (is_one a)
+decides Or a = is_one a
 decides _ a = false
 
 abbrev pub one_datum : Op → Operand → Option Datum

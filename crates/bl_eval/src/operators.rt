@@ -66,8 +66,8 @@ pub fn decides(op: Op, a: Operand) -> bool
     ensures { result ≡ decides op a.n }
 {
     match op {
-        Op::Both => a.n != 1,
-        Op::Either => a.n == 1,
+        Op::And => a.n != 1,
+        Op::Or => a.n == 1,
         _ => false,
     }
 }

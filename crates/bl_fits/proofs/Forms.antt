@@ -4,7 +4,7 @@ use Rattle.std.specs.Prelude.{option_map, Bool, true, false, ◌&&◌, nat_eq, o
 use Rattle.std.proofs.lemmas.Option.{same_Some}
 use Rattle.bl_tree.specs.declared.place.Place.{Place}
 use Rattle.bl_tree.specs.declared.scalar.Op.{Op}
-use Rattle.bl_tree.specs.declared.scalar.Op.TheVariants.{Add, Sub, Mul, Div, Rem, And, Or, Xor, Shl, Shr, Neg, Not}
+use Rattle.bl_tree.specs.declared.scalar.Op.TheVariants.{Add, Sub, Mul, Div, Rem, BitAnd, BitOr, BitXor, Shl, Shr, Minus, BitNot}
 use Rattle.bl_tree.specs.declared.scalar.Scalar.{Scalar as ScalarType}
 use Rattle.bl_tree.specs.declared.scalar.Scalar.TheVariants.{Bool as OfBool, Int, Nat, Bits}
 use Rattle.bl_tree.specs.declared.scalar.Width.{Width}
@@ -83,8 +83,8 @@ same_type_self = ind-Ty IsSelf (λ x y is. subst (λ layer. IsSelf (roll-Ty laye
 -- ---- operators whose operands may be open
 
 one_result : (op : Op) (s : ScalarType) → keeps_one_open op ≡ true → type_of_result op s ≡ s
-one_result Neg s is = refl
-one_result Not s is = refl
+one_result Minus s is = refl
+one_result BitNot s is = refl
 one_result _ s is = absurd (cc)
 
 two_result : (op : Op) (s : ScalarType) → keeps_two_open op ≡ true → type_of_result op s ≡ s
@@ -93,9 +93,9 @@ two_result Sub s is = refl
 two_result Mul s is = refl
 two_result Div s is = refl
 two_result Rem s is = refl
-two_result And s is = refl
-two_result Or s is = refl
-two_result Xor s is = refl
+two_result BitAnd s is = refl
+two_result BitOr s is = refl
+two_result BitXor s is = refl
 two_result Shl s is = refl
 two_result Shr s is = refl
 two_result _ s is = absurd (cc)

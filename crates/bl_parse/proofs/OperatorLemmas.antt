@@ -131,12 +131,12 @@ abbrev pub Found : ℕ → TokenKind → Type 0
 Found m kind = (op : Op) × IsOperator kind m op
 
 operator_of : (m : ℕ) (kind : TokenKind) → m ≤ 8 → has (starts_within 20 (rest_of m)) (class_of kind) ≡ true → Found m kind
-operator_of zero kind le on = one_of (Keyword OR) ([]) (λ e. (Op.Either, subst (λ kind. IsOperator kind 0 Op.Either) (sym (class_word kind OR e)) IsOperator.either)) of_none on
-operator_of (suc zero) kind le on = one_of (Keyword AND) ([]) (λ e. (Op.Both, subst (λ kind. IsOperator kind 1 Op.Both) (sym (class_word kind AND e)) IsOperator.both)) of_none on
+operator_of zero kind le on = one_of (Keyword OR) ([]) (λ e. (Op.Or, subst (λ kind. IsOperator kind 0 Op.Or) (sym (class_word kind OR e)) IsOperator.either)) of_none on
+operator_of (suc zero) kind le on = one_of (Keyword AND) ([]) (λ e. (Op.And, subst (λ kind. IsOperator kind 1 Op.And) (sym (class_word kind AND e)) IsOperator.both)) of_none on
 operator_of (suc (suc zero)) kind le on = one_of (Mark EQUAL) ((Mark NOT_EQUAL) ∷ (Mark LESS) ∷ (Mark LESS_OR_EQUAL) ∷ (Mark GREATER) ∷ (Mark GREATER_OR_EQUAL) ∷ []) (λ e. (Op.Eq, subst (λ kind. IsOperator kind 2 Op.Eq) (sym (class_sign kind EQUAL e)) IsOperator.equal)) (one_of (Mark NOT_EQUAL) ((Mark LESS) ∷ (Mark LESS_OR_EQUAL) ∷ (Mark GREATER) ∷ (Mark GREATER_OR_EQUAL) ∷ []) (λ e. (Op.Ne, subst (λ kind. IsOperator kind 2 Op.Ne) (sym (class_sign kind NOT_EQUAL e)) IsOperator.differs)) (one_of (Mark LESS) ((Mark LESS_OR_EQUAL) ∷ (Mark GREATER) ∷ (Mark GREATER_OR_EQUAL) ∷ []) (λ e. (Op.Lt, subst (λ kind. IsOperator kind 2 Op.Lt) (sym (class_sign kind LESS e)) IsOperator.less)) (one_of (Mark LESS_OR_EQUAL) ((Mark GREATER) ∷ (Mark GREATER_OR_EQUAL) ∷ []) (λ e. (Op.Le, subst (λ kind. IsOperator kind 2 Op.Le) (sym (class_sign kind LESS_OR_EQUAL e)) IsOperator.at_most)) (one_of (Mark GREATER) ((Mark GREATER_OR_EQUAL) ∷ []) (λ e. (Op.Gt, subst (λ kind. IsOperator kind 2 Op.Gt) (sym (class_sign kind GREATER e)) IsOperator.greater)) (one_of (Mark GREATER_OR_EQUAL) ([]) (λ e. (Op.Ge, subst (λ kind. IsOperator kind 2 Op.Ge) (sym (class_sign kind GREATER_OR_EQUAL e)) IsOperator.at_least)) of_none))))) on
-operator_of (suc (suc (suc zero))) kind le on = one_of (Mark BAR) ([]) (λ e. (Op.Or, subst (λ kind. IsOperator kind 3 Op.Or) (sym (class_sign kind BAR e)) IsOperator.bits_or)) of_none on
-operator_of (suc (suc (suc (suc zero)))) kind le on = one_of (Mark CARET) ([]) (λ e. (Op.Xor, subst (λ kind. IsOperator kind 4 Op.Xor) (sym (class_sign kind CARET e)) IsOperator.bits_xor)) of_none on
-operator_of (suc (suc (suc (suc (suc zero))))) kind le on = one_of (Mark AMPERSAND) ([]) (λ e. (Op.And, subst (λ kind. IsOperator kind 5 Op.And) (sym (class_sign kind AMPERSAND e)) IsOperator.bits_and)) of_none on
+operator_of (suc (suc (suc zero))) kind le on = one_of (Mark BAR) ([]) (λ e. (Op.BitOr, subst (λ kind. IsOperator kind 3 Op.BitOr) (sym (class_sign kind BAR e)) IsOperator.bits_or)) of_none on
+operator_of (suc (suc (suc (suc zero)))) kind le on = one_of (Mark CARET) ([]) (λ e. (Op.BitXor, subst (λ kind. IsOperator kind 4 Op.BitXor) (sym (class_sign kind CARET e)) IsOperator.bits_xor)) of_none on
+operator_of (suc (suc (suc (suc (suc zero))))) kind le on = one_of (Mark AMPERSAND) ([]) (λ e. (Op.BitAnd, subst (λ kind. IsOperator kind 5 Op.BitAnd) (sym (class_sign kind AMPERSAND e)) IsOperator.bits_and)) of_none on
 operator_of (suc (suc (suc (suc (suc (suc zero)))))) kind le on = one_of (Mark SHIFT_LEFT) ((Mark SHIFT_RIGHT) ∷ []) (λ e. (Op.Shl, subst (λ kind. IsOperator kind 6 Op.Shl) (sym (class_sign kind SHIFT_LEFT e)) IsOperator.shift_left)) (one_of (Mark SHIFT_RIGHT) ([]) (λ e. (Op.Shr, subst (λ kind. IsOperator kind 6 Op.Shr) (sym (class_sign kind SHIFT_RIGHT e)) IsOperator.shift_right)) of_none) on
 operator_of (suc (suc (suc (suc (suc (suc (suc zero))))))) kind le on = one_of (Mark PLUS) ((Mark MINUS) ∷ []) (λ e. (Op.Add, subst (λ kind. IsOperator kind 7 Op.Add) (sym (class_sign kind PLUS e)) IsOperator.plus)) (one_of (Mark MINUS) ([]) (λ e. (Op.Sub, subst (λ kind. IsOperator kind 7 Op.Sub) (sym (class_sign kind MINUS e)) IsOperator.minus)) of_none) on
 operator_of (suc (suc (suc (suc (suc (suc (suc (suc zero)))))))) kind le on = one_of (Mark STAR) ((Mark SLASH) ∷ (Mark PERCENT) ∷ []) (λ e. (Op.Mul, subst (λ kind. IsOperator kind 8 Op.Mul) (sym (class_sign kind STAR e)) IsOperator.times)) (one_of (Mark SLASH) ((Mark PERCENT) ∷ []) (λ e. (Op.Div, subst (λ kind. IsOperator kind 8 Op.Div) (sym (class_sign kind SLASH e)) IsOperator.divided)) (one_of (Mark PERCENT) ([]) (λ e. (Op.Rem, subst (λ kind. IsOperator kind 8 Op.Rem) (sym (class_sign kind PERCENT e)) IsOperator.remainder)) of_none)) on

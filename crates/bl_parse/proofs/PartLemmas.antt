@@ -213,5 +213,5 @@ module _ {tokens : List Token} {k : ℕ} where
   pub prefixed : {op : Op} {to : ℕ} {b : List Piece} (is : SpellsPrefix tokens op k to) → Turns (the Unary ∷ b) tokens k (Terminal (class_of is.kind) ∷ the Unary ∷ b) k
   prefixed is = opened (Terminal (class_of is.kind) ∷ the Unary ∷ []) (λ v. refl) is.token.stands (prefix_picks is.is)
 
-  pub minus_is : {to : ℕ} → SpellsPrefix tokens Op.Neg k to → kind_at tokens k ≡ Some (Sign MINUS)
+  pub minus_is : {to : ℕ} → SpellsPrefix tokens Op.Minus k to → kind_at tokens k ≡ Some (Sign MINUS)
   minus_is is = (minus_sign is).stands

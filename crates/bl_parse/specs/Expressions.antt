@@ -65,7 +65,7 @@ mutual
         → e ≡ expr (span tokens from to) (kind.Number true n) → SpellsExpr text tokens level e from to
     -- operator and operand; a minus is one where no number follows
     one : {level : ℕ} {e a : RawExpr} {from m to : ℕ} {op : Op} → level ≤ prefixing
-        → SpellsPrefix tokens op from m → (op ≡ Op.Neg → is_number (kind_at tokens m) ≡ false) → SpellsExpr text tokens prefixing a m to
+        → SpellsPrefix tokens op from m → (op ≡ Op.Minus → is_number (kind_at tokens m) ≡ false) → SpellsExpr text tokens prefixing a m to
         → e ≡ expr (span tokens from to) (kind.One op a) → SpellsExpr text tokens level e from to
     number : {level n : ℕ} {e : RawExpr} {from to : ℕ} → Takes tokens (Number n) from to
         → e ≡ expr (span tokens from to) (kind.Number false n) → SpellsExpr text tokens level e from to

@@ -27,17 +27,17 @@ prefixing = 10
 
 -- the operators with two operands, each with its level: a greater one binds more tightly
 pub data IsOperator : TokenKind → ℕ → Op → Type 0 where
-  either : IsOperator (Word OR) 0 Op.Either
-  both : IsOperator (Word AND) 1 Op.Both
+  either : IsOperator (Word OR) 0 Op.Or
+  both : IsOperator (Word AND) 1 Op.And
   equal : IsOperator (Sign EQUAL) 2 Op.Eq
   differs : IsOperator (Sign NOT_EQUAL) 2 Op.Ne
   less : IsOperator (Sign LESS) 2 Op.Lt
   at_most : IsOperator (Sign LESS_OR_EQUAL) 2 Op.Le
   greater : IsOperator (Sign GREATER) 2 Op.Gt
   at_least : IsOperator (Sign GREATER_OR_EQUAL) 2 Op.Ge
-  bits_or : IsOperator (Sign BAR) 3 Op.Or
-  bits_xor : IsOperator (Sign CARET) 4 Op.Xor
-  bits_and : IsOperator (Sign AMPERSAND) 5 Op.And
+  bits_or : IsOperator (Sign BAR) 3 Op.BitOr
+  bits_xor : IsOperator (Sign CARET) 4 Op.BitXor
+  bits_and : IsOperator (Sign AMPERSAND) 5 Op.BitAnd
   shift_left : IsOperator (Sign SHIFT_LEFT) 6 Op.Shl
   shift_right : IsOperator (Sign SHIFT_RIGHT) 6 Op.Shr
   plus : IsOperator (Sign PLUS) 7 Op.Add
@@ -58,9 +58,9 @@ pub record SpellsInfix (tokens : List Token) (level : ℕ) (op : Op) (from to : 
 
 -- the operators before one operand
 pub data IsPrefix : TokenKind → Op → Type 0 where
-  negation : IsPrefix (Sign MINUS) Op.Neg
-  complement : IsPrefix (Sign TILDE) Op.Not
-  denial : IsPrefix (Word NOT) Op.Negate
+  negation : IsPrefix (Sign MINUS) Op.Minus
+  complement : IsPrefix (Sign TILDE) Op.BitNot
+  denial : IsPrefix (Word NOT) Op.Not
 
 -- the token is an operator before one operand
 pub record SpellsPrefix (tokens : List Token) (op : Op) (from to : ℕ) : Type 0 where

@@ -165,9 +165,9 @@ fn unary(source: &Source, at: &mut usize) -> Result<RawExpr, NoMemory>
     if source.stands(*at, TokenKind::Sign(sign::MINUS)) {
         negative(source, at)
     } else if source.stands(*at, TokenKind::Sign(sign::TILDE)) {
-        one(source, at, Op::Not)
+        one(source, at, Op::BitNot)
     } else if source.stands(*at, TokenKind::Word(word::NOT)) {
-        one(source, at, Op::Negate)
+        one(source, at, Op::Not)
     } else {
         let e = primary(source, at)?;
         Ok(e)
@@ -178,7 +178,7 @@ fn unary(source: &Source, at: &mut usize) -> Result<RawExpr, NoMemory>
 #[cycle(expressions)]
 fn negative(source: &Source, at: &mut usize) -> Result<RawExpr, NoMemory>
     requires inside { at.old < length source.now.tokens.now }
-    requires minus { SpellsPrefix source.now.tokens.now Op.Neg at.old (at.old + 1) }
+    requires minus { SpellsPrefix source.now.tokens.now Op.Minus at.old (at.old + 1) }
     requires awaits { Awaits (just Part.Unary) source.now.tokens.now at.old }
     ensures spelled { IfOk result (λ e. SpellsExpr source.now.text.now source.now.tokens.now 10 e at.old at.new) }
     ensures follows { OnOk result (Turns (just Part.Unary) source.now.tokens.now at.old [] at.new) }
@@ -193,7 +193,7 @@ fn negative(source: &Source, at: &mut usize) -> Result<RawExpr, NoMemory>
                 what: RawExprKind::Number(true, value),
             })
         }
-        None => one(source, at, Op::Neg),
+        None => one(source, at, Op::Minus),
     }
 }
 
@@ -202,7 +202,7 @@ fn negative(source: &Source, at: &mut usize) -> Result<RawExpr, NoMemory>
 fn one(source: &Source, at: &mut usize, op: Op) -> Result<RawExpr, NoMemory>
     requires inside { at.old < length source.now.tokens.now }
     requires prefix { SpellsPrefix source.now.tokens.now op at.old (at.old + 1) }
-    requires no_number { op ≡ Op.Neg → is_number (kind_at source.now.tokens.now (at.old + 1)) ≡ false }
+    requires no_number { op ≡ Op.Minus → is_number (kind_at source.now.tokens.now (at.old + 1)) ≡ false }
     requires awaits { Awaits (just Part.Unary) source.now.tokens.now at.old }
     ensures spelled { IfOk result (λ e. SpellsExpr source.now.text.now source.now.tokens.now 10 e at.old at.new) }
     ensures follows { OnOk result (Turns (just Part.Unary) source.now.tokens.now at.old [] at.new) }

@@ -37,17 +37,17 @@ pub fn infix_of(kind: TokenKind) -> Option<Infix>
     ensures none { IsNone result → has operator_classes (class_of kind) ≡ false }
 {
     let (level, op) = match kind {
-        TokenKind::Word(word::OR) => (0, Op::Either),
-        TokenKind::Word(word::AND) => (1, Op::Both),
+        TokenKind::Word(word::OR) => (0, Op::Or),
+        TokenKind::Word(word::AND) => (1, Op::And),
         TokenKind::Sign(sign::EQUAL) => (COMPARING, Op::Eq),
         TokenKind::Sign(sign::NOT_EQUAL) => (COMPARING, Op::Ne),
         TokenKind::Sign(sign::LESS) => (COMPARING, Op::Lt),
         TokenKind::Sign(sign::LESS_OR_EQUAL) => (COMPARING, Op::Le),
         TokenKind::Sign(sign::GREATER) => (COMPARING, Op::Gt),
         TokenKind::Sign(sign::GREATER_OR_EQUAL) => (COMPARING, Op::Ge),
-        TokenKind::Sign(sign::BAR) => (3, Op::Or),
-        TokenKind::Sign(sign::CARET) => (4, Op::Xor),
-        TokenKind::Sign(sign::AMPERSAND) => (5, Op::And),
+        TokenKind::Sign(sign::BAR) => (3, Op::BitOr),
+        TokenKind::Sign(sign::CARET) => (4, Op::BitXor),
+        TokenKind::Sign(sign::AMPERSAND) => (5, Op::BitAnd),
         TokenKind::Sign(sign::SHIFT_LEFT) => (6, Op::Shl),
         TokenKind::Sign(sign::SHIFT_RIGHT) => (6, Op::Shr),
         TokenKind::Sign(sign::PLUS) => (7, Op::Add),

@@ -133,8 +133,8 @@ left_fits IsOperator.divided = omega arith
 left_fits IsOperator.remainder = omega arith
 
 op_of : TokenKind → Op
-op_of (Word w) = cond (nat_eq w OR) Op.Either Op.Both
-op_of (Sign s) = cond (nat_eq s EQUAL) Op.Eq (cond (nat_eq s NOT_EQUAL) Op.Ne (cond (nat_eq s LESS) Op.Lt (cond (nat_eq s LESS_OR_EQUAL) Op.Le (cond (nat_eq s GREATER) Op.Gt (cond (nat_eq s GREATER_OR_EQUAL) Op.Ge (cond (nat_eq s BAR) Op.Or (cond (nat_eq s CARET) Op.Xor (cond (nat_eq s AMPERSAND) Op.And (cond (nat_eq s SHIFT_LEFT) Op.Shl (cond (nat_eq s SHIFT_RIGHT) Op.Shr (cond (nat_eq s PLUS) Op.Add (cond (nat_eq s MINUS) Op.Sub (cond (nat_eq s STAR) Op.Mul (cond (nat_eq s SLASH) Op.Div (Op.Rem)))))))))))))))
+op_of (Word w) = cond (nat_eq w OR) Op.Or Op.And
+op_of (Sign s) = cond (nat_eq s EQUAL) Op.Eq (cond (nat_eq s NOT_EQUAL) Op.Ne (cond (nat_eq s LESS) Op.Lt (cond (nat_eq s LESS_OR_EQUAL) Op.Le (cond (nat_eq s GREATER) Op.Gt (cond (nat_eq s GREATER_OR_EQUAL) Op.Ge (cond (nat_eq s BAR) Op.BitOr (cond (nat_eq s CARET) Op.BitXor (cond (nat_eq s AMPERSAND) Op.BitAnd (cond (nat_eq s SHIFT_LEFT) Op.Shl (cond (nat_eq s SHIFT_RIGHT) Op.Shr (cond (nat_eq s PLUS) Op.Add (cond (nat_eq s MINUS) Op.Sub (cond (nat_eq s STAR) Op.Mul (cond (nat_eq s SLASH) Op.Div (Op.Rem)))))))))))))))
 op_of _ = Op.Rem
 
 same_as : {kind : TokenKind} {level : ℕ} {op : Op} → IsOperator kind level op → op_of kind ≡ op

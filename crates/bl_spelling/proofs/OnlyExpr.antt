@@ -130,21 +130,21 @@ OneLine text tokens es from to = Lined (OneExpr text tokens 0) (Elem (Link text 
 placed : (tokens : List Token) (from : ℕ) {to end : ℕ} {a b : RawExprKind} {e f : RawExpr} → e ≡ expr (span tokens from to) a → f ≡ expr (span tokens from end) b → a ≡ b → to ≡ end → e ≡ f
 placed tokens from {to} {end} {a} {b} is other same at = is ∙ (ap (λ k. expr (span tokens from k) a) at ∙ (ap (λ x. expr (span tokens from end) x) same ∙ sym other))
 
-no_minus : {P : Type 0} {tokens : List Token} {op : Op} {n : ℕ} {from k m j : ℕ} → Takes tokens (Sign MINUS) from k → Takes tokens (Number n) k m → SpellsPrefix tokens op from j → (op ≡ Op.Neg → is_number (kind_at tokens j) ≡ false) → P
+no_minus : {P : Type 0} {tokens : List Token} {op : Op} {n : ℕ} {from k m j : ℕ} → Takes tokens (Sign MINUS) from k → Takes tokens (Number n) k m → SpellsPrefix tokens op from j → (op ≡ Op.Minus → is_number (kind_at tokens j) ≡ false) → P
 no_minus {P} {tokens} {n = n} {from = from} {k = k} {j = j} minus number h none = by_prefix h.kind h.token h.is none
   where
     no_truth : true ≡ false → ⊥
     no_truth e = cc
 
-    by_prefix : {op : Op} (kind : TokenKind) → Takes tokens kind from j → IsPrefix kind op → (op ≡ Op.Neg → is_number (kind_at tokens j) ≡ false) → P
+    by_prefix : {op : Op} (kind : TokenKind) → Takes tokens kind from j → IsPrefix kind op → (op ≡ Op.Minus → is_number (kind_at tokens j) ≡ false) → P
     by_prefix kind t IsPrefix.negation none = absurd (no_truth (sym (ap (λ i. is_number (kind_at tokens i)) (next_same refl t minus) ∙ ap is_number number.stands) ∙ none refl))
     by_prefix kind t IsPrefix.complement none = clash t refl minus refl
     by_prefix kind t IsPrefix.denial none = clash t refl minus refl
 
 prefix_of : TokenKind → Op
-prefix_of (Word w) = Op.Negate
-prefix_of (Sign s) = cond (nat_eq s MINUS) Op.Neg Op.Not
-prefix_of _ = Op.Not
+prefix_of (Word w) = Op.Not
+prefix_of (Sign s) = cond (nat_eq s MINUS) Op.Minus Op.BitNot
+prefix_of _ = Op.BitNot
 
 prefix_as : {kind : TokenKind} {op : Op} → IsPrefix kind op → prefix_of kind ≡ op
 unfolding prefix_of
@@ -201,7 +201,7 @@ module _ {text : List ℕ} {tokens : List Token} {e : RawExpr} where
   only_negative {from = from} minus n is f end (SpellsExpr.one le op none a also) s r = no_minus minus n op none
   only_negative {from = from} minus n is f end q s r = differ (Mark MINUS ∷ []) (heads q) (begun minus) refl (begun_heads q ten) refl
 
-  only_one : {op : Op} {a : RawExpr} {from m to : ℕ} → SpellsPrefix tokens op from m → (op ≡ Op.Neg → is_number (kind_at tokens m) ≡ false) → OneExpr text tokens 10 a m to
+  only_one : {op : Op} {a : RawExpr} {from m to : ℕ} → SpellsPrefix tokens op from m → (op ≡ Op.Minus → is_number (kind_at tokens m) ≡ false) → OneExpr text tokens 10 a m to
       → e ≡ expr (span tokens from to) (kind.One op a) → Only text tokens e from to
   only_one {from = from} op none a is f end (SpellsExpr.negative le minus n also) s r = no_minus minus n op none
   only_one {from = from} op none a is f end (SpellsExpr.one le other none' b also) s r =

@@ -9,7 +9,7 @@ use Rattle.bl_tree.specs.declared.scalar.Width.TheVariants.{W8, W16, W32, W64}
 use Rattle.bl_tree.specs.declared.scalar.Scalar.{Scalar}
 use Rattle.bl_tree.specs.declared.scalar.Scalar.TheVariants.{Bool as OfBool, Int, Nat, Bits}
 use Rattle.bl_tree.specs.declared.scalar.Op.{Op}
-use Rattle.bl_tree.specs.declared.scalar.Op.TheVariants.{Add, Sub, Mul, Div, Rem, Neg, And, Or, Xor, Not, Shl, Shr, Eq, Ne, Lt, Le, Gt, Ge, Both, Either, Negate}
+use Rattle.bl_tree.specs.declared.scalar.Op.TheVariants.{Add, Sub, Mul, Div, Rem, Minus, BitAnd, BitOr, BitXor, BitNot, Shl, Shr, Eq, Ne, Lt, Le, Gt, Ge, And, Or, Not}
 use Rattle.bl_tree.specs.Scalar.{bits_of, width_of, in_range, is_bits, InRange}
 use Rattle.bl_tree.specs.Numbers.{fitted, WrapsTo, divided_by, number_of, checked_of, checked_one_of, TakesTwo, TakesOne, type_of_result, left_digits, right_digits, shifted_left, shifted_right}
 
@@ -176,9 +176,9 @@ checked_of-in_range Sub t a b takes h k = fitted-in_range t _
 checked_of-in_range Mul t a b takes h k = fitted-in_range t _
 checked_of-in_range Div t a b takes h k = divided_by-in_range t b _ (fitted-in_range t _)
 checked_of-in_range Rem t a b takes h k = divided_by-in_range t b _ (fitted-in_range t _)
-checked_of-in_range And t a b takes h k = digits-in_range (λ _ n m. bit_and n m) (λ w n m p _. bit_and_small w n m p) t a b takes h k
-checked_of-in_range Or t a b takes h k = digits-in_range (λ _ n m. bit_or n m) (λ w n m p q. or_lt w n m p q) t a b takes h k
-checked_of-in_range Xor t a b takes h k = digits-in_range (λ _ n m. bit_xor n m) (λ w n m p q. xor_lt w n m p q) t a b takes h k
+checked_of-in_range BitAnd t a b takes h k = digits-in_range (λ _ n m. bit_and n m) (λ w n m p _. bit_and_small w n m p) t a b takes h k
+checked_of-in_range BitOr t a b takes h k = digits-in_range (λ _ n m. bit_or n m) (λ w n m p q. or_lt w n m p q) t a b takes h k
+checked_of-in_range BitXor t a b takes h k = digits-in_range (λ _ n m. bit_xor n m) (λ w n m p q. xor_lt w n m p q) t a b takes h k
 checked_of-in_range Shl t a b takes h k = digits-in_range (λ w n m. shifted_left w n m) (λ w n m _ _. left_digits_lt (nat_lt m w) w n m) t a b takes h k
 checked_of-in_range Shr t a b takes h k = digits-in_range (λ w n m. shifted_right w n m) (λ w n m p _. shifted_right_lt w n m p) t a b takes h k
 checked_of-in_range Eq t a b takes h k = number_of-in_range _
@@ -187,14 +187,14 @@ checked_of-in_range Lt t a b takes h k = number_of-in_range _
 checked_of-in_range Le t a b takes h k = number_of-in_range _
 checked_of-in_range Gt t a b takes h k = number_of-in_range _
 checked_of-in_range Ge t a b takes h k = number_of-in_range _
-checked_of-in_range Both t a b takes h k = number_of-in_range _
-checked_of-in_range Either t a b takes h k = number_of-in_range _
-checked_of-in_range Neg t a b takes h k = tt
+checked_of-in_range And t a b takes h k = number_of-in_range _
+checked_of-in_range Or t a b takes h k = number_of-in_range _
+checked_of-in_range Minus t a b takes h k = tt
+checked_of-in_range BitNot t a b takes h k = tt
 checked_of-in_range Not t a b takes h k = tt
-checked_of-in_range Negate t a b takes h k = tt
 
 pub checked_one_of-in_range : (op : Op) (t : Scalar) (a : ℤ) → TakesOne op t → InRange t a → IfSome (checked_one_of op t a) (InRange (type_of_result op t))
-checked_one_of-in_range Neg t a takes h = fitted-in_range t _
-checked_one_of-in_range Not t a takes h = complement-in_range t a takes h
-checked_one_of-in_range Negate t a takes h = number_of-in_range _
+checked_one_of-in_range Minus t a takes h = fitted-in_range t _
+checked_one_of-in_range BitNot t a takes h = complement-in_range t a takes h
+checked_one_of-in_range Not t a takes h = number_of-in_range _
 checked_one_of-in_range _ t a takes h = tt

@@ -6,7 +6,7 @@ use Rattle.bl_tree.specs.declared.scalar.Width.{Width}
 use Rattle.bl_tree.specs.declared.scalar.Scalar.{Scalar}
 use Rattle.bl_tree.specs.declared.scalar.Scalar.TheVariants.{Bool as OfBool, Bits}
 use Rattle.bl_tree.specs.declared.scalar.Op.{Op}
-use Rattle.bl_tree.specs.declared.scalar.Op.TheVariants.{Add, Sub, Mul, Div, Rem, Neg, And, Or, Xor, Not, Shl, Shr, Eq, Ne, Lt, Le, Gt, Ge, Both, Either, Negate}
+use Rattle.bl_tree.specs.declared.scalar.Op.TheVariants.{Add, Sub, Mul, Div, Rem, Minus, BitAnd, BitOr, BitXor, BitNot, Shl, Shr, Eq, Ne, Lt, Le, Gt, Ge, And, Or, Not}
 use Rattle.bl_tree.specs.Scalar.{bits_of, width_of, in_range, is_whole, is_int, is_bits, is_bool, InRange}
 
 -- ---- which operator takes operands of which type
@@ -18,9 +18,9 @@ takes_two Sub t = is_whole t
 takes_two Mul t = is_whole t
 takes_two Div t = is_whole t
 takes_two Rem t = is_whole t
-takes_two And t = is_bits t
-takes_two Or t = is_bits t
-takes_two Xor t = is_bits t
+takes_two BitAnd t = is_bits t
+takes_two BitOr t = is_bits t
+takes_two BitXor t = is_bits t
 takes_two Shl t = is_bits t
 takes_two Shr t = is_bits t
 takes_two Eq t = true
@@ -29,17 +29,17 @@ takes_two Lt t = is_whole t
 takes_two Le t = is_whole t
 takes_two Gt t = is_whole t
 takes_two Ge t = is_whole t
-takes_two Both t = is_bool t
-takes_two Either t = is_bool t
-takes_two Neg t = false
+takes_two And t = is_bool t
+takes_two Or t = is_bool t
+takes_two Minus t = false
+takes_two BitNot t = false
 takes_two Not t = false
-takes_two Negate t = false
 
 -- whether the operator takes one operand of the type
 abbrev pub takes_one : Op → Scalar → Bool
-takes_one Neg t = is_int t || is_bits t
-takes_one Not t = is_bits t
-takes_one Negate t = is_bool t
+takes_one Minus t = is_int t || is_bits t
+takes_one BitNot t = is_bits t
+takes_one Not t = is_bool t
 takes_one _ t = false
 
 -- the operator takes two operands of the type
@@ -58,9 +58,9 @@ type_of_result Lt t = OfBool
 type_of_result Le t = OfBool
 type_of_result Gt t = OfBool
 type_of_result Ge t = OfBool
-type_of_result Both t = OfBool
-type_of_result Either t = OfBool
-type_of_result Negate t = OfBool
+type_of_result And t = OfBool
+type_of_result Or t = OfBool
+type_of_result Not t = OfBool
 type_of_result _ t = t
 
 -- ---- what they give
@@ -116,9 +116,9 @@ checked_of Sub t a b = fitted t (a -ℤ b)
 checked_of Mul t a b = fitted t (a *ℤ b)
 checked_of Div t a b = divided_by b (fitted t (int_div a b))
 checked_of Rem t a b = divided_by b (fitted t (int_rem a b))
-checked_of And t a b = Some (pos (bit_and (unsigned_abs a) (unsigned_abs b)))
-checked_of Or t a b = Some (pos (bit_or (unsigned_abs a) (unsigned_abs b)))
-checked_of Xor t a b = Some (pos (bit_xor (unsigned_abs a) (unsigned_abs b)))
+checked_of BitAnd t a b = Some (pos (bit_and (unsigned_abs a) (unsigned_abs b)))
+checked_of BitOr t a b = Some (pos (bit_or (unsigned_abs a) (unsigned_abs b)))
+checked_of BitXor t a b = Some (pos (bit_xor (unsigned_abs a) (unsigned_abs b)))
 checked_of Shl t a b = Some (pos (shifted_left (width_of t) (unsigned_abs a) (unsigned_abs b)))
 checked_of Shr t a b = Some (pos (shifted_right (width_of t) (unsigned_abs a) (unsigned_abs b)))
 checked_of Eq t a b = Some (number_of (int_eq a b))
@@ -127,15 +127,15 @@ checked_of Lt t a b = Some (number_of (int_lt a b))
 checked_of Le t a b = Some (number_of (int_le a b))
 checked_of Gt t a b = Some (number_of (int_lt b a))
 checked_of Ge t a b = Some (number_of (int_le b a))
-checked_of Both t a b = Some (number_of (is_one a && is_one b))
-checked_of Either t a b = Some (number_of (is_one a || is_one b))
-checked_of Neg t a b = None
+checked_of And t a b = Some (number_of (is_one a && is_one b))
+checked_of Or t a b = Some (number_of (is_one a || is_one b))
+checked_of Minus t a b = None
+checked_of BitNot t a b = None
 checked_of Not t a b = None
-checked_of Negate t a b = None
 
 -- the same for one operand
 abbrev pub checked_one_of : Op → Scalar → ℤ → Option ℤ
-checked_one_of Neg t a = fitted t (neg_ℤ a)
-checked_one_of Not t a = Some (pos (2 ^ width_of t - 1) -ℤ a)
-checked_one_of Negate t a = Some (number_of (not (is_one a)))
+checked_one_of Minus t a = fitted t (neg_ℤ a)
+checked_one_of BitNot t a = Some (pos (2 ^ width_of t - 1) -ℤ a)
+checked_one_of Not t a = Some (number_of (not (is_one a)))
 checked_one_of _ t a = None

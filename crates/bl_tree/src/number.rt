@@ -37,9 +37,9 @@ fn value(op: Op, t: Scalar, a: i128, b: i128) -> Option<i128>
         Op::Mul => sums::product(t, a, b),
         Op::Div => quotients::quotient(t, a, b),
         Op::Rem => quotients::remainder(t, a, b),
-        Op::And => Some(binary::both(t, a, b)),
-        Op::Or => Some(binary::either(t, a, b)),
-        Op::Xor => Some(binary::one_alone(t, a, b)),
+        Op::BitAnd => Some(binary::both(t, a, b)),
+        Op::BitOr => Some(binary::either(t, a, b)),
+        Op::BitXor => Some(binary::one_alone(t, a, b)),
         Op::Shl => Some(binary::shifted_left(t, a, b)),
         Op::Shr => Some(binary::shifted_right(t, a, b)),
         Op::Eq => Some(truth::number(a == b)),
@@ -48,9 +48,9 @@ fn value(op: Op, t: Scalar, a: i128, b: i128) -> Option<i128>
         Op::Le => Some(truth::number(a <= b)),
         Op::Gt => Some(truth::number(a > b)),
         Op::Ge => Some(truth::number(a >= b)),
-        Op::Both => Some(truth::number(a == 1 && b == 1)),
-        Op::Either => Some(truth::number(a == 1 || b == 1)),
-        Op::Neg | Op::Not | Op::Negate => unreachable!(),
+        Op::And => Some(truth::number(a == 1 && b == 1)),
+        Op::Or => Some(truth::number(a == 1 || b == 1)),
+        Op::Minus | Op::BitNot | Op::Not => unreachable!(),
     }
 }
 
@@ -62,9 +62,9 @@ pub fn checked_one(op: Op, t: Scalar, a: i128) -> Option<i128>
     ensures in_range { IfSome result (InRange (type_of_result op t)) }
 {
     match op {
-        Op::Neg => sums::negation(t, a),
-        Op::Not => Some(binary::complement(t, a)),
-        Op::Negate => Some(truth::number(a != 1)),
+        Op::Minus => sums::negation(t, a),
+        Op::BitNot => Some(binary::complement(t, a)),
+        Op::Not => Some(truth::number(a != 1)),
         _ => unreachable!(),
     }
 }
@@ -107,17 +107,17 @@ mod tests {
             (Op::Shl, Bits(W8), 129, 8, Some(0)),
             (Op::Shr, Bits(W8), 129, 1, Some(64)),
             (Op::Shr, Bits(W64), MAX64, MAX64, Some(0)),
-            (Op::Xor, Bits(W8), 12, 10, Some(6)),
+            (Op::BitXor, Bits(W8), 12, 10, Some(6)),
             (Op::Le, Nat(W8), 3, 3, Some(1)),
-            (Op::Both, Scalar::Bool, 1, 0, Some(0)),
+            (Op::And, Scalar::Bool, 1, 0, Some(0)),
         ] {
             assert_eq!(rt; two(&rt, op, t, a, b), want, "{op:?} {t:?} {a} {b}");
         }
         for (op, t, a, want) in [
-            (Op::Not, Bits(W8), 0, Some(255)),
-            (Op::Neg, Bits(W8), 1, Some(255)),
-            (Op::Neg, Int(W8), -128, None),
-            (Op::Negate, Scalar::Bool, 0, Some(1)),
+            (Op::BitNot, Bits(W8), 0, Some(255)),
+            (Op::Minus, Bits(W8), 1, Some(255)),
+            (Op::Minus, Int(W8), -128, None),
+            (Op::Not, Scalar::Bool, 0, Some(1)),
         ] {
             assert_eq!(rt; one(&rt, op, t, a), want, "{op:?} {t:?} {a}");
         }

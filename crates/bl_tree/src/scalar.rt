@@ -125,11 +125,11 @@ pub enum Op {
     Mul,
     Div,
     Rem,
-    Neg,
-    And,
-    Or,
-    Xor,
-    Not,
+    Minus,
+    BitAnd,
+    BitOr,
+    BitXor,
+    BitNot,
     Shl,
     Shr,
     Eq,
@@ -139,11 +139,11 @@ pub enum Op {
     Gt,
     Ge,
     /// `and`, which looks at its right operand only where the left is true.
-    Both,
+    And,
     /// `or`, which looks at its right operand only where the left is false.
-    Either,
+    Or,
     /// `not`.
-    Negate,
+    Not,
 }
 
 impl Op {
@@ -153,11 +153,11 @@ impl Op {
     {
         match self {
             Op::Add | Op::Sub | Op::Mul | Op::Div | Op::Rem => t.is_whole(),
-            Op::And | Op::Or | Op::Xor | Op::Shl | Op::Shr => matches!(t, Scalar::Bits(_)),
+            Op::BitAnd | Op::BitOr | Op::BitXor | Op::Shl | Op::Shr => matches!(t, Scalar::Bits(_)),
             Op::Eq | Op::Ne => true,
             Op::Lt | Op::Le | Op::Gt | Op::Ge => t.is_whole(),
-            Op::Both | Op::Either => matches!(t, Scalar::Bool),
-            Op::Neg | Op::Not | Op::Negate => false,
+            Op::And | Op::Or => matches!(t, Scalar::Bool),
+            Op::Minus | Op::BitNot | Op::Not => false,
         }
     }
 
@@ -166,9 +166,9 @@ impl Op {
         ensures { result ≡ takes_one self t }
     {
         match self {
-            Op::Neg => matches!(t, Scalar::Int(_) | Scalar::Bits(_)),
-            Op::Not => matches!(t, Scalar::Bits(_)),
-            Op::Negate => matches!(t, Scalar::Bool),
+            Op::Minus => matches!(t, Scalar::Int(_) | Scalar::Bits(_)),
+            Op::BitNot => matches!(t, Scalar::Bits(_)),
+            Op::Not => matches!(t, Scalar::Bool),
             _ => false,
         }
     }
@@ -179,7 +179,7 @@ impl Op {
     {
         match self {
             Op::Eq | Op::Ne | Op::Lt | Op::Le | Op::Gt | Op::Ge => Scalar::Bool,
-            Op::Both | Op::Either | Op::Negate => Scalar::Bool,
+            Op::And | Op::Or | Op::Not => Scalar::Bool,
             _ => t,
         }
     }

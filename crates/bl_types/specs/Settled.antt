@@ -2,7 +2,7 @@
 use Rattle.std.specs.Prelude.{ℤ, Bool, true, false, List, [], ◌++◌, Option, Some, None, if◌then◌else◌}
 use Rattle.bl_tree.specs.declared.place.Place.{Place}
 use Rattle.bl_tree.specs.declared.scalar.Op.{Op}
-use Rattle.bl_tree.specs.declared.scalar.Op.TheVariants.{Add, Sub, Mul, Div, Rem, And, Or, Xor, Shl, Shr, Neg, Not, Both, Either, Negate}
+use Rattle.bl_tree.specs.declared.scalar.Op.TheVariants.{Add, Sub, Mul, Div, Rem, BitAnd, BitOr, BitXor, Shl, Shr, Minus, BitNot, And, Or, Not}
 use Rattle.bl_tree.specs.declared.scalar.Scalar.{Scalar as ScalarType}
 use Rattle.bl_tree.specs.declared.scalar.Scalar.TheVariants.{Int}
 use Rattle.bl_tree.specs.declared.scalar.Width.TheVariants.{W32}
@@ -23,24 +23,24 @@ keeps_two_open Sub = true
 keeps_two_open Mul = true
 keeps_two_open Div = true
 keeps_two_open Rem = true
-keeps_two_open And = true
-keeps_two_open Or = true
-keeps_two_open Xor = true
+keeps_two_open BitAnd = true
+keeps_two_open BitOr = true
+keeps_two_open BitXor = true
 keeps_two_open Shl = true
 keeps_two_open Shr = true
 keeps_two_open _ = false
 
 -- what an operator of one open operand gives is open
 abbrev pub keeps_one_open : Op → Bool
-keeps_one_open Neg = true
-keeps_one_open Not = true
+keeps_one_open Minus = true
+keeps_one_open BitNot = true
 keeps_one_open _ = false
 
 -- the operator takes operands of type bool alone
 abbrev pub is_logical : Op → Bool
-is_logical Both = true
-is_logical Either = true
-is_logical Negate = true
+is_logical And = true
+is_logical Or = true
+is_logical Not = true
 is_logical _ = false
 
 -- the type where none is wanted

@@ -70,8 +70,8 @@ fn decides(op: Op, n: i128) -> bool
     ensures { result ≡ decides op n }
 {
     match op {
-        Op::Both => n != 1,
-        Op::Either => n == 1,
+        Op::And => n != 1,
+        Op::Or => n == 1,
         _ => false,
     }
 }

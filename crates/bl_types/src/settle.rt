@@ -26,9 +26,9 @@ pub fn keeps_two_open(op: Op) -> bool
             | Op::Mul
             | Op::Div
             | Op::Rem
-            | Op::And
-            | Op::Or
-            | Op::Xor
+            | Op::BitAnd
+            | Op::BitOr
+            | Op::BitXor
             | Op::Shl
             | Op::Shr
     )
@@ -38,14 +38,14 @@ pub fn keeps_two_open(op: Op) -> bool
 pub fn keeps_one_open(op: Op) -> bool
     ensures { result ≡ keeps_one_open op }
 {
-    matches!(op, Op::Neg | Op::Not)
+    matches!(op, Op::Minus | Op::BitNot)
 }
 
 /// Whether the operator takes operands of type bool alone.
 pub fn is_logical(op: Op) -> bool
     ensures { result ≡ is_logical op }
 {
-    matches!(op, Op::Both | Op::Either | Op::Negate)
+    matches!(op, Op::And | Op::Or | Op::Not)
 }
 
 pub fn literal(at: Place, n: i128, s: Scalar) -> Expr

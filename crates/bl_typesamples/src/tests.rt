@@ -179,7 +179,7 @@ fn an_open_expression_is_no_bool(rt: HostRuntime) -> Result<(), NoMemory> {
     let e = two(
         alloc,
         at(0, 7),
-        Op::Both,
+        Op::And,
         read(alloc, at(0, 1), X),
         number(at(6, 7), 5),
     )?;
@@ -194,7 +194,7 @@ fn an_operator_takes_operands_that_its_type_has(rt: HostRuntime) -> Result<(), N
     let e = two(
         alloc,
         at(0, 5),
-        Op::And,
+        Op::BitAnd,
         number(at(0, 1), 5),
         number(at(4, 5), 3),
     )?;
@@ -202,7 +202,7 @@ fn an_operator_takes_operands_that_its_type_has(rt: HostRuntime) -> Result<(), N
     let e = two(
         alloc,
         at(0, 5),
-        Op::And,
+        Op::BitAnd,
         number(at(0, 1), 5),
         number(at(4, 5), 3),
     )?;

@@ -81,7 +81,7 @@ pub fn takes(op: Op, ty: Ty<'_>) -> bool
     match op {
         Op::Eq | Op::Ne => is_scalar(ty),
         Op::Lt | Op::Le | Op::Gt | Op::Ge => is_number(ty),
-        Op::Both | Op::Either => same_type(ty, Ty::Scalar(Scalar::Bool)),
+        Op::And | Op::Or => same_type(ty, Ty::Scalar(Scalar::Bool)),
         _ => false,
     }
 }

@@ -97,10 +97,10 @@ pub fn operator_of(sign: &[u8]) -> Option<Op>
         return Some(Op::Ne);
     }
     if is(sign, "&&") {
-        return Some(Op::Both);
+        return Some(Op::And);
     }
     if is(sign, "||") {
-        return Some(Op::Either);
+        return Some(Op::Or);
     }
     order_of(sign)
 }

@@ -43,8 +43,8 @@ pub fn operator_name(op: Op) -> &'static str
         Op::Le => "<=",
         Op::Gt => ">",
         Op::Ge => ">=",
-        Op::Both => "&&",
-        Op::Either => "||",
+        Op::And => "&&",
+        Op::Or => "||",
         _ => unreachable!(),
     }
 }

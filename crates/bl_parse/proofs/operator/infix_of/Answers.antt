@@ -5,10 +5,10 @@ use Rattle.bl_parse.proofs.TokenLemmas.{sign_is, word_is}
 use Rattle.bl_parse.proofs.operator.infix_of.Goals as goal
 
 pub returns-in-Word-eq28-clause-is : goal.returns-in-Word-eq28-clause-is
-returns-in-Word-eq28-clause-is c = subst (λ k. IsOperator k 0 Op.Either) (sym (word_is c.in-Word-eq28.is c.in-Word-eq28.field-0-is c.in-Word-eq28.field-0-test)) IsOperator.either
+returns-in-Word-eq28-clause-is c = subst (λ k. IsOperator k 0 Op.Or) (sym (word_is c.in-Word-eq28.is c.in-Word-eq28.field-0-is c.in-Word-eq28.field-0-test)) IsOperator.either
 
 pub returns-in-Word-eq27-clause-is : goal.returns-in-Word-eq27-clause-is
-returns-in-Word-eq27-clause-is c = subst (λ k. IsOperator k 1 Op.Both) (sym (word_is c.in-Word-eq27.is c.in-Word-eq27.field-0-is c.in-Word-eq27.field-0-test)) IsOperator.both
+returns-in-Word-eq27-clause-is c = subst (λ k. IsOperator k 1 Op.And) (sym (word_is c.in-Word-eq27.is c.in-Word-eq27.field-0-is c.in-Word-eq27.field-0-test)) IsOperator.both
 
 pub returns-in-Sign-eq8-clause-is : goal.returns-in-Sign-eq8-clause-is
 returns-in-Sign-eq8-clause-is c = subst (λ k. IsOperator k 2 Op.Eq) (sym (sign_is c.in-Sign-eq8.is c.in-Sign-eq8.field-0-is c.in-Sign-eq8.field-0-test)) IsOperator.equal
@@ -29,13 +29,13 @@ pub returns-in-Sign-eq13-clause-is : goal.returns-in-Sign-eq13-clause-is
 returns-in-Sign-eq13-clause-is c = subst (λ k. IsOperator k 2 Op.Ge) (sym (sign_is c.in-Sign-eq13.is c.in-Sign-eq13.field-0-is c.in-Sign-eq13.field-0-test)) IsOperator.at_least
 
 pub returns-in-Sign-eq20-clause-is : goal.returns-in-Sign-eq20-clause-is
-returns-in-Sign-eq20-clause-is c = subst (λ k. IsOperator k 3 Op.Or) (sym (sign_is c.in-Sign-eq20.is c.in-Sign-eq20.field-0-is c.in-Sign-eq20.field-0-test)) IsOperator.bits_or
+returns-in-Sign-eq20-clause-is c = subst (λ k. IsOperator k 3 Op.BitOr) (sym (sign_is c.in-Sign-eq20.is c.in-Sign-eq20.field-0-is c.in-Sign-eq20.field-0-test)) IsOperator.bits_or
 
 pub returns-in-Sign-eq21-clause-is : goal.returns-in-Sign-eq21-clause-is
-returns-in-Sign-eq21-clause-is c = subst (λ k. IsOperator k 4 Op.Xor) (sym (sign_is c.in-Sign-eq21.is c.in-Sign-eq21.field-0-is c.in-Sign-eq21.field-0-test)) IsOperator.bits_xor
+returns-in-Sign-eq21-clause-is c = subst (λ k. IsOperator k 4 Op.BitXor) (sym (sign_is c.in-Sign-eq21.is c.in-Sign-eq21.field-0-is c.in-Sign-eq21.field-0-test)) IsOperator.bits_xor
 
 pub returns-in-Sign-eq19-clause-is : goal.returns-in-Sign-eq19-clause-is
-returns-in-Sign-eq19-clause-is c = subst (λ k. IsOperator k 5 Op.And) (sym (sign_is c.in-Sign-eq19.is c.in-Sign-eq19.field-0-is c.in-Sign-eq19.field-0-test)) IsOperator.bits_and
+returns-in-Sign-eq19-clause-is c = subst (λ k. IsOperator k 5 Op.BitAnd) (sym (sign_is c.in-Sign-eq19.is c.in-Sign-eq19.field-0-is c.in-Sign-eq19.field-0-test)) IsOperator.bits_and
 
 pub returns-in-Sign-eq23-clause-is : goal.returns-in-Sign-eq23-clause-is
 returns-in-Sign-eq23-clause-is c = subst (λ k. IsOperator k 6 Op.Shl) (sym (sign_is c.in-Sign-eq23.is c.in-Sign-eq23.field-0-is c.in-Sign-eq23.field-0-test)) IsOperator.shift_left
