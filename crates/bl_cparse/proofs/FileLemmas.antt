@@ -17,9 +17,9 @@ use Rattle.bl_ctext.proofs.Bytes.{both}
 use Rattle.bl_csyntax.specs.Pieces.{pieces}
 use Rattle.bl_ctext.specs.declared.file.CFile.{CFile}
 use Rattle.bl_csyntax.specs.Rules.{Passes, FailsFirst}
-use Rattle.bl_cspelling.proofs.Depths.{text_kept}
-use Rattle.bl_cspelling.proofs.Passing.{spells_some, spelled_passing}
-use Rattle.bl_cspelling.proofs.Spaced.{spaced}
+use Rattle.bl_csyntax_laws.proofs.Depths.{text_kept}
+use Rattle.bl_csyntax_laws.proofs.Passing.{spells_some, spelled_passing}
+use Rattle.bl_csyntax_laws.proofs.Spaced.{spaced}
 use Rattle.bl_csyntax.specs.declared.grammar.Part.TheVariants.{File, Struct, Structs, Func, Funcs}
 use Rattle.bl_csyntax.specs.Grammar as grammar
 use Rattle.bl_csyntax.specs.Expects.{Expects}

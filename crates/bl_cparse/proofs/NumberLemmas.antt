@@ -23,7 +23,7 @@ use Rattle.bl_csyntax.specs.Classes.Class.{number}
 use Rattle.bl_csyntax.specs.Pieces.{is_same}
 use Rattle.bl_csyntax.proofs.ClassLemmas.{is_same-self}
 use Rattle.bl_grammar.proofs.Predictive.{not_both}
-use Rattle.bl_cspelling.proofs.Pieces.{bound_le}
+use Rattle.bl_csyntax_laws.proofs.Pieces.{bound_le}
 
 digits_own : IsNumeralModel (λ (ds : List ℕ). all_ascii_digits ds ≡ true) (digits_value 10)
 digits_own = numerals_by_value (λ (ds : List ℕ). all_ascii_digits ds ≡ true) tells_all_ascii_digits

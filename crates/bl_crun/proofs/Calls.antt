@@ -2,17 +2,17 @@
 use Rattle.std.proofs.Common.{◌≡◌, ℕ, ◌+◌, ◌≤◌, ℤ, List, [], ◌∷◌, length, Option, Some, None, refl, ap, sym, subst, ◌∙◌, arith}
 use Rattle.std.specs.Prelude.{option_map}
 use Rattle.bl_tree.specs.declared.text.Text.{Text}
-use Rattle.bl_ccode.specs.Code.{Code, Entry}
-use Rattle.bl_ccode.specs.Laws.{Arrives, BothDo, begun, code_of_file, ended, ended_as, entry_in_file, routine_in_file}
-use Rattle.bl_ccode.specs.Machine.{Room, Runs, State, Stepped, Waiting, returned}
-use Rattle.bl_ccode.proofs.Files.{named-functions-run}
-use Rattle.bl_ccompile.specs.Views.{entry_for}
-use Rattle.bl_ccompile.specs.declared.here.Entry.{Entry as CodeEntry}
-use Rattle.bl_cflat.specs.Flat.{Left, Routine, applied}
-use Rattle.bl_cflat.specs.Laws.{behind_objects, entered_flat}
-use Rattle.bl_cmachine.specs.Ends.{Ended, Halts, IsEnd}
-use Rattle.bl_cmachine.specs.Shown.{Shown}
-use Rattle.bl_cmachine.specs.Steps.{Over, shown_count}
+use Rattle.bl_bytecode.specs.Code.{Code, Entry}
+use Rattle.bl_bytecode.specs.Laws.{Arrives, BothDo, begun, code_of_file, ended, ended_as, entry_in_file, routine_in_file}
+use Rattle.bl_bytecode.specs.Machine.{Room, Runs, State, Stepped, Waiting, returned}
+use Rattle.bl_bytecode.proofs.Files.{named-functions-run}
+use Rattle.bl_bytecode_compiler.specs.Views.{entry_for}
+use Rattle.bl_bytecode_compiler.specs.declared.here.Entry.{Entry as CodeEntry}
+use Rattle.bl_cmeaning_laws.specs.Flat.{Left, Routine, applied}
+use Rattle.bl_cmeaning_laws.specs.Laws.{behind_objects, entered_flat}
+use Rattle.bl_bytecode_machine.specs.Ends.{Ended, Halts, IsEnd}
+use Rattle.bl_bytecode_machine.specs.Shown.{Shown}
+use Rattle.bl_bytecode_machine.specs.Steps.{Over, shown_count}
 use Rattle.bl_cmeaning.specs.Parts.{Parts}
 use Rattle.bl_crun.specs.declared.call.Called.{Called}
 use Rattle.bl_crun.specs.Done.{CallDone, Comes, Halting}

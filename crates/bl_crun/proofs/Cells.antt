@@ -15,14 +15,14 @@ use Rattle.bl_cmeaning.specs.Parts.{Parts}
 use Rattle.bl_cmeaning.specs.Sizes.{sizes}
 use Rattle.bl_cmeaning.specs.Tables.{no_entries}
 use Rattle.bl_cmeaning.proofs.EndLemmas.{nil-left, nil-right}
-use Rattle.bl_cfit.specs.Fitting.{Spot, scalars, whole, walk}
-use Rattle.bl_cfit.proofs.Lists.{all-append, and-both, and-left, and-right}
-use Rattle.bl_cports.specs.Ports.{inputs_start, outputs_start}
-use Rattle.bl_cflat.specs.Laws.{behind_objects, input_at, output_at}
-use Rattle.bl_cflat.proofs.Inners.{Led, LedType, led-all}
-use Rattle.bl_cflat.proofs.Faultless.{unless-nil}
-use Rattle.bl_cflat.proofs.Layouts.{entries-all, inner-file, lists_of, shaped-file}
-use Rattle.bl_cflat.proofs.Ways.{Shaped, left-is, walk-append, way_offset}
+use Rattle.bl_cmeaning_laws.specs.Fitting.{Spot, scalars, whole, walk}
+use Rattle.bl_cmeaning_laws.proofs.Lists.{all-append, and-both, and-left, and-right}
+use Rattle.bl_cinterface.specs.Ports.{inputs_start, outputs_start}
+use Rattle.bl_cmeaning_laws.specs.Laws.{behind_objects, input_at, output_at}
+use Rattle.bl_cmeaning_laws.proofs.Inners.{Led, LedType, led-all}
+use Rattle.bl_cmeaning_laws.proofs.Faultless.{unless-nil}
+use Rattle.bl_cmeaning_laws.proofs.Layouts.{entries-all, inner-file, lists_of, shaped-file}
+use Rattle.bl_cmeaning_laws.proofs.Ways.{Shaped, left-is, walk-append, way_offset}
 
 -- ---- cells that keep their numbers
 

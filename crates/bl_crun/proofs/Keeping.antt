@@ -1,18 +1,18 @@
 -- What is prepared after the start and after a tick.
 use Rattle.std.proofs.Common.{◌≡◌, ℕ, ◌+◌, ◌≤◌, ◌<◌, ◌^◌, ℤ, pos, true, List, [], ◌∷◌, length, take, drop, ◌-◌, replicate, Option, Some, None, refl, ap, sym, subst, ◌∙◌, arith}
 use Rattle.std.specs.Prelude.{codes, is_some, min, option_map}
-use Rattle.bl_ccode.specs.Code.{Code}
-use Rattle.bl_cfit.specs.Fitting.{in_ranges}
-use Rattle.bl_cflat.specs.Flat.{Left, with_args}
-use Rattle.bl_cflat.specs.Laws.{StartsAgree, TicksAgree, behind_objects, entered_flat, input_at, output_at}
-use Rattle.bl_cmachine.specs.Shown.{Shown}
-use Rattle.bl_cmachine.specs.Steps.{holding}
+use Rattle.bl_bytecode.specs.Code.{Code}
+use Rattle.bl_cmeaning_laws.specs.Fitting.{in_ranges}
+use Rattle.bl_cmeaning_laws.specs.Flat.{Left, with_args}
+use Rattle.bl_cmeaning_laws.specs.Laws.{StartsAgree, TicksAgree, behind_objects, entered_flat, input_at, output_at}
+use Rattle.bl_bytecode_machine.specs.Shown.{Shown}
+use Rattle.bl_bytecode_machine.specs.Steps.{holding}
 use Rattle.bl_cmeaning.specs.Cells.{cells_of, outputs_of}
 use Rattle.bl_cmeaning.specs.Parts.{Parts}
 use Rattle.bl_cmeaning.specs.Sizes.{cells_needed}
 use Rattle.bl_cmeaning.specs.Trace.{reply_of, start_c}
-use Rattle.bl_cports.specs.Layout.{kinds_of}
-use Rattle.bl_cports.specs.Ports.{PortsStand, inputs_start, outputs_start}
+use Rattle.bl_cinterface.specs.Layout.{kinds_of}
+use Rattle.bl_cinterface.specs.Ports.{PortsStand, inputs_start, outputs_start}
 use Rattle.std.proofs.lemmas.List.{length-map}
 use Rattle.bl_crun.specs.Cause.{Runs}
 use Rattle.bl_crun.specs.declared.call.Called.{Called}

@@ -4,10 +4,10 @@ use Rattle.std.proofs.lemmas.List.{take_more_set}
 use Rattle.std.proofs.lemmas.Option.{get_or_from_slice_get, slice_get-get_or, slice_get_within}
 use Rattle.bl_tree.specs.declared.row.Column.{Column}
 use Rattle.bl_tree.specs.Scalar.{in_range}
-use Rattle.bl_cfit.specs.Fitting.{in_ranges}
-use Rattle.bl_cflat.specs.Flat.{cell_at, with_args}
-use Rattle.bl_cmachine.specs.Shown.{Shown}
-use Rattle.bl_cmachine.specs.Steps.{holding}
+use Rattle.bl_cmeaning_laws.specs.Fitting.{in_ranges}
+use Rattle.bl_cmeaning_laws.specs.Flat.{cell_at, with_args}
+use Rattle.bl_bytecode_machine.specs.Shown.{Shown}
+use Rattle.bl_bytecode_machine.specs.Steps.{holding}
 use Rattle.bl_crun.specs.Running.{types_of}
 
 -- an input is set

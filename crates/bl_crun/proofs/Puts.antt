@@ -4,15 +4,15 @@ use Rattle.std.specs.Prelude.{option_map}
 use Rattle.std.proofs.lemmas.List.{length-map}
 use Rattle.bl_tree.specs.declared.scalar.Scalar.{Scalar}
 use Rattle.bl_tree.specs.Scalar.{in_range}
-use Rattle.bl_cfit.specs.Fitting.{in_ranges}
-use Rattle.bl_cflat.specs.Flat.{cell_at}
-use Rattle.bl_cmachine.specs.Shown.{Shown}
-use Rattle.bl_cmachine.specs.Steps.{holding}
+use Rattle.bl_cmeaning_laws.specs.Fitting.{in_ranges}
+use Rattle.bl_cmeaning_laws.specs.Flat.{cell_at}
+use Rattle.bl_bytecode_machine.specs.Shown.{Shown}
+use Rattle.bl_bytecode_machine.specs.Steps.{holding}
 use Rattle.bl_crun.specs.Running.{Running, with_cell}
 use Rattle.bl_crun.proofs.Loops.{cell-there}
 use Rattle.bl_cmeaning.specs.Cells.{cells_of}
 use Rattle.bl_cmeaning.specs.Parts.{Parts}
-use Rattle.bl_cports.specs.Layout.{kinds_of}
+use Rattle.bl_cinterface.specs.Layout.{kinds_of}
 use Rattle.bl_crun.specs.declared.prepared.Prepared.{Prepared}
 use Rattle.bl_crun.specs.Done.{first_cells}
 use Rattle.bl_crun.specs.Prepared.{Keeps, numbers_in, state_of}

@@ -7,12 +7,12 @@ use Rattle.std.proofs.lemmas.List.{length-map, take-append-drop, take-replicate}
 use Rattle.bl_tree.specs.declared.scalar.Scalar.{Scalar}
 use Rattle.bl_tree.specs.declared.text.Text.{Text}
 use Rattle.bl_tree.specs.declared.c.CMember.{CMember}
-use Rattle.bl_cfit.specs.Fitting.{cell_holds, in_ranges}
-use Rattle.bl_cfit.proofs.Lists.{and-both}
-use Rattle.bl_cflat.specs.Flat.{Left, with_args}
-use Rattle.bl_cflat.specs.Laws.{SameCall, StartsAgree, TicksAgree, entered_flat, input_at, output_at}
-use Rattle.bl_cflat.proofs.Spans.{length-args}
-use Rattle.bl_cflat.proofs.Standing.{zero-fits}
+use Rattle.bl_cmeaning_laws.specs.Fitting.{cell_holds, in_ranges}
+use Rattle.bl_cmeaning_laws.proofs.Lists.{and-both}
+use Rattle.bl_cmeaning_laws.specs.Flat.{Left, with_args}
+use Rattle.bl_cmeaning_laws.specs.Laws.{SameCall, StartsAgree, TicksAgree, entered_flat, input_at, output_at}
+use Rattle.bl_cmeaning_laws.proofs.Spans.{length-args}
+use Rattle.bl_cmeaning_laws.proofs.Standing.{zero-fits}
 use Rattle.bl_cmeaning.specs.Cells.{Cell, cells_of, inputs_of, memory_of, numbers_of, outputs_in, outputs_of, port, ports_of, with_inputs}
 use Rattle.bl_cmeaning.specs.Faults.{WellFormed}
 use Rattle.bl_cmeaning.specs.Meaning.{Called}
@@ -20,8 +20,8 @@ use Rattle.bl_cmeaning.specs.Memory.{Memory, cleared, state_object, input_object
 use Rattle.bl_cmeaning.specs.Parts.{Parts}
 use Rattle.bl_cmeaning.specs.Sizes.{cells_needed}
 use Rattle.bl_cmeaning.specs.Trace.{cells_where, entered, object, reply_of, start_c, tick_c}
-use Rattle.bl_cports.specs.Layout.{kinds_of}
-use Rattle.bl_cports.specs.Ports.{PortsStand, inputs_start, outputs_start}
+use Rattle.bl_cinterface.specs.Layout.{kinds_of}
+use Rattle.bl_cinterface.specs.Ports.{PortsStand, inputs_start, outputs_start}
 use Rattle.bl_crun.specs.Cause.{Runs}
 use Rattle.bl_crun.specs.Done.{CellsKeep, IsStart, IsTick, first_cells}
 use Rattle.bl_crun.specs.Running.{row_fits, types_of}

@@ -1,19 +1,19 @@
 -- What calls of a file's functions come to in the machine.
 use Rattle.std.specs.Prelude.{◌≡◌, ◌≤◌, ◌+◌, ◌-◌, ◌^◌, ℕ, min, ℤ, true, List, [], length, take, drop, Option, Some, None, option_map}
-use Rattle.bl_ccode.specs.Code.{Code}
-use Rattle.bl_ccode.specs.Laws.{begun, ended_as}
-use Rattle.bl_ccode.specs.Machine.{Room, Runs}
-use Rattle.bl_ccompile.specs.Views.{entry_for}
-use Rattle.bl_ccompile.specs.declared.here.Entry.{Entry as CodeEntry}
-use Rattle.bl_cfit.specs.Fitting.{in_ranges}
-use Rattle.bl_cflat.specs.Flat.{Left, left}
-use Rattle.bl_cmachine.specs.Shown.{Shown}
+use Rattle.bl_bytecode.specs.Code.{Code}
+use Rattle.bl_bytecode.specs.Laws.{begun, ended_as}
+use Rattle.bl_bytecode.specs.Machine.{Room, Runs}
+use Rattle.bl_bytecode_compiler.specs.Views.{entry_for}
+use Rattle.bl_bytecode_compiler.specs.declared.here.Entry.{Entry as CodeEntry}
+use Rattle.bl_cmeaning_laws.specs.Fitting.{in_ranges}
+use Rattle.bl_cmeaning_laws.specs.Flat.{Left, left}
+use Rattle.bl_bytecode_machine.specs.Shown.{Shown}
 use Rattle.bl_cmeaning.specs.Cells.{outputs_of}
 use Rattle.bl_cmeaning.specs.Parts.{Parts}
 use Rattle.bl_cmeaning.specs.Sizes.{cells_needed}
 use Rattle.bl_cmeaning.specs.Trace.{reply_of, start_c, tick_c}
-use Rattle.bl_cports.specs.Layout.{kinds_of}
-use Rattle.bl_cports.specs.Ports.{outputs_start}
+use Rattle.bl_cinterface.specs.Layout.{kinds_of}
+use Rattle.bl_cinterface.specs.Ports.{outputs_start}
 use Rattle.bl_crun.specs.Running.{types_of}
 use Rattle.bl_crun.specs.declared.call.Called.{Called}
 

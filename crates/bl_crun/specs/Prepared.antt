@@ -1,14 +1,14 @@
 -- What a runner keeps of its file.
 use Rattle.std.specs.Prelude.{◌≡◌, ◌≤◌, ◌<◌, ◌+◌, ◌-◌, ◌^◌, ℕ, min, ℤ, Bool, true, false, List, length, take, drop, Option, Some, None, option_map, codes}
-use Rattle.bl_ccode.specs.Laws.{code_of_file, entry_in_file}
-use Rattle.bl_ccompile.specs.Views.{entry_for}
-use Rattle.bl_cflat.specs.Laws.{behind_objects}
-use Rattle.bl_cfit.specs.Fitting.{in_ranges}
+use Rattle.bl_bytecode.specs.Laws.{code_of_file, entry_in_file}
+use Rattle.bl_bytecode_compiler.specs.Views.{entry_for}
+use Rattle.bl_cmeaning_laws.specs.Laws.{behind_objects}
+use Rattle.bl_cmeaning_laws.specs.Fitting.{in_ranges}
 use Rattle.bl_cmeaning.specs.Cells.{inputs_of, outputs_of}
 use Rattle.bl_cmeaning.specs.Parts.{Parts}
 use Rattle.bl_cmeaning.specs.Trace.{reply_of, tick_c}
-use Rattle.bl_cports.specs.Layout.{kinds_of}
-use Rattle.bl_cports.specs.Ports.{inputs_start, outputs_start}
+use Rattle.bl_cinterface.specs.Layout.{kinds_of}
+use Rattle.bl_cinterface.specs.Ports.{inputs_start, outputs_start}
 use Rattle.bl_crun.specs.Cause.{Runs}
 use Rattle.bl_crun.specs.Done.{CellsKeep}
 use Rattle.bl_crun.specs.Running.{types_of}

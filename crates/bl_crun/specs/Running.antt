@@ -5,7 +5,7 @@ use Rattle.bl_tree.specs.declared.scalar.Scalar.{Scalar}
 use Rattle.bl_cmeaning.specs.Cells.{inputs_of}
 use Rattle.bl_cmeaning.specs.Parts.{Parts}
 use Rattle.bl_cmeaning.specs.Trace.{Reply, row, ended, trapped, start_c, tick_c}
-use Rattle.bl_cfit.specs.Fitting.{in_ranges}
+use Rattle.bl_cmeaning_laws.specs.Fitting.{in_ranges}
 use Rattle.bl_crun.specs.declared.tick.Tick.{Tick}
 use Rattle.bl_crun.specs.declared.tick.Tick.TheVariants.{Row, Ended, Trap}
 

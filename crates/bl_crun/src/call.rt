@@ -1,12 +1,12 @@
 //! Calls of a file's functions from outside.
 
 ghost use Rattle.std.specs.Prelude.{ℕ, ℤ};
-ghost use Rattle.bl_cflat.specs.Flat.{Left};
+ghost use Rattle.bl_cmeaning_laws.specs.Flat.{Left};
 ghost use Rattle.bl_crun.specs.Done.{CallDone, Comes};
 
-use bl_ccode::instruction::Instruction;
-use bl_ccompile::Entry;
-use bl_cmachine::Machine;
+use bl_bytecode::instruction::Instruction;
+use bl_bytecode_compiler::Entry;
+use bl_bytecode_machine::Machine;
 use bl_ctext::CFile;
 
 /// What a call comes to.

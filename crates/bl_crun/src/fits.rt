@@ -2,7 +2,7 @@
 
 ghost use Rattle.std.specs.Prelude.{◌≡◌};
 ghost use Rattle.bl_tree.specs.Scalar.{in_range};
-ghost use Rattle.bl_cfit.specs.Fitting.{in_ranges};
+ghost use Rattle.bl_cmeaning_laws.specs.Fitting.{in_ranges};
 ghost use Rattle.bl_crun.specs.Running.{types_of};
 
 use bl_tree::{Column, Row, Scalar};

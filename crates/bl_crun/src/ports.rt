@@ -1,10 +1,10 @@
 //! Rows of inputs and outputs in a machine's cells.
 
 ghost use Rattle.std.specs.Prelude.{◌≡◌, ℕ, ◌+◌, ◌≤◌, ◌<◌, drop, length, take};
-ghost use Rattle.bl_cflat.specs.Flat.{with_args};
-ghost use Rattle.bl_cmachine.specs.Steps.{holding};
+ghost use Rattle.bl_cmeaning_laws.specs.Flat.{with_args};
+ghost use Rattle.bl_bytecode_machine.specs.Steps.{holding};
 
-use bl_cmachine::Machine;
+use bl_bytecode_machine::Machine;
 use bl_tree::Row;
 
 /// Sets the cells from one on to the numbers of a row.

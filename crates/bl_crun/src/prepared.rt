@@ -1,7 +1,7 @@
 //! What a runner keeps of its file, and the calls of the start and of ticks.
 
 ghost use Rattle.std.specs.Prelude.{◌≡◌, [], ◌∷◌, ℕ, ◌+◌, ◌<◌, pos, true, length, replicate, IfErr, IfOk};
-ghost use Rattle.bl_cfit.specs.Fitting.{in_ranges};
+ghost use Rattle.bl_cmeaning_laws.specs.Fitting.{in_ranges};
 ghost use Rattle.bl_cmeaning.specs.Parts.{parts_of};
 ghost use Rattle.bl_cmeaning.specs.Sizes.{cells_needed};
 ghost use Rattle.bl_cmeaning.specs.Trace.{start_c};
@@ -13,12 +13,12 @@ use crate::call::{Called, call};
 use crate::fault::{LoadFault, needed};
 use crate::ports::{read_outputs, set_inputs};
 use crate::tick::Tick;
-use bl_ccode::instruction::Instruction;
-use bl_ccompile::{Compiled, Entry, compile};
-use bl_cflat::laws::{starts_agree, ticks_agree};
-use bl_cmachine::Machine;
-use bl_cports::laws::ports_stand;
-use bl_cports::{CellKinds, inputs, lay_out, outputs};
+use bl_bytecode::instruction::Instruction;
+use bl_bytecode_compiler::{Compiled, Entry, compile};
+use bl_cmeaning_laws::flat::{starts_agree, ticks_agree};
+use bl_bytecode_machine::Machine;
+use bl_cinterface::laws::ports_stand;
+use bl_cinterface::{CellKinds, inputs, lay_out, outputs};
 use bl_ctext::CFile;
 use bl_tree::{Column, List, NoMemory, Row, Scalar};
 use std::alloc::Global;

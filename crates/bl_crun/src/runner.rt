@@ -3,9 +3,9 @@
 ghost use Rattle.std.specs.Prelude.{◌≡◌, ◌↔◌, ◌<◌, ℤ, List as Elements, Some, true, length, slice_get, is_some, IfErr, IfOk, IsTrue, OnOk};
 ghost use Rattle.bl_tree.specs.declared.scalar.Scalar.{Scalar as Kind};
 ghost use Rattle.bl_tree.specs.Scalar.{in_range};
-ghost use Rattle.bl_cfit.specs.Fitting.{in_ranges};
+ghost use Rattle.bl_cmeaning_laws.specs.Fitting.{in_ranges};
 ghost use Rattle.bl_cmeaning.specs.Cells.{cells_of, inputs_of, outputs_of};
-ghost use Rattle.bl_cports.specs.Layout.{kinds_of};
+ghost use Rattle.bl_cinterface.specs.Layout.{kinds_of};
 
 use crate::answer::{goes_on, tick_of};
 use crate::fault::LoadFault;

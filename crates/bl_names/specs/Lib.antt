@@ -1,7 +1,4 @@
-pub mod Cause
-pub mod Failures
-pub mod Judged
-pub mod Kinds
-pub mod Marks
-pub mod Rules
-pub mod Scopes
+pub mod Named
+pub mod Naming
+pub mod Order
+pub mod Past

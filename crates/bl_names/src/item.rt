@@ -1,104 +1,158 @@
-//! What structs, constants and units do to names.
-#![tactic(auto, using(crate::proofs::WalkLemmas::walks))]
+//! Structs, constants and units with positions in place of names.
 
-ghost use Rattle.std.specs.Prelude.{◌≡◌, OnOk, ◌++◌, ◌∷◌, [], map};
+ghost use Rattle.std.specs.Prelude.{◌≡◌, ◌++◌, ◌∷◌, [], IfOk, OnOk, length, map};
 ghost use Rattle.bl_tree.specs.Reduce.{joined};
-ghost use Rattle.bl_names.specs.Judged.{judged_by};
-ghost use Rattle.bl_names.specs.Marks.{field_mark, field_type_marks, in_scope, inside_unit, item_marks, marks_of, param_marks, struct_marks, unit_marks};
+ghost use Rattle.bl_scopes.specs.Marks.{item_marks, marks_of};
+ghost use Rattle.bl_scopes.specs.Scopes.{after};
+ghost use Rattle.bl_names.specs.Named.{along, constants_of, inside_piece, named_field, param_piece, role_piece, structs_of, unit_inside, units_of};
+ghost use Rattle.bl_names.specs.Past.{past, with_struct, with_unit};
 
-use crate::expr::{optional_ty, ty};
-use crate::judge::Judge;
-use crate::kind::{Kind, of_unit};
+use crate::expr::{copy_of, optional_ty, ty};
+use crate::state::State;
 use crate::stmt::{block, constant};
+use bl_named::item::{NamedField, NamedStruct, NamedUnit, NamedVar};
+use bl_scopes::kind::{Kind, of_unit};
+use bl_scopes::scopes::Scopes;
 use bl_raw::item::{RawField, RawItem, RawParam, RawStruct, RawUnit};
-use bl_tree::NoMemory;
+use bl_tree::tree::Role;
+use bl_tree::{List, NoMemory};
 use std::alloc::Global;
+use std::mem;
 
-pub fn items<'a>(alloc: Global, all: &'a [RawItem], judge: &mut Judge<'a>) -> Result<(), NoMemory>
-    ensures { OnOk result (judge.new ≡ judged_by judge.old (marks_of all.now)) }
+pub fn items<'a>(alloc: Global, all: &'a [RawItem], state: &mut State<'a>) -> Result<(), NoMemory>
+    ensures scopes { OnOk result (state.new.scopes ≡ after state.old.scopes (marks_of all.now)) }
+    ensures structs { OnOk result (state.new.structs ≡ state.old.structs ++ along structs_of state.old.scopes all.now) }
+    ensures constants { OnOk result (state.new.constants ≡ state.old.constants ++ along constants_of state.old.scopes all.now) }
+    ensures units { OnOk result (state.new.units ≡ state.old.units ++ along units_of state.old.scopes all.now) }
 {
     for one in all {
-        item(alloc, one, judge)?;
+        item(alloc, one, state)?;
     }
     Ok(())
 }
 
-fn item<'a>(alloc: Global, item: &'a RawItem, judge: &mut Judge<'a>) -> Result<(), NoMemory>
-    ensures { OnOk result (judge.new ≡ judged_by judge.old (item_marks item.now)) }
+fn item<'a>(alloc: Global, item: &'a RawItem, state: &mut State<'a>) -> Result<(), NoMemory>
+    ensures scopes { OnOk result (state.new.scopes ≡ after state.old.scopes (item_marks item.now)) }
+    ensures structs { OnOk result (state.new.structs ≡ state.old.structs ++ structs_of state.old.scopes item.now) }
+    ensures constants { OnOk result (state.new.constants ≡ state.old.constants ++ constants_of state.old.scopes item.now) }
+    ensures units { OnOk result (state.new.units ≡ state.old.units ++ units_of state.old.scopes item.now) }
 {
     match item {
-        RawItem::Struct(def) => structure(alloc, def, judge),
-        RawItem::Constant(def) => constant(def, judge),
-        RawItem::Unit(def) => unit(alloc, def, judge),
+        RawItem::Struct(def) => structure(alloc, def, state),
+        RawItem::Constant(def) => {
+            constant(alloc, def, state)?;
+            Ok(())
+        }
+        RawItem::Unit(def) => unit(alloc, def, state),
     }
 }
 
-fn structure<'a>(alloc: Global, def: &'a RawStruct, judge: &mut Judge<'a>) -> Result<(), NoMemory>
-    ensures { OnOk result (judge.new ≡ judged_by judge.old (struct_marks def.now)) }
+fn structure<'a>(alloc: Global, def: &'a RawStruct, state: &mut State<'a>) -> Result<(), NoMemory>
+    ensures { OnOk result (state.new ≡ with_struct state.old def.now) }
 {
-    field_types(&def.fields, judge);
-    fields(alloc, &def.fields, judge)?;
-    judge.declare(&def.name, Kind::Struct)
-}
-
-fn field_types(all: &[RawField], judge: &mut Judge<'_>)
-    ensures { judge.new ≡ judged_by judge.old (joined (map field_type_marks all.now)) }
-{
-    for field in all {
-        ty(&field.ty, judge);
-    }
-}
-
-/// The fields of a struct are declared in a scope of their own.
-fn fields<'a>(alloc: Global, all: &'a [RawField], judge: &mut Judge<'a>) -> Result<(), NoMemory>
-    ensures { OnOk result (judge.new ≡ judged_by judge.old (in_scope (map field_mark all.now))) }
-{
-    judge.open(alloc)?;
-    field_names(all, judge)?;
-    judge.close(alloc);
+    let named = NamedStruct {
+        name: copy_of(alloc, &def.name)?,
+        fields: fields(alloc, &def.fields, &state.scopes)?,
+    };
+    state.structs.push(named)?;
+    state.scopes.declare(&def.name, Kind::Struct)?;
     Ok(())
 }
 
-fn field_names<'a>(all: &'a [RawField], judge: &mut Judge<'a>) -> Result<(), NoMemory>
-    ensures { OnOk result (judge.new ≡ judged_by judge.old (map field_mark all.now)) }
+fn fields(
+    alloc: Global,
+    all: &[RawField],
+    scopes: &Scopes<'_>,
+) -> Result<List<NamedField>, NoMemory>
+    ensures { IfOk result (λ made. made ≡ map (named_field scopes.now) all.now) }
 {
-    for field in all {
-        judge.declare(&field.name, Kind::Field)?;
+    let mut made = List::new(alloc);
+    for one in all {
+        made.push(field(alloc, one, scopes)?)?;
     }
+    Ok(made)
+}
+
+fn field(alloc: Global, field: &RawField, scopes: &Scopes<'_>) -> Result<NamedField, NoMemory>
+    ensures { IfOk result (λ made. made ≡ named_field scopes.now field.now) }
+{
+    Ok(NamedField {
+        name: copy_of(alloc, &field.name)?,
+        ty: ty(alloc, &field.ty, scopes)?,
+    })
+}
+
+fn unit<'a>(alloc: Global, def: &'a RawUnit, state: &mut State<'a>) -> Result<(), NoMemory>
+    ensures { OnOk result (state.new ≡ with_unit state.old def.now) }
+{
+    state.vars = List::new(alloc);
+    state.scopes.open(alloc)?;
+    let named = inside(alloc, def, state)?;
+    state.units.push(named)?;
+    state.scopes.close(alloc);
+    state.scopes.declare(&def.name, of_unit(def.kind))?;
     Ok(())
 }
 
-fn unit<'a>(alloc: Global, def: &'a RawUnit, judge: &mut Judge<'a>) -> Result<(), NoMemory>
-    ensures { OnOk result (judge.new ≡ judged_by judge.old (unit_marks def.now)) }
+/// The unit, in its scope.
+fn inside<'a>(alloc: Global, def: &'a RawUnit, state: &mut State<'a>) -> Result<NamedUnit, NoMemory>
+    requires { state.old.vars ≡ [] }
+    ensures made { IfOk result (λ made. made ≡ unit_inside state.old.scopes def.now) }
+    ensures past { OnOk result (state.new ≡ record (past state.old (inside_piece def.now)) { vars = [] }) }
 {
-    judge.open(alloc)?;
-    inside(alloc, def, judge)?;
-    judge.close(alloc);
-    judge.declare(&def.name, of_unit(def.kind))
+    params(alloc, &def.inputs, Role::Input, state)?;
+    params(alloc, &def.outputs, Role::Output, state)?;
+    let result = optional_ty(alloc, &def.result, &state.scopes)?;
+    let body = block(alloc, &def.body, state)?;
+    Ok(NamedUnit {
+        entry: def.entry,
+        kind: def.kind,
+        name: copy_of(alloc, &def.name)?,
+        vars: mem::replace(&mut state.vars, List::new(alloc)),
+        inputs: number_of(&def.inputs)?,
+        outputs: number_of(&def.outputs)?,
+        result,
+        body,
+    })
 }
 
-/// The parameters of a unit and the statements directly in its body.
-fn inside<'a>(alloc: Global, def: &'a RawUnit, judge: &mut Judge<'a>) -> Result<(), NoMemory>
-    ensures { OnOk result (judge.new ≡ judged_by judge.old (inside_unit def.now)) }
+/// How many parameters there are. Each has a position, so more than 2^32 - 1 are no list.
+fn number_of(all: &[RawParam]) -> Result<u32, NoMemory>
+    ensures { IfOk result (λ n. n ≡ length all.now) }
 {
-    params(&def.inputs, judge)?;
-    params(&def.outputs, judge)?;
-    optional_ty(&def.result, judge);
-    block(alloc, &def.body, judge)
+    match u32::try_from(all.len()) {
+        Ok(n) => Ok(n),
+        Err(_) => Err(NoMemory),
+    }
 }
 
-fn params<'a>(all: &'a [RawParam], judge: &mut Judge<'a>) -> Result<(), NoMemory>
-    ensures { OnOk result (judge.new ≡ judged_by judge.old (joined (map param_marks all.now))) }
+fn params<'a>(
+    alloc: Global,
+    all: &'a [RawParam],
+    role: Role,
+    state: &mut State<'a>,
+) -> Result<(), NoMemory>
+    ensures { OnOk result (state.new ≡ past state.old (role_piece role all.now)) }
 {
     for one in all {
-        param(one, judge)?;
+        param(alloc, one, role, state)?;
     }
     Ok(())
 }
 
-fn param<'a>(param: &'a RawParam, judge: &mut Judge<'a>) -> Result<(), NoMemory>
-    ensures { OnOk result (judge.new ≡ judged_by judge.old (param_marks param.now)) }
+fn param<'a>(
+    alloc: Global,
+    param: &'a RawParam,
+    role: Role,
+    state: &mut State<'a>,
+) -> Result<(), NoMemory>
+    ensures { OnOk result (state.new ≡ past state.old (param_piece role param.now)) }
 {
-    ty(&param.ty, judge);
-    judge.declare(&param.name, Kind::Variable)
+    let var = NamedVar {
+        name: copy_of(alloc, &param.name)?,
+        ty: Some(ty(alloc, &param.ty, &state.scopes)?),
+        role,
+    };
+    state.declare_variable(&param.name, var)?;
+    Ok(())
 }

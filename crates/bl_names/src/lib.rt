@@ -1,14 +1,10 @@
-//! The names of source programs: what each scope declares and what each use stands for (docs/LANGUAGE.md, "Scopes", "Kinds"
-//! and "Rules").
+//! Source programs with positions in place of names (docs/LANGUAGE.md, "Named trees").
 #![tactic(auto)]
 
 mod expr;
-mod failure;
 mod item;
-mod judge;
-pub mod kind;
-mod rules;
-pub mod scopes;
+mod program;
+mod state;
 mod stmt;
 
-pub use rules::check;
+pub use program::resolve;

@@ -1,173 +1,274 @@
-//! What statements do to names.
-#![tactic(auto, using(crate::proofs::WalkLemmas::walks))]
+//! Statements with positions in place of names.
 
-ghost use Rattle.std.specs.Prelude.{◌≡◌, OnOk, ◌++◌, ◌∷◌, [], map};
-ghost use Rattle.bl_tree.specs.Reduce.{joined};
-ghost use Rattle.bl_names.specs.Judged.{judged_by};
-ghost use Rattle.bl_names.specs.Marks.{argument_marks, constant_marks, declared_after, expr_marks, in_scope, marks_of_arm, marks_of_branch, optional, path_marks, stmt_marks, target_marks, type_marks, uses};
+ghost use Rattle.std.specs.Prelude.{◌≡◌, IfOk, OnOk, Some, map, option_map};
+ghost use Rattle.bl_scopes.specs.Scopes.{enter};
+ghost use Rattle.bl_names.specs.Named.{arms_piece, block_piece, branches_piece, constant_piece, named_var, own_scope, piece_of_arm, piece_of_branch, piece_of_kind, stmt_piece};
+ghost use Rattle.bl_names.specs.Naming.{named_expr, named_path, named_target, position};
+ghost use Rattle.bl_names.specs.Past.{past, with_variable};
 
-use crate::expr::{expr, exprs, optional_expr, optional_path, optional_ty, paths, target};
-use crate::judge::Judge;
-use crate::kind::{Kind, Wanted};
-use bl_raw::expr::RawExpr;
+use crate::expr::{
+    copy_of, expr, exprs, optional_expr, optional_path, optional_ty, paths, position, target,
+};
+use crate::state::State;
+use bl_named::expr::NamedExpr;
+use bl_named::item::{NamedConstant, NamedVar};
+use bl_named::stmt::{NamedArm, NamedBranch, NamedStmt, NamedStmtKind};
+use bl_scopes::scopes::Scopes;
+use bl_raw::expr::{RawExpr, RawTarget};
 use bl_raw::name::Name;
 use bl_raw::stmt::{RawArm, RawBranch, RawConstant, RawPath, RawStmt, RawStmtKind};
 use bl_raw::types::RawType;
-use bl_tree::NoMemory;
+use bl_tree::tree::Role;
+use bl_tree::{List, NoMemory};
 use std::alloc::Global;
 
-/// A variable or constant is visible after its value.
-fn declared<'a>(
-    name: &'a Name,
-    kind: Kind,
+pub fn var(
+    alloc: Global,
+    name: &Name,
     ty: &Option<RawType>,
-    value: &RawExpr,
-    judge: &mut Judge<'a>,
-) -> Result<(), NoMemory>
-    ensures { OnOk result (judge.new ≡ judged_by judge.old (declared_after (optional type_marks ty.now ++ expr_marks value.now) name.now kind)) }
+    role: Role,
+    scopes: &Scopes<'_>,
+) -> Result<NamedVar, NoMemory>
+    ensures { IfOk result (λ made. made ≡ named_var scopes.now name.now ty.now role) }
 {
-    optional_ty(ty, judge);
-    expr(value, judge);
-    judge.declare(name, kind)
+    Ok(NamedVar {
+        name: copy_of(alloc, name)?,
+        ty: optional_ty(alloc, ty, scopes)?,
+        role,
+    })
 }
 
-/// A variable that may have no initial value.
-fn variable<'a>(
+/// A `var` or `let` with its initial value.
+fn declare<'a>(
+    alloc: Global,
     name: &'a Name,
     ty: &Option<RawType>,
-    value: &Option<RawExpr>,
-    judge: &mut Judge<'a>,
-) -> Result<(), NoMemory>
-    ensures { OnOk result (judge.new ≡ judged_by judge.old (declared_after (optional type_marks ty.now ++ optional expr_marks value.now) name.now Kind.Variable)) }
+    role: Role,
+    value: Option<NamedExpr>,
+    state: &mut State<'a>,
+) -> Result<NamedStmtKind, NoMemory>
+    ensures made { IfOk result (λ made. made ≡ NamedStmtKind.Declare state.old.scopes.counts.variables value) }
+    ensures past { OnOk result (state.new ≡ with_variable state.old name.now (named_var state.old.scopes name.now ty.now role)) }
 {
-    optional_ty(ty, judge);
-    optional_expr(value, judge);
-    judge.declare(name, Kind::Variable)
+    let var = var(alloc, name, ty, role, &state.scopes)?;
+    let position = state.declare_variable(name, var)?;
+    Ok(NamedStmtKind::Declare(position, value))
 }
 
-pub fn constant<'a>(constant: &'a RawConstant, judge: &mut Judge<'a>) -> Result<(), NoMemory>
-    ensures { OnOk result (judge.new ≡ judged_by judge.old (constant_marks constant.now)) }
+/// A `const` of the file or of a block. Answers its position.
+pub fn constant<'a>(
+    alloc: Global,
+    constant: &'a RawConstant,
+    state: &mut State<'a>,
+) -> Result<u32, NoMemory>
+    ensures made { IfOk result (λ made. made ≡ state.old.scopes.counts.constants) }
+    ensures past { OnOk result (state.new ≡ past state.old (constant_piece constant.now)) }
 {
-    declared(
-        &constant.name,
-        Kind::Constant,
-        &constant.ty,
-        &constant.value,
-        judge,
-    )
+    let named = NamedConstant {
+        name: copy_of(alloc, &constant.name)?,
+        ty: optional_ty(alloc, &constant.ty, &state.scopes)?,
+        value: expr(alloc, &constant.value, &state.scopes)?,
+    };
+    state.declare_constant(&constant.name, named)
 }
 
-fn arguments(inputs: &[RawExpr], outputs: &[RawPath], judge: &mut Judge<'_>)
-    ensures { judge.new ≡ judged_by judge.old (argument_marks inputs.now outputs.now) }
+fn assign(
+    alloc: Global,
+    place: &RawTarget,
+    e: &RawExpr,
+    scopes: &Scopes<'_>,
+) -> Result<NamedStmtKind, NoMemory>
+    ensures { IfOk result (λ made. made ≡ NamedStmtKind.Assign (named_target scopes.now place.now) (named_expr scopes.now e.now)) }
 {
-    exprs(inputs, judge);
-    paths(outputs, judge);
+    let place = target(alloc, place, scopes)?;
+    Ok(NamedStmtKind::Assign(place, expr(alloc, e, scopes)?))
 }
 
-/// A call or `run`, of which this is wanted.
 fn call(
+    alloc: Global,
     callee: &Name,
-    wanted: Wanted,
     inputs: &[RawExpr],
     outputs: &[RawPath],
-    judge: &mut Judge<'_>,
-)
-    ensures { judge.new ≡ judged_by judge.old (uses callee.now wanted ∷ argument_marks inputs.now outputs.now) }
+    scopes: &Scopes<'_>,
+) -> Result<NamedStmtKind, NoMemory>
+    ensures { IfOk result (λ made. made ≡ NamedStmtKind.Call callee.now.place (position scopes.now callee.now) (map (named_expr scopes.now) inputs.now) (map (named_path scopes.now) outputs.now)) }
 {
-    judge.see(callee, wanted);
-    arguments(inputs, outputs, judge);
+    let inputs = exprs(alloc, inputs, scopes)?;
+    let outputs = paths(alloc, outputs, scopes)?;
+    let callee_position = position(scopes, callee);
+    Ok(NamedStmtKind::Call(callee.place, callee_position, inputs, outputs))
 }
 
-#[cycle(statements)]
-pub fn block<'a>(alloc: Global, body: &'a [RawStmt], judge: &mut Judge<'a>) -> Result<(), NoMemory>
-    ensures { OnOk result (judge.new ≡ judged_by judge.old (joined (map stmt_marks body.now))) }
+fn run(
+    alloc: Global,
+    place: &Option<RawPath>,
+    callee: &Name,
+    inputs: &[RawExpr],
+    outputs: &[RawPath],
+    scopes: &Scopes<'_>,
+) -> Result<NamedStmtKind, NoMemory>
+    ensures { IfOk result (λ made. made ≡ NamedStmtKind.Run (option_map (named_path scopes.now) place.now) callee.now.place (position scopes.now callee.now) (map (named_expr scopes.now) inputs.now) (map (named_path scopes.now) outputs.now)) }
 {
+    let place = optional_path(alloc, place, scopes)?;
+    let inputs = exprs(alloc, inputs, scopes)?;
+    let outputs = paths(alloc, outputs, scopes)?;
+    let callee_position = position(scopes, callee);
+    Ok(NamedStmtKind::Run(place, callee.place, callee_position, inputs, outputs))
+}
+
+#[cycle(named_statements)]
+pub fn block<'a>(
+    alloc: Global,
+    body: &'a [RawStmt],
+    state: &mut State<'a>,
+) -> Result<List<NamedStmt>, NoMemory>
+    ensures made { IfOk result (λ made. made ≡ (block_piece body.now).made state.old.scopes) }
+    ensures past { OnOk result (state.new ≡ past state.old (block_piece body.now)) }
+{
+    let mut made = List::new(alloc);
     for s in body {
-        statement(alloc, s, judge)?;
+        made.push(statement(alloc, s, state)?)?;
     }
-    Ok(())
+    Ok(made)
 }
 
 /// Statements in a scope of their own.
-#[cycle(statements)]
-fn scope<'a>(alloc: Global, body: &'a [RawStmt], judge: &mut Judge<'a>) -> Result<(), NoMemory>
-    ensures { OnOk result (judge.new ≡ judged_by judge.old (in_scope (joined (map stmt_marks body.now)))) }
+#[cycle(named_statements)]
+fn scope<'a>(
+    alloc: Global,
+    body: &'a [RawStmt],
+    state: &mut State<'a>,
+) -> Result<List<NamedStmt>, NoMemory>
+    ensures made { IfOk result (λ made. made ≡ (own_scope (block_piece body.now)).made state.old.scopes) }
+    ensures past { OnOk result (state.new ≡ past state.old (own_scope (block_piece body.now))) }
 {
-    judge.open(alloc)?;
-    block(alloc, body, judge)?;
-    judge.close(alloc);
-    Ok(())
+    state.scopes.open(alloc)?;
+    let made = block(alloc, body, state)?;
+    state.scopes.close(alloc);
+    Ok(made)
 }
 
-#[cycle(statements)]
-fn statement<'a>(alloc: Global, s: &'a RawStmt, judge: &mut Judge<'a>) -> Result<(), NoMemory>
-    ensures { OnOk result (judge.new ≡ judged_by judge.old (stmt_marks s.now)) }
+#[cycle(named_statements)]
+fn statement<'a>(
+    alloc: Global,
+    s: &'a RawStmt,
+    state: &mut State<'a>,
+) -> Result<NamedStmt, NoMemory>
+    ensures made { IfOk result (λ made. made ≡ (stmt_piece s.now).made state.old.scopes) }
+    ensures past { OnOk result (state.new ≡ past state.old (stmt_piece s.now)) }
 {
-    match &s.what {
-        RawStmtKind::Var(name, ty, value) => variable(name, ty, value, judge),
-        RawStmtKind::Let(name, ty, value) => declared(name, Kind::Variable, ty, value, judge),
-        RawStmtKind::Const(one) => constant(one, judge),
-        RawStmtKind::If(all, other) => {
-            arms(alloc, all, judge)?;
-            scope(alloc, other, judge)
+    let what = kind(alloc, &s.what, state)?;
+    Ok(NamedStmt {
+        place: s.place,
+        what,
+    })
+}
+
+#[cycle(named_statements)]
+fn kind<'a>(
+    alloc: Global,
+    kind: &'a RawStmtKind,
+    state: &mut State<'a>,
+) -> Result<NamedStmtKind, NoMemory>
+    ensures made { IfOk result (λ made. made ≡ (piece_of_kind kind.now).made state.old.scopes) }
+    ensures past { OnOk result (state.new ≡ past state.old (piece_of_kind kind.now)) }
+{
+    match kind {
+        RawStmtKind::Var(name, ty, value) => {
+            let value = optional_expr(alloc, value, &state.scopes)?;
+            declare(alloc, name, ty, Role::Variable, value, state)
         }
-        RawStmtKind::Cobegin(all) => branches(alloc, all, judge),
-        RawStmtKind::When(_, e, body) => {
-            expr(e, judge);
-            scope(alloc, body, judge)
+        RawStmtKind::Let(name, ty, value) => {
+            let value = expr(alloc, value, &state.scopes)?;
+            declare(alloc, name, ty, Role::Fixed, Some(value), state)
+        }
+        RawStmtKind::Const(one) => Ok(NamedStmtKind::Const(constant(alloc, one, state)?)),
+        RawStmtKind::Assign(place, e) => assign(alloc, place, e, &state.scopes),
+        RawStmtKind::Call(callee, inputs, outputs) => {
+            call(alloc, callee, inputs, outputs, &state.scopes)
+        }
+        RawStmtKind::Await(e) => Ok(NamedStmtKind::Await(expr(alloc, e, &state.scopes)?)),
+        RawStmtKind::Run(place, callee, inputs, outputs) => {
+            run(alloc, place, callee, inputs, outputs, &state.scopes)
+        }
+        RawStmtKind::If(all, other) => {
+            let arms = arms(alloc, all, state)?;
+            Ok(NamedStmtKind::If(arms, scope(alloc, other, state)?))
+        }
+        RawStmtKind::Cobegin(all) => Ok(NamedStmtKind::Cobegin(branches(alloc, all, state)?)),
+        RawStmtKind::When(guard, e, body) => {
+            let test = expr(alloc, e, &state.scopes)?;
+            Ok(NamedStmtKind::When(*guard, test, scope(alloc, body, state)?))
+        }
+        RawStmtKind::Repeat(body) => Ok(NamedStmtKind::Repeat(scope(alloc, body, state)?)),
+        RawStmtKind::Until(body, e) => {
+            let test = expr(alloc, e, &state.scopes)?;
+            Ok(NamedStmtKind::Until(scope(alloc, body, state)?, test))
         }
         RawStmtKind::While(e, body) => {
-            expr(e, judge);
-            scope(alloc, body, judge)
-        }
-        RawStmtKind::Repeat(body) => scope(alloc, body, judge),
-        RawStmtKind::Until(body, e) => {
-            scope(alloc, body, judge)?;
-            expr(e, judge);
-            Ok(())
-        }
-        RawStmtKind::Assign(place, e) => {
-            target(place, Wanted::Variable, judge);
-            expr(e, judge);
-            Ok(())
-        }
-        RawStmtKind::Call(name, inputs, outputs) => {
-            call(name, Wanted::Function, inputs, outputs, judge);
-            Ok(())
-        }
-        RawStmtKind::Run(place, name, inputs, outputs) => {
-            optional_path(place, judge);
-            call(name, Wanted::Activity, inputs, outputs, judge);
-            Ok(())
-        }
-        RawStmtKind::Await(e) => {
-            expr(e, judge);
-            Ok(())
+            let test = expr(alloc, e, &state.scopes)?;
+            Ok(NamedStmtKind::While(test, scope(alloc, body, state)?))
         }
         RawStmtKind::Return(e) => {
-            optional_expr(e, judge);
-            Ok(())
+            Ok(NamedStmtKind::Return(optional_expr(alloc, e, &state.scopes)?))
         }
     }
 }
 
-#[cycle(statements)]
-fn arms<'a>(alloc: Global, all: &'a [RawArm], judge: &mut Judge<'a>) -> Result<(), NoMemory>
-    ensures { OnOk result (judge.new ≡ judged_by judge.old (joined (map marks_of_arm all.now))) }
+#[cycle(named_statements)]
+fn arms<'a>(
+    alloc: Global,
+    all: &'a [RawArm],
+    state: &mut State<'a>,
+) -> Result<List<NamedArm>, NoMemory>
+    ensures made { IfOk result (λ made. made ≡ (arms_piece all.now).made state.old.scopes) }
+    ensures past { OnOk result (state.new ≡ past state.old (arms_piece all.now)) }
 {
-    for arm in all {
-        expr(&arm.test, judge);
-        scope(alloc, &arm.body, judge)?;
+    let mut made = List::new(alloc);
+    for one in all {
+        made.push(arm(alloc, one, state)?)?;
     }
-    Ok(())
+    Ok(made)
 }
 
-#[cycle(statements)]
-fn branches<'a>(alloc: Global, all: &'a [RawBranch], judge: &mut Judge<'a>) -> Result<(), NoMemory>
-    ensures { OnOk result (judge.new ≡ judged_by judge.old (joined (map marks_of_branch all.now))) }
+#[cycle(named_statements)]
+fn arm<'a>(alloc: Global, arm: &'a RawArm, state: &mut State<'a>) -> Result<NamedArm, NoMemory>
+    ensures made { IfOk result (λ made. made ≡ (piece_of_arm arm.now).made state.old.scopes) }
+    ensures past { OnOk result (state.new ≡ past state.old (piece_of_arm arm.now)) }
 {
-    for branch in all {
-        scope(alloc, &branch.body, judge)?;
+    let test = expr(alloc, &arm.test, &state.scopes)?;
+    let body = scope(alloc, &arm.body, state)?;
+    Ok(NamedArm { test, body })
+}
+
+#[cycle(named_statements)]
+fn branches<'a>(
+    alloc: Global,
+    all: &'a [RawBranch],
+    state: &mut State<'a>,
+) -> Result<List<NamedBranch>, NoMemory>
+    ensures made { IfOk result (λ made. made ≡ (branches_piece all.now).made state.old.scopes) }
+    ensures past { OnOk result (state.new ≡ past state.old (branches_piece all.now)) }
+{
+    let mut made = List::new(alloc);
+    for one in all {
+        made.push(branch(alloc, one, state)?)?;
     }
-    Ok(())
+    Ok(made)
+}
+
+#[cycle(named_statements)]
+fn branch<'a>(
+    alloc: Global,
+    branch: &'a RawBranch,
+    state: &mut State<'a>,
+) -> Result<NamedBranch, NoMemory>
+    ensures made { IfOk result (λ made. made ≡ (piece_of_branch branch.now).made state.old.scopes) }
+    ensures past { OnOk result (state.new ≡ past state.old (piece_of_branch branch.now)) }
+{
+    let body = scope(alloc, &branch.body, state)?;
+    Ok(NamedBranch {
+        weak: branch.weak,
+        body,
+    })
 }

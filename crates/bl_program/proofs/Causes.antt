@@ -3,8 +3,8 @@ use Rattle.std.proofs.Common.{◌≡◌, subst}
 use Rattle.bl_tree.specs.declared.place.Refusal.{Refusal}
 use Rattle.bl_tree.specs.declared.place.Refusal.TheVariants.{Rule, NoMemory}
 use Rattle.bl_named.specs.declared.named.Named.{Named}
-use Rattle.bl_names.specs.Cause.{IsCause as IsNamesCause}
-use Rattle.bl_names.specs.Rules.{Passes as NamesPass}
+use Rattle.bl_scopes.specs.Cause.{IsCause as IsNamesCause}
+use Rattle.bl_scopes.specs.Rules.{Passes as NamesPass}
 use Rattle.bl_program.specs.Cause.{IsCause, names, types}
 use Rattle.bl_program.specs.Programs.{named_of}
 use Rattle.bl_raw.specs.declared.raw.Raw.{Raw}

@@ -3,7 +3,7 @@ use Rattle.std.specs.Prelude.{ℕ, List, ⊤}
 use Rattle.bl_tree.specs.declared.place.Place.{Place}
 use Rattle.bl_tree.specs.declared.place.Refusal.{Refusal}
 use Rattle.bl_tree.specs.declared.place.Refusal.TheVariants.{Rule, NoMemory}
-use Rattle.bl_names.specs.Rules.{FailsFirst as NamesFailFirst, Passes as NamesPass}
+use Rattle.bl_scopes.specs.Rules.{FailsFirst as NamesFailFirst, Passes as NamesPass}
 use Rattle.bl_raw.specs.declared.raw.Raw.{Raw}
 use Rattle.bl_types.specs.Rules.{FailsFirst as TypesFailFirst}
 use Rattle.bl_program.specs.Programs.{named_of}

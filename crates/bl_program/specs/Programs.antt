@@ -3,7 +3,7 @@ use Rattle.std.specs.Prelude.{◌≡◌}
 use Rattle.bl_tree.specs.declared.program.Program.{Program}
 use Rattle.bl_named.specs.declared.named.Named.{Named}
 use Rattle.bl_raw.specs.declared.raw.Raw.{Raw}
-use Rattle.bl_resolve.specs.Named.{named_program}
+use Rattle.bl_names.specs.Named.{named_program}
 use Rattle.bl_types.specs.declared.environment.Typed.{Typed}
 use Rattle.bl_types.specs.Programs.{typed_program}
 

@@ -1,15 +1,15 @@
 ghost use Rattle.std.specs.Prelude.{◌≡◌, IfErr, IfOk, OnOk};
-ghost use Rattle.bl_names.specs.Rules.{Passes as NamesPass};
+ghost use Rattle.bl_scopes.specs.Rules.{Passes as NamesPass};
 ghost use Rattle.bl_program.specs.Cause.{IsCause};
 ghost use Rattle.bl_program.specs.Programs.{IsProgramOf, named_of};
 ghost use Rattle.bl_raw.specs.Keeps.{Keeps as RawKeeps};
-ghost use Rattle.bl_rawkeeps.specs.ItemOrder.{NamesAscend};
+ghost use Rattle.bl_parse_laws.specs.ItemOrder.{NamesAscend};
 ghost use Rattle.bl_tree.specs.Program.{Keeps};
 ghost use Rattle.bl_types.specs.Rules.{Passes as TypesPass};
 
 use bl_raw::Raw;
 use bl_tree::{Program, Refusal};
-use bl_typedkeeps::laws::what_is_typed_keeps;
+use bl_types_laws::kept::what_is_typed_keeps;
 use bl_types::Typed;
 use std::alloc::Global;
 
@@ -24,7 +24,7 @@ pub fn check(alloc: Global, raw: &Raw) -> Result<Program, Refusal>
     ensures cause { IfErr result (IsCause raw.now) }
 {
     what_is_typed_keeps();
-    let named = match bl_resolve::resolve(alloc, raw) {
+    let named = match bl_names::resolve(alloc, raw) {
         Ok(named) => named,
         Err(refusal) => return Err(refusal),
     };

@@ -13,8 +13,8 @@ use Rattle.bl_crun.specs.declared.fault.LoadFault.TheVariants as load
 use Rattle.bl_ctext.specs.declared.file.CFile.{CFile}
 use Rattle.bl_early.specs.Emitted.{ins_of}
 use Rattle.bl_early.specs.Form.{has_early_type, is_early, is_early_unit}
-use Rattle.bl_earlyc.specs.Written.{columns_of}
-use Rattle.bl_earlytree.specs.Rows.{RowsFit, is_one_of, numbers_fit, row_fits}
+use Rattle.bl_early_laws.specs.Written.{columns_of}
+use Rattle.bl_early_laws.specs.Rows.{RowsFit, is_one_of, numbers_fit, row_fits}
 use Rattle.bl_rows.specs.Reading.{begun, rows_in, rows_of}
 use Rattle.bl_rows.specs.Text.{RowFits}
 use Rattle.bl_stream.specs.Streams.{AllFit, Course, course_of}

@@ -16,9 +16,9 @@ use Rattle.bl_early.specs.Built.{loop_steps}
 use Rattle.bl_early.specs.Emitted.{c_funcs_of, c_structs_of}
 use Rattle.bl_early.specs.Form.{Step, is_early, is_early_unit, steps_suit, unit_steps}
 use Rattle.bl_early.specs.Run.{trace_of}
-use Rattle.bl_earlyc.specs.Written.{RowsSuit, WrittenColumns, WrittenIsSmall, WrittenTrace, WrittenWellFormed, written}
-use Rattle.bl_earlytree.specs.Laws.{Early, EarlyIsBounded, EarlyIsNeverStuck, OneTrace as EarlyHasOneTrace}
-use Rattle.bl_earlytree.specs.Rows.{numbers_fit, row_fits}
+use Rattle.bl_early_laws.specs.Written.{RowsSuit, WrittenColumns, WrittenIsSmall, WrittenTrace, WrittenWellFormed, written}
+use Rattle.bl_early_laws.specs.Laws.{Early, EarlyIsBounded, EarlyIsNeverStuck, OneTrace as EarlyHasOneTrace}
+use Rattle.bl_early_laws.specs.Rows.{numbers_fit, row_fits}
 use Rattle.bl_tree.specs.declared.tree.StructDef.{StructDef}
 use Rattle.bl_tree.specs.declared.tree.Unit.{Unit as UnitDef}
 use Rattle.bl_tree.specs.declared.tree.Var.{Var}

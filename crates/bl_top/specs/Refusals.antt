@@ -3,7 +3,7 @@ use Rattle.std.specs.Prelude.{◌≡◌, ℕ, List, [], ◌∷◌, ◌++◌, map
 use Rattle.bl_effects.specs.Rules.{FailsFirst as UnitsFailFirst}
 use Rattle.bl_lex.specs.Rules.{FailsFirst, Passes}
 use Rattle.bl_lex.specs.Tokens.{Lexes}
-use Rattle.bl_names.specs.Rules.{Passes as NamesPass}
+use Rattle.bl_scopes.specs.Rules.{Passes as NamesPass}
 use Rattle.bl_program.specs.Cause.{FailsFirst as TypingFailsFirst}
 use Rattle.bl_program.specs.Programs.{named_of, typed_of}
 use Rattle.bl_raw.specs.declared.raw.Raw.{Raw}

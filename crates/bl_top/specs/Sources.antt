@@ -7,7 +7,7 @@ use Rattle.bl_early.specs.Form.{is_early}
 use Rattle.bl_effects.specs.Rules.{Passes as UnitsPass}
 use Rattle.bl_lex.specs.Rules.{Passes}
 use Rattle.bl_lex.specs.Tokens.{Lexes}
-use Rattle.bl_names.specs.Rules.{Passes as NamesPass}
+use Rattle.bl_scopes.specs.Rules.{Passes as NamesPass}
 use Rattle.bl_parse.specs.Programs.{Spells}
 use Rattle.bl_program.specs.Programs.{IsProgramOf, named_of, typed_of}
 use Rattle.bl_raw.specs.declared.raw.Raw.{Raw}

@@ -10,8 +10,8 @@ use Rattle.bl_ctree.specs.Means.{Means, Shown, shown}
 use Rattle.bl_ctree.specs.Reaches.{Bounded, NeverStuck}
 use Rattle.bl_early.specs.Emitted.{ins_of, outs_of}
 use Rattle.bl_early.specs.Form.{is_early}
-use Rattle.bl_earlyc.specs.Written.{columns_of}
-use Rattle.bl_earlytree.specs.Rows.{RowsFit}
+use Rattle.bl_early_laws.specs.Written.{columns_of}
+use Rattle.bl_early_laws.specs.Rows.{RowsFit}
 use Rattle.bl_rows.specs.Reading.{begun, rows_in, rows_of}
 use Rattle.bl_stream.specs.Streams.{Course}
 use Rattle.bl_tree.specs.declared.tree.StructDef.{StructDef}

@@ -3,10 +3,10 @@
 ghost use Rattle.std.specs.Prelude.{◌≤◌, length, IfErr, IfOk, OnOk};
 ghost use Rattle.bl_effects.specs.Rules.{Passes as UnitsPass};
 ghost use Rattle.bl_io.specs.Count.{NeverFell};
-ghost use Rattle.bl_names.specs.Rules.{Passes as NamesPass};
+ghost use Rattle.bl_scopes.specs.Rules.{Passes as NamesPass};
 ghost use Rattle.bl_program.specs.Programs.{IsProgramOf, named_of, typed_of};
 ghost use Rattle.bl_raw.specs.Keeps.{Keeps as RawKeeps};
-ghost use Rattle.bl_rawkeeps.specs.ItemOrder.{NamesAscend};
+ghost use Rattle.bl_parse_laws.specs.ItemOrder.{NamesAscend};
 ghost use Rattle.bl_top.specs.Notes.{line_in};
 ghost use Rattle.bl_top.specs.Reads.{LeftBehind, ReadsOne, source_limit};
 ghost use Rattle.bl_top.specs.Refusals.{IsRefusalOf, IsRefusedBy, IsTreeRefusalOf, Stops};
@@ -19,7 +19,7 @@ use crate::status::Status;
 use bl_early::is_early;
 use bl_io::{Files, IoFault, read_up_to};
 use bl_raw::Raw;
-use bl_rawkeeps::laws::what_is_spelled_keeps;
+use bl_parse_laws::kept::what_is_spelled_keeps;
 use bl_tree::{Program, Refusal};
 use std::alloc::Global;
 

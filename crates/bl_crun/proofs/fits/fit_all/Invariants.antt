@@ -1,5 +1,5 @@
 use Rattle.std.specs.Prelude.{◌≡◌, drop}
-use Rattle.bl_cfit.specs.Fitting.{in_ranges}
+use Rattle.bl_cmeaning_laws.specs.Fitting.{in_ranges}
 use Rattle.bl_crun.specs.Running.{types_of}
 use Rattle.bl_crun.proofs.fits.fit_all.Given as goal
 

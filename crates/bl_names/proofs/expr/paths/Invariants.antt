@@ -1,8 +1,6 @@
-use Rattle.std.proofs.Common.{◌≡◌, drop, map}
-use Rattle.bl_tree.specs.Reduce.{joined}
-use Rattle.bl_names.specs.Judged.{judged_by}
-use Rattle.bl_names.specs.Marks.{path_marks}
+use Rattle.std.proofs.Common.{◌≡◌, ◌++◌, drop, map}
+use Rattle.bl_names.specs.Naming.{named_path}
 use Rattle.bl_names.proofs.expr.paths.Given as goal
 
 abbrev pub invariant-loop-one : goal.invariant-loop-one
-invariant-loop-one l = judged_by l.judge (joined (map path_marks (drop l.one-index l.all))) ≡ judged_by l.initial.judge (joined (map path_marks l.all))
+invariant-loop-one l = l.made ++ map (named_path l.scopes) (drop l.one-index l.all) ≡ map (named_path l.scopes) l.all

@@ -1,8 +1,8 @@
-use Rattle.bl_names.specs.Marks.{param_marks}
-use Rattle.bl_names.proofs.WalkLemmas.{judged-next, next_of}
+use Rattle.bl_names.specs.Named.{param_piece}
+use Rattle.bl_names.proofs.PastLemmas.{loop_past}
 use Rattle.bl_names.proofs.item.params.Goals as goal
 
 pub loop-one-preserved : goal.loop-one-preserved
 loop-one-preserved c =
-    rw c.in_ok-param.ensures
-    (judged-next param_marks _ _ c.one-item.result c.loop-one.judge _ (next_of c.args.all.now c.loop-one.one-index c.one-item.result c.loop-one-test.true c.one-item.is) c.loop-one.invariant)
+    loop_past (param_piece c.args.role) c.args.all.now c.loop-one.one-index c.one-item.result c.loop-one.state c.param.new.state _
+    c.loop-one-test.true c.one-item.is c.in_ok-param.ensures c.loop-one.invariant

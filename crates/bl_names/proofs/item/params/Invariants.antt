@@ -1,8 +1,7 @@
-use Rattle.std.proofs.Common.{◌≡◌, drop, map}
-use Rattle.bl_tree.specs.Reduce.{joined}
-use Rattle.bl_names.specs.Judged.{judged_by}
-use Rattle.bl_names.specs.Marks.{param_marks}
+use Rattle.std.proofs.Common.{◌≡◌, drop}
+use Rattle.bl_names.specs.Named.{role_piece}
+use Rattle.bl_names.specs.Past.{past}
 use Rattle.bl_names.proofs.item.params.Given as goal
 
 abbrev pub invariant-loop-one : goal.invariant-loop-one
-invariant-loop-one l = judged_by l.judge (joined (map param_marks (drop l.one-index l.all))) ≡ judged_by l.initial.judge (joined (map param_marks l.all))
+invariant-loop-one l = past l.state (role_piece l.role (drop l.one-index l.all)) ≡ past l.initial.state (role_piece l.role l.all)

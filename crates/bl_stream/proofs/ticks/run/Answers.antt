@@ -1,5 +1,5 @@
 use Rattle.std.proofs.Common.{ap, ◌∙◌}
-use Rattle.bl_cfit.specs.Fitting.{in_ranges}
+use Rattle.bl_cmeaning_laws.specs.Fitting.{in_ranges}
 use Rattle.bl_cmeaning.specs.Cells.{inputs_of}
 use Rattle.bl_crun.specs.Running.{types_of}
 use Rattle.bl_stream.proofs.Fits.{fits-pass}

@@ -1,0 +1,37 @@
+//! Instructions on functions.
+
+ghost use Rattle.bl_bytecode.specs.declared.instruction.Instruction.TheVariants as ins;
+
+use crate::flow::Flow;
+use crate::machine::Machine;
+use bl_bytecode::instruction::Callee;
+use bl_cmeaning::Builtin;
+
+impl Machine {
+    ghost use Rattle.bl_bytecode_machine.specs.Steps.{Done, Ready};
+
+    pub(crate) fn call_builtin(&mut self, builtin: Builtin, n: u32) -> Flow
+        requires { Ready (ins.Prelude builtin n) self.old }
+        ensures { Done (ins.Prelude builtin n) self.old result self.new }
+    {
+        let value = self.apply(builtin, n);
+        self.give(value)
+    }
+
+    pub(crate) fn call(&mut self, callee: Callee) -> Flow
+        requires { Ready (ins.Call callee) self.old }
+        ensures { Done (ins.Call callee) self.old result self.new }
+    {
+        self.enter(callee)
+    }
+
+    pub(crate) fn end(&mut self) -> Flow
+        requires { Ready ins.Return self.old }
+        ensures { Done ins.Return self.old result self.new }
+    {
+        match self.pop() {
+            None => Flow::Trapped,
+            Some(n) => self.leave(n),
+        }
+    }
+}

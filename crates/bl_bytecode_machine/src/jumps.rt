@@ -1,0 +1,87 @@
+//! Instructions that say where code goes on.
+
+ghost use Rattle.bl_bytecode.specs.declared.instruction.Instruction.TheVariants as ins;
+
+use crate::flow::Flow;
+use crate::machine::Machine;
+
+impl Machine {
+    ghost use Rattle.bl_bytecode.specs.Machine.{past};
+    ghost use Rattle.bl_bytecode_machine.specs.Steps.{After, Done, IsNear, Ready};
+
+    pub(crate) fn begin_statement(&mut self) -> Flow
+        requires { Ready ins.Count self.old }
+        ensures { Done ins.Count self.old result self.new }
+    {
+        self.add_statement();
+        self.go()
+    }
+
+    /// Goes on so many instructions behind the next.
+    fn go_past(&mut self, n: u32) -> Flow
+        requires { IsNear self.old }
+        ensures { After self.old (past n self.old.state self.old.state.stack) result self.new }
+    {
+        self.pass(1 + n as usize);
+        Flow::Goes
+    }
+
+    pub(crate) fn skip(&mut self, n: u32) -> Flow
+        requires { Ready (ins.Skip n) self.old }
+        ensures { Done (ins.Skip n) self.old result self.new }
+    {
+        self.go_past(n)
+    }
+
+    pub(crate) fn unless(&mut self, n: u32) -> Flow
+        requires { Ready (ins.Unless n) self.old }
+        ensures { Done (ins.Unless n) self.old result self.new }
+    {
+        match self.pop() {
+            None => Flow::Trapped,
+            Some(c) => { if c == 1 { self.go() } else { self.go_past(n) } }
+        }
+    }
+
+    pub(crate) fn both(&mut self, n: u32) -> Flow
+        requires { Ready (ins.Both n) self.old }
+        ensures { Done (ins.Both n) self.old result self.new }
+    {
+        match self.pop() {
+            None => Flow::Trapped,
+            Some(c) => {
+                if c == 1 {
+                    self.go()
+                } else {
+                    self.push(0);
+                    self.go_past(n)
+                }
+            }
+        }
+    }
+
+    pub(crate) fn either(&mut self, n: u32) -> Flow
+        requires { Ready (ins.Either n) self.old }
+        ensures { Done (ins.Either n) self.old result self.new }
+    {
+        match self.pop() {
+            None => Flow::Trapped,
+            Some(c) => {
+                if c == 1 {
+                    self.push(1);
+                    self.go_past(n)
+                } else {
+                    self.go()
+                }
+            }
+        }
+    }
+
+    pub(crate) fn again(&mut self, n: u32) -> Flow
+        requires { Ready (ins.Again n) self.old }
+        ensures { Done (ins.Again n) self.old result self.new }
+    {
+        self.back(n);
+        Flow::Goes
+    }
+}

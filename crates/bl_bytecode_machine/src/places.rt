@@ -1,0 +1,89 @@
+//! Instructions on places and cells.
+
+ghost use Rattle.bl_bytecode.specs.declared.instruction.Instruction.TheVariants as ins;
+
+use crate::address;
+use crate::flow::Flow;
+use crate::machine::Machine;
+
+impl Machine {
+    ghost use Rattle.bl_bytecode_machine.specs.Steps.{Done, Ready};
+
+    pub(crate) fn near(&mut self, k: u32, passed: u32) -> Flow
+        requires { Ready (ins.Near k passed) self.old }
+        ensures { Done (ins.Near k passed) self.old result self.new }
+    {
+        let first = address::capped(u64::from(self.base()) + u64::from(k));
+        self.give(Some(address::of(u64::from(first) + u64::from(passed))))
+    }
+
+    pub(crate) fn through(&mut self, k: u32, passed: u32) -> Flow
+        requires { Ready (ins.Through k passed) self.old }
+        ensures { Done (ins.Through k passed) self.old result self.new }
+    {
+        let first = address::cell(self.get(self.base() as usize + k as usize));
+        self.give(Some(address::of(u64::from(first) + u64::from(passed))))
+    }
+
+    pub(crate) fn element(&mut self, length: u32, size: u32) -> Flow
+        requires { Ready (ins.Element length size) self.old }
+        ensures { Done (ins.Element length size) self.old result self.new }
+    {
+        match self.pop_two() {
+            None => Flow::Trapped,
+            Some((i, at)) => self.give(address::element(length, size, at, i)),
+        }
+    }
+
+    pub(crate) fn fetch(&mut self) -> Flow
+        requires { Ready ins.Fetch self.old }
+        ensures { Done ins.Fetch self.old result self.new }
+    {
+        match self.pop() {
+            None => Flow::Trapped,
+            Some(at) => {
+                let n = self.get(address::cell(at) as usize);
+                self.give(Some(n))
+            }
+        }
+    }
+
+    pub(crate) fn store(&mut self) -> Flow
+        requires { Ready ins.Store self.old }
+        ensures { Done ins.Store self.old result self.new }
+    {
+        match self.pop_two() {
+            None => Flow::Trapped,
+            Some((n, at)) => {
+                self.set(address::cell(at) as usize, n);
+                self.go()
+            }
+        }
+    }
+
+    pub(crate) fn copy(&mut self, size: u32) -> Flow
+        requires { Ready (ins.Copy size) self.old }
+        ensures { Done (ins.Copy size) self.old result self.new }
+    {
+        match self.pop_two() {
+            None => Flow::Trapped,
+            Some((from, at)) => {
+                self.copy_cells(address::cell(from), address::cell(at), size);
+                self.go()
+            }
+        }
+    }
+
+    pub(crate) fn zero(&mut self, size: u32) -> Flow
+        requires { Ready (ins.Zero size) self.old }
+        ensures { Done (ins.Zero size) self.old result self.new }
+    {
+        match self.pop() {
+            None => Flow::Trapped,
+            Some(at) => {
+                self.zero_cells(address::cell(at), size);
+                self.go()
+            }
+        }
+    }
+}

@@ -1,4 +1,0 @@
-pub mod Layout
-pub mod Reaching
-pub mod Flat
-pub mod Laws

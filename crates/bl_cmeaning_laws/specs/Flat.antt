@@ -1,0 +1,331 @@
+-- What C expressions, statements and functions do over numbered cells: a place is the number of its first cell, a pointer such a
+-- number, and the frame of a function that runs begins at its base. How statements end, what they count and in which order things are
+-- evaluated is as in the meaning of C texts. Where a form has no meaning there, some value is given.
+use Rattle.std.specs.Prelude.{ℕ, zero, suc, ◌+◌, ◌*◌, ℤ, pos, negsuc, Bool, true, false, ◌&&◌, nat_le, List, [], ◌∷◌, map, length, slice_set, slice_index_or, Option, Some, None, option_map, if◌then◌else◌, not, int_lt, int_le}
+use Rattle.std.specs.List.{copy_within}
+use Rattle.std.specs.Ordering.{int_eq}
+use Rattle.bl_tree.specs.declared.text.Text.{Text}
+use Rattle.bl_tree.specs.declared.scalar.Op.{Op}
+use Rattle.bl_tree.specs.declared.scalar.Op.TheVariants.{And, Or, Eq, Ne, Lt, Le, Gt, Ge}
+use Rattle.bl_tree.specs.declared.c.CType.{CType}
+use Rattle.bl_tree.specs.declared.c.CType.TheVariants.{Scalar as OfScalar, Struct as OfStruct}
+use Rattle.bl_tree.specs.declared.c.CArg.TheOpen.{CArg-F, CExprKind-F, CCall-F, CExpr-F, CIndex-F, CPlace-F, CStep-F}
+use Rattle.bl_tree.specs.declared.c.CExpr.{CExpr, fold-CExpr}
+use Rattle.bl_tree.specs.declared.c.CPlace.{CPlace, fold-CPlace}
+use Rattle.bl_tree.specs.declared.c.CCall.{CCall, fold-CCall}
+use Rattle.bl_tree.specs.declared.c.CStmtKind.TheOpen.{CStmtKind-F, CStmt-F}
+use Rattle.bl_tree.specs.declared.c.CStmt.{CStmt, fold-CStmt}
+use Rattle.bl_tree.specs.declared.c.CFunc.{CFunc}
+use Rattle.bl_tree.specs.Numbers.{is_one, number_of}
+use Rattle.bl_cmeaning.specs.declared.builtin.Builtin.{Builtin}
+use Rattle.bl_cmeaning.specs.Builtin.{builtin_of, builtin_params, builtin_value, index_within}
+use Rattle.bl_cmeaning.specs.Meaning.{End, goes_on, breaks, returns, traps, result_at, turn_limit}
+use Rattle.bl_cmeaning.specs.Sizes.{Sizes}
+use Rattle.bl_cmeaning.specs.Tables.{Table, with_entry, entry_or}
+use Rattle.bl_cmeaning_laws.specs.Fitting.{in_ranges}
+use Rattle.bl_cmeaning_laws.specs.Layout.{Layouts, capped, frame_cells, slots_of}
+use Rattle.bl_cmeaning_laws.specs.Reaching.{Ground, Index, Reach, Start, Step, Term, laid_in, near, reach_along, reach_member, start_of_slot, through}
+
+abbrev pub Cells : Type 0
+Cells = List ℤ
+
+-- ---- answers
+
+-- what an evaluation leaves: the cells, how many statements the functions that it called executed, and its answer, none where it traps
+pub record Left (A : Type 0) : Type 0 where
+  pub cells : Cells
+  pub count : ℕ
+  pub answer : Option A
+
+abbrev pub left : {A : Type 0} → Cells → Option A → Left A
+left cells answer = record { cells = cells; count = 0; answer = answer }
+
+-- with so many statements before it
+abbrev pub more : {A : Type 0} → ℕ → Left A → Left A
+more n l = record { cells = l.cells; count = n + l.count; answer = l.answer }
+
+-- what comes after n statements and this answer; nothing comes after a trap
+abbrev pub going_on : {A B : Type 0} → Cells → ℕ → Option A → (Cells → A → Left B) → Left B
+going_on cells n None rest = record { cells = cells; count = n; answer = None }
+going_on cells n (Some a) rest = more n (rest cells a)
+
+-- one evaluation, and then another with its answer
+abbrev pub next : {A B : Type 0} → Left A → (Cells → A → Left B) → Left B
+next first rest = going_on first.cells first.count first.answer rest
+
+-- ---- where expressions and statements stand
+
+-- from the base of a frame and the cells
+abbrev pub Evaluates : Type 0 → Type 0
+Evaluates A = ℕ → Cells → Left A
+
+-- what a function does whose frame begins at this base, with these arguments: its result, 0 where it has none
+abbrev pub Routine : Type 0
+Routine = ℕ → List ℤ → Cells → Left ℤ
+
+-- ---- places
+
+-- the number of a cell; no number below 0 is one
+abbrev pub cell_number : ℤ → ℕ
+cell_number (pos n) = capped n
+cell_number (negsuc n) = 0
+
+-- what a cell has; 0 behind the last
+abbrev pub cell_at : Cells → ℕ → ℤ
+cell_at cells k = slice_index_or cells k (pos 0)
+
+abbrev pub start_address : Start → ℕ → Cells → ℕ
+start_address (near k) base cells = capped (base + k)
+start_address (through k) base cells = cell_number (cell_at cells (base + k))
+
+-- an element of an array that begins at a cell; none, a trap, outside of it
+abbrev pub element_address : Term (Evaluates ℤ) → ℕ → ℤ → Option ℕ
+element_address term at i = option_map (λ k. capped (at + cell_number k * term.size)) (index_within i (pos term.length))
+
+-- from a cell on, by indices from left to right
+abbrev pub address_along : List (Term (Evaluates ℤ)) → ℕ → Evaluates ℕ
+address_along [] at base cells = left cells (Some at)
+address_along (term ∷ terms) at base cells =
+    next (term.index base cells) (λ after i. next (left after (element_address term at i)) (λ same k. address_along terms k base same))
+
+-- the number of a place's first cell
+abbrev pub address_of : Reach (Evaluates ℤ) → Evaluates ℕ
+address_of reach base cells = address_along reach.terms (capped (start_address reach.start base cells + reach.passed)) base cells
+
+-- ---- expressions: of a scalar its number, of a struct the number of its first cell
+
+-- what is read at a place of a type
+abbrev pub read_at : Option CType → Cells → ℕ → ℤ
+read_at (Some (OfScalar s)) cells at = cell_at cells at
+read_at _ cells at = pos at
+
+-- one after the other, up to the first that traps
+abbrev pub each_of : {A : Type 0} → List (Evaluates A) → Evaluates (List A)
+each_of [] base cells = left cells (Some [])
+each_of (evaluate ∷ rest) base cells =
+    next (evaluate base cells) (λ after a. next (each_of rest base after) (λ last others. left last (Some (a ∷ others))))
+
+-- a number that needs no evaluation
+abbrev pub at_once : ℤ → Evaluates ℤ
+at_once n base cells = left cells (Some n)
+
+-- the number of a comparison; no well-formed file has another operator here
+abbrev pub compared : Op → ℤ → ℤ → Option ℤ
+compared Eq a b = Some (number_of (int_eq a b))
+compared Ne a b = Some (number_of (not (int_eq a b)))
+compared Lt a b = Some (number_of (int_lt a b))
+compared Le a b = Some (number_of (int_le a b))
+compared Gt a b = Some (number_of (int_lt b a))
+compared Ge a b = Some (number_of (int_le b a))
+compared _ a b = None
+
+-- the value of a comparison, or of `&&` and `||`, whose right side counts only where the left doesn't decide
+abbrev pub two_values : Op → Evaluates ℤ → Evaluates ℤ → Evaluates ℤ
+two_values And first second base cells = next (first base cells) (λ after a. (if is_one a then second else at_once (pos 0)) base after)
+two_values Or first second base cells = next (first base cells) (λ after a. (if is_one a then at_once (pos 1) else second) base after)
+two_values op first second base cells =
+    next (first base cells) (λ after a. next (second base after) (λ last b. left last (compared op a b)))
+
+-- what a function of the prelude gives for numbers of its parameters' types
+abbrev pub prelude_value : Builtin → List ℤ → Option ℤ
+prelude_value b numbers = if in_ranges (builtin_params b) numbers then builtin_value b numbers else None
+
+-- a call of a function that may be known; its frame stands behind that of the caller
+abbrev pub applied : Option Routine → ℕ → List ℤ → Cells → Left ℤ
+applied (Some routine) base args cells = routine base args cells
+applied None base args cells = left cells None
+
+abbrev pub called_as : Option Builtin → Option Routine → ℕ → List ℤ → Cells → Left ℤ
+called_as (Some builtin) routine base args cells = left cells (prelude_value builtin args)
+called_as None routine base args cells = applied routine base args cells
+
+abbrev pub called : Ground Routine → Text → ℕ → List ℤ → Cells → Left ℤ
+called here name base args cells = called_as (builtin_of name) (here.known name) (capped (base + here.frame)) args cells
+
+abbrev pub Grounded : Type 0 → Type 0
+Grounded A = Ground Routine → A
+
+abbrev pub arg_step : CArg-F (Grounded (Evaluates ℤ)) (Grounded (Evaluates ℤ)) (Grounded (Evaluates ℤ)) (Grounded (Evaluates ℤ)) (Grounded (Index (Evaluates ℤ))) (Grounded (Reach (Evaluates ℤ))) (Step Routine (Evaluates ℤ)) → Grounded (Evaluates ℤ)
+arg_step (CArg-F.Value value) here base cells = value here base cells
+arg_step (CArg-F.Address place) here base cells = next (address_of (place here) base cells) (λ after k. left after (Some (pos k)))
+
+abbrev pub kind_step : CExprKind-F (Grounded (Evaluates ℤ)) (Grounded (Evaluates ℤ)) (Grounded (Evaluates ℤ)) (Grounded (Evaluates ℤ)) (Grounded (Index (Evaluates ℤ))) (Grounded (Reach (Evaluates ℤ))) (Step Routine (Evaluates ℤ)) → Grounded (Evaluates ℤ)
+kind_step (CExprKind-F.Literal type n) here base cells = left cells (Some n)
+kind_step (CExprKind-F.Read place) here base cells =
+    next (address_of (place here) base cells) (λ after k. left after (Some (read_at (place here).ty after k)))
+kind_step (CExprKind-F.Call call) here base cells = call here base cells
+kind_step (CExprKind-F.Not operand) here base cells =
+    next (operand here base cells) (λ after a. left after (Some (number_of (if is_one a then false else true))))
+kind_step (CExprKind-F.Two op first second) here base cells = two_values op (first here) (second here) base cells
+
+abbrev pub call_step : CCall-F (Grounded (Evaluates ℤ)) (Grounded (Evaluates ℤ)) (Grounded (Evaluates ℤ)) (Grounded (Evaluates ℤ)) (Grounded (Index (Evaluates ℤ))) (Grounded (Reach (Evaluates ℤ))) (Step Routine (Evaluates ℤ)) → Grounded (Evaluates ℤ)
+call_step call here base cells =
+    next (each_of (map (λ arg. arg here) call.args) base cells) (λ after args. called here call.name base args after)
+
+abbrev pub expr_step : CExpr-F (Grounded (Evaluates ℤ)) (Grounded (Evaluates ℤ)) (Grounded (Evaluates ℤ)) (Grounded (Evaluates ℤ)) (Grounded (Index (Evaluates ℤ))) (Grounded (Reach (Evaluates ℤ))) (Step Routine (Evaluates ℤ)) → Grounded (Evaluates ℤ)
+expr_step expr = expr.what
+
+abbrev pub index_step : CIndex-F (Grounded (Evaluates ℤ)) (Grounded (Evaluates ℤ)) (Grounded (Evaluates ℤ)) (Grounded (Evaluates ℤ)) (Grounded (Index (Evaluates ℤ))) (Grounded (Reach (Evaluates ℤ))) (Step Routine (Evaluates ℤ)) → Grounded (Index (Evaluates ℤ))
+index_step index here = record { length = index.length; index = index.at here }
+
+abbrev pub place_step : CPlace-F (Grounded (Evaluates ℤ)) (Grounded (Evaluates ℤ)) (Grounded (Evaluates ℤ)) (Grounded (Evaluates ℤ)) (Grounded (Index (Evaluates ℤ))) (Grounded (Reach (Evaluates ℤ))) (Step Routine (Evaluates ℤ)) → Grounded (Reach (Evaluates ℤ))
+place_step place here = reach_along place.steps here (start_of_slot (here.slots place.name))
+
+abbrev pub index_or_none : Option (Grounded (Index (Evaluates ℤ))) → Ground Routine → Option (Index (Evaluates ℤ))
+index_or_none index here = option_map (λ i. i here) index
+
+abbrev pub step_step : CStep-F (Grounded (Evaluates ℤ)) (Grounded (Evaluates ℤ)) (Grounded (Evaluates ℤ)) (Grounded (Evaluates ℤ)) (Grounded (Index (Evaluates ℤ))) (Grounded (Reach (Evaluates ℤ))) (Step Routine (Evaluates ℤ)) → Step Routine (Evaluates ℤ)
+step_step step here ty = reach_member here (laid_in here ty step.member) (index_or_none step.index here)
+
+-- the value of an expression
+abbrev pub value_flat : CExpr → Grounded (Evaluates ℤ)
+value_flat = fold-CExpr (Grounded (Evaluates ℤ)) (Grounded (Evaluates ℤ)) (Grounded (Evaluates ℤ)) (Grounded (Evaluates ℤ)) (Grounded (Index (Evaluates ℤ))) (Grounded (Reach (Evaluates ℤ))) (Step Routine (Evaluates ℤ)) arg_step kind_step call_step expr_step index_step place_step step_step
+
+-- how a place is reached
+abbrev pub reach_flat : CPlace → Grounded (Reach (Evaluates ℤ))
+reach_flat = fold-CPlace (Grounded (Evaluates ℤ)) (Grounded (Evaluates ℤ)) (Grounded (Evaluates ℤ)) (Grounded (Evaluates ℤ)) (Grounded (Index (Evaluates ℤ))) (Grounded (Reach (Evaluates ℤ))) (Step Routine (Evaluates ℤ)) arg_step kind_step call_step expr_step index_step place_step step_step
+
+-- what a call gives
+abbrev pub call_flat : CCall → Grounded (Evaluates ℤ)
+call_flat = fold-CCall (Grounded (Evaluates ℤ)) (Grounded (Evaluates ℤ)) (Grounded (Evaluates ℤ)) (Grounded (Evaluates ℤ)) (Grounded (Index (Evaluates ℤ))) (Grounded (Reach (Evaluates ℤ))) (Step Routine (Evaluates ℤ)) arg_step kind_step call_step expr_step index_step place_step step_step
+
+-- ---- statements
+
+-- what a statement leaves: the cells, how it ended, and how many statements were executed
+pub record Ran : Type 0 where
+  pub cells : Cells
+  pub end : End
+  pub count : ℕ
+
+abbrev pub Runs : Type 0
+Runs = Ground Routine → ℕ → Cells → Ran
+
+abbrev pub after : ℕ → Ran → Ran
+after n r = record { cells = r.cells; end = r.end; count = n + r.count }
+
+-- what follows where a statement goes on, and how else it ended
+abbrev pub following_end : ℕ → Cells → End → (Cells → Ran) → Ran
+following_end n cells goes_on rest = after n (rest cells)
+following_end n cells breaks rest = record { cells = cells; end = breaks; count = n }
+following_end n cells (returns result) rest = record { cells = cells; end = returns result; count = n }
+following_end n cells traps rest = record { cells = cells; end = traps; count = n }
+
+abbrev pub following : Ran → (Cells → Ran) → Ran
+following r rest = following_end r.count r.cells r.end rest
+
+-- the statements of a block, one after the other
+abbrev pub block_of : List Runs → Runs
+block_of [] here base cells = record { cells = cells; end = goes_on; count = 0 }
+block_of (runs ∷ rest) here base cells = following (runs here base cells) (λ c. block_of rest here base c)
+
+-- a statement that counts itself is executed, and what it evaluated says how it ends
+abbrev pub ended_by : {A : Type 0} → Cells → ℕ → Option A → (Cells → A → Ran) → Ran
+ended_by cells n None rest = record { cells = cells; end = traps; count = n }
+ended_by cells n (Some a) rest = after n (rest cells a)
+
+abbrev pub executed : {A : Type 0} → ℕ → Left A → (Cells → A → Ran) → Ran
+executed own evaluated rest = ended_by evaluated.cells (own + evaluated.count) evaluated.answer rest
+
+abbrev pub going : Cells → Ran
+going cells = record { cells = cells; end = goes_on; count = 0 }
+
+abbrev pub ending : End → Cells → Ran
+ending end cells = record { cells = cells; end = end; count = 0 }
+
+-- so many cells from one on are copied to others, where all of them are there
+abbrev pub copied : ℕ → ℕ → ℕ → Cells → Cells
+copied size from at cells =
+    if nat_le (from + size) (length cells) && nat_le (at + size) (length cells) then copy_within cells from (from + size) at else cells
+
+-- a value is written at a place of a type: a number, or a copy of the struct that begins at a cell
+abbrev pub written_at : Sizes → Option CType → ℕ → ℤ → Cells → Cells
+written_at known (Some (OfStruct name)) at value cells = copied (entry_or 0 known name) (cell_number value) at cells
+written_at known _ at value cells = slice_set cells at value
+
+-- so many cells from one on are set to 0, as far as there are cells
+abbrev pub zeroed : ℕ → ℕ → Cells → Cells
+zeroed zero at cells = cells
+zeroed (suc n) at cells = zeroed n (suc at) (slice_set cells at (pos 0))
+
+abbrev pub block_or_none : Option (List Runs) → Runs
+block_or_none None here base cells = going cells
+block_or_none (Some block) here base cells = block_of block here base cells
+
+-- a turn of a loop that has ended: after `break` the loop goes on with what follows it, else comes its next turn
+abbrev pub turn_end : ℕ → Cells → End → (Cells → Ran) → Ran
+turn_end n cells goes_on again = after n (again cells)
+turn_end n cells breaks again = record { cells = cells; end = goes_on; count = n }
+turn_end n cells (returns result) again = record { cells = cells; end = returns result; count = n }
+turn_end n cells traps again = record { cells = cells; end = traps; count = n }
+
+-- where the condition is true a turn begins, which counts one
+abbrev pub turn_or_none : Bool → (Cells → Ran) → Cells → Ran
+turn_or_none true turn cells = after 1 (turn cells)
+turn_or_none false turn cells = going cells
+
+-- the condition once more, and a turn where it is true
+abbrev pub once_more : Evaluates ℤ → (Cells → Ran) → ℕ → Cells → Ran
+once_more condition turn base cells = executed 0 (condition base cells) (λ c v. turn_or_none (is_one v) turn c)
+
+-- a loop that can still end so many turns. The turn after the last of them traps at its beginning
+unfoldable pub turns : ℕ → Evaluates ℤ → (ℕ → Cells → Ran) → ℕ → Cells → Ran
+turns zero condition body base cells = once_more condition (ending traps) base cells
+turns (suc n) condition body base cells =
+    once_more condition (λ c. let r = body base c in turn_end r.count r.cells r.end (turns n condition body base)) base cells
+
+abbrev pub stmt_kind_step : CStmtKind-F Runs Runs → Runs
+stmt_kind_step (CStmtKind-F.Set place expr) here base cells =
+    executed 1 (next (address_of (reach_flat place here) base cells) (λ c k. next (value_flat expr here base c) (λ d v. left (written_at here.sizes (reach_flat place here).ty k v d) (Some v))))
+    (λ c v. going c)
+stmt_kind_step (CStmtKind-F.Clear place name) here base cells =
+    executed 1 (address_of (reach_flat place here) base cells) (λ c k. going (zeroed (entry_or 0 here.sizes name) k c))
+stmt_kind_step (CStmtKind-F.Call call) here base cells = executed 1 (call_flat call here base cells) (λ c v. going c)
+stmt_kind_step (CStmtKind-F.If condition block other) here base cells =
+    executed 1 (value_flat condition here base cells) (λ c v. (if is_one v then block_of block else block_or_none other) here base c)
+stmt_kind_step (CStmtKind-F.Loop name condition body) here base cells =
+    after 1 (turns turn_limit (value_flat condition here) (block_of body here) base cells)
+stmt_kind_step CStmtKind-F.Break here base cells = record { cells = cells; end = breaks; count = 1 }
+stmt_kind_step (CStmtKind-F.Return None) here base cells = record { cells = cells; end = returns (pos 0); count = 1 }
+stmt_kind_step (CStmtKind-F.Return (Some expr)) here base cells =
+    executed 1 (value_flat expr here base cells) (λ c v. ending (returns v) c)
+
+abbrev pub stmt_step : CStmt-F Runs Runs → Runs
+stmt_step stmt = stmt.what
+
+-- what a statement does
+abbrev pub runs_flat : CStmt → Runs
+runs_flat = fold-CStmt Runs Runs stmt_kind_step stmt_step
+
+-- what the statements of a block do
+abbrev pub block_flat : List CStmt → Runs
+block_flat stmts = block_of (map runs_flat stmts)
+
+-- ---- functions and files
+
+-- the arguments stand in the first cells of the frame
+abbrev pub with_args : ℕ → List ℤ → Cells → Cells
+with_args at [] cells = cells
+with_args at (n ∷ ns) cells = with_args (suc at) ns (slice_set cells at n)
+
+-- the frame of a function as it begins: all 0 but for the arguments
+abbrev pub frame_begun : ℕ → ℕ → List ℤ → Cells → Cells
+frame_begun size base args cells = with_args base args (zeroed size base cells)
+
+abbrev pub ended_as : Ran → Left ℤ
+ended_as r = record { cells = r.cells; count = r.count; answer = result_at r.end }
+
+abbrev pub ground_of : Sizes → Layouts → Table Routine → CFunc → Ground Routine
+ground_of known structs earlier function =
+    record { sizes = known; structs = structs; known = earlier; slots = slots_of known function; frame = frame_cells known function }
+
+-- what a function does where the earlier ones are known
+abbrev pub routine_flat : Sizes → Layouts → Table Routine → CFunc → Routine
+routine_flat known structs earlier function base args cells =
+    ended_as (block_flat function.body (ground_of known structs earlier function) base (frame_begun (frame_cells known function) base args cells))
+
+-- the functions in order by name, each over those before it
+abbrev pub routines_after : Sizes → Layouts → Table Routine → List CFunc → List (Text × Routine)
+routines_after known structs earlier [] = []
+routines_after known structs earlier (function ∷ rest) =
+    (function.name, routine_flat known structs earlier function)
+    ∷ routines_after known structs (with_entry earlier function.name (routine_flat known structs earlier function)) rest

@@ -1,0 +1,5 @@
+pub mod Fitting
+pub mod Layout
+pub mod Reaching
+pub mod Flat
+pub mod Laws

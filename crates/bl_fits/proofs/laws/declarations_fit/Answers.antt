@@ -1,8 +1,0 @@
-use Rattle.bl_fits.proofs.Initials.{constant_fits, initial_fits}
-use Rattle.bl_fits.proofs.laws.declarations_fit.Goals as goal
-
-pub returns-clause-initial : goal.returns-clause-initial
-returns-clause-initial c = initial_fits
-
-pub returns-clause-constant : goal.returns-clause-constant
-returns-clause-constant c = constant_fits

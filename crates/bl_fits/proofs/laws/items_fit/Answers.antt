@@ -1,8 +1,0 @@
-use Rattle.bl_fits.proofs.Items.{constant_between, struct_between}
-use Rattle.bl_fits.proofs.laws.items_fit.Goals as goal
-
-pub returns-clause-structure : goal.returns-clause-structure
-returns-clause-structure c = struct_between
-
-pub returns-clause-constant : goal.returns-clause-constant
-returns-clause-constant c = constant_between

@@ -1,8 +1,0 @@
-use Rattle.bl_fits.proofs.Blocks.{statement_fits, statements_fit}
-use Rattle.bl_fits.proofs.laws.statements_fit.Goals as goal
-
-pub returns-clause-one : goal.returns-clause-one
-returns-clause-one c = statement_fits
-
-pub returns-clause-all : goal.returns-clause-all
-returns-clause-all c = statements_fit

@@ -1,9 +1,0 @@
-use Rattle.bl_fits.proofs.Entry.{entry_is_driven}
-use Rattle.bl_fits.proofs.Units.{unit_passes}
-use Rattle.bl_fits.proofs.laws.units_fit.Goals as goal
-
-pub returns-clause-one : goal.returns-clause-one
-returns-clause-one c = unit_passes
-
-pub returns-clause-entry : goal.returns-clause-entry
-returns-clause-entry c = entry_is_driven

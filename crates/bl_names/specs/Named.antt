@@ -1,0 +1,272 @@
+-- Programs with positions in place of names.
+use Rattle.std.specs.Prelude.{ℕ, List, [], ◌∷◌, ◌++◌, map, length, Option, Some, option_map}
+use Rattle.bl_tree.specs.declared.tree.Role.{Role}
+use Rattle.bl_tree.specs.declared.tree.Role.TheVariants as role
+use Rattle.bl_tree.specs.Reduce.{joined}
+use Rattle.bl_raw.specs.declared.expr.RawExpr.{RawExpr}
+use Rattle.bl_raw.specs.declared.item.RawField.{RawField}
+use Rattle.bl_raw.specs.declared.item.RawItem.{RawItem}
+use Rattle.bl_raw.specs.declared.item.RawItem.TheVariants as item
+use Rattle.bl_raw.specs.declared.item.RawParam.{RawParam}
+use Rattle.bl_raw.specs.declared.item.RawStruct.{RawStruct}
+use Rattle.bl_raw.specs.declared.item.RawUnit.{RawUnit}
+use Rattle.bl_raw.specs.declared.name.Name.{Name}
+use Rattle.bl_raw.specs.declared.stmt.RawArm.{RawArm, fold-RawArm}
+use Rattle.bl_raw.specs.declared.stmt.RawBranch.{RawBranch, fold-RawBranch}
+use Rattle.bl_raw.specs.declared.stmt.RawConstant.{RawConstant}
+use Rattle.bl_raw.specs.declared.stmt.RawStmt.{RawStmt, fold-RawStmt}
+use Rattle.bl_raw.specs.declared.stmt.RawStmtKind.{RawStmtKind, fold-RawStmtKind}
+use Rattle.bl_raw.specs.declared.stmt.RawStmtKind.TheOpen.{RawStmtKind-F, RawArm-F, RawBranch-F, RawStmt-F}
+use Rattle.bl_raw.specs.declared.types.RawType.{RawType}
+use Rattle.bl_named.specs.declared.item.NamedConstant.{NamedConstant}
+use Rattle.bl_named.specs.declared.item.NamedField.{NamedField}
+use Rattle.bl_named.specs.declared.item.NamedStruct.{NamedStruct}
+use Rattle.bl_named.specs.declared.item.NamedUnit.{NamedUnit}
+use Rattle.bl_named.specs.declared.item.NamedVar.{NamedVar}
+use Rattle.bl_named.specs.declared.named.Named.{Named}
+use Rattle.bl_named.specs.declared.stmt.NamedArm.{NamedArm, roll-NamedArm}
+use Rattle.bl_named.specs.declared.stmt.NamedBranch.{NamedBranch, roll-NamedBranch}
+use Rattle.bl_named.specs.declared.stmt.NamedStmt.{NamedStmt, roll-NamedStmt}
+use Rattle.bl_named.specs.declared.stmt.NamedStmtKind.{NamedStmtKind}
+use Rattle.bl_named.specs.declared.stmt.NamedStmtKind.TheVariants as what
+use Rattle.bl_scopes.specs.declared.kind.Kind.TheVariants as kind
+use Rattle.bl_scopes.specs.declared.kind.Wanted.TheVariants as wanted
+use Rattle.bl_scopes.specs.Marks.{Marks, opens, uses, argument_marks, constant_marks, declared_after, expr_marks, in_scope, item_marks, optional, param_marks, path_marks, target_marks, type_marks}
+use Rattle.bl_names.specs.Naming.{named_expr, named_path, named_target, named_type, position}
+use Rattle.bl_scopes.specs.Scopes.{Scopes, after, enter, file_scope}
+
+-- a part of a program: what it does to names, what it becomes where these scopes are open, and the variables and constants
+-- that it declares there
+pub record Piece (A : Type 0) : Type 0 where
+  pub marks : Marks
+  pub made : Scopes → A
+  pub vars : Scopes → List NamedVar
+  pub constants : Scopes → List NamedConstant
+
+-- what parts do one after another
+abbrev pub marks_of_all : {A : Type 0} → List (Piece A) → Marks
+marks_of_all pieces = joined (map (λ piece. piece.marks) pieces)
+
+-- the parts one after another, each where those before it are over
+abbrev pub made_of_all : {A : Type 0} → List (Piece A) → Scopes → List A
+made_of_all [] scopes = []
+made_of_all (piece ∷ rest) scopes = piece.made scopes ∷ made_of_all rest (after scopes piece.marks)
+
+abbrev pub vars_of_all : {A : Type 0} → List (Piece A) → Scopes → List NamedVar
+vars_of_all [] scopes = []
+vars_of_all (piece ∷ rest) scopes = piece.vars scopes ++ vars_of_all rest (after scopes piece.marks)
+
+abbrev pub constants_of_all : {A : Type 0} → List (Piece A) → Scopes → List NamedConstant
+constants_of_all [] scopes = []
+constants_of_all (piece ∷ rest) scopes = piece.constants scopes ++ constants_of_all rest (after scopes piece.marks)
+
+-- parts one after another, as one
+abbrev pub all : {A : Type 0} → List (Piece A) → Piece (List A)
+all pieces = record { marks = marks_of_all pieces; made = made_of_all pieces; vars = vars_of_all pieces; constants = constants_of_all pieces }
+
+abbrev pub none : {A : Type 0} → Scopes → List A
+none scopes = []
+
+-- where a scope begins
+abbrev pub opened : Scopes → Scopes
+opened scopes = enter scopes opens
+
+-- a part, and then another, which is what is made
+abbrev pub followed : {A B : Type 0} → Piece A → Piece B → Piece B
+followed first second = record {
+  marks = first.marks ++ second.marks;
+  made = λ scopes. second.made (after scopes first.marks);
+  vars = λ scopes. first.vars scopes ++ second.vars (after scopes first.marks);
+  constants = λ scopes. first.constants scopes ++ second.constants (after scopes first.marks);
+}
+
+-- a part in a scope of its own
+abbrev pub own_scope : {A : Type 0} → Piece A → Piece A
+own_scope piece = record {
+  marks = in_scope piece.marks;
+  made = λ scopes. piece.made (opened scopes);
+  vars = λ scopes. piece.vars (opened scopes);
+  constants = λ scopes. piece.constants (opened scopes);
+}
+
+-- a part that declares nothing
+abbrev pub plain : {A : Type 0} → Marks → (Scopes → A) → Piece A
+plain marks made = record { marks = marks; made = made; vars = none; constants = none }
+
+-- statements in a scope of their own, behind these marks
+abbrev pub scoped : {A : Type 0} → Marks → Marks → List (Piece NamedStmt) → (Scopes → List NamedStmt → A) → Piece A
+scoped before marks body made = record {
+  marks = marks;
+  made = λ scopes. made scopes (made_of_all body (opened (after scopes before)));
+  vars = λ scopes. vars_of_all body (opened (after scopes before));
+  constants = λ scopes. constants_of_all body (opened (after scopes before));
+}
+
+abbrev pub named_var : Scopes → Name → Option RawType → Role → NamedVar
+named_var scopes name ty role = record { name = name; ty = option_map (named_type scopes) ty; role = role }
+
+abbrev pub named_constant : Scopes → RawConstant → NamedConstant
+named_constant scopes constant = record { name = constant.name; ty = option_map (named_type scopes) constant.ty; value = named_expr scopes constant.value }
+
+-- a variable is declared with the next position
+abbrev pub declaring : Name → Option RawType → Role → Option RawExpr → Marks → Piece NamedStmtKind
+declaring name ty role value marks = record {
+  marks = marks;
+  made = λ scopes. what.Declare scopes.counts.variables (option_map (named_expr scopes) value);
+  vars = λ scopes. named_var scopes name ty role ∷ [];
+  constants = none;
+}
+
+abbrev pub constant_piece : RawConstant → Piece NamedStmtKind
+constant_piece constant = record {
+  marks = constant_marks constant;
+  made = λ scopes. what.Const scopes.counts.constants;
+  vars = none;
+  constants = λ scopes. named_constant scopes constant ∷ [];
+}
+
+abbrev pub kind_piece : RawStmtKind-F (Piece NamedStmtKind) (Piece NamedArm) (Piece NamedBranch) (Piece NamedStmt) → Piece NamedStmtKind
+kind_piece (RawStmtKind-F.Var name ty value) = declaring name ty role.Variable value (declared_after (optional type_marks ty ++ optional expr_marks value) name kind.Variable)
+kind_piece (RawStmtKind-F.Let name ty value) = declaring name ty role.Fixed (Some value) (declared_after (optional type_marks ty ++ expr_marks value) name kind.Variable)
+kind_piece (RawStmtKind-F.Const constant) = constant_piece constant
+kind_piece (RawStmtKind-F.Assign target e) = plain (target_marks target wanted.Variable ++ expr_marks e) (λ scopes. what.Assign (named_target scopes target) (named_expr scopes e))
+kind_piece (RawStmtKind-F.Call f inputs outputs) =
+    plain (uses f wanted.Function ∷ argument_marks inputs outputs) (λ scopes. what.Call f.place (position scopes f) (map (named_expr scopes) inputs) (map (named_path scopes) outputs))
+kind_piece (RawStmtKind-F.Await e) = plain (expr_marks e) (λ scopes. what.Await (named_expr scopes e))
+kind_piece (RawStmtKind-F.Run target a inputs outputs) =
+    plain (optional path_marks target ++ (uses a wanted.Activity ∷ argument_marks inputs outputs))
+    (λ scopes. what.Run (option_map (named_path scopes) target) a.place (position scopes a) (map (named_expr scopes) inputs) (map (named_path scopes) outputs))
+kind_piece (RawStmtKind-F.If arms other) = record {
+  marks = marks_of_all arms ++ in_scope (marks_of_all other);
+  made = λ scopes. what.If (made_of_all arms scopes) (made_of_all other (opened (after scopes (marks_of_all arms))));
+  vars = λ scopes. vars_of_all arms scopes ++ vars_of_all other (opened (after scopes (marks_of_all arms)));
+  constants = λ scopes. constants_of_all arms scopes ++ constants_of_all other (opened (after scopes (marks_of_all arms)));
+}
+kind_piece (RawStmtKind-F.Cobegin branches) = record {
+  marks = marks_of_all branches;
+  made = λ scopes. what.Cobegin (made_of_all branches scopes);
+  vars = vars_of_all branches;
+  constants = constants_of_all branches;
+}
+kind_piece (RawStmtKind-F.When guard e body) = scoped (expr_marks e) (expr_marks e ++ in_scope (marks_of_all body)) body (λ scopes made. what.When guard (named_expr scopes e) made)
+kind_piece (RawStmtKind-F.Repeat body) = scoped [] (in_scope (marks_of_all body)) body (λ scopes made. what.Repeat made)
+kind_piece (RawStmtKind-F.Until body e) = scoped [] (in_scope (marks_of_all body) ++ expr_marks e) body (λ scopes made. what.Until made (named_expr scopes e))
+kind_piece (RawStmtKind-F.While e body) = scoped (expr_marks e) (expr_marks e ++ in_scope (marks_of_all body)) body (λ scopes made. what.While (named_expr scopes e) made)
+kind_piece (RawStmtKind-F.Return e) = plain (optional expr_marks e) (λ scopes. what.Return (option_map (named_expr scopes) e))
+
+abbrev pub arm_piece : RawArm-F (Piece NamedStmtKind) (Piece NamedArm) (Piece NamedBranch) (Piece NamedStmt) → Piece NamedArm
+arm_piece arm =
+    scoped (expr_marks arm.test) (expr_marks arm.test ++ in_scope (marks_of_all arm.body)) arm.body (λ scopes made. roll-NamedArm (record { test = named_expr scopes arm.test; body = made }))
+
+abbrev pub branch_piece : RawBranch-F (Piece NamedStmtKind) (Piece NamedArm) (Piece NamedBranch) (Piece NamedStmt) → Piece NamedBranch
+branch_piece branch = scoped [] (in_scope (marks_of_all branch.body)) branch.body (λ scopes made. roll-NamedBranch (record { weak = branch.weak; body = made }))
+
+abbrev pub stmt_layer_piece : RawStmt-F (Piece NamedStmtKind) (Piece NamedArm) (Piece NamedBranch) (Piece NamedStmt) → Piece NamedStmt
+stmt_layer_piece s = record {
+  marks = s.what.marks;
+  made = λ scopes. roll-NamedStmt (record { place = s.place; what = s.what.made scopes });
+  vars = s.what.vars;
+  constants = s.what.constants;
+}
+
+-- a statement
+abbrev pub stmt_piece : RawStmt → Piece NamedStmt
+stmt_piece = fold-RawStmt (Piece NamedStmtKind) (Piece NamedArm) (Piece NamedBranch) (Piece NamedStmt) kind_piece arm_piece branch_piece stmt_layer_piece
+
+-- the same of what a statement does, of an arm and of a branch
+abbrev pub piece_of_kind : RawStmtKind → Piece NamedStmtKind
+piece_of_kind = fold-RawStmtKind (Piece NamedStmtKind) (Piece NamedArm) (Piece NamedBranch) (Piece NamedStmt) kind_piece arm_piece branch_piece stmt_layer_piece
+
+abbrev pub piece_of_arm : RawArm → Piece NamedArm
+piece_of_arm = fold-RawArm (Piece NamedStmtKind) (Piece NamedArm) (Piece NamedBranch) (Piece NamedStmt) kind_piece arm_piece branch_piece stmt_layer_piece
+
+abbrev pub piece_of_branch : RawBranch → Piece NamedBranch
+piece_of_branch = fold-RawBranch (Piece NamedStmtKind) (Piece NamedArm) (Piece NamedBranch) (Piece NamedStmt) kind_piece arm_piece branch_piece stmt_layer_piece
+
+-- statements, arms and branches one after another
+abbrev pub block_piece : List RawStmt → Piece (List NamedStmt)
+block_piece body = all (map stmt_piece body)
+
+abbrev pub arms_piece : List RawArm → Piece (List NamedArm)
+arms_piece arms = all (map piece_of_arm arms)
+
+abbrev pub branches_piece : List RawBranch → Piece (List NamedBranch)
+branches_piece branches = all (map piece_of_branch branches)
+
+-- ---- items
+
+abbrev pub named_field : Scopes → RawField → NamedField
+named_field scopes field = record { name = field.name; ty = named_type scopes field.ty }
+
+abbrev pub named_struct : Scopes → RawStruct → NamedStruct
+named_struct scopes def = record { name = def.name; fields = map (named_field scopes) def.fields }
+
+abbrev pub param_piece : Role → RawParam → Piece NamedVar
+param_piece role param = record {
+  marks = param_marks param;
+  made = λ scopes. named_var scopes param.name (Some param.ty) role;
+  vars = λ scopes. named_var scopes param.name (Some param.ty) role ∷ [];
+  constants = none;
+}
+
+-- parameters of one role
+abbrev pub role_piece : Role → List RawParam → Piece (List NamedVar)
+role_piece role params = all (map (param_piece role) params)
+
+-- the parameters of a unit
+abbrev pub params_piece : RawUnit → Piece (List NamedVar)
+params_piece def = followed (role_piece role.Input def.inputs) (role_piece role.Output def.outputs)
+
+-- its parameters, and then the statements directly in its body
+abbrev pub inside_piece : RawUnit → Piece (List NamedStmt)
+inside_piece def = followed (params_piece def) (block_piece def.body)
+
+-- a unit, where these scopes are open in it
+abbrev pub unit_inside : Scopes → RawUnit → NamedUnit
+unit_inside scopes def = record {
+  entry = def.entry;
+  kind = def.kind;
+  name = def.name;
+  vars = (inside_piece def).vars scopes;
+  inputs = length def.inputs;
+  outputs = length def.outputs;
+  result = option_map (named_type (after scopes (params_piece def).marks)) def.result;
+  body = (inside_piece def).made scopes;
+}
+
+-- a unit, where these scopes are open before it
+abbrev pub named_unit : Scopes → RawUnit → NamedUnit
+named_unit scopes = unit_inside (opened scopes)
+
+-- the constants in the body of a unit
+abbrev pub constants_in_unit : Scopes → RawUnit → List NamedConstant
+constants_in_unit scopes def = (inside_piece def).constants (opened scopes)
+
+abbrev pub structs_of : Scopes → RawItem → List NamedStruct
+structs_of scopes (item.Struct def) = named_struct scopes def ∷ []
+structs_of scopes (item.Constant constant) = []
+structs_of scopes (item.Unit def) = []
+
+abbrev pub constants_of : Scopes → RawItem → List NamedConstant
+constants_of scopes (item.Struct def) = []
+constants_of scopes (item.Constant constant) = named_constant scopes constant ∷ []
+constants_of scopes (item.Unit def) = constants_in_unit scopes def
+
+abbrev pub units_of : Scopes → RawItem → List NamedUnit
+units_of scopes (item.Struct def) = []
+units_of scopes (item.Constant constant) = []
+units_of scopes (item.Unit def) = named_unit scopes def ∷ []
+
+-- what the items give, each where those before it are over
+abbrev pub along : {A : Type 0} → (Scopes → RawItem → List A) → Scopes → List RawItem → List A
+along gives scopes [] = []
+along gives scopes (one ∷ rest) = gives scopes one ++ along gives (after scopes (item_marks one)) rest
+
+-- a program
+abbrev pub named_program : List RawItem → ℕ → Named
+named_program items bytes = record {
+  structs = along structs_of file_scope items;
+  constants = along constants_of file_scope items;
+  units = along units_of file_scope items;
+  bytes = bytes;
+}

@@ -1,0 +1,45 @@
+//! The rules on names, and the program with positions in place of names.
+
+ghost use Rattle.std.specs.Prelude.{◌≡◌, IfErr, IfOk, OnOk};
+ghost use Rattle.bl_named.specs.Placed.{IsPlaced};
+ghost use Rattle.bl_scopes.specs.Cause.{IsCause};
+ghost use Rattle.bl_scopes.specs.Rules.{Passes};
+ghost use Rattle.bl_names.specs.Named.{named_program};
+ghost use Rattle.bl_names.specs.Order.{order_of};
+
+use crate::item::items;
+use crate::state::State;
+use bl_named::Named;
+use bl_scopes::check;
+use bl_raw::Raw;
+use bl_tree::{NoMemory, Refusal};
+use std::alloc::Global;
+
+/// Judges the rules Duplicate, Unknown and Kind in their order, as `bl_scopes::check` does, and puts positions in place of the
+/// names of a program that passes.
+pub fn resolve(alloc: Global, raw: &Raw) -> Result<Named, Refusal>
+    ensures passes { OnOk result (Passes raw.now.items) }
+    ensures cause { IfErr result (IsCause raw.now.items) }
+    ensures named { IfOk result (λ named. named ≡ named_program raw.now.items raw.now.bytes) }
+    ensures placed { IfOk result (λ named. IsPlaced (order_of raw.now.items) named) }
+{
+    check(alloc, raw)?;
+    match name(alloc, raw) {
+        Ok(named) => Ok(named),
+        Err(_) => Err(Refusal::NoMemory),
+    }
+}
+
+/// The program with positions in place of names.
+fn name(alloc: Global, raw: &Raw) -> Result<Named, NoMemory>
+    ensures { IfOk result (λ named. named ≡ named_program raw.now.items raw.now.bytes) }
+{
+    let mut state = State::new(alloc);
+    items(alloc, &raw.items, &mut state)?;
+    Ok(Named {
+        structs: state.structs,
+        constants: state.constants,
+        units: state.units,
+        bytes: raw.bytes,
+    })
+}

@@ -1,0 +1,39 @@
+-- All that the named tree of a program keeps.
+use Rattle.std.proofs.Common.{◌≡◌, ℕ, Bool, true, ◌&&◌, List, [], ◌∷◌, refl}
+use Rattle.std.specs.List.{list_all}
+use Rattle.bl_raw.specs.declared.item.RawItem.{RawItem}
+use Rattle.bl_raw.specs.Keeps.{Keeps as RawKeeps}
+use Rattle.bl_scopes.specs.Rules.{Passes}
+use Rattle.bl_names.specs.Named.{named_program}
+use Rattle.bl_names.specs.Order.{order_of}
+use Rattle.bl_names.proofs.PlacedProgram.{is_placed}
+use Rattle.bl_names_laws.specs.Keeps.{Keeps, body_apart, body_filled, body_shallow, fields_differ, fields_named, parameters_differ, variables_named}
+use Rattle.bl_names_laws.proofs.ApartProgram.{units_are_apart}
+use Rattle.bl_names_laws.proofs.Distinct.{all_fields_differ, all_parameters_differ, names_differ}
+use Rattle.bl_names_laws.proofs.Filled.{units_are_filled}
+use Rattle.bl_names_laws.proofs.Names.{fields_are_named, names_are, variables_are_named}
+use Rattle.bl_names_laws.proofs.StmtDepth.{units_are_shallow}
+use Rattle.bl_names_laws.proofs.Tests.{both, first_holds, second_holds}
+
+-- two tests that hold of all hold of all together
+all_both : {A : Type 0} (one other : A → Bool) (xs : List A) → list_all one xs ≡ true → list_all other xs ≡ true → list_all (λ x. one x && other x) xs ≡ true
+all_both one other [] first second = refl
+all_both one other (x ∷ xs) first second =
+    both (one x && other x) (list_all (λ x. one x && other x) xs)
+    (both (one x) (other x) (first_holds (one x) (list_all one xs) first) (first_holds (other x) (list_all other xs) second))
+    (all_both one other xs (second_holds (one x) (list_all one xs) first) (second_holds (other x) (list_all other xs) second))
+
+pub what_keeps : (items : List RawItem) (bytes : ℕ) → RawKeeps items → Passes items → Keeps (named_program items bytes)
+what_keeps items bytes keeps passes =
+    let named = named_program items bytes in
+    record {
+      order = order_of items;
+      placed = is_placed items bytes passes;
+      names = names_are items bytes keeps.stand;
+      distinct = names_differ items bytes passes;
+      structs = all_both fields_named fields_differ named.structs (fields_are_named items bytes keeps.stand) (all_fields_differ items bytes passes);
+      units = all_both (λ unit. variables_named unit && parameters_differ unit) (λ unit. body_filled unit && (body_shallow unit && body_apart unit)) named.units
+          (all_both variables_named parameters_differ named.units (variables_are_named items bytes keeps.stand) (all_parameters_differ items bytes passes))
+          (all_both body_filled (λ unit. body_shallow unit && body_apart unit) named.units (units_are_filled items bytes keeps.stand)
+          (all_both body_shallow body_apart named.units (units_are_shallow items bytes keeps.shallow) (units_are_apart items bytes passes)));
+    }

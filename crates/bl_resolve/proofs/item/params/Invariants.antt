@@ -1,7 +1,0 @@
-use Rattle.std.proofs.Common.{◌≡◌, drop}
-use Rattle.bl_resolve.specs.Named.{role_piece}
-use Rattle.bl_resolve.specs.Past.{past}
-use Rattle.bl_resolve.proofs.item.params.Given as goal
-
-abbrev pub invariant-loop-one : goal.invariant-loop-one
-invariant-loop-one l = past l.state (role_piece l.role (drop l.one-index l.all)) ≡ past l.initial.state (role_piece l.role l.all)

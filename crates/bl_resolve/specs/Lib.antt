@@ -1,4 +1,0 @@
-pub mod Named
-pub mod Naming
-pub mod Order
-pub mod Past

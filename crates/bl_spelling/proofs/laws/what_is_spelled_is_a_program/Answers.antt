@@ -1,5 +1,0 @@
-use Rattle.bl_spelling.proofs.Programs.{spells_program}
-use Rattle.bl_spelling.proofs.laws.what_is_spelled_is_a_program.Goals as goal
-
-pub returns : goal.returns
-returns c = spells_program

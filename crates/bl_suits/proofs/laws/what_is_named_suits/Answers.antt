@@ -1,8 +1,0 @@
-use Rattle.bl_suits.proofs.WhatSuits.{constants_call_functions, units_are_named}
-use Rattle.bl_suits.proofs.laws.what_is_named_suits.Goals as goal
-
-pub returns-clause-units : goal.returns-clause-units
-returns-clause-units c = λ items bytes keeps passes k unit there earlier kinds counts after is step. units_are_named items bytes keeps passes k unit there earlier kinds
-
-pub returns-clause-constants : goal.returns-clause-constants
-returns-clause-constants c = constants_call_functions

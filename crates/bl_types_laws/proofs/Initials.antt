@@ -1,0 +1,169 @@
+-- Initial values and constants.
+use Rattle.std.proofs.Common.{◌≡◌, List, [], Option, Some, None, refl, ap, sym, subst, ◌∙◌}
+use Rattle.std.specs.Prelude.{Bool, true, is_some, option_and_then, IfSome}
+use Rattle.std.proofs.lemmas.Option.{same_Some}
+use Rattle.bl_tree.specs.declared.place.Place.{Place}
+use Rattle.bl_tree.specs.declared.scalar.Scalar.{Scalar as ScalarType}
+use Rattle.bl_tree.specs.declared.tree.Expr.{Expr, fold-roll-Expr}
+use Rattle.bl_tree.specs.declared.tree.ExprKind.{ExprKind, fold-ExprKind, fold-roll-ExprKind, map-ExprKind, out-roll-ExprKind, roll-ExprKind}
+use Rattle.bl_tree.specs.declared.tree.ExprKind.TheOpen.{ExprKind-F}
+use Rattle.bl_tree.specs.declared.tree.Part.{Part, fold-Part}
+use Rattle.bl_tree.specs.declared.tree.Path.{Path, fold-Path}
+use Rattle.bl_tree.specs.declared.tree.Ty.{Ty}
+use Rattle.bl_tree.specs.declared.tree.Unit.{Unit as UnitDef}
+use Rattle.bl_tree.specs.declared.tree.UnitKind.TheVariants.{Function}
+use Rattle.bl_tree.specs.Scalar.{in_range}
+use Rattle.bl_tree.specs.Types.{scalar, scalar_in}
+use Rattle.bl_tree.specs.Typing.{Site, cast_type, expr_type, kind_type, one_type, part_type, path_type, site_of, two_type, type_of, type_of_path}
+use Rattle.bl_tree.proofs.ExprInduction.{Cases, expr, induct}
+use Rattle.bl_eval.specs.declared.datum.Operand.{Operand}
+use Rattle.bl_eval.specs.Meaning.{meaning_of}
+use Rattle.bl_eval.proofs.ExprFits.{Sound, expr_fits}
+use Rattle.bl_eval.proofs.FitLemmas.{scalar_is}
+use Rattle.bl_eval.proofs.OperatorFits.{DatumFits, OperandFits, operand_fits, where_holds}
+use Rattle.bl_eval.proofs.PartFits.{type_of_part}
+use Rattle.bl_eval.proofs.PassLemmas.{and_left, and_right}
+use Rattle.bl_named.specs.declared.expr.NamedExpr.{NamedExpr, out-NamedExpr}
+use Rattle.bl_named.specs.declared.item.NamedConstant.{NamedConstant}
+use Rattle.bl_named.specs.declared.types.NamedType.{NamedType}
+use Rattle.bl_named.specs.Placed.{expr_placed}
+use Rattle.bl_types.specs.declared.environment.Environment.{Environment}
+use Rattle.bl_types.specs.declared.failure.Failure.{Failure}
+use Rattle.bl_types.specs.declared.form.Form.{Form}
+use Rattle.bl_types.specs.declared.form.Form.TheVariants.{Failing, Open, Of}
+use Rattle.bl_types.specs.declared.form.Valued.{Valued}
+use Rattle.bl_types.specs.Declarations.{Initial, after_constant, closed_initial, constant_failures, constant_of, expr_of_form, initial, not_folded, not_scalar, type_of_form, typed_initial}
+use Rattle.bl_types.specs.Expressions.{Judged, closed_form, in_context, judged, of_settled}
+use Rattle.bl_types.specs.Folded.{constant_kind, constant_layer, constant_part, constant_path, folded, is_constant, no_values, not_constant, nowhere, number_in, number_or_zero}
+use Rattle.bl_types.specs.Settled.{Settled, int32}
+use Rattle.bl_types.specs.Written.{bad_lengths, written_type}
+use Rattle.bl_types_laws.specs.Fitting.{FormFits, InitialFits, IsMade}
+use Rattle.bl_types_laws.specs.Within.{ConstantStands, Within, calls_functions, known_in}
+use Rattle.bl_types_laws.proofs.Expressions.{expressions_fit, some_of, wanted_fits}
+use Rattle.bl_types_laws.proofs.Forms.{nil_left, nil_right, unless_holds}
+use Rattle.bl_types_laws.proofs.Typed.{kind_at}
+
+-- ---- a constant's value has the same type at each site
+
+module _ (site other : Site) where
+  abbrev P : Expr → Type 0
+  P e = is_constant e ≡ true → type_of site e ≡ type_of other e
+
+  abbrev Q : Path → Type 0
+  Q path = Unit {0}
+
+  abbrev Layer : Type 0
+  Layer = ExprKind-F ExprKind Part Expr Path
+
+  abbrev constant_by : Layer → Bool
+  constant_by layer = constant_kind
+      (map-ExprKind ExprKind Part Expr Path Bool (Unit {0}) Bool (Unit {0})
+      (fold-ExprKind Bool (Unit {0}) Bool (Unit {0}) constant_kind constant_part constant_layer constant_path)
+      (fold-Part Bool (Unit {0}) Bool (Unit {0}) constant_kind constant_part constant_layer constant_path) is_constant
+      (fold-Path Bool (Unit {0}) Bool (Unit {0}) constant_kind constant_part constant_layer constant_path) layer)
+
+  constant_is : (place : Place) (layer : Layer) → is_constant (expr place layer) ≡ constant_by layer
+  constant_is place layer = rw (fold-roll-Expr, fold-roll-ExprKind) refl
+
+  abbrev typed_by : Site → Layer → Option Ty
+  typed_by site layer = kind_type site
+      (map-ExprKind ExprKind Part Expr Path (Option Ty) (Ty → Option Ty) (Option Ty) (Option Ty)
+      (fold-ExprKind (Option Ty) (Ty → Option Ty) (Option Ty) (Option Ty) (kind_type site) (part_type site) expr_type (path_type site)) (type_of_part site) (type_of site) (type_of_path site) layer)
+
+  by_kind : (place : Place) (layer : Layer) → (constant_by layer ≡ true → typed_by site layer ≡ typed_by other layer) → P (expr place layer)
+  by_kind place layer same is =
+      kind_at site place (roll-ExprKind layer) layer (out-roll-ExprKind layer)
+      ∙ same (sym (constant_is place layer) ∙ is)
+      ∙ sym (kind_at other place (roll-ExprKind layer) layer (out-roll-ExprKind layer))
+
+  same_cases : Cases P Q
+  same_cases = record {
+    literal = λ place n s. by_kind place (ExprKind-F.Literal n s) (λ is. refl);
+    read = λ place path leads. by_kind place (ExprKind-F.Read path) (λ is. absurd (cc));
+    prev = λ place k. by_kind place (ExprKind-F.Prev k) (λ is. absurd (cc));
+    one = λ place op a same. by_kind place (ExprKind-F.One op a) (λ is. ap (λ found. option_and_then (one_type op) (option_and_then scalar_in found)) (same is));
+    two = λ place op a b same more. by_kind place (ExprKind-F.Two op a b)
+        (λ is.
+        ap (λ found. option_and_then (λ s. option_and_then (two_type op s) (option_and_then scalar_in (type_of site b))) (option_and_then scalar_in found)) (same (and_left (is_constant a) (is_constant b) is))
+        ∙ ap (λ found. option_and_then (λ s. option_and_then (two_type op s) (option_and_then scalar_in found)) (option_and_then scalar_in (type_of other a))) (more (and_right (is_constant a) (is_constant b) is)));
+    cast = λ place target a same. by_kind place (ExprKind-F.Cast target a) (λ is. ap (λ found. option_and_then (cast_type target) (option_and_then scalar_in found)) (same is));
+    call = λ place f inputs each. by_kind place (ExprKind-F.Call f inputs) (λ is. absurd (cc));
+    path = λ place root parts ty each. tt;
+  }
+
+  same_everywhere : (e : Expr) → is_constant e ≡ true → type_of site e ≡ type_of other e
+  same_everywhere = induct P Q same_cases
+
+-- ---- the number of a constant
+
+-- a unit with nothing in it
+abbrev empty : UnitDef
+empty = record { name = []; place = record { start = 0; end = 0 }; kind = Function; vars = []; inputs = 0; outputs = 0; result = None; body = [] }
+
+number_of_type : (s : ScalarType) (found : Option Operand) (a : Operand) → IfSome found (OperandFits s) → found ≡ Some a → in_range s a.n ≡ true
+number_of_type s None a fit is = absurd (cc)
+number_of_type s (Some b) a fit is = subst (λ (a : Operand). in_range s a.n ≡ true) (same_Some b a is) fit.1
+
+number_fits : (site : Site) (e : Expr) (ty : Ty) (s : ScalarType) (a : Operand) → type_of site e ≡ Some ty → scalar_in ty ≡ Some s → is_constant e ≡ true → number_in e ≡ Some a → in_range s a.n ≡ true
+number_fits site e ty s a typed scalar_is constant is =
+    let there : type_of (site_of [] [] empty) e ≡ Some ty = sym (same_everywhere site (site_of [] [] empty) e constant) ∙ typed in
+    let sound : Sound [] [] empty [] = record { structs_stand = refl; vars_stand = refl; callees_fit = tt } in
+    let fit : IfSome (meaning_of nowhere e no_values) (DatumFits [] ty) = expr_fits [] [] empty [] sound no_values refl refl e ty there in
+    number_of_type s (number_in e) a (operand_fits [] ty s (meaning_of nowhere e no_values) scalar_is fit) is
+
+-- ---- initial values
+
+module _ (site : Site) where
+  closed_fits : (earlier : List Failure) (form : Form) → FormFits site form → (closed_form form).failures ≡ [] → InitialFits site (closed_initial earlier (closed_form form)).valued
+  closed_fits earlier Failing fit none = absurd fit
+  closed_fits earlier (Open e) fit none =
+      let made = fit int32 refl none in
+      record {
+        ty = scalar int32;
+        it = made.it;
+        is_typed = ap (λ made. type_of_form (of_settled int32 made)) made.is;
+        is_made = ap (λ made. expr_of_form (of_settled int32 made)) made.is;
+        fits = made.is_typed;
+      }
+  closed_fits earlier (Of ty e) fit none = record { ty = ty; it = e; is_typed = refl; is_made = refl; fits = fit }
+
+  wanted_initial : (ty : Ty) (earlier : List Failure) (value : Settled) → IsMade site ty value.made → InitialFits site (typed_initial ty earlier value).valued
+  wanted_initial ty earlier value made = record { ty = ty; it = made.it; is_typed = refl; is_made = made.is; fits = made.is_typed }
+
+module _ (env : Environment) (site : Site) (within : Within env site) where
+  -- an initial value in which nothing fails has a type
+  pub initial_fits : (ty : Option NamedType) (e : NamedExpr) → expr_placed (known_in env) e ≡ true → calls_functions env.units e ≡ true → (initial env ty e).failures ≡ [] → InitialFits site (initial env ty e).valued
+  initial_fits (Some written) e placed calls none =
+      let value : Settled = in_context (Some (written_type env.constants written)) (judged env e) in
+      wanted_initial site (written_type env.constants written) (bad_lengths env.constants written) value
+      (wanted_fits env site within e placed calls (written_type env.constants written) (nil_right (bad_lengths env.constants written) value.failures none))
+  initial_fits None e placed calls none =
+      let value : Judged = judged env e in
+      closed_fits site value.failures value.form (expressions_fit env site within e placed calls (nil_left value.failures (closed_form value.form).failures none)) (nil_right value.failures (closed_form value.form).failures none)
+
+  folded_some : (at : Place) (found : Option Operand) → not_constant at found ≡ [] → (a : Operand) × (found ≡ Some a)
+  folded_some at None none = absurd (cc)
+  folded_some at (Some a) none = (a, refl)
+
+  constant_by_value : (name at : Place) (valued : Valued) → InitialFits site valued → constant_failures name at valued ≡ [] → ConstantStands (constant_of valued)
+  constant_by_value name at valued fit none =
+      let scalar_none : not_scalar name (Some fit.ty) ≡ [] = ap (not_scalar name) (sym fit.is_typed) ∙ nil_left (not_scalar name valued.ty) (not_folded at valued.value) none in
+      let found = some_of (scalar_in fit.ty) (unless_holds (is_some (scalar_in fit.ty)) 9 name scalar_none) in
+      let folded_none : not_folded at (Some fit.it) ≡ [] = ap (not_folded at) (sym fit.is_made) ∙ nil_right (not_scalar name valued.ty) (not_folded at valued.value) none in
+      let number = folded_some at (folded fit.it) folded_none in
+      let holds = where_holds (is_constant fit.it) (number_in fit.it) number.0 number.1 in
+      let value : number_or_zero (option_and_then folded valued.value) ≡ number.0.n = ap (λ made. number_or_zero (option_and_then folded made)) fit.is_made ∙ ap number_or_zero number.1 in
+      record {
+        ty = found.0;
+        is_typed = ap (option_and_then scalar_in) fit.is_typed ∙ found.1;
+        is_number = ap (in_range found.0) value ∙ number_fits site fit.it fit.ty found.0 number.0 fit.fits found.1 holds.0 holds.1;
+      }
+
+  -- a constant in which nothing fails has a scalar type, and its number is one of it
+  pub constant_fits : (constant : NamedConstant) → expr_placed (known_in env) constant.value ≡ true → calls_functions env.units constant.value ≡ true → (after_constant constant env).failures ≡ [] →
+      ConstantStands (constant_of (initial env constant.ty constant.value).valued)
+  constant_fits constant placed calls none =
+      let value : Initial = initial env constant.ty constant.value in
+      constant_by_value constant.name.place (out-NamedExpr constant.value).place value.valued
+      (initial_fits constant.ty constant.value placed calls (nil_left value.failures (constant_failures constant.name.place (out-NamedExpr constant.value).place value.valued) none))
+      (nil_right value.failures (constant_failures constant.name.place (out-NamedExpr constant.value).place value.valued) none)

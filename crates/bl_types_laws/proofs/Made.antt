@@ -1,0 +1,41 @@
+-- What is made of the statements of a unit keeps their shape.
+use Rattle.std.proofs.Common.{◌≡◌, ◌+◌, true, ◌&&◌, List, [], ◌∷◌, map, refl, ap, sym, ◌∙◌}
+use Rattle.std.specs.Prelude.{nat_le}
+use Rattle.std.specs.List.{list_all}
+use Rattle.bl_tree.specs.declared.tree.Stmt.{Stmt}
+use Rattle.bl_tree.specs.Apart.{Naming, is_apart, naming_of}
+use Rattle.bl_tree.specs.Depths.{Depth, depth_of, is_shallow, of_all}
+use Rattle.bl_tree.specs.Reduce.{all_of}
+use Rattle.bl_eval.proofs.PassLemmas.{and_left, and_right, both}
+use Rattle.bl_named.specs.declared.item.NamedConstant.{NamedConstant}
+use Rattle.bl_named.specs.declared.item.NamedVar.{NamedVar}
+use Rattle.bl_named.specs.declared.stmt.NamedStmt.{NamedStmt}
+use Rattle.bl_names_laws.specs.Apart as named
+use Rattle.bl_names_laws.specs.Depths as nested
+use Rattle.bl_types.specs.declared.environment.Environment.{Environment}
+use Rattle.bl_types.specs.Statements.{walked_block}
+use Rattle.bl_types_laws.proofs.Orders.{DepthMost, at_limit, one_more}
+use Rattle.bl_types_laws.proofs.ShapeStatements.{statements_in}
+
+shallow_still : (ones others : Depth) → DepthMost ones others → (nat_le (1 + others.blocks) 200 && nat_le others.exprs 200) ≡ true → (nat_le (1 + ones.blocks) 200 && nat_le ones.exprs 200) ≡ true
+shallow_still ones others most shallow =
+    both (nat_le (1 + ones.blocks) 200) (nat_le ones.exprs 200)
+    (at_limit (1 + ones.blocks) (1 + others.blocks) 200 (one_more ones.blocks others.blocks most.blocks) (and_left (nat_le (1 + others.blocks) 200) (nat_le others.exprs 200) shallow))
+    (at_limit ones.exprs others.exprs 200 most.exprs (and_right (nat_le (1 + others.blocks) 200) (nat_le others.exprs 200) shallow))
+
+-- the test of the library
+all_apart_is : {A : Type 0} (naming : A → Naming) (xs : List A) → list_all (λ x. (naming x).apart) xs ≡ all_of (map (λ n. n.apart) (map naming xs))
+all_apart_is naming [] = refl
+all_apart_is naming (x ∷ xs) = ap (λ rest. (naming x).apart && rest) (all_apart_is naming xs)
+
+module _ (constants : List NamedConstant) (vars : List NamedVar) (body : List NamedStmt) (env : Environment) where
+  abbrev made : List Stmt
+  made = (walked_block constants vars body env).made
+
+  pub made_shallow : nested.is_shallow body ≡ true → is_shallow (walked_block constants vars body env).made ≡ true
+  made_shallow shallow = let most = statements_in constants vars body env in shallow_still (of_all (map depth_of made)) (of_all (map nested.depth_of body)) most.depths shallow
+
+  pub made_apart : list_all named.is_apart body ≡ true → list_all is_apart (walked_block constants vars body env).made ≡ true
+  made_apart apart =
+      let most = statements_in constants vars body env in
+      all_apart_is naming_of made ∙ most.namings.all.apart (sym (all_apart_is named.naming_of body) ∙ apart)

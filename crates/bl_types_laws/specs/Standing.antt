@@ -1,0 +1,178 @@
+-- What stands around statements: what they see, what is known before and after them, and how it grows.
+use Rattle.std.specs.Prelude.{◌≡◌, ℕ, Bool, true, ◌&&◌, ◌||◌, is_some, List, [], ◌∷◌, ◌++◌, length, map, take, slice_get, Option, Some, None, option_and_then}
+use Rattle.std.specs.List.{list_all}
+use Rattle.bl_tree.specs.declared.tree.StructDef.{StructDef}
+use Rattle.bl_tree.specs.declared.tree.Ty.{Ty}
+use Rattle.bl_tree.specs.declared.tree.Unit.{Unit as UnitDef}
+use Rattle.bl_tree.specs.Program.{is_entry, names_of, roles_stand}
+use Rattle.bl_tree.specs.Reduce.{all_of}
+use Rattle.bl_tree.specs.Returns.{unit_returns}
+use Rattle.bl_tree.specs.Types.{scalar_in, type_stands}
+use Rattle.bl_tree.specs.Typing.{Site, fits, is_activity, is_fixed, is_function, is_inhabited, is_variable, site_of}
+use Rattle.bl_named.specs.declared.expr.NamedExpr.{NamedExpr}
+use Rattle.bl_named.specs.declared.item.NamedConstant.{NamedConstant}
+use Rattle.bl_named.specs.declared.item.NamedUnit.{NamedUnit}
+use Rattle.bl_named.specs.declared.item.NamedVar.{NamedVar}
+use Rattle.bl_named.specs.declared.stmt.NamedArm.{NamedArm, fold-NamedArm}
+use Rattle.bl_named.specs.declared.stmt.NamedBranch.{NamedBranch, fold-NamedBranch}
+use Rattle.bl_named.specs.declared.stmt.NamedStmt.{NamedStmt, fold-NamedStmt}
+use Rattle.bl_named.specs.declared.stmt.NamedStmtKind.TheOpen.{NamedStmtKind-F, NamedArm-F, NamedBranch-F, NamedStmt-F}
+use Rattle.bl_named.specs.Placed.{Earlier, holds_if, holds_of, parameters}
+use Rattle.bl_types.specs.declared.environment.Constant.{Constant}
+use Rattle.bl_types.specs.declared.environment.Environment.{Environment}
+use Rattle.bl_types.specs.declared.environment.Variable.{Variable}
+use Rattle.bl_types.specs.Statements.{Block, Walked}
+use Rattle.bl_types.specs.Units.{drives, is_scalar}
+use Rattle.bl_types_laws.specs.Within.{ConstantStands, VariableThere, calls_functions, has_parameters, known_in, target_calls}
+
+-- ---- what naming a spelled tree gives
+
+-- a declaration without a value is of a `var` with a type, one with a value of a `var` or a `let`
+abbrev pub declared_by : NamedVar → Option NamedExpr → Bool
+declared_by var (Some e) = is_variable var.role || is_fixed var.role
+declared_by var None = is_variable var.role && is_some var.ty
+
+abbrev pub kind_named : List NamedConstant → List NamedVar → List UnitDef → NamedStmtKind-F Bool Bool Bool Bool → Bool
+kind_named constants vars units (NamedStmtKind-F.Declare k e) = holds_of (λ var. declared_by var e) (slice_get vars k) && holds_if (calls_functions units) e
+kind_named constants vars units (NamedStmtKind-F.Const k) = holds_of (λ constant. calls_functions units constant.value) (slice_get constants k)
+kind_named constants vars units (NamedStmtKind-F.Assign target e) = target_calls units target && calls_functions units e
+kind_named constants vars units (NamedStmtKind-F.Call at f inputs outputs) = holds_of (λ unit. is_function unit.kind) (slice_get units f) && list_all (calls_functions units) inputs
+kind_named constants vars units (NamedStmtKind-F.Await e) = calls_functions units e
+kind_named constants vars units (NamedStmtKind-F.Run target at a inputs outputs) = holds_of (λ unit. is_activity unit.kind) (slice_get units a) && list_all (calls_functions units) inputs
+kind_named constants vars units (NamedStmtKind-F.If arms other) = is_inhabited arms && (all_of arms && all_of other)
+kind_named constants vars units (NamedStmtKind-F.Cobegin branches) = is_inhabited branches && all_of branches
+kind_named constants vars units (NamedStmtKind-F.When guard e body) = calls_functions units e && all_of body
+kind_named constants vars units (NamedStmtKind-F.Repeat body) = all_of body
+kind_named constants vars units (NamedStmtKind-F.Until body e) = all_of body && calls_functions units e
+kind_named constants vars units (NamedStmtKind-F.While e body) = calls_functions units e && all_of body
+kind_named constants vars units (NamedStmtKind-F.Return e) = holds_if (calls_functions units) e
+
+abbrev pub arm_named : List UnitDef → NamedArm-F Bool Bool Bool Bool → Bool
+arm_named units arm = calls_functions units arm.test && all_of arm.body
+
+abbrev pub branch_named : NamedBranch-F Bool Bool Bool Bool → Bool
+branch_named branch = all_of branch.body
+
+abbrev pub stmt_layer_named : NamedStmt-F Bool Bool Bool Bool → Bool
+stmt_layer_named s = s.what
+
+-- whether calls in a statement name functions and runs activities, each declaration without a value is of a `var` with a
+-- type, and each `if` and `cobegin` has a part
+abbrev pub stmt_named : List NamedConstant → List NamedVar → List UnitDef → NamedStmt → Bool
+stmt_named constants vars units = fold-NamedStmt Bool Bool Bool Bool (kind_named constants vars units) (arm_named units) branch_named stmt_layer_named
+
+abbrev pub named_arm : List NamedConstant → List NamedVar → List UnitDef → NamedArm → Bool
+named_arm constants vars units = fold-NamedArm Bool Bool Bool Bool (kind_named constants vars units) (arm_named units) branch_named stmt_layer_named
+
+abbrev pub named_branch : List NamedConstant → List NamedVar → List UnitDef → NamedBranch → Bool
+named_branch constants vars units = fold-NamedBranch Bool Bool Bool Bool (kind_named constants vars units) (arm_named units) branch_named stmt_layer_named
+
+-- ---- what is known before and after
+
+-- the fields of each struct have types that name earlier structs alone
+abbrev pub FieldsStand : List StructDef → Type 0
+FieldsStand structs = (k : ℕ) (def : StructDef) → slice_get structs k ≡ Some def → list_all (λ field. type_stands k field.ty) def.fields ≡ true
+
+-- what a statement sees beside variables and constants is that of the site
+pub record Around (env : Environment) (site : Site) : Type 0 where
+  pub later : List StructDef
+  pub structs : site.structs ≡ env.structs ++ later
+  pub units : env.units ≡ site.earlier
+  pub kind : env.kind ≡ site.kind
+  pub result : env.result ≡ site.result
+  pub heads : list_all has_parameters site.earlier ≡ true
+
+-- a variable has a type, which names structs that are declared before it
+pub record VariableKnown (structs : ℕ) (known : Variable) : Type 0 where
+  pub ty : Ty
+  pub is_typed : known.ty ≡ Some ty
+  pub stands : type_stands structs ty ≡ true
+
+-- each variable has a type, each constant is a number of a scalar type, and the fields of structs have types
+pub record Known (env : Environment) : Type 0 where
+  pub vars : (k : ℕ) (known : Variable) → slice_get env.vars k ≡ Some known → VariableKnown (length env.structs) known
+  pub fields : FieldsStand env.structs
+  pub constants : (k : ℕ) (constant : Constant) → slice_get env.constants k ≡ Some constant → ConstantStands constant
+
+-- each variable is the one of the site at its position
+abbrev pub VariablesThere : Environment → Site → Type 0
+VariablesThere env site = (k : ℕ) (known : Variable) → slice_get env.vars k ≡ Some known → VariableThere site k known
+
+-- whether a type is there, and is scalar
+abbrev pub has_scalar : Option Ty → Bool
+has_scalar ty = is_some (option_and_then scalar_in ty)
+
+-- a variable is that of the unit at this position, and has a scalar type where one is written
+pub record NamedAs (vars : List NamedVar) (k : ℕ) (known : Variable) : Type 0 where
+  pub var : NamedVar
+  pub is_there : slice_get vars k ≡ Some var
+  pub name : known.name ≡ var.name.text
+  pub place : known.place ≡ var.name.place
+  pub role : known.role ≡ var.role
+  pub scalar : is_scalar var.ty ≡ true → has_scalar known.ty ≡ true
+
+-- each of the variables is that of the unit at its position
+abbrev pub VariablesNamed : List NamedVar → List Variable → Type 0
+VariablesNamed vars variables = (k : ℕ) (known : Variable) → slice_get variables k ≡ Some known → NamedAs vars k known
+
+-- variables and constants are added alone
+pub record Grown (before after : Environment) : Type 0 where
+  pub vars : List Variable
+  pub has_vars : after.vars ≡ before.vars ++ vars
+  pub constants : List Constant
+  pub has_constants : after.constants ≡ before.constants ++ constants
+  pub structs : after.structs ≡ before.structs
+  pub units : after.units ≡ before.units
+  pub kind : after.kind ≡ before.kind
+  pub result : after.result ≡ before.result
+
+-- what is known after a part of a body: as much as is counted, and what is made of the part is good where the variables are those
+-- of the site; it is made, where it must be
+pub record Passed {A : Type 0} (must : Bool) (site : Site) (good : A → Bool) (before : Environment) (counts : Earlier) (after : Walked A) : Type 0 where
+  pub grown : Grown before after.env
+  pub known : Known after.env
+  pub counts_are : known_in after.env ≡ counts
+  pub is_good : VariablesThere after.env site → (a : A) → after.made ≡ Some a → good a ≡ true
+  pub is_made : must ≡ true → VariablesThere after.env site → (a : A) × (after.made ≡ Some a)
+
+-- the same of a list of parts; something is made where something must be, and there are parts
+pub record BlockPassed {A : Type 0} (site : Site) (good : A → Bool) (inhabited : Bool) (before : Environment) (counts : Earlier) (after : Block A) : Type 0 where
+  pub grown : Grown before after.env
+  pub known : Known after.env
+  pub counts_are : known_in after.env ≡ counts
+  pub is_good : VariablesThere after.env site → all_of (map good after.made) ≡ true
+  pub is_inhabited_still : inhabited ≡ true → VariablesThere after.env site → is_inhabited after.made ≡ true
+
+-- ---- units
+
+-- what is known between units: no variable, and units whose parameters are among their variables
+pub record Between (env : Environment) : Type 0 where
+  pub vars : env.vars ≡ []
+  pub known : Known env
+  pub heads : list_all has_parameters env.units ≡ true
+
+-- whether the parameters of a unit have types, and its statements are named
+abbrev pub unit_named : List NamedConstant → List UnitDef → NamedUnit → Bool
+unit_named constants units unit = list_all (λ var. is_some var.ty) (take (parameters unit) unit.vars) && list_all (stmt_named constants unit.vars units) unit.body
+
+-- what is known after a unit: as much as is counted, and the unit with its types, each of whose
+-- statements fits, and whose variables have types that stand, and the names and roles that are named
+pub record UnitPassed (structs : List StructDef) (unit : NamedUnit) (before : Environment) (counts : Earlier) (after : Environment) : Type 0 where
+  pub between : Between after
+  pub counts_are : known_in after ≡ counts
+  pub same_structs : after.structs ≡ before.structs
+  pub made : UnitDef
+  pub is_made : after.units ≡ before.units ++ made ∷ []
+  pub is_good : list_all (fits (site_of structs before.units made)) made.body ≡ true
+  pub vars_stand : list_all (λ var. type_stands (length structs) var.ty) made.vars ≡ true
+  pub roles : roles_stand made ≡ true
+  pub names : names_of made.vars ≡ map (λ var. var.name.text) unit.vars
+  pub kind : made.kind ≡ unit.kind
+  pub entry : drives unit ≡ true → is_entry (Some made) ≡ true
+  pub returns : unit_returns made ≡ true
+
+-- the unit at the position is one that the environment can drive
+pub record IsDriven (units : List NamedUnit) (k : ℕ) : Type 0 where
+  pub unit : NamedUnit
+  pub is_there : slice_get units k ≡ Some unit
+  pub is_driven : drives unit ≡ true
