@@ -38,7 +38,10 @@ pub static BUILTINS: [(&str, Builtin); 120] = [
     ("bl_rem_i16", Builtin::Two(Op::Rem, Scalar::Int(Width::W16))),
     ("bl_of_s_i16", Builtin::Cast(true, Scalar::Int(Width::W16))),
     ("bl_of_u_i16", Builtin::Cast(false, Scalar::Int(Width::W16))),
-    ("bl_neg_i16", Builtin::One(Op::Minus, Scalar::Int(Width::W16))),
+    (
+        "bl_neg_i16",
+        Builtin::One(Op::Minus, Scalar::Int(Width::W16)),
+    ),
     ("bl_add_i32", Builtin::Two(Op::Add, Scalar::Int(Width::W32))),
     ("bl_sub_i32", Builtin::Two(Op::Sub, Scalar::Int(Width::W32))),
     ("bl_mul_i32", Builtin::Two(Op::Mul, Scalar::Int(Width::W32))),
@@ -46,7 +49,10 @@ pub static BUILTINS: [(&str, Builtin); 120] = [
     ("bl_rem_i32", Builtin::Two(Op::Rem, Scalar::Int(Width::W32))),
     ("bl_of_s_i32", Builtin::Cast(true, Scalar::Int(Width::W32))),
     ("bl_of_u_i32", Builtin::Cast(false, Scalar::Int(Width::W32))),
-    ("bl_neg_i32", Builtin::One(Op::Minus, Scalar::Int(Width::W32))),
+    (
+        "bl_neg_i32",
+        Builtin::One(Op::Minus, Scalar::Int(Width::W32)),
+    ),
     ("bl_add_i64", Builtin::Two(Op::Add, Scalar::Int(Width::W64))),
     ("bl_sub_i64", Builtin::Two(Op::Sub, Scalar::Int(Width::W64))),
     ("bl_mul_i64", Builtin::Two(Op::Mul, Scalar::Int(Width::W64))),
@@ -54,7 +60,10 @@ pub static BUILTINS: [(&str, Builtin); 120] = [
     ("bl_rem_i64", Builtin::Two(Op::Rem, Scalar::Int(Width::W64))),
     ("bl_of_s_i64", Builtin::Cast(true, Scalar::Int(Width::W64))),
     ("bl_of_u_i64", Builtin::Cast(false, Scalar::Int(Width::W64))),
-    ("bl_neg_i64", Builtin::One(Op::Minus, Scalar::Int(Width::W64))),
+    (
+        "bl_neg_i64",
+        Builtin::One(Op::Minus, Scalar::Int(Width::W64)),
+    ),
     ("bl_add_n8", Builtin::Two(Op::Add, Scalar::Nat(Width::W8))),
     ("bl_sub_n8", Builtin::Two(Op::Sub, Scalar::Nat(Width::W8))),
     ("bl_mul_n8", Builtin::Two(Op::Mul, Scalar::Nat(Width::W8))),
@@ -90,11 +99,23 @@ pub static BUILTINS: [(&str, Builtin); 120] = [
     ("bl_rem_b8", Builtin::Two(Op::Rem, Scalar::Bits(Width::W8))),
     ("bl_of_s_b8", Builtin::Cast(true, Scalar::Bits(Width::W8))),
     ("bl_of_u_b8", Builtin::Cast(false, Scalar::Bits(Width::W8))),
-    ("bl_neg_b8", Builtin::One(Op::Minus, Scalar::Bits(Width::W8))),
-    ("bl_not_b8", Builtin::One(Op::BitNot, Scalar::Bits(Width::W8))),
-    ("bl_and_b8", Builtin::Two(Op::BitAnd, Scalar::Bits(Width::W8))),
+    (
+        "bl_neg_b8",
+        Builtin::One(Op::Minus, Scalar::Bits(Width::W8)),
+    ),
+    (
+        "bl_not_b8",
+        Builtin::One(Op::BitNot, Scalar::Bits(Width::W8)),
+    ),
+    (
+        "bl_and_b8",
+        Builtin::Two(Op::BitAnd, Scalar::Bits(Width::W8)),
+    ),
     ("bl_or_b8", Builtin::Two(Op::BitOr, Scalar::Bits(Width::W8))),
-    ("bl_xor_b8", Builtin::Two(Op::BitXor, Scalar::Bits(Width::W8))),
+    (
+        "bl_xor_b8",
+        Builtin::Two(Op::BitXor, Scalar::Bits(Width::W8)),
+    ),
     ("bl_shl_b8", Builtin::Two(Op::Shl, Scalar::Bits(Width::W8))),
     ("bl_shr_b8", Builtin::Two(Op::Shr, Scalar::Bits(Width::W8))),
     (
@@ -134,7 +155,10 @@ pub static BUILTINS: [(&str, Builtin); 120] = [
         "bl_and_b16",
         Builtin::Two(Op::BitAnd, Scalar::Bits(Width::W16)),
     ),
-    ("bl_or_b16", Builtin::Two(Op::BitOr, Scalar::Bits(Width::W16))),
+    (
+        "bl_or_b16",
+        Builtin::Two(Op::BitOr, Scalar::Bits(Width::W16)),
+    ),
     (
         "bl_xor_b16",
         Builtin::Two(Op::BitXor, Scalar::Bits(Width::W16)),
@@ -184,7 +208,10 @@ pub static BUILTINS: [(&str, Builtin); 120] = [
         "bl_and_b32",
         Builtin::Two(Op::BitAnd, Scalar::Bits(Width::W32)),
     ),
-    ("bl_or_b32", Builtin::Two(Op::BitOr, Scalar::Bits(Width::W32))),
+    (
+        "bl_or_b32",
+        Builtin::Two(Op::BitOr, Scalar::Bits(Width::W32)),
+    ),
     (
         "bl_xor_b32",
         Builtin::Two(Op::BitXor, Scalar::Bits(Width::W32)),
@@ -234,7 +261,10 @@ pub static BUILTINS: [(&str, Builtin); 120] = [
         "bl_and_b64",
         Builtin::Two(Op::BitAnd, Scalar::Bits(Width::W64)),
     ),
-    ("bl_or_b64", Builtin::Two(Op::BitOr, Scalar::Bits(Width::W64))),
+    (
+        "bl_or_b64",
+        Builtin::Two(Op::BitOr, Scalar::Bits(Width::W64)),
+    ),
     (
         "bl_xor_b64",
         Builtin::Two(Op::BitXor, Scalar::Bits(Width::W64)),

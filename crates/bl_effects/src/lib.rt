@@ -7,12 +7,10 @@ pub mod laws;
 mod marked;
 mod mentions;
 mod sets;
-mod static_path;
 mod table;
 #[cfg(test)]
 mod tests;
 
 pub use marked::Marked;
 pub use mentions::static_of;
-pub use static_path::Static;
 pub use table::Effects;
