@@ -44,9 +44,11 @@ module _ (items : List RawItem) (passes : Passes items) where
   stands_at : (before : Marks) (mark : Mark) (rest : Marks) → marks_of items ≡ before ++ (mark ∷ rest) → Stands (marks_of items) mark (after file_scope before)
   stands_at before mark rest there = record { before = before; rest = rest; there = there; are_open = refl }
 
-  use_fits : (before : Marks) (name : Name) (wanted : Wanted) (rest : Marks) → marks_of items ≡ before ++ (uses name wanted ∷ rest) → IsFit (after file_scope before) name wanted
+  use_fits : (before : Marks) (name : Name) (wanted : Wanted) (rest : Marks) → marks_of items ≡ before ++ (uses name wanted ∷ rest)
+      → IsFit (after file_scope before) name wanted
   use_fits before name wanted rest there =
-      elim (bound (after file_scope before) name.text) as (λ found. bound (after file_scope before) name.text ≡ found → IsFit (after file_scope before) name wanted) [
+      elim (bound (after file_scope before) name.text) as (λ found. bound (after file_scope before) name.text ≡ found
+      → IsFit (after file_scope before) name wanted) [
         | None ↦ λ is. absurd (passes 7 name.place [] (inr (inl (
           refl,
           record {
@@ -87,7 +89,8 @@ module _ (items : List RawItem) (passes : Passes items) where
   rest_fits before [] there = tt
   rest_fits before (mark ∷ rest) there = (
     mark_fits before mark rest there,
-    subst (λ s. Fits s rest) (after-append file_scope before (mark ∷ [])) (rest_fits (before ++ (mark ∷ [])) rest (there ∙ sym (append_assoc before (mark ∷ []) rest))),
+    subst (λ s. Fits s rest) (after-append file_scope before (mark ∷ []))
+        (rest_fits (before ++ (mark ∷ [])) rest (there ∙ sym (append_assoc before (mark ∷ []) rest))),
   )
 
   pub program_fits : Fits file_scope (marks_of items)

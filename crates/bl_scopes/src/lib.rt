@@ -3,7 +3,6 @@
 #![tactic(auto)]
 
 mod expr;
-mod failure;
 mod item;
 mod judge;
 pub mod kind;
