@@ -4,6 +4,7 @@ use Rattle.std.specs.Prelude.{bytes_eq, is_none, ⊤}
 use Rattle.std.specs.List.{list_all}
 use Rattle.std.proofs.lemmas.Bool.{not-true}
 use Rattle.std.proofs.lemmas.Slice.Eq.{bytes_eq-Decides}
+use Rattle.bl_tree.specs.declared.rule.Rule.TheVariants as rule
 use Rattle.bl_tree.specs.Words.{are_distinct, is_among}
 use Rattle.bl_raw.specs.declared.item.RawItem.{RawItem}
 use Rattle.bl_raw.specs.declared.name.Name.{Name}
@@ -40,7 +41,7 @@ module _ (items : List RawItem) (passes : Passes items) where
   declares_fresh before name kind rest there =
       elim (found (after file_scope before).inner name.text) as (λ earlier. found (after file_scope before).inner name.text ≡ earlier → earlier ≡ None) [
         | None ↦ λ is. refl
-        | Some d ↦ λ is. absurd (passes 6 name.place (d.place ∷ []) (inl (
+        | Some d ↦ λ is. absurd (passes rule.Duplicate name.place (d.place ∷ []) (inl (
           refl,
           record {
             name = name;
