@@ -1,5 +1,5 @@
 -- The positions in statements are in place, where every use fits.
-use Rattle.std.proofs.Common.{◌≡◌, ℕ, ◌+◌, Bool, true, ◌&&◌, ◌||◌, List, [], ◌∷◌, ◌++◌, map, length, Option, Some, None, refl, sym, ap, subst, ◌∙◌, append_assoc, arith}
+use Rattle.std.proofs.Common.{◌≡◌, ℕ, ◌+◌, Bool, true, ◌&&◌, ◌||◌, List, [], ◌∷◌, ◌++◌, map, length, Option, Some, None, refl, sym, ap, subst, ◌∙◌, append_assoc}
 use Rattle.std.specs.Prelude.{All, option_and_then, option_map, slice_get, if◌then◌else◌}
 use Rattle.std.specs.List.{list_all}
 use Rattle.std.proofs.lemmas.Bool.{eq-eqb}
@@ -27,15 +27,15 @@ use Rattle.bl_scopes.specs.Marks.{Marks, argument_marks, closes, declares, expr_
 use Rattle.bl_scopes.specs.Scopes.{Scopes, after, enter, left}
 use Rattle.bl_raw.specs.declared.expr.RawExpr.{RawExpr}
 use Rattle.bl_raw.specs.declared.name.Name.{Name}
-use Rattle.bl_raw.specs.declared.stmt.RawArm.{RawArm, fold-roll-RawArm, roll-RawArm}
-use Rattle.bl_raw.specs.declared.stmt.RawBranch.{RawBranch, fold-roll-RawBranch, roll-RawBranch}
+use Rattle.bl_raw.specs.declared.stmt.RawArm.{RawArm, roll-RawArm}
+use Rattle.bl_raw.specs.declared.stmt.RawBranch.{RawBranch, roll-RawBranch}
 use Rattle.bl_raw.specs.declared.stmt.RawConstant.{RawConstant}
 use Rattle.bl_raw.specs.declared.stmt.RawPath.{RawPath}
-use Rattle.bl_raw.specs.declared.stmt.RawStmt.{RawStmt, fold-roll-RawStmt}
-use Rattle.bl_raw.specs.declared.stmt.RawStmtKind.{RawStmtKind, fold-roll-RawStmtKind}
+use Rattle.bl_raw.specs.declared.stmt.RawStmt.{RawStmt}
+use Rattle.bl_raw.specs.declared.stmt.RawStmtKind.{RawStmtKind}
 use Rattle.bl_raw.specs.declared.stmt.RawStmtKind.TheOpen.{RawStmtKind-F}
 use Rattle.bl_raw.specs.declared.types.RawType.{RawType}
-use Rattle.bl_names.specs.Named.{Piece, all, arm_piece, branch_piece, constant_piece, constants_of_all, kind_piece, made_of_all, marks_of_all, named_constant, named_var, opened, own_scope, piece_of_arm, piece_of_branch, stmt_layer_piece, stmt_piece, vars_of_all}
+use Rattle.bl_names.specs.Named.{Piece, all, constant_piece, constants_of_all, kind_piece, made_of_all, marks_of_all, named_constant, named_var, opened, own_scope, piece_of_arm, piece_of_branch, stmt_piece, vars_of_all}
 use Rattle.bl_names.specs.Naming.{named_expr, named_path, named_target, named_type, position}
 use Rattle.bl_names.proofs.BelowLemmas.{Below, OuterBelow, constant_below, variable_below}
 use Rattle.bl_names.proofs.FitLemmas.{Fits, fits_behind, fits_first, fits_second}

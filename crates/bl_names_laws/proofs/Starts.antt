@@ -4,7 +4,7 @@ use Rattle.std.specs.Prelude.{All, IsTrue, Some, option_map}
 use Rattle.std.proofs.lemmas.List.Elements.{All-head, All-tail}
 use Rattle.bl_tree.specs.declared.place.Place.{Place}
 use Rattle.bl_tree.specs.Reduce.{joined}
-use Rattle.bl_named.specs.declared.expr.NamedExpr.{NamedExpr, out-roll-NamedExpr}
+use Rattle.bl_named.specs.declared.expr.NamedExpr.{NamedExpr, out-roll-NamedExpr, roll-NamedExpr}
 use Rattle.bl_named.specs.declared.expr.NamedExprKind.{NamedExprKind}
 use Rattle.bl_named.specs.declared.expr.NamedPart.{NamedPart}
 use Rattle.bl_named.specs.declared.expr.NamedTarget.{NamedTarget}
@@ -12,7 +12,8 @@ use Rattle.bl_named.specs.declared.stmt.NamedStmtKind.{out-NamedStmtKind}
 use Rattle.bl_named.specs.declared.stmt.NamedStmtKind.TheOpen.{NamedStmtKind-F}
 use Rattle.bl_named.specs.declared.stmt.NamedStmtKind.TheVariants as what
 use Rattle.bl_named.specs.Starts.{Starts, all_starts, arm_starts, branch_starts, start_of, starts_of, starts_of_arm, starts_of_branch, stmt_kind_starts, stmt_layer_starts, unit_starts}
-use Rattle.bl_raw.specs.declared.expr.RawExpr.{RawExpr, fold_out-RawExpr}
+use Rattle.bl_raw.specs.declared.expr.RawExpr.{RawExpr, fold_out-RawExpr, out-RawExpr}
+use Rattle.bl_raw.specs.declared.expr.RawExprKind.{RawExprKind, fold-RawExprKind}
 use Rattle.bl_raw.specs.declared.item.RawItem.{RawItem}
 use Rattle.bl_raw.specs.declared.item.RawItem.TheVariants as item
 use Rattle.bl_raw.specs.declared.stmt.RawArm.{RawArm, fold-RawArm}
@@ -28,12 +29,17 @@ use Rattle.bl_names.proofs.PieceLemmas.{arm_is, branch_is, parts, stmt_is}
 use Rattle.bl_names.proofs.RawStmtInduction.{Cases, induct, stmt}
 use Rattle.bl_names_laws.proofs.Made.{NamedLayer, RawLayer, named_arm_at, named_at, named_branch_at, named_parts, raw_arm_at, raw_at, raw_branch_at, raw_parts}
 
+start_at : (place : Place) (kind : NamedExprKind) → start_of (roll-NamedExpr (record { place = place; what = kind })) ≡ place.start
+start_at place kind = ap (λ layer. layer.place.start) (out-roll-NamedExpr (record { place = place; what = kind }))
+
 -- a condition begins where it did
 start_same : (scopes : Scopes) (e : RawExpr) → start_of (named_expr scopes e) ≡ raw.start_of e
 start_same scopes e =
+    let of_kind : RawExprKind → NamedExprKind =
+    fold-RawExprKind NamedExprKind NamedPart NamedExpr NamedTarget (named_kind scopes) named_part named_expr_layer (named_target_layer scopes) in
     ap start_of
     (fold_out-RawExpr NamedExprKind NamedPart NamedExpr NamedTarget (named_kind scopes) named_part named_expr_layer (named_target_layer scopes) e)
-    ∙ rw out-roll-NamedExpr refl
+    ∙ start_at (out-RawExpr e).place (of_kind (out-RawExpr e).what)
 
 abbrev arm_before : RawArm → Starts
 arm_before = fold-RawArm Starts Starts Starts Starts raw.stmt_kind_starts raw.arm_starts raw.branch_starts raw.stmt_layer_starts
