@@ -14,7 +14,8 @@ pub data FailsFirst (raw : Raw) : Rule → Place → List Place → Type 0 where
   -- one of Duplicate, Unknown and Kind
   names : (rule : Rule) (place : Place) (also : List Place) → NamesFailFirst raw.items rule place also → FailsFirst raw rule place also
   -- none of these, and one of Type, Literal, Immutable, Constant, Arity, Prev, Return, Where and Entry
-  types : (rule : Rule) (place : Place) (also : List Place) → NamesPass raw.items → TypesFailFirst (named_of raw) rule place also → FailsFirst raw rule place also
+  types : (rule : Rule) (place : Place) (also : List Place) → NamesPass raw.items → TypesFailFirst (named_of raw) rule place also →
+      FailsFirst raw rule place also
 
 -- the refusal names the first of these; want of memory has no cause in the tree
 abbrev pub IsCause : Raw → Refusal → Type 0

@@ -52,7 +52,8 @@ outputs_length unit has =
     length-take-le unit.outputs (drop unit.inputs unit.vars) (grind (arith, has, dropped))
 
 -- what is complete is what is made of it
-pub complete_if : (holds : Bool) (make : List Expr → List Path → StmtKind) (inputs : List Expr) (outputs : List Path) (a : StmtKind) → (if holds then Some (make inputs outputs) else None) ≡ Some a → make inputs outputs ≡ a
+pub complete_if : (holds : Bool) (make : List Expr → List Path → StmtKind) (inputs : List Expr) (outputs : List Path) (a : StmtKind) →
+    (if holds then Some (make inputs outputs) else None) ≡ Some a → make inputs outputs ≡ a
 complete_if true make inputs outputs a is = same_Some (make inputs outputs) a is
 complete_if false make inputs outputs a is = absurd (cc)
 
@@ -61,40 +62,58 @@ pub record Complete (site : Site) (arguments : Arguments) (callee : UnitDef) : T
   pub fit : arguments_fit site arguments.inputs arguments.outputs callee ≡ true
 
 module _ (env : Environment) (site : Site) (within : Within env site) where
-  pub condition_fits : (e : NamedExpr) → expr_placed (known_in env) e ≡ true → calls_functions env.units e ≡ true → (condition env e).failures ≡ [] → IsMade site (scalar OfBool) (condition env e).made
+  pub condition_fits : (e : NamedExpr) → expr_placed (known_in env) e ≡ true → calls_functions env.units e ≡ true → (condition env e).failures ≡ [] →
+      IsMade site (scalar OfBool) (condition env e).made
   condition_fits e placed calls = wanted_fits env site within e placed calls (scalar OfBool)
 
-  each_judged : (inputs : List NamedExpr) → list_all (expr_placed (known_in env)) inputs ≡ true → list_all (calls_functions env.units) inputs ≡ true → All (JudgedFits site) (map (judged env) inputs)
+  each_judged : (inputs : List NamedExpr) → list_all (expr_placed (known_in env)) inputs ≡ true → list_all (calls_functions env.units) inputs ≡ true →
+      All (JudgedFits site) (map (judged env) inputs)
   each_judged [] placed calls = All-nil (JudgedFits site)
   each_judged (e ∷ rest) placed calls =
       All-cons (JudgedFits site) (judged env e) (map (judged env) rest)
-      (expressions_fit env site within e (and_left (expr_placed (known_in env) e) (list_all (expr_placed (known_in env)) rest) placed) (and_left (calls_functions env.units e) (list_all (calls_functions env.units) rest) calls))
-      (each_judged rest (and_right (expr_placed (known_in env) e) (list_all (expr_placed (known_in env)) rest) placed) (and_right (calls_functions env.units e) (list_all (calls_functions env.units) rest) calls))
+      (expressions_fit env site within e (and_left (expr_placed (known_in env) e) (list_all (expr_placed (known_in env)) rest) placed)
+      (and_left (calls_functions env.units e) (list_all (calls_functions env.units) rest) calls))
+      (each_judged rest (and_right (expr_placed (known_in env) e) (list_all (expr_placed (known_in env)) rest) placed)
+      (and_right (calls_functions env.units e) (list_all (calls_functions env.units) rest) calls))
 
-  arguments_by : (at : Place) (inputs : List NamedExpr) (outputs : List NamedPath) (unit : UnitDef) → has_parameters unit ≡ true → list_all (expr_placed (known_in env)) inputs ≡ true → list_all (path_placed (known_in env)) outputs ≡ true →
-      list_all (calls_functions env.units) inputs ≡ true → (arguments_from at (fitted (map (judged env) inputs) (inputs_of unit)) (all_lent env outputs (outputs_of unit)) (Some unit)).failures ≡ [] →
+  arguments_by : (at : Place) (inputs : List NamedExpr) (outputs : List NamedPath) (unit : UnitDef) → has_parameters unit ≡ true →
+      list_all (expr_placed (known_in env)) inputs ≡ true → list_all (path_placed (known_in env)) outputs ≡ true →
+      list_all (calls_functions env.units) inputs ≡ true → (arguments_from at (fitted (map (judged env) inputs) (inputs_of unit))
+      (all_lent env outputs (outputs_of unit)) (Some unit)).failures ≡ [] →
       arguments_fit site (all_made (fitted (map (judged env) inputs) (inputs_of unit))) (paths_made (all_lent env outputs (outputs_of unit))) unit ≡ true
   arguments_by at inputs outputs unit has placed paths calls none =
       let given : List Settled = fitted (map (judged env) inputs) (inputs_of unit) in
       let taken : List Lent = all_lent env outputs (outputs_of unit) in
       let counts : Bool = nat_eq (length given) unit.inputs && nat_eq (length taken) unit.outputs in
-      let behind : paths_failures taken ++ miscounted at (length given) (length taken) unit ≡ [] = nil_right (all_failures given) (paths_failures taken ++ miscounted at (length given) (length taken) unit) none in
-      let counted : counts ≡ true = unless_holds counts rule.Arity at (nil_right (paths_failures taken) (miscounted at (length given) (length taken) unit) behind) in
-      let in_count : length given ≡ unit.inputs = eqb-true (length given) unit.inputs (and_left (nat_eq (length given) unit.inputs) (nat_eq (length taken) unit.outputs) counted) in
-      let out_count : length taken ≡ unit.outputs = eqb-true (length taken) unit.outputs (and_right (nat_eq (length given) unit.inputs) (nat_eq (length taken) unit.outputs) counted) in
-      let fit = inputs_fit site (map (judged env) inputs) (inputs_of unit) (each_judged inputs placed calls) (sym (length-fitted (map (judged env) inputs) (inputs_of unit)) ∙ in_count ∙ sym (inputs_length unit has))
+      let behind : paths_failures taken ++ miscounted at (length given) (length taken) unit ≡ [] =
+      nil_right (all_failures given) (paths_failures taken ++ miscounted at (length given) (length taken) unit) none in
+      let counted : counts ≡ true = unless_holds counts rule.Arity at (nil_right (paths_failures taken) (miscounted at (length given) (length taken) unit)
+      behind) in
+      let in_count : length given ≡ unit.inputs = eqb-true (length given) unit.inputs
+      (and_left (nat_eq (length given) unit.inputs) (nat_eq (length taken) unit.outputs) counted) in
+      let out_count : length taken ≡ unit.outputs = eqb-true (length taken) unit.outputs
+      (and_right (nat_eq (length given) unit.inputs) (nat_eq (length taken) unit.outputs) counted) in
+      let fit = inputs_fit site (map (judged env) inputs) (inputs_of unit) (each_judged inputs placed calls)
+      (sym (length-fitted (map (judged env) inputs) (inputs_of unit)) ∙ in_count ∙ sym (inputs_length unit has))
       (nil_left (all_failures given) (paths_failures taken ++ miscounted at (length given) (length taken) unit) none) in
-      let lent = all_lent_fit env site within outputs (outputs_of unit) paths (sym (length-all_lent env outputs (outputs_of unit)) ∙ out_count ∙ sym (outputs_length unit has))
+      let lent = all_lent_fit env site within outputs (outputs_of unit) paths
+      (sym (length-all_lent env outputs (outputs_of unit)) ∙ out_count ∙ sym (outputs_length unit has))
       (nil_left (paths_failures taken) (miscounted at (length given) (length taken) unit) behind) in
       both (types_match (map (type_of site) (all_made given)) (inputs_of unit)) _ fit.match
-      (both (types_match (map (type_of_path site) (paths_made taken)) (outputs_of unit)) (all_of (map (is_outlet site) (paths_made taken))) lent.match lent.outlets)
+      (both (types_match (map (type_of_path site) (paths_made taken)) (outputs_of unit)) (all_of (map (is_outlet site) (paths_made taken))) lent.match
+      lent.outlets)
 
   -- the arguments for a unit that is known fit, where nothing fails in them
-  pub arguments_good : (at : Place) (f : ℕ) (inputs : List NamedExpr) (outputs : List NamedPath) (unit : UnitDef) → slice_get env.units f ≡ Some unit → list_all (expr_placed (known_in env)) inputs ≡ true →
-      list_all (path_placed (known_in env)) outputs ≡ true → list_all (calls_functions env.units) inputs ≡ true → (arguments env at f inputs outputs).failures ≡ [] → Complete site (arguments env at f inputs outputs) unit
+  pub arguments_good : (at : Place) (f : ℕ) (inputs : List NamedExpr) (outputs : List NamedPath) (unit : UnitDef) → slice_get env.units f ≡ Some unit →
+      list_all (expr_placed (known_in env)) inputs ≡ true →
+      list_all (path_placed (known_in env)) outputs ≡ true → list_all (calls_functions env.units) inputs ≡ true →
+      (arguments env at f inputs outputs).failures ≡ [] → Complete site (arguments env at f inputs outputs) unit
   arguments_good at f inputs outputs unit there placed paths calls none =
-      let is : arguments env at f inputs outputs ≡ arguments_from at (fitted (map (judged env) inputs) (inputs_of unit)) (all_lent env outputs (outputs_of unit)) (Some unit) =
-      ap (λ (callee : Option UnitDef). arguments_from at (fitted (map (judged env) inputs) (params_of callee)) (all_lent env outputs (outputs_wanted callee)) callee) there in
-      let has : has_parameters unit ≡ true = all_at has_parameters site.earlier f unit within.heads (ap (λ units. slice_get units f) (sym within.units) ∙ there) in
+      let is : arguments env at f inputs outputs ≡ arguments_from at (fitted (map (judged env) inputs) (inputs_of unit))
+      (all_lent env outputs (outputs_of unit)) (Some unit) =
+      ap (λ (callee : Option UnitDef). arguments_from at (fitted (map (judged env) inputs) (params_of callee)) (all_lent env outputs (outputs_wanted callee))
+      callee) there in
+      let has : has_parameters unit ≡ true = all_at has_parameters site.earlier f unit within.heads (ap (λ units. slice_get units f) (sym within.units) ∙ there)
+      in
       subst (λ (arguments : Arguments). Complete site arguments unit) (sym is)
       (record { fit = arguments_by at inputs outputs unit has placed paths calls (ap (λ (arguments : Arguments). arguments.failures) (sym is) ∙ none) })

@@ -53,14 +53,16 @@ each_walk named W (x ∷ xs) each all =
 
 pub all_mapped : {X : Type 0} (named : X → Bool) (xs : List X) → list_all named xs ≡ true → all_of (map named xs) ≡ true
 all_mapped named [] all = refl
-all_mapped named (x ∷ xs) all = both (named x) (all_of (map named xs)) (and_left (named x) (list_all named xs) all) (all_mapped named xs (and_right (named x) (list_all named xs) all))
+all_mapped named (x ∷ xs) all = both (named x) (all_of (map named xs)) (and_left (named x) (list_all named xs) all)
+    (all_mapped named xs (and_right (named x) (list_all named xs) all))
 
 inhabited_mapped : {X Y : Type 0} (f : X → Y) (xs : List X) → is_inhabited (map f xs) ≡ is_inhabited xs
 inhabited_mapped f [] = refl
 inhabited_mapped f (x ∷ xs) = refl
 
 -- what must be made, as what may be
-may_be_made : {A : Type 0} (site : Site) (good : A → Bool) (env : Environment) (counts : Earlier) (after : Walked A) → Passed true site good env counts after → Passed false site good env counts after
+may_be_made : {A : Type 0} (site : Site) (good : A → Bool) (env : Environment) (counts : Earlier) (after : Walked A) → Passed true site good env counts after →
+    Passed false site good env counts after
 may_be_made site good env counts after passed = record {
   grown = passed.grown;
   known = passed.known;
@@ -70,7 +72,8 @@ may_be_made site good env counts after passed = record {
 }
 
 -- a block of which something is made
-whole_passed : {A : Type 0} (site : Site) (good : A → Bool) (inhabited : Bool) (env : Environment) (counts : Earlier) (body : Block Stmt) (a : A) → BlockPassed site (fits site) inhabited env counts body →
+whole_passed : {A : Type 0} (site : Site) (good : A → Bool) (inhabited : Bool) (env : Environment) (counts : Earlier) (body : Block Stmt) (a : A) →
+    BlockPassed site (fits site) inhabited env counts body →
     (all_of (map (fits site) body.made) ≡ true → good a ≡ true) → Passed true site good env counts (walked body.env (Some a) body.failures)
 whole_passed site good inhabited env counts body a passed fit = record {
   grown = passed.grown;
@@ -88,18 +91,23 @@ module _ (constants : List NamedConstant) (vars : List NamedVar) (site : Site) w
   Q arm = named_arm constants vars site.earlier arm ≡ true → WalkFits true site (good_arm site) (arm_walked constants vars arm) (step_of_arm vars constants arm)
 
   abbrev R : NamedBranch → Type 0
-  R branch = named_branch constants vars site.earlier branch ≡ true → WalkFits true site (good_branch site) (branch_walked constants vars branch) (step_of_branch vars constants branch)
+  R branch = named_branch constants vars site.earlier branch ≡ true → WalkFits true site (good_branch site) (branch_walked constants vars branch)
+      (step_of_branch vars constants branch)
 
-  body_fits : (body : List NamedStmt) → All P body → all_of (map (stmt_named constants vars site.earlier) body) ≡ true → (env : Environment) → Around env site → Known env → (counts : Earlier) →
+  body_fits : (body : List NamedStmt) → All P body → all_of (map (stmt_named constants vars site.earlier) body) ≡ true → (env : Environment) → Around env site →
+      Known env → (counts : Earlier) →
       in_turn (map (stmt_step vars constants) body) (known_in env) ≡ Some counts → (in_order (map (walked_stmt constants vars) body) env).failures ≡ [] →
       BlockPassed site (fits site) false env counts (in_order (map (walked_stmt constants vars) body) env)
   body_fits body each named =
       block_fits false site (fits site) (walked_stmt constants vars) (stmt_step vars constants) body
-      (each_walk (stmt_named constants vars site.earlier) (λ s. WalkFits false site (fits site) (walked_stmt constants vars s) (stmt_step vars constants s)) body each named)
+      (each_walk (stmt_named constants vars site.earlier) (λ s. WalkFits false site (fits site) (walked_stmt constants vars s) (stmt_step vars constants s))
+      body each named)
 
   -- a condition and a block behind it
-  under_passed : {A : Type 0} (good : A → Bool) (earlier : List Failure) (e : NamedExpr) (body : List NamedStmt) (make : Expr → List Stmt → A) → All P body → all_of (map (stmt_named constants vars site.earlier) body) ≡ true →
-      calls_functions site.earlier e ≡ true → (env : Environment) → Around env site → Known env → (counts : Earlier) → tested e (map (stmt_step vars constants) body) (known_in env) ≡ Some counts →
+  under_passed : {A : Type 0} (good : A → Bool) (earlier : List Failure) (e : NamedExpr) (body : List NamedStmt) (make : Expr → List Stmt → A) → All P body →
+      all_of (map (stmt_named constants vars site.earlier) body) ≡ true →
+      calls_functions site.earlier e ≡ true → (env : Environment) → Around env site → Known env → (counts : Earlier) →
+      tested e (map (stmt_step vars constants) body) (known_in env) ≡ Some counts →
       ((test : Expr) (body : List Stmt) → is_truth (type_of site test) ≡ true → all_of (map (fits site) body) ≡ true → good (make test body) ≡ true) →
       (earlier ++ ((condition env e).failures ++ (in_order (map (walked_stmt constants vars) body) env).failures)) ≡ [] →
       Passed true site good env counts (under earlier (condition env e) (in_order (map (walked_stmt constants vars) body) env) make)
@@ -110,7 +118,8 @@ module _ (constants : List NamedConstant) (vars : List NamedVar) (site : Site) w
       let behind : test.failures ++ all.failures ≡ [] = nil_right earlier (test.failures ++ all.failures) none in
       let passed = body_fits body each named env around known counts holds.1 (nil_right test.failures all.failures behind) in
       let tests : VariablesThere all.env site → IsMade site (scalar OfBool) test.made =
-      λ there. condition_fits env site (within_of env site around known (grown_there env all.env site passed.grown there)) e holds.0 (own_calls env site around e calls)
+      λ there. condition_fits env site (within_of env site around known (grown_there env all.env site passed.grown there)) e holds.0
+      (own_calls env site around e calls)
       (nil_left test.failures all.failures behind) in
       record {
         grown = passed.grown;
@@ -148,34 +157,43 @@ module _ (constants : List NamedConstant) (vars : List NamedVar) (site : Site) w
     is_made = λ must there. absurd (not_must must);
   }
 
-  by_kind : (place : Place) (layer : Layer) → (named_by layer ≡ true → WalkFits false site (good place) (walked_by constants vars layer place) (step_by constants vars layer)) → P (stmt place layer)
+  by_kind : (place : Place) (layer : Layer) → (named_by layer ≡ true → WalkFits false site (good place) (walked_by constants vars layer place)
+      (step_by constants vars layer)) → P (stmt place layer)
   by_kind place layer fit named env around known counts step none =
       subst (λ (walk : Walk Stmt). Passed false site (fits site) env counts (walk env)) (sym (walked_is constants vars place layer))
       (in_place place env counts (walked_by constants vars layer place env)
-      (fit (sym (named_is place layer) ∙ named) env around known counts (ap (λ (step : Step). step (known_in env)) (sym (step_is constants vars place layer)) ∙ step)
+      (fit (sym (named_is place layer) ∙ named) env around known counts (ap (λ (step : Step). step (known_in env)) (sym (step_is constants vars place layer))
+      ∙ step)
       (ap (λ (walk : Walk Stmt). (walk env).failures) (sym (walked_is constants vars place layer)) ∙ none)))
 
   -- ---- statements with blocks
 
-  if_good : (place : Place) (arms : List Arm) (other : List Stmt) → is_inhabited arms ≡ true → all_of (map (good_arm site) arms) ≡ true → all_of (map (fits site) other) ≡ true → good place (what.If arms other) ≡ true
+  if_good : (place : Place) (arms : List Arm) (other : List Stmt) → is_inhabited arms ≡ true → all_of (map (good_arm site) arms) ≡ true →
+      all_of (map (fits site) other) ≡ true → good place (what.If arms other) ≡ true
   if_good place arms other some each rest =
       fits_is site place (what.If arms other) (StmtKind-F.If arms other) (what.outs-If arms other)
-      ∙ both (is_inhabited (map (good_arm site) arms)) _ (inhabited_mapped (good_arm site) arms ∙ some) (both (all_of (map (good_arm site) arms)) (all_of (map (fits site) other)) each rest)
+      ∙ both (is_inhabited (map (good_arm site) arms)) _ (inhabited_mapped (good_arm site) arms ∙ some)
+      (both (all_of (map (good_arm site) arms)) (all_of (map (fits site) other)) each rest)
 
   if_fits : (place : Place) (arms : List NamedArm) (other : List NamedStmt) → All Q arms → All P other → P (stmt place (NamedStmtKind-F.If arms other))
   if_fits place arms other each rest = by_kind place (NamedStmtKind-F.If arms other)
       (λ named env around known counts step none.
-      let some : is_inhabited (map (named_arm constants vars site.earlier) arms) ≡ true = and_left (is_inhabited (map (named_arm constants vars site.earlier) arms)) _ named in
-      let parts = and_right (is_inhabited (map (named_arm constants vars site.earlier) arms)) (all_of (map (named_arm constants vars site.earlier) arms) && all_of (map (stmt_named constants vars site.earlier) other)) named in
+      let some : is_inhabited (map (named_arm constants vars site.earlier) arms) ≡ true =
+      and_left (is_inhabited (map (named_arm constants vars site.earlier) arms)) _ named in
+      let parts = and_right (is_inhabited (map (named_arm constants vars site.earlier) arms))
+      (all_of (map (named_arm constants vars site.earlier) arms) && all_of (map (stmt_named constants vars site.earlier) other)) named in
       let all : Block Arm = in_order (map (arm_walked constants vars) arms) env in
       let last : Block Stmt = in_order (map (walked_stmt constants vars) other) all.env in
       let found = some_found (in_turn (map (stmt_step vars constants) other)) (in_turn (map (step_of_arm vars constants) arms) (known_in env)) counts step in
       let first = block_fits true site (good_arm site) (arm_walked constants vars) (step_of_arm vars constants) arms
-      (each_walk (named_arm constants vars site.earlier) (λ arm. WalkFits true site (good_arm site) (arm_walked constants vars arm) (step_of_arm vars constants arm)) arms each
+      (each_walk (named_arm constants vars site.earlier) (λ arm. WalkFits true site (good_arm site) (arm_walked constants vars arm)
+      (step_of_arm vars constants arm)) arms each
       (and_left (all_of (map (named_arm constants vars site.earlier) arms)) (all_of (map (stmt_named constants vars site.earlier) other)) parts))
       env around known found.0 found.1 (nil_left all.failures last.failures none) in
-      let second = body_fits other rest (and_right (all_of (map (named_arm constants vars site.earlier) arms)) (all_of (map (stmt_named constants vars site.earlier) other)) parts) all.env
-      (grown_around env all.env site first.grown around) first.known counts (ap (in_turn (map (stmt_step vars constants) other)) first.counts_are ∙ found.2) (nil_right all.failures last.failures none) in
+      let second = body_fits other rest (and_right (all_of (map (named_arm constants vars site.earlier) arms))
+      (all_of (map (stmt_named constants vars site.earlier) other)) parts) all.env
+      (grown_around env all.env site first.grown around) first.known counts (ap (in_turn (map (stmt_step vars constants) other)) first.counts_are ∙ found.2)
+      (nil_right all.failures last.failures none) in
       record {
         grown = grown_further env all.env last.env first.grown second.grown;
         known = second.known;
@@ -183,23 +201,29 @@ module _ (constants : List NamedConstant) (vars : List NamedVar) (site : Site) w
         is_good = λ there a is.
             let before = grown_there all.env last.env site second.grown there in
             subst (λ a. good place a ≡ true) (same_Some (what.If all.made last.made) a is)
-            (if_good place all.made last.made (first.is_inhabited_still (sym (inhabited_mapped (named_arm constants vars site.earlier) arms) ∙ some) before) (first.is_good before) (second.is_good there));
+            (if_good place all.made last.made (first.is_inhabited_still (sym (inhabited_mapped (named_arm constants vars site.earlier) arms) ∙ some) before)
+            (first.is_good before) (second.is_good there));
         is_made = λ must there. absurd (not_must must);
       })
 
-  cobegin_good : (place : Place) (branches : List Branch) → is_activity site.kind ≡ true → is_inhabited branches ≡ true → all_of (map (good_branch site) branches) ≡ true → good place (what.Cobegin branches) ≡ true
+  cobegin_good : (place : Place) (branches : List Branch) → is_activity site.kind ≡ true → is_inhabited branches ≡ true →
+      all_of (map (good_branch site) branches) ≡ true → good place (what.Cobegin branches) ≡ true
   cobegin_good place branches own some each =
       fits_is site place (what.Cobegin branches) (StmtKind-F.Cobegin branches) (what.outs-Cobegin branches)
-      ∙ both (is_activity site.kind) _ own (both (is_inhabited (map (good_branch site) branches)) (all_of (map (good_branch site) branches)) (inhabited_mapped (good_branch site) branches ∙ some) each)
+      ∙ both (is_activity site.kind) _ own (both (is_inhabited (map (good_branch site) branches)) (all_of (map (good_branch site) branches))
+      (inhabited_mapped (good_branch site) branches ∙ some) each)
 
   cobegin_fits : (place : Place) (branches : List NamedBranch) → All R branches → P (stmt place (NamedStmtKind-F.Cobegin branches))
   cobegin_fits place branches each = by_kind place (NamedStmtKind-F.Cobegin branches)
       (λ named env around known counts step none.
       let all : Block Branch = in_order (map (branch_walked constants vars) branches) env in
-      let some = and_left (is_inhabited (map (named_branch constants vars site.earlier) branches)) (all_of (map (named_branch constants vars site.earlier) branches)) named in
+      let some = and_left (is_inhabited (map (named_branch constants vars site.earlier) branches))
+      (all_of (map (named_branch constants vars site.earlier) branches)) named in
       let passed = block_fits true site (good_branch site) (branch_walked constants vars) (step_of_branch vars constants) branches
-      (each_walk (named_branch constants vars site.earlier) (λ branch. WalkFits true site (good_branch site) (branch_walked constants vars branch) (step_of_branch vars constants branch)) branches each
-      (and_right (is_inhabited (map (named_branch constants vars site.earlier) branches)) (all_of (map (named_branch constants vars site.earlier) branches)) named))
+      (each_walk (named_branch constants vars site.earlier) (λ branch. WalkFits true site (good_branch site) (branch_walked constants vars branch)
+      (step_of_branch vars constants branch)) branches each
+      (and_right (is_inhabited (map (named_branch constants vars site.earlier) branches)) (all_of (map (named_branch constants vars site.earlier) branches))
+      named))
       env around known counts step (nil_right (misplaced env.kind place) all.failures none) in
       record {
         grown = passed.grown;
@@ -215,13 +239,16 @@ module _ (constants : List NamedConstant) (vars : List NamedVar) (site : Site) w
   when_fits : (place : Place) (guard : Guard) (e : NamedExpr) (body : List NamedStmt) → All P body → P (stmt place (NamedStmtKind-F.When guard e body))
   when_fits place guard e body each = by_kind place (NamedStmtKind-F.When guard e body)
       (λ named env around known counts step none.
-      may_be_made site (good place) env counts (under (misplaced env.kind place) (condition env e) (in_order (map (walked_stmt constants vars) body) env) (what.When guard))
+      may_be_made site (good place) env counts (under (misplaced env.kind place) (condition env e) (in_order (map (walked_stmt constants vars) body) env)
+      (what.When guard))
       (under_passed (good place) (misplaced env.kind place) e body (what.When guard) each
-      (and_right (calls_functions site.earlier e) (all_of (map (stmt_named constants vars site.earlier) body)) named) (and_left (calls_functions site.earlier e) (all_of (map (stmt_named constants vars site.earlier) body)) named)
+      (and_right (calls_functions site.earlier e) (all_of (map (stmt_named constants vars site.earlier) body)) named)
+      (and_left (calls_functions site.earlier e) (all_of (map (stmt_named constants vars site.earlier) body)) named)
       env around known counts step
       (λ test made truth all.
       fits_is site place (what.When guard test made) (StmtKind-F.When guard test made) (what.outs-When guard test made)
-      ∙ both (is_activity site.kind) _ (own_kind site place env around (nil_left (misplaced env.kind place) _ none)) (both (is_truth (type_of site test)) (all_of (map (fits site) made)) truth all))
+      ∙ both (is_activity site.kind) _ (own_kind site place env around (nil_left (misplaced env.kind place) _ none))
+      (both (is_truth (type_of site test)) (all_of (map (fits site) made)) truth all))
       none))
 
   repeat_fits : (place : Place) (body : List NamedStmt) → All P body → P (stmt place (NamedStmtKind-F.Repeat body))
@@ -232,9 +259,11 @@ module _ (constants : List NamedConstant) (vars : List NamedVar) (site : Site) w
       (whole_passed site (good place) false env counts all (what.Repeat all.made) (body_fits body each named env around known counts step none)
       (λ good. fits_is site place (what.Repeat all.made) (StmtKind-F.Repeat all.made) (what.outs-Repeat all.made) ∙ good)))
 
-  until_good : (place : Place) (body : List Stmt) (test : Expr) → all_of (map (fits site) body) ≡ true → is_truth (type_of site test) ≡ true → good place (what.Until body test) ≡ true
+  until_good : (place : Place) (body : List Stmt) (test : Expr) → all_of (map (fits site) body) ≡ true → is_truth (type_of site test) ≡ true →
+      good place (what.Until body test) ≡ true
   until_good place body test all truth =
-      fits_is site place (what.Until body test) (StmtKind-F.Until body test) (what.outs-Until body test) ∙ both (all_of (map (fits site) body)) (is_truth (type_of site test)) all truth
+      fits_is site place (what.Until body test) (StmtKind-F.Until body test) (what.outs-Until body test)
+      ∙ both (all_of (map (fits site) body)) (is_truth (type_of site test)) all truth
 
   until_fits : (place : Place) (body : List NamedStmt) (e : NamedExpr) → All P body → P (stmt place (NamedStmtKind-F.Until body e))
   until_fits place body e each = by_kind place (NamedStmtKind-F.Until body e)
@@ -242,7 +271,8 @@ module _ (constants : List NamedConstant) (vars : List NamedVar) (site : Site) w
       let all : Block Stmt = in_order (map (walked_stmt constants vars) body) env in
       let test : Settled = condition all.env e in
       let holds = where_holds (expr_placed (known_in env) e) (in_turn (map (stmt_step vars constants) body) (known_in env)) counts step in
-      let passed = body_fits body each (and_left (all_of (map (stmt_named constants vars site.earlier) body)) (calls_functions site.earlier e) named) env around known counts holds.1 (nil_left all.failures test.failures none) in
+      let passed = body_fits body each (and_left (all_of (map (stmt_named constants vars site.earlier) body)) (calls_functions site.earlier e) named) env around
+      known counts holds.1 (nil_left all.failures test.failures none) in
       let after : Around all.env site = grown_around env all.env site passed.grown around in
       record {
         grown = passed.grown;
@@ -251,8 +281,10 @@ module _ (constants : List NamedConstant) (vars : List NamedVar) (site : Site) w
         is_good = λ there a is.
             let found = map_found (λ e. what.Until all.made e) test.made a is in
             let made = condition_fits all.env site (within_of all.env site after passed.known there) e (placed_still env all.env passed.grown e holds.0)
-            (own_calls all.env site after e (and_right (all_of (map (stmt_named constants vars site.earlier) body)) (calls_functions site.earlier e) named)) (nil_right all.failures test.failures none) in
-            subst (λ a. good place a ≡ true) found.2 (until_good place all.made found.0 (passed.is_good there) (truth_made site test.made found.0 made found.1));
+            (own_calls all.env site after e (and_right (all_of (map (stmt_named constants vars site.earlier) body)) (calls_functions site.earlier e) named))
+            (nil_right all.failures test.failures none) in
+            subst (λ a. good place a ≡ true) found.2 (until_good place all.made found.0 (passed.is_good there)
+            (truth_made site test.made found.0 made found.1));
         is_made = λ must there. absurd (not_must must);
       })
 
@@ -261,36 +293,46 @@ module _ (constants : List NamedConstant) (vars : List NamedVar) (site : Site) w
       (λ named env around known counts step none.
       may_be_made site (good place) env counts (under [] (condition env e) (in_order (map (walked_stmt constants vars) body) env) what.While)
       (under_passed (good place) [] e body what.While each
-      (and_right (calls_functions site.earlier e) (all_of (map (stmt_named constants vars site.earlier) body)) named) (and_left (calls_functions site.earlier e) (all_of (map (stmt_named constants vars site.earlier) body)) named)
+      (and_right (calls_functions site.earlier e) (all_of (map (stmt_named constants vars site.earlier) body)) named)
+      (and_left (calls_functions site.earlier e) (all_of (map (stmt_named constants vars site.earlier) body)) named)
       env around known counts step
       (λ test made truth all.
-      fits_is site place (what.While test made) (StmtKind-F.While test made) (what.outs-While test made) ∙ both (is_truth (type_of site test)) (all_of (map (fits site) made)) truth all)
+      fits_is site place (what.While test made) (StmtKind-F.While test made) (what.outs-While test made)
+      ∙ both (is_truth (type_of site test)) (all_of (map (fits site) made)) truth all)
       none))
 
   -- ---- arms and branches
 
   arm_case : (test : NamedExpr) (body : List NamedStmt) → All P body → Q (roll-NamedArm (record { test = test; body = body }))
   arm_case test body each named env around known counts step none =
-      let named_as : named_arm constants vars site.earlier (roll-NamedArm (record { test = test; body = body })) ≡ (calls_functions site.earlier test && all_of (map (stmt_named constants vars site.earlier) body)) = rw fold-roll-NamedArm refl in
-      let walked_as : arm_walked constants vars (roll-NamedArm (record { test = test; body = body })) ≡ walked_arm (record { test = test; body = map (walked_stmt constants vars) body }) = rw fold-roll-NamedArm refl in
-      let step_as : step_of_arm vars constants (roll-NamedArm (record { test = test; body = body })) ≡ tested test (map (stmt_step vars constants) body) = rw fold-roll-NamedArm refl in
+      let named_as : named_arm constants vars site.earlier (roll-NamedArm (record { test = test; body = body }))
+      ≡ (calls_functions site.earlier test && all_of (map (stmt_named constants vars site.earlier) body)) = rw fold-roll-NamedArm refl in
+      let walked_as : arm_walked constants vars (roll-NamedArm (record { test = test; body = body }))
+      ≡ walked_arm (record { test = test; body = map (walked_stmt constants vars) body }) = rw fold-roll-NamedArm refl in
+      let step_as : step_of_arm vars constants (roll-NamedArm (record { test = test; body = body })) ≡ tested test (map (stmt_step vars constants) body) =
+      rw fold-roll-NamedArm refl in
       let named' : (calls_functions site.earlier test && all_of (map (stmt_named constants vars site.earlier) body)) ≡ true = sym named_as ∙ named in
       subst (λ (walk : Walk Arm). Passed true site (good_arm site) env counts (walk env)) (sym walked_as)
       (under_passed (good_arm site) [] test body arm_of each
-      (and_right (calls_functions site.earlier test) (all_of (map (stmt_named constants vars site.earlier) body)) named') (and_left (calls_functions site.earlier test) (all_of (map (stmt_named constants vars site.earlier) body)) named')
+      (and_right (calls_functions site.earlier test) (all_of (map (stmt_named constants vars site.earlier) body)) named')
+      (and_left (calls_functions site.earlier test) (all_of (map (stmt_named constants vars site.earlier) body)) named')
       env around known counts (ap (λ (step : Step). step (known_in env)) (sym step_as) ∙ step)
       (λ test made truth all. arm_is site test made ∙ both (is_truth (type_of site test)) (all_of (map (fits site) made)) truth all)
       (ap (λ (walk : Walk Arm). (walk env).failures) (sym walked_as) ∙ none))
 
   branch_case : (weak : Bool) (body : List NamedStmt) → All P body → R (roll-NamedBranch (record { weak = weak; body = body }))
   branch_case weak body each named env around known counts step none =
-      let named_as : named_branch constants vars site.earlier (roll-NamedBranch (record { weak = weak; body = body })) ≡ all_of (map (stmt_named constants vars site.earlier) body) = rw fold-roll-NamedBranch refl in
-      let walked_as : branch_walked constants vars (roll-NamedBranch (record { weak = weak; body = body })) ≡ walked_branch (record { weak = weak; body = map (walked_stmt constants vars) body }) = rw fold-roll-NamedBranch refl in
-      let step_as : step_of_branch vars constants (roll-NamedBranch (record { weak = weak; body = body })) ≡ in_turn (map (stmt_step vars constants) body) = rw fold-roll-NamedBranch refl in
+      let named_as : named_branch constants vars site.earlier (roll-NamedBranch (record { weak = weak; body = body }))
+      ≡ all_of (map (stmt_named constants vars site.earlier) body) = rw fold-roll-NamedBranch refl in
+      let walked_as : branch_walked constants vars (roll-NamedBranch (record { weak = weak; body = body }))
+      ≡ walked_branch (record { weak = weak; body = map (walked_stmt constants vars) body }) = rw fold-roll-NamedBranch refl in
+      let step_as : step_of_branch vars constants (roll-NamedBranch (record { weak = weak; body = body })) ≡ in_turn (map (stmt_step vars constants) body) =
+      rw fold-roll-NamedBranch refl in
       let all : Block Stmt = in_order (map (walked_stmt constants vars) body) env in
       subst (λ (walk : Walk Branch). Passed true site (good_branch site) env counts (walk env)) (sym walked_as)
       (whole_passed site (good_branch site) false env counts all (roll-Branch (record { weak = weak; body = all.made }))
-      (body_fits body each (sym named_as ∙ named) env around known counts (ap (λ (step : Step). step (known_in env)) (sym step_as) ∙ step) (ap (λ (walk : Walk Branch). (walk env).failures) (sym walked_as) ∙ none))
+      (body_fits body each (sym named_as ∙ named) env around known counts (ap (λ (step : Step). step (known_in env)) (sym step_as) ∙ step)
+      (ap (λ (walk : Walk Branch). (walk env).failures) (sym walked_as) ∙ none))
       (λ good. branch_is weak all.made ∙ good))
     where
       branch_is : (weak : Bool) (made : List Stmt) → good_branch site (roll-Branch (record { weak = weak; body = made })) ≡ all_of (map (fits site) made)
@@ -301,12 +343,14 @@ module _ (constants : List NamedConstant) (vars : List NamedVar) (site : Site) w
 
   cases : Cases P Q R
   cases = record {
-    declare = λ place k value. by_kind place (NamedStmtKind-F.Declare k value) (declare_fits site (good place) k (slice_get vars k) value (declare_good place k));
+    declare = λ place k value. by_kind place (NamedStmtKind-F.Declare k value)
+        (declare_fits site (good place) k (slice_get vars k) value (declare_good place k));
     constant = λ place k. by_kind place (NamedStmtKind-F.Const k) (constant_walk_fits site (good place) k (slice_get constants k));
     assign = λ place target e. by_kind place (NamedStmtKind-F.Assign target e) (assign_fits site place target e);
     call = λ place name f inputs outputs. by_kind place (NamedStmtKind-F.Call name f inputs outputs) (call_fit site place name f inputs outputs);
     await = λ place e. by_kind place (NamedStmtKind-F.Await e) (await_fits site place e);
-    run = λ place target name a inputs outputs. by_kind place (NamedStmtKind-F.Run target name a inputs outputs) (run_fit site place target name a inputs outputs);
+    run = λ place target name a inputs outputs. by_kind place (NamedStmtKind-F.Run target name a inputs outputs)
+        (run_fit site place target name a inputs outputs);
     branching = if_fits;
     cobegin = cobegin_fits;
     guarded = when_fits;
@@ -319,21 +363,25 @@ module _ (constants : List NamedConstant) (vars : List NamedVar) (site : Site) w
   }
 
   -- a statement in which nothing fails fits
-  pub statement_fits : (s : NamedStmt) → stmt_named constants vars site.earlier s ≡ true → WalkFits false site (fits site) (walked_stmt constants vars s) (stmt_step vars constants s)
+  pub statement_fits : (s : NamedStmt) → stmt_named constants vars site.earlier s ≡ true →
+      WalkFits false site (fits site) (walked_stmt constants vars s) (stmt_step vars constants s)
   statement_fits = induct P Q R cases
 
   -- and so does an arm
-  pub arm_fits_there : (arm : NamedArm) → named_arm constants vars site.earlier arm ≡ true → WalkFits true site (good_arm site) (arm_walked constants vars arm) (step_of_arm vars constants arm)
+  pub arm_fits_there : (arm : NamedArm) → named_arm constants vars site.earlier arm ≡ true →
+      WalkFits true site (good_arm site) (arm_walked constants vars arm) (step_of_arm vars constants arm)
   arm_fits_there = induct_arm P Q R cases
 
-  each_arm : (arms : List NamedArm) → all_of (map (named_arm constants vars site.earlier) arms) ≡ true → All (λ arm. WalkFits true site (good_arm site) (arm_walked constants vars arm) (step_of_arm vars constants arm)) arms
+  each_arm : (arms : List NamedArm) → all_of (map (named_arm constants vars site.earlier) arms) ≡ true →
+      All (λ arm. WalkFits true site (good_arm site) (arm_walked constants vars arm) (step_of_arm vars constants arm)) arms
   each_arm [] named = All-nil (λ arm. WalkFits true site (good_arm site) (arm_walked constants vars arm) (step_of_arm vars constants arm))
   each_arm (arm ∷ rest) named =
       All-cons (λ arm. WalkFits true site (good_arm site) (arm_walked constants vars arm) (step_of_arm vars constants arm)) arm rest
       (arm_fits_there arm (and_left (named_arm constants vars site.earlier arm) (all_of (map (named_arm constants vars site.earlier) rest)) named))
       (each_arm rest (and_right (named_arm constants vars site.earlier arm) (all_of (map (named_arm constants vars site.earlier) rest)) named))
 
-  pub arms_fit : (arms : List NamedArm) → all_of (map (named_arm constants vars site.earlier) arms) ≡ true → (env : Environment) → Around env site → Known env → (counts : Earlier) →
+  pub arms_fit : (arms : List NamedArm) → all_of (map (named_arm constants vars site.earlier) arms) ≡ true → (env : Environment) → Around env site → Known env →
+      (counts : Earlier) →
       in_turn (map (step_of_arm vars constants) arms) (known_in env) ≡ Some counts → (in_order (map (arm_walked constants vars) arms) env).failures ≡ [] →
       BlockPassed site (good_arm site) (true && is_inhabited arms) env counts (in_order (map (arm_walked constants vars) arms) env)
   arms_fit arms named = block_fits true site (good_arm site) (arm_walked constants vars) (step_of_arm vars constants) arms (each_arm arms named)
@@ -343,6 +391,8 @@ module _ (constants : List NamedConstant) (vars : List NamedVar) (site : Site) w
   each_fits (s ∷ rest) = All-cons P s rest (statement_fits s) (each_fits rest)
 
   -- and so do the statements of a block
-  pub statements_fit : (body : List NamedStmt) → list_all (stmt_named constants vars site.earlier) body ≡ true → (env : Environment) → Around env site → Known env → (counts : Earlier) →
-      in_turn (map (stmt_step vars constants) body) (known_in env) ≡ Some counts → (walked_block constants vars body env).failures ≡ [] → BlockPassed site (fits site) false env counts (walked_block constants vars body env)
+  pub statements_fit : (body : List NamedStmt) → list_all (stmt_named constants vars site.earlier) body ≡ true → (env : Environment) → Around env site →
+      Known env → (counts : Earlier) →
+      in_turn (map (stmt_step vars constants) body) (known_in env) ≡ Some counts → (walked_block constants vars body env).failures ≡ [] →
+      BlockPassed site (fits site) false env counts (walked_block constants vars body env)
   statements_fit body named = body_fits body (each_fits body) (all_mapped (stmt_named constants vars site.earlier) body named)

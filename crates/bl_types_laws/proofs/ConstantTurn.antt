@@ -50,8 +50,10 @@ module _ (named : Named) (suits : Suits named) where
     calls =
         let count : scopes.counts.units ≡ length env.units = ap (λ (e : Earlier). e.units) (sym at.counts) in
         suits.constants scopes.counts.constants new_constant
-        (ends_next named.constants scopes.counts.constants (new_constant ∷ along constants_of behind_constant items) at.constants) env.units (earlier scopes) count
-        (at.kinds ∙ ap (map (λ (unit : NamedUnit). unit.kind)) (sym (ends_take named.units scopes.counts.units (along units_of behind_constant items) at.units)) ∙ ap (λ n. map (λ (unit : NamedUnit). unit.kind) (take n named.units)) count)
+        (ends_next named.constants scopes.counts.constants (new_constant ∷ along constants_of behind_constant items) at.constants) env.units (earlier scopes)
+        count
+        (at.kinds ∙ ap (map (λ (unit : NamedUnit). unit.kind)) (sym (ends_take named.units scopes.counts.units (along units_of behind_constant items) at.units))
+        ∙ ap (λ n. map (λ (unit : NamedUnit). unit.kind) (take n named.units)) count)
         (and_right (holds_if (type_placed (earlier scopes)) new_constant.ty) (expr_placed (earlier scopes) new_constant.value) placed_earlier)
 
     at_constant : (after_constant new_constant env).failures ≡ [] → At named behind_constant items (after_constant new_constant env).env
@@ -61,19 +63,23 @@ module _ (named : Named) (suits : Suits named) where
           below = on.below;
           none = on.none;
           fits = fits_second scopes (constant_marks def) (marks_of items) at.fits;
-          structs = ends_on named.structs scopes.counts.structs behind_constant.counts.structs [] (along structs_of behind_constant items) on.more_structs at.structs;
-          constants = ends_on named.constants scopes.counts.constants behind_constant.counts.constants (new_constant ∷ []) (along constants_of behind_constant items) on.more_constants at.constants;
+          structs = ends_on named.structs scopes.counts.structs behind_constant.counts.structs [] (along structs_of behind_constant items) on.more_structs
+              at.structs;
+          constants = ends_on named.constants scopes.counts.constants behind_constant.counts.constants (new_constant ∷ [])
+              (along constants_of behind_constant items) on.more_constants at.constants;
           units = ends_on named.units scopes.counts.units behind_constant.counts.units [] (along units_of behind_constant items) on.more_units at.units;
           counts = same_counts (after_constant new_constant env).env behind_constant
               (no_more (length env.structs) scopes.counts.structs behind_constant.counts.structs (ap (λ (e : Earlier). e.structs) at.counts) on.more_structs)
-              (one_more env.constants (constant_of (initial env new_constant.ty new_constant.value).valued) scopes.counts.constants behind_constant.counts.constants (ap (λ (e : Earlier). e.constants) at.counts) on.more_constants)
+              (one_more env.constants (constant_of (initial env new_constant.ty new_constant.value).valued) scopes.counts.constants
+              behind_constant.counts.constants (ap (λ (e : Earlier). e.constants) at.counts) on.more_constants)
               (no_more (length env.units) scopes.counts.units behind_constant.counts.units (ap (λ (e : Earlier). e.units) at.counts) on.more_units)
               (ap length at.between.vars ∙ sym on.none);
           between = constant_between new_constant env at.between is_placed_there calls none;
           kinds = at.kinds ∙ ap (map (λ (unit : NamedUnit). unit.kind)) (sym (append-nil at.units.before));
         }
 
-    constant_case : (final : Environment) → Made behind_constant items (after_constant new_constant env).env final → Made scopes (item.Constant def ∷ items) env final
+    constant_case : (final : Environment) → Made behind_constant items (after_constant new_constant env).env final →
+        Made scopes (item.Constant def ∷ items) env final
     constant_case final rest = record {
       later = rest.later;
       structs = rest.structs;

@@ -15,7 +15,13 @@ abbrev pub ends_whole : {A : Type 0} (xs : List A) → Ends xs 0 xs
 ends_whole xs = record { before = []; there = refl; is_at = refl }
 
 pub ends_within : {A : Type 0} (xs : List A) (at : ℕ) (part : List A) → Ends xs at part → Within xs at part
-ends_within xs at part ends = record { before = ends.before; rest = []; there = ends.there ∙ ap (λ part. ends.before ++ part) (sym (append-nil part)); is_at = ends.is_at }
+ends_within xs at part ends = record {
+  before = ends.before;
+  rest = [];
+  there = ends.there
+      ∙ ap (λ part. ends.before ++ part) (sym (append-nil part));
+  is_at = ends.is_at;
+}
 
 pub ends_first : {A : Type 0} (xs : List A) (at : ℕ) (a b : List A) → Ends xs at (a ++ b) → Within xs at a
 ends_first xs at a b ends = within_first xs at a b (ends_within xs at (a ++ b) ends)

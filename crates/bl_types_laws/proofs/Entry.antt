@@ -19,9 +19,11 @@ pub record EntryFound (units : List NamedUnit) (k position : ℕ) : Type 0 where
   pub is_at : position ≡ k + far
 
 abbrev entries_if : Bool → Place → NamedUnit → List NamedUnit → List Failure
-entries_if marked end unit rest = if marked then unless (not false && drives unit) rule.Entry unit.name.place ++ entries true end rest else entries false end rest
+entries_if marked end unit rest = if marked then unless (not false && drives unit) rule.Entry unit.name.place
+    ++ entries true end rest else entries false end rest
 
-entry_first : (k : ℕ) (end : Place) (unit : NamedUnit) (rest : List NamedUnit) (marked : Bool) → entries_if marked end unit rest ≡ [] → (entries false end rest ≡ [] → EntryFound rest (k + 1) (entry_among rest (k + 1))) →
+entry_first : (k : ℕ) (end : Place) (unit : NamedUnit) (rest : List NamedUnit) (marked : Bool) → entries_if marked end unit rest ≡ [] →
+    (entries false end rest ≡ [] → EntryFound rest (k + 1) (entry_among rest (k + 1))) →
     EntryFound (unit ∷ rest) k (if marked then k else entry_among rest (k + 1))
 entry_first k end unit rest true none further = record {
   far = 0;

@@ -53,14 +53,18 @@ module _ (units : List UnitDef) where
   calls_step = fold-NamedPart Bool Bool Bool Bool (kind_calls units) part_calls expr_layer_calls target_layer_calls
 
   abbrev pub calls_by : Layer → Bool
-  calls_by layer = kind_calls units (map-NamedExprKind NamedExprKind NamedPart NamedExpr NamedTarget Bool Bool Bool Bool calls_kind calls_step (calls_functions units) (target_calls units) layer)
+  calls_by layer = kind_calls units (map-NamedExprKind NamedExprKind NamedPart NamedExpr NamedTarget Bool Bool Bool Bool calls_kind calls_step
+      (calls_functions units) (target_calls units) layer)
 
-  pub calls_at : (place : Place) (kind : NamedExprKind) (layer : Layer) → out-NamedExprKind kind ≡ layer → calls_functions units (roll-NamedExpr (record { place = place; what = kind })) ≡ calls_by layer
+  pub calls_at : (place : Place) (kind : NamedExprKind) (layer : Layer) → out-NamedExprKind kind ≡ layer →
+      calls_functions units (roll-NamedExpr (record { place = place; what = kind })) ≡ calls_by layer
   calls_at place kind layer is =
-      rw fold-roll-NamedExpr (fold_out-NamedExprKind Bool Bool Bool Bool (kind_calls units) part_calls expr_layer_calls target_layer_calls kind ∙ ap calls_by is)
+      rw fold-roll-NamedExpr (fold_out-NamedExprKind Bool Bool Bool Bool (kind_calls units) part_calls expr_layer_calls target_layer_calls kind
+      ∙ ap calls_by is)
 
   abbrev pub calls_part : PartLayer → Bool
-  calls_part layer = part_calls (map-NamedPart NamedExprKind NamedPart NamedExpr NamedTarget Bool Bool Bool Bool calls_kind calls_step (calls_functions units) (target_calls units) layer)
+  calls_part layer = part_calls (map-NamedPart NamedExprKind NamedPart NamedExpr NamedTarget Bool Bool Bool Bool calls_kind calls_step (calls_functions units)
+      (target_calls units) layer)
 
   pub step_at : (part : NamedPart) (layer : PartLayer) → out-NamedPart part ≡ layer → calls_step part ≡ calls_part layer
   step_at part layer is = fold_out-NamedPart Bool Bool Bool Bool (kind_calls units) part_calls expr_layer_calls target_layer_calls part ∙ ap calls_part is
@@ -72,16 +76,20 @@ module _ (scopes : Scopes) where
   named_of_kind = fold-RawExprKind NamedExprKind NamedPart NamedExpr NamedTarget (named_kind scopes) named_part named_expr_layer (named_target_layer scopes)
 
   abbrev named_parts : RawLayer → RawExprKind-F NamedExprKind NamedPart NamedExpr NamedTarget
-  named_parts = map-RawExprKind RawExprKind RawPart RawExpr RawTarget NamedExprKind NamedPart NamedExpr NamedTarget named_of_kind (named_step scopes) (named_expr scopes) (named_target scopes)
+  named_parts = map-RawExprKind RawExprKind RawPart RawExpr RawTarget NamedExprKind NamedPart NamedExpr NamedTarget named_of_kind (named_step scopes)
+      (named_expr scopes) (named_target scopes)
 
-  named_at : (place : Place) (layer : RawLayer) → named_expr scopes (expr place layer) ≡ roll-NamedExpr (record { place = place; what = named_kind scopes (named_parts layer) })
+  named_at : (place : Place) (layer : RawLayer) → named_expr scopes (expr place layer)
+      ≡ roll-NamedExpr (record { place = place; what = named_kind scopes (named_parts layer) })
   named_at place layer = rw (fold-roll-RawExpr, fold-roll-RawExprKind) refl
 
   named_step_at : (raw : RawPart) (layer : RawPart-F RawExprKind RawPart RawExpr RawTarget) → out-RawPart raw ≡ layer →
-      named_step scopes raw ≡ named_part (map-RawPart RawExprKind RawPart RawExpr RawTarget NamedExprKind NamedPart NamedExpr NamedTarget named_of_kind (named_step scopes) (named_expr scopes) (named_target scopes) layer)
+      named_step scopes raw ≡ named_part (map-RawPart RawExprKind RawPart RawExpr RawTarget NamedExprKind NamedPart NamedExpr NamedTarget named_of_kind
+      (named_step scopes) (named_expr scopes) (named_target scopes) layer)
   named_step_at raw layer is =
       fold_out-RawPart NamedExprKind NamedPart NamedExpr NamedTarget (named_kind scopes) named_part named_expr_layer (named_target_layer scopes) raw
-      ∙ ap (λ layer. named_part (map-RawPart RawExprKind RawPart RawExpr RawTarget NamedExprKind NamedPart NamedExpr NamedTarget named_of_kind (named_step scopes) (named_expr scopes) (named_target scopes) layer)) is
+      ∙ ap (λ layer. named_part (map-RawPart RawExprKind RawPart RawExpr RawTarget NamedExprKind NamedPart NamedExpr NamedTarget named_of_kind
+      (named_step scopes) (named_expr scopes) (named_target scopes) layer)) is
 
 abbrev marks_of_kind : RawExprKind → Marks
 marks_of_kind = fold-RawExprKind Marks Marks Marks (Wanted → Marks) kind_marks part_marks expr_layer_marks target_layer_marks
@@ -93,18 +101,27 @@ marks_at : (place : Place) (layer : RawLayer) → expr_marks (expr place layer) 
 marks_at place layer = rw (fold-roll-RawExpr, fold-roll-RawExprKind) refl
 
 still_part : (part : RawPart) (layer : RawPart-F RawExprKind RawPart RawExpr RawTarget) → out-RawPart part ≡ layer → Still (marks_of_part part)
-still_part part (RawPart-F.Field name) is = rw (fold_out-RawPart Marks Marks Marks (Wanted → Marks) kind_marks part_marks expr_layer_marks target_layer_marks part, is) (λ scopes. refl)
-still_part part (RawPart-F.Index e) is = rw (fold_out-RawPart Marks Marks Marks (Wanted → Marks) kind_marks part_marks expr_layer_marks target_layer_marks part, is) (still_expr e)
+still_part part (RawPart-F.Field name) is = rw (
+  fold_out-RawPart Marks Marks Marks (Wanted → Marks) kind_marks part_marks expr_layer_marks target_layer_marks
+      part,
+  is,
+) (λ scopes. refl)
+still_part part (RawPart-F.Index e) is = rw (
+  fold_out-RawPart Marks Marks Marks (Wanted → Marks) kind_marks part_marks expr_layer_marks target_layer_marks part,
+  is,
+) (still_expr e)
 
 -- the names that are used are bound as in these scopes, whatever is counted
 module _ (units : List UnitDef) (scopes : Scopes) (counts : Counts) (told : Told (kinds_of units) scopes) where
   abbrev there : Scopes
   there = record scopes { counts = counts }
 
-  pub function_is : (name : Name) → IsFit there name wants.Function → holds_of (λ (unit : UnitDef). is_function unit.kind) (slice_get units (position scopes name)) ≡ true
+  pub function_is : (name : Name) → IsFit there name wants.Function → holds_of (λ (unit : UnitDef). is_function unit.kind)
+      (slice_get units (position scopes name)) ≡ true
   function_is name fit = function_there units scopes name fit.declaration told fit.is_bound fit.is_suited
 
-  pub activity_is : (name : Name) → IsFit there name wants.Activity → holds_of (λ (unit : UnitDef). is_activity unit.kind) (slice_get units (position scopes name)) ≡ true
+  pub activity_is : (name : Name) → IsFit there name wants.Activity → holds_of (λ (unit : UnitDef). is_activity unit.kind)
+      (slice_get units (position scopes name)) ≡ true
   activity_is name fit = activity_there units scopes name fit.declaration told fit.is_bound fit.is_suited
 
   abbrev ExprCalls : RawExpr → Type 0
@@ -113,12 +130,15 @@ module _ (units : List UnitDef) (scopes : Scopes) (counts : Counts) (told : Told
   abbrev TargetCalls : RawTarget → Type 0
   TargetCalls target = (wanted : Wanted) → Fits there (target_marks target wanted) → target_calls units (named_target scopes target) ≡ true
 
-  all_are : {X Y : Type 0} (marks : X → Marks) (calls : Y → Bool) (made : X → Y) (xs : List X) → ((x : X) → Still (marks x)) → All (λ x. Fits there (marks x) → calls (made x) ≡ true) xs →
+  all_are : {X Y : Type 0} (marks : X → Marks) (calls : Y → Bool) (made : X → Y) (xs : List X) → ((x : X) → Still (marks x)) →
+      All (λ x. Fits there (marks x) → calls (made x) ≡ true) xs →
       Fits there (joined (map marks xs)) → all_of (map calls (map made xs)) ≡ true
   all_are marks calls made [] still each fits = refl
   all_are marks calls made (x ∷ xs) still each fits =
-      both (calls (made x)) (all_of (map calls (map made xs))) (All-head (λ x. Fits there (marks x) → calls (made x) ≡ true) x xs each (fits_first there (marks x) (joined (map marks xs)) fits))
-      (all_are marks calls made xs still (All-tail (λ x. Fits there (marks x) → calls (made x) ≡ true) x xs each) (fits_behind there (marks x) (joined (map marks xs)) (still x) fits))
+      both (calls (made x)) (all_of (map calls (map made xs))) (All-head (λ x. Fits there (marks x) → calls (made x) ≡ true) x xs each
+      (fits_first there (marks x) (joined (map marks xs)) fits))
+      (all_are marks calls made xs still (All-tail (λ x. Fits there (marks x) → calls (made x) ≡ true) x xs each)
+      (fits_behind there (marks x) (joined (map marks xs)) (still x) fits))
 
   -- an expression whose kind becomes this
   kind_is : (place : Place) (layer : RawLayer) (made : Layer) → out-NamedExprKind (named_kind scopes (named_parts scopes layer)) ≡ made →
@@ -130,28 +150,37 @@ module _ (units : List UnitDef) (scopes : Scopes) (counts : Counts) (told : Told
   part_is : (raw : RawPart) (layer : RawPart-F RawExprKind RawPart RawExpr RawTarget) → out-RawPart raw ≡ layer → OfIndex ExprCalls layer →
       Fits there (marks_of_part raw) → calls_step units (named_step scopes raw) ≡ true
   part_is raw (RawPart-F.Field name) is of fits =
-      ap (calls_step units) (named_step_at scopes raw (RawPart-F.Field name) is) ∙ step_at units (part.Field name) (NamedPart-F.Field name) (part.outs-Field name)
+      ap (calls_step units) (named_step_at scopes raw (RawPart-F.Field name) is)
+      ∙ step_at units (part.Field name) (NamedPart-F.Field name) (part.outs-Field name)
   part_is raw (RawPart-F.Index e) is of fits =
-      ap (calls_step units) (named_step_at scopes raw (RawPart-F.Index e) is) ∙ step_at units (part.Index (named_expr scopes e)) (NamedPart-F.Index (named_expr scopes e)) (part.outs-Index (named_expr scopes e))
+      ap (calls_step units) (named_step_at scopes raw (RawPart-F.Index e) is)
+      ∙ step_at units (part.Index (named_expr scopes e)) (NamedPart-F.Index (named_expr scopes e)) (part.outs-Index (named_expr scopes e))
       ∙ of (rw (fold_out-RawPart Marks Marks Marks (Wanted → Marks) kind_marks part_marks expr_layer_marks target_layer_marks raw, is) at fits)
 
-  target_case : (place : Place) (root : Name) (parts : List RawPart) → EachIndex ExprCalls parts → TargetCalls (roll-RawTarget (record { place = place; root = root; parts = parts }))
+  target_case : (place : Place) (root : Name) (parts : List RawPart) → EachIndex ExprCalls parts →
+      TargetCalls (roll-RawTarget (record { place = place; root = root; parts = parts }))
   target_case place root parts each wanted fits =
       let at = rw fold-roll-RawTarget at fits in
       rw (fold-roll-RawTarget, fold-roll-NamedTarget)
-      (all_are marks_of_part (calls_step units) (named_step scopes) parts (λ raw. still_part raw _ refl) (λ k d within. part_is _ _ refl (each k d within)) at.1)
+      (all_are marks_of_part (calls_step units) (named_step scopes) parts (λ raw. still_part raw _ refl) (λ k d within. part_is _ _ refl (each k d within))
+      at.1)
 
   cases : Cases ExprCalls TargetCalls
   cases = record {
     number = λ place minus n. kind_is place (RawExprKind-F.Number minus n) (NamedExprKind-F.Number minus n) (what.outs-Number minus n) (λ fits. refl);
     truth = λ place b. kind_is place (RawExprKind-F.Truth b) (NamedExprKind-F.Truth b) (what.outs-Truth b) (λ fits. refl);
-    read = λ place target is. kind_is place (RawExprKind-F.Read target) (NamedExprKind-F.Read (named_target scopes target)) (what.outs-Read (named_target scopes target)) (is wants.Value);
-    prev = λ place name. kind_is place (RawExprKind-F.Prev name) (NamedExprKind-F.Prev (position scopes name)) (what.outs-Prev (position scopes name)) (λ fits. refl);
+    read = λ place target is. kind_is place (RawExprKind-F.Read target) (NamedExprKind-F.Read (named_target scopes target))
+        (what.outs-Read (named_target scopes target)) (is wants.Value);
+    prev = λ place name. kind_is place (RawExprKind-F.Prev name) (NamedExprKind-F.Prev (position scopes name)) (what.outs-Prev (position scopes name))
+        (λ fits. refl);
     one = λ place op a is. kind_is place (RawExprKind-F.One op a) (NamedExprKind-F.One op (named_expr scopes a)) (what.outs-One op (named_expr scopes a)) is;
-    two = λ place op a b is_a is_b. kind_is place (RawExprKind-F.Two op a b) (NamedExprKind-F.Two op (named_expr scopes a) (named_expr scopes b)) (what.outs-Two op (named_expr scopes a) (named_expr scopes b))
-        (λ fits. both _ _ (is_a (fits_first there (expr_marks a) (expr_marks b) fits)) (is_b (fits_behind there (expr_marks a) (expr_marks b) (still_expr a) fits)));
+    two = λ place op a b is_a is_b. kind_is place (RawExprKind-F.Two op a b) (NamedExprKind-F.Two op (named_expr scopes a) (named_expr scopes b))
+        (what.outs-Two op (named_expr scopes a) (named_expr scopes b))
+        (λ fits. both _ _ (is_a (fits_first there (expr_marks a) (expr_marks b) fits))
+        (is_b (fits_behind there (expr_marks a) (expr_marks b) (still_expr a) fits)));
     cast = λ place s a is. kind_is place (RawExprKind-F.Cast s a) (NamedExprKind-F.Cast s (named_expr scopes a)) (what.outs-Cast s (named_expr scopes a)) is;
-    call = λ place f inputs all. kind_is place (RawExprKind-F.Call f inputs) (NamedExprKind-F.Call f.place (position scopes f) (map (named_expr scopes) inputs)) (what.outs-Call f.place (position scopes f) (map (named_expr scopes) inputs))
+    call = λ place f inputs all. kind_is place (RawExprKind-F.Call f inputs) (NamedExprKind-F.Call f.place (position scopes f) (map (named_expr scopes) inputs))
+        (what.outs-Call f.place (position scopes f) (map (named_expr scopes) inputs))
         (λ fits. both _ _ (function_is f fits.0) (all_are expr_marks (calls_functions units) (named_expr scopes) inputs still_expr all fits.1));
     target = target_case;
   }
@@ -165,7 +194,8 @@ module _ (units : List UnitDef) (scopes : Scopes) (counts : Counts) (told : Told
   pub exprs_are : (es : List RawExpr) → Fits there (joined (map expr_marks es)) → list_all (calls_functions units) (map (named_expr scopes) es) ≡ true
   exprs_are [] fits = refl
   exprs_are (e ∷ es) fits =
-      both (calls_functions units (named_expr scopes e)) (list_all (calls_functions units) (map (named_expr scopes) es)) (expr_is e (fits_first there (expr_marks e) (joined (map expr_marks es)) fits))
+      both (calls_functions units (named_expr scopes e)) (list_all (calls_functions units) (map (named_expr scopes) es))
+      (expr_is e (fits_first there (expr_marks e) (joined (map expr_marks es)) fits))
       (exprs_are es (fits_behind there (expr_marks e) (joined (map expr_marks es)) (still_expr e) fits))
 
   pub optional_is : (e : Option RawExpr) → Fits there (optional expr_marks e) → holds_if (calls_functions units) (option_map (named_expr scopes) e) ≡ true

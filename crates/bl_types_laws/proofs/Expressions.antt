@@ -62,7 +62,8 @@ pub record ArgumentsFit (site : Site) (params : List Var) (arguments : List Sett
   pub count : length (all_made arguments) ≡ length arguments
   pub match : types_match (map (type_of site) (all_made arguments)) params ≡ true
 
-made_first : (site : Site) (var : Var) (vars : List Var) (first : Settled) (rest : List Settled) → IsMade site var.ty first.made → ArgumentsFit site vars rest → ArgumentsFit site (var ∷ vars) (first ∷ rest)
+made_first : (site : Site) (var : Var) (vars : List Var) (first : Settled) (rest : List Settled) → IsMade site var.ty first.made → ArgumentsFit site vars rest →
+    ArgumentsFit site (var ∷ vars) (first ∷ rest)
 made_first site var vars first rest made more = record {
   count = ap (λ made. length (cons_option made (all_made rest))) made.is ∙ ap suc more.count;
   match =
@@ -71,7 +72,8 @@ made_first site var vars first rest made more = record {
       ∙ both (same_type var.ty var.ty) (types_match (map (type_of site) (all_made rest)) vars) (same_type_self var.ty) more.match;
 }
 
-pub arguments_fit : (site : Site) (arguments : List Judged) (params : List Var) → All (JudgedFits site) arguments → length arguments ≡ length params → all_failures (fitted arguments params) ≡ [] →
+pub arguments_fit : (site : Site) (arguments : List Judged) (params : List Var) → All (JudgedFits site) arguments → length arguments ≡ length params →
+    all_failures (fitted arguments params) ≡ [] →
     ArgumentsFit site params (fitted arguments params)
 arguments_fit site [] [] each same none = record { count = refl; match = refl }
 arguments_fit site [] (var ∷ vars) each same none = absurd (omega arith)
@@ -80,13 +82,15 @@ arguments_fit site (argument ∷ rest) (var ∷ vars) each same none =
     let first : Settled = in_context (Some var.ty) argument in
     made_first site var vars first (fitted rest vars)
     (in_context_fits site var.ty argument (All-head (JudgedFits site) argument rest each) (nil_left first.failures (all_failures (fitted rest vars)) none))
-    (arguments_fit site rest vars (All-tail (JudgedFits site) argument rest each) (omega arith) (nil_right first.failures (all_failures (fitted rest vars)) none))
+    (arguments_fit site rest vars (All-tail (JudgedFits site) argument rest each) (omega arith)
+    (nil_right first.failures (all_failures (fitted rest vars)) none))
 
 pub some_of : {X : Type 0} (o : Option X) → is_some o ≡ true → (x : X) × (o ≡ Some x)
 some_of None is = absurd (cc)
 some_of (Some x) is = (x, refl)
 
-call_by : (site : Site) (at : Place) (f : ℕ) (inputs : List Expr) (unit : UnitDef) (s : ScalarType) → slice_get site.earlier f ≡ Some unit → is_function unit.kind ≡ true → nat_eq unit.outputs 0 ≡ true →
+call_by : (site : Site) (at : Place) (f : ℕ) (inputs : List Expr) (unit : UnitDef) (s : ScalarType) → slice_get site.earlier f ≡ Some unit →
+    is_function unit.kind ≡ true → nat_eq unit.outputs 0 ≡ true →
     types_match (map (type_of site) inputs) (inputs_of unit) ≡ true → unit.result ≡ Some s → type_of site (call at f inputs) ≡ Some (scalar s)
 call_by site at f inputs unit s there function none match result =
     call_is site at f inputs
@@ -98,20 +102,27 @@ call_by site at f inputs unit s there function none match result =
 form_by : (site : Site) (at : Place) (f : ℕ) (inputs : List Expr) (all : Bool) (result : Option ScalarType) (s : ScalarType) → all ≡ true → result ≡ Some s →
     type_of site (call at f inputs) ≡ Some (scalar s) → FormFits site (call_form at f inputs all result)
 form_by site at f inputs all result s is are typed =
-    subst (λ all. FormFits site (call_form at f inputs all result)) (sym is) (subst (λ result. FormFits site (call_form at f inputs true result)) (sym are) typed)
+    subst (λ all. FormFits site (call_form at f inputs all result)) (sym is)
+    (subst (λ result. FormFits site (call_form at f inputs true result)) (sym are) typed)
 
-call_fits : (site : Site) (at name : Place) (f : ℕ) (arguments : List Judged) (unit : UnitDef) → slice_get site.earlier f ≡ Some unit → is_function unit.kind ≡ true → has_parameters unit ≡ true →
+call_fits : (site : Site) (at name : Place) (f : ℕ) (arguments : List Judged) (unit : UnitDef) → slice_get site.earlier f ≡ Some unit →
+    is_function unit.kind ≡ true → has_parameters unit ≡ true →
     All (JudgedFits site) arguments → FormedFits site (call_formed at name f (fitted arguments (inputs_of unit)) (Some unit))
 call_fits site at name f arguments unit there function has each none =
     let given : List Settled = fitted arguments (inputs_of unit) in
     let counts : Bool = nat_eq (length given) unit.inputs && nat_eq 0 unit.outputs in
     let named : misnamed name (length given) (Some unit) ≡ [] = nil_right (all_failures given) (misnamed name (length given) (Some unit)) none in
-    let counted : counts ≡ true = unless_holds counts rule.Arity name (nil_left (unless counts rule.Arity name) (unless (is_some unit.result) rule.Return name) named) in
-    let result = some_of unit.result (unless_holds (is_some unit.result) rule.Return name (nil_right (unless counts rule.Arity name) (unless (is_some unit.result) rule.Return name) named)) in
-    let inputs : length given ≡ unit.inputs = eqb-true (length given) unit.inputs (and_left (nat_eq (length given) unit.inputs) (nat_eq 0 unit.outputs) counted) in
+    let counted : counts ≡ true = unless_holds counts rule.Arity name (nil_left (unless counts rule.Arity name) (unless (is_some unit.result) rule.Return name)
+    named) in
+    let result = some_of unit.result (unless_holds (is_some unit.result) rule.Return name
+    (nil_right (unless counts rule.Arity name) (unless (is_some unit.result) rule.Return name) named)) in
+    let inputs : length given ≡ unit.inputs = eqb-true (length given) unit.inputs (and_left (nat_eq (length given) unit.inputs) (nat_eq 0 unit.outputs) counted)
+    in
     let outputs : 0 ≡ unit.outputs = eqb-true 0 unit.outputs (and_right (nat_eq (length given) unit.inputs) (nat_eq 0 unit.outputs) counted) in
-    let fit = arguments_fit site arguments (inputs_of unit) each (sym (length-fitted arguments (inputs_of unit)) ∙ inputs ∙ sym (inputs_length unit has)) (nil_left (all_failures given) (misnamed name (length given) (Some unit)) none) in
-    form_by site at f (all_made given) (nat_eq (length (all_made given)) (length given)) unit.result result.0 (eq-eqb (length (all_made given)) (length given) fit.count) result.1
+    let fit = arguments_fit site arguments (inputs_of unit) each (sym (length-fitted arguments (inputs_of unit)) ∙ inputs ∙ sym (inputs_length unit has))
+    (nil_left (all_failures given) (misnamed name (length given) (Some unit)) none) in
+    form_by site at f (all_made given) (nat_eq (length (all_made given)) (length given)) unit.result result.0
+    (eq-eqb (length (all_made given)) (length given) fit.count) result.1
     (call_by site at f (all_made given) unit result.0 there function (eq-eqb unit.outputs 0 (sym outputs)) fit.match result.1)
   where
     inputs_length : (unit : UnitDef) → has_parameters unit ≡ true → length (inputs_of unit) ≡ unit.inputs
@@ -157,7 +168,8 @@ module _ (env : Environment) (site : Site) (within : Within env site) where
   calls_layer layer = kind_calls env.units
       (map-NamedExprKind NamedExprKind NamedPart NamedExpr NamedTarget Bool Bool Bool Bool
       (fold-NamedExprKind Bool Bool Bool Bool (kind_calls env.units) part_calls expr_layer_calls target_layer_calls)
-      (fold-NamedPart Bool Bool Bool Bool (kind_calls env.units) part_calls expr_layer_calls target_layer_calls) (calls_functions env.units) (target_calls env.units) layer)
+      (fold-NamedPart Bool Bool Bool Bool (kind_calls env.units) part_calls expr_layer_calls target_layer_calls) (calls_functions env.units)
+      (target_calls env.units) layer)
 
   abbrev formed_layer : Layer → Place → Formed
   formed_layer layer = judged_kind env
@@ -174,19 +186,23 @@ module _ (env : Environment) (site : Site) (within : Within env site) where
   judged_is : (place : Place) (layer : Layer) → judged env (expr place layer) ≡ judged_layer (record { place = place; what = formed_layer layer })
   judged_is place layer = rw (fold-roll-NamedExpr, fold-roll-NamedExprKind) refl
 
-  by_kind : (place : Place) (layer : Layer) → (placed_layer layer ≡ true → calls_layer layer ≡ true → FormedFits site (formed_layer layer place)) → P (expr place layer)
+  by_kind : (place : Place) (layer : Layer) → (placed_layer layer ≡ true → calls_layer layer ≡ true → FormedFits site (formed_layer layer place)) →
+      P (expr place layer)
   by_kind place layer fit placed calls none =
       subst (λ (judged : Judged). FormFits site judged.form) (sym (judged_is place layer))
-      (fit (sym (placed_is place layer) ∙ placed) (sym (calls_is place layer) ∙ calls) (ap (λ (judged : Judged). judged.failures) (sym (judged_is place layer)) ∙ none))
+      (fit (sym (placed_is place layer) ∙ placed) (sym (calls_is place layer) ∙ calls)
+      (ap (λ (judged : Judged). judged.failures) (sym (judged_is place layer)) ∙ none))
 
   number_case : (place : Place) (minus : Bool) (n : ℕ) → P (expr place (NamedExprKind-F.Number minus n))
   number_case place minus n = by_kind place (NamedExprKind-F.Number minus n) (λ placed calls none. literal_open site place (written_number minus n) int32)
 
   truth_case : (place : Place) (b : Bool) → P (expr place (NamedExprKind-F.Truth b))
-  truth_case place b = by_kind place (NamedExprKind-F.Truth b) (λ placed calls none. literal_is site place (number_of b) OfBool ∙ ap (literal_type OfBool) (truth_in b))
+  truth_case place b = by_kind place (NamedExprKind-F.Truth b) (λ placed calls none. literal_is site place (number_of b) OfBool
+      ∙ ap (literal_type OfBool) (truth_in b))
 
   read_case : (place : Place) (target : NamedTarget) → Q target → P (expr place (NamedExprKind-F.Read target))
-  read_case place target fit = by_kind place (NamedExprKind-F.Read target) (λ placed calls none. reading_fits site place (targeted env target).found (fit placed calls none))
+  read_case place target fit = by_kind place (NamedExprKind-F.Read target)
+      (λ placed calls none. reading_fits site place (targeted env target).found (fit placed calls none))
 
   previous_case : (place : Place) (k : ℕ) → P (expr place (NamedExprKind-F.Prev k))
   previous_case place k = by_kind place (NamedExprKind-F.Prev k)
@@ -198,7 +214,8 @@ module _ (env : Environment) (site : Site) (within : Within env site) where
       ∙ ap (λ kind. previous_typed kind place k known.0.role known.0.ty) within.kind
       ∙ ap (λ role. previous_typed site.kind place k role known.0.ty) there.role
       ∙ ap (previous_typed site.kind place k there.var.role) there.ty in
-      subst (λ (formed : Formed). FormFits site formed.form) (sym is) (previous_at site place k there.var there.is_there (ap (λ (formed : Formed). formed.failures) (sym is) ∙ none)))
+      subst (λ (formed : Formed). FormFits site formed.form) (sym is) (previous_at site place k there.var there.is_there
+      (ap (λ (formed : Formed). formed.failures) (sym is) ∙ none)))
 
   one_case : (place : Place) (op : Op) (a : NamedExpr) → P a → P (expr place (NamedExprKind-F.One op a))
   one_case place op a fit = by_kind place (NamedExprKind-F.One op a)
@@ -213,8 +230,10 @@ module _ (env : Environment) (site : Site) (within : Within env site) where
       let second : Judged = judged env b in
       let behind = nil_right first.failures _ none in
       two_fits site place op first.form second.form
-      (fit (and_left (expr_placed (known_in env) a) (expr_placed (known_in env) b) placed) (and_left (calls_functions env.units a) (calls_functions env.units b) calls) (nil_left first.failures _ none))
-      (other (and_right (expr_placed (known_in env) a) (expr_placed (known_in env) b) placed) (and_right (calls_functions env.units a) (calls_functions env.units b) calls) (nil_left second.failures _ behind))
+      (fit (and_left (expr_placed (known_in env) a) (expr_placed (known_in env) b) placed)
+      (and_left (calls_functions env.units a) (calls_functions env.units b) calls) (nil_left first.failures _ none))
+      (other (and_right (expr_placed (known_in env) a) (expr_placed (known_in env) b) placed)
+      (and_right (calls_functions env.units a) (calls_functions env.units b) calls) (nil_left second.failures _ behind))
       (nil_right second.failures _ behind))
 
   cast_case : (place : Place) (target : ScalarType) (a : NamedExpr) → P a → P (expr place (NamedExprKind-F.Cast target a))
@@ -223,14 +242,18 @@ module _ (env : Environment) (site : Site) (within : Within env site) where
       let first : Judged = judged env a in
       cast_fits site place target first.form (fit placed calls (nil_left first.failures _ none)) (nil_right first.failures _ none))
 
-  each_judged : (inputs : List NamedExpr) → All P inputs → all_of (map (expr_placed (known_in env)) inputs) ≡ true → all_of (map (calls_functions env.units) inputs) ≡ true → All (JudgedFits site) (map (judged env) inputs)
+  each_judged : (inputs : List NamedExpr) → All P inputs → all_of (map (expr_placed (known_in env)) inputs) ≡ true →
+      all_of (map (calls_functions env.units) inputs) ≡ true → All (JudgedFits site) (map (judged env) inputs)
   each_judged [] each placed calls = All-nil (JudgedFits site)
   each_judged (e ∷ rest) each placed calls =
       All-cons (JudgedFits site) (judged env e) (map (judged env) rest)
-      (All-head P e rest each (and_left (expr_placed (known_in env) e) (all_of (map (expr_placed (known_in env)) rest)) placed) (and_left (calls_functions env.units e) (all_of (map (calls_functions env.units) rest)) calls))
-      (each_judged rest (All-tail P e rest each) (and_right (expr_placed (known_in env) e) (all_of (map (expr_placed (known_in env)) rest)) placed) (and_right (calls_functions env.units e) (all_of (map (calls_functions env.units) rest)) calls))
+      (All-head P e rest each (and_left (expr_placed (known_in env) e) (all_of (map (expr_placed (known_in env)) rest)) placed)
+      (and_left (calls_functions env.units e) (all_of (map (calls_functions env.units) rest)) calls))
+      (each_judged rest (All-tail P e rest each) (and_right (expr_placed (known_in env) e) (all_of (map (expr_placed (known_in env)) rest)) placed)
+      (and_right (calls_functions env.units e) (all_of (map (calls_functions env.units) rest)) calls))
 
-  function_at : (f : ℕ) (unit : UnitDef) → slice_get env.units f ≡ Some unit → holds_of (λ (unit : UnitDef). is_function unit.kind) (slice_get env.units f) ≡ true → is_function unit.kind ≡ true
+  function_at : (f : ℕ) (unit : UnitDef) → slice_get env.units f ≡ Some unit →
+      holds_of (λ (unit : UnitDef). is_function unit.kind) (slice_get env.units f) ≡ true → is_function unit.kind ≡ true
   function_at f unit there holds = ap (holds_of (λ (unit : UnitDef). is_function unit.kind)) (sym there) ∙ holds
 
   call_case : (place name : Place) (f : ℕ) (inputs : List NamedExpr) → All P inputs → P (expr place (NamedExprKind-F.Call name f inputs))
@@ -239,11 +262,13 @@ module _ (env : Environment) (site : Site) (within : Within env site) where
       let known = there_at env.units f (and_left (nat_lt f (length env.units)) (all_of (map (expr_placed (known_in env)) inputs)) placed) in
       let unit : UnitDef = known.0 in
       let there : slice_get site.earlier f ≡ Some unit = ap (λ units. slice_get units f) (sym within.units) ∙ known.1 in
-      let is : call_formed place name f (fitted (map (judged env) inputs) (params_of (slice_get env.units f))) (slice_get env.units f) ≡ call_formed place name f (fitted (map (judged env) inputs) (inputs_of unit)) (Some unit) =
+      let is : call_formed place name f (fitted (map (judged env) inputs) (params_of (slice_get env.units f))) (slice_get env.units f)
+      ≡ call_formed place name f (fitted (map (judged env) inputs) (inputs_of unit)) (Some unit) =
       ap (λ (unit : Option UnitDef). call_formed place name f (fitted (map (judged env) inputs) (params_of unit)) unit) known.1 in
       subst (λ (formed : Formed). FormFits site formed.form) (sym is)
       (call_fits site place name f (map (judged env) inputs) unit there
-      (function_at f unit known.1 (and_left (holds_of (λ (unit : UnitDef). is_function unit.kind) (slice_get env.units f)) (all_of (map (calls_functions env.units) inputs)) calls))
+      (function_at f unit known.1 (and_left (holds_of (λ (unit : UnitDef). is_function unit.kind) (slice_get env.units f))
+      (all_of (map (calls_functions env.units) inputs)) calls))
       (all_at has_parameters site.earlier f unit within.heads there)
       (each_judged inputs each (and_right (nat_lt f (length env.units)) (all_of (map (expr_placed (known_in env)) inputs)) placed)
       (and_right (holds_of (λ (unit : UnitDef). is_function unit.kind) (slice_get env.units f)) (all_of (map (calls_functions env.units) inputs)) calls))
@@ -273,15 +298,18 @@ module _ (env : Environment) (site : Site) (within : Within env site) where
       (step_of env) (judged env) (targeted env) layer)
 
   placed_part_is : (part : NamedPart) → step_placed (known_in env) part ≡ placed_part (out-NamedPart part)
-  placed_part_is part = fold_out-NamedPart Bool Bool Bool Bool (kind_placed (known_in env)) part_placed expr_layer_placed (target_layer_placed (known_in env)) part
+  placed_part_is part = fold_out-NamedPart Bool Bool Bool Bool (kind_placed (known_in env)) part_placed expr_layer_placed (target_layer_placed (known_in env))
+      part
 
   calls_part_is : (part : NamedPart) → step_calls part ≡ calls_part (out-NamedPart part)
   calls_part_is part = fold_out-NamedPart Bool Bool Bool Bool (kind_calls env.units) part_calls expr_layer_calls target_layer_calls part
 
   step_is : (part : NamedPart) → step_of env part ≡ stepped_part (out-NamedPart part)
-  step_is part = fold_out-NamedPart (Place → Formed) (Option Ty → Stepped) Judged Targeted (judged_kind env) (judged_part env) judged_layer (judged_target env) part
+  step_is part = fold_out-NamedPart (Place → Formed) (Option Ty → Stepped) Judged Targeted (judged_kind env) (judged_part env) judged_layer (judged_target env)
+      part
 
-  part_fits : (layer : NamedPart-F NamedExprKind NamedPart NamedExpr NamedTarget) → OfIndex P layer → placed_part layer ≡ true → calls_part layer ≡ true → (ty : Ty) → (stepped_part layer (Some ty)).failures ≡ [] →
+  part_fits : (layer : NamedPart-F NamedExprKind NamedPart NamedExpr NamedTarget) → OfIndex P layer → placed_part layer ≡ true → calls_part layer ≡ true →
+      (ty : Ty) → (stepped_part layer (Some ty)).failures ≡ [] →
       StepFits site ty (stepped_part layer (Some ty))
   part_fits (NamedPart-F.Field name) fit placed calls ty = field_fits env site within name ty
   part_fits (NamedPart-F.Index index) fit placed calls ty = index_fits site (judged env index) ty (fit placed calls)
@@ -290,21 +318,27 @@ module _ (env : Environment) (site : Site) (within : Within env site) where
   no_part (NamedPart-F.Field name) s none = no_field env.structs name s none
   no_part (NamedPart-F.Index index) s none = no_element (judged env index) s none
 
-  one_part : (part : NamedPart) → OfIndex P (out-NamedPart part) → step_placed (known_in env) part ≡ true → step_calls part ≡ true → (ty : Ty) → (step_of env part (Some ty)).failures ≡ [] → StepFits site ty (step_of env part (Some ty))
+  one_part : (part : NamedPart) → OfIndex P (out-NamedPart part) → step_placed (known_in env) part ≡ true → step_calls part ≡ true → (ty : Ty) →
+      (step_of env part (Some ty)).failures ≡ [] → StepFits site ty (step_of env part (Some ty))
   one_part part fit placed calls ty =
       subst (λ step. (step (Some ty)).failures ≡ [] → StepFits site ty (step (Some ty))) (sym (step_is part))
       (part_fits (out-NamedPart part) fit (sym (placed_part_is part) ∙ placed) (sym (calls_part_is part) ∙ calls) ty)
 
-  parts_lead : (parts : List NamedPart) → EachIndex P parts → all_of (map (step_placed (known_in env)) parts) ≡ true → all_of (map step_calls parts) ≡ true → (ty : Ty) → (stepped (map (step_of env) parts) (Some ty)).failures ≡ [] →
+  parts_lead : (parts : List NamedPart) → EachIndex P parts → all_of (map (step_placed (known_in env)) parts) ≡ true → all_of (map step_calls parts) ≡ true →
+      (ty : Ty) → (stepped (map (step_of env) parts) (Some ty)).failures ≡ [] →
       LedFits site ty (stepped (map (step_of env) parts) (Some ty))
   parts_lead [] each placed calls = none_lead site (step_of env)
   parts_lead (part ∷ rest) each placed calls =
       first_leads site (step_of env) part rest
-      (one_part part (All-head (λ part. OfIndex P (out-NamedPart part)) part rest each) (and_left (step_placed (known_in env) part) (all_of (map (step_placed (known_in env)) rest)) placed) (and_left (step_calls part) (all_of (map step_calls rest)) calls))
-      (parts_lead rest (All-tail (λ part. OfIndex P (out-NamedPart part)) part rest each) (and_right (step_placed (known_in env) part) (all_of (map (step_placed (known_in env)) rest)) placed)
+      (one_part part (All-head (λ part. OfIndex P (out-NamedPart part)) part rest each)
+      (and_left (step_placed (known_in env) part) (all_of (map (step_placed (known_in env)) rest)) placed)
+      (and_left (step_calls part) (all_of (map step_calls rest)) calls))
+      (parts_lead rest (All-tail (λ part. OfIndex P (out-NamedPart part)) part rest each)
+      (and_right (step_placed (known_in env) part) (all_of (map (step_placed (known_in env)) rest)) placed)
       (and_right (step_calls part) (all_of (map step_calls rest)) calls))
 
-  pub variable_found : (place : Place) (k : ℕ) (var : Var) (led : Led) → var_at site k ≡ Some var → LedFits site var.ty led → FoundFits site (path_found place k led.parts led.ty)
+  pub variable_found : (place : Place) (k : ℕ) (var : Var) (led : Led) → var_at site k ≡ Some var → LedFits site var.ty led →
+      FoundFits site (path_found place k led.parts led.ty)
   variable_found place k var led there fit =
       subst (λ ty. FoundFits site (path_found place k led.parts ty)) (sym fit.is_end)
       (path_is site place k led.parts fit.end
@@ -316,9 +350,11 @@ module _ (env : Environment) (site : Site) (within : Within env site) where
       FoundFits site (constant_found n (option_and_then scalar_in (stepped (map (step_of env) parts) (Some (scalar s))).ty))
   no_parts [] n s number none = subst (λ s. FoundFits site (constant_found n s)) (sym (scalar_alone s)) number
   no_parts (part ∷ rest) n s number none =
-      absurd (no_part (out-NamedPart part) s (ap (λ (step : Option Ty → Stepped). (step (Some (scalar s))).failures) (sym (step_is part)) ∙ nil_left (step_of env part (Some (scalar s))).failures _ none))
+      absurd (no_part (out-NamedPart part) s (ap (λ (step : Option Ty → Stepped). (step (Some (scalar s))).failures) (sym (step_is part))
+      ∙ nil_left (step_of env part (Some (scalar s))).failures _ none))
 
-  root_fits : (place : Place) (root : Root) (parts : List NamedPart) → EachIndex P parts → (root_placed (known_in env) root && all_of (map (step_placed (known_in env)) parts)) ≡ true → all_of (map step_calls parts) ≡ true →
+  root_fits : (place : Place) (root : Root) (parts : List NamedPart) → EachIndex P parts →
+      (root_placed (known_in env) root && all_of (map (step_placed (known_in env)) parts)) ≡ true → all_of (map step_calls parts) ≡ true →
       (targeted_from env place root (map (step_of env) parts)).failures ≡ [] → FoundFits site (targeted_from env place root (map (step_of env) parts)).found
   root_fits place (root.Variable k) parts each placed calls none =
       let known = there_at env.vars k (and_left (nat_lt k (length env.vars)) (all_of (map (step_placed (known_in env)) parts)) placed) in
@@ -331,19 +367,26 @@ module _ (env : Environment) (site : Site) (within : Within env site) where
   root_fits place (root.Constant k) parts each placed calls none =
       let known = there_at env.constants k (and_left (nat_lt k (length env.constants)) (all_of (map (step_placed (known_in env)) parts)) placed) in
       let stands = within.constants k known.0 known.1 in
-      let typed : type_of_constant (slice_get env.constants k) ≡ Some (scalar stands.ty) = ap type_of_constant known.1 ∙ ap (option_map scalar) stands.is_typed in
+      let typed : type_of_constant (slice_get env.constants k) ≡ Some (scalar stands.ty) = ap type_of_constant known.1
+      ∙ ap (option_map scalar) stands.is_typed in
       let valued : value_of_constant (slice_get env.constants k) ≡ known.0.value = ap value_of_constant known.1 in
-      subst (λ n. FoundFits site (constant_found n (option_and_then scalar_in (stepped (map (step_of env) parts) (type_of_constant (slice_get env.constants k))).ty))) (sym valued)
+      subst (λ n. FoundFits site (constant_found n (option_and_then scalar_in
+      (stepped (map (step_of env) parts) (type_of_constant (slice_get env.constants k))).ty))) (sym valued)
       (subst (λ ty. FoundFits site (constant_found known.0.value (option_and_then scalar_in (stepped (map (step_of env) parts) ty).ty))) (sym typed)
       (no_parts parts known.0.value stands.ty stands.is_number (ap (λ ty. (stepped (map (step_of env) parts) ty).failures) (sym typed) ∙ none)))
 
-  target_case : (place : Place) (root : Root) (parts : List NamedPart) → EachIndex P parts → Q (roll-NamedTarget (record { place = place; root = root; parts = parts }))
+  target_case : (place : Place) (root : Root) (parts : List NamedPart) → EachIndex P parts →
+      Q (roll-NamedTarget (record { place = place; root = root; parts = parts }))
   target_case place root parts each placed calls none =
-      let targeted_is : targeted env (roll-NamedTarget (record { place = place; root = root; parts = parts })) ≡ targeted_from env place root (map (step_of env) parts) = rw fold-roll-NamedTarget refl in
-      let placed_is : target_placed (known_in env) (roll-NamedTarget (record { place = place; root = root; parts = parts })) ≡ (root_placed (known_in env) root && all_of (map (step_placed (known_in env)) parts)) = rw fold-roll-NamedTarget refl in
-      let calls_is : target_calls env.units (roll-NamedTarget (record { place = place; root = root; parts = parts })) ≡ all_of (map step_calls parts) = rw fold-roll-NamedTarget refl in
+      let targeted_is : targeted env (roll-NamedTarget (record { place = place; root = root; parts = parts }))
+      ≡ targeted_from env place root (map (step_of env) parts) = rw fold-roll-NamedTarget refl in
+      let placed_is : target_placed (known_in env) (roll-NamedTarget (record { place = place; root = root; parts = parts }))
+      ≡ (root_placed (known_in env) root && all_of (map (step_placed (known_in env)) parts)) = rw fold-roll-NamedTarget refl in
+      let calls_is : target_calls env.units (roll-NamedTarget (record { place = place; root = root; parts = parts })) ≡ all_of (map step_calls parts) =
+      rw fold-roll-NamedTarget refl in
       subst (λ (targeted : Targeted). FoundFits site targeted.found) (sym targeted_is)
-      (root_fits place root parts each (sym placed_is ∙ placed) (sym calls_is ∙ calls) (ap (λ (targeted : Targeted). targeted.failures) (sym targeted_is) ∙ none))
+      (root_fits place root parts each (sym placed_is ∙ placed) (sym calls_is ∙ calls)
+      (ap (λ (targeted : Targeted). targeted.failures) (sym targeted_is) ∙ none))
 
   cases : Cases P Q
   cases = record {
@@ -359,13 +402,16 @@ module _ (env : Environment) (site : Site) (within : Within env site) where
   }
 
   -- an expression in which nothing fails is open or has its type
-  pub expressions_fit : (e : NamedExpr) → expr_placed (known_in env) e ≡ true → calls_functions env.units e ≡ true → (judged env e).failures ≡ [] → FormFits site (judged env e).form
+  pub expressions_fit : (e : NamedExpr) → expr_placed (known_in env) e ≡ true → calls_functions env.units e ≡ true → (judged env e).failures ≡ [] →
+      FormFits site (judged env e).form
   expressions_fit = induct P Q cases
 
   -- and a target leads to what is there
-  pub targets_fit : (target : NamedTarget) → target_placed (known_in env) target ≡ true → target_calls env.units target ≡ true → (targeted env target).failures ≡ [] → FoundFits site (targeted env target).found
+  pub targets_fit : (target : NamedTarget) → target_placed (known_in env) target ≡ true → target_calls env.units target ≡ true →
+      (targeted env target).failures ≡ [] → FoundFits site (targeted env target).found
   targets_fit = induct_target P Q cases
 
   -- where a type is wanted, an expression of the type is made
-  pub wanted_fits : (e : NamedExpr) → expr_placed (known_in env) e ≡ true → calls_functions env.units e ≡ true → (ty : Ty) → SettledFits site ty (in_context (Some ty) (judged env e))
+  pub wanted_fits : (e : NamedExpr) → expr_placed (known_in env) e ≡ true → calls_functions env.units e ≡ true → (ty : Ty) →
+      SettledFits site ty (in_context (Some ty) (judged env e))
   wanted_fits e placed calls ty = in_context_fits site ty (judged env e) (expressions_fit e placed calls)

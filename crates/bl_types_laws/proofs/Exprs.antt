@@ -63,12 +63,14 @@ index_in_step at form None size most = tt
 
 -- ---- arguments
 
-all_fitted : {X : Type 0} (judges : X → Judged) (depth : X → ℕ) (roots : X → names.Roots) (xs : List X) → All (λ x. FormIn (record { depth = depth x; roots = roots x }) (judges x).form) xs → (params : List Var) →
+all_fitted : {X : Type 0} (judges : X → Judged) (depth : X → ℕ) (roots : X → names.Roots) (xs : List X) →
+    All (λ x. FormIn (record { depth = depth x; roots = roots x }) (judges x).form) xs → (params : List Var) →
     SizeMost (size_all depths.expr_depth names.roots_in (all_made (fitted (map judges xs) params))) (size_all depth roots xs)
 all_fitted judges depth roots [] each params = size_empty empty
 all_fitted judges depth roots (x ∷ xs) each params =
     made_first depths.expr_depth names.roots_in _ _ (record { depth = depth x; roots = roots x }) (size_all depth roots xs)
-    (fitting_in _ (judges x).place (judges x).form (record { depth = depth x; roots = roots x }) (All-head (λ x. FormIn (record { depth = depth x; roots = roots x }) (judges x).form) x xs each))
+    (fitting_in _ (judges x).place (judges x).form (record { depth = depth x; roots = roots x })
+    (All-head (λ x. FormIn (record { depth = depth x; roots = roots x }) (judges x).form) x xs each))
     (all_fitted judges depth roots xs (All-tail (λ x. FormIn (record { depth = depth x; roots = roots x }) (judges x).form) x xs each) _)
 
 module _ (env : Environment) where
@@ -99,7 +101,8 @@ module _ (env : Environment) where
       (step_of env) (judged env) (targeted env) layer)
 
   step_is : (part : NamedPart) → step_of env part ≡ stepped_by (out-NamedPart part)
-  step_is part = fold_out-NamedPart (Place → Formed) (Option Ty → Stepped) Judged Targeted (judged_kind env) (judged_part env) judged_layer (judged_target env) part
+  step_is part = fold_out-NamedPart (Place → Formed) (Option Ty → Stepped) Judged Targeted (judged_kind env) (judged_part env) judged_layer (judged_target env)
+      part
 
   step_by_in : (layer : PartLayer) → OfIndex P layer → (ty : Option Ty) → PartIn (step_kind_size layer) (stepped_by layer ty).part
   step_by_in (NamedPart-F.Field name) of ty = field_in_step env.structs name ty
@@ -108,19 +111,23 @@ module _ (env : Environment) where
   step_in : (part : NamedPart) → OfIndex P (out-NamedPart part) → (ty : Option Ty) → PartIn (step_size part) (step_of env part ty).part
   step_in part of ty =
       subst (λ size. PartIn size (step_of env part ty).part) (sym (step_size_is part))
-      (subst (λ (step : Option Ty → Stepped). PartIn (step_kind_size (out-NamedPart part)) (step ty).part) (sym (step_is part)) (step_by_in (out-NamedPart part) of ty))
+      (subst (λ (step : Option Ty → Stepped). PartIn (step_kind_size (out-NamedPart part)) (step ty).part) (sym (step_is part))
+      (step_by_in (out-NamedPart part) of ty))
 
   steps_in : (parts : List NamedPart) → EachIndex P parts → (ty : Option Ty) →
       SizeMost (size_all part_depth part_roots (stepped (map (step_of env) parts) ty).parts) (size_all nested.step_depth named.roots_in_step parts)
   steps_in [] each ty = size_empty empty
   steps_in (part ∷ rest) each ty =
-      made_first part_depth part_roots (step_of env part ty).part (stepped (map (step_of env) rest) (step_of env part ty).ty).parts (step_size part) (size_all nested.step_depth named.roots_in_step rest)
+      made_first part_depth part_roots (step_of env part ty).part (stepped (map (step_of env) rest) (step_of env part ty).ty).parts (step_size part)
+      (size_all nested.step_depth named.roots_in_step rest)
       (step_in part (All-head (λ part. OfIndex P (out-NamedPart part)) part rest each) ty)
       (steps_in rest (All-tail (λ part. OfIndex P (out-NamedPart part)) part rest each) (step_of env part ty).ty)
 
-  pub path_in : (place : Place) (k : ℕ) (parts : List Part) (ty : Option Ty) (size : Size) → SizeMost (size_all part_depth part_roots parts) size → FoundIn (rooted (k ∷ []) size) (path_found place k parts ty)
+  pub path_in : (place : Place) (k : ℕ) (parts : List Part) (ty : Option Ty) (size : Size) → SizeMost (size_all part_depth part_roots parts) size →
+      FoundIn (rooted (k ∷ []) size) (path_found place k parts ty)
   path_in place k parts (Some ty) size most =
-      size_is (size_of_path (path place k parts ty)) (rooted (k ∷ []) (size_all part_depth part_roots parts)) (rooted (k ∷ []) size) (path_size place k parts ty)
+      size_is (size_of_path (path place k parts ty)) (rooted (k ∷ []) (size_all part_depth part_roots parts)) (rooted (k ∷ []) size)
+      (path_size place k parts ty)
       (size_rooted (k ∷ []) (size_all part_depth part_roots parts) size most)
   path_in place k parts None size most = tt
 
@@ -129,19 +136,26 @@ module _ (env : Environment) where
   constant_in value None size = tt
 
   root_in : (place : Place) (root : Root) (parts : List NamedPart) → EachIndex P parts →
-      FoundIn (rooted (named.roots_of root) (size_all nested.step_depth named.roots_in_step parts)) (targeted_from env place root (map (step_of env) parts)).found
+      FoundIn (rooted (named.roots_of root) (size_all nested.step_depth named.roots_in_step parts))
+      (targeted_from env place root (map (step_of env) parts)).found
   root_in place (root.Variable k) parts each =
-      path_in place k (stepped (map (step_of env) parts) (type_of_variable (slice_get env.vars k))).parts (stepped (map (step_of env) parts) (type_of_variable (slice_get env.vars k))).ty
+      path_in place k (stepped (map (step_of env) parts) (type_of_variable (slice_get env.vars k))).parts
+      (stepped (map (step_of env) parts) (type_of_variable (slice_get env.vars k))).ty
       (size_all nested.step_depth named.roots_in_step parts) (steps_in parts each (type_of_variable (slice_get env.vars k)))
   root_in place (root.Constant k) parts each =
-      constant_in (value_of_constant (slice_get env.constants k)) (option_and_then scalar_in (stepped (map (step_of env) parts) (type_of_constant (slice_get env.constants k))).ty)
+      constant_in (value_of_constant (slice_get env.constants k)) (option_and_then scalar_in
+      (stepped (map (step_of env) parts) (type_of_constant (slice_get env.constants k))).ty)
       (rooted (named.roots_of (root.Constant k)) (size_all nested.step_depth named.roots_in_step parts))
 
-  target_case : (place : Place) (root : Root) (parts : List NamedPart) → EachIndex P parts → Q (roll-NamedTarget (record { place = place; root = root; parts = parts }))
+  target_case : (place : Place) (root : Root) (parts : List NamedPart) → EachIndex P parts →
+      Q (roll-NamedTarget (record { place = place; root = root; parts = parts }))
   target_case place root parts each =
-      let targeted_is : targeted env (roll-NamedTarget (record { place = place; root = root; parts = parts })) ≡ targeted_from env place root (map (step_of env) parts) = rw fold-roll-NamedTarget refl in
-      subst (λ size. FoundIn size (targeted env (roll-NamedTarget (record { place = place; root = root; parts = parts }))).found) (sym (target_size_is place root parts))
-      (subst (λ (targeted : Targeted). FoundIn (rooted (named.roots_of root) (size_all nested.step_depth named.roots_in_step parts)) targeted.found) (sym targeted_is) (root_in place root parts each))
+      let targeted_is : targeted env (roll-NamedTarget (record { place = place; root = root; parts = parts }))
+      ≡ targeted_from env place root (map (step_of env) parts) = rw fold-roll-NamedTarget refl in
+      subst (λ size. FoundIn size (targeted env (roll-NamedTarget (record { place = place; root = root; parts = parts }))).found)
+      (sym (target_size_is place root parts))
+      (subst (λ (targeted : Targeted). FoundIn (rooted (named.roots_of root) (size_all nested.step_depth named.roots_in_step parts)) targeted.found)
+      (sym targeted_is) (root_in place root parts each))
 
   literal_in : (place : Place) (n : ℤ) (s : ScalarType) → SizeMost (size_of (literal place n s)) empty
   literal_in place n s = size_is (size_of (literal place n s)) empty empty (literal_size place n s) (size_empty empty)
@@ -153,7 +167,8 @@ module _ (env : Environment) where
     read = λ place target is. by_kind place (NamedExprKind-F.Read target) (reading_in place (targeted env target).found (target_size target) is);
     prev = λ place k. by_kind place (NamedExprKind-F.Prev k) (previous_in env.kind place k (slice_get env.vars k));
     one = λ place op a is. by_kind place (NamedExprKind-F.One op a) (one_in place op (judged env a).form (named_size a) is);
-    two = λ place op a b is_a is_b. by_kind place (NamedExprKind-F.Two op a b) (two_in place op (judged env a).form (judged env b).form (named_size a) (named_size b) is_a is_b);
+    two = λ place op a b is_a is_b. by_kind place (NamedExprKind-F.Two op a b)
+        (two_in place op (judged env a).form (judged env b).form (named_size a) (named_size b) is_a is_b);
     cast = λ place s a is. by_kind place (NamedExprKind-F.Cast s a) (cast_in place s (judged env a).form (named_size a) is);
     call = λ place name f inputs each. by_kind place (NamedExprKind-F.Call name f inputs)
         (call_in place f (all_made (fitted (map (judged env) inputs) (params_of (slice_get env.units f)))) _ _ (inputs_size inputs)
@@ -172,5 +187,6 @@ module _ (env : Environment) where
   context_in wanted e = fitting_in wanted (judged env e).place (judged env e).form (named_size e) (judged_in e)
 
   -- the arguments that are made
-  pub inputs_in : (inputs : List NamedExpr) (params : List Var) → SizeMost (size_all depths.expr_depth names.roots_in (all_made (fitted (map (judged env) inputs) params))) (inputs_size inputs)
+  pub inputs_in : (inputs : List NamedExpr) (params : List Var) → SizeMost
+      (size_all depths.expr_depth names.roots_in (all_made (fitted (map (judged env) inputs) params))) (inputs_size inputs)
   inputs_in inputs params = all_fitted (judged env) nested.expr_depth named.roots_in inputs (λ k d within. judged_in _) params

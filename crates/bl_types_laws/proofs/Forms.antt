@@ -77,7 +77,8 @@ self_by : (layer : Ty-F ((ty : Ty) × IsSelf ty)) → IsSelf (roll-Ty (map-Ty ((
 self_by (Ty-F.Scalar s) = rw fold-roll-Ty (ap (same_as_scalar s) (out-roll-Ty (Ty-F.Scalar s)) ∙ same_scalar_self s)
 self_by (Ty-F.Struct k) = rw fold-roll-Ty (ap (same_as_struct k) (out-roll-Ty (Ty-F.Struct k)) ∙ nat_eq_self k)
 self_by (Ty-F.Array n element) =
-    rw fold-roll-Ty (ap (same_as_array n (same_type element.0)) (out-roll-Ty (Ty-F.Array n element.0)) ∙ both (nat_eq n n) (same_type element.0 element.0) (nat_eq_self n) element.1)
+    rw fold-roll-Ty (ap (same_as_array n (same_type element.0)) (out-roll-Ty (Ty-F.Array n element.0))
+    ∙ both (nat_eq n n) (same_type element.0 element.0) (nat_eq_self n) element.1)
 
 pub same_type_self : (ty : Ty) → same_type ty ty ≡ true
 same_type_self = ind-Ty IsSelf (λ x y is. subst (λ layer. IsSelf (roll-Ty layer)) is (self_by y))
@@ -102,7 +103,8 @@ two_result Shl s is = refl
 two_result Shr s is = refl
 two_result _ s is = absurd (cc)
 
-one_taken : (op : Op) (s : ScalarType) → keeps_one_open op ≡ true → takes_one op s ≡ true → option_and_then (one_type op) (scalar_in (scalar s)) ≡ Some (scalar s)
+one_taken : (op : Op) (s : ScalarType) → keeps_one_open op ≡ true → takes_one op s ≡ true →
+    option_and_then (one_type op) (scalar_in (scalar s)) ≡ Some (scalar s)
 one_taken op s stays takes =
     ap (option_and_then (one_type op)) (scalar_alone s)
     ∙ ap (λ holds. if holds then Some (scalar (type_of_result op s)) else None) takes
@@ -129,25 +131,35 @@ module _ (site : Site) where
       (record {
         it = literal at n s;
         is = refl;
-        is_typed = literal_is site at n s ∙ ap (literal_type s) (unless_holds (in_range s n) rule.Literal at (ap (λ (settled : Settled). settled.failures) (sym (settled_literal s at n t)) ∙ none));
+        is_typed = literal_is site at n s ∙ ap (literal_type s) (unless_holds (in_range s n) rule.Literal at
+            (ap (λ (settled : Settled). settled.failures) (sym (settled_literal s at n t)) ∙ none));
       })
 
-  one_made_by : (at : Place) (op : Op) (s : ScalarType) (a : Expr) (holds : Bool) → keeps_one_open op ≡ true → takes_one op s ≡ holds → type_of site a ≡ Some (scalar s) →
+  one_made_by : (at : Place) (op : Op) (s : ScalarType) (a : Expr) (holds : Bool) → keeps_one_open op ≡ true → takes_one op s ≡ holds →
+      type_of site a ≡ Some (scalar s) →
       SettledFits site (scalar s) (if holds then kept (one at op a) else unfit at)
-  one_made_by at op s a true stays takes typed none = record { it = one at op a; is = refl; is_typed = one_is site at op a (scalar s) typed ∙ one_taken op s stays takes }
+  one_made_by at op s a true stays takes typed none = record {
+    it = one at op a;
+    is = refl;
+    is_typed = one_is site at op a (scalar s) typed
+        ∙ one_taken op s stays takes;
+  }
   one_made_by at op s a false stays takes typed none = absurd (cc)
 
-  one_made_fits : (at : Place) (op : Op) (s : ScalarType) (a : Option Expr) → keeps_one_open op ≡ true → IsMade site (scalar s) a → SettledFits site (scalar s) (one_made s at op a)
+  one_made_fits : (at : Place) (op : Op) (s : ScalarType) (a : Option Expr) → keeps_one_open op ≡ true → IsMade site (scalar s) a →
+      SettledFits site (scalar s) (one_made s at op a)
   one_made_fits at op s None stays made none = absurd (let is = made.is in cc)
   one_made_fits at op s (Some a) stays made none = one_made_by at op s a (takes_one op s) stays refl (made_typed a (scalar s) made) none
 
   one_open : (at : Place) (op : Op) (a : Expr) → keeps_one_open op ≡ true → OpenFits site a → OpenFits site (one at op a)
   one_open at op a stays fit s whole =
       subst (λ (settled : Settled). SettledFits site (scalar s) settled) (sym (settled_one s at op a))
-      (λ none. one_made_fits at op s (settled s a).made stays (fit s whole (nil_left (settled s a).failures (one_made s at op (settled s a).made).failures none))
+      (λ none. one_made_fits at op s (settled s a).made stays (fit s whole
+      (nil_left (settled s a).failures (one_made s at op (settled s a).made).failures none))
       (nil_right (settled s a).failures (one_made s at op (settled s a).made).failures none))
 
-  two_made_by : (at : Place) (op : Op) (s : ScalarType) (a b : Expr) (holds : Bool) → keeps_two_open op ≡ true → takes_two op s ≡ holds → type_of site a ≡ Some (scalar s) → type_of site b ≡ Some (scalar s) →
+  two_made_by : (at : Place) (op : Op) (s : ScalarType) (a b : Expr) (holds : Bool) → keeps_two_open op ≡ true → takes_two op s ≡ holds →
+      type_of site a ≡ Some (scalar s) → type_of site b ≡ Some (scalar s) →
       SettledFits site (scalar s) (if holds then kept (two at op a b) else unfit at)
   two_made_by at op s a b true stays takes typed other none =
       record { it = two at op a b; is = refl; is_typed = two_is site at op a b (scalar s) (scalar s) typed other ∙ two_taken op s stays takes }
@@ -157,19 +169,22 @@ module _ (site : Site) where
       SettledFits site (scalar s) (two_made s at op a b)
   two_made_fits at op s None b stays made other none = absurd (let is = made.is in cc)
   two_made_fits at op s (Some a) None stays made other none = absurd (let is = other.is in cc)
-  two_made_fits at op s (Some a) (Some b) stays made other none = two_made_by at op s a b (takes_two op s) stays refl (made_typed a (scalar s) made) (made_typed b (scalar s) other) none
+  two_made_fits at op s (Some a) (Some b) stays made other none = two_made_by at op s a b (takes_two op s) stays refl (made_typed a (scalar s) made)
+      (made_typed b (scalar s) other) none
 
   two_open : (at : Place) (op : Op) (a b : Expr) → keeps_two_open op ≡ true → OpenFits site a → OpenFits site b → OpenFits site (two at op a b)
   two_open at op a b stays fit other s whole =
       subst (λ (settled : Settled). SettledFits site (scalar s) settled) (sym (settled_two_is s at op a b))
       (λ none.
       let second : (settled s b).failures ++ (two_made s at op (settled s a).made (settled s b).made).failures ≡ [] = nil_right (settled s a).failures _ none in
-      two_made_fits at op s (settled s a).made (settled s b).made stays (fit s whole (nil_left (settled s a).failures _ none)) (other s whole (nil_left (settled s b).failures _ second))
+      two_made_fits at op s (settled s a).made (settled s b).made stays (fit s whole (nil_left (settled s a).failures _ none))
+      (other s whole (nil_left (settled s b).failures _ second))
       (nil_right (settled s b).failures _ second))
 
   -- ---- where a type is wanted
 
-  given_if : (ty : Ty) (s : ScalarType) (e : Expr) (whole : Bool) → scalar_in ty ≡ Some s → is_whole s ≡ whole → OpenFits site e → SettledFits site ty (settled_if whole s e)
+  given_if : (ty : Ty) (s : ScalarType) (e : Expr) (whole : Bool) → scalar_in ty ≡ Some s → is_whole s ≡ whole → OpenFits site e →
+      SettledFits site ty (settled_if whole s e)
   given_if ty s e true is whole fit none =
       let made = fit s whole none in
       record { it = made.it; is = made.is; is_typed = made.is_typed ∙ ap Some (sym (scalar_is ty s is)) }
@@ -185,7 +200,8 @@ module _ (site : Site) where
   pub kept_fits : (ty : Ty) (e : Expr) → type_of site e ≡ Some ty → SettledFits site ty (kept e)
   kept_fits ty e typed none = record { it = e; is = refl; is_typed = typed }
 
-  same_fits : (wanted : Ty) (at : Place) (ty : Ty) (e : Expr) (same : Bool) → same_type wanted ty ≡ same → type_of site e ≡ Some ty → SettledFits site wanted (if same then kept e else unfit at)
+  same_fits : (wanted : Ty) (at : Place) (ty : Ty) (e : Expr) (same : Bool) → same_type wanted ty ≡ same → type_of site e ≡ Some ty →
+      SettledFits site wanted (if same then kept e else unfit at)
   same_fits wanted at ty e true same typed none = record { it = e; is = refl; is_typed = typed ∙ ap Some (sym (same_type_is wanted ty same)) }
   same_fits wanted at ty e false same typed none = absurd (cc)
 
@@ -195,7 +211,8 @@ module _ (site : Site) where
   wanted_form wanted at (Of ty e) fit = same_fits wanted at ty e (same_type wanted ty) refl fit
 
   -- an expression that fits, where this type is wanted of it
-  pub in_context_fits : (wanted : Ty) (judged : Judged) → (judged.failures ≡ [] → FormFits site judged.form) → SettledFits site wanted (in_context (Some wanted) judged)
+  pub in_context_fits : (wanted : Ty) (judged : Judged) → (judged.failures ≡ [] → FormFits site judged.form) →
+      SettledFits site wanted (in_context (Some wanted) judged)
   in_context_fits wanted judged fit none =
       wanted_form wanted judged.place judged.form (fit (nil_left judged.failures (wanted_as wanted judged.place judged.form).failures none))
       (nil_right judged.failures (wanted_as wanted judged.place judged.form).failures none)
@@ -225,17 +242,20 @@ module _ (site : Site) where
   one_fits at op (Open a) fit = one_open_formed at op a (keeps_one_open op) refl fit
   one_fits at op (Of ty a) fit = formed_fits (option_and_then (one_type op) (scalar_in ty)) at (one at op a) (one_is site at op a ty fit)
 
-  operands_fit : (at : Place) (op : Op) (left right : Ty) (a b : Option Expr) → IsMade site left a → IsMade site right b → FormedFits site (operands_made at op (type_of_two op left right) a b)
+  operands_fit : (at : Place) (op : Op) (left right : Ty) (a b : Option Expr) → IsMade site left a → IsMade site right b →
+      FormedFits site (operands_made at op (type_of_two op left right) a b)
   operands_fit at op left right None b made other none = absurd (let is = made.is in cc)
   operands_fit at op left right (Some a) None made other none = absurd (let is = other.is in cc)
   operands_fit at op left right (Some a) (Some b) made other none =
       formed_fits (type_of_two op left right) at (two at op a b) (two_is site at op a b left right (made_typed a left made) (made_typed b right other)) none
 
-  two_of_fits : (at : Place) (op : Op) (left right : Ty) (a b : Settled) → SettledFits site left a → SettledFits site right b → FormedFits site (two_of at op (type_of_two op left right) a b)
+  two_of_fits : (at : Place) (op : Op) (left right : Ty) (a b : Settled) → SettledFits site left a → SettledFits site right b →
+      FormedFits site (two_of at op (type_of_two op left right) a b)
   two_of_fits at op left right a b fit other none =
       let formed : Formed = operands_made at op (type_of_two op left right) a.made b.made in
       let second : b.failures ++ formed.failures ≡ [] = nil_right a.failures (b.failures ++ formed.failures) none in
-      operands_fit at op left right a.made b.made (fit (nil_left a.failures (b.failures ++ formed.failures) none)) (other (nil_left b.failures formed.failures second)) (nil_right b.failures formed.failures second)
+      operands_fit at op left right a.made b.made (fit (nil_left a.failures (b.failures ++ formed.failures) none))
+      (other (nil_left b.failures formed.failures second)) (nil_right b.failures formed.failures second)
 
   beside_by : (op : Op) (ty : Ty) (e : Expr) (logical : Bool) → OpenFits site e → SettledFits site ty (if logical then unfit (out-Expr e).place else given ty e)
   beside_by op ty e true fit none = absurd (cc)
@@ -248,7 +268,8 @@ module _ (site : Site) where
       FormedFits site (if stays then record { form = Open (two at op a b); failures = [] } else settled_two at op a b)
   open_two_by at op a b true stays fit other none = two_open at op a b stays fit other
   open_two_by at op a b false stays fit other none =
-      two_of_fits at op (scalar int32) (scalar int32) (beside op (scalar int32) a) (beside op (scalar int32) b) (beside_fits op (scalar int32) a fit) (beside_fits op (scalar int32) b other) none
+      two_of_fits at op (scalar int32) (scalar int32) (beside op (scalar int32) a) (beside op (scalar int32) b) (beside_fits op (scalar int32) a fit)
+      (beside_fits op (scalar int32) b other) none
 
   pub two_fits : (at : Place) (op : Op) (a b : Form) → FormFits site a → FormFits site b → FormedFits site (two_formed at op a b)
   two_fits at op Failing b fit other = absurd fit
@@ -259,14 +280,16 @@ module _ (site : Site) where
   two_fits at op (Of ty a) (Open b) fit other = two_of_fits at op ty ty (kept a) (beside op ty b) (kept_fits ty a fit) (beside_fits op ty b other)
   two_fits at op (Of ty a) (Of right b) fit other = two_of_fits at op ty right (kept a) (kept b) (kept_fits ty a fit) (kept_fits right b other)
 
-  cast_made_fits : (at : Place) (target : ScalarType) (a : Option Expr) → is_whole target ≡ true → IsMade site (scalar target) a → FormFits site (cast_made at target a)
+  cast_made_fits : (at : Place) (target : ScalarType) (a : Option Expr) → is_whole target ≡ true → IsMade site (scalar target) a →
+      FormFits site (cast_made at target a)
   cast_made_fits at target None whole made = absurd (let is = made.is in cc)
   cast_made_fits at target (Some a) whole made =
       cast_is site at target a (scalar target) (made_typed a (scalar target) made)
       ∙ ap (option_and_then (cast_type target)) (scalar_alone target)
       ∙ ap (λ holds. if holds && holds then Some (scalar target) else None) whole
 
-  cast_by : (at : Place) (target : ScalarType) (a : Expr) (whole : Bool) → is_whole target ≡ whole → OpenFits site a → FormedFits site (cast_settled at target (settled_if whole target a))
+  cast_by : (at : Place) (target : ScalarType) (a : Expr) (whole : Bool) → is_whole target ≡ whole → OpenFits site a →
+      FormedFits site (cast_settled at target (settled_if whole target a))
   cast_by at target a true whole fit none = cast_made_fits at target (settled target a).made whole (fit target whole none)
   cast_by at target a false whole fit none = absurd (cc)
 

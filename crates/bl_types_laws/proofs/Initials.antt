@@ -69,7 +69,8 @@ module _ (site other : Site) where
   abbrev typed_by : Site → Layer → Option Ty
   typed_by site layer = kind_type site
       (map-ExprKind ExprKind Part Expr Path (Option Ty) (Ty → Option Ty) (Option Ty) (Option Ty)
-      (fold-ExprKind (Option Ty) (Ty → Option Ty) (Option Ty) (Option Ty) (kind_type site) (part_type site) expr_type (path_type site)) (type_of_part site) (type_of site) (type_of_path site) layer)
+      (fold-ExprKind (Option Ty) (Ty → Option Ty) (Option Ty) (Option Ty) (kind_type site) (part_type site) expr_type (path_type site)) (type_of_part site)
+      (type_of site) (type_of_path site) layer)
 
   by_kind : (place : Place) (layer : Layer) → (constant_by layer ≡ true → typed_by site layer ≡ typed_by other layer) → P (expr place layer)
   by_kind place layer same is =
@@ -82,12 +83,16 @@ module _ (site other : Site) where
     literal = λ place n s. by_kind place (ExprKind-F.Literal n s) (λ is. refl);
     read = λ place path leads. by_kind place (ExprKind-F.Read path) (λ is. absurd (cc));
     prev = λ place k. by_kind place (ExprKind-F.Prev k) (λ is. absurd (cc));
-    one = λ place op a same. by_kind place (ExprKind-F.One op a) (λ is. ap (λ found. option_and_then (one_type op) (option_and_then scalar_in found)) (same is));
+    one = λ place op a same. by_kind place (ExprKind-F.One op a) (λ is. ap (λ found. option_and_then (one_type op) (option_and_then scalar_in found))
+        (same is));
     two = λ place op a b same more. by_kind place (ExprKind-F.Two op a b)
         (λ is.
-        ap (λ found. option_and_then (λ s. option_and_then (two_type op s) (option_and_then scalar_in (type_of site b))) (option_and_then scalar_in found)) (same (and_left (is_constant a) (is_constant b) is))
-        ∙ ap (λ found. option_and_then (λ s. option_and_then (two_type op s) (option_and_then scalar_in found)) (option_and_then scalar_in (type_of other a))) (more (and_right (is_constant a) (is_constant b) is)));
-    cast = λ place target a same. by_kind place (ExprKind-F.Cast target a) (λ is. ap (λ found. option_and_then (cast_type target) (option_and_then scalar_in found)) (same is));
+        ap (λ found. option_and_then (λ s. option_and_then (two_type op s) (option_and_then scalar_in (type_of site b))) (option_and_then scalar_in found))
+        (same (and_left (is_constant a) (is_constant b) is))
+        ∙ ap (λ found. option_and_then (λ s. option_and_then (two_type op s) (option_and_then scalar_in found)) (option_and_then scalar_in (type_of other a)))
+        (more (and_right (is_constant a) (is_constant b) is)));
+    cast = λ place target a same. by_kind place (ExprKind-F.Cast target a)
+        (λ is. ap (λ found. option_and_then (cast_type target) (option_and_then scalar_in found)) (same is));
     call = λ place f inputs each. by_kind place (ExprKind-F.Call f inputs) (λ is. absurd (cc));
     path = λ place root parts ty each. tt;
   }
@@ -105,7 +110,8 @@ number_of_type : (s : ScalarType) (found : Option Operand) (a : Operand) → IfS
 number_of_type s None a fit is = absurd (cc)
 number_of_type s (Some b) a fit is = subst (λ (a : Operand). in_range s a.n ≡ true) (same_Some b a is) fit.1
 
-number_fits : (site : Site) (e : Expr) (ty : Ty) (s : ScalarType) (a : Operand) → type_of site e ≡ Some ty → scalar_in ty ≡ Some s → is_constant e ≡ true → number_in e ≡ Some a → in_range s a.n ≡ true
+number_fits : (site : Site) (e : Expr) (ty : Ty) (s : ScalarType) (a : Operand) → type_of site e ≡ Some ty → scalar_in ty ≡ Some s → is_constant e ≡ true →
+    number_in e ≡ Some a → in_range s a.n ≡ true
 number_fits site e ty s a typed scalar_is constant is =
     let there : type_of (site_of [] [] empty) e ≡ Some ty = sym (same_everywhere site (site_of [] [] empty) e constant) ∙ typed in
     let sound : Sound [] [] empty [] = record { structs_stand = refl; vars_stand = refl; callees_fit = tt } in
@@ -115,7 +121,8 @@ number_fits site e ty s a typed scalar_is constant is =
 -- ---- initial values
 
 module _ (site : Site) where
-  closed_fits : (earlier : List Failure) (form : Form) → FormFits site form → (closed_form form).failures ≡ [] → InitialFits site (closed_initial earlier (closed_form form)).valued
+  closed_fits : (earlier : List Failure) (form : Form) → FormFits site form → (closed_form form).failures ≡ [] →
+      InitialFits site (closed_initial earlier (closed_form form)).valued
   closed_fits earlier Failing fit none = absurd fit
   closed_fits earlier (Open e) fit none =
       let made = fit int32 refl none in
@@ -133,27 +140,33 @@ module _ (site : Site) where
 
 module _ (env : Environment) (site : Site) (within : Within env site) where
   -- an initial value in which nothing fails has a type
-  pub initial_fits : (ty : Option NamedType) (e : NamedExpr) → expr_placed (known_in env) e ≡ true → calls_functions env.units e ≡ true → (initial env ty e).failures ≡ [] → InitialFits site (initial env ty e).valued
+  pub initial_fits : (ty : Option NamedType) (e : NamedExpr) → expr_placed (known_in env) e ≡ true → calls_functions env.units e ≡ true →
+      (initial env ty e).failures ≡ [] → InitialFits site (initial env ty e).valued
   initial_fits (Some written) e placed calls none =
       let value : Settled = in_context (Some (written_type env.constants written)) (judged env e) in
       wanted_initial site (written_type env.constants written) (bad_lengths env.constants written) value
       (wanted_fits env site within e placed calls (written_type env.constants written) (nil_right (bad_lengths env.constants written) value.failures none))
   initial_fits None e placed calls none =
       let value : Judged = judged env e in
-      closed_fits site value.failures value.form (expressions_fit env site within e placed calls (nil_left value.failures (closed_form value.form).failures none)) (nil_right value.failures (closed_form value.form).failures none)
+      closed_fits site value.failures value.form (expressions_fit env site within e placed calls
+      (nil_left value.failures (closed_form value.form).failures none)) (nil_right value.failures (closed_form value.form).failures none)
 
   folded_some : (at : Place) (found : Option Operand) → not_constant at found ≡ [] → (a : Operand) × (found ≡ Some a)
   folded_some at None none = absurd (cc)
   folded_some at (Some a) none = (a, refl)
 
-  constant_by_value : (name at : Place) (valued : Valued) → InitialFits site valued → constant_failures name at valued ≡ [] → ConstantStands (constant_of valued)
+  constant_by_value : (name at : Place) (valued : Valued) → InitialFits site valued → constant_failures name at valued ≡ [] →
+      ConstantStands (constant_of valued)
   constant_by_value name at valued fit none =
-      let scalar_none : not_scalar name (Some fit.ty) ≡ [] = ap (not_scalar name) (sym fit.is_typed) ∙ nil_left (not_scalar name valued.ty) (not_folded at valued.value) none in
+      let scalar_none : not_scalar name (Some fit.ty) ≡ [] = ap (not_scalar name) (sym fit.is_typed)
+      ∙ nil_left (not_scalar name valued.ty) (not_folded at valued.value) none in
       let found = some_of (scalar_in fit.ty) (unless_holds (is_some (scalar_in fit.ty)) rule.Type name scalar_none) in
-      let folded_none : not_folded at (Some fit.it) ≡ [] = ap (not_folded at) (sym fit.is_made) ∙ nil_right (not_scalar name valued.ty) (not_folded at valued.value) none in
+      let folded_none : not_folded at (Some fit.it) ≡ [] = ap (not_folded at) (sym fit.is_made)
+      ∙ nil_right (not_scalar name valued.ty) (not_folded at valued.value) none in
       let number = folded_some at (folded fit.it) folded_none in
       let holds = where_holds (is_constant fit.it) (number_in fit.it) number.0 number.1 in
-      let value : number_or_zero (option_and_then folded valued.value) ≡ number.0.n = ap (λ made. number_or_zero (option_and_then folded made)) fit.is_made ∙ ap number_or_zero number.1 in
+      let value : number_or_zero (option_and_then folded valued.value) ≡ number.0.n = ap (λ made. number_or_zero (option_and_then folded made)) fit.is_made
+      ∙ ap number_or_zero number.1 in
       record {
         ty = found.0;
         is_typed = ap (option_and_then scalar_in) fit.is_typed ∙ found.1;
@@ -161,10 +174,12 @@ module _ (env : Environment) (site : Site) (within : Within env site) where
       }
 
   -- a constant in which nothing fails has a scalar type, and its number is one of it
-  pub constant_fits : (constant : NamedConstant) → expr_placed (known_in env) constant.value ≡ true → calls_functions env.units constant.value ≡ true → (after_constant constant env).failures ≡ [] →
+  pub constant_fits : (constant : NamedConstant) → expr_placed (known_in env) constant.value ≡ true → calls_functions env.units constant.value ≡ true →
+      (after_constant constant env).failures ≡ [] →
       ConstantStands (constant_of (initial env constant.ty constant.value).valued)
   constant_fits constant placed calls none =
       let value : Initial = initial env constant.ty constant.value in
       constant_by_value constant.name.place (out-NamedExpr constant.value).place value.valued
-      (initial_fits constant.ty constant.value placed calls (nil_left value.failures (constant_failures constant.name.place (out-NamedExpr constant.value).place value.valued) none))
+      (initial_fits constant.ty constant.value placed calls (nil_left value.failures
+      (constant_failures constant.name.place (out-NamedExpr constant.value).place value.valued) none))
       (nil_right value.failures (constant_failures constant.name.place (out-NamedExpr constant.value).place value.valued) none)

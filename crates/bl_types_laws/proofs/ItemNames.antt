@@ -49,8 +49,10 @@ all_is test (x ∷ xs) = ap (λ rest. test x && rest) (all_is test xs)
 -- the marks in a unit, with the result behind the parameters
 inside_are : (def : RawUnit) → inside_unit def ≡ (params_piece def).marks ++ (optional type_marks def.result ++ (block_piece def.body).marks)
 inside_are def =
-    (λ i. sym (role_marks role.Input def.inputs) i ++ (sym (role_marks role.Output def.outputs) i ++ (optional type_marks def.result ++ sym (block_marks def.body) i)))
-    ∙ sym (append_assoc (role_piece role.Input def.inputs).marks (role_piece role.Output def.outputs).marks (optional type_marks def.result ++ (block_piece def.body).marks))
+    (λ i. sym (role_marks role.Input def.inputs) i ++ (sym (role_marks role.Output def.outputs) i
+    ++ (optional type_marks def.result ++ sym (block_marks def.body) i)))
+    ∙ sym (append_assoc (role_piece role.Input def.inputs).marks (role_piece role.Output def.outputs).marks
+    (optional type_marks def.result ++ (block_piece def.body).marks))
 
 -- the scopes that are open at the end of a unit
 abbrev body_end : Scopes → RawUnit → Scopes
@@ -59,8 +61,10 @@ body_end scopes def = after (after (opened scopes) (params_piece def).marks) (bl
 none_before : (a b n : ℕ) → a ≡ 0 → b ≡ a + n → n ≡ b
 none_before a b n none is = omega arith
 
-module _ (units : List UnitDef) (all_constants : List NamedConstant) (scopes : Scopes) (def : RawUnit) (told : Told (kinds_of units) scopes) (none : scopes.counts.variables ≡ 0)
-    (fits : Fits scopes (unit_marks def)) (stands : unit_stands def ≡ true) (within : Within all_constants scopes.counts.constants (constants_in_unit scopes def)) where
+module _ (units : List UnitDef) (all_constants : List NamedConstant) (scopes : Scopes) (def : RawUnit) (told : Told (kinds_of units) scopes)
+    (none : scopes.counts.variables ≡ 0)
+    (fits : Fits scopes (unit_marks def)) (stands : unit_stands def ≡ true)
+    (within : Within all_constants scopes.counts.constants (constants_in_unit scopes def)) where
   abbrev two : Scopes
   two = after (opened scopes) (params_piece def).marks
 
@@ -78,7 +82,8 @@ module _ (units : List UnitDef) (all_constants : List NamedConstant) (scopes : S
 
   inside_fits : Fits (opened scopes) ((params_piece def).marks ++ (optional type_marks def.result ++ (block_piece def.body).marks))
   inside_fits = subst (Fits (opened scopes)) (inside_are def)
-      (fits_first (opened scopes) (inside_unit def) (closes ∷ []) (fits_first scopes (in_scope (inside_unit def)) (declares def.name (kind_of_unit def.kind) ∷ []) fits).1)
+      (fits_first (opened scopes) (inside_unit def) (closes ∷ []) (fits_first scopes (in_scope (inside_unit def))
+      (declares def.name (kind_of_unit def.kind) ∷ []) fits).1)
 
   body_fits : Fits two (block_piece def.body).marks
   body_fits = fits_behind two (optional type_marks def.result) (block_piece def.body).marks (still_optional type_marks def.result still_type)
@@ -88,7 +93,8 @@ module _ (units : List UnitDef) (all_constants : List NamedConstant) (scopes : S
   body_stands =
       sym (all_is stmt_stands def.body)
       ∙ and_right (if_there type_named def.result) (list_all stmt_stands def.body)
-      (and_right (named def.name && (list_all param_named def.inputs && list_all param_named def.outputs)) (if_there type_named def.result && list_all stmt_stands def.body) stands)
+      (and_right (named def.name && (list_all param_named def.inputs && list_all param_named def.outputs))
+      (if_there type_named def.result && list_all stmt_stands def.body) stands)
 
   head : Suits units (list_all is_typed params) (opened scopes) two params ((params_piece def).constants (opened scopes))
   head = head_suits units def (opened scopes) (told_opened units scopes told)
@@ -98,7 +104,13 @@ module _ (units : List UnitDef) (all_constants : List NamedConstant) (scopes : S
 
   body : Suits units (body_test made.body) two three locals ((block_piece def.body).constants two)
   body = every_body units made.vars all_constants def.body body_stands two head.told body_fits
-      (record { before = params; rest = []; there = ap (λ l. params ++ l) (sym (append-nil locals)); is_at = none_before scopes.counts.variables two.counts.variables (length params) none head.more_vars })
+      (record {
+        before = params;
+        rest = [];
+        there = ap (λ l. params ++ l) (sym (append-nil locals));
+        is_at =
+            none_before scopes.counts.variables two.counts.variables (length params) none head.more_vars;
+      })
       (subst (λ at. Within all_constants at ((block_piece def.body).constants two)) (sym head.more_constants)
       (within_second all_constants scopes.counts.constants ((params_piece def).constants (opened scopes)) ((block_piece def.body).constants two) within))
 
@@ -108,11 +120,13 @@ module _ (units : List UnitDef) (all_constants : List NamedConstant) (scopes : S
   -- what is in a unit is named, and the scopes around it are open behind it
   pub unit_suits : Suits units (unit_named all_constants units made) (opened scopes) three made.vars (constants_in_unit scopes def)
   unit_suits =
-      suits_so units (list_all is_typed params && body_test made.body) (unit_named all_constants units made) (opened scopes) three made.vars (constants_in_unit scopes def)
+      suits_so units (list_all is_typed params && body_test made.body) (unit_named all_constants units made) (opened scopes) three made.vars
+      (constants_in_unit scopes def)
       (λ is. both (list_all is_typed (take (length def.inputs + length def.outputs) made.vars)) (list_all (stmt_named all_constants made.vars units) made.body)
       (ap (list_all is_typed) params_typed ∙ and_left (list_all is_typed params) (body_test made.body) is)
       (all_is (stmt_named all_constants made.vars units) made.body ∙ and_right (list_all is_typed params) (body_test made.body) is))
-      (suits_then units (list_all is_typed params) (body_test made.body) (opened scopes) two three params locals ((params_piece def).constants (opened scopes)) ((block_piece def.body).constants two) head body)
+      (suits_then units (list_all is_typed params) (body_test made.body) (opened scopes) two three params locals ((params_piece def).constants (opened scopes))
+      ((block_piece def.body).constants two) head body)
 
 -- ---- behind a unit
 
@@ -120,7 +134,8 @@ unit_counted : (kind : UnitKind) (counts : Counts) → counted counts (kind_of_u
 unit_counted unit.Function counts = refl
 unit_counted unit.Activity counts = refl
 
-unit_told : (done : List UnitKind) (kind : UnitKind) (counts : Counts) → counts.units ≡ length done → kind_told (done ++ (kind ∷ [])) (kind_of_unit kind) (count_of counts (kind_of_unit kind)) ≡ true
+unit_told : (done : List UnitKind) (kind : UnitKind) (counts : Counts) → counts.units ≡ length done →
+    kind_told (done ++ (kind ∷ [])) (kind_of_unit kind) (count_of counts (kind_of_unit kind)) ≡ true
 unit_told done unit.Function counts is = ap (holds_of is_function) (get_seam done unit.Function counts.units is)
 unit_told done unit.Activity counts is = ap (holds_of is_activity) (get_seam done unit.Activity counts.units is)
 
@@ -134,7 +149,8 @@ pub record Behind (done : List UnitKind) (scopes new : Scopes) (constants : List
 next_length : (done : List UnitKind) (kind : UnitKind) (n : ℕ) → n ≡ length done → n + 1 ≡ length (done ++ (kind ∷ []))
 next_length done kind n is = let more : length (done ++ (kind ∷ [])) ≡ length done + 1 = length-append done (kind ∷ []) in omega arith
 
-behind_unit : (units : List UnitDef) (holds : Bool) (done : List UnitKind) (scopes : Scopes) (def : RawUnit) (vars : List NamedVar) (constants : List NamedConstant) →
+behind_unit : (units : List UnitDef) (holds : Bool) (done : List UnitKind) (scopes : Scopes) (def : RawUnit) (vars : List NamedVar)
+    (constants : List NamedConstant) →
     Told done scopes → scopes.counts.units ≡ length done →
     Suits units holds (opened scopes) (body_end scopes def) vars constants →
     Behind (done ++ (def.kind ∷ [])) scopes (after scopes (unit_marks def)) constants
@@ -147,7 +163,8 @@ behind_unit units holds done scopes def vars constants told counted_is suits =
     ∙ unit_scopes scopes three def (sym (after-append (opened scopes) (params_piece def).marks (block_piece def.body).marks)) in
     subst (λ new. Behind (done ++ (def.kind ∷ [])) scopes new constants) there
     (record {
-      told = told_declared (done ++ (def.kind ∷ [])) closed def.name (kind_of_unit def.kind) (unit_told done def.kind three.counts (suits.same_units ∙ counted_is)) (told_more done (def.kind ∷ []) scopes told);
+      told = told_declared (done ++ (def.kind ∷ [])) closed def.name (kind_of_unit def.kind)
+          (unit_told done def.kind three.counts (suits.same_units ∙ counted_is)) (told_more done (def.kind ∷ []) scopes told);
       no_variables = ap (λ c. c.variables) is;
       counted = ap (λ c. c.units) is ∙ ap (λ n. n + 1) suits.same_units ∙ next_length done def.kind scopes.counts.units counted_is;
       more_constants = ap (λ c. c.constants) is ∙ suits.more_constants;
@@ -158,15 +175,24 @@ behind_unit units holds done scopes def vars constants told counted_is suits =
 none_more : (n : ℕ) → n ≡ n + 0
 none_more n = omega arith
 
-behind_struct : (done : List UnitKind) (scopes : Scopes) (def : RawStruct) → Told done scopes → scopes.counts.variables ≡ 0 → scopes.counts.units ≡ length done → Behind done scopes (after scopes (struct_marks def)) []
+behind_struct : (done : List UnitKind) (scopes : Scopes) (def : RawStruct) → Told done scopes → scopes.counts.variables ≡ 0 →
+    scopes.counts.units ≡ length done → Behind done scopes (after scopes (struct_marks def)) []
 behind_struct done scopes def told none counted =
     subst (λ new. Behind done scopes new []) (struct_scopes scopes def)
-    (record { told = told_declared done scopes def.name kinds.Struct refl told; no_variables = none; counted = counted; more_constants = none_more scopes.counts.constants })
+    (record {
+      told = told_declared done scopes def.name kinds.Struct refl told;
+      no_variables = none;
+      counted = counted;
+      more_constants =
+          none_more scopes.counts.constants;
+    })
 
-behind_constant : (done : List UnitKind) (scopes : Scopes) (def : RawConstant) → Told done scopes → scopes.counts.variables ≡ 0 → scopes.counts.units ≡ length done →
+behind_constant : (done : List UnitKind) (scopes : Scopes) (def : RawConstant) → Told done scopes → scopes.counts.variables ≡ 0 →
+    scopes.counts.units ≡ length done →
     Behind done scopes (after scopes (constant_marks def)) (named_constant scopes def ∷ [])
 behind_constant done scopes def told none counted =
-    subst (λ new. Behind done scopes new (named_constant scopes def ∷ [])) (enter-behind scopes (optional type_marks def.ty ++ expr_marks def.value) def.name kinds.Constant (still_value def.ty (Some def.value)))
+    subst (λ new. Behind done scopes new (named_constant scopes def ∷ []))
+    (enter-behind scopes (optional type_marks def.ty ++ expr_marks def.value) def.name kinds.Constant (still_value def.ty (Some def.value)))
     (record { told = told_declared done scopes def.name kinds.Constant refl told; no_variables = none; counted = counted; more_constants = refl })
 
 -- some unit of the kind
@@ -184,7 +210,8 @@ module _ (all_constants : List NamedConstant) where
   -- each unit is named where these kinds of units are before them
   abbrev pub EachNamed : List UnitKind → List NamedUnit → Type 0
   EachNamed done [] = ⊤
-  EachNamed done (unit ∷ units) = ((earlier : List UnitDef) → kinds_of earlier ≡ done → unit_named all_constants earlier unit ≡ true) × EachNamed (done ++ (unit.kind ∷ [])) units
+  EachNamed done (unit ∷ units) = ((earlier : List UnitDef) → kinds_of earlier ≡ done → unit_named all_constants earlier unit ≡ true)
+      × EachNamed (done ++ (unit.kind ∷ [])) units
 
   -- units are named, and calls in constants name functions among all units
   pub record ItemsSuit (done : List UnitKind) (units : List NamedUnit) (constants : List NamedConstant) : Type 0 where
@@ -200,7 +227,8 @@ module _ (all_constants : List NamedConstant) where
     pub stand : list_all item_stands items ≡ true
     pub within : Within all_constants scopes.counts.constants (along constants_of scopes items)
 
-  known_next : (done more : List UnitKind) (scopes : Scopes) (one : RawItem) (items : List RawItem) → Known done scopes (one ∷ items) → Behind more scopes (after scopes (item_marks one)) (constants_of scopes one) →
+  known_next : (done more : List UnitKind) (scopes : Scopes) (one : RawItem) (items : List RawItem) → Known done scopes (one ∷ items) →
+      Behind more scopes (after scopes (item_marks one)) (constants_of scopes one) →
       Known more (after scopes (item_marks one)) items
   known_next done more scopes one items known behind = record {
     told = behind.told;
@@ -213,10 +241,12 @@ module _ (all_constants : List NamedConstant) where
   }
 
   -- the units that are known are the first of all
-  told_among : (done rest : List UnitKind) (scopes : Scopes) (whole : List UnitDef) → Told done scopes → kinds_of whole ≡ done ++ rest → Told (kinds_of whole) scopes
+  told_among : (done rest : List UnitKind) (scopes : Scopes) (whole : List UnitDef) → Told done scopes → kinds_of whole ≡ done ++ rest →
+      Told (kinds_of whole) scopes
   told_among done rest scopes whole told is = subst (λ kinds. Told kinds scopes) (sym is) (told_more done rest scopes told)
 
-  constant_then : (done : List UnitKind) (scopes : Scopes) (def : RawConstant) (units : List NamedUnit) (constants : List NamedConstant) → Told done scopes → Fits scopes (constant_marks def) →
+  constant_then : (done : List UnitKind) (scopes : Scopes) (def : RawConstant) (units : List NamedUnit) (constants : List NamedConstant) → Told done scopes →
+      Fits scopes (constant_marks def) →
       ItemsSuit done units constants → ItemsSuit done units (named_constant scopes def ∷ constants)
   constant_then done scopes def units constants told fits later = record {
     are_named = later.are_named;
@@ -228,7 +258,8 @@ module _ (all_constants : List NamedConstant) where
 
   unit_then : (done : List UnitKind) (scopes : Scopes) (def : RawUnit) (units : List NamedUnit) (constants : List NamedConstant) → Told done scopes →
       ((whole : List UnitDef) → Told (kinds_of whole) scopes →
-      Suits whole (unit_named all_constants whole (named_unit scopes def)) (opened scopes) (body_end scopes def) (named_unit scopes def).vars (constants_in_unit scopes def)) →
+      Suits whole (unit_named all_constants whole (named_unit scopes def)) (opened scopes) (body_end scopes def) (named_unit scopes def).vars
+      (constants_in_unit scopes def)) →
       ItemsSuit (done ++ (def.kind ∷ [])) units constants → ItemsSuit done (named_unit scopes def ∷ units) (constants_in_unit scopes def ++ constants)
   unit_then done scopes def units constants told suits later = record {
     are_named = ((λ earlier is. (suits earlier (subst (λ kinds. Told kinds scopes) (sym is) told)).named), later.are_named);
@@ -240,13 +271,18 @@ module _ (all_constants : List NamedConstant) where
         (later.calls whole (is ∙ sym (append_assoc done (def.kind ∷ []) kinds)));
   }
 
-  unit_at : (done : List UnitKind) (scopes : Scopes) (def : RawUnit) (items : List RawItem) → Known done scopes (item.Unit def ∷ items) → (whole : List UnitDef) → Told (kinds_of whole) scopes →
-      Suits whole (unit_named all_constants whole (named_unit scopes def)) (opened scopes) (body_end scopes def) (named_unit scopes def).vars (constants_in_unit scopes def)
+  unit_at : (done : List UnitKind) (scopes : Scopes) (def : RawUnit) (items : List RawItem) → Known done scopes (item.Unit def ∷ items) →
+      (whole : List UnitDef) → Told (kinds_of whole) scopes →
+      Suits whole (unit_named all_constants whole (named_unit scopes def)) (opened scopes) (body_end scopes def) (named_unit scopes def).vars
+      (constants_in_unit scopes def)
   unit_at done scopes def items known whole told =
-      unit_suits whole all_constants scopes def told known.none (fits_first scopes (unit_marks def) (marks_of items) known.fits) (and_left (unit_stands def) (list_all item_stands items) known.stand)
-      (within_first all_constants scopes.counts.constants (constants_in_unit scopes def) (along constants_of (after scopes (unit_marks def)) items) known.within)
+      unit_suits whole all_constants scopes def told known.none (fits_first scopes (unit_marks def) (marks_of items) known.fits)
+      (and_left (unit_stands def) (list_all item_stands items) known.stand)
+      (within_first all_constants scopes.counts.constants (constants_in_unit scopes def) (along constants_of (after scopes (unit_marks def)) items)
+      known.within)
 
-  pub items_suit : (items : List RawItem) (done : List UnitKind) (scopes : Scopes) → Known done scopes items → ItemsSuit done (along units_of scopes items) (along constants_of scopes items)
+  pub items_suit : (items : List RawItem) (done : List UnitKind) (scopes : Scopes) → Known done scopes items →
+      ItemsSuit done (along units_of scopes items) (along constants_of scopes items)
   items_suit [] done scopes known = record { are_named = tt; calls = λ whole is. refl }
   items_suit (item.Struct def ∷ items) done scopes known =
       let behind = behind_struct done scopes def known.told known.none known.counted in
@@ -254,20 +290,25 @@ module _ (all_constants : List NamedConstant) where
   items_suit (item.Constant def ∷ items) done scopes known =
       let behind = behind_constant done scopes def known.told known.none known.counted in
       let new = after scopes (constant_marks def) in
-      constant_then done scopes def (along units_of new items) (along constants_of new items) known.told (fits_first scopes (constant_marks def) (marks_of items) known.fits)
+      constant_then done scopes def (along units_of new items) (along constants_of new items) known.told
+      (fits_first scopes (constant_marks def) (marks_of items) known.fits)
       (items_suit items done new (known_next done done scopes (item.Constant def) items known behind))
   items_suit (item.Unit def ∷ items) done scopes known =
       let new = after scopes (unit_marks def) in
       let before = stand_ins done in
-      let behind = behind_unit before (unit_named all_constants before (named_unit scopes def)) done scopes def (named_unit scopes def).vars (constants_in_unit scopes def) known.told known.counted
+      let behind = behind_unit before (unit_named all_constants before (named_unit scopes def)) done scopes def (named_unit scopes def).vars
+      (constants_in_unit scopes def) known.told known.counted
       (unit_at done scopes def items known before (subst (λ kinds. Told kinds scopes) (sym (stand_ins_are done)) known.told)) in
       unit_then done scopes def (along units_of new items) (along constants_of new items) known.told (unit_at done scopes def items known)
       (items_suit items (done ++ (def.kind ∷ [])) new (known_next done (done ++ (def.kind ∷ [])) scopes (item.Unit def) items known behind))
 
   -- the one at a position
-  pub named_at : (units : List NamedUnit) (done : List UnitKind) (k : ℕ) (unit : NamedUnit) (earlier : List UnitDef) → EachNamed done units → slice_get units k ≡ Some unit →
+  pub named_at : (units : List NamedUnit) (done : List UnitKind) (k : ℕ) (unit : NamedUnit) (earlier : List UnitDef) → EachNamed done units →
+      slice_get units k ≡ Some unit →
       kinds_of earlier ≡ done ++ map (λ (unit : NamedUnit). unit.kind) (take k units) → unit_named all_constants earlier unit ≡ true
   named_at [] done k unit earlier each there is = absurd (cc)
-  named_at (first ∷ units) done zero unit earlier each there is = subst (λ unit. unit_named all_constants earlier unit ≡ true) (same_Some first unit there) (each.0 earlier (is ∙ append-nil done))
+  named_at (first ∷ units) done zero unit earlier each there is = subst (λ unit. unit_named all_constants earlier unit ≡ true) (same_Some first unit there)
+      (each.0 earlier (is ∙ append-nil done))
   named_at (first ∷ units) done (suc k) unit earlier each there is =
-      named_at units (done ++ (first.kind ∷ [])) k unit earlier each.1 there (is ∙ sym (append_assoc done (first.kind ∷ []) (map (λ (unit : NamedUnit). unit.kind) (take k units))))
+      named_at units (done ++ (first.kind ∷ [])) k unit earlier each.1 there
+      (is ∙ sym (append_assoc done (first.kind ∷ []) (map (λ (unit : NamedUnit). unit.kind) (take k units))))

@@ -44,7 +44,8 @@ none_contained (failure ∷ rest) none = absurd (none failure (in_contains failu
 pub no_failure : (named : Named) → Passes named → failures_of named ≡ []
 no_failure named passes =
     none_contained (failures_of named)
-    (λ failure there. passes failure.rule failure.at (further_places failure.further) (record { failure = failure; is_there = there; of_rule = refl; at_place = refl; further = refl }))
+    (λ failure there. passes failure.rule failure.at (further_places failure.further)
+    (record { failure = failure; is_there = there; of_rule = refl; at_place = refl; further = refl }))
 
 -- ---- the first turn
 

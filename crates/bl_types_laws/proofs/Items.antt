@@ -24,12 +24,14 @@ use Rattle.bl_types_laws.proofs.Walks.{site_in, within_in}
 nothing_known : (n : ℕ) (xs : List Variable) → xs ≡ [] → (k : ℕ) (known : Variable) → slice_get xs k ≡ Some known → VariableKnown n known
 nothing_known n xs none k known is = absurd (let there : slice_get [] k ≡ Some known = ap (λ xs. slice_get xs k) (sym none) ∙ is in cc)
 
-pub struct_between : (def : NamedStruct) (env : Environment) → Between env → struct_placed (known_in env) def ≡ true → (after_struct def env).failures ≡ [] → Between (after_struct def env).env
+pub struct_between : (def : NamedStruct) (env : Environment) → Between env → struct_placed (known_in env) def ≡ true → (after_struct def env).failures ≡ [] →
+    Between (after_struct def env).env
 struct_between def env between placed none = record {
   vars = between.vars;
   known = record {
     vars = nothing_known (length (after_struct def env).env.structs) env.vars between.vars;
-    fields = push_further (λ (k : ℕ) (def : StructDef). list_all (λ (field : Field). type_stands k field.ty) def.fields ≡ true) env.structs (struct_of env def) between.known.fields (struct_stands def env placed none);
+    fields = push_further (λ (k : ℕ) (def : StructDef). list_all (λ (field : Field). type_stands k field.ty) def.fields ≡ true) env.structs (struct_of env def)
+        between.known.fields (struct_stands def env placed none);
     constants = between.known.constants;
   };
   heads = between.heads;
@@ -38,11 +40,13 @@ struct_between def env between placed none = record {
 around_self : (env : Environment) → Between env → Around env (site_in env)
 around_self env between = record { later = []; structs = sym (append-nil env.structs); units = refl; kind = refl; result = refl; heads = between.heads }
 
-pub constant_between : (constant : NamedConstant) (env : Environment) → Between env → constant_placed (known_in env) constant ≡ true → calls_functions env.units constant.value ≡ true → (after_constant constant env).failures ≡ [] →
+pub constant_between : (constant : NamedConstant) (env : Environment) → Between env → constant_placed (known_in env) constant ≡ true →
+    calls_functions env.units constant.value ≡ true → (after_constant constant env).failures ≡ [] →
     Between (after_constant constant env).env
 constant_between constant env between placed calls none = record {
   vars = between.vars;
   known = constant_known env (constant_of (initial env constant.ty constant.value).valued) between.known
-      (constant_fits env (site_in env) (within_in env (site_in env) (around_self env between) between.known) constant (and_right (holds_if (type_placed (known_in env)) constant.ty) (expr_placed (known_in env) constant.value) placed) calls none);
+      (constant_fits env (site_in env) (within_in env (site_in env) (around_self env between) between.known) constant
+      (and_right (holds_if (type_placed (known_in env)) constant.ty) (expr_placed (known_in env) constant.value) placed) calls none);
   heads = between.heads;
 }

@@ -17,10 +17,12 @@ use Rattle.bl_types.specs.Statements.{walked_block}
 use Rattle.bl_types_laws.proofs.Orders.{DepthMost, at_limit, one_more}
 use Rattle.bl_types_laws.proofs.ShapeStatements.{statements_in}
 
-shallow_still : (ones others : Depth) → DepthMost ones others → (nat_le (1 + others.blocks) 100 && nat_le others.exprs 200) ≡ true → (nat_le (1 + ones.blocks) 100 && nat_le ones.exprs 200) ≡ true
+shallow_still : (ones others : Depth) → DepthMost ones others → (nat_le (1 + others.blocks) 100 && nat_le others.exprs 200) ≡ true →
+    (nat_le (1 + ones.blocks) 100 && nat_le ones.exprs 200) ≡ true
 shallow_still ones others most shallow =
     both (nat_le (1 + ones.blocks) 100) (nat_le ones.exprs 200)
-    (at_limit (1 + ones.blocks) (1 + others.blocks) 100 (one_more ones.blocks others.blocks most.blocks) (and_left (nat_le (1 + others.blocks) 100) (nat_le others.exprs 200) shallow))
+    (at_limit (1 + ones.blocks) (1 + others.blocks) 100 (one_more ones.blocks others.blocks most.blocks)
+    (and_left (nat_le (1 + others.blocks) 100) (nat_le others.exprs 200) shallow))
     (at_limit ones.exprs others.exprs 200 most.exprs (and_right (nat_le (1 + others.blocks) 100) (nat_le others.exprs 200) shallow))
 
 -- the test of the library
@@ -33,7 +35,8 @@ module _ (constants : List NamedConstant) (vars : List NamedVar) (body : List Na
   made = (walked_block constants vars body env).made
 
   pub made_shallow : nested.is_shallow body ≡ true → is_shallow (walked_block constants vars body env).made ≡ true
-  made_shallow shallow = let most = statements_in constants vars body env in shallow_still (of_all (map depth_of made)) (of_all (map nested.depth_of body)) most.depths shallow
+  made_shallow shallow = let most = statements_in constants vars body env in
+      shallow_still (of_all (map depth_of made)) (of_all (map nested.depth_of body)) most.depths shallow
 
   pub made_apart : list_all named.is_apart body ≡ true → list_all is_apart (walked_block constants vars body env).made ≡ true
   made_apart apart =

@@ -29,7 +29,8 @@ Layer = NamedExprKind-F NamedExprKind NamedPart NamedExpr NamedTarget
 abbrev placed_by : Earlier → Layer → Bool
 placed_by earlier layer = kind_placed earlier
     (map-NamedExprKind NamedExprKind NamedPart NamedExpr NamedTarget Bool Bool Bool Bool
-    (fold-NamedExprKind Bool Bool Bool Bool (kind_placed earlier) part_placed expr_layer_placed (target_layer_placed earlier)) (step_placed earlier) (expr_placed earlier) (target_placed earlier) layer)
+    (fold-NamedExprKind Bool Bool Bool Bool (kind_placed earlier) part_placed expr_layer_placed (target_layer_placed earlier)) (step_placed earlier)
+    (expr_placed earlier) (target_placed earlier) layer)
 
 placed_is : (earlier : Earlier) (place : Place) (layer : Layer) → expr_placed earlier (expr place layer) ≡ placed_by earlier layer
 placed_is earlier place layer = rw (fold-roll-NamedExpr, fold-roll-NamedExprKind) refl
@@ -37,13 +38,15 @@ placed_is earlier place layer = rw (fold-roll-NamedExpr, fold-roll-NamedExprKind
 abbrev placed_part : Earlier → NamedPart-F NamedExprKind NamedPart NamedExpr NamedTarget → Bool
 placed_part earlier layer = part_placed
     (map-NamedPart NamedExprKind NamedPart NamedExpr NamedTarget Bool Bool Bool Bool
-    (fold-NamedExprKind Bool Bool Bool Bool (kind_placed earlier) part_placed expr_layer_placed (target_layer_placed earlier)) (step_placed earlier) (expr_placed earlier) (target_placed earlier) layer)
+    (fold-NamedExprKind Bool Bool Bool Bool (kind_placed earlier) part_placed expr_layer_placed (target_layer_placed earlier)) (step_placed earlier)
+    (expr_placed earlier) (target_placed earlier) layer)
 
 placed_part_is : (earlier : Earlier) (part : NamedPart) → step_placed earlier part ≡ placed_part earlier (out-NamedPart part)
 placed_part_is earlier part = fold_out-NamedPart Bool Bool Bool Bool (kind_placed earlier) part_placed expr_layer_placed (target_layer_placed earlier) part
 
 target_is : (earlier : Earlier) (place : Place) (root : Root) (parts : List NamedPart) →
-    target_placed earlier (roll-NamedTarget (record { place = place; root = root; parts = parts })) ≡ (root_placed earlier root && all_of (map (step_placed earlier) parts))
+    target_placed earlier (roll-NamedTarget (record { place = place; root = root; parts = parts }))
+    ≡ (root_placed earlier root && all_of (map (step_placed earlier) parts))
 target_is earlier place root parts = rw fold-roll-NamedTarget refl
 
 all_more : {X : Type 0} (a b : X → Bool) (xs : List X) → All (λ x. a x ≡ true → b x ≡ true) xs → all_of (map a xs) ≡ true → all_of (map b xs) ≡ true
@@ -52,7 +55,8 @@ all_more a b (x ∷ xs) each all =
     both (b x) (all_of (map b xs)) (All-head (λ x. a x ≡ true → b x ≡ true) x xs each (and_left (a x) (all_of (map a xs)) all))
     (all_more a b xs (All-tail (λ x. a x ≡ true → b x ≡ true) x xs each) (and_right (a x) (all_of (map a xs)) all))
 
-module _ (before after : Earlier) (constants : before.constants ≤ after.constants) (units : before.units ≤ after.units) (variables : before.variables ≤ after.variables) where
+module _ (before after : Earlier) (constants : before.constants ≤ after.constants) (units : before.units ≤ after.units)
+    (variables : before.variables ≤ after.variables) where
   abbrev P : NamedExpr → Type 0
   P e = expr_placed before e ≡ true → expr_placed after e ≡ true
 
@@ -66,7 +70,8 @@ module _ (before after : Earlier) (constants : before.constants ≤ after.consta
   root_more (root.Variable k) is = more_below k before.variables after.variables variables is
   root_more (root.Constant k) is = more_below k before.constants after.constants constants is
 
-  layer_more : (layer : NamedPart-F NamedExprKind NamedPart NamedExpr NamedTarget) → OfIndex P layer → placed_part before layer ≡ true → placed_part after layer ≡ true
+  layer_more : (layer : NamedPart-F NamedExprKind NamedPart NamedExpr NamedTarget) → OfIndex P layer → placed_part before layer ≡ true →
+      placed_part after layer ≡ true
   layer_more (NamedPart-F.Field name) index is = refl
   layer_more (NamedPart-F.Index e) index is = index is
 
@@ -76,7 +81,8 @@ module _ (before after : Earlier) (constants : before.constants ≤ after.consta
       both (step_placed after part) (all_of (map (step_placed after) rest))
       (placed_part_is after part ∙ layer_more (out-NamedPart part) (All-head (λ part. OfIndex P (out-NamedPart part)) part rest each)
       (sym (placed_part_is before part) ∙ and_left (step_placed before part) (all_of (map (step_placed before) rest)) all))
-      (parts_more rest (All-tail (λ part. OfIndex P (out-NamedPart part)) part rest each) (and_right (step_placed before part) (all_of (map (step_placed before) rest)) all))
+      (parts_more rest (All-tail (λ part. OfIndex P (out-NamedPart part)) part rest each)
+      (and_right (step_placed before part) (all_of (map (step_placed before) rest)) all))
 
   more_cases : Cases P Q
   more_cases = record {
@@ -86,7 +92,8 @@ module _ (before after : Earlier) (constants : before.constants ≤ after.consta
     prev = λ place k. by_kind place (NamedExprKind-F.Prev k) (more_below k before.variables after.variables variables);
     one = λ place op a more. by_kind place (NamedExprKind-F.One op a) more;
     two = λ place op a b more other. by_kind place (NamedExprKind-F.Two op a b)
-        (λ is. both (expr_placed after a) (expr_placed after b) (more (and_left (expr_placed before a) (expr_placed before b) is)) (other (and_right (expr_placed before a) (expr_placed before b) is)));
+        (λ is. both (expr_placed after a) (expr_placed after b) (more (and_left (expr_placed before a) (expr_placed before b) is))
+        (other (and_right (expr_placed before a) (expr_placed before b) is)));
     cast = λ place target a more. by_kind place (NamedExprKind-F.Cast target a) more;
     call = λ place name f inputs each. by_kind place (NamedExprKind-F.Call name f inputs)
         (λ is. both (nat_lt f after.units) (all_of (map (expr_placed after) inputs))
@@ -95,7 +102,8 @@ module _ (before after : Earlier) (constants : before.constants ≤ after.consta
     target = λ place root parts each is.
         let placed = sym (target_is before place root parts) ∙ is in
         target_is after place root parts
-        ∙ both (root_placed after root) (all_of (map (step_placed after) parts)) (root_more root (and_left (root_placed before root) (all_of (map (step_placed before) parts)) placed))
+        ∙ both (root_placed after root) (all_of (map (step_placed after) parts))
+        (root_more root (and_left (root_placed before root) (all_of (map (step_placed before) parts)) placed))
         (parts_more parts each (and_right (root_placed before root) (all_of (map (step_placed before) parts)) placed));
   }
 
@@ -106,9 +114,11 @@ longer : {A : Type 0} (xs ys more : List A) → ys ≡ xs ++ more → length xs 
 longer xs ys more is = let total : length ys ≡ length xs + length more = ap length is ∙ length-append xs more in omega arith
 
 -- an expression that is in place is so after more variables and constants
-pub placed_still : (before after : Environment) → Grown before after → (e : NamedExpr) → expr_placed (known_in before) e ≡ true → expr_placed (known_in after) e ≡ true
+pub placed_still : (before after : Environment) → Grown before after → (e : NamedExpr) → expr_placed (known_in before) e ≡ true →
+    expr_placed (known_in after) e ≡ true
 placed_still before after grown =
-    more_placed (known_in before) (known_in after) (longer before.constants after.constants grown.constants grown.has_constants) same_units (longer before.vars after.vars grown.vars grown.has_vars)
+    more_placed (known_in before) (known_in after) (longer before.constants after.constants grown.constants grown.has_constants) same_units
+    (longer before.vars after.vars grown.vars grown.has_vars)
   where
     same_units : length before.units ≤ length after.units
     same_units = let same : length after.units ≡ length before.units = ap length grown.units in omega arith

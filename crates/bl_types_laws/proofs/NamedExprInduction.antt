@@ -36,7 +36,8 @@ pub record Cases (P : NamedExpr → Type 0) (Q : NamedTarget → Type 0) : Type 
   pub two : (place : Place) (op : Op) (a b : NamedExpr) → P a → P b → P (expr place (NamedExprKind-F.Two op a b))
   pub cast : (place : Place) (s : Scalar) (a : NamedExpr) → P a → P (expr place (NamedExprKind-F.Cast s a))
   pub call : (place : Place) (name : Place) (f : ℕ) (inputs : List NamedExpr) → All P inputs → P (expr place (NamedExprKind-F.Call name f inputs))
-  pub target : (place : Place) (root : Root) (parts : List NamedPart) → EachIndex P parts → Q (roll-NamedTarget (record { place = place; root = root; parts = parts }))
+  pub target : (place : Place) (root : Root) (parts : List NamedPart) → EachIndex P parts →
+      Q (roll-NamedTarget (record { place = place; root = root; parts = parts }))
 
 module _ (P : NamedExpr → Type 0) (Q : NamedTarget → Type 0) (cases : Cases P Q) where
   abbrev OfKind : NamedExprKind → Type 0
@@ -49,7 +50,8 @@ module _ (P : NamedExpr → Type 0) (Q : NamedTarget → Type 0) (cases : Cases 
   Shown = NamedExprKind-F ((kind : NamedExprKind) × OfKind kind) ((part : NamedPart) × OfPart part) ((e : NamedExpr) × P e) ((target : NamedTarget) × Q target)
 
   abbrev plain : Shown → NamedExprKind-F NamedExprKind NamedPart NamedExpr NamedTarget
-  plain = map-NamedExprKind ((kind : NamedExprKind) × OfKind kind) ((part : NamedPart) × OfPart part) ((e : NamedExpr) × P e) ((target : NamedTarget) × Q target)
+  plain = map-NamedExprKind ((kind : NamedExprKind) × OfKind kind) ((part : NamedPart) × OfPart part) ((e : NamedExpr) × P e)
+      ((target : NamedTarget) × Q target)
       NamedExprKind NamedPart NamedExpr NamedTarget (λ e. e.0) (λ e. e.0) (λ e. e.0) (λ e. e.0)
 
   by_kind : (place : Place) (shown : Shown) → P (expr place (plain shown))
@@ -66,7 +68,8 @@ module _ (P : NamedExpr → Type 0) (Q : NamedTarget → Type 0) (cases : Cases 
   ShownPart = NamedPart-F ((kind : NamedExprKind) × OfKind kind) ((part : NamedPart) × OfPart part) ((e : NamedExpr) × P e) ((target : NamedTarget) × Q target)
 
   abbrev plain_part : ShownPart → NamedPart-F NamedExprKind NamedPart NamedExpr NamedTarget
-  plain_part = map-NamedPart ((kind : NamedExprKind) × OfKind kind) ((part : NamedPart) × OfPart part) ((e : NamedExpr) × P e) ((target : NamedTarget) × Q target)
+  plain_part = map-NamedPart ((kind : NamedExprKind) × OfKind kind) ((part : NamedPart) × OfPart part) ((e : NamedExpr) × P e)
+      ((target : NamedTarget) × Q target)
       NamedExprKind NamedPart NamedExpr NamedTarget (λ e. e.0) (λ e. e.0) (λ e. e.0) (λ e. e.0)
 
   by_part : (shown : ShownPart) → OfIndex P (plain_part shown)

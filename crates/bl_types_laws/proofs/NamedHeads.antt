@@ -31,23 +31,28 @@ module _ (units : List UnitDef) where
   param_suits : (role : Role) (param : RawParam) (scopes : Scopes) → Told (kinds_of units) scopes →
       Suits units true scopes (after scopes (param_marks param)) (named_var scopes param.name (Some param.ty) role ∷ []) []
   param_suits role param scopes told =
-      subst (λ new. Suits units true scopes new (named_var scopes param.name (Some param.ty) role ∷ []) []) (enter-behind scopes (type_marks param.ty) param.name kind.Variable (still_type param.ty))
+      subst (λ new. Suits units true scopes new (named_var scopes param.name (Some param.ty) role ∷ []) [])
+      (enter-behind scopes (type_marks param.ty) param.name kind.Variable (still_type param.ty))
       (suits_variable units true scopes param.name (named_var scopes param.name (Some param.ty) role) told refl)
 
   role_suits : (role : Role) (params : List RawParam) (scopes : Scopes) → Told (kinds_of units) scopes →
-      Suits units (list_all is_typed ((role_piece role params).vars scopes)) scopes (after scopes (role_piece role params).marks) ((role_piece role params).vars scopes) ((role_piece role params).constants scopes)
+      Suits units (list_all is_typed ((role_piece role params).vars scopes)) scopes (after scopes (role_piece role params).marks)
+      ((role_piece role params).vars scopes) ((role_piece role params).constants scopes)
   role_suits role [] scopes told = suits_none units scopes told
   role_suits role (param ∷ params) scopes told =
       let middle = after scopes (param_marks param) in
       let rest = role_piece role params in
       let first = param_suits role param scopes told in
-      subst (λ new. Suits units (list_all is_typed (rest.vars middle)) scopes new (named_var scopes param.name (Some param.ty) role ∷ rest.vars middle) (rest.constants middle)) (sym (after-append scopes (param_marks param) rest.marks))
-      (suits_then units true (list_all is_typed (rest.vars middle)) scopes middle (after middle rest.marks) (named_var scopes param.name (Some param.ty) role ∷ []) (rest.vars middle) [] (rest.constants middle)
+      subst (λ new. Suits units (list_all is_typed (rest.vars middle)) scopes new (named_var scopes param.name (Some param.ty) role ∷ rest.vars middle)
+      (rest.constants middle)) (sym (after-append scopes (param_marks param) rest.marks))
+      (suits_then units true (list_all is_typed (rest.vars middle)) scopes middle (after middle rest.marks)
+      (named_var scopes param.name (Some param.ty) role ∷ []) (rest.vars middle) [] (rest.constants middle)
       first (role_suits role params middle first.told))
 
   -- behind both lists of parameters
   pub head_suits : (def : RawUnit) (scopes : Scopes) → Told (kinds_of units) scopes →
-      Suits units (list_all is_typed ((params_piece def).vars scopes)) scopes (after scopes (params_piece def).marks) ((params_piece def).vars scopes) ((params_piece def).constants scopes)
+      Suits units (list_all is_typed ((params_piece def).vars scopes)) scopes (after scopes (params_piece def).marks) ((params_piece def).vars scopes)
+      ((params_piece def).constants scopes)
   head_suits def scopes told =
       let one = role_piece role.Input def.inputs in
       let two = role_piece role.Output def.outputs in
@@ -55,10 +60,13 @@ module _ (units : List UnitDef) where
       let ins = one.vars scopes in
       let outs = two.vars middle in
       let first = role_suits role.Input def.inputs scopes told in
-      subst (λ new. Suits units (list_all is_typed (ins ++ outs)) scopes new (ins ++ outs) (one.constants scopes ++ two.constants middle)) (sym (after-append scopes one.marks two.marks))
-      (suits_so units (list_all is_typed ins && list_all is_typed outs) (list_all is_typed (ins ++ outs)) scopes (after middle two.marks) (ins ++ outs) (one.constants scopes ++ two.constants middle)
+      subst (λ new. Suits units (list_all is_typed (ins ++ outs)) scopes new (ins ++ outs) (one.constants scopes ++ two.constants middle))
+      (sym (after-append scopes one.marks two.marks))
+      (suits_so units (list_all is_typed ins && list_all is_typed outs) (list_all is_typed (ins ++ outs)) scopes (after middle two.marks) (ins ++ outs)
+      (one.constants scopes ++ two.constants middle)
       (λ is. list_all-append is_typed ins outs ∙ is)
-      (suits_then units (list_all is_typed ins) (list_all is_typed outs) scopes middle (after middle two.marks) ins outs (one.constants scopes) (two.constants middle) first (role_suits role.Output def.outputs middle first.told)))
+      (suits_then units (list_all is_typed ins) (list_all is_typed outs) scopes middle (after middle two.marks) ins outs (one.constants scopes)
+      (two.constants middle) first (role_suits role.Output def.outputs middle first.told)))
 
 pub head_long : (def : RawUnit) (scopes : Scopes) → length ((params_piece def).vars scopes) ≡ length def.inputs + length def.outputs
 head_long def scopes =

@@ -39,12 +39,14 @@ inputs_size inputs = size_all depths.expr_depth names.roots_in inputs
 
 abbrev depth_kind : Layer → ℕ
 depth_kind layer = depths.kind_depth
-    (map-NamedExprKind NamedExprKind NamedPart NamedExpr NamedTarget ℕ ℕ ℕ ℕ (fold-NamedExprKind ℕ ℕ ℕ ℕ depths.kind_depth depths.part_depth depths.expr_layer_depth depths.target_layer_depth)
+    (map-NamedExprKind NamedExprKind NamedPart NamedExpr NamedTarget ℕ ℕ ℕ ℕ
+    (fold-NamedExprKind ℕ ℕ ℕ ℕ depths.kind_depth depths.part_depth depths.expr_layer_depth depths.target_layer_depth)
     depths.step_depth depths.expr_depth depths.target_depth layer)
 
 abbrev roots_kind : Layer → Roots
 roots_kind layer = names.kind_roots
-    (map-NamedExprKind NamedExprKind NamedPart NamedExpr NamedTarget Roots Roots Roots Roots (fold-NamedExprKind Roots Roots Roots Roots names.kind_roots names.part_roots names.expr_layer_roots names.target_layer_roots)
+    (map-NamedExprKind NamedExprKind NamedPart NamedExpr NamedTarget Roots Roots Roots Roots
+    (fold-NamedExprKind Roots Roots Roots Roots names.kind_roots names.part_roots names.expr_layer_roots names.target_layer_roots)
     names.roots_in_step names.roots_in names.roots_in_target layer)
 
 abbrev pub named_kind_size : Layer → Size
@@ -58,12 +60,14 @@ named_size_at place layer =
 
 abbrev depth_step : PartLayer → ℕ
 depth_step layer = depths.part_depth
-    (map-NamedPart NamedExprKind NamedPart NamedExpr NamedTarget ℕ ℕ ℕ ℕ (fold-NamedExprKind ℕ ℕ ℕ ℕ depths.kind_depth depths.part_depth depths.expr_layer_depth depths.target_layer_depth)
+    (map-NamedPart NamedExprKind NamedPart NamedExpr NamedTarget ℕ ℕ ℕ ℕ
+    (fold-NamedExprKind ℕ ℕ ℕ ℕ depths.kind_depth depths.part_depth depths.expr_layer_depth depths.target_layer_depth)
     depths.step_depth depths.expr_depth depths.target_depth layer)
 
 abbrev roots_step : PartLayer → Roots
 roots_step layer = names.part_roots
-    (map-NamedPart NamedExprKind NamedPart NamedExpr NamedTarget Roots Roots Roots Roots (fold-NamedExprKind Roots Roots Roots Roots names.kind_roots names.part_roots names.expr_layer_roots names.target_layer_roots)
+    (map-NamedPart NamedExprKind NamedPart NamedExpr NamedTarget Roots Roots Roots Roots
+    (fold-NamedExprKind Roots Roots Roots Roots names.kind_roots names.part_roots names.expr_layer_roots names.target_layer_roots)
     names.roots_in_step names.roots_in names.roots_in_target layer)
 
 abbrev pub step_kind_size : PartLayer → Size
@@ -76,8 +80,11 @@ step_size_is part =
     λ i. record { depth = depth_is i; roots = roots_are i }
 
 pub target_size_is : (place : Place) (root : Root) (parts : List NamedPart) →
-    target_size (roll-NamedTarget (record { place = place; root = root; parts = parts })) ≡ rooted (names.roots_of root) (size_all depths.step_depth names.roots_in_step parts)
+    target_size (roll-NamedTarget (record { place = place; root = root; parts = parts }))
+    ≡ rooted (names.roots_of root) (size_all depths.step_depth names.roots_in_step parts)
 target_size_is place root parts =
-    let depth_is : depths.target_depth (roll-NamedTarget (record { place = place; root = root; parts = parts })) ≡ greatest (map depths.step_depth parts) = rw fold-roll-NamedTarget refl in
-    let roots_are : names.roots_in_target (roll-NamedTarget (record { place = place; root = root; parts = parts })) ≡ names.roots_of root ++ joined (map names.roots_in_step parts) = rw fold-roll-NamedTarget refl in
+    let depth_is : depths.target_depth (roll-NamedTarget (record { place = place; root = root; parts = parts })) ≡ greatest (map depths.step_depth parts) =
+    rw fold-roll-NamedTarget refl in
+    let roots_are : names.roots_in_target (roll-NamedTarget (record { place = place; root = root; parts = parts })) ≡ names.roots_of root
+    ++ joined (map names.roots_in_step parts) = rw fold-roll-NamedTarget refl in
     λ i. record { depth = depth_is i; roots = roots_are i }

@@ -25,39 +25,46 @@ module _ (earlier : Earlier) where
   placed_kind = fold-NamedExprKind Bool Bool Bool Bool (kind_placed earlier) part_placed expr_layer_placed (target_layer_placed earlier)
 
   abbrev placed_by : Layer → Bool
-  placed_by layer = kind_placed earlier (map-NamedExprKind NamedExprKind NamedPart NamedExpr NamedTarget Bool Bool Bool Bool placed_kind (step_placed earlier) (expr_placed earlier) (target_placed earlier) layer)
+  placed_by layer = kind_placed earlier (map-NamedExprKind NamedExprKind NamedPart NamedExpr NamedTarget Bool Bool Bool Bool placed_kind (step_placed earlier)
+      (expr_placed earlier) (target_placed earlier) layer)
 
   placed_is : (place : Place) (layer : Layer) → expr_placed earlier (expr place layer) ≡ placed_by layer
   placed_is place layer = rw (fold-roll-NamedExpr, fold-roll-NamedExprKind) refl
 
   abbrev placed_part : PartLayer → Bool
-  placed_part layer = part_placed (map-NamedPart NamedExprKind NamedPart NamedExpr NamedTarget Bool Bool Bool Bool placed_kind (step_placed earlier) (expr_placed earlier) (target_placed earlier) layer)
+  placed_part layer = part_placed (map-NamedPart NamedExprKind NamedPart NamedExpr NamedTarget Bool Bool Bool Bool placed_kind (step_placed earlier)
+      (expr_placed earlier) (target_placed earlier) layer)
 
   placed_part_is : (part : NamedPart) → step_placed earlier part ≡ placed_part (out-NamedPart part)
   placed_part_is part = fold_out-NamedPart Bool Bool Bool Bool (kind_placed earlier) part_placed expr_layer_placed (target_layer_placed earlier) part
 
   placed_target_is : (place : Place) (root : Root) (parts : List NamedPart) →
-      target_placed earlier (roll-NamedTarget (record { place = place; root = root; parts = parts })) ≡ (root_placed earlier root && all_of (map (step_placed earlier) parts))
+      target_placed earlier (roll-NamedTarget (record { place = place; root = root; parts = parts }))
+      ≡ (root_placed earlier root && all_of (map (step_placed earlier) parts))
   placed_target_is place root parts = rw fold-roll-NamedTarget refl
 
 calls_is : (units : List UnitDef) (place : Place) (layer : Layer) → calls_functions units (expr place layer) ≡ calls_by units layer
 calls_is units place layer = calls_at units place (roll-NamedExprKind layer) layer (out-roll-NamedExprKind layer)
 
-calls_target_is : (units : List UnitDef) (place : Place) (root : Root) (parts : List NamedPart) → target_calls units (roll-NamedTarget (record { place = place; root = root; parts = parts })) ≡ all_of (map (calls_step units) parts)
+calls_target_is : (units : List UnitDef) (place : Place) (root : Root) (parts : List NamedPart) →
+    target_calls units (roll-NamedTarget (record { place = place; root = root; parts = parts })) ≡ all_of (map (calls_step units) parts)
 calls_target_is units place root parts = rw fold-roll-NamedTarget refl
 
 -- ---- all of them
 
-all_narrow : {X : Type 0} (a b c : X → Bool) (xs : List X) → All (λ x. a x ≡ true → b x ≡ true → c x ≡ true) xs → all_of (map a xs) ≡ true → all_of (map b xs) ≡ true → all_of (map c xs) ≡ true
+all_narrow : {X : Type 0} (a b c : X → Bool) (xs : List X) → All (λ x. a x ≡ true → b x ≡ true → c x ≡ true) xs → all_of (map a xs) ≡ true →
+    all_of (map b xs) ≡ true → all_of (map c xs) ≡ true
 all_narrow a b c [] each one two = refl
 all_narrow a b c (x ∷ xs) each one two =
     both (c x) (all_of (map c xs))
     (All-head (λ x. a x ≡ true → b x ≡ true → c x ≡ true) x xs each (and_left (a x) (all_of (map a xs)) one) (and_left (b x) (all_of (map b xs)) two))
-    (all_narrow a b c xs (All-tail (λ x. a x ≡ true → b x ≡ true → c x ≡ true) x xs each) (and_right (a x) (all_of (map a xs)) one) (and_right (b x) (all_of (map b xs)) two))
+    (all_narrow a b c xs (All-tail (λ x. a x ≡ true → b x ≡ true → c x ≡ true) x xs each) (and_right (a x) (all_of (map a xs)) one)
+    (and_right (b x) (all_of (map b xs)) two))
 
 -- a position of these units that is one of a function among all is one among these
 abbrev pub Narrows : List UnitDef → List UnitDef → ℕ → Type 0
-Narrows whole first n = (f : ℕ) → nat_lt f n ≡ true → holds_of (λ unit. is_function unit.kind) (slice_get whole f) ≡ true → holds_of (λ unit. is_function unit.kind) (slice_get first f) ≡ true
+Narrows whole first n = (f : ℕ) → nat_lt f n ≡ true → holds_of (λ unit. is_function unit.kind) (slice_get whole f) ≡ true →
+    holds_of (λ unit. is_function unit.kind) (slice_get first f) ≡ true
 
 module _ (whole first : List UnitDef) (counts : Earlier) (narrows : Narrows whole first counts.units) where
   abbrev P : NamedExpr → Type 0
@@ -73,11 +80,14 @@ module _ (whole first : List UnitDef) (counts : Earlier) (narrows : Narrows whol
   by_part (NamedPart-F.Field name) index placed calls = refl
   by_part (NamedPart-F.Index e) index placed calls = index placed calls
 
-  part_narrows : (part : NamedPart) → OfIndex P (out-NamedPart part) → step_placed counts part ≡ true → calls_step whole part ≡ true → calls_step first part ≡ true
+  part_narrows : (part : NamedPart) → OfIndex P (out-NamedPart part) → step_placed counts part ≡ true → calls_step whole part ≡ true →
+      calls_step first part ≡ true
   part_narrows part index placed calls =
-      step_at first part (out-NamedPart part) refl ∙ by_part (out-NamedPart part) index (sym (placed_part_is counts part) ∙ placed) (sym (step_at whole part (out-NamedPart part) refl) ∙ calls)
+      step_at first part (out-NamedPart part) refl ∙ by_part (out-NamedPart part) index (sym (placed_part_is counts part) ∙ placed)
+      (sym (step_at whole part (out-NamedPart part) refl) ∙ calls)
 
-  target_case : (place : Place) (root : Root) (parts : List NamedPart) → EachIndex P parts → Q (roll-NamedTarget (record { place = place; root = root; parts = parts }))
+  target_case : (place : Place) (root : Root) (parts : List NamedPart) → EachIndex P parts →
+      Q (roll-NamedTarget (record { place = place; root = root; parts = parts }))
   target_case place root parts each placed calls =
       calls_target_is first place root parts
       ∙ all_narrow (step_placed counts) (calls_step whole) (calls_step first) parts (λ k d within. part_narrows _ (each k d within))
@@ -100,9 +110,11 @@ module _ (whole first : List UnitDef) (counts : Earlier) (narrows : Narrows whol
         (λ placed calls.
         let is_there = holds_of (λ (unit : UnitDef). is_function unit.kind) (slice_get whole f) in
         both (holds_of (λ (unit : UnitDef). is_function unit.kind) (slice_get first f)) (all_of (map (calls_functions first) inputs))
-        (narrows f (and_left (nat_lt f counts.units) (all_of (map (expr_placed counts) inputs)) placed) (and_left is_there (all_of (map (calls_functions whole) inputs)) calls))
+        (narrows f (and_left (nat_lt f counts.units) (all_of (map (expr_placed counts) inputs)) placed)
+        (and_left is_there (all_of (map (calls_functions whole) inputs)) calls))
         (all_narrow (expr_placed counts) (calls_functions whole) (calls_functions first) inputs each
-        (and_right (nat_lt f counts.units) (all_of (map (expr_placed counts) inputs)) placed) (and_right is_there (all_of (map (calls_functions whole) inputs)) calls)));
+        (and_right (nat_lt f counts.units) (all_of (map (expr_placed counts) inputs)) placed)
+        (and_right is_there (all_of (map (calls_functions whole) inputs)) calls)));
     target = target_case;
   }
 

@@ -94,10 +94,12 @@ of_branches : (branches : List Branch) → joined (map starts_of_branch branches
 of_branches [] = refl
 of_branches (branch ∷ rest) = λ i. fold_out-Branch Starts Starts Starts Starts kind_starts arm_layer branch_layer stmt_layer branch i ++ of_branches rest i
 
-branch_bodies : (branches : List Branch) → joined (map branch_starts branches) ≡ block_starts (joined (map (λ (branch : Branch). (out-Branch branch).body) branches))
+branch_bodies : (branches : List Branch) → joined (map branch_starts branches)
+    ≡ block_starts (joined (map (λ (branch : Branch). (out-Branch branch).body) branches))
 branch_bodies [] = refl
 branch_bodies (branch ∷ rest) =
-    ap (λ l. branch_starts branch ++ l) (branch_bodies rest) ∙ sym (block_append (out-Branch branch).body (joined (map (λ (branch : Branch). (out-Branch branch).body) rest)))
+    ap (λ l. branch_starts branch ++ l) (branch_bodies rest) ∙ sym (block_append (out-Branch branch).body
+    (joined (map (λ (branch : Branch). (out-Branch branch).body) rest)))
 
 of_children : (layer : Layer) → layer_starts layer ≡ block_starts (kind_children layer)
 of_children (StmtKind-F.Declare k value) = refl
@@ -180,9 +182,11 @@ not_less : (m n : ℕ) → m ≡ n → m < n → ⊥
 not_less m n is less = omega arith
 
 -- two statements that stand in one, and begin at one place, are one
-pub one_within : (s outer : Stmt) → Within s outer → (t : Stmt) → Within t outer → ascends (starts_of outer) ≡ true → (place_of s).start ≡ (place_of t).start → s ≡ t
+pub one_within : (s outer : Stmt) → Within s outer → (t : Stmt) → Within t outer → ascends (starts_of outer) ≡ true → (place_of s).start ≡ (place_of t).start →
+    s ≡ t
 one_within s outer itself t other up same =
-    ⊎_elim (λ (is : t ≡ s). sym is) (λ (below : Below t s). absurd (not_less (place_of s).start (place_of t).start same (below_later t s up below))) (either t s other)
+    ⊎_elim (λ (is : t ≡ s). sym is) (λ (below : Below t s). absurd (not_less (place_of s).start (place_of t).start same (below_later t s up below)))
+    (either t s other)
 one_within s whole (deeper outer next there within) t other up same =
     let first = contains_in next (children outer) there in
     ⊎_elim
@@ -199,13 +203,15 @@ one_within s whole (deeper outer next there within) t other up same =
 -- ---- blocks and units
 
 stands_starts : (body : List Stmt) (s : Stmt) → StandsIn body s → In (place_of s).start (block_starts body)
-stands_starts body s stands = in_joined starts_of body stands.outer (place_of s).start (contains_in stands.outer body stands.is_there) (within_starts s stands.outer stands.within)
+stands_starts body s stands = in_joined starts_of body stands.outer (place_of s).start (contains_in stands.outer body stands.is_there)
+    (within_starts s stands.outer stands.within)
 
 stands_ascends : (body : List Stmt) (s : Stmt) → StandsIn body s → ascends (block_starts body) ≡ true → ascends (starts_of s) ≡ true
 stands_ascends body s stands up =
     within_ascends s stands.outer stands.within (part_ascends starts_of body stands.outer up (contains_in stands.outer body stands.is_there))
 
-one_standing : (body : List Stmt) (s t : Stmt) → ascends (block_starts body) ≡ true → StandsIn body s → StandsIn body t → (place_of s).start ≡ (place_of t).start → s ≡ t
+one_standing : (body : List Stmt) (s t : Stmt) → ascends (block_starts body) ≡ true → StandsIn body s → StandsIn body t →
+    (place_of s).start ≡ (place_of t).start → s ≡ t
 one_standing body s t up one two same =
     let first = contains_in one.outer body one.is_there in
     let here : one.outer ≡ two.outer =
@@ -222,7 +228,8 @@ module _ (units : List UnitDef) (up : ascends (joined (map unit_starts units)) �
   one_statement s t one two same =
       let first = contains_in one.unit units one.is_there in
       let here : one.unit ≡ two.unit =
-      one_part unit_starts units one.unit two.unit (place_of s).start up first (contains_in two.unit units two.is_there) (stands_starts one.unit.body s one.stands)
+      one_part unit_starts units one.unit two.unit (place_of s).start up first (contains_in two.unit units two.is_there)
+      (stands_starts one.unit.body s one.stands)
       (subst (λ n. In n (unit_starts two.unit)) (sym same) (stands_starts two.unit.body t two.stands)) in
       one_standing one.unit.body s t (unit_ascends one.unit first) one.stands (subst (λ (unit : UnitDef). StandsIn unit.body t) (sym here) two.stands) same
 

@@ -30,7 +30,8 @@ pub record Onward (scopes new : Scopes) (structs : List NamedStruct) (constants 
 none_on : (a : ℕ) → a ≡ a + 0
 none_on a = omega arith
 
-pub struct_onward : (scopes : Scopes) (def : RawStruct) → Below scopes → scopes.counts.variables ≡ 0 → Onward scopes (after scopes (struct_marks def)) (named_struct scopes def ∷ []) [] []
+pub struct_onward : (scopes : Scopes) (def : RawStruct) → Below scopes → scopes.counts.variables ≡ 0 →
+    Onward scopes (after scopes (struct_marks def)) (named_struct scopes def ∷ []) [] []
 struct_onward scopes def below none =
     subst (λ new. Onward scopes new (named_struct scopes def ∷ []) [] []) (struct_scopes scopes def)
     (record {
@@ -41,10 +42,12 @@ struct_onward scopes def below none =
       more_units = none_on scopes.counts.units;
     })
 
-pub constant_onward : (scopes : Scopes) (def : RawConstant) → Below scopes → scopes.counts.variables ≡ 0 → Onward scopes (after scopes (constant_marks def)) [] (named_constant scopes def ∷ []) []
+pub constant_onward : (scopes : Scopes) (def : RawConstant) → Below scopes → scopes.counts.variables ≡ 0 →
+    Onward scopes (after scopes (constant_marks def)) [] (named_constant scopes def ∷ []) []
 constant_onward scopes def below none =
     let marks = optional type_marks def.ty ++ expr_marks def.value in
-    subst (λ new. Onward scopes new [] (named_constant scopes def ∷ []) []) (enter-behind scopes marks def.name kinds.Constant (still_value def.ty (Some def.value)))
+    subst (λ new. Onward scopes new [] (named_constant scopes def ∷ []) [])
+    (enter-behind scopes marks def.name kinds.Constant (still_value def.ty (Some def.value)))
     (record {
       below = constant_below scopes def.name below;
       none = none;
@@ -60,7 +63,8 @@ constant_there constants scopes def below fits within =
     ap (holds_of (constant_placed (earlier scopes))) (sym (within_one constants scopes.counts.constants (named_constant scopes def) [] within))
     ∙ constant_is [] constants scopes def below (fits_first scopes marks (declares def.name kinds.Constant ∷ []) fits) within
 
-pub unit_onward : (constants : List NamedConstant) (scopes new : Scopes) (unit : NamedUnit) (inside : List NamedConstant) → UnitHolds (unit_step constants unit (earlier scopes)) scopes new inside → Onward scopes new [] inside (unit ∷ [])
+pub unit_onward : (constants : List NamedConstant) (scopes new : Scopes) (unit : NamedUnit) (inside : List NamedConstant) →
+    UnitHolds (unit_step constants unit (earlier scopes)) scopes new inside → Onward scopes new [] inside (unit ∷ [])
 unit_onward constants scopes new unit inside holds = record {
   below = holds.below;
   none = holds.no_variables;

@@ -20,7 +20,8 @@ use Rattle.bl_types_laws.proofs.Sizes.{Layer, MadeIn, Size, SizeMost, beside, de
 abbrev pub ExprIn : Size → Option Expr → Type 0
 ExprIn = MadeIn size_of
 
-one_if : (s : ScalarType) (at : Place) (op : Op) (a : Expr) (takes : Bool) (size : Size) → SizeMost (size_of a) size → ExprIn (deeper size) (if takes then kept (one at op a) else unfit at).made
+one_if : (s : ScalarType) (at : Place) (op : Op) (a : Expr) (takes : Bool) (size : Size) → SizeMost (size_of a) size →
+    ExprIn (deeper size) (if takes then kept (one at op a) else unfit at).made
 one_if s at op a true size most = one_most at op a size most
 one_if s at op a false size most = tt
 
@@ -33,7 +34,8 @@ two_if : (s : ScalarType) (at : Place) (op : Op) (a b : Expr) (takes : Bool) (le
 two_if s at op a b true left right most other = two_most at op a b left right most other
 two_if s at op a b false left right most other = tt
 
-two_in : (s : ScalarType) (at : Place) (op : Op) (a b : Option Expr) (left right : Size) → ExprIn left a → ExprIn right b → ExprIn (deeper (beside left right)) (two_made s at op a b).made
+two_in : (s : ScalarType) (at : Place) (op : Op) (a b : Option Expr) (left right : Size) → ExprIn left a → ExprIn right b →
+    ExprIn (deeper (beside left right)) (two_made s at op a b).made
 two_in s at op (Some a) (Some b) left right most other = two_if s at op a b (takes_two op s) left right most other
 two_in s at op (Some a) None left right most other = tt
 two_in s at op None b left right most other = tt
@@ -65,11 +67,13 @@ module _ (s : ScalarType) where
 
   open_cases : Cases P Q
   open_cases = record {
-    literal = λ place n t. by_kind place (ExprKind-F.Literal n t) (size_is (size_of (literal place n s)) empty empty (literal_size place n s) (size_empty empty));
+    literal = λ place n t. by_kind place (ExprKind-F.Literal n t) (size_is (size_of (literal place n s)) empty empty (literal_size place n s)
+        (size_empty empty));
     read = λ place path of. by_kind place (ExprKind-F.Read path) tt;
     prev = λ place k. by_kind place (ExprKind-F.Prev k) tt;
     one = λ place op a is. by_kind place (ExprKind-F.One op a) (one_in s place op (settled s a).made (size_of a) is);
-    two = λ place op a b is_a is_b. by_kind place (ExprKind-F.Two op a b) (two_in s place op (settled s a).made (settled s b).made (size_of a) (size_of b) is_a is_b);
+    two = λ place op a b is_a is_b. by_kind place (ExprKind-F.Two op a b)
+        (two_in s place op (settled s a).made (settled s b).made (size_of a) (size_of b) is_a is_b);
     cast = λ place t a is. by_kind place (ExprKind-F.Cast t a) tt;
     call = λ place f inputs all. by_kind place (ExprKind-F.Call f inputs) tt;
     path = λ place root parts ty each. tt;

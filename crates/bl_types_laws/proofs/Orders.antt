@@ -44,7 +44,8 @@ none_of test (x ∷ xs) = neither (test x) (list_any test xs) ∙ ap (λ rest. n
     neither true b = refl
     neither false b = refl
 
-foreign_still : (declared named others more : Roots) → Among declared others → Among named more → is_foreign others more ≡ true → is_foreign declared named ≡ true
+foreign_still : (declared named others more : Roots) → Among declared others → Among named more → is_foreign others more ≡ true →
+    is_foreign declared named ≡ true
 foreign_still declared named others more fewer less foreign =
     none_of (λ k. list_any (nat_eq k) named) declared
     ∙ all_weaker (λ k. not (list_any (nat_eq k) more)) (λ k. not (list_any (nat_eq k) named)) still declared
@@ -64,8 +65,10 @@ pub record NamingMost (one other : Naming) : Type 0 where
 keep_still : (a b c d : Naming) → NamingMost a c → NamingMost b d → keep_apart c d ≡ true → keep_apart a b ≡ true
 keep_still a b c d one other keeps =
     both (is_foreign a.declared b.named) (is_foreign b.declared a.named)
-    (foreign_still a.declared b.named c.declared d.named one.declared other.named (and_left (is_foreign c.declared d.named) (is_foreign d.declared c.named) keeps))
-    (foreign_still b.declared a.named d.declared c.named other.declared one.named (and_right (is_foreign c.declared d.named) (is_foreign d.declared c.named) keeps))
+    (foreign_still a.declared b.named c.declared d.named one.declared other.named
+    (and_left (is_foreign c.declared d.named) (is_foreign d.declared c.named) keeps))
+    (foreign_still b.declared a.named d.declared c.named other.declared one.named
+    (and_right (is_foreign c.declared d.named) (is_foreign d.declared c.named) keeps))
 
 -- so it is with all of these together, and with one of these beside each
 pub record NamingsMost (ones others : List Naming) : Type 0 where
@@ -91,12 +94,14 @@ namings_skip other ones others most = record {
   apart = λ holds. most.apart (and_right (list_all (keep_apart other) others) (all_apart others) holds);
 }
 
-pub namings_first : (one other : Naming) (ones others : List Naming) → NamingMost one other → NamingsMost ones others → NamingsMost (one ∷ ones) (other ∷ others)
+pub namings_first : (one other : Naming) (ones others : List Naming) → NamingMost one other → NamingsMost ones others →
+    NamingsMost (one ∷ ones) (other ∷ others)
 namings_first one other ones others first most = record {
   all = record {
     declared = among_both one.declared (together ones).declared other.declared (together others).declared first.declared most.all.declared;
     named = among_both one.named (together ones).named other.named (together others).named first.named most.all.named;
-    apart = λ holds. both one.apart (together ones).apart (first.apart (and_left other.apart (together others).apart holds)) (most.all.apart (and_right other.apart (together others).apart holds));
+    apart = λ holds. both one.apart (together ones).apart (first.apart (and_left other.apart (together others).apart holds))
+        (most.all.apart (and_right other.apart (together others).apart holds));
   };
   keep = λ a b less holds. both (keep_apart a one) (list_all (keep_apart a) ones)
       (keep_still a one b other less first (and_left (keep_apart b other) (list_all (keep_apart b) others) holds))
@@ -110,7 +115,8 @@ pub branches_most : (ones others : List Naming) → NamingsMost ones others → 
 branches_most ones others most = record {
   declared = most.all.declared;
   named = most.all.named;
-  apart = λ holds. both (together ones).apart (all_apart ones) (most.all.apart (and_left (together others).apart (all_apart others) holds)) (most.apart (and_right (together others).apart (all_apart others) holds));
+  apart = λ holds. both (together ones).apart (all_apart ones) (most.all.apart (and_left (together others).apart (all_apart others) holds))
+      (most.apart (and_right (together others).apart (all_apart others) holds));
 }
 
 -- ---- how deep trees are nested
@@ -150,7 +156,8 @@ depths_skip other ones others most = record {
   exprs = max_behind (of_all ones).exprs other.exprs (of_all others).exprs most.exprs;
 }
 
-pub depths_first : (one other : Depth) (ones others : List Depth) → DepthMost one other → DepthMost (of_all ones) (of_all others) → DepthMost (of_all (one ∷ ones)) (of_all (other ∷ others))
+pub depths_first : (one other : Depth) (ones others : List Depth) → DepthMost one other → DepthMost (of_all ones) (of_all others) →
+    DepthMost (of_all (one ∷ ones)) (of_all (other ∷ others))
 depths_first one other ones others first most = record {
   blocks = max_grows one.blocks (of_all ones).blocks other.blocks (of_all others).blocks first.blocks most.blocks;
   exprs = max_grows one.exprs (of_all ones).exprs other.exprs (of_all others).exprs first.exprs most.exprs;

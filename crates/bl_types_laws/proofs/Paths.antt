@@ -50,18 +50,21 @@ field_alone k =
     (fold-ExprKind (Unit {0}) Bool (Unit {0}) Bool kind_ignored part_is_field expr_ignored path_is_plain) is_field
     (fold-Expr (Unit {0}) Bool (Unit {0}) Bool kind_ignored part_is_field expr_ignored path_is_plain) is_plain layer)) (part.outs-Field k)
 
-plain_cons : (at : Place) (o : Option FieldAt) (rest : List Part) → all_of (map is_field rest) ≡ true → all_of (map is_field (cons_option (field_found at o).part rest)) ≡ true
+plain_cons : (at : Place) (o : Option FieldAt) (rest : List Part) → all_of (map is_field rest) ≡ true →
+    all_of (map is_field (cons_option (field_found at o).part rest)) ≡ true
 plain_cons at None rest all = all
 plain_cons at (Some field) rest all = both (is_field (part.Field field.position)) (all_of (map is_field rest)) (field_alone field.position) all
 
-plain_first : (structs : List StructDef) (name : Name) (ty : Option Ty) (rest : List Part) → all_of (map is_field rest) ≡ true → all_of (map is_field (cons_option (to_field structs name ty).part rest)) ≡ true
+plain_first : (structs : List StructDef) (name : Name) (ty : Option Ty) (rest : List Part) → all_of (map is_field rest) ≡ true →
+    all_of (map is_field (cons_option (to_field structs name ty).part rest)) ≡ true
 plain_first structs name None rest all = all
 plain_first structs name (Some ty) rest all = plain_cons name.place (field_in structs name.text _) rest all
 
 plain_parts : (structs : List StructDef) (fields : List Name) (ty : Option Ty) → all_of (map is_field (stepped (map (to_field structs) fields) ty).parts) ≡ true
 plain_parts structs [] ty = refl
 plain_parts structs (name ∷ rest) ty =
-    plain_first structs name ty (stepped (map (to_field structs) rest) (to_field structs name ty).ty).parts (plain_parts structs rest (to_field structs name ty).ty)
+    plain_first structs name ty (stepped (map (to_field structs) rest) (to_field structs name ty).ty).parts
+    (plain_parts structs rest (to_field structs name ty).ty)
 
 plain_is : (at : Place) (k : ℕ) (parts : List Part) (ty : Ty) → is_plain (path at k parts ty) ≡ all_of (map is_field parts)
 plain_is at k parts ty = rw fold-roll-Path refl
@@ -86,7 +89,8 @@ changes at known true is none = is
 changes at known false is none = absurd (cc)
 
 module _ (env : Environment) (site : Site) (within : Within env site) where
-  may_assign : (at : Place) (k : ℕ) (it : Path) → nat_lt k (length env.vars) ≡ true → (out-Path it).root ≡ k → immutable_variable at (slice_get env.vars k) ≡ [] → is_assignable site it ≡ true
+  may_assign : (at : Place) (k : ℕ) (it : Path) → nat_lt k (length env.vars) ≡ true → (out-Path it).root ≡ k →
+      immutable_variable at (slice_get env.vars k) ≡ [] → is_assignable site it ≡ true
   may_assign at k it less root_is none =
       let known = there_at env.vars k less in
       let there = within.vars k known.0 known.1 in
@@ -97,27 +101,41 @@ module _ (env : Environment) (site : Site) (within : Within env site) where
 
   -- ---- paths
 
-  fields_lead : (fields : List Name) (ty : Ty) → (stepped (map (to_field env.structs) fields) (Some ty)).failures ≡ [] → LedFits site ty (stepped (map (to_field env.structs) fields) (Some ty))
+  fields_lead : (fields : List Name) (ty : Ty) → (stepped (map (to_field env.structs) fields) (Some ty)).failures ≡ [] →
+      LedFits site ty (stepped (map (to_field env.structs) fields) (Some ty))
   fields_lead [] = none_lead site (to_field env.structs)
   fields_lead (name ∷ rest) = first_leads site (to_field env.structs) name rest (field_fits env site within name) (fields_lead rest)
 
-  outlet : (at : Place) (k : ℕ) (parts : List Part) (ty : Ty) → all_of (map is_field parts) ≡ true → nat_lt k (length env.vars) ≡ true → immutable_variable at (slice_get env.vars k) ≡ [] → is_outlet site (path at k parts ty) ≡ true
+  outlet : (at : Place) (k : ℕ) (parts : List Part) (ty : Ty) → all_of (map is_field parts) ≡ true → nat_lt k (length env.vars) ≡ true →
+      immutable_variable at (slice_get env.vars k) ≡ [] → is_outlet site (path at k parts ty) ≡ true
   outlet at k parts ty all less none =
-      both (is_plain (path at k parts ty)) (is_assignable site (path at k parts ty)) (plain_is at k parts ty ∙ all) (may_assign at k (path at k parts ty) less (root_is at k parts ty) none)
+      both (is_plain (path at k parts ty)) (is_assignable site (path at k parts ty)) (plain_is at k parts ty ∙ all)
+      (may_assign at k (path at k parts ty) less (root_is at k parts ty) none)
 
-  same_lent : (wanted : Ty) (at : Place) (it : Path) (same : Bool) → same_type wanted (out-Path it).ty ≡ same → type_of_path site it ≡ Some (out-Path it).ty → is_outlet site it ≡ true →
+  same_lent : (wanted : Ty) (at : Place) (it : Path) (same : Bool) → same_type wanted (out-Path it).ty ≡ same → type_of_path site it ≡ Some (out-Path it).ty →
+      is_outlet site it ≡ true →
       (lent_if at it same).failures ≡ [] → IsLent site wanted (lent_if at it same).made
-  same_lent wanted at it true same typed outlet none = record { it = it; is = refl; is_typed = typed ∙ ap Some (sym (same_type_is wanted (out-Path it).ty same)); is_outlet_there = outlet }
+  same_lent wanted at it true same typed outlet none = record {
+    it = it;
+    is = refl;
+    is_typed = typed
+        ∙ ap Some (sym (same_type_is wanted (out-Path it).ty same));
+    is_outlet_there = outlet;
+  }
   same_lent wanted at it false same typed outlet none = absurd (cc)
 
-  lent_by : (wanted : Ty) (at : Place) (k : ℕ) (led : Led) (ty : Option Ty) → led.ty ≡ ty → FoundFits site (path_found at k led.parts ty) → all_of (map is_field led.parts) ≡ true → nat_lt k (length env.vars) ≡ true →
-      immutable_variable at (slice_get env.vars k) ≡ [] → (lent_as (Some wanted) at (path_found at k led.parts ty)).failures ≡ [] → IsLent site wanted (lent_as (Some wanted) at (path_found at k led.parts ty)).made
+  lent_by : (wanted : Ty) (at : Place) (k : ℕ) (led : Led) (ty : Option Ty) → led.ty ≡ ty → FoundFits site (path_found at k led.parts ty) →
+      all_of (map is_field led.parts) ≡ true → nat_lt k (length env.vars) ≡ true →
+      immutable_variable at (slice_get env.vars k) ≡ [] → (lent_as (Some wanted) at (path_found at k led.parts ty)).failures ≡ [] →
+      IsLent site wanted (lent_as (Some wanted) at (path_found at k led.parts ty)).made
   lent_by wanted at k led None is fit plain less none fits = absurd fit
   lent_by wanted at k led (Some ty) is fit plain less none fits =
-      same_lent wanted at (path at k led.parts ty) (same_type wanted (out-Path (path at k led.parts ty)).ty) refl fit (outlet at k led.parts ty plain less none) fits
+      same_lent wanted at (path at k led.parts ty) (same_type wanted (out-Path (path at k led.parts ty)).ty) refl fit (outlet at k led.parts ty plain less none)
+      fits
 
   -- a path of which a type is wanted
-  pub lent_fits : (path : NamedPath) → path_placed (known_in env) path ≡ true → (ty : Ty) → (lent env (Some ty) path).failures ≡ [] → IsLent site ty (lent env (Some ty) path).made
+  pub lent_fits : (path : NamedPath) → path_placed (known_in env) path ≡ true → (ty : Ty) → (lent env (Some ty) path).failures ≡ [] →
+      IsLent site ty (lent env (Some ty) path).made
   lent_fits path placed wanted none =
       let known = there_at env.vars path.root placed in
       let there = within.vars path.root known.0 known.1 in
@@ -130,9 +148,11 @@ module _ (env : Environment) (site : Site) (within : Within env site) where
       subst (λ ty. LedFits site there.var.ty (stepped (map (to_field env.structs) path.fields) ty)) (sym typed)
       (fields_lead path.fields there.var.ty (ap (λ ty. (stepped (map (to_field env.structs) path.fields) ty).failures) (sym typed) ∙ none_led)) in
       lent_by wanted path.place path.root led led.ty refl (variable_found env site within path.place path.root there.var led there.is_there leads)
-      (plain_parts env.structs path.fields (type_of_variable (slice_get env.vars path.root))) placed (nil_right fitted.failures _ behind) (nil_left fitted.failures _ behind)
+      (plain_parts env.structs path.fields (type_of_variable (slice_get env.vars path.root))) placed (nil_right fitted.failures _ behind)
+      (nil_left fitted.failures _ behind)
 
-  lent_first : (var : Var) (vars : List Var) (first : Lent) (rest : List Lent) → IsLent site var.ty first.made → AllLent site vars rest → AllLent site (var ∷ vars) (first ∷ rest)
+  lent_first : (var : Var) (vars : List Var) (first : Lent) (rest : List Lent) → IsLent site var.ty first.made → AllLent site vars rest →
+      AllLent site (var ∷ vars) (first ∷ rest)
   lent_first var vars first rest one more = record {
     count = ap (λ made. length (cons_option made (paths_made rest))) one.is ∙ ap suc more.count;
     match =
@@ -145,14 +165,16 @@ module _ (env : Environment) (site : Site) (within : Within env site) where
   }
 
   -- and paths, one for each parameter
-  pub all_lent_fit : (paths : List NamedPath) (params : List Var) → list_all (path_placed (known_in env)) paths ≡ true → length paths ≡ length params → paths_failures (all_lent env paths params) ≡ [] →
+  pub all_lent_fit : (paths : List NamedPath) (params : List Var) → list_all (path_placed (known_in env)) paths ≡ true → length paths ≡ length params →
+      paths_failures (all_lent env paths params) ≡ [] →
       AllLent site params (all_lent env paths params)
   all_lent_fit [] [] placed same none = record { count = refl; match = refl; outlets = refl }
   all_lent_fit [] (var ∷ vars) placed same none = absurd (omega arith)
   all_lent_fit (path ∷ rest) [] placed same none = absurd (omega arith)
   all_lent_fit (path ∷ rest) (var ∷ vars) placed same none =
       lent_first var vars (lent env (Some var.ty) path) (all_lent env rest vars)
-      (lent_fits path (and_left (path_placed (known_in env) path) (list_all (path_placed (known_in env)) rest) placed) var.ty (nil_left (lent env (Some var.ty) path).failures (paths_failures (all_lent env rest vars)) none))
+      (lent_fits path (and_left (path_placed (known_in env) path) (list_all (path_placed (known_in env)) rest) placed) var.ty
+      (nil_left (lent env (Some var.ty) path).failures (paths_failures (all_lent env rest vars)) none))
       (all_lent_fit rest vars (and_right (path_placed (known_in env) path) (list_all (path_placed (known_in env)) rest) placed) (omega arith)
       (nil_right (lent env (Some var.ty) path).failures (paths_failures (all_lent env rest vars)) none))
 
@@ -166,12 +188,15 @@ module _ (env : Environment) (site : Site) (within : Within env site) where
   no_constant n None it is = absurd (cc)
   no_constant n (Some s) it is = absurd (cc)
 
-  assign_by : (at : Place) (root : Root) (steps : List (Option Ty → Stepped)) (it : Path) → root_placed (known_in env) root ≡ true → (targeted_from env at root steps).found ≡ found.Place it →
+  assign_by : (at : Place) (root : Root) (steps : List (Option Ty → Stepped)) (it : Path) → root_placed (known_in env) root ≡ true →
+      (targeted_from env at root steps).found ≡ found.Place it →
       immutable env at root ≡ [] → is_assignable site it ≡ true
   assign_by at (root.Variable k) steps it placed is none =
-      may_assign at k it placed (found_root at k (stepped steps (type_of_variable (slice_get env.vars k))).parts (stepped steps (type_of_variable (slice_get env.vars k))).ty it is) none
+      may_assign at k it placed (found_root at k (stepped steps (type_of_variable (slice_get env.vars k))).parts
+      (stepped steps (type_of_variable (slice_get env.vars k))).ty it is) none
   assign_by at (root.Constant k) steps it placed is none =
-      absurd (no_constant (value_of_constant (slice_get env.constants k)) (option_and_then scalar_in (stepped steps (type_of_constant (slice_get env.constants k))).ty) it is)
+      absurd (no_constant (value_of_constant (slice_get env.constants k))
+      (option_and_then scalar_in (stepped steps (type_of_constant (slice_get env.constants k))).ty) it is)
 
   -- what a target leads to may be changed where its root may
   pub target_assignable : (target : NamedTarget) (it : Path) → target_placed (known_in env) target ≡ true → (targeted env target).found ≡ found.Place it →
@@ -179,8 +204,10 @@ module _ (env : Environment) (site : Site) (within : Within env site) where
   target_assignable target it placed is none =
       assign_by (out-NamedTarget target).place (out-NamedTarget target).root (map (step_of env) (out-NamedTarget target).parts) it
       (and_left (root_placed (known_in env) (out-NamedTarget target).root) (all_of (map (step_placed (known_in env)) (out-NamedTarget target).parts))
-      (sym (fold_out-NamedTarget Bool Bool Bool Bool (kind_placed (known_in env)) part_placed expr_layer_placed (target_layer_placed (known_in env)) target) ∙ placed))
+      (sym (fold_out-NamedTarget Bool Bool Bool Bool (kind_placed (known_in env)) part_placed expr_layer_placed (target_layer_placed (known_in env)) target)
+      ∙ placed))
       (ap (λ (targeted : Targeted). targeted.found)
-      (sym (fold_out-NamedTarget (Place → Formed) (Option Ty → Stepped) Judged Targeted (judged_kind env) (judged_part env) judged_layer (judged_target env) target))
+      (sym (fold_out-NamedTarget (Place → Formed) (Option Ty → Stepped) Judged Targeted (judged_kind env) (judged_part env) judged_layer (judged_target env)
+      target))
       ∙ is)
       none

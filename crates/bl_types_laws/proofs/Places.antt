@@ -43,7 +43,8 @@ abbrev starts_if : {A : Type 0} → (A → Starts) → Option A → Starts
 starts_if starts (Some a) = starts a
 starts_if starts None = []
 
-made_first : {A : Type 0} (starts : A → Starts) (one : Option A) (rest : List A) → joined (map starts (with_made one rest)) ≡ starts_if starts one ++ joined (map starts rest)
+made_first : {A : Type 0} (starts : A → Starts) (one : Option A) (rest : List A) →
+    joined (map starts (with_made one rest)) ≡ starts_if starts one ++ joined (map starts rest)
 made_first starts (Some a) rest = refl
 made_first starts None rest = refl
 
@@ -55,7 +56,8 @@ picked_order starts before walk [] each env = none
 picked_order starts before walk (x ∷ xs) each env =
     subst (λ l. Picked l (before x ++ joined (map before xs))) (sym (made_first starts (walk x env).made (in_order (map walk xs) (walk x env).env).made))
     (picked_append (All-head (λ x. (env : Environment) → Picked (starts_if starts (walk x env).made) (before x)) x xs each env)
-    (picked_order starts before walk xs (All-tail (λ x. (env : Environment) → Picked (starts_if starts (walk x env).made) (before x)) x xs each) (walk x env).env))
+    (picked_order starts before walk xs (All-tail (λ x. (env : Environment) → Picked (starts_if starts (walk x env).made) (before x)) x xs each)
+    (walk x env).env))
 
 -- ---- kinds
 
@@ -63,11 +65,13 @@ picked_order starts before walk (x ∷ xs) each env =
 abbrev KindPicked : Starts → Option StmtKind → Type 0
 KindPicked inside made = Picked (starts_if starts_in made) inside
 
-starts_made : (at : Place) (made : Option StmtKind) (inside : Starts) → KindPicked inside made → Picked (starts_if starts_of (option_map (stmt_made at) made)) (at.start ∷ inside)
+starts_made : (at : Place) (made : Option StmtKind) (inside : Starts) → KindPicked inside made →
+    Picked (starts_if starts_of (option_map (stmt_made at) made)) (at.start ∷ inside)
 starts_made at (Some kind) inside picked = rw fold-roll-Stmt (taken at.start picked)
 starts_made at None inside picked = picked_none (at.start ∷ inside)
 
-kind_picked : (kind : StmtKind) (layer : StmtKind-F StmtKind Arm Branch Stmt) (inside : Starts) → out-StmtKind kind ≡ layer → Picked (layer_starts layer) inside → KindPicked inside (Some kind)
+kind_picked : (kind : StmtKind) (layer : StmtKind-F StmtKind Arm Branch Stmt) (inside : Starts) → out-StmtKind kind ≡ layer →
+    Picked (layer_starts layer) inside → KindPicked inside (Some kind)
 kind_picked kind layer inside is picked = subst (λ l. Picked l inside) (sym (kind_is kind layer is)) picked
 
 -- a kind without blocks
@@ -101,7 +105,8 @@ call_picked f given =
 run_picked : (a : ℕ) (target : Option (Option Path)) (given : Arguments) → KindPicked [] (run_made target a given)
 run_picked a (Some target) given =
     complete_picked given.complete (what.Run target a given.inputs given.outputs)
-    (plain (what.Run target a given.inputs given.outputs) (StmtKind-F.Run target a given.inputs given.outputs) (what.outs-Run target a given.inputs given.outputs) refl)
+    (plain (what.Run target a given.inputs given.outputs) (StmtKind-F.Run target a given.inputs given.outputs)
+    (what.outs-Run target a given.inputs given.outputs) refl)
 run_picked a None given = none
 
 await_picked : (test : Option Expr) → KindPicked [] (option_map what.Await test)
@@ -123,21 +128,26 @@ return_picked at None None env = return_none
 
 -- ---- kinds with blocks
 
-guarded_picked : (guard : Guard) (test : Option Expr) (body : List Stmt) (inside : Starts) → Picked (block_starts body) inside → KindPicked inside (option_map (λ e. what.When guard e body) test)
-guarded_picked guard (Some e) body inside picked = kind_picked (what.When guard e body) (StmtKind-F.When guard e body) inside (what.outs-When guard e body) picked
+guarded_picked : (guard : Guard) (test : Option Expr) (body : List Stmt) (inside : Starts) → Picked (block_starts body) inside →
+    KindPicked inside (option_map (λ e. what.When guard e body) test)
+guarded_picked guard (Some e) body inside picked = kind_picked (what.When guard e body) (StmtKind-F.When guard e body) inside (what.outs-When guard e body)
+    picked
 guarded_picked guard None body inside picked = picked_none inside
 
-until_picked : (test : Option Expr) (body : List Stmt) (inside : Starts) (n : ℕ) → Picked (block_starts body) inside → KindPicked (inside ++ n ∷ []) (option_map (λ e. what.Until body e) test)
+until_picked : (test : Option Expr) (body : List Stmt) (inside : Starts) (n : ℕ) → Picked (block_starts body) inside →
+    KindPicked (inside ++ n ∷ []) (option_map (λ e. what.Until body e) test)
 until_picked (Some e) body inside n picked =
     kind_picked (what.Until body e) (StmtKind-F.Until body e) (inside ++ n ∷ []) (what.outs-Until body e)
     (subst (λ l. Picked l (inside ++ n ∷ [])) (append-nil (block_starts body)) (picked_append picked (picked_none (n ∷ []))))
 until_picked None body inside n picked = picked_none (inside ++ n ∷ [])
 
-while_picked : (test : Option Expr) (body : List Stmt) (inside : Starts) (n : ℕ) → Picked (block_starts body) inside → KindPicked (n ∷ inside) (option_map (λ e. what.While e body) test)
+while_picked : (test : Option Expr) (body : List Stmt) (inside : Starts) (n : ℕ) → Picked (block_starts body) inside →
+    KindPicked (n ∷ inside) (option_map (λ e. what.While e body) test)
 while_picked (Some e) body inside n picked = kind_picked (what.While e body) (StmtKind-F.While e body) (n ∷ inside) (what.outs-While e body) (left n picked)
 while_picked None body inside n picked = picked_none (n ∷ inside)
 
-arm_picked : (test : Option Expr) (body : List Stmt) (inside : Starts) → Picked (block_starts body) inside → Picked (starts_if starts_of_arm (option_map (λ e. arm_of e body) test)) inside
+arm_picked : (test : Option Expr) (body : List Stmt) (inside : Starts) → Picked (block_starts body) inside →
+    Picked (starts_if starts_of_arm (option_map (λ e. arm_of e body) test)) inside
 arm_picked (Some e) body inside picked = rw fold-roll-Arm picked
 arm_picked None body inside picked = picked_none inside
 
@@ -171,7 +181,8 @@ module _ (constants : List NamedConstant) (vars : List NamedVar) where
   body_picked : (body : List NamedStmt) → All P body → (env : Environment) → Picked (block_starts (walked_body body env).made) (named_block body)
   body_picked = picked_order starts_of named.starts_of (walked_stmt constants vars)
 
-  by_kind : (place : Place) (layer : Layer) → ((env : Environment) → KindPicked (named_layer layer) (walked_by constants vars layer place env).made) → P (stmt place layer)
+  by_kind : (place : Place) (layer : Layer) → ((env : Environment) → KindPicked (named_layer layer) (walked_by constants vars layer place env).made) →
+      P (stmt place layer)
   by_kind place layer picked env =
       subst (λ l. Picked (starts_if starts_of (walked_stmt constants vars (stmt place layer) env).made) l) (sym (named_is place layer))
       (subst (λ (walk : Walk Stmt). Picked (starts_if starts_of (walk env).made) (place.start ∷ named_layer layer)) (sym (walked_is constants vars place layer))
@@ -180,7 +191,8 @@ module _ (constants : List NamedConstant) (vars : List NamedVar) where
   arm_case : (test : NamedExpr) (body : List NamedStmt) → All P body → Q (roll-NamedArm (record { test = test; body = body }))
   arm_case test body each env =
       let arm : NamedArm = roll-NamedArm (record { test = test; body = body }) in
-      let walked_as : arm_walked constants vars arm ≡ walked_arm (record { test = test; body = map (walked_stmt constants vars) body }) = rw fold-roll-NamedArm refl in
+      let walked_as : arm_walked constants vars arm ≡ walked_arm (record { test = test; body = map (walked_stmt constants vars) body }) =
+      rw fold-roll-NamedArm refl in
       let starts_as : named.starts_of_arm arm ≡ named_block body = rw fold-roll-NamedArm refl in
       subst (λ (walk : Walk Arm). Picked (starts_if starts_of_arm (walk env).made) (named.starts_of_arm arm)) (sym walked_as)
       (subst (λ l. Picked (starts_if starts_of_arm (option_map (λ e. arm_of e (walked_body body env).made) (condition env test).made)) l) (sym starts_as)
@@ -190,7 +202,8 @@ module _ (constants : List NamedConstant) (vars : List NamedVar) where
   branch_case weak body each env =
       let branch : NamedBranch = roll-NamedBranch (record { weak = weak; body = body }) in
       let made : Branch = roll-Branch (record { weak = weak; body = (walked_body body env).made }) in
-      let walked_as : branch_walked constants vars branch ≡ walked_branch (record { weak = weak; body = map (walked_stmt constants vars) body }) = rw fold-roll-NamedBranch refl in
+      let walked_as : branch_walked constants vars branch ≡ walked_branch (record { weak = weak; body = map (walked_stmt constants vars) body }) =
+      rw fold-roll-NamedBranch refl in
       let starts_as : named.starts_of_branch branch ≡ named_block body = rw fold-roll-NamedBranch refl in
       let made_as : starts_of_branch made ≡ block_starts (walked_body body env).made = rw fold-roll-Branch refl in
       subst (λ (walk : Walk Branch). Picked (starts_if starts_of_branch (walk env).made) (named.starts_of_branch branch)) (sym walked_as)
@@ -201,7 +214,8 @@ module _ (constants : List NamedConstant) (vars : List NamedVar) where
       (λ env.
       let tests : Block Arm = in_order (map (arm_walked constants vars) arms) env in
       let last : Block Stmt = walked_body other tests.env in
-      kind_picked (what.If tests.made last.made) (StmtKind-F.If tests.made last.made) (named_layer (NamedStmtKind-F.If arms other)) (what.outs-If tests.made last.made)
+      kind_picked (what.If tests.made last.made) (StmtKind-F.If tests.made last.made) (named_layer (NamedStmtKind-F.If arms other))
+      (what.outs-If tests.made last.made)
       (picked_append (picked_order starts_of_arm named.starts_of_arm (arm_walked constants vars) arms each env) (body_picked other rest tests.env)))
 
   cobegin_case : (place : Place) (branches : List NamedBranch) → All R branches → P (stmt place (NamedStmtKind-F.Cobegin branches))
@@ -217,7 +231,8 @@ module _ (constants : List NamedConstant) (vars : List NamedVar) where
     constant = λ place k. by_kind place (NamedStmtKind-F.Const k) (λ env. none);
     assign = λ place target e. by_kind place (NamedStmtKind-F.Assign target e)
         (λ env. assign_picked (targeted env target).found (in_context (type_found (targeted env target).found) (judged env e)).made);
-    call = λ place name f inputs outputs. by_kind place (NamedStmtKind-F.Call name f inputs outputs) (λ env. call_picked f (arguments env name f inputs outputs));
+    call = λ place name f inputs outputs. by_kind place (NamedStmtKind-F.Call name f inputs outputs)
+        (λ env. call_picked f (arguments env name f inputs outputs));
     await = λ place e. by_kind place (NamedStmtKind-F.Await e) (λ env. await_picked (condition env e).made);
     run = λ place target name f inputs outputs. by_kind place (NamedStmtKind-F.Run target name f inputs outputs)
         (λ env. run_picked f (run_target env (slice_get env.units f) target).made (arguments env name f inputs outputs));
@@ -226,10 +241,12 @@ module _ (constants : List NamedConstant) (vars : List NamedVar) where
     guarded = λ place guard e body each. by_kind place (NamedStmtKind-F.When guard e body)
         (λ env. guarded_picked guard (condition env e).made (walked_body body env).made (named_block body) (body_picked body each env));
     repeat = λ place body each. by_kind place (NamedStmtKind-F.Repeat body)
-        (λ env. kind_picked (what.Repeat (walked_body body env).made) (StmtKind-F.Repeat (walked_body body env).made) (named_block body) (what.outs-Repeat (walked_body body env).made)
+        (λ env. kind_picked (what.Repeat (walked_body body env).made) (StmtKind-F.Repeat (walked_body body env).made) (named_block body)
+        (what.outs-Repeat (walked_body body env).made)
         (body_picked body each env));
     until = λ place body e each. by_kind place (NamedStmtKind-F.Until body e)
-        (λ env. until_picked (condition (walked_body body env).env e).made (walked_body body env).made (named_block body) (named.start_of e) (body_picked body each env));
+        (λ env. until_picked (condition (walked_body body env).env e).made (walked_body body env).made (named_block body) (named.start_of e)
+        (body_picked body each env));
     while = λ place e body each. by_kind place (NamedStmtKind-F.While e body)
         (λ env. while_picked (condition env e).made (walked_body body env).made (named_block body) (named.start_of e) (body_picked body each env));
     returns = λ place e. by_kind place (NamedStmtKind-F.Return e) (λ env. return_picked place e env.result env);
@@ -238,5 +255,6 @@ module _ (constants : List NamedConstant) (vars : List NamedVar) where
   }
 
   -- what is made of statements begins where some of them do, in their order
-  pub starts_stay : (body : List NamedStmt) (env : Environment) → Picked (block_starts (in_order (map (walked_stmt constants vars) body) env).made) (joined (map named.starts_of body))
+  pub starts_stay : (body : List NamedStmt) (env : Environment) → Picked (block_starts (in_order (map (walked_stmt constants vars) body) env).made)
+      (joined (map named.starts_of body))
   starts_stay body = body_picked body (λ k d within. induct P Q R picked_cases _)

@@ -21,13 +21,16 @@ use Rattle.bl_types_laws.specs.Within.{calls_functions}
 
 -- a unit at its place, among any units before it of the kinds of the named ones
 abbrev pub UnitsSuit : Named → Type 0
-UnitsSuit named = (k : ℕ) (unit : NamedUnit) → slice_get named.units k ≡ Some unit → (before : List UnitDef) → map (λ (unit : UnitDef). unit.kind) before ≡ map (λ (unit : NamedUnit). unit.kind) (take k named.units) →
+UnitsSuit named = (k : ℕ) (unit : NamedUnit) → slice_get named.units k ≡ Some unit → (before : List UnitDef) →
+    map (λ (unit : UnitDef). unit.kind) before ≡ map (λ (unit : NamedUnit). unit.kind) (take k named.units) →
     (counts behind : Earlier) → counts.units ≡ k → unit_step named.constants unit counts ≡ Some behind → unit_named named.constants before unit ≡ true
 
 -- the value of a constant, likewise
 abbrev pub ConstantsSuit : Named → Type 0
-ConstantsSuit named = (k : ℕ) (constant : NamedConstant) → slice_get named.constants k ≡ Some constant → (before : List UnitDef) (counts : Earlier) → counts.units ≡ length before →
-    map (λ (unit : UnitDef). unit.kind) before ≡ map (λ (unit : NamedUnit). unit.kind) (take (length before) named.units) → expr_placed counts constant.value ≡ true → calls_functions before constant.value ≡ true
+ConstantsSuit named = (k : ℕ) (constant : NamedConstant) → slice_get named.constants k ≡ Some constant → (before : List UnitDef) (counts : Earlier) →
+    counts.units ≡ length before →
+    map (λ (unit : UnitDef). unit.kind) before ≡ map (λ (unit : NamedUnit). unit.kind) (take (length before) named.units) →
+    expr_placed counts constant.value ≡ true → calls_functions before constant.value ≡ true
 
 pub record Suits (named : Named) : Type 0 where
   pub units : UnitsSuit named
@@ -36,10 +39,12 @@ pub record Suits (named : Named) : Type 0 where
 -- ---- what is made of blocks keeps their shape
 
 abbrev pub ShallowStays : Type 0
-ShallowStays = (constants : List NamedConstant) (vars : List NamedVar) (body : List NamedStmt) (env : Environment) → names_shallow body ≡ true → is_shallow (walked_block constants vars body env).made ≡ true
+ShallowStays = (constants : List NamedConstant) (vars : List NamedVar) (body : List NamedStmt) (env : Environment) → names_shallow body ≡ true →
+    is_shallow (walked_block constants vars body env).made ≡ true
 
 abbrev pub ApartStays : Type 0
-ApartStays = (constants : List NamedConstant) (vars : List NamedVar) (body : List NamedStmt) (env : Environment) → list_all names_apart body ≡ true → list_all is_apart (walked_block constants vars body env).made ≡ true
+ApartStays = (constants : List NamedConstant) (vars : List NamedVar) (body : List NamedStmt) (env : Environment) → list_all names_apart body ≡ true →
+    list_all is_apart (walked_block constants vars body env).made ≡ true
 
 pub record Shapes : Type 0 where
   pub shallow : ShallowStays

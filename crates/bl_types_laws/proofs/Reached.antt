@@ -33,7 +33,8 @@ use Rattle.bl_types_laws.proofs.Ends.{Ends, ends_next}
 use Rattle.bl_types_laws.proofs.Occurrences.{unit_starts}
 use Rattle.bl_types_laws.proofs.Starts.{Picked, none as none_picked}
 
-pub same_counts : (env : Environment) (new : Scopes) → length env.structs ≡ new.counts.structs → length env.constants ≡ new.counts.constants → length env.units ≡ new.counts.units → length env.vars ≡ new.counts.variables → known_in env ≡ earlier new
+pub same_counts : (env : Environment) (new : Scopes) → length env.structs ≡ new.counts.structs → length env.constants ≡ new.counts.constants →
+    length env.units ≡ new.counts.units → length env.vars ≡ new.counts.variables → known_in env ≡ earlier new
 same_counts env new structs constants units vars = λ i. record { structs = structs i; constants = constants i; units = units i; variables = vars i }
 
 pub no_more : (a b c : ℕ) → a ≡ b → c ≡ b + 0 → a ≡ c
@@ -74,17 +75,22 @@ module _ (named : Named) where
     pub struct_next : (def : NamedStruct) → slice_get (along structs_of scopes items) 0 ≡ Some def → after_item named kind.Struct env ≡ after_struct def env
     struct_next def first =
         ap (λ next. after_next after_struct next env)
-        (ap (λ (e : Earlier). slice_get named.structs e.structs) at.counts ∙ ends_next named.structs scopes.counts.structs (along structs_of scopes items) at.structs ∙ first)
+        (ap (λ (e : Earlier). slice_get named.structs e.structs) at.counts
+        ∙ ends_next named.structs scopes.counts.structs (along structs_of scopes items) at.structs ∙ first)
 
-    pub constant_next : (def : NamedConstant) → slice_get (along constants_of scopes items) 0 ≡ Some def → after_item named kind.Constant env ≡ after_constant def env
+    pub constant_next : (def : NamedConstant) → slice_get (along constants_of scopes items) 0 ≡ Some def →
+        after_item named kind.Constant env ≡ after_constant def env
     constant_next def first =
         ap (λ next. after_next after_constant next env)
-        (ap (λ (e : Earlier). slice_get named.constants e.constants) at.counts ∙ ends_next named.constants scopes.counts.constants (along constants_of scopes items) at.constants ∙ first)
+        (ap (λ (e : Earlier). slice_get named.constants e.constants) at.counts
+        ∙ ends_next named.constants scopes.counts.constants (along constants_of scopes items) at.constants ∙ first)
 
-    pub unit_next : (def : NamedUnit) → slice_get (along units_of scopes items) 0 ≡ Some def → after_item named kind.Unit env ≡ after_unit named.constants def env
+    pub unit_next : (def : NamedUnit) → slice_get (along units_of scopes items) 0 ≡ Some def →
+        after_item named kind.Unit env ≡ after_unit named.constants def env
     unit_next def first =
         ap (λ next. after_next (after_unit named.constants) next env)
-        (ap (λ (e : Earlier). slice_get named.units e.units) at.counts ∙ ends_next named.units scopes.counts.units (along units_of scopes items) at.units ∙ first)
+        (ap (λ (e : Earlier). slice_get named.units e.units) at.counts ∙ ends_next named.units scopes.counts.units (along units_of scopes items) at.units
+        ∙ first)
 
   -- ---- one item after another
 
@@ -112,11 +118,14 @@ module _ (named : Named) where
   }
 
   -- the first of the items taken, what is made of the others is to be shown
-  pub first_taken : (one : RawItem) (items : List RawItem) (scopes : Scopes) (env : Environment) (first : Declaring) → after_item named (kind_of_item one) env ≡ first →
-      (first.failures ++ (after_items named (order_of items) first.env).failures ≡ [] → Made scopes (one ∷ items) env (after_items named (order_of items) first.env).env) →
+  pub first_taken : (one : RawItem) (items : List RawItem) (scopes : Scopes) (env : Environment) (first : Declaring) →
+      after_item named (kind_of_item one) env ≡ first →
+      (first.failures ++ (after_items named (order_of items) first.env).failures ≡ [] →
+      Made scopes (one ∷ items) env (after_items named (order_of items) first.env).env) →
       (after_items named (order_of (one ∷ items)) env).failures ≡ [] → Made scopes (one ∷ items) env (after_items named (order_of (one ∷ items)) env).env
   first_taken one items scopes env first is shown =
       subst
       (λ (first : Declaring).
-      first.failures ++ (after_items named (order_of items) first.env).failures ≡ [] → Made scopes (one ∷ items) env (after_items named (order_of items) first.env).env)
+      first.failures ++ (after_items named (order_of items) first.env).failures ≡ [] →
+      Made scopes (one ∷ items) env (after_items named (order_of items) first.env).env)
       (sym is) shown

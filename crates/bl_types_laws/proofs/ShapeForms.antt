@@ -90,12 +90,15 @@ one_in at op Failing size most = tt
 one_in at op (Open a) size most = one_open at op a (keeps_one_open op) size most
 one_in at op (Of ty a) size most = formed_in (option_and_then (one_type op) (scalar_in ty)) at (one at op a) (deeper size) (one_most at op a size most)
 
-operands_in : (at : Place) (op : Op) (ty : Option Ty) (a b : Option Expr) (left right : Size) → ExprIn left a → ExprIn right b → FormIn (deeper (beside left right)) (operands_made at op ty a b).form
-operands_in at op ty (Some a) (Some b) left right most other = formed_in ty at (two at op a b) (deeper (beside left right)) (two_most at op a b left right most other)
+operands_in : (at : Place) (op : Op) (ty : Option Ty) (a b : Option Expr) (left right : Size) → ExprIn left a → ExprIn right b →
+    FormIn (deeper (beside left right)) (operands_made at op ty a b).form
+operands_in at op ty (Some a) (Some b) left right most other = formed_in ty at (two at op a b) (deeper (beside left right))
+    (two_most at op a b left right most other)
 operands_in at op ty (Some a) None left right most other = tt
 operands_in at op ty None b left right most other = tt
 
-taken_if : (logical : Bool) (ty : Ty) (e : Expr) (size : Size) → SizeMost (size_of e) size → ExprIn size (if logical then unfit (out-Expr e).place else given ty e).made
+taken_if : (logical : Bool) (ty : Ty) (e : Expr) (size : Size) → SizeMost (size_of e) size →
+    ExprIn size (if logical then unfit (out-Expr e).place else given ty e).made
 taken_if true ty e size most = tt
 taken_if false ty e size most = given_most ty e size most
 
@@ -106,15 +109,19 @@ open_two : (at : Place) (op : Op) (a b : Expr) (stays : Bool) (left right : Size
     FormIn (deeper (beside left right)) (if stays then record { form = Open (two at op a b); failures = [] } else settled_two at op a b).form
 open_two at op a b true left right most other = two_most at op a b left right most other
 open_two at op a b false left right most other =
-    operands_in at op (type_of_two op (scalar int32) (scalar int32)) (taken op (scalar int32) a).made (taken op (scalar int32) b).made left right (taken_in op (scalar int32) a left most) (taken_in op (scalar int32) b right other)
+    operands_in at op (type_of_two op (scalar int32) (scalar int32)) (taken op (scalar int32) a).made (taken op (scalar int32) b).made left right
+    (taken_in op (scalar int32) a left most) (taken_in op (scalar int32) b right other)
 
-pub two_in : (at : Place) (op : Op) (a b : Form) (left right : Size) → FormIn left a → FormIn right b → FormIn (deeper (beside left right)) (two_formed at op a b).form
+pub two_in : (at : Place) (op : Op) (a b : Form) (left right : Size) → FormIn left a → FormIn right b →
+    FormIn (deeper (beside left right)) (two_formed at op a b).form
 two_in at op Failing b left right most other = tt
 two_in at op (Open a) Failing left right most other = tt
 two_in at op (Open a) (Open b) left right most other = open_two at op a b (keeps_two_open op) left right most other
-two_in at op (Open a) (Of ty b) left right most other = operands_in at op (type_of_two op ty ty) (taken op ty a).made (Some b) left right (taken_in op ty a left most) other
+two_in at op (Open a) (Of ty b) left right most other = operands_in at op (type_of_two op ty ty) (taken op ty a).made (Some b) left right
+    (taken_in op ty a left most) other
 two_in at op (Of ty a) Failing left right most other = tt
-two_in at op (Of ty a) (Open b) left right most other = operands_in at op (type_of_two op ty ty) (Some a) (taken op ty b).made left right most (taken_in op ty b right other)
+two_in at op (Of ty a) (Open b) left right most other = operands_in at op (type_of_two op ty ty) (Some a) (taken op ty b).made left right most
+    (taken_in op ty b right other)
 two_in at op (Of ty a) (Of more b) left right most other = operands_in at op (type_of_two op ty more) (Some a) (Some b) left right most other
 
 cast_made_in : (at : Place) (target : ScalarType) (a : Option Expr) (size : Size) → ExprIn size a → FormIn (deeper size) (cast_made at target a)
@@ -124,8 +131,10 @@ cast_made_in at target None size most = tt
 pub cast_in : (at : Place) (target : ScalarType) (form : Form) (size : Size) → FormIn size form → FormIn (deeper size) (cast_formed at target form).form
 cast_in at target Failing size most = tt
 cast_in at target (Open a) size most =
-    cast_made_in at target (settled_if (is_whole target) target a).made size (expr_further (size_of a) size (settled_if (is_whole target) target a).made (settled_if_in target a) most)
-cast_in at target (Of ty a) size most = formed_in (option_and_then (cast_type target) (scalar_in ty)) at (cast at target a) (deeper size) (cast_most at target a size most)
+    cast_made_in at target (settled_if (is_whole target) target a).made size
+    (expr_further (size_of a) size (settled_if (is_whole target) target a).made (settled_if_in target a) most)
+cast_in at target (Of ty a) size most = formed_in (option_and_then (cast_type target) (scalar_in ty)) at (cast at target a) (deeper size)
+    (cast_most at target a size most)
 
 -- ---- what is read, and calls
 
@@ -145,9 +154,11 @@ pub previous_in : (kind : UnitKind) (at : Place) (k : ℕ) (var : Option Variabl
 previous_in kind at k (Some var) = previous_typed_in kind at k var var.ty
 previous_in kind at k None = tt
 
-pub call_in : (at : Place) (f : ℕ) (inputs : List Expr) (complete : Bool) (result : Option ScalarType) (size : Size) → SizeMost (size_all expr_depth roots_in inputs) size → FormIn (deeper size) (call_form at f inputs complete result)
+pub call_in : (at : Place) (f : ℕ) (inputs : List Expr) (complete : Bool) (result : Option ScalarType) (size : Size) →
+    SizeMost (size_all expr_depth roots_in inputs) size → FormIn (deeper size) (call_form at f inputs complete result)
 call_in at f inputs true (Some s) size most =
-    size_is (size_of (call at f inputs)) (deeper (size_all expr_depth roots_in inputs)) (deeper size) (call_size at f inputs) (size_deeper (size_all expr_depth roots_in inputs) size most)
+    size_is (size_of (call at f inputs)) (deeper (size_all expr_depth roots_in inputs)) (deeper size) (call_size at f inputs)
+    (size_deeper (size_all expr_depth roots_in inputs) size most)
 call_in at f inputs true None size most = tt
 call_in at f inputs false result size most = tt
 

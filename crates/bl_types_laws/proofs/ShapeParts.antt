@@ -43,7 +43,8 @@ abbrev shapes_first : Shape → Shapes → Shapes
 shapes_first shape shapes = record { depths = shape.depth ∷ shapes.depths; namings = shape.naming ∷ shapes.namings }
 
 shape_first : {A : Type 0} (depth : A → Depth) (naming : A → Naming) (made : Option A) (rest : List A) (first : Shape) (shapes : Shapes) →
-    ShapeIn depth naming first made → ShapesMost (shapes_of depth naming rest) shapes → ShapesMost (shapes_of depth naming (cons_option made rest)) (shapes_first first shapes)
+    ShapeIn depth naming first made → ShapesMost (shapes_of depth naming rest) shapes →
+    ShapesMost (shapes_of depth naming (cons_option made rest)) (shapes_first first shapes)
 shape_first depth naming (Some a) rest first shapes one more = record {
   depths = depths_first (depth a) first.depth (map depth rest) shapes.depths one.depth more.depths;
   namings = namings_first (naming a) first.naming (map naming rest) shapes.namings one.naming more.namings;
@@ -54,14 +55,17 @@ shape_first depth naming None rest first shapes one more = record {
 }
 
 -- what is made of one part after another is no more than they are
-pub in_order_in : {X A : Type 0} (depth : A → Depth) (naming : A → Naming) (before : X → Depth) (earlier : X → Naming) (walk : X → Environment → Walked A) (xs : List X) →
+pub in_order_in : {X A : Type 0} (depth : A → Depth) (naming : A → Naming) (before : X → Depth) (earlier : X → Naming) (walk : X → Environment → Walked A)
+    (xs : List X) →
     All (λ x. (env : Environment) → ShapeIn depth naming (record { depth = before x; naming = earlier x }) (walk x env).made) xs → (env : Environment) →
     ShapesMost (shapes_of depth naming (in_order (map walk xs) env).made) (shapes_of before earlier xs)
 in_order_in depth naming before earlier walk [] each env = record { depths = depths_none; namings = namings_none }
 in_order_in depth naming before earlier walk (x ∷ xs) each env =
-    shape_first depth naming (walk x env).made (in_order (map walk xs) (walk x env).env).made (record { depth = before x; naming = earlier x }) (shapes_of before earlier xs)
+    shape_first depth naming (walk x env).made (in_order (map walk xs) (walk x env).env).made (record { depth = before x; naming = earlier x })
+    (shapes_of before earlier xs)
     (All-head (λ x. (env : Environment) → ShapeIn depth naming (record { depth = before x; naming = earlier x }) (walk x env).made) x xs each env)
-    (in_order_in depth naming before earlier walk xs (All-tail (λ x. (env : Environment) → ShapeIn depth naming (record { depth = before x; naming = earlier x }) (walk x env).made) x xs each) (walk x env).env)
+    (in_order_in depth naming before earlier walk xs (All-tail (λ x. (env : Environment) →
+    ShapeIn depth naming (record { depth = before x; naming = earlier x }) (walk x env).made) x xs each) (walk x env).env)
 
 -- ---- shapes by their parts
 
@@ -94,7 +98,12 @@ plain_most a b most = record { depth = leaf_most a.depth b.depth most.depth; nam
 pub declared_most : (k : ℕ) (a b : Size) → SizeMost a b → ShapeMost (declared_shape k a) (declared_shape k b)
 declared_most k a b most = record {
   depth = leaf_most a.depth b.depth most.depth;
-  naming = record { declared = among_self (k ∷ []); named = among_both (k ∷ []) a.roots (k ∷ []) b.roots (among_self (k ∷ [])) most.roots; apart = λ holds. refl };
+  naming = record {
+    declared = among_self (k ∷ []);
+    named = among_both (k ∷ []) a.roots (k ∷ []) b.roots (among_self (k ∷ [])) most.roots;
+    apart =
+        λ holds. refl;
+  };
 }
 
 pub tested_most : (a b : Size) (ones others : Shapes) → SizeMost a b → ShapesMost ones others → ShapeMost (tested_shape a ones) (tested_shape b others)
@@ -135,10 +144,13 @@ pair_most a b c d one other = record {
 both_most : (a b c d : List Naming) → NamingsMost a c → NamingsMost b d → NamingMost (together (a ++ b)) (together (c ++ d))
 both_most a b c d one other =
     subst (λ n. NamingMost n (together (c ++ d))) (sym (together_append a b))
-    (subst (NamingMost (pair (together a) (together b))) (sym (together_append c d)) (pair_most (together a) (together b) (together c) (together d) one.all other.all))
+    (subst (NamingMost (pair (together a) (together b))) (sym (together_append c d))
+    (pair_most (together a) (together b) (together c) (together d) one.all other.all))
 
-pub choice_most : (arms other tests last : Shapes) → ShapesMost arms tests → ShapesMost other last → ShapeMost (choice_shape arms other) (choice_shape tests last)
+pub choice_most : (arms other tests last : Shapes) → ShapesMost arms tests → ShapesMost other last →
+    ShapeMost (choice_shape arms other) (choice_shape tests last)
 choice_most arms other tests last one more = record {
-  depth = depths_first (block 0 other.depths) (block 0 last.depths) arms.depths tests.depths (block_most 0 0 other.depths last.depths (none_most 0) more.depths) one.depths;
+  depth = depths_first (block 0 other.depths) (block 0 last.depths) arms.depths tests.depths (block_most 0 0 other.depths last.depths (none_most 0) more.depths)
+      one.depths;
   naming = both_most arms.namings other.namings tests.namings last.namings one.namings more.namings;
 }

@@ -48,10 +48,12 @@ taker_size target = record { depth = 0; roots = named.taker_roots target }
 abbrev pub TargetIn : Size → Option (Option Path) → Type 0
 TargetIn = MadeIn size_of_target
 
-fields_in : (structs : List StructDef) (fields : List Name) (ty : Option Ty) → SizeMost (size_all part_depth part_roots (stepped (map (to_field structs) fields) ty).parts) empty
+fields_in : (structs : List StructDef) (fields : List Name) (ty : Option Ty) →
+    SizeMost (size_all part_depth part_roots (stepped (map (to_field structs) fields) ty).parts) empty
 fields_in structs [] ty = size_empty empty
 fields_in structs (name ∷ rest) ty =
-    made_first part_depth part_roots (to_field structs name ty).part (stepped (map (to_field structs) rest) (to_field structs name ty).ty).parts empty empty (field_in_step structs name ty) (fields_in structs rest (to_field structs name ty).ty)
+    made_first part_depth part_roots (to_field structs name ty).part (stepped (map (to_field structs) rest) (to_field structs name ty).ty).parts empty empty
+    (field_in_step structs name ty) (fields_in structs rest (to_field structs name ty).ty)
 
 abbrev lent_if : Bool → Place → Path → Lent
 lent_if same at it = if same then record { made = Some it; failures = [] } else record { made = None; failures = fails_at rule.Type at }
@@ -75,13 +77,16 @@ module _ (env : Environment) where
       (path_in env path.place path.root _ (stepped (map (to_field env.structs) path.fields) (type_of_variable (slice_get env.vars path.root))).ty empty
       (fields_in env.structs path.fields (type_of_variable (slice_get env.vars path.root))))
 
-  pub all_lent_in : (paths : List NamedPath) (params : List Var) → SizeMost (size_all depths.path_depth names.roots_in_path (paths_made (all_lent env paths params))) (paths_size paths)
+  pub all_lent_in : (paths : List NamedPath) (params : List Var) → SizeMost
+      (size_all depths.path_depth names.roots_in_path (paths_made (all_lent env paths params))) (paths_size paths)
   all_lent_in [] params = size_empty empty
   all_lent_in (path ∷ rest) params =
-      made_first depths.path_depth names.roots_in_path (lent env (first_type params) path).made (paths_made (all_lent env rest (but_first params))) (named_path_size path) (paths_size rest)
+      made_first depths.path_depth names.roots_in_path (lent env (first_type params) path).made (paths_made (all_lent env rest (but_first params)))
+      (named_path_size path) (paths_size rest)
       (lent_in (first_type params) path) (all_lent_in rest (but_first params))
 
-  taken_in : (made : Option Path) (path : NamedPath) → PathIn (named_path_size path) made → TargetIn (named_path_size path) (option_map (λ path. Some path) made)
+  taken_in : (made : Option Path) (path : NamedPath) → PathIn (named_path_size path) made →
+      TargetIn (named_path_size path) (option_map (λ path. Some path) made)
   taken_in (Some it) path most = most
   taken_in None path most = tt
 

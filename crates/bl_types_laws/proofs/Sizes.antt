@@ -48,7 +48,11 @@ pub size_empty : (size : Size) → SizeMost empty size
 size_empty size = record { depth = none_most size.depth; roots = among_none size.roots }
 
 pub size_further : (a b c : Size) → SizeMost a b → SizeMost b c → SizeMost a c
-size_further a b c one more = record { depth = let first = one.depth in let then_ = more.depth in omega arith; roots = among_further a.roots b.roots c.roots one.roots more.roots }
+size_further a b c one more = record {
+  depth = let first = one.depth in let then_ = more.depth in
+      omega arith;
+  roots = among_further a.roots b.roots c.roots one.roots more.roots;
+}
 
 pub size_deeper : (a b : Size) → SizeMost a b → SizeMost (deeper a) (deeper b)
 size_deeper a b most = record { depth = one_more a.depth b.depth most.depth; roots = most.roots }
@@ -75,8 +79,10 @@ MadeIn of size None = ⊤
 
 -- so do all that are made, of what has these sizes together
 pub made_first : {A : Type 0} (depth : A → ℕ) (roots : A → Roots) (made : Option A) (rest : List A) (first size : Size) →
-    MadeIn (λ a. record { depth = depth a; roots = roots a }) first made → SizeMost (size_all depth roots rest) size → SizeMost (size_all depth roots (cons_option made rest)) (beside first size)
-made_first depth roots (Some a) rest first size one more = size_beside (record { depth = depth a; roots = roots a }) (size_all depth roots rest) first size one more
+    MadeIn (λ a. record { depth = depth a; roots = roots a }) first made → SizeMost (size_all depth roots rest) size →
+    SizeMost (size_all depth roots (cons_option made rest)) (beside first size)
+made_first depth roots (Some a) rest first size one more = size_beside (record { depth = depth a; roots = roots a }) (size_all depth roots rest) first size one
+    more
 made_first depth roots None rest first size one more = size_behind (size_all depth roots rest) first size more
 
 -- ---- typed expressions
@@ -101,35 +107,43 @@ Layer = ExprKind-F ExprKind Part Expr Path
 
 abbrev depth_kind : Layer → ℕ
 depth_kind layer = depths.kind_depth
-    (map-ExprKind ExprKind Part Expr Path ℕ ℕ ℕ ℕ (fold-ExprKind ℕ ℕ ℕ ℕ depths.kind_depth depths.part_depth depths.expr_layer_depth depths.path_layer_depth) part_depth depths.expr_depth depths.path_depth layer)
+    (map-ExprKind ExprKind Part Expr Path ℕ ℕ ℕ ℕ (fold-ExprKind ℕ ℕ ℕ ℕ depths.kind_depth depths.part_depth depths.expr_layer_depth depths.path_layer_depth)
+    part_depth depths.expr_depth depths.path_depth layer)
 
 abbrev roots_kind : Layer → Roots
 roots_kind layer = names.kind_roots
-    (map-ExprKind ExprKind Part Expr Path Roots Roots Roots Roots (fold-ExprKind Roots Roots Roots Roots names.kind_roots names.part_roots names.expr_layer_roots names.path_layer_roots) part_roots names.roots_in names.roots_in_path layer)
+    (map-ExprKind ExprKind Part Expr Path Roots Roots Roots Roots (fold-ExprKind Roots Roots Roots Roots names.kind_roots names.part_roots
+    names.expr_layer_roots names.path_layer_roots) part_roots names.roots_in names.roots_in_path layer)
 
 abbrev pub size_kind : Layer → Size
 size_kind layer = record { depth = depth_kind layer; roots = roots_kind layer }
 
-pub size_at : (at : Place) (kind : ExprKind) (layer : Layer) → out-ExprKind kind ≡ layer → size_of (roll-Expr (record { place = at; what = kind })) ≡ size_kind layer
+pub size_at : (at : Place) (kind : ExprKind) (layer : Layer) → out-ExprKind kind ≡ layer →
+    size_of (roll-Expr (record { place = at; what = kind })) ≡ size_kind layer
 size_at at kind layer is =
     let depth_is : depths.expr_depth (roll-Expr (record { place = at; what = kind })) ≡ depth_kind layer =
     rw fold-roll-Expr (fold_out-ExprKind ℕ ℕ ℕ ℕ depths.kind_depth depths.part_depth depths.expr_layer_depth depths.path_layer_depth kind ∙ ap depth_kind is) in
     let roots_are : names.roots_in (roll-Expr (record { place = at; what = kind })) ≡ roots_kind layer =
-    rw fold-roll-Expr (fold_out-ExprKind Roots Roots Roots Roots names.kind_roots names.part_roots names.expr_layer_roots names.path_layer_roots kind ∙ ap roots_kind is) in
+    rw fold-roll-Expr (fold_out-ExprKind Roots Roots Roots Roots names.kind_roots names.part_roots names.expr_layer_roots names.path_layer_roots kind
+    ∙ ap roots_kind is) in
     λ i. record { depth = depth_is i; roots = roots_are i }
 
 abbrev depth_step : Part-F ExprKind Part Expr Path → ℕ
 depth_step layer = depths.part_depth
-    (map-Part ExprKind Part Expr Path ℕ ℕ ℕ ℕ (fold-ExprKind ℕ ℕ ℕ ℕ depths.kind_depth depths.part_depth depths.expr_layer_depth depths.path_layer_depth) part_depth depths.expr_depth depths.path_depth layer)
+    (map-Part ExprKind Part Expr Path ℕ ℕ ℕ ℕ (fold-ExprKind ℕ ℕ ℕ ℕ depths.kind_depth depths.part_depth depths.expr_layer_depth depths.path_layer_depth)
+    part_depth depths.expr_depth depths.path_depth layer)
 
 abbrev roots_step : Part-F ExprKind Part Expr Path → Roots
 roots_step layer = names.part_roots
-    (map-Part ExprKind Part Expr Path Roots Roots Roots Roots (fold-ExprKind Roots Roots Roots Roots names.kind_roots names.part_roots names.expr_layer_roots names.path_layer_roots) part_roots names.roots_in names.roots_in_path layer)
+    (map-Part ExprKind Part Expr Path Roots Roots Roots Roots (fold-ExprKind Roots Roots Roots Roots names.kind_roots names.part_roots names.expr_layer_roots
+    names.path_layer_roots) part_roots names.roots_in names.roots_in_path layer)
 
-part_at : (part : Part) (layer : Part-F ExprKind Part Expr Path) → out-Part part ≡ layer → size_of_part part ≡ record { depth = depth_step layer; roots = roots_step layer }
+part_at : (part : Part) (layer : Part-F ExprKind Part Expr Path) → out-Part part ≡ layer →
+    size_of_part part ≡ record { depth = depth_step layer; roots = roots_step layer }
 part_at part layer is =
     let depth_is = fold_out-Part ℕ ℕ ℕ ℕ depths.kind_depth depths.part_depth depths.expr_layer_depth depths.path_layer_depth part ∙ ap depth_step is in
-    let roots_are = fold_out-Part Roots Roots Roots Roots names.kind_roots names.part_roots names.expr_layer_roots names.path_layer_roots part ∙ ap roots_step is in
+    let roots_are = fold_out-Part Roots Roots Roots Roots names.kind_roots names.part_roots names.expr_layer_roots names.path_layer_roots part
+    ∙ ap roots_step is in
     λ i. record { depth = depth_is i; roots = roots_are i }
 
 pub literal_size : (at : Place) (n : ℤ) (s : ScalarType) → size_of (literal at n s) ≡ empty
@@ -180,13 +194,15 @@ size_is a b size is most = subst (λ a. SizeMost a size) (sym is) most
 pub one_most : (at : Place) (op : Op) (a : Expr) (size : Size) → SizeMost (size_of a) size → SizeMost (size_of (one at op a)) (deeper size)
 one_most at op a size most = size_is (size_of (one at op a)) (deeper (size_of a)) (deeper size) (one_size at op a) (size_deeper (size_of a) size most)
 
-pub two_most : (at : Place) (op : Op) (a b : Expr) (left right : Size) → SizeMost (size_of a) left → SizeMost (size_of b) right → SizeMost (size_of (two at op a b)) (deeper (beside left right))
+pub two_most : (at : Place) (op : Op) (a b : Expr) (left right : Size) → SizeMost (size_of a) left → SizeMost (size_of b) right →
+    SizeMost (size_of (two at op a b)) (deeper (beside left right))
 two_most at op a b left right most other =
     size_is (size_of (two at op a b)) (deeper (beside (size_of a) (size_of b))) (deeper (beside left right)) (two_size at op a b)
     (size_deeper (beside (size_of a) (size_of b)) (beside left right) (size_beside (size_of a) (size_of b) left right most other))
 
 pub cast_most : (at : Place) (target : ScalarType) (a : Expr) (size : Size) → SizeMost (size_of a) size → SizeMost (size_of (cast at target a)) (deeper size)
-cast_most at target a size most = size_is (size_of (cast at target a)) (deeper (size_of a)) (deeper size) (cast_size at target a) (size_deeper (size_of a) size most)
+cast_most at target a size most = size_is (size_of (cast at target a)) (deeper (size_of a)) (deeper size) (cast_size at target a)
+    (size_deeper (size_of a) size most)
 
 -- ---- beside what is not deep
 

@@ -41,13 +41,16 @@ inhabited_map f (x ∷ xs) = refl
 fields_are : (env : Environment) (def : NamedStruct) → field_names (struct_of env def) ≡ named_fields def
 fields_are env def = map-map (λ (field : Field). field.name) (field_of env) def.fields
 
-pub struct_made : (def : NamedStruct) (env : Environment) → struct_keeps def ≡ true → struct_placed (known_in env) def ≡ true → (after_struct def env).failures ≡ [] → struct_stands (length env.structs) (struct_of env def) ≡ true
+pub struct_made : (def : NamedStruct) (env : Environment) → struct_keeps def ≡ true → struct_placed (known_in env) def ≡ true →
+    (after_struct def env).failures ≡ [] → struct_stands (length env.structs) (struct_of env def) ≡ true
 struct_made def env keeps placed none =
     let named : fields_named def ≡ true = and_left (fields_named def) (fields_differ def) keeps in
     let made : StructDef = struct_of env def in
-    both (is_inhabited made.fields) ((list_all is_name (field_names made) && are_distinct (field_names made)) && list_all (λ (field : Field). type_stands (length env.structs) field.ty) made.fields)
+    both (is_inhabited made.fields) ((list_all is_name (field_names made) && are_distinct (field_names made))
+    && list_all (λ (field : Field). type_stands (length env.structs) field.ty) made.fields)
     (inhabited_map (field_of env) def.fields ∙ and_left (is_inhabited def.fields) (list_all is_name (named_fields def)) named)
-    (both (list_all is_name (field_names made) && are_distinct (field_names made)) (list_all (λ (field : Field). type_stands (length env.structs) field.ty) made.fields)
+    (both (list_all is_name (field_names made) && are_distinct (field_names made))
+    (list_all (λ (field : Field). type_stands (length env.structs) field.ty) made.fields)
     (both (list_all is_name (field_names made)) (are_distinct (field_names made))
     (ap (list_all is_name) (fields_are env def) ∙ and_right (is_inhabited def.fields) (list_all is_name (named_fields def)) named)
     (ap are_distinct (fields_are env def) ∙ and_right (fields_named def) (fields_differ def) keeps))
@@ -69,9 +72,11 @@ pub record Passing (structs : List StructDef) (unit : NamedUnit) (earlier : List
   pub entry : drives unit ≡ true → is_entry (Some made) ≡ true
   pub returns : unit_returns made ≡ true
 
-module _ (structs : List StructDef) (constants : List NamedConstant) (unit : NamedUnit) (env : Environment) (counts : Earlier) (passed : UnitPassed structs unit env counts (after_unit constants unit env).env) where
+module _ (structs : List StructDef) (constants : List NamedConstant) (unit : NamedUnit) (env : Environment) (counts : Earlier)
+    (passed : UnitPassed structs unit env counts (after_unit constants unit env).env) where
   same_made : passed.made ≡ made_of constants unit env
-  same_made = same_last env.units (walked_block constants unit.vars unit.body (after_head unit env).env).env.units passed.made (made_of constants unit env) (sym passed.is_made)
+  same_made = same_last env.units (walked_block constants unit.vars unit.body (after_head unit env).env).env.units passed.made (made_of constants unit env)
+      (sym passed.is_made)
 
   pub units_made : (after_unit constants unit env).env.units ≡ env.units ++ made_of constants unit env ∷ []
   units_made = passed.is_made ∙ ap (λ made. env.units ++ made ∷ []) same_made
@@ -88,30 +93,40 @@ module _ (structs : List StructDef) (constants : List NamedConstant) (unit : Nam
 
 names_named : (vars : List NamedVar) → list_all has_name vars ≡ true → list_all is_name (map (λ (var : NamedVar). var.name.text) vars) ≡ true
 names_named [] named = refl
-names_named (var ∷ vars) named = both (has_name var) (list_all is_name (map (λ (var : NamedVar). var.name.text) vars)) (and_left (has_name var) (list_all has_name vars) named) (names_named vars (and_right (has_name var) (list_all has_name vars) named))
+names_named (var ∷ vars) named = both (has_name var) (list_all is_name (map (λ (var : NamedVar). var.name.text) vars))
+    (and_left (has_name var) (list_all has_name vars) named) (names_named vars (and_right (has_name var) (list_all has_name vars) named))
 
-parameter_names : (unit : NamedUnit) (made : UnitDef) (n : ℕ) → names_of made.vars ≡ map (λ (var : NamedVar). var.name.text) unit.vars → names_of (take n made.vars) ≡ named_names (take n unit.vars)
+parameter_names : (unit : NamedUnit) (made : UnitDef) (n : ℕ) → names_of made.vars ≡ map (λ (var : NamedVar). var.name.text) unit.vars →
+    names_of (take n made.vars) ≡ named_names (take n unit.vars)
 parameter_names unit made n names =
     sym (take-map (λ (var : Var). var.name) n made.vars) ∙ ap (take n) names ∙ take-map (λ (var : NamedVar). var.name.text) n unit.vars
 
 -- where the same parameters are, and what is made of the body is shallow and apart, what is made of a unit stands
-stands_by : (structs : List StructDef) (earlier : List UnitDef) (unit : NamedUnit) (made : UnitDef) → unit_keeps unit ≡ true → Passing structs unit earlier made → made.inputs + made.outputs ≡ parameters unit →
+stands_by : (structs : List StructDef) (earlier : List UnitDef) (unit : NamedUnit) (made : UnitDef) → unit_keeps unit ≡ true →
+    Passing structs unit earlier made → made.inputs + made.outputs ≡ parameters unit →
     is_shallow made.body ≡ true → list_all is_apart made.body ≡ true → unit_stands structs earlier made ≡ true
 stands_by structs earlier unit made keeps passing same shallow apart =
     let head = and_left (variables_named unit && parameters_differ unit) (body_filled unit && (body_shallow unit && body_apart unit)) keeps in
-    let named : list_all is_name (names_of made.vars) ≡ true = ap (list_all is_name) passing.names ∙ names_named unit.vars (and_left (variables_named unit) (parameters_differ unit) head) in
+    let named : list_all is_name (names_of made.vars) ≡ true = ap (list_all is_name) passing.names
+    ∙ names_named unit.vars (and_left (variables_named unit) (parameters_differ unit) head) in
     let differ : are_distinct (names_of (parameters_of made)) ≡ true =
-    ap are_distinct (ap (λ n. names_of (take n made.vars)) same ∙ parameter_names unit made (parameters unit) passing.names) ∙ and_right (variables_named unit) (parameters_differ unit) head in
+    ap are_distinct (ap (λ n. names_of (take n made.vars)) same ∙ parameter_names unit made (parameters unit) passing.names)
+    ∙ and_right (variables_named unit) (parameters_differ unit) head in
     both (roles_stand made && (list_all is_name (names_of made.vars) && are_distinct (names_of (parameters_of made))))
-    (list_all (λ (var : Var). type_stands (length structs) var.ty) made.vars && (list_all (fits (site_of structs earlier made)) made.body && (unit_returns made && (is_shallow made.body && list_all is_apart made.body))))
+    (list_all (λ (var : Var). type_stands (length structs) var.ty) made.vars
+    && (list_all (fits (site_of structs earlier made)) made.body && (unit_returns made && (is_shallow made.body && list_all is_apart made.body))))
     (both (roles_stand made) (list_all is_name (names_of made.vars) && are_distinct (names_of (parameters_of made))) passing.roles
     (both (list_all is_name (names_of made.vars)) (are_distinct (names_of (parameters_of made))) named differ))
-    (both (list_all (λ (var : Var). type_stands (length structs) var.ty) made.vars) (list_all (fits (site_of structs earlier made)) made.body && (unit_returns made && (is_shallow made.body && list_all is_apart made.body))) passing.vars_stand
-    (both (list_all (fits (site_of structs earlier made)) made.body) (unit_returns made && (is_shallow made.body && list_all is_apart made.body)) passing.is_good
+    (both (list_all (λ (var : Var). type_stands (length structs) var.ty) made.vars)
+    (list_all (fits (site_of structs earlier made)) made.body && (unit_returns made && (is_shallow made.body && list_all is_apart made.body)))
+    passing.vars_stand
+    (both (list_all (fits (site_of structs earlier made)) made.body) (unit_returns made && (is_shallow made.body && list_all is_apart made.body))
+    passing.is_good
     (both (unit_returns made) (is_shallow made.body && list_all is_apart made.body) passing.returns
     (both (is_shallow made.body) (list_all is_apart made.body) shallow apart))))
 
-pub unit_made : Shapes → (structs : List StructDef) (constants : List NamedConstant) (unit : NamedUnit) (env : Environment) → unit_keeps unit ≡ true → Passing structs unit env.units (made_of constants unit env) →
+pub unit_made : Shapes → (structs : List StructDef) (constants : List NamedConstant) (unit : NamedUnit) (env : Environment) → unit_keeps unit ≡ true →
+    Passing structs unit env.units (made_of constants unit env) →
     unit_stands structs env.units (made_of constants unit env) ≡ true
 unit_made shapes structs constants unit env keeps passing =
     let rest = and_right (variables_named unit && parameters_differ unit) (body_filled unit && (body_shallow unit && body_apart unit)) keeps in

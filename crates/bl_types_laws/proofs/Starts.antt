@@ -80,7 +80,8 @@ ascends_rest n xs up = and_right (list_all (nat_lt n) xs) (ascends xs) up
 all_before : (test : ℕ → Bool) (xs ys : List ℕ) → list_all test (xs ++ ys) ≡ true → list_all test xs ≡ true
 all_before test [] ys all = refl
 all_before test (x ∷ xs) ys all =
-    both (test x) (list_all test xs) (and_left (test x) (list_all test (xs ++ ys)) all) (all_before test xs ys (and_right (test x) (list_all test (xs ++ ys)) all))
+    both (test x) (list_all test xs) (and_left (test x) (list_all test (xs ++ ys)) all)
+    (all_before test xs ys (and_right (test x) (list_all test (xs ++ ys)) all))
 
 pub ascends_left : (xs ys : List ℕ) → ascends (xs ++ ys) ≡ true → ascends xs ≡ true
 ascends_left [] ys up = refl

@@ -33,7 +33,8 @@ module _ (constants : List NamedConstant) (vars : List NamedVar) where
       (fold-NamedStmtKind Step Step Step Step (stmt_kind_step vars constants) arm_step branch_step stmt_layer_step)
       (step_of_arm vars constants) (step_of_branch vars constants) (stmt_step vars constants) layer)
 
-  pub walked_is : (place : Place) (layer : Layer) → walked_stmt constants vars (stmt place layer) ≡ walked_layer (record { place = place; what = walked_by layer })
+  pub walked_is : (place : Place) (layer : Layer) → walked_stmt constants vars (stmt place layer)
+      ≡ walked_layer (record { place = place; what = walked_by layer })
   walked_is place layer = rw (fold-roll-NamedStmt, fold-roll-NamedStmtKind) refl
 
   pub step_is : (place : Place) (layer : Layer) → stmt_step vars constants (stmt place layer) ≡ step_by layer

@@ -42,7 +42,8 @@ module _ (named : Named) where
     struct_chosen = struct_next named scopes (item.Struct def ∷ items) env at new_struct refl
 
     struct_there : struct_placed (known_in env) new_struct ≡ true
-    struct_there = ap (λ (e : Earlier). struct_placed e new_struct) at.counts ∙ struct_is scopes def at.below (fits_first scopes (struct_marks def) (marks_of items) at.fits)
+    struct_there = ap (λ (e : Earlier). struct_placed e new_struct) at.counts
+        ∙ struct_is scopes def at.below (fits_first scopes (struct_marks def) (marks_of items) at.fits)
 
     at_struct : (after_struct new_struct env).failures ≡ [] → At named behind_struct items (after_struct new_struct env).env
     at_struct none =
@@ -52,25 +53,31 @@ module _ (named : Named) where
           below = on.below;
           none = on.none;
           fits = fits_second scopes (struct_marks def) (marks_of items) at.fits;
-          structs = ends_on named.structs scopes.counts.structs behind_struct.counts.structs (new_struct ∷ []) (along structs_of behind_struct items) on.more_structs at.structs;
-          constants = ends_on named.constants scopes.counts.constants behind_struct.counts.constants [] (along constants_of behind_struct items) on.more_constants at.constants;
+          structs = ends_on named.structs scopes.counts.structs behind_struct.counts.structs (new_struct ∷ []) (along structs_of behind_struct items)
+              on.more_structs at.structs;
+          constants = ends_on named.constants scopes.counts.constants behind_struct.counts.constants [] (along constants_of behind_struct items)
+              on.more_constants at.constants;
           units = ends_on named.units scopes.counts.units behind_struct.counts.units [] (along units_of behind_struct items) on.more_units at.units;
           counts = same_counts (after_struct new_struct env).env behind_struct
-              (one_more env.structs (struct_of env new_struct) scopes.counts.structs behind_struct.counts.structs (ap (λ (e : Earlier). e.structs) at.counts) on.more_structs)
-              (no_more (length env.constants) scopes.counts.constants behind_struct.counts.constants (ap (λ (e : Earlier). e.constants) at.counts) on.more_constants)
+              (one_more env.structs (struct_of env new_struct) scopes.counts.structs behind_struct.counts.structs (ap (λ (e : Earlier). e.structs) at.counts)
+              on.more_structs)
+              (no_more (length env.constants) scopes.counts.constants behind_struct.counts.constants (ap (λ (e : Earlier). e.constants) at.counts)
+              on.more_constants)
               (no_more (length env.units) scopes.counts.units behind_struct.counts.units (ap (λ (e : Earlier). e.units) at.counts) on.more_units)
               (ap length at.between.vars ∙ sym on.none);
           between = between;
           kinds = at.kinds ∙ ap (map (λ (unit : NamedUnit). unit.kind)) (sym (append-nil at.units.before));
         }
 
-    struct_case : (final : Environment) → struct_keeps new_struct ≡ true → (after_struct new_struct env).failures ≡ [] → Made behind_struct items (after_struct new_struct env).env final → Made scopes (item.Struct def ∷ items) env final
+    struct_case : (final : Environment) → struct_keeps new_struct ≡ true → (after_struct new_struct env).failures ≡ [] →
+        Made behind_struct items (after_struct new_struct env).env final → Made scopes (item.Struct def ∷ items) env final
     struct_case final keeps none rest =
         let made = struct_of env new_struct in
         record {
           later = made ∷ rest.later;
           structs = rest.structs ∙ append_assoc env.structs (made ∷ []) rest.later;
-          structs_stand = both (struct_stands (length env.structs) made) (structs_stand_from (length env.structs + 1) rest.later) (struct_made new_struct env keeps struct_there none)
+          structs_stand = both (struct_stands (length env.structs) made) (structs_stand_from (length env.structs + 1) rest.later)
+              (struct_made new_struct env keeps struct_there none)
               (subst (λ n. structs_stand_from n rest.later ≡ true) (length-append env.structs (made ∷ [])) rest.structs_stand);
           struct_names = ap (λ names. def.name.text ∷ names) rest.struct_names;
           more = rest.more;
@@ -88,6 +95,8 @@ module _ (named : Named) where
       first_taken named (item.Struct def) items scopes env (after_struct d env) (struct_chosen def items scopes env at)
       (λ none.
       let first = nil_left (after_struct d env).failures (after_items named (order_of items) (after_struct d env).env).failures none in
-      struct_case def items scopes env at (after_items named (order_of items) (after_struct d env).env).env (and_left (struct_keeps d) (list_all struct_keeps (along structs_of new items)) keep_structs) first
-      (rec new (after_struct d env).env (at_struct def items scopes env at first) (and_right (struct_keeps d) (list_all struct_keeps (along structs_of new items)) keep_structs) keep_units
+      struct_case def items scopes env at (after_items named (order_of items) (after_struct d env).env).env
+      (and_left (struct_keeps d) (list_all struct_keeps (along structs_of new items)) keep_structs) first
+      (rec new (after_struct d env).env (at_struct def items scopes env at first)
+      (and_right (struct_keeps d) (list_all struct_keeps (along structs_of new items)) keep_structs) keep_units
       (nil_right (after_struct d env).failures (after_items named (order_of items) (after_struct d env).env).failures none)))

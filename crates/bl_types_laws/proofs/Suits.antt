@@ -46,15 +46,18 @@ told_opened units scopes told = (refl, both _ _ told.0 told.1)
 module _ (units : List UnitDef) where
   -- one part and then another
   pub suits_then : (one other : Bool) (scopes middle new : Scopes) (vars more_vars : List NamedVar) (constants more_constants : List NamedConstant) →
-      Suits units one scopes middle vars constants → Suits units other middle new more_vars more_constants → Suits units (one && other) scopes new (vars ++ more_vars) (constants ++ more_constants)
+      Suits units one scopes middle vars constants → Suits units other middle new more_vars more_constants →
+      Suits units (one && other) scopes new (vars ++ more_vars) (constants ++ more_constants)
   suits_then one other scopes middle new vars more_vars constants more_constants first second = record {
     named = both one other first.named second.named;
     told = second.told;
     outer = second.outer ∙ first.outer;
     more_vars = more vars more_vars scopes.counts.variables middle.counts.variables new.counts.variables first.more_vars second.more_vars;
-    more_constants = more constants more_constants scopes.counts.constants middle.counts.constants new.counts.constants first.more_constants second.more_constants;
+    more_constants = more constants more_constants scopes.counts.constants middle.counts.constants new.counts.constants first.more_constants
+        second.more_constants;
     same_units = second.same_units ∙ first.same_units;
-    calls = list_all-append (constant_calls units) constants more_constants ∙ both (list_all (constant_calls units) constants) (list_all (constant_calls units) more_constants) first.calls second.calls;
+    calls = list_all-append (constant_calls units) constants more_constants
+        ∙ both (list_all (constant_calls units) constants) (list_all (constant_calls units) more_constants) first.calls second.calls;
   }
 
   -- another test
@@ -82,12 +85,14 @@ module _ (units : List UnitDef) where
   }
 
   -- a part that declares nothing
-  pub suits_still : (holds : Bool) (scopes : Scopes) (marks : Marks) → Still marks → Told (kinds_of units) scopes → holds ≡ true → Suits units holds scopes (after scopes marks) [] []
+  pub suits_still : (holds : Bool) (scopes : Scopes) (marks : Marks) → Still marks → Told (kinds_of units) scopes → holds ≡ true →
+      Suits units holds scopes (after scopes marks) [] []
   suits_still holds scopes marks still told is =
       subst (λ new. Suits units holds scopes new [] []) (sym (still scopes)) (suits_so true holds scopes scopes [] [] (λ sure. is) (suits_none scopes told))
 
   -- a declaration of a variable
-  pub suits_variable : (holds : Bool) (scopes : Scopes) (name : Name) (var : NamedVar) → Told (kinds_of units) scopes → holds ≡ true → Suits units holds scopes (enter scopes (declares name kind.Variable)) (var ∷ []) []
+  pub suits_variable : (holds : Bool) (scopes : Scopes) (name : Name) (var : NamedVar) → Told (kinds_of units) scopes → holds ≡ true →
+      Suits units holds scopes (enter scopes (declares name kind.Variable)) (var ∷ []) []
   suits_variable holds scopes name var told is = record {
     named = is;
     told = told_declared (kinds_of units) scopes name kind.Variable refl told;

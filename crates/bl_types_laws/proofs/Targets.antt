@@ -75,17 +75,21 @@ field_there fields name found is =
     ap (λ k. option_map (λ (field : Field). field.ty) (slice_get fields k)) same ∙ among.is_typed
 
 module _ (env : Environment) (site : Site) (within : Within env site) where
-  field_typed : (name : List ℕ) (layer : Ty-F Ty) (found : FieldAt) → field_named env.structs name layer ≡ Some found → field_in site.structs found.position layer ≡ Some found.ty
+  field_typed : (name : List ℕ) (layer : Ty-F Ty) (found : FieldAt) → field_named env.structs name layer ≡ Some found →
+      field_in site.structs found.position layer ≡ Some found.ty
   field_typed name (Ty-F.Scalar s) found is = absurd (cc)
   field_typed name (Ty-F.Array n element) found is = absurd (cc)
   field_typed name (Ty-F.Struct s) found is =
       let there = some_found (λ (def : StructDef). field_among name def.fields 0) (slice_get env.structs s) found is in
       let def : StructDef = there.0 in
-      ap (λ structs. option_and_then (λ (def : StructDef). option_map (λ (field : Field). field.ty) (slice_get def.fields found.position)) (slice_get structs s)) within.structs
-      ∙ ap (option_and_then (λ (def : StructDef). option_map (λ (field : Field). field.ty) (slice_get def.fields found.position))) (get_front env.structs within.later s def there.1)
+      ap (λ structs. option_and_then (λ (def : StructDef). option_map (λ (field : Field). field.ty) (slice_get def.fields found.position))
+      (slice_get structs s)) within.structs
+      ∙ ap (option_and_then (λ (def : StructDef). option_map (λ (field : Field). field.ty) (slice_get def.fields found.position)))
+      (get_front env.structs within.later s def there.1)
       ∙ field_there def.fields name found there.2
 
-  field_by : (name : Name) (ty : Ty) (found : Option FieldAt) → field_named env.structs name.text (out-Ty ty) ≡ found → (field_found name.place found).failures ≡ [] → StepFits site ty (field_found name.place found)
+  field_by : (name : Name) (ty : Ty) (found : Option FieldAt) → field_named env.structs name.text (out-Ty ty) ≡ found →
+      (field_found name.place found).failures ≡ [] → StepFits site ty (field_found name.place found)
   field_by name ty None is none = absurd (cc)
   field_by name ty (Some found) is none = record {
     next = found.ty;
@@ -109,10 +113,16 @@ pub record IndexFits (site : Site) (made : Option Expr) : Type 0 where
 module _ (site : Site) where
   whole_by : (at : Place) (ty : Ty) (s : ScalarType) (e : Expr) (whole : Bool) → scalar_in ty ≡ Some s → is_whole s ≡ whole → type_of site e ≡ Some ty →
       (if whole then kept e else unfit at).failures ≡ [] → IndexFits site (if whole then kept e else unfit at).made
-  whole_by at ty s e true is whole typed none = record { ty = s; is_whole_number = whole; is_made = record { it = e; is = refl; is_typed = typed ∙ ap Some (scalar_is ty s is) } }
+  whole_by at ty s e true is whole typed none = record {
+    ty = s;
+    is_whole_number = whole;
+    is_made =
+        record { it = e; is = refl; is_typed = typed ∙ ap Some (scalar_is ty s is) };
+  }
   whole_by at ty s e false is whole typed none = absurd (cc)
 
-  whole_fits : (at : Place) (ty : Ty) (s : Option ScalarType) (e : Expr) → scalar_in ty ≡ s → type_of site e ≡ Some ty → (whole_or_unfit at s e).failures ≡ [] → IndexFits site (whole_or_unfit at s e).made
+  whole_fits : (at : Place) (ty : Ty) (s : Option ScalarType) (e : Expr) → scalar_in ty ≡ s → type_of site e ≡ Some ty → (whole_or_unfit at s e).failures ≡ [] →
+      IndexFits site (whole_or_unfit at s e).made
   whole_fits at ty None e is typed none = absurd (cc)
   whole_fits at ty (Some s) e is typed none = whole_by at ty s e (is_whole s) is refl typed none
 
@@ -121,7 +131,8 @@ module _ (site : Site) where
   as_index_fits at (Open e) fit none = record { ty = int32; is_whole_number = refl; is_made = fit int32 refl none }
   as_index_fits at (Of ty e) fit none = whole_fits at ty (scalar_in ty) e refl fit none
 
-  index_leads : (ty element : Ty) (s : ScalarType) (e : Expr) → element_in (out-Ty ty) ≡ Some element → is_whole s ≡ true → type_of site e ≡ Some (scalar s) → type_of_part site (part.Index e) ty ≡ Some element
+  index_leads : (ty element : Ty) (s : ScalarType) (e : Expr) → element_in (out-Ty ty) ≡ Some element → is_whole s ≡ true → type_of site e ≡ Some (scalar s) →
+      type_of_part site (part.Index e) ty ≡ Some element
   index_leads ty element s e is whole typed =
       index_is site e ty
       ∙ ap (λ found. where_whole found (element_in (out-Ty ty))) typed
@@ -129,7 +140,8 @@ module _ (site : Site) where
       ∙ ap (λ holds. if holds then element_in (out-Ty ty) else None) whole
       ∙ is
 
-  index_by : (ty element : Ty) (index : Settled) (made : Option Expr) → element_in (out-Ty ty) ≡ Some element → index.made ≡ made → IndexFits site made → StepFits site ty (index_made element index)
+  index_by : (ty element : Ty) (index : Settled) (made : Option Expr) → element_in (out-Ty ty) ≡ Some element → index.made ≡ made → IndexFits site made →
+      StepFits site ty (index_made element index)
   index_by ty element index None is same fit = absurd (let none = fit.is_made.is in cc)
   index_by ty element index (Some e) is same fit = record {
     next = element;
@@ -139,28 +151,33 @@ module _ (site : Site) where
     leads = index_leads ty element fit.ty e is fit.is_whole_number (ap (type_of site) (same_Some e fit.is_made.it fit.is_made.is) ∙ fit.is_made.is_typed);
   }
 
-  element_by : (ty : Ty) (at : Place) (form : Form) (element : Option Ty) → element_in (out-Ty ty) ≡ element → FormFits site form → (element_found element at form).failures ≡ [] → StepFits site ty (element_found element at form)
+  element_by : (ty : Ty) (at : Place) (form : Form) (element : Option Ty) → element_in (out-Ty ty) ≡ element → FormFits site form →
+      (element_found element at form).failures ≡ [] → StepFits site ty (element_found element at form)
   element_by ty at form None is fit none = absurd (cc)
   element_by ty at form (Some element) is fit none = index_by ty element (as_index at form) (as_index at form).made is refl (as_index_fits at form fit none)
 
-  pub index_fits : (index : Judged) (ty : Ty) → (index.failures ≡ [] → FormFits site index.form) → (after_index index (to_element index.place index.form (Some ty))).failures ≡ [] →
+  pub index_fits : (index : Judged) (ty : Ty) → (index.failures ≡ [] → FormFits site index.form) →
+      (after_index index (to_element index.place index.form (Some ty))).failures ≡ [] →
       StepFits site ty (after_index index (to_element index.place index.form (Some ty)))
   index_fits index ty fit none =
       let step : Stepped = to_element index.place index.form (Some ty) in
-      let found = element_by ty index.place index.form (element_in (out-Ty ty)) refl (fit (nil_left index.failures step.failures none)) (nil_right index.failures step.failures none) in
+      let found = element_by ty index.place index.form (element_in (out-Ty ty)) refl (fit (nil_left index.failures step.failures none))
+      (nil_right index.failures step.failures none) in
       record { next = found.next; made = found.made; is_next = found.is_next; is_made = found.is_made; leads = found.leads }
 
 -- ---- constants have no parts
 
 pub no_field : (structs : List StructDef) (name : Name) (s : ScalarType) → (to_field structs name (Some (scalar s))).failures ≡ [] → ⊥
 no_field structs name s none =
-    let fails : (field_found name.place None).failures ≡ [] = ap (λ layer. (field_found name.place (field_named structs name.text layer)).failures) (sym (out-roll-Ty (Ty-F.Scalar s))) ∙ none in
+    let fails : (field_found name.place None).failures ≡ [] = ap (λ layer. (field_found name.place (field_named structs name.text layer)).failures)
+    (sym (out-roll-Ty (Ty-F.Scalar s))) ∙ none in
     absurd (cc)
 
 pub no_element : (index : Judged) (s : ScalarType) → (after_index index (to_element index.place index.form (Some (scalar s)))).failures ≡ [] → ⊥
 no_element index s none =
     let last : (element_found (element_in (out-Ty (scalar s))) index.place index.form).failures ≡ [] = nil_right index.failures _ none in
-    let fails : (element_found None index.place index.form).failures ≡ [] = ap (λ layer. (element_found (element_in layer) index.place index.form).failures) (sym (out-roll-Ty (Ty-F.Scalar s))) ∙ last in
+    let fails : (element_found None index.place index.form).failures ≡ [] =
+    ap (λ layer. (element_found (element_in layer) index.place index.form).failures) (sym (out-roll-Ty (Ty-F.Scalar s))) ∙ last in
     absurd (cc)
 
 -- ---- one part after another
@@ -181,11 +198,18 @@ module _ {X : Type 0} (site : Site) (to : X → Option Ty → Stepped) where
   pub none_lead : Leads []
   none_lead ty none = record { end = ty; is_end = refl; leads = refl }
 
-  first_by : (x : X) (xs : List X) (ty : Ty) (first : Stepped) → to x (Some ty) ≡ first → Leads xs → StepFits site ty first → (stepped (map to xs) first.ty).failures ≡ [] →
-      LedFits site ty (record { ty = (stepped (map to xs) first.ty).ty; parts = cons_option first.part (stepped (map to xs) first.ty).parts; failures = first.failures ++ (stepped (map to xs) first.ty).failures })
+  first_by : (x : X) (xs : List X) (ty : Ty) (first : Stepped) → to x (Some ty) ≡ first → Leads xs → StepFits site ty first →
+      (stepped (map to xs) first.ty).failures ≡ [] →
+      LedFits site ty (record {
+        ty = (stepped (map to xs) first.ty).ty;
+        parts = cons_option first.part (stepped (map to xs) first.ty).parts;
+        failures =
+            first.failures ++ (stepped (map to xs) first.ty).failures;
+      })
   first_by x xs ty first is more step none =
       let led : LedFits site step.next (stepped (map to xs) first.ty) =
-      subst (λ next. LedFits site step.next (stepped (map to xs) next)) (sym step.is_next) (more step.next (ap (λ next. (stepped (map to xs) next).failures) (sym step.is_next) ∙ none)) in
+      subst (λ next. LedFits site step.next (stepped (map to xs) next)) (sym step.is_next)
+      (more step.next (ap (λ next. (stepped (map to xs) next).failures) (sym step.is_next) ∙ none)) in
       record { end = led.end; is_end = led.is_end; leads = led_first site ty first (stepped (map to xs) first.ty) step led ∙ led.leads }
 
   pub first_leads : (x : X) (xs : List X) → EachSteps x → Leads xs → Leads (x ∷ xs)

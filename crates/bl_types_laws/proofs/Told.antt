@@ -41,7 +41,8 @@ Told units scopes = (scope_told units scopes.inner ≡ true) × (list_all (scope
 abbrev DeclarationTold : List UnitKind → Declaration → Type 0
 DeclarationTold units d = kind_told units d.kind d.position ≡ true
 
-found_told : (units : List UnitKind) (scope : Declared) (name : List ℕ) (d : Declaration) → scope_told units scope ≡ true → found scope name ≡ Some d → DeclarationTold units d
+found_told : (units : List UnitKind) (scope : Declared) (name : List ℕ) (d : Declaration) → scope_told units scope ≡ true → found scope name ≡ Some d →
+    DeclarationTold units d
 found_told units [] name d told is = absurd (cc)
 found_told units (entry ∷ rest) name d told is =
     elim (bytes_eq name entry.0) as (λ test. cond test (Some entry.1) (found rest name) ≡ Some d → DeclarationTold units d) [
@@ -49,7 +50,8 @@ found_told units (entry ∷ rest) name d told is =
       | false ↦ λ h. found_told units rest name d (and_right (kind_told units entry.1.kind entry.1.position) (scope_told units rest) told) h
     ] is
 
-around_told : (units : List UnitKind) (outer : List Declared) (name : List ℕ) (d : Declaration) → list_all (scope_told units) outer ≡ true → bound_around outer name ≡ Some d → DeclarationTold units d
+around_told : (units : List UnitKind) (outer : List Declared) (name : List ℕ) (d : Declaration) → list_all (scope_told units) outer ≡ true →
+    bound_around outer name ≡ Some d → DeclarationTold units d
 around_told units [] name d told is = absurd (cc)
 around_told units (scope ∷ outer) name d told is =
     elim (found scope name) as (λ first. found scope name ≡ first → option_or first (bound_around outer name) ≡ Some d → DeclarationTold units d) [
@@ -57,19 +59,23 @@ around_told units (scope ∷ outer) name d told is =
       | None ↦ λ there h. around_told units outer name d (and_right (scope_told units scope) (list_all (scope_told units) outer) told) h
     ] refl is
 
-bound_told : (units : List UnitKind) (scopes : Scopes) (name : List ℕ) (d : Declaration) → Told units scopes → bound scopes name ≡ Some d → DeclarationTold units d
+bound_told : (units : List UnitKind) (scopes : Scopes) (name : List ℕ) (d : Declaration) → Told units scopes → bound scopes name ≡ Some d →
+    DeclarationTold units d
 bound_told units scopes name d told is =
-    elim (found scopes.inner name) as (λ first. found scopes.inner name ≡ first → option_or first (bound_around scopes.outer name) ≡ Some d → DeclarationTold units d) [
+    elim (found scopes.inner name) as (λ first. found scopes.inner name ≡ first → option_or first (bound_around scopes.outer name) ≡ Some d →
+    DeclarationTold units d) [
       | Some e ↦ λ there h. found_told units scopes.inner name d told.0 (there ∙ h)
       | None ↦ λ there h. around_told units scopes.outer name d told.1 h
     ] refl is
 
-pub kind_at : (test : UnitKind → Bool) (units : List UnitDef) (k : ℕ) → holds_of (λ (unit : UnitDef). test unit.kind) (slice_get units k) ≡ holds_of test (slice_get (kinds_of units) k)
+pub kind_at : (test : UnitKind → Bool) (units : List UnitDef) (k : ℕ) → holds_of (λ (unit : UnitDef). test unit.kind) (slice_get units k)
+    ≡ holds_of test (slice_get (kinds_of units) k)
 kind_at test [] k = refl
 kind_at test (unit ∷ units) zero = refl
 kind_at test (unit ∷ units) (suc k) = kind_at test units k
 
-suited_function : (units : List UnitKind) (kind : Kind) (k : ℕ) → suits wants.Function kind ≡ true → kind_told units kind k ≡ true → holds_of is_function (slice_get units k) ≡ true
+suited_function : (units : List UnitKind) (kind : Kind) (k : ℕ) → suits wants.Function kind ≡ true → kind_told units kind k ≡ true →
+    holds_of is_function (slice_get units k) ≡ true
 suited_function units kinds.Struct k suited told = absurd (cc)
 suited_function units kinds.Constant k suited told = absurd (cc)
 suited_function units kinds.Variable k suited told = absurd (cc)
@@ -77,7 +83,8 @@ suited_function units kinds.Function k suited told = told
 suited_function units kinds.Activity k suited told = absurd (cc)
 suited_function units kinds.Field k suited told = absurd (cc)
 
-suited_activity : (units : List UnitKind) (kind : Kind) (k : ℕ) → suits wants.Activity kind ≡ true → kind_told units kind k ≡ true → holds_of is_activity (slice_get units k) ≡ true
+suited_activity : (units : List UnitKind) (kind : Kind) (k : ℕ) → suits wants.Activity kind ≡ true → kind_told units kind k ≡ true →
+    holds_of is_activity (slice_get units k) ≡ true
 suited_activity units kinds.Struct k suited told = absurd (cc)
 suited_activity units kinds.Constant k suited told = absurd (cc)
 suited_activity units kinds.Variable k suited told = absurd (cc)
@@ -85,18 +92,21 @@ suited_activity units kinds.Function k suited told = absurd (cc)
 suited_activity units kinds.Activity k suited told = told
 suited_activity units kinds.Field k suited told = absurd (cc)
 
-module _ (units : List UnitDef) (scopes : Scopes) (name : Name) (d : Declaration) (told : Told (kinds_of units) scopes) (is_bound : bound scopes name.text ≡ Some d) where
+module _ (units : List UnitDef) (scopes : Scopes) (name : Name) (d : Declaration) (told : Told (kinds_of units) scopes)
+    (is_bound : bound scopes name.text ≡ Some d) where
   -- a name that stands for a function has the position of one
   pub function_there : suits wants.Function d.kind ≡ true → holds_of (λ (unit : UnitDef). is_function unit.kind) (slice_get units (position scopes name)) ≡ true
   function_there suited =
       ap (λ found. holds_of (λ (unit : UnitDef). is_function unit.kind) (slice_get units (position_of found))) is_bound
-      ∙ kind_at is_function units d.position ∙ suited_function (kinds_of units) d.kind d.position suited (bound_told (kinds_of units) scopes name.text d told is_bound)
+      ∙ kind_at is_function units d.position ∙ suited_function (kinds_of units) d.kind d.position suited
+      (bound_told (kinds_of units) scopes name.text d told is_bound)
 
   -- and one that stands for an activity that of one
   pub activity_there : suits wants.Activity d.kind ≡ true → holds_of (λ (unit : UnitDef). is_activity unit.kind) (slice_get units (position scopes name)) ≡ true
   activity_there suited =
       ap (λ found. holds_of (λ (unit : UnitDef). is_activity unit.kind) (slice_get units (position_of found))) is_bound
-      ∙ kind_at is_activity units d.position ∙ suited_activity (kinds_of units) d.kind d.position suited (bound_told (kinds_of units) scopes name.text d told is_bound)
+      ∙ kind_at is_activity units d.position ∙ suited_activity (kinds_of units) d.kind d.position suited
+      (bound_told (kinds_of units) scopes name.text d told is_bound)
 
 -- ---- where more is declared
 
@@ -107,18 +117,25 @@ declared_told units None scope name kind k told one =
     list_all-append (λ (entry : List ℕ × Declaration). kind_told units entry.1.kind entry.1.position) scope ((name.text, declaration_of name kind k) ∷ [])
     ∙ both (scope_told units scope) (kind_told units kind k && true) told (both (kind_told units kind k) true one refl)
 
-pub told_declared : (units : List UnitKind) (scopes : Scopes) (name : Name) (kind : Kind) → kind_told units kind (count_of scopes.counts kind) ≡ true → Told units scopes → Told units (enter scopes (declares name kind))
-told_declared units scopes name kind one told = (declared_told units (found scopes.inner name.text) scopes.inner name kind (count_of scopes.counts kind) told.0 one, told.1)
+pub told_declared : (units : List UnitKind) (scopes : Scopes) (name : Name) (kind : Kind) → kind_told units kind (count_of scopes.counts kind) ≡ true →
+    Told units scopes → Told units (enter scopes (declares name kind))
+told_declared units scopes name kind one told = (
+  declared_told units (found scopes.inner name.text) scopes.inner name kind (count_of scopes.counts kind) told.0
+      one,
+  told.1,
+)
 
 -- ---- where there are more units
 
-pub list_more : {A : Type 0} (one other : A → Bool) → ((x : A) → one x ≡ true → other x ≡ true) → (xs : List A) → list_all one xs ≡ true → list_all other xs ≡ true
+pub list_more : {A : Type 0} (one other : A → Bool) → ((x : A) → one x ≡ true → other x ≡ true) → (xs : List A) → list_all one xs ≡ true →
+    list_all other xs ≡ true
 list_more one other each [] all = refl
 list_more one other each (x ∷ xs) all =
     both (other x) (list_all other xs) (each x (and_left (one x) (list_all one xs) all)) (list_more one other each xs (and_right (one x) (list_all one xs) all))
 
 module _ (units more : List UnitKind) where
-  found_more : (test : UnitKind → Bool) (k : ℕ) (found : Option UnitKind) → slice_get units k ≡ found → holds_of test found ≡ true → holds_of test (slice_get (units ++ more) k) ≡ true
+  found_more : (test : UnitKind → Bool) (k : ℕ) (found : Option UnitKind) → slice_get units k ≡ found → holds_of test found ≡ true →
+      holds_of test (slice_get (units ++ more) k) ≡ true
   found_more test k (Some kind) is holds = ap (holds_of test) (get_front units more k kind is) ∙ holds
   found_more test k None is holds = absurd (cc)
 
@@ -132,7 +149,8 @@ module _ (units more : List UnitKind) where
 
   scope_more : (scope : Declared) → scope_told units scope ≡ true → scope_told (units ++ more) scope ≡ true
   scope_more scope told =
-      list_more (λ (entry : List ℕ × Declaration). kind_told units entry.1.kind entry.1.position) (λ (entry : List ℕ × Declaration). kind_told (units ++ more) entry.1.kind entry.1.position)
+      list_more (λ (entry : List ℕ × Declaration). kind_told units entry.1.kind entry.1.position)
+      (λ (entry : List ℕ × Declaration). kind_told (units ++ more) entry.1.kind entry.1.position)
       (λ entry. kind_more entry.1.kind entry.1.position) scope told
 
   -- what is told of these units is told of more of them

@@ -26,21 +26,26 @@ module _ (site : Site) where
   pub kind_at : (at : Place) (kind : ExprKind) (layer : ExprKind-F ExprKind Part Expr Path) → out-ExprKind kind ≡ layer →
       type_of site (roll-Expr (record { place = at; what = kind }))
       ≡ kind_type site (map-ExprKind ExprKind Part Expr Path (Option Ty) (Ty → Option Ty) (Option Ty) (Option Ty)
-      (fold-ExprKind (Option Ty) (Ty → Option Ty) (Option Ty) (Option Ty) (kind_type site) (part_type site) expr_type (path_type site)) (type_of_part site) (type_of site) (type_of_path site) layer)
+      (fold-ExprKind (Option Ty) (Ty → Option Ty) (Option Ty) (Option Ty) (kind_type site) (part_type site) expr_type (path_type site)) (type_of_part site)
+      (type_of site) (type_of_path site) layer)
   kind_at at kind layer is =
       rw fold-roll-Expr
       (fold_out-ExprKind (Option Ty) (Ty → Option Ty) (Option Ty) (Option Ty) (kind_type site) (part_type site) expr_type (path_type site) kind
       ∙ ap (λ layer. kind_type site (map-ExprKind ExprKind Part Expr Path (Option Ty) (Ty → Option Ty) (Option Ty) (Option Ty)
-      (fold-ExprKind (Option Ty) (Ty → Option Ty) (Option Ty) (Option Ty) (kind_type site) (part_type site) expr_type (path_type site)) (type_of_part site) (type_of site) (type_of_path site) layer)) is)
+      (fold-ExprKind (Option Ty) (Ty → Option Ty) (Option Ty) (Option Ty) (kind_type site) (part_type site) expr_type (path_type site)) (type_of_part site)
+      (type_of site) (type_of_path site) layer)) is)
 
   pub part_at : (part : Part) (layer : Part-F ExprKind Part Expr Path) (ty : Ty) → out-Part part ≡ layer →
       type_of_part site part ty
       ≡ part_type site (map-Part ExprKind Part Expr Path (Option Ty) (Ty → Option Ty) (Option Ty) (Option Ty)
-      (fold-ExprKind (Option Ty) (Ty → Option Ty) (Option Ty) (Option Ty) (kind_type site) (part_type site) expr_type (path_type site)) (type_of_part site) (type_of site) (type_of_path site) layer) ty
+      (fold-ExprKind (Option Ty) (Ty → Option Ty) (Option Ty) (Option Ty) (kind_type site) (part_type site) expr_type (path_type site)) (type_of_part site)
+      (type_of site) (type_of_path site) layer) ty
   part_at part layer ty is =
-      ap (λ (step : Ty → Option Ty). step ty) (fold_out-Part (Option Ty) (Ty → Option Ty) (Option Ty) (Option Ty) (kind_type site) (part_type site) expr_type (path_type site) part)
+      ap (λ (step : Ty → Option Ty). step ty) (fold_out-Part (Option Ty) (Ty → Option Ty) (Option Ty) (Option Ty) (kind_type site) (part_type site) expr_type
+      (path_type site) part)
       ∙ ap (λ layer. part_type site (map-Part ExprKind Part Expr Path (Option Ty) (Ty → Option Ty) (Option Ty) (Option Ty)
-      (fold-ExprKind (Option Ty) (Ty → Option Ty) (Option Ty) (Option Ty) (kind_type site) (part_type site) expr_type (path_type site)) (type_of_part site) (type_of site) (type_of_path site) layer) ty) is
+      (fold-ExprKind (Option Ty) (Ty → Option Ty) (Option Ty) (Option Ty) (kind_type site) (part_type site) expr_type (path_type site)) (type_of_part site)
+      (type_of site) (type_of_path site) layer) ty) is
 
   pub literal_is : (at : Place) (n : ℤ) (s : ScalarType) → type_of site (literal at n s) ≡ literal_type s (in_range s n)
   literal_is at n s = kind_at at (what.Literal n s) (ExprKind-F.Literal n s) (what.outs-Literal n s)
@@ -51,7 +56,8 @@ module _ (site : Site) where
   pub previous_is : (at : Place) (k : ℕ) → type_of site (previous at k) ≡ option_and_then (prev_type site.kind) (var_at site k)
   previous_is at k = kind_at at (what.Prev k) (ExprKind-F.Prev k) (what.outs-Prev k)
 
-  pub one_is : (at : Place) (op : Op) (a : Expr) (ty : Ty) → type_of site a ≡ Some ty → type_of site (one at op a) ≡ option_and_then (one_type op) (scalar_in ty)
+  pub one_is : (at : Place) (op : Op) (a : Expr) (ty : Ty) → type_of site a ≡ Some ty →
+      type_of site (one at op a) ≡ option_and_then (one_type op) (scalar_in ty)
   one_is at op a ty is =
       kind_at at (what.One op a) (ExprKind-F.One op a) (what.outs-One op a)
       ∙ ap (λ found. option_and_then (one_type op) (option_and_then scalar_in found)) is
@@ -63,16 +69,19 @@ module _ (site : Site) where
       ∙ ap (λ found. option_and_then (λ s. option_and_then (two_type op s) (option_and_then scalar_in (type_of site b))) (option_and_then scalar_in found)) is
       ∙ ap (λ found. option_and_then (λ s. option_and_then (two_type op s) (option_and_then scalar_in found)) (scalar_in ty)) are
 
-  pub cast_is : (at : Place) (target : ScalarType) (a : Expr) (ty : Ty) → type_of site a ≡ Some ty → type_of site (cast at target a) ≡ option_and_then (cast_type target) (scalar_in ty)
+  pub cast_is : (at : Place) (target : ScalarType) (a : Expr) (ty : Ty) → type_of site a ≡ Some ty →
+      type_of site (cast at target a) ≡ option_and_then (cast_type target) (scalar_in ty)
   cast_is at target a ty is =
       kind_at at (what.Cast target a) (ExprKind-F.Cast target a) (what.outs-Cast target a)
       ∙ ap (λ found. option_and_then (cast_type target) (option_and_then scalar_in found)) is
 
-  pub call_is : (at : Place) (f : ℕ) (inputs : List Expr) → type_of site (call at f inputs) ≡ option_and_then (call_type (map (type_of site) inputs)) (slice_get site.earlier f)
+  pub call_is : (at : Place) (f : ℕ) (inputs : List Expr) → type_of site (call at f inputs)
+      ≡ option_and_then (call_type (map (type_of site) inputs)) (slice_get site.earlier f)
   call_is at f inputs = kind_at at (what.Call f inputs) (ExprKind-F.Call f inputs) (what.outs-Call f inputs)
 
   pub path_is : (at : Place) (k : ℕ) (parts : List Part) (ty : Ty) →
-      type_of_path site (path at k parts ty) ≡ option_and_then (where_same ty) (option_and_then (λ (var : Var). after_parts (map (type_of_part site) parts) var.ty) (var_at site k))
+      type_of_path site (path at k parts ty) ≡ option_and_then (where_same ty)
+      (option_and_then (λ (var : Var). after_parts (map (type_of_part site) parts) var.ty) (var_at site k))
   path_is at k parts ty = rw fold-roll-Path refl
 
   pub field_is : (k : ℕ) (ty : Ty) → type_of_part site (part.Field k) ty ≡ field_in site.structs k (out-Ty ty)
@@ -92,13 +101,15 @@ module _ (s : ScalarType) where
       (fold-Path (Place → Settled) (Unit {0}) Settled (Unit {0}) (settled_kind s) settled_part settled_layer settled_path) layer) at
   settled_at at kind layer is =
       rw fold-roll-Expr
-      (ap (λ (settles : Place → Settled). settles at) (fold_out-ExprKind (Place → Settled) (Unit {0}) Settled (Unit {0}) (settled_kind s) settled_part settled_layer settled_path kind)
+      (ap (λ (settles : Place → Settled). settles at) (fold_out-ExprKind (Place → Settled) (Unit {0}) Settled (Unit {0}) (settled_kind s) settled_part
+      settled_layer settled_path kind)
       ∙ ap (λ layer. settled_kind s (map-ExprKind ExprKind Part Expr Path (Place → Settled) (Unit {0}) Settled (Unit {0})
       (fold-ExprKind (Place → Settled) (Unit {0}) Settled (Unit {0}) (settled_kind s) settled_part settled_layer settled_path)
       (fold-Part (Place → Settled) (Unit {0}) Settled (Unit {0}) (settled_kind s) settled_part settled_layer settled_path) (settled s)
       (fold-Path (Place → Settled) (Unit {0}) Settled (Unit {0}) (settled_kind s) settled_part settled_layer settled_path) layer) at) is)
 
-  pub settled_literal : (at : Place) (n : ℤ) (t : ScalarType) → settled s (literal at n t) ≡ record { made = Some (literal at n s); failures = unless (in_range s n) rule.Literal at }
+  pub settled_literal : (at : Place) (n : ℤ) (t : ScalarType) → settled s (literal at n t)
+      ≡ record { made = Some (literal at n s); failures = unless (in_range s n) rule.Literal at }
   settled_literal at n t = settled_at at (what.Literal n t) (ExprKind-F.Literal n t) (what.outs-Literal n t)
 
   pub settled_one : (at : Place) (op : Op) (a : Expr) → settled s (one at op a) ≡ behind (settled s a).failures (one_made s at op (settled s a).made)

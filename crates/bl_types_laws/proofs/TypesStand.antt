@@ -64,7 +64,8 @@ length_in constants (length_of.Constant at k) m is =
     let number = some_found as_length (natural found.0.value) m holds.1 in
     as_length_in number.0 m number.2
 
-length_stands : (at : Place) (found : Option ℕ) → ((m : ℕ) → found ≡ Some m → has_length m ≡ true) → bad_length at found ≡ [] → has_length (or_zero found) ≡ true
+length_stands : (at : Place) (found : Option ℕ) → ((m : ℕ) → found ≡ Some m → has_length m ≡ true) → bad_length at found ≡ [] →
+    has_length (or_zero found) ≡ true
 length_stands at None each none = absurd (cc)
 length_stands at (Some m) each none = each m refl
 
@@ -75,7 +76,8 @@ module _ (earlier : Earlier) (constants : List Constant) where
   abbrev Stands : NamedType → Type 0
   Stands ty = type_placed earlier ty ≡ true → bad_lengths constants ty ≡ [] → type_stands earlier.structs (written_type constants ty) ≡ true
 
-  stands_by : (level : NamedType-F ((ty : NamedType) × Stands ty)) → Stands (roll-NamedType (map-NamedType ((ty : NamedType) × Stands ty) NamedType (λ e. e.0) level))
+  stands_by : (level : NamedType-F ((ty : NamedType) × Stands ty)) → Stands
+      (roll-NamedType (map-NamedType ((ty : NamedType) × Stands ty) NamedType (λ e. e.0) level))
   stands_by (NamedType-F.Scalar s) placed none = rw fold-roll-NamedType (stands_at earlier.structs (type.Scalar s) (Ty-F.Scalar s) (type.outs-Scalar s))
   stands_by (NamedType-F.Struct k) placed none =
       let at : nat_lt k earlier.structs ≡ true = rw fold-roll-NamedType at placed in
@@ -88,21 +90,28 @@ module _ (earlier : Earlier) (constants : List Constant) where
       rw fold-roll-NamedType
       (stands_at earlier.structs (type.Array count inner) (Ty-F.Array count inner) (type.outs-Array count inner)
       ∙ both (has_length count) (type_stands earlier.structs inner)
-      (length_stands (place_of_length n) (written_length constants n) (length_in constants n) (nil_left (bad_length (place_of_length n) (written_length constants n)) (bad_lengths constants element.0) good))
-      (element.1 (and_right (length_placed earlier n) (type_placed earlier element.0) at) (nil_right (bad_length (place_of_length n) (written_length constants n)) (bad_lengths constants element.0) good)))
+      (length_stands (place_of_length n) (written_length constants n) (length_in constants n)
+      (nil_left (bad_length (place_of_length n) (written_length constants n)) (bad_lengths constants element.0) good))
+      (element.1 (and_right (length_placed earlier n) (type_placed earlier element.0) at)
+      (nil_right (bad_length (place_of_length n) (written_length constants n)) (bad_lengths constants element.0) good)))
 
   -- a written type stands, where none of its lengths fails
-  pub written_stands : (ty : NamedType) → type_placed earlier ty ≡ true → bad_lengths constants ty ≡ [] → type_stands earlier.structs (written_type constants ty) ≡ true
+  pub written_stands : (ty : NamedType) → type_placed earlier ty ≡ true → bad_lengths constants ty ≡ [] →
+      type_stands earlier.structs (written_type constants ty) ≡ true
   written_stands = ind-NamedType Stands (λ x y is. subst (λ level. Stands (roll-NamedType level)) is (stands_by y))
 
 -- and so do those of the fields of a struct
-pub fields_stand : (earlier : Earlier) (env : Environment) (fields : List NamedField) → list_all (λ (field : NamedField). type_placed earlier field.ty) fields ≡ true → joined (map (field_lengths env) fields) ≡ [] →
+pub fields_stand : (earlier : Earlier) (env : Environment) (fields : List NamedField) →
+    list_all (λ (field : NamedField). type_placed earlier field.ty) fields ≡ true → joined (map (field_lengths env) fields) ≡ [] →
     list_all (λ (field : Field). type_stands earlier.structs field.ty) (map (field_of env) fields) ≡ true
 fields_stand earlier env [] placed none = refl
 fields_stand earlier env (field ∷ rest) placed none =
     both (type_stands earlier.structs (written_type env.constants field.ty)) _
-    (written_stands earlier env.constants field.ty (and_left (type_placed earlier field.ty) (list_all (λ (field : NamedField). type_placed earlier field.ty) rest) placed) (nil_left (bad_lengths env.constants field.ty) (joined (map (field_lengths env) rest)) none))
-    (fields_stand earlier env rest (and_right (type_placed earlier field.ty) (list_all (λ (field : NamedField). type_placed earlier field.ty) rest) placed) (nil_right (bad_lengths env.constants field.ty) (joined (map (field_lengths env) rest)) none))
+    (written_stands earlier env.constants field.ty (and_left (type_placed earlier field.ty)
+    (list_all (λ (field : NamedField). type_placed earlier field.ty) rest) placed)
+    (nil_left (bad_lengths env.constants field.ty) (joined (map (field_lengths env) rest)) none))
+    (fields_stand earlier env rest (and_right (type_placed earlier field.ty) (list_all (λ (field : NamedField). type_placed earlier field.ty) rest) placed)
+    (nil_right (bad_lengths env.constants field.ty) (joined (map (field_lengths env) rest)) none))
 
 -- ---- types of expressions
 
@@ -120,7 +129,8 @@ module _ (n m : ℕ) (less : n ≤ m) where
       rw fold-roll-Ty (more_below k n m less at)
   more_by (Ty-F.Array count element) is =
       let at : (has_length count && type_stands n element.0) ≡ true = rw fold-roll-Ty at is in
-      rw fold-roll-Ty (both (has_length count) (type_stands m element.0) (and_left (has_length count) (type_stands n element.0) at) (element.1 (and_right (has_length count) (type_stands n element.0) at)))
+      rw fold-roll-Ty (both (has_length count) (type_stands m element.0) (and_left (has_length count) (type_stands n element.0) at)
+      (element.1 (and_right (has_length count) (type_stands n element.0) at)))
 
   pub stands_more : (ty : Ty) → type_stands n ty ≡ true → type_stands m ty ≡ true
   stands_more = ind-Ty More (λ x y is. subst (λ layer. More (roll-Ty layer)) is (more_by y))
@@ -145,9 +155,11 @@ module _ (site : Site) (fields : FieldsStand site.structs) (vars : list_all (λ 
       let found = some_found (λ (def : StructDef). option_map (λ (field : Field). field.ty) (slice_get def.fields k)) (slice_get site.structs s) ty is in
       let field = map_found (λ (field : Field). field.ty) (slice_get found.0.fields k) ty found.2 in
       let below : s ≤ length site.structs = let less = slice_get_within site.structs s found.0 found.1 in omega arith in
-      ap stands (sym field.2) ∙ stands_more s (length site.structs) below field.0.ty (all_at (λ (field : Field). type_stands s field.ty) found.0.fields k field.0 (fields s found.0 found.1) field.1)
+      ap stands (sym field.2) ∙ stands_more s (length site.structs) below field.0.ty
+      (all_at (λ (field : Field). type_stands s field.ty) found.0.fields k field.0 (fields s found.0 found.1) field.1)
 
-  element_stands : (layer ty : _) → (type_stands_level (length site.structs) (map-Ty Ty Bool stands layer)) ≡ true → element_in layer ≡ Some ty → stands ty ≡ true
+  element_stands : (layer ty : _) → (type_stands_level (length site.structs) (map-Ty Ty Bool stands layer)) ≡ true → element_in layer ≡ Some ty →
+      stands ty ≡ true
   element_stands (Ty-F.Scalar s) ty whole is = absurd (cc)
   element_stands (Ty-F.Struct s) ty whole is = absurd (cc)
   element_stands (Ty-F.Array count element) ty whole is = ap stands (sym (same_Some element ty is)) ∙ and_right (has_length count) (stands element) whole
@@ -161,7 +173,8 @@ module _ (site : Site) (fields : FieldsStand site.structs) (vars : list_all (λ 
       let number = some_found (λ s. if is_whole s then t else None) (scalar_in found.0) ty found.2 in
       where_true (is_whole number.0) t ty number.2
 
-  part_by : (layer : Part-F _ _ _ _) (part : Part) (from ty : Ty) → out-Part part ≡ layer → stands from ≡ true → type_of_part site part from ≡ Some ty → stands ty ≡ true
+  part_by : (layer : Part-F _ _ _ _) (part : Part) (from ty : Ty) → out-Part part ≡ layer → stands from ≡ true → type_of_part site part from ≡ Some ty →
+      stands ty ≡ true
   part_by (Part-F.Field k) part from ty is whole leads = field_stands k (out-Ty from) ty (sym (part_at site part (Part-F.Field k) from is) ∙ leads)
   part_by (Part-F.Index e) part from ty is whole leads =
       element_stands (out-Ty from) ty (sym (stands_at (length site.structs) from (out-Ty from) refl) ∙ whole)
@@ -178,7 +191,8 @@ module _ (site : Site) (fields : FieldsStand site.structs) (vars : list_all (λ 
 
   path_case : (place : Place) (root : ℕ) (parts : List Part) (ty : Ty) → Q (roll-Path (record { place = place; root = root; parts = parts; ty = ty }))
   path_case place root parts written ty is =
-      let whole = some_found (where_same written) (option_and_then (λ (var : Var). after_parts (map (type_of_part site) parts) var.ty) (slice_get site.vars root)) ty (rw fold-roll-Path at is) in
+      let whole = some_found (where_same written) (option_and_then (λ (var : Var). after_parts (map (type_of_part site) parts) var.ty)
+      (slice_get site.vars root)) ty (rw fold-roll-Path at is) in
       let found = some_found (λ (var : Var). after_parts (map (type_of_part site) parts) var.ty) (slice_get site.vars root) whole.0 whole.1 in
       let same : whole.0 ≡ ty = same_Some whole.0 ty (where_true (same_type written whole.0) (Some whole.0) ty whole.2) in
       ap stands (sym same) ∙ parts_stand parts found.0.ty whole.0 (all_at (λ (var : Var). stands var.ty) site.vars root found.0 vars found.1) found.2
@@ -188,24 +202,32 @@ module _ (site : Site) (fields : FieldsStand site.structs) (vars : list_all (λ 
 
   stand_cases : Cases P Q
   stand_cases = record {
-    literal = λ place n s ty is. scalar_of s ty (where_true (in_range s n) (Some (scalar s)) ty (sym (kind_at site place (roll-ExprKind (ExprKind-F.Literal n s)) (ExprKind-F.Literal n s) (out-roll-ExprKind (ExprKind-F.Literal n s))) ∙ is));
-    read = λ place path leads ty is. leads ty (sym (kind_at site place (roll-ExprKind (ExprKind-F.Read path)) (ExprKind-F.Read path) (out-roll-ExprKind (ExprKind-F.Read path))) ∙ is);
+    literal = λ place n s ty is. scalar_of s ty (where_true (in_range s n) (Some (scalar s)) ty
+        (sym (kind_at site place (roll-ExprKind (ExprKind-F.Literal n s)) (ExprKind-F.Literal n s) (out-roll-ExprKind (ExprKind-F.Literal n s))) ∙ is));
+    read = λ place path leads ty is. leads ty (sym (kind_at site place (roll-ExprKind (ExprKind-F.Read path)) (ExprKind-F.Read path)
+        (out-roll-ExprKind (ExprKind-F.Read path))) ∙ is);
     prev = λ place k ty is.
-        let found = some_found (prev_type site.kind) (var_at site k) ty (sym (kind_at site place (roll-ExprKind (ExprKind-F.Prev k)) (ExprKind-F.Prev k) (out-roll-ExprKind (ExprKind-F.Prev k))) ∙ is) in
-        ap stands (sym (same_Some found.0.ty ty (where_true _ (Some found.0.ty) ty found.2))) ∙ all_at (λ (var : Var). stands var.ty) site.vars k found.0 vars found.1;
+        let found = some_found (prev_type site.kind) (var_at site k) ty (sym
+        (kind_at site place (roll-ExprKind (ExprKind-F.Prev k)) (ExprKind-F.Prev k) (out-roll-ExprKind (ExprKind-F.Prev k))) ∙ is) in
+        ap stands (sym (same_Some found.0.ty ty (where_true _ (Some found.0.ty) ty found.2)))
+        ∙ all_at (λ (var : Var). stands var.ty) site.vars k found.0 vars found.1;
     one = λ place op a fit ty is.
-        let found = some_found (one_type op) (option_and_then scalar_in (type_of site a)) ty (sym (kind_at site place (roll-ExprKind (ExprKind-F.One op a)) (ExprKind-F.One op a) (out-roll-ExprKind (ExprKind-F.One op a))) ∙ is) in
+        let found = some_found (one_type op) (option_and_then scalar_in (type_of site a)) ty
+        (sym (kind_at site place (roll-ExprKind (ExprKind-F.One op a)) (ExprKind-F.One op a) (out-roll-ExprKind (ExprKind-F.One op a))) ∙ is) in
         scalar_of (type_of_result op found.0) ty (where_true (takes_one op found.0) (Some (scalar (type_of_result op found.0))) ty found.2);
     two = λ place op a b fit other ty is.
-        let found = some_found (λ s. option_and_then (two_type op s) (option_and_then scalar_in (type_of site b))) (option_and_then scalar_in (type_of site a)) ty
+        let found = some_found (λ s. option_and_then (two_type op s) (option_and_then scalar_in (type_of site b))) (option_and_then scalar_in (type_of site a))
+        ty
         (sym (kind_at site place (roll-ExprKind (ExprKind-F.Two op a b)) (ExprKind-F.Two op a b) (out-roll-ExprKind (ExprKind-F.Two op a b))) ∙ is) in
         let right = some_found (two_type op found.0) (option_and_then scalar_in (type_of site b)) ty found.2 in
         two_stands op found.0 right.0 ty right.2;
     cast = λ place target a fit ty is.
-        let found = some_found (cast_type target) (option_and_then scalar_in (type_of site a)) ty (sym (kind_at site place (roll-ExprKind (ExprKind-F.Cast target a)) (ExprKind-F.Cast target a) (out-roll-ExprKind (ExprKind-F.Cast target a))) ∙ is) in
+        let found = some_found (cast_type target) (option_and_then scalar_in (type_of site a)) ty
+        (sym (kind_at site place (roll-ExprKind (ExprKind-F.Cast target a)) (ExprKind-F.Cast target a) (out-roll-ExprKind (ExprKind-F.Cast target a))) ∙ is) in
         scalar_of target ty (where_true (is_whole target && is_whole found.0) (Some (scalar target)) ty found.2);
     call = λ place f inputs each ty is.
-        let found = some_found (call_type (map (type_of site) inputs)) (slice_get site.earlier f) ty (sym (kind_at site place (roll-ExprKind (ExprKind-F.Call f inputs)) (ExprKind-F.Call f inputs) (out-roll-ExprKind (ExprKind-F.Call f inputs))) ∙ is) in
+        let found = some_found (call_type (map (type_of site) inputs)) (slice_get site.earlier f) ty
+        (sym (kind_at site place (roll-ExprKind (ExprKind-F.Call f inputs)) (ExprKind-F.Call f inputs) (out-roll-ExprKind (ExprKind-F.Call f inputs))) ∙ is) in
         let result = map_found scalar found.0.result ty (where_true _ (option_map scalar found.0.result) ty found.2) in
         scalar_of result.0 ty (ap Some result.2);
     path = λ place root parts ty each. path_case place root parts ty;
@@ -215,22 +237,27 @@ module _ (site : Site) (fields : FieldsStand site.structs) (vars : list_all (λ 
   pub typed_stands : (e : Expr) (ty : Ty) → type_of site e ≡ Some ty → type_stands (length site.structs) ty ≡ true
   typed_stands = induct P Q stand_cases
 
-pub struct_stands : (def : NamedStruct) (env : Environment) → struct_placed (known_in env) def ≡ true → (after_struct def env).failures ≡ [] → list_all (λ (field : Field). type_stands (length env.structs) field.ty) (struct_of env def).fields ≡ true
+pub struct_stands : (def : NamedStruct) (env : Environment) → struct_placed (known_in env) def ≡ true → (after_struct def env).failures ≡ [] →
+    list_all (λ (field : Field). type_stands (length env.structs) field.ty) (struct_of env def).fields ≡ true
 struct_stands def env placed none = fields_stand (known_in env) env def.fields placed none
 
 -- the types of variables that stand do so in the site of what is known
-pub vars_stand : (n : ℕ) (xs : List Variable) → ((k : ℕ) (known : Variable) → slice_get xs k ≡ Some known → VariableKnown n known) → list_all (λ (var : Var). type_stands n var.ty) (vars_of xs) ≡ true
+pub vars_stand : (n : ℕ) (xs : List Variable) → ((k : ℕ) (known : Variable) → slice_get xs k ≡ Some known → VariableKnown n known) →
+    list_all (λ (var : Var). type_stands n var.ty) (vars_of xs) ≡ true
 vars_stand n [] each = refl
 vars_stand n (x ∷ xs) each =
     let first = each 0 x refl in
     ap (λ found. list_all (λ (var : Var). type_stands n var.ty) (cons_option (option_map (var_typed x) found) (vars_of xs))) first.is_typed
-    ∙ both (type_stands n first.ty) (list_all (λ (var : Var). type_stands n var.ty) (vars_of xs)) first.stands (vars_stand n xs (λ k known is. each (suc k) known is))
+    ∙ both (type_stands n first.ty) (list_all (λ (var : Var). type_stands n var.ty) (vars_of xs)) first.stands
+    (vars_stand n xs (λ k known is. each (suc k) known is))
 
 -- ---- scalar types
 
-scalar_level : (constants : List Constant) (ty : NamedType) (layer : NamedType-F NamedType) → out-NamedType ty ≡ layer → is_scalar_level layer ≡ true → is_some (scalar_in (written_type constants ty)) ≡ true
+scalar_level : (constants : List Constant) (ty : NamedType) (layer : NamedType-F NamedType) → out-NamedType ty ≡ layer → is_scalar_level layer ≡ true →
+    is_some (scalar_in (written_type constants ty)) ≡ true
 scalar_level constants ty (NamedType-F.Scalar s) is whole =
-    ap (λ ty. is_some (scalar_in ty)) (fold_out-NamedType Ty (type_level constants) ty ∙ ap (λ layer. type_level constants (map-NamedType NamedType Ty (written_type constants) layer)) is)
+    ap (λ ty. is_some (scalar_in ty)) (fold_out-NamedType Ty (type_level constants) ty
+    ∙ ap (λ layer. type_level constants (map-NamedType NamedType Ty (written_type constants) layer)) is)
     ∙ ap (λ layer. is_some (scalar_at layer)) (type.outs-Scalar s)
 scalar_level constants ty (NamedType-F.Struct k) is whole = absurd (cc)
 scalar_level constants ty (NamedType-F.Array n element) is whole = absurd (cc)

@@ -46,7 +46,8 @@ kind_made unit = unit.kind
 abbrev kind_named : NamedUnit → UnitKind
 kind_named unit = unit.kind
 
-same_kinds : (units before_units : List UnitDef) (before : List NamedUnit) (made : UnitDef) (unit : NamedUnit) → units ≡ before_units ++ made ∷ [] → map kind_made before_units ≡ map kind_named before → made.kind ≡ unit.kind →
+same_kinds : (units before_units : List UnitDef) (before : List NamedUnit) (made : UnitDef) (unit : NamedUnit) → units ≡ before_units ++ made ∷ [] →
+    map kind_made before_units ≡ map kind_named before → made.kind ≡ unit.kind →
     map kind_made units ≡ map kind_named (before ++ unit ∷ [])
 same_kinds units before_units before made unit is same kind =
     ap (map kind_made) is ∙ map-append kind_made before_units (made ∷ []) ∙ (λ i. same i ++ kind i ∷ []) ∙ sym (map-append kind_named before (unit ∷ []))
@@ -76,7 +77,8 @@ module _ (named : Named) (suits : Suits named) (shapes : Shapes) where
     is_named : unit_named named.constants env.units new_unit ≡ true
     is_named =
         suits.units scopes.counts.units new_unit (ends_next named.units scopes.counts.units (new_unit ∷ along units_of behind_unit items) at.units) env.units
-        (at.kinds ∙ ap (map (λ (unit : NamedUnit). unit.kind)) (sym (ends_take named.units scopes.counts.units (new_unit ∷ along units_of behind_unit items) at.units)))
+        (at.kinds ∙ ap (map (λ (unit : NamedUnit). unit.kind)) (sym (ends_take named.units scopes.counts.units (new_unit ∷ along units_of behind_unit items)
+        at.units)))
         (earlier scopes) (earlier behind_unit) refl holds.steps
 
     -- where these structs are known after the whole program
@@ -84,10 +86,12 @@ module _ (named : Named) (suits : Suits named) (shapes : Shapes) where
         UnitPassed structs new_unit env (earlier behind_unit) (after_unit named.constants new_unit env).env
     passed structs later front none = unit_passes named.constants new_unit env structs later front at.between is_named (earlier behind_unit) step none
 
-    passed_here : (after_unit named.constants new_unit env).failures ≡ [] → UnitPassed env.structs new_unit env (earlier behind_unit) (after_unit named.constants new_unit env).env
+    passed_here : (after_unit named.constants new_unit env).failures ≡ [] →
+        UnitPassed env.structs new_unit env (earlier behind_unit) (after_unit named.constants new_unit env).env
     passed_here = passed env.structs [] (sym (append-nil env.structs))
 
-    units_are : (after_unit named.constants new_unit env).failures ≡ [] → (after_unit named.constants new_unit env).env.units ≡ env.units ++ made_of named.constants new_unit env ∷ []
+    units_are : (after_unit named.constants new_unit env).failures ≡ [] →
+        (after_unit named.constants new_unit env).env.units ≡ env.units ++ made_of named.constants new_unit env ∷ []
     units_are none = units_made env.structs named.constants new_unit env (earlier behind_unit) (passed_here none)
 
     at_unit : (after_unit named.constants new_unit env).failures ≡ [] → At named behind_unit items (after_unit named.constants new_unit env).env
@@ -99,20 +103,24 @@ module _ (named : Named) (suits : Suits named) (shapes : Shapes) where
           none = on.none;
           fits = fits_second scopes (unit_marks def) (marks_of items) at.fits;
           structs = ends_on named.structs scopes.counts.structs behind_unit.counts.structs [] (along structs_of behind_unit items) on.more_structs at.structs;
-          constants = ends_on named.constants scopes.counts.constants behind_unit.counts.constants inside (along constants_of behind_unit items) on.more_constants at.constants;
+          constants = ends_on named.constants scopes.counts.constants behind_unit.counts.constants inside (along constants_of behind_unit items)
+              on.more_constants at.constants;
           units = ends_on named.units scopes.counts.units behind_unit.counts.units (new_unit ∷ []) (along units_of behind_unit items) on.more_units at.units;
           counts = here.counts_are;
           between = here.between;
-          kinds = same_kinds (after_unit named.constants new_unit env).env.units env.units at.units.before (made_of named.constants new_unit env) new_unit (units_are none) at.kinds refl;
+          kinds = same_kinds (after_unit named.constants new_unit env).env.units env.units at.units.before (made_of named.constants new_unit env) new_unit
+              (units_are none) at.kinds refl;
         }
 
     unit_driven : (structs : List StructDef) (more : List UnitDef) → Passing structs new_unit env.units (made_of named.constants new_unit env) →
         ((k : ℕ) (unit : NamedUnit) → slice_get (along units_of behind_unit items) k ≡ Some unit → drives unit ≡ true → is_entry (slice_get more k) ≡ true) →
-        (k : ℕ) (unit : NamedUnit) → slice_get (new_unit ∷ along units_of behind_unit items) k ≡ Some unit → drives unit ≡ true → is_entry (slice_get (made_of named.constants new_unit env ∷ more) k) ≡ true
+        (k : ℕ) (unit : NamedUnit) → slice_get (new_unit ∷ along units_of behind_unit items) k ≡ Some unit → drives unit ≡ true →
+        is_entry (slice_get (made_of named.constants new_unit env ∷ more) k) ≡ true
     unit_driven structs more passes rest zero unit is driven = passes.entry (ap drives (same_Some new_unit unit is) ∙ driven)
     unit_driven structs more passes rest (suc k) unit is driven = rest k unit is driven
 
-    unit_case : (final : Environment) → unit_keeps new_unit ≡ true → (after_unit named.constants new_unit env).failures ≡ [] → Made behind_unit items (after_unit named.constants new_unit env).env final →
+    unit_case : (final : Environment) → unit_keeps new_unit ≡ true → (after_unit named.constants new_unit env).failures ≡ [] →
+        Made behind_unit items (after_unit named.constants new_unit env).env final →
         Made scopes (item.Unit def ∷ items) env final
     unit_case final keeps none rest =
         let made = made_of named.constants new_unit env in
@@ -126,7 +134,8 @@ module _ (named : Named) (suits : Suits named) (shapes : Shapes) where
           struct_names = rest.struct_names;
           more = made ∷ rest.more;
           units = rest.units ∙ ap (λ units. units ++ rest.more) (units_are none) ∙ append_assoc env.units (made ∷ []) rest.more;
-          units_stand = both (unit_stands final.structs env.units made) (units_stand_after final.structs (env.units ++ made ∷ []) rest.more) (unit_made shapes final.structs named.constants new_unit env keeps passes)
+          units_stand = both (unit_stands final.structs env.units made) (units_stand_after final.structs (env.units ++ made ∷ []) rest.more)
+              (unit_made shapes final.structs named.constants new_unit env keeps passes)
               (subst (λ units. units_stand_after final.structs units rest.more ≡ true) (units_are none) rest.units_stand);
           unit_names = ap (λ names. def.name.text ∷ names) rest.unit_names;
           driven = unit_driven final.structs rest.more passes rest.driven;
@@ -141,6 +150,8 @@ module _ (named : Named) (suits : Suits named) (shapes : Shapes) where
       first_taken named (item.Unit def) items scopes env taken (unit_chosen def items scopes env at)
       (λ none.
       let first = nil_left taken.failures (after_items named (order_of items) taken.env).failures none in
-      unit_case def items scopes env at (after_items named (order_of items) taken.env).env (and_left (unit_keeps u) (list_all unit_keeps (along units_of new items)) keep_units) first
-      (rec new taken.env (at_unit def items scopes env at first) keep_structs (and_right (unit_keeps u) (list_all unit_keeps (along units_of new items)) keep_units)
+      unit_case def items scopes env at (after_items named (order_of items) taken.env).env
+      (and_left (unit_keeps u) (list_all unit_keeps (along units_of new items)) keep_units) first
+      (rec new taken.env (at_unit def items scopes env at first) keep_structs
+      (and_right (unit_keeps u) (list_all unit_keeps (along units_of new items)) keep_units)
       (nil_right taken.failures (after_items named (order_of items) taken.env).failures none)))

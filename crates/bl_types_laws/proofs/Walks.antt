@@ -34,7 +34,8 @@ within_of env site around known there = record {
 }
 
 -- calls that name functions of the site name those that are known
-pub own_calls : (env : Environment) (site : Site) → Around env site → (e : NamedExpr) → calls_functions site.earlier e ≡ true → calls_functions env.units e ≡ true
+pub own_calls : (env : Environment) (site : Site) → Around env site → (e : NamedExpr) → calls_functions site.earlier e ≡ true →
+    calls_functions env.units e ≡ true
 own_calls env site around e calls = ap (λ units. calls_functions units e) around.units ∙ calls
 
 -- ---- growth
@@ -79,7 +80,8 @@ grown_there before after site grown there k known is =
 
 -- ---- a site of what is known
 
-typed_at : (n : ℕ) (xs : List Variable) → ((k : ℕ) (known : Variable) → slice_get xs k ≡ Some known → VariableKnown n known) → (k : ℕ) (known : Variable) (ty : Ty) → slice_get xs k ≡ Some known → known.ty ≡ Some ty →
+typed_at : (n : ℕ) (xs : List Variable) → ((k : ℕ) (known : Variable) → slice_get xs k ≡ Some known → VariableKnown n known) →
+    (k : ℕ) (known : Variable) (ty : Ty) → slice_get xs k ≡ Some known → known.ty ≡ Some ty →
     slice_get (vars_of xs) k ≡ Some (var_typed known ty)
 typed_at n [] typed k known ty is are = absurd (cc)
 typed_at n (x ∷ xs) typed zero known ty is are =
@@ -98,7 +100,14 @@ site_in env = record { structs = env.structs; earlier = env.units; kind = env.ki
 pub there_in : (env : Environment) → Known env → VariablesThere env (site_in env)
 there_in env known k var is =
     let typed = known.vars k var is in
-    record { var = var_typed var typed.ty; is_there = typed_at (length env.structs) env.vars known.vars k var typed.ty is typed.is_typed; name = refl; ty = typed.is_typed; role = refl }
+    record {
+      var = var_typed var typed.ty;
+      is_there = typed_at (length env.structs) env.vars known.vars k var typed.ty is typed.is_typed;
+      name = refl;
+      ty =
+          typed.is_typed;
+      role = refl;
+    }
 
 pub within_in : (env : Environment) (site : Site) → Around env site → Known env → Within env (site_in env)
 within_in env site around known = record {
@@ -127,20 +136,23 @@ not_must is = absurd (cc)
 
 abbrev pub WalkFits : {A : Type 0} → Bool → Site → (A → Bool) → (Environment → Walked A) → (Earlier → Option Earlier) → Type 0
 WalkFits must site good walk step =
-    (env : Environment) → Around env site → Known env → (counts : Earlier) → step (known_in env) ≡ Some counts → (walk env).failures ≡ [] → Passed must site good env counts (walk env)
+    (env : Environment) → Around env site → Known env → (counts : Earlier) → step (known_in env) ≡ Some counts → (walk env).failures ≡ [] →
+    Passed must site good env counts (walk env)
 
 module _ {X A : Type 0} (must : Bool) (site : Site) (good : A → Bool) (walk : X → Environment → Walked A) (step : X → Earlier → Option Earlier) where
   abbrev Each : X → Type 0
   Each x = WalkFits must site good (walk x) (step x)
 
-  good_first : (made : Option A) (rest : List A) → ((a : A) → made ≡ Some a → good a ≡ true) → all_of (map good rest) ≡ true → all_of (map good (cons_option made rest)) ≡ true
+  good_first : (made : Option A) (rest : List A) → ((a : A) → made ≡ Some a → good a ≡ true) → all_of (map good rest) ≡ true →
+      all_of (map good (cons_option made rest)) ≡ true
   good_first None rest one more = more
   good_first (Some a) rest one more = both (good a) (all_of (map good rest)) (one a refl) more
 
   inhabited_first : (made : Option A) (rest : List A) (a : A) → made ≡ Some a → is_inhabited (cons_option made rest) ≡ true
   inhabited_first made rest a is = ap (λ made. is_inhabited (cons_option made rest)) is
 
-  pub block_fits : (xs : List X) → All Each xs → (env : Environment) → Around env site → Known env → (counts : Earlier) → in_turn (map step xs) (known_in env) ≡ Some counts → (in_order (map walk xs) env).failures ≡ [] →
+  pub block_fits : (xs : List X) → All Each xs → (env : Environment) → Around env site → Known env → (counts : Earlier) →
+      in_turn (map step xs) (known_in env) ≡ Some counts → (in_order (map walk xs) env).failures ≡ [] →
       BlockPassed site good (must && is_inhabited xs) env counts (in_order (map walk xs) env)
   block_fits [] each env around known counts is none = record {
     grown = grown_self env;
@@ -159,7 +171,8 @@ module _ {X A : Type 0} (must : Bool) (site : Site) (good : A → Bool) (walk : 
         grown = grown_further env (walk x env).env further.env one.grown more.grown;
         known = more.known;
         counts_are = more.counts_are;
-        is_good = λ there. good_first (walk x env).made further.made (one.is_good (grown_there (walk x env).env further.env site more.grown there)) (more.is_good there);
+        is_good = λ there. good_first (walk x env).made further.made (one.is_good (grown_there (walk x env).env further.env site more.grown there))
+            (more.is_good there);
         is_inhabited_still = λ holds there.
             let made = one.is_made (must_of must holds) (grown_there (walk x env).env further.env site more.grown there) in
             inhabited_first (walk x env).made further.made made.0 made.1;
@@ -167,7 +180,8 @@ module _ {X A : Type 0} (must : Bool) (site : Site) (good : A → Bool) (walk : 
 
 -- ---- what declares nothing
 
-pub passed_still : {A : Type 0} (site : Site) (good : A → Bool) (env : Environment) (counts : Earlier) (made : Option A) (failures : List Failure) → Around env site → Known env → known_in env ≡ counts →
+pub passed_still : {A : Type 0} (site : Site) (good : A → Bool) (env : Environment) (counts : Earlier) (made : Option A) (failures : List Failure) →
+    Around env site → Known env → known_in env ≡ counts →
     (Within env site → (a : A) → made ≡ Some a → good a ≡ true) → Passed false site good env counts (walked env made failures)
 passed_still site good env counts made failures around known is fit = record {
   grown = grown_self env;

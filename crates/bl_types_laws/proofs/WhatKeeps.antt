@@ -26,7 +26,8 @@ use Rattle.bl_types_laws.proofs.Reached.{Made}
 use Rattle.bl_types_laws.proofs.Starts.{picked_ascends}
 use Rattle.bl_types_laws.proofs.ItemTurns.{at_start, no_failure, turns}
 
-program_made : (items : List RawItem) (bytes : ℕ) → Suits (named_program items bytes) → Shapes → NamedKeeps (named_program items bytes) → NamesPass items → TypesPass (named_program items bytes) →
+program_made : (items : List RawItem) (bytes : ℕ) → Suits (named_program items bytes) → Shapes → NamedKeeps (named_program items bytes) → NamesPass items →
+    TypesPass (named_program items bytes) →
     Made file_scope items fresh (after_program (named_program items bytes)).env
 program_made items bytes suits shapes keeps passes types =
     let named = named_program items bytes in
@@ -40,21 +41,25 @@ same_names items bytes made =
     let units = ap (map (λ (unit : UnitDef). unit.name)) made.units ∙ made.unit_names in
     λ i. structs i ++ units i
 
-pub what_keeps : (items : List RawItem) (bytes : ℕ) → Suits (named_program items bytes) → Shapes → NamedKeeps (named_program items bytes) → NamesPass items → TypesPass (named_program items bytes) →
-    Keeps (typed_program (named_program items bytes)).structs (typed_program (named_program items bytes)).units (typed_program (named_program items bytes)).entry
+pub what_keeps : (items : List RawItem) (bytes : ℕ) → Suits (named_program items bytes) → Shapes → NamedKeeps (named_program items bytes) → NamesPass items →
+    TypesPass (named_program items bytes) →
+    Keeps (typed_program (named_program items bytes)).structs (typed_program (named_program items bytes)).units
+    (typed_program (named_program items bytes)).entry
 what_keeps items bytes suits shapes keeps passes types =
     let named = named_program items bytes in
     let made = program_made items bytes suits shapes keeps passes types in
     let final : Environment = (after_program named).env in
     let in_order : ascends (joined (map unit_starts final.units)) ≡ true =
     ap (λ units. ascends (joined (map unit_starts units))) made.units ∙ picked_ascends made.starts keeps.in_order in
-    let driven = entry_is_driven (text_end named) named.units (nil_right (after_program named).failures (entries false (text_end named) named.units) (no_failure named types)) in
+    let driven = entry_is_driven (text_end named) named.units (nil_right (after_program named).failures (entries false (text_end named) named.units)
+    (no_failure named types)) in
     record {
       named = ap (list_all is_name) (same_names items bytes made) ∙ keeps.names;
       distinct = ap are_distinct (same_names items bytes made) ∙ keeps.distinct;
       structs_stand = ap (structs_stand_from 0) made.structs ∙ made.structs_stand;
       units_stand = ap (units_stand_after final.structs []) made.units ∙ made.units_stand;
-      entry_stands = ap (λ units. is_entry (slice_get units (entry_among named.units 0))) made.units ∙ made.driven (entry_among named.units 0) driven.unit driven.is_there driven.is_driven;
+      entry_stands = ap (λ units. is_entry (slice_get units (entry_among named.units 0))) made.units
+          ∙ made.driven (entry_among named.units 0) driven.unit driven.is_there driven.is_driven;
       places_decide = places_decide final.units in_order;
       runs_decide = runs_decide final.units in_order;
     }
@@ -64,6 +69,8 @@ pub laws_keep : ((items : List RawItem) (bytes : ℕ) → RawKeeps items → Nam
     ((items : List RawItem) (bytes : ℕ) → RawKeeps items → NamesPass items → UnitsSuit (named_program items bytes)) →
     ((items : List RawItem) (bytes : ℕ) → RawKeeps items → NamesPass items → ConstantsSuit (named_program items bytes)) → ShallowStays → ApartStays →
     (items : List RawItem) (bytes : ℕ) → RawKeeps items → NamesPass items → TypesPass (named_program items bytes) →
-    Keeps (typed_program (named_program items bytes)).structs (typed_program (named_program items bytes)).units (typed_program (named_program items bytes)).entry
+    Keeps (typed_program (named_program items bytes)).structs (typed_program (named_program items bytes)).units
+    (typed_program (named_program items bytes)).entry
 laws_keep keeps units constants shallow apart items bytes raw names types =
-    what_keeps items bytes (record { units = units items bytes raw names; constants = constants items bytes raw names }) (record { shallow = shallow; apart = apart }) (keeps items bytes raw names) names types
+    what_keeps items bytes (record { units = units items bytes raw names; constants = constants items bytes raw names })
+    (record { shallow = shallow; apart = apart }) (keeps items bytes raw names) names types

@@ -32,10 +32,20 @@ program_suits : (items : List RawItem) (bytes : ℕ) → RawKeeps items → Pass
     ItemsSuit (named_program items bytes).constants [] (named_program items bytes).units (named_program items bytes).constants
 program_suits items bytes keeps passes =
     items_suit (named_program items bytes).constants items [] file_scope
-    (record { told = (refl, refl); none = refl; counted = refl; fits = program_fits items passes; stand = keeps.stand; within = whole (named_program items bytes).constants })
+    (record {
+      told = (refl, refl);
+      none = refl;
+      counted = refl;
+      fits = program_fits items passes;
+      stand = keeps.stand;
+      within =
+          whole (named_program items bytes).constants;
+    })
 
-pub units_are_named : (items : List RawItem) (bytes : ℕ) → RawKeeps items → Passes items → (k : ℕ) (unit : NamedUnit) → slice_get (named_program items bytes).units k ≡ Some unit → (earlier : List UnitDef) →
-    map (λ (u : UnitDef). u.kind) earlier ≡ map (λ (u : NamedUnit). u.kind) (take k (named_program items bytes).units) → unit_named (named_program items bytes).constants earlier unit ≡ true
+pub units_are_named : (items : List RawItem) (bytes : ℕ) → RawKeeps items → Passes items → (k : ℕ) (unit : NamedUnit) →
+    slice_get (named_program items bytes).units k ≡ Some unit → (earlier : List UnitDef) →
+    map (λ (u : UnitDef). u.kind) earlier ≡ map (λ (u : NamedUnit). u.kind) (take k (named_program items bytes).units) →
+    unit_named (named_program items bytes).constants earlier unit ≡ true
 units_are_named items bytes keeps passes k unit there earlier kinds =
     let named = named_program items bytes in
     named_at named.constants named.units [] k unit earlier (program_suits items bytes keeps passes).are_named there kinds
@@ -53,7 +63,8 @@ map_take f (suc n) [] = refl
 map_take f (suc n) (x ∷ xs) = ap (λ rest. f x ∷ rest) (map_take f n xs)
 
 -- units of the kinds that the first of others have
-narrows : (all : List UnitDef) (kinds : List UnitKind) (earlier : List UnitDef) (n : ℕ) → kinds_of all ≡ kinds → kinds_of earlier ≡ take n kinds → Narrows all earlier n
+narrows : (all : List UnitDef) (kinds : List UnitKind) (earlier : List UnitDef) (n : ℕ) → kinds_of all ≡ kinds → kinds_of earlier ≡ take n kinds →
+    Narrows all earlier n
 narrows all kinds earlier n is first f less there =
     kind_at is_function earlier f
     ∙ ap (λ units. holds_of is_function (slice_get units f)) first
@@ -61,7 +72,8 @@ narrows all kinds earlier n is first f less there =
     ∙ ap (λ units. holds_of is_function (slice_get units f)) (sym is)
     ∙ sym (kind_at is_function all f) ∙ there
 
-pub constants_call_functions : (items : List RawItem) (bytes : ℕ) → RawKeeps items → Passes items → (k : ℕ) (constant : NamedConstant) → slice_get (named_program items bytes).constants k ≡ Some constant →
+pub constants_call_functions : (items : List RawItem) (bytes : ℕ) → RawKeeps items → Passes items → (k : ℕ) (constant : NamedConstant) →
+    slice_get (named_program items bytes).constants k ≡ Some constant →
     (earlier : List UnitDef) (counts : Earlier) → counts.units ≡ length earlier →
     map (λ (u : UnitDef). u.kind) earlier ≡ map (λ (u : NamedUnit). u.kind) (take (length earlier) (named_program items bytes).units) →
     expr_placed counts constant.value ≡ true → calls_functions earlier constant.value ≡ true
@@ -71,5 +83,6 @@ constants_call_functions items bytes keeps passes k constant there earlier count
     let all = stand_ins all_kinds in
     let calls = (program_suits items bytes keeps passes).calls all (stand_ins_are all_kinds) in
     calls_narrow all earlier counts
-    (narrows all all_kinds earlier counts.units (stand_ins_are all_kinds) (kinds ∙ map_take (λ (u : NamedUnit). u.kind) (length earlier) named.units ∙ ap (λ n. take n all_kinds) (sym known)))
+    (narrows all all_kinds earlier counts.units (stand_ins_are all_kinds)
+    (kinds ∙ map_take (λ (u : NamedUnit). u.kind) (length earlier) named.units ∙ ap (λ n. take n all_kinds) (sym known)))
     constant.value placed (member (constant_calls all) named.constants k constant calls there)

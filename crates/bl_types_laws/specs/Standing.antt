@@ -36,9 +36,11 @@ abbrev pub kind_named : List NamedConstant → List NamedVar → List UnitDef �
 kind_named constants vars units (NamedStmtKind-F.Declare k e) = holds_of (λ var. declared_by var e) (slice_get vars k) && holds_if (calls_functions units) e
 kind_named constants vars units (NamedStmtKind-F.Const k) = holds_of (λ constant. calls_functions units constant.value) (slice_get constants k)
 kind_named constants vars units (NamedStmtKind-F.Assign target e) = target_calls units target && calls_functions units e
-kind_named constants vars units (NamedStmtKind-F.Call at f inputs outputs) = holds_of (λ unit. is_function unit.kind) (slice_get units f) && list_all (calls_functions units) inputs
+kind_named constants vars units (NamedStmtKind-F.Call at f inputs outputs) =
+    holds_of (λ unit. is_function unit.kind) (slice_get units f) && list_all (calls_functions units) inputs
 kind_named constants vars units (NamedStmtKind-F.Await e) = calls_functions units e
-kind_named constants vars units (NamedStmtKind-F.Run target at a inputs outputs) = holds_of (λ unit. is_activity unit.kind) (slice_get units a) && list_all (calls_functions units) inputs
+kind_named constants vars units (NamedStmtKind-F.Run target at a inputs outputs) =
+    holds_of (λ unit. is_activity unit.kind) (slice_get units a) && list_all (calls_functions units) inputs
 kind_named constants vars units (NamedStmtKind-F.If arms other) = is_inhabited arms && (all_of arms && all_of other)
 kind_named constants vars units (NamedStmtKind-F.Cobegin branches) = is_inhabited branches && all_of branches
 kind_named constants vars units (NamedStmtKind-F.When guard e body) = calls_functions units e && all_of body
@@ -136,12 +138,13 @@ pub record Passed {A : Type 0} (must : Bool) (site : Site) (good : A → Bool) (
   pub is_made : must ≡ true → VariablesThere after.env site → (a : A) × (after.made ≡ Some a)
 
 -- the same of a list of parts; something is made where something must be, and there are parts
-pub record BlockPassed {A : Type 0} (site : Site) (good : A → Bool) (inhabited : Bool) (before : Environment) (counts : Earlier) (after : Block A) : Type 0 where
-  pub grown : Grown before after.env
-  pub known : Known after.env
-  pub counts_are : known_in after.env ≡ counts
-  pub is_good : VariablesThere after.env site → all_of (map good after.made) ≡ true
-  pub is_inhabited_still : inhabited ≡ true → VariablesThere after.env site → is_inhabited after.made ≡ true
+pub record BlockPassed {A : Type 0} (site : Site) (good : A → Bool) (inhabited : Bool) (before : Environment) (counts : Earlier) (after : Block A) : Type 0
+  where
+    pub grown : Grown before after.env
+    pub known : Known after.env
+    pub counts_are : known_in after.env ≡ counts
+    pub is_good : VariablesThere after.env site → all_of (map good after.made) ≡ true
+    pub is_inhabited_still : inhabited ≡ true → VariablesThere after.env site → is_inhabited after.made ≡ true
 
 -- ---- units
 
@@ -153,7 +156,8 @@ pub record Between (env : Environment) : Type 0 where
 
 -- whether the parameters of a unit have types, and its statements are named
 abbrev pub unit_named : List NamedConstant → List UnitDef → NamedUnit → Bool
-unit_named constants units unit = list_all (λ var. is_some var.ty) (take (parameters unit) unit.vars) && list_all (stmt_named constants unit.vars units) unit.body
+unit_named constants units unit = list_all (λ var. is_some var.ty) (take (parameters unit) unit.vars)
+    && list_all (stmt_named constants unit.vars units) unit.body
 
 -- what is known after a unit: as much as is counted, and the unit with its types, each of whose
 -- statements fits, and whose variables have types that stand, and the names and roles that are named

@@ -17,7 +17,8 @@ use bl_names_laws::kept::what_is_named_keeps;
 pub fn what_is_typed_keeps()
     ensures keeps { (items : List RawItem) (bytes : ℕ) →
         RawKeeps items → NamesPass items → TypesPass (named_program items bytes) →
-        Keeps (typed_program (named_program items bytes)).structs (typed_program (named_program items bytes)).units (typed_program (named_program items bytes)).entry }
+        Keeps (typed_program (named_program items bytes)).structs (typed_program (named_program items bytes)).units
+        (typed_program (named_program items bytes)).entry }
 {
     what_is_named_keeps();
     what_is_named_suits();

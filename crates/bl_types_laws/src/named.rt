@@ -15,6 +15,13 @@ ghost use Rattle.bl_types_laws.specs.Within.{calls_functions};
 /// Where no rule on names fails, a unit at its place is named as `bl_types_laws` wants it, and each call in the value of a constant names a
 /// function: of the units before it, which are any whose kinds are those of the named ones.
 pub fn what_is_named_suits()
-    ensures units { (items : List RawItem) (bytes : ℕ) → RawKeeps items → Passes items → (k : ℕ) (unit : NamedUnit) → slice_get (named_program items bytes).units k ≡ Some unit → (earlier : List UnitDef) → map (λ (u : UnitDef). u.kind) earlier ≡ map (λ (u : NamedUnit). u.kind) (take k (named_program items bytes).units) → (counts after : Earlier) → counts.units ≡ k → unit_step (named_program items bytes).constants unit counts ≡ Some after → unit_named (named_program items bytes).constants earlier unit ≡ true }
-    ensures constants { (items : List RawItem) (bytes : ℕ) → RawKeeps items → Passes items → (k : ℕ) (constant : NamedConstant) → slice_get (named_program items bytes).constants k ≡ Some constant → (earlier : List UnitDef) (counts : Earlier) → counts.units ≡ length earlier → map (λ (u : UnitDef). u.kind) earlier ≡ map (λ (u : NamedUnit). u.kind) (take (length earlier) (named_program items bytes).units) → expr_placed counts constant.value ≡ true → calls_functions earlier constant.value ≡ true }
+    ensures units { (items : List RawItem) (bytes : ℕ) → RawKeeps items → Passes items → (k : ℕ) (unit : NamedUnit) →
+        slice_get (named_program items bytes).units k ≡ Some unit → (earlier : List UnitDef) →
+        map (λ (u : UnitDef). u.kind) earlier ≡ map (λ (u : NamedUnit). u.kind) (take k (named_program items bytes).units) → (counts after : Earlier) →
+        counts.units ≡ k → unit_step (named_program items bytes).constants unit counts ≡ Some after →
+        unit_named (named_program items bytes).constants earlier unit ≡ true }
+    ensures constants { (items : List RawItem) (bytes : ℕ) → RawKeeps items → Passes items → (k : ℕ) (constant : NamedConstant) →
+        slice_get (named_program items bytes).constants k ≡ Some constant → (earlier : List UnitDef) (counts : Earlier) → counts.units ≡ length earlier →
+        map (λ (u : UnitDef). u.kind) earlier ≡ map (λ (u : NamedUnit). u.kind) (take (length earlier) (named_program items bytes).units) →
+        expr_placed counts constant.value ≡ true → calls_functions earlier constant.value ≡ true }
 {}

@@ -15,6 +15,8 @@ ghost use Rattle.bl_types.specs.Statements.{walked_block};
 /// What is made of the statements of a unit is nested at most as deep as they may be where they are, and its branches keep apart where
 /// theirs do, whatever is known and whatever fails: what fails isn't made, a constant that is read becomes a literal, and outputs lead by fields alone.
 pub fn what_is_made_keeps_shape()
-    ensures shallow { (constants : List NamedConstant) (vars : List NamedVar) (body : List NamedStmt) (env : Environment) → names_shallow body ≡ true → is_shallow (walked_block constants vars body env).made ≡ true }
-    ensures apart { (constants : List NamedConstant) (vars : List NamedVar) (body : List NamedStmt) (env : Environment) → list_all names_apart body ≡ true → list_all is_apart (walked_block constants vars body env).made ≡ true }
+    ensures shallow { (constants : List NamedConstant) (vars : List NamedVar) (body : List NamedStmt) (env : Environment) → names_shallow body ≡ true →
+        is_shallow (walked_block constants vars body env).made ≡ true }
+    ensures apart { (constants : List NamedConstant) (vars : List NamedVar) (body : List NamedStmt) (env : Environment) → list_all names_apart body ≡ true →
+        list_all is_apart (walked_block constants vars body env).made ≡ true }
 {}

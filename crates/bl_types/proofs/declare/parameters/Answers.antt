@@ -9,5 +9,6 @@ pub loop-var-preserved : goal.loop-var-preserved
 loop-var-preserved c =
     let var = c.var-item.result in
     let step = next_of c.args.vars.now c.loop-var.var-index var c.loop-var-test.true c.var-item.is in
-    state_next (after_parameter var) (after_parameters (drop (c.loop-var.var-index + 1) c.args.vars.now)) c.loop-var.state c.parameter.new.state _ c.in_ok-parameter.ensures
+    state_next (after_parameter var) (after_parameters (drop (c.loop-var.var-index + 1) c.args.vars.now)) c.loop-var.state c.parameter.new.state _
+    c.in_ok-parameter.ensures
     (sym (ap (λ l. after c.loop-var.state (after_parameters l)) step) ∙ c.loop-var.invariant)

@@ -15,4 +15,5 @@ returns-clause-state c =
     let middle = c.in_activity.new.state in
     let e = c.args.e.now in
     on_ok (c.condition.new.state ≡ passed middle middle.env (condition middle.env e).failures) _ c.condition.result
-    (λ h. passed_then old middle c.condition.new.state old.env (misplaced old.env.kind c.args.at) (λ env. env) (λ env. (condition env e).failures) c.in_activity.ensures h) c.condition.ensures.state
+    (λ h. passed_then old middle c.condition.new.state old.env (misplaced old.env.kind c.args.at) (λ env. env) (λ env. (condition env e).failures)
+    c.in_activity.ensures h) c.condition.ensures.state
