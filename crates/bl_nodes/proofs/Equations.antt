@@ -5,7 +5,25 @@ use Rattle.bl_tree.specs.declared.tree.Branch.{Branch, out-Branch, fold-Branch, 
 use Rattle.bl_tree.specs.declared.tree.Stmt.{fold-roll-Stmt}
 use Rattle.bl_tree.specs.declared.tree.StmtKind.{fold-roll-StmtKind}
 use Rattle.bl_nodes.specs.Laws.{PlainStatements, plain_arm, plain_branch}
-use Rattle.bl_nodes.specs.Plain.{Cobegin, If, Arm as PlainArm, Branch as PlainBranch, arm_plain, bodies_from, branch_plain, else_at, inside, kind_plain, label_at, passed_one, plain, plain_block, stmt_plain, Position, Plain}
+use Rattle.bl_nodes.specs.Plain.{
+  Cobegin,
+  If,
+  Arm as PlainArm,
+  Branch as PlainBranch,
+  arm_plain,
+  bodies_from,
+  branch_plain,
+  else_at,
+  inside,
+  kind_plain,
+  label_at,
+  passed_one,
+  plain,
+  plain_block,
+  stmt_plain,
+  Position,
+  Plain,
+}
 
 abbrev folded_arm : Arm → PlainArm
 folded_arm = fold-Arm _ PlainArm PlainBranch (Position → Plain) kind_plain arm_plain branch_plain stmt_plain
@@ -34,7 +52,11 @@ plain_statements = record {
   until = λ place at body e. rw (fold-roll-Stmt, fold-roll-StmtKind) refl;
   while = λ place at e body. rw (fold-roll-Stmt, fold-roll-StmtKind) refl;
   branching = λ place at arm arms other. rw (fold-roll-Stmt, fold-roll-StmtKind)
-      (ap (λ all. If (label_at at) place (folded_arm arm).test ((folded_arm arm).body (inside (label_at at) 0)) (else_at (passed_one (label_at at)) all (plain_block other))) (arms_are arms)
-      ∙ ap (λ made. If (label_at at) place made.test (made.body (inside (label_at at) 0)) (else_at (passed_one (label_at at)) (map plain_arm arms) (plain_block other))) (fold_out-Arm _ _ _ _ kind_plain arm_plain branch_plain stmt_plain arm));
-  parallel = λ place at branches. rw (fold-roll-Stmt, fold-roll-StmtKind) (ap (λ all. Cobegin (label_at at) place (bodies_from all 0 (label_at at))) (branches_are branches));
+      (ap (λ all. If (label_at at) place (folded_arm arm).test ((folded_arm arm).body (inside (label_at at) 0))
+      (else_at (passed_one (label_at at)) all (plain_block other))) (arms_are arms)
+      ∙ ap (λ made. If (label_at at) place made.test (made.body (inside (label_at at) 0))
+      (else_at (passed_one (label_at at)) (map plain_arm arms) (plain_block other)))
+      (fold_out-Arm _ _ _ _ kind_plain arm_plain branch_plain stmt_plain arm));
+  parallel = λ place at branches. rw (fold-roll-Stmt, fold-roll-StmtKind)
+      (ap (λ all. Cobegin (label_at at) place (bodies_from all 0 (label_at at))) (branches_are branches));
 }

@@ -9,7 +9,27 @@ use Rattle.bl_tree.specs.declared.tree.Path.{Path}
 use Rattle.bl_tree.specs.declared.tree.Stmt.{Stmt, roll-Stmt}
 use Rattle.bl_tree.specs.declared.tree.StmtKind.{StmtKind, roll-StmtKind}
 use Rattle.bl_tree.specs.declared.tree.StmtKind.TheOpen.{StmtKind-F}
-use Rattle.bl_nodes.specs.Plain.{Act, Await, Run, If, Cobegin, When, Repeat, Until, While, Arm as PlainArm, Branch as PlainBranch, Position, bodies_from, else_at, inside, label_at, passed_one, plain, plain_block}
+use Rattle.bl_nodes.specs.Plain.{
+  Act,
+  Await,
+  Run,
+  If,
+  Cobegin,
+  When,
+  Repeat,
+  Until,
+  While,
+  Arm as PlainArm,
+  Branch as PlainBranch,
+  Position,
+  bodies_from,
+  else_at,
+  inside,
+  label_at,
+  passed_one,
+  plain,
+  plain_block,
+}
 
 -- a statement by its place and its kind's parts
 abbrev pub stmt : Place → StmtKind-F StmtKind Arm Branch Stmt → Stmt
