@@ -9,8 +9,6 @@ mod found;
 mod number;
 mod record;
 mod rows;
-#[cfg(test)]
-mod tests;
 mod trace;
 mod verdict;
 

@@ -8,8 +8,6 @@ ghost use Rattle.bl_words.specs.Usage.{usage_line};
 
 mod command_line;
 mod job;
-#[cfg(test)]
-mod tests;
 
 pub use job::{Job, NoMemory, files_have_plain_names, job_of};
 
