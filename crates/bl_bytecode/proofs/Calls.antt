@@ -4,7 +4,7 @@ use Rattle.std.proofs.lemmas.List.{reverse-append, reverse-reverse, length-rever
 use Rattle.bl_tree.specs.declared.text.Text.{Text}
 use Rattle.bl_tree.specs.Reduce.{joined}
 use Rattle.bl_cmeaning.specs.Tables.{Table}
-use Rattle.bl_cmeaning.specs.declared.builtin.Builtin.{Builtin}
+use Rattle.bl_ctext.specs.declared.builtin.Builtin.{Builtin}
 use Rattle.bl_cmeaning_laws.specs.Flat.{Cells, Evaluates, Left, Routine, called_as, each_of, frame_begun, going_on, left, next, prelude_value}
 use Rattle.bl_cmeaning_laws.specs.Layout.{capped}
 use Rattle.bl_cmeaning_laws.specs.Reaching.{Ground}

@@ -10,9 +10,9 @@ ghost use Rattle.bl_bytecode_compiler.specs.Walks.{IsWalk, term_if};
 
 use crate::front::{Front, small};
 use crate::here::{Here, Laid, type_size};
-use crate::maps::find;
 use crate::place::{Walk, walk_to};
 use bl_bytecode::instruction::{Callee, Instruction};
+use bl_cmeaning::maps::find;
 use bl_tree::c::{CArg, CCall, CExpr, CExprKind, CIndex, CPlace, CStep, CType};
 use bl_tree::{Box, NoMemory, Op};
 

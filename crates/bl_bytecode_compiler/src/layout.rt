@@ -11,8 +11,8 @@ ghost use Rattle.bl_cmeaning_laws.specs.Layout.{capped, frame_cells, layout_of, 
 ghost use Rattle.bl_bytecode_compiler.specs.Views.{members_in, sizes_in, slots_in, structs_in};
 
 use crate::here::{Laid, Members, Sizes, Slot, type_size};
-use crate::maps::{add, has};
 use crate::place::behind;
+use bl_cmeaning::maps::{add, has};
 use bl_tree::NoMemory;
 use bl_tree::c::{CFunc, CLocal, CMember, CParam, CStruct};
 use std::alloc::Global;

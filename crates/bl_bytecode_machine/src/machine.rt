@@ -9,7 +9,7 @@ use crate::caller::Caller;
 use crate::flow::Flow;
 use crate::{address, frame, prelude};
 use bl_bytecode::instruction::Callee;
-use bl_cmeaning::Builtin;
+use bl_ctext::Builtin;
 use bl_tree::NoMemory;
 use std::alloc::Global;
 use std::marker::Model;

@@ -24,7 +24,7 @@ use Rattle.bl_tree.specs.declared.scalar.Scalar.TheVariants.{Bool as OfBool}
 use Rattle.bl_tree.specs.Numbers.{checked_of, checked_one_of, is_one}
 use Rattle.bl_cmeaning.specs.Memory.{Memory, CValue, Location, Part, member, number_in, scalar, value_at, set_at, zeros, without_frame}
 use Rattle.bl_cmeaning.specs.Tables.{found, Table, no_entries, table_of, with_entry, entry_or}
-use Rattle.bl_cmeaning.specs.declared.builtin.Builtin.{Builtin}
+use Rattle.bl_ctext.specs.declared.builtin.Builtin.{Builtin}
 use Rattle.bl_cmeaning.specs.Builtin.{builtin_of, index_within}
 use Rattle.bl_cmeaning.specs.Meaning.{Counted, given, going_on, next, Passed, by_value, by_address, Called, Meaning, further, start_of, way_of, element_at, Scope, applied, called, called_as, called_after, Evaluates, each_of, at_once, two_values, result_of, arg_step, kind_step, call_step, expr_step, index_step, place_step, step_step, value_c, location_c, call_c, Outcome, End, goes_on, breaks, returns, traps, Runs, after, following, following_end, block_of, block_or_none, ended_by, turn_end, turn_or_none, once_more, turns, turn_limit, runs_c, block_c, function_c, meanings_after, meanings, going, returning, executed, pointers_of, with_params}
 use Rattle.bl_cmeaning.specs.Calls.{Names, arg_calls, kind_calls, call_calls, expr_calls, index_calls, place_calls, step_calls, calls_in, calls_in_place, calls_in_call}

@@ -19,7 +19,7 @@ use Rattle.bl_cmeaning.specs.Meaning.{Counted, Evaluates, given, next, Scope, Ou
 use Rattle.bl_cmeaning.specs.Ends.{EndsAs, EndsInside, AlwaysEnds}
 use Rattle.bl_cmeaning.specs.Tables.{Table, no_entries, table_of, with_entry}
 use Rattle.bl_cmeaning.specs.Faults.{Clause, distinct_names, declared_before, scalar_parameter, static_functions, short_chain, returns_result, all_distinct, is_declared, is_scalar, Fault, Context, Variable, Signature, unless, block_faults, faults_in_stmt, surely_returns, last_returns, faults_in_head, variable_names, names_table, faults_in_function, function_faults_after, faults_in, WellFormed, condition_faults, context_in, repeated, variables_of, depth_of_function, signature_in, struct_table, struct_faults_after}
-use Rattle.bl_cmeaning.specs.Loops.{counters_in_block}
+use Rattle.bl_cmeaning.specs.Loops.{turns_in_block}
 use Rattle.bl_cmeaning.specs.Parts.{Parts}
 use Rattle.bl_cmeaning.proofs.Induction.{Optional, StmtCases, induct_stmt, stmt}
 
@@ -271,7 +271,7 @@ function-ends structs functions depths last f none scope memory =
     let h6 = nil-right (unless (nat_le (depth_of_function depths f) 300) short_chain f.place) _ h5 in
     let returning = unless-nil (is_none f.result || last_returns (map surely_returns f.body)) returns_result f.place h6 in
     let h7 = nil-right (faults_in_head structs functions depths last f) _ none in
-    let body = nil-right (repeated (names_table (variable_names f)) (counters_in_block f.body)) _ h7 in
+    let body = nil-right (repeated (names_table (variable_names f)) (turns_in_block f.body)) _ h7 in
     ends_as f.result (block_c f.body scope memory).end
     (body-stays scope f.body (context_in structs functions f) body memory)
     (λ has. body-leaves scope f.body (sure (is_none f.result) (last_returns (map surely_returns f.body)) returning has) memory)

@@ -3,7 +3,6 @@ pub mod BoundLemmas
 pub mod CallLemmas
 pub mod DeclaredLemmas
 pub mod EndLemmas
-pub mod Examples
 pub mod FirstLemmas
 pub mod Induction
 pub mod MapLemmas

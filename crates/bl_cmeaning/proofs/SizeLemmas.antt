@@ -14,7 +14,7 @@ use Rattle.bl_tree.specs.Reduce.{total, greatest}
 use Rattle.bl_cmeaning.specs.Parts.{Parts}
 use Rattle.bl_cmeaning.specs.Tables.{Table, entry_or, no_entries, with_entry}
 use Rattle.bl_cmeaning.specs.Calls.{calls_in_block, most}
-use Rattle.bl_cmeaning.specs.Loops.{counters_in_block}
+use Rattle.bl_cmeaning.specs.Loops.{turns_in_block}
 use Rattle.bl_cmeaning.specs.Saturated.{AlikeSaturated, saturated}
 use Rattle.bl_cmeaning.specs.Sizes.{size_of_length, size_of_type, size_of_member, size_of_struct, sizes_after, size_of_param, own_cells, chain_cells, chains_after}
 use Rattle.bl_cmeaning.proofs.ArgLemmas.{next_of}
@@ -131,7 +131,7 @@ alike-if false a b e = e
 
 own-alike : (s t : Table ℕ) → AlikeSaturated s t → (f : CFunc) → saturated (own_cells s f) ≡ saturated (own_cells t f)
 own-alike s t h f =
-    let loops = length (counters_in_block f.body) in
+    let loops = length (turns_in_block f.body) in
     sum-alike (total (map (size_of_param s) f.params)) (total (map (size_of_param t) f.params))
     (total (map (λ l. size_of_type s l.ty) f.locals) + loops) (total (map (λ l. size_of_type t l.ty) f.locals) + loops)
     (total-alike (size_of_param s) (size_of_param t) (λ p. alike-if p.pointer (size_of_type s p.ty) (size_of_type t p.ty) (type-alike s t h p.ty)) f.params)

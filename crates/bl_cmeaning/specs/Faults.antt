@@ -1,5 +1,5 @@
 -- The clauses of a well-formed file: each failure of one has a name and a place.
-use Rattle.std.specs.Prelude.{◌≡◌, ℕ, ◌+◌, ◌-◌, Bool, true, false, not, ◌&&◌, ◌||◌, nat_lt, nat_le, nat_eq, min, ◌==◌, List, [], ◌∷◌, ◌++◌, map, length, drop, Option, Some, None, is_some, is_none, option_map, option_and_then, bytes_eq, codes, Contains, if◌then◌else◌}
+use Rattle.std.specs.Prelude.{◌≡◌, ℕ, ◌+◌, ◌-◌, Bool, true, false, not, ◌&&◌, ◌||◌, nat_lt, nat_le, nat_eq, min, ◌==◌, List, [], ◌∷◌, ◌++◌, map, length, drop, Option, Some, None, is_some, is_none, option_map, option_and_then, bytes_eq, codes, if◌then◌else◌}
 use Rattle.std.specs.List.{list_any, list_all, starts_with}
 use Rattle.bl_tree.specs.declared.text.Text.{Text}
 use Rattle.bl_tree.specs.declared.place.Place.{Place}
@@ -28,17 +28,17 @@ use Rattle.bl_tree.specs.declared.c.CStmt.{CStmt, fold-CStmt}
 use Rattle.bl_tree.specs.Reduce.{any_of, joined, greatest}
 use Rattle.bl_cmeaning.specs.Parts.{Parts}
 use Rattle.bl_cmeaning.specs.Tables.{found, Table, no_entries, table_of, with_entry, entry_or}
-use Rattle.bl_cmeaning.specs.declared.builtin.Builtin.{Builtin}
-use Rattle.bl_cmeaning.specs.declared.builtin.Builtin.TheVariants.{Stop}
+use Rattle.bl_ctext.specs.declared.builtin.Builtin.{Builtin}
+use Rattle.bl_ctext.specs.declared.builtin.Builtin.TheVariants.{Stop}
 use Rattle.bl_cmeaning.specs.Builtin.{builtin_of, builtin_params, builtin_result}
 use Rattle.bl_cmeaning.specs.Calls.{calls_in_block, most}
-use Rattle.bl_cmeaning.specs.Loops.{counters_in_block}
+use Rattle.bl_cmeaning.specs.Loops.{turns_in_block}
 
 -- ---- what can fail, and where
 
 -- what a well-formed file keeps
 pub data Clause : Type 0 where
-  -- structs, functions, the members of a struct, the parameters and locals of a function, and the counters of its loops have different names
+  -- structs, functions, the members of a struct, the parameters and locals of a function, and what counts the turns of its loops have different names
   distinct_names : Clause
   -- a struct, variable, member or function is declared before it is used
   declared_before : Clause
@@ -585,7 +585,7 @@ faults_in_head structs functions depths last f =
 abbrev pub faults_in_function : Table (Table CMember) → Table Signature → Table ℕ → Bool → CFunc → List Fault
 faults_in_function structs functions depths last f =
     faults_in_head structs functions depths last f
-    ++ (repeated (names_table (variable_names f)) (counters_in_block f.body)
+    ++ (repeated (names_table (variable_names f)) (turns_in_block f.body)
     ++ block_faults (map faults_in_stmt f.body) (context_in structs functions f) false)
 
 abbrev pub function_faults_after : Table (Table CMember) → Table Signature → Table ℕ → List CFunc → List Fault
@@ -665,10 +665,6 @@ faults_in file =
     ++ (unless (is_some (structs (codes "bl_state")) && (is_some (structs (codes "bl_in")) && is_some (structs (codes "bl_out"))))
     interface_structs (last_place file.funcs)
     ++ interface_faults file.funcs))
-
--- this clause fails at this place
-pub record Fails (file : Parts) (clause : Clause) (at : Place) : Type 0 where
-  pub among : Contains (faults_in file) (record { clause = clause; at = at })
 
 -- no clause fails anywhere
 pub record WellFormed (file : Parts) : Type 0 where

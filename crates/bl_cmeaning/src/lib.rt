@@ -2,8 +2,10 @@
 //! "Meaning").
 #![tactic(auto)]
 
-pub mod builtin;
 pub mod check;
 pub mod laws;
+pub mod maps;
+pub mod prelude;
+pub mod sizes;
 
-pub use builtin::Builtin;
+pub use prelude::Builtins;

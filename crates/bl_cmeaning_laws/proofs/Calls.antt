@@ -3,8 +3,8 @@ use Rattle.std.proofs.Common.{◌≡◌, ℕ, ◌+◌, ◌≤◌, ℤ, Bool, tru
 use Rattle.std.specs.Prelude.{is_some, if◌then◌else◌}
 use Rattle.bl_tree.specs.declared.text.Text.{Text}
 use Rattle.bl_tree.specs.declared.scalar.Scalar.{Scalar}
-use Rattle.bl_cmeaning.specs.declared.builtin.Builtin.{Builtin}
-use Rattle.bl_cmeaning.specs.declared.builtin.Builtin.TheVariants.{Two, One, Cast, Index, Turn, Stop}
+use Rattle.bl_ctext.specs.declared.builtin.Builtin.{Builtin}
+use Rattle.bl_ctext.specs.declared.builtin.Builtin.TheVariants.{Two, One, Cast, Index, Turn, Stop}
 use Rattle.bl_cmeaning.specs.Builtin.{builtin_of, builtin_params, builtin_result, builtin_value}
 use Rattle.bl_cmeaning.specs.Memory.{Root, variable, Memory}
 use Rattle.bl_cmeaning.specs.Meaning.{Called, Counted, Passed, Scope, applied as applied_c, called as called_c, called_after, called_as as called_as_c, number_of_passed}
@@ -12,10 +12,11 @@ use Rattle.bl_cmeaning.specs.Sizes.{Sizes}
 use Rattle.bl_cmeaning.specs.Tables.{Table, entry_or}
 use Rattle.bl_cmeaning.specs.Faults.{Context, JudgedArg, Signature, by_value, builtin_signature, fit_args, fit_each, signature_as}
 use Rattle.bl_cmeaning_laws.specs.Fitting.{in_ranges}
-use Rattle.bl_cmeaning_laws.proofs.Results.{builtins-fit}
+use Rattle.bl_cmeaning_laws.proofs.Results.{builtin-typed, builtins-fit}
 use Rattle.bl_cmeaning_laws.specs.Layout.{capped}
 use Rattle.bl_cmeaning_laws.specs.Reaching.{Ground}
-use Rattle.bl_cmeaning_laws.specs.Flat.{Cells, Left, Routine, applied, called, called_as, going_on, left, next, prelude_value}
+use Rattle.bl_cmeaning_laws.specs.Flat.{Cells, Left, Routine, applied, called, called_as, going_on, is_typed, left, next, prelude_value}
+use Rattle.bl_cmeaning_laws.proofs.Lists.{and-both}
 use Rattle.bl_cmeaning_laws.proofs.Ways.{Lists, Shaped, Structs}
 use Rattle.bl_cmeaning_laws.proofs.Standing.{Stand, Stands, World}
 use Rattle.bl_cmeaning_laws.proofs.Evaluations.{Agree, Matches}
@@ -56,8 +57,8 @@ module _ (known : Sizes) (lists : Lists) (structs : Structs) (shaped : Shaped kn
   builtin-signed Turn s h = some_of s _ (sym h)
   builtin-signed Stop s h = cc
 
-  chosen-value : (b : Builtin) (ns : List ℤ) → in_ranges (builtin_params b) ns ≡ true → prelude_value b ns ≡ builtin_value b ns
-  chosen-value b ns h = ap (λ x. if x then builtin_value b ns else None) h
+  chosen-value : (b : Builtin) (ns : List ℤ) → is_typed b ≡ true → in_ranges (builtin_params b) ns ≡ true → prelude_value b ns ≡ builtin_value b ns
+  chosen-value b ns typed h = ap (λ x. if x then builtin_value b ns else None) (and-both (is_typed b) (in_ranges (builtin_params b) ns) typed h)
 
   builtin-ranged : (name : Text) (b : Builtin) (ns : List ℤ) → builtin_of name ≡ Some b → in_ranges (builtin_params b) ns ≡ true → (result : Option Scalar) → builtin_result b ≡ result →
       (answer : Option ℤ) → builtin_value b ns ≡ answer → Ranged known lists structs shaped limit result answer
@@ -75,7 +76,7 @@ module _ (known : Sizes) (lists : Lists) (structs : Structs) (shaped : Shaped kn
       let value : builtin_value b (map number_of_passed vs) ≡ builtin_value b ns = ap (builtin_value b) f.0 in
       record {
         count = refl;
-        answer = value ∙ sym (chosen-value b ns f.1);
+        answer = value ∙ sym (chosen-value b ns (builtin-typed name b is) f.1);
         stands = stood;
         range = builtin-ranged name b (map number_of_passed vs) is (subst (λ xs. in_ranges (builtin_params b) xs ≡ true) (sym f.0) f.1) s.result (sym (ap (λ x. x.result) e)) (builtin_value b (map number_of_passed vs)) refl;
       }

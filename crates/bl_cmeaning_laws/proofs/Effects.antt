@@ -15,7 +15,7 @@ use Rattle.bl_tree.specs.declared.c.CStmtKind.{fold-roll-CStmtKind}
 use Rattle.bl_tree.specs.declared.c.CStmtKind.TheOpen.{CStmtKind-F}
 use Rattle.bl_tree.specs.Numbers.{is_one}
 use Rattle.bl_tree.specs.Reduce.{any_of, joined}
-use Rattle.bl_cmeaning.specs.declared.builtin.Builtin.{Builtin}
+use Rattle.bl_ctext.specs.declared.builtin.Builtin.{Builtin}
 use Rattle.bl_cmeaning.specs.Builtin.{builtin_of}
 use Rattle.bl_cmeaning.specs.Memory.{Part, Root, variable, Location, CValue, Memory, number_in, same_root, set_at, with_part, zeros}
 use Rattle.bl_cmeaning.specs.Meaning.{Counted, Evaluates, Meaning, Passed, by_address, by_value, Scope, End, goes_on, breaks, returns, traps, Outcome, Runs, after, block_c, block_of, block_or_none, call_c, called_after, called_as, each_of, ended_by, executed, following_end, further, given, going, going_on, location_c, next, returning, runs_c, start_of, turn_end, turn_limit, turn_or_none, turns, value_c, way_of}

@@ -15,7 +15,7 @@ use Rattle.bl_cmeaning.specs.Memory.{Root, state_object, input_object, output_ob
 use Rattle.bl_cmeaning.specs.Meaning.{Meaning, Passed, by_address, by_value, Scope, End, goes_on, breaks, returns, traps, block_c, function_c, pointers_of, result_at, with_params}
 use Rattle.bl_cmeaning.specs.Sizes.{Sizes, chain_cells, sizes}
 use Rattle.bl_cmeaning.specs.Tables.{Table, entry_or, found, no_entries, table_of}
-use Rattle.bl_cmeaning.specs.Loops.{counters_in_block}
+use Rattle.bl_cmeaning.specs.Loops.{turns_in_block}
 use Rattle.bl_cmeaning.specs.Faults.{distinct_names, declared_before, scalar_parameter, Signature, all_distinct, block_faults, context_in, faults_in_function, faults_in_head, faults_in_stmt, is_declared, is_scalar, local_variable, names_table, repeated, signature_in, struct_table, unless, variable_names}
 use Rattle.bl_cmeaning.specs.Parts.{Parts}
 use Rattle.bl_cmeaning.proofs.EndLemmas.{nil-left, nil-right}
@@ -52,7 +52,7 @@ sound structs functions depths last f none =
       fresh = unless-nil (is_none (functions f.name)) distinct_names f.place (nil-left _ _ h0);
       apart = unless-nil (all_distinct no_entries (variable_names f)) distinct_names f.place (nil-left _ _ h1);
       single = unless-nil (list_all (λ p. p.pointer || is_scalar p.ty) f.params) scalar_parameter f.place (nil-left _ _ h3);
-      body = nil-right (repeated (names_table (variable_names f)) (counters_in_block f.body)) _ h7;
+      body = nil-right (repeated (names_table (variable_names f)) (turns_in_block f.body)) _ h7;
     }
 
 locals-names : (locals : List CLocal) → map (λ l. l.name) locals ≡ map (λ e. e.0) (map local_variable locals)

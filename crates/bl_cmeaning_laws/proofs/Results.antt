@@ -14,11 +14,13 @@ use Rattle.bl_tree.specs.declared.scalar.Op.TheVariants.{Add, Sub, Mul, Div, Rem
 use Rattle.bl_tree.specs.Scalar.{in_range, InRange}
 use Rattle.bl_tree.specs.Numbers.{checked_of, checked_one_of, takes_two, takes_one, type_of_result}
 use Rattle.bl_tree.proofs.NumberLemmas.{checked_of-in_range, checked_one_of-in_range, fitted-in_range, in_range_holds, in_range_passes}
-use Rattle.bl_cmeaning.specs.declared.builtin.Builtin.{Builtin}
-use Rattle.bl_cmeaning.specs.declared.builtin.Builtin.TheVariants.{Two, One, Cast, Index, Turn, Stop}
-use Rattle.bl_cmeaning.specs.Builtin.{builtins, builtin_of, builtin_params, builtin_result, builtin_value, in_c, index_within, only_if, widest}
+use Rattle.bl_ctext.specs.declared.builtin.Builtin.{Builtin}
+use Rattle.bl_ctext.specs.declared.builtin.Builtin.TheVariants.{Two, One, Cast, Index, Turn, Stop}
+use Rattle.bl_ctext.specs.Builtins.{builtins}
+use Rattle.bl_cmeaning.specs.Builtin.{builtin_of, builtin_params, builtin_result, builtin_value, in_c, index_within, only_if, widest}
 use Rattle.bl_cmeaning.specs.Tables.{found}
 use Rattle.bl_cmeaning_laws.specs.Fitting.{in_ranges, BuiltinsFit}
+use Rattle.bl_cmeaning_laws.specs.Flat.{is_typed}
 use Rattle.bl_cmeaning_laws.proofs.Lists.{and-left, and-right}
 
 -- an operator whose result has its operands' type
@@ -64,7 +66,6 @@ proper (One op t) = takes_one op t && keeps_type op
 proper _ = true
 
 all-proper : list_all (λ e. proper e.1) builtins ≡ true
-unfolding builtins
 all-proper = refl
 
 some_builtin : (a b : Builtin) → Some a ≡ Some b → a ≡ b
@@ -82,6 +83,17 @@ found-proper name (e ∷ entries) b is all =
 builtin-proper : (name : Text) (b : Builtin) → builtin_of name ≡ Some b → proper b ≡ true
 unfolding builtin_of
 builtin-proper name b is = found-proper name builtins b is all-proper
+
+typed-if : (b : Builtin) → proper b ≡ true → is_typed b ≡ true
+typed-if (Two op t) h = and-left (takes_two op t) _ h
+typed-if (One op t) h = and-left (takes_one op t) _ h
+typed-if (Cast signed t) h = refl
+typed-if (Index signed) h = refl
+typed-if Turn h = refl
+typed-if Stop h = refl
+
+pub builtin-typed : (name : Text) (b : Builtin) → builtin_of name ≡ Some b → is_typed b ≡ true
+builtin-typed name b is = typed-if b (builtin-proper name b is)
 
 -- ---- numbers
 

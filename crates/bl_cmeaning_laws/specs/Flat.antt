@@ -16,8 +16,9 @@ use Rattle.bl_tree.specs.declared.c.CCall.{CCall, fold-CCall}
 use Rattle.bl_tree.specs.declared.c.CStmtKind.TheOpen.{CStmtKind-F, CStmt-F}
 use Rattle.bl_tree.specs.declared.c.CStmt.{CStmt, fold-CStmt}
 use Rattle.bl_tree.specs.declared.c.CFunc.{CFunc}
-use Rattle.bl_tree.specs.Numbers.{is_one, number_of}
-use Rattle.bl_cmeaning.specs.declared.builtin.Builtin.{Builtin}
+use Rattle.bl_tree.specs.Numbers.{is_one, number_of, takes_one, takes_two}
+use Rattle.bl_ctext.specs.declared.builtin.Builtin.{Builtin}
+use Rattle.bl_ctext.specs.declared.builtin.Builtin.TheVariants.{One, Two}
 use Rattle.bl_cmeaning.specs.Builtin.{builtin_of, builtin_params, builtin_value, index_within}
 use Rattle.bl_cmeaning.specs.Meaning.{End, goes_on, breaks, returns, traps, result_at, turn_limit}
 use Rattle.bl_cmeaning.specs.Sizes.{Sizes}
@@ -126,9 +127,15 @@ two_values Or first second base cells = next (first base cells) (λ after a. (if
 two_values op first second base cells =
     next (first base cells) (λ after a. next (second base after) (λ last b. left last (compared op a b)))
 
--- what a function of the prelude gives for numbers of its parameters' types
+-- whether an operator is one that takes its type; every function of the prelude that has a name is so
+abbrev pub is_typed : Builtin → Bool
+is_typed (Two op t) = takes_two op t
+is_typed (One op t) = takes_one op t
+is_typed _ = true
+
+-- what a function of the prelude gives for numbers of its parameters' types, and none, a trap, for others
 abbrev pub prelude_value : Builtin → List ℤ → Option ℤ
-prelude_value b numbers = if in_ranges (builtin_params b) numbers then builtin_value b numbers else None
+prelude_value b numbers = if is_typed b && in_ranges (builtin_params b) numbers then builtin_value b numbers else None
 
 -- a call of a function that may be known; its frame stands behind that of the caller
 abbrev pub applied : Option Routine → ℕ → List ℤ → Cells → Left ℤ

@@ -1,5 +1,5 @@
 -- What holds of every C file that is run over numbered cells.
-use Rattle.std.specs.Prelude.{◌≡◌, ◌≤◌, ℕ, ◌+◌, ℤ, pos, true, List, [], ◌∷◌, ◌++◌, map, length, take, drop, replicate, codes, Option, option_map, IfSome}
+use Rattle.std.specs.Prelude.{◌≡◌, ◌≤◌, ℕ, ◌+◌, ℤ, pos, true, List, [], ◌∷◌, ◌++◌, map, length, take, drop, replicate, codes, is_some}
 use Rattle.std.specs.List.{list_all}
 use Rattle.bl_tree.specs.declared.text.Text.{Text}
 use Rattle.bl_tree.specs.declared.scalar.Scalar.{Scalar}
@@ -9,7 +9,7 @@ use Rattle.bl_cmeaning.specs.Tables.{entry_or, found, no_entries}
 use Rattle.bl_cmeaning.specs.Meaning.{Called}
 use Rattle.bl_cmeaning.specs.Cells.{cells_of, inputs_of, numbers_of, outputs_of}
 use Rattle.bl_cmeaning.specs.Sizes.{cells_needed, sizes}
-use Rattle.bl_cmeaning.specs.Trace.{Tick, entered, object, reply_of, start_c, tick_c}
+use Rattle.bl_cmeaning.specs.Trace.{Tick, entered, object, reply_of, start_cells, starts, tick_c}
 use Rattle.bl_cmeaning.specs.Faults.{WellFormed}
 use Rattle.bl_cmeaning_laws.specs.Fitting.{cell_holds, in_ranges}
 use Rattle.bl_cmeaning_laws.specs.Layout.{capped_sizes, layouts}
@@ -91,13 +91,14 @@ TicksRun file = WellFormed file → cells_needed file ≤ 1000000 → (numbers o
     SameTick file (tick_c file numbers ins)
     (entered_flat file (codes "bl_tick") (pos 0 ∷ pos (input_at file) ∷ pos (output_at file) ∷ []) (with_args (input_at file + 1) ins (numbers ++ others)))
 
--- a start in a C text and over numbered cells
-pub record SameStart (file : Parts) (start : Option (List ℤ)) (l : Left ℤ) : Type 0 where
-  pub cells : start ≡ option_map (λ n. take (length (cells_of file)) l.cells) l.answer
+-- the start in a C text and over numbered cells
+pub record SameStart (file : Parts) (l : Left ℤ) : Type 0 where
+  pub ready : starts file ≡ is_some l.answer
+  pub cells : take (length (cells_of file)) l.cells ≡ start_cells file
   pub room : cells_needed file ≤ length l.cells
-  pub fits : IfSome start (Fitting file)
+  pub fits : Fitting file (start_cells file)
 
 -- a start over cells of which those of the three objects are 0
 abbrev pub StartsRun : Parts → Type 0
 StartsRun file = WellFormed file → cells_needed file ≤ 1000000 → (others : List ℤ) → cells_needed file ≤ length (replicate (length (cells_of file)) (pos 0) ++ others) →
-    SameStart file (start_c file) (entered_flat file (codes "bl_init") (pos 0 ∷ []) (replicate (length (cells_of file)) (pos 0) ++ others))
+    SameStart file (entered_flat file (codes "bl_init") (pos 0 ∷ []) (replicate (length (cells_of file)) (pos 0) ++ others))

@@ -63,6 +63,6 @@ params_laid known at (p ∷ rest) locals = (p.name, record { at = at; pointer = 
 abbrev pub slots_of : Sizes → CFunc → Table Slot
 slots_of known function = table_of (params_laid known 0 function.params function.locals)
 
--- how many cells the frame of a function has. The counters of loops stand elsewhere
+-- how many cells the frame of a function has. What counts the turns of loops stands elsewhere
 abbrev pub frame_cells : Sizes → CFunc → ℕ
 frame_cells known function = capped (total (map (size_of_param known) function.params) + total (map (λ l. size_of_type known l.ty) function.locals))

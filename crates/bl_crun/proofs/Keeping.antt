@@ -10,7 +10,7 @@ use Rattle.bl_bytecode_machine.specs.Steps.{holding}
 use Rattle.bl_cmeaning.specs.Cells.{cells_of, outputs_of}
 use Rattle.bl_cmeaning.specs.Parts.{Parts}
 use Rattle.bl_cmeaning.specs.Sizes.{cells_needed}
-use Rattle.bl_cmeaning.specs.Trace.{reply_of, start_c}
+use Rattle.bl_cmeaning.specs.Trace.{reply_of, start_cells, starts}
 use Rattle.bl_cinterface.specs.Layout.{kinds_of}
 use Rattle.bl_cinterface.specs.Ports.{PortsStand, inputs_start, outputs_start}
 use Rattle.std.proofs.lemmas.List.{length-map}
@@ -18,7 +18,7 @@ use Rattle.bl_crun.specs.Cause.{Runs}
 use Rattle.bl_crun.specs.declared.call.Called.{Called}
 use Rattle.bl_crun.specs.declared.prepared.Prepared.{Prepared}
 use Rattle.bl_crun.specs.Done.{CallDone, CellsKeep, Comes, IsStart, IsTick, first_cells}
-use Rattle.bl_crun.specs.Prepared.{Keeps, Ticked, numbers_in, state_of}
+use Rattle.bl_crun.specs.Prepared.{Keeps, Ticked, numbers_in}
 use Rattle.bl_crun.specs.Running.{row_fits, types_of}
 use Rattle.bl_crun.proofs.Calls.{file-comes, steps_of}
 use Rattle.bl_crun.proofs.Cells.{cells-long, input-start, output-start}
@@ -77,17 +77,11 @@ module _ (file : Parts) (p : Prepared) (k : Keeps file p) (agrees : StartsAgree 
   pub start-keeps : Keeps file (record p { machine = after })
   start-keeps = kept file p after k done.numbers done.calls (subst (CellsKeep file) (sym done.cells) started.keeps)
 
-  pub start-state : state_of (is_some called.answer) (record p { machine = after }) ≡ start_c file
-  start-state =
-      let numbers : numbers_in (record p { machine = after }) ≡ first_cells file (Start file p).cells = first-numbers file p after k ∙ ap (first_cells file) done.cells in
-      chosen called.answer (Start file p).answer done.answer numbers ∙ started.state
-    where
-      chosen : (a b : Option ℤ) → a ≡ b → numbers_in (record p { machine = after }) ≡ first_cells file (Start file p).cells →
-          state_of (is_some a) (record p { machine = after }) ≡ option_map (λ n. first_cells file (Start file p).cells) b
-      chosen None None is numbers = refl
-      chosen None (Some n) is numbers = cc
-      chosen (Some n) None is numbers = cc
-      chosen (Some n) (Some m) is numbers = ap Some numbers
+  pub start-ready : is_some called.answer ≡ starts file
+  start-ready = ap is_some done.answer ∙ started.ready
+
+  pub start-numbers : numbers_in (record p { machine = after }) ≡ start_cells file
+  start-numbers = first-numbers file p after k ∙ ap (first_cells file) done.cells ∙ started.cells
 
 -- ---- ticks
 

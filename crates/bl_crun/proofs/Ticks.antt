@@ -1,6 +1,6 @@
 -- What the start and the ticks of a file do to numbered cells.
-use Rattle.std.proofs.Common.{◌≡◌, ℕ, zero, suc, ◌+◌, ◌≤◌, ◌<◌, ℤ, pos, true, List, [], ◌∷◌, ◌++◌, map, length, take, drop, replicate, slice_get, Option, Some, None, refl, ap, sym, subst, ◌∙◌, arith, length-take-le}
-use Rattle.std.specs.Prelude.{codes, option_map}
+use Rattle.std.proofs.Common.{◌≡◌, ℕ, zero, suc, ◌+◌, ◌≤◌, ◌<◌, ℤ, pos, true, List, [], ◌∷◌, ◌++◌, map, length, take, drop, replicate, slice_get, Some, refl, ap, sym, subst, ◌∙◌, arith, length-take-le}
+use Rattle.std.specs.Prelude.{codes, is_some}
 use Rattle.std.specs.List.{list_all}
 use Rattle.std.proofs.lemmas.Option.{slice_get_within}
 use Rattle.std.proofs.lemmas.List.{length-map, take-append-drop, take-replicate}
@@ -19,7 +19,7 @@ use Rattle.bl_cmeaning.specs.Meaning.{Called}
 use Rattle.bl_cmeaning.specs.Memory.{Memory, cleared, state_object, input_object, output_object}
 use Rattle.bl_cmeaning.specs.Parts.{Parts}
 use Rattle.bl_cmeaning.specs.Sizes.{cells_needed}
-use Rattle.bl_cmeaning.specs.Trace.{cells_where, entered, object, reply_of, start_c, tick_c}
+use Rattle.bl_cmeaning.specs.Trace.{entered, object, reply_of, started, tick_c}
 use Rattle.bl_cinterface.specs.Layout.{kinds_of}
 use Rattle.bl_cinterface.specs.Ports.{PortsStand, inputs_start, outputs_start}
 use Rattle.bl_crun.specs.Cause.{Runs}
@@ -76,11 +76,6 @@ module _ (file : Parts) (runs : Runs file) where
   zeros-fit [] = refl
   zeros-fit (t ∷ ts) = and-both _ _ (zero-fits t) (zeros-fit ts)
 
-  state-where : (c : Called) (l : Left ℤ) (r o : Option ℤ) → r ≡ o → first_cells file l.cells ≡ numbers_of (cells_of file) c.memory →
-      option_map (λ n. first_cells file l.cells) o ≡ cells_where file c.memory r
-  state-where c l r None is first = ap (cells_where file c.memory) (sym is)
-  state-where c l r (Some n) is first = ap Some first ∙ ap (cells_where file c.memory) (sym is)
-
   length-zeros : (n : ℕ) → length (replicate n (pos 0)) ≡ n
   length-zeros zero = refl
   length-zeros (suc n) = ap suc (length-zeros n)
@@ -97,14 +92,14 @@ module _ (file : Parts) (runs : Runs file) where
   }
 
   pub start-is : StartsAgree file → (cells : List ℤ) → cells ≡ replicate (cells_needed file) (pos 0) → IsStart file (entered_flat file (codes "bl_init") (pos 0 ∷ []) cells)
-  unfolding start_c
+  unfolding started
   start-is agrees cells is =
       let keeps = zeros-keep cells is in
       let same = call-agrees (codes "bl_init") (entered file (codes "bl_init") (object state_object ∷ [])) (pos 0 ∷ []) agrees cleared cells keeps.room
       (zeros-there (cells_of file) ∙ sym (zeros-begin cells is)) (ap (λ n. in_ranges (kinds_of file) (take n cells)) (sym kinds-long) ∙ keeps.ranges) in
       let c : Called = entered file (codes "bl_init") (object state_object ∷ []) cleared in
       let l : Left ℤ = entered_flat file (codes "bl_init") (pos 0 ∷ []) cells in
-      record { state = state-where c l c.result l.answer same.answer (first-are c l same); keeps = call-keeps c l same }
+      record { ready = ap is_some (sym same.answer); cells = first-are c l same; keeps = call-keeps c l same }
 
   -- ---- ticks
 

@@ -1,5 +1,5 @@
 -- What calls of a file's functions come to in the machine.
-use Rattle.std.specs.Prelude.{◌≡◌, ◌≤◌, ◌+◌, ◌-◌, ◌^◌, ℕ, min, ℤ, true, List, [], length, take, drop, Option, Some, None, option_map}
+use Rattle.std.specs.Prelude.{◌≡◌, ◌≤◌, ◌+◌, ◌-◌, ◌^◌, ℕ, min, ℤ, true, List, [], length, take, drop, Option, Some, None, is_some}
 use Rattle.bl_bytecode.specs.Code.{Code}
 use Rattle.bl_bytecode.specs.Laws.{begun, ended_as}
 use Rattle.bl_bytecode.specs.Machine.{Room, Runs}
@@ -11,7 +11,7 @@ use Rattle.bl_bytecode_machine.specs.Shown.{Shown}
 use Rattle.bl_cmeaning.specs.Cells.{outputs_of}
 use Rattle.bl_cmeaning.specs.Parts.{Parts}
 use Rattle.bl_cmeaning.specs.Sizes.{cells_needed}
-use Rattle.bl_cmeaning.specs.Trace.{reply_of, start_c, tick_c}
+use Rattle.bl_cmeaning.specs.Trace.{reply_of, start_cells, starts, tick_c}
 use Rattle.bl_cinterface.specs.Layout.{kinds_of}
 use Rattle.bl_cinterface.specs.Ports.{outputs_start}
 use Rattle.bl_crun.specs.Running.{types_of}
@@ -48,7 +48,8 @@ pub record CellsKeep (file : Parts) (cells : List ℤ) : Type 0 where
 
 -- a routine does what the start does
 pub record IsStart (file : Parts) (left : Left ℤ) : Type 0 where
-  pub state : option_map (λ n. first_cells file left.cells) left.answer ≡ start_c file
+  pub ready : is_some left.answer ≡ starts file
+  pub cells : first_cells file left.cells ≡ start_cells file
   pub keeps : CellsKeep file left.cells
 
 -- a routine does what a tick does

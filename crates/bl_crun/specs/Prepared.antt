@@ -1,5 +1,5 @@
 -- What a runner keeps of its file.
-use Rattle.std.specs.Prelude.{◌≡◌, ◌≤◌, ◌<◌, ◌+◌, ◌-◌, ◌^◌, ℕ, min, ℤ, Bool, true, false, List, length, take, drop, Option, Some, None, option_map, codes}
+use Rattle.std.specs.Prelude.{◌≡◌, ◌≤◌, ◌<◌, ◌+◌, ◌-◌, ◌^◌, ℕ, min, ℤ, true, List, length, take, drop, option_map, codes}
 use Rattle.bl_bytecode.specs.Laws.{code_of_file, entry_in_file}
 use Rattle.bl_bytecode_compiler.specs.Views.{entry_for}
 use Rattle.bl_cmeaning_laws.specs.Laws.{behind_objects}
@@ -34,11 +34,6 @@ pub record Keeps (file : Parts) (p : Prepared) : Type 0 where
 -- the numbers of the cells
 abbrev pub numbers_in : Prepared → List ℤ
 numbers_in p = take (length p.kinds.items) p.machine.state.cells
-
--- the same, where the start hasn't trapped
-abbrev pub state_of : Bool → Prepared → Option (List ℤ)
-state_of false p = None
-state_of true p = Some (numbers_in p)
 
 -- the numbers of the outputs
 abbrev pub outputs_in : Prepared → List ℤ

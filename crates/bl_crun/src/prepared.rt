@@ -4,9 +4,9 @@ ghost use Rattle.std.specs.Prelude.{◌≡◌, [], ◌∷◌, ℕ, ◌+◌, ◌<
 ghost use Rattle.bl_cmeaning_laws.specs.Fitting.{in_ranges};
 ghost use Rattle.bl_cmeaning.specs.Parts.{parts_of};
 ghost use Rattle.bl_cmeaning.specs.Sizes.{cells_needed};
-ghost use Rattle.bl_cmeaning.specs.Trace.{start_c};
+ghost use Rattle.bl_cmeaning.specs.Trace.{start_cells, starts};
 ghost use Rattle.bl_crun.specs.Cause.{IsCause, Runs};
-ghost use Rattle.bl_crun.specs.Prepared.{Keeps, Ticked, numbers_in, outputs_in, state_of};
+ghost use Rattle.bl_crun.specs.Prepared.{Keeps, Ticked, numbers_in, outputs_in};
 ghost use Rattle.bl_crun.specs.Running.{OutputsFit, row_fits, types_of, unless_trapped};
 
 use crate::call::{Called, call};
@@ -95,7 +95,8 @@ pub fn start(file: &CFile, prepared: &mut Prepared) -> bool
     requires keeps { Keeps (parts_of file.now) prepared.old }
     requires cleared { prepared.old.machine.state.cells ≡ replicate (cells_needed (parts_of file.now)) (pos 0) }
     ensures keeps { Keeps (parts_of file.now) prepared.new }
-    ensures state { state_of result prepared.new ≡ start_c (parts_of file.now) }
+    ensures ready { result ≡ starts (parts_of file.now) }
+    ensures cells { numbers_in prepared.new ≡ start_cells (parts_of file.now) }
 {
     starts_agree(file);
     let called = call(

@@ -1,6 +1,6 @@
 //! The runner of a file.
 
-ghost use Rattle.std.specs.Prelude.{◌≡◌, ◌↔◌, ◌<◌, ℤ, List as Elements, Some, true, length, slice_get, is_some, IfErr, IfOk, IsTrue, OnOk};
+ghost use Rattle.std.specs.Prelude.{◌≡◌, ◌<◌, Some, true, length, slice_get, IfErr, IfOk, OnOk};
 ghost use Rattle.bl_tree.specs.declared.scalar.Scalar.{Scalar as Kind};
 ghost use Rattle.bl_tree.specs.Scalar.{in_range};
 ghost use Rattle.bl_cmeaning_laws.specs.Fitting.{in_ranges};
@@ -31,14 +31,14 @@ impl Model for Runner {
     ghost use Rattle.bl_tree.specs.contracts.c.CStmt as stmt;
     ghost use Rattle.bl_tree.specs.contracts.c.CStmtKind as kind;
     ghost use Rattle.bl_cmeaning.specs.Parts.{parts_of};
-    ghost use Rattle.bl_crun.specs.Prepared.{Keeps, state_of};
+    ghost use Rattle.bl_crun.specs.Prepared.{Keeps, numbers_in};
     ghost use Rattle.bl_crun.specs.Running.{Running};
 
     ghost Value = { Running };
 
     ghost coded = { Prim.hlevel (codes, stmt.the_row.coded, kind.the_row.coded) };
 
-    ghost view = { λ r. record { parts = parts_of r.file; state = state_of r.ready r.prepared; live = r.live } };
+    ghost view = { λ r. record { parts = parts_of r.file; cells = numbers_in r.prepared; ready = r.ready; live = r.live } };
 
     ghost invariant = { λ r. Keeps (parts_of r.file) r.prepared };
 }
@@ -97,7 +97,7 @@ impl Runner {
 
     /// Whether the start hasn't trapped.
     pub fn ready(&self) -> bool
-        ensures { result ≡ is_some self.now.state }
+        ensures { result ≡ self.now.ready }
     {
         self.ready
     }
@@ -156,10 +156,10 @@ impl Runner {
         self.prepared.kinds[k as usize]
     }
 
-    /// The number of a cell.
+    /// The number of a cell, also where the start or a tick has trapped.
     pub fn cell(&self, k: u32) -> i128
         requires { k < length (cells_of self.now.parts) }
-        ensures number { (state : Elements ℤ) → self.now.state ≡ Some state → slice_get state k ≡ Some result }
+        ensures number { slice_get self.now.cells k ≡ Some result }
         ensures range { (kind : Kind) → slice_get (kinds_of self.now.parts) k ≡ Some kind → in_range kind result ≡ true }
     {
         self.prepared.machine.get(k as usize)

@@ -1,9 +1,10 @@
 -- Which words name something in a text of the C subset.
-use Rattle.std.specs.Prelude.{ℕ, Bool, false, not, ◌&&◌, ◌||◌, ◌==◌, nat_eq, List, [], ◌∷◌, ◌++◌, map, codes}
+use Rattle.std.specs.Prelude.{ℕ, Bool, false, not, ◌&&◌, ◌||◌, ◌==◌, nat_eq, List, [], ◌∷◌, map, codes}
 use Rattle.std.specs.Char.{is_ascii_digit}
 use Rattle.std.specs.List.{starts_with}
 use Rattle.std.specs.Cmp.Lexicographic.{pointwise}
-use Rattle.bl_tree.specs.Reduce.{all_of, any_of, joined}
+use Rattle.bl_tree.specs.Reduce.{all_of, any_of}
+use Rattle.bl_ctext.specs.Builtins.{builtins}
 use Rattle.bl_ctext.specs.Token.{is_word}
 
 -- whether the word is one of these
@@ -47,22 +48,9 @@ is_struct_name word = is_name word || is_among word (codes "bl_state" ∷ codes 
 unfoldable pub is_function_name : List ℕ → Bool
 is_function_name word = is_name word || is_among word (codes "bl_init" ∷ codes "bl_tick" ∷ [])
 
--- what the prelude names an operation on a type: `bl_`, the operation, `_` and the type
-abbrev pub prelude_names : List (List ℕ) → List (List ℕ) → List (List ℕ)
-prelude_names operations types = joined (map (λ o. map (λ t. codes "bl_" ++ (o ++ (codes "_" ++ t))) types) operations)
-
--- the functions of the prelude
+-- the names of the prelude's functions
 abbrev pub prelude_functions : List (List ℕ)
-prelude_functions =
-    codes "bl_turn" ∷ codes "bl_ix_s" ∷ codes "bl_ix_u" ∷ codes "bl_trap" ∷
-    (prelude_names
-    (codes "add" ∷ codes "sub" ∷ codes "mul" ∷ codes "div" ∷ codes "rem" ∷ codes "of_s" ∷ codes "of_u" ∷ [])
-    (codes "i8" ∷ codes "i16" ∷ codes "i32" ∷ codes "i64" ∷ codes "n8" ∷ codes "n16" ∷ codes "n32" ∷ codes "n64" ∷ codes "b8" ∷ codes "b16" ∷ codes "b32" ∷ codes "b64" ∷ [])
-    ++ (prelude_names (codes "neg" ∷ [])
-    (codes "i8" ∷ codes "i16" ∷ codes "i32" ∷ codes "i64" ∷ codes "b8" ∷ codes "b16" ∷ codes "b32" ∷ codes "b64" ∷ [])
-    ++ prelude_names
-    (codes "not" ∷ codes "and" ∷ codes "or" ∷ codes "xor" ∷ codes "shl" ∷ codes "shr" ∷ [])
-    (codes "b8" ∷ codes "b16" ∷ codes "b32" ∷ codes "b64" ∷ [])))
+prelude_functions = map (λ e. e.0) builtins
 
 -- a name, or that of a function of the prelude
 unfoldable pub is_callee : List ℕ → Bool

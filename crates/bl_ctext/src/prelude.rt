@@ -1,3 +1,5 @@
+//! The prelude of C texts.
+
 /// The lines that every text of the C subset begins with (docs/C_SUBSET.md, "The prelude").
 pub const PRELUDE: &[u8] = b"#include <stdbool.h>\n\
 #include <stdint.h>\n\

@@ -8,8 +8,8 @@ ghost use Rattle.bl_cmeaning.specs.Faults.{agree as agree_c, bool_type, earlier_
 
 use crate::check::context::{Callee, Context};
 use crate::check::first::{both, earlier, either, unless};
-use crate::check::names::find;
 use crate::check::types::{Ty, agree, fits_param, indexes, takes};
+use crate::maps::find;
 use bl_tree::c::{CArg, CCall, CExpr, CExprKind, CIndex, CMember, CPlace, CStep};
 use bl_tree::{Op, Place, Scalar};
 

@@ -11,9 +11,10 @@ ghost use Rattle.bl_cmeaning.specs.Tables.{found, table_of};
 
 use crate::check::context::{Structs, Variable};
 use crate::check::first::{both, either};
-use crate::check::names::{add, add_name};
+use crate::check::names::add_name;
 use crate::check::structs::is_declared;
 use crate::check::types::{Ty, is_scalar};
+use crate::maps::add;
 use bl_tree::NoMemory;
 use bl_tree::c::{CFunc, CLocal, CParam};
 use std::alloc::Global;

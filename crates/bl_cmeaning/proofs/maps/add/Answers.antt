@@ -2,7 +2,7 @@ use Rattle.std.proofs.lemmas.Map.Text.{hash_map_updates_str}
 use Rattle.std.proofs.Common.{◌∙◌, sym}
 use Rattle.bl_cmeaning.specs.Maps.{text_at}
 use Rattle.bl_cmeaning.proofs.MapLemmas.{inserted}
-use Rattle.bl_bytecode_compiler.proofs.maps.add.Goals as goal
+use Rattle.bl_cmeaning.proofs.maps.add.Goals as goal
 
 pub returns-in-Ok : goal.returns-in-Ok
 returns-in-Ok g c = λ asked.

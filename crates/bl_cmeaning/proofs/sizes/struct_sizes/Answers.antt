@@ -4,7 +4,7 @@ use Rattle.bl_cmeaning.specs.Sizes.{sizes}
 use Rattle.bl_cmeaning.specs.Tables.{with_entry}
 use Rattle.bl_cmeaning.proofs.ArgLemmas.{next_of}
 use Rattle.bl_cmeaning.proofs.SizeLemmas.{size-next}
-use Rattle.bl_cmeaning.proofs.check.sizes.struct_sizes.Goals as goal
+use Rattle.bl_cmeaning.proofs.sizes.struct_sizes.Goals as goal
 
 pub loop-of-preserved : goal.loop-of-preserved
 loop-of-preserved c =

@@ -3,11 +3,14 @@
 ghost use Rattle.std.specs.Prelude.{◌≡◌, is_some, List, OnOk, ℕ};
 ghost use Rattle.std.specs.Option.{option_or};
 ghost use Rattle.bl_cmeaning.specs.Maps.{named, text_at};
-ghost use Rattle.bl_cmeaning.specs.Tables.{found, with_entry};
+ghost use Rattle.bl_cmeaning.specs.Tables.{entry_or, found, with_entry};
 
 use bl_tree::NoMemory;
 use std::alloc::Global;
 use std::collections::HashMap;
+
+/// A number for each name that is known; 0 stands for the others.
+pub type Numbers<'a> = HashMap<&'a str, u64>;
 
 /// What stands under a name.
 pub fn find<'a, V: Copy>(map: &HashMap<&'a str, V>, name: &str) -> Option<V>
@@ -16,6 +19,7 @@ pub fn find<'a, V: Copy>(map: &HashMap<&'a str, V>, name: &str) -> Option<V>
     map.get(&name).copied()
 }
 
+/// Whether something stands under a name.
 pub fn has<'a, V>(map: &HashMap<&'a str, V>, name: &str) -> bool
     ensures { result ≡ is_some (text_at map.now name.now) }
 {
@@ -50,4 +54,11 @@ pub fn fill<'a, V: Copy>(
         add(map, name, *value)?;
     }
     Ok(())
+}
+
+/// The number of a name.
+pub fn number_of(numbers: &Numbers<'_>, name: &str) -> u64
+    ensures { result ≡ entry_or 0 (text_at numbers.now) name.now }
+{
+    find(numbers, name).unwrap_or(0)
 }

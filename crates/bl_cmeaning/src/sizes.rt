@@ -5,8 +5,7 @@ ghost use Rattle.bl_cmeaning.specs.Maps.{text_at};
 ghost use Rattle.bl_cmeaning.specs.Saturated.{AlikeSaturated, saturated};
 ghost use Rattle.bl_cmeaning.specs.Sizes.{size_of_member, size_of_struct, size_of_type, sizes as sizes_of_structs};
 
-use crate::check::calls::{Numbers, number_of};
-use crate::check::names::add;
+use crate::maps::{Numbers, add, number_of};
 use bl_tree::NoMemory;
 use bl_tree::c::{CMember, CStruct, CType};
 use std::alloc::Global;
@@ -22,6 +21,7 @@ pub fn type_size(sizes: &Numbers<'_>, ty: &CType) -> u64
     }
 }
 
+/// How many scalars a member has.
 fn member_size(sizes: &Numbers<'_>, member: &CMember) -> u64
     ensures { result ≡ saturated (size_of_member (text_at sizes.now) member.now) }
 {
@@ -32,6 +32,7 @@ fn member_size(sizes: &Numbers<'_>, member: &CMember) -> u64
     }
 }
 
+/// How many scalars a struct has, where those of the structs in it are known.
 fn struct_size(sizes: &Numbers<'_>, of: &CStruct) -> u64
     ensures { result ≡ saturated (size_of_struct (text_at sizes.now) of.now) }
 {
@@ -43,7 +44,7 @@ fn struct_size(sizes: &Numbers<'_>, of: &CStruct) -> u64
     size
 }
 
-/// How many scalars each struct has.
+/// How many scalars each struct has. A number that 64 bits can't hold is told as 2^64 - 1.
 pub fn struct_sizes<'a>(alloc: Global, list: &'a [CStruct]) -> Result<Numbers<'a>, NoMemory>
     ensures { IfOk result (λ sizes. AlikeSaturated (text_at sizes) (sizes_of_structs list.now)) }
 {

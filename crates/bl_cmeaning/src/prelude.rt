@@ -1,9 +1,11 @@
+//! The functions of the prelude, found by their names.
+
 ghost use Rattle.std.specs.Prelude.{◌≡◌, ℕ, List};
 ghost use Rattle.bl_cmeaning.specs.Builtin.{builtin_of};
 ghost use Rattle.bl_cmeaning.specs.Maps.{text_at};
 
-use crate::builtin::{BUILTINS, Builtin};
-use crate::check::names;
+use crate::maps;
+use bl_ctext::{BUILTINS, Builtin};
 use bl_tree::NoMemory;
 use std::alloc::Global;
 use std::collections::HashMap;
@@ -16,15 +18,17 @@ pub struct Builtins {
 }
 
 impl Builtins {
+    /// All of them.
     pub fn new(alloc: Global) -> Result<Builtins, NoMemory> {
         let mut by_name = HashMap::new(alloc);
-        names::fill(&mut by_name, &BUILTINS)?;
+        maps::fill(&mut by_name, &BUILTINS)?;
         Ok(Builtins { by_name })
     }
 
+    /// What the function of a name does, `None` where there is none of this name.
     pub fn find(&self, name: &str) -> Option<Builtin>
         ensures { result ≡ builtin_of name.now }
     {
-        names::find(&self.by_name, name)
+        maps::find(&self.by_name, name)
     }
 }

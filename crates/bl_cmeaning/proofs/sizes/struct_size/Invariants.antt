@@ -4,7 +4,7 @@ use Rattle.bl_cmeaning.specs.Maps.{text_at}
 use Rattle.bl_cmeaning.specs.Saturated.{saturated}
 use Rattle.bl_cmeaning.specs.Sizes.{size_of_member}
 use Rattle.bl_cmeaning.proofs.SizeLemmas.{Summed}
-use Rattle.bl_cmeaning.proofs.check.sizes.struct_size.Given as goal
+use Rattle.bl_cmeaning.proofs.sizes.struct_size.Given as goal
 
 abbrev pub invariant-loop-member : goal.invariant-loop-member
 invariant-loop-member l =
