@@ -8,57 +8,31 @@ use Rattle.bl_tree.specs.declared.scalar.Op.{Op}
 use Rattle.bl_tree.specs.declared.scalar.Op.TheVariants.{And, Or}
 use Rattle.bl_tree.specs.declared.c.CType.{CType}
 use Rattle.bl_tree.specs.declared.c.CType.TheVariants.{Scalar as OfScalar, Struct as OfStruct}
-use Rattle.bl_tree.specs.declared.c.CArg.{CArg, fold-CArg, fold-roll-CArg}
+use Rattle.bl_tree.specs.declared.c.CArg.{CArg, fold-roll-CArg}
 use Rattle.bl_tree.specs.declared.c.CCall.{CCall, fold-roll-CCall}
 use Rattle.bl_tree.specs.declared.c.CExpr.{CExpr, fold-roll-CExpr}
-use Rattle.bl_tree.specs.declared.c.CExprKind.{CExprKind, fold-CExprKind, fold-roll-CExprKind}
-use Rattle.bl_tree.specs.declared.c.CIndex.{CIndex, fold-CIndex, fold-roll-CIndex}
+use Rattle.bl_tree.specs.declared.c.CExprKind.{CExprKind, fold-roll-CExprKind}
+use Rattle.bl_tree.specs.declared.c.CIndex.{CIndex, fold-roll-CIndex}
 use Rattle.bl_tree.specs.declared.c.CPlace.{CPlace, fold-roll-CPlace}
-use Rattle.bl_tree.specs.declared.c.CStep.{CStep, fold-CStep, fold-roll-CStep, roll-CStep}
+use Rattle.bl_tree.specs.declared.c.CStep.{CStep, fold-roll-CStep, roll-CStep}
 use Rattle.bl_tree.specs.Numbers.{is_one, number_of}
 use Rattle.bl_cmeaning.specs.Builtin.{builtin_of}
 use Rattle.bl_cmeaning.specs.Sizes.{Sizes, size_of_type}
 use Rattle.bl_cmeaning.specs.Tables.{Table}
 use Rattle.bl_cmeaning.proofs.Induction.{Optional, ExprCases, induct_call, induct_expr, induct_place}
-use Rattle.bl_cmeaning_laws.specs.Flat as flat
-use Rattle.bl_cmeaning_laws.specs.Flat.{Cells, Evaluates, Grounded, Left, Routine, address_of, at_once, call_flat, cell_at, cell_number, compared, left, next, reach_flat, read_at, two_values, value_flat}
+use Rattle.bl_cmeaning_laws.specs.Flat.{Evaluates, Left, Routine, address_of, at_once, call_flat, cell_at, compared, left, next, reach_flat, read_at, two_values, value_flat}
 use Rattle.bl_cmeaning_laws.specs.Layout.{Laid, Layouts, Slot, capped}
-use Rattle.bl_cmeaning_laws.specs.Reaching.{Ground, Index, Reach, Step, laid_in, near, nowhere, onward, reach_along, reach_member, start_of_slot, through}
-use Rattle.bl_bytecode.specs.Code as coded
-use Rattle.bl_bytecode.specs.Code.{Code, Coded, Entry, code_of, code_of_call, fetch_code, reach_code, reach_of, two_code}
+use Rattle.bl_cmeaning_laws.specs.Reaching.{Ground, Index, Reach, laid_in, near, nowhere, onward, reach_along, reach_member, start_of_slot, through}
+use Rattle.bl_cmeaning_laws.proofs.Folds.{arg_flat, index_flat, kind_flat, step_flat}
+use Rattle.bl_bytecode.specs.Code.{Code, Entry, arg_code, code_of, code_of_call, fetch_code, reach_code, reach_of, two_code}
 use Rattle.bl_bytecode.specs.declared.instruction.Instruction.TheVariants as ins
 use Rattle.bl_bytecode.specs.Machine.{Room, State, goes, on, on_number, past, step_with}
 use Rattle.bl_bytecode.specs.Laws.{Arrives}
+use Rattle.bl_bytecode.proofs.Folds.{index_code, kind_code, step_code}
 use Rattle.bl_bytecode.proofs.Runs.{Span, ends-as, goes-on, ends-at, span-back, span-first, span-front, span-tail}
 use Rattle.bl_bytecode.proofs.Evaluations.{Fits, answers, answers-map, by-instruction, fits-fewer, fits-has, fits-to, gives, moved, sequence}
 use Rattle.bl_bytecode.proofs.Places.{Leads, Pushes, Terms, address-capped, is-capped, reach-runs, terms-append}
 use Rattle.bl_bytecode.proofs.Calls.{Args, Knows, calling-runs}
-
--- ---- the folds of each kind
-
-abbrev arg_code : CArg → Coded Code
-arg_code = fold-CArg (Coded Code) (Coded Code) (Coded Code) (Coded Code) (Coded (Index Code)) (Coded (Reach Code)) (Step Entry Code) coded.arg_step coded.kind_step coded.call_step coded.expr_step coded.index_step coded.place_step coded.step_step
-
-abbrev kind_code : CExprKind → Coded Code
-kind_code = fold-CExprKind (Coded Code) (Coded Code) (Coded Code) (Coded Code) (Coded (Index Code)) (Coded (Reach Code)) (Step Entry Code) coded.arg_step coded.kind_step coded.call_step coded.expr_step coded.index_step coded.place_step coded.step_step
-
-abbrev index_code : CIndex → Coded (Index Code)
-index_code = fold-CIndex (Coded Code) (Coded Code) (Coded Code) (Coded Code) (Coded (Index Code)) (Coded (Reach Code)) (Step Entry Code) coded.arg_step coded.kind_step coded.call_step coded.expr_step coded.index_step coded.place_step coded.step_step
-
-abbrev step_code : CStep → Step Entry Code
-step_code = fold-CStep (Coded Code) (Coded Code) (Coded Code) (Coded Code) (Coded (Index Code)) (Coded (Reach Code)) (Step Entry Code) coded.arg_step coded.kind_step coded.call_step coded.expr_step coded.index_step coded.place_step coded.step_step
-
-abbrev arg_flat : CArg → Grounded (Evaluates ℤ)
-arg_flat = fold-CArg (Grounded (Evaluates ℤ)) (Grounded (Evaluates ℤ)) (Grounded (Evaluates ℤ)) (Grounded (Evaluates ℤ)) (Grounded (Index (Evaluates ℤ))) (Grounded (Reach (Evaluates ℤ))) (Step Routine (Evaluates ℤ)) flat.arg_step flat.kind_step flat.call_step flat.expr_step flat.index_step flat.place_step flat.step_step
-
-abbrev kind_flat : CExprKind → Grounded (Evaluates ℤ)
-kind_flat = fold-CExprKind (Grounded (Evaluates ℤ)) (Grounded (Evaluates ℤ)) (Grounded (Evaluates ℤ)) (Grounded (Evaluates ℤ)) (Grounded (Index (Evaluates ℤ))) (Grounded (Reach (Evaluates ℤ))) (Step Routine (Evaluates ℤ)) flat.arg_step flat.kind_step flat.call_step flat.expr_step flat.index_step flat.place_step flat.step_step
-
-abbrev index_flat : CIndex → Grounded (Index (Evaluates ℤ))
-index_flat = fold-CIndex (Grounded (Evaluates ℤ)) (Grounded (Evaluates ℤ)) (Grounded (Evaluates ℤ)) (Grounded (Evaluates ℤ)) (Grounded (Index (Evaluates ℤ))) (Grounded (Reach (Evaluates ℤ))) (Step Routine (Evaluates ℤ)) flat.arg_step flat.kind_step flat.call_step flat.expr_step flat.index_step flat.place_step flat.step_step
-
-abbrev step_flat : CStep → Step Routine (Evaluates ℤ)
-step_flat = fold-CStep (Grounded (Evaluates ℤ)) (Grounded (Evaluates ℤ)) (Grounded (Evaluates ℤ)) (Grounded (Evaluates ℤ)) (Grounded (Index (Evaluates ℤ))) (Grounded (Reach (Evaluates ℤ))) (Step Routine (Evaluates ℤ)) flat.arg_step flat.kind_step flat.call_step flat.expr_step flat.index_step flat.place_step flat.step_step
 
 -- ---- one more instruction
 

@@ -5,28 +5,21 @@ use Rattle.std.proofs.lemmas.List.{get_or-map, length-map, map-append}
 use Rattle.bl_tree.specs.Reduce.{joined}
 use Rattle.bl_tree.specs.declared.text.Text.{Text}
 use Rattle.bl_tree.specs.declared.c.CType.{CType}
-use Rattle.bl_tree.specs.declared.c.CIndex.{CIndex, fold-CIndex, fold-roll-CIndex, out-CIndex, roll-CIndex, roll-out-CIndex}
-use Rattle.bl_tree.specs.declared.c.CStep.{CStep, fold-CStep, fold-roll-CStep, out-CStep, roll-CStep, roll-out-CStep}
+use Rattle.bl_tree.specs.declared.c.CIndex.{CIndex, fold-roll-CIndex, out-CIndex, roll-out-CIndex}
+use Rattle.bl_tree.specs.declared.c.CStep.{CStep, fold-roll-CStep, out-CStep, roll-CStep, roll-out-CStep}
 use Rattle.bl_tree.specs.declared.c.CPlace.{CPlace, fold-roll-CPlace, out-CPlace, roll-CPlace, roll-out-CPlace}
 use Rattle.bl_tree.specs.declared.c.CArg.{CArg}
 use Rattle.bl_tree.specs.declared.c.CCall.{CCall, fold-roll-CCall, out-CCall, roll-CCall, roll-out-CCall}
 use Rattle.bl_cmeaning.specs.Builtin.{builtin_of}
-use Rattle.bl_cmeaning.specs.Sizes.{size_of_type}
 use Rattle.bl_cmeaning_laws.specs.Layout.{Laid, capped}
-use Rattle.bl_cmeaning_laws.specs.Reaching.{Ground, Index, Reach, Step, Term, element_terms, laid_in, onward, reach_along, reach_member, start_of_slot}
-use Rattle.bl_bytecode.specs.Code.{Code, Coded, Entry, arg_step, call_as, call_step, code_of, code_of_call, expr_step, index_step, kind_step, place_step, reach_code, reach_of, start_code, step_step, term_code}
+use Rattle.bl_cmeaning_laws.specs.Reaching.{Ground, Index, Reach, Term, laid_in, onward, reach_along, reach_member, start_of_slot}
+use Rattle.bl_bytecode.specs.Code.{Code, Entry, arg_code, call_as, code_of, code_of_call, reach_code, reach_of, start_code, term_code}
+use Rattle.bl_bytecode.proofs.Folds.{index_code, step_code}
 use Rattle.bl_bytecode_compiler.specs.declared.place.Root.{Root}
 use Rattle.bl_bytecode_compiler.specs.declared.place.Walk.{Walk}
 use Rattle.bl_bytecode_compiler.specs.declared.here.Laid.{Laid as CodeLaid}
-use Rattle.bl_bytecode_compiler.specs.Coded.{arg_code}
 use Rattle.bl_bytecode_compiler.specs.Views.{laid_of}
 use Rattle.bl_bytecode_compiler.specs.Walks.{IsWalk, cells_before, found_along, founds_of, passed_along, root_of, term_if, terms_along, type_along, type_found}
-
-abbrev index_code : CIndex → Coded (Index Code)
-index_code = fold-CIndex (Coded Code) (Coded Code) (Coded Code) (Coded Code) (Coded (Index Code)) (Coded (Reach Code)) (Step Entry Code) arg_step kind_step call_step expr_step index_step place_step step_step
-
-abbrev step_code : CStep → Step Entry Code
-step_code = fold-CStep (Coded Code) (Coded Code) (Coded Code) (Coded Code) (Coded (Index Code)) (Coded (Reach Code)) (Step Entry Code) arg_step kind_step call_step expr_step index_step place_step step_step
 
 module _ (here : Ground Entry) where
   abbrev shown : CIndex → Index Code

@@ -1,3 +1,5 @@
+//! Structs by name.
+
 ghost use Rattle.std.specs.Prelude.{◌≡◌, ℕ, List, IfOk};
 ghost use Rattle.bl_cmeaning.specs.Maps.{text_at};
 ghost use Rattle.bl_cinterface.specs.Layout.{placed, placed_before};

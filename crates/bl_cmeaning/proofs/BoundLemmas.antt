@@ -1,63 +1,37 @@
 -- No statement, function or tick executes more statements than its cost.
-use Rattle.std.proofs.Common.{◌≡◌, ℕ, zero, suc, ◌+◌, ◌*◌, ◌≤◌, ℤ, pos, Bool, true, false, max, List, [], ◌∷◌, ◌++◌, map, Option, Some, None, refl, sym, subst, ap, ◌∙◌, arith}
+use Rattle.std.proofs.Common.{◌≡◌, ℕ, zero, suc, ◌+◌, ◌*◌, ◌≤◌, ℤ, pos, Bool, true, false, max, List, [], ◌∷◌, ◌++◌, map, Option, Some, None, refl, subst, ◌∙◌, arith}
 use Rattle.std.specs.Prelude.{All, if◌then◌else◌, option_map, unwrap_or, is_none, bytes_eq, codes}
 use Rattle.std.specs.Option.{option_or}
 use Rattle.std.proofs.lemmas.List.Elements.{All-head, All-tail}
 use Rattle.bl_tree.specs.declared.text.Text.{Text}
-use Rattle.bl_tree.specs.declared.c.CArg.{CArg, fold-CArg, fold-roll-CArg}
-use Rattle.bl_tree.specs.declared.c.CCall.{CCall, fold-CCall, fold-roll-CCall}
-use Rattle.bl_tree.specs.declared.c.CExpr.{CExpr, fold-CExpr, fold-roll-CExpr}
-use Rattle.bl_tree.specs.declared.c.CExprKind.{CExprKind, fold-CExprKind, fold-roll-CExprKind}
-use Rattle.bl_tree.specs.declared.c.CIndex.{CIndex, fold-CIndex, fold-roll-CIndex}
-use Rattle.bl_tree.specs.declared.c.CPlace.{CPlace, fold-CPlace, fold-roll-CPlace}
-use Rattle.bl_tree.specs.declared.c.CStep.{CStep, fold-CStep, fold-roll-CStep, roll-CStep}
+use Rattle.bl_tree.specs.declared.c.CArg.{CArg, fold-roll-CArg}
+use Rattle.bl_tree.specs.declared.c.CCall.{CCall, fold-roll-CCall}
+use Rattle.bl_tree.specs.declared.c.CExpr.{CExpr, fold-roll-CExpr}
+use Rattle.bl_tree.specs.declared.c.CExprKind.{CExprKind, fold-roll-CExprKind}
+use Rattle.bl_tree.specs.declared.c.CIndex.{CIndex, fold-roll-CIndex}
+use Rattle.bl_tree.specs.declared.c.CPlace.{CPlace, fold-roll-CPlace}
+use Rattle.bl_tree.specs.declared.c.CStep.{CStep, fold-roll-CStep, roll-CStep}
 use Rattle.bl_tree.specs.declared.c.CStmt.{CStmt, fold-roll-CStmt}
 use Rattle.bl_tree.specs.declared.c.CStmtKind.{fold-roll-CStmtKind}
 use Rattle.bl_tree.specs.declared.c.CStmtKind.TheOpen.{CStmtKind-F}
 use Rattle.bl_tree.specs.declared.c.CFunc.{CFunc}
 use Rattle.bl_tree.specs.declared.place.Place.{Place}
 use Rattle.bl_tree.specs.Reduce.{joined, total}
-use Rattle.bl_tree.proofs.ReduceLemmas.{total-append}
 use Rattle.bl_tree.specs.declared.scalar.Op.{Op}
 use Rattle.bl_tree.specs.declared.scalar.Op.TheVariants.{And, Or, Not}
 use Rattle.bl_tree.specs.declared.scalar.Scalar.TheVariants.{Bool as OfBool}
 use Rattle.bl_tree.specs.Numbers.{checked_of, checked_one_of, is_one}
-use Rattle.bl_cmeaning.specs.Memory.{Memory, CValue, Location, Part, member, number_in, scalar, value_at, set_at, zeros, without_frame}
+use Rattle.bl_cmeaning.specs.Memory.{Memory, CValue, member, number_in, scalar, value_at, set_at, zeros, without_frame}
 use Rattle.bl_cmeaning.specs.Tables.{found, Table, no_entries, table_of, with_entry, entry_or}
 use Rattle.bl_ctext.specs.declared.builtin.Builtin.{Builtin}
 use Rattle.bl_cmeaning.specs.Builtin.{builtin_of, index_within}
-use Rattle.bl_cmeaning.specs.Meaning.{Counted, given, going_on, next, Passed, by_value, by_address, Called, Meaning, further, start_of, way_of, element_at, Scope, applied, called, called_as, called_after, Evaluates, each_of, at_once, two_values, result_of, arg_step, kind_step, call_step, expr_step, index_step, place_step, step_step, value_c, location_c, call_c, Outcome, End, goes_on, breaks, returns, traps, Runs, after, following, following_end, block_of, block_or_none, ended_by, turn_end, turn_or_none, once_more, turns, turn_limit, runs_c, block_c, function_c, meanings_after, meanings, going, returning, executed, pointers_of, with_params}
-use Rattle.bl_cmeaning.specs.Calls.{Names, arg_calls, kind_calls, call_calls, expr_calls, index_calls, place_calls, step_calls, calls_in, calls_in_place, calls_in_call}
-use Rattle.bl_cmeaning.specs.Cost.{Costs, cost_of_calls, block_cost, other_cost, cost_of_stmt, cost_of_function, costs_after, costs as all_costs, bound}
+use Rattle.bl_cmeaning.specs.Meaning.{Counted, given, going_on, next, Passed, by_value, by_address, Meaning, further, start_of, way_of, element_at, Scope, applied, called, called_as, called_after, Evaluates, each_of, at_once, two_values, value_c, location_c, call_c, Outcome, End, goes_on, breaks, returns, traps, Runs, after, following_end, block_of, block_or_none, ended_by, turn_end, turn_or_none, turns, turn_limit, runs_c, block_c, function_c, meanings_after, meanings, going, returning, executed, pointers_of, with_params}
+use Rattle.bl_cmeaning.specs.Calls.{calls_in, calls_in_arg, calls_in_place, calls_in_call, calls_in_step}
+use Rattle.bl_cmeaning.proofs.Folds.{arg_c, calls_in_index, calls_in_kind, index_c, kind_c, step_c}
+use Rattle.bl_cmeaning.specs.Cost.{Costs, cost_of_calls, block_cost, cost_of_stmt, cost_of_function, costs_after, costs as all_costs, bound}
 use Rattle.bl_cmeaning.specs.Trace.{entered, tick_c}
 use Rattle.bl_cmeaning.specs.Parts.{Parts}
 use Rattle.bl_cmeaning.proofs.Induction.{Optional, ExprCases, induct_expr, induct_place, induct_call, StmtCases, induct_stmt, stmt}
-
--- ---- the seven folds of each kind
-
-abbrev arg_c : CArg → Evaluates Passed
-arg_c = fold-CArg (Evaluates Passed) (Evaluates CValue) (Scope → Memory → Called) (Evaluates CValue) (Evaluates (List Part)) (Evaluates Location) (Evaluates (List Part)) arg_step kind_step call_step expr_step index_step place_step step_step
-
-abbrev kind_c : CExprKind → Evaluates CValue
-kind_c = fold-CExprKind (Evaluates Passed) (Evaluates CValue) (Scope → Memory → Called) (Evaluates CValue) (Evaluates (List Part)) (Evaluates Location) (Evaluates (List Part)) arg_step kind_step call_step expr_step index_step place_step step_step
-
-abbrev index_c : CIndex → Evaluates (List Part)
-index_c = fold-CIndex (Evaluates Passed) (Evaluates CValue) (Scope → Memory → Called) (Evaluates CValue) (Evaluates (List Part)) (Evaluates Location) (Evaluates (List Part)) arg_step kind_step call_step expr_step index_step place_step step_step
-
-abbrev step_c : CStep → Evaluates (List Part)
-step_c = fold-CStep (Evaluates Passed) (Evaluates CValue) (Scope → Memory → Called) (Evaluates CValue) (Evaluates (List Part)) (Evaluates Location) (Evaluates (List Part)) arg_step kind_step call_step expr_step index_step place_step step_step
-
-abbrev calls_in_arg : CArg → Names
-calls_in_arg = fold-CArg Names Names Names Names Names Names Names arg_calls kind_calls call_calls expr_calls index_calls place_calls step_calls
-
-abbrev calls_in_kind : CExprKind → Names
-calls_in_kind = fold-CExprKind Names Names Names Names Names Names Names arg_calls kind_calls call_calls expr_calls index_calls place_calls step_calls
-
-abbrev calls_in_index : CIndex → Names
-calls_in_index = fold-CIndex Names Names Names Names Names Names Names arg_calls kind_calls call_calls expr_calls index_calls place_calls step_calls
-
-abbrev calls_in_step : CStep → Names
-calls_in_step = fold-CStep Names Names Names Names Names Names Names arg_calls kind_calls call_calls expr_calls index_calls place_calls step_calls
 
 -- ---- counts of what comes one after the other
 

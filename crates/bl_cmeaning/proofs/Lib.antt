@@ -4,6 +4,7 @@ pub mod CallLemmas
 pub mod DeclaredLemmas
 pub mod EndLemmas
 pub mod FirstLemmas
+pub mod Folds
 pub mod Induction
 pub mod MapLemmas
 pub mod NameLemmas

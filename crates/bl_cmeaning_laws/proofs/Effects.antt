@@ -21,11 +21,11 @@ use Rattle.bl_cmeaning.specs.Memory.{Part, Root, variable, Location, CValue, Mem
 use Rattle.bl_cmeaning.specs.Meaning.{Counted, Evaluates, Meaning, Passed, by_address, by_value, Scope, End, goes_on, breaks, returns, traps, Outcome, Runs, after, block_c, block_of, block_or_none, call_c, called_after, called_as, each_of, ended_by, executed, following_end, further, given, going, going_on, location_c, next, returning, runs_c, start_of, turn_end, turn_limit, turn_or_none, turns, value_c, way_of}
 use Rattle.bl_cmeaning.specs.Faults.{Context, JudgedArg, Signature, agree, arguments, assigned_type, block_faults, changes_nothing, condition_faults, declared_before, faults_in_stmt, fit_args, hands_on, judged_arg, judged_call, judged_expr, judged_place, signature_as, signature_of, unless}
 use Rattle.bl_cmeaning.proofs.EndLemmas.{nil-left, nil-right}
+use Rattle.bl_cmeaning.proofs.Folds.{arg_c, step_c}
 use Rattle.bl_cmeaning.proofs.Induction.{ExprCases, Optional, StmtCases, induct_call, induct_place, induct_stmt, stmt}
 use Rattle.bl_cmeaning_laws.proofs.Faultless.{unless-nil}
 use Rattle.bl_cmeaning_laws.proofs.Running.{Ends, Keeps, Unsafe}
 use Rattle.bl_cmeaning_laws.proofs.Standing.{root-is}
-use Rattle.bl_cmeaning_laws.proofs.Expressions.{arg_c, step_c}
 
 falsely : (b : Bool) → not b ≡ true → b ≡ false
 falsely false h = refl

@@ -11,31 +11,32 @@ use Rattle.bl_tree.specs.declared.scalar.Op.{Op}
 use Rattle.bl_tree.specs.declared.scalar.Op.TheVariants.{Add, Sub, Mul, Div, Rem, Minus, BitAnd, BitOr, BitXor, BitNot, Shl, Shr, Eq, Ne, Lt, Le, Gt, Ge, And, Or, Not}
 use Rattle.bl_tree.specs.declared.c.CType.{CType}
 use Rattle.bl_tree.specs.declared.c.CType.TheVariants.{Scalar as OfScalar, Struct as OfStruct}
-use Rattle.bl_tree.specs.declared.c.CArg.{CArg, fold-CArg, fold-roll-CArg}
+use Rattle.bl_tree.specs.declared.c.CArg.{CArg, fold-roll-CArg}
 use Rattle.bl_tree.specs.declared.c.CCall.{CCall, fold-roll-CCall}
 use Rattle.bl_tree.specs.declared.c.CExpr.{CExpr, fold-roll-CExpr}
-use Rattle.bl_tree.specs.declared.c.CExprKind.{CExprKind, fold-CExprKind, fold-roll-CExprKind}
-use Rattle.bl_tree.specs.declared.c.CIndex.{CIndex, fold-CIndex, fold-roll-CIndex}
+use Rattle.bl_tree.specs.declared.c.CExprKind.{CExprKind, fold-roll-CExprKind}
+use Rattle.bl_tree.specs.declared.c.CIndex.{CIndex, fold-roll-CIndex}
 use Rattle.bl_tree.specs.declared.c.CPlace.{CPlace, fold-roll-CPlace}
-use Rattle.bl_tree.specs.declared.c.CStep.{CStep, fold-CStep, fold-roll-CStep, roll-CStep}
+use Rattle.bl_tree.specs.declared.c.CStep.{CStep, fold-roll-CStep, roll-CStep}
 use Rattle.bl_tree.specs.Scalar.{in_range}
 use Rattle.bl_tree.specs.Numbers.{checked_of, checked_one_of, is_one, number_of}
 use Rattle.bl_tree.specs.Reduce.{all_of, joined}
 use Rattle.bl_ctext.specs.Spellable.{is_c_operator, is_length, is_literal, spells_arg, spells_call, spells_expr, spells_index, spells_kind, spells_place, spells_step}
-use Rattle.bl_cmeaning.specs.Memory.{Part, Location, CValue, Memory, number_in, scalar, value_at}
-use Rattle.bl_cmeaning.specs.Meaning.{Called, Counted, Evaluates as EvaluatesC, Passed, by_address, by_value, Scope, arg_step as arg_step_c, at_once as at_once_c, call_c, call_step as call_step_c, called_after, each_of as each_of_c, element_at, expr_step as expr_step_c, further, given, index_step as index_step_c, kind_step as kind_step_c, location_c, next as next_c, place_step as place_step_c, result_of, start_of, step_step as step_step_c, way_of, two_values as two_values_c, value_c}
+use Rattle.bl_cmeaning.specs.Memory.{Location, CValue, Memory, number_in, scalar, value_at}
+use Rattle.bl_cmeaning.specs.Meaning.{Called, Counted, Evaluates as EvaluatesC, Passed, by_address, by_value, Scope, at_once as at_once_c, call_c, called_after, each_of as each_of_c, element_at, further, given, location_c, next as next_c, result_of, start_of, way_of, two_values as two_values_c, value_c}
 use Rattle.bl_cmeaning.specs.Sizes.{Sizes}
 use Rattle.bl_cmeaning.specs.Tables.{Table, entry_or}
-use Rattle.bl_cmeaning.specs.Calls.{Names, arg_calls, call_calls, calls_in, calls_in_arg, calls_in_call, calls_in_place, calls_in_step, expr_calls, index_calls, kind_calls, most, place_calls, step_calls}
+use Rattle.bl_cmeaning.specs.Calls.{calls_in, calls_in_arg, calls_in_call, calls_in_place, calls_in_step, most}
 use Rattle.bl_ctext.specs.Names.{is_callee, is_name}
 use Rattle.bl_cmeaning.specs.Builtin.{index_within}
-use Rattle.bl_cmeaning.specs.Faults.{declared_before, arguments, changes_nothing, hands_on, indexes, indices, operand_type, void_as_statement, Context, Judged, JudgedArg, JudgedCall, JudgedIndex, JudgedPlace, Judges, Signature, Steps, agree, bool_type, fit_args, if_typed, is_void, judge_arg, judge_call, judge_expr, judge_index, judge_into, judge_kind, judge_place, judge_root, judge_step, judge_steps, judged_arg, judged_call, judged_expr, judged_index, judged_place, judged_step, known_result, result_type, same_type, signature_of, takes, unless}
+use Rattle.bl_cmeaning.specs.Faults.{declared_before, arguments, changes_nothing, hands_on, indexes, indices, operand_type, void_as_statement, Context, JudgedArg, Signature, agree, bool_type, fit_args, if_typed, is_void, judge_into, judge_root, judge_steps, judged_arg, judged_call, judged_expr, judged_index, judged_place, judged_step, known_result, result_type, same_type, signature_of, takes, unless}
+use Rattle.bl_cmeaning.proofs.Folds.{arg_c, calls_in_index, calls_in_kind, index_c, judged_kind, kind_c, step_c}
 use Rattle.bl_cmeaning.proofs.CallLemmas.{most-append}
 use Rattle.bl_cmeaning.proofs.EndLemmas.{nil-left, nil-right}
 use Rattle.bl_cmeaning.proofs.Induction.{ExprCases, Optional, induct_call, induct_expr, induct_place}
 use Rattle.bl_cmeaning_laws.proofs.Lists.{and-left, and-right}
-use Rattle.bl_cmeaning_laws.specs.Reaching.{Ground, Index, Reach, Step, reach_along, start_of_slot}
-use Rattle.bl_cmeaning_laws.specs.Flat.{Cells, Evaluates, Grounded, Left, Routine, address_of, arg_step, at_once, call_flat, call_step, called, cell_at, compared, each_of, expr_step, index_step, kind_step, left, next, place_step, reach_flat, read_at, step_step, two_values, value_flat}
+use Rattle.bl_cmeaning_laws.specs.Reaching.{Ground, reach_along, start_of_slot}
+use Rattle.bl_cmeaning_laws.specs.Flat.{Cells, Evaluates, Left, Routine, address_of, at_once, call_flat, called, cell_at, compared, each_of, left, next, reach_flat, read_at, two_values, value_flat}
 use Rattle.bl_cmeaning_laws.proofs.Faultless.{unless-nil}
 use Rattle.bl_cmeaning_laws.proofs.Ways.{Lists, Shaped, Structs}
 use Rattle.bl_cmeaning_laws.proofs.Standing.{PlacedAt, Stands, World, range-part, read-scalar, same-memory}
@@ -44,41 +45,7 @@ use Rattle.bl_cmeaning_laws.proofs.Running.{Located, Ranged, Running, Valued}
 use Rattle.bl_cmeaning_laws.proofs.Values.{PassedList, Passes, literal-fits, operand-number, truth-fits, value-agrees, value-typed}
 use Rattle.bl_cmeaning_laws.proofs.FlatPlaces.{IndexFacts, PlaceFacts, StepFacts, StepsFacts, index-agrees, no-steps, place-agrees, step-before, step-indexed, step-plain}
 use Rattle.bl_cmeaning_laws.proofs.Calls.{CallFacts, call-agrees}
-
--- ---- the folds of each kind
-
-abbrev pub arg_c : CArg → EvaluatesC Passed
-arg_c = fold-CArg (EvaluatesC Passed) (EvaluatesC CValue) (Scope → Memory → Called) (EvaluatesC CValue) (EvaluatesC (List Part)) (EvaluatesC Location) (EvaluatesC (List Part)) arg_step_c kind_step_c call_step_c expr_step_c index_step_c place_step_c step_step_c
-
-abbrev kind_c : CExprKind → EvaluatesC CValue
-kind_c = fold-CExprKind (EvaluatesC Passed) (EvaluatesC CValue) (Scope → Memory → Called) (EvaluatesC CValue) (EvaluatesC (List Part)) (EvaluatesC Location) (EvaluatesC (List Part)) arg_step_c kind_step_c call_step_c expr_step_c index_step_c place_step_c step_step_c
-
-abbrev index_c : CIndex → EvaluatesC (List Part)
-index_c = fold-CIndex (EvaluatesC Passed) (EvaluatesC CValue) (Scope → Memory → Called) (EvaluatesC CValue) (EvaluatesC (List Part)) (EvaluatesC Location) (EvaluatesC (List Part)) arg_step_c kind_step_c call_step_c expr_step_c index_step_c place_step_c step_step_c
-
-abbrev pub step_c : CStep → EvaluatesC (List Part)
-step_c = fold-CStep (EvaluatesC Passed) (EvaluatesC CValue) (Scope → Memory → Called) (EvaluatesC CValue) (EvaluatesC (List Part)) (EvaluatesC Location) (EvaluatesC (List Part)) arg_step_c kind_step_c call_step_c expr_step_c index_step_c place_step_c step_step_c
-
-abbrev arg_flat : CArg → Grounded (Evaluates ℤ)
-arg_flat = fold-CArg (Grounded (Evaluates ℤ)) (Grounded (Evaluates ℤ)) (Grounded (Evaluates ℤ)) (Grounded (Evaluates ℤ)) (Grounded (Index (Evaluates ℤ))) (Grounded (Reach (Evaluates ℤ))) (Step Routine (Evaluates ℤ)) arg_step kind_step call_step expr_step index_step place_step step_step
-
-abbrev kind_flat : CExprKind → Grounded (Evaluates ℤ)
-kind_flat = fold-CExprKind (Grounded (Evaluates ℤ)) (Grounded (Evaluates ℤ)) (Grounded (Evaluates ℤ)) (Grounded (Evaluates ℤ)) (Grounded (Index (Evaluates ℤ))) (Grounded (Reach (Evaluates ℤ))) (Step Routine (Evaluates ℤ)) arg_step kind_step call_step expr_step index_step place_step step_step
-
-abbrev index_flat : CIndex → Grounded (Index (Evaluates ℤ))
-index_flat = fold-CIndex (Grounded (Evaluates ℤ)) (Grounded (Evaluates ℤ)) (Grounded (Evaluates ℤ)) (Grounded (Evaluates ℤ)) (Grounded (Index (Evaluates ℤ))) (Grounded (Reach (Evaluates ℤ))) (Step Routine (Evaluates ℤ)) arg_step kind_step call_step expr_step index_step place_step step_step
-
-abbrev step_flat : CStep → Step Routine (Evaluates ℤ)
-step_flat = fold-CStep (Grounded (Evaluates ℤ)) (Grounded (Evaluates ℤ)) (Grounded (Evaluates ℤ)) (Grounded (Evaluates ℤ)) (Grounded (Index (Evaluates ℤ))) (Grounded (Reach (Evaluates ℤ))) (Step Routine (Evaluates ℤ)) arg_step kind_step call_step expr_step index_step place_step step_step
-
-abbrev judged_kind : CExprKind → Judges Judged
-judged_kind = fold-CExprKind (Judges JudgedArg) (Judges Judged) (Judges JudgedCall) (Context → Judged) (Judges JudgedIndex) (Judges JudgedPlace) Steps judge_arg judge_kind judge_call judge_expr judge_index judge_place judge_step
-
-abbrev calls_in_kind : CExprKind → Names
-calls_in_kind = fold-CExprKind Names Names Names Names Names Names Names arg_calls kind_calls call_calls expr_calls index_calls place_calls step_calls
-
-abbrev calls_in_index : CIndex → Names
-calls_in_index = fold-CIndex Names Names Names Names Names Names Names arg_calls kind_calls call_calls expr_calls index_calls place_calls step_calls
+use Rattle.bl_cmeaning_laws.proofs.Folds.{arg_flat, index_flat, kind_flat, step_flat}
 
 -- each function of these has the cells that it needs
 pub record RoomFor (chains : Table ℕ) (top limit : ℕ) (names : List Text) : Type 0 where

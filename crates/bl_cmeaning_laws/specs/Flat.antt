@@ -20,6 +20,7 @@ use Rattle.bl_tree.specs.Numbers.{is_one, number_of, takes_one, takes_two}
 use Rattle.bl_ctext.specs.declared.builtin.Builtin.{Builtin}
 use Rattle.bl_ctext.specs.declared.builtin.Builtin.TheVariants.{One, Two}
 use Rattle.bl_cmeaning.specs.Builtin.{builtin_of, builtin_params, builtin_value, index_within}
+use Rattle.bl_cmeaning.specs.Folds.{OpenPart}
 use Rattle.bl_cmeaning.specs.Meaning.{End, goes_on, breaks, returns, traps, result_at, turn_limit}
 use Rattle.bl_cmeaning.specs.Sizes.{Sizes}
 use Rattle.bl_cmeaning.specs.Tables.{Table, with_entry, entry_or}
@@ -152,11 +153,15 @@ called here name base args cells = called_as (builtin_of name) (here.known name)
 abbrev pub Grounded : Type 0 → Type 0
 Grounded A = Ground Routine → A
 
-abbrev pub arg_step : CArg-F (Grounded (Evaluates ℤ)) (Grounded (Evaluates ℤ)) (Grounded (Evaluates ℤ)) (Grounded (Evaluates ℤ)) (Grounded (Index (Evaluates ℤ))) (Grounded (Reach (Evaluates ℤ))) (Step Routine (Evaluates ℤ)) → Grounded (Evaluates ℤ)
+-- a part of an expression, where each part within it is evaluated so
+abbrev pub Evaluating : OpenPart → Type 0
+Evaluating Part = Part (Grounded (Evaluates ℤ)) (Grounded (Evaluates ℤ)) (Grounded (Evaluates ℤ)) (Grounded (Evaluates ℤ)) (Grounded (Index (Evaluates ℤ))) (Grounded (Reach (Evaluates ℤ))) (Step Routine (Evaluates ℤ))
+
+abbrev pub arg_step : Evaluating CArg-F → Grounded (Evaluates ℤ)
 arg_step (CArg-F.Value value) here base cells = value here base cells
 arg_step (CArg-F.Address place) here base cells = next (address_of (place here) base cells) (λ after k. left after (Some (pos k)))
 
-abbrev pub kind_step : CExprKind-F (Grounded (Evaluates ℤ)) (Grounded (Evaluates ℤ)) (Grounded (Evaluates ℤ)) (Grounded (Evaluates ℤ)) (Grounded (Index (Evaluates ℤ))) (Grounded (Reach (Evaluates ℤ))) (Step Routine (Evaluates ℤ)) → Grounded (Evaluates ℤ)
+abbrev pub kind_step : Evaluating CExprKind-F → Grounded (Evaluates ℤ)
 kind_step (CExprKind-F.Literal type n) here base cells = left cells (Some n)
 kind_step (CExprKind-F.Read place) here base cells =
     next (address_of (place here) base cells) (λ after k. left after (Some (read_at (place here).ty after k)))
@@ -165,36 +170,36 @@ kind_step (CExprKind-F.Not operand) here base cells =
     next (operand here base cells) (λ after a. left after (Some (number_of (if is_one a then false else true))))
 kind_step (CExprKind-F.Two op first second) here base cells = two_values op (first here) (second here) base cells
 
-abbrev pub call_step : CCall-F (Grounded (Evaluates ℤ)) (Grounded (Evaluates ℤ)) (Grounded (Evaluates ℤ)) (Grounded (Evaluates ℤ)) (Grounded (Index (Evaluates ℤ))) (Grounded (Reach (Evaluates ℤ))) (Step Routine (Evaluates ℤ)) → Grounded (Evaluates ℤ)
+abbrev pub call_step : Evaluating CCall-F → Grounded (Evaluates ℤ)
 call_step call here base cells =
     next (each_of (map (λ arg. arg here) call.args) base cells) (λ after args. called here call.name base args after)
 
-abbrev pub expr_step : CExpr-F (Grounded (Evaluates ℤ)) (Grounded (Evaluates ℤ)) (Grounded (Evaluates ℤ)) (Grounded (Evaluates ℤ)) (Grounded (Index (Evaluates ℤ))) (Grounded (Reach (Evaluates ℤ))) (Step Routine (Evaluates ℤ)) → Grounded (Evaluates ℤ)
+abbrev pub expr_step : Evaluating CExpr-F → Grounded (Evaluates ℤ)
 expr_step expr = expr.what
 
-abbrev pub index_step : CIndex-F (Grounded (Evaluates ℤ)) (Grounded (Evaluates ℤ)) (Grounded (Evaluates ℤ)) (Grounded (Evaluates ℤ)) (Grounded (Index (Evaluates ℤ))) (Grounded (Reach (Evaluates ℤ))) (Step Routine (Evaluates ℤ)) → Grounded (Index (Evaluates ℤ))
+abbrev pub index_step : Evaluating CIndex-F → Grounded (Index (Evaluates ℤ))
 index_step index here = record { length = index.length; index = index.at here }
 
-abbrev pub place_step : CPlace-F (Grounded (Evaluates ℤ)) (Grounded (Evaluates ℤ)) (Grounded (Evaluates ℤ)) (Grounded (Evaluates ℤ)) (Grounded (Index (Evaluates ℤ))) (Grounded (Reach (Evaluates ℤ))) (Step Routine (Evaluates ℤ)) → Grounded (Reach (Evaluates ℤ))
+abbrev pub place_step : Evaluating CPlace-F → Grounded (Reach (Evaluates ℤ))
 place_step place here = reach_along place.steps here (start_of_slot (here.slots place.name))
 
 abbrev pub index_or_none : Option (Grounded (Index (Evaluates ℤ))) → Ground Routine → Option (Index (Evaluates ℤ))
 index_or_none index here = option_map (λ i. i here) index
 
-abbrev pub step_step : CStep-F (Grounded (Evaluates ℤ)) (Grounded (Evaluates ℤ)) (Grounded (Evaluates ℤ)) (Grounded (Evaluates ℤ)) (Grounded (Index (Evaluates ℤ))) (Grounded (Reach (Evaluates ℤ))) (Step Routine (Evaluates ℤ)) → Step Routine (Evaluates ℤ)
+abbrev pub step_step : Evaluating CStep-F → Step Routine (Evaluates ℤ)
 step_step step here ty = reach_member here (laid_in here ty step.member) (index_or_none step.index here)
 
 -- the value of an expression
 abbrev pub value_flat : CExpr → Grounded (Evaluates ℤ)
-value_flat = fold-CExpr (Grounded (Evaluates ℤ)) (Grounded (Evaluates ℤ)) (Grounded (Evaluates ℤ)) (Grounded (Evaluates ℤ)) (Grounded (Index (Evaluates ℤ))) (Grounded (Reach (Evaluates ℤ))) (Step Routine (Evaluates ℤ)) arg_step kind_step call_step expr_step index_step place_step step_step
+value_flat = fold-CExpr _ _ _ _ _ _ _ arg_step kind_step call_step expr_step index_step place_step step_step
 
 -- how a place is reached
 abbrev pub reach_flat : CPlace → Grounded (Reach (Evaluates ℤ))
-reach_flat = fold-CPlace (Grounded (Evaluates ℤ)) (Grounded (Evaluates ℤ)) (Grounded (Evaluates ℤ)) (Grounded (Evaluates ℤ)) (Grounded (Index (Evaluates ℤ))) (Grounded (Reach (Evaluates ℤ))) (Step Routine (Evaluates ℤ)) arg_step kind_step call_step expr_step index_step place_step step_step
+reach_flat = fold-CPlace _ _ _ _ _ _ _ arg_step kind_step call_step expr_step index_step place_step step_step
 
 -- what a call gives
 abbrev pub call_flat : CCall → Grounded (Evaluates ℤ)
-call_flat = fold-CCall (Grounded (Evaluates ℤ)) (Grounded (Evaluates ℤ)) (Grounded (Evaluates ℤ)) (Grounded (Evaluates ℤ)) (Grounded (Index (Evaluates ℤ))) (Grounded (Reach (Evaluates ℤ))) (Step Routine (Evaluates ℤ)) arg_step kind_step call_step expr_step index_step place_step step_step
+call_flat = fold-CCall _ _ _ _ _ _ _ arg_step kind_step call_step expr_step index_step place_step step_step
 
 -- ---- statements
 
