@@ -69,7 +69,7 @@ call_as here args None known = known_call here args known
 
 -- a part of an expression, where each part within it has this code
 abbrev pub Coding : OpenPart → Type 0
-Coding Part = Part (Coded Code) (Coded Code) (Coded Code) (Coded Code) (Coded (Index Code)) (Coded (Reach Code)) (Step Entry Code)
+Coding Of = Of (Coded Code) (Coded Code) (Coded Code) (Coded Code) (Coded (Index Code)) (Coded (Reach Code)) (Step Entry Code)
 
 abbrev pub arg_step : Coding CArg-F → Coded Code
 arg_step (CArg-F.Value value) here = value here

@@ -26,7 +26,7 @@ use Rattle.bl_cmeaning.specs.Tables.{found, Table, no_entries, table_of, with_en
 use Rattle.bl_ctext.specs.declared.builtin.Builtin.{Builtin}
 use Rattle.bl_cmeaning.specs.Builtin.{builtin_of, index_within}
 use Rattle.bl_cmeaning.specs.Meaning.{Counted, given, going_on, next, Passed, by_value, by_address, Meaning, further, start_of, way_of, element_at, Scope, applied, called, called_as, called_after, Evaluates, each_of, at_once, two_values, value_c, location_c, call_c, Outcome, End, goes_on, breaks, returns, traps, Runs, after, following_end, block_of, block_or_none, ended_by, turn_end, turn_or_none, turns, turn_limit, runs_c, block_c, function_c, meanings_after, meanings, going, returning, executed, pointers_of, with_params}
-use Rattle.bl_cmeaning.specs.Calls.{calls_in, calls_in_arg, calls_in_place, calls_in_call, calls_in_step}
+use Rattle.bl_cmeaning.specs.Calls.{Names, calls_in, calls_in_arg, calls_in_place, calls_in_call, calls_in_step}
 use Rattle.bl_cmeaning.proofs.Folds.{arg_c, calls_in_index, calls_in_kind, index_c, kind_c, step_c}
 use Rattle.bl_cmeaning.specs.Cost.{Costs, cost_of_calls, block_cost, cost_of_stmt, cost_of_function, costs_after, costs as all_costs, bound}
 use Rattle.bl_cmeaning.specs.Trace.{entered, tick_c}

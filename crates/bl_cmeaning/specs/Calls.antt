@@ -20,7 +20,7 @@ Names = List Text
 
 -- a part of an expression, where each part within it calls these functions
 abbrev pub Calling : OpenPart → Type 0
-Calling Part = Part Names Names Names Names Names Names Names
+Calling Of = Of Names Names Names Names Names Names Names
 
 abbrev pub arg_calls : Calling CArg-F → Names
 arg_calls (CArg-F.Value value) = value

@@ -227,7 +227,7 @@ Steps = Context → Place → Option CType → Judged
 
 -- a part of an expression, where each part within it is judged so
 abbrev pub Judging : OpenPart → Type 0
-Judging Part = Part (Judges JudgedArg) (Judges Judged) (Judges JudgedCall) (Context → Judged) (Judges JudgedIndex) (Judges JudgedPlace) Steps
+Judging Of = Of (Judges JudgedArg) (Judges Judged) (Judges JudgedCall) (Context → Judged) (Judges JudgedIndex) (Judges JudgedPlace) Steps
 
 -- whether an argument of a type fits a parameter's
 abbrev pub fits_param : Bool → CType → CType → Bool

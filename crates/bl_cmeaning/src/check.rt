@@ -48,7 +48,8 @@ pub enum CheckFault {
 }
 
 fn has_interface(structs: &Structs<'_>) -> bool
-    ensures { result ≡ (is_some (structs_of structs.now (codes "bl_state")) && (is_some (structs_of structs.now (codes "bl_in")) && is_some (structs_of structs.now (codes "bl_out")))) }
+    ensures { result ≡ (is_some (structs_of structs.now (codes "bl_state"))
+        && (is_some (structs_of structs.now (codes "bl_in")) && is_some (structs_of structs.now (codes "bl_out")))) }
 {
     let ports = both(has_struct(structs, "bl_in"), has_struct(structs, "bl_out"));
     both(has_struct(structs, "bl_state"), ports)

@@ -155,7 +155,7 @@ Grounded A = Ground Routine → A
 
 -- a part of an expression, where each part within it is evaluated so
 abbrev pub Evaluating : OpenPart → Type 0
-Evaluating Part = Part (Grounded (Evaluates ℤ)) (Grounded (Evaluates ℤ)) (Grounded (Evaluates ℤ)) (Grounded (Evaluates ℤ)) (Grounded (Index (Evaluates ℤ))) (Grounded (Reach (Evaluates ℤ))) (Step Routine (Evaluates ℤ))
+Evaluating Of = Of (Grounded (Evaluates ℤ)) (Grounded (Evaluates ℤ)) (Grounded (Evaluates ℤ)) (Grounded (Evaluates ℤ)) (Grounded (Index (Evaluates ℤ))) (Grounded (Reach (Evaluates ℤ))) (Step Routine (Evaluates ℤ))
 
 abbrev pub arg_step : Evaluating CArg-F → Grounded (Evaluates ℤ)
 arg_step (CArg-F.Value value) here base cells = value here base cells

@@ -2,7 +2,9 @@
 
 ghost use Rattle.std.specs.Prelude.{◌≡◌, ◌++◌, false, if◌then◌else◌, IfOk, is_none, map, not};
 ghost use Rattle.bl_cmeaning.specs.Checked.{functions_of, structs_of};
-ghost use Rattle.bl_cmeaning.specs.Faults.{all_distinct, block_faults, context_in, depth_of_function, faults_in_function, faults_in_head, faults_in_stmt, first_place, function_faults_after, keeps_all as keeps_everything, names_table, repeated, variable_names};
+ghost use Rattle.bl_cmeaning.specs.Faults.{all_distinct, block_faults, context_in, depth_of_function, faults_in_function, faults_in_head};
+ghost use Rattle.bl_cmeaning.specs.Faults.{faults_in_stmt, first_place, function_faults_after, keeps_all as keeps_everything, names_table, repeated};
+ghost use Rattle.bl_cmeaning.specs.Faults.{variable_names};
 ghost use Rattle.bl_cmeaning.specs.Loops.{turns_in_block};
 ghost use Rattle.bl_cmeaning.specs.Maps.{bytes_of, text_at};
 ghost use Rattle.bl_cmeaning.specs.Tables.{no_entries};
@@ -64,7 +66,8 @@ fn gives_nothing(of: &CFunc) -> bool
 /// Where a function fails before its statements; `apart` says whether its variables' names differ.
 fn judge_head(known: &Known<'_, '_>, of: &CFunc, apart: bool, last: bool) -> Option<Place>
     requires { apart ≡ all_distinct no_entries (variable_names of.now) }
-    ensures { result ≡ first_place (faults_in_head (structs_of known.now.structs.now) (functions_of known.now.functions.now) (text_at known.now.depths.now) last of.now) }
+    ensures { result ≡ first_place
+        (faults_in_head (structs_of known.now.structs.now) (functions_of known.now.functions.now) (text_at known.now.depths.now) last of.now) }
 {
     let at = of.place;
     let new = !has(known.functions, &of.name);
@@ -119,7 +122,8 @@ fn judge_function<'a>(
     of: &'a CFunc,
     last: bool,
 ) -> Result<Option<Place>, NoMemory>
-    ensures { IfOk result (λ first. first ≡ first_place (faults_in_function (structs_of known.now.structs.now) (functions_of known.now.functions.now) (text_at known.now.depths.now) last of.now)) }
+    ensures { IfOk result (λ first. first ≡ first_place
+        (faults_in_function (structs_of known.now.structs.now) (functions_of known.now.functions.now) (text_at known.now.depths.now) last of.now)) }
 {
     let names = names_of(alloc, of)?;
     let apart = differ(alloc, &names)?;

@@ -3,8 +3,10 @@
 ghost use Rattle.std.specs.Prelude.{◌≡◌, ◌≤◌, ◌&&◌, length, map, IsTrue, IfOk};
 ghost use Rattle.bl_tree.specs.Reduce.{all_of, joined};
 ghost use Rattle.bl_ctext.specs.Names.{is_name};
-ghost use Rattle.bl_ctext.specs.Spelling.{kind_tokens, expr_tokens, place_tokens, index_tokens, stmt_tokens, stmt_kind_tokens, ccall_tokens, literal_tokens, with_commas, param_tokens, local_tokens, arg_tokens, struct_tokens, func_tokens, tokens_of};
-ghost use Rattle.bl_ctext.specs.Spellable.{has_any, is_literal, is_c_operator, spells_kind, spells_expr, spells_place, spells_index, spells_stmt, spells_stmt_kind, spells_arg, spells_member, spells_struct, spells_param, spells_local, spells_func};
+ghost use Rattle.bl_ctext.specs.Spelling.{kind_tokens, expr_tokens, place_tokens, index_tokens, stmt_tokens, stmt_kind_tokens, ccall_tokens};
+ghost use Rattle.bl_ctext.specs.Spelling.{literal_tokens, with_commas, param_tokens, local_tokens, arg_tokens, struct_tokens, func_tokens, tokens_of};
+ghost use Rattle.bl_ctext.specs.Spellable.{has_any, is_literal, is_c_operator, spells_kind, spells_expr, spells_place, spells_index, spells_stmt};
+ghost use Rattle.bl_ctext.specs.Spellable.{spells_stmt_kind, spells_arg, spells_member, spells_struct, spells_param, spells_local, spells_func};
 
 use super::print;
 use crate::file::CFile;
