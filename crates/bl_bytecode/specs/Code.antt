@@ -140,7 +140,8 @@ if_code condition block other = ins.Count ∷ (condition ++ ins.Unless (length b
 
 abbrev pub loop_code : Code → Code → Code
 loop_code condition body =
-    ins.Count ∷ ins.Turns ∷ (condition ++ ins.Unless (length body + 3) ∷ ins.Count ∷ ins.Turn ∷ (body ++ ins.Again (length condition + length body + 3) ∷ ins.Over ∷ []))
+    ins.Count ∷ ins.Turns
+    ∷ (condition ++ ins.Unless (length body + 3) ∷ ins.Count ∷ ins.Turn ∷ (body ++ ins.Again (length condition + length body + 3) ∷ ins.Over ∷ []))
 
 abbrev pub stmt_kind_code : CStmtKind-F StmtCode StmtCode → StmtCode
 stmt_kind_code (CStmtKind-F.Set place expr) here left =

@@ -149,7 +149,8 @@ result_of c = record { count = c.count; answer = option_map scalar c.result }
 
 -- a part of an expression, where each part within it does this
 abbrev pub Evaluating : OpenPart → Type 0
-Evaluating Of = Of (Evaluates Passed) (Evaluates CValue) (Scope → Memory → Called) (Evaluates CValue) (Evaluates (List Part)) (Evaluates Location) (Evaluates (List Part))
+Evaluating Of = Of (Evaluates Passed) (Evaluates CValue) (Scope → Memory → Called) (Evaluates CValue) (Evaluates (List Part)) (Evaluates Location)
+    (Evaluates (List Part))
 
 abbrev pub arg_step : Evaluating CArg-F → Evaluates Passed
 arg_step (CArg-F.Value value) scope memory = next (value scope memory) (λ v. given (Some (by_value v)))

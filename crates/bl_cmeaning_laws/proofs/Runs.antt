@@ -21,9 +21,11 @@ ticks-run file spelled formed small numbers others ins fits row room =
     let memory : Memory = with_inputs (ports_of (codes "bl_in") file) ins (memory_of (cells_of file) numbers) in
     let cells : Cells = with_args (input_at file + 1) ins (numbers ++ others) in
     let stands : Standing file formed memory cells =
-    inputs-stand file formed declared ins (memory_of (cells_of file) numbers) (numbers ++ others) row (memory-stands file formed declared numbers others fits room) in
+    inputs-stand file formed declared ins (memory_of (cells_of file) numbers) (numbers ++ others) row
+    (memory-stands file formed declared numbers others fits room) in
     let agree =
-    call-from file formed declared spelled small (codes "bl_tick") i.tick (object state_object ∷ object input_object ∷ object output_object ∷ []) (pos 0 ∷ pos (input_at file) ∷ pos (output_at file) ∷ []) i.tick-is
+    call-from file formed declared spelled small (codes "bl_tick") i.tick (object state_object ∷ object input_object ∷ object output_object ∷ [])
+    (pos 0 ∷ pos (input_at file) ∷ pos (output_at file) ∷ []) i.tick-is
     memory cells stands (tick-passes file formed declared spelled small i.tick.params memory i.tick-params) in
     let after : Memory = (entered file (codes "bl_tick") (object state_object ∷ object input_object ∷ object output_object ∷ []) memory).memory in
     let left : Left ℤ = entered_flat file (codes "bl_tick") (pos 0 ∷ pos (input_at file) ∷ pos (output_at file) ∷ []) cells in
@@ -44,9 +46,11 @@ starts-run file spelled formed small others room =
     let i = interface file formed declared spelled small in
     let stands : Standing file formed cleared (replicate (length (cells_of file)) (pos 0) ++ others) =
     subst (λ l. Standing file formed cleared (l ++ others)) (cleared-are (cells_of file))
-    (begins-standing file formed declared cleared others (cleared-fit (cells_of file)) (subst (λ l. cells_needed file ≤ length (l ++ others)) (sym (cleared-are (cells_of file))) room)) in
+    (begins-standing file formed declared cleared others (cleared-fit (cells_of file))
+    (subst (λ l. cells_needed file ≤ length (l ++ others)) (sym (cleared-are (cells_of file))) room)) in
     let agree =
-    call-from file formed declared spelled small (codes "bl_init") i.init (object state_object ∷ []) (pos 0 ∷ []) i.init-is cleared (replicate (length (cells_of file)) (pos 0) ++ others) stands
+    call-from file formed declared spelled small (codes "bl_init") i.init (object state_object ∷ []) (pos 0 ∷ []) i.init-is cleared
+    (replicate (length (cells_of file)) (pos 0) ++ others) stands
     (init-passes file formed declared spelled small i.init.params cleared i.init-params) in
     let c : Called = entered file (codes "bl_init") (object state_object ∷ []) cleared in
     let left : Left ℤ = entered_flat file (codes "bl_init") (pos 0 ∷ []) (replicate (length (cells_of file)) (pos 0) ++ others) in

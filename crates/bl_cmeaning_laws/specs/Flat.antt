@@ -1,7 +1,8 @@
 -- What C expressions, statements and functions do over numbered cells: a place is the number of its first cell, a pointer such a
 -- number, and the frame of a function that runs begins at its base. How statements end, what they count and in which order things are
 -- evaluated is as in the meaning of C texts. Where a form has no meaning there, some value is given.
-use Rattle.std.specs.Prelude.{ℕ, zero, suc, ◌+◌, ◌*◌, ℤ, pos, negsuc, Bool, true, false, ◌&&◌, nat_le, List, [], ◌∷◌, map, length, slice_set, slice_index_or, Option, Some, None, option_map, if◌then◌else◌, not, int_lt, int_le}
+use Rattle.std.specs.Prelude.{ℕ, zero, suc, ◌+◌, ◌*◌, ℤ, pos, negsuc, Bool, true, false, ◌&&◌, nat_le, List, [], ◌∷◌, map, length, slice_set}
+use Rattle.std.specs.Prelude.{slice_index_or, Option, Some, None, option_map, if◌then◌else◌, not, int_lt, int_le}
 use Rattle.std.specs.List.{copy_within}
 use Rattle.std.specs.Ordering.{int_eq}
 use Rattle.bl_tree.specs.declared.text.Text.{Text}
@@ -155,7 +156,8 @@ Grounded A = Ground Routine → A
 
 -- a part of an expression, where each part within it is evaluated so
 abbrev pub Evaluating : OpenPart → Type 0
-Evaluating Of = Of (Grounded (Evaluates ℤ)) (Grounded (Evaluates ℤ)) (Grounded (Evaluates ℤ)) (Grounded (Evaluates ℤ)) (Grounded (Index (Evaluates ℤ))) (Grounded (Reach (Evaluates ℤ))) (Step Routine (Evaluates ℤ))
+Evaluating Of = Of (Grounded (Evaluates ℤ)) (Grounded (Evaluates ℤ)) (Grounded (Evaluates ℤ)) (Grounded (Evaluates ℤ)) (Grounded (Index (Evaluates ℤ)))
+    (Grounded (Reach (Evaluates ℤ))) (Step Routine (Evaluates ℤ))
 
 abbrev pub arg_step : Evaluating CArg-F → Grounded (Evaluates ℤ)
 arg_step (CArg-F.Value value) here base cells = value here base cells
@@ -287,7 +289,8 @@ turns (suc n) condition body base cells =
 
 abbrev pub stmt_kind_step : CStmtKind-F Runs Runs → Runs
 stmt_kind_step (CStmtKind-F.Set place expr) here base cells =
-    executed 1 (next (address_of (reach_flat place here) base cells) (λ c k. next (value_flat expr here base c) (λ d v. left (written_at here.sizes (reach_flat place here).ty k v d) (Some v))))
+    executed 1 (next (address_of (reach_flat place here) base cells)
+    (λ c k. next (value_flat expr here base c) (λ d v. left (written_at here.sizes (reach_flat place here).ty k v d) (Some v))))
     (λ c v. going c)
 stmt_kind_step (CStmtKind-F.Clear place name) here base cells =
     executed 1 (address_of (reach_flat place here) base cells) (λ c k. going (zeroed (entry_or 0 here.sizes name) k c))

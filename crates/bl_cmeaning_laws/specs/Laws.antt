@@ -41,7 +41,8 @@ entered_flat file name args cells = applied (found name (routines file)) (behind
 
 -- ---- what holds
 
--- a call in a C text and over numbered cells: they count and answer alike, and the first cells have the numbers of the three objects' scalars, each in its range
+-- a call in a C text and over numbered cells: they count and answer alike, and the first cells have the numbers of the three objects'
+-- scalars, each in its range
 pub record SameCall (file : Parts) (c : Called) (l : Left ℤ) : Type 0 where
   pub count : c.count ≡ l.count
   pub answer : c.result ≡ l.answer
@@ -51,7 +52,8 @@ pub record SameCall (file : Parts) (c : Called) (l : Left ℤ) : Type 0 where
 
 -- a call from a memory whose scalars are in their ranges, over cells that have their numbers and then any others, as many as the file needs
 abbrev pub CallsAgree : Parts → Text → (Memory → Called) → List ℤ → Type 0
-CallsAgree file name call args = WellFormed file → cells_needed file ≤ 1000000 → (memory : Memory) (others : List ℤ) → list_all (cell_holds memory) (cells_of file) ≡ true →
+CallsAgree file name call args =
+    WellFormed file → cells_needed file ≤ 1000000 → (memory : Memory) (others : List ℤ) → list_all (cell_holds memory) (cells_of file) ≡ true →
     cells_needed file ≤ length (numbers_of (cells_of file) memory ++ others) →
     SameCall file (call memory) (entered_flat file name args (numbers_of (cells_of file) memory ++ others))
 
@@ -86,7 +88,8 @@ pub record SameTick (file : Parts) (t : Tick) (l : Left ℤ) : Type 0 where
 
 -- a tick over cells of which the first have the numbers of the three objects' scalars, once those of the inputs are set to a row
 abbrev pub TicksRun : Parts → Type 0
-TicksRun file = WellFormed file → cells_needed file ≤ 1000000 → (numbers others ins : List ℤ) → Fitting file numbers → in_ranges (map (λ column. column.ty) (inputs_of file)) ins ≡ true →
+TicksRun file = WellFormed file → cells_needed file ≤ 1000000 → (numbers others ins : List ℤ) → Fitting file numbers →
+    in_ranges (map (λ column. column.ty) (inputs_of file)) ins ≡ true →
     cells_needed file ≤ length (numbers ++ others) →
     SameTick file (tick_c file numbers ins)
     (entered_flat file (codes "bl_tick") (pos 0 ∷ pos (input_at file) ∷ pos (output_at file) ∷ []) (with_args (input_at file + 1) ins (numbers ++ others)))
@@ -100,5 +103,6 @@ pub record SameStart (file : Parts) (l : Left ℤ) : Type 0 where
 
 -- a start over cells of which those of the three objects are 0
 abbrev pub StartsRun : Parts → Type 0
-StartsRun file = WellFormed file → cells_needed file ≤ 1000000 → (others : List ℤ) → cells_needed file ≤ length (replicate (length (cells_of file)) (pos 0) ++ others) →
+StartsRun file = WellFormed file → cells_needed file ≤ 1000000 → (others : List ℤ) →
+    cells_needed file ≤ length (replicate (length (cells_of file)) (pos 0) ++ others) →
     SameStart file (entered_flat file (codes "bl_init") (pos 0 ∷ []) (replicate (length (cells_of file)) (pos 0) ++ others))

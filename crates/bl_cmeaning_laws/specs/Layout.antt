@@ -57,7 +57,8 @@ locals_laid known at (l ∷ rest) = (l.name, record { at = at; pointer = Bool.fa
 -- the parameters, and then these locals
 abbrev pub params_laid : Sizes → ℕ → List CParam → List CLocal → List (Text × Slot)
 params_laid known at [] locals = locals_laid known at locals
-params_laid known at (p ∷ rest) locals = (p.name, record { at = at; pointer = p.pointer; ty = p.ty }) ∷ params_laid known (capped (at + size_of_param known p)) rest locals
+params_laid known at (p ∷ rest) locals =
+    (p.name, record { at = at; pointer = p.pointer; ty = p.ty }) ∷ params_laid known (capped (at + size_of_param known p)) rest locals
 
 -- the parameters and locals of a function by name
 abbrev pub slots_of : Sizes → CFunc → Table Slot

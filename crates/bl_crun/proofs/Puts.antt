@@ -1,5 +1,6 @@
 -- Cells that are read and set.
-use Rattle.std.proofs.Common.{◌≡◌, ℕ, zero, suc, ◌<◌, ℤ, Bool, true, List, [], ◌∷◌, length, take, slice_get, slice_set, Some, refl, ap, sym, subst, ◌∙◌, arith, length-set}
+use Rattle.std.proofs.Common.{◌≡◌, ℕ, zero, suc, ◌<◌, ℤ, Bool, true, List, [], ◌∷◌, length, take, slice_get, slice_set, Some, refl, ap, sym, subst}
+use Rattle.std.proofs.Common.{◌∙◌, arith, length-set}
 use Rattle.std.proofs.lemmas.List.{length-map}
 use Rattle.bl_tree.specs.declared.scalar.Scalar.{Scalar}
 use Rattle.bl_tree.specs.Scalar.{in_range}
@@ -50,7 +51,8 @@ module _ (file : Parts) (p : Prepared) (keeps : Keeps file p) where
       let long : length p.kinds.items ≡ length (cells_of file) = ap length keeps.kinds ∙ kinds-long in
       get-taken (length p.kinds.items) p.machine.state.cells k (omega arith) ∙ there
 
-  pub cell-range : (k : ℕ) (kind : Scalar) (n : ℤ) → slice_get (kinds_of file) k ≡ Some kind → slice_get p.machine.state.cells k ≡ Some n → in_range kind n ≡ true
+  pub cell-range : (k : ℕ) (kind : Scalar) (n : ℤ) → slice_get (kinds_of file) k ≡ Some kind → slice_get p.machine.state.cells k ≡ Some n →
+      in_range kind n ≡ true
   cell-range k kind n is there =
       ranges-at (kinds_of file) (first_cells file p.machine.state.cells) k kind n keeps.cells.ranges is
       (get-taken (length (kinds_of file)) p.machine.state.cells k (kinds-within (kinds_of file) k kind is) ∙ there)
@@ -85,19 +87,24 @@ module _ (file : Parts) (p : Prepared) (keeps : Keeps file p) (ready live : Bool
   pub shown-number : (k : ℕ) (n : ℤ) → k < length (cells_of r.parts) → n ≡ cell_at p.machine.state.cells k → slice_get r.cells k ≡ Some n
   shown-number k n h at =
       let within = shown-within k h in
-      ap (λ (s : Running). slice_get s.cells k) (sym is) ∙ cell-number file p keeps k n within (cell-there p.machine.state.cells k n (cell-within file p keeps k within) at)
+      ap (λ (s : Running). slice_get s.cells k) (sym is)
+      ∙ cell-number file p keeps k n within (cell-there p.machine.state.cells k n (cell-within file p keeps k within) at)
 
-  pub shown-range : (k : ℕ) (n : ℤ) → k < length (cells_of r.parts) → n ≡ cell_at p.machine.state.cells k → (kind : Scalar) → slice_get (kinds_of r.parts) k ≡ Some kind → in_range kind n ≡ true
+  pub shown-range : (k : ℕ) (n : ℤ) → k < length (cells_of r.parts) → n ≡ cell_at p.machine.state.cells k → (kind : Scalar) →
+      slice_get (kinds_of r.parts) k ≡ Some kind → in_range kind n ≡ true
   shown-range k n h at kind there =
       let within = shown-within k h in
-      cell-range file p keeps k kind n (ap (λ (s : Running). slice_get (kinds_of s.parts) k) is ∙ there) (cell-there p.machine.state.cells k n (cell-within file p keeps k within) at)
+      cell-range file p keeps k kind n (ap (λ (s : Running). slice_get (kinds_of s.parts) k) is ∙ there)
+      (cell-there p.machine.state.cells k n (cell-within file p keeps k within) at)
 
-  pub shown-put : (k : ℕ) (n : ℤ) (m : Shown) → m ≡ holding p.machine (slice_set p.machine.state.cells k n) → shown file (record p { machine = m }) ready live ≡ with_cell r k n
+  pub shown-put : (k : ℕ) (n : ℤ) (m : Shown) → m ≡ holding p.machine (slice_set p.machine.state.cells k n) →
+      shown file (record p { machine = m }) ready live ≡ with_cell r k n
   shown-put k n m set =
       ap (λ x. shown file (record p { machine = x }) ready live) set
       ∙ ap (λ (ns : List ℤ). record { parts = file; cells = ns; ready = ready; live = live }) (put-numbers file p keeps k n) ∙ ap (λ s. with_cell s k n) is
 
-  pub shown-keeps : (k : ℕ) (n : ℤ) (m : Shown) → k < length (cells_of r.parts) → ((kind : Scalar) → slice_get (kinds_of r.parts) k ≡ Some kind → in_range kind n ≡ true) →
+  pub shown-keeps : (k : ℕ) (n : ℤ) (m : Shown) → k < length (cells_of r.parts) →
+      ((kind : Scalar) → slice_get (kinds_of r.parts) k ≡ Some kind → in_range kind n ≡ true) →
       m ≡ holding p.machine (slice_set p.machine.state.cells k n) → Keeps file (record p { machine = m })
   shown-keeps k n m h fits set =
       subst (λ x. Keeps file (record p { machine = x })) (sym set)

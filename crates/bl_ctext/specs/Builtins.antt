@@ -27,7 +27,8 @@ Operations = List (List ℕ × (Scalar → Builtin))
 -- what there is for every type
 abbrev pub for_all : Operations
 for_all =
-    (codes "add", λ t. Two Add t) ∷ (codes "sub", λ t. Two Sub t) ∷ (codes "mul", λ t. Two Mul t) ∷ (codes "div", λ t. Two Div t) ∷ (codes "rem", λ t. Two Rem t) ∷
+    (codes "add", λ t. Two Add t) ∷ (codes "sub", λ t. Two Sub t) ∷ (codes "mul", λ t. Two Mul t) ∷ (codes "div", λ t. Two Div t)
+    ∷ (codes "rem", λ t. Two Rem t) ∷
     (codes "of_s", λ t. Cast true t) ∷ (codes "of_u", λ t. Cast false t) ∷ []
 
 -- what there is for types with a sign and for those of binary digits

@@ -15,4 +15,5 @@ invariant-place-loop-k l =
 abbrev pub invariant-call-loop-k : goal.invariant-call-loop-k
 invariant-call-loop-k l =
     l.code ≡ (joined (map (λ arg. arg (ground_of l.here)) (map arg_code (drop l.k (out-CCall l.called).args)))
-    ++ call_as (ground_of l.here) (length (out-CCall l.called).args) (builtin_of (out-CCall l.called).name) ((ground_of l.here).known (out-CCall l.called).name) ∷ []) ++ l.fn.code
+    ++ call_as (ground_of l.here) (length (out-CCall l.called).args) (builtin_of (out-CCall l.called).name)
+    ((ground_of l.here).known (out-CCall l.called).name) ∷ []) ++ l.fn.code

@@ -6,4 +6,5 @@ use Rattle.bl_cmeaning.proofs.maps.fill.Given as goal
 
 abbrev pub invariant-loop-name : goal.invariant-loop-name
 invariant-loop-name g l = (asked : List ℕ) →
-    option_or (text_at l.map asked) (found asked (named (drop l.name-index l.entries))) ≡ option_or (text_at l.initial.map asked) (found asked (named l.entries))
+    option_or (text_at l.map asked) (found asked (named (drop l.name-index l.entries)))
+    ≡ option_or (text_at l.initial.map asked) (found asked (named l.entries))

@@ -22,7 +22,8 @@ returns-then-not-fits c =
     let judged : in_range c.index-columns-k.result.ty c.at.result ≡ c.fits.result =
     ap (λ (q : Column). in_range q.ty c.at.result) c.index-columns-k.is
     ∙ ap (in_range (get_or c.args.columns.now c.loop-k.k c.index-columns-k.result).ty) (sym (to_z-of_z w128 c.at.result (search rules))) ∙ sym c.fits.ensures in
-    sym (ranges-fail c.loop-k.k c.args.columns.now c.args.row.now c.index-columns-k.result c.at.result (in_ranges (types_of c.args.columns.now) c.args.row.now) there c.at.ensures (judged ∙ c.if-not-fits.true) c.loop-k.invariant)
+    sym (ranges-fail c.loop-k.k c.args.columns.now c.args.row.now c.index-columns-k.result c.at.result (in_ranges (types_of c.args.columns.now) c.args.row.now)
+    there c.at.ensures (judged ∙ c.if-not-fits.true) c.loop-k.invariant)
 
 pub loop-k-preserved : goal.loop-k-preserved
 loop-k-preserved c =
@@ -35,4 +36,5 @@ loop-k-preserved c =
     let judged : in_range c.index-columns-k.result.ty c.at.result ≡ c.fits.result =
     ap (λ (q : Column). in_range q.ty c.at.result) c.index-columns-k.is
     ∙ ap (in_range (get_or c.args.columns.now c.loop-k.k c.index-columns-k.result).ty) (sym (to_z-of_z w128 c.at.result (search rules))) ∙ sym c.fits.ensures in
-    ranges-step c.loop-k.k c.args.columns.now c.args.row.now c.index-columns-k.result c.at.result (in_ranges (types_of c.args.columns.now) c.args.row.now) there c.at.ensures (judged ∙ c.if-not-fits.false) c.loop-k.invariant
+    ranges-step c.loop-k.k c.args.columns.now c.args.row.now c.index-columns-k.result c.at.result (in_ranges (types_of c.args.columns.now) c.args.row.now)
+    there c.at.ensures (judged ∙ c.if-not-fits.false) c.loop-k.invariant

@@ -8,16 +8,22 @@ call-called-requires c = start-required (parts_of c.args.file.now) c.args.prepar
 
 pub returns-clause-keeps : goal.returns-clause-keeps
 returns-clause-keeps c =
-    start-keeps (parts_of c.args.file.now) c.args.prepared.now c.requires.keeps c.starts_agree.ensures c.requires.cleared c.call-called.result c.call-called.new.machine
-    (start-done (parts_of c.args.file.now) c.args.prepared.now c.requires.keeps c.deref.result.now c.deref.ensures.value c.call-called.result c.call-called.new.machine c.call-called.ensures)
+    start-keeps (parts_of c.args.file.now) c.args.prepared.now c.requires.keeps c.starts_agree.ensures c.requires.cleared c.call-called.result
+    c.call-called.new.machine
+    (start-done (parts_of c.args.file.now) c.args.prepared.now c.requires.keeps c.deref.result.now c.deref.ensures.value c.call-called.result
+    c.call-called.new.machine c.call-called.ensures)
 
 pub returns-clause-ready : goal.returns-clause-ready
 returns-clause-ready c =
     c.is_some.ensures
-    ∙ start-ready (parts_of c.args.file.now) c.args.prepared.now c.requires.keeps c.starts_agree.ensures c.requires.cleared c.call-called.result c.call-called.new.machine
-    (start-done (parts_of c.args.file.now) c.args.prepared.now c.requires.keeps c.deref.result.now c.deref.ensures.value c.call-called.result c.call-called.new.machine c.call-called.ensures)
+    ∙ start-ready (parts_of c.args.file.now) c.args.prepared.now c.requires.keeps c.starts_agree.ensures c.requires.cleared c.call-called.result
+    c.call-called.new.machine
+    (start-done (parts_of c.args.file.now) c.args.prepared.now c.requires.keeps c.deref.result.now c.deref.ensures.value c.call-called.result
+    c.call-called.new.machine c.call-called.ensures)
 
 pub returns-clause-cells : goal.returns-clause-cells
 returns-clause-cells c =
-    start-numbers (parts_of c.args.file.now) c.args.prepared.now c.requires.keeps c.starts_agree.ensures c.requires.cleared c.call-called.result c.call-called.new.machine
-    (start-done (parts_of c.args.file.now) c.args.prepared.now c.requires.keeps c.deref.result.now c.deref.ensures.value c.call-called.result c.call-called.new.machine c.call-called.ensures)
+    start-numbers (parts_of c.args.file.now) c.args.prepared.now c.requires.keeps c.starts_agree.ensures c.requires.cleared c.call-called.result
+    c.call-called.new.machine
+    (start-done (parts_of c.args.file.now) c.args.prepared.now c.requires.keeps c.deref.result.now c.deref.ensures.value c.call-called.result
+    c.call-called.new.machine c.call-called.ensures)

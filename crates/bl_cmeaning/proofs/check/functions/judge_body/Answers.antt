@@ -1,6 +1,7 @@
 use Rattle.std.proofs.Common.{◌≡◌, ◌∙◌, ◌++◌, Bool, false, ap, map}
 use Rattle.bl_cmeaning.specs.Checked.{functions_of, structs_of, variables_in_map}
-use Rattle.bl_cmeaning.specs.Faults.{Context, Variable, block_faults, context_in, faults_in_stmt, first_place, keeps_all, names_table, repeated, variable_names, variables_of}
+use Rattle.bl_cmeaning.specs.Faults.{Context, Variable, block_faults, context_in, faults_in_stmt, first_place, keeps_all, names_table, repeated}
+use Rattle.bl_cmeaning.specs.Faults.{variable_names, variables_of}
 use Rattle.bl_cmeaning.specs.Loops.{turns_in_block}
 use Rattle.bl_cmeaning.specs.Maps.{named, text_at}
 use Rattle.bl_cmeaning.specs.Tables.{Table, table_of}
@@ -30,7 +31,8 @@ returns c =
     } in
     let block : c.judge_block.result ≡ first_place (block_faults (map faults_in_stmt of.body) (context (table_of (variables_of of)) (keeps_all of)) false) =
     c.judge_block.ensures
-    ∙ ap (λ l. first_place (block_faults (map faults_in_stmt l) (context (variables_in_map c.in_ok-variables.variables) c.keeps_all.result) false)) c.deref-3.ensures
+    ∙ ap (λ l. first_place (block_faults (map faults_in_stmt l) (context (variables_in_map c.in_ok-variables.variables) c.keeps_all.result) false))
+    c.deref-3.ensures
     ∙ ap (λ v. first_place (block_faults (map faults_in_stmt of.body) (context v c.keeps_all.result) false)) variables
     ∙ ap (λ k. first_place (block_faults (map faults_in_stmt of.body) (context (table_of (variables_of of)) k) false)) c.keeps_all.ensures in
     rw (c.earlier.ensures, again, block) (simp first_place-append)
