@@ -11,7 +11,7 @@ use Rattle.bl_tree.specs.declared.tree.StmtKind.TheVariants.{If, outs-If}
 use Rattle.bl_tree.specs.Reduce.{joined}
 use Rattle.bl_effects.specs.declared.marked.Marked.{Marked}
 use Rattle.bl_effects.specs.Rules.{Aliased, aliased_with, aliases_in, arm_aliases, branch_aliases, kind_aliases, outputs_aliased, stmt_aliases}
-use Rattle.bl_effects.specs.Static.{overlaps}
+use Rattle.bl_tree.specs.Static.{overlaps}
 use Rattle.bl_conflict.specs.declared.failure.Failure.{Failure}
 use Rattle.bl_conflict.specs.Failures.{added, aliases_of_arm, aliases_of_branch, least_by, pair, place_overlapping}
 use Rattle.bl_conflict.proofs.FirstLemmas.{least-append}

@@ -8,9 +8,9 @@ use Rattle.bl_tree.specs.declared.tree.Unit.{Unit as UnitDef}
 use Rattle.bl_tree.specs.declared.tree.Var.{Var}
 use Rattle.bl_tree.specs.Typing.{is_activity}
 use Rattle.bl_effects.specs.declared.marked.Marked.{Marked}
-use Rattle.bl_effects.specs.Instant.{is_instant_block}
+use Rattle.bl_tree.specs.Instant.{is_instant_block}
 use Rattle.bl_effects.specs.Rules.{Aliased, AreNoLater, FailsAlias, FailsConflict, FailsFirst, FailsInstant, FailsPause, Passes, instant_loops, splits_of}
-use Rattle.bl_effects.specs.Static.{overlaps}
+use Rattle.bl_tree.specs.Static.{overlaps}
 use Rattle.bl_conflict.specs.declared.failure.Failure.{Failure}
 use Rattle.bl_conflict.specs.Cause.{IsCause}
 use Rattle.bl_conflict.specs.Failures.{Refuses, alias_failures, aliases_of_unit, clash_of, clashes, clashes_at, clashes_of_unit, clashes_under, clashes_with, conflict_failures, instant_failures, itself, least_by, loops_of, pair, pause_failures, pause_of, single}

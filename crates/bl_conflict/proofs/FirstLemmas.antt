@@ -6,7 +6,7 @@ use Rattle.bl_tree.specs.declared.tree.Var.{Var}
 use Rattle.bl_tree.specs.Reduce.{all_of, any_of, joined}
 use Rattle.bl_effects.specs.declared.marked.Marked.{Marked}
 use Rattle.bl_effects.specs.Rules.{Parallel, Split, splits_after, together}
-use Rattle.bl_effects.specs.Static.{is_front}
+use Rattle.bl_tree.specs.Static.{is_front}
 use Rattle.bl_conflict.specs.declared.failure.Failure.{Failure}
 use Rattle.bl_conflict.specs.Failures.{all_clashes, clashes, itself, least_by, lesser}
 

@@ -5,7 +5,7 @@ use Rattle.std.proofs.lemmas.Bool.Decides.{nat_tests}
 use Rattle.bl_tree.specs.declared.place.Place.{Place}
 use Rattle.bl_tree.specs.Reduce.{joined}
 use Rattle.bl_effects.specs.Rules.{AreNoLater, IsBefore}
-use Rattle.bl_effects.specs.Table.{same_place}
+use Rattle.bl_tree.specs.Rules.{same_place}
 use Rattle.bl_conflict.specs.declared.failure.Failure.{Failure}
 use Rattle.bl_conflict.specs.Failures.{comes_before, is_before, least_by}
 

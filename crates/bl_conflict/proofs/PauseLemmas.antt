@@ -13,7 +13,7 @@ use Rattle.bl_tree.specs.declared.tree.Unit.{Unit as UnitDef}
 use Rattle.bl_tree.specs.Typing.{is_activity}
 use Rattle.bl_conflict.specs.declared.failure.Failure.{Failure}
 use Rattle.bl_tree.specs.Reduce.{all_of, any_of}
-use Rattle.bl_effects.specs.Instant.{Ends, arm_instant, branch_ends, branches_instant, instant, is_instant_block, kind_instant, stmt_instant}
+use Rattle.bl_tree.specs.Instant.{Ends, arm_instant, branch_ends, branches_instant, instant, is_instant_block, kind_instant, stmt_instant}
 use Rattle.bl_effects.specs.Rules.{block_ends, loop_instants, loops_in}
 use Rattle.bl_conflict.specs.Failures.{least_by, lesser, loops_of_arm, loops_of_branch, pause_of, single}
 use Rattle.bl_conflict.proofs.LoopLemmas.{arm_out as loops_of_arm_out, branch_out as loops_of_branch_out, done as loops_done, loops_at}

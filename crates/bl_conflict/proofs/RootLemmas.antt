@@ -6,7 +6,7 @@ use Rattle.std.specs.Prelude.{slice_get}
 use Rattle.bl_tree.specs.declared.place.Place.{Place}
 use Rattle.bl_tree.specs.declared.tree.Var.{Var}
 use Rattle.bl_effects.specs.declared.marked.Marked.{Marked}
-use Rattle.bl_effects.specs.Static.{is_front}
+use Rattle.bl_tree.specs.Static.{is_front}
 use Rattle.bl_conflict.specs.declared.failure.Failure.{Failure}
 use Rattle.bl_conflict.specs.Failures.{clash_of, clashes_at, clashes_under, clashes_with, itself, least_by}
 use Rattle.bl_conflict.specs.Roots.{Knows}

@@ -7,9 +7,9 @@ ghost use Rattle.std.specs.Prelude.{◌≡◌, ◌≤◌, ◌++◌, ◌∷◌, �
 ghost use Rattle.bl_conflict.specs.Failures.{all_clashes, clashes, clash_of, clashes_at, clashes_with, clashes_of_unit, conflict_failures, itself, least_by, parallel_of_arm, parallel_of_branch, written};
 ghost use Rattle.bl_effects.specs.declared.marked.Marked.{Marked as MarkedPath};
 ghost use Rattle.bl_conflict.specs.Roots.{Knows};
-ghost use Rattle.bl_effects.specs.Effects.{target_static};
+ghost use Rattle.bl_tree.specs.Effects.{target_static};
 ghost use Rattle.bl_effects.specs.Rules.{Split, parallel_of, splits_after, together};
-ghost use Rattle.bl_effects.specs.Static.{static_of};
+ghost use Rattle.bl_tree.specs.Static.{static_of};
 
 use crate::failure::{Failure, lesser};
 use crate::marks::overlaps;

@@ -2,7 +2,7 @@
 
 ghost use Rattle.std.specs.Prelude.{◌≡◌, ◌∷◌, [], IfOk};
 ghost use Rattle.bl_conflict.specs.Failures.{Refuses, comes_before, is_before, lesser, single};
-ghost use Rattle.bl_effects.specs.Table.{same_place};
+ghost use Rattle.bl_tree.specs.Rules.{same_place};
 
 use bl_tree::{List, NoMemory, Place, Refusal};
 use std::alloc::Global;

@@ -2,11 +2,11 @@
 
 ghost use Rattle.std.specs.Prelude.{◌≡◌, map, IfOk};
 ghost use Rattle.bl_effects.specs.Rules.{marked_path};
-ghost use Rattle.bl_effects.specs.Static.{is_front, overlaps};
+ghost use Rattle.bl_tree.specs.Static.{is_front, overlaps};
 
-use bl_effects::{Marked, Static, static_of};
+use bl_effects::{Marked, static_of};
 use bl_tree::tree::Path;
-use bl_tree::{List, NoMemory};
+use bl_tree::{List, NoMemory, Static};
 use std::alloc::Global;
 
 /// A path with its own place.

@@ -8,7 +8,7 @@ use Rattle.bl_tree.specs.declared.tree.Stmt.{Stmt}
 use Rattle.bl_tree.specs.declared.tree.StmtKind.{StmtKind}
 use Rattle.bl_tree.specs.declared.tree.StmtKind.TheOpen.{StmtKind-F}
 use Rattle.bl_tree.specs.declared.tree.Unit.{Unit as UnitDef}
-use Rattle.bl_effects.specs.Static.{fields_precede}
+use Rattle.bl_tree.specs.Static.{fields_precede}
 use Rattle.bl_ctree.specs.Actions.{Effect, Silent, Copies}
 use Rattle.bl_ctree.specs.Control.{Control, Branches, Nil, Wait, Test, Idle, Do, Turn, Seq, Par, Guard, Run, no_branch, branch, Check, Body, are_settled, are_done, is_nil, seq}
 use Rattle.bl_ctree.specs.Instances.{Setting, callee_of, unit_at}

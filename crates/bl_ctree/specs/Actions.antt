@@ -11,8 +11,8 @@ use Rattle.bl_tree.specs.declared.value.Value.{Value}
 use Rattle.bl_tree.specs.Numbers.{is_one}
 use Rattle.bl_tree.specs.Reduce.{joined}
 use Rattle.bl_eval.specs.Standing.{outcome_in_unit, value_in_unit}
-use Rattle.bl_effects.specs.Effects.{reads, writes}
-use Rattle.bl_effects.specs.Static.{mentions, static_of}
+use Rattle.bl_tree.specs.Effects.{reads, writes}
+use Rattle.bl_tree.specs.Static.{mentions, static_of}
 use Rattle.bl_ctree.specs.Instances.{Setting}
 use Rattle.bl_ctree.specs.Positions.{Located, stmt_kind}
 use Rattle.bl_ctree.specs.Store.{Frame, Location, Store, home, homes, number_or_zero, put, put_written, remember, view_at, with_frame, with_inputs}

@@ -8,10 +8,10 @@ use Rattle.bl_tree.specs.declared.tree.Guard.TheVariants.{Abort, Reset}
 use Rattle.bl_tree.specs.declared.tree.Stmt.{Stmt}
 use Rattle.bl_tree.specs.declared.tree.StmtKind.{StmtKind}
 use Rattle.bl_tree.specs.declared.tree.StmtKind.TheOpen.{StmtKind-F}
-use Rattle.bl_effects.specs.declared.static_path.Static.{Static}
-use Rattle.bl_effects.specs.Effects.{target_static}
-use Rattle.bl_effects.specs.Instant.{instant}
-use Rattle.bl_effects.specs.Static.{static_of}
+use Rattle.bl_tree.specs.declared.static_path.Static.{Static}
+use Rattle.bl_tree.specs.Effects.{target_static}
+use Rattle.bl_tree.specs.Instant.{instant}
+use Rattle.bl_tree.specs.Static.{static_of}
 use Rattle.bl_effects.specs.Surface.{surface_of}
 use Rattle.bl_ctree.specs.Actions.{Action, reads_of}
 use Rattle.bl_ctree.specs.Control.{Control, Branches, Nil, Wait, Test, Idle, Do, Turn, Seq, Par, Guard, Run, no_branch, branch, Phase, Check, Body, has_strong, is_settled}

@@ -1,7 +1,6 @@
 //! Activity instances (docs/LANGUAGE.md, "How a program runs").
 
-use bl_effects::Static;
-use bl_tree::{List, Place};
+use bl_tree::{List, Place, Static};
 
 /// A `run` statement of a unit.
 #[derive(Drop)]

@@ -1,11 +1,10 @@
 //! Static paths of the paths of a tree.
 
 ghost use Rattle.std.specs.Prelude.{◌≡◌, map, IfOk};
-ghost use Rattle.bl_effects.specs.Static.{leading_fields, static_of, step_of};
+ghost use Rattle.bl_tree.specs.Static.{leading_fields, static_of, step_of};
 
-use bl_effects::Static;
 use bl_tree::tree::{Part, Path};
-use bl_tree::{List, NoMemory};
+use bl_tree::{List, NoMemory, Static};
 use std::alloc::Global;
 
 /// The static path of a path. Fails only for want of memory.

@@ -27,8 +27,8 @@ use Rattle.bl_eval.specs.Values.{put_at, value_at, value_fits}
 use Rattle.bl_eval.proofs.ActFits.{AllFit, act_fits, same_found}
 use Rattle.bl_eval.proofs.ExprFits.{Sound}
 use Rattle.bl_eval.proofs.PassLemmas.{and_right}
-use Rattle.bl_effects.specs.Effects.{writes}
-use Rattle.bl_effects.specs.Static.{Reach, reach_of, static_of, whole}
+use Rattle.bl_tree.specs.Effects.{writes}
+use Rattle.bl_tree.specs.Static.{Reach, reach_of, static_of, whole}
 use Rattle.bl_ctree.specs.Actions.{Acts, Asks, acted_kind, action, done, is_true_value, outcome_there, perform, value_there}
 use Rattle.bl_ctree.specs.Instances.{Setting}
 use Rattle.bl_ctree.specs.Positions.{Located, stmt_kind}

@@ -8,7 +8,8 @@ use Rattle.std.specs.Prelude.{option_copied, option_map}
 use Rattle.bl_tree.specs.declared.place.Place.{Place}
 use Rattle.bl_effects.specs.declared.table.Sets.{Sets}
 use Rattle.bl_effects.specs.Entries.{effect_at, entry, key_of, place_at}
-use Rattle.bl_effects.specs.Table.{found, same_place}
+use Rattle.bl_tree.specs.Rules.{same_place}
+use Rattle.bl_effects.specs.Table.{found}
 
 abbrev pub key_cmp : ℕ × ℕ → ℕ × ℕ → Ordering
 key_cmp x y = ordering_then (nat_cmp x.0 y.0) (nat_cmp x.1 y.1)

@@ -13,14 +13,16 @@ use Rattle.bl_tree.specs.declared.tree.StmtKind.TheOpen.{StmtKind-F}
 use Rattle.bl_tree.specs.declared.tree.StmtKind.TheVariants.{If, Until, When, While, outs-If, outs-Until, outs-When, outs-While}
 use Rattle.bl_tree.specs.Reduce.{all_of, any_of, joined}
 use Rattle.bl_effects.specs.declared.gather.Paths.{Paths}
-use Rattle.bl_effects.specs.declared.static_path.Static.{Static}
+use Rattle.bl_tree.specs.declared.static_path.Static.{Static}
 use Rattle.bl_effects.specs.declared.table.Sets.{Sets}
-use Rattle.bl_effects.specs.Effects.{arm_reads, arm_writes, branch_paths, kind_reads, kind_writes, reads, stmt_set, writes}
+use Rattle.bl_tree.specs.Effects.{arm_reads, arm_writes, branch_paths, kind_reads, kind_writes, reads, stmt_set, writes}
 use Rattle.bl_effects.specs.Entries.{effect_at}
 use Rattle.bl_effects.specs.Gathered.{Gathers, Kept, Records, Told, children_of_kind, ends_of_branch, instant_of_arm, instant_of_kind, reads_of_arm, reads_of_branch, reads_of_kind, writes_of_arm, writes_of_branch, writes_of_kind}
-use Rattle.bl_effects.specs.Instant.{Ends, arm_instant, branch_ends, branches_instant, instant, kind_instant, stmt_instant}
-use Rattle.bl_effects.specs.Static.{mentions, set_of}
-use Rattle.bl_effects.specs.Table.{Effect, StandsIn, Within, itself, deeper, children, effect_of, found, kind_children, place_of, same_place}
+use Rattle.bl_tree.specs.Instant.{Ends, arm_instant, branch_ends, branches_instant, instant, kind_instant, stmt_instant}
+use Rattle.bl_tree.specs.Static.{mentions, set_of}
+use Rattle.bl_tree.specs.Within.{Effect, StandsIn, Within, itself, deeper, children, effect_of, kind_children, place_of}
+use Rattle.bl_tree.specs.Rules.{same_place}
+use Rattle.bl_effects.specs.Table.{found}
 use Rattle.bl_effects.proofs.EntryLemmas.{same_place_is, same_place_refl}
 
 -- ---- the table

@@ -11,7 +11,7 @@ use Rattle.bl_tree.specs.declared.tree.StmtKind.TheOpen.{StmtKind-F}
 use Rattle.bl_tree.specs.Reduce.{all_of, any_of}
 use Rattle.bl_tree.proofs.StmtInduction.{Cases, Each, EachArm, EachBranch, induct, stmt}
 use Rattle.bl_effects.specs.Gathered.{ends_of_branch, instant_of_arm, instant_of_kind}
-use Rattle.bl_effects.specs.Instant.{Ends, arm_instant, branch_ends, instant, kind_instant, stmt_instant}
+use Rattle.bl_tree.specs.Instant.{Ends, arm_instant, branch_ends, instant, kind_instant, stmt_instant}
 use Rattle.bl_effects.specs.Rules.{BranchLoops, Loops, arm_loops, branch_loops, kind_loops, loop_instants, loops_in, stmt_loops}
 use Rattle.bl_effects.specs.Surface.{BranchSurface, Surface, arm_surface, branch_surface, instants_of, kind_surface, stmt_surface, surface_of}
 use Rattle.bl_effects.proofs.GatherLemmas.{ends_branch_out, instant_arm_out}

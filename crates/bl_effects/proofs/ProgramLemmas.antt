@@ -4,9 +4,10 @@ use Rattle.std.proofs.lemmas.List.Elements.{Contains-append_left, Contains-push,
 use Rattle.bl_tree.specs.declared.tree.Stmt.{Stmt}
 use Rattle.bl_tree.specs.declared.tree.Unit.{Unit as UnitDef}
 use Rattle.bl_effects.specs.Gathered.{Kept, Records, Told}
-use Rattle.bl_effects.specs.Effects.{reads, writes}
-use Rattle.bl_effects.specs.Instant.{instant}
-use Rattle.bl_effects.specs.Table.{Effect, Has, instant_at, reads_at, writes_at, PlacesDecide, StandsIn, StandsInUnits, Tells, place_of}
+use Rattle.bl_tree.specs.Effects.{reads, writes}
+use Rattle.bl_tree.specs.Instant.{instant}
+use Rattle.bl_tree.specs.Within.{Effect, PlacesDecide, StandsIn, StandsInUnits, place_of}
+use Rattle.bl_effects.specs.Table.{Has, instant_at, reads_at, writes_at, Tells}
 use Rattle.bl_effects.proofs.GatherLemmas.{no_element, records_then}
 
 -- before the first unit

@@ -11,9 +11,9 @@ use Rattle.std.proofs.lemmas.Cmp.{same_from_slice_cmp}
 use Rattle.std.proofs.lemmas.List.Elements.{Contains-get_or}
 use Rattle.std.proofs.lemmas.List.Kept.{AllPairs-cons, Contains-dedup, Contains-from_dedup, IsStrictlySortedBy-dedup}
 use Rattle.std.proofs.lemmas.List.Sorted.{Contains-permutation, IsPermutation-sym}
-use Rattle.bl_effects.specs.declared.static_path.Static.{Static}
-use Rattle.bl_effects.specs.Order.{static_cmp, static_cmp_total}
-use Rattle.bl_effects.specs.Static.{fields_precede, is_front, overlaps, placed, precedes, set_of}
+use Rattle.bl_tree.specs.declared.static_path.Static.{Static}
+use Rattle.bl_tree.specs.Order.{static_cmp, static_cmp_total}
+use Rattle.bl_tree.specs.Static.{fields_precede, is_front, overlaps, placed, precedes, set_of}
 
 -- ---- the order
 

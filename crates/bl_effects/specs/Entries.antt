@@ -2,7 +2,7 @@
 use Rattle.std.specs.Prelude.{ℕ}
 use Rattle.bl_tree.specs.declared.place.Place.{Place}
 use Rattle.bl_effects.specs.declared.table.Sets.{Sets}
-use Rattle.bl_effects.specs.Table.{Effect}
+use Rattle.bl_tree.specs.Within.{Effect}
 
 -- the effects of a statement by its place
 abbrev pub effect_at : Place → Sets → Effect

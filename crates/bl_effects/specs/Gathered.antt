@@ -6,10 +6,11 @@ use Rattle.bl_tree.specs.declared.tree.Branch.{Branch, fold-Branch}
 use Rattle.bl_tree.specs.declared.tree.Stmt.{Stmt}
 use Rattle.bl_tree.specs.declared.tree.StmtKind.{StmtKind, fold-StmtKind, out-StmtKind}
 use Rattle.bl_effects.specs.declared.gather.Paths.{Paths}
-use Rattle.bl_effects.specs.declared.static_path.Static.{Static}
-use Rattle.bl_effects.specs.Effects.{arm_reads, arm_writes, branch_paths, kind_reads, kind_writes, stmt_set}
-use Rattle.bl_effects.specs.Instant.{Ends, arm_instant, branch_ends, kind_instant, stmt_instant}
-use Rattle.bl_effects.specs.Table.{Effect, StandsIn, effect_of, found, kind_children, place_of}
+use Rattle.bl_tree.specs.declared.static_path.Static.{Static}
+use Rattle.bl_tree.specs.Effects.{arm_reads, arm_writes, branch_paths, kind_reads, kind_writes, stmt_set}
+use Rattle.bl_tree.specs.Instant.{Ends, arm_instant, branch_ends, kind_instant, stmt_instant}
+use Rattle.bl_tree.specs.Within.{Effect, StandsIn, effect_of, kind_children, place_of}
+use Rattle.bl_effects.specs.Table.{found}
 
 -- ---- the parts of a statement
 

@@ -1,9 +1,5 @@
-pub mod Effects
 pub mod Entries
 pub mod Gathered
-pub mod Instant
-pub mod Order
 pub mod Rules
-pub mod Static
 pub mod Surface
 pub mod Table

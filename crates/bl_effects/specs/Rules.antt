@@ -14,10 +14,10 @@ use Rattle.bl_tree.specs.Reduce.{all_of, joined}
 use Rattle.bl_tree.specs.Types.{scalar_in}
 use Rattle.bl_tree.specs.Typing.{is_activity}
 use Rattle.bl_effects.specs.declared.marked.Marked.{Marked}
-use Rattle.bl_effects.specs.declared.static_path.Static.{Static}
-use Rattle.bl_effects.specs.Effects.{target_static}
-use Rattle.bl_effects.specs.Instant.{Ends, kind_instant, is_instant_block}
-use Rattle.bl_effects.specs.Static.{overlaps, static_of}
+use Rattle.bl_tree.specs.declared.static_path.Static.{Static}
+use Rattle.bl_tree.specs.Effects.{target_static}
+use Rattle.bl_tree.specs.Instant.{Ends, kind_instant, is_instant_block}
+use Rattle.bl_tree.specs.Static.{overlaps, static_of}
 
 -- ---- Pause: an activity's body may end in the tick in which it begins; at the activity's name
 

@@ -4,9 +4,9 @@ use Rattle.bl_tree.specs.declared.tree.Stmt.{Stmt, fold-Stmt}
 use Rattle.bl_tree.specs.declared.tree.StmtKind.TheFolds.{map-StmtKind}
 use Rattle.bl_tree.specs.declared.tree.StmtKind.TheOpen.{StmtKind-F, Arm-F, Branch-F, Stmt-F}
 use Rattle.bl_tree.specs.Reduce.{all_of, joined, greatest, total}
-use Rattle.bl_effects.specs.declared.static_path.Static.{Static}
-use Rattle.bl_effects.specs.Instant.{Ends, kind_instant}
-use Rattle.bl_effects.specs.Static.{whole, set_of, static_of}
+use Rattle.bl_tree.specs.declared.static_path.Static.{Static}
+use Rattle.bl_tree.specs.Instant.{Ends, kind_instant}
+use Rattle.bl_tree.specs.Static.{whole, set_of, static_of}
 
 -- ---- surface writes
 

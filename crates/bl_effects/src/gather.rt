@@ -4,17 +4,17 @@ ghost use Rattle.std.specs.Prelude.{◌≡◌, ◌∷◌, [], ◌++◌, map, IfO
 ghost use Rattle.bl_tree.specs.declared.tree.Arm.{out-Arm};
 ghost use Rattle.bl_tree.specs.declared.tree.Branch.{out-Branch};
 ghost use Rattle.bl_tree.specs.Reduce.{all_of, any_of, joined};
-ghost use Rattle.bl_effects.specs.Effects.{argument_mentions, optional_mentions, reads, target_mentions, target_static, writes};
+ghost use Rattle.bl_tree.specs.Effects.{argument_mentions, optional_mentions, reads, target_mentions, target_static, writes};
 ghost use Rattle.bl_effects.specs.Gathered.{Gathers, children_of_kind, ends_of_branch, instant_of_arm, instant_of_kind, reads_of_arm, reads_of_branch, reads_of_kind, writes_of_arm, writes_of_branch, writes_of_kind};
-ghost use Rattle.bl_effects.specs.Instant.{branches_instant, instant};
-ghost use Rattle.bl_effects.specs.Static.{mentions, path_mentions, static_of};
+ghost use Rattle.bl_tree.specs.Instant.{branches_instant, instant};
+ghost use Rattle.bl_tree.specs.Static.{mentions, path_mentions, static_of};
 
 use crate::mentions::{expr, exprs, indices, reading, static_of};
 use crate::sets::set_of;
-use crate::static_path::{Static, append_copies};
 use crate::table::{Effects, Sets};
+use bl_tree::static_path::append_copies;
 use bl_tree::tree::{Arm, Branch, Expr, Path, Stmt, StmtKind};
-use bl_tree::{List, NoMemory};
+use bl_tree::{List, NoMemory, Static};
 use std::alloc::Global;
 
 /// What the statements of the blocks that are open read and write.

@@ -3,13 +3,14 @@
 ghost use Rattle.std.specs.Prelude.{◌≡◌, true, List, Some, All, Contains, AllPairs, IsTrue, ◌↔◌};
 ghost use Rattle.bl_tree.specs.declared.tree.Stmt.{Stmt};
 ghost use Rattle.bl_tree.specs.declared.tree.Unit.{Unit as UnitDef};
-ghost use Rattle.bl_effects.specs.declared.static_path.Static.{Static};
-ghost use Rattle.bl_effects.specs.Effects.{reads, writes};
-ghost use Rattle.bl_effects.specs.Instant.{instant};
+ghost use Rattle.bl_tree.specs.declared.static_path.Static.{Static};
+ghost use Rattle.bl_tree.specs.Effects.{reads, writes};
+ghost use Rattle.bl_tree.specs.Instant.{instant};
 ghost use Rattle.bl_effects.specs.Rules.{loops_in};
-ghost use Rattle.bl_effects.specs.Static.{overlaps, precedes, set_of};
+ghost use Rattle.bl_tree.specs.Static.{overlaps, precedes, set_of};
 ghost use Rattle.bl_effects.specs.Surface.{surface_of};
-ghost use Rattle.bl_effects.specs.Table.{Effect, Has, StandsInUnits, Tells, Within, instant_at, place_of, reads_at, writes_at};
+ghost use Rattle.bl_tree.specs.Within.{Effect, StandsInUnits, Within, place_of};
+ghost use Rattle.bl_effects.specs.Table.{Has, Tells, instant_at, reads_at, writes_at};
 
 /// A set has the static paths of the list that it is made from, in ascending order, each once.
 pub fn sets_are_ascending()

@@ -1,7 +1,6 @@
 //! What a rule's line names.
 
-use crate::static_path::Static;
-use bl_tree::Place;
+use bl_tree::{Place, Static};
 
 /// A static path, and the place of the act that writes it or of the argument or target that it is of.
 #[derive(Drop)]

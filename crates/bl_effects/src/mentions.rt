@@ -2,12 +2,11 @@
 
 ghost use Rattle.std.specs.Prelude.{◌≡◌, ◌∷◌, [], ◌++◌, map, IfOk, OnOk, option_map};
 ghost use Rattle.bl_tree.specs.Reduce.{joined};
-ghost use Rattle.bl_effects.specs.Effects.{argument_mentions, optional_mentions};
-ghost use Rattle.bl_effects.specs.Static.{index_mentions, leading_fields, mentions, part_mentions, path_mentions, static_of, step_of};
+ghost use Rattle.bl_tree.specs.Effects.{argument_mentions, optional_mentions};
+ghost use Rattle.bl_tree.specs.Static.{index_mentions, leading_fields, mentions, part_mentions, path_mentions, static_of, step_of};
 
-use crate::static_path::Static;
 use bl_tree::tree::{Expr, ExprKind, Part, Path};
-use bl_tree::{List, NoMemory};
+use bl_tree::{List, NoMemory, Static};
 use std::alloc::Global;
 
 /// The static path of a path. Fails only for want of memory.

@@ -1,10 +1,9 @@
 //! Sets of static paths.
 
 ghost use Rattle.std.specs.Prelude.{◌≡◌};
-ghost use Rattle.bl_effects.specs.Static.{set_of};
+ghost use Rattle.bl_tree.specs.Static.{set_of};
 
-use crate::static_path::Static;
-use bl_tree::List;
+use bl_tree::{List, Static};
 
 /// The paths in ascending order, each once.
 pub fn set_of(paths: List<Static>) -> List<Static>

@@ -2,11 +2,12 @@
 
 ghost use Rattle.std.specs.Prelude.{◌≡◌, cond, [], Some, IfOk, OnOk, option_map};
 ghost use Rattle.bl_effects.specs.Entries.{effect_at};
-ghost use Rattle.bl_effects.specs.Table.{Has, PlacesDecide, Tells, found, instant_at, reads_at, same_place, writes_at};
+ghost use Rattle.bl_tree.specs.Within.{PlacesDecide};
+ghost use Rattle.bl_tree.specs.Rules.{same_place};
+ghost use Rattle.bl_effects.specs.Table.{Has, Tells, found, instant_at, reads_at, writes_at};
 
 use crate::gather::{Paths, block};
-use crate::static_path::Static;
-use bl_tree::{List, NoMemory, Place, Program};
+use bl_tree::{List, NoMemory, Place, Program, Static};
 use std::alloc::{AllocError, Global};
 use std::collections::BTreeMap;
 use std::marker::Model;
@@ -33,7 +34,7 @@ pub struct Effects {
 impl Model for Effects {
     ghost use Rattle.std.specs.Prelude.{List, map};
     ghost use Rattle.bl_effects.specs.Entries.{entry};
-    ghost use Rattle.bl_effects.specs.Table.{Effect};
+    ghost use Rattle.bl_tree.specs.Within.{Effect};
 
     ghost Value = { List Effect };
 

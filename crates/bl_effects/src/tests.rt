@@ -1,10 +1,9 @@
 //! Small statements built by hand.
 
 use crate::gather::{Paths, block};
-use crate::static_path::Static;
 use crate::table::Effects;
 use bl_tree::tree::{Arm, Branch, Expr, ExprKind, Guard, Part, Path, Stmt, StmtKind, Ty};
-use bl_tree::{Box, List, NoMemory, Op, Place, Scalar, Width};
+use bl_tree::{Box, List, NoMemory, Op, Place, Scalar, Static, Width};
 use std::alloc::Global;
 use std::process::Abort;
 

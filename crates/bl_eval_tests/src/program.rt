@@ -2,8 +2,8 @@
 
 use bl_lex::lex;
 use bl_parse::parse;
-use bl_program::check;
 use bl_parse_laws::kept::what_is_spelled_keeps;
+use bl_program::check;
 use bl_tree::Program;
 use bl_tree::tree::{Stmt, StmtKind};
 use std::alloc::Global;

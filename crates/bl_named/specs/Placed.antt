@@ -10,6 +10,8 @@ use Rattle.bl_named.specs.declared.expr.NamedPart.{NamedPart, fold-NamedPart}
 use Rattle.bl_named.specs.declared.expr.NamedTarget.{NamedTarget, fold-NamedTarget}
 use Rattle.bl_named.specs.declared.expr.Root.{Root}
 use Rattle.bl_named.specs.declared.expr.Root.TheVariants as root
+use Rattle.bl_named.specs.declared.item.Item.{Item}
+use Rattle.bl_named.specs.declared.item.Item.TheVariants as item
 use Rattle.bl_named.specs.declared.item.NamedConstant.{NamedConstant}
 use Rattle.bl_named.specs.declared.item.NamedStruct.{NamedStruct}
 use Rattle.bl_named.specs.declared.item.NamedUnit.{NamedUnit}
@@ -208,24 +210,18 @@ unit_step constants unit earlier =
     then option_and_then (behind_unit unit) (in_turn (map (stmt_step unit.vars constants) unit.body) (with_parameters earlier unit))
     else None
 
-pub data Item : Type 0 where
-  structure : Item
-  constant : Item
-  unit : Item
-
 -- the next struct, constant or unit of a program
 abbrev pub item_step : Named → Item → Step
-item_step named structure earlier =
+item_step named item.Struct earlier =
     if holds_of (struct_placed earlier) (slice_get named.structs earlier.structs) then Some (record earlier { structs = earlier.structs + 1 }) else None
-item_step named constant earlier =
+item_step named item.Constant earlier =
     if holds_of (constant_placed earlier) (slice_get named.constants earlier.constants) then Some (with_constant earlier) else None
-item_step named unit earlier = option_and_then (λ def. unit_step named.constants def earlier) (slice_get named.units earlier.units)
+item_step named item.Unit earlier = option_and_then (λ def. unit_step named.constants def earlier) (slice_get named.units earlier.units)
 
 -- all that a program has
 abbrev pub all_earlier : Named → Earlier
 all_earlier named = record { structs = length named.structs; constants = length named.constants; units = length named.units; variables = 0 }
 
--- in this order of its structs, constants and units each position in a program is that of what is declared before, and
--- everything is declared once
-abbrev pub IsPlaced : List Item → Named → Type 0
-IsPlaced order named = in_turn (map (item_step named) order) nothing_earlier ≡ Some (all_earlier named)
+-- in the order of its items each position in a program is that of what is declared before, and everything is declared once
+abbrev pub IsPlaced : Named → Type 0
+IsPlaced named = in_turn (map (item_step named) named.order) nothing_earlier ≡ Some (all_earlier named)

@@ -5,6 +5,14 @@ use bl_raw::name::Name;
 use bl_tree::List;
 use bl_tree::tree::{Role, UnitKind};
 
+/// What stands next in the file: the next of the structs, of the constants or of the units.
+#[derive(Clone, Copy, PartialEq, Eq, Debug)]
+pub enum Item {
+    Struct,
+    Constant,
+    Unit,
+}
+
 #[derive(Drop)]
 pub struct NamedField {
     pub name: Name,

@@ -6,12 +6,12 @@ ghost use Rattle.bl_names.specs.Naming.{named_expr, named_length, named_path, na
 use bl_named::expr::{NamedExpr, NamedExprKind, NamedPart, NamedTarget, Root};
 use bl_named::stmt::NamedPath;
 use bl_named::types::{NamedLength, NamedType};
-use bl_scopes::kind::Kind;
-use bl_scopes::scopes::Scopes;
 use bl_raw::expr::{RawExpr, RawExprKind, RawPart, RawTarget};
 use bl_raw::name::Name;
 use bl_raw::stmt::RawPath;
 use bl_raw::types::{RawLength, RawType};
+use bl_scopes::kind::Kind;
+use bl_scopes::scopes::Scopes;
 use bl_tree::{Box, List, NoMemory, Text};
 use std::alloc::Global;
 

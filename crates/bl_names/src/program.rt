@@ -10,8 +10,8 @@ ghost use Rattle.bl_names.specs.Order.{order_of};
 use crate::item::items;
 use crate::state::State;
 use bl_named::Named;
-use bl_scopes::check;
 use bl_raw::Raw;
+use bl_scopes::check;
 use bl_tree::{NoMemory, Refusal};
 use std::alloc::Global;
 

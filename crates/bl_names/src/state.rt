@@ -6,9 +6,9 @@ ghost use Rattle.bl_scopes.specs.Scopes.{enter};
 ghost use Rattle.bl_names.specs.Past.{begun, with_constant, with_variable};
 
 use bl_named::item::{NamedConstant, NamedStruct, NamedUnit, NamedVar};
+use bl_raw::name::Name;
 use bl_scopes::kind::Kind;
 use bl_scopes::scopes::Scopes;
-use bl_raw::name::Name;
 use bl_tree::{List, NoMemory};
 use std::alloc::Global;
 

@@ -11,8 +11,8 @@ use Rattle.bl_tree.specs.declared.tree.StmtKind.{StmtKind, fold-StmtKind, fold-r
 use Rattle.bl_tree.specs.declared.tree.StmtKind.TheOpen.{StmtKind-F}
 use Rattle.bl_tree.specs.declared.tree.StmtKind.TheVariants.{Cobegin, If, outs-Cobegin, outs-If}
 use Rattle.bl_tree.specs.Reduce.{all_of, any_of, joined}
-use Rattle.bl_effects.specs.declared.static_path.Static.{Static}
-use Rattle.bl_effects.specs.Instant.{branches_instant, instant}
+use Rattle.bl_tree.specs.declared.static_path.Static.{Static}
+use Rattle.bl_tree.specs.Instant.{branches_instant, instant}
 use Rattle.bl_effects.specs.Surface.{BranchSurface, Surface, arm_surface, block_instant, block_surface, branch_surface, kind_surface, stmt_surface, surface_of}
 use Rattle.bl_effects.proofs.InstantLemmas.{surface_agrees}
 use Rattle.bl_ctree.specs.Positions.{Position, left_of_if}

@@ -3,7 +3,7 @@ use Rattle.std.proofs.Common.{◌≡◌, ℕ, suc, Bool, true, false, ◌&&◌, 
 use Rattle.std.specs.Prelude.{Result, IfOk, OnOk}
 use Rattle.std.proofs.Math.Bool.{and_assoc, or_assoc}
 use Rattle.bl_tree.specs.declared.tree.Stmt.{Stmt}
-use Rattle.bl_effects.specs.declared.static_path.Static.{Static}
+use Rattle.bl_tree.specs.declared.static_path.Static.{Static}
 use Rattle.bl_effects.specs.Surface.{block_instant, block_surface, surface_of}
 use Rattle.bl_effects.proofs.GatherLemmas.{on_ok}
 use Rattle.bl_effects.proofs.InstantLemmas.{surface_agrees}

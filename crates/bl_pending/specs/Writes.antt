@@ -1,6 +1,6 @@
 -- What a tree may still write in this tick, as static paths of the instance in which it stands.
 use Rattle.std.specs.Prelude.{Bool, List, [], ◌∷◌, ◌++◌, if◌then◌else◌}
-use Rattle.bl_effects.specs.declared.static_path.Static.{Static}
+use Rattle.bl_tree.specs.declared.static_path.Static.{Static}
 use Rattle.bl_effects.specs.Surface.{surface_of}
 use Rattle.bl_ctree.specs.Control.{Control, Branches, Nil, Wait, Test, Idle, Do, Turn, Seq, Par, Guard, Run, no_branch, branch, Phase, Check, Body, is_settled}
 use Rattle.bl_ctree.specs.Pending.{is_reset, item_may_end, may_end, outputs_of_kind, run_may_end, target_of_kind}

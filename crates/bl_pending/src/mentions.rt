@@ -2,12 +2,12 @@
 
 ghost use Rattle.std.specs.Prelude.{◌≡◌, ◌++◌, map, IfOk, OnOk, Option};
 ghost use Rattle.bl_tree.specs.Reduce.{joined};
-ghost use Rattle.bl_effects.specs.Effects.{argument_mentions, optional_mentions};
-ghost use Rattle.bl_effects.specs.Static.{index_mentions, mentions, part_mentions, path_mentions};
+ghost use Rattle.bl_tree.specs.Effects.{argument_mentions, optional_mentions};
+ghost use Rattle.bl_tree.specs.Static.{index_mentions, mentions, part_mentions, path_mentions};
 
-use bl_effects::{Static, static_of};
+use bl_effects::static_of;
 use bl_tree::tree::{Expr, ExprKind, Part, Path};
-use bl_tree::{List, NoMemory};
+use bl_tree::{List, NoMemory, Static};
 use std::alloc::Global;
 
 /// Appends what an expression reads.

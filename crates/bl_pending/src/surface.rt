@@ -2,14 +2,14 @@
 
 ghost use Rattle.std.specs.Prelude.{◌≡◌, ◌++◌, map, IfOk, OnOk};
 ghost use Rattle.bl_tree.specs.Reduce.{any_of, joined};
-ghost use Rattle.bl_effects.specs.Instant.{branches_instant};
-ghost use Rattle.bl_effects.specs.Static.{static_of, whole};
+ghost use Rattle.bl_tree.specs.Instant.{branches_instant};
+ghost use Rattle.bl_tree.specs.Static.{static_of, whole};
 ghost use Rattle.bl_effects.specs.Surface.{block_instant, block_surface, surface_of};
 ghost use Rattle.bl_pending.specs.Surfaces.{surface_of_arm, surface_of_branch};
 
-use bl_effects::{Static, static_of};
+use bl_effects::static_of;
 use bl_tree::tree::{Arm, Branch, Path, Stmt, StmtKind};
-use bl_tree::{List, NoMemory};
+use bl_tree::{List, NoMemory, Static};
 use std::alloc::Global;
 
 /// Appends the static paths of the outputs. Fails only for want of memory, as all that follows.

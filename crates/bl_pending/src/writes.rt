@@ -1,8 +1,8 @@
 //! What can still happen in a tree before its next pause. Only the tree is walked, and the statements in it that are to begin.
 
 ghost use Rattle.std.specs.Prelude.{◌≡◌, ◌++◌, ◌&&◌, [], false, map, drop, IfOk, OnOk, if◌then◌else◌};
-ghost use Rattle.bl_effects.specs.Effects.{target_static};
-ghost use Rattle.bl_effects.specs.Instant.{instant};
+ghost use Rattle.bl_tree.specs.Effects.{target_static};
+ghost use Rattle.bl_tree.specs.Instant.{instant};
 ghost use Rattle.bl_effects.specs.Surface.{surface_of};
 ghost use Rattle.bl_ctree.specs.Control.{Check, has_strong};
 ghost use Rattle.bl_ctree.specs.Nodes.{branches_of, control_of, items_of, items_then, left_of_arms, located, phase_of, seen_of};
@@ -13,9 +13,9 @@ ghost use Rattle.bl_pending.specs.Writes.{all_write_paths, anew_paths, items_pat
 use crate::surface::{arms, block, statement, statics};
 use bl_ctree::node::{Arms, At, Branch, Node, Phase, Rest, Then};
 use bl_ctree::settle::{has_strong, is_settled};
-use bl_effects::{Static, static_of};
+use bl_effects::static_of;
 use bl_tree::tree::{Guard, Path, Stmt, StmtKind};
-use bl_tree::{List, NoMemory};
+use bl_tree::{List, NoMemory, Static};
 use std::alloc::Global;
 
 /// Appends what an `if` whose first arms are passed can write before it pauses; answers whether it may end at once.

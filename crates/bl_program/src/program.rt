@@ -9,8 +9,8 @@ ghost use Rattle.bl_types.specs.Rules.{Passes as TypesPass};
 
 use bl_raw::Raw;
 use bl_tree::{Program, Refusal};
-use bl_types_laws::kept::what_is_typed_keeps;
 use bl_types::Typed;
+use bl_types_laws::kept::what_is_typed_keeps;
 use std::alloc::Global;
 
 /// Judges the rules on names, and where none of them fails those on types, and makes the typed program of a tree that

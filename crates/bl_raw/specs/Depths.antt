@@ -70,9 +70,9 @@ stmt_layer_depth s = s.what
 abbrev pub depth_of : RawStmt → Depth
 depth_of = fold-RawStmt Depth Depth Depth Depth stmt_kind_depth arm_depth branch_depth stmt_layer_depth
 
--- whether blocks nest at most 200 deep, that of the unit and empty ones included, and expressions at most 200 deep
+-- whether blocks nest at most 100 deep, that of the unit and empty ones included, and expressions at most 200 deep
 abbrev pub is_shallow : List RawStmt → Bool
-is_shallow body = nat_le (block 0 (map depth_of body)).blocks 200 && nat_le (of_all (map depth_of body)).exprs 200
+is_shallow body = nat_le (block 0 (map depth_of body)).blocks 100 && nat_le (of_all (map depth_of body)).exprs 200
 
 abbrev pub item_shallow : RawItem → Bool
 item_shallow (Struct def) = true

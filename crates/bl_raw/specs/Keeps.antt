@@ -10,7 +10,7 @@ use Rattle.bl_raw.specs.Starts.{all_starts, ascends}
 pub record Keeps (items : List RawItem) : Type 0 where
   -- every name is a name; each struct has a field, each `if` an arm, each `cobegin` a branch, each `var` a type or a value
   pub stand : IsTrue (list_all item_stands items)
-  -- blocks nest at most 200 deep, and operators, casts, calls and indexes at most 200 deep
+  -- blocks nest at most 100 deep, and operators, casts, calls and indexes at most 200 deep
   pub shallow : IsTrue (list_all item_shallow items)
   -- statements and conditions of loops begin one after another, so no two of them have one place
   pub in_order : IsTrue (ascends (all_starts items))

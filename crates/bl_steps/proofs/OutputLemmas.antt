@@ -20,8 +20,8 @@ use Rattle.bl_ctree.specs.declared.instance.Instance.{Instance}
 use Rattle.bl_ctree.specs.Instances.{Setting, expanded, instances_below, instances_of, runs_of, setting_of, unit_at, unit_of}
 use Rattle.bl_ctree.specs.Positions.{stmt_kind}
 use Rattle.bl_ctree.specs.Store.{Frame, Location, Store, aged, first_frame, first_store, frame_at_first, home, number_or_zero, outputs_of_frame, put, put_path, put_written, remember, with_frame, with_inputs, with_now, woken_store, zeros}
-use Rattle.bl_effects.specs.declared.static_path.Static.{Static}
-use Rattle.bl_effects.specs.Effects.{writes}
+use Rattle.bl_tree.specs.declared.static_path.Static.{Static}
+use Rattle.bl_tree.specs.Effects.{writes}
 use Rattle.bl_store.specs.declared.perform.Deed.{Deed}
 use Rattle.bl_store.specs.declared.perform.Deed.TheVariants.{Silent, Acts, Copies, Gives}
 use Rattle.bl_store.specs.Deeds.{deed_on}

@@ -2,7 +2,7 @@
 
 ghost use Rattle.std.specs.Prelude.{◌≡◌, ◌++◌, ◌∷◌, [], map, IfOk, OnOk, if◌then◌else◌};
 ghost use Rattle.bl_tree.specs.declared.tree.Stmt.{out-Stmt};
-ghost use Rattle.bl_effects.specs.Static.{set_of};
+ghost use Rattle.bl_tree.specs.Static.{set_of};
 ghost use Rattle.bl_ctree.specs.Actions.{Acts, Asks, Copies, Silent};
 ghost use Rattle.bl_ctree.specs.Control.{Nil, is_nil};
 ghost use Rattle.bl_ctree.specs.Nodes.{branches_of, control_of, located, seen_of};
@@ -15,14 +15,13 @@ ghost use Rattle.bl_steps.specs.Spots.{own, spot_of, spot_told, told_all, told_p
 use bl_ctree::copying::position;
 use bl_ctree::node::{At, Branch, Node, Phase};
 use bl_ctree::settle::{are_done, are_settled, is_nil};
-use bl_effects::Static;
 use bl_pending::mentions::{arguments, expr, exprs, indices, optional};
 use bl_store::callee::begun_by;
 use bl_store::home::append_homes;
 use bl_store::writing::set_of;
 use bl_store::{Deed, Home, Setting};
 use bl_tree::tree::{Expr, Stmt, StmtKind};
-use bl_tree::{List, NoMemory, Place};
+use bl_tree::{List, NoMemory, Place, Static};
 use std::alloc::Global;
 
 /// What an action does: a test, or something that tests nothing.

@@ -6,7 +6,7 @@ use Rattle.std.specs.Option.{option_or}
 use Rattle.std.specs.Ordering.{ordering_then}
 use Rattle.std.specs.Prelude.{is_some}
 use Rattle.bl_tree.specs.declared.place.Place.{Place}
-use Rattle.bl_effects.specs.Table.{same_place}
+use Rattle.bl_tree.specs.Rules.{same_place}
 use Rattle.bl_effects.proofs.EntryLemmas.{same_place_is}
 use Rattle.bl_ctree.specs.declared.instance.Origin.{Origin}
 use Rattle.bl_ctree.specs.Instances.{begins_at}

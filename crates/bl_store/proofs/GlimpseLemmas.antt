@@ -15,8 +15,8 @@ use Rattle.bl_tree.specs.Typing.{Site}
 use Rattle.bl_eval.specs.Meaning.{View, plain}
 use Rattle.bl_eval.specs.Standing.{outcome_in_unit, outcome_of, scope_of, site_at, value_in_unit, value_of}
 use Rattle.bl_eval.specs.Values.{value_at}
-use Rattle.bl_effects.specs.declared.static_path.Static.{Static}
-use Rattle.bl_effects.specs.Static.{Reach, Step, expr_mentions, kind_mentions, part_step, path_reach, placed, precedes, set_of, static_of, whole}
+use Rattle.bl_tree.specs.declared.static_path.Static.{Static}
+use Rattle.bl_tree.specs.Static.{Reach, Step, expr_mentions, kind_mentions, part_step, path_reach, placed, precedes, set_of, static_of, whole}
 use Rattle.bl_ctree.specs.declared.instance.Instance.{Instance}
 use Rattle.bl_ctree.specs.Actions.{outcome_there, value_there}
 use Rattle.bl_ctree.specs.Instances.{Setting}

@@ -5,7 +5,7 @@ use Rattle.std.specs.Cmp.{unsigned_tied}
 use Rattle.std.specs.Ordering.{ordering_then}
 use Rattle.bl_tree.specs.declared.place.Place.{Place}
 use Rattle.bl_effects.specs.Entries.{key_of}
-use Rattle.bl_effects.specs.Table.{same_place}
+use Rattle.bl_tree.specs.Rules.{same_place}
 use Rattle.bl_store.specs.Expansion.{place_cmp}
 
 pub both_equal : (r s : Ordering) → is_eq (ordering_then r s) ≡ (is_eq r && is_eq s)

@@ -4,8 +4,8 @@ use Rattle.std.specs.Prelude.{option_and_then, option_map, slice_get, unwrap_or}
 use Rattle.bl_tree.specs.declared.tree.Expr.{Expr}
 use Rattle.bl_tree.specs.declared.value.Value.{Value}
 use Rattle.bl_eval.specs.Values.{value_at}
-use Rattle.bl_effects.specs.declared.static_path.Static.{Static}
-use Rattle.bl_effects.specs.Static.{whole}
+use Rattle.bl_tree.specs.declared.static_path.Static.{Static}
+use Rattle.bl_tree.specs.Static.{whole}
 use Rattle.bl_ctree.specs.Actions.{value_there, values_there}
 use Rattle.bl_ctree.specs.Instances.{Setting}
 use Rattle.bl_ctree.specs.Store.{Location, Store, home, put, put_path, put_written, remember, whole_of, with_frame}

@@ -6,7 +6,7 @@ use Rattle.std.specs.List.{list_any}
 use Rattle.std.specs.Prelude.{ℕ}
 use Rattle.bl_tree.specs.declared.place.Place.{Place}
 use Rattle.bl_effects.specs.Entries.{key_of}
-use Rattle.bl_effects.specs.Table.{same_place}
+use Rattle.bl_tree.specs.Rules.{same_place}
 use Rattle.bl_effects.proofs.EntryLemmas.{same_place_is}
 use Rattle.bl_ctree.specs.declared.instance.Run.{Run}
 use Rattle.bl_store.specs.Expansion.{Sees, has_place, place_cmp, starts_at}

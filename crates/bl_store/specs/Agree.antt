@@ -6,7 +6,7 @@ use Rattle.bl_tree.specs.declared.value.Value.{Value}
 use Rattle.bl_tree.specs.declared.value.Value.TheVariants.{Number}
 use Rattle.bl_tree.specs.declared.tree.Part.{Part, fold-Part}
 use Rattle.bl_tree.specs.Apart.{Roots, argument_roots, expr_layer_roots, kind_roots, optional_roots, part_roots, path_layer_roots, roots_in, roots_in_path}
-use Rattle.bl_effects.specs.declared.static_path.Static.{Static}
+use Rattle.bl_tree.specs.declared.static_path.Static.{Static}
 
 -- both have the same values of these variables
 abbrev pub Agree : List ℕ → List Value → List Value → Type 0

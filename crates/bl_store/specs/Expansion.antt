@@ -6,7 +6,7 @@ use Rattle.std.specs.List.{list_any}
 use Rattle.std.specs.Ordering.{nat_cmp, ordering_then}
 use Rattle.bl_tree.specs.declared.place.Place.{Place}
 use Rattle.bl_effects.specs.Entries.{key_of}
-use Rattle.bl_effects.specs.Table.{same_place}
+use Rattle.bl_tree.specs.Rules.{same_place}
 use Rattle.bl_ctree.specs.declared.instance.Origin.{Origin}
 use Rattle.bl_ctree.specs.declared.instance.Run.{Run}
 

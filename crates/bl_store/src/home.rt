@@ -2,15 +2,14 @@
 
 ghost use Rattle.std.specs.Prelude.{◌≡◌, ◌++◌, ◌≤◌, IfOk, OnOk, IsTrue, option_map, map};
 ghost use Rattle.bl_ctree.specs.Store.{depth_at, home, homes, is_output_of, led, led_by, overlap, under};
-ghost use Rattle.bl_effects.specs.Static.{is_front, overlaps};
+ghost use Rattle.bl_tree.specs.Static.{is_front, overlaps};
 ghost use Rattle.bl_store.specs.Seen.{location_of, setting_in};
 
 use crate::setting::Setting;
 use crate::slices::element;
 use bl_ctree::instance::Origin;
-use bl_effects::Static;
 use bl_tree::tree::Unit;
-use bl_tree::{List, NoMemory};
+use bl_tree::{List, NoMemory, Static};
 use std::alloc::Global;
 
 /// A static path of an instance.

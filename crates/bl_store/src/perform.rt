@@ -5,7 +5,7 @@ ghost use Rattle.bl_tree.specs.Numbers.{is_one};
 ghost use Rattle.bl_eval.specs.Standing.{got_value};
 ghost use Rattle.bl_ctree.specs.Actions.{acted_kind, given_to, is_true_value, outcome_there, result_at, value_there, values_there, with_result};
 ghost use Rattle.bl_ctree.specs.Positions.{stmt_kind};
-ghost use Rattle.bl_effects.specs.Static.{whole};
+ghost use Rattle.bl_tree.specs.Static.{whole};
 ghost use Rattle.bl_ctree.specs.Store.{put, put_written, remember, with_frame, with_inputs};
 ghost use Rattle.bl_store.specs.Agree.{Covers, roots_of_act};
 ghost use Rattle.bl_store.specs.Deeds.{Carried, deed_on, outcome_by, value_by};
@@ -22,10 +22,9 @@ use crate::slices::element;
 use crate::view::{View, look};
 use crate::writing::{put_all, puts, set_before, set_inputs, set_of, set_result};
 use bl_ctree::paths::{static_of, statics_of};
-use bl_effects::Static;
 use bl_eval::{Did, Got, act, copy, value};
 use bl_tree::tree::{Expr, Path, Stmt, StmtKind};
-use bl_tree::{List, NoMemory, Value};
+use bl_tree::{List, NoMemory, Static, Value};
 use std::alloc::Global;
 
 /// What an action does that tests nothing.

@@ -1,7 +1,7 @@
 //! What acts write, and changes of one instance's values.
 
 ghost use Rattle.std.specs.Prelude.{◌≡◌, ◌++◌, ◌<◌, Some, pos, drop, length, IfOk, OnOk, slice_get, slice_set};
-ghost use Rattle.bl_effects.specs.Static.{set_of};
+ghost use Rattle.bl_tree.specs.Static.{set_of};
 ghost use Rattle.bl_ctree.specs.Actions.{with_result};
 ghost use Rattle.bl_ctree.specs.Store.{Store, put_path, put_written, with_frame, with_inputs};
 ghost use Rattle.bl_store.specs.Own.{with_before};
@@ -10,9 +10,8 @@ ghost use Rattle.bl_store.specs.Seen.{put_all, setting_in, store_of};
 use crate::frame::{Frame, put, within};
 use crate::home::{Home, home_of};
 use crate::setting::Setting;
-use bl_effects::Static;
 use bl_eval::copy;
-use bl_tree::{List, NoMemory, Value};
+use bl_tree::{List, NoMemory, Static, Value};
 use std::alloc::Global;
 use std::mem;
 

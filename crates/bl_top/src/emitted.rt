@@ -4,8 +4,10 @@ ghost use Rattle.bl_top.specs.Sources.{IsFileOfParts};
 
 use bl_ctext::CFile;
 use bl_early::emit;
-use bl_early_laws::written::{written_columns, written_is_small, written_is_well_formed, written_trace};
 use bl_early_laws::meaning::{early_programs_have_one_trace, early_ticks_end};
+use bl_early_laws::written::{
+    written_columns, written_is_small, written_is_well_formed, written_trace,
+};
 use bl_tree::{NoMemory, Program};
 use std::alloc::Global;
 

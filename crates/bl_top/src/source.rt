@@ -18,8 +18,8 @@ use crate::refusal::line;
 use crate::status::Status;
 use bl_early::is_early;
 use bl_io::{Files, IoFault, read_up_to};
-use bl_raw::Raw;
 use bl_parse_laws::kept::what_is_spelled_keeps;
+use bl_raw::Raw;
 use bl_tree::{Program, Refusal};
 use std::alloc::Global;
 

@@ -1,4 +1,5 @@
 pub mod ExprInduction
+pub mod FirstLemmas
 pub mod NumberLemmas
 pub mod ReduceLemmas
 pub mod StmtInduction

@@ -1,5 +1,29 @@
 -- What a typed program keeps.
-use Rattle.std.specs.Prelude.{ℕ, ◌+◌, Bool, true, false, ◌&&◌, ◌||◌, nat_le, is_none, is_some, List, [], ◌∷◌, ◌++◌, map, length, take, drop, slice_get, Option, Some, None, IsTrue}
+use Rattle.std.specs.Prelude.{
+  ℕ,
+  ◌+◌,
+  Bool,
+  true,
+  false,
+  ◌&&◌,
+  ◌||◌,
+  nat_le,
+  is_none,
+  is_some,
+  List,
+  [],
+  ◌∷◌,
+  ◌++◌,
+  map,
+  length,
+  take,
+  drop,
+  slice_get,
+  Option,
+  Some,
+  None,
+  IsTrue,
+}
 use Rattle.std.specs.List.{list_all}
 use Rattle.bl_tree.specs.declared.tree.Role.{Role}
 use Rattle.bl_tree.specs.declared.tree.Role.TheVariants.{Input, Output}
@@ -11,6 +35,7 @@ use Rattle.bl_tree.specs.Depths.{is_shallow}
 use Rattle.bl_tree.specs.Returns.{unit_returns}
 use Rattle.bl_tree.specs.Types.{type_stands, scalar_in}
 use Rattle.bl_tree.specs.Typing.{fits, site_of, is_activity, is_fixed, is_inhabited, is_variable, inputs_of, outputs_of}
+use Rattle.bl_tree.specs.Within.{PlacesDecide, RunsDecide}
 use Rattle.bl_tree.specs.Words.{are_distinct, is_name}
 
 -- ---- structs
@@ -93,3 +118,7 @@ pub record Keeps (structs : List StructDef) (units : List UnitDef) (entry : ℕ)
   pub units_stand : IsTrue (units_stand_after structs [] units)
   -- the entry is an activity that the environment can drive
   pub entry_stands : IsTrue (is_entry (slice_get units entry))
+  -- statements of one place read and write the same, and either all of them may end in the tick in which they begin or none
+  pub places_decide : PlacesDecide units
+  -- `run` statements of one place are the same, and don't stand in two branches of one `cobegin`
+  pub runs_decide : RunsDecide units

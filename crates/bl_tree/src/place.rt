@@ -1,4 +1,7 @@
-use crate::List;
+//! Places of a source text.
+
+ghost use Rattle.std.specs.Prelude.{◌≡◌};
+ghost use Rattle.bl_tree.specs.Rules.{is_before};
 
 /// A part of a source text: the offset of its first byte and that of the byte after its last.
 #[derive(Clone, Copy, PartialEq, Eq, Debug)]
@@ -7,14 +10,11 @@ pub struct Place {
     pub end: u32,
 }
 
-/// Why a text isn't accepted (docs/LANGUAGE.md, "Rules").
-#[derive(Drop)]
-pub enum Refusal {
-    /// The first rule that fails, its place, and the further places that its line names.
-    Rule {
-        number: u8,
-        place: Place,
-        also: List<Place>,
-    },
-    NoMemory,
+impl Place {
+    /// By the starts, and then by the ends.
+    pub fn is_before(self, other: Place) -> bool
+        ensures { result ≡ is_before self other }
+    {
+        self.start < other.start || (self.start == other.start && self.end < other.end)
+    }
 }

@@ -11,8 +11,8 @@ ghost use Rattle.bl_types.specs.Rules.{Passes as TypesPass};
 ghost use Rattle.bl_parse_laws.specs.ItemOrder.{NamesAscend};
 
 use bl_names_laws::kept::what_is_named_keeps;
-use bl_types_laws::shapes::what_is_made_keeps_shape;
 use bl_types_laws::named::what_is_named_suits;
+use bl_types_laws::shapes::what_is_made_keeps_shape;
 
 /// What the structs and units with their types keep of a program in which no rule fails, and its entry.
 pub fn what_is_typed_keeps()

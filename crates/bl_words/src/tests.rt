@@ -1,3 +1,5 @@
+//! Words and the jobs that they ask for.
+
 use crate::{Job, NoMemory, files_have_plain_names, job_of, usage};
 use std::alloc::{AllocError, Global};
 

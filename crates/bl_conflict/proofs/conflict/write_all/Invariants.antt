@@ -1,6 +1,6 @@
 use Rattle.std.proofs.Common.{◌≡◌, ◌++◌, drop, map}
 use Rattle.bl_conflict.specs.Failures.{written}
-use Rattle.bl_effects.specs.Static.{static_of}
+use Rattle.bl_tree.specs.Static.{static_of}
 use Rattle.bl_conflict.proofs.conflict.write_all.Given as goal
 
 abbrev pub invariant-loop-path : goal.invariant-loop-path

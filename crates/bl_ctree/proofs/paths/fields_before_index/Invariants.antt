@@ -1,5 +1,5 @@
 use Rattle.std.proofs.Common.{◌≡◌, ◌++◌, map, drop}
-use Rattle.bl_effects.specs.Static.{leading_fields, step_of}
+use Rattle.bl_tree.specs.Static.{leading_fields, step_of}
 use Rattle.bl_ctree.proofs.paths.fields_before_index.Given as goal
 
 abbrev pub invariant-loop-part : goal.invariant-loop-part

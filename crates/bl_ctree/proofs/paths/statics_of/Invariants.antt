@@ -1,5 +1,5 @@
 use Rattle.std.proofs.Common.{◌≡◌, ◌++◌, map, drop}
-use Rattle.bl_effects.specs.Static.{static_of}
+use Rattle.bl_tree.specs.Static.{static_of}
 use Rattle.bl_ctree.proofs.paths.statics_of.Given as goal
 
 abbrev pub invariant-loop-path : goal.invariant-loop-path

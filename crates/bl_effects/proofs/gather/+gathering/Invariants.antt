@@ -2,9 +2,9 @@ use Rattle.std.proofs.Common.{◌≡◌, ◌∷◌, [], ◌&&◌, ◌||◌, not,
 use Rattle.bl_tree.specs.declared.tree.Arm.{out-Arm}
 use Rattle.bl_tree.specs.declared.tree.Branch.{out-Branch}
 use Rattle.bl_tree.specs.Reduce.{all_of, any_of, joined}
-use Rattle.bl_effects.specs.Effects.{reads, writes}
+use Rattle.bl_tree.specs.Effects.{reads, writes}
 use Rattle.bl_effects.specs.Gathered.{Gathers, ends_of_branch, instant_of_arm, reads_of_arm, reads_of_branch, writes_of_arm, writes_of_branch}
-use Rattle.bl_effects.specs.Instant.{instant}
+use Rattle.bl_tree.specs.Instant.{instant}
 use Rattle.bl_effects.proofs.gather.+gathering.Given as goal
 
 abbrev pub invariant-block-loop-s : goal.invariant-block-loop-s

@@ -1,6 +1,6 @@
 use Rattle.std.proofs.Common.{◌≡◌, ◌++◌, map, drop}
 use Rattle.bl_tree.specs.Reduce.{joined}
-use Rattle.bl_effects.specs.Static.{path_mentions}
+use Rattle.bl_tree.specs.Static.{path_mentions}
 use Rattle.bl_effects.proofs.gather.readings.Given as goal
 
 abbrev pub invariant-loop-path : goal.invariant-loop-path

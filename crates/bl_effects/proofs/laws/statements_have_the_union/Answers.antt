@@ -1,5 +1,5 @@
 use Rattle.std.proofs.lemmas.List.Elements.{Contains-get_or}
-use Rattle.bl_effects.specs.Effects.{reads, writes}
+use Rattle.bl_tree.specs.Effects.{reads, writes}
 use Rattle.bl_effects.proofs.UnionLemmas.{reads_within, writes_within}
 use Rattle.bl_effects.proofs.laws.statements_have_the_union.Goals as goal
 

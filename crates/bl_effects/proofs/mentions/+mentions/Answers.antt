@@ -1,6 +1,6 @@
 use Rattle.std.proofs.Common.{◌++◌, map, ap, sym, ◌∙◌}
 use Rattle.bl_tree.specs.Reduce.{joined}
-use Rattle.bl_effects.specs.Static.{part_mentions}
+use Rattle.bl_tree.specs.Static.{part_mentions}
 use Rattle.bl_effects.proofs.MentionLemmas.{all_done, indices_out}
 use Rattle.bl_effects.proofs.mentions.+mentions.Goals as goal
 

@@ -1,6 +1,6 @@
 use Rattle.std.proofs.Common.{◌≡◌, ◌++◌, map, drop}
 use Rattle.bl_tree.specs.Reduce.{joined}
-use Rattle.bl_effects.specs.Static.{mentions, part_mentions}
+use Rattle.bl_tree.specs.Static.{mentions, part_mentions}
 use Rattle.bl_effects.proofs.mentions.+mentions.Given as goal
 
 abbrev pub invariant-exprs-loop-e : goal.invariant-exprs-loop-e

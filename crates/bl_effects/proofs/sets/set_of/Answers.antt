@@ -1,6 +1,6 @@
 use Rattle.std.proofs.Common.{ap, ◌∙◌}
 use Rattle.std.proofs.lemmas.List.Filters.{dedup_is}
-use Rattle.bl_effects.specs.Static.{set_of}
+use Rattle.bl_tree.specs.Static.{set_of}
 use Rattle.bl_effects.proofs.SetLemmas.{sorted_is_set}
 use Rattle.bl_effects.proofs.sets.set_of.Goals as goal
 

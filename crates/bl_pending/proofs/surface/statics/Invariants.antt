@@ -1,5 +1,5 @@
 use Rattle.std.proofs.Common.{◌≡◌, ◌++◌, map, take}
-use Rattle.bl_effects.specs.Static.{static_of}
+use Rattle.bl_tree.specs.Static.{static_of}
 use Rattle.bl_pending.proofs.surface.statics.Given as goal
 
 abbrev pub invariant-loop-path : goal.invariant-loop-path

@@ -1,5 +1,5 @@
 use Rattle.std.proofs.Common.{◌≡◌, drop}
-use Rattle.bl_effects.specs.Static.{is_front}
+use Rattle.bl_tree.specs.Static.{is_front}
 use Rattle.bl_store.proofs.home.is_front.Given as goal
 
 abbrev pub invariant-loop-k : goal.invariant-loop-k

@@ -1,7 +1,7 @@
 use Rattle.std.proofs.Common.{ap, map, ◌∙◌}
 use Rattle.bl_tree.specs.declared.tree.StmtKind.{out-StmtKind}
 use Rattle.bl_tree.specs.declared.tree.StmtKind.TheVariants.{outs-Call}
-use Rattle.bl_effects.specs.Static.{set_of, static_of}
+use Rattle.bl_tree.specs.Static.{set_of, static_of}
 use Rattle.bl_ctree.specs.Positions.{stmt_kind}
 use Rattle.bl_store.proofs.GlimpseLemmas.{covers_outputs}
 use Rattle.bl_store.proofs.perform.acts.Goals as goal

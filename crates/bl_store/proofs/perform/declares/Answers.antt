@@ -3,7 +3,7 @@ use Rattle.std.specs.Prelude.{option_map, slice_get}
 use Rattle.bl_tree.specs.declared.value.Value.{Value}
 use Rattle.bl_ctree.specs.Positions.{stmt_kind}
 use Rattle.bl_ctree.specs.Store.{Store, put_written, remember, with_frame}
-use Rattle.bl_effects.specs.Static.{whole}
+use Rattle.bl_tree.specs.Static.{whole}
 use Rattle.bl_store.specs.Agree.{roots_of_act}
 use Rattle.bl_store.specs.Deeds.{Carried, outcome_by}
 use Rattle.bl_store.specs.Glimpse.{glimpse}

@@ -1,6 +1,7 @@
 use Rattle.std.proofs.Common.{◌≡◌, cond, Some, map, subst}
 use Rattle.bl_effects.specs.Entries.{effect_at, entry, key_of}
-use Rattle.bl_effects.specs.Table.{found, same_place}
+use Rattle.bl_tree.specs.Rules.{same_place}
+use Rattle.bl_effects.specs.Table.{found}
 use Rattle.bl_effects.proofs.EntryLemmas.{found_inserted}
 use Rattle.bl_effects.proofs.table.Effects.insert.Goals as goal
 

@@ -1,6 +1,7 @@
 use Rattle.std.proofs.Common.{[], take, subst, sym}
 use Rattle.bl_effects.specs.Gathered.{Records}
-use Rattle.bl_effects.specs.Table.{PlacesDecide, StandsInUnits, Tells}
+use Rattle.bl_tree.specs.Within.{PlacesDecide, StandsInUnits}
+use Rattle.bl_effects.specs.Table.{Tells}
 use Rattle.bl_effects.proofs.ProgramLemmas.{told_all, units_none, units_step}
 use Rattle.bl_effects.proofs.table.Effects.of.Goals as goal
 

@@ -1,6 +1,6 @@
 use Rattle.std.proofs.Common.{[], take}
 use Rattle.bl_effects.specs.Gathered.{Records}
-use Rattle.bl_effects.specs.Table.{StandsInUnits}
+use Rattle.bl_tree.specs.Within.{StandsInUnits}
 use Rattle.bl_effects.proofs.table.Effects.of.Given as goal
 
 abbrev pub invariant-loop-unit : goal.invariant-loop-unit

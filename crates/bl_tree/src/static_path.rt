@@ -4,9 +4,9 @@ ghost use Rattle.std.specs.Prelude.{◌≡◌, ◌++◌, IfOk, OnOk};
 ghost use Rattle.std.specs.Cmp.{partial_equiv_from_equiv, eq_by_cmp_equiv, partial_order_from_total};
 ghost use Rattle.std.specs.Ordering.{as_partial_cmp, eq_by_cmp};
 ghost use Rattle.std.proofs.Common.{refl};
-ghost use Rattle.bl_effects.specs.Order.{static_cmp, static_cmp_total};
+ghost use Rattle.bl_tree.specs.Order.{static_cmp, static_cmp_total};
 
-use bl_tree::{List, NoMemory};
+use crate::{List, NoMemory};
 use std::alloc::Global;
 use std::cmp::Ordering;
 

@@ -3,7 +3,7 @@ use Rattle.std.specs.declared.cmp.Ordering.{Ordering}
 use Rattle.std.specs.Ordering.{nat_cmp, on, then_cmp}
 use Rattle.std.specs.Cmp.{IsTotalOrder, nat_cmp_total, on_total, then_total}
 use Rattle.std.specs.Cmp.Lexicographic.{slice_cmp, nat_list_cmp_total}
-use Rattle.bl_effects.specs.declared.static_path.Static.{Static}
+use Rattle.bl_tree.specs.declared.static_path.Static.{Static}
 
 -- by their roots, and then by their fields
 abbrev pub static_cmp : Static → Static → Ordering

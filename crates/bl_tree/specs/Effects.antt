@@ -5,8 +5,8 @@ use Rattle.bl_tree.specs.declared.tree.Path.{Path}
 use Rattle.bl_tree.specs.declared.tree.Stmt.{Stmt, fold-Stmt}
 use Rattle.bl_tree.specs.declared.tree.StmtKind.TheOpen.{StmtKind-F, Arm-F, Branch-F, Stmt-F}
 use Rattle.bl_tree.specs.Reduce.{joined}
-use Rattle.bl_effects.specs.declared.static_path.Static.{Static}
-use Rattle.bl_effects.specs.Static.{whole, set_of, mentions, static_of, index_mentions, path_mentions}
+use Rattle.bl_tree.specs.declared.static_path.Static.{Static}
+use Rattle.bl_tree.specs.Static.{whole, set_of, mentions, static_of, index_mentions, path_mentions}
 
 -- what an optional expression reads
 abbrev pub optional_mentions : Option Expr → List Static
@@ -53,7 +53,8 @@ branch_paths branch = joined branch.body
 abbrev pub stmt_set : Stmt-F (List Static) (List Static) (List Static) (List Static) → List Static
 stmt_set s = set_of s.what
 
--- the set of the static paths that a statement reads: its expressions and the indices of its targets, and with blocks all that stands in it, conditions included
+-- the set of the static paths that a statement reads: its expressions and the indices of its targets, and with blocks all that
+-- stands in it, conditions included
 abbrev pub reads : Stmt → List Static
 reads = fold-Stmt (List Static) (List Static) (List Static) (List Static) kind_reads arm_reads branch_paths stmt_set
 

@@ -6,7 +6,7 @@ use Rattle.bl_tree.specs.declared.tree.ExprKind.TheOpen.{ExprKind-F, Part-F, Pat
 use Rattle.bl_tree.specs.declared.tree.Part.{Part, fold-Part}
 use Rattle.bl_tree.specs.declared.tree.Path.{Path, fold-Path}
 use Rattle.bl_tree.specs.Reduce.{joined}
-use Rattle.bl_effects.specs.declared.static_path.Static.{Static}
+use Rattle.bl_tree.specs.declared.static_path.Static.{Static}
 
 -- a whole variable
 abbrev pub whole : ℕ → Static
