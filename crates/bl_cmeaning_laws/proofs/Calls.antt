@@ -12,7 +12,7 @@ use Rattle.bl_cmeaning.specs.Meaning.{called_as as called_as_c, number_of_passed
 use Rattle.bl_cmeaning.specs.Sizes.{Sizes}
 use Rattle.bl_cmeaning.specs.Tables.{Table, entry_or}
 use Rattle.bl_cmeaning.specs.Faults.{Context, JudgedArg, Signature, by_value, builtin_signature, fit_args, fit_each, signature_as}
-use Rattle.bl_cmeaning_laws.specs.Fitting.{in_ranges}
+use Rattle.bl_tree.specs.Ports.{in_ranges}
 use Rattle.bl_cmeaning_laws.proofs.Results.{builtin-typed, builtins-fit}
 use Rattle.bl_cmeaning_laws.specs.Layout.{capped}
 use Rattle.bl_cmeaning_laws.specs.Reaching.{Ground}

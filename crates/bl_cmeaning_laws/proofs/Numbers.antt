@@ -1,4 +1,5 @@
 -- The numbers of the three objects, rows of inputs and of outputs, in cells.
+use Rattle.bl_tree.specs.Ports.{in_ranges}
 use Rattle.std.proofs.Common.{◌≡◌, ℕ, suc, ◌+◌, ◌≤◌, ℤ, pos, Bool, true, false, ◌&&◌, List, [], ◌∷◌, ◌++◌, map, length, take, drop, replicate, Option}
 use Rattle.std.proofs.Common.{Some, None, refl, ap, sym, subst, ◌∙◌, arith, append-nil, append_assoc, length-append}
 use Rattle.std.specs.Prelude.{option_map, bytes_eq, is_some, is_none, flat_map, filter_map, unwrap_or, codes, nat_le, slice_set, if◌then◌else◌}
@@ -23,7 +24,7 @@ use Rattle.bl_cmeaning.specs.Faults.{distinct_names, declared_before, short_chai
 use Rattle.bl_cmeaning.specs.Faults.{depth_of_struct, faults_in, faults_in_struct, interface_fits, is_declared, is_pad, is_port, is_scalar}
 use Rattle.bl_cmeaning.specs.Faults.{member_table, struct_faults_after, struct_table, unless}
 use Rattle.bl_cmeaning.proofs.EndLemmas.{nil-left, nil-right}
-use Rattle.bl_cmeaning_laws.specs.Fitting.{Spot, cell_holds, in_ranges, scalars, whole}
+use Rattle.bl_cmeaning_laws.specs.Fitting.{Spot, cell_holds, scalars, whole}
 use Rattle.bl_cmeaning_laws.proofs.Lists.{and-both, and-left, and-right}
 use Rattle.bl_cmeaning_laws.specs.Laws.{cells_in, input_at, kinds_of, output_at}
 use Rattle.bl_cmeaning_laws.specs.Flat.{Cells, cell_at, with_args}

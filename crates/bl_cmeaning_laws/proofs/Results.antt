@@ -1,4 +1,5 @@
 -- What the prelude's functions give is in range.
+use Rattle.bl_tree.specs.Ports.{in_ranges}
 use Rattle.std.proofs.Common.{◌≡◌, ℕ, ◌+◌, ◌^◌, ◌<◌, ℤ, pos, negsuc, ◌+ℤ◌, Bool, true, false, ◌&&◌, List, [], ◌∷◌, Option, Some, None, refl, ap, sym}
 use Rattle.std.proofs.Common.{subst, ◌∙◌, arith}
 use Rattle.std.specs.Prelude.{bytes_eq, int_le, int_lt, IfSome, if◌then◌else◌}
@@ -21,7 +22,7 @@ use Rattle.bl_ctext.specs.declared.builtin.Builtin.TheVariants.{Two, One, Cast, 
 use Rattle.bl_ctext.specs.Builtins.{builtins}
 use Rattle.bl_cmeaning.specs.Builtin.{builtin_of, builtin_params, builtin_result, builtin_value, in_c, index_within, only_if, widest}
 use Rattle.bl_cmeaning.specs.Tables.{found}
-use Rattle.bl_cmeaning_laws.specs.Fitting.{in_ranges, BuiltinsFit}
+use Rattle.bl_cmeaning_laws.specs.Fitting.{BuiltinsFit}
 use Rattle.bl_cmeaning_laws.specs.Flat.{is_typed}
 use Rattle.bl_cmeaning_laws.proofs.Lists.{and-left, and-right}
 

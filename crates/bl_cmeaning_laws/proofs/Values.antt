@@ -20,7 +20,7 @@ use Rattle.bl_cmeaning.specs.Meaning.{Passed, by_value, by_address, number_of_pa
 use Rattle.bl_cmeaning.specs.Sizes.{Sizes}
 use Rattle.bl_cmeaning.specs.Faults.{JudgedArg, Variable, agree, by_value as by_value_of, fit_each, fits_arg, fits_param, if_typed, same_scalar}
 use Rattle.bl_cmeaning.specs.Faults.{same_type, same_width, takes}
-use Rattle.bl_cmeaning_laws.specs.Fitting.{in_ranges}
+use Rattle.bl_tree.specs.Ports.{in_ranges}
 use Rattle.bl_cmeaning_laws.proofs.Lists.{and-both, and-left, and-right}
 use Rattle.bl_cmeaning_laws.proofs.Ways.{Lists, Shaped, Structs}
 use Rattle.bl_cmeaning_laws.proofs.Standing.{World}

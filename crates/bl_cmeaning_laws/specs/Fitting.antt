@@ -8,6 +8,7 @@ use Rattle.bl_tree.specs.declared.c.CType.{CType}
 use Rattle.bl_tree.specs.declared.c.CType.TheVariants.{Scalar as OfScalar, Struct as OfStruct}
 use Rattle.bl_tree.specs.declared.c.CMember.{CMember}
 use Rattle.bl_tree.specs.declared.c.CStruct.{CStruct}
+use Rattle.bl_tree.specs.Ports.{in_ranges}
 use Rattle.bl_tree.specs.Scalar.{in_range}
 use Rattle.bl_ctext.specs.declared.builtin.Builtin.{Builtin}
 use Rattle.bl_cmeaning.specs.Builtin.{builtin_of, builtin_params, builtin_result, builtin_value}
@@ -124,13 +125,6 @@ cell_holds memory cell = in_range cell.kind (number_in (value_at memory cell.loc
 abbrev pub CellsFit : Parts → Type 0
 CellsFit file = (types : RootTypes) (memory : Memory) → ObjectsAre types → MemoryFits file.structs types memory →
     list_all (cell_holds memory) (cells_of file) ≡ true
-
--- whether there is a number for each of these types, in its range
-abbrev pub in_ranges : List Scalar → List ℤ → Bool
-in_ranges [] [] = true
-in_ranges (t ∷ ts) (n ∷ ns) = in_range t n && in_ranges ts ns
-in_ranges [] (n ∷ ns) = false
-in_ranges (t ∷ ts) [] = false
 
 -- a function of the prelude that is given numbers of its parameters' types gives one of its result's type, where it doesn't trap
 abbrev pub BuiltinsFit : Type 0

@@ -25,7 +25,7 @@ use Rattle.bl_cmeaning.specs.Folds.{OpenPart}
 use Rattle.bl_cmeaning.specs.Meaning.{End, goes_on, breaks, returns, traps, result_at, turn_limit}
 use Rattle.bl_cmeaning.specs.Sizes.{Sizes}
 use Rattle.bl_cmeaning.specs.Tables.{Table, with_entry, entry_or}
-use Rattle.bl_cmeaning_laws.specs.Fitting.{in_ranges}
+use Rattle.bl_tree.specs.Ports.{in_ranges}
 use Rattle.bl_cmeaning_laws.specs.Layout.{Layouts, capped, frame_cells, slots_of}
 use Rattle.bl_cmeaning_laws.specs.Reaching.{Ground, Index, Reach, Start, Step, Term, laid_in, near, reach_along, reach_member, start_of_slot, through}
 

@@ -1,4 +1,5 @@
 -- What holds of every C file that is run over numbered cells.
+use Rattle.bl_tree.specs.Ports.{in_ranges, row_fits}
 use Rattle.std.specs.Prelude.{◌≡◌, ◌≤◌, ℕ, ◌+◌, ℤ, pos, true, List, [], ◌∷◌, ◌++◌, map, length, take, drop, replicate, codes, is_some}
 use Rattle.std.specs.List.{list_all}
 use Rattle.bl_tree.specs.declared.text.Text.{Text}
@@ -11,7 +12,7 @@ use Rattle.bl_cmeaning.specs.Cells.{cells_of, inputs_of, numbers_of, outputs_of}
 use Rattle.bl_cmeaning.specs.Sizes.{cells_needed, sizes}
 use Rattle.bl_cmeaning.specs.Trace.{Tick, entered, object, reply_of, start_cells, starts, tick_c}
 use Rattle.bl_cmeaning.specs.Faults.{WellFormed}
-use Rattle.bl_cmeaning_laws.specs.Fitting.{cell_holds, in_ranges}
+use Rattle.bl_cmeaning_laws.specs.Fitting.{cell_holds}
 use Rattle.bl_cmeaning_laws.specs.Layout.{capped_sizes, layouts}
 use Rattle.bl_cmeaning_laws.specs.Flat.{Cells, Left, Routine, applied, routines_after, with_args}
 
@@ -89,7 +90,7 @@ pub record SameTick (file : Parts) (t : Tick) (l : Left ℤ) : Type 0 where
 -- a tick over cells of which the first have the numbers of the three objects' scalars, once those of the inputs are set to a row
 abbrev pub TicksRun : Parts → Type 0
 TicksRun file = WellFormed file → cells_needed file ≤ 1000000 → (numbers others ins : List ℤ) → Fitting file numbers →
-    in_ranges (map (λ column. column.ty) (inputs_of file)) ins ≡ true →
+    row_fits (inputs_of file) ins ≡ true →
     cells_needed file ≤ length (numbers ++ others) →
     SameTick file (tick_c file numbers ins)
     (entered_flat file (codes "bl_tick") (pos 0 ∷ pos (input_at file) ∷ pos (output_at file) ∷ []) (with_args (input_at file + 1) ins (numbers ++ others)))

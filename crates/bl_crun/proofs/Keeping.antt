@@ -3,12 +3,12 @@ use Rattle.std.proofs.Common.{◌≡◌, ℕ, ◌+◌, ◌≤◌, ◌<◌, ◌^�
 use Rattle.std.proofs.Common.{ap, sym, subst, ◌∙◌, arith}
 use Rattle.std.specs.Prelude.{codes, is_some, min, option_map}
 use Rattle.bl_bytecode.specs.Code.{Code}
-use Rattle.bl_cmeaning_laws.specs.Fitting.{in_ranges}
+use Rattle.bl_tree.specs.Ports.{in_ranges, row_fits, types_of}
 use Rattle.bl_cmeaning_laws.specs.Flat.{Left, with_args}
 use Rattle.bl_cmeaning_laws.specs.Laws.{StartsAgree, TicksAgree, behind_objects, entered_flat, input_at, output_at}
 use Rattle.bl_bytecode_machine.specs.Shown.{Shown}
 use Rattle.bl_bytecode_machine.specs.Steps.{holding}
-use Rattle.bl_cmeaning.specs.Cells.{cells_of, outputs_of}
+use Rattle.bl_cmeaning.specs.Cells.{cells_of, inputs_of, outputs_of}
 use Rattle.bl_cmeaning.specs.Parts.{Parts}
 use Rattle.bl_cmeaning.specs.Sizes.{cells_needed}
 use Rattle.bl_cmeaning.specs.Trace.{reply_of, start_cells, starts}
@@ -20,7 +20,6 @@ use Rattle.bl_crun.specs.declared.call.Called.{Called}
 use Rattle.bl_crun.specs.declared.prepared.Prepared.{Prepared}
 use Rattle.bl_crun.specs.Done.{CallDone, CellsKeep, Comes, IsStart, IsTick, first_cells}
 use Rattle.bl_crun.specs.Prepared.{Keeps, Ticked, numbers_in}
-use Rattle.bl_crun.specs.Running.{row_fits, types_of}
 use Rattle.bl_crun.proofs.Calls.{file-comes, steps_of}
 use Rattle.bl_crun.proofs.Cells.{cells-long, input-start, output-start}
 use Rattle.bl_crun.proofs.Ticks.{inputs-within, outputs-within, start-is, tick-is}
@@ -140,14 +139,14 @@ pub start-done : (file : Parts) (p : Prepared) → Keeps file p → (code : Code
     CallDone (entered_flat file (codes "bl_init") (pos 0 ∷ []) p.machine.state.cells) p.machine called after
 start-done file p keeps code code-is called after does = does (Start file p) (start-called file p keeps code code-is)
 
-pub set-within : (file : Parts) (p : Prepared) (ins : List ℤ) → Keeps file p → PortsStand file → row_fits file ins ≡ true → (k : ℕ) → k < length ins →
+pub set-within : (file : Parts) (p : Prepared) (ins : List ℤ) → Keeps file p → PortsStand file → row_fits (inputs_of file) ins ≡ true → (k : ℕ) → k < length ins →
     p.input_at + 1 + k < length p.machine.state.cells
 set-within file p ins keeps stand fits k within =
     let at = keeps.input_at in
     let h = inputs-within file keeps.runs stand ins p.machine.state.cells keeps.cells.room fits k within in
     omega arith
 
-module _ (file : Parts) (p : Prepared) (k : Keeps file p) (agrees : TicksAgree file) (stand : PortsStand file) (ins : List ℤ) (fits : row_fits file ins ≡ true)
+module _ (file : Parts) (p : Prepared) (k : Keeps file p) (agrees : TicksAgree file) (stand : PortsStand file) (ins : List ℤ) (fits : row_fits (inputs_of file) ins ≡ true)
     (m : Shown) (is : m ≡ holding p.machine (with_args (p.input_at + 1) ins p.machine.state.cells))
     (called : Called) (after : Shown)
     (done : CallDone (entered_flat file (codes "bl_tick") (pos 0 ∷ pos p.input_at ∷ pos p.output_at ∷ []) m.state.cells) m called after) where

@@ -6,11 +6,10 @@ use Rattle.std.proofs.lemmas.List.{take_more_set}
 use Rattle.std.proofs.lemmas.Option.{get_or_from_slice_get, slice_get-get_or, slice_get_within}
 use Rattle.bl_tree.specs.declared.row.Column.{Column}
 use Rattle.bl_tree.specs.Scalar.{in_range}
-use Rattle.bl_cmeaning_laws.specs.Fitting.{in_ranges}
+use Rattle.bl_tree.specs.Ports.{in_ranges, types_of}
 use Rattle.bl_cmeaning_laws.specs.Flat.{cell_at, with_args}
 use Rattle.bl_bytecode_machine.specs.Shown.{Shown}
 use Rattle.bl_bytecode_machine.specs.Steps.{holding}
-use Rattle.bl_crun.specs.Running.{types_of}
 
 -- an input is set
 pub args-step : (at k : ℕ) (ins cells all : List ℤ) (n : ℤ) → slice_get ins k ≡ Some n → with_args (at + k) (drop k ins) cells ≡ all →

@@ -4,7 +4,7 @@ use Rattle.std.proofs.Common.{◌∙◌, arith, length-set}
 use Rattle.std.proofs.lemmas.List.{length-map}
 use Rattle.bl_tree.specs.declared.scalar.Scalar.{Scalar}
 use Rattle.bl_tree.specs.Scalar.{in_range}
-use Rattle.bl_cmeaning_laws.specs.Fitting.{in_ranges}
+use Rattle.bl_tree.specs.Ports.{in_ranges}
 use Rattle.bl_cmeaning_laws.specs.Flat.{cell_at}
 use Rattle.bl_bytecode_machine.specs.Shown.{Shown}
 use Rattle.bl_bytecode_machine.specs.Steps.{holding}

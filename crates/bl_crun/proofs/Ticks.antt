@@ -8,7 +8,7 @@ use Rattle.std.proofs.lemmas.List.{length-map, take-append-drop, take-replicate}
 use Rattle.bl_tree.specs.declared.scalar.Scalar.{Scalar}
 use Rattle.bl_tree.specs.declared.text.Text.{Text}
 use Rattle.bl_tree.specs.declared.c.CMember.{CMember}
-use Rattle.bl_cmeaning_laws.specs.Fitting.{cell_holds, in_ranges}
+use Rattle.bl_cmeaning_laws.specs.Fitting.{cell_holds}
 use Rattle.bl_cmeaning_laws.proofs.Lists.{and-both}
 use Rattle.bl_cmeaning_laws.specs.Flat.{Left, with_args}
 use Rattle.bl_cmeaning_laws.specs.Laws.{SameCall, StartsAgree, TicksAgree, entered_flat, input_at, output_at}
@@ -25,7 +25,7 @@ use Rattle.bl_cinterface.specs.Layout.{kinds_of}
 use Rattle.bl_cinterface.specs.Ports.{PortsStand, inputs_start, outputs_start}
 use Rattle.bl_crun.specs.Cause.{Runs}
 use Rattle.bl_crun.specs.Done.{CellsKeep, IsStart, IsTick, first_cells}
-use Rattle.bl_crun.specs.Running.{row_fits, types_of}
+use Rattle.bl_tree.specs.Ports.{in_ranges, row_fits, types_of}
 use Rattle.bl_crun.proofs.Cells.{cells-long, cells-separate, numbers-made}
 use Rattle.bl_crun.proofs.Rows.{args-taken, columns-long, inputs-fit, inputs-long, inputs-set, outputs-fit, outputs-taken, ranges-are, within-taken}
 
@@ -134,7 +134,7 @@ module _ (file : Parts) (runs : Runs file) where
         let l = slice_get_within (cells_of file) (outs_at + j) (record { location = port output_object m.0; kind = p.0 }) p.1.1 in
         omega arith
 
-    pub inputs-within : (ins cells : List ℤ) → cells_needed file ≤ length cells → row_fits file ins ≡ true → (k : ℕ) → k < length ins →
+    pub inputs-within : (ins cells : List ℤ) → cells_needed file ≤ length cells → row_fits (inputs_of file) ins ≡ true → (k : ℕ) → k < length ins →
         ins_at + k < length cells
     unfolding inputs_of
     inputs-within ins cells room fits k within =
@@ -155,7 +155,7 @@ module _ (file : Parts) (runs : Runs file) where
         let f = few in
         omega arith
 
-    pub tick-is : TicksAgree file → (cells ins : List ℤ) → CellsKeep file cells → row_fits file ins ≡ true →
+    pub tick-is : TicksAgree file → (cells ins : List ℤ) → CellsKeep file cells → row_fits (inputs_of file) ins ≡ true →
         IsTick file (first_cells file cells) ins
         (entered_flat file (codes "bl_tick") (pos 0 ∷ pos (input_at file) ∷ pos (output_at file) ∷ []) (with_args ins_at ins cells))
     unfolding tick_c inputs_of outputs_of

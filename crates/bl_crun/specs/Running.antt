@@ -1,11 +1,9 @@
 -- What a runner shows, and what its ticks do to it.
-use Rattle.std.specs.Prelude.{◌≡◌, ℕ, ◌-◌, ◌^◌, min, ℤ, Bool, true, false, List, [], map, slice_set, Option}
+use Rattle.std.specs.Prelude.{◌≡◌, ℕ, ◌-◌, ◌^◌, min, ℤ, Bool, true, false, List, [], slice_set, Option}
 use Rattle.bl_tree.specs.declared.row.Column.{Column}
-use Rattle.bl_tree.specs.declared.scalar.Scalar.{Scalar}
-use Rattle.bl_cmeaning.specs.Cells.{inputs_of}
 use Rattle.bl_cmeaning.specs.Parts.{Parts}
 use Rattle.bl_cmeaning.specs.Trace.{Reply, row, ended, trapped, Tick as CTick, cells_if, start_cells, starts, tick_c}
-use Rattle.bl_cmeaning_laws.specs.Fitting.{in_ranges}
+use Rattle.bl_tree.specs.Ports.{row_fits}
 use Rattle.bl_crun.specs.declared.tick.Tick.{Tick}
 use Rattle.bl_crun.specs.declared.tick.Tick.TheVariants.{Row, Ended, Trap}
 
@@ -26,15 +24,6 @@ loaded parts = record { parts = parts; cells = start_cells parts; ready = starts
 -- the numbers from which its ticks go on: none where its start has trapped
 abbrev pub state_in : Running → Option (List ℤ)
 state_in r = cells_if r.ready r.cells
-
--- ---- rows
-
-abbrev pub types_of : List Column → List Scalar
-types_of columns = map (λ c. c.ty) columns
-
--- whether a row has a number for each input, in the range of its type
-abbrev pub row_fits : Parts → List ℤ → Bool
-row_fits file ins = in_ranges (types_of (inputs_of file)) ins
 
 -- ---- ticks
 
@@ -67,8 +56,8 @@ unless_trapped Trap outputs before = before
 
 -- a row of outputs that a tick has filled has a number for each output, in the range of its type
 abbrev pub OutputsFit : List Column → Tick → List ℤ → Type 0
-OutputsFit outs Row numbers = in_ranges (types_of outs) numbers ≡ true
-OutputsFit outs Ended numbers = in_ranges (types_of outs) numbers ≡ true
+OutputsFit outs Row numbers = row_fits outs numbers ≡ true
+OutputsFit outs Ended numbers = row_fits outs numbers ≡ true
 OutputsFit outs Trap numbers = Unit {0}
 
 -- what it replies, the runner after it, the row of outputs, and how many statements it executed

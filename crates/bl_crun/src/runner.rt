@@ -3,7 +3,7 @@
 ghost use Rattle.std.specs.Prelude.{◌≡◌, ◌<◌, Some, true, length, slice_get, IfErr, IfOk, OnOk};
 ghost use Rattle.bl_tree.specs.declared.scalar.Scalar.{Scalar as Kind};
 ghost use Rattle.bl_tree.specs.Scalar.{in_range};
-ghost use Rattle.bl_cmeaning_laws.specs.Fitting.{in_ranges};
+ghost use Rattle.bl_tree.specs.Ports.{row_fits};
 ghost use Rattle.bl_cmeaning.specs.Cells.{cells_of, inputs_of, outputs_of};
 ghost use Rattle.bl_cinterface.specs.Layout.{kinds_of};
 
@@ -46,7 +46,7 @@ impl Model for Runner {
 impl Runner {
     ghost use Rattle.bl_cmeaning.specs.Parts.{parts_of};
     ghost use Rattle.bl_crun.specs.Cause.{IsCause, Runs};
-    ghost use Rattle.bl_crun.specs.Running.{OutputsFit, after_tick, answer_of, count_after, loaded, outputs_after, reply_at, row_fits, with_cell};
+    ghost use Rattle.bl_crun.specs.Running.{OutputsFit, after_tick, answer_of, count_after, loaded, outputs_after, reply_at, with_cell};
 
     /// Loads a file: clears its cells and does its start. After a fault the file comes back.
     pub fn load(alloc: Global, file: CFile) -> Result<Runner, (CFile, LoadFault)>
@@ -83,7 +83,7 @@ impl Runner {
 
     /// Whether a row has a number for each input, in the range of its type.
     pub fn fits(&self, ins: &Row) -> bool
-        ensures { result ≡ row_fits self.now.parts ins.now }
+        ensures { result ≡ row_fits (inputs_of self.now.parts) ins.now }
     {
         fit_all(&self.prepared.inputs, ins)
     }
@@ -105,7 +105,7 @@ impl Runner {
     /// Does a tick with a row of inputs, and fills the row of outputs unless it traps. Where the start has trapped, the
     /// first tick traps.
     pub fn tick(&mut self, ins: &Row, outs: &mut Row) -> Tick
-        requires fits { row_fits self.old.parts ins.now ≡ true }
+        requires fits { row_fits (inputs_of self.old.parts) ins.now ≡ true }
         requires long { length outs.old ≡ length (outputs_of self.old.parts) }
         requires live { self.old.live ≡ true }
         ensures answer { result ≡ answer_of (reply_at self.old ins.now) }
@@ -119,7 +119,7 @@ impl Runner {
 
     /// Does a tick and tells how many statements it executed, at most 2^128 - 1.
     pub fn tick_counted(&mut self, ins: &Row, outs: &mut Row, count: &mut u128) -> Tick
-        requires fits { row_fits self.old.parts ins.now ≡ true }
+        requires fits { row_fits (inputs_of self.old.parts) ins.now ≡ true }
         requires long { length outs.old ≡ length (outputs_of self.old.parts) }
         requires live { self.old.live ≡ true }
         ensures answer { result ≡ answer_of (reply_at self.old ins.now) }

@@ -3,8 +3,7 @@ use Rattle.std.proofs.lemmas.Int.{to_z-of_z}
 use Rattle.std.specs.Int.{w128}
 use Rattle.bl_tree.specs.declared.row.Column.{Column}
 use Rattle.bl_tree.specs.Scalar.{in_range}
-use Rattle.bl_cmeaning_laws.specs.Fitting.{in_ranges}
-use Rattle.bl_crun.specs.Running.{types_of}
+use Rattle.bl_tree.specs.Ports.{in_ranges, types_of}
 use Rattle.bl_crun.proofs.Loops.{column-there, ranges-fail, ranges-long, ranges-step}
 use Rattle.bl_crun.proofs.fits.fit_all.Goals as goal
 
