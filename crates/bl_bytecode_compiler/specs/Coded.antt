@@ -1,14 +1,8 @@
--- The code of arguments, and of parts of statements.
+-- The code of parts of statements.
 use Rattle.std.specs.Prelude.{◌+◌, pos, [], ◌∷◌, ◌++◌, length, Option, Some, None}
-use Rattle.bl_tree.specs.declared.c.CArg.{CArg, fold-CArg}
 use Rattle.bl_tree.specs.declared.c.CExpr.{CExpr}
-use Rattle.bl_cmeaning_laws.specs.Reaching.{Index, Reach, Step}
 use Rattle.bl_bytecode.specs.declared.instruction.Instruction.TheVariants as ins
-use Rattle.bl_bytecode.specs.Code.{Code, Coded, Entry, arg_step, call_step, code_of, expr_step, index_step, kind_step, place_step, step_step}
-
--- code that pushes an argument
-abbrev pub arg_code : CArg → Coded Code
-arg_code = fold-CArg (Coded Code) (Coded Code) (Coded Code) (Coded Code) (Coded (Index Code)) (Coded (Reach Code)) (Step Entry Code) arg_step kind_step call_step expr_step index_step place_step step_step
+use Rattle.bl_bytecode.specs.Code.{Code, Coded, code_of}
 
 -- code that pushes what is returned
 abbrev pub given_code : Option CExpr → Coded Code

@@ -44,4 +44,5 @@ slots_in slots name = option_map slot_of (text_at slots name)
 
 -- what is known
 abbrev pub ground_of : Here → Ground Entry
-ground_of h = record { sizes = sizes_in h.sizes.now; structs = structs_in h.structs.now; known = entries_in h.known.now; slots = slots_in h.slots.now; frame = h.frame }
+ground_of h = record
+    { sizes = sizes_in h.sizes.now; structs = structs_in h.structs.now; known = entries_in h.known.now; slots = slots_in h.slots.now; frame = h.frame }

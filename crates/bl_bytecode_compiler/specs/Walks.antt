@@ -42,7 +42,8 @@ type_along ty (found ∷ rest) = type_along (type_found found) rest
 abbrev pub term_if : Ground Entry → Option Laid → Option CIndex → List (Term Code)
 term_if here None index = []
 term_if here (Some l) None = []
-term_if here (Some l) (Some index) = record { length = (out-CIndex index).length; size = size_of_type here.sizes l.it.ty; index = code_of (out-CIndex index).at here } ∷ []
+term_if here (Some l) (Some index) =
+    record { length = (out-CIndex index).length; size = size_of_type here.sizes l.it.ty; index = code_of (out-CIndex index).at here } ∷ []
 
 -- the indices
 abbrev pub terms_along : Ground Entry → List CStep → List (Option Laid) → List (Term Code)

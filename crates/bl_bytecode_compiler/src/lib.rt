@@ -9,10 +9,7 @@ mod expr;
 mod front;
 mod here;
 mod layout;
-mod maps;
 mod place;
-mod prelude;
-mod sizes;
 mod stmt;
 
 pub use code::{Compiled, compile};

@@ -9,8 +9,8 @@ ghost use Rattle.bl_bytecode_compiler.specs.Walks.{cells_before, found_along, fo
 
 use crate::front::small;
 use crate::here::{CAP, Here, Laid, Slot};
-use crate::maps::find;
 use bl_bytecode::instruction::Instruction;
+use bl_cmeaning::maps::find;
 use bl_tree::NoMemory;
 use bl_tree::c::{CPlace, CStep, CType};
 

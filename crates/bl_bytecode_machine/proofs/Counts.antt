@@ -8,7 +8,8 @@ use Rattle.bl_bytecode.specs.declared.instruction.Callee.{Callee}
 use Rattle.bl_bytecode.specs.declared.instruction.Instruction.{Instruction}
 use Rattle.bl_bytecode.specs.declared.instruction.Instruction.TheVariants as ins
 use Rattle.bl_bytecode.specs.Code.{Code}
-use Rattle.bl_bytecode.specs.Machine.{State, Stepped, Waiting, args_on, done, element, goes, next_turn, on, on_number, past, returned, step, step_at, step_with, trapped}
+use Rattle.bl_bytecode.specs.Machine.{State, Stepped, Waiting, args_on, done, element, goes, next_turn, on, on_number, past, returned, step, step_at}
+use Rattle.bl_bytecode.specs.Machine.{step_with, trapped}
 use Rattle.bl_bytecode_machine.specs.declared.flow.Flow.{Flow}
 use Rattle.bl_bytecode_machine.specs.declared.flow.Flow.TheVariants as flow
 use Rattle.bl_bytecode_machine.specs.Shown.{Shown}
@@ -38,7 +39,8 @@ on-alike n k s stack h = ap (λ (c : ℕ). record s { at = s.at + 1; stack = sta
 past-alike : (n k : ℕ) (s : State) (far : ℕ) (stack : List ℤ) → Beside n k → Alike (past far (counting n s) stack) (past far (counting k s) stack)
 past-alike n k s far stack h = ap (λ (c : ℕ). record s { at = s.at + 1 + far; stack = stack; count = c }) h
 
-returned-alike : (n k : ℕ) (s : State) (r : ℤ) (waiting : List Waiting) → Beside n k → Alike (returned (counting n s) r waiting) (returned (counting k s) r waiting)
+returned-alike : (n k : ℕ) (s : State) (r : ℤ) (waiting : List Waiting) → Beside n k →
+    Alike (returned (counting n s) r waiting) (returned (counting k s) r waiting)
 returned-alike n k s r [] h = (refl, h, refl)
 returned-alike n k s r (w ∷ rest) h = ap (λ (c : ℕ). record { at = w.back; base = w.base; cells = s.cells; stack = r ∷ w.stack; waiting = rest; count = c }) h
 
@@ -74,12 +76,15 @@ with-alike n k s ins.Fetch [] h = (refl, h)
 with-alike n k s ins.Fetch (at ∷ stack) h = on-alike n k s _ h
 with-alike n k s ins.Store [] h = (refl, h)
 with-alike n k s ins.Store (x ∷ []) h = (refl, h)
-with-alike n k s ins.Store (x ∷ at ∷ stack) h = ap (λ (c : ℕ). record s { at = s.at + 1; cells = slice_set s.cells (cell_number at) x; stack = stack; count = c }) h
+with-alike n k s ins.Store (x ∷ at ∷ stack) h =
+    ap (λ (c : ℕ). record s { at = s.at + 1; cells = slice_set s.cells (cell_number at) x; stack = stack; count = c }) h
 with-alike n k s (ins.Copy size) [] h = (refl, h)
 with-alike n k s (ins.Copy size) (x ∷ []) h = (refl, h)
-with-alike n k s (ins.Copy size) (x ∷ at ∷ stack) h = ap (λ (c : ℕ). record s { at = s.at + 1; cells = copied size (cell_number x) (cell_number at) s.cells; stack = stack; count = c }) h
+with-alike n k s (ins.Copy size) (x ∷ at ∷ stack) h =
+    ap (λ (c : ℕ). record s { at = s.at + 1; cells = copied size (cell_number x) (cell_number at) s.cells; stack = stack; count = c }) h
 with-alike n k s (ins.Zero size) [] h = (refl, h)
-with-alike n k s (ins.Zero size) (at ∷ stack) h = ap (λ (c : ℕ). record s { at = s.at + 1; cells = zeroed size (cell_number at) s.cells; stack = stack; count = c }) h
+with-alike n k s (ins.Zero size) (at ∷ stack) h =
+    ap (λ (c : ℕ). record s { at = s.at + 1; cells = zeroed size (cell_number at) s.cells; stack = stack; count = c }) h
 with-alike n k s ins.Negate [] h = (refl, h)
 with-alike n k s ins.Negate (x ∷ stack) h = on-alike n k s _ h
 with-alike n k s (ins.Two op) [] h = (refl, h)

@@ -11,7 +11,6 @@ mod frame;
 mod jumps;
 pub mod machine;
 mod numbers;
-mod odd;
 mod places;
 mod prelude;
 mod run;

@@ -6,7 +6,7 @@ ghost use Rattle.bl_bytecode_machine.specs.Halting.{halts_in};
 
 use bl_bytecode::instruction::{Callee, Instruction};
 use bl_bytecode_machine::Machine;
-use bl_cmeaning::Builtin;
+use bl_ctext::Builtin;
 use bl_tree::{NoMemory, Op, Scalar, Width};
 use std::alloc::Global;
 

@@ -6,7 +6,6 @@
 
 pub mod laws;
 mod layout;
-mod names;
 mod places;
 mod ports;
 mod repeat;

@@ -1,5 +1,6 @@
 -- Arguments against parameters, one by one.
-use Rattle.std.proofs.Common.{◌≡◌, ℕ, zero, suc, ◌+◌, ◌<◌, ◌≤◌, Bool, true, false, ◌&&◌, ◌||◌, List, [], ◌∷◌, map, length, get_or, drop, Option, Some, None, refl, ap, sym, ◌∙◌, add-one, arith}
+use Rattle.std.proofs.Common.{◌≡◌, ℕ, zero, suc, ◌+◌, ◌<◌, ◌≤◌, Bool, true, false, ◌&&◌, ◌||◌, List, [], ◌∷◌, map, length, get_or, drop, Option, Some}
+use Rattle.std.proofs.Common.{None, refl, ap, sym, ◌∙◌, add-one, arith}
 use Rattle.std.specs.Prelude.{slice_get, nat_le}
 use Rattle.std.proofs.lemmas.Grind.{common_steps}
 use Rattle.std.proofs.Math.Seq.{drop-cons}
@@ -81,12 +82,14 @@ fit-done signature args k context at fit x low high h =
 
 -- ---- one more step of a place
 
-pub type-next : (all rest : List Steps) (step : Steps) (context : Context) (at : Place) (ty next x : Option CType) → all ≡ step ∷ rest → next ≡ (step context at ty).ty →
+pub type-next : (all rest : List Steps) (step : Steps) (context : Context) (at : Place) (ty next x : Option CType) → all ≡ step ∷ rest →
+    next ≡ (step context at ty).ty →
     (judge_steps all context at ty).ty ≡ x → (judge_steps rest context at next).ty ≡ x
 type-next all rest step context at ty next x is to h =
     ap (λ t. (judge_steps rest context at t).ty) to ∙ ap (λ l. (judge_steps l context at ty).ty) (sym is) ∙ h
 
-pub place-next : (all rest : List Steps) (step : Steps) (context : Context) (at : Place) (ty next : Option CType) (first x : Option Place) → all ≡ step ∷ rest → next ≡ (step context at ty).ty →
+pub place-next : (all rest : List Steps) (step : Steps) (context : Context) (at : Place) (ty next : Option CType) (first x : Option Place) →
+    all ≡ step ∷ rest → next ≡ (step context at ty).ty →
     earlier_of first (first_place (judge_steps all context at ty).faults) ≡ x →
     earlier_of (earlier_of first (first_place (step context at ty).faults)) (first_place (judge_steps rest context at next).faults) ≡ x
 place-next all rest step context at ty next first x is to h =

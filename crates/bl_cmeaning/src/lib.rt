@@ -8,8 +8,10 @@
 //! and a trace goes on from the cells that its first rows leave (`specs/Laws.antt`).
 #![tactic(auto)]
 
-pub mod builtin;
 pub mod check;
 pub mod laws;
+pub mod maps;
+pub mod prelude;
+pub mod sizes;
 
-pub use builtin::Builtin;
+pub use prelude::Builtins;

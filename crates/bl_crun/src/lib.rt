@@ -3,6 +3,7 @@
 //! (`specs/Cause.antt`, `IsCause`). `tick`, of a row that fits, answers as the file's tick does, and leaves its outputs
 //! and its cells (`specs/Running.antt`, `after_tick`; `Trace.antt` of `bl_cmeaning`, `tick_c`); `tick_counted` counts
 //! its statements too. After the run's end and after a trap the runner isn't live.
+//! `cell` and `put` give and set the number of a cell, also where the start or a tick has trapped.
 #![tactic(auto)]
 
 mod answer;

@@ -1,3 +1,4 @@
+pub mod Builtins
 pub mod Cut
 pub mod Depths
 pub mod Fits

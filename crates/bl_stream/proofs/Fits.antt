@@ -9,8 +9,7 @@ use Rattle.bl_tree.specs.declared.row.Column.{Column}
 use Rattle.bl_tree.specs.declared.scalar.Scalar.{Scalar}
 use Rattle.bl_tree.specs.declared.scalar.Scalar.TheVariants.{Bool as OfBool, Int, Nat, Bits}
 use Rattle.bl_tree.proofs.NumberLemmas.{in_range_holds, in_range_passes}
-use Rattle.bl_cmeaning_laws.specs.Fitting.{in_ranges}
-use Rattle.bl_crun.specs.Running.{types_of}
+use Rattle.bl_tree.specs.Ports.{in_ranges, types_of}
 use Rattle.bl_rows.specs.Fields.{both, is_header, is_number, number_of, records_in, row_of, value_of, values_of, within}
 use Rattle.bl_rows.specs.Lines.{lines_of, whole_lines}
 use Rattle.bl_rows.specs.Reading.{Scan, after, at_start, bad_or, begun, judged, judged_record, led_by_line, line_number, longest_line, numbers_or_bad, over_limit, rows_in, rows_of, scan, verdict}

@@ -1,8 +1,9 @@
 //! Ticks, and the lines that they leave.
 
+ghost use Rattle.bl_tree.specs.Ports.{row_fits};
 ghost use Rattle.std.specs.Prelude.{◌≡◌, ◌++◌, ◌+◌, ◌<◌, ◌≤◌, [], ◌∷◌, length, true, IfOk, OnOk};
 ghost use Rattle.bl_cmeaning.specs.Cells.{inputs_of, outputs_of};
-ghost use Rattle.bl_crun.specs.Running.{after_tick, row_fits};
+ghost use Rattle.bl_crun.specs.Running.{after_tick};
 ghost use Rattle.bl_rows.specs.Text.{RowFits, line_text};
 ghost use Rattle.bl_stream.specs.Courses.{after_rows, text_from, trace_from};
 ghost use Rattle.bl_stream.specs.Streams.{AllFit};
@@ -49,7 +50,7 @@ fn tick(
     ticks: &mut Ticks,
     text: &mut Vec<u8>,
 ) -> Result<Last, NoMemory>
-    requires fits { row_fits runner.old.parts ins.now ≡ true }
+    requires fits { row_fits (inputs_of runner.old.parts) ins.now ≡ true }
     requires live { runner.old.live ≡ true }
     requires long { length ticks.old.outputs ≡ length (outputs_of runner.old.parts) }
     requires few { ticks.old.done < 1000000 }

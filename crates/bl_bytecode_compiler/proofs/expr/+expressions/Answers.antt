@@ -13,7 +13,8 @@ pub call-loop-k-preserved : goal.call-loop-k-preserved
 call-loop-k-preserved t c =
     let a = c.index-deref-k.result in
     argument-down (ground_of c.args.here.now) (out-CCall c.args.called.now).args c.loop-k.k (c.loop-k.k - 1) a _ c.args.code.now c.loop-k.code c.arg.new.code
-    (omega arith) (omega arith) (ap (λ xs. get_or xs (c.loop-k.k - 1) a) (sym c.deref-in-loop-k.ensures) ∙ sym c.index-deref-k.is) c.loop-k.invariant c.in_ok-arg.ensures
+    (omega arith) (omega arith) (ap (λ xs. get_or xs (c.loop-k.k - 1) a) (sym c.deref-in-loop-k.ensures) ∙ sym c.index-deref-k.is) c.loop-k.invariant
+    c.in_ok-arg.ensures
 
 pub call-returns : goal.call-returns
 call-returns t c = call-done (ground_of c.args.here.now) c.args.called.now c.loop-k.k c.args.code.now c.loop-k.code (omega arith) c.loop-k.invariant
@@ -22,6 +23,10 @@ pub place-loop-k-preserved : goal.place-loop-k-preserved
 place-loop-k-preserved t c =
     let s = c.index-deref-k.result in
     let f = c.index.result.now in
-    step-down (ground_of c.args.here.now) c.args.at.now c.args.walk.now c.requires c.loop-k.k (c.loop-k.k - 1) s f c.args.code.now c.loop-k.code c.element.new.code
-    (omega arith) (omega arith) (ap (λ xs. get_or xs (c.loop-k.k - 1) s) (sym c.deref.ensures) ∙ sym c.index-deref-k.is) (sym c.index.ensures) c.loop-k.invariant
-    (c.in_ok-element.ensures ∙ ap (λ x. joined (map term_code (term_if (ground_of c.args.here.now) (option_map laid_of f) (out-CStep x).index)) ++ c.loop-k.code) (sym c.index-deref-k.is))
+    step-down (ground_of c.args.here.now) c.args.at.now c.args.walk.now c.requires c.loop-k.k (c.loop-k.k - 1) s f c.args.code.now c.loop-k.code
+    c.element.new.code
+    (omega arith) (omega arith) (ap (λ xs. get_or xs (c.loop-k.k - 1) s) (sym c.deref.ensures) ∙ sym c.index-deref-k.is) (sym c.index.ensures)
+    c.loop-k.invariant
+    (c.in_ok-element.ensures
+    ∙ ap (λ x. joined (map term_code (term_if (ground_of c.args.here.now) (option_map laid_of f) (out-CStep x).index)) ++ c.loop-k.code)
+    (sym c.index-deref-k.is))

@@ -21,4 +21,5 @@ returns-in-Ok c =
     let whole : members_in c.in_ok-laid.laid ≡ (layout_of (sizes_in c.args.sizes.now) c.args.of.now).1 =
     same_table (members_in c.in_ok-laid.laid) (layout_of (sizes_in c.args.sizes.now) c.args.of.now).1
     (λ asked. c.in_ok-laid.ensures asked ∙ ap (λ l. table_of (members_laid (sizes_in c.args.sizes.now) 0 l) asked) c.deref-2.ensures) in
-    struct_added members_in (text_at c.args.structs.now) (text_at c.insert.new.self) name c.in_ok-laid.laid (layout_of (sizes_in c.args.sizes.now) c.args.of.now).1 whole put
+    struct_added members_in (text_at c.args.structs.now) (text_at c.insert.new.self) name c.in_ok-laid.laid
+    (layout_of (sizes_in c.args.sizes.now) c.args.of.now).1 whole put

@@ -5,4 +5,5 @@ use Rattle.bl_bytecode_compiler.proofs.place.found_in.Given as goal
 
 abbrev pub invariant-loop-step : goal.invariant-loop-step
 invariant-loop-step l =
-    founds_of l.found.items ++ found_along (ground_of l.here) (drop l.step-index l.steps) (option_map (λ t. t.now) l.ty) ≡ found_along (ground_of l.here) l.steps (option_map (λ t. t.now) l.from)
+    founds_of l.found.items ++ found_along (ground_of l.here) (drop l.step-index l.steps) (option_map (λ t. t.now) l.ty)
+    ≡ found_along (ground_of l.here) l.steps (option_map (λ t. t.now) l.from)

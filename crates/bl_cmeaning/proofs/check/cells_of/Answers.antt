@@ -11,5 +11,7 @@ pub returns : goal.returns
 returns c =
     let file = parts_from c.args.structs.now c.args.funcs.now in
     let known = text_at c.in_ok-sizes.sizes in
-    whole known (sizes file.structs) (codes "bl_state") (codes "bl_in") (codes "bl_out") c.in_ok-chain.chain c.saturating_add-output.result c.saturating_add-ports.result _ file c.in_ok-sizes.ensures c.in_ok-chain.ensures
-    (rw c.number_of.ensures at c.saturating_add-output.ensures) (rw c.number_of-2.ensures at c.saturating_add-ports.ensures) (rw c.number_of-3.ensures at c.saturating_add.ensures)
+    whole known (sizes file.structs) (codes "bl_state") (codes "bl_in") (codes "bl_out") c.in_ok-chain.chain c.saturating_add-output.result
+    c.saturating_add-ports.result _ file c.in_ok-sizes.ensures c.in_ok-chain.ensures
+    (rw c.number_of.ensures at c.saturating_add-output.ensures) (rw c.number_of-2.ensures at c.saturating_add-ports.ensures)
+    (rw c.number_of-3.ensures at c.saturating_add.ensures)

@@ -1,7 +1,6 @@
 use Rattle.std.proofs.Common.{ap, ◌∙◌}
-use Rattle.bl_cmeaning_laws.specs.Fitting.{in_ranges}
+use Rattle.bl_tree.specs.Ports.{in_ranges, types_of}
 use Rattle.bl_cmeaning.specs.Cells.{inputs_of}
-use Rattle.bl_crun.specs.Running.{types_of}
 use Rattle.bl_stream.proofs.Fits.{fits-pass}
 use Rattle.bl_stream.proofs.RowLoop.{next-fits, next-row}
 use Rattle.bl_stream.proofs.ticks.run.Goals as goal

@@ -8,4 +8,5 @@ use Rattle.bl_cmeaning.proofs.check.chains.locals_size.Given as goal
 
 abbrev pub invariant-loop-local : goal.invariant-loop-local
 invariant-loop-local l =
-    Summed (λ v. size_of_type (text_at l.sizes) v.ty) l.locals l.local-index l.size (saturated (total (map (λ v. size_of_type (text_at l.sizes) v.ty) l.locals)))
+    Summed (λ v. size_of_type (text_at l.sizes) v.ty) l.locals l.local-index l.size
+    (saturated (total (map (λ v. size_of_type (text_at l.sizes) v.ty) l.locals)))

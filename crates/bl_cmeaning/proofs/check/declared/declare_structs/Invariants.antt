@@ -8,6 +8,7 @@ use Rattle.bl_cmeaning.proofs.check.declared.declare_structs.Given as goal
 
 abbrev pub invariant-loop-of : goal.invariant-loop-of
 invariant-loop-of l =
-    ((asked : List ℕ) → option_or (structs_of l.structs asked) (found asked (map (λ s. (s.name, member_table s)) (drop l.of-index l.list))) ≡ struct_table l.list asked)
+    ((asked : List ℕ) → option_or (structs_of l.structs asked) (found asked (map (λ s. (s.name, member_table s)) (drop l.of-index l.list)))
+    ≡ struct_table l.list asked)
     × (earlier_of l.first (first_place (struct_faults_after (structs_of l.structs) (text_at l.depths) (drop l.of-index l.list)))
     ≡ first_place (struct_faults_after no_entries no_entries l.list))

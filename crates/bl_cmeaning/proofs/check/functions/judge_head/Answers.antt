@@ -11,7 +11,8 @@ pub returns : goal.returns
 returns c =
     let functions = c.args.known.now.functions.now in
     let known : c.has-new.result ≡ is_some (functions_of functions c.args.of.now.name) =
-    c.has-new.ensures ∙ ap (λ n. is_some (text_at functions n)) c.deref.ensures ∙ sym (some_mapped (λ f. signature_in f.now) (text_at functions c.args.of.now.name)) in
+    c.has-new.ensures ∙ ap (λ n. is_some (text_at functions n)) c.deref.ensures
+    ∙ sym (some_mapped (λ f. signature_in f.now) (text_at functions c.args.of.now.name)) in
     rw (
       c.earlier-4.ensures,
       c.earlier-3.ensures,

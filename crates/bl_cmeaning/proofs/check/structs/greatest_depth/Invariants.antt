@@ -7,4 +7,6 @@ use Rattle.bl_cmeaning.specs.Maps.{bytes_of, text_at}
 use Rattle.bl_cmeaning.proofs.check.structs.greatest_depth.Given as goal
 
 abbrev pub invariant-loop-member : goal.invariant-loop-member
-invariant-loop-member l = max l.greatest (greatest (map (λ m. depth_of_type (text_at l.depths) m.ty) (drop l.member-index l.members))) ≡ greatest (map (λ m. depth_of_type (text_at l.depths) m.ty) l.members)
+invariant-loop-member l =
+    max l.greatest (greatest (map (λ m. depth_of_type (text_at l.depths) m.ty) (drop l.member-index l.members)))
+    ≡ greatest (map (λ m. depth_of_type (text_at l.depths) m.ty) l.members)

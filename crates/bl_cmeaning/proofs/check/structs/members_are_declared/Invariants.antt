@@ -7,4 +7,6 @@ use Rattle.bl_cmeaning.specs.Maps.{bytes_of, text_at}
 use Rattle.bl_cmeaning.proofs.check.structs.members_are_declared.Given as goal
 
 abbrev pub invariant-loop-member : goal.invariant-loop-member
-invariant-loop-member l = (l.declared && list_all (λ m. is_declared (structs_of l.structs) m.ty) (drop l.member-index l.members)) ≡ list_all (λ m. is_declared (structs_of l.structs) m.ty) l.members
+invariant-loop-member l =
+    (l.declared && list_all (λ m. is_declared (structs_of l.structs) m.ty) (drop l.member-index l.members))
+    ≡ list_all (λ m. is_declared (structs_of l.structs) m.ty) l.members

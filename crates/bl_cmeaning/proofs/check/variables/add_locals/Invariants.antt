@@ -8,4 +8,6 @@ use Rattle.bl_cmeaning.specs.Tables.{found}
 use Rattle.bl_cmeaning.proofs.check.variables.add_locals.Given as goal
 
 abbrev pub invariant-loop-local : goal.invariant-loop-local
-invariant-loop-local l = (asked : List ℕ) → option_or (variables_in_map l.variables asked) (found asked (map local_variable (drop l.local-index l.locals))) ≡ option_or (variables_in_map l.initial.variables asked) (found asked (map local_variable l.locals))
+invariant-loop-local l =
+    (asked : List ℕ) → option_or (variables_in_map l.variables asked) (found asked (map local_variable (drop l.local-index l.locals)))
+    ≡ option_or (variables_in_map l.initial.variables asked) (found asked (map local_variable l.locals))

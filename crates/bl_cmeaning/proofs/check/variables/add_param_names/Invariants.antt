@@ -8,4 +8,5 @@ use Rattle.bl_cmeaning.specs.Tables.{found}
 use Rattle.bl_cmeaning.proofs.check.variables.add_param_names.Given as goal
 
 abbrev pub invariant-loop-param : goal.invariant-loop-param
-invariant-loop-param l = bytes_of l.names.items ++ map (λ p. p.name) (drop l.param-index l.params) ≡ bytes_of l.initial.names.items ++ map (λ p. p.name) l.params
+invariant-loop-param l =
+    bytes_of l.names.items ++ map (λ p. p.name) (drop l.param-index l.params) ≡ bytes_of l.initial.names.items ++ map (λ p. p.name) l.params

@@ -8,4 +8,6 @@ use Rattle.bl_cmeaning.specs.Tables.{found}
 use Rattle.bl_cmeaning.proofs.check.variables.add_params.Given as goal
 
 abbrev pub invariant-loop-param : goal.invariant-loop-param
-invariant-loop-param l = (asked : List ℕ) → option_or (variables_in_map l.variables asked) (found asked (map param_variable (drop l.param-index l.params))) ≡ option_or (variables_in_map l.initial.variables asked) (found asked (map param_variable l.params))
+invariant-loop-param l =
+    (asked : List ℕ) → option_or (variables_in_map l.variables asked) (found asked (map param_variable (drop l.param-index l.params)))
+    ≡ option_or (variables_in_map l.initial.variables asked) (found asked (map param_variable l.params))

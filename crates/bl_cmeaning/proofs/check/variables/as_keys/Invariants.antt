@@ -8,4 +8,5 @@ use Rattle.bl_cmeaning.specs.Tables.{found}
 use Rattle.bl_cmeaning.proofs.check.variables.as_keys.Given as goal
 
 abbrev pub invariant-loop-name : goal.invariant-loop-name
-invariant-loop-name l = (asked : List ℕ) → option_or (text_at l.keys asked) (names_table (bytes_of (drop l.name-index l.names)) asked) ≡ names_table (bytes_of l.names) asked
+invariant-loop-name l =
+    (asked : List ℕ) → option_or (text_at l.keys asked) (names_table (bytes_of (drop l.name-index l.names)) asked) ≡ names_table (bytes_of l.names) asked

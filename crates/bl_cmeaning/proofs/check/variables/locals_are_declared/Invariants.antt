@@ -8,4 +8,6 @@ use Rattle.bl_cmeaning.specs.Tables.{found}
 use Rattle.bl_cmeaning.proofs.check.variables.locals_are_declared.Given as goal
 
 abbrev pub invariant-loop-local : goal.invariant-loop-local
-invariant-loop-local l = (l.declared && list_all (λ p. is_declared (structs_of l.structs) p.ty) (drop l.local-index l.locals)) ≡ list_all (λ p. is_declared (structs_of l.structs) p.ty) l.locals
+invariant-loop-local l =
+    (l.declared && list_all (λ p. is_declared (structs_of l.structs) p.ty) (drop l.local-index l.locals))
+    ≡ list_all (λ p. is_declared (structs_of l.structs) p.ty) l.locals

@@ -8,4 +8,6 @@ use Rattle.bl_cmeaning.specs.Tables.{found}
 use Rattle.bl_cmeaning.proofs.check.variables.params_are_declared.Given as goal
 
 abbrev pub invariant-loop-param : goal.invariant-loop-param
-invariant-loop-param l = (l.declared && list_all (λ p. is_declared (structs_of l.structs) p.ty) (drop l.param-index l.params)) ≡ list_all (λ p. is_declared (structs_of l.structs) p.ty) l.params
+invariant-loop-param l =
+    (l.declared && list_all (λ p. is_declared (structs_of l.structs) p.ty) (drop l.param-index l.params))
+    ≡ list_all (λ p. is_declared (structs_of l.structs) p.ty) l.params

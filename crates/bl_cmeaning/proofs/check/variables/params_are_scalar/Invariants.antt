@@ -8,4 +8,5 @@ use Rattle.bl_cmeaning.specs.Tables.{found}
 use Rattle.bl_cmeaning.proofs.check.variables.params_are_scalar.Given as goal
 
 abbrev pub invariant-loop-param : goal.invariant-loop-param
-invariant-loop-param l = (l.scalar && list_all (λ p. p.pointer || is_scalar p.ty) (drop l.param-index l.params)) ≡ list_all (λ p. p.pointer || is_scalar p.ty) l.params
+invariant-loop-param l =
+    (l.scalar && list_all (λ p. p.pointer || is_scalar p.ty) (drop l.param-index l.params)) ≡ list_all (λ p. p.pointer || is_scalar p.ty) l.params
