@@ -1,5 +1,27 @@
 -- The code of a call: its arguments, from left to right, and then the call itself.
-use Rattle.std.proofs.Common.{◌≡◌, ◌≤◌, ℕ, suc, ◌+◌, ℤ, List, [], ◌∷◌, ◌++◌, reverse, length, take, drop, Option, Some, None, refl, ap, sym, ◌∙◌}
+use Rattle.std.proofs.Common.{
+  ◌≡◌,
+  ◌≤◌,
+  ℕ,
+  suc,
+  ◌+◌,
+  ℤ,
+  List,
+  [],
+  ◌∷◌,
+  ◌++◌,
+  reverse,
+  length,
+  take,
+  drop,
+  Option,
+  Some,
+  None,
+  refl,
+  ap,
+  sym,
+  ◌∙◌,
+}
 use Rattle.std.proofs.Common.{subst, append_assoc, take_at, drop_at, length-append, arith}
 use Rattle.std.proofs.lemmas.List.{reverse-append, reverse-reverse, length-reverse}
 use Rattle.bl_tree.specs.declared.text.Text.{Text}
@@ -32,7 +54,8 @@ piled-is (n ∷ ns) stack =
 
 taken : (ns stack : List ℤ) → args_on (length ns) (piled ns stack) ≡ ns
 taken ns stack =
-    ap (λ xs. reverse (take (length ns) xs)) (piled-is ns stack) ∙ ap reverse (take_at (reverse ns) stack (length ns) (length-reverse ns)) ∙ reverse-reverse ns
+    ap (λ xs. reverse (take (length ns) xs)) (piled-is ns stack)
+    ∙ ap reverse (take_at (reverse ns) stack (length ns) (length-reverse ns)) ∙ reverse-reverse ns
 
 dropped : (ns stack : List ℤ) → drop (length ns) (piled ns stack) ≡ stack
 dropped ns stack = ap (drop (length ns)) (piled-is ns stack) ∙ drop_at (reverse ns) stack (length ns) (length-reverse ns)
@@ -56,7 +79,8 @@ rest-many : (n : ℕ) (a : ℤ) (cells : Cells) (k : ℕ) (answer : Option (List
 rest-many n a cells k None h = tt
 rest-many n a cells k (Some ns) h = ap suc h
 
-first-many : (n : ℕ) (cells : Cells) (k : ℕ) (answer : Option ℤ) (rest : Cells → ℤ → Left (List ℤ)) → ((c : Cells) (a : ℤ) → Many n (rest c a).answer) →
+first-many : (n : ℕ) (cells : Cells) (k : ℕ) (answer : Option ℤ) (rest : Cells → ℤ → Left (List ℤ)) →
+    ((c : Cells) (a : ℤ) → Many n (rest c a).answer) →
     Many n (going_on cells k answer rest).answer
 first-many n cells k None rest h = tt
 first-many n cells k (Some a) rest h = h cells a
@@ -169,7 +193,8 @@ module _ (code : Code) (room : Room) (top calls : ℕ) where
   -- the call itself, once its arguments stand on the stack
   pub call-runs : (here : Ground Entry) (s : State) (at : ℕ) (ns stack : List ℤ) (n k : ℕ) (builtin : Option Builtin) (entry : Option Entry)
       (routine : Option Routine) →
-      BothDo code room top calls entry routine → s.stack ≡ piled ns stack → length ns ≡ n → Span code s.at (call_as here n builtin entry ∷ []) at →
+      BothDo code room top calls entry routine → s.stack ≡ piled ns stack → length ns ≡ n →
+      Span code s.at (call_as here n builtin entry ∷ []) at →
       Fits room top calls s k →
       Arrives code room s (answers s at (λ v. v ∷ stack) (called_as builtin routine (capped (s.base + here.frame)) ns s.cells))
   call-runs here s at ns stack n k (Some b) entry routine h stands long span fits =

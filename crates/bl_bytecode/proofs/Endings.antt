@@ -1,5 +1,24 @@
 -- What the machine comes to where a statement is over, and one statement after another.
-use Rattle.std.proofs.Common.{◌≡◌, ℕ, ◌+◌, ℤ, List, [], ◌∷◌, length, Option, Some, None, refl, ap, sym, ◌∙◌, add_assoc, add-zero, arith}
+use Rattle.std.proofs.Common.{
+  ◌≡◌,
+  ℕ,
+  ◌+◌,
+  ℤ,
+  List,
+  [],
+  ◌∷◌,
+  length,
+  Option,
+  Some,
+  None,
+  refl,
+  ap,
+  sym,
+  ◌∙◌,
+  add_assoc,
+  add-zero,
+  arith,
+}
 use Rattle.bl_cmeaning.specs.Meaning.{End, goes_on, breaks, returns, traps}
 use Rattle.bl_cmeaning_laws.specs.Flat.{Cells, Left, Ran, after, ended_by, executed, following, following_end, going}
 use Rattle.bl_bytecode.specs.declared.instruction.Instruction.{Instruction}
@@ -111,7 +130,8 @@ module _ (code : Code) (room : Room) where
       goes-on code room s (moved s (s.at + 1) s.cells s.stack 1) ins.Count _ has (span-first code s.at ins.Count part at span) refl
       (ends-as code room (moved s (s.at + 1) s.cells s.stack 1) _ _ (later s (s.at + 1) s.cells s.stack 1 at left stack r) rest)
 
-  following-at : (s : State) (m at more left : ℕ) (stack : List ℤ) (cells : Cells) (n : ℕ) (end : End) (rest : Cells → Ran) → m + more ≡ at + left →
+  following-at : (s : State) (m at more left : ℕ) (stack : List ℤ) (cells : Cells) (n : ℕ) (end : End) (rest : Cells → Ran) →
+      m + more ≡ at + left →
       Arrives code room s (ran s m more stack cells n end) →
       (length cells ≡ length s.cells → Arrives code room (moved s m cells stack n) (runs_to (moved s m cells stack n) at left stack (rest cells))) →
       Arrives code room s (runs_to s at left stack (following_end n cells end rest))

@@ -1,5 +1,27 @@
 -- What the machine comes to where an evaluation is over, and one evaluation after another.
-use Rattle.std.proofs.Common.{◌≡◌, ◌≤◌, ℕ, suc, ◌+◌, ℤ, List, [], ◌∷◌, length, Option, Some, None, refl, ap, sym, ◌∙◌, subst, add_assoc, add-zero, arith}
+use Rattle.std.proofs.Common.{
+  ◌≡◌,
+  ◌≤◌,
+  ℕ,
+  suc,
+  ◌+◌,
+  ℤ,
+  List,
+  [],
+  ◌∷◌,
+  length,
+  Option,
+  Some,
+  None,
+  refl,
+  ap,
+  sym,
+  ◌∙◌,
+  subst,
+  add_assoc,
+  add-zero,
+  arith,
+}
 use Rattle.bl_cmeaning_laws.specs.Flat.{Cells, Left, going_on, left, next}
 use Rattle.bl_bytecode.specs.declared.instruction.Instruction.{Instruction}
 use Rattle.bl_bytecode.specs.Code.{Code}
@@ -36,7 +58,8 @@ fits-has room top calls s k h = record {
 }
 
 -- in another state of the same function there is room for so many fewer as more numbers stand on the stack
-pub fits-to : (room : Room) (top calls : ℕ) (s t : State) (k j : ℕ) → Fits room top calls s k → t.waiting ≡ s.waiting → length t.cells ≡ length s.cells →
+pub fits-to : (room : Room) (top calls : ℕ) (s t : State) (k j : ℕ) → Fits room top calls s k → t.waiting ≡ s.waiting →
+    length t.cells ≡ length s.cells →
     length t.stack + j ≤ length s.stack + k → Fits room top calls t j
 fits-to room top calls s t k j h waits same fewer = record {
   numbers =
@@ -53,7 +76,8 @@ fits-fewer room top calls s k j h fewer = fits-to room top calls s s k j h refl 
 
 -- ---- ends, from a later state on
 
-answered-later : {B : Type 0} (s : State) (m : ℕ) (cells : Cells) (stack : List ℤ) (n at : ℕ) (onto : B → List ℤ) (after : Cells) (k : ℕ) (answer : Option B) →
+answered-later : {B : Type 0} (s : State) (m : ℕ) (cells : Cells) (stack : List ℤ) (n at : ℕ) (onto : B → List ℤ) (after : Cells)
+    (k : ℕ) (answer : Option B) →
     answered (moved s m cells stack n) at onto after k answer ≡ answered s at onto after (n + k) answer
 answered-later s m cells stack n at onto after k None = ap (trapped after) (add_assoc s.count n k)
 answered-later s m cells stack n at onto after k (Some b) =
@@ -84,7 +108,8 @@ gives-is s at onto cells (Some a) is =
 module _ (code : Code) (room : Room) where
   -- an evaluation by one instruction
   pub by-instruction : {A : Type 0} (s : State) (at : ℕ) (i : Instruction) (onto : A → List ℤ) (cells : Cells) (answer : Option A) →
-      Has room s → Span code s.at (i ∷ []) at → step_with s i s.stack ≡ gives s onto cells answer → Arrives code room s (answers s at onto (left cells answer))
+      Has room s → Span code s.at (i ∷ []) at → step_with s i s.stack ≡ gives s onto cells answer →
+      Arrives code room s (answers s at onto (left cells answer))
   by-instruction s at i onto cells answer has span comes =
       ends-at code room s i (answers s at onto (left cells answer)) has (span-first code s.at i [] at span)
       (comes ∙ gives-is s at onto cells answer (span-end code s.at i at span))

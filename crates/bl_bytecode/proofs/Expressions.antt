@@ -1,5 +1,28 @@
 -- The code of an expression pushes its value.
-use Rattle.std.proofs.Common.{◌≡◌, ◌≤◌, ℕ, suc, ◌+◌, ℤ, pos, Bool, true, false, List, [], ◌∷◌, ◌++◌, map, length, Option, Some, None, refl, ap, sym}
+use Rattle.std.proofs.Common.{
+  ◌≡◌,
+  ◌≤◌,
+  ℕ,
+  suc,
+  ◌+◌,
+  ℤ,
+  pos,
+  Bool,
+  true,
+  false,
+  List,
+  [],
+  ◌∷◌,
+  ◌++◌,
+  map,
+  length,
+  Option,
+  Some,
+  None,
+  refl,
+  ap,
+  sym,
+}
 use Rattle.std.proofs.Common.{◌∙◌, subst, add-zero, append-nil, length-append, arith}
 use Rattle.std.specs.Prelude.{All, not, if◌then◌else◌}
 use Rattle.std.proofs.lemmas.List.{length-map}
@@ -77,7 +100,8 @@ module _ (code : Code) (room : Room) (top calls : ℕ) where
         let e : Left ℕ = address_of u s.base s.cells in
         let whole : length (front ++ ins.Fetch ∷ []) ≡ length front + 1 = length-append front (ins.Fetch ∷ []) in
         sequence code room s m at (λ k. pos k ∷ s.stack) (λ v. v ∷ s.stack) e (λ after k. left after (Some (cell_at after k)))
-        (reach-runs code room top calls r u way s m (span-front code s.at front (ins.Fetch ∷ []) at span) (fits-fewer room top calls s _ _ fits (omega arith)))
+        (reach-runs code room top calls r u way s m (span-front code s.at front (ins.Fetch ∷ []) at span)
+        (fits-fewer room top calls s _ _ fits (omega arith)))
         (λ k found same.
         let t : State = moved s m e.cells (pos k ∷ s.stack) e.count in
         by-instruction code room t at ins.Fetch (λ v. v ∷ s.stack) e.cells (Some (cell_at e.cells k))
@@ -154,7 +178,8 @@ module _ (code : Code) (room : Room) (top calls : ℕ) where
   past-is : (t : State) (n at : ℕ) (v : ℤ) (stack : List ℤ) → t.at + 1 + n ≡ at →
       past n t (v ∷ stack) ≡ answers t at (λ w. w ∷ stack) (at_once v t.base t.cells)
   past-is t n at v stack is =
-      ap (λ p. goes (record t { at = p; stack = v ∷ stack })) is ∙ ap (λ c. goes (record t { at = at; stack = v ∷ stack; count = c })) (sym (add-zero t.count))
+      ap (λ p. goes (record t { at = p; stack = v ∷ stack })) is
+      ∙ ap (λ c. goes (record t { at = at; stack = v ∷ stack; count = c })) (sym (add-zero t.count))
 
   both-last : (c : Bool) (t : State) (stack : List ℤ) (b : Code) (g : Evaluates ℤ) (at : ℕ) → P b g →
       step_with t (ins.Both (length b)) t.stack ≡ (if c then on t stack else past (length b) t (pos 0 ∷ stack)) →
@@ -332,7 +357,8 @@ module _ (code : Code) (room : Room) (top calls : ℕ) (sizes : Sizes) (structs 
     calling = λ name args h. rw (fold-roll-CCall, fold-roll-CCall)
         (calling-runs code room top calls by_code (map (λ arg. arg by_code) (map arg_code args)) (map (λ arg. arg by_value) (map arg_flat args))
         (args-same args h)
-        (length (map arg_code args)) (length-map (map arg_code args) (λ arg. arg by_code)) (builtin_of name) (entries name) (routines name) (knows.known name));
+        (length (map arg_code args)) (length-map (map arg_code args) (λ arg. arg by_code)) (builtin_of name) (entries name)
+        (routines name) (knows.known name));
     expr = λ place what h. rw (fold-roll-CExpr, fold-roll-CExpr) h;
     index = λ signed at length h. rw (fold-roll-CIndex, fold-roll-CIndex) (SameIndex.same_index length (code_of at by_code) (value_flat at by_value) h);
     place = λ through name steps h. rw (fold-roll-CPlace, fold-roll-CPlace)

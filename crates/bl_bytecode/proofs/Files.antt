@@ -1,5 +1,27 @@
 -- The code of statements, functions and files.
-use Rattle.std.proofs.Common.{◌≡◌, ◌≤◌, ℕ, suc, ◌+◌, pos, Bool, true, false, List, [], ◌∷◌, ◌++◌, map, length, Option, Some, None, refl, ap, sym}
+use Rattle.std.proofs.Common.{
+  ◌≡◌,
+  ◌≤◌,
+  ℕ,
+  suc,
+  ◌+◌,
+  pos,
+  Bool,
+  true,
+  false,
+  List,
+  [],
+  ◌∷◌,
+  ◌++◌,
+  map,
+  length,
+  Option,
+  Some,
+  None,
+  refl,
+  ap,
+  sym,
+}
 use Rattle.std.proofs.Common.{subst, ◌∙◌, add-zero, append-nil, length-append, le_of_eq, arith}
 use Rattle.std.specs.Prelude.{All, bytes_eq, if◌then◌else◌}
 use Rattle.std.specs.Option.{option_or}
@@ -146,7 +168,8 @@ ended-at code room s m cells n (returns result) first last =
 ended-at code room s m cells n traps first last = first
 
 module _ (code : Code) (room : Room) (sizes : Sizes) (structs : Layouts) where
-  function-does : (top calls : ℕ) (entries : Table Entry) (routines : Table Routine) → Knows code room top calls entries routines → (function : CFunc) (q : ℕ) →
+  function-does : (top calls : ℕ) (entries : Table Entry) (routines : Table Routine) → Knows code room top calls entries routines →
+      (function : CFunc) (q : ℕ) →
       Span code top (function_code sizes structs entries function) q →
       Does code room q (calls + 1) (entry_of sizes top function) (routine_flat sizes structs routines function)
   function-does top calls entries routines knows function q span = record {
@@ -193,7 +216,8 @@ module _ (code : Code) (room : Room) (sizes : Sizes) (structs : Layouts) where
   both-one top calls b None (Some r) entry routine h does = absurd h
   both-one top calls b (Some e) None entry routine h does = absurd h
 
-  knows-one : (top calls more chain : ℕ) (entries : Table Entry) (routines : Table Routine) → Knows code room top calls entries routines → top ≤ more →
+  knows-one : (top calls more chain : ℕ) (entries : Table Entry) (routines : Table Routine) →
+      Knows code room top calls entries routines → top ≤ more →
       calls ≤ chain →
       (name : Text) (entry : Entry) (routine : Routine) → Does code room more chain entry routine →
       Knows code room more chain (with_entry entries name entry) (with_entry routines name routine)
@@ -202,7 +226,8 @@ module _ (code : Code) (room : Room) (sizes : Sizes) (structs : Layouts) where
         (both-more top calls more chain (entries asked) (routines asked) (h.known asked) le le') does;
   }
 
-  each-does : (functions : List CFunc) (at calls : ℕ) (entries : Table Entry) (routines : Table Routine) → Knows code room at calls entries routines → (q : ℕ) →
+  each-does : (functions : List CFunc) (at calls : ℕ) (entries : Table Entry) (routines : Table Routine) →
+      Knows code room at calls entries routines → (q : ℕ) →
       Span code at (functions_code sizes structs at entries functions) q → EachDoes code room sizes structs at calls entries routines functions
   each-does [] at calls entries routines knows q span = tt
   each-does (function ∷ rest) at calls entries routines knows q span =
@@ -257,7 +282,8 @@ routines-found sizes structs earlier (function ∷ rest) name =
     ∙ one-more-found (earlier name) (bytes_eq function.name name) routine (found name (routines_after sizes structs more rest))
 
 module _ (code : Code) (room : Room) (sizes : Sizes) (structs : Layouts) where
-  all-known : (functions : List CFunc) (at calls : ℕ) (entries : Table Entry) (routines : Table Routine) → Knows code room at calls entries routines → (q : ℕ) →
+  all-known : (functions : List CFunc) (at calls : ℕ) (entries : Table Entry) (routines : Table Routine) →
+      Knows code room at calls entries routines → (q : ℕ) →
       Span code at (functions_code sizes structs at entries functions) q →
       Knows code room q (calls + length functions) (entries_from sizes structs at entries functions) (with_routines sizes structs routines functions)
   all-known [] at calls entries routines knows q span =

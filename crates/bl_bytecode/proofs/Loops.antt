@@ -1,5 +1,28 @@
 -- The code of a loop does what the loop does: its counter stands on the stack.
-use Rattle.std.proofs.Common.{◌≡◌, ◌≤◌, ℕ, zero, suc, ◌+◌, ◌-◌, ℤ, pos, Bool, true, false, List, [], ◌∷◌, ◌++◌, length, Some, None, refl, ap, sym}
+use Rattle.std.proofs.Common.{
+  ◌≡◌,
+  ◌≤◌,
+  ℕ,
+  zero,
+  suc,
+  ◌+◌,
+  ◌-◌,
+  ℤ,
+  pos,
+  Bool,
+  true,
+  false,
+  List,
+  [],
+  ◌∷◌,
+  ◌++◌,
+  length,
+  Some,
+  None,
+  refl,
+  ap,
+  sym,
+}
 use Rattle.std.proofs.Common.{◌∙◌, subst, add-zero, length-append, arith}
 use Rattle.std.specs.Prelude.{◌+ℤ◌, ltb, if◌then◌else◌}
 use Rattle.std.proofs.lemmas.Bool.Decides.{Decides-ltb}
@@ -130,7 +153,8 @@ module _ (code : Code) (room : Room) (top calls : ℕ) (part body : Code) (f : E
       (ap (on_number t stack) (no-turn k is) ∙ ap (trapped cells) (sym (add-zero count))))
 
   -- one turn, and what follows it
-  a-turn : (left at k : ℕ) → suc k ≤ 65536 → (again : Cells → Ran) (s : State) (stack : List ℤ) → s.stack ≡ pos k ∷ stack → Span code s.at Loop at →
+  a-turn : (left at k : ℕ) → suc k ≤ 65536 → (again : Cells → Ran) (s : State) (stack : List ℤ) → s.stack ≡ pos k ∷ stack →
+      Span code s.at Loop at →
       Fits room top calls s (length Loop) →
       ((cells : Cells) (count : ℕ) → length cells ≡ length s.cells →
       Arrives code room (record s { cells = cells; stack = pos (k + 1) ∷ stack; count = count })

@@ -1,5 +1,28 @@
 -- The code of a place pushes the number of its first cell.
-use Rattle.std.proofs.Common.{◌≡◌, ◌≤◌, ℕ, suc, ◌+◌, ◌*◌, ℤ, pos, min, List, [], ◌∷◌, ◌++◌, map, length, Option, Some, None, refl, ap, ◌∙◌, subst}
+use Rattle.std.proofs.Common.{
+  ◌≡◌,
+  ◌≤◌,
+  ℕ,
+  suc,
+  ◌+◌,
+  ◌*◌,
+  ℤ,
+  pos,
+  min,
+  List,
+  [],
+  ◌∷◌,
+  ◌++◌,
+  map,
+  length,
+  Option,
+  Some,
+  None,
+  refl,
+  ap,
+  ◌∙◌,
+  subst,
+}
 use Rattle.std.proofs.Common.{length-append, arith}
 use Rattle.std.specs.Prelude.{option_map}
 use Rattle.bl_tree.specs.Reduce.{joined}
@@ -68,7 +91,8 @@ module _ (code : Code) (room : Room) (top calls : ℕ) where
 -- the same indices by code and by evaluations
 pub data Terms (P : Code → Evaluates ℤ → Type 0) : List (Term Code) → List (Term (Evaluates ℤ)) → Type 0 where
   none : Terms P [] []
-  one : (length size : ℕ) (part : Code) (evaluates : Evaluates ℤ) (ts : List (Term Code)) (us : List (Term (Evaluates ℤ))) → P part evaluates → Terms P ts us →
+  one : (length size : ℕ) (part : Code) (evaluates : Evaluates ℤ) (ts : List (Term Code)) (us : List (Term (Evaluates ℤ))) →
+      P part evaluates → Terms P ts us →
       Terms P (record { length = length; size = size; index = part } ∷ ts) (record { length = length; size = size; index = evaluates } ∷ us)
 
 pub terms-append : (P : Code → Evaluates ℤ → Type 0) (ts : List (Term Code)) (us : List (Term (Evaluates ℤ))) (xs : List (Term Code))
@@ -124,7 +148,8 @@ module _ (code : Code) (room : Room) (top calls : ℕ) where
       (λ i found same.
       let t : State = moved s m e.cells (i ∷ s.stack) e.count in
       let there : Fits room top calls t (1 + length tail) = fits-to room top calls s t _ (1 + length tail) fits refl same (omega arith) in
-      sequence code room t m' at (λ j. pos j ∷ stack) (λ n. pos n ∷ stack) (left e.cells (element_address term k i)) (λ same j. address_along us' j s.base same)
+      sequence code room t m' at (λ j. pos j ∷ stack) (λ n. pos n ∷ stack) (left e.cells (element_address term k i))
+      (λ same j. address_along us' j s.base same)
       (by-instruction code room t m' (ins.Element long size) (λ j. pos j ∷ stack) e.cells (element_address term k i) (fits-has room top calls t _ there)
       (span-back code s.at part element m' front)
       (ap (λ st. step_with t (ins.Element long size) (i ∷ st)) stands ∙ element-gives t stack k size (index_within i (pos long)) is))

@@ -1,5 +1,27 @@
 -- Runs of the machine, one after the other, and what its steps keep.
-use Rattle.std.proofs.Common.{◌≡◌, ◌≤◌, ℕ, zero, suc, ◌+◌, ◌-◌, ℤ, pos, Bool, true, false, List, [], ◌∷◌, ◌++◌, length, drop, Option, Some, None}
+use Rattle.std.proofs.Common.{
+  ◌≡◌,
+  ◌≤◌,
+  ℕ,
+  zero,
+  suc,
+  ◌+◌,
+  ◌-◌,
+  ℤ,
+  pos,
+  Bool,
+  true,
+  false,
+  List,
+  [],
+  ◌∷◌,
+  ◌++◌,
+  length,
+  drop,
+  Option,
+  Some,
+  None,
+}
 use Rattle.std.proofs.Common.{refl, ap, sym, ◌∙◌, subst, append_assoc, drop-drop, drop_at, length-append, length-drop, length-set, arith}
 use Rattle.std.specs.Prelude.{◌&&◌, nat_le, slice_get, slice_set, if◌then◌else◌}
 use Rattle.std.proofs.lemmas.Bool.Decides.{nat_tests}
@@ -59,7 +81,8 @@ state_of other (done cells count n) = other
 state_of other (trapped cells count) = other
 
 module _ (code : Code) (room : Room) where
-  runs-on : (n : ℕ) (s : State) (mid : Stepped) → Runs code room n s mid → (t : State) → mid ≡ goes t → (end : Stepped) → Arrives code room t end →
+  runs-on : (n : ℕ) (s : State) (mid : Stepped) → Runs code room n s mid → (t : State) → mid ≡ goes t → (end : Stepped) →
+      Arrives code room t end →
       Arrives code room s end
   runs-on n s mid (Runs.here u has) t is end rest = subst (λ v. Arrives code room v end) (sym (ap (state_of u) is)) rest
   runs-on n s mid (Runs.last u m has on) t is end rest = record { steps = suc rest.steps; runs = Runs.more rest.steps u t end has (on ∙ is) rest.runs }

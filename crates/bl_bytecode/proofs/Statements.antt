@@ -1,5 +1,28 @@
 -- The code of a statement that stands alone, or that chooses, does what the statement does.
-use Rattle.std.proofs.Common.{◌≡◌, ◌≤◌, ℕ, suc, ◌+◌, ℤ, pos, Bool, true, false, List, [], ◌∷◌, ◌++◌, length, Option, Some, None, refl, ap, sym, ◌∙◌}
+use Rattle.std.proofs.Common.{
+  ◌≡◌,
+  ◌≤◌,
+  ℕ,
+  suc,
+  ◌+◌,
+  ℤ,
+  pos,
+  Bool,
+  true,
+  false,
+  List,
+  [],
+  ◌∷◌,
+  ◌++◌,
+  length,
+  Option,
+  Some,
+  None,
+  refl,
+  ap,
+  sym,
+  ◌∙◌,
+}
 use Rattle.std.proofs.Common.{subst, add-zero, length-append, arith}
 use Rattle.std.specs.Prelude.{slice_set, if◌then◌else◌}
 use Rattle.bl_tree.specs.declared.c.CType.{CType}
@@ -44,7 +67,8 @@ module _ (code : Code) (room : Room) (top calls : ℕ) where
   S = Performs code room top calls
 
   -- a statement that counts itself and evaluates first
-  begins : {A : Type 0} (left : ℕ) (s : State) (at : ℕ) (part : Code) (l : Left A) (rest : Cells → A → Ran) → Span code s.at (ins.Count ∷ part) at →
+  begins : {A : Type 0} (left : ℕ) (s : State) (at : ℕ) (part : Code) (l : Left A) (rest : Cells → A → Ran) →
+      Span code s.at (ins.Count ∷ part) at →
       Has room s →
       Arrives code room (moved s (s.at + 1) s.cells s.stack 1) (runs_to (moved s (s.at + 1) s.cells s.stack 1) at left s.stack (executed 0 l rest)) →
       Arrives code room s (runs_to s at left s.stack (executed 1 l rest))
@@ -53,7 +77,8 @@ module _ (code : Code) (room : Room) (top calls : ℕ) where
       (counted code room s at left s.stack part (executed 0 l rest) has span h)
 
   -- a place, a value, and the instruction that writes it
-  written : (known : Sizes) (ty : Option CType) (r : Reach Code) (u : Reach (Evaluates ℤ)) → Leads P r u → (part : Code) (g : Evaluates ℤ) → P part g →
+  written : (known : Sizes) (ty : Option CType) (r : Reach Code) (u : Reach (Evaluates ℤ)) → Leads P r u →
+      (part : Code) (g : Evaluates ℤ) → P part g →
       (s : State) (at : ℕ) → Span code s.at (reach_code r ++ (part ++ write_code known ty ∷ [])) at →
       Fits room top calls s (length (reach_code r ++ (part ++ write_code known ty ∷ []))) →
       Arrives code room s (answers s at (λ (n : ℤ). s.stack)
@@ -69,7 +94,8 @@ module _ (code : Code) (room : Room) (top calls : ℕ) where
       let longer : length (first ++ (part ++ last)) ≡ length first + length (part ++ last) = length-append first (part ++ last) in
       let back : Span code m (part ++ last) at = span-back code s.at first (part ++ last) at span in
       let filled : 1 ≤ length first = omega arith in
-      sequence code room s m at (λ k. pos k ∷ s.stack) (λ (n : ℤ). s.stack) e (λ c k. next (g s.base c) (λ d v. left_with (written_at known ty k v d) (Some v)))
+      sequence code room s m at (λ k. pos k ∷ s.stack) (λ (n : ℤ). s.stack) e
+      (λ c k. next (g s.base c) (λ d v. left_with (written_at known ty k v d) (Some v)))
       (reach-runs code room top calls r u way s m (span-front code s.at first (part ++ last) at span) (fits-fewer room top calls s _ _ fits (omega arith)))
       (λ k found same.
       let t : State = moved s m e.cells (pos k ∷ s.stack) e.count in
@@ -85,7 +111,8 @@ module _ (code : Code) (room : Room) (top calls : ℕ) where
       (write-gives known ty w s.stack k v (is-capped e.answer k (address-capped u s.base s.cells) found))))
 
   -- a place that has the same type by code and by evaluations is set
-  set-at : (left : ℕ) (known : Sizes) (ty : Option CType) (r : Reach Code) (u : Reach (Evaluates ℤ)) → Leads P r u → (part : Code) (g : Evaluates ℤ) →
+  set-at : (left : ℕ) (known : Sizes) (ty : Option CType) (r : Reach Code) (u : Reach (Evaluates ℤ)) → Leads P r u →
+      (part : Code) (g : Evaluates ℤ) →
       P part g →
       S left (ins.Count ∷ (reach_code r ++ (part ++ write_code known ty ∷ [])))
       (λ base cells. executed 1 (next (address_of u base cells) (λ c k. next (g base c) (λ d v. left_with (written_at known ty k v d) (Some v))))
@@ -104,7 +131,8 @@ module _ (code : Code) (room : Room) (top calls : ℕ) where
         is-over code room w at left s.stack (fits-has room top calls w 0 (fits-to room top calls t w _ 0 there refl same (omega arith))) refl refl));
   }
 
-  pub set-runs : (left : ℕ) (known : Sizes) (r : Reach Code) (u : Reach (Evaluates ℤ)) → Leads P r u → (part : Code) (g : Evaluates ℤ) → P part g →
+  pub set-runs : (left : ℕ) (known : Sizes) (r : Reach Code) (u : Reach (Evaluates ℤ)) → Leads P r u →
+      (part : Code) (g : Evaluates ℤ) → P part g →
       S left (ins.Count ∷ (reach_code r ++ (part ++ write_code known r.ty ∷ [])))
       (λ base cells. executed 1 (next (address_of u base cells) (λ c k. next (g base c) (λ d v. left_with (written_at known u.ty k v d) (Some v))))
       (λ c v. going c))
@@ -159,7 +187,8 @@ module _ (code : Code) (room : Room) (top calls : ℕ) where
         (span-back code (s.at + 1) part last at body)));
   }
 
-  drop-gives : (t : State) (n : ℤ) (stack st : List ℤ) → st ≡ n ∷ stack → step_with t ins.Drop st ≡ goes (record t { at = t.at + 1; stack = stack })
+  drop-gives : (t : State) (n : ℤ) (stack st : List ℤ) → st ≡ n ∷ stack →
+      step_with t ins.Drop st ≡ goes (record t { at = t.at + 1; stack = stack })
   drop-gives t n stack st stands = ap (step_with t ins.Drop) stands
 
   pub call-runs : (left : ℕ) (part : Code) (f : Evaluates ℤ) → P part f →
@@ -168,7 +197,8 @@ module _ (code : Code) (room : Room) (top calls : ℕ) where
       with-number left part f h ins.Drop (λ c v. going c)
       (λ t at n stack stands has span. one-more code room t at left stack ins.Drop t.cells has span (drop-gives t n stack t.stack stands))
 
-  return-last : (t : State) (at left : ℕ) (n : ℤ) (held stack : List ℤ) → t.stack ≡ n ∷ held → Has room t → Span code t.at (ins.Return ∷ []) at →
+  return-last : (t : State) (at left : ℕ) (n : ℤ) (held stack : List ℤ) → t.stack ≡ n ∷ held → Has room t →
+      Span code t.at (ins.Return ∷ []) at →
       Arrives code room t (runs_to t at left stack (ending (returns n) t.cells))
   return-last t at left n held stack stands has span =
       ends-at code room t ins.Return _ has (span-first code t.at ins.Return [] at span)
@@ -180,7 +210,8 @@ module _ (code : Code) (room : Room) (top calls : ℕ) where
       with-number left part f h ins.Return (λ c v. ending (returns v) c) (λ t at n stack stands has span. return-last t at left n stack stack stands has span)
 
   -- 0 is returned
-  pub zero-returned : (t : State) (at left : ℕ) (stack : List ℤ) → Fits room top calls t 2 → Span code t.at (ins.Push (pos 0) ∷ ins.Return ∷ []) at →
+  pub zero-returned : (t : State) (at left : ℕ) (stack : List ℤ) → Fits room top calls t 2 →
+      Span code t.at (ins.Push (pos 0) ∷ ins.Return ∷ []) at →
       Arrives code room t (runs_to t at left stack (ending (returns (pos 0)) t.cells))
   zero-returned t at left stack fits span =
       let w : State = record t { at = t.at + 1; stack = pos 0 ∷ t.stack } in

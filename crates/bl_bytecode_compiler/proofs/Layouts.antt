@@ -1,5 +1,28 @@
 -- Tables of members, of parameters and locals, and the code of functions, one by one.
-use Rattle.std.proofs.Common.{◌≡◌, ◌≤◌, ℕ, ◌+◌, ◌-◌, min, drop, pos, Bool, false, List, [], ◌∷◌, ◌++◌, map, length, Option, Some, None, refl, ap, sym}
+use Rattle.std.proofs.Common.{
+  ◌≡◌,
+  ◌≤◌,
+  ℕ,
+  ◌+◌,
+  ◌-◌,
+  min,
+  drop,
+  pos,
+  Bool,
+  false,
+  List,
+  [],
+  ◌∷◌,
+  ◌++◌,
+  map,
+  length,
+  Option,
+  Some,
+  None,
+  refl,
+  ap,
+  sym,
+}
 use Rattle.std.proofs.Common.{◌∙◌, subst, append-nil, append_assoc, length-append, arith}
 use Rattle.std.specs.Prelude.{bytes_eq, option_map, if◌then◌else◌}
 use Rattle.std.specs.Option.{option_or}
@@ -42,7 +65,8 @@ capped-alike (Some a) (Some b) h =
     ap Some (sym (capped-saturated a) ∙ ap capped same ∙ capped-saturated b)
 
 -- sizes as far as 64 bits tell them are sizes as far as cells are numbered
-pub sizes-capped : (s t : Table ℕ) → AlikeSaturated s t → ◌≡◌ {A = Table ℕ} (λ name. option_map capped (s name)) (λ name. option_map capped (t name))
+pub sizes-capped : (s t : Table ℕ) → AlikeSaturated s t →
+    ◌≡◌ {A = Table ℕ} (λ name. option_map capped (s name)) (λ name. option_map capped (t name))
 sizes-capped s t h = λ i name. capped-alike (s name) (t name) (h name) i
 
 -- a sum that is capped, one by one
@@ -55,7 +79,8 @@ sum-capped f so_far more all x xs rest is told h =
 -- ---- functions
 
 -- an entry was added to a map, and something is made of its entries
-pub made-with : {A B : Type 0} (f : A → B) (old new : Table A) (name : Text) (value : A) → ((asked : Text) → new asked ≡ with_entry old name value asked) →
+pub made-with : {A B : Type 0} (f : A → B) (old new : Table A) (name : Text) (value : A) →
+    ((asked : Text) → new asked ≡ with_entry old name value asked) →
     (asked : Text) → option_map f (new asked) ≡ with_entry (λ n. option_map f (old n)) name (f value) asked
 made-with f old new name value add asked = ap (option_map f) (add asked) ∙ entry_mapped f (old asked) (bytes_eq name asked) value
 
@@ -63,7 +88,8 @@ pub function-next : (known : Sizes) (structs : Layouts) (code part : Code) (entr
     (x : Code) → all ≡ f ∷ rest →
     part ≡ function_code known structs entries f → entry ≡ entry_of known (length code) f →
     ((asked : Text) → more asked ≡ with_entry entries f.name entry asked) →
-    code ++ functions_code known structs (length code) entries all ≡ x → (code ++ part) ++ functions_code known structs (length (code ++ part)) more rest ≡ x
+    code ++ functions_code known structs (length code) entries all ≡ x →
+    (code ++ part) ++ functions_code known structs (length (code ++ part)) more rest ≡ x
 function-next known structs code part entries more entry f all rest x is part-is entry-is add h =
     let first : Code = function_code known structs entries f in
     let later : Table Entry = with_entry entries f.name (entry_of known (length code) f) in
@@ -82,7 +108,8 @@ pub function-is : (known : Sizes) (structs : Layouts) (entries : Table Entry) (f
     code ≡ function_code known structs entries f
 function-is known structs entries f slots frame body code old body-is slots-are frame-is last is =
     is ∙ ap (λ o. code_of_block body (record { sizes = known; structs = structs; known = entries; slots = slots; frame = frame }) (length o - 2) ++ o) last
-    ∙ ap (λ b. code_of_block b (record { sizes = known; structs = structs; known = entries; slots = slots; frame = frame }) 0 ++ ins.Push (pos 0) ∷ ins.Return
+    ∙ ap (λ b. code_of_block b (record { sizes = known; structs = structs; known = entries; slots = slots; frame = frame }) 0
+    ++ ins.Push (pos 0) ∷ ins.Return
     ∷ []) body-is
     ∙ ap (λ (s : Table Slot). code_of_block f.body (record { sizes = known; structs = structs; known = entries; slots = s; frame = frame }) 0
     ++ ins.Push (pos 0) ∷ ins.Return ∷ []) (same_table slots (slots_of known f) slots-are)
@@ -111,14 +138,16 @@ pub functions-done : (known : Sizes) (structs : Layouts) (at k : ℕ) (entries :
 functions-done known structs at k entries code functions x past h =
     sym (append-nil code) ∙ subst (λ l. code ++ functions_code known structs at entries l ≡ x) (drop_all k functions past) h
 
-pub entries-done : (known : Sizes) (structs : Layouts) (at k : ℕ) (entries : Table Entry) (functions : List CFunc) (x : Table Entry) → length functions ≤ k →
+pub entries-done : (known : Sizes) (structs : Layouts) (at k : ℕ) (entries : Table Entry) (functions : List CFunc)
+    (x : Table Entry) → length functions ≤ k →
     entries_from known structs at entries (drop k functions) ≡ x → (name : Text) → entries name ≡ x name
 entries-done known structs at k entries functions x past h name =
     let last : entries_from known structs at entries [] ≡ x = subst (λ l. entries_from known structs at entries l ≡ x) (drop_all k functions past) h in
     ap (λ (t : Table Entry). t name) last
 
 -- before the first function, something is made of what is known
-pub file-begins : {X : Type 0} (made : Sizes → Layouts → Table Entry → X) (known : Sizes) (laid : Layouts) (entries : Table Entry) (structs : List CStruct) →
+pub file-begins : {X : Type 0} (made : Sizes → Layouts → Table Entry → X) (known : Sizes) (laid : Layouts) (entries : Table Entry)
+    (structs : List CStruct) →
     known ≡ capped_sizes structs →
     ((asked : Text) → laid asked ≡ table_of (map (layout_of known) structs) asked) → ((asked : Text) → entries asked ≡ None) →
     made known laid entries ≡ made (capped_sizes structs) (layouts structs) no_entries

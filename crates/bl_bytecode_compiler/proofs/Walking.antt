@@ -1,5 +1,27 @@
 -- Where a place is reached by its steps.
-use Rattle.std.proofs.Common.{◌≡◌, ◌≤◌, ◌<◌, ℕ, zero, suc, ◌+◌, List, [], ◌∷◌, ◌++◌, map, length, drop, get_or, Option, Some, None, refl, ap, sym}
+use Rattle.std.proofs.Common.{
+  ◌≡◌,
+  ◌≤◌,
+  ◌<◌,
+  ℕ,
+  zero,
+  suc,
+  ◌+◌,
+  List,
+  [],
+  ◌∷◌,
+  ◌++◌,
+  map,
+  length,
+  drop,
+  get_or,
+  Option,
+  Some,
+  None,
+  refl,
+  ap,
+  sym,
+}
 use Rattle.std.proofs.Common.{◌∙◌, subst, append_assoc, append-nil, arith}
 use Rattle.std.specs.Prelude.{option_map}
 use Rattle.std.proofs.lemmas.List.{get_or-map, length-map, map-append}
@@ -20,7 +42,18 @@ use Rattle.bl_bytecode_compiler.specs.declared.place.Root.{Root}
 use Rattle.bl_bytecode_compiler.specs.declared.place.Walk.{Walk}
 use Rattle.bl_bytecode_compiler.specs.declared.here.Laid.{Laid as CodeLaid}
 use Rattle.bl_bytecode_compiler.specs.Views.{laid_of}
-use Rattle.bl_bytecode_compiler.specs.Walks.{IsWalk, cells_before, found_along, founds_of, passed_along, root_of, term_if, terms_along, type_along, type_found}
+use Rattle.bl_bytecode_compiler.specs.inner.Walks.{
+  IsWalk,
+  cells_before,
+  found_along,
+  founds_of,
+  passed_along,
+  root_of,
+  term_if,
+  terms_along,
+  type_along,
+  type_found,
+}
 
 module _ (here : Ground Entry) where
   abbrev shown : CIndex → Index Code
@@ -137,7 +170,8 @@ found-at : (items : List (Option CodeLaid)) (k : ℕ) (f : Option CodeLaid) → 
 found-at items k f h is = get_or-map (option_map laid_of) items k f (option_map laid_of f) h ∙ ap (option_map laid_of) is
 
 -- one step more, from the last
-pub step-down : (here : Ground Entry) (p : CPlace) (walk : Walk) → IsWalk here p walk → (n k : ℕ) (s : CStep) (f : Option CodeLaid) (old before new : Code) →
+pub step-down : (here : Ground Entry) (p : CPlace) (walk : Walk) → IsWalk here p walk →
+    (n k : ℕ) (s : CStep) (f : Option CodeLaid) (old before new : Code) →
     n ≡ k + 1 →
     k < length (out-CPlace p).steps → get_or (out-CPlace p).steps k s ≡ s → get_or walk.found.items k f ≡ f →
     before ≡ joined (map term_code (terms_along here (drop n (out-CPlace p).steps) (drop n (founds_of walk.found.items)))) ++ old →
@@ -150,7 +184,8 @@ step-down here p walk is-walk n k s f old before new next h is are so_far more =
     let rest : List (Term Code) = terms_along here (drop (k + 1) steps) (drop (k + 1) found) in
     let within : k < length walk.found.items = subst (λ m. k < m) (sym is-walk.long) h in
     let within' : k < length found = subst (λ m. k < m) (sym (length-map walk.found.items (option_map laid_of))) within in
-    more ∙ ap (λ c. joined (map term_code first) ++ c) (so_far ∙ ap (λ m. joined (map term_code (terms_along here (drop m steps) (drop m found))) ++ old) next)
+    more ∙ ap (λ c. joined (map term_code first) ++ c)
+    (so_far ∙ ap (λ m. joined (map term_code (terms_along here (drop m steps) (drop m found))) ++ old) next)
     ∙ sym (append_assoc (joined (map term_code first)) (joined (map term_code rest)) old)
     ∙ ap (λ c. c ++ old) (sym (joined-append (map term_code first) (map term_code rest)) ∙ ap joined (sym (map-append term_code first rest))
     ∙ ap (λ ts. joined (map term_code ts))
@@ -158,7 +193,8 @@ step-down here p walk is-walk n k s f old before new next h is are so_far more =
 
 -- the whole place
 pub place-done : (here : Ground Entry) (p : CPlace) (walk : Walk) (k : ℕ) (old before new : Code) → IsWalk here p walk → k ≡ 0 →
-    before ≡ joined (map term_code (terms_along here (drop k (out-CPlace p).steps) (drop k (founds_of walk.found.items)))) ++ old → new ≡ walk.start ∷ before →
+    before ≡ joined (map term_code (terms_along here (drop k (out-CPlace p).steps) (drop k (founds_of walk.found.items)))) ++ old →
+    new ≡ walk.start ∷ before →
     new ≡ reach_code (reach_of p here) ++ old
 place-done here p walk k old before new is none so_far put =
     let steps : List CStep = (out-CPlace p).steps in

@@ -2,7 +2,7 @@
 use Rattle.std.specs.Prelude.{ℕ, List, Option, option_map}
 use Rattle.std.specs.Borrow.{Bor}
 use Rattle.std.specs.HashMap.{HashMap}
-use Rattle.bl_cmeaning.specs.Maps.{text_at}
+use Rattle.bl_cmeaning.specs.inner.Maps.{text_at}
 use Rattle.bl_cmeaning.specs.Sizes.{Sizes}
 use Rattle.bl_cmeaning.specs.Tables.{Table}
 use Rattle.bl_cmeaning_laws.specs.Layout.{Laid, Layouts, Slot, capped}

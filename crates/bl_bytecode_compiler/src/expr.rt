@@ -5,7 +5,7 @@ ghost use Rattle.bl_tree.specs.Reduce.{joined};
 ghost use Rattle.bl_cmeaning.specs.Builtin.{builtin_of};
 ghost use Rattle.bl_bytecode.specs.Code.{arg_code, call_as, code_of, code_of_call, fetch_code, reach_code, reach_of, term_code};
 ghost use Rattle.bl_bytecode_compiler.specs.Views.{ground_of, laid_of};
-ghost use Rattle.bl_bytecode_compiler.specs.Walks.{IsWalk, term_if};
+ghost use Rattle.bl_bytecode_compiler.specs.inner.Walks.{IsWalk, term_if};
 
 use crate::front::{Front, small};
 use crate::here::{Here, Laid, type_size};

@@ -1,5 +1,30 @@
 -- Many cells set one after the other.
-use Rattle.std.proofs.Common.{◌≡◌, ℕ, suc, zero, ◌+◌, ◌-◌, ◌≤◌, ◌<◌, ℤ, pos, List, [], ◌∷◌, length, drop, arith, sym, ◌∙◌, ap, refl, get_or, min, ◌^◌, ⊎_elim}
+use Rattle.std.proofs.Common.{
+  ◌≡◌,
+  ℕ,
+  suc,
+  zero,
+  ◌+◌,
+  ◌-◌,
+  ◌≤◌,
+  ◌<◌,
+  ℤ,
+  pos,
+  List,
+  [],
+  ◌∷◌,
+  length,
+  drop,
+  arith,
+  sym,
+  ◌∙◌,
+  ap,
+  refl,
+  get_or,
+  min,
+  ◌^◌,
+  ⊎_elim,
+}
 use Rattle.std.proofs.str.Laws.{order}
 use Rattle.std.specs.Prelude.{slice_set}
 use Rattle.std.proofs.lemmas.List.{set_past, drop_all}
@@ -63,7 +88,8 @@ put-more at k args cells all low less h =
     ap (λ (n : ℕ). with_args (k + 1) (drop n args) (slice_set cells k (get_or args (k - at) (pos 0)))) (sym e)
     ∙ (sym (with_args-one k (k - at) args cells inside) ∙ h)
 
-pub put-last : (at k : ℕ) (args : List ℤ) (cells all : Cells) → min (min (at + length args) (2 ^ 64 - 1)) (length cells) ≤ k → length cells < 2 ^ 64 → at ≤ k →
+pub put-last : (at k : ℕ) (args : List ℤ) (cells all : Cells) → min (min (at + length args) (2 ^ 64 - 1)) (length cells) ≤ k →
+    length cells < 2 ^ 64 → at ≤ k →
     with_args k (drop (k - at) args) cells ≡ all → cells ≡ all
 put-last at k args cells all end small low h =
     ⊎_elim

@@ -6,7 +6,7 @@ use Rattle.bl_bytecode.specs.Code.{Code}
 use Rattle.bl_bytecode.specs.Machine.{Has, Room, Runs, last, more, State, Stepped, done, goes, step, trapped}
 use Rattle.bl_bytecode_machine.specs.Shown.{Shown}
 use Rattle.bl_bytecode_machine.specs.Ends.{Halts, IsEnd}
-use Rattle.bl_bytecode_machine.specs.Halting.{halts_after, halts_in, has}
+use Rattle.bl_bytecode_machine.specs.inner.Halting.{halts_after, halts_in, has}
 
 record Found (code : Code) (room : Room) (n : ℕ) (s : State) : Type 0 where
   end : Stepped

@@ -1,5 +1,28 @@
 -- What a machine shows after a change of its parts.
-use Rattle.std.proofs.Common.{◌≡◌, ℕ, suc, ◌+◌, ◌-◌, ◌≤◌, ◌<◌, ℤ, List, [], ◌∷◌, ◌++◌, length, take, drop, map, arith, sym, ◌∙◌, ap, subst, refl}
+use Rattle.std.proofs.Common.{
+  ◌≡◌,
+  ℕ,
+  suc,
+  ◌+◌,
+  ◌-◌,
+  ◌≤◌,
+  ◌<◌,
+  ℤ,
+  List,
+  [],
+  ◌∷◌,
+  ◌++◌,
+  length,
+  take,
+  drop,
+  map,
+  arith,
+  sym,
+  ◌∙◌,
+  ap,
+  subst,
+  refl,
+}
 use Rattle.std.specs.Prelude.{reverse}
 use Rattle.std.proofs.lemmas.List.{length-take, length-drop, length-reverse, length-append, reverse-append, drop-append-le, take-append-le, take_all, drop_all}
 use Rattle.bl_tree.specs.Reduce.{total}
@@ -20,15 +43,18 @@ view_of at base floor count cells numbers callers numbers_room calls_room =
 
 -- ---- the last numbers leave
 
-pub args-shown : (at base floor count : ℕ) (cells : Cells) (numbers : List ℤ) (callers : List Caller) (numbers_room calls_room : ℕ) (m : Shown) (n first : ℕ) →
-    view_of at base floor count cells numbers callers numbers_room calls_room ≡ m → floor ≤ length numbers → first ≡ floor + (length numbers - floor - n) →
+pub args-shown : (at base floor count : ℕ) (cells : Cells) (numbers : List ℤ) (callers : List Caller) (numbers_room calls_room : ℕ)
+    (m : Shown) (n first : ℕ) →
+    view_of at base floor count cells numbers callers numbers_room calls_room ≡ m → floor ≤ length numbers →
+    first ≡ floor + (length numbers - floor - n) →
     drop first numbers ≡ args_on n m.state.stack
 args-shown at base floor count cells numbers callers numbers_room calls_room m n first v w e =
     args-are floor n first numbers w e ∙ ap (λ (x : Shown). args_on n x.state.stack) v
 
 pub take-shown : (at base floor count : ℕ) (cells : Cells) (numbers new : List ℤ) (callers : List Caller) (numbers_room calls_room room : ℕ) (m : Shown)
     (n first : ℕ) →
-    view_of at base floor count cells numbers callers numbers_room calls_room ≡ m → floor ≤ length numbers → first ≡ floor + (length numbers - floor - n) →
+    view_of at base floor count cells numbers callers numbers_room calls_room ≡ m → floor ≤ length numbers →
+    first ≡ floor + (length numbers - floor - n) →
     new ≡ take first numbers → room ≡ numbers_room →
     view_of at base floor count cells new callers room calls_room ≡ with_stack m (drop n m.state.stack)
 take-shown at base floor count cells numbers new callers numbers_room calls_room room m n first v w e f r =
@@ -61,8 +87,10 @@ enter-room at base floor count cells numbers callers numbers_room calls_room m c
     subst (λ (x : Shown). Roomy x (entering x.state callee)) (sym v) h in
     omega (arith, there.1, waiting-length (take floor numbers) (reverse callers), length-reverse callers)
 
-pub enter-keeps : (floor first : ℕ) (numbers new : List ℤ) (callers more : List Caller) (numbers_room calls_room room calls : ℕ) (c : Caller) (n : ℕ) →
-    Keeps floor numbers callers numbers_room calls_room → first ≡ floor + (length numbers - floor - n) → new ≡ take first numbers → more ≡ callers ++ c ∷ [] →
+pub enter-keeps : (floor first : ℕ) (numbers new : List ℤ) (callers more : List Caller) (numbers_room calls_room room calls : ℕ)
+    (c : Caller) (n : ℕ) →
+    Keeps floor numbers callers numbers_room calls_room → first ≡ floor + (length numbers - floor - n) → new ≡ take first numbers →
+    more ≡ callers ++ c ∷ [] →
     c.floor ≡ floor →
     room ≡ numbers_room → calls ≡ calls_room → length callers < calls_room → Keeps first new more room calls
 enter-keeps floor first numbers new callers more numbers_room calls_room room calls c n k e f g h r q less =
@@ -144,7 +172,8 @@ back-room at base floor count cells numbers callers rest numbers_room calls_room
     omega (arith, back.0, below)
 
 pub back-keeps : (floor : ℕ) (numbers new : List ℤ) (callers rest : List Caller) (numbers_room calls_room room calls : ℕ) (c : Caller) (x : ℤ) →
-    Keeps floor numbers callers numbers_room calls_room → callers ≡ rest ++ c ∷ [] → new ≡ take floor numbers ++ x ∷ [] → room ≡ numbers_room →
+    Keeps floor numbers callers numbers_room calls_room → callers ≡ rest ++ c ∷ [] → new ≡ take floor numbers ++ x ∷ [] →
+    room ≡ numbers_room →
     calls ≡ calls_room → floor < numbers_room →
     Keeps c.floor new rest room calls
 back-keeps floor numbers new callers rest numbers_room calls_room room calls c x k e f r q less =
@@ -168,7 +197,8 @@ back-shown at base floor count cells numbers callers rest numbers_room calls_roo
     record { at = c.back; base = c.base; cells = cells; stack = stack; waiting = waiting_of below (reverse rest); count = count } in
     let top : reverse (drop c.floor (take floor numbers ++ x ∷ [])) ≡ x ∷ reverse (drop c.floor (take floor numbers)) =
     ap reverse (drop-append-le c.floor (take floor numbers) (x ∷ []) low) ∙ reverse-append (drop c.floor (take floor numbers)) (x ∷ []) in
-    let is : state_of c.back c.base c.floor count cells new rest ≡ made (x ∷ reverse (drop c.floor (take floor numbers))) (take c.floor (take floor numbers)) =
+    let is : state_of c.back c.base c.floor count cells new rest
+    ≡ made (x ∷ reverse (drop c.floor (take floor numbers))) (take c.floor (take floor numbers)) =
     ap (λ (y : List ℤ). state_of c.back c.base c.floor count cells y rest) f
     ∙ (ap (λ (y : List ℤ). made y (take c.floor (take floor numbers ++ x ∷ []))) top
     ∙ ap (λ (y : List ℤ). made (x ∷ reverse (drop c.floor (take floor numbers))) y) (take-append-le c.floor (take floor numbers) (x ∷ []) low)) in

@@ -18,7 +18,8 @@ no-end a b e h = subst IsEnd e h
 goes-inj : (s t : State) → goes s ≡ goes t → s ≡ t
 goes-inj s t e = cc
 
-pub one-end : (code : Code) (room other : Room) (n k : ℕ) (s : State) (a b : Stepped) → Runs code room n s a → Runs code other k s b → IsEnd a → IsEnd b → a ≡ b
+pub one-end : (code : Code) (room other : Room) (n k : ℕ) (s : State) (a b : Stepped) → Runs code room n s a →
+    Runs code other k s b → IsEnd a → IsEnd b → a ≡ b
 one-end code room other _ k _ _ b (here s h) q ia ib = absurd ia
 one-end code room other _ _ _ _ _ (last s a h e) (here _ g) ia ib = absurd ib
 one-end code room other _ _ _ _ _ (last s a h e) (last _ b g f) ia ib = sym e ∙ f
@@ -54,7 +55,8 @@ over-left f (trapped c n) (goes t) h i = absurd h
 over-left f (trapped c n) (done d k q) h i = refl
 over-left f (trapped c n) (trapped d k) h i = refl
 
-goes-left : (f : State → ℕ) (t : State) (b : Stepped) (k : ℕ) → Alike (goes t) b → ((x : State) → as_shown x ≡ as_shown t → f x ≡ k) → left_after f b ≡ suc k
+goes-left : (f : State → ℕ) (t : State) (b : Stepped) (k : ℕ) → Alike (goes t) b →
+    ((x : State) → as_shown x ≡ as_shown t → f x ≡ k) → left_after f b ≡ suc k
 goes-left f t (goes u) k h g = ap (λ (x : ℕ). suc x) (g u (sym h))
 goes-left f t (done d n q) k h g = absurd h
 goes-left f t (trapped d n) k h g = absurd h
@@ -63,7 +65,8 @@ goes-left f t (trapped d n) k h g = absurd h
 alike-to : (code : Code) (s m : State) (end : Stepped) → step code s ≡ end → as_shown m ≡ as_shown s → Alike end (step code m)
 alike-to code s m end e h = subst (λ (x : Stepped). Alike x (step code m)) e (step-alike code s m (sym h))
 
-pub left-is : (code : Code) (room : Room) (k : ℕ) (s : State) (end : Stepped) → Runs code room k s end → IsEnd end → (n : ℕ) → k ≤ n → (m : State) →
+pub left-is : (code : Code) (room : Room) (k : ℕ) (s : State) (end : Stepped) → Runs code room k s end → IsEnd end → (n : ℕ) →
+    k ≤ n → (m : State) →
     as_shown m ≡ as_shown s → left code n m ≡ k
 left-is code room _ _ _ (here s h) i n l m w = absurd i
 left-is code room _ _ _ (last s end h e) i zero l m w = absurd (omega arith)
@@ -91,7 +94,8 @@ pub record Going (code : Code) (steps : ℕ) (first : State) (from m : Shown) : 
   pub numbers_stay : m.numbers ≡ from.numbers
   pub calls_stay : m.calls ≡ from.calls
 
-pub begins : (code : Code) (steps : ℕ) (first : State) (from m : Shown) → Halts code steps first from → m ≡ in_state from first → Going code steps first from m
+pub begins : (code : Code) (steps : ℕ) (first : State) (from m : Shown) → Halts code steps first from → m ≡ in_state from first →
+    Going code steps first from m
 begins code steps first from m h e =
     let at_first : Going code steps first from (in_state from first) =
     record {
@@ -120,7 +124,8 @@ suffices-over numbers calls (trapped c n) (goes t) h i = absurd h
 suffices-over numbers calls (trapped c n) (done d k q) h i = tt
 suffices-over numbers calls (trapped c n) (trapped d k) h i = tt
 
-suffices-goes : (room : Room) (numbers calls : ℕ) (t : State) (b : Stepped) → Has room t → room.numbers ≤ numbers → room.calls ≤ calls → Alike (goes t) b →
+suffices-goes : (room : Room) (numbers calls : ℕ) (t : State) (b : Stepped) → Has room t → room.numbers ≤ numbers →
+    room.calls ≤ calls → Alike (goes t) b →
     Suffices numbers calls b
 suffices-goes room numbers calls t (goes u) has f g h =
     let a : height t ≡ height u = ap (λ (x : State). height x) h in
@@ -155,7 +160,8 @@ came-over numbers calls (goes s) m i w = i
 came-over numbers calls (done c n r) m i w = w
 came-over numbers calls (trapped c n) m i w = w
 
-came-to : (code : Code) (numbers calls : ℕ) (s m : State) (end : Stepped) (answer : Flow) (n : Shown) → step code s ≡ end → as_shown m ≡ as_shown s →
+came-to : (code : Code) (numbers calls : ℕ) (s m : State) (end : Stepped) (answer : Flow) (n : Shown) → step code s ≡ end →
+    as_shown m ≡ as_shown s →
     Came numbers calls (step code m) answer n → Came numbers calls end answer n
 came-to code numbers calls s m end answer n e w c =
     came-alike numbers calls (step code m) end answer n (alike-back end (step code m) (alike-to code s m end e w)) c
@@ -212,7 +218,8 @@ IsAnswer flow.Goes o = ⊥
 IsAnswer (flow.Done x) o = o ≡ Some x
 IsAnswer flow.Trapped o = o ≡ None
 
-came-end : (from m : Shown) (end : Stepped) (answer : Flow) (o : Option ℤ) (n : Shown) → m.numbers ≡ from.numbers → m.calls ≡ from.calls → IsAnswer answer o →
+came-end : (from m : Shown) (end : Stepped) (answer : Flow) (o : Option ℤ) (n : Shown) → m.numbers ≡ from.numbers →
+    m.calls ≡ from.calls → IsAnswer answer o →
     Came m.numbers m.calls end answer n → Ended from end o n
 came-end from m (goes s) flow.Goes o n a b i w = absurd i
 came-end from m (goes s) (flow.Done x) o n a b i w = absurd w
@@ -236,12 +243,14 @@ end-came code room numbers calls _ _ _ m answer o n (here s h) i w a c = absurd 
 end-came code room numbers calls _ _ _ m answer o n (last s end h e) i w a c = came-to code numbers calls s m end answer n e w c
 end-came code room numbers calls _ _ _ m answer o n (more k s t end h e r) i w a c =
     absurd (no-goes numbers calls t answer o n a (came-to code numbers calls s m (goes t) answer n e w c)) where
-      no-goes : (numbers calls : ℕ) (t : State) (answer : Flow) (o : Option ℤ) (n : Shown) → IsAnswer answer o → Came numbers calls (goes t) answer n → ⊥
+      no-goes : (numbers calls : ℕ) (t : State) (answer : Flow) (o : Option ℤ) (n : Shown) → IsAnswer answer o →
+          Came numbers calls (goes t) answer n → ⊥
       no-goes numbers calls t flow.Goes o n a w = a
       no-goes numbers calls t (flow.Done x) o n a w = w
       no-goes numbers calls t flow.Trapped o n a w = w
 
-pub ends : (code : Code) (steps : ℕ) (first : State) (from m n : Shown) (answer : Flow) (o : Option ℤ) → Going code steps first from m → IsAnswer answer o →
+pub ends : (code : Code) (steps : ℕ) (first : State) (from m n : Shown) (answer : Flow) (o : Option ℤ) →
+    Going code steps first from m → IsAnswer answer o →
     After m (step code m.state) answer n →
     (room : Room) (end : Stepped) → Arrives code room first end → IsEnd end → Ended from end o n
 ends code steps first from m n answer o g a c room end arrives over =

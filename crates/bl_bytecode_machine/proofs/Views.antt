@@ -1,5 +1,27 @@
 -- How the numbers on all stacks stand in one list.
-use Rattle.std.proofs.Common.{◌≡◌, ℕ, ◌+◌, ◌-◌, ◌≤◌, ◌<◌, ℤ, List, [], ◌∷◌, ◌++◌, length, take, drop, map, arith, sym, ◌∙◌, ap, subst, ⊎_elim}
+use Rattle.std.proofs.Common.{
+  ◌≡◌,
+  ℕ,
+  ◌+◌,
+  ◌-◌,
+  ◌≤◌,
+  ◌<◌,
+  ℤ,
+  List,
+  [],
+  ◌∷◌,
+  ◌++◌,
+  length,
+  take,
+  drop,
+  map,
+  arith,
+  sym,
+  ◌∙◌,
+  ap,
+  subst,
+  ⊎_elim,
+}
 use Rattle.std.specs.Prelude.{reverse}
 use Rattle.std.proofs.lemmas.List.{length-take, length-drop, length-reverse, reverse-append, take-append-drop, take-take, drop-drop, drop-take}
 use Rattle.std.proofs.lemmas.List.{drop_all, take_all, reverse-reverse}

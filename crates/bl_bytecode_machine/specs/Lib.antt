@@ -1,4 +1,4 @@
 pub mod Shown
 pub mod Steps
 pub mod Ends
-pub mod Halting
+pub mod inner

@@ -35,7 +35,8 @@ shown_code =
 -- the functions that wait, the last first, where these numbers stand on their stacks
 abbrev pub waiting_of : List ℤ → List Caller → List Waiting
 waiting_of numbers [] = []
-waiting_of numbers (c ∷ callers) = record { back = c.back; base = c.base; stack = reverse (drop c.floor numbers) } ∷ waiting_of (take c.floor numbers) callers
+waiting_of numbers (c ∷ callers) = record { back = c.back; base = c.base; stack = reverse (drop c.floor numbers) }
+    ∷ waiting_of (take c.floor numbers) callers
 
 -- the state, where the running function's stack begins above so many numbers
 abbrev pub state_of : ℕ → ℕ → ℕ → ℕ → Cells → List ℤ → List Caller → State

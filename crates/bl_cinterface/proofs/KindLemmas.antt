@@ -1,5 +1,26 @@
 -- The types of the cells of structs, one member after another.
-use Rattle.std.proofs.Common.{◌≡◌, ℕ, zero, suc, ◌+◌, ◌<◌, Bool, true, false, List, [], ◌∷◌, ◌++◌, map, length, get_or, take, Option, Some, None}
+use Rattle.std.proofs.Common.{
+  ◌≡◌,
+  ℕ,
+  zero,
+  suc,
+  ◌+◌,
+  ◌<◌,
+  Bool,
+  true,
+  false,
+  List,
+  [],
+  ◌∷◌,
+  ◌++◌,
+  map,
+  length,
+  get_or,
+  take,
+  Option,
+  Some,
+  None,
+}
 use Rattle.std.proofs.Common.{refl, ap, sym, subst, ◌∙◌, arith, append-nil}
 use Rattle.std.specs.Prelude.{flat_map, bytes_eq, nat_lt, option_map, unwrap_or, if◌then◌else◌}
 use Rattle.std.specs.Option.{option_or}
@@ -152,7 +173,8 @@ module _ (name : Text) where
   within-later n at None next h = cc
   within-later n at (Some k) next h = let same : suc k ≡ at = some_of (suc k) at h in let below : k < n = next k refl in omega (arith, same, below)
 
-  within-here : (n at : ℕ) (b : Bool) (o : Option ℕ) → ((k : ℕ) → o ≡ Some k → k < n) → (if b then Some 0 else option_map suc o) ≡ Some at → at < suc n
+  within-here : (n at : ℕ) (b : Bool) (o : Option ℕ) → ((k : ℕ) → o ≡ Some k → k < n) →
+      (if b then Some 0 else option_map suc o) ≡ Some at → at < suc n
   within-here n at true o next h = let same : 0 ≡ at = some_of 0 at h in omega (arith, same)
   within-here n at false o next h = within-later n at o next h
 
@@ -242,4 +264,5 @@ places-first (Some j) = let same : 0 + j ≡ j = omega arith in ap Some same
 
 pub places-done : (old t : Table ℕ) (rest : List CStruct) (k : ℕ) → rest ≡ [] →
     ((name : Text) → option_or (old name) (option_map (λ j. k + j) (placed name rest)) ≡ t name) → (name : Text) → old name ≡ t name
-places-done old t rest k is h name = sym (nothing_after (old name)) ∙ ap (λ l. option_or (old name) (option_map (λ j. k + j) (placed name l))) (sym is) ∙ h name
+places-done old t rest k is h name = sym (nothing_after (old name))
+    ∙ ap (λ l. option_or (old name) (option_map (λ j. k + j) (placed name l))) (sym is) ∙ h name

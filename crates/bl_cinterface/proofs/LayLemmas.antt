@@ -1,5 +1,26 @@
 -- Structs that are laid out one behind the other.
-use Rattle.std.proofs.Common.{◌≡◌, ℕ, zero, suc, ◌-◌, ◌≤◌, List, [], ◌∷◌, ◌++◌, length, get_or, take, Some, None, ap, sym, subst, ◌∙◌, arith}
+use Rattle.std.proofs.Common.{
+  ◌≡◌,
+  ℕ,
+  zero,
+  suc,
+  ◌-◌,
+  ◌≤◌,
+  List,
+  [],
+  ◌∷◌,
+  ◌++◌,
+  length,
+  get_or,
+  take,
+  Some,
+  None,
+  ap,
+  sym,
+  subst,
+  ◌∙◌,
+  arith,
+}
 use Rattle.std.proofs.Common.{append-nil, length-append}
 use Rattle.std.specs.Prelude.{codes, map, unwrap_or}
 use Rattle.std.proofs.lemmas.List.{append_assoc, map-append, take_all}
@@ -45,7 +66,8 @@ member-made structs m old one two span times start made len is some told =
     let part = kinds_of_type structs m.ty in
     let long : span.len ≡ length part = omega (arith, len, ap length made, length-append old part) in
     let here : at_span span one ≡ part = ap (at_span span) made ∙ (stands-last old part span start long).here in
-    told ∙ ap (λ l. one ++ repeated (times - 1) l) here ∙ ap (λ l. l ++ repeated (times - 1) part) made ∙ append_assoc old part (repeated (times - 1) part)
+    told ∙ ap (λ l. one ++ repeated (times - 1) l) here ∙ ap (λ l. l ++ repeated (times - 1) part) made
+    ∙ append_assoc old part (repeated (times - 1) part)
     ∙ ap (λ l. old ++ l) (once-more times part some ∙ sym (member-is structs m times is))
 
 -- ---- members
@@ -57,7 +79,8 @@ members-next structs all rest m old new whole is told h =
     ap (λ l. l ++ kinds_of_members structs rest) told ∙ append_assoc old (kinds_of_member structs m) (kinds_of_members structs rest)
     ∙ ap (λ l. old ++ l) (sym (kinds-next structs m rest)) ∙ ap (λ l. old ++ kinds_of_members structs l) (sym is) ∙ h
 
-pub members-done : (structs : List CStruct) (rest : List CMember) (old whole : List Scalar) → rest ≡ [] → old ++ kinds_of_members structs rest ≡ whole →
+pub members-done : (structs : List CStruct) (rest : List CMember) (old whole : List Scalar) → rest ≡ [] →
+    old ++ kinds_of_members structs rest ≡ whole →
     old ≡ whole
 members-done structs rest old whole is h = sym (append-nil old) ∙ ap (λ l. old ++ kinds_of_members structs l) (sym is) ∙ h
 

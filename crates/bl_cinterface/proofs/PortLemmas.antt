@@ -1,5 +1,27 @@
 -- The inputs and outputs of a well-formed file.
-use Rattle.std.proofs.Common.{◌≡◌, ℕ, zero, suc, ◌+◌, Bool, true, false, ◌&&◌, List, [], ◌∷◌, ◌++◌, map, length, drop, Option, Some, None, refl, ap}
+use Rattle.std.proofs.Common.{
+  ◌≡◌,
+  ℕ,
+  zero,
+  suc,
+  ◌+◌,
+  Bool,
+  true,
+  false,
+  ◌&&◌,
+  List,
+  [],
+  ◌∷◌,
+  ◌++◌,
+  map,
+  length,
+  drop,
+  Option,
+  Some,
+  None,
+  refl,
+  ap,
+}
 use Rattle.std.proofs.Common.{sym, subst, ◌∙◌, arith}
 use Rattle.std.specs.Prelude.{⊤, bytes_eq, codes, flat_map, is_none, nat_eq, nat_lt, nat_le, option_map, slice_get, unwrap_or, if◌then◌else◌}
 use Rattle.std.specs.List.{list_all, starts_with}
@@ -85,8 +107,10 @@ abbrev Ported : Text → Option (List CMember) → Type 0
 Ported prefix None = ⊤
 Ported prefix (Some ms) = are_ports prefix ms ≡ true
 
-module _ (name prefix : Text) (fit : (s : CStruct) → bytes_eq s.name name ≡ true → interface_fits s ≡ true → are_ports prefix s.members ≡ true) where
-  ported-here : (s : CStruct) (later : Option (List CMember)) → interface_fits s ≡ true → Ported prefix later → (b : Bool) → bytes_eq s.name name ≡ b →
+module _ (name prefix : Text) (fit : (s : CStruct) → bytes_eq s.name name ≡ true → interface_fits s ≡ true →
+    are_ports prefix s.members ≡ true) where
+  ported-here : (s : CStruct) (later : Option (List CMember)) → interface_fits s ≡ true → Ported prefix later → (b : Bool) →
+      bytes_eq s.name name ≡ b →
       Ported prefix (if b then Some s.members else later)
   ported-here s later fits next true is = fit s is fits
   ported-here s later fits next false is = next
@@ -208,7 +232,8 @@ module _ (root : Root) (known : Table (List Inner)) (prefix : Text) where
 abbrev Over : Option (List Inner) → Option (List CMember) → Type 0
 Over cells members = (before : Table (List Inner)) × (cells ≡ option_map (flat_map (inner_of_member before)) members)
 
-over-either : (b : Bool) (known : Table (List Inner)) (ms : List CMember) (cells : Option (List Inner)) (members : Option (List CMember)) → Over cells members →
+over-either : (b : Bool) (known : Table (List Inner)) (ms : List CMember) (cells : Option (List Inner))
+    (members : Option (List CMember)) → Over cells members →
     Over (if b then Some (flat_map (inner_of_member known) ms) else cells) (if b then Some ms else members)
 over-either true known ms cells members later = (known, refl)
 over-either false known ms cells members later = later
@@ -235,7 +260,8 @@ object-stands root name prefix structs fit k m is =
 
 get-behind : {A : Type 0} (xs ys : List A) (k : ℕ) → slice_get (xs ++ ys) (length xs + k) ≡ slice_get ys k
 get-behind [] ys k = let same : 0 + k ≡ k = omega arith in ap (slice_get ys) same
-get-behind (x ∷ xs) ys k = let same : suc (length xs) + k ≡ suc (length xs + k) = omega arith in ap (slice_get (x ∷ (xs ++ ys))) same ∙ get-behind xs ys k
+get-behind (x ∷ xs) ys k = let same : suc (length xs) + k ≡ suc (length xs + k) = omega arith in
+    ap (slice_get (x ∷ (xs ++ ys))) same ∙ get-behind xs ys k
 
 get-front : {A : Type 0} (xs ys : List A) (k : ℕ) (a : A) → slice_get xs k ≡ Some a → slice_get (xs ++ ys) k ≡ Some a
 get-front [] ys k a is = cc

@@ -1,5 +1,27 @@
 -- Parts of a list that grows.
-use Rattle.std.proofs.Common.{◌≡◌, ℕ, suc, ◌+◌, ◌≤◌, Bool, true, false, List, ◌++◌, length, take, drop, Option, Some, None, refl, ap, sym, subst, ◌∙◌}
+use Rattle.std.proofs.Common.{
+  ◌≡◌,
+  ℕ,
+  suc,
+  ◌+◌,
+  ◌≤◌,
+  Bool,
+  true,
+  false,
+  List,
+  ◌++◌,
+  length,
+  take,
+  drop,
+  Option,
+  Some,
+  None,
+  refl,
+  ap,
+  sym,
+  subst,
+  ◌∙◌,
+}
 use Rattle.std.proofs.Common.{arith, length-append}
 use Rattle.std.specs.Prelude.{bytes_eq, if◌then◌else◌}
 use Rattle.std.specs.Option.{option_or}
@@ -51,13 +73,15 @@ laid-next structs spans new name span kinds add here h = record { each = λ aske
         (subst (λ n. Stands kinds span (kinds_named structs n)) ((bytes_eq-Decides name asked).0 same) here)
     fresh asked found false same is = cc
 
-    chosen : (asked : Text) (found : Span) (o : Option Span) → spans asked ≡ o → option_or o (if bytes_eq name asked then Some span else None) ≡ Some found →
+    chosen : (asked : Text) (found : Span) (o : Option Span) → spans asked ≡ o →
+        option_or o (if bytes_eq name asked then Some span else None) ≡ Some found →
         Stands kinds found (kinds_named structs asked)
     chosen asked found (Some old) there is = subst (λ s. Stands kinds s (kinds_named structs asked)) (some_of old found is) (h.each asked old there)
     chosen asked found None there is = fresh asked found (bytes_eq name asked) refl is
 
 -- one more time
-pub times-next : (old now new : List Scalar) (span : Span) (k : ℕ) → span.start + span.len ≤ length old → now ≡ old ++ repeated k (at_span span old) →
+pub times-next : (old now new : List Scalar) (span : Span) (k : ℕ) → span.start + span.len ≤ length old →
+    now ≡ old ++ repeated k (at_span span old) →
     new ≡ now ++ at_span span now →
     new ≡ old ++ repeated (k + 1) (at_span span old)
 times-next old now new span k within so_far told =

@@ -1,7 +1,7 @@
 //! Structs by name.
 
 ghost use Rattle.std.specs.Prelude.{◌≡◌, ℕ, List, IfOk};
-ghost use Rattle.bl_cmeaning.specs.Maps.{text_at};
+ghost use Rattle.bl_cmeaning.specs.inner.Maps.{text_at};
 ghost use Rattle.bl_cinterface.specs.Layout.{placed, placed_before};
 
 use bl_cmeaning::maps::{add, find};

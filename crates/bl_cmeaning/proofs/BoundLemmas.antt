@@ -1,5 +1,28 @@
 -- No statement, function or tick executes more statements than its cost.
-use Rattle.std.proofs.Common.{◌≡◌, ℕ, zero, suc, ◌+◌, ◌*◌, ◌≤◌, ℤ, pos, Bool, true, false, max, List, [], ◌∷◌, ◌++◌, map, Option, Some, None, refl}
+use Rattle.std.proofs.Common.{
+  ◌≡◌,
+  ℕ,
+  zero,
+  suc,
+  ◌+◌,
+  ◌*◌,
+  ◌≤◌,
+  ℤ,
+  pos,
+  Bool,
+  true,
+  false,
+  max,
+  List,
+  [],
+  ◌∷◌,
+  ◌++◌,
+  map,
+  Option,
+  Some,
+  None,
+  refl,
+}
 use Rattle.std.proofs.Common.{subst, ◌∙◌, arith}
 use Rattle.std.specs.Prelude.{All, if◌then◌else◌, option_map, unwrap_or, is_none, bytes_eq, codes}
 use Rattle.std.specs.Option.{option_or}
@@ -40,7 +63,8 @@ use Rattle.bl_cmeaning.proofs.Induction.{Optional, ExprCases, induct_expr, induc
 
 -- ---- counts of what comes one after the other
 
-going_on-le : {A B : Type 0} (n k : ℕ) (answer : Option A) (rest : A → Counted B) → ((a : A) → (rest a).count ≤ k) → (going_on n answer rest).count ≤ n + k
+going_on-le : {A B : Type 0} (n k : ℕ) (answer : Option A) (rest : A → Counted B) → ((a : A) → (rest a).count ≤ k) →
+    (going_on n answer rest).count ≤ n + k
 going_on-le n k None rest after = omega arith
 going_on-le n k (Some a) rest after = let h : (rest a).count ≤ k = after a in omega arith
 
@@ -57,7 +81,8 @@ cost-append costs (x ∷ xs) ys = omega (arith, cost-append costs xs ys)
 -- each of these functions has a cost, and executes at most that
 pub record Covers (known : Table Meaning) (costs : Costs) : Type 0 where
   pub same : (name : Text) → is_none (costs name) ≡ is_none (known name)
-  pub covers : (name : Text) (depth : ℕ) (passed : List Passed) (memory : Memory) → (applied (known name) depth passed memory).count ≤ entry_or 0 costs name
+  pub covers : (name : Text) (depth : ℕ) (passed : List Passed) (memory : Memory) →
+      (applied (known name) depth passed memory).count ≤ entry_or 0 costs name
 
 called_as-le : (known : Table Meaning) (costs : Costs) → Covers known costs →
     (builtin : Option Builtin) (name : Text) (depth : ℕ) (passed : List Passed) (memory : Memory) →
@@ -196,19 +221,22 @@ ended_by-le : {A : Type 0} (memory : Memory) (n k : ℕ) (answer : Option A) (re
 ended_by-le memory n k None rest h = omega arith
 ended_by-le memory n k (Some a) rest h = let r : (rest a).count ≤ k = h a in omega arith
 
-following_end-le : (n k : ℕ) (memory : Memory) (end : End) (rest : Memory → Outcome) → (rest memory).count ≤ k → (following_end n memory end rest).count ≤ n + k
+following_end-le : (n k : ℕ) (memory : Memory) (end : End) (rest : Memory → Outcome) → (rest memory).count ≤ k →
+    (following_end n memory end rest).count ≤ n + k
 following_end-le n k memory goes_on rest h = omega arith
 following_end-le n k memory breaks rest h = omega arith
 following_end-le n k memory (returns r) rest h = omega arith
 following_end-le n k memory traps rest h = omega arith
 
-turn_end-le : (n k : ℕ) (memory : Memory) (end : End) (again : Memory → Outcome) → (again memory).count ≤ k → (turn_end n memory end again).count ≤ n + k
+turn_end-le : (n k : ℕ) (memory : Memory) (end : End) (again : Memory → Outcome) → (again memory).count ≤ k →
+    (turn_end n memory end again).count ≤ n + k
 turn_end-le n k memory goes_on again h = omega arith
 turn_end-le n k memory breaks again h = omega arith
 turn_end-le n k memory (returns r) again h = omega arith
 turn_end-le n k memory traps again h = omega arith
 
-turn_or_none-le : (b : Bool) (memory : Memory) (turn : Memory → Outcome) (k : ℕ) → (turn memory).count ≤ k → (turn_or_none b memory turn).count ≤ 1 + k
+turn_or_none-le : (b : Bool) (memory : Memory) (turn : Memory → Outcome) (k : ℕ) → (turn memory).count ≤ k →
+    (turn_or_none b memory turn).count ≤ 1 + k
 turn_or_none-le true memory turn k h = omega arith
 turn_or_none-le false memory turn k h = omega arith
 
@@ -288,10 +316,12 @@ module _ (costs : Costs) (scope : Scope) (covers : Covers scope.known costs) whe
     set = λ at p e memory.
         let l : (location_c p scope memory).count ≤ cost_of_calls costs (calls_in_place p) = place-le costs scope covers memory p in
         let c : (value_c e scope memory).count ≤ cost_of_calls costs (calls_in e) = expr-le costs scope covers memory e in
-        let both : (next (location_c p scope memory) (λ q. next (value_c e scope memory) (λ v. given (Some (set_at memory q v))))).count ≤ cost_of_calls costs
+        let both : (next (location_c p scope memory) (λ q. next (value_c e scope memory)
+        (λ v. given (Some (set_at memory q v))))).count ≤ cost_of_calls costs
         (calls_in_place p) + (cost_of_calls costs (calls_in e) + 0) =
         next-le _ _ _ _ l (λ q. next-le _ _ _ 0 c (λ v. omega arith)) in
-        let all : (executed memory (next (location_c p scope memory) (λ q. next (value_c e scope memory) (λ v. given (Some (set_at memory q v))))) going).count
+        let all : (executed memory (next (location_c p scope memory)
+        (λ q. next (value_c e scope memory) (λ v. given (Some (set_at memory q v))))) going).count
         ≤ (1 + (next (location_c p scope memory) (λ q. next (value_c e scope memory) (λ v. given (Some (set_at memory q v))))).count) + 0 =
         ended_by-le memory _ 0 _ _ (λ m. omega arith) in
         rw (fold-roll-CStmt, fold-roll-CStmt, fold-roll-CStmtKind, fold-roll-CStmtKind) (omega arith);
@@ -350,7 +380,8 @@ choice-same b (Some d) None c f h = cc
 
 -- one more function, with its cost
 covers-entry : (known : Table Meaning) (costs : Costs) → Covers known costs → (name : Text) (f : Meaning) (c : ℕ) →
-    ((depth : ℕ) (passed : List Passed) (memory : Memory) → (f depth passed memory).count ≤ c) → Covers (with_entry known name f) (with_entry costs name c)
+    ((depth : ℕ) (passed : List Passed) (memory : Memory) → (f depth passed memory).count ≤ c) →
+    Covers (with_entry known name f) (with_entry costs name c)
 covers-entry known costs h name f c le = record {
   same = λ asked. choice-same (bytes_eq name asked) (costs asked) (known asked) c f (h.same asked);
   covers = λ asked depth passed memory.
@@ -373,7 +404,8 @@ applied-le true f c rest n depth passed memory h r = h
 applied-le false f c rest n depth passed memory h r = r
 
 covers_at : (known : List (Text × Meaning)) (costs : List (Text × ℕ)) → Aligned known costs →
-    (name : Text) (depth : ℕ) (passed : List Passed) (memory : Memory) → (applied (found name known) depth passed memory).count ≤ unwrap_or (found name costs) 0
+    (name : Text) (depth : ℕ) (passed : List Passed) (memory : Memory) →
+    (applied (found name known) depth passed memory).count ≤ unwrap_or (found name costs) 0
 covers_at [] [] h name depth passed memory = omega arith
 covers_at (f ∷ known) (c ∷ costs) h name depth passed memory =
     let rest : (applied (found name known) depth passed memory).count ≤ unwrap_or (found name costs) 0 = covers_at known costs h.2 name depth passed memory in
@@ -383,7 +415,8 @@ covers_at [] (c ∷ costs) h name depth passed memory = absurd h
 covers_at (f ∷ known) [] h name depth passed memory = absurd h
 
 -- a function over earlier ones
-pub function-le : (known : Table Meaning) (costs : Costs) → Covers known costs → (function : CFunc) (depth : ℕ) (passed : List Passed) (memory : Memory) →
+pub function-le : (known : Table Meaning) (costs : Costs) → Covers known costs →
+    (function : CFunc) (depth : ℕ) (passed : List Passed) (memory : Memory) →
     (function_c known function depth passed memory).count ≤ cost_of_function costs function
 function-le known costs h function depth passed memory =
     body-le costs (record { known = known; depth = depth; pointers = table_of (pointers_of function.params passed) })

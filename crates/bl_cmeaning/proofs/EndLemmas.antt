@@ -1,5 +1,27 @@
 -- How statements of a well-formed file end.
-use Rattle.std.proofs.Common.{◌≡◌, ℕ, zero, suc, ◌+◌, ◌<◌, ℤ, pos, Bool, true, false, ◌&&◌, ◌||◌, List, [], ◌∷◌, ◌++◌, map, length, get_or, Option}
+use Rattle.std.proofs.Common.{
+  ◌≡◌,
+  ℕ,
+  zero,
+  suc,
+  ◌+◌,
+  ◌<◌,
+  ℤ,
+  pos,
+  Bool,
+  true,
+  false,
+  ◌&&◌,
+  ◌||◌,
+  List,
+  [],
+  ◌∷◌,
+  ◌++◌,
+  map,
+  length,
+  get_or,
+  Option,
+}
 use Rattle.std.proofs.Common.{Some, None, refl, sym, subst, ap, ◌∙◌, arith}
 use Rattle.std.specs.Prelude.{All, not, is_none, nat_lt, nat_le, if◌then◌else◌}
 use Rattle.std.specs.List.{list_all}
@@ -80,7 +102,8 @@ executed-stays : {A : Type 0} (memory : Memory) (evaluated : Counted A) (rest : 
     Stays (executed memory evaluated rest).end
 executed-stays memory evaluated rest h = ended_by-stays memory (1 + evaluated.count) evaluated.answer rest h
 
-following-leaves : (n : ℕ) (memory : Memory) (end : End) (rest : Memory → Outcome) → Leaves (rest memory).end → Leaves (following_end n memory end rest).end
+following-leaves : (n : ℕ) (memory : Memory) (end : End) (rest : Memory → Outcome) → Leaves (rest memory).end →
+    Leaves (following_end n memory end rest).end
 following-leaves n memory goes_on rest h = h
 following-leaves n memory breaks rest h = record { it = tt }
 following-leaves n memory (returns r) rest h = record { it = tt }
@@ -210,7 +233,8 @@ module _ (scope : Scope) where
   abbrev Keeps : CStmt → Type 0
   Keeps s = (context : Context) → faults_in_stmt s context false ≡ [] → (memory : Memory) → Stays (runs_c s scope memory).end
 
-  block-stays : (stmts : List CStmt) → All Keeps stmts → (context : Context) → block_faults (map faults_in_stmt stmts) context false ≡ [] → (memory : Memory) →
+  block-stays : (stmts : List CStmt) → All Keeps stmts → (context : Context) →
+      block_faults (map faults_in_stmt stmts) context false ≡ [] → (memory : Memory) →
       Stays (block_of (map runs_c stmts) scope memory).end
   block-stays [] h context none memory = record { it = tt }
   block-stays (s ∷ stmts) h context none memory =

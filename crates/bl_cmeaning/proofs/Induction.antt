@@ -41,7 +41,8 @@ module _ (A : CArg → Type 0) (K : CExprKind → Type 0) (C : CCall → Type 0)
     pub calling : (name : Text) (args : List CArg) → All A args → C (roll-CCall (record { name = name; args = args }))
     pub expr : (place : Place) (what : CExprKind) → K what → E (roll-CExpr (record { place = place; what = what }))
     pub index : (signed : Bool) (at : CExpr) (length : ℕ) → E at → I (roll-CIndex (record { signed = signed; at = at; length = length }))
-    pub place : (through : Bool) (name : Text) (steps : List CStep) → All S steps → P (roll-CPlace (record { through = through; name = name; steps = steps }))
+    pub place : (through : Bool) (name : Text) (steps : List CStep) → All S steps →
+        P (roll-CPlace (record { through = through; name = name; steps = steps }))
     pub step : (member : Text) (index : Option CIndex) → Optional I index → S (roll-CStep (record { member = member; index = index }))
 
   module _ (cases : ExprCases) where

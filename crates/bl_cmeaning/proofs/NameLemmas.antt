@@ -1,5 +1,27 @@
 -- Names of a list, one by one.
-use Rattle.std.proofs.Common.{◌≡◌, ℕ, suc, ◌+◌, ◌<◌, Bool, true, false, not, ◌&&◌, List, [], ◌∷◌, map, length, get_or, drop, Option, Some, None, max}
+use Rattle.std.proofs.Common.{
+  ◌≡◌,
+  ℕ,
+  suc,
+  ◌+◌,
+  ◌<◌,
+  Bool,
+  true,
+  false,
+  not,
+  ◌&&◌,
+  List,
+  [],
+  ◌∷◌,
+  map,
+  length,
+  get_or,
+  drop,
+  Option,
+  Some,
+  None,
+  max,
+}
 use Rattle.std.proofs.Common.{refl, ap, sym, subst, ◌∙◌, add-one, arith}
 use Rattle.std.specs.Prelude.{is_some, is_none}
 use Rattle.std.specs.Borrow.{Bor}
@@ -9,7 +31,7 @@ use Rattle.bl_cmeaning.proofs.ArgLemmas.{next_of}
 use Rattle.std.proofs.Math.Seq.{drop-cons}
 use Rattle.bl_tree.specs.declared.place.Place.{Place}
 use Rattle.bl_cmeaning.specs.Faults.{Fault, all_distinct, distinct_names, earlier_of, first_place, repeated, unless}
-use Rattle.bl_cmeaning.specs.Maps.{bytes_of, named}
+use Rattle.bl_cmeaning.specs.inner.Maps.{bytes_of, named}
 use Rattle.bl_cmeaning.specs.Tables.{Table, with_entry}
 use Rattle.bl_cmeaning.proofs.FirstLemmas.{earlier_of-assoc, first_place-append}
 use Rattle.bl_cmeaning.proofs.MapLemmas.{same_table}
@@ -23,7 +45,8 @@ and_assoc true b c = refl
 and_assoc false b c = refl
 
 pub differ-next : (seen more : Table (Unit {0})) (names : List (Bor (List ℕ))) (k : ℕ) (d : Bor (List ℕ)) (answer x : Bool) → k < length names →
-    ((asked : List ℕ) → more asked ≡ with_entry seen (get_or names k d).now tt asked) → (answer && all_distinct seen (bytes_of (drop k names))) ≡ x →
+    ((asked : List ℕ) → more asked ≡ with_entry seen (get_or names k d).now tt asked) →
+    (answer && all_distinct seen (bytes_of (drop k names))) ≡ x →
     ((answer && not (is_some (seen (get_or names k d).now))) && all_distinct more (bytes_of (drop (k + 1) names))) ≡ x
 differ-next seen more names k d answer x within add h =
     let name = (get_or names k d).now in
@@ -32,7 +55,8 @@ differ-next seen more names k d answer x within add h =
     ∙ and_assoc answer (not (is_some (seen name))) (all_distinct (with_entry seen name tt) rest)
     ∙ ap (λ xs. answer && all_distinct seen (bytes_of xs)) (sym (at_index names k d within)) ∙ h
 
-pub repeated-next : (seen more : Table (Unit {0})) (entries : List (Bor (List ℕ) × Place)) (k : ℕ) (d : Bor (List ℕ) × Place) (first x : Option Place) →
+pub repeated-next : (seen more : Table (Unit {0})) (entries : List (Bor (List ℕ) × Place)) (k : ℕ) (d : Bor (List ℕ) × Place)
+    (first x : Option Place) →
     k < length entries →
     ((asked : List ℕ) → more asked ≡ with_entry seen (get_or entries k d).0.now tt asked) →
     earlier_of first (first_place (repeated seen (named (drop k entries)))) ≡ x →

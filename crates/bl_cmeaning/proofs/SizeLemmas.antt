@@ -1,5 +1,28 @@
 -- Sums, products and tables of numbers, as far as 64 bits tell them.
-use Rattle.std.proofs.Common.{◌≡◌, ℕ, zero, suc, ◌+◌, ◌*◌, ◌-◌, ◌^◌, ◌<◌, ◌≤◌, Bool, true, false, min, max, List, [], ◌∷◌, map, length, get_or, drop}
+use Rattle.std.proofs.Common.{
+  ◌≡◌,
+  ℕ,
+  zero,
+  suc,
+  ◌+◌,
+  ◌*◌,
+  ◌-◌,
+  ◌^◌,
+  ◌<◌,
+  ◌≤◌,
+  Bool,
+  true,
+  false,
+  min,
+  max,
+  List,
+  [],
+  ◌∷◌,
+  map,
+  length,
+  get_or,
+  drop,
+}
 use Rattle.std.proofs.Common.{Option, Some, None, refl, ap, sym, subst, ◌∙◌, suc-mul, zero-mul, arith}
 use Rattle.std.specs.Prelude.{bytes_eq, option_map, unwrap_or, if◌then◌else◌}
 use Rattle.std.specs.Option.{option_or}
@@ -97,7 +120,8 @@ pub with-alike : (s t : Table ℕ) (name : Text) (v w : ℕ) → AlikeSaturated 
 with-alike s t name v w h e asked = alike-with (s asked) (t asked) (bytes_eq name asked) v w (h asked) e
 
 -- a table after an entry was added, whose number is told saturated
-added-alike : (old new : Table ℕ) (name : Text) (told n : ℕ) → told ≡ saturated n → ((asked : Text) → new asked ≡ with_entry old name told asked) →
+added-alike : (old new : Table ℕ) (name : Text) (told n : ℕ) → told ≡ saturated n →
+    ((asked : Text) → new asked ≡ with_entry old name told asked) →
     AlikeSaturated new (with_entry old name n)
 added-alike old new name told n e add asked =
     ap (option_map saturated) (add asked) ∙ with-alike old old name told n (λ a. refl) (ap saturated e ∙ twice n) asked
@@ -114,7 +138,8 @@ length-alike (Some n) a b e = product-alike n a b e
 
 struct-alike : (s t : Table ℕ) → AlikeSaturated s t → (c : CStruct) → saturated (size_of_struct s c) ≡ saturated (size_of_struct t c)
 struct-alike s t h c =
-    total-alike (size_of_member s) (size_of_member t) (λ m. length-alike m.length (size_of_type s m.ty) (size_of_type t m.ty) (type-alike s t h m.ty)) c.members
+    total-alike (size_of_member s) (size_of_member t) (λ m. length-alike m.length (size_of_type s m.ty) (size_of_type t m.ty)
+    (type-alike s t h m.ty)) c.members
 
 sizes-alike : (s t : Table ℕ) → AlikeSaturated s t → (rest : List CStruct) → AlikeSaturated (sizes_after s rest) (sizes_after t rest)
 sizes-alike s t h [] = h
@@ -145,7 +170,8 @@ own-alike s t h f =
     (sum-alike (total (map (λ l. size_of_type s l.ty) f.locals)) (total (map (λ l. size_of_type t l.ty) f.locals)) loops loops
     (total-alike (λ l. size_of_type s l.ty) (λ l. size_of_type t l.ty) (λ l. type-alike s t h l.ty) f.locals) refl)
 
-chain-alike : (s t e d : Table ℕ) → AlikeSaturated s t → AlikeSaturated e d → (f : CFunc) → saturated (chain_cells s e f) ≡ saturated (chain_cells t d f)
+chain-alike : (s t e d : Table ℕ) → AlikeSaturated s t → AlikeSaturated e d → (f : CFunc) →
+    saturated (chain_cells s e f) ≡ saturated (chain_cells t d f)
 chain-alike s t e d h i f =
     sum-alike (own_cells s f) (own_cells t f) (most e (calls_in_block f.body)) (most d (calls_in_block f.body)) (own-alike s t h f)
     (greatest-alike (entry_or 0 e) (entry_or 0 d) (entry-alike e d i) (calls_in_block f.body))
@@ -163,7 +189,8 @@ chains-alike s t e d h i (f ∷ rest) =
 abbrev pub Deepest : Table ℕ → Table ℕ → List CFunc → ℕ → ℕ → Type 0
 Deepest sizes earlier rest deepest all = (deepest < 2 ^ 64) × (saturated (max deepest (greatest (chains_after sizes earlier rest))) ≡ all)
 
-deeper : (deepest chain exact now later x : ℕ) → chain ≡ saturated exact → saturated now ≡ saturated later → saturated (max deepest (max exact later)) ≡ x →
+deeper : (deepest chain exact now later x : ℕ) → chain ≡ saturated exact → saturated now ≡ saturated later →
+    saturated (max deepest (max exact later)) ≡ x →
     saturated (max (max deepest chain) now) ≡ x
 deeper deepest chain exact now later x e same h = omega arith
 
@@ -184,11 +211,13 @@ chain-next sizes old new all rest f chain deepest more x is e told add h =
     bounded : (deepest chain exact more : ℕ) → deepest < 2 ^ 64 → chain ≡ saturated exact → more ≡ max deepest chain → more < 2 ^ 64
     bounded deepest chain exact more small e told = omega arith
 
-pub chain-done : (sizes earlier : Table ℕ) (funcs : List CFunc) (k deepest x : ℕ) → length funcs ≤ k → Deepest sizes earlier (drop k funcs) deepest x →
+pub chain-done : (sizes earlier : Table ℕ) (funcs : List CFunc) (k deepest x : ℕ) → length funcs ≤ k →
+    Deepest sizes earlier (drop k funcs) deepest x →
     deepest ≡ x
 chain-done sizes earlier funcs k deepest x past h =
     let small : deepest < 2 ^ 64 = h.0 in
-    let last : saturated (max deepest 0) ≡ x = subst (λ l. saturated (max deepest (greatest (chains_after sizes earlier l))) ≡ x) (drop_all k funcs past) h.1 in
+    let last : saturated (max deepest 0) ≡ x = subst (λ l. saturated (max deepest (greatest (chains_after sizes earlier l))) ≡ x)
+    (drop_all k funcs past) h.1 in
     omega arith
 
 -- ---- a file

@@ -3,7 +3,7 @@
 
 ghost use Rattle.std.specs.Prelude.{◌≡◌, ◌&&◌, codes, IfErr, IfOk, is_some, OnOk};
 ghost use Rattle.bl_cmeaning.specs.Cause.{IsCause};
-ghost use Rattle.bl_cmeaning.specs.Checked.{structs_of};
+ghost use Rattle.bl_cmeaning.specs.inner.Checked.{structs_of};
 ghost use Rattle.bl_cmeaning.specs.Faults.{WellFormed, first_fault};
 ghost use Rattle.bl_cmeaning.specs.Parts.{parts_from, parts_of};
 ghost use Rattle.bl_cmeaning.specs.Saturated.{saturated};

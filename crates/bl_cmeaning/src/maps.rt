@@ -2,7 +2,7 @@
 
 ghost use Rattle.std.specs.Prelude.{◌≡◌, is_some, List, OnOk, ℕ};
 ghost use Rattle.std.specs.Option.{option_or};
-ghost use Rattle.bl_cmeaning.specs.Maps.{named, text_at};
+ghost use Rattle.bl_cmeaning.specs.inner.Maps.{named, text_at};
 ghost use Rattle.bl_cmeaning.specs.Tables.{entry_or, found, with_entry};
 
 use bl_tree::NoMemory;

@@ -2,7 +2,7 @@
 
 ghost use Rattle.std.specs.Prelude.{◌≡◌, ℕ, List};
 ghost use Rattle.bl_cmeaning.specs.Builtin.{builtin_of};
-ghost use Rattle.bl_cmeaning.specs.Maps.{text_at};
+ghost use Rattle.bl_cmeaning.specs.inner.Maps.{text_at};
 
 use crate::maps;
 use bl_ctext::{BUILTINS, Builtin};

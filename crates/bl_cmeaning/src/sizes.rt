@@ -1,7 +1,7 @@
 //! How many scalars values of types and structs have.
 
 ghost use Rattle.std.specs.Prelude.{◌≡◌, IfOk};
-ghost use Rattle.bl_cmeaning.specs.Maps.{text_at};
+ghost use Rattle.bl_cmeaning.specs.inner.Maps.{text_at};
 ghost use Rattle.bl_cmeaning.specs.Saturated.{AlikeSaturated, saturated};
 ghost use Rattle.bl_cmeaning.specs.Sizes.{size_of_member, size_of_struct, size_of_type, sizes as sizes_of_structs};
 

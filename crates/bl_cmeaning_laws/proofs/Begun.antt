@@ -1,5 +1,28 @@
 -- The memory and the cells as a function begins to run.
-use Rattle.std.proofs.Common.{◌≡◌, ℕ, suc, ◌+◌, ◌≤◌, ◌<◌, inl, inr, ⊎_elim, ℤ, pos, Bool, true, false, ◌&&◌, ◌||◌, List, [], ◌∷◌, ◌++◌, map, length}
+use Rattle.std.proofs.Common.{
+  ◌≡◌,
+  ℕ,
+  suc,
+  ◌+◌,
+  ◌≤◌,
+  ◌<◌,
+  inl,
+  inr,
+  ⊎_elim,
+  ℤ,
+  pos,
+  Bool,
+  true,
+  false,
+  ◌&&◌,
+  ◌||◌,
+  List,
+  [],
+  ◌∷◌,
+  ◌++◌,
+  map,
+  length,
+}
 use Rattle.std.proofs.Common.{Option, Some, None, refl, ap, sym, subst, ◌∙◌, arith, length-set}
 use Rattle.std.specs.Prelude.{bytes_eq, ◌==◌, slice_set, if◌then◌else◌}
 use Rattle.std.specs.List.{list_all}
@@ -96,7 +119,8 @@ pub kept-first : (cells : Cells) (xs ys : List (ℕ × ℤ)) → Kept cells (xs 
 kept-first cells [] ys h = tt
 kept-first cells (x ∷ xs) ys h = (h.0, kept-first cells xs ys h.1)
 
-kept-low : (top : ℕ) (cells after : Cells) (ps : List (ℕ × ℤ)) → ((j : ℕ) → j < top → cell_at after j ≡ cell_at cells j) → Below top ps → Kept cells ps →
+kept-low : (top : ℕ) (cells after : Cells) (ps : List (ℕ × ℤ)) → ((j : ℕ) → j < top → cell_at after j ≡ cell_at cells j) →
+    Below top ps → Kept cells ps →
     Kept after ps
 kept-low top cells after [] same below h = tt
 kept-low top cells after (p ∷ ps) same below h = (same p.0 below.0 ∙ h.0, kept-low top cells after ps same below.1 h.1)
@@ -111,7 +135,8 @@ module _ (known : Sizes) (lists : Lists) (structs : Structs) (shaped : Shaped kn
     (params : List CParam) (locals : List CLocal)
     (separate : Separate known w) (shallow : Shallow known lists structs shaped limit depth w) (under : w.top ≤ base)
     (room : base + sum_of (variable_size known) (entries params locals) ≤ limit)
-    (apart : all_distinct no_entries (map (λ e. e.0) (entries params locals)) ≡ true) (single : list_all (λ p. p.pointer || is_scalar p.ty) params ≡ true) where
+    (apart : all_distinct no_entries (map (λ e. e.0) (entries params locals)) ≡ true)
+    (single : list_all (λ p. p.pointer || is_scalar p.ty) params ≡ true) where
   abbrev vars : List (Text × Variable)
   vars = entries params locals
 
@@ -165,7 +190,8 @@ module _ (known : Sizes) (lists : Lists) (structs : Structs) (shaped : Shaped kn
 
   -- ---- nothing has a cell in common with another
 
-  names-differ : (a b : Text) (root other : Root) → root ≡ variable depth a → other ≡ variable depth b → same_root root other ≡ false → bytes_eq a b ≡ false
+  names-differ : (a b : Text) (root other : Root) → root ≡ variable depth a → other ≡ variable depth b →
+      same_root root other ≡ false → bytes_eq a b ≡ false
   names-differ a b root other ia ib differ =
       chosen (bytes_eq a b) refl (ap (λ r. same_root (variable depth a) r) (sym ib) ∙ ap (λ r. same_root r other) (sym ia) ∙ differ)
     where
@@ -347,7 +373,8 @@ module _ (known : Sizes) (lists : Lists) (structs : Structs) (shaped : Shaped kn
       value-set (OfScalar kind) false it is h plain valued =
           let stand : (begun []).stand (variable depth p.name) ≡ Some (record { at = base + Offset p.name; ty = OfScalar kind }) =
           ap (λ b. if b then stand_of (found p.name vars) (base + Offset p.name) else w.stand (variable depth p.name)) (in-own-frame depth p.name)
-          ∙ ap (λ o. stand_of o (base + Offset p.name)) positions.0.0 ∙ ap (λ b. if b then None else Some (record { at = base + Offset p.name; ty = p.ty })) is
+          ∙ ap (λ o. stand_of o (base + Offset p.name)) positions.0.0
+          ∙ ap (λ b. if b then None else Some (record { at = base + Offset p.name; ty = p.ty })) is
           ∙ ap (λ t. Some (record { at = base + Offset p.name; ty = t })) it in
           let at = positions.0.1 in
           set-stands known lists structs shaped limit (begun []) (begun-separate [] tt (λ name s o. tt)) room memory cells stands
@@ -356,11 +383,13 @@ module _ (known : Sizes) (lists : Lists) (structs : Structs) (shaped : Shaped kn
 
   -- ---- pointers
 
-  chosen-cells : (P : List (ℕ × ℤ) → Type 0) (b : Bool) (xs ys : List (ℕ × ℤ)) → (b ≡ true → P xs) → (b ≡ false → P ys) → P (if b then xs else ys)
+  chosen-cells : (P : List (ℕ × ℤ) → Type 0) (b : Bool) (xs ys : List (ℕ × ℤ)) → (b ≡ true → P xs) → (b ≡ false → P ys) →
+      P (if b then xs else ys)
   chosen-cells P true xs ys h k = h refl
   chosen-cells P false xs ys h k = k refl
 
-  pointers-between : (ps : List CParam) (behind at : ℕ) (args : List ℤ) → at ≡ base + behind → list_all (λ p. p.pointer || is_scalar p.ty) ps ≡ true →
+  pointers-between : (ps : List CParam) (behind at : ℕ) (args : List ℤ) → at ≡ base + behind →
+      list_all (λ p. p.pointer || is_scalar p.ty) ps ≡ true →
       behind + sum_of (variable_size known) (entries ps locals) ≡ sum_of (variable_size known) vars →
       Between base (base + sum_of (variable_size known) vars) (pointer_cells at ps args)
   pointers-between [] behind at args is fit all = tt
@@ -372,7 +401,8 @@ module _ (known : Sizes) (lists : Lists) (structs : Structs) (shaped : Shaped kn
       chosen-cells (Between base (base + sum_of (variable_size known) vars)) p.pointer ((at, n) ∷ pointer_cells (suc at) ps ns) (pointer_cells (suc at) ps ns)
       (λ is-one. ((omega arith, omega arith), rest)) (λ none. rest)
 
-  pointers-clear : (ps : List CParam) (behind at : ℕ) (args : List ℤ) → at ≡ base + behind → Positioned (variable_size known) vars behind (entries ps locals) →
+  pointers-clear : (ps : List CParam) (behind at : ℕ) (args : List ℤ) → at ≡ base + behind →
+      Positioned (variable_size known) vars behind (entries ps locals) →
       list_all (λ p. p.pointer || is_scalar p.ty) ps ≡ true →
       (name : Text) (s : Stand) → Own name s → Away s.at (size_of_type known s.ty) (pointer_cells at ps args)
   pointers-clear [] behind at args is positions fit name s o = tt
@@ -409,7 +439,8 @@ module _ (known : Sizes) (lists : Lists) (structs : Structs) (shaped : Shaped kn
   args-few (p ∷ ps) (v ∷ vs) [] first fit all = absurd all
   args-few (p ∷ ps) (v ∷ vs) (n ∷ ns) first fit all =
       let one = param-one p (and-left (p.pointer || is_scalar p.ty) _ fit) in
-      let rest : length ns ≤ sum_of (variable_size known) (entries ps locals) = args-few ps vs ns first (and-right (p.pointer || is_scalar p.ty) _ fit) all.1 in
+      let rest : length ns ≤ sum_of (variable_size known) (entries ps locals) =
+      args-few ps vs ns first (and-right (p.pointer || is_scalar p.ty) _ fit) all.1 in
       omega arith
 
   -- ---- what the pointers lead to
@@ -434,8 +465,10 @@ module _ (known : Sizes) (lists : Lists) (structs : Structs) (shaped : Shaped kn
   rest-kept true c x xs h = h.1
   rest-kept false c x xs h = h
 
-  pointer-as : (ps : List CParam) (passed : List Passed) (args : List ℤ) (first : Memory) (at : ℕ) → list_all (λ p. p.pointer || is_scalar p.ty) ps ≡ true →
-      PassedAll known lists structs shaped limit w first (map (λ p. record { pointer = p.pointer; ty = p.ty }) ps) passed args → (name : Text) (v : Variable) →
+  pointer-as : (ps : List CParam) (passed : List Passed) (args : List ℤ) (first : Memory) (at : ℕ) →
+      list_all (λ p. p.pointer || is_scalar p.ty) ps ≡ true →
+      PassedAll known lists structs shaped limit w first (map (λ p. record { pointer = p.pointer; ty = p.ty }) ps) passed args →
+      (name : Text) (v : Variable) →
       found name (entries ps locals) ≡ Some v → v.pointer ≡ true →
       PointerAs v.ty (found name (pointers_of ps passed)) (pointer_cells at ps args) (at + offset_of (variable_size known) (entries ps locals) name)
   pointer-as [] [] [] first at fit all name v there is = absurd (let x : false ≡ true = sym (local-plain locals name v there) ∙ is in cc)
@@ -530,7 +563,8 @@ module _ (known : Sizes) (lists : Lists) (structs : Structs) (shaped : Shaped kn
       ap (λ b. if b then frame_stand known base vars (variable d name) else w.stand (variable d name)) outside ∙ shallow d name (omega arith)
 
   -- after the function its variables are gone
-  pub ended-stands : (pointers : List (ℕ × ℤ)) (memory : Memory) (cells : Cells) → Stands known lists structs shaped limit (begun pointers) memory cells →
+  pub ended-stands : (pointers : List (ℕ × ℤ)) (memory : Memory) (cells : Cells) →
+      Stands known lists structs shaped limit (begun pointers) memory cells →
       Stands known lists structs shaped limit w (without_frame depth memory) cells
   ended-stands pointers memory cells stands = record {
     room = stands.room;
@@ -583,7 +617,8 @@ module _ (known : Sizes) (lists : Lists) (structs : Structs) (shaped : Shaped kn
         }
 
     -- a variable of the function
-    pub variable-as : limit ≤ 1000000 → (name : Text) (v : Variable) (slots : Option Slot) → found name vars ≡ Some v → SlotFor slots v (Offset name) →
+    pub variable-as : limit ≤ 1000000 → (name : Text) (v : Variable) (slots : Option Slot) → found name vars ≡ Some v →
+        SlotFor slots v (Offset name) →
         VariableAs known lists structs shaped limit (begun pointers) depth base v (found name (pointers_of params passed)) name slots
     variable-as small name v slots there s = record {
       slot = s.slot;

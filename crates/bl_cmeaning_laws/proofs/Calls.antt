@@ -60,10 +60,12 @@ module _ (known : Sizes) (lists : Lists) (structs : Structs) (shaped : Shaped kn
   builtin-signed Turn s h = some_of s _ (sym h)
   builtin-signed Stop s h = cc
 
-  chosen-value : (b : Builtin) (ns : List ℤ) → is_typed b ≡ true → in_ranges (builtin_params b) ns ≡ true → prelude_value b ns ≡ builtin_value b ns
+  chosen-value : (b : Builtin) (ns : List ℤ) → is_typed b ≡ true → in_ranges (builtin_params b) ns ≡ true →
+      prelude_value b ns ≡ builtin_value b ns
   chosen-value b ns typed h = ap (λ x. if x then builtin_value b ns else None) (and-both (is_typed b) (in_ranges (builtin_params b) ns) typed h)
 
-  builtin-ranged : (name : Text) (b : Builtin) (ns : List ℤ) → builtin_of name ≡ Some b → in_ranges (builtin_params b) ns ≡ true → (result : Option Scalar) →
+  builtin-ranged : (name : Text) (b : Builtin) (ns : List ℤ) → builtin_of name ≡ Some b → in_ranges (builtin_params b) ns ≡ true →
+      (result : Option Scalar) →
       builtin_result b ≡ result →
       (answer : Option ℤ) → builtin_value b ns ≡ answer → Ranged known lists structs shaped limit result answer
   builtin-ranged name b ns is fits None r answer v = tt
@@ -109,7 +111,8 @@ module _ (known : Sizes) (lists : Lists) (structs : Structs) (shaped : Shaped kn
       (f.agrees.agree w (scope.depth + 1) (capped (base + ground.frame)) vs ns memory cells running.separate running.shallow (omega arith) (omega arith) stood
       all))
 
-  own-same : (name : Text) (s : Signature) (vs : List Passed) → context.functions name ≡ Some s → is_some s.result ≡ true → (root : Root) (t : Stand) →
+  own-same : (name : Text) (s : Signature) (vs : List Passed) → context.functions name ≡ Some s → is_some s.result ≡ true →
+      (root : Root) (t : Stand) →
       w.stand root ≡ Some t →
       (applied_c (scope.known name) (scope.depth + 1) vs memory).memory root ≡ memory root
   own-same name s vs is has root t there =
@@ -170,7 +173,8 @@ module _ (known : Sizes) (lists : Lists) (structs : Structs) (shaped : Shaped kn
     same = λ has root t at. refl;
   }
 
-  after-args : (name : Text) (signature : Option Signature) (js : List JudgedArg) (n k : ℕ) (cells : Cells) (a : Option (List Passed)) (b : Option (List ℤ)) →
+  after-args : (name : Text) (signature : Option Signature) (js : List JudgedArg) (n k : ℕ) (cells : Cells)
+      (a : Option (List Passed)) (b : Option (List ℤ)) →
       n ≡ k → Stood cells → Matches (Passing js) a b →
       is_some signature ≡ true →
       ((vs : List Passed) (ns : List ℤ) → Passing js vs ns → CallFacts signature (called_c scope name vs memory) (called ground name base ns cells)) →

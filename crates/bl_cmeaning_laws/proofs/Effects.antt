@@ -1,5 +1,28 @@
 -- What functions of a C text change.
-use Rattle.std.proofs.Common.{◌≡◌, ℕ, zero, suc, ◌+◌, Bool, true, false, not, ◌&&◌, ◌||◌, List, [], ◌∷◌, ◌++◌, map, Option, Some, None, refl, ap, sym}
+use Rattle.std.proofs.Common.{
+  ◌≡◌,
+  ℕ,
+  zero,
+  suc,
+  ◌+◌,
+  Bool,
+  true,
+  false,
+  not,
+  ◌&&◌,
+  ◌||◌,
+  List,
+  [],
+  ◌∷◌,
+  ◌++◌,
+  map,
+  Option,
+  Some,
+  None,
+  refl,
+  ap,
+  sym,
+}
 use Rattle.std.proofs.Common.{subst, ◌∙◌, arith}
 use Rattle.std.specs.Prelude.{All, is_some, is_none, unwrap_or, if◌then◌else◌}
 use Rattle.std.proofs.lemmas.List.Elements.{All-cons, All-head, All-nil, All-tail}
@@ -39,7 +62,8 @@ falsely true h = sym h
 
 -- ---- answers
 
-next-so : {A B : Type 0} (P : Option B → Type 0) (n : ℕ) (a : Option A) (f : A → Counted B) → P None → ((x : A) → a ≡ Some x → P (f x).answer) →
+next-so : {A B : Type 0} (P : Option B → Type 0) (n : ℕ) (a : Option A) (f : A → Counted B) → P None →
+    ((x : A) → a ≡ Some x → P (f x).answer) →
     P (going_on n a f).answer
 next-so P n None f none rest = none
 next-so P n (Some x) f none rest = rest x refl
@@ -72,7 +96,8 @@ module _ (safe : Root → Bool) where
 
   module _ (context : Context) (scope : Scope) (own : Ends safe scope.depth)
       (pointers : context.keeps ≡ false → (name : Text) (l : Location) → scope.pointers name ≡ Some l → safe l.root ≡ false)
-      (functions : (name : Text) (s : Signature) (meaning : Meaning) → context.functions name ≡ Some s → scope.known name ≡ Some meaning → Keeps meaning s)
+      (functions : (name : Text) (s : Signature) (meaning : Meaning) → context.functions name ≡ Some s →
+      scope.known name ≡ Some meaning → Keeps meaning s)
     where
       start-leads : (through : Bool) (name : Text) → (context.keeps && through) ≡ false → safe (start_of scope through name).root ≡ false
       start-leads false name h = own scope.depth name (omega arith)
@@ -82,7 +107,8 @@ module _ (safe : Root → Bool) where
           plain true h = cc
           plain false h = refl
 
-          chosen : (o : Option Location) → scope.pointers name ≡ o → safe (unwrap_or o (record { root = variable scope.depth name; parts = [] })).root ≡ false
+          chosen : (o : Option Location) → scope.pointers name ≡ o →
+              safe (unwrap_or o (record { root = variable scope.depth name; parts = [] })).root ≡ false
           chosen None is = own scope.depth name (omega arith)
           chosen (Some l) is = pointers (plain context.keeps h) name l is
 
@@ -90,7 +116,8 @@ module _ (safe : Root → Bool) where
       Nothing x = Unit {0}
 
       abbrev OfPlace : CPlace → Type 0
-      OfPlace p = (at : Place) → (context.keeps && (judged_place p context at).through) ≡ false → (memory : Memory) → Leads (location_c p scope memory).answer
+      OfPlace p = (at : Place) → (context.keeps && (judged_place p context at).through) ≡ false → (memory : Memory) →
+          Leads (location_c p scope memory).answer
 
       abbrev OfArg : CArg → Type 0
       OfArg a = (at : Place) → (context.keeps && ((judged_arg a context at).address && (judged_arg a context at).through)) ≡ false → (memory : Memory) →
@@ -143,7 +170,8 @@ module _ (safe : Root → Bool) where
           both (by_value v) others h k = k
           both (by_address l) others h k = (h, k)
 
-      called-stays : (name : Text) (s : Signature) (passed : List Passed) (memory : Memory) (b : Option Builtin) (o : Option Meaning) → scope.known name ≡ o →
+      called-stays : (name : Text) (s : Signature) (passed : List Passed) (memory : Memory) (b : Option Builtin)
+          (o : Option Meaning) → scope.known name ≡ o →
           builtin_of name ≡ b → (b ≡ None → context.functions name ≡ Some s) →
           (is_some s.result ≡ false → Unsafe safe passed) → Stays memory (called_as b o (scope.depth + 1) passed memory).memory
       called-stays name s passed memory (Some b) o known is own-is handed root safe-root = refl
@@ -251,7 +279,8 @@ module _ (safe : Root → Bool) where
       turn-end-stays first n memory (returns v) again h k = h
       turn-end-stays first n memory traps again h k = h
 
-      turn-stays : (b : Bool) (memory : Memory) (turn : Memory → Outcome) → Stays memory (turn memory).memory → Stays memory (turn_or_none b memory turn).memory
+      turn-stays : (b : Bool) (memory : Memory) (turn : Memory → Outcome) → Stays memory (turn memory).memory →
+          Stays memory (turn_or_none b memory turn).memory
       turn-stays true memory turn h = h
       turn-stays false memory turn h = itself memory
 
@@ -293,7 +322,8 @@ module _ (safe : Root → Bool) where
           some_memory : (a b : Memory) → Some a ≡ Some b → a ≡ b
           some_memory a b h = cc
 
-      set-so : (memory : Memory) (n : ℕ) (o : Option Location) (v : Counted CValue) (after : Memory) → ((l : Location) → o ≡ Some l → safe l.root ≡ false) →
+      set-so : (memory : Memory) (n : ℕ) (o : Option Location) (v : Counted CValue) (after : Memory) →
+          ((l : Location) → o ≡ Some l → safe l.root ≡ false) →
           (going_on n o (λ l. next v (λ x. given (Some (set_at memory l x))))).answer ≡ Some after → Stays memory after
       set-so memory n None v after unsafe h = cc
       set-so memory n (Some l) v after unsafe h = written-so memory l v.count v.answer after (unsafe l refl) h
@@ -309,7 +339,8 @@ module _ (safe : Root → Bool) where
           let h2 = nil-right (judged_expr e context).faults _ h1 in
           let quiet = unless-nil (not (context.keeps && (judged_place p context at).through)) changes_nothing at
           (nil-right (unless (agree (judged_place p context at).ty (judged_expr e context).ty) assigned_type at) _ h2) in
-          ended-stays memory memory (1 + (next (location_c p scope memory) (λ l. next (value_c e scope memory) (λ v. given (Some (set_at memory l v))))).count)
+          ended-stays memory memory (1 + (next (location_c p scope memory)
+          (λ l. next (value_c e scope memory) (λ v. given (Some (set_at memory l v))))).count)
           (next (location_c p scope memory) (λ l. next (value_c e scope memory) (λ v. given (Some (set_at memory l v))))).answer going (itself memory)
           (λ after is. set-so memory (location_c p scope memory).count (location_c p scope memory).answer (value_c e scope memory) after
           (λ l at-l. place-unsafe p at quiet memory l at-l) is)
@@ -334,7 +365,8 @@ module _ (safe : Root → Bool) where
       choose-stays true f g memory h k = h
       choose-stays false f g memory h k = k
 
-      if-stays : (e : CExpr) (block other : Runs) (memory : Memory) → Stays memory (block scope memory).memory → Stays memory (other scope memory).memory →
+      if-stays : (e : CExpr) (block other : Runs) (memory : Memory) → Stays memory (block scope memory).memory →
+          Stays memory (other scope memory).memory →
           Stays memory (executed memory (value_c e scope memory) (λ v. (if is_one (number_in v) then block else other) scope memory)).memory
       if-stays e block other memory h k =
           ended-stays memory memory (1 + (value_c e scope memory).count) (value_c e scope memory).answer

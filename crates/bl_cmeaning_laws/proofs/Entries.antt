@@ -1,5 +1,27 @@
 -- Things with names, one behind the other: how many cells stand before each.
-use Rattle.std.proofs.Common.{◌≡◌, ℕ, ◌+◌, ◌≤◌, ◌⊎◌, inl, inr, ⊎_elim, Bool, true, false, List, [], ◌∷◌, map, Option, Some, None, refl, ap, sym}
+use Rattle.std.proofs.Common.{
+  ◌≡◌,
+  ℕ,
+  ◌+◌,
+  ◌≤◌,
+  ◌⊎◌,
+  inl,
+  inr,
+  ⊎_elim,
+  Bool,
+  true,
+  false,
+  List,
+  [],
+  ◌∷◌,
+  map,
+  Option,
+  Some,
+  None,
+  refl,
+  ap,
+  sym,
+}
 use Rattle.std.proofs.Common.{subst, ◌∙◌, arith}
 use Rattle.std.specs.Prelude.{bytes_eq, is_some, is_none, option_map, if◌then◌else◌}
 use Rattle.std.specs.Option.{option_or}
@@ -29,7 +51,8 @@ some_of a b h = cc
 pub same-name : (a b c : Text) → bytes_eq a b ≡ true → bytes_eq a c ≡ true → bytes_eq b c ≡ true
 same-name a b c h k = (bytes_eq-Decides b c).1 (sym ((bytes_eq-Decides a b).0 h) ∙ (bytes_eq-Decides a c).0 k)
 
-made-either : {B C : Type 0} (h : B → C) (b : Bool) (v : B) (o : Option B) → (if b then Some (h v) else option_map h o) ≡ option_map h (if b then Some v else o)
+made-either : {B C : Type 0} (h : B → C) (b : Bool) (v : B) (o : Option B) →
+    (if b then Some (h v) else option_map h o) ≡ option_map h (if b then Some v else o)
 made-either h true v o = refl
 made-either h false v o = refl
 
@@ -42,7 +65,8 @@ found-made f g h (x ∷ xs) name =
     ∙ made-either h (bytes_eq (f x) name) (g x) (found name (map (λ y. (f y, g y)) xs))
 
 module _ {A : Type 0} (size : A → ℕ) where
-  choose-offset : (b : Bool) (x a : A) (rest : Option A) (later all : ℕ) → (if b then Some x else rest) ≡ Some a → (rest ≡ Some a → later + size a ≤ all) →
+  choose-offset : (b : Bool) (x a : A) (rest : Option A) (later all : ℕ) → (if b then Some x else rest) ≡ Some a →
+      (rest ≡ Some a → later + size a ≤ all) →
       (if b then 0 else size x + later) + size a ≤ size x + all
   choose-offset true x a rest later all is h = let e : size x ≡ size a = ap size (some_of x a is) in omega arith
   choose-offset false x a rest later all is h = let l : later + size a ≤ all = h is in omega arith
@@ -96,13 +120,15 @@ module _ {A : Type 0} (size : A → ℕ) where
   not-both (Some u) h k = let x : false ≡ true = k in cc
   not-both None h k = let x : false ≡ true = h in cc
 
-  other : (names : Table (Unit {0})) (name asked : Text) → is_some (names name) ≡ true → is_none (names asked) ≡ true → (b : Bool) → bytes_eq name asked ≡ b →
+  other : (names : Table (Unit {0})) (name asked : Text) → is_some (names name) ≡ true → is_none (names asked) ≡ true → (b : Bool) →
+      bytes_eq name asked ≡ b →
       b ≡ false
   other names name asked there absent false is = refl
   other names name asked there absent true is =
       absurd (not-both (names asked) (subst (λ n. is_some (names n) ≡ true) ((bytes_eq-Decides name asked).0 is) there) absent)
 
-  others : (names : Table (Unit {0})) (name : Text) → is_some (names name) ≡ true → (es : List (Text × A)) → all_distinct names (map (λ e. e.0) es) ≡ true →
+  others : (names : Table (Unit {0})) (name : Text) → is_some (names name) ≡ true → (es : List (Text × A)) →
+      all_distinct names (map (λ e. e.0) es) ≡ true →
       Others name es
   others names name there [] apart = tt
   others names name there (e ∷ es) apart = (

@@ -1,5 +1,28 @@
 -- Numbers of objects in cells, and calls of a file's functions from outside.
-use Rattle.std.proofs.Common.{◌≡◌, ℕ, suc, ◌+◌, ◌≤◌, ◌<◌, inl, inr, ⊎_elim, ℤ, pos, Bool, true, false, ◌&&◌, List, [], ◌∷◌, ◌++◌, map, length, take}
+use Rattle.std.proofs.Common.{
+  ◌≡◌,
+  ℕ,
+  suc,
+  ◌+◌,
+  ◌≤◌,
+  ◌<◌,
+  inl,
+  inr,
+  ⊎_elim,
+  ℤ,
+  pos,
+  Bool,
+  true,
+  false,
+  ◌&&◌,
+  List,
+  [],
+  ◌∷◌,
+  ◌++◌,
+  map,
+  length,
+  take,
+}
 use Rattle.std.proofs.Common.{drop, Option, Some, None, refl, ap, sym, subst, ◌∙◌, arith, append-nil, append_assoc, length-append, drop-cons}
 use Rattle.std.proofs.Common.{get_or-append-add}
 use Rattle.std.specs.Prelude.{bytes_eq, is_some, codes, ◌==◌}
@@ -52,7 +75,8 @@ begins-append cells at (x ∷ xs) ys h k =
     let e : at + suc (length xs) ≡ suc at + length xs = omega arith in
     (h.0, begins-append cells (suc at) xs ys h.1 (subst (λ n. Begins cells n ys) e k))
 
-pub begins-taken : (cells : Cells) (at : ℕ) (ns : List ℤ) → at + length ns ≤ length cells → Begins cells at ns → take (length ns) (drop at cells) ≡ ns
+pub begins-taken : (cells : Cells) (at : ℕ) (ns : List ℤ) → at + length ns ≤ length cells → Begins cells at ns →
+    take (length ns) (drop at cells) ≡ ns
 begins-taken cells at [] fits h = refl
 begins-taken cells at (n ∷ ns) fits h =
     ap (take (suc (length ns))) (drop-cons cells at (pos 0) (omega arith)) ∙ ap (λ x. x ∷ take (length ns) (drop (suc at) cells)) h.0
@@ -76,7 +100,8 @@ numbers-length [] memory = refl
 numbers-length (c ∷ cells) memory = ap suc (numbers-length cells memory)
 
 -- numbers that stand in a list, seen as a value in cells
-value-in : (root : Root) (memory : Memory) (before : List ℤ) (is : List Inner) (rest : List ℤ) → list_all (cell_holds memory) (cells_at root is) ≡ true →
+value-in : (root : Root) (memory : Memory) (before : List ℤ) (is : List Inner) (rest : List ℤ) →
+    list_all (cell_holds memory) (cells_at root is) ≡ true →
     ValueIn (before ++ (numbers_of (cells_at root is) memory ++ rest)) (length before) (memory root) is
 value-in root memory before [] rest all = tt
 value-in root memory before (i ∷ is) rest all =
@@ -164,7 +189,8 @@ module _ (file : Parts) (formed : WellFormed file) where
 
   found-in : (spot : Spot) (base at : ℕ) (is : List Inner) (cells : Cells) (value : CValue) (parts : List Part) (kind : Scalar) → Leads spot at is →
       ValueIn cells (base + at) value is →
-      walk (struct_table file.structs) (Some spot) parts ≡ Some (whole (OfScalar kind)) → at ≤ Offset spot parts → Offset spot parts < at + length is →
+      walk (struct_table file.structs) (Some spot) parts ≡ Some (whole (OfScalar kind)) → at ≤ Offset spot parts →
+      Offset spot parts < at + length is →
       (cell_at cells (base + Offset spot parts) ≡ value parts) × (in_range kind (value parts) ≡ true)
   found-in spot base at [] cells value parts kind led here leads low high = absurd (omega arith)
   found-in spot base at (i ∷ is) cells value parts kind led here leads low high =
@@ -272,7 +298,8 @@ module _ (file : Parts) (formed : WellFormed file) where
         found-in (whole (OfStruct name)) at 0 (inner_of file.structs name) cells (memory root) parts kind typed.led
         (subst (λ n. ValueIn cells n (memory root) (inner_of file.structs name)) z here) leads (omega arith) (omega arith)
 
-    objects-stand : (memory : Memory) (cells : Cells) → cells_needed file ≤ length cells → ValueIn cells 0 (memory state_object) (inners (codes "bl_state")) →
+    objects-stand : (memory : Memory) (cells : Cells) → cells_needed file ≤ length cells →
+        ValueIn cells 0 (memory state_object) (inners (codes "bl_state")) →
         ValueIn cells (input_at file) (memory input_object) (inners (codes "bl_in")) →
         ValueIn cells (output_at file) (memory output_object) (inners (codes "bl_out")) → Standing memory cells
     objects-stand memory cells room a b c = record {
@@ -310,7 +337,8 @@ module _ (file : Parts) (formed : WellFormed file) where
     input-long = state-typed.long
 
     output-long : length (inners (codes "bl_state")) + length (inners (codes "bl_in")) ≡ output_at file
-    output-long = let a = input-long in let b : length (inner_of file.structs (codes "bl_in")) ≡ cells_in file (codes "bl_in") = input-typed.long in omega arith
+    output-long = let a = input-long in let b : length (inner_of file.structs (codes "bl_in")) ≡ cells_in file (codes "bl_in") =
+        input-typed.long in omega arith
 
     pub begins-standing : (memory : Memory) (others : List ℤ) → list_all (cell_holds memory) (cells_of file) ≡ true →
         cells_needed file ≤ length (numbers_of (cells_of file) memory ++ others) →
@@ -397,7 +425,8 @@ module _ (file : Parts) (formed : WellFormed file) where
         let counted : length ((first ++ second) ++ third) ≡ length ((numbers_of first memory ++ numbers_of second memory) ++ numbers_of third memory) =
         sym (numbers-length ((first ++ second) ++ third) memory) ∙ ap length numbers in (
           ap (λ n. take n cells) counted
-              ∙ begins-taken cells 0 ((numbers_of first memory ++ numbers_of second memory) ++ numbers_of third memory) (omega arith) all-three ∙ sym numbers,
+              ∙ begins-taken cells 0 ((numbers_of first memory ++ numbers_of second memory) ++ numbers_of third memory)
+              (omega arith) all-three ∙ sym numbers,
           all-append (cell_holds memory) (first ++ second) third ∙ and-both _ _ (all-append (cell_holds memory) first second ∙ and-both _ _ a.1 b.1) c.1,
         )
 
@@ -462,7 +491,8 @@ module _ (file : Parts) (formed : WellFormed file) where
           record { count = agree.count; answer = agree.answer; cells = ended.0; room = agree.stands.room; fits = ended.1 }
 
       -- the address of an object
-      object-passed : (root : Root) (s : Stand) (struct name : Text) (p : CParam) (memory : Memory) → stand_of_object root ≡ Some s → s.ty ≡ OfStruct struct →
+      object-passed : (root : Root) (s : Stand) (struct name : Text) (p : CParam) (memory : Memory) →
+          stand_of_object root ≡ Some s → s.ty ≡ OfStruct struct →
           points_to struct name p ≡ true →
           (p.pointer ≡ true) × AddressAt (sizes file.structs) (lists_of file.structs) (struct_table file.structs) shaped (cells_needed file) objects
           (Some p.ty) (record { root = root; parts = [] }) (pos s.at)

@@ -59,7 +59,8 @@ module _ (known : Sizes) (lists : Lists) (structs : Structs) (shaped : Shaped kn
       Agree R (given a) (left cells b)
   at-once R cells a b stands h = record { count = refl; stands = stands; answer = h }
 
-  going-agrees : {A B C D : Type 0} (R : A → B → Type 0) (Q : C → D → Type 0) (n k : ℕ) (cells : Cells) (a : Option A) (b : Option B) (f : A → Counted C)
+  going-agrees : {A B C D : Type 0} (R : A → B → Type 0) (Q : C → D → Type 0) (n k : ℕ) (cells : Cells) (a : Option A)
+      (b : Option B) (f : A → Counted C)
       (g : Cells → B → Left D) →
       n ≡ k → Stood cells → Matches R a b → ((x : A) (y : B) (c : Cells) → R x y → Stood c → Agree Q (f x) (g c y)) →
       Agree Q (going_on_c n a f) (going_on cells k b g)
@@ -71,7 +72,8 @@ module _ (known : Sizes) (lists : Lists) (structs : Structs) (shaped : Shaped kn
       let e = r.count in
       record { count = omega arith; stands = r.stands; answer = r.answer }
 
-  pub next-agrees : {A B C D : Type 0} (R : A → B → Type 0) (Q : C → D → Type 0) (c : Counted A) (l : Left B) (f : A → Counted C) (g : Cells → B → Left D) →
+  pub next-agrees : {A B C D : Type 0} (R : A → B → Type 0) (Q : C → D → Type 0) (c : Counted A) (l : Left B) (f : A → Counted C)
+      (g : Cells → B → Left D) →
       Agree R c l → ((x : A) (y : B) (cells : Cells) → R x y → Stood cells → Agree Q (f x) (g cells y)) → Agree Q (next_c c f) (next l g)
   next-agrees R Q c l f g h rest = going-agrees R Q c.count l.count l.cells c.answer l.answer f g h.count h.stands h.answer rest
 

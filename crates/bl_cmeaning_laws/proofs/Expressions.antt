@@ -1,5 +1,28 @@
 -- Expressions in a C text and over numbered cells.
-use Rattle.std.proofs.Common.{◌≡◌, ℕ, ◌+◌, ◌≤◌, ℤ, pos, Bool, true, false, not, ◌&&◌, List, [], ◌∷◌, ◌++◌, map, Option, Some, None, refl, ap, sym}
+use Rattle.std.proofs.Common.{
+  ◌≡◌,
+  ℕ,
+  ◌+◌,
+  ◌≤◌,
+  ℤ,
+  pos,
+  Bool,
+  true,
+  false,
+  not,
+  ◌&&◌,
+  List,
+  [],
+  ◌∷◌,
+  ◌++◌,
+  map,
+  Option,
+  Some,
+  None,
+  refl,
+  ap,
+  sym,
+}
 use Rattle.std.proofs.Common.{subst, ◌∙◌, arith}
 use Rattle.std.specs.Prelude.{All, option_map, is_some, is_none, int_le, int_lt, if◌then◌else◌}
 use Rattle.std.specs.Ordering.{int_eq}
@@ -91,11 +114,13 @@ module _ (known : Sizes) (lists : Lists) (structs : Structs) (shaped : Shaped kn
       Alike (Passing (judged_arg a context at)) (arg_c a scope memory) (arg_flat a ground base cells)
 
   abbrev OfKind : CExprKind → Type 0
-  OfKind k = (at : Place) → (judged_kind k context at).faults ≡ [] → Room (calls_in_kind k) → spells_kind k ≡ true → (cells : Cells) → Stood cells →
+  OfKind k = (at : Place) → (judged_kind k context at).faults ≡ [] → Room (calls_in_kind k) → spells_kind k ≡ true →
+      (cells : Cells) → Stood cells →
       Alike (Value (judged_kind k context at).ty) (kind_c k scope memory) (kind_flat k ground base cells)
 
   abbrev OfCall : CCall → Type 0
-  OfCall c = (at : Place) → (judged_call c context at).faults ≡ [] → Room (calls_in_call c) → spells_call c ≡ true → (cells : Cells) → Stood cells →
+  OfCall c = (at : Place) → (judged_call c context at).faults ≡ [] → Room (calls_in_call c) → spells_call c ≡ true →
+      (cells : Cells) → Stood cells →
       CallFacts known lists structs shaped limit context scope ground chains base w running memory (judged_call c context at).signature (call_c c scope memory)
       (call_flat c ground base cells)
 
@@ -124,7 +149,8 @@ module _ (known : Sizes) (lists : Lists) (structs : Structs) (shaped : Shaped kn
       Located known lists structs shaped limit w typed l k
   located typed goal l k is placed = subst (λ o. Located known lists structs shaped limit w o l k) (sym is) placed
 
-  address-case : (p : CPlace) → OfPlace p → (at : Place) → (judged_place p context at).faults ≡ [] → Room (calls_in_place p) → spells_place p ≡ true →
+  address-case : (p : CPlace) → OfPlace p → (at : Place) → (judged_place p context at).faults ≡ [] → Room (calls_in_place p) →
+      spells_place p ≡ true →
       (cells : Cells) → Stood cells →
       Alike (Passing (record
       { address = true; through = (judged_place p context at).through; ty = (judged_place p context at).ty; faults = (judged_place p context at).faults }))
@@ -149,7 +175,8 @@ module _ (known : Sizes) (lists : Lists) (structs : Structs) (shaped : Shaped kn
             (refl, record { k = k; from = refl; placed = located (judged_place p context at).ty f.goal l k f.is placed });
       })
 
-  value-case : (e : CExpr) → OfExpr e → (judged_expr e context).faults ≡ [] → Room (calls_in e) → spells_expr e ≡ true → (cells : Cells) → Stood cells →
+  value-case : (e : CExpr) → OfExpr e → (judged_expr e context).faults ≡ [] → Room (calls_in e) → spells_expr e ≡ true →
+      (cells : Cells) → Stood cells →
       Alike (Passing (record { address = false; through = false; ty = (judged_expr e context).ty; faults = (judged_expr e context).faults }))
       (next_c (value_c e scope memory) (λ v. given (Some (by_value v)))) (value_flat e ground base cells)
   value-case e h none room spelled cells stood =
@@ -172,7 +199,8 @@ module _ (known : Sizes) (lists : Lists) (structs : Structs) (shaped : Shaped kn
           (sym e, ap (in_range kind) e ∙ range-part known lists structs shaped limit w memory cells stood l (OfScalar kind) k p [] kind refl)
       chosen (OfStruct name) p = record { place = l; k = k; from = refl; placed = p; is = refl }
 
-  read-case : (p : CPlace) → OfPlace p → (at : Place) → (judged_place p context at).faults ≡ [] → Room (calls_in_place p) → spells_place p ≡ true →
+  read-case : (p : CPlace) → OfPlace p → (at : Place) → (judged_place p context at).faults ≡ [] → Room (calls_in_place p) →
+      spells_place p ≡ true →
       (cells : Cells) → Stood cells →
       Alike (Value (judged_place p context at).ty) (next_c (location_c p scope memory) (λ l. given (Some (value_at memory l))))
       (next (address_of (reach_flat p ground) base cells) (λ after k. left after (Some (read_at (reach_flat p ground).ty after k))))
@@ -298,7 +326,8 @@ module _ (known : Sizes) (lists : Lists) (structs : Structs) (shaped : Shaped kn
       both (Some v) None m = absurd m
       both (Some v) (Some n) m = value-typed known lists structs shaped limit w memory t bool_type v n typed m
 
-  two-agree : (op : Op) (s t : Option CType) (a b : EvaluatesC CValue) (f g : Evaluates ℤ) → is_c_operator op ≡ true → if_typed s (takes op) ≡ true →
+  two-agree : (op : Op) (s t : Option CType) (a b : EvaluatesC CValue) (f g : Evaluates ℤ) → is_c_operator op ≡ true →
+      if_typed s (takes op) ≡ true →
       if_typed t (takes op) ≡ true → (cells : Cells) →
       Alike (Value s) (a scope memory) (f base cells) → ((after : Cells) → Stood after → Alike (Value t) (b scope memory) (g base after)) →
       Alike (Value (Some bool_type)) (two_values_c op a b scope memory) (two_values op f g base cells)
@@ -340,7 +369,8 @@ module _ (known : Sizes) (lists : Lists) (structs : Structs) (shaped : Shaped kn
 
   -- ---- lists of arguments and steps
 
-  args-agree : (args : List CArg) → All OfArg args → (at : Place) → joined (map (λ a. a.faults) (map (λ judge. judge context at) (map judged_arg args))) ≡ [] →
+  args-agree : (args : List CArg) → All OfArg args → (at : Place) →
+      joined (map (λ a. a.faults) (map (λ judge. judge context at) (map judged_arg args))) ≡ [] →
       Room (joined (map calls_in_arg args)) → all_of (map spells_arg args) ≡ true → (cells : Cells) → Stood cells →
       Alike (PassedList known lists structs shaped limit w memory (map (λ judge. judge context at) (map judged_arg args)))
       (each_of_c (map arg_c args) scope memory) (each_of (map (λ arg. arg ground) (map arg_flat args)) base cells)
@@ -361,7 +391,8 @@ module _ (known : Sizes) (lists : Lists) (structs : Structs) (shaped : Shaped kn
       (and-right (spells_arg a) _ spelled) after there)
       (λ vs ns last rest stays. record { count = refl; stands = stays; answer = (passes, rest) }))
 
-  steps-agree : (steps : List CStep) → All OfStep steps → (at : Place) (ty : CType) → (judge_steps (map judged_step steps) context at (Some ty)).faults ≡ [] →
+  steps-agree : (steps : List CStep) → All OfStep steps → (at : Place) (ty : CType) →
+      (judge_steps (map judged_step steps) context at (Some ty)).faults ≡ [] →
       Room (joined (map calls_in_step steps)) → all_of (map spells_step steps) ≡ true →
       StepsFacts known lists structs shaped limit context scope ground chains base w running memory ty
       (judge_steps (map judged_step steps) context at (Some ty)).ty (each_of_c (map step_c steps)) (map step_flat steps)
@@ -456,7 +487,8 @@ module _ (known : Sizes) (lists : Lists) (structs : Structs) (shaped : Shaped kn
       (map step_flat steps)
       (λ o. (judge_steps (map judged_step steps) context at o).ty) (nil-left _ _ none)
       (λ ty is. steps-agree steps h at ty
-      (ap (λ o. (judge_steps (map judged_step steps) context at o).faults) (sym is) ∙ nil-right (judge_root (context.variables name) through at).faults _ none)
+      (ap (λ o. (judge_steps (map judged_step steps) context at o).faults) (sym is)
+      ∙ nil-right (judge_root (context.variables name) through at).faults _ none)
       room spelled)
 
   step-case : (name : Text) (i : Option CIndex) → Optional OfIndex i → OfStep (roll-CStep (record { member = name; index = i }))

@@ -1,5 +1,27 @@
 -- The functions of a well-formed file in a C text and over numbered cells.
-use Rattle.std.proofs.Common.{◌≡◌, ℕ, suc, ◌-◌, ◌≤◌, Bool, true, false, ◌&&◌, List, [], ◌∷◌, ◌++◌, map, length, drop, Option, Some, None, refl, ap}
+use Rattle.std.proofs.Common.{
+  ◌≡◌,
+  ℕ,
+  suc,
+  ◌-◌,
+  ◌≤◌,
+  Bool,
+  true,
+  false,
+  ◌&&◌,
+  List,
+  [],
+  ◌∷◌,
+  ◌++◌,
+  map,
+  length,
+  drop,
+  Option,
+  Some,
+  None,
+  refl,
+  ap,
+}
 use Rattle.std.proofs.Common.{sym, subst, ◌∙◌, arith}
 use Rattle.std.specs.Prelude.{unwrap_or, bytes_eq, is_some, is_none, nat_lt, codes, if◌then◌else◌}
 use Rattle.std.specs.Option.{option_or}
@@ -104,7 +126,8 @@ not-tick structs functions depths f g fs none last = chosen (bytes_eq f.name (co
 
 -- ---- all functions
 
-module _ (file : Parts) (shaped : Shaped (sizes file.structs) (lists_of file.structs) (struct_table file.structs)) (limit : ℕ) (small : limit ≤ 1000000) where
+module _ (file : Parts) (shaped : Shaped (sizes file.structs) (lists_of file.structs) (struct_table file.structs)) (limit : ℕ)
+    (small : limit ≤ 1000000) where
   abbrev Knows : Table Signature → Table Meaning → Table Routine → Table ℕ → Type 0
   Knows = FunctionsAs file shaped limit small
 
@@ -205,7 +228,8 @@ module _ (file : Parts) (shaped : Shaped (sizes file.structs) (lists_of file.str
     pub least : room ≤ greatest chains
     pub agrees : Agrees (sizes file.structs) (lists_of file.structs) (struct_table file.structs) shaped limit c flat (signature_in f) room
 
-  this-or : (b : Bool) (f g : CFunc) (o : Option CFunc) (m : Meaning) (r : Routine) (n : ℕ) (ms : Option Meaning) (rs : Option Routine) (chains : List ℕ) →
+  this-or : (b : Bool) (f g : CFunc) (o : Option CFunc) (m : Meaning) (r : Routine) (n : ℕ) (ms : Option Meaning)
+      (rs : Option Routine) (chains : List ℕ) →
       Agrees (sizes file.structs) (lists_of file.structs) (struct_table file.structs) shaped limit m r (signature_in f) n →
       (if b then Some f else o) ≡ Some g → (o ≡ Some g → FoundAs g ms rs chains) →
       FoundAs g (if b then Some m else ms) (if b then Some r else rs) (n ∷ chains)
@@ -260,7 +284,8 @@ module _ (file : Parts) (shaped : Shaped (sizes file.structs) (lists_of file.str
       (routine_flat (capped_sizes file.structs) (layouts file.structs) routines f) (chain_cells (sizes file.structs) chains f) agrees keeps)
       (knows-next functions meanings routines chains together knows f (function_c meanings f)
       (routine_flat (capped_sizes file.structs) (layouts file.structs) routines f) (chain_cells (sizes file.structs) chains f) agrees keeps)
-      (nil-right (faults_in_function (struct_table file.structs) functions depths (nat_lt (length (h ∷ fs)) 2) f) _ none) (and-right (spells_func f) _ spelled)
+      (nil-right (faults_in_function (struct_table file.structs) functions depths (nat_lt (length (h ∷ fs)) 2) f) _ none)
+      (and-right (spells_func f) _ spelled)
       last name g later)
 
 -- ---- the two functions that a file is called by
@@ -283,13 +308,15 @@ two-fewer f g h fs =
 not-nil : (x : Fault) (xs : List Fault) → x ∷ xs ≡ [] → ⊥
 not-nil x xs h = cc
 
-init-so : (b : Bool) (h k : Bool) (at other : Place) → (if b then unless h interface_functions at else unless k interface_functions other) ≡ [] → k ≡ false →
+init-so : (b : Bool) (h k : Bool) (at other : Place) →
+    (if b then unless h interface_functions at else unless k interface_functions other) ≡ [] → k ≡ false →
     b ≡ true
 init-so true h k at other none lacks = refl
 init-so false h true at other none lacks = cc
 init-so false h false at other none lacks = absurd (not-nil _ _ none)
 
-init-test : (b : Bool) (h k : Bool) (at other : Place) → (if b then unless h interface_functions at else unless k interface_functions other) ≡ [] → b ≡ true →
+init-test : (b : Bool) (h k : Bool) (at other : Place) →
+    (if b then unless h interface_functions at else unless k interface_functions other) ≡ [] → b ≡ true →
     h ≡ true
 init-test true h k at other none is = unless-nil h interface_functions at none
 init-test false h k at other none is = cc
@@ -306,7 +333,8 @@ interface-of structs functions depths (f ∷ g ∷ []) none faults =
     let named-init = init-so (bytes_eq f.name (codes "bl_init")) (is_none f.result && init_params f.params) false f.place g.place first refl in
     let test = init-test (bytes_eq f.name (codes "bl_init")) (is_none f.result && init_params f.params) false f.place g.place first named-init in
     let named-tick = and-left (bytes_eq g.name (codes "bl_tick")) _ second in
-    let other : bytes_eq f.name (codes "bl_tick") ≡ false = ap (λ n. bytes_eq n (codes "bl_tick")) ((bytes_eq-Decides f.name (codes "bl_init")).0 named-init) in
+    let other : bytes_eq f.name (codes "bl_tick") ≡ false =
+    ap (λ n. bytes_eq n (codes "bl_tick")) ((bytes_eq-Decides f.name (codes "bl_init")).0 named-init) in
     record {
       last = named-tick;
       init = f;
@@ -333,7 +361,8 @@ interface-of structs functions depths (f ∷ g ∷ h ∷ fs) none faults =
       tick-params = i.tick-params;
     }
   where
-    differs : function_faults_after structs (with_entry functions f.name (signature_in f)) (with_entry depths f.name (depth_of_function depths f)) (g ∷ h ∷ fs)
+    differs : function_faults_after structs (with_entry functions f.name (signature_in f))
+        (with_entry depths f.name (depth_of_function depths f)) (g ∷ h ∷ fs)
         ≡ [] → (name : Text) (x : CFunc) →
         found name (named (g ∷ h ∷ fs)) ≡ Some x → (b : Bool) → bytes_eq f.name name ≡ b → b ≡ false
     differs later name x there false is = refl

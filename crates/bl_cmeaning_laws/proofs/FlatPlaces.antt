@@ -1,5 +1,28 @@
 -- Places in a C text and over numbered cells.
-use Rattle.std.proofs.Common.{◌≡◌, ℕ, zero, suc, ◌+◌, ◌*◌, ◌≤◌, ◌<◌, ℤ, pos, negsuc, Bool, true, false, not, ◌&&◌, List, [], ◌∷◌, ◌++◌, Option, Some}
+use Rattle.std.proofs.Common.{
+  ◌≡◌,
+  ℕ,
+  zero,
+  suc,
+  ◌+◌,
+  ◌*◌,
+  ◌≤◌,
+  ◌<◌,
+  ℤ,
+  pos,
+  negsuc,
+  Bool,
+  true,
+  false,
+  not,
+  ◌&&◌,
+  List,
+  [],
+  ◌∷◌,
+  ◌++◌,
+  Option,
+  Some,
+}
 use Rattle.std.proofs.Common.{None, refl, ap, sym, subst, ◌∙◌, arith, append-nil, append_assoc, suc-mul, zero-mul, mul_comm}
 use Rattle.std.specs.Prelude.{option_map, option_and_then, int_le, int_lt, unwrap_or, nat_lt, ◌==◌, if◌then◌else◌}
 use Rattle.std.proofs.lemmas.Int.{ints}
@@ -94,7 +117,8 @@ module _ (known : Sizes) (lists : Lists) (structs : Structs) (shaped : Shaped kn
   index-number true (Some (OfStruct name)) v n h valued = cc
   index-number false (Some (OfStruct name)) v n h valued = cc
 
-  pub index-agrees : (signed : Bool) (length : ℕ) (ty : Option CType) (c : EvaluatesC CValue) (f : Evaluates ℤ) → if_typed ty (indexes signed) ≡ true →
+  pub index-agrees : (signed : Bool) (length : ℕ) (ty : Option CType) (c : EvaluatesC CValue) (f : Evaluates ℤ) →
+      if_typed ty (indexes signed) ≡ true →
       ((cells : Cells) → Stood cells → Both (Value ty) (c scope memory) (f base cells)) →
       IndexFacts length (λ s m. next_c (c s m) (λ i. given (element_at (index_within (number_in i) (pos length))))) (record { length = length; index = f })
   index-agrees signed length ty c f typed h = record {
@@ -206,7 +230,8 @@ module _ (known : Sizes) (lists : Lists) (structs : Structs) (shaped : Shaped kn
                 ∙ ap (λ o. walk structs o (element e.j ∷ [])) (steps-to ∙ ap (λ x. Some (spot_of_length m.ty x)) long)
                 ∙ element-leads e.j l m.ty (nat_lt e.j l) refl (subst (λ x. e.j < x) (sym same) e.within);
             place =
-                let o : Offset (OfStruct struct) (member name ∷ parts) ≡ offset_in known (entry_or [] lists struct) name + (e.j * size_of_type known m.ty + 0) =
+                let o : Offset (OfStruct struct) (member name ∷ parts)
+                ≡ offset_in known (entry_or [] lists struct) name + (e.j * size_of_type known m.ty + 0) =
                 ap (λ ps. Offset (OfStruct struct) (member name ∷ ps)) e.is
                 ∙ ap (λ x. offset_in known (entry_or [] lists struct) name + way_offset known lists structs x (element e.j ∷ []))
                 (steps-to ∙ ap (λ x. Some (spot_of_length m.ty x)) long) in
@@ -327,7 +352,8 @@ module _ (known : Sizes) (lists : Lists) (structs : Structs) (shaped : Shaped kn
       reaches : (r : Reach (Evaluates ℤ)) → r.ty ≡ Some ty → (f ground r.ty).ty ≡ Some mid
       reaches r is = ap (λ t. (f ground t).ty) is ∙ first.reached ∙ ap Some between
 
-      joined-way : (a b : ℕ) (parts way : List Part) (j : ℕ) (goal : CType) → goal ≡ mid → walk structs (Some (whole ty)) parts ≡ Some (whole goal) →
+      joined-way : (a b : ℕ) (parts way : List Part) (j : ℕ) (goal : CType) → goal ≡ mid →
+          walk structs (Some (whole ty)) parts ≡ Some (whole goal) →
           Moved mid rest.goal (a + Offset ty parts) b way j → Moved ty rest.goal a b (parts ++ way) j
       joined-way a b parts way j goal same leads m =
           let to : walk structs (Some (whole ty)) parts ≡ Some (whole mid) = leads ∙ ap (λ t. Some (whole t)) same in
@@ -349,7 +375,8 @@ module _ (known : Sizes) (lists : Lists) (structs : Structs) (shaped : Shaped kn
     pub reached : f.ty ≡ Some goal
     pub moves : (cells : Cells) → Stood cells → Both (Placed goal) c (address_of f base cells)
 
-  placed-on : (start : Location) (ty goal : CType) (a k : ℕ) (way : List Part) → Placed ty start a → Moved ty goal a 0 way k → Placed goal (further start way) k
+  placed-on : (start : Location) (ty goal : CType) (a k : ℕ) (way : List Part) → Placed ty start a → Moved ty goal a 0 way k →
+      Placed goal (further start way) k
   placed-on start ty goal a k way p m = record {
     it = p.it;
     there = p.there;
@@ -369,7 +396,8 @@ module _ (known : Sizes) (lists : Lists) (structs : Structs) (shaped : Shaped kn
   -- a place that begins somewhere, and what is known of its beginning
   placed-from : (start : Location) (ty : CType) (typed : Option CType) (c : EvaluatesC (List (List Part))) (f : List (Step Routine (Evaluates ℤ)))
       (r : Reach (Evaluates ℤ)) (a : ℕ) →
-      r.ty ≡ Some ty → r.passed ≡ 0 → r.terms ≡ [] → Placed ty start a → ((cells : Cells) → Stood cells → capped (start_address r.start base cells) ≡ a) →
+      r.ty ≡ Some ty → r.passed ≡ 0 → r.terms ≡ [] → Placed ty start a →
+      ((cells : Cells) → Stood cells → capped (start_address r.start base cells) ≡ a) →
       StepsFacts ty typed c f →
       PlaceFacts typed (next_c (c scope memory) (λ ways. given (Some (further start (way_of ways))))) (reach_along f ground r)
   placed-from start ty typed c f r a is passed none p begins facts = record {

@@ -41,7 +41,14 @@ slot-first : (b : Bool) (k at : ℕ) (pointer : Bool) (ty : CType) (v : Variable
     SlotFor (if b then Some (record { at = k; pointer = pointer; ty = ty }) else rest) v (at + (if b then 0 else size + later))
 slot-first true k at pointer ty v size later others rest is h r =
     let e : record { pointer = pointer; ty = ty } ≡ v = some_of (record { pointer = pointer; ty = ty }) v h in
-    record { slot = record { at = k; pointer = pointer; ty = ty }; is = refl; pointer = ap (λ x. x.pointer) e; ty = ap (λ x. x.ty) e; at = is ∙ omega arith }
+    record {
+      slot = record { at = k; pointer = pointer; ty = ty };
+      is = refl;
+      pointer = ap (λ x. x.pointer) e;
+      ty =
+          ap (λ x. x.ty) e;
+      at = is ∙ omega arith;
+    }
 slot-first false k at pointer ty v size later others rest is h r =
     let s = r h in
     record { slot = s.slot; is = s.is; pointer = s.pointer; ty = s.ty; at = s.at ∙ omega arith }

@@ -1,5 +1,27 @@
 -- Functions in a C text and over numbered cells.
-use Rattle.std.proofs.Common.{◌≡◌, ℕ, ◌+◌, ◌≤◌, Bool, true, false, not, ◌&&◌, ◌||◌, List, [], ◌∷◌, ◌++◌, map, Option, Some, None, refl, ap, sym}
+use Rattle.std.proofs.Common.{
+  ◌≡◌,
+  ℕ,
+  ◌+◌,
+  ◌≤◌,
+  Bool,
+  true,
+  false,
+  not,
+  ◌&&◌,
+  ◌||◌,
+  List,
+  [],
+  ◌∷◌,
+  ◌++◌,
+  map,
+  Option,
+  Some,
+  None,
+  refl,
+  ap,
+  sym,
+}
 use Rattle.std.proofs.Common.{subst, ◌∙◌, arith}
 use Rattle.std.specs.Prelude.{bytes_eq, is_some, is_none, ◌==◌, codes, if◌then◌else◌}
 use Rattle.std.specs.List.{list_all}
@@ -135,7 +157,8 @@ function-keeps structs functions known f is other earlier = record {
 
 -- ---- a function in both
 
-module _ (file : Parts) (shaped : Shaped (sizes file.structs) (lists_of file.structs) (struct_table file.structs)) (limit : ℕ) (small : limit ≤ 1000000) where
+module _ (file : Parts) (shaped : Shaped (sizes file.structs) (lists_of file.structs) (struct_table file.structs)) (limit : ℕ)
+    (small : limit ≤ 1000000) where
   abbrev known : Sizes
   known = sizes file.structs
 

@@ -1,5 +1,27 @@
 -- The scalars of a type in order, and the cells before each.
-use Rattle.std.proofs.Common.{◌≡◌, ℕ, zero, suc, ◌+◌, ◌*◌, ◌≤◌, ◌<◌, Bool, true, false, List, [], ◌∷◌, ◌++◌, map, length, Option, Some, None, refl}
+use Rattle.std.proofs.Common.{
+  ◌≡◌,
+  ℕ,
+  zero,
+  suc,
+  ◌+◌,
+  ◌*◌,
+  ◌≤◌,
+  ◌<◌,
+  Bool,
+  true,
+  false,
+  List,
+  [],
+  ◌∷◌,
+  ◌++◌,
+  map,
+  length,
+  Option,
+  Some,
+  None,
+  refl,
+}
 use Rattle.std.proofs.Common.{ap, sym, subst, ◌∙◌, arith, append-nil, append_assoc, length-append, suc-mul, zero-mul}
 use Rattle.std.specs.Prelude.{flat_map, is_some, is_none, bytes_eq, unwrap_or, option_map, option_and_then, nat_lt, if◌then◌else◌}
 use Rattle.std.specs.List.{list_all}
@@ -50,7 +72,8 @@ module _ (known : Sizes) (lists : Lists) (structs : Structs) (shaped : Shaped kn
   -- each scalar is led to from a spot, and stands so many cells behind it
   abbrev pub Led : Spot → ℕ → List Inner → Type 0
   Led spot at [] = Unit {0}
-  Led spot at (i ∷ is) = ((walk structs (Some spot) i.parts ≡ Some (whole (OfScalar i.kind))) × (Offset (Some spot) i.parts ≡ at)) × Led spot (suc at) is
+  Led spot at (i ∷ is) = ((walk structs (Some spot) i.parts ≡ Some (whole (OfScalar i.kind))) × (Offset (Some spot) i.parts ≡ at))
+      × Led spot (suc at) is
 
   led-append : (spot : Spot) (at : ℕ) (xs ys : List Inner) → Led spot at xs → Led spot (at + length xs) ys → Led spot at (xs ++ ys)
   led-append spot at [] ys h k = let e : at + 0 ≡ at = omega arith in subst (λ n. Led spot n ys) e k
@@ -71,7 +94,8 @@ module _ (known : Sizes) (lists : Lists) (structs : Structs) (shaped : Shaped kn
         subst (λ n. Led spot n (map (inside (p ∷ [])) is)) e (led-inside spot next p (suc at) is steps h.1),
       )
 
-  led-inside-two : (spot mid next : Spot) (p q : Part) (at : ℕ) (is : List Inner) → step_in structs spot p ≡ Some mid → step_in structs mid q ≡ Some next →
+  led-inside-two : (spot mid next : Spot) (p q : Part) (at : ℕ) (is : List Inner) → step_in structs spot p ≡ Some mid →
+      step_in structs mid q ≡ Some next →
       Led next at is →
       Led spot (part_offset known lists spot p + (part_offset known lists mid q + at)) (map (inside (p ∷ q ∷ [])) is)
   led-inside-two spot mid next p q at [] first second h = tt
@@ -101,7 +125,8 @@ module _ (known : Sizes) (lists : Lists) (structs : Structs) (shaped : Shaped kn
 
   -- the elements of an array, in order
   led-row : (spot : Spot) (name : Text) (n m : ℕ) (ty : CType) → step_in structs spot (member name) ≡ Some (row n ty) → LedType ty → m ≤ n →
-      Led spot (part_offset known lists spot (member name)) (flat_map (λ k. map (inside (member name ∷ element k ∷ [])) (inner_of_type scalars ty)) (below m))
+      Led spot (part_offset known lists spot (member name))
+      (flat_map (λ k. map (inside (member name ∷ element k ∷ [])) (inner_of_type scalars ty)) (below m))
       × (length (flat_map (λ k. map (inside (member name ∷ element k ∷ [])) (inner_of_type scalars ty)) (below m)) ≡ m * size_of_type known ty)
   led-row spot name n zero ty steps t fits = (tt, sym (zero-mul (size_of_type known ty)))
   led-row spot name n (suc m) ty steps t fits =
@@ -188,11 +213,13 @@ module _ (known : Sizes) (lists : Lists) (structs : Structs) (shaped : Shaped kn
   member-names [] = refl
   member-names (m ∷ ms) = ap (λ ns. m.name ∷ ns) (member-names ms)
 
-  all-so : (p : CMember → Bool) (name : Text) (m : CMember) (ms : List CMember) → found name (by_name ms) ≡ Some m → list_all p ms ≡ true → p m ≡ true
+  all-so : (p : CMember → Bool) (name : Text) (m : CMember) (ms : List CMember) → found name (by_name ms) ≡ Some m →
+      list_all p ms ≡ true → p m ≡ true
   all-so p name m [] h all = cc
   all-so p name m (x ∷ ms) h all = chosen (bytes_eq x.name name) h (λ later. all-so p name m ms later (and-right (p x) _ all))
     where
-      chosen : (b : Bool) → (if b then Some x else found name (by_name ms)) ≡ Some m → (found name (by_name ms) ≡ Some m → p m ≡ true) → p m ≡ true
+      chosen : (b : Bool) → (if b then Some x else found name (by_name ms)) ≡ Some m →
+          (found name (by_name ms) ≡ Some m → p m ≡ true) → p m ≡ true
       chosen true h rest = ap p (sym (some_of x m h)) ∙ and-left (p x) _ all
       chosen false h rest = rest h
 
@@ -231,16 +258,19 @@ module _ (known : Sizes) (lists : Lists) (structs : Structs) (shaped : Shaped kn
   or-together None None true v u h = refl
   or-together None None false v u h = refl
 
-  pub led-all : (table : Structs) (before : Lists) (depths : Table ℕ) (rest : List CStruct) → ((name : Text) → is_some (before name) ≡ is_some (table name)) →
+  pub led-all : (table : Structs) (before : Lists) (depths : Table ℕ) (rest : List CStruct) →
+      ((name : Text) → is_some (before name) ≡ is_some (table name)) →
       ((name : Text) → lists name ≡ option_or (before name) (found name (map (λ s. (s.name, s.members)) rest))) → Done table →
       struct_faults_after table depths rest ≡ [] → Done (entries_after member_table table rest)
   led-all table before depths [] together all done none = done
   led-all table before depths (s ∷ rest) together all done none =
       let here : faults_in_struct table depths s ≡ [] = nil-left (faults_in_struct table depths s) _ none in
       let h1 = nil-right (unless (is_none (table s.name)) distinct_names s.place) _ here in
-      let declared = unless-nil _ declared_before s.place (nil-left (unless (list_all (λ m. is_declared table m.ty) s.members) declared_before s.place) _ h1) in
+      let declared = unless-nil _ declared_before s.place
+      (nil-left (unless (list_all (λ m. is_declared table m.ty) s.members) declared_before s.place) _ h1) in
       let h2 = nil-right (unless (list_all (λ m. is_declared table m.ty) s.members) declared_before s.place) _ h1 in
-      let apart = unless-nil _ distinct_names s.place (nil-left (unless (all_distinct no_entries (map (λ m. m.name) s.members)) distinct_names s.place) _ h2) in
+      let apart = unless-nil _ distinct_names s.place (nil-left
+      (unless (all_distinct no_entries (map (λ m. m.name) s.members)) distinct_names s.place) _ h2) in
       led-all (with_entry table s.name (member_table s)) (with_entry before s.name s.members) (with_entry depths s.name (depth_of_struct depths s)) rest
       (λ name. or-together (before name) (table name) (bytes_eq s.name name) s.members (member_table s) (together name))
       (λ name. all name ∙ sym (next_entry (before name) (bytes_eq s.name name) s.members (found name (map (λ t. (t.name, t.members)) rest))))

@@ -1,5 +1,26 @@
 -- The structs of a well-formed file: their members, sizes, scalars and layouts.
-use Rattle.std.proofs.Common.{◌≡◌, ℕ, ◌+◌, Bool, true, false, List, [], ◌∷◌, ◌++◌, map, Option, Some, None, refl, ap, sym, subst, ◌∙◌, arith}
+use Rattle.std.proofs.Common.{
+  ◌≡◌,
+  ℕ,
+  ◌+◌,
+  Bool,
+  true,
+  false,
+  List,
+  [],
+  ◌∷◌,
+  ◌++◌,
+  map,
+  Option,
+  Some,
+  None,
+  refl,
+  ap,
+  sym,
+  subst,
+  ◌∙◌,
+  arith,
+}
 use Rattle.std.specs.Prelude.{flat_map, is_some, is_none, bytes_eq, unwrap_or, option_map, option_and_then, if◌then◌else◌}
 use Rattle.std.specs.List.{list_all}
 use Rattle.std.specs.Option.{option_or}
@@ -35,7 +56,8 @@ or-kept : {A : Type 0} (old : Option A) (same : Bool) (value : A) → is_some ol
 or-kept (Some x) same value h = refl
 or-kept None same value h = cc
 
-or-some : {A : Type 0} (old : Option A) (same : Bool) (value : A) → is_some old ≡ true → is_some (option_or old (if same then Some value else None)) ≡ true
+or-some : {A : Type 0} (old : Option A) (same : Bool) (value : A) → is_some old ≡ true →
+    is_some (option_or old (if same then Some value else None)) ≡ true
 or-some (Some x) same value h = refl
 or-some None same value h = cc
 
@@ -56,7 +78,8 @@ entries-are : {B : Type 0} (f : CStruct → B) (table : Table B) (list : List CS
     entries_after f table list name ≡ option_or (table name) (found name (map (λ s. (s.name, f s)) list))
 entries-are f table [] name = sym (nothing_after (table name))
 entries-are f table (s ∷ rest) name =
-    entries-are f (with_entry table s.name (f s)) rest name ∙ next_entry (table name) (bytes_eq s.name name) (f s) (found name (map (λ t. (t.name, f t)) rest))
+    entries-are f (with_entry table s.name (f s)) rest name
+    ∙ next_entry (table name) (bytes_eq s.name name) (f s) (found name (map (λ t. (t.name, f t)) rest))
 
 pub entries-all : {B : Type 0} (f : CStruct → B) (list : List CStruct) → entries_after f no_entries list ≡ table_of (map (λ s. (s.name, f s)) list)
 entries-all f list = same_table (entries_after f no_entries list) (table_of (map (λ s. (s.name, f s)) list)) (entries-are f no_entries list)
@@ -64,7 +87,8 @@ entries-all f list = same_table (entries_after f no_entries list) (table_of (map
 -- ---- what is made of the members of each struct, over what was made of the earlier ones
 
 module _ {A : Type 0} (value : Table A → List CMember → A)
-    (same : (known more : Table A) (structs : Structs) → ((name : Text) → is_some (structs name) ≡ true → more name ≡ known name) → (ms : List CMember) →
+    (same : (known more : Table A) (structs : Structs) → ((name : Text) → is_some (structs name) ≡ true → more name ≡ known name) →
+    (ms : List CMember) →
     list_all (λ m. is_declared structs m.ty) ms ≡ true → value known ms ≡ value more ms) where
   abbrev pub values_after : Table A → List CStruct → Table A
   values_after known [] = known
@@ -96,7 +120,8 @@ module _ {A : Type 0} (value : Table A → List CMember → A)
     declared-more (OfScalar kind) h = refl
     declared-more (OfStruct name) h = or-some (structs name) (bytes_eq s.name name) (member_table s) h
 
-    all-declared : (list : List CMember) → list_all (λ m. is_declared structs m.ty) list ≡ true → list_all (λ m. is_declared structs_more m.ty) list ≡ true
+    all-declared : (list : List CMember) → list_all (λ m. is_declared structs m.ty) list ≡ true →
+        list_all (λ m. is_declared structs_more m.ty) list ≡ true
     all-declared [] h = refl
     all-declared (m ∷ rest) h =
         and-both (is_declared structs_more m.ty) _ (declared-more m.ty (and-left (is_declared structs m.ty) _ h))
@@ -105,7 +130,8 @@ module _ {A : Type 0} (value : Table A → List CMember → A)
     made-next : AllMade known structs lists → list_all (λ m. is_declared structs m.ty) s.members ≡ true → AllMade known_more structs_more lists_more
     made-next made declared name ms is = chosen (lists name) refl is
       where
-        new : (b : Bool) → bytes_eq s.name name ≡ b → lists name ≡ None → (if b then Some s.members else None) ≡ Some ms → Made known_more structs_more name ms
+        new : (b : Bool) → bytes_eq s.name name ≡ b → lists name ≡ None → (if b then Some s.members else None) ≡ Some ms →
+            Made known_more structs_more name ms
         new false same-name absent h = cc
         new true same-name absent h =
             let e : s.members ≡ ms = some_of s.members ms h in
@@ -170,7 +196,8 @@ size-same : (known more : Sizes) (structs : Structs) → ((name : Text) → is_s
 size-same known more structs keeps (OfScalar kind) h = refl
 size-same known more structs keeps (OfStruct name) h = ap (λ o. unwrap_or o 0) (sym (keeps name h))
 
-sizes-same : (known more : Sizes) (structs : Structs) → ((name : Text) → is_some (structs name) ≡ true → more name ≡ known name) → (ms : List CMember) →
+sizes-same : (known more : Sizes) (structs : Structs) → ((name : Text) → is_some (structs name) ≡ true → more name ≡ known name) →
+    (ms : List CMember) →
     list_all (λ m. is_declared structs m.ty) ms ≡ true →
     total (map (size_of_member known) ms) ≡ total (map (size_of_member more) ms)
 sizes-same known more structs keeps [] h = refl
@@ -186,7 +213,8 @@ sizes-are known (s ∷ rest) = sizes-are (with_entry known s.name (size_of_struc
 
 -- ---- scalars
 
-inner-same : (known more : Table (List Inner)) (structs : Structs) → ((name : Text) → is_some (structs name) ≡ true → more name ≡ known name) → (ty : CType) →
+inner-same : (known more : Table (List Inner)) (structs : Structs) →
+    ((name : Text) → is_some (structs name) ≡ true → more name ≡ known name) → (ty : CType) →
     is_declared structs ty ≡ true → inner_of_type known ty ≡ inner_of_type more ty
 inner-same known more structs keeps (OfScalar kind) h = refl
 inner-same known more structs keeps (OfStruct name) h = ap (λ o. unwrap_or o []) (sym (keeps name h))

@@ -1,5 +1,26 @@
 -- The scalars of structs, as the structs' members lay them out.
-use Rattle.std.proofs.Common.{◌≡◌, ℕ, Bool, true, false, not, ◌&&◌, List, [], ◌∷◌, ◌++◌, map, Option, Some, None, refl, ap, sym, subst, ◌∙◌}
+use Rattle.std.proofs.Common.{
+  ◌≡◌,
+  ℕ,
+  Bool,
+  true,
+  false,
+  not,
+  ◌&&◌,
+  List,
+  [],
+  ◌∷◌,
+  ◌++◌,
+  map,
+  Option,
+  Some,
+  None,
+  refl,
+  ap,
+  sym,
+  subst,
+  ◌∙◌,
+}
 use Rattle.std.specs.Prelude.{flat_map, is_some, is_none, bytes_eq, unwrap_or, nat_le, if◌then◌else◌}
 use Rattle.std.specs.List.{list_all}
 use Rattle.std.specs.Option.{option_or}
@@ -48,7 +69,8 @@ or-kept : {A : Type 0} (old : Option A) (same : Bool) (value : A) → is_some ol
 or-kept (Some x) same value h = refl
 or-kept None same value h = cc
 
-or-some : {A : Type 0} (old : Option A) (same : Bool) (value : A) → is_some old ≡ true → is_some (option_or old (if same then Some value else None)) ≡ true
+or-some : {A : Type 0} (old : Option A) (same : Bool) (value : A) → is_some old ≡ true →
+    is_some (option_or old (if same then Some value else None)) ≡ true
 or-some (Some x) same value h = refl
 or-some None same value h = cc
 
@@ -93,7 +115,8 @@ module _ (known : Scalars) (structs : Structs) (s : CStruct) (together : Togethe
   declared-more (OfScalar kind) h = refl
   declared-more (OfStruct name) h = or-some (structs name) (bytes_eq s.name name) (member_table s) h
 
-  all-declared : (list : List CMember) → list_all (λ m. is_declared structs m.ty) list ≡ true → list_all (λ m. is_declared structs_more m.ty) list ≡ true
+  all-declared : (list : List CMember) → list_all (λ m. is_declared structs m.ty) list ≡ true →
+      list_all (λ m. is_declared structs_more m.ty) list ≡ true
   all-declared [] h = refl
   all-declared (m ∷ rest) h =
       and-both (is_declared structs_more m.ty) _ (declared-more m.ty (and-left (is_declared structs m.ty) _ h))
@@ -109,7 +132,8 @@ module _ (known : Scalars) (structs : Structs) (s : CStruct) (together : Togethe
     declared = all-declared laid.list laid.declared;
   }
 
-  added : (name : Text) (members : Table CMember) → structs name ≡ None → s.name ≡ name → member_table s ≡ members → bytes_eq s.name name ≡ true →
+  added : (name : Text) (members : Table CMember) → structs name ≡ None → s.name ≡ name → member_table s ≡ members →
+      bytes_eq s.name name ≡ true →
       all_distinct no_entries (map (λ m. m.name) s.members) ≡ true → list_all (λ m. is_declared structs m.ty) s.members ≡ true →
       LaidOut known_more structs_more name members
   added name members absent named is same apart declared = record {
@@ -121,7 +145,8 @@ module _ (known : Scalars) (structs : Structs) (s : CStruct) (together : Togethe
     declared = all-declared s.members declared;
   }
     where
-      entry : (o : Option (List Inner)) (b : Bool) → is_some o ≡ false → b ≡ true → option_or o (if b then Some cells_now else None) ≡ Some cells_now
+      entry : (o : Option (List Inner)) (b : Bool) → is_some o ≡ false → b ≡ true →
+          option_or o (if b then Some cells_now else None) ≡ Some cells_now
       entry None true h k = refl
       entry None false h k = cc
       entry (Some x) b h k = cc
@@ -136,7 +161,8 @@ module _ (known : Scalars) (structs : Structs) (s : CStruct) (together : Togethe
       new true same absent h = added name members absent ((bytes_eq-Decides s.name name).0 same) (some_of (member_table s) members h) same apart declared
       new false same absent h = cc
 
-      chosen : (o : Option (Table CMember)) → structs name ≡ o → option_or o (if bytes_eq s.name name then Some (member_table s) else None) ≡ Some members →
+      chosen : (o : Option (Table CMember)) → structs name ≡ o →
+          option_or o (if bytes_eq s.name name then Some (member_table s) else None) ≡ Some members →
           LaidOut known_more structs_more name members
       chosen (Some old) there h = grown name members (there ∙ h) (laid name members (there ∙ h))
       chosen None absent h = new (bytes_eq s.name name) refl absent h
@@ -154,7 +180,8 @@ structs_after : Structs → List CStruct → Structs
 structs_after structs [] = structs
 structs_after structs (s ∷ rest) = structs_after (with_entry structs s.name (member_table s)) rest
 
-known-is : (known : Scalars) (list : List CStruct) (name : Text) → known_after known list name ≡ option_or (known name) (found name (inner_after known list))
+known-is : (known : Scalars) (list : List CStruct) (name : Text) →
+    known_after known list name ≡ option_or (known name) (found name (inner_after known list))
 unfolding known_after
 known-is known [] name = nothing (known name)
   where
@@ -191,7 +218,8 @@ all-after known structs depths (s ∷ rest) together laid none =
     let here : faults_in_struct structs depths s ≡ [] = nil-left (faults_in_struct structs depths s) _ none in
     let later = nil-right (faults_in_struct structs depths s) _ none in
     let h1 = nil-right (unless (is_none (structs s.name)) distinct_names s.place) _ here in
-    let declared = unless-nil _ declared_before s.place (nil-left (unless (list_all (λ m. is_declared structs m.ty) s.members) declared_before s.place) _ h1) in
+    let declared = unless-nil _ declared_before s.place
+    (nil-left (unless (list_all (λ m. is_declared structs m.ty) s.members) declared_before s.place) _ h1) in
     let h2 = nil-right (unless (list_all (λ m. is_declared structs m.ty) s.members) declared_before s.place) _ h1 in
     let apart = unless-nil _ distinct_names s.place (nil-left (unless (all_distinct no_entries (map (λ m. m.name) s.members)) distinct_names s.place) _ h2) in
     all-after (with_entry known s.name (flat_map (inner_of_member known) s.members)) (with_entry structs s.name (member_table s))
@@ -205,7 +233,8 @@ nothing-laid name members h = cc
 pub laid-out : (file : Parts) → WellFormed file → AllLaidOut (scalars file.structs) (struct_table file.structs)
 unfolding faults_in
 laid-out file formed =
-    let none : struct_faults_after no_entries no_entries file.structs ≡ [] = nil-left (struct_faults_after no_entries no_entries file.structs) _ formed.none in
+    let none : struct_faults_after no_entries no_entries file.structs ≡ [] =
+    nil-left (struct_faults_after no_entries no_entries file.structs) _ formed.none in
     let laid : AllLaidOut (known_after no_entries file.structs) (structs_after no_entries file.structs) =
     all-after no_entries no_entries no_entries file.structs (λ name. refl) nothing-laid none in
     let known : known_after no_entries file.structs ≡ scalars file.structs =

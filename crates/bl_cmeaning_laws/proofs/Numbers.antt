@@ -1,6 +1,28 @@
 -- The numbers of the three objects, rows of inputs and of outputs, in cells.
 use Rattle.bl_tree.specs.Ports.{in_ranges}
-use Rattle.std.proofs.Common.{◌≡◌, ℕ, suc, ◌+◌, ◌≤◌, ℤ, pos, Bool, true, false, ◌&&◌, List, [], ◌∷◌, ◌++◌, map, length, take, drop, replicate, Option}
+use Rattle.std.proofs.Common.{
+  ◌≡◌,
+  ℕ,
+  suc,
+  ◌+◌,
+  ◌≤◌,
+  ℤ,
+  pos,
+  Bool,
+  true,
+  false,
+  ◌&&◌,
+  List,
+  [],
+  ◌∷◌,
+  ◌++◌,
+  map,
+  length,
+  take,
+  drop,
+  replicate,
+  Option,
+}
 use Rattle.std.proofs.Common.{Some, None, refl, ap, sym, subst, ◌∙◌, arith, append-nil, append_assoc, length-append}
 use Rattle.std.specs.Prelude.{option_map, bytes_eq, is_some, is_none, flat_map, filter_map, unwrap_or, codes, nat_le, slice_set, if◌then◌else◌}
 use Rattle.std.specs.List.{cons_option, list_all}
@@ -233,8 +255,10 @@ module _ (file : Parts) (formed : WellFormed file)
   ports-count prefix (m ∷ ms) all =
       chosen m.ty m.length (and-right _ _ (and-left (is_port prefix m) _ all)) (ports-count prefix ms (and-right (is_port prefix m) _ all))
     where
-      chosen : (ty : CType) (l : Option ℕ) → (is_scalar ty && is_none l) ≡ true → length (flat_map (inner_of_member (scalars file.structs)) ms) ≡ length ms →
-          length (inner_of_length m.name l (inner_of_type (scalars file.structs) ty) ++ flat_map (inner_of_member (scalars file.structs)) ms) ≡ suc (length ms)
+      chosen : (ty : CType) (l : Option ℕ) → (is_scalar ty && is_none l) ≡ true →
+          length (flat_map (inner_of_member (scalars file.structs)) ms) ≡ length ms →
+          length (inner_of_length m.name l (inner_of_type (scalars file.structs) ty)
+          ++ flat_map (inner_of_member (scalars file.structs)) ms) ≡ suc (length ms)
       chosen (OfStruct name) l h rest = cc
       chosen (OfScalar kind) (Some n) h rest = cc
       chosen (OfScalar kind) None h rest = ap suc rest
@@ -356,7 +380,8 @@ module _ (file : Parts) (formed : WellFormed file)
 
   -- ---- rows
 
-  pub inputs-stand : (ins : List ℤ) (memory : Memory) (cells : Cells) → in_ranges (map (λ column. column.ty) (inputs_of file)) ins ≡ true → Stood memory cells →
+  pub inputs-stand : (ins : List ℤ) (memory : Memory) (cells : Cells) →
+      in_ranges (map (λ column. column.ty) (inputs_of file)) ins ≡ true → Stood memory cells →
       Stood (with_inputs (ports_of (codes "bl_in") file) ins memory) (with_args (input_at file + 1) ins cells)
   unfolding inputs_of
   inputs-stand ins memory cells fits stands = inputs-set 1 (input_at file + 1) (ports_of (codes "bl_in") file) ins memory cells refl in-ports.led fits stands

@@ -1,5 +1,27 @@
 -- Parts of values: what is read there, and what a value is after one was set.
-use Rattle.std.proofs.Common.{◌≡◌, ℕ, Bool, true, false, not, ◌&&◌, List, [], ◌∷◌, ◌++◌, map, Option, Some, None, refl, ap, sym, subst, ◌∙◌, arith}
+use Rattle.std.proofs.Common.{
+  ◌≡◌,
+  ℕ,
+  Bool,
+  true,
+  false,
+  not,
+  ◌&&◌,
+  List,
+  [],
+  ◌∷◌,
+  ◌++◌,
+  map,
+  Option,
+  Some,
+  None,
+  refl,
+  ap,
+  sym,
+  subst,
+  ◌∙◌,
+  arith,
+}
 use Rattle.std.specs.Prelude.{flat_map, bytes_eq, nat_lt, ◌==◌, unwrap_or, option_and_then, if◌then◌else◌}
 use Rattle.std.specs.List.{list_all}
 use Rattle.std.proofs.lemmas.Grind.{common_steps}
@@ -30,7 +52,8 @@ sub value part way = value (part ∷ way)
 
 -- ---- a value by its parts
 
-row-fits : (known : Scalars) (n : ℕ) (ty : CType) (v : CValue) → spot_fits known (row n ty) v ≡ list_all (λ k. fits known ty (sub v (element k))) (below n)
+row-fits : (known : Scalars) (n : ℕ) (ty : CType) (v : CValue) →
+    spot_fits known (row n ty) v ≡ list_all (λ k. fits known ty (sub v (element k))) (below n)
 row-fits known n ty v =
     all-flat (holds v) (λ k. map (inside (element k ∷ [])) (inner_of_type known ty)) (below n)
     ∙ all-same (λ k. list_all (holds v) (map (inside (element k ∷ [])) (inner_of_type known ty))) (λ k. fits known ty (sub v (element k)))
@@ -105,7 +128,8 @@ module _ (known : Scalars) (structs : Structs) (laid : AllLaidOut known structs)
           Stepped struct name next
       with_member members is None at k = cc
       with_member members is (Some m) at k =
-          let there : found name (map (λ x. (x.name, x)) (laid struct members is).list) ≡ Some m = ap (λ t. t name) (sym (laid struct members is).table) ∙ at in
+          let there : found name (map (λ x. (x.name, x)) (laid struct members is).list) ≡ Some m =
+          ap (λ t. t name) (sym (laid struct members is).table) ∙ at in
           record {
             members = members;
             is = is;
@@ -116,7 +140,8 @@ module _ (known : Scalars) (structs : Structs) (laid : AllLaidOut known structs)
                 next k;
           }
 
-      chosen : (o : Option (Table CMember)) → structs struct ≡ o → spot_if (option_and_then (λ members. members name) o) ≡ Some next → Stepped struct name next
+      chosen : (o : Option (Table CMember)) → structs struct ≡ o →
+          spot_if (option_and_then (λ members. members name) o) ≡ Some next → Stepped struct name next
       chosen None is k = cc
       chosen (Some members) is k = with_member members is (members name) refl k
 
@@ -143,7 +168,8 @@ module _ (known : Scalars) (structs : Structs) (laid : AllLaidOut known structs)
       ∙ ap (spot_fits known next) at ∙ part in
       struct-fits known structs struct s.members l new
       ∙ all-found-but (λ m. m.name) (member_fits known v) (member_fits known new) name s.it here
-      (λ m differs was. ap (spot_fits known (spot_of m)) (others (member m.name) (unequal-other m.name name differs)) ∙ was) no_entries l.list l.apart s.there
+      (λ m differs was. ap (spot_fits known (spot_of m)) (others (member m.name) (unequal-other m.name name differs)) ∙ was)
+      no_entries l.list l.apart s.there
       all
 
   read-element : (n k : ℕ) (ty : CType) (next : Spot) (v : CValue) (b : Bool) → nat_lt k n ≡ b → (if b then Some (whole ty) else None) ≡ Some next →
@@ -154,7 +180,8 @@ module _ (known : Scalars) (structs : Structs) (laid : AllLaidOut known structs)
       (all-below-at (λ j. fits known ty (sub v (element j))) n k within (sym (row-fits known n ty v) ∙ fit))
   read-element n k ty next v false within h fit = cc
 
-  set-element : (n k : ℕ) (ty : CType) (next : Spot) (v w new : CValue) (b : Bool) → nat_lt k n ≡ b → (if b then Some (whole ty) else None) ≡ Some next →
+  set-element : (n k : ℕ) (ty : CType) (next : Spot) (v w new : CValue) (b : Bool) → nat_lt k n ≡ b →
+      (if b then Some (whole ty) else None) ≡ Some next →
       spot_fits known (row n ty) v ≡ true →
       spot_fits known next w ≡ true → sub new (element k) ≡ w → ((q : Part) → same_part (element k) q ≡ false → sub new q ≡ sub v q) →
       spot_fits known (row n ty) new ≡ true
@@ -211,11 +238,13 @@ module _ (known : Scalars) (structs : Structs) (laid : AllLaidOut known structs)
   set-at-part : (v : CValue) (p : Part) (parts : List Part) (part : CValue) → sub (with_part v (p ∷ parts) part) p ≡ with_part (sub v p) parts part
   set-at-part v p parts part = λ i way. ap (λ b. number_or (if b then left_after parts way else None) part (v (p ∷ way))) (part-itself p) i
 
-  set-at-other : (v : CValue) (p : Part) (parts : List Part) (part : CValue) (q : Part) → same_part p q ≡ false → sub (with_part v (p ∷ parts) part) q ≡ sub v q
+  set-at-other : (v : CValue) (p : Part) (parts : List Part) (part : CValue) (q : Part) → same_part p q ≡ false →
+      sub (with_part v (p ∷ parts) part) q ≡ sub v q
   set-at-other v p parts part q h = λ i way. ap (λ b. number_or (if b then left_after parts way else None) part (v (q ∷ way))) h i
 
   -- a value still fits after the end of a way was set to what fits there
-  pub set-walk : (parts : List Part) (spot goal : Spot) (v part : CValue) → walk structs (Some spot) parts ≡ Some goal → spot_fits known spot v ≡ true →
+  pub set-walk : (parts : List Part) (spot goal : Spot) (v part : CValue) → walk structs (Some spot) parts ≡ Some goal →
+      spot_fits known spot v ≡ true →
       spot_fits known goal part ≡ true →
       spot_fits known spot (with_part v parts part) ≡ true
   set-walk [] spot goal v part h fit new = subst (λ t. spot_fits known t part ≡ true) (sym (some_spot spot goal h)) new

@@ -1,6 +1,29 @@
 -- What the prelude's functions give is in range.
 use Rattle.bl_tree.specs.Ports.{in_ranges}
-use Rattle.std.proofs.Common.{◌≡◌, ℕ, ◌+◌, ◌^◌, ◌<◌, ℤ, pos, negsuc, ◌+ℤ◌, Bool, true, false, ◌&&◌, List, [], ◌∷◌, Option, Some, None, refl, ap, sym}
+use Rattle.std.proofs.Common.{
+  ◌≡◌,
+  ℕ,
+  ◌+◌,
+  ◌^◌,
+  ◌<◌,
+  ℤ,
+  pos,
+  negsuc,
+  ◌+ℤ◌,
+  Bool,
+  true,
+  false,
+  ◌&&◌,
+  List,
+  [],
+  ◌∷◌,
+  Option,
+  Some,
+  None,
+  refl,
+  ap,
+  sym,
+}
 use Rattle.std.proofs.Common.{subst, ◌∙◌, arith}
 use Rattle.std.specs.Prelude.{bytes_eq, int_le, int_lt, IfSome, if◌then◌else◌}
 use Rattle.std.specs.Int.{int_rem_euclid}
@@ -79,7 +102,8 @@ now-or-later : (b : Bool) (x y : Builtin) (rest : Option Builtin) → (if b then
 now-or-later true x y rest is here later = subst (λ z. proper z ≡ true) (some_builtin x y is) here
 now-or-later false x y rest is here later = later is
 
-found-proper : (name : Text) (entries : List (Text × Builtin)) (b : Builtin) → found name entries ≡ Some b → list_all (λ e. proper e.1) entries ≡ true →
+found-proper : (name : Text) (entries : List (Text × Builtin)) (b : Builtin) → found name entries ≡ Some b →
+    list_all (λ e. proper e.1) entries ≡ true →
     proper b ≡ true
 found-proper name [] b is all = cc
 found-proper name (e ∷ entries) b is all =
@@ -119,7 +143,8 @@ some_number a b h = cc
 spelled : (s t : Scalar) (n : ℤ) → Some (in_c s) ≡ Some t → in_range s n ≡ true → in_range t n ≡ true
 spelled s t n is h = ap (λ x. in_range x n) (sym (some_scalar (in_c s) t is)) ∙ in-c s n ∙ h
 
-operated : (op : Op) (s : Scalar) (r : Option ℤ) (n : ℤ) → keeps_type op ≡ true → IfSome r (InRange (type_of_result op s)) → r ≡ Some n → in_range s n ≡ true
+operated : (op : Op) (s : Scalar) (r : Option ℤ) (n : ℤ) → keeps_type op ≡ true → IfSome r (InRange (type_of_result op s)) →
+    r ≡ Some n → in_range s n ≡ true
 operated op s r n kept h is =
     in_range_passes s n (subst (λ x. InRange x n) (type-kept op s kept) (subst (λ o. IfSome o (InRange (type_of_result op s))) is h))
 
@@ -140,7 +165,8 @@ turned false t n h =
     ap (in_range (Nat W32)) (sym (some_number (int_rem_euclid (t +ℤ pos 1) (pos (2 ^ 32))) n h))
     ∙ in_range_passes (Bits W32) (int_rem_euclid (t +ℤ pos 1) (pos (2 ^ 32))) (fitted-in_range (Bits W32) (t +ℤ pos 1))
 
-value-fits : (b : Builtin) (numbers : List ℤ) (t : Scalar) (n : ℤ) → proper b ≡ true → in_ranges (builtin_params b) numbers ≡ true → builtin_result b ≡ Some t →
+value-fits : (b : Builtin) (numbers : List ℤ) (t : Scalar) (n : ℤ) → proper b ≡ true → in_ranges (builtin_params b) numbers ≡ true →
+    builtin_result b ≡ Some t →
     builtin_value b numbers ≡ Some n → in_range t n ≡ true
 value-fits (Two op s) [] t n is h result value = cc
 value-fits (Two op s) (a ∷ []) t n is h result value = cc

@@ -32,7 +32,8 @@ Ends safe depth = (d : ℕ) (name : Text) → depth ≤ d → safe (variable d n
 
 -- a function with a result changes nothing but its own variables, and another one only what it is handed beside them
 pub record Keeps (meaning : Meaning) (s : Signature) : Type 0 where
-  pub stay : (safe : Root → Bool) (depth : ℕ) (passed : List Passed) (memory : Memory) → Ends safe depth → (is_some s.result ≡ false → Unsafe safe passed) →
+  pub stay : (safe : Root → Bool) (depth : ℕ) (passed : List Passed) (memory : Memory) → Ends safe depth →
+      (is_some s.result ≡ false → Unsafe safe passed) →
       (root : Root) → safe root ≡ true → (meaning depth passed memory).memory root ≡ memory root
 
 -- ---- layouts

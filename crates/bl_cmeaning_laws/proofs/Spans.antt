@@ -1,5 +1,28 @@
 -- What cells have after some of them were written.
-use Rattle.std.proofs.Common.{◌≡◌, ℕ, zero, suc, ◌+◌, ◌-◌, ◌≤◌, ◌<◌, inl, inr, ⊎_elim, ℤ, pos, Bool, true, false, ◌&&◌, List, [], ◌∷◌, ◌++◌, length}
+use Rattle.std.proofs.Common.{
+  ◌≡◌,
+  ℕ,
+  zero,
+  suc,
+  ◌+◌,
+  ◌-◌,
+  ◌≤◌,
+  ◌<◌,
+  inl,
+  inr,
+  ⊎_elim,
+  ℤ,
+  pos,
+  Bool,
+  true,
+  false,
+  ◌&&◌,
+  List,
+  [],
+  ◌∷◌,
+  ◌++◌,
+  length,
+}
 use Rattle.std.proofs.Common.{take, drop, get_or, refl, ap, ◌∙◌, arith, length-set, get_or-set_same, get_or-set_other, length-append, length-take-le}
 use Rattle.std.proofs.Common.{length-drop, get_or-take, get_or-drop}
 use Rattle.std.specs.Prelude.{nat_le, slice_set, if◌then◌else◌}
@@ -49,7 +72,8 @@ length-args at (n ∷ ns) cells = length-args (suc at) ns (slice_set cells at n)
 pub args-elsewhere : (at : ℕ) (ns : List ℤ) (cells : Cells) (j : ℕ) → Apart at (length ns) j 1 → cell_at (with_args at ns cells) j ≡ cell_at cells j
 args-elsewhere at [] cells j apart = refl
 args-elsewhere at (n ∷ ns) cells j apart =
-    let rest : Apart (suc at) (length ns) j 1 = ⊎_elim (λ (l : at + suc (length ns) ≤ j). inl (omega arith)) (λ (r : j + 1 ≤ at). inr (omega arith)) apart in
+    let rest : Apart (suc at) (length ns) j 1 = ⊎_elim (λ (l : at + suc (length ns) ≤ j). inl (omega arith))
+    (λ (r : j + 1 ≤ at). inr (omega arith)) apart in
     let here : Apart at 1 j 1 = ⊎_elim (λ (l : at + suc (length ns) ≤ j). inl (omega arith)) (λ (r : j + 1 ≤ at). inr (omega arith)) apart in
     args-elsewhere (suc at) ns (slice_set cells at n) j rest ∙ set-elsewhere cells at j n here
 

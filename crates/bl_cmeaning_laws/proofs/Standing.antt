@@ -1,5 +1,27 @@
 -- How the memory of a running C text stands in numbered cells.
-use Rattle.std.proofs.Common.{◌≡◌, ℕ, ◌+◌, ◌≤◌, ◌<◌, inl, inr, ⊎_elim, ℤ, pos, Bool, true, false, List, [], ◌∷◌, ◌++◌, length, Option, Some, None}
+use Rattle.std.proofs.Common.{
+  ◌≡◌,
+  ℕ,
+  ◌+◌,
+  ◌≤◌,
+  ◌<◌,
+  inl,
+  inr,
+  ⊎_elim,
+  ℤ,
+  pos,
+  Bool,
+  true,
+  false,
+  List,
+  [],
+  ◌∷◌,
+  ◌++◌,
+  length,
+  Option,
+  Some,
+  None,
+}
 use Rattle.std.proofs.Common.{refl, ap, sym, ◌∙◌, arith, length-set}
 use Rattle.std.specs.Prelude.{slice_set, bytes_eq, ◌==◌, if◌then◌else◌}
 use Rattle.std.proofs.lemmas.Grind.{common_steps}
@@ -134,11 +156,13 @@ module _ (known : Sizes) (lists : Lists) (structs : Structs) (shaped : Shaped kn
         in_range kind (value_at memory place rest) ≡ true
     range-part place ty k p rest kind leads = stands.ranges place.root p.it (place.parts ++ rest) kind p.there (part-leads w place ty k p rest ∙ leads)
 
-    pub read-scalar : (place : Location) (kind : Scalar) (k : ℕ) → PlacedAt w place (OfScalar kind) k → cell_at cells k ≡ number_in (value_at memory place)
+    pub read-scalar : (place : Location) (kind : Scalar) (k : ℕ) → PlacedAt w place (OfScalar kind) k →
+        cell_at cells k ≡ number_in (value_at memory place)
     read-scalar place kind k p = let e : k + 0 ≡ k = omega arith in ap (cell_at cells) (sym e) ∙ read-part place (OfScalar kind) k p [] kind refl
 
   -- memory in which every root that stands somewhere has the same value
-  pub same-memory : (w : World) (memory other : Memory) (cells : Cells) → ((root : Root) (t : Stand) → w.stand root ≡ Some t → memory root ≡ other root) →
+  pub same-memory : (w : World) (memory other : Memory) (cells : Cells) →
+      ((root : Root) (t : Stand) → w.stand root ≡ Some t → memory root ≡ other root) →
       Stands w memory cells → Stands w other cells
   same-memory w memory other cells same stands = record {
     room = stands.room;
@@ -153,7 +177,8 @@ module _ (known : Sizes) (lists : Lists) (structs : Structs) (shaped : Shaped kn
       Offset (Some (whole p.it.ty)) place.parts + size_of_type known ty ≤ size_of_type known p.it.ty
   placed-within w place ty k p = walk-within known lists structs shaped (Some (whole p.it.ty)) (whole p.it.ty) (whole ty) place.parts refl p.leads
 
-  pub placed-below : (w : World) (place : Location) (ty : CType) (k : ℕ) → Separate known w → PlacedAt w place ty k → k + size_of_type known ty ≤ w.top
+  pub placed-below : (w : World) (place : Location) (ty : CType) (k : ℕ) → Separate known w → PlacedAt w place ty k →
+      k + size_of_type known ty ≤ w.top
   placed-below w place ty k separate p =
       let a = placed-within w place ty k p in
       let b = separate.below place.root p.it p.there in
@@ -165,7 +190,8 @@ module _ (known : Sizes) (lists : Lists) (structs : Structs) (shaped : Shaped kn
   shrunk at n k size (p ∷ ps) low high away =
       (⊎_elim (λ (l : at + n ≤ p.0). inl (omega arith)) (λ (r : p.0 + 1 ≤ at). inr (omega arith)) away.0, shrunk at n k size ps low high away.1)
 
-  pub kept-on : (k size : ℕ) (cells after : Cells) (ps : List (ℕ × ℤ)) → ((j : ℕ) → Apart k size j 1 → cell_at after j ≡ cell_at cells j) → Away k size ps →
+  pub kept-on : (k size : ℕ) (cells after : Cells) (ps : List (ℕ × ℤ)) →
+      ((j : ℕ) → Apart k size j 1 → cell_at after j ≡ cell_at cells j) → Away k size ps →
       Kept cells ps → Kept after ps
   kept-on k size cells after [] same away kept = tt
   kept-on k size cells after (p ∷ ps) same away kept = (same p.0 away.0 ∙ kept.0, kept-on k size cells after ps same away.1 kept.1)
@@ -175,7 +201,8 @@ module _ (known : Sizes) (lists : Lists) (structs : Structs) (shaped : Shaped kn
       (same : (j : ℕ) → Apart k (size_of_type known ty) j 1 → cell_at after j ≡ cell_at cells j)
       (written : (rest : List Part) (kind : Scalar) → walk structs (Some (whole ty)) rest ≡ Some (whole (OfScalar kind)) →
       cell_at after (k + Offset (Some (whole ty)) rest) ≡ value rest)
-      (fits : (rest : List Part) (kind : Scalar) → walk structs (Some (whole ty)) rest ≡ Some (whole (OfScalar kind)) → in_range kind (value rest) ≡ true) where
+      (fits : (rest : List Part) (kind : Scalar) → walk structs (Some (whole ty)) rest ≡ Some (whole (OfScalar kind)) →
+      in_range kind (value rest) ≡ true) where
     within : (root : Root) (s : Stand) (parts : List Part) (kind : Scalar) → walk structs (Some (whole s.ty)) parts ≡ Some (whole (OfScalar kind)) →
         Offset (Some (whole s.ty)) parts + 1 ≤ size_of_type known s.ty
     within root s parts kind leads = walk-within known lists structs shaped (Some (whole s.ty)) (whole s.ty) (whole (OfScalar kind)) parts refl leads
@@ -187,7 +214,8 @@ module _ (known : Sizes) (lists : Lists) (structs : Structs) (shaped : Shaped kn
         let a = placed-within w place ty k p in
         let b = within root s parts kind leads in
         let c = p.is in
-        ⊎_elim (λ (l : p.it.at + size_of_type known p.it.ty ≤ s.at). inl (omega arith)) (λ (r : s.at + size_of_type known s.ty ≤ p.it.at). inr (omega arith))
+        ⊎_elim (λ (l : p.it.at + size_of_type known p.it.ty ≤ s.at). inl (omega arith))
+        (λ (r : s.at + size_of_type known s.ty ≤ p.it.at). inr (omega arith))
         (separate.apart place.root root p.it s p.there there differ)
 
     read-left : (parts : List Part) (kind : Scalar) (o : Option (List Part)) → left_after place.parts parts ≡ o →
@@ -225,7 +253,8 @@ module _ (known : Sizes) (lists : Lists) (structs : Structs) (shaped : Shaped kn
         same (s.at + Offset (Some (whole s.ty)) parts) (other-root root s parts kind there leads is) ∙ stands.reads root s parts kind there leads
     reads-after root s parts kind true is there leads =
         let e : p.it ≡ s = here-is root s there is in
-        let inner : walk structs (Some (whole p.it.ty)) parts ≡ Some (whole (OfScalar kind)) = ap (λ t. walk structs (Some (whole t.ty)) parts) e ∙ leads in
+        let inner : walk structs (Some (whole p.it.ty)) parts ≡ Some (whole (OfScalar kind)) =
+        ap (λ t. walk structs (Some (whole t.ty)) parts) e ∙ leads in
         ap (λ t. cell_at after (t.at + Offset (Some (whole t.ty)) parts)) (sym e) ∙ read-left parts kind (left_after place.parts parts) refl inner
         ∙ ap (λ r. number_or (left_after place.parts parts) value (memory r parts)) (root-is place.root root is)
 
@@ -235,7 +264,8 @@ module _ (known : Sizes) (lists : Lists) (structs : Structs) (shaped : Shaped kn
     ranges-after root s parts kind false is there leads = stands.ranges root s parts kind there leads
     ranges-after root s parts kind true is there leads =
         let e : p.it ≡ s = here-is root s there is in
-        let inner : walk structs (Some (whole p.it.ty)) parts ≡ Some (whole (OfScalar kind)) = ap (λ t. walk structs (Some (whole t.ty)) parts) e ∙ leads in
+        let inner : walk structs (Some (whole p.it.ty)) parts ≡ Some (whole (OfScalar kind)) =
+        ap (λ t. walk structs (Some (whole t.ty)) parts) e ∙ leads in
         ap (λ r. in_range kind (number_or (left_after place.parts parts) value (memory r parts))) (sym (root-is place.root root is))
         ∙ range-left parts kind (left_after place.parts parts) refl inner
 
@@ -262,7 +292,8 @@ module _ (known : Sizes) (lists : Lists) (structs : Structs) (shaped : Shaped kn
     scalar-end kind other (q ∷ []) h = cc
     scalar-end kind other (q ∷ r ∷ rest) h = cc
 
-    scalar-same : (kind other : Scalar) (rest : List Part) → walk structs (Some (whole (OfScalar kind))) rest ≡ Some (whole (OfScalar other)) → kind ≡ other
+    scalar-same : (kind other : Scalar) (rest : List Part) →
+        walk structs (Some (whole (OfScalar kind))) rest ≡ Some (whole (OfScalar other)) → kind ≡ other
     scalar-same kind other [] h = same kind other h
       where
         same : (a b : Scalar) → Some (whole (OfScalar a)) ≡ Some (whole (OfScalar b)) → a ≡ b
@@ -271,7 +302,8 @@ module _ (known : Sizes) (lists : Lists) (structs : Structs) (shaped : Shaped kn
     scalar-same kind other (q ∷ r ∷ rest) h = cc
 
     -- a scalar was set
-    pub set-stands : (place : Location) (kind : Scalar) (k : ℕ) (value : CValue) (n : ℤ) → PlacedAt w place (OfScalar kind) k → number_in value ≡ n →
+    pub set-stands : (place : Location) (kind : Scalar) (k : ℕ) (value : CValue) (n : ℤ) → PlacedAt w place (OfScalar kind) k →
+        number_in value ≡ n →
         in_range kind n ≡ true →
         Stands w (set_at memory place value) (slice_set cells k n)
     set-stands place kind k value n p is fits =

@@ -1,5 +1,28 @@
 -- Statements in a C text and over numbered cells.
-use Rattle.std.proofs.Common.{◌≡◌, ℕ, zero, suc, ◌+◌, ◌≤◌, ℤ, pos, Bool, true, false, not, ◌&&◌, List, [], ◌∷◌, ◌++◌, map, Option, Some, None, refl}
+use Rattle.std.proofs.Common.{
+  ◌≡◌,
+  ℕ,
+  zero,
+  suc,
+  ◌+◌,
+  ◌≤◌,
+  ℤ,
+  pos,
+  Bool,
+  true,
+  false,
+  not,
+  ◌&&◌,
+  List,
+  [],
+  ◌∷◌,
+  ◌++◌,
+  map,
+  Option,
+  Some,
+  None,
+  refl,
+}
 use Rattle.std.proofs.Common.{ap, sym, subst, ◌∙◌, arith}
 use Rattle.std.specs.Prelude.{All, is_some, if◌then◌else◌}
 use Rattle.std.proofs.lemmas.List.Elements.{All-cons, All-head, All-nil, All-tail}
@@ -105,7 +128,8 @@ module _ (known : Sizes) (lists : Lists) (structs : Structs) (shaped : Shaped kn
   unending None end is = tt
   unending (Some t) end is = subst (EndRanged (Some t)) (sym is) tt
 
-  following-agrees : (n k : ℕ) (memory : Memory) (cells : Cells) (end : End) (f : Memory → Outcome) (g : Cells → Ran) → n ≡ k → Stood memory cells →
+  following-agrees : (n k : ℕ) (memory : Memory) (cells : Cells) (end : End) (f : Memory → Outcome) (g : Cells → Ran) → n ≡ k →
+      Stood memory cells →
       EndRanged context.result end → RunAgrees (f memory) (g cells) →
       RunAgrees (following_end_c n memory end f) (following_end k cells end g)
   following-agrees n k memory cells goes_on f g same stood range rest = let e = rest.count in
@@ -114,7 +138,8 @@ module _ (known : Sizes) (lists : Lists) (structs : Structs) (shaped : Shaped kn
   following-agrees n k memory cells (returns r) f g same stood range rest = record { count = same; end = refl; stands = stood; range = range }
   following-agrees n k memory cells traps f g same stood range rest = record { count = same; end = refl; stands = stood; range = range }
 
-  turn-end-agrees : (n k : ℕ) (memory : Memory) (cells : Cells) (end : End) (f : Memory → Outcome) (g : Cells → Ran) → n ≡ k → Stood memory cells →
+  turn-end-agrees : (n k : ℕ) (memory : Memory) (cells : Cells) (end : End) (f : Memory → Outcome) (g : Cells → Ran) → n ≡ k →
+      Stood memory cells →
       EndRanged context.result end → RunAgrees (f memory) (g cells) →
       RunAgrees (turn_end_c n memory end f) (turn_end k cells end g)
   turn-end-agrees n k memory cells goes_on f g same stood range rest = let e = rest.count in
@@ -124,7 +149,8 @@ module _ (known : Sizes) (lists : Lists) (structs : Structs) (shaped : Shaped kn
   turn-end-agrees n k memory cells (returns r) f g same stood range rest = record { count = same; end = refl; stands = stood; range = range }
   turn-end-agrees n k memory cells traps f g same stood range rest = record { count = same; end = refl; stands = stood; range = range }
 
-  turn-agrees : (b : Bool) (memory : Memory) (cells : Cells) (f : Memory → Outcome) (g : Cells → Ran) → Stood memory cells → RunAgrees (f memory) (g cells) →
+  turn-agrees : (b : Bool) (memory : Memory) (cells : Cells) (f : Memory → Outcome) (g : Cells → Ran) → Stood memory cells →
+      RunAgrees (f memory) (g cells) →
       RunAgrees (turn_or_none_c b memory f) (turn_or_none b g cells)
   turn-agrees true memory cells f g stood h = let e = h.count in record { count = omega arith; end = h.end; stands = h.stands; range = h.range }
   turn-agrees false memory cells f g stood h = record { count = refl; end = refl; stands = stood; range = unending context.result goes_on refl }
@@ -170,7 +196,8 @@ module _ (known : Sizes) (lists : Lists) (structs : Structs) (shaped : Shaped kn
 
   -- ---- each kind
 
-  condition-agrees : (e : CExpr) → condition_faults e context ≡ [] → Roomy (calls_in e) → spells_expr e ≡ true → Conditions (value_c e) (value_flat e ground)
+  condition-agrees : (e : CExpr) → condition_faults e context ≡ [] → Roomy (calls_in e) → spells_expr e ≡ true →
+      Conditions (value_c e) (value_flat e ground)
   condition-agrees e none room spelled memory cells stood =
       let h = expr-agrees known lists structs shaped limit context scope ground chains base w running memory e (nil-left _ _ none) room spelled cells stood in
       record {
@@ -229,7 +256,8 @@ module _ (known : Sizes) (lists : Lists) (structs : Structs) (shaped : Shaped kn
     pub count : c.count ≡ l.count
     pub result : RunAgrees (ended_by_c memory (1 + c.count) c.answer going_c) (ended_by l.cells (1 + l.count) l.answer (λ after v. going after))
 
-  set-value : (memory : Memory) (l : Location) (k n m : ℕ) (cells : Cells) (a : Option CValue) (b : Option ℤ) (goal : CType) (reached typed : Option CType) →
+  set-value : (memory : Memory) (l : Location) (k n m : ℕ) (cells : Cells) (a : Option CValue) (b : Option ℤ) (goal : CType)
+      (reached typed : Option CType) →
       n ≡ m → Stood memory cells → Matches (Value memory typed) a b →
       reached ≡ Some goal → agree (Some goal) typed ≡ true → PlacedAt known lists structs shaped limit w l goal k →
       SetAgrees memory (going_on_c n a (λ v. given (Some (set_at memory l v))))
@@ -273,7 +301,8 @@ module _ (known : Sizes) (lists : Lists) (structs : Structs) (shaped : Shaped kn
   -- ---- statements
 
   abbrev OfStmt : CStmt → Type 0
-  OfStmt s = (looped : Bool) → faults_in_stmt s context looped ≡ [] → Roomy (calls_in_stmt s) → spells_stmt s ≡ true → (memory : Memory) (cells : Cells) →
+  OfStmt s = (looped : Bool) → faults_in_stmt s context looped ≡ [] → Roomy (calls_in_stmt s) → spells_stmt s ≡ true →
+      (memory : Memory) (cells : Cells) →
       Stood memory cells →
       RunAgrees (runs_c s scope memory) (runs_flat s ground base cells)
 
@@ -300,7 +329,8 @@ module _ (known : Sizes) (lists : Lists) (structs : Structs) (shaped : Shaped kn
       ++ ((judged_expr e context).faults ++ (unless (agree (judged_place p context at).ty (judged_expr e context).ty) assigned_type at
       ++ unless (not (context.keeps && (judged_place p context at).through)) changes_nothing at)) ≡ [] →
       Roomy (calls_in_place p ++ calls_in e) → (spells_place p && spells_expr e) ≡ true → (memory : Memory) (cells : Cells) → Stood memory cells →
-      RunAgrees (executed_c memory (next_c (location_c p scope memory) (λ l. next_c (value_c e scope memory) (λ v. given (Some (set_at memory l v))))) going_c)
+      RunAgrees (executed_c memory (next_c (location_c p scope memory)
+      (λ l. next_c (value_c e scope memory) (λ v. given (Some (set_at memory l v))))) going_c)
       (executed 1 (next (address_of (reach_flat p ground) base cells)
       (λ c k. next (value_flat e ground base c) (λ d v. left (written_at ground.sizes (reach_flat p ground).ty k v d) (Some v)))) (λ c v. going c))
   set-case at p e looped none room spelled memory cells stood =
@@ -343,7 +373,8 @@ module _ (known : Sizes) (lists : Lists) (structs : Structs) (shaped : Shaped kn
       (address_of (reach_flat p ground) base cells) (λ l. going_c (set_at memory l zeros))
       (λ c k. going (zeroed (entry_or 0 ground.sizes name) k c)) (f.moves cells stood)
       (λ l k after placed there.
-      let here : PlacedAt known lists structs shaped limit w l (OfStruct name) k = subst (λ t. PlacedAt known lists structs shaped limit w l t k) goal placed in
+      let here : PlacedAt known lists structs shaped limit w l (OfStruct name) k =
+      subst (λ t. PlacedAt known lists structs shaped limit w l t k) goal placed in
       let a : k + size_of_type known (OfStruct name) ≤ w.top = placed-below known lists structs shaped limit w l (OfStruct name) k running.separate here in
       let low = running.low in
       let small = running.small in
@@ -372,7 +403,8 @@ module _ (known : Sizes) (lists : Lists) (structs : Structs) (shaped : Shaped kn
   choose-agrees true f g h k memory cells x y = x
   choose-agrees false f g h k memory cells x y = y
 
-  if-case : (e : CExpr) (block other : RunsC) (flat-block flat-other : Runs) → condition_faults e context ≡ [] → Roomy (calls_in e) → spells_expr e ≡ true →
+  if-case : (e : CExpr) (block other : RunsC) (flat-block flat-other : Runs) → condition_faults e context ≡ [] →
+      Roomy (calls_in e) → spells_expr e ≡ true →
       ((memory : Memory) (cells : Cells) → Stood memory cells → RunAgrees (block scope memory) (flat-block ground base cells)) →
       ((memory : Memory) (cells : Cells) → Stood memory cells → RunAgrees (other scope memory) (flat-other ground base cells)) →
       (memory : Memory) (cells : Cells) → Stood memory cells →

@@ -1,5 +1,28 @@
 -- Values and arguments in a C text and over numbered cells.
-use Rattle.std.proofs.Common.{◌≡◌, ℕ, ℤ, pos, negsuc, Bool, true, false, not, List, [], ◌∷◌, map, Option, Some, None, refl, ap, sym, subst, ◌∙◌, arith}
+use Rattle.std.proofs.Common.{
+  ◌≡◌,
+  ℕ,
+  ℤ,
+  pos,
+  negsuc,
+  Bool,
+  true,
+  false,
+  not,
+  List,
+  [],
+  ◌∷◌,
+  map,
+  Option,
+  Some,
+  None,
+  refl,
+  ap,
+  sym,
+  subst,
+  ◌∙◌,
+  arith,
+}
 use Rattle.std.specs.Prelude.{if◌then◌else◌}
 use Rattle.std.proofs.lemmas.Int.{ints}
 use Rattle.std.proofs.lemmas.Slice.Eq.{bytes_eq-Decides}
@@ -146,7 +169,8 @@ module _ (known : Sizes) (lists : Lists) (structs : Structs) (shaped : Shaped kn
   value-agrees (Some ty) other v n h valued = subst (λ t. ValueAs t v n) (same-type ty other h) valued
 
   -- the same, for what `&&` and `||` take
-  pub value-typed : (ty : Option CType) (other : CType) (v : CValue) (n : ℤ) → if_typed ty (λ t. same_type t other) ≡ true → Value ty v n → ValueAs other v n
+  pub value-typed : (ty : Option CType) (other : CType) (v : CValue) (n : ℤ) → if_typed ty (λ t. same_type t other) ≡ true →
+      Value ty v n → ValueAs other v n
   value-typed None other v n h valued = absurd valued
   value-typed (Some ty) other v n h valued = subst (λ t. ValueAs t v n) (same-type ty other h) valued
 
@@ -170,7 +194,8 @@ module _ (known : Sizes) (lists : Lists) (structs : Structs) (shaped : Shaped kn
   pointer-so false true h = cc
   pointer-so false false h = refl
 
-  value-for : (ty : CType) (given : Option CType) (v : CValue) (n : ℤ) → if_typed given (fits_param false ty) ≡ true → Value given v n → ValueAs ty v n
+  value-for : (ty : CType) (given : Option CType) (v : CValue) (n : ℤ) → if_typed given (fits_param false ty) ≡ true →
+      Value given v n → ValueAs ty v n
   value-for ty None v n h valued = absurd valued
   value-for ty (Some t) v n h valued = subst (λ x. ValueAs x v n) (sym (same-type ty t h)) valued
 
@@ -194,7 +219,8 @@ module _ (known : Sizes) (lists : Lists) (structs : Structs) (shaped : Shaped kn
   )
 
   -- arguments that fit a function of the file
-  pub passed-all : (params : List Variable) (js : List JudgedArg) (vs : List Passed) (ns : List ℤ) → fit_each false params js ≡ true → PassedList js vs ns →
+  pub passed-all : (params : List Variable) (js : List JudgedArg) (vs : List Passed) (ns : List ℤ) →
+      fit_each false params js ≡ true → PassedList js vs ns →
       PassedAll known lists structs shaped limit w memory params vs ns
   passed-all [] [] [] [] h passes = tt
   passed-all (p ∷ ps) (j ∷ js) (v ∷ vs) (n ∷ ns) h passes =
@@ -234,7 +260,8 @@ module _ (known : Sizes) (lists : Lists) (structs : Structs) (shaped : Shaped kn
   widened (Nat W32) ty v n h valued = scalar-as (Nat W32) ty v n h valued
   widened (Bits w) ty v n h valued = scalar-as (Bits w) ty v n h valued
 
-  widened-if : (t : Scalar) (ty : Option CType) (v : CValue) (n : ℤ) → if_typed ty (fits_param true (OfScalar t)) ≡ true → Value ty v n → Fitting t v n
+  widened-if : (t : Scalar) (ty : Option CType) (v : CValue) (n : ℤ) → if_typed ty (fits_param true (OfScalar t)) ≡ true →
+      Value ty v n → Fitting t v n
   widened-if t None v n h valued = absurd valued
   widened-if t (Some ty) v n h valued = widened t ty v n h valued
 

@@ -1,5 +1,27 @@
 -- How many cells stand before a part of a value.
-use Rattle.std.proofs.Common.{◌≡◌, ℕ, zero, suc, ◌+◌, ◌*◌, ◌≤◌, ◌<◌, inl, inr, ⊎_elim, Bool, true, false, List, [], ◌∷◌, ◌++◌, map, Option, Some}
+use Rattle.std.proofs.Common.{
+  ◌≡◌,
+  ℕ,
+  zero,
+  suc,
+  ◌+◌,
+  ◌*◌,
+  ◌≤◌,
+  ◌<◌,
+  inl,
+  inr,
+  ⊎_elim,
+  Bool,
+  true,
+  false,
+  List,
+  [],
+  ◌∷◌,
+  ◌++◌,
+  map,
+  Option,
+  Some,
+}
 use Rattle.std.proofs.Common.{None, refl, ap, sym, ◌∙◌, arith, suc-mul}
 use Rattle.std.specs.Prelude.{unwrap_or, option_map, option_and_then, nat_lt, ◌==◌, if◌then◌else◌}
 use Rattle.std.proofs.lemmas.Grind.{common_steps}
@@ -113,7 +135,8 @@ module _ (known : Sizes) (lists : Lists) (structs : Structs) (shaped : Shaped kn
   pub stepped : (struct name : Text) (next : Spot) → step_in structs (whole (OfStruct struct)) (member name) ≡ Some next → Stepped struct name next
   stepped struct name next h = chosen (lists struct) refl (sym (ap (λ o. spot_if (option_and_then (λ members. members name) o)) (shaped.tables struct)) ∙ h)
     where
-      with_member : (list : List CMember) → lists struct ≡ Some list → (o : Option CMember) → found name (by_name list) ≡ o → spot_if o ≡ Some next →
+      with_member : (list : List CMember) → lists struct ≡ Some list → (o : Option CMember) → found name (by_name list) ≡ o →
+          spot_if o ≡ Some next →
           Stepped struct name next
       with_member list is None at k = cc
       with_member list is (Some m) at k = record { list = list; is = is; it = m; there = at; spot = some_spot (spot_of m) next k }
@@ -213,7 +236,8 @@ module _ (known : Sizes) (lists : Lists) (structs : Structs) (shaped : Shaped kn
 
   pub walk-within : (o : Option Spot) (spot goal : Spot) (ps : List Part) → o ≡ Some spot → walk structs o ps ≡ Some goal →
       way_offset known lists structs o ps + spot_size known goal ≤ spot_size known spot
-  walk-within o spot goal [] is h = let e : spot_size known spot ≡ spot_size known goal = ap (spot_size known) (some_spot spot goal (sym is ∙ h)) in omega arith
+  walk-within o spot goal [] is h = let e : spot_size known spot ≡ spot_size known goal =
+      ap (spot_size known) (some_spot spot goal (sym is ∙ h)) in omega arith
   walk-within None spot goal (p ∷ ps) is h = cc
   walk-within (Some x) spot goal (p ∷ ps) is h =
       through (step_in structs x p) refl h (λ next at k. walk-within (step_in structs x p) next goal ps at (ap (λ o. walk structs o ps) at ∙ k))
@@ -238,7 +262,8 @@ module _ (known : Sizes) (lists : Lists) (structs : Structs) (shaped : Shaped kn
   left-is (p ∷ ps) [] rest h = cc
   left-is (p ∷ ps) (q ∷ qs) rest h = chosen (same_part p q) refl h (λ k. left-is ps qs rest k)
     where
-      chosen : (b : Bool) → same_part p q ≡ b → (if b then left_after ps qs else None) ≡ Some rest → (left_after ps qs ≡ Some rest → qs ≡ ps ++ rest) →
+      chosen : (b : Bool) → same_part p q ≡ b → (if b then left_after ps qs else None) ≡ Some rest →
+          (left_after ps qs ≡ Some rest → qs ≡ ps ++ rest) →
           q ∷ qs ≡ (p ∷ ps) ++ rest
       chosen true is k inner = ap (λ x. x ∷ qs) (sym (same-part-is p q is)) ∙ ap (λ xs. p ∷ xs) (inner k)
       chosen false is k inner = cc
@@ -271,7 +296,8 @@ module _ (known : Sizes) (lists : Lists) (structs : Structs) (shaped : Shaped kn
           let inner-b : way_offset known lists structs (step_in structs spot q) qs + 1 ≤ spot_size known b =
           walk-within (step_in structs spot q) b (whole (OfScalar kind)) qs ib (ap (λ o. walk structs o qs) ib ∙ wb) in
           ⊎_elim (λ (l : part_offset known lists spot p + spot_size known a ≤ part_offset known lists spot q). inl (omega arith))
-          (λ (r : part_offset known lists spot q + spot_size known b ≤ part_offset known lists spot p). inr (omega arith)) (step-apart spot a b p q ia ib other)
+          (λ (r : part_offset known lists spot q + spot_size known b ≤ part_offset known lists spot p). inr (omega arith))
+          (step-apart spot a b p q ia ib other)
 
       same : (b : Bool) → same_part p q ≡ b → (if b then left_after ps qs else None) ≡ None →
           (walk structs (step_in structs spot p) qs ≡ Some (whole (OfScalar kind)) → left_after ps qs ≡ None →

@@ -1,5 +1,24 @@
 -- Values of C types, and memories in which every place has a value of its type.
-use Rattle.std.specs.Prelude.{◌≡◌, ℕ, ℤ, Bool, true, false, ◌&&◌, nat_lt, List, [], ◌∷◌, map, flat_map, Option, Some, None, option_and_then, codes}
+use Rattle.std.specs.Prelude.{
+  ◌≡◌,
+  ℕ,
+  ℤ,
+  Bool,
+  true,
+  false,
+  ◌&&◌,
+  nat_lt,
+  List,
+  [],
+  ◌∷◌,
+  map,
+  flat_map,
+  Option,
+  Some,
+  None,
+  option_and_then,
+  codes,
+}
 use Rattle.std.specs.Prelude.{if◌then◌else◌}
 use Rattle.std.specs.List.{list_all}
 use Rattle.bl_tree.specs.declared.text.Text.{Text}
@@ -115,7 +134,8 @@ ReadingFits file = WellFormed file → (types : RootTypes) (memory : Memory) (pl
 abbrev pub SettingFits : Parts → Type 0
 SettingFits file = WellFormed file → (types : RootTypes) (memory : Memory) (place : Location) (ty : CType) (value : CValue) →
     MemoryFits file.structs types memory →
-    place_type file.structs types place ≡ Some ty → fits (scalars file.structs) ty value ≡ true → MemoryFits file.structs types (set_at memory place value)
+    place_type file.structs types place ≡ Some ty → fits (scalars file.structs) ty value ≡ true →
+    MemoryFits file.structs types (set_at memory place value)
 
 -- whether the number of a cell is in its range
 abbrev pub cell_holds : Memory → Cell → Bool
@@ -128,5 +148,6 @@ CellsFit file = (types : RootTypes) (memory : Memory) → ObjectsAre types → M
 
 -- a function of the prelude that is given numbers of its parameters' types gives one of its result's type, where it doesn't trap
 abbrev pub BuiltinsFit : Type 0
-BuiltinsFit = (name : Text) (b : Builtin) (numbers : List ℤ) (t : Scalar) (n : ℤ) → builtin_of name ≡ Some b → in_ranges (builtin_params b) numbers ≡ true →
+BuiltinsFit = (name : Text) (b : Builtin) (numbers : List ℤ) (t : Scalar) (n : ℤ) → builtin_of name ≡ Some b →
+    in_ranges (builtin_params b) numbers ≡ true →
     builtin_result b ≡ Some t → builtin_value b numbers ≡ Some n → in_range t n ≡ true

@@ -1,7 +1,27 @@
 -- What C expressions, statements and functions do over numbered cells: a place is the number of its first cell, a pointer such a
 -- number, and the frame of a function that runs begins at its base. How statements end, what they count and in which order things are
 -- evaluated is as in the meaning of C texts. Where a form has no meaning there, some value is given.
-use Rattle.std.specs.Prelude.{ℕ, zero, suc, ◌+◌, ◌*◌, ℤ, pos, negsuc, Bool, true, false, ◌&&◌, nat_le, List, [], ◌∷◌, map, length, slice_set}
+use Rattle.std.specs.Prelude.{
+  ℕ,
+  zero,
+  suc,
+  ◌+◌,
+  ◌*◌,
+  ℤ,
+  pos,
+  negsuc,
+  Bool,
+  true,
+  false,
+  ◌&&◌,
+  nat_le,
+  List,
+  [],
+  ◌∷◌,
+  map,
+  length,
+  slice_set,
+}
 use Rattle.std.specs.Prelude.{slice_index_or, Option, Some, None, option_map, if◌then◌else◌, not, int_lt, int_le}
 use Rattle.std.specs.List.{copy_within}
 use Rattle.std.specs.Ordering.{int_eq}
@@ -156,7 +176,8 @@ Grounded A = Ground Routine → A
 
 -- a part of an expression, where each part within it is evaluated so
 abbrev pub Evaluating : OpenPart → Type 0
-Evaluating Of = Of (Grounded (Evaluates ℤ)) (Grounded (Evaluates ℤ)) (Grounded (Evaluates ℤ)) (Grounded (Evaluates ℤ)) (Grounded (Index (Evaluates ℤ)))
+Evaluating Of = Of (Grounded (Evaluates ℤ)) (Grounded (Evaluates ℤ)) (Grounded (Evaluates ℤ)) (Grounded (Evaluates ℤ))
+    (Grounded (Index (Evaluates ℤ)))
     (Grounded (Reach (Evaluates ℤ))) (Step Routine (Evaluates ℤ))
 
 abbrev pub arg_step : Evaluating CArg-F → Grounded (Evaluates ℤ)

@@ -1,6 +1,25 @@
 -- What holds of every C file that is run over numbered cells.
 use Rattle.bl_tree.specs.Ports.{in_ranges, row_fits}
-use Rattle.std.specs.Prelude.{◌≡◌, ◌≤◌, ℕ, ◌+◌, ℤ, pos, true, List, [], ◌∷◌, ◌++◌, map, length, take, drop, replicate, codes, is_some}
+use Rattle.std.specs.Prelude.{
+  ◌≡◌,
+  ◌≤◌,
+  ℕ,
+  ◌+◌,
+  ℤ,
+  pos,
+  true,
+  List,
+  [],
+  ◌∷◌,
+  ◌++◌,
+  map,
+  length,
+  take,
+  drop,
+  replicate,
+  codes,
+  is_some,
+}
 use Rattle.std.specs.List.{list_all}
 use Rattle.bl_tree.specs.declared.text.Text.{Text}
 use Rattle.bl_tree.specs.declared.scalar.Scalar.{Scalar}
@@ -93,7 +112,8 @@ TicksRun file = WellFormed file → cells_needed file ≤ 1000000 → (numbers o
     row_fits (inputs_of file) ins ≡ true →
     cells_needed file ≤ length (numbers ++ others) →
     SameTick file (tick_c file numbers ins)
-    (entered_flat file (codes "bl_tick") (pos 0 ∷ pos (input_at file) ∷ pos (output_at file) ∷ []) (with_args (input_at file + 1) ins (numbers ++ others)))
+    (entered_flat file (codes "bl_tick") (pos 0 ∷ pos (input_at file) ∷ pos (output_at file) ∷ [])
+    (with_args (input_at file + 1) ins (numbers ++ others)))
 
 -- the start in a C text and over numbered cells
 pub record SameStart (file : Parts) (l : Left ℤ) : Type 0 where

@@ -52,7 +52,8 @@ pub record Slot : Type 0 where
 
 abbrev pub locals_laid : Sizes → ℕ → List CLocal → List (Text × Slot)
 locals_laid known at [] = []
-locals_laid known at (l ∷ rest) = (l.name, record { at = at; pointer = Bool.false; ty = l.ty }) ∷ locals_laid known (capped (at + size_of_type known l.ty)) rest
+locals_laid known at (l ∷ rest) = (l.name, record { at = at; pointer = Bool.false; ty = l.ty })
+    ∷ locals_laid known (capped (at + size_of_type known l.ty)) rest
 
 -- the parameters, and then these locals
 abbrev pub params_laid : Sizes → ℕ → List CParam → List CLocal → List (Text × Slot)

@@ -128,7 +128,8 @@ call-halts steps code (Some f) e base args m is p =
     some_is a b h = cc
 
 -- what a run's end says of an answer
-end-says : (s : State) (cells : List ℤ) (count : ℕ) (o answer : Option ℤ) (before after : Shown) → s.waiting ≡ [] → s.cells ≡ cells → s.count ≡ count →
+end-says : (s : State) (cells : List ℤ) (count : ℕ) (o answer : Option ℤ) (before after : Shown) → s.waiting ≡ [] →
+    s.cells ≡ cells → s.count ≡ count →
     Ended before (ended s o) answer after → (answer ≡ o) × Over cells count before.numbers before.calls after
 end-says s cells count None None before after w c n e =
     (refl, subst (λ k. Over k count before.numbers before.calls after) c (subst (λ k. Over s.cells k before.numbers before.calls after) n e))
@@ -142,8 +143,10 @@ end-says s cells count (Some r) answer before after w c n e = put s.waiting w an
         (ap Some e.1, subst (λ k. Over k count before.numbers before.calls after) c (subst (λ k. Over s.cells k before.numbers before.calls after) n e.0))
     put (x ∷ xs) w answer e = cc
 
-pub call-done : (steps : ℕ) (code : Code) (o : Option CodeEntry) (e : CodeEntry) (base : ℕ) (args : List ℤ) (m after : Shown) (called : Called) → o ≡ Some e →
-    ((room : Room) (end : Stepped) → Arrives code room (begun (entry_for e) base args m.state.cells [] 0) end → IsEnd end → Ended m end called.answer after) →
+pub call-done : (steps : ℕ) (code : Code) (o : Option CodeEntry) (e : CodeEntry) (base : ℕ) (args : List ℤ) (m after : Shown)
+    (called : Called) → o ≡ Some e →
+    ((room : Room) (end : Stepped) → Arrives code room (begun (entry_for e) base args m.state.cells [] 0) end → IsEnd end →
+    Ended m end called.answer after) →
     called.count ≡ shown_count after.state.count →
     (l : Left ℤ) → Comes steps code o base args m l → CallDone l m called after
 call-done steps code None e base args m after called is ends count l h = cc

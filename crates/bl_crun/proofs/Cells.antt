@@ -1,5 +1,25 @@
 -- No cell of the three objects lies within another, so each keeps its number while another is set.
-use Rattle.std.proofs.Common.{◌≡◌, ℕ, zero, suc, ◌<◌, ℤ, Bool, true, false, not, ◌&&◌, ◌||◌, List, [], ◌∷◌, ◌++◌, length, slice_get, slice_set}
+use Rattle.std.proofs.Common.{
+  ◌≡◌,
+  ℕ,
+  zero,
+  suc,
+  ◌<◌,
+  ℤ,
+  Bool,
+  true,
+  false,
+  not,
+  ◌&&◌,
+  ◌||◌,
+  List,
+  [],
+  ◌∷◌,
+  ◌++◌,
+  length,
+  slice_get,
+  slice_set,
+}
 use Rattle.std.proofs.Common.{Option, Some, None, refl, ap, sym, subst, ◌∙◌, arith, append-nil, append_assoc, length-append}
 use Rattle.std.specs.Prelude.{is_some, is_none, bytes_eq, codes, ◌==◌, if◌then◌else◌}
 use Rattle.std.proofs.lemmas.Grind.{common_steps}
@@ -71,7 +91,8 @@ nothing-left (p ∷ ps) = chosen-true (same_part p p) (left_after ps ps) None (s
 set-there : (memory : Memory) (l : Location) (n : ℤ) → number_in (value_at (set_at memory l (scalar n)) l) ≡ n
 set-there memory l n =
     ap (set_at memory l (scalar n) l.root) (append-nil l.parts)
-    ∙ ap (λ (v : CValue). v l.parts) (chosen-true (same_root l.root l.root) (with_part (memory l.root) l.parts (scalar n)) (memory l.root) (same-root l.root))
+    ∙ ap (λ (v : CValue). v l.parts) (chosen-true (same_root l.root l.root) (with_part (memory l.root) l.parts (scalar n))
+    (memory l.root) (same-root l.root))
     ∙ ap (λ o. number_or o (scalar n) (memory l.root l.parts)) (nothing-left l.parts)
 
 -- ---- lists of cells
@@ -140,10 +161,12 @@ or-second false b h = h
 strange-spared : (r : Root) (l : Location) (cs : List Cell) → l.root ≡ r → list_all (strange r) cs ≡ true → list_all (spared l) cs ≡ true
 strange-spared r l [] is all = refl
 strange-spared r l (c ∷ cs) is all =
-    and-both _ _ (or-first _ _ (ap (λ q. not (same_root q c.location.root)) is ∙ and-left (not (same_root r c.location.root)) _ (and-left (strange r c) _ all)))
+    and-both _ _ (or-first _ _ (ap (λ q. not (same_root q c.location.root)) is
+    ∙ and-left (not (same_root r c.location.root)) _ (and-left (strange r c) _ all)))
     (strange-spared r l cs is (and-right (strange r c) _ all))
 
-strange-spares : (r : Root) (d : Cell) (cs : List Cell) → d.location.root ≡ r → list_all (strange r) cs ≡ true → list_all (λ c. spared c.location d) cs ≡ true
+strange-spares : (r : Root) (d : Cell) (cs : List Cell) → d.location.root ≡ r → list_all (strange r) cs ≡ true →
+    list_all (λ c. spared c.location d) cs ≡ true
 strange-spares r d [] is all = refl
 strange-spares r d (c ∷ cs) is all =
     and-both _ _ (or-first _ _

@@ -1,5 +1,27 @@
 -- What is prepared after the start and after a tick.
-use Rattle.std.proofs.Common.{◌≡◌, ℕ, ◌+◌, ◌≤◌, ◌<◌, ◌^◌, ℤ, pos, true, List, [], ◌∷◌, length, take, drop, ◌-◌, replicate, Option, Some, None, refl}
+use Rattle.std.proofs.Common.{
+  ◌≡◌,
+  ℕ,
+  ◌+◌,
+  ◌≤◌,
+  ◌<◌,
+  ◌^◌,
+  ℤ,
+  pos,
+  true,
+  List,
+  [],
+  ◌∷◌,
+  length,
+  take,
+  drop,
+  ◌-◌,
+  replicate,
+  Option,
+  Some,
+  None,
+  refl,
+}
 use Rattle.std.proofs.Common.{ap, sym, subst, ◌∙◌, arith}
 use Rattle.std.specs.Prelude.{codes, is_some, min, option_map}
 use Rattle.bl_bytecode.specs.Code.{Code}
@@ -70,7 +92,8 @@ pub start-comes : (file : Parts) (p : Prepared) → Keeps file p →
     Comes (steps_of file (codes "bl_init") (pos 0 ∷ []) p.machine.state.cells) p.code.items p.init p.base (pos 0 ∷ []) p.machine (Start file p)
 start-comes file p k = file-comes file (codes "bl_init") (pos 0 ∷ []) p.machine p.code.items p.init p.base k.code k.init k.base k.numbers k.calls
 
-module _ (file : Parts) (p : Prepared) (k : Keeps file p) (agrees : StartsAgree file) (cleared : p.machine.state.cells ≡ replicate (cells_needed file) (pos 0))
+module _ (file : Parts) (p : Prepared) (k : Keeps file p) (agrees : StartsAgree file)
+    (cleared : p.machine.state.cells ≡ replicate (cells_needed file) (pos 0))
     (called : Called) (after : Shown) (done : CallDone (entered_flat file (codes "bl_init") (pos 0 ∷ []) p.machine.state.cells) p.machine called after) where
   started : IsStart file (Start file p)
   started = start-is file k.runs agrees p.machine.state.cells cleared
@@ -100,7 +123,8 @@ tick-comes file p m ins k is =
     file-comes file (codes "bl_tick") (Args p) m p.code.items p.tick p.base k.code k.tick k.base
     (subst (λ (x : Shown). length p.code.items ≤ x.numbers) (sym is) k.numbers) (subst (λ (x : Shown). length file.funcs ≤ x.calls) (sym is) k.calls)
 
-tick-called : (file : Parts) (p : Prepared) (m : Shown) (ins : List ℤ) → Keeps file p → m ≡ Set p ins → (code : Code) → code ≡ p.code.items → (args : List ℤ) →
+tick-called : (file : Parts) (p : Prepared) (m : Shown) (ins : List ℤ) → Keeps file p → m ≡ Set p ins → (code : Code) →
+    code ≡ p.code.items → (args : List ℤ) →
     args ≡ Args p →
     Comes (steps_of file (codes "bl_tick") args m.state.cells) code p.tick p.base args m (entered_flat file (codes "bl_tick") args m.state.cells)
 tick-called file p m ins keeps is code code-is args args-are =
@@ -109,7 +133,8 @@ tick-called file p m ins keeps is code code-is args args-are =
     (subst (λ given. Comes (steps_of file (codes "bl_tick") given m.state.cells) p.code.items p.tick p.base given m
     (entered_flat file (codes "bl_tick") given m.state.cells)) (sym args-are) (tick-comes file p m ins keeps is))
 
-pub tick-required : (file : Parts) (p : Prepared) (m : Shown) (ins : List ℤ) → Keeps file p → m ≡ Set p ins → (code : Code) → code ≡ p.code.items →
+pub tick-required : (file : Parts) (p : Prepared) (m : Shown) (ins : List ℤ) → Keeps file p → m ≡ Set p ins → (code : Code) →
+    code ≡ p.code.items →
     (args : List ℤ) → args ≡ Args p →
     (l : Left ℤ) × Comes (steps_of file (codes "bl_tick") args m.state.cells) code p.tick p.base args m l
 tick-required file p m ins keeps is code code-is args args-are =
@@ -126,7 +151,8 @@ tick-done file p m ins keeps is code code-is args args-are called after does =
 start-called : (file : Parts) (p : Prepared) → Keeps file p → (code : Code) → code ≡ p.code.items →
     Comes (steps_of file (codes "bl_init") (pos 0 ∷ []) p.machine.state.cells) code p.init p.base (pos 0 ∷ []) p.machine (Start file p)
 start-called file p keeps code code-is =
-    subst (λ k. Comes (steps_of file (codes "bl_init") (pos 0 ∷ []) p.machine.state.cells) k p.init p.base (pos 0 ∷ []) p.machine (Start file p)) (sym code-is)
+    subst (λ k. Comes (steps_of file (codes "bl_init") (pos 0 ∷ []) p.machine.state.cells) k p.init p.base (pos 0 ∷ []) p.machine
+    (Start file p)) (sym code-is)
     (start-comes file p keeps)
 
 pub start-required : (file : Parts) (p : Prepared) → Keeps file p → (code : Code) → code ≡ p.code.items →
@@ -139,14 +165,16 @@ pub start-done : (file : Parts) (p : Prepared) → Keeps file p → (code : Code
     CallDone (entered_flat file (codes "bl_init") (pos 0 ∷ []) p.machine.state.cells) p.machine called after
 start-done file p keeps code code-is called after does = does (Start file p) (start-called file p keeps code code-is)
 
-pub set-within : (file : Parts) (p : Prepared) (ins : List ℤ) → Keeps file p → PortsStand file → row_fits (inputs_of file) ins ≡ true → (k : ℕ) → k < length ins →
+pub set-within : (file : Parts) (p : Prepared) (ins : List ℤ) → Keeps file p → PortsStand file →
+    row_fits (inputs_of file) ins ≡ true → (k : ℕ) → k < length ins →
     p.input_at + 1 + k < length p.machine.state.cells
 set-within file p ins keeps stand fits k within =
     let at = keeps.input_at in
     let h = inputs-within file keeps.runs stand ins p.machine.state.cells keeps.cells.room fits k within in
     omega arith
 
-module _ (file : Parts) (p : Prepared) (k : Keeps file p) (agrees : TicksAgree file) (stand : PortsStand file) (ins : List ℤ) (fits : row_fits (inputs_of file) ins ≡ true)
+module _ (file : Parts) (p : Prepared) (k : Keeps file p) (agrees : TicksAgree file) (stand : PortsStand file) (ins : List ℤ)
+    (fits : row_fits (inputs_of file) ins ≡ true)
     (m : Shown) (is : m ≡ holding p.machine (with_args (p.input_at + 1) ins p.machine.state.cells))
     (called : Called) (after : Shown)
     (done : CallDone (entered_flat file (codes "bl_tick") (pos 0 ∷ pos p.input_at ∷ pos p.output_at ∷ []) m.state.cells) m called after) where

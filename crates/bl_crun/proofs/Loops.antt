@@ -1,5 +1,27 @@
 -- The loops over rows.
-use Rattle.std.proofs.Common.{◌≡◌, ℕ, zero, suc, ◌+◌, ◌≤◌, ◌<◌, ℤ, pos, Bool, true, false, ◌&&◌, List, [], ◌∷◌, ◌++◌, length, take, drop, get_or}
+use Rattle.std.proofs.Common.{
+  ◌≡◌,
+  ℕ,
+  zero,
+  suc,
+  ◌+◌,
+  ◌≤◌,
+  ◌<◌,
+  ℤ,
+  pos,
+  Bool,
+  true,
+  false,
+  ◌&&◌,
+  List,
+  [],
+  ◌∷◌,
+  ◌++◌,
+  length,
+  take,
+  drop,
+  get_or,
+}
 use Rattle.std.proofs.Common.{slice_get, slice_set, Some, refl, ap, sym, ◌∙◌, arith, drop-cons, get_or-drop, length-drop, length-set, take-suc}
 use Rattle.std.proofs.Common.{take_all}
 use Rattle.std.proofs.lemmas.List.{take_more_set}
@@ -36,7 +58,8 @@ pub args-begin : (at : ℕ) (ins cells : List ℤ) → with_args (at + 0) (drop 
 args-begin at ins cells = let e : at + 0 ≡ at = omega arith in ap (λ j. with_args j ins cells) e
 
 -- an output is read
-pub outs-step : (at k : ℕ) (outs cells : List ℤ) (n : ℤ) → k < length outs → slice_get cells (at + k) ≡ Some n → take k outs ≡ take k (drop at cells) →
+pub outs-step : (at k : ℕ) (outs cells : List ℤ) (n : ℤ) → k < length outs → slice_get cells (at + k) ≡ Some n →
+    take k outs ≡ take k (drop at cells) →
     take (k + 1) (slice_set outs k n) ≡ take (k + 1) (drop at cells)
 outs-step at k outs cells n within there before =
     let is : get_or (drop at cells) k (pos 0) ≡ n = get_or-drop at cells k (pos 0) ∙ get_or_from_slice_get cells (at + k) n (pos 0) there in
@@ -45,7 +68,8 @@ outs-step at k outs cells n within there before =
     take_more_set outs k n within ∙ ap (λ l. l ++ n ∷ []) before ∙ ap (λ x. take k (drop at cells) ++ x ∷ []) (sym is)
     ∙ sym (ap (λ j. take j (drop at cells)) f ∙ take-suc (drop at cells) k (pos 0) inside)
 
-pub outs-next : (at k : ℕ) (outs next old cells : List ℤ) (n : ℤ) → next ≡ slice_set outs k n → k < length outs → slice_get cells (at + k) ≡ Some n →
+pub outs-next : (at k : ℕ) (outs next old cells : List ℤ) (n : ℤ) → next ≡ slice_set outs k n → k < length outs →
+    slice_get cells (at + k) ≡ Some n →
     length outs ≡ length old → take k outs ≡ take k (drop at cells) →
     (length next ≡ length old) × (take (k + 1) next ≡ take (k + 1) (drop at cells))
 outs-next at k outs next old cells n is within there long before = (
@@ -53,14 +77,16 @@ outs-next at k outs next old cells n is within there long before = (
   ap (take (k + 1)) is ∙ outs-step at k outs cells n within there before,
 )
 
-pub outs-over : (k : ℕ) (outs cells : List ℤ) (n : ℕ) → length outs ≡ n → n ≤ k → k ≤ n → take k outs ≡ take k cells → outs ≡ take n cells
+pub outs-over : (k : ℕ) (outs cells : List ℤ) (n : ℕ) → length outs ≡ n → n ≤ k → k ≤ n → take k outs ≡ take k cells →
+    outs ≡ take n cells
 outs-over k outs cells n long above below all =
     let e : k ≡ n = omega arith in
     sym (take_all k outs (omega arith)) ∙ all ∙ ap (λ j. take j cells) e
 
 -- ---- ranges
 
-pub ranges-step : (k : ℕ) (columns : List Column) (row : List ℤ) (c : Column) (n : ℤ) (all : Bool) → slice_get columns k ≡ Some c → slice_get row k ≡ Some n →
+pub ranges-step : (k : ℕ) (columns : List Column) (row : List ℤ) (c : Column) (n : ℤ) (all : Bool) → slice_get columns k ≡ Some c →
+    slice_get row k ≡ Some n →
     in_range c.ty n ≡ true →
     in_ranges (types_of (drop k columns)) (drop k row) ≡ all → in_ranges (types_of (drop (k + 1) columns)) (drop (k + 1) row) ≡ all
 ranges-step k columns row c n all col num ok before = split k columns row col num before
@@ -79,7 +105,8 @@ ranges-step k columns row c n all col num ok before = split k columns row col nu
         let e : suc k + 1 ≡ suc (k + 1) = omega arith in
         ap (λ j. in_ranges (types_of (drop j (d ∷ columns))) (drop j (m ∷ row))) e ∙ split k columns row col num before
 
-pub ranges-fail : (k : ℕ) (columns : List Column) (row : List ℤ) (c : Column) (n : ℤ) (all : Bool) → slice_get columns k ≡ Some c → slice_get row k ≡ Some n →
+pub ranges-fail : (k : ℕ) (columns : List Column) (row : List ℤ) (c : Column) (n : ℤ) (all : Bool) → slice_get columns k ≡ Some c →
+    slice_get row k ≡ Some n →
     in_range c.ty n ≡ false →
     in_ranges (types_of (drop k columns)) (drop k row) ≡ all → all ≡ false
 ranges-fail k columns row c n all col num bad before = split k columns row col num before
@@ -118,9 +145,11 @@ ranges-long (c ∷ columns) (n ∷ row) differ =
 
 -- ---- the loop that sets inputs
 
-pub set-step : (r m n : Shown) (at k : ℕ) (ins all : List ℤ) (x : ℤ) → m ≡ holding r m.state.cells → n ≡ holding m (slice_set m.state.cells (at + k) x) →
+pub set-step : (r m n : Shown) (at k : ℕ) (ins all : List ℤ) (x : ℤ) → m ≡ holding r m.state.cells →
+    n ≡ holding m (slice_set m.state.cells (at + k) x) →
     slice_get ins k ≡ Some x →
-    with_args (at + k) (drop k ins) m.state.cells ≡ all → (n ≡ holding r n.state.cells) × (with_args (at + (k + 1)) (drop (k + 1) ins) n.state.cells ≡ all)
+    with_args (at + k) (drop k ins) m.state.cells ≡ all →
+    (n ≡ holding r n.state.cells) × (with_args (at + (k + 1)) (drop (k + 1) ins) n.state.cells ≡ all)
 set-step r m n at k ins all x first then there before =
     let cells : n.state.cells ≡ slice_set m.state.cells (at + k) x = ap (λ (s : Shown). s.state.cells) then in (
       then ∙ ap (λ (s : Shown). holding s (slice_set m.state.cells (at + k) x)) first ∙ ap (holding r) (sym cells),

@@ -1,5 +1,26 @@
 -- Cells that are read and set.
-use Rattle.std.proofs.Common.{◌≡◌, ℕ, zero, suc, ◌<◌, ℤ, Bool, true, List, [], ◌∷◌, length, take, slice_get, slice_set, Some, refl, ap, sym, subst}
+use Rattle.std.proofs.Common.{
+  ◌≡◌,
+  ℕ,
+  zero,
+  suc,
+  ◌<◌,
+  ℤ,
+  Bool,
+  true,
+  List,
+  [],
+  ◌∷◌,
+  length,
+  take,
+  slice_get,
+  slice_set,
+  Some,
+  refl,
+  ap,
+  sym,
+  subst,
+}
 use Rattle.std.proofs.Common.{◌∙◌, arith, length-set}
 use Rattle.std.proofs.lemmas.List.{length-map}
 use Rattle.bl_tree.specs.declared.scalar.Scalar.{Scalar}
@@ -46,7 +67,8 @@ module _ (file : Parts) (p : Prepared) (keeps : Keeps file p) where
   pub cell-within : (k : ℕ) → k < length (cells_of file) → k < length p.machine.state.cells
   cell-within k h = let a = cells-long file keeps.runs.formed in let b = keeps.cells.room in omega arith
 
-  pub cell-number : (k : ℕ) (n : ℤ) → k < length (cells_of file) → slice_get p.machine.state.cells k ≡ Some n → slice_get (numbers_in p) k ≡ Some n
+  pub cell-number : (k : ℕ) (n : ℤ) → k < length (cells_of file) → slice_get p.machine.state.cells k ≡ Some n →
+      slice_get (numbers_in p) k ≡ Some n
   cell-number k n h there =
       let long : length p.kinds.items ≡ length (cells_of file) = ap length keeps.kinds ∙ kinds-long in
       get-taken (length p.kinds.items) p.machine.state.cells k (omega arith) ∙ there
@@ -57,7 +79,8 @@ module _ (file : Parts) (p : Prepared) (keeps : Keeps file p) where
       ranges-at (kinds_of file) (first_cells file p.machine.state.cells) k kind n keeps.cells.ranges is
       (get-taken (length (kinds_of file)) p.machine.state.cells k (kinds-within (kinds_of file) k kind is) ∙ there)
 
-  pub put-keeps : (k : ℕ) (n : ℤ) → k < length (cells_of file) → ((kind : Scalar) → slice_get (kinds_of file) k ≡ Some kind → in_range kind n ≡ true) →
+  pub put-keeps : (k : ℕ) (n : ℤ) → k < length (cells_of file) →
+      ((kind : Scalar) → slice_get (kinds_of file) k ≡ Some kind → in_range kind n ≡ true) →
       Keeps file (record p { machine = holding p.machine (slice_set p.machine.state.cells k n) })
   put-keeps k n h fits =
       let t = kind-there (kinds_of file) k (let e = kinds-long in omega arith) in
@@ -68,7 +91,8 @@ module _ (file : Parts) (p : Prepared) (keeps : Keeps file p) where
             ∙ ranges-set (kinds_of file) (first_cells file p.machine.state.cells) k t.0 n keeps.cells.ranges t.1 (fits t.0 t.1);
       })
 
-  pub put-numbers : (k : ℕ) (n : ℤ) → numbers_in (record p { machine = holding p.machine (slice_set p.machine.state.cells k n) }) ≡ slice_set (numbers_in p) k n
+  pub put-numbers : (k : ℕ) (n : ℤ) → numbers_in (record p { machine = holding p.machine (slice_set p.machine.state.cells k n) })
+      ≡ slice_set (numbers_in p) k n
   put-numbers k n = set-taken (length p.kinds.items) p.machine.state.cells k n
 
 -- ---- the same, as a runner shows it
@@ -101,7 +125,8 @@ module _ (file : Parts) (p : Prepared) (keeps : Keeps file p) (ready live : Bool
       shown file (record p { machine = m }) ready live ≡ with_cell r k n
   shown-put k n m set =
       ap (λ x. shown file (record p { machine = x }) ready live) set
-      ∙ ap (λ (ns : List ℤ). record { parts = file; cells = ns; ready = ready; live = live }) (put-numbers file p keeps k n) ∙ ap (λ s. with_cell s k n) is
+      ∙ ap (λ (ns : List ℤ). record { parts = file; cells = ns; ready = ready; live = live }) (put-numbers file p keeps k n)
+      ∙ ap (λ s. with_cell s k n) is
 
   pub shown-keeps : (k : ℕ) (n : ℤ) (m : Shown) → k < length (cells_of r.parts) →
       ((kind : Scalar) → slice_get (kinds_of r.parts) k ≡ Some kind → in_range kind n ≡ true) →

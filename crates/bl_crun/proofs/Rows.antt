@@ -1,5 +1,27 @@
 -- Rows of inputs and outputs in the cells.
-use Rattle.std.proofs.Common.{◌≡◌, ℕ, zero, suc, ◌+◌, ◌-◌, ◌<◌, ◌≤◌, ℤ, pos, true, ◌&&◌, List, [], ◌∷◌, map, length, take, drop, slice_get, slice_set}
+use Rattle.std.proofs.Common.{
+  ◌≡◌,
+  ℕ,
+  zero,
+  suc,
+  ◌+◌,
+  ◌-◌,
+  ◌<◌,
+  ◌≤◌,
+  ℤ,
+  pos,
+  true,
+  ◌&&◌,
+  List,
+  [],
+  ◌∷◌,
+  map,
+  length,
+  take,
+  drop,
+  slice_get,
+  slice_set,
+}
 use Rattle.std.proofs.Common.{Some, refl, ap, sym, ◌∙◌, arith, drop-cons, get_or}
 use Rattle.std.specs.Prelude.{filter_map, option_map}
 use Rattle.std.specs.List.{cons_option, list_all}
@@ -59,7 +81,8 @@ ranges-long (t ∷ ts) (n ∷ ns) h = ap suc (ranges-long ts ns (and-right (in_r
 some_is : {A : Type 0} (a b : A) → Some a ≡ Some b → a ≡ b
 some_is a b h = cc
 
-pub ranges-set : (ts : List Scalar) (ns : List ℤ) (k : ℕ) (t : Scalar) (n : ℤ) → in_ranges ts ns ≡ true → slice_get ts k ≡ Some t → in_range t n ≡ true →
+pub ranges-set : (ts : List Scalar) (ns : List ℤ) (k : ℕ) (t : Scalar) (n : ℤ) → in_ranges ts ns ≡ true → slice_get ts k ≡ Some t →
+    in_range t n ≡ true →
     in_ranges ts (slice_set ns k n) ≡ true
 ranges-set [] ns k t n all there h = cc
 ranges-set (u ∷ ts) [] k t n all there h = cc
@@ -67,7 +90,8 @@ ranges-set (u ∷ ts) (m ∷ ns) zero t n all there h = and-both _ _ (ap (λ s. 
 ranges-set (u ∷ ts) (m ∷ ns) (suc k) t n all there h =
     and-both _ _ (and-left (in_range u m) _ all) (ranges-set ts ns k t n (and-right (in_range u m) _ all) there h)
 
-pub ranges-at : (ts : List Scalar) (ns : List ℤ) (k : ℕ) (t : Scalar) (n : ℤ) → in_ranges ts ns ≡ true → slice_get ts k ≡ Some t → slice_get ns k ≡ Some n →
+pub ranges-at : (ts : List Scalar) (ns : List ℤ) (k : ℕ) (t : Scalar) (n : ℤ) → in_ranges ts ns ≡ true → slice_get ts k ≡ Some t →
+    slice_get ns k ≡ Some n →
     in_range t n ≡ true
 ranges-at [] ns k t n all there is = cc
 ranges-at (u ∷ ts) [] k t n all there is = cc
@@ -115,7 +139,8 @@ outputs-taken cs at [] memory stand = refl
 outputs-taken cs at (m ∷ ms) memory stand =
     let p = stand-first cs at output_object m ms stand in
     let there : slice_get (numbers_of cs memory) at ≡ Some (number_in (value_at memory (port output_object m))) =
-    slice_get-map (λ (c : Cell). number_in (value_at memory c.location)) cs at ∙ ap (option_map (λ (c : Cell). number_in (value_at memory c.location))) p.1.1 in
+    slice_get-map (λ (c : Cell). number_in (value_at memory c.location)) cs at
+    ∙ ap (option_map (λ (c : Cell). number_in (value_at memory c.location))) p.1.1 in
     let is = get_or_from_slice_get (numbers_of cs memory) at (number_in (value_at memory (port output_object m))) (pos 0) there in
     ap (λ x. x ∷ outputs_in ms memory) (sym is)
     ∙ ap (λ l. get_or (numbers_of cs memory) at (pos 0) ∷ l) (outputs-taken cs (suc at) ms memory (stand-later cs at output_object m ms stand))
@@ -166,12 +191,14 @@ inputs-fit cs at ms ins ns stand fit all =
     inputs-range cs at ms ins ns stand (ap (λ ts. in_ranges ts ins) (sym (ap types_of (columns-are cs at input_object ms stand) ∙ types-are ms)) ∙ fit) all
 
 -- the numbers of ports, of cells in their ranges
-ports-range : (cs : List Cell) (at : ℕ) (root : Root) (ms : List CMember) (ns : List ℤ) → StandAt cs at root ms → in_ranges (map (λ c. c.kind) cs) ns ≡ true →
+ports-range : (cs : List Cell) (at : ℕ) (root : Root) (ms : List CMember) (ns : List ℤ) → StandAt cs at root ms →
+    in_ranges (map (λ c. c.kind) cs) ns ≡ true →
     in_ranges (map (λ m. kind_in m.ty) ms) (take (length ms) (drop at ns)) ≡ true
 ports-range cs at root [] ns stand all = refl
 ports-range cs at root (m ∷ ms) ns stand all =
     let p = stand-first cs at root m ms stand in
-    let kind : slice_get (map (λ c. c.kind) cs) at ≡ Some p.0 = slice_get-map (λ (c : Cell). c.kind) cs at ∙ ap (option_map (λ (c : Cell). c.kind)) p.1.1 in
+    let kind : slice_get (map (λ c. c.kind) cs) at ≡ Some p.0 =
+    slice_get-map (λ (c : Cell). c.kind) cs at ∙ ap (option_map (λ (c : Cell). c.kind)) p.1.1 in
     let low = slice_get_within (map (λ (c : Cell). c.kind) cs) at p.0 kind in
     let long = ranges-long (map (λ (c : Cell). c.kind) cs) ns all in
     let within : at < length ns = omega arith in
@@ -181,7 +208,8 @@ ports-range cs at root (m ∷ ms) ns stand all =
     ∙ ranges-at (map (λ (c : Cell). c.kind) cs) ns at p.0 (get_or ns at (pos 0)) all kind (slice_get-get_or ns at (pos 0) within))
     (ports-range cs (suc at) root ms ns (stand-later cs at root m ms stand) all)
 
-pub outputs-fit : (cs : List Cell) (at : ℕ) (ms : List CMember) (ns : List ℤ) → StandAt cs at output_object ms → in_ranges (map (λ c. c.kind) cs) ns ≡ true →
+pub outputs-fit : (cs : List Cell) (at : ℕ) (ms : List CMember) (ns : List ℤ) → StandAt cs at output_object ms →
+    in_ranges (map (λ c. c.kind) cs) ns ≡ true →
     in_ranges (types_of (filter_map column_of ms)) (take (length ms) (drop at ns)) ≡ true
 outputs-fit cs at ms ns stand all =
     ap (λ ts. in_ranges ts (take (length ms) (drop at ns))) (ap types_of (columns-are cs at output_object ms stand) ∙ types-are ms)

@@ -1,5 +1,26 @@
 -- What the start and the ticks of a file do to numbered cells.
-use Rattle.std.proofs.Common.{◌≡◌, ℕ, zero, suc, ◌+◌, ◌≤◌, ◌<◌, ℤ, pos, true, List, [], ◌∷◌, ◌++◌, map, length, take, drop, replicate, slice_get}
+use Rattle.std.proofs.Common.{
+  ◌≡◌,
+  ℕ,
+  zero,
+  suc,
+  ◌+◌,
+  ◌≤◌,
+  ◌<◌,
+  ℤ,
+  pos,
+  true,
+  List,
+  [],
+  ◌∷◌,
+  ◌++◌,
+  map,
+  length,
+  take,
+  drop,
+  replicate,
+  slice_get,
+}
 use Rattle.std.proofs.Common.{Some, refl, ap, sym, subst, ◌∙◌, arith, length-take-le}
 use Rattle.std.specs.Prelude.{codes, is_some}
 use Rattle.std.specs.List.{list_all}
@@ -46,7 +67,8 @@ module _ (file : Parts) (runs : Runs file) where
       (WellFormed file → cells_needed file ≤ 1000000 → (memory : Memory) (others : List ℤ) → list_all (cell_holds memory) (cells_of file) ≡ true →
       cells_needed file ≤ length (numbers_of (cells_of file) memory ++ others) →
       SameCall file (call memory) (entered_flat file name args (numbers_of (cells_of file) memory ++ others))) →
-      (memory : Memory) (cells : List ℤ) → cells_needed file ≤ length cells → numbers_of (cells_of file) memory ≡ take (length (cells_of file)) cells →
+      (memory : Memory) (cells : List ℤ) → cells_needed file ≤ length cells →
+      numbers_of (cells_of file) memory ≡ take (length (cells_of file)) cells →
       in_ranges (kinds_of file) (take (length (cells_of file)) cells) ≡ true →
       SameCall file (call memory) (entered_flat file name args cells)
   call-agrees name call args agrees memory cells room begin ranges =
@@ -62,7 +84,8 @@ module _ (file : Parts) (runs : Runs file) where
   call-keeps c l same = record {
     room = same.room;
     ranges =
-        ap (λ n. in_ranges (kinds_of file) (take n l.cells)) kinds-long ∙ ap (in_ranges (kinds_of file)) same.cells ∙ sym (ranges-are (cells_of file) c.memory)
+        ap (λ n. in_ranges (kinds_of file) (take n l.cells)) kinds-long ∙ ap (in_ranges (kinds_of file)) same.cells
+        ∙ sym (ranges-are (cells_of file) c.memory)
         ∙ same.fits;
   }
 
@@ -134,7 +157,8 @@ module _ (file : Parts) (runs : Runs file) where
         let l = slice_get_within (cells_of file) (outs_at + j) (record { location = port output_object m.0; kind = p.0 }) p.1.1 in
         omega arith
 
-    pub inputs-within : (ins cells : List ℤ) → cells_needed file ≤ length cells → row_fits (inputs_of file) ins ≡ true → (k : ℕ) → k < length ins →
+    pub inputs-within : (ins cells : List ℤ) → cells_needed file ≤ length cells → row_fits (inputs_of file) ins ≡ true → (k : ℕ) →
+        k < length ins →
         ins_at + k < length cells
     unfolding inputs_of
     inputs-within ins cells room fits k within =
@@ -197,7 +221,8 @@ module _ (file : Parts) (runs : Runs file) where
             ∙ outputs-fit (cells_of file) outs_at out_ports (numbers_of (cells_of file) c.memory) ports.1
             (sym (ranges-are (cells_of file) c.memory) ∙ same.fits)
 
-        outs-are : (c : Called) (l : Left ℤ) → SameCall file c l → take (length (outputs_of file)) (drop outs_at l.cells) ≡ outputs_in out_ports c.memory
+        outs-are : (c : Called) (l : Left ℤ) → SameCall file c l →
+            take (length (outputs_of file)) (drop outs_at l.cells) ≡ outputs_in out_ports c.memory
         outs-are c l same =
             let ports = stand runs.formed in
             let n : ℕ = length (cells_of file) in

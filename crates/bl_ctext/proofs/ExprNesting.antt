@@ -1,5 +1,27 @@
 -- An expression that has a spelling closes each bracket that it opens, and opens at once no more than its depth.
-use Rattle.std.proofs.Common.{◌≡◌, ℕ, suc, ◌+◌, ◌*◌, ◌^◌, ◌≤◌, ◌<◌, max, cond, ℤ, pos, negsuc, Bool, true, false, ◌&&◌, ◌==◌, nat_lt, nat_le, List}
+use Rattle.std.proofs.Common.{
+  ◌≡◌,
+  ℕ,
+  suc,
+  ◌+◌,
+  ◌*◌,
+  ◌^◌,
+  ◌≤◌,
+  ◌<◌,
+  max,
+  cond,
+  ℤ,
+  pos,
+  negsuc,
+  Bool,
+  true,
+  false,
+  ◌&&◌,
+  ◌==◌,
+  nat_lt,
+  nat_le,
+  List,
+}
 use Rattle.std.proofs.Common.{[], ◌∷◌, ◌++◌, map, Option, Some, None, refl, subst, arith, codes}
 use Rattle.std.proofs.lemmas.Bool.Decides.{nat_tests}
 use Rattle.std.specs.Fmt.{decimal}
@@ -25,7 +47,7 @@ use Rattle.bl_ctext.specs.Spelling.{with_commas, root_tokens, index_front, width
 use Rattle.bl_ctext.specs.Spelling.{index_tokens, ccall_tokens, arg_tokens}
 use Rattle.bl_ctext.specs.Spellable.{is_c_operator, is_literal, is_length, spells_expr, spells_kind, spells_place, spells_step, spells_index}
 use Rattle.bl_ctext.specs.Spellable.{spells_call, spells_arg}
-use Rattle.bl_ctext.specs.Depths.{expr_depth, kind_depth, place_depth, step_depth, index_depth, call_depth, arg_depth}
+use Rattle.bl_ctext.proofs.BracketDepths.{expr_depth, kind_depth, place_depth, step_depth, index_depth, call_depth, arg_depth}
 use Rattle.bl_ctext.proofs.Nesting.{is_bracket, Closes, Nests, EachNests, closes-nil, closes-open, closes-close, closes-plain, closes-append}
 use Rattle.bl_ctext.proofs.Nesting.{nests-append, nests-more, nests-joined, nests-with_commas}
 use Rattle.bl_ctext.proofs.Bytes.{and-fst, and-snd}
@@ -73,7 +95,8 @@ least_word-plain W16 = refl
 least_word-plain W32 = refl
 least_word-plain W64 = refl
 
-minus-nests : (w : Width) (n : ℕ) → n < 2 ^ 64 → Nests 2 (codes "(" ∷ codes "-" ∷ (constant_tokens (constant_word (codes "INT") w) n ++ codes ")" ∷ []))
+minus-nests : (w : Width) (n : ℕ) → n < 2 ^ 64 → Nests 2
+    (codes "(" ∷ codes "-" ∷ (constant_tokens (constant_word (codes "INT") w) n ++ codes ")" ∷ []))
 minus-nests w n h =
     closes-open 0 2 _ _ refl (omega arith) (closes-plain 1 2 _ _ refl (omega arith)
     (closes-append 1 2 1 (constant_tokens (constant_word (codes "INT") w) n) _ (constant-nests 1 _ n (omega arith) (int_word-plain w) h) (omega arith)
@@ -127,7 +150,8 @@ two-nests a b xs ys sign plain x y =
     (closes-append 1 d b ys _ y (omega arith) (closes-close 0 d _ _ refl refl (omega arith) (closes-nil d)))))
 
 -- parts with commas in parentheses behind a name
-pub call-nests : (d : ℕ) (name : List ℕ) (args : List (List Token)) → is_bracket name ≡ false → EachNests d args → Nests (d + 1) (call_tokens name args)
+pub call-nests : (d : ℕ) (name : List ℕ) (args : List (List Token)) → is_bracket name ≡ false → EachNests d args →
+    Nests (d + 1) (call_tokens name args)
 call-nests d name args plain each =
     closes-plain 0 (d + 1) name _ plain (omega arith) (closes-open 0 (d + 1) _ _ refl (omega arith)
     (closes-append 1 (d + 1) d (with_commas args) _ (nests-with_commas d args each) (omega arith)

@@ -1,5 +1,25 @@
 -- What fits a depth, by what it is made of.
-use Rattle.std.proofs.Common.{◌≡◌, ℕ, ◌+◌, ◌≤◌, ℤ, Bool, true, ◌&&◌, nat_le, List, [], ◌∷◌, ◌++◌, map, Some, None, refl, subst, arith}
+use Rattle.std.proofs.Common.{
+  ◌≡◌,
+  ℕ,
+  ◌+◌,
+  ◌≤◌,
+  ℤ,
+  Bool,
+  true,
+  ◌&&◌,
+  nat_le,
+  List,
+  [],
+  ◌∷◌,
+  ◌++◌,
+  map,
+  Some,
+  None,
+  refl,
+  subst,
+  arith,
+}
 use Rattle.std.proofs.lemmas.Bool.Decides.{nat_tests}
 use Rattle.std.specs.List.{list_all}
 use Rattle.bl_tree.specs.declared.place.Place.{Place}
@@ -24,8 +44,8 @@ use Rattle.bl_tree.specs.Reduce.{all_of, greatest}
 use Rattle.bl_ctext.specs.Names.{is_name, is_callee, is_function_name, is_struct_name}
 use Rattle.bl_ctext.specs.Spellable.{is_literal, is_c_operator, has_any, is_spellable, spells_expr, spells_place, spells_step, spells_call}
 use Rattle.bl_ctext.specs.Spellable.{spells_arg, spells_stmt, spells_param, spells_local, spells_returned, spells_func, spells_struct, spells_member}
-use Rattle.bl_ctext.specs.Depths.{expr_depth, place_depth, step_depth, call_depth, arg_depth, stmt_depth, func_depth}
-use Rattle.bl_ctext.specs.Fits.{step_fits, place_fits, expr_fits, arg_fits, call_fits, stmt_fits, stmts_fit, func_fits}
+use Rattle.bl_ctext.proofs.BracketDepths.{expr_depth, place_depth, step_depth, call_depth, arg_depth, stmt_depth, func_depth}
+use Rattle.bl_ctext.specs.inner.Fits.{step_fits, place_fits, expr_fits, arg_fits, call_fits, stmt_fits, stmts_fit, func_fits}
 use Rattle.bl_ctext.proofs.Bytes.{and-fst, and-snd}
 use Rattle.bl_ctext.proofs.TextNesting.{spellable-by}
 
@@ -63,7 +83,8 @@ step-fits d name h =
     let n : step_depth (roll-CStep (record { member = name; index = None })) ≤ d = rw fold-roll-CStep (omega arith) in
     joined_fits _ (step_depth (roll-CStep (record { member = name; index = None }))) d e n
 
-pub place-fits : (d : ℕ) (through : Bool) (name : List ℕ) (steps : List CStep) → 1 ≤ d → is_name name ≡ true → list_all (step_fits d) steps ≡ true →
+pub place-fits : (d : ℕ) (through : Bool) (name : List ℕ) (steps : List CStep) → 1 ≤ d → is_name name ≡ true →
+    list_all (step_fits d) steps ≡ true →
     place_fits d (roll-CPlace (record { through = through; name = name; steps = steps })) ≡ true
 unfolding place_fits step_fits
 place-fits d through name steps le h i =
@@ -95,7 +116,8 @@ stmts_fit-more d e (s ∷ body) le h =
 abbrev kind : Place → CExprKind-F CArg CExprKind CCall CExpr CIndex CPlace CStep → CExpr
 kind place layer = roll-CExpr (record { place = place; what = roll-CExprKind layer })
 
-literal_open-fits : (d : ℕ) (place : Place) (s : Scalar) (n : ℤ) → 2 ≤ d → is_literal s n ≡ true → expr_fits d (kind place (CExprKind-F.Literal s n)) ≡ true
+literal_open-fits : (d : ℕ) (place : Place) (s : Scalar) (n : ℤ) → 2 ≤ d → is_literal s n ≡ true →
+    expr_fits d (kind place (CExprKind-F.Literal s n)) ≡ true
 unfolding expr_fits
 literal_open-fits d place s n le h =
     let e : spells_expr (kind place (CExprKind-F.Literal s n)) ≡ true = rw (fold-roll-CExpr, fold-roll-CExprKind) h in
@@ -113,10 +135,12 @@ called_open-fits : (d : ℕ) (place : Place) (call : CCall) → call_fits d call
 unfolding expr_fits call_fits
 called_open-fits d place call h =
     let e : spells_expr (kind place (CExprKind-F.Call call)) ≡ true = rw (fold-roll-CExpr, fold-roll-CExprKind) (and-fst _ _ h) in
-    let m : expr_depth (kind place (CExprKind-F.Call call)) ≤ d = rw (fold-roll-CExpr, fold-roll-CExprKind) (bound (spells_call call) (call_depth call) d h) in
+    let m : expr_depth (kind place (CExprKind-F.Call call)) ≤ d =
+    rw (fold-roll-CExpr, fold-roll-CExprKind) (bound (spells_call call) (call_depth call) d h) in
     joined_fits _ (expr_depth (kind place (CExprKind-F.Call call))) d e m
 
-two_open-fits : (d e : ℕ) (place : Place) (o : Op) (a b : CExpr) → d + 1 ≤ e → is_c_operator o ≡ true → expr_fits d a ≡ true → expr_fits d b ≡ true →
+two_open-fits : (d e : ℕ) (place : Place) (o : Op) (a b : CExpr) → d + 1 ≤ e → is_c_operator o ≡ true → expr_fits d a ≡ true →
+    expr_fits d b ≡ true →
     expr_fits e (kind place (CExprKind-F.Two o a b)) ≡ true
 unfolding expr_fits
 two_open-fits d e place o a b le h i j =
@@ -171,10 +195,12 @@ call_stmt_open-fits : (d : ℕ) (place : Place) (call : CCall) → call_fits d c
 unfolding stmt_fits call_fits
 call_stmt_open-fits d place call h =
     let s : spells_stmt (what place (CStmtKind-F.Call call)) ≡ true = rw (fold-roll-CStmt, fold-roll-CStmtKind) (and-fst _ _ h) in
-    let m : stmt_depth (what place (CStmtKind-F.Call call)) ≤ d = rw (fold-roll-CStmt, fold-roll-CStmtKind) (bound (spells_call call) (call_depth call) d h) in
+    let m : stmt_depth (what place (CStmtKind-F.Call call)) ≤ d =
+    rw (fold-roll-CStmt, fold-roll-CStmtKind) (bound (spells_call call) (call_depth call) d h) in
     joined_fits _ (stmt_depth (what place (CStmtKind-F.Call call))) d s m
 
-return_open-fits : (d : ℕ) (place : Place) (value : CExpr) → expr_fits d value ≡ true → stmt_fits d (what place (CStmtKind-F.Return (Some value))) ≡ true
+return_open-fits : (d : ℕ) (place : Place) (value : CExpr) → expr_fits d value ≡ true →
+    stmt_fits d (what place (CStmtKind-F.Return (Some value))) ≡ true
 unfolding stmt_fits expr_fits
 return_open-fits d place value h =
     let s : spells_stmt (what place (CStmtKind-F.Return (Some value))) ≡ true = rw (fold-roll-CStmt, fold-roll-CStmtKind) (and-fst _ _ h) in
@@ -211,7 +237,8 @@ called-fits d place call h =
     subst (λ (k : CExprKind). expr_fits d (roll-CExpr (record { place = place; what = k })) ≡ true) (expression.rolls-Call call)
     (called_open-fits d place call h)
 
-pub two-fits : (d e : ℕ) (place : Place) (o : Op) (a b : CExpr) → d + 1 ≤ e → is_c_operator o ≡ true → expr_fits d a ≡ true → expr_fits d b ≡ true →
+pub two-fits : (d e : ℕ) (place : Place) (o : Op) (a b : CExpr) → d + 1 ≤ e → is_c_operator o ≡ true → expr_fits d a ≡ true →
+    expr_fits d b ≡ true →
     expr_fits e (roll-CExpr (record { place = place; what = expression.Two o a b })) ≡ true
 two-fits d e place o a b le h i j =
     subst (λ (k : CExprKind). expr_fits e (roll-CExpr (record { place = place; what = k })) ≡ true) (expression.rolls-Two o a b)
@@ -270,7 +297,8 @@ struct-spells place name members named some all =
     rw (named, some, h) refl
 
 -- A text of at least one struct and one function has a spelling where all its structs have and its functions fit.
-pub file-spells : (structs : List CStruct) (funcs : List CFunc) → has_any structs ≡ true → has_any funcs ≡ true → list_all spells_struct structs ≡ true →
+pub file-spells : (structs : List CStruct) (funcs : List CFunc) → has_any structs ≡ true → has_any funcs ≡ true →
+    list_all spells_struct structs ≡ true →
     list_all (func_fits 2000) funcs ≡ true →
     is_spellable structs funcs ≡ true
 unfolding func_fits

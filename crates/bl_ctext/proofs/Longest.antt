@@ -1,5 +1,27 @@
 -- Bytes are spaced tokens, each the longest at its place, where they are cut as the writer cuts them.
-use Rattle.std.proofs.Common.{◌≡◌, ◌⊎◌, ℕ, ◌≤◌, Bool, true, false, ◌&&◌, List, [], ◌∷◌, ◌++◌, length, map, refl, sym, ap, subst, inl, inr, arith}
+use Rattle.std.proofs.Common.{
+  ◌≡◌,
+  ◌⊎◌,
+  ℕ,
+  ◌≤◌,
+  Bool,
+  true,
+  false,
+  ◌&&◌,
+  List,
+  [],
+  ◌∷◌,
+  ◌++◌,
+  length,
+  map,
+  refl,
+  sym,
+  ap,
+  subst,
+  inl,
+  inr,
+  arith,
+}
 use Rattle.bl_tree.specs.Reduce.{all_of}
 use Rattle.bl_ctext.specs.Token.{Token, is_blank, is_word_byte, is_double_sign, is_word, is_sign, is_token, IsLongest, SpacedC}
 use Rattle.bl_ctext.specs.Cut.{joins, goes_on, put_before, cut_before, tokens_in, meets, are_tokens}
@@ -41,7 +63,8 @@ one_blank b bs (t ∷ ts) h (after, (next, rest)) = (
   ),
 )
 
-no_blanks : (c : ℕ) (cs blanks rest : List ℕ) → is_blank c ≡ false → all_of (map is_blank blanks) ≡ true → c ∷ cs ≡ blanks ++ rest → c ∷ cs ≡ rest
+no_blanks : (c : ℕ) (cs blanks rest : List ℕ) → is_blank c ≡ false → all_of (map is_blank blanks) ≡ true → c ∷ cs ≡ blanks ++ rest →
+    c ∷ cs ≡ rest
 no_blanks c cs [] rest h k e = e
 no_blanks c cs (d ∷ ds) rest h k e =
     let same : c ≡ d = cc in
@@ -50,7 +73,8 @@ no_blanks c cs (d ∷ ds) rest h k e =
     cc
 
 -- a byte that goes on into the next one goes before the first token
-one_more : (b c : ℕ) (cs : List ℕ) (t : Token) (us : List Token) → joins b c ≡ true → Cuts (t ∷ us) (c ∷ cs) → Cuts ((b ∷ t) ∷ us) (b ∷ c ∷ cs)
+one_more : (b c : ℕ) (cs : List ℕ) (t : Token) (us : List Token) → joins b c ≡ true → Cuts (t ∷ us) (c ∷ cs) →
+    Cuts ((b ∷ t) ∷ us) (b ∷ c ∷ cs)
 one_more b c cs t us on (after, (next, rest)) =
     let here : c ∷ cs ≡ t ++ after = no_blanks c cs next.blanks (t ++ after) (joined-not_blank b c on).1 next.blank next.cut in
     let behind : meets (next.first ∷ next.others) after ≡ false = rw next.some at next.apart in
@@ -74,7 +98,8 @@ cuts [] = refl
 cuts (b ∷ bs) = one_before b bs (is_blank b) (goes_on b bs) refl refl (cuts bs)
 
 -- where a token goes on by a byte, its last byte joins that one
-word_meets : (t : Token) (c : ℕ) (more after : List ℕ) → is_word (t ++ (c ∷ more)) ≡ true → (first : ℕ) (others : List ℕ) → t ≡ first ∷ others →
+word_meets : (t : Token) (c : ℕ) (more after : List ℕ) → is_word (t ++ (c ∷ more)) ≡ true → (first : ℕ) (others : List ℕ) →
+    t ≡ first ∷ others →
     meets t (c ∷ after) ≡ true
 word_meets [] c more after h first others e = cc
 word_meets (b ∷ []) c more after h first others e =
@@ -84,7 +109,8 @@ word_meets (b ∷ []) c more after h first others e =
     or-fst (is_word_byte b && is_word_byte c) (is_double_sign b c) (both (is_word_byte b) (is_word_byte c) left right)
 word_meets (b ∷ d ∷ t) c more after h first others e = word_meets (d ∷ t) c more after (and-snd _ _ h) d t refl
 
-sign_meets : (t : Token) (c : ℕ) (more after : List ℕ) → is_sign (t ++ (c ∷ more)) ≡ true → (first : ℕ) (others : List ℕ) → t ≡ first ∷ others →
+sign_meets : (t : Token) (c : ℕ) (more after : List ℕ) → is_sign (t ++ (c ∷ more)) ≡ true → (first : ℕ) (others : List ℕ) →
+    t ≡ first ∷ others →
     meets t (c ∷ after) ≡ true
 sign_meets [] c more after h first others e = cc
 sign_meets (b ∷ []) c [] after h first others e = or-snd _ _ h
@@ -92,7 +118,8 @@ sign_meets (b ∷ []) c (m ∷ more) after h first others e = cc
 sign_meets (b ∷ d ∷ []) c more after h first others e = cc
 sign_meets (b ∷ d ∷ x ∷ t) c more after h first others e = cc
 
-longer_meets : (t : Token) (c : ℕ) (more after : List ℕ) → is_token (t ++ (c ∷ more)) ≡ true → (first : ℕ) (others : List ℕ) → t ≡ first ∷ others →
+longer_meets : (t : Token) (c : ℕ) (more after : List ℕ) → is_token (t ++ (c ∷ more)) ≡ true → (first : ℕ) (others : List ℕ) →
+    t ≡ first ∷ others →
     meets t (c ∷ after) ≡ true
 longer_meets t c more after h first others e =
     elim (either (is_word (t ++ (c ∷ more))) (is_sign (t ++ (c ∷ more))) h)

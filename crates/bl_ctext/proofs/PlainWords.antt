@@ -1,5 +1,28 @@
 -- Names, numbers and other words are no brackets.
-use Rattle.std.proofs.Common.{◌≡◌, ◌⊎◌, ℕ, ◌+◌, ◌%◌, ◌^◌, ◌≤◌, ◌<◌, Bool, true, false, not, ◌&&◌, ◌||◌, ◌==◌, nat_eq, List, [], ◌∷◌, ◌++◌, map, refl}
+use Rattle.std.proofs.Common.{
+  ◌≡◌,
+  ◌⊎◌,
+  ℕ,
+  ◌+◌,
+  ◌%◌,
+  ◌^◌,
+  ◌≤◌,
+  ◌<◌,
+  Bool,
+  true,
+  false,
+  not,
+  ◌&&◌,
+  ◌||◌,
+  ◌==◌,
+  nat_eq,
+  List,
+  [],
+  ◌∷◌,
+  ◌++◌,
+  map,
+  refl,
+}
 use Rattle.std.proofs.Common.{sym, ◌∙◌, subst, inl, inr, arith}
 use Rattle.std.proofs.lemmas.Bool.Decides.{nat_tests}
 use Rattle.std.proofs.lemmas.Fmt.{decimal_by_steps}
@@ -49,7 +72,8 @@ not-false : (b : Bool) → not b ≡ true → b ≡ false
 not-false true h = cc
 not-false false h = refl
 
-among-plain : (word : Token) (words : List Token) → is_among word words ≡ true → all_of (map (λ w. not (is_bracket w)) words) ≡ true → is_bracket word ≡ false
+among-plain : (word : Token) (words : List Token) → is_among word words ≡ true →
+    all_of (map (λ w. not (is_bracket w)) words) ≡ true → is_bracket word ≡ false
 unfolding is_among
 among-plain word [] h k = cc
 among-plain word (w ∷ words) h k =

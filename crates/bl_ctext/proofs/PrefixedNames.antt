@@ -8,7 +8,7 @@ use Rattle.bl_tree.specs.Words as source
 use Rattle.bl_tree.specs.Reduce.{all_of}
 use Rattle.bl_ctext.specs.Token.{is_word_byte}
 use Rattle.bl_ctext.specs.Names.{is_among, grammar_words, c_keywords, is_name, is_struct_name, is_function_name, is_callee}
-use Rattle.bl_ctext.specs.Prefixes.{is_prefix, is_source_name}
+use Rattle.bl_ctext.specs.inner.Prefixes.{is_prefix, is_source_name}
 use Rattle.bl_ctext.proofs.Bytes.{and-fst, and-snd}
 
 -- whether `_` isn't the second byte
@@ -29,7 +29,8 @@ differs [] b word h = refl
 differs (x ∷ []) b word h = and-both (nat_eq x b) false refl
 differs (x ∷ y ∷ w) b word h = and-both (nat_eq x b) (nat_eq y 95 && pointwise nat_eq w word) (rw (not-true (nat_eq y 95) h) refl)
 
-pub not-among : (b : ℕ) (word : List ℕ) (words : List (List ℕ)) → all_of (map has_other_second words) ≡ true → is_among (b ∷ 95 ∷ word) words ≡ false
+pub not-among : (b : ℕ) (word : List ℕ) (words : List (List ℕ)) → all_of (map has_other_second words) ≡ true →
+    is_among (b ∷ 95 ∷ word) words ≡ false
 unfolding is_among
 not-among b word [] h = refl
 not-among b word (w ∷ words) h =

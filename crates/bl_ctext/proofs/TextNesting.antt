@@ -1,5 +1,26 @@
 -- Statements, structs and functions that have a spelling close each bracket that they open. So a text of shallow functions has a spelling.
-use Rattle.std.proofs.Common.{◌≡◌, ℕ, ◌+◌, ◌≤◌, max, Bool, true, false, ◌&&◌, nat_le, List, [], ◌∷◌, ◌++◌, map, Option, Some, None, refl, subst}
+use Rattle.std.proofs.Common.{
+  ◌≡◌,
+  ℕ,
+  ◌+◌,
+  ◌≤◌,
+  max,
+  Bool,
+  true,
+  false,
+  ◌&&◌,
+  nat_le,
+  List,
+  [],
+  ◌∷◌,
+  ◌++◌,
+  map,
+  Option,
+  Some,
+  None,
+  refl,
+  subst,
+}
 use Rattle.std.proofs.Common.{arith, codes, append_assoc, sym, ap, ◌∙◌}
 use Rattle.std.proofs.lemmas.Bool.Decides.{nat_tests}
 use Rattle.std.specs.Fmt.{decimal}
@@ -27,7 +48,7 @@ use Rattle.bl_ctext.specs.Spelling.{struct_tokens, star_if, param_tokens, zero_t
 use Rattle.bl_ctext.specs.Spelling.{func_front, func_rest, with_commas, tokens_of}
 use Rattle.bl_ctext.specs.Spellable.{has_any, is_spellable, most_open, spells_expr, spells_place, spells_result, spells_stmt, spells_stmt_kind}
 use Rattle.bl_ctext.specs.Spellable.{spells_type, spells_member, spells_struct, spells_param, spells_local, spells_func, spells_length}
-use Rattle.bl_ctext.specs.Depths.{expr_depth, place_depth, call_depth, result_depth, stmt_depth, stmt_kind_depth, func_depth}
+use Rattle.bl_ctext.proofs.BracketDepths.{expr_depth, place_depth, call_depth, result_depth, stmt_depth, stmt_kind_depth, func_depth}
 use Rattle.bl_ctext.proofs.ExprNesting.{each_shown, expr-nests, place-nests, ccall-nests}
 use Rattle.bl_ctext.proofs.Nesting.{is_bracket, Closes, Nests, EachNests, closes-nil, closes-open, closes-close, closes-plain, closes-append}
 use Rattle.bl_ctext.proofs.Nesting.{nests-append, nests-more, nests-joined, nests-with_commas, each_nests-append, nests-most_open}
@@ -52,7 +73,8 @@ zeros-nests d name le plain =
     (closes-plain 0 d _ _ refl (omega arith) (closes-nil d)))))))))
 
 -- a place, `=`, a value and `;`
-set-nests : (d : ℕ) (at : CPlace) (value : CExpr) → place_depth at ≤ d → expr_depth value ≤ d → spells_place at ≡ true → spells_expr value ≡ true →
+set-nests : (d : ℕ) (at : CPlace) (value : CExpr) → place_depth at ≤ d → expr_depth value ≤ d → spells_place at ≡ true →
+    spells_expr value ≡ true →
     Nests d (place_tokens at ++ (codes "=" ∷ (expr_tokens value ++ codes ";" ∷ [])))
 set-nests d at value le le' h i =
     closes-append 0 d (place_depth at) (place_tokens at) _ (place-nests at h) (omega arith) (closes-plain 0 d _ _ refl (omega arith)
@@ -67,7 +89,8 @@ loop_body-closes d turn parts le plain each =
     (closes-append 2 (d + 2) d (joined parts) _ (nests-joined d parts each) (omega arith)
     (closes-close 1 (d + 2) _ _ refl refl (omega arith) (closes-close 0 (d + 2) _ _ refl refl (omega arith) (closes-nil (d + 2))))))))))))
 
-loop-nests : (d b : ℕ) (turn : List ℕ) (test : CExpr) (parts : List (List Token)) → expr_depth test + 2 ≤ d → b + 2 ≤ d → 1 ≤ b → is_bracket turn ≡ false →
+loop-nests : (d b : ℕ) (turn : List ℕ) (test : CExpr) (parts : List (List Token)) → expr_depth test + 2 ≤ d → b + 2 ≤ d → 1 ≤ b →
+    is_bracket turn ≡ false →
     spells_expr test ≡ true → EachNests b parts →
     Nests d (turn_declared turn ++ (condition_tokens test ++ (turn_counted turn ++ (joined parts ++ codes "}" ∷ codes "}" ∷ []))))
 loop-nests d b turn test parts le le' le'' plain h each =
@@ -93,14 +116,16 @@ Stmt = (s : CStmt) × OfStmt s
 abbrev plain_kind : CStmtKind-F Kind Stmt → CStmtKind-F CStmtKind CStmt
 plain_kind = map-CStmtKind Kind Stmt CStmtKind CStmt (λ e. e.0) (λ e. e.0)
 
-if-nests : (d b : ℕ) (test : CExpr) (parts : List (List Token)) (rest : List Token) → expr_depth test + 1 ≤ d → b + 1 ≤ d → spells_expr test ≡ true →
+if-nests : (d b : ℕ) (test : CExpr) (parts : List (List Token)) (rest : List Token) → expr_depth test + 1 ≤ d → b + 1 ≤ d →
+    spells_expr test ≡ true →
     EachNests b parts → Nests d rest →
     Nests d (codes "if" ∷ (condition_tokens test ++ (braced parts ++ rest)))
 if-nests d b test parts rest le le' h each r =
     closes-plain 0 d _ _ refl (omega arith) (closes-append 0 d d (condition_tokens test) _ (condition-nests d test le h) (omega arith)
     (closes-append 0 d (b + 1) (braced parts) rest (braced-nests b parts each) (omega arith) r))
 
-result-nests : (result : Option CExpr) → spells_result result ≡ true → Nests (result_depth result) (codes "return" ∷ (result_tokens result ++ codes ";" ∷ []))
+result-nests : (result : Option CExpr) → spells_result result ≡ true →
+    Nests (result_depth result) (codes "return" ∷ (result_tokens result ++ codes ";" ∷ []))
 result-nests None h = closes-plain 0 0 _ _ refl (omega arith) (closes-plain 0 0 _ _ refl (omega arith) (closes-nil 0))
 result-nests (Some e) h =
     let d : ℕ = expr_depth e in
@@ -246,7 +271,8 @@ static-nests true = closes-plain 0 0 _ _ refl (omega arith) (closes-nil 0)
 static-nests false = closes-nil 0
 
 -- what follows a function's front closes the bracket that the front leaves open
-front-closes : (d : ℕ) (f : CFunc) (rest : List Token) → 1 ≤ d → is_function_name f.name ≡ true → Closes 1 d rest → Closes 0 d (func_front f ++ rest)
+front-closes : (d : ℕ) (f : CFunc) (rest : List Token) → 1 ≤ d → is_function_name f.name ≡ true → Closes 1 d rest →
+    Closes 0 d (func_front f ++ rest)
 front-closes d f rest le named c =
     let apart : func_front f ++ rest ≡ static_if f.fixed ++ (returned_tokens f.result ++ (f.name ∷ codes "(" ∷ rest)) =
     append_assoc (static_if f.fixed) (returned_tokens f.result ++ (f.name ∷ codes "(" ∷ [])) rest
@@ -269,7 +295,8 @@ each_more : (d e : ℕ) (parts : List (List Token)) → d ≤ e → EachNests d 
 each_more d e [] le each = tt
 each_more d e (part ∷ parts) le (one, each) = (nests-more d e part le one, each_more d e parts le each)
 
-func_parts-nests : (f : CFunc) → is_function_name f.name ≡ true → all_of (map spells_param f.params) ≡ true → all_of (map spells_local f.locals) ≡ true →
+func_parts-nests : (f : CFunc) → is_function_name f.name ≡ true → all_of (map spells_param f.params) ≡ true →
+    all_of (map spells_local f.locals) ≡ true →
     all_of (map spells_stmt f.body) ≡ true → Nests (func_depth f) (func_tokens f)
 func_parts-nests f named params locals body =
     let b : ℕ = max 1 (greatest (map stmt_depth f.body)) in

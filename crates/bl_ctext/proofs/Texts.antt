@@ -1,5 +1,23 @@
 -- The writer's text: the prelude, and tokens behind it.
-use Rattle.std.proofs.Common.{◌≡◌, ℕ, ◌≤◌, Bool, true, false, cond, List, [], ◌∷◌, ◌++◌, length, drop, refl, append-nil, append_assoc, length-append}
+use Rattle.std.proofs.Common.{
+  ◌≡◌,
+  ℕ,
+  ◌≤◌,
+  Bool,
+  true,
+  false,
+  cond,
+  List,
+  [],
+  ◌∷◌,
+  ◌++◌,
+  length,
+  drop,
+  refl,
+  append-nil,
+  append_assoc,
+  length-append,
+}
 use Rattle.std.proofs.Common.{sym, ◌∙◌, ap, subst, arith}
 use Rattle.std.proofs.lemmas.List.{drop-append-le}
 use Rattle.bl_ctext.specs.Prelude.{prelude}
@@ -69,7 +87,8 @@ pub record Grown (bytes next after : List ℕ) : Type 0 where
   pub text : IsText after
   pub tokens : tokens_in (behind_prelude after) ≡ tokens_in (behind_prelude bytes) ++ tokens_in next
 
-pub grown : (bytes next front after : List ℕ) → IsText bytes → are_tokens (tokens_in next) ≡ true → front ≡ parted bytes next → after ≡ front ++ next →
+pub grown : (bytes next front after : List ℕ) → IsText bytes → are_tokens (tokens_in next) ≡ true → front ≡ parted bytes next →
+    after ≡ front ++ next →
     Grown bytes next after
 grown bytes next front after text tokens e f =
     let step : Parted bytes next (parted bytes next) = parts bytes next text in

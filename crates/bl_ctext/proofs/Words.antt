@@ -1,5 +1,25 @@
 -- Names and numbers are words.
-use Rattle.std.proofs.Common.{◌≡◌, ℕ, ◌+◌, ◌%◌, ◌^◌, ◌≤◌, ◌<◌, true, nat_eq, List, [], ◌∷◌, ◌++◌, map, refl, subst, inl, inr, arith}
+use Rattle.std.proofs.Common.{
+  ◌≡◌,
+  ℕ,
+  ◌+◌,
+  ◌%◌,
+  ◌^◌,
+  ◌≤◌,
+  ◌<◌,
+  true,
+  nat_eq,
+  List,
+  [],
+  ◌∷◌,
+  ◌++◌,
+  map,
+  refl,
+  subst,
+  inl,
+  inr,
+  arith,
+}
 use Rattle.std.proofs.lemmas.Bool.Decides.{nat_tests}
 use Rattle.std.proofs.lemmas.Fmt.{decimal_by_steps}
 use Rattle.std.specs.Cmp.Lexicographic.{pointwise}
@@ -67,7 +87,8 @@ turn_name-token (t ∷ digits) h =
 digit-word_byte : (n : ℕ) → n < 10 → is_word_byte (48 + n) ≡ true
 digit-word_byte n h = grind (arith, nat_tests)
 
-all_word-append : (xs : List ℕ) (b : ℕ) → all_of (map is_word_byte xs) ≡ true → is_word_byte b ≡ true → all_of (map is_word_byte (xs ++ (b ∷ []))) ≡ true
+all_word-append : (xs : List ℕ) (b : ℕ) → all_of (map is_word_byte xs) ≡ true → is_word_byte b ≡ true →
+    all_of (map is_word_byte (xs ++ (b ∷ []))) ≡ true
 all_word-append [] b h k = both (is_word_byte b) true k refl
 all_word-append (x ∷ xs) b h k = both (is_word_byte x) (all_of (map is_word_byte (xs ++ (b ∷ [])))) (and-fst _ _ h) (all_word-append xs b (and-snd _ _ h) k)
 

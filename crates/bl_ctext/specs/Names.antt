@@ -14,7 +14,8 @@ is_among word words = any_of (map (λ w. pointwise nat_eq w word) words)
 -- the words of the grammar that don't begin with `bl_`
 abbrev pub grammar_words : List (List ℕ)
 grammar_words =
-    codes "bool" ∷ codes "true" ∷ codes "false" ∷ codes "static" ∷ codes "struct" ∷ codes "void" ∷ codes "if" ∷ codes "else" ∷ codes "while" ∷ codes "break"
+    codes "bool" ∷ codes "true" ∷ codes "false" ∷ codes "static" ∷ codes "struct" ∷ codes "void" ∷ codes "if" ∷ codes "else"
+    ∷ codes "while" ∷ codes "break"
     ∷ codes "return" ∷
     codes "int8_t" ∷ codes "int16_t" ∷ codes "int32_t" ∷ codes "int64_t" ∷
     codes "uint8_t" ∷ codes "uint16_t" ∷ codes "uint32_t" ∷ codes "uint64_t" ∷
@@ -25,10 +26,13 @@ grammar_words =
 -- the keywords of C99
 abbrev pub c_keywords : List (List ℕ)
 c_keywords =
-    codes "auto" ∷ codes "break" ∷ codes "case" ∷ codes "char" ∷ codes "const" ∷ codes "continue" ∷ codes "default" ∷ codes "do" ∷ codes "double"
+    codes "auto" ∷ codes "break" ∷ codes "case" ∷ codes "char" ∷ codes "const" ∷ codes "continue" ∷ codes "default" ∷ codes "do"
+    ∷ codes "double"
     ∷ codes "else" ∷
-    codes "enum" ∷ codes "extern" ∷ codes "float" ∷ codes "for" ∷ codes "goto" ∷ codes "if" ∷ codes "inline" ∷ codes "int" ∷ codes "long" ∷ codes "register" ∷
-    codes "restrict" ∷ codes "return" ∷ codes "short" ∷ codes "signed" ∷ codes "sizeof" ∷ codes "static" ∷ codes "struct" ∷ codes "switch" ∷ codes "typedef"
+    codes "enum" ∷ codes "extern" ∷ codes "float" ∷ codes "for" ∷ codes "goto" ∷ codes "if" ∷ codes "inline" ∷ codes "int"
+    ∷ codes "long" ∷ codes "register" ∷
+    codes "restrict" ∷ codes "return" ∷ codes "short" ∷ codes "signed" ∷ codes "sizeof" ∷ codes "static" ∷ codes "struct"
+    ∷ codes "switch" ∷ codes "typedef"
     ∷ codes "union" ∷
     codes "unsigned" ∷ codes "void" ∷ codes "volatile" ∷ codes "while" ∷ codes "_Bool" ∷ codes "_Complex" ∷ codes "_Imaginary" ∷ []
 

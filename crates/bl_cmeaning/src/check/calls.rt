@@ -4,7 +4,7 @@
 ghost use Rattle.std.specs.Prelude.{◌≡◌, map};
 ghost use Rattle.bl_tree.specs.Reduce.{joined};
 ghost use Rattle.bl_cmeaning.specs.Calls.{calls_in, calls_in_arg, calls_in_block, calls_in_call, calls_in_place, calls_in_step, calls_in_stmt, most};
-ghost use Rattle.bl_cmeaning.specs.Maps.{text_at};
+ghost use Rattle.bl_cmeaning.specs.inner.Maps.{text_at};
 
 use crate::maps::{Numbers, number_of};
 use bl_tree::c::{CArg, CCall, CExpr, CExprKind, CPlace, CStep, CStmt, CStmtKind};

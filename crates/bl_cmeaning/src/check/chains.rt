@@ -3,7 +3,7 @@
 ghost use Rattle.std.specs.Prelude.{◌≡◌, IfOk, length, map};
 ghost use Rattle.bl_tree.specs.Reduce.{total};
 ghost use Rattle.bl_cmeaning.specs.Loops.{turns_in_block};
-ghost use Rattle.bl_cmeaning.specs.Maps.{text_at};
+ghost use Rattle.bl_cmeaning.specs.inner.Maps.{text_at};
 ghost use Rattle.bl_cmeaning.specs.Saturated.{saturated};
 ghost use Rattle.bl_cmeaning.specs.Sizes.{chain_cells, deepest_chain as deepest_chain_of, own_cells, size_of_param, size_of_type};
 

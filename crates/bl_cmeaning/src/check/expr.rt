@@ -3,7 +3,7 @@
 
 ghost use Rattle.std.specs.Prelude.{◌≡◌, ◌&&◌, ◌||◌, is_some, map, not, option_and_then, option_map};
 ghost use Rattle.bl_tree.specs.Reduce.{any_of, joined};
-ghost use Rattle.bl_cmeaning.specs.Checked.{context_of, fits_nth, is_handed, judged_args, signature_for, type_of, wants_up_to};
+ghost use Rattle.bl_cmeaning.specs.inner.Checked.{context_of, fits_nth, is_handed, judged_args, signature_for, type_of, wants_up_to};
 ghost use Rattle.bl_cmeaning.specs.Faults.{agree as agree_c, bool_type, earlier_of, first_place, fit_args, if_typed, is_void, judge_into};
 ghost use Rattle.bl_cmeaning.specs.Faults.{judge_member, judge_root, judge_steps as spec_steps, judged_arg, judged_call, judged_expr, judged_index};
 ghost use Rattle.bl_cmeaning.specs.Faults.{judged_place, judged_step, known_result, operand_type, result_type, takes as takes_c};

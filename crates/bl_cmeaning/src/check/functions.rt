@@ -1,12 +1,12 @@
 //! Functions: where one of them fails first.
 
 ghost use Rattle.std.specs.Prelude.{◌≡◌, ◌++◌, false, if◌then◌else◌, IfOk, is_none, map, not};
-ghost use Rattle.bl_cmeaning.specs.Checked.{functions_of, structs_of};
+ghost use Rattle.bl_cmeaning.specs.inner.Checked.{functions_of, structs_of};
 ghost use Rattle.bl_cmeaning.specs.Faults.{all_distinct, block_faults, context_in, depth_of_function, faults_in_function, faults_in_head};
 ghost use Rattle.bl_cmeaning.specs.Faults.{faults_in_stmt, first_place, function_faults_after, keeps_all as keeps_everything, names_table, repeated};
 ghost use Rattle.bl_cmeaning.specs.Faults.{variable_names};
 ghost use Rattle.bl_cmeaning.specs.Loops.{turns_in_block};
-ghost use Rattle.bl_cmeaning.specs.Maps.{bytes_of, text_at};
+ghost use Rattle.bl_cmeaning.specs.inner.Maps.{bytes_of, text_at};
 ghost use Rattle.bl_cmeaning.specs.Tables.{no_entries};
 
 use crate::check::calls::most_in_block;

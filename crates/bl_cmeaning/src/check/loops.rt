@@ -2,7 +2,7 @@
 
 ghost use Rattle.std.specs.Prelude.{◌≡◌, ◌∷◌, [], ◌++◌, OnOk};
 ghost use Rattle.bl_cmeaning.specs.Loops.{turns_in, turns_in_block};
-ghost use Rattle.bl_cmeaning.specs.Maps.{named};
+ghost use Rattle.bl_cmeaning.specs.inner.Maps.{named};
 
 use bl_tree::c::{CStmt, CStmtKind};
 use bl_tree::{NoMemory, Place};

@@ -1,7 +1,7 @@
 //! Lists of names, and which of them stand twice.
 
 ghost use Rattle.std.specs.Prelude.{◌≡◌, [], ◌∷◌, ◌++◌, IfOk, OnOk};
-ghost use Rattle.bl_cmeaning.specs.Maps.{bytes_of, named, text_at};
+ghost use Rattle.bl_cmeaning.specs.inner.Maps.{bytes_of, named, text_at};
 ghost use Rattle.bl_cmeaning.specs.Faults.{all_distinct, first_place, repeated};
 ghost use Rattle.bl_cmeaning.specs.Tables.{no_entries};
 

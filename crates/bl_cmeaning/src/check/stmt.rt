@@ -3,7 +3,7 @@
 
 ghost use Rattle.std.specs.Prelude.{◌≡◌, ◌++◌, ◌&&◌, is_some, map, not};
 ghost use Rattle.bl_tree.specs.declared.c.CType.TheVariants.{Struct as OfStruct};
-ghost use Rattle.bl_cmeaning.specs.Checked.{context_of};
+ghost use Rattle.bl_cmeaning.specs.inner.Checked.{context_of};
 ghost use Rattle.bl_cmeaning.specs.Faults.{agree as agree_c, assigned_type, block_faults, changes_nothing, declared_before, judged_expr};
 ghost use Rattle.bl_cmeaning.specs.Faults.{judged_place, unless as fails_unless, condition_faults, faults_in_stmt, first_place, last_returns};
 ghost use Rattle.bl_cmeaning.specs.Faults.{return_faults, surely_returns as returns_surely};

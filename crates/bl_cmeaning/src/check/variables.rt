@@ -4,10 +4,10 @@
 ghost use Rattle.std.specs.Prelude.{◌≡◌, ◌&&◌, ◌||◌, ◌++◌, IfOk, List, map, OnOk, ℕ};
 ghost use Rattle.std.specs.List.{list_all};
 ghost use Rattle.std.specs.Option.{option_or};
-ghost use Rattle.bl_cmeaning.specs.Checked.{structs_of, variables_in_map};
+ghost use Rattle.bl_cmeaning.specs.inner.Checked.{structs_of, variables_in_map};
 ghost use Rattle.bl_cmeaning.specs.Faults.{is_declared as is_c_declared, is_scalar as is_c_scalar, local_variable, names_table, param_variable};
 ghost use Rattle.bl_cmeaning.specs.Faults.{variable_names, variables_of};
-ghost use Rattle.bl_cmeaning.specs.Maps.{bytes_of, text_at};
+ghost use Rattle.bl_cmeaning.specs.inner.Maps.{bytes_of, text_at};
 ghost use Rattle.bl_cmeaning.specs.Tables.{found, table_of};
 
 use crate::check::context::{Structs, Variable};

@@ -1,6 +1,6 @@
 use Rattle.std.proofs.Common.{◌≡◌, ◌+◌, ◌++◌, ℕ, List, None, ap, codes, drop, length, option_map, rules, sym, ◌∙◌}
 use Rattle.bl_tree.specs.declared.text.Text.{Text}
-use Rattle.bl_cmeaning.specs.Maps.{text_at}
+use Rattle.bl_cmeaning.specs.inner.Maps.{text_at}
 use Rattle.bl_cmeaning.specs.Sizes.{sizes}
 use Rattle.bl_cmeaning.specs.Tables.{with_entry}
 use Rattle.bl_cmeaning.proofs.ArgLemmas.{next_of}

@@ -2,7 +2,7 @@ use Rattle.std.proofs.Common.{◌≡◌, ℕ, List, Bool, true, false, ap, sym, 
 use Rattle.std.specs.Prelude.{is_some, bytes_eq, Some}
 use Rattle.std.specs.Map.{update}
 use Rattle.std.proofs.lemmas.Map.Text.{hash_map_updates_str}
-use Rattle.bl_cmeaning.specs.Maps.{text_at}
+use Rattle.bl_cmeaning.specs.inner.Maps.{text_at}
 use Rattle.bl_cmeaning.specs.Tables.{table_of, with_entry}
 use Rattle.bl_cmeaning.proofs.MapLemmas.{inserted, same_table, struct_added}
 use Rattle.bl_cmeaning_laws.specs.Layout.{layout_of, members_laid}

@@ -1,6 +1,6 @@
 use Rattle.std.proofs.Common.{◌-◌, ◌++◌, ◌∙◌, ap, arith, sym, take}
 use Rattle.std.proofs.lemmas.Result.{on_ok_weaker}
-use Rattle.bl_cmeaning.specs.Maps.{text_at}
+use Rattle.bl_cmeaning.specs.inner.Maps.{text_at}
 use Rattle.bl_cmeaning.specs.Tables.{with_entry}
 use Rattle.bl_cinterface.specs.Layout.{kinds_of_members}
 use Rattle.bl_cinterface.proofs.KindLemmas.{before-end, placed-before, placed-within}

@@ -1,5 +1,5 @@
 use Rattle.std.proofs.Common.{◌≡◌, ◌+◌, ◌*◌, ◌++◌, drop, take}
-use Rattle.bl_cmeaning.specs.Maps.{text_at}
+use Rattle.bl_cmeaning.specs.inner.Maps.{text_at}
 use Rattle.bl_cinterface.specs.Layout.{Laid, kinds_of_members}
 use Rattle.bl_cinterface.proofs.layout.+laying.Given as goal
 

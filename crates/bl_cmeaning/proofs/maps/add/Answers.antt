@@ -1,6 +1,6 @@
 use Rattle.std.proofs.lemmas.Map.Text.{hash_map_updates_str}
 use Rattle.std.proofs.Common.{◌∙◌, sym}
-use Rattle.bl_cmeaning.specs.Maps.{text_at}
+use Rattle.bl_cmeaning.specs.inner.Maps.{text_at}
 use Rattle.bl_cmeaning.proofs.MapLemmas.{inserted}
 use Rattle.bl_cmeaning.proofs.maps.add.Goals as goal
 

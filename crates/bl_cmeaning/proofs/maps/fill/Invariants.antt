@@ -1,6 +1,6 @@
 use Rattle.std.proofs.Common.{◌≡◌, ℕ, List, drop}
 use Rattle.std.specs.Option.{option_or}
-use Rattle.bl_cmeaning.specs.Maps.{named, text_at}
+use Rattle.bl_cmeaning.specs.inner.Maps.{named, text_at}
 use Rattle.bl_cmeaning.specs.Tables.{found}
 use Rattle.bl_cmeaning.proofs.maps.fill.Given as goal
 

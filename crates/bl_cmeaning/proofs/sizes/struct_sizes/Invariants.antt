@@ -1,5 +1,5 @@
 use Rattle.std.proofs.Common.{◌≡◌, ℕ, drop}
-use Rattle.bl_cmeaning.specs.Maps.{text_at}
+use Rattle.bl_cmeaning.specs.inner.Maps.{text_at}
 use Rattle.bl_cmeaning.specs.Saturated.{AlikeSaturated}
 use Rattle.bl_cmeaning.specs.Sizes.{sizes, sizes_after}
 use Rattle.bl_cmeaning.proofs.sizes.struct_sizes.Given as goal

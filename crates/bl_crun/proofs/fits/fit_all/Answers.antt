@@ -20,7 +20,8 @@ returns-then-not-fits c =
     let there = column-there c.args.columns.now c.loop-k.k c.index-columns-k.result within c.index-columns-k.is in
     let judged : in_range c.index-columns-k.result.ty c.at.result ≡ c.fits.result =
     ap (λ (q : Column). in_range q.ty c.at.result) c.index-columns-k.is
-    ∙ ap (in_range (get_or c.args.columns.now c.loop-k.k c.index-columns-k.result).ty) (sym (to_z-of_z w128 c.at.result (search rules))) ∙ sym c.fits.ensures in
+    ∙ ap (in_range (get_or c.args.columns.now c.loop-k.k c.index-columns-k.result).ty)
+    (sym (to_z-of_z w128 c.at.result (search rules))) ∙ sym c.fits.ensures in
     sym (ranges-fail c.loop-k.k c.args.columns.now c.args.row.now c.index-columns-k.result c.at.result (in_ranges (types_of c.args.columns.now) c.args.row.now)
     there c.at.ensures (judged ∙ c.if-not-fits.true) c.loop-k.invariant)
 
@@ -34,6 +35,7 @@ loop-k-preserved c =
     let there = column-there c.args.columns.now c.loop-k.k c.index-columns-k.result within c.index-columns-k.is in
     let judged : in_range c.index-columns-k.result.ty c.at.result ≡ c.fits.result =
     ap (λ (q : Column). in_range q.ty c.at.result) c.index-columns-k.is
-    ∙ ap (in_range (get_or c.args.columns.now c.loop-k.k c.index-columns-k.result).ty) (sym (to_z-of_z w128 c.at.result (search rules))) ∙ sym c.fits.ensures in
+    ∙ ap (in_range (get_or c.args.columns.now c.loop-k.k c.index-columns-k.result).ty)
+    (sym (to_z-of_z w128 c.at.result (search rules))) ∙ sym c.fits.ensures in
     ranges-step c.loop-k.k c.args.columns.now c.args.row.now c.index-columns-k.result c.at.result (in_ranges (types_of c.args.columns.now) c.args.row.now)
     there c.at.ensures (judged ∙ c.if-not-fits.false) c.loop-k.invariant

@@ -2,7 +2,7 @@ use Rattle.std.proofs.Common.{rules}
 use Rattle.bl_tree.specs.declared.c.CExpr.{the_lemmas}
 use Rattle.bl_cmeaning.proofs.CallLemmas.{most-append, most-next}
 use Rattle.bl_cmeaning.specs.Calls.{calls_in_arg, calls_in_step}
-use Rattle.bl_cmeaning.specs.Maps.{text_at}
+use Rattle.bl_cmeaning.specs.inner.Maps.{text_at}
 use Rattle.bl_cmeaning.proofs.check.calls.+calling.Goals as goal
 
 pub most_in_args-loop-arg-preserved : goal.most_in_args-loop-arg-preserved

@@ -1,7 +1,7 @@
 use Rattle.std.proofs.Common.{◌≡◌, ℕ, drop, map, max}
 use Rattle.bl_tree.specs.Reduce.{joined}
 use Rattle.bl_cmeaning.specs.Calls.{calls_in_arg, calls_in_step, most}
-use Rattle.bl_cmeaning.specs.Maps.{text_at}
+use Rattle.bl_cmeaning.specs.inner.Maps.{text_at}
 use Rattle.bl_cmeaning.proofs.check.calls.+calling.Given as goal
 
 abbrev pub invariant-most_in_steps-loop-step : goal.invariant-most_in_steps-loop-step

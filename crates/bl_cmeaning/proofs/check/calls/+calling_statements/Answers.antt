@@ -2,7 +2,7 @@ use Rattle.std.proofs.Common.{rules}
 use Rattle.bl_tree.specs.declared.c.CStmtKind.{the_lemmas}
 use Rattle.bl_cmeaning.proofs.CallLemmas.{most-append, most-next}
 use Rattle.bl_cmeaning.specs.Calls.{calls_in_stmt}
-use Rattle.bl_cmeaning.specs.Maps.{text_at}
+use Rattle.bl_cmeaning.specs.inner.Maps.{text_at}
 use Rattle.bl_cmeaning.proofs.check.calls.+calling_statements.Goals as goal
 
 pub most_in_block-loop-stmt-preserved : goal.most_in_block-loop-stmt-preserved

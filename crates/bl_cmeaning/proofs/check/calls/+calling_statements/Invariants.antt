@@ -1,7 +1,7 @@
 use Rattle.std.proofs.Common.{◌≡◌, ℕ, drop, map, max}
 use Rattle.bl_tree.specs.Reduce.{joined}
 use Rattle.bl_cmeaning.specs.Calls.{calls_in_block, calls_in_stmt, most}
-use Rattle.bl_cmeaning.specs.Maps.{text_at}
+use Rattle.bl_cmeaning.specs.inner.Maps.{text_at}
 use Rattle.bl_cmeaning.proofs.check.calls.+calling_statements.Given as goal
 
 abbrev pub invariant-most_in_block-loop-stmt : goal.invariant-most_in_block-loop-stmt

@@ -1,7 +1,7 @@
 use Rattle.std.proofs.Common.{◌≡◌, ℕ, ◌+◌, ◌∷◌, List, drop, map, ap, sym, ◌∙◌}
-use Rattle.bl_cmeaning.specs.Checked.{structs_of}
+use Rattle.bl_cmeaning.specs.inner.Checked.{structs_of}
 use Rattle.bl_cmeaning.specs.Faults.{depth_of_struct, member_table, struct_table}
-use Rattle.bl_cmeaning.specs.Maps.{text_at}
+use Rattle.bl_cmeaning.specs.inner.Maps.{text_at}
 use Rattle.bl_cmeaning.specs.Tables.{with_entry}
 use Rattle.bl_cmeaning.proofs.ArgLemmas.{next_of}
 use Rattle.bl_cmeaning.proofs.DeclaredLemmas.{struct-next, table-next}

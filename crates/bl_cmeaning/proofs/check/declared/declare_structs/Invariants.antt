@@ -1,8 +1,8 @@
 use Rattle.std.proofs.Common.{◌≡◌, ℕ, List, drop, map}
 use Rattle.std.specs.Option.{option_or}
-use Rattle.bl_cmeaning.specs.Checked.{structs_of}
+use Rattle.bl_cmeaning.specs.inner.Checked.{structs_of}
 use Rattle.bl_cmeaning.specs.Faults.{earlier_of, first_place, member_table, struct_faults_after, struct_table}
-use Rattle.bl_cmeaning.specs.Maps.{text_at}
+use Rattle.bl_cmeaning.specs.inner.Maps.{text_at}
 use Rattle.bl_cmeaning.specs.Tables.{found, no_entries}
 use Rattle.bl_cmeaning.proofs.check.declared.declare_structs.Given as goal
 

@@ -1,6 +1,6 @@
 use Rattle.std.proofs.Common.{◌≡◌, ℕ, List, drop, map}
 use Rattle.std.specs.Option.{option_or}
-use Rattle.bl_cmeaning.specs.Checked.{members_in_map}
+use Rattle.bl_cmeaning.specs.inner.Checked.{members_in_map}
 use Rattle.bl_cmeaning.specs.Tables.{found}
 use Rattle.bl_cmeaning.proofs.check.declared.member_map.Given as goal
 

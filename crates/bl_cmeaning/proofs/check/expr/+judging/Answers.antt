@@ -2,7 +2,7 @@ use Rattle.std.proofs.Common.{◌≡◌, ◌+◌, ◌∷◌, rules, ap, sym, ◌
 use Rattle.bl_tree.specs.declared.c.CExpr.{the_lemmas}
 use Rattle.bl_cmeaning.proofs.FirstLemmas.{first_place-append, earlier_of-assoc}
 use Rattle.bl_cmeaning.proofs.ArgLemmas.{next_of, fit-next, handed-next, first-next, fit-done, type-next, place-next}
-use Rattle.bl_cmeaning.specs.Checked.{context_of, judged_args, signature_for, type_of, fits_nth}
+use Rattle.bl_cmeaning.specs.inner.Checked.{context_of, judged_args, signature_for, type_of, fits_nth}
 use Rattle.bl_cmeaning.specs.Faults.{judged_arg, judged_step, judge_steps, earlier_of, first_place}
 use Rattle.bl_cmeaning.proofs.check.expr.+judging.Goals as goal
 

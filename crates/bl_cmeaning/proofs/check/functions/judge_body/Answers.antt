@@ -1,9 +1,9 @@
 use Rattle.std.proofs.Common.{◌≡◌, ◌∙◌, ◌++◌, Bool, false, ap, map}
-use Rattle.bl_cmeaning.specs.Checked.{functions_of, structs_of, variables_in_map}
+use Rattle.bl_cmeaning.specs.inner.Checked.{functions_of, structs_of, variables_in_map}
 use Rattle.bl_cmeaning.specs.Faults.{Context, Variable, block_faults, context_in, faults_in_stmt, first_place, keeps_all, names_table, repeated}
 use Rattle.bl_cmeaning.specs.Faults.{variable_names, variables_of}
 use Rattle.bl_cmeaning.specs.Loops.{turns_in_block}
-use Rattle.bl_cmeaning.specs.Maps.{named, text_at}
+use Rattle.bl_cmeaning.specs.inner.Maps.{named, text_at}
 use Rattle.bl_cmeaning.specs.Tables.{Table, table_of}
 use Rattle.bl_cmeaning.proofs.FirstLemmas.{first_place-append}
 use Rattle.bl_cmeaning.proofs.MapLemmas.{same_table}
@@ -13,7 +13,8 @@ pub returns : goal.returns
 returns c =
     let of = c.args.of.now in
     let table : text_at c.in_ok-keys.keys ≡ names_table (variable_names of) =
-    same_table (text_at c.in_ok-keys.keys) (names_table (variable_names of)) (λ asked. c.in_ok-keys.ensures asked ∙ ap (λ l. names_table l asked) c.requires) in
+    same_table (text_at c.in_ok-keys.keys) (names_table (variable_names of))
+    (λ asked. c.in_ok-keys.ensures asked ∙ ap (λ l. names_table l asked) c.requires) in
     let turns : named c.deref-2.result.now ≡ turns_in_block of.body =
     ap named c.deref-2.ensures.value ∙ c.in_ok-add_turns.ensures
     ∙ ap (λ l. named l ++ turns_in_block c.deref.result.now) c.new-turns.ensures.items ∙ ap turns_in_block c.deref.ensures in

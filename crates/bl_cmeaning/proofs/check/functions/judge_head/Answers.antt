@@ -1,8 +1,8 @@
 use Rattle.std.proofs.Common.{◌≡◌, ◌∙◌, ap, sym}
 use Rattle.std.specs.Prelude.{is_some}
-use Rattle.bl_cmeaning.specs.Checked.{functions_of}
+use Rattle.bl_cmeaning.specs.inner.Checked.{functions_of}
 use Rattle.bl_cmeaning.specs.Faults.{declared_before, distinct_names, returns_result, scalar_parameter, short_chain, signature_in, static_functions}
-use Rattle.bl_cmeaning.specs.Maps.{text_at}
+use Rattle.bl_cmeaning.specs.inner.Maps.{text_at}
 use Rattle.bl_cmeaning.proofs.FirstLemmas.{first_place-append}
 use Rattle.bl_cmeaning.proofs.MapLemmas.{some_mapped}
 use Rattle.bl_cmeaning.proofs.check.functions.judge_head.Goals as goal

@@ -1,6 +1,6 @@
 use Rattle.std.proofs.Common.{◌≡◌, ℕ, drop, ◌++◌}
 use Rattle.bl_cmeaning.specs.Loops.{turns_in_block}
-use Rattle.bl_cmeaning.specs.Maps.{named}
+use Rattle.bl_cmeaning.specs.inner.Maps.{named}
 use Rattle.bl_cmeaning.proofs.check.loops.+looping.Given as goal
 
 abbrev pub invariant-add_turns-loop-stmt : goal.invariant-add_turns-loop-stmt

@@ -1,5 +1,5 @@
 use Rattle.bl_cmeaning.specs.Faults.{distinct_names}
-use Rattle.bl_cmeaning.specs.Maps.{text_at}
+use Rattle.bl_cmeaning.specs.inner.Maps.{text_at}
 use Rattle.bl_cmeaning.proofs.NameLemmas.{repeated-next}
 use Rattle.bl_cmeaning.proofs.check.names.first_repeated.Goals as goal
 

@@ -1,5 +1,5 @@
 use Rattle.bl_cmeaning.specs.Faults.{depth_of_type}
-use Rattle.bl_cmeaning.specs.Maps.{text_at}
+use Rattle.bl_cmeaning.specs.inner.Maps.{text_at}
 use Rattle.bl_cmeaning.proofs.NameLemmas.{greatest-next}
 use Rattle.bl_cmeaning.proofs.check.structs.greatest_depth.Goals as goal
 

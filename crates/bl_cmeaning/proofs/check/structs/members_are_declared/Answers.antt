@@ -1,4 +1,4 @@
-use Rattle.bl_cmeaning.specs.Checked.{structs_of}
+use Rattle.bl_cmeaning.specs.inner.Checked.{structs_of}
 use Rattle.bl_cmeaning.specs.Faults.{is_declared}
 use Rattle.bl_cmeaning.proofs.NameLemmas.{all-next}
 use Rattle.bl_cmeaning.proofs.check.structs.members_are_declared.Goals as goal

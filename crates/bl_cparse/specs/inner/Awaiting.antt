@@ -57,11 +57,13 @@ is_whole_next _ = false
 
 -- Where these symbols are expected, with anything after them, one part more is read, and what its rest awaits is expected behind it.
 abbrev pub GoesOn : Result Partial CRefusal → List Wanted → List Token → List Token → Type 0
-GoesOn result symbols old new = (rest : List Wanted) → Expects (symbols ++ rest) old → MatchResult result (λ p. Expects (partial_wanted p ++ rest) new) WantsMemory
+GoesOn result symbols old new = (rest : List Wanted) → Expects (symbols ++ rest) old →
+    MatchResult result (λ p. Expects (partial_wanted p ++ rest) new) WantsMemory
 
 -- the same where no token is read
 abbrev pub Stays : Result Partial CRefusal → List Wanted → Type 0
-Stays result symbols = (rest : List Wanted) (pieces : List Token) → Expects (symbols ++ rest) pieces → MatchResult result (λ p. Expects (partial_wanted p ++ rest) pieces) WantsMemory
+Stays result symbols = (rest : List Wanted) (pieces : List Token) → Expects (symbols ++ rest) pieces →
+    MatchResult result (λ p. Expects (partial_wanted p ++ rest) pieces) WantsMemory
 
 abbrev pub Awaits : Partial → List Wanted → Type 0
 Awaits p symbols = (rest : List Wanted) (pieces : List Token) → Expects (symbols ++ rest) pieces → Expects (partial_wanted p ++ rest) pieces
@@ -84,7 +86,9 @@ nest_wanted n = part Stmts n.room ∷ sign (codes "}") ∷ outside n.outer.items
 
 -- where these symbols are expected, with anything after them, a statement or a front or an end of one is read
 abbrev pub Nests : Result Nest CRefusal → List Wanted → List Token → List Token → Type 0
-Nests result symbols old new = (rest : List Wanted) → Expects (symbols ++ rest) old → MatchResult result (λ n. Expects (nest_wanted n ++ rest) new) WantsMemory
+Nests result symbols old new = (rest : List Wanted) → Expects (symbols ++ rest) old →
+    MatchResult result (λ n. Expects (nest_wanted n ++ rest) new) WantsMemory
 
 abbrev pub NestStays : Result Nest CRefusal → List Wanted → Type 0
-NestStays result symbols = (rest : List Wanted) (pieces : List Token) → Expects (symbols ++ rest) pieces → MatchResult result (λ n. Expects (nest_wanted n ++ rest) pieces) WantsMemory
+NestStays result symbols = (rest : List Wanted) (pieces : List Token) → Expects (symbols ++ rest) pieces →
+    MatchResult result (λ n. Expects (nest_wanted n ++ rest) pieces) WantsMemory

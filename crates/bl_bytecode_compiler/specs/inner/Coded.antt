@@ -15,4 +15,5 @@ return_code value here = ins.Count ∷ (given_code value here ++ ins.Return ∷ 
 -- a loop up to its way back
 abbrev pub turning_code : Code → Code → Code
 turning_code condition body =
-    ins.Count ∷ ins.Turns ∷ (condition ++ ins.Unless (length body + 3) ∷ ins.Count ∷ ins.Turn ∷ (body ++ ins.Again (length condition + length body + 3) ∷ []))
+    ins.Count ∷ ins.Turns ∷ (condition ++ ins.Unless (length body + 3) ∷ ins.Count ∷ ins.Turn
+    ∷ (body ++ ins.Again (length condition + length body + 3) ∷ []))

@@ -1,5 +1,23 @@
 -- What the values of the check stand for.
-use Rattle.std.specs.Prelude.{ℕ, List, map, Bool, true, false, Option, Some, None, option_map, slice_get, drop, length, not, ◌&&◌, nat_le, if◌then◌else◌}
+use Rattle.std.specs.Prelude.{
+  ℕ,
+  List,
+  map,
+  Bool,
+  true,
+  false,
+  Option,
+  Some,
+  None,
+  option_map,
+  slice_get,
+  drop,
+  length,
+  not,
+  ◌&&◌,
+  nat_le,
+  if◌then◌else◌,
+}
 use Rattle.bl_tree.specs.declared.c.CType.{CType}
 use Rattle.bl_tree.specs.declared.c.CType.TheVariants.{Scalar as OfScalar, Struct as OfStruct}
 use Rattle.bl_tree.specs.declared.c.CMember.{CMember}
@@ -18,7 +36,7 @@ use Rattle.bl_cmeaning.specs.Faults.{Variable, Signature, Context, JudgedArg, by
 use Rattle.std.specs.Borrow.{Bor}
 use Rattle.std.specs.HashMap.{HashMap}
 use Rattle.bl_cmeaning.specs.Tables.{Table}
-use Rattle.bl_cmeaning.specs.Maps.{text_at}
+use Rattle.bl_cmeaning.specs.inner.Maps.{text_at}
 
 -- a type
 abbrev pub type_of : Ty → CType
