@@ -13,6 +13,13 @@ use bl_bytecode::instruction::Instruction;
 use bl_cmeaning::maps::find;
 use bl_tree::NoMemory;
 use bl_tree::c::{CPlace, CStep, CType};
+use smallvec::SmallVec;
+
+/// How many steps of a path into memory are kept in the path itself. Few places have more.
+const SHORT: usize = 2;
+
+/// The path of a place into memory: the member at each step, where there is one.
+type Path<'a> = SmallVec<Option<Laid<'a>>, SHORT>;
 
 /// How a place is reached.
 #[derive(Drop)]
@@ -20,7 +27,7 @@ pub struct Walk<'a> {
     /// What pushes its first cell, but for the indices.
     pub start: Instruction,
     /// The member at each step, where there is one.
-    pub found: Vec<Option<Laid<'a>>>,
+    pub found: Path<'a>,
     /// The type of what stands there.
     pub ty: Option<&'a CType>,
 }
@@ -68,10 +75,10 @@ fn found_in<'a>(
     here: &Here<'_, 'a>,
     steps: &[CStep],
     from: Option<&'a CType>,
-) -> Result<Vec<Option<Laid<'a>>>, NoMemory>
+) -> Result<Path<'a>, NoMemory>
     ensures { IfOk result (λ found. founds_of found.items ≡ found_along (ground_of here.now) steps.now (option_map (λ t. t.now) from.entry)) }
 {
-    let mut found = Vec::new(here.alloc);
+    let mut found = SmallVec::new(here.alloc);
     let mut ty = from;
     for step in steps {
         let next = here.member(ty, &step.member);

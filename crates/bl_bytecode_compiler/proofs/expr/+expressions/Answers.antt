@@ -22,11 +22,10 @@ call-returns t c = call-done (ground_of c.args.here.now) c.args.called.now c.loo
 pub place-loop-k-preserved : goal.place-loop-k-preserved
 place-loop-k-preserved t c =
     let s = c.index-deref-k.result in
-    let f = c.index.result.now in
-    step-down (ground_of c.args.here.now) c.args.at.now c.args.walk.now c.requires c.loop-k.k (c.loop-k.k - 1) s f c.args.code.now c.loop-k.code
-    c.element.new.code
-    (omega arith) (omega arith) (ap (λ xs. get_or xs (c.loop-k.k - 1) s) (sym c.deref.ensures) ∙ sym c.index-deref-k.is) (sym c.index.ensures)
-    c.loop-k.invariant
-    (c.in_ok-element.ensures
-    ∙ ap (λ x. joined (map term_code (term_if (ground_of c.args.here.now) (option_map laid_of f) (out-CStep x).index)) ++ c.loop-k.code)
-    (sym c.index-deref-k.is))
+    let f = c.index-deref-k-in-loop-k.result in
+    step-down (ground_of c.args.here.now) c.args.at.now c.args.walk.now c.requires c.loop-k.k
+    (c.loop-k.k - 1) s f c.args.code.now c.loop-k.code c.element.new.code
+    (omega arith) (omega arith) (ap (λ xs. get_or xs (c.loop-k.k - 1) s) (sym c.deref.ensures) ∙ sym c.index-deref-k.is)
+    (ap (λ xs. get_or xs (c.loop-k.k - 1) f) (sym c.deref-in-loop-k.ensures) ∙ sym c.index-deref-k-in-loop-k.is) c.loop-k.invariant
+    (c.in_ok-element.ensures ∙ ap (λ x. joined (map term_code
+    (term_if (ground_of c.args.here.now) (option_map laid_of f) (out-CStep x).index)) ++ c.loop-k.code) (sym c.index-deref-k.is))

@@ -12,5 +12,5 @@ returns c =
     walk-is (ground_of c.args.here.now) c.args.at.now root _
     (c.root_at-root.ensures ∙ ap (λ n. start_of_slot ((ground_of c.args.here.now).slots n)) c.deref.ensures)
     (c.in_ok-found.ensures ∙ ap (λ steps. found_along (ground_of c.args.here.now) steps (root_of root).ty) c.deref-2.ensures)
-    (c.in_ok-start.ensures ∙ ap (start_code (root_of root).start) (c.passed.ensures ∙ ap (λ f. passed_along 0 (founds_of f)) c.deref-4.ensures.value))
-    (c.last_type-ty.ensures ∙ ap (λ f. type_along (root_of root).ty (founds_of f)) c.deref-3.ensures.value)
+    (c.in_ok-start.ensures ∙ ap (start_code (root_of root).start) (c.passed.ensures ∙ ap (λ f. passed_along 0 (founds_of f)) c.deref-4.ensures))
+    (c.last_type-ty.ensures ∙ ap (λ f. type_along (root_of root).ty (founds_of f)) c.deref-3.ensures)
