@@ -1,3 +1,5 @@
+//! Expressions, targets and the parts that lead into them, with positions in place of names.
+
 use bl_raw::name::Name;
 use bl_tree::{Box, List, Op, Place, Scalar};
 

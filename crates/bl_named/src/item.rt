@@ -1,3 +1,5 @@
+//! Structs, constants, units and their variables, with positions in place of names.
+
 use crate::expr::NamedExpr;
 use crate::stmt::NamedStmt;
 use crate::types::NamedType;

@@ -1,3 +1,5 @@
+//! A whole program.
+
 use crate::item::{Item, NamedConstant, NamedStruct, NamedUnit};
 use bl_tree::List;
 

@@ -1,3 +1,5 @@
+//! Statements, with positions in place of names.
+
 use crate::expr::{NamedExpr, NamedTarget};
 use bl_raw::name::Name;
 use bl_tree::tree::Guard;

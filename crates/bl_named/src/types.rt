@@ -1,3 +1,5 @@
+//! Types as they are written, with positions in place of names.
+
 use bl_raw::types::RawNumber;
 use bl_tree::{Box, Place, Scalar};
 

@@ -32,7 +32,8 @@ abbrev given : Option Declaration → Declaration → Declaration
 given (Some declaration) other = declaration
 given None other = other
 
-found_below : (counts : Counts) (scope : Declared) (name : List ℕ) (declaration : Declaration) → ScopeBelow counts scope → found scope name ≡ Some declaration → DeclarationBelow counts declaration
+found_below : (counts : Counts) (scope : Declared) (name : List ℕ) (declaration : Declaration) → ScopeBelow counts scope
+    → found scope name ≡ Some declaration → DeclarationBelow counts declaration
 found_below counts [] name declaration below is = absurd (cc)
 found_below counts (entry ∷ rest) name declaration below is =
     elim (bytes_eq name entry.0) as (λ test. cond test (Some entry.1) (found rest name) ≡ Some declaration → DeclarationBelow counts declaration) [
@@ -40,17 +41,21 @@ found_below counts (entry ∷ rest) name declaration below is =
       | false ↦ λ h. found_below counts rest name declaration below.1 h
     ] is
 
-around_below : (counts : Counts) (outer : List Declared) (name : List ℕ) (declaration : Declaration) → OuterBelow counts outer → bound_around outer name ≡ Some declaration → DeclarationBelow counts declaration
+around_below : (counts : Counts) (outer : List Declared) (name : List ℕ) (declaration : Declaration) → OuterBelow counts outer
+    → bound_around outer name ≡ Some declaration → DeclarationBelow counts declaration
 around_below counts [] name declaration below is = absurd (cc)
 around_below counts (scope ∷ outer) name declaration below is =
-    elim (found scope name) as (λ first. found scope name ≡ first → option_or first (bound_around outer name) ≡ Some declaration → DeclarationBelow counts declaration) [
+    elim (found scope name) as (λ first. found scope name ≡ first → option_or first (bound_around outer name) ≡ Some declaration
+    → DeclarationBelow counts declaration) [
       | Some d ↦ λ there h. found_below counts scope name declaration below.0 (there ∙ h)
       | None ↦ λ there h. around_below counts outer name declaration below.1 h
     ] refl is
 
-pub bound_below : (scopes : Scopes) (name : List ℕ) (declaration : Declaration) → Below scopes → bound scopes name ≡ Some declaration → DeclarationBelow scopes.counts declaration
+pub bound_below : (scopes : Scopes) (name : List ℕ) (declaration : Declaration) → Below scopes → bound scopes name ≡ Some declaration
+    → DeclarationBelow scopes.counts declaration
 bound_below scopes name declaration below is =
-    elim (found scopes.inner name) as (λ first. found scopes.inner name ≡ first → option_or first (bound_around scopes.outer name) ≡ Some declaration → DeclarationBelow scopes.counts declaration) [
+    elim (found scopes.inner name) as (λ first. found scopes.inner name ≡ first → option_or first (bound_around scopes.outer name) ≡ Some declaration
+    → DeclarationBelow scopes.counts declaration) [
       | Some d ↦ λ there h. found_below scopes.counts scopes.inner name declaration below.0 (there ∙ h)
       | None ↦ λ there h. around_below scopes.counts scopes.outer name declaration below.1 h
     ] refl is
@@ -83,7 +88,8 @@ declared_below counts (Some d) scope name kind position below one = below
 declared_below counts None scope name kind position below one = below_append counts scope ((name.text, declaration_of name kind position) ∷ []) below (one, tt)
 
 pub declare_below : (scopes : Scopes) (name : Name) (kind : Kind) → Grown scopes.counts (counted scopes.counts kind) →
-    DeclarationBelow (counted scopes.counts kind) (declaration_of name kind (count_of scopes.counts kind)) → Below scopes → Below (enter scopes (declares name kind))
+    DeclarationBelow (counted scopes.counts kind) (declaration_of name kind (count_of scopes.counts kind)) → Below scopes
+    → Below (enter scopes (declares name kind))
 declare_below scopes name kind grown one below = (
   declared_below (counted scopes.counts kind) (found scopes.inner name.text) scopes.inner name kind (count_of scopes.counts kind)
       (scope_grown scopes.counts (counted scopes.counts kind) scopes.inner grown below.0) one,

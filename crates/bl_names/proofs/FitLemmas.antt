@@ -1,6 +1,7 @@
 -- Where the rules on names hold, each use is bound to a declaration that suits it.
 use Rattle.std.proofs.Common.{◌≡◌, true, false, List, [], ◌∷◌, ◌++◌, inl, inr, Some, None, refl, sym, subst, ◌∙◌, append_assoc}
 use Rattle.std.specs.Prelude.{⊤}
+use Rattle.bl_tree.specs.declared.rule.Rule.TheVariants as rule
 use Rattle.bl_scopes.specs.declared.kind.Wanted.{Wanted}
 use Rattle.bl_scopes.specs.declared.scopes.Declaration.{Declaration}
 use Rattle.bl_scopes.specs.Kinds.{suits}
@@ -44,10 +45,12 @@ module _ (items : List RawItem) (passes : Passes items) where
   stands_at : (before : Marks) (mark : Mark) (rest : Marks) → marks_of items ≡ before ++ (mark ∷ rest) → Stands (marks_of items) mark (after file_scope before)
   stands_at before mark rest there = record { before = before; rest = rest; there = there; are_open = refl }
 
-  use_fits : (before : Marks) (name : Name) (wanted : Wanted) (rest : Marks) → marks_of items ≡ before ++ (uses name wanted ∷ rest) → IsFit (after file_scope before) name wanted
+  use_fits : (before : Marks) (name : Name) (wanted : Wanted) (rest : Marks) → marks_of items ≡ before ++ (uses name wanted ∷ rest)
+      → IsFit (after file_scope before) name wanted
   use_fits before name wanted rest there =
-      elim (bound (after file_scope before) name.text) as (λ found. bound (after file_scope before) name.text ≡ found → IsFit (after file_scope before) name wanted) [
-        | None ↦ λ is. absurd (passes 7 name.place [] (inr (inl (
+      elim (bound (after file_scope before) name.text) as (λ found. bound (after file_scope before) name.text ≡ found
+      → IsFit (after file_scope before) name wanted) [
+        | None ↦ λ is. absurd (passes rule.Unknown name.place [] (inr (inl (
           refl,
           record {
             name = name;
@@ -62,7 +65,7 @@ module _ (items : List RawItem) (passes : Passes items) where
         | Some d ↦ λ is.
             elim (suits wanted d.kind) as (λ test. suits wanted d.kind ≡ test → IsFit (after file_scope before) name wanted) [
               | true ↦ λ suited. record { declaration = d; is_bound = is; is_suited = suited }
-              | false ↦ λ unfit. absurd (passes 8 name.place (d.place ∷ []) (inr (inr (
+              | false ↦ λ unfit. absurd (passes rule.Kind name.place (d.place ∷ []) (inr (inr (
                 refl,
                 record {
                   name = name;
@@ -87,7 +90,8 @@ module _ (items : List RawItem) (passes : Passes items) where
   rest_fits before [] there = tt
   rest_fits before (mark ∷ rest) there = (
     mark_fits before mark rest there,
-    subst (λ s. Fits s rest) (after-append file_scope before (mark ∷ [])) (rest_fits (before ++ (mark ∷ [])) rest (there ∙ sym (append_assoc before (mark ∷ []) rest))),
+    subst (λ s. Fits s rest) (after-append file_scope before (mark ∷ []))
+        (rest_fits (before ++ (mark ∷ [])) rest (there ∙ sym (append_assoc before (mark ∷ []) rest))),
   )
 
   pub program_fits : Fits file_scope (marks_of items)

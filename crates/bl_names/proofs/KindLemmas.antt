@@ -55,10 +55,13 @@ let_past state new kind name ty value is h =
     h ∙ past-declaring state name ty role.Fixed (Some value) (optional type_marks ty ++ expr_marks value) (still_value ty (Some value))
     ∙ ap (past state) (sym (kind_at kind (RawStmtKind-F.Let name ty value) (ap out-RawStmtKind is ∙ outs-Let name ty value)))
 
-pub constant_past : (state new : State) (constant : RawConstant) → new ≡ with_constant state constant.name (named_constant state.scopes constant) → new ≡ past state (constant_piece constant)
+pub constant_past : (state new : State) (constant : RawConstant) → new ≡ with_constant state constant.name (named_constant state.scopes constant)
+    → new ≡ past state (constant_piece constant)
 constant_past state new constant h =
     h ∙ (λ i. record state {
-      scopes = enter-behind state.scopes (optional type_marks constant.ty ++ expr_marks constant.value) constant.name kind.Constant (still_value constant.ty (Some constant.value)) i;
+      scopes =
+          enter-behind state.scopes (optional type_marks constant.ty ++ expr_marks constant.value) constant.name kind.Constant
+          (still_value constant.ty (Some constant.value)) i;
       constants = state.constants ++ (named_constant state.scopes constant ∷ []);
       vars = sym (append-nil state.vars) i;
     })
@@ -67,12 +70,15 @@ constant_past state new constant h =
 
 pub assign_past : (state : State) (kind : RawStmtKind) (target : RawTarget) (e : RawExpr) → kind ≡ Assign target e → state ≡ past state (piece_of_kind kind)
 assign_past state kind target e is =
-    past-plain state (kind_piece (parts (RawStmtKind-F.Assign target e))) (still_append (target_marks target wanted.Variable) (expr_marks e) (still_target target wanted.Variable) (still_expr e)) refl refl
+    past-plain state (kind_piece (parts (RawStmtKind-F.Assign target e)))
+    (still_append (target_marks target wanted.Variable) (expr_marks e) (still_target target wanted.Variable) (still_expr e)) refl refl
     ∙ ap (past state) (sym (kind_at kind (RawStmtKind-F.Assign target e) (ap out-RawStmtKind is ∙ outs-Assign target e)))
 
-pub call_past : (state : State) (kind : RawStmtKind) (f : Name) (inputs : List RawExpr) (outputs : List RawPath) → kind ≡ Call f inputs outputs → state ≡ past state (piece_of_kind kind)
+pub call_past : (state : State) (kind : RawStmtKind) (f : Name) (inputs : List RawExpr) (outputs : List RawPath) → kind ≡ Call f inputs outputs
+    → state ≡ past state (piece_of_kind kind)
 call_past state kind f inputs outputs is =
-    past-plain state (kind_piece (parts (RawStmtKind-F.Call f inputs outputs))) (still_append (uses f wanted.Function ∷ []) (argument_marks inputs outputs) (still_use f wanted.Function) (still_arguments inputs outputs)) refl refl
+    past-plain state (kind_piece (parts (RawStmtKind-F.Call f inputs outputs)))
+    (still_append (uses f wanted.Function ∷ []) (argument_marks inputs outputs) (still_use f wanted.Function) (still_arguments inputs outputs)) refl refl
     ∙ ap (past state) (sym (kind_at kind (RawStmtKind-F.Call f inputs outputs) (ap out-RawStmtKind is ∙ outs-Call f inputs outputs)))
 
 pub await_past : (state : State) (kind : RawStmtKind) (e : RawExpr) → kind ≡ Await e → state ≡ past state (piece_of_kind kind)
@@ -80,7 +86,8 @@ await_past state kind e is =
     past-plain state (kind_piece (parts (RawStmtKind-F.Await e))) (still_expr e) refl refl
     ∙ ap (past state) (sym (kind_at kind (RawStmtKind-F.Await e) (ap out-RawStmtKind is ∙ outs-Await e)))
 
-pub run_past : (state : State) (kind : RawStmtKind) (target : Option RawPath) (a : Name) (inputs : List RawExpr) (outputs : List RawPath) → kind ≡ Run target a inputs outputs →
+pub run_past : (state : State) (kind : RawStmtKind) (target : Option RawPath) (a : Name) (inputs : List RawExpr) (outputs : List RawPath)
+    → kind ≡ Run target a inputs outputs →
     state ≡ past state (piece_of_kind kind)
 run_past state kind target a inputs outputs is =
     past-plain state (kind_piece (parts (RawStmtKind-F.Run target a inputs outputs)))
@@ -96,7 +103,8 @@ return_past state kind e is =
 
 -- ---- statements with blocks
 
-pub if_past : (state middle new : State) (kind : RawStmtKind) (arms : List RawArm) (seen : List RawArm) (other rest : List RawStmt) → kind ≡ If arms other → seen ≡ arms → rest ≡ other →
+pub if_past : (state middle new : State) (kind : RawStmtKind) (arms : List RawArm) (seen : List RawArm) (other rest : List RawStmt) → kind ≡ If arms other
+    → seen ≡ arms → rest ≡ other →
     middle ≡ past state (arms_piece seen) → new ≡ past middle (own_scope (block_piece rest)) → new ≡ past state (piece_of_kind kind)
 if_past state middle new kind arms seen other rest is same same_rest one two =
     two ∙ (λ i. past (one i) (own_scope (block_piece rest))) ∙ (λ i. past (past state (arms_piece (same i))) (own_scope (block_piece (same_rest i))))
@@ -111,7 +119,8 @@ when_past state new kind guard e body seen is same h =
     ∙ ap (past state) (sym (kind_at kind (RawStmtKind-F.When guard e body) (ap out-RawStmtKind is ∙ outs-When guard e body)))
 
 pub when_made : (scopes : Scopes) (kind : RawStmtKind) (guard : Guard) (e : RawExpr) (body seen : List RawStmt) (test : NamedExpr) (made : List NamedStmt) →
-    kind ≡ When guard e body → seen ≡ body → test ≡ named_expr scopes e → made ≡ (own_scope (block_piece seen)).made scopes → what.When guard test made ≡ (piece_of_kind kind).made scopes
+    kind ≡ When guard e body → seen ≡ body → test ≡ named_expr scopes e → made ≡ (own_scope (block_piece seen)).made scopes
+    → what.When guard test made ≡ (piece_of_kind kind).made scopes
 when_made scopes kind guard e body seen test made is same test_is made_is =
     (λ i. what.When guard (test_is i) (made_is i))
     ∙ (λ i. what.When guard (named_expr scopes e) (made_of_all (map stmt_piece (same i)) (opened (sym (still_expr e scopes) i))))
@@ -125,7 +134,8 @@ while_past state new kind e body seen is same h =
     ∙ ap (past state) (sym (kind_at kind (RawStmtKind-F.While e body) (ap out-RawStmtKind is ∙ outs-While e body)))
 
 pub while_made : (scopes : Scopes) (kind : RawStmtKind) (e : RawExpr) (body seen : List RawStmt) (test : NamedExpr) (made : List NamedStmt) →
-    kind ≡ While e body → seen ≡ body → test ≡ named_expr scopes e → made ≡ (own_scope (block_piece seen)).made scopes → what.While test made ≡ (piece_of_kind kind).made scopes
+    kind ≡ While e body → seen ≡ body → test ≡ named_expr scopes e → made ≡ (own_scope (block_piece seen)).made scopes
+    → what.While test made ≡ (piece_of_kind kind).made scopes
 while_made scopes kind e body seen test made is same test_is made_is =
     (λ i. what.While (test_is i) (made_is i))
     ∙ (λ i. what.While (named_expr scopes e) (made_of_all (map stmt_piece (same i)) (opened (sym (still_expr e scopes) i))))
@@ -140,9 +150,11 @@ until_past state new kind body seen e is same h =
 
 -- ---- arms
 
-arm_out : (arm : RawArm) → piece_of_arm arm ≡ scoped (expr_marks (out-RawArm arm).test) (expr_marks (out-RawArm arm).test ++ in_scope (marks_of_all (map stmt_piece (out-RawArm arm).body)))
+arm_out : (arm : RawArm) → piece_of_arm arm ≡ scoped (expr_marks (out-RawArm arm).test)
+    (expr_marks (out-RawArm arm).test ++ in_scope (marks_of_all (map stmt_piece (out-RawArm arm).body)))
     (map stmt_piece (out-RawArm arm).body) (λ scopes made. roll-NamedArm (record { test = named_expr scopes (out-RawArm arm).test; body = made }))
-arm_out arm = fold_out-RawArm (Piece NamedStmtKind) (Piece NamedArm) (Piece NamedBranch) (Piece NamedStmt) kind_piece arm_piece branch_piece stmt_layer_piece arm
+arm_out arm =
+    fold_out-RawArm (Piece NamedStmtKind) (Piece NamedArm) (Piece NamedBranch) (Piece NamedStmt) kind_piece arm_piece branch_piece stmt_layer_piece arm
 
 pub arm_past : (state new : State) (arm : RawArm) (seen : List RawStmt) → seen ≡ (out-RawArm arm).body →
     new ≡ past state (own_scope (block_piece seen)) → new ≡ past state (piece_of_arm arm)
@@ -153,7 +165,8 @@ arm_past state new arm seen same h =
     ∙ ap (past state) (sym (arm_out arm))
 
 pub arm_made : (scopes : Scopes) (arm : RawArm) (seen : List RawStmt) (test : NamedExpr) (made : List NamedStmt) → seen ≡ (out-RawArm arm).body →
-    test ≡ named_expr scopes (out-RawArm arm).test → made ≡ (own_scope (block_piece seen)).made scopes → roll-NamedArm (record { test = test; body = made }) ≡ (piece_of_arm arm).made scopes
+    test ≡ named_expr scopes (out-RawArm arm).test → made ≡ (own_scope (block_piece seen)).made scopes → roll-NamedArm (record { test = test; body = made })
+    ≡ (piece_of_arm arm).made scopes
 arm_made scopes arm seen test made same test_is made_is =
     (λ i. roll-NamedArm (record { test = test_is i; body = made_is i }))
     ∙ (λ i. roll-NamedArm (record {

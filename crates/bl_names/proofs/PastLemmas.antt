@@ -1,24 +1,27 @@
 -- What is made behind one part and then another.
-use Rattle.std.proofs.Common.{◌≡◌, ℕ, ◌+◌, suc, ◌<◌, List, [], ◌∷◌, ◌++◌, map, drop, length, get_or, sym, ap, ◌∙◌, add-one, append_assoc, append-nil}
-use Rattle.std.proofs.Math.Seq.{drop-cons}
+use Rattle.std.proofs.Common.{◌≡◌, ℕ, ◌+◌, ◌<◌, List, [], ◌∷◌, ◌++◌, map, drop, length, get_or, sym, ap, ◌∙◌, append_assoc, append-nil, arith}
+use Rattle.std.proofs.lemmas.List.{length-append}
 use Rattle.std.specs.Prelude.{Result, Ok, Err, OnOk}
 use Rattle.bl_named.specs.declared.stmt.NamedStmt.{NamedStmt}
 use Rattle.bl_scopes.specs.declared.kind.Kind.{Kind}
 use Rattle.bl_scopes.specs.Marks.{Marks, closes, declared_after, declares, in_scope, opens}
 use Rattle.bl_scopes.specs.Scopes.{Scopes, after, enter}
+use Rattle.bl_scopes.proofs.WalkLemmas.{next_of}
 use Rattle.bl_raw.specs.declared.name.Name.{Name}
 use Rattle.bl_names.specs.declared.state.State.{State}
 use Rattle.bl_names.specs.Named.{Piece, all, constants_of_all, followed, marks_of_all, none, opened, own_scope, scoped, vars_of_all}
 use Rattle.bl_names.specs.Past.{past}
 use Rattle.bl_names.proofs.StillLemmas.{Still, after-append}
 
-pub next_of : {X : Type 0} (xs : List X) (k : ℕ) (x : X) → k < length xs → x ≡ get_or xs k x → drop k xs ≡ x ∷ drop (k + 1) xs
-next_of xs k x within is = rw add-one (drop-cons xs k x within ∙ ap (λ y. y ∷ drop (suc k) xs) (sym is))
+-- counts behind one part and then another
+pub sums : (a b c x y : ℕ) → b ≡ a + x → c ≡ b + y → c ≡ a + (x + y)
+sums a b c x y one two = omega arith
 
--- what follows from what holds of an Ok
-pub on_ok : {A E : Type 0} (P Q : Type 0) (r : Result A E) → (P → Q) → OnOk r P → OnOk r Q
-on_ok P Q (Ok x) f h = f h
-on_ok P Q (Err e) f h = h
+pub none_more : (n : ℕ) → n ≡ n + 0
+none_more n = omega arith
+
+pub more : {A : Type 0} (xs ys : List A) (a b c : ℕ) → b ≡ a + length xs → c ≡ b + length ys → c ≡ a + length (xs ++ ys)
+more xs ys a b c one two = sums a b c (length xs) (length ys) one two ∙ ap (λ n. a + n) (sym (length-append xs ys))
 
 -- what holds anyway
 pub sure : {A E : Type 0} (P : Type 0) (r : Result A E) → P → OnOk r P
@@ -56,7 +59,8 @@ past-plain state piece still no_constants no_vars = λ i. record state {
 
 -- a part in a scope of its own
 pub past-own : {A : Type 0} (state : State) (piece : Piece A) →
-    record (past (record state { scopes = enter state.scopes opens }) piece) { scopes = enter (past (record state { scopes = enter state.scopes opens }) piece).scopes closes }
+    record (past (record state { scopes = enter state.scopes opens }) piece)
+    { scopes = enter (past (record state { scopes = enter state.scopes opens }) piece).scopes closes }
     ≡ past state (own_scope piece)
 past-own state piece = λ i. record (past (record state { scopes = enter state.scopes opens }) piece) {
   scopes = sym (after-append (enter state.scopes opens) piece.marks (closes ∷ [])) i;
@@ -66,7 +70,8 @@ past-own state piece = λ i. record (past (record state { scopes = enter state.s
 pub past-behind : {A : Type 0} (state : State) (before : Marks) (body : List (Piece NamedStmt)) (made : Scopes → List NamedStmt → A) → Still before →
     past state (own_scope (all body)) ≡ past state (scoped before (before ++ in_scope (marks_of_all body)) body made)
 past-behind state before body made still = λ i. record state {
-  scopes = sym (after-append state.scopes before (in_scope (marks_of_all body)) ∙ ap (λ scopes. after scopes (in_scope (marks_of_all body))) (still state.scopes)) i;
+  scopes =
+      sym (after-append state.scopes before (in_scope (marks_of_all body)) ∙ ap (λ scopes. after scopes (in_scope (marks_of_all body))) (still state.scopes)) i;
   constants = state.constants ++ constants_of_all body (opened (sym (still state.scopes) i));
   vars = state.vars ++ vars_of_all body (opened (sym (still state.scopes) i));
 }
@@ -81,7 +86,8 @@ past-before state behind body made still = λ i. record state {
 }
 
 -- a declaration, behind the uses in it
-pub enter-behind : (scopes : Scopes) (marks : Marks) (name : Name) (kind : Kind) → Still marks → enter scopes (declares name kind) ≡ after scopes (declared_after marks name kind)
+pub enter-behind : (scopes : Scopes) (marks : Marks) (name : Name) (kind : Kind) → Still marks → enter scopes (declares name kind)
+    ≡ after scopes (declared_after marks name kind)
 enter-behind scopes marks name kind still =
     ap (λ s. enter s (declares name kind)) (sym (still scopes)) ∙ sym (after-append scopes marks (declares name kind ∷ []))
 
@@ -93,8 +99,10 @@ loop_past piece xs k x state new found within is step h =
     ap (λ s. past s (all (map piece (drop (k + 1) xs)))) step
     ∙ past-next piece (drop k xs) (drop (k + 1) xs) x state found (next_of xs k x within is) h
 
-pub loop_made : {X A : Type 0} (piece : X → Piece A) (xs : List X) (k : ℕ) (x : X) (state new : State) (one : A) (made pushed found : List A) → k < length xs → x ≡ get_or xs k x →
-    new ≡ past state (piece x) → one ≡ (piece x).made state.scopes → pushed ≡ made ++ (one ∷ []) → made ++ (all (map piece (drop k xs))).made state.scopes ≡ found →
+pub loop_made : {X A : Type 0} (piece : X → Piece A) (xs : List X) (k : ℕ) (x : X) (state new : State) (one : A) (made pushed found : List A) → k < length xs
+    → x ≡ get_or xs k x →
+    new ≡ past state (piece x) → one ≡ (piece x).made state.scopes → pushed ≡ made ++ (one ∷ []) → made ++ (all (map piece (drop k xs))).made state.scopes
+    ≡ found →
     pushed ++ (all (map piece (drop (k + 1) xs))).made new.scopes ≡ found
 loop_made piece xs k x state new one made pushed found within is step one_is pushed_is h =
     (λ i. (pushed_is ∙ (λ j. made ++ (one_is j ∷ []))) i ++ (all (map piece (drop (k + 1) xs))).made (step i).scopes)

@@ -36,7 +36,8 @@ pub record Cases (P : RawExpr → Type 0) (Q : RawTarget → Type 0) : Type 0 wh
   pub two : (place : Place) (op : Op) (a b : RawExpr) → P a → P b → P (expr place (RawExprKind-F.Two op a b))
   pub cast : (place : Place) (s : Scalar) (a : RawExpr) → P a → P (expr place (RawExprKind-F.Cast s a))
   pub call : (place : Place) (f : Name) (inputs : List RawExpr) → All P inputs → P (expr place (RawExprKind-F.Call f inputs))
-  pub target : (place : Place) (root : Name) (parts : List RawPart) → EachIndex P parts → Q (roll-RawTarget (record { place = place; root = root; parts = parts }))
+  pub target : (place : Place) (root : Name) (parts : List RawPart) → EachIndex P parts
+      → Q (roll-RawTarget (record { place = place; root = root; parts = parts }))
 
 module _ (P : RawExpr → Type 0) (Q : RawTarget → Type 0) (cases : Cases P Q) where
   abbrev OfKind : RawExprKind → Type 0

@@ -1,4 +1,4 @@
--- Induction over raw statements, with their arms and branches: one case for each kind, with what is known of the parts inside.
+-- Induction over raw statements, arms and branches: one case for each kind, with what is known of the parts inside.
 use Rattle.std.proofs.Common.{Bool, List, subst}
 use Rattle.std.specs.Prelude.{All, Option}
 use Rattle.bl_tree.specs.declared.place.Place.{Place}
@@ -6,8 +6,8 @@ use Rattle.bl_tree.specs.declared.tree.Guard.{Guard}
 use Rattle.bl_raw.specs.declared.expr.RawExpr.{RawExpr}
 use Rattle.bl_raw.specs.declared.expr.RawTarget.{RawTarget}
 use Rattle.bl_raw.specs.declared.name.Name.{Name}
-use Rattle.bl_raw.specs.declared.stmt.RawArm.{RawArm, roll-RawArm}
-use Rattle.bl_raw.specs.declared.stmt.RawBranch.{RawBranch, roll-RawBranch}
+use Rattle.bl_raw.specs.declared.stmt.RawArm.{RawArm, ind-RawArm, roll-RawArm}
+use Rattle.bl_raw.specs.declared.stmt.RawBranch.{RawBranch, ind-RawBranch, roll-RawBranch}
 use Rattle.bl_raw.specs.declared.stmt.RawConstant.{RawConstant}
 use Rattle.bl_raw.specs.declared.stmt.RawPath.{RawPath}
 use Rattle.bl_raw.specs.declared.stmt.RawStmt.{RawStmt, ind-RawStmt, roll-RawStmt}
@@ -29,7 +29,8 @@ pub record Cases (P : RawStmt → Type 0) (Q : RawArm → Type 0) (R : RawBranch
   pub assign : (place : Place) (target : RawTarget) (e : RawExpr) → P (stmt place (RawStmtKind-F.Assign target e))
   pub call : (place : Place) (f : Name) (inputs : List RawExpr) (outputs : List RawPath) → P (stmt place (RawStmtKind-F.Call f inputs outputs))
   pub await : (place : Place) (e : RawExpr) → P (stmt place (RawStmtKind-F.Await e))
-  pub run : (place : Place) (target : Option RawPath) (a : Name) (inputs : List RawExpr) (outputs : List RawPath) → P (stmt place (RawStmtKind-F.Run target a inputs outputs))
+  pub run : (place : Place) (target : Option RawPath) (a : Name) (inputs : List RawExpr) (outputs : List RawPath)
+      → P (stmt place (RawStmtKind-F.Run target a inputs outputs))
   pub branching : (place : Place) (arms : List RawArm) (other : List RawStmt) → All Q arms → All P other → P (stmt place (RawStmtKind-F.If arms other))
   pub cobegin : (place : Place) (branches : List RawBranch) → All R branches → P (stmt place (RawStmtKind-F.Cobegin branches))
   pub guarded : (place : Place) (guard : Guard) (e : RawExpr) (body : List RawStmt) → All P body → P (stmt place (RawStmtKind-F.When guard e body))
@@ -71,6 +72,24 @@ module _ (P : RawStmt → Type 0) (Q : RawArm → Type 0) (R : RawBranch → Typ
   pub induct : (s : RawStmt) → P s
   induct =
       ind-RawStmt OfKind Q R P
+      (λ x y is place. subst (λ layer. P (stmt place layer)) is (by_kind place y))
+      (λ x y is. subst (λ layer. Q (roll-RawArm layer)) is (cases.arm y.test _ (each_such P y.body)))
+      (λ x y is. subst (λ layer. R (roll-RawBranch layer)) is (cases.branch y.weak _ (each_such P y.body)))
+      (λ x y is. subst (λ layer. P (roll-RawStmt layer)) is (y.what.1 y.place))
+
+  -- every arm Q
+  pub induct_arm : (arm : RawArm) → Q arm
+  induct_arm =
+      ind-RawArm OfKind Q R P
+      (λ x y is place. subst (λ layer. P (stmt place layer)) is (by_kind place y))
+      (λ x y is. subst (λ layer. Q (roll-RawArm layer)) is (cases.arm y.test _ (each_such P y.body)))
+      (λ x y is. subst (λ layer. R (roll-RawBranch layer)) is (cases.branch y.weak _ (each_such P y.body)))
+      (λ x y is. subst (λ layer. P (roll-RawStmt layer)) is (y.what.1 y.place))
+
+  -- and every branch R
+  pub induct_branch : (branch : RawBranch) → R branch
+  induct_branch =
+      ind-RawBranch OfKind Q R P
       (λ x y is place. subst (λ layer. P (stmt place layer)) is (by_kind place y))
       (λ x y is. subst (λ layer. Q (roll-RawArm layer)) is (cases.arm y.test _ (each_such P y.body)))
       (λ x y is. subst (λ layer. R (roll-RawBranch layer)) is (cases.branch y.weak _ (each_such P y.body)))

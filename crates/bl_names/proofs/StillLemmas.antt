@@ -55,7 +55,8 @@ still_length (raw_length.Constant name) = still_use name wanted.Length
 abbrev StillType : RawType → Type 0
 StillType ty = Still (type_marks ty)
 
-still_level : (level : RawType-F ((ty : RawType) × StillType ty)) → StillType (roll-RawType (map-RawType ((ty : RawType) × StillType ty) RawType (λ e. e.0) level))
+still_level : (level : RawType-F ((ty : RawType) × StillType ty))
+    → StillType (roll-RawType (map-RawType ((ty : RawType) × StillType ty) RawType (λ e. e.0) level))
 still_level (RawType-F.Scalar s) = rw fold-roll-RawType still_nil
 still_level (RawType-F.Struct name) = rw fold-roll-RawType (still_use name wanted.Type)
 still_level (RawType-F.Array n element) = rw fold-roll-RawType (still_append (length_marks n) (type_marks element.0) (still_length n) element.1)
@@ -71,7 +72,8 @@ StillExpr e = Still (expr_marks e)
 abbrev StillTarget : RawTarget → Type 0
 StillTarget target = (wanted : Wanted) → Still (target_marks target wanted)
 
-still_part : (part : RawPart) (layer : RawPart-F RawExprKind RawPart RawExpr RawTarget) → out-RawPart part ≡ layer → OfIndex StillExpr layer → Still (marks_of_part part)
+still_part : (part : RawPart) (layer : RawPart-F RawExprKind RawPart RawExpr RawTarget) → out-RawPart part ≡ layer → OfIndex StillExpr layer
+    → Still (marks_of_part part)
 still_part part (RawPart-F.Field name) is of =
     rw (fold_out-RawPart Marks Marks Marks (Wanted → Marks) kind_marks part_marks expr_layer_marks target_layer_marks part, is) still_nil
 still_part part (RawPart-F.Index e) is of =
@@ -108,4 +110,5 @@ pub still_arguments : (inputs : List RawExpr) (outputs : List RawPath) → Still
 still_arguments inputs outputs = still_append (joined (map expr_marks inputs)) (joined (map path_marks outputs)) (still_exprs inputs) (still_paths outputs)
 
 pub still_value : (ty : Option RawType) (value : Option RawExpr) → Still (optional type_marks ty ++ optional expr_marks value)
-still_value ty value = still_append (optional type_marks ty) (optional expr_marks value) (still_optional type_marks ty still_type) (still_optional expr_marks value still_expr)
+still_value ty value =
+    still_append (optional type_marks ty) (optional expr_marks value) (still_optional type_marks ty still_type) (still_optional expr_marks value still_expr)

@@ -33,6 +33,7 @@ use Rattle.bl_scopes.specs.declared.kind.Kind.TheVariants as kind
 use Rattle.bl_scopes.specs.declared.kind.Wanted.TheVariants as wanted
 use Rattle.bl_scopes.specs.Marks.{Marks, opens, uses, argument_marks, constant_marks, declared_after, expr_marks, in_scope, item_marks, optional, param_marks, path_marks, target_marks, type_marks}
 use Rattle.bl_names.specs.Naming.{named_expr, named_path, named_target, named_type, position}
+use Rattle.bl_names.specs.Order.{order_of}
 use Rattle.bl_scopes.specs.Scopes.{Scopes, after, enter, file_scope}
 
 -- a part of a program: what it does to names, what it becomes where these scopes are open, and the variables and constants
@@ -126,12 +127,16 @@ constant_piece constant = record {
 }
 
 abbrev pub kind_piece : RawStmtKind-F (Piece NamedStmtKind) (Piece NamedArm) (Piece NamedBranch) (Piece NamedStmt) → Piece NamedStmtKind
-kind_piece (RawStmtKind-F.Var name ty value) = declaring name ty role.Variable value (declared_after (optional type_marks ty ++ optional expr_marks value) name kind.Variable)
-kind_piece (RawStmtKind-F.Let name ty value) = declaring name ty role.Fixed (Some value) (declared_after (optional type_marks ty ++ expr_marks value) name kind.Variable)
+kind_piece (RawStmtKind-F.Var name ty value) =
+    declaring name ty role.Variable value (declared_after (optional type_marks ty ++ optional expr_marks value) name kind.Variable)
+kind_piece (RawStmtKind-F.Let name ty value) =
+    declaring name ty role.Fixed (Some value) (declared_after (optional type_marks ty ++ expr_marks value) name kind.Variable)
 kind_piece (RawStmtKind-F.Const constant) = constant_piece constant
-kind_piece (RawStmtKind-F.Assign target e) = plain (target_marks target wanted.Variable ++ expr_marks e) (λ scopes. what.Assign (named_target scopes target) (named_expr scopes e))
+kind_piece (RawStmtKind-F.Assign target e) =
+    plain (target_marks target wanted.Variable ++ expr_marks e) (λ scopes. what.Assign (named_target scopes target) (named_expr scopes e))
 kind_piece (RawStmtKind-F.Call f inputs outputs) =
-    plain (uses f wanted.Function ∷ argument_marks inputs outputs) (λ scopes. what.Call f.place (position scopes f) (map (named_expr scopes) inputs) (map (named_path scopes) outputs))
+    plain (uses f wanted.Function ∷ argument_marks inputs outputs)
+    (λ scopes. what.Call f.place (position scopes f) (map (named_expr scopes) inputs) (map (named_path scopes) outputs))
 kind_piece (RawStmtKind-F.Await e) = plain (expr_marks e) (λ scopes. what.Await (named_expr scopes e))
 kind_piece (RawStmtKind-F.Run target a inputs outputs) =
     plain (optional path_marks target ++ (uses a wanted.Activity ∷ argument_marks inputs outputs))
@@ -148,15 +153,18 @@ kind_piece (RawStmtKind-F.Cobegin branches) = record {
   vars = vars_of_all branches;
   constants = constants_of_all branches;
 }
-kind_piece (RawStmtKind-F.When guard e body) = scoped (expr_marks e) (expr_marks e ++ in_scope (marks_of_all body)) body (λ scopes made. what.When guard (named_expr scopes e) made)
+kind_piece (RawStmtKind-F.When guard e body) =
+    scoped (expr_marks e) (expr_marks e ++ in_scope (marks_of_all body)) body (λ scopes made. what.When guard (named_expr scopes e) made)
 kind_piece (RawStmtKind-F.Repeat body) = scoped [] (in_scope (marks_of_all body)) body (λ scopes made. what.Repeat made)
 kind_piece (RawStmtKind-F.Until body e) = scoped [] (in_scope (marks_of_all body) ++ expr_marks e) body (λ scopes made. what.Until made (named_expr scopes e))
-kind_piece (RawStmtKind-F.While e body) = scoped (expr_marks e) (expr_marks e ++ in_scope (marks_of_all body)) body (λ scopes made. what.While (named_expr scopes e) made)
+kind_piece (RawStmtKind-F.While e body) =
+    scoped (expr_marks e) (expr_marks e ++ in_scope (marks_of_all body)) body (λ scopes made. what.While (named_expr scopes e) made)
 kind_piece (RawStmtKind-F.Return e) = plain (optional expr_marks e) (λ scopes. what.Return (option_map (named_expr scopes) e))
 
 abbrev pub arm_piece : RawArm-F (Piece NamedStmtKind) (Piece NamedArm) (Piece NamedBranch) (Piece NamedStmt) → Piece NamedArm
 arm_piece arm =
-    scoped (expr_marks arm.test) (expr_marks arm.test ++ in_scope (marks_of_all arm.body)) arm.body (λ scopes made. roll-NamedArm (record { test = named_expr scopes arm.test; body = made }))
+    scoped (expr_marks arm.test) (expr_marks arm.test ++ in_scope (marks_of_all arm.body)) arm.body
+    (λ scopes made. roll-NamedArm (record { test = named_expr scopes arm.test; body = made }))
 
 abbrev pub branch_piece : RawBranch-F (Piece NamedStmtKind) (Piece NamedArm) (Piece NamedBranch) (Piece NamedStmt) → Piece NamedBranch
 branch_piece branch = scoped [] (in_scope (marks_of_all branch.body)) branch.body (λ scopes made. roll-NamedBranch (record { weak = branch.weak; body = made }))
@@ -268,5 +276,6 @@ named_program items bytes = record {
   structs = along structs_of file_scope items;
   constants = along constants_of file_scope items;
   units = along units_of file_scope items;
+  order = order_of items;
   bytes = bytes;
 }

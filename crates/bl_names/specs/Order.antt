@@ -1,13 +1,14 @@
--- The order of structs, constants and units in a program.
+-- What the items of a program are, in the order in which they stand.
 use Rattle.std.specs.Prelude.{List, map}
-use Rattle.bl_named.specs.Placed.{Item, constant, structure, unit}
+use Rattle.bl_named.specs.declared.item.Item.{Item}
+use Rattle.bl_named.specs.declared.item.Item.TheVariants as kind
 use Rattle.bl_raw.specs.declared.item.RawItem.{RawItem}
 use Rattle.bl_raw.specs.declared.item.RawItem.TheVariants as item
 
 abbrev pub kind_of_item : RawItem → Item
-kind_of_item (item.Struct def) = structure
-kind_of_item (item.Constant def) = constant
-kind_of_item (item.Unit def) = unit
+kind_of_item (item.Struct def) = kind.Struct
+kind_of_item (item.Constant def) = kind.Constant
+kind_of_item (item.Unit def) = kind.Unit
 
 -- what the items are, in the order in which they stand
 abbrev pub order_of : List RawItem → List Item

@@ -5,12 +5,13 @@ ghost use Rattle.bl_tree.specs.Reduce.{joined};
 ghost use Rattle.bl_scopes.specs.Marks.{item_marks, marks_of};
 ghost use Rattle.bl_scopes.specs.Scopes.{after};
 ghost use Rattle.bl_names.specs.Named.{along, constants_of, inside_piece, named_field, param_piece, role_piece, structs_of, unit_inside, units_of};
+ghost use Rattle.bl_names.specs.Order.{kind_of_item, order_of};
 ghost use Rattle.bl_names.specs.Past.{past, with_struct, with_unit};
 
 use crate::expr::{copy_of, optional_ty, ty};
 use crate::state::State;
 use crate::stmt::{block, constant};
-use bl_named::item::{NamedField, NamedStruct, NamedUnit, NamedVar};
+use bl_named::item::{Item, NamedField, NamedStruct, NamedUnit, NamedVar};
 use bl_raw::item::{RawField, RawItem, RawParam, RawStruct, RawUnit};
 use bl_scopes::kind::{Kind, of_unit};
 use bl_scopes::scopes::Scopes;
@@ -44,6 +45,27 @@ fn item<'a>(alloc: Global, item: &'a RawItem, state: &mut State<'a>) -> Result<(
             Ok(())
         }
         RawItem::Unit(def) => unit(alloc, def, state),
+    }
+}
+
+/// What the items are, in their order.
+pub fn order(alloc: Global, all: &[RawItem]) -> Result<List<Item>, NoMemory>
+    ensures { IfOk result (λ made. made ≡ order_of all.now) }
+{
+    let mut made = List::new(alloc);
+    for one in all {
+        made.push(kind_of(one))?;
+    }
+    Ok(made)
+}
+
+fn kind_of(item: &RawItem) -> Item
+    ensures { result ≡ kind_of_item item.now }
+{
+    match item {
+        RawItem::Struct(_) => Item::Struct,
+        RawItem::Constant(_) => Item::Constant,
+        RawItem::Unit(_) => Item::Unit,
     }
 }
 

@@ -5,9 +5,8 @@ ghost use Rattle.bl_named.specs.Placed.{IsPlaced};
 ghost use Rattle.bl_scopes.specs.Cause.{IsCause};
 ghost use Rattle.bl_scopes.specs.Rules.{Passes};
 ghost use Rattle.bl_names.specs.Named.{named_program};
-ghost use Rattle.bl_names.specs.Order.{order_of};
 
-use crate::item::items;
+use crate::item::{items, order};
 use crate::state::State;
 use bl_named::Named;
 use bl_raw::Raw;
@@ -15,13 +14,13 @@ use bl_scopes::check;
 use bl_tree::{NoMemory, Refusal};
 use std::alloc::Global;
 
-/// Judges the rules Duplicate, Unknown and Kind in their order, as `bl_scopes::check` does, and puts positions in place of the
-/// names of a program that passes.
+/// Judges the rules Duplicate, Unknown and Kind, as `bl_scopes::check` does, and puts positions in place of the names of a program
+/// that passes. An error tells the first of them that fails, at its first places, or that there was no memory.
 pub fn resolve(alloc: Global, raw: &Raw) -> Result<Named, Refusal>
     ensures passes { OnOk result (Passes raw.now.items) }
     ensures cause { IfErr result (IsCause raw.now.items) }
     ensures named { IfOk result (λ named. named ≡ named_program raw.now.items raw.now.bytes) }
-    ensures placed { IfOk result (λ named. IsPlaced (order_of raw.now.items) named) }
+    ensures placed { IfOk result (λ named. IsPlaced named) }
 {
     check(alloc, raw)?;
     match name(alloc, raw) {
@@ -40,6 +39,7 @@ fn name(alloc: Global, raw: &Raw) -> Result<Named, NoMemory>
         structs: state.structs,
         constants: state.constants,
         units: state.units,
+        order: order(alloc, &raw.items)?,
         bytes: raw.bytes,
     })
 }

@@ -91,7 +91,8 @@ fn call(
     outputs: &[RawPath],
     scopes: &Scopes<'_>,
 ) -> Result<NamedStmtKind, NoMemory>
-    ensures { IfOk result (λ made. made ≡ NamedStmtKind.Call callee.now.place (position scopes.now callee.now) (map (named_expr scopes.now) inputs.now) (map (named_path scopes.now) outputs.now)) }
+    ensures { IfOk result (λ made. made ≡ NamedStmtKind.Call callee.now.place (position scopes.now callee.now)
+        (map (named_expr scopes.now) inputs.now) (map (named_path scopes.now) outputs.now)) }
 {
     let inputs = exprs(alloc, inputs, scopes)?;
     let outputs = paths(alloc, outputs, scopes)?;
@@ -107,7 +108,8 @@ fn run(
     outputs: &[RawPath],
     scopes: &Scopes<'_>,
 ) -> Result<NamedStmtKind, NoMemory>
-    ensures { IfOk result (λ made. made ≡ NamedStmtKind.Run (option_map (named_path scopes.now) place.now) callee.now.place (position scopes.now callee.now) (map (named_expr scopes.now) inputs.now) (map (named_path scopes.now) outputs.now)) }
+    ensures { IfOk result (λ made. made ≡ NamedStmtKind.Run (option_map (named_path scopes.now) place.now)
+        callee.now.place (position scopes.now callee.now) (map (named_expr scopes.now) inputs.now) (map (named_path scopes.now) outputs.now)) }
 {
     let place = optional_path(alloc, place, scopes)?;
     let inputs = exprs(alloc, inputs, scopes)?;

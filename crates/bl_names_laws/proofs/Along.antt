@@ -48,7 +48,8 @@ unit_counted unit.Activity counts = refl
 pub none_counted : (one : RawItem) (scopes : Scopes) → scopes.counts.variables ≡ 0 → (after scopes (item_marks one)).counts.variables ≡ 0
 none_counted (item.Struct def) scopes none = ap (λ s. s.counts.variables) (sym (struct_scopes scopes def)) ∙ none
 none_counted (item.Constant constant) scopes none =
-    ap (λ s. s.counts.variables) (sym (enter-behind scopes (optional type_marks constant.ty ++ expr_marks constant.value) constant.name kind.Constant (still_value constant.ty (Some constant.value)))) ∙ none
+    ap (λ s. s.counts.variables) (sym (enter-behind scopes (optional type_marks constant.ty ++ expr_marks constant.value) constant.name kind.Constant
+    (still_value constant.ty (Some constant.value)))) ∙ none
 none_counted (item.Unit def) scopes none =
     ap (λ s. s.counts.variables) (sym (unit_scopes scopes (after (opened scopes) (inside_piece def).marks) def refl))
     ∙ unit_counted def.kind (enter (after (opened scopes) (inside_piece def).marks) closes).counts

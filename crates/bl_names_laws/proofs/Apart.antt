@@ -26,15 +26,15 @@ use Rattle.bl_names.specs.Named.{Piece, all, kind_piece, made_of_all, marks_of_a
 use Rattle.bl_names.specs.Naming.{named_expr, named_path, named_target, position}
 use Rattle.bl_names.proofs.FitLemmas.{Fits, fits_behind, fits_first, fits_second}
 use Rattle.bl_names.proofs.PastLemmas.{enter-behind}
-use Rattle.bl_names.proofs.PieceLemmas.{parts}
+use Rattle.bl_names.proofs.PieceLemmas.{arm_is, branch_is, parts, stmt_is}
 use Rattle.bl_names.proofs.PlacedExpr.{variable_read}
-use Rattle.bl_names_laws.proofs.RawStmtInduction.{Cases, induct, stmt}
+use Rattle.bl_names.proofs.RawStmtInduction.{Cases, induct, stmt}
 use Rattle.bl_names.proofs.StillLemmas.{Still, after-append, still_append, still_arguments, still_expr, still_optional, still_target, still_type, still_use, still_value}
-use Rattle.bl_names_laws.specs.Apart.{arm_naming, branch_naming, naming_of, naming_of_arm, naming_of_branch, optional_roots, roots_in, stmt_kind_naming}
+use Rattle.bl_names_laws.specs.Apart.{arm_naming, branch_naming, naming_of, naming_of_arm, naming_of_branch, optional_roots, roots_in, stmt_kind_naming, stmt_layer_naming}
 use Rattle.bl_names_laws.proofs.Along.{all_append}
 use Rattle.bl_names_laws.proofs.ExprRoots.{arguments_only, expr_only, optional_only, taker_only, target_only}
 use Rattle.bl_names_laws.proofs.Foreign.{all_weaker, apart_from_all, begins_at, between, from, outside, pair, together_append}
-use Rattle.bl_names_laws.proofs.Made.{NamedLayer, RawLayer, arm_is, branch_is, named_arm_at, named_at, named_branch_at, named_parts, stmt_is}
+use Rattle.bl_names_laws.proofs.Made.{NamedLayer, RawLayer, named_arm_at, named_at, named_branch_at, named_parts}
 use Rattle.bl_names_laws.proofs.Moves.{PieceMoves, body_moves, own_is}
 use Rattle.bl_names_laws.proofs.Only.{Low, Only, below, below_more, declare_only, low_variable, only_weaker}
 use Rattle.bl_names_laws.proofs.Tests.{both, first_holds, second_holds}
@@ -55,7 +55,8 @@ UpFrom test n = (k : ℕ) → n ≤ k → test k ≡ true
 
 abbrev pub Good : {A : Type 0} → (A → Naming) → Piece A → Type 0
 Good of piece =
-    (test : ℕ → Bool) (scopes : Scopes) → UpFrom test scopes.counts.variables → Only test scopes → Low scopes → Fits scopes piece.marks → Holds test scopes (after scopes piece.marks) (of (piece.made scopes))
+    (test : ℕ → Bool) (scopes : Scopes) → UpFrom test scopes.counts.variables → Only test scopes → Low scopes → Fits scopes piece.marks
+    → Holds test scopes (after scopes piece.marks) (of (piece.made scopes))
 
 -- ---- numbers
 
@@ -100,7 +101,8 @@ or_weaker false b c weaker is = weaker is
 
 -- ---- one part and then another
 
-holds_pair : (test : ℕ → Bool) (scopes middle new : Scopes) (one other : Naming) → Holds test scopes middle one → Holds test middle new other → Holds test scopes new (pair one other)
+holds_pair : (test : ℕ → Bool) (scopes middle new : Scopes) (one other : Naming) → Holds test scopes middle one → Holds test middle new other
+    → Holds test scopes new (pair one other)
 holds_pair test scopes middle new one other first second =
     let a = scopes.counts.variables in
     let m = middle.counts.variables in
@@ -113,11 +115,14 @@ holds_pair test scopes middle new one other first second =
           (all_weaker (between a m) (between a b) (λ k. wider a a m b k (most_self a) second.grown) one.declared first.declared)
           (all_weaker (between m b) (between a b) (λ k. wider a m b b k first.grown (most_self b)) other.declared second.declared);
       named = all_append test one.named other.named first.named second.named;
-      named_low = all_append (below b) one.named other.named (all_weaker (below m) (below b) (λ k. below_more m b k second.grown) one.named first.named_low) second.named_low;
+      named_low =
+          all_append (below b) one.named other.named (all_weaker (below m) (below b) (λ k. below_more m b k second.grown) one.named first.named_low)
+          second.named_low;
       apart = both one.apart other.apart first.apart second.apart;
     }
 
-holds_none : (test : ℕ → Bool) (scopes : Scopes) → Only test scopes → Low scopes → (roots : Roots) → list_all test roots ≡ true → list_all (below scopes.counts.variables) roots ≡ true → Holds test scopes scopes (naming roots)
+holds_none : (test : ℕ → Bool) (scopes : Scopes) → Only test scopes → Low scopes → (roots : Roots) → list_all test roots ≡ true
+    → list_all (below scopes.counts.variables) roots ≡ true → Holds test scopes scopes (naming roots)
 holds_none test scopes only low roots named named_low = record {
   grown = most_self scopes.counts.variables;
   only = only;
@@ -129,13 +134,15 @@ holds_none test scopes only low roots named named_low = record {
 }
 
 -- a part that declares nothing
-holds_plain : (test : ℕ → Bool) (scopes : Scopes) (marks : Marks) (roots : Roots) → Still marks → Only test scopes → Low scopes → list_all test roots ≡ true → list_all (below scopes.counts.variables) roots ≡ true →
+holds_plain : (test : ℕ → Bool) (scopes : Scopes) (marks : Marks) (roots : Roots) → Still marks → Only test scopes → Low scopes → list_all test roots ≡ true
+    → list_all (below scopes.counts.variables) roots ≡ true →
     Holds test scopes (after scopes marks) (naming roots)
 holds_plain test scopes marks roots still only low named named_low =
     subst (λ new. Holds test scopes new (naming roots)) (sym (still scopes)) (holds_none test scopes only low roots named named_low)
 
 -- a condition beside a body
-holds_beside : (test : ℕ → Bool) (scopes new : Scopes) (roots : Roots) (namings : List Naming) → list_all test roots ≡ true → list_all (below scopes.counts.variables) roots ≡ true →
+holds_beside : (test : ℕ → Bool) (scopes new : Scopes) (roots : Roots) (namings : List Naming) → list_all test roots ≡ true
+    → list_all (below scopes.counts.variables) roots ≡ true →
     Holds test scopes new (together namings) → Holds test scopes new (and_naming roots namings)
 holds_beside test scopes new roots namings named low inside = record {
   grown = inside.grown;
@@ -144,14 +151,16 @@ holds_beside test scopes new roots namings named low inside = record {
   declared = inside.declared;
   named = all_append test roots (together namings).named named inside.named;
   named_low = all_append (below new.counts.variables) roots (together namings).named
-      (all_weaker (below scopes.counts.variables) (below new.counts.variables) (λ k. below_more scopes.counts.variables new.counts.variables k inside.grown) roots low) inside.named_low;
+      (all_weaker (below scopes.counts.variables) (below new.counts.variables) (λ k. below_more scopes.counts.variables new.counts.variables k inside.grown)
+      roots low) inside.named_low;
   apart = inside.apart;
 }
 
 abbrev pub all_of_them : {A : Type 0} → (A → Naming) → List A → Naming
 all_of_them of made = together (map of made)
 
-pub good_all : {X A : Type 0} (of : A → Naming) (piece : X → Piece A) (xs : List X) → All (λ x. Good of (piece x)) xs → Good (all_of_them of) (all (map piece xs))
+pub good_all : {X A : Type 0} (of : A → Naming) (piece : X → Piece A) (xs : List X) → All (λ x. Good of (piece x)) xs
+    → Good (all_of_them of) (all (map piece xs))
 good_all of piece [] each test scopes up only low fits = holds_none test scopes only low [] refl refl
 good_all of piece (x ∷ xs) each test scopes up only low fits =
     let marks = marks_of_all (map piece xs) in
@@ -171,7 +180,8 @@ good_own of piece moves good test scopes up only low fits =
     (record {
       grown = inside.grown;
       only = only;
-      low = only_weaker (below scopes.counts.variables) (below behind.counts.variables) (λ k. below_more scopes.counts.variables behind.counts.variables k inside.grown) scopes low;
+      low = only_weaker (below scopes.counts.variables) (below behind.counts.variables)
+          (λ k. below_more scopes.counts.variables behind.counts.variables k inside.grown) scopes low;
       declared = inside.declared;
       named = inside.named;
       named_low = inside.named_low;
@@ -201,9 +211,11 @@ good_body : (body : List RawStmt) → All StmtGood body → Good (all_of_them na
 good_body body each = good_own (all_of_them naming_of) (all (map stmt_piece body)) (body_moves body) (good_all naming_of stmt_piece body each)
 
 -- a body behind a condition
-good_tested : (e : RawExpr) (body : List RawStmt) → All StmtGood body → (test : ℕ → Bool) (scopes : Scopes) → UpFrom test scopes.counts.variables → Only test scopes → Low scopes →
+good_tested : (e : RawExpr) (body : List RawStmt) → All StmtGood body → (test : ℕ → Bool) (scopes : Scopes) → UpFrom test scopes.counts.variables
+    → Only test scopes → Low scopes →
     Fits scopes (expr_marks e ++ in_scope (marks_in body)) →
-    Holds test scopes (after scopes (expr_marks e ++ in_scope (marks_in body))) (and_naming (roots_in (named_expr scopes e)) (body_of body (opened (after scopes (expr_marks e)))))
+    Holds test scopes (after scopes (expr_marks e ++ in_scope (marks_in body)))
+    (and_naming (roots_in (named_expr scopes e)) (body_of body (opened (after scopes (expr_marks e)))))
 good_tested e body each test scopes up only low fits =
     let marks = in_scope (marks_in body) in
     let still = still_expr e scopes in
@@ -216,15 +228,18 @@ good_tested e body each test scopes up only low fits =
     (good_body body each test scopes up only low (fits_behind scopes (expr_marks e) marks (still_expr e) fits))))
 
 -- a body before a condition, which sees what is around it
-good_until : (e : RawExpr) (body : List RawStmt) → All StmtGood body → (test : ℕ → Bool) (scopes : Scopes) → UpFrom test scopes.counts.variables → Only test scopes → Low scopes →
+good_until : (e : RawExpr) (body : List RawStmt) → All StmtGood body → (test : ℕ → Bool) (scopes : Scopes) → UpFrom test scopes.counts.variables
+    → Only test scopes → Low scopes →
     Fits scopes (in_scope (marks_in body) ++ expr_marks e) →
     Holds test scopes (after scopes (in_scope (marks_in body) ++ expr_marks e)) (and_naming (roots_in (named_expr scopes e)) (body_of body (opened scopes)))
 good_until e body each test scopes up only low fits =
     let marks = in_scope (marks_in body) in
     let behind = after (opened scopes) (marks_in body) in
     let fits_e : Fits (record scopes { counts = behind.counts }) (expr_marks e) =
-    subst (λ s. Fits s (expr_marks e)) (own_is (marks_in body) (vars_of_all (map stmt_piece body)) (body_moves body) scopes) (fits_second scopes marks (expr_marks e) fits) in
-    subst (λ new. Holds test scopes new (and_naming (roots_in (named_expr scopes e)) (body_of body (opened scopes)))) (sym (after-append scopes marks (expr_marks e) ∙ still_expr e (after scopes marks)))
+    subst (λ s. Fits s (expr_marks e)) (own_is (marks_in body) (vars_of_all (map stmt_piece body)) (body_moves body) scopes)
+    (fits_second scopes marks (expr_marks e) fits) in
+    subst (λ new. Holds test scopes new (and_naming (roots_in (named_expr scopes e)) (body_of body (opened scopes))))
+    (sym (after-append scopes marks (expr_marks e) ∙ still_expr e (after scopes marks)))
     (holds_beside test scopes (after scopes marks) (roots_in (named_expr scopes e)) (body_of body (opened scopes))
     (expr_only test scopes behind.counts only e fits_e) (expr_only (below scopes.counts.variables) scopes behind.counts low e fits_e)
     (good_body body each test scopes up only low (fits_first scopes marks (expr_marks e) fits)))
@@ -237,7 +252,8 @@ begins_earlier start m n most (one ∷ namings) all =
     let here = first_holds (begins_at start n one) (list_all (begins_at start n) namings) all in
     both (begins_at start m one) (list_all (begins_at start m) namings)
     (both (list_all (from m) one.declared) (list_all (outside start m) one.named)
-    (all_weaker (from n) (from m) (λ k. from_earlier m n k most) one.declared (first_holds (list_all (from n) one.declared) (list_all (outside start n) one.named) here))
+    (all_weaker (from n) (from m) (λ k. from_earlier m n k most) one.declared
+    (first_holds (list_all (from n) one.declared) (list_all (outside start n) one.named) here))
     (all_weaker (outside start n) (outside start m) (λ k. or_weaker (nat_lt k start) (nat_le n k) (nat_le m k) (from_earlier m n k most)) one.named
     (second_holds (list_all (from n) one.declared) (list_all (outside start n) one.named) here)))
     (begins_earlier start m n most namings (second_holds (begins_at start n one) (list_all (begins_at start n) namings) all))
@@ -247,7 +263,8 @@ record Branches (start : ℕ) (scopes : Scopes) (namings : List Naming) : Type 0
   pub begin : list_all (begins_at start scopes.counts.variables) namings ≡ true
   pub apart : all_apart namings ≡ true
 
-branches_apart : (start : ℕ) (branches : List RawBranch) → All BranchGood branches → (scopes : Scopes) → start ≤ scopes.counts.variables → Only (below start) scopes → Low scopes →
+branches_apart : (start : ℕ) (branches : List RawBranch) → All BranchGood branches → (scopes : Scopes) → start ≤ scopes.counts.variables
+    → Only (below start) scopes → Low scopes →
     Fits scopes (marks_of_all (map piece_of_branch branches)) → Branches start scopes (map naming_of_branch (made_of_all (map piece_of_branch branches) scopes))
 branches_apart start [] each scopes most only low fits = record { begin = refl; apart = refl }
 branches_apart start (branch ∷ branches) each scopes most only low fits =
@@ -265,7 +282,8 @@ branches_apart start (branch ∷ branches) each scopes most only low fits =
     record {
       begin = both (begins_at start n one) (list_all (begins_at start n) others)
           (both (list_all (from n) one.declared) (list_all (outside start n) one.named)
-          (all_weaker (between n new.counts.variables) (from n) (λ k. first_holds (nat_le n k) (nat_lt k new.counts.variables)) one.declared first.declared) first.named)
+          (all_weaker (between n new.counts.variables) (from n) (λ k. first_holds (nat_le n k) (nat_lt k new.counts.variables)) one.declared first.declared)
+          first.named)
           (begins_earlier start n new.counts.variables first.grown others later.begin);
       apart = both (list_all (keep_apart one) others) (all_apart others)
           (apart_from_all start n new.counts.variables one others most first.declared first.named_low later.begin) later.apart;
@@ -274,9 +292,11 @@ branches_apart start (branch ∷ branches) each scopes most only low fits =
 good_only : (branches : List RawBranch) → All BranchGood branches → All (λ branch. Good naming_of_branch (piece_of_branch branch)) branches
 good_only branches each = λ k d within. (each k d within).0
 
-good_branches : (branches : List RawBranch) → All BranchGood branches → (test : ℕ → Bool) (scopes : Scopes) → UpFrom test scopes.counts.variables → Only test scopes → Low scopes →
+good_branches : (branches : List RawBranch) → All BranchGood branches → (test : ℕ → Bool) (scopes : Scopes) → UpFrom test scopes.counts.variables
+    → Only test scopes → Low scopes →
     Fits scopes (marks_of_all (map piece_of_branch branches)) →
-    Holds test scopes (after scopes (marks_of_all (map piece_of_branch branches))) (of_branches (map naming_of_branch (made_of_all (map piece_of_branch branches) scopes)))
+    Holds test scopes (after scopes (marks_of_all (map piece_of_branch branches)))
+    (of_branches (map naming_of_branch (made_of_all (map piece_of_branch branches) scopes)))
 good_branches branches each test scopes up only low fits =
     let inside = good_all naming_of_branch piece_of_branch branches (good_only branches each) test scopes up only low fits in
     let namings = map naming_of_branch (made_of_all (map piece_of_branch branches) scopes) in
@@ -294,19 +314,21 @@ good_branches branches each test scopes up only low fits =
 -- ---- each kind
 
 abbrev naming_in : NamedLayer → Naming
-naming_in layer = stmt_kind_naming (named_parts Naming stmt_kind_naming arm_naming branch_naming layer)
+naming_in layer = stmt_kind_naming (named_parts Naming stmt_kind_naming arm_naming branch_naming stmt_layer_naming layer)
 
 -- a statement whose kind becomes this
-stmt_good : (place : Place) (layer : RawLayer) (made : Scopes → NamedLayer) → ((scopes : Scopes) → out-NamedStmtKind ((kind_piece (parts layer)).made scopes) ≡ made scopes) →
+stmt_good : (place : Place) (layer : RawLayer) (made : Scopes → NamedLayer)
+    → ((scopes : Scopes) → out-NamedStmtKind ((kind_piece (parts layer)).made scopes) ≡ made scopes) →
     ((test : ℕ → Bool) (scopes : Scopes) → UpFrom test scopes.counts.variables → Only test scopes → Low scopes → Fits scopes (kind_piece (parts layer)).marks →
     Holds test scopes (after scopes (kind_piece (parts layer)).marks) (naming_in (made scopes))) → StmtGood (stmt place layer)
 stmt_good place layer made is gives =
     subst (Good naming_of) (sym (stmt_is place layer))
     (λ test scopes up only low fits. subst (Holds test scopes (after scopes (kind_piece (parts layer)).marks))
-    (sym (named_at Naming stmt_kind_naming arm_naming branch_naming place ((kind_piece (parts layer)).made scopes) (made scopes) (is scopes)))
+    (sym (named_at Naming stmt_kind_naming arm_naming branch_naming stmt_layer_naming place ((kind_piece (parts layer)).made scopes) (made scopes) (is scopes)))
     (gives test scopes up only low fits))
 
-good_declared : (name : Name) (ty : Option RawType) (value : Option RawExpr) (test : ℕ → Bool) (scopes : Scopes) → UpFrom test scopes.counts.variables → Only test scopes → Low scopes →
+good_declared : (name : Name) (ty : Option RawType) (value : Option RawExpr) (test : ℕ → Bool) (scopes : Scopes) → UpFrom test scopes.counts.variables
+    → Only test scopes → Low scopes →
     Fits scopes ((optional type_marks ty ++ optional expr_marks value) ++ (declares name kind.Variable ∷ [])) →
     Holds test scopes (after scopes ((optional type_marks ty ++ optional expr_marks value) ++ (declares name kind.Variable ∷ [])))
     (naming_declared scopes.counts.variables (optional_roots (option_map (named_expr scopes) value)))
@@ -314,7 +336,8 @@ good_declared name ty value test scopes up only low fits =
     let n = scopes.counts.variables in
     let marks = optional type_marks ty ++ optional expr_marks value in
     let roots = optional_roots (option_map (named_expr scopes) value) in
-    let fits_value = fits_behind scopes (optional type_marks ty) (optional expr_marks value) (still_optional type_marks ty still_type) (fits_first scopes marks (declares name kind.Variable ∷ []) fits) in
+    let fits_value = fits_behind scopes (optional type_marks ty) (optional expr_marks value) (still_optional type_marks ty still_type)
+    (fits_first scopes marks (declares name kind.Variable ∷ []) fits) in
     subst (λ new. Holds test scopes new (naming_declared n roots)) (enter-behind scopes marks name kind.Variable (still_value ty value))
     (record {
       grown = most_next n;
@@ -323,13 +346,16 @@ good_declared name ty value test scopes up only low fits =
       declared = both (between n (n + 1) n) true (both (nat_le n n) (nat_lt n (n + 1)) (le-leb n n (most_self n)) (lt-ltb n (n + 1) (less_next n))) refl;
       named = both (test n) (list_all test roots) (up n (most_self n)) (optional_only test scopes scopes.counts only value fits_value);
       named_low = both (nat_lt n (n + 1)) (list_all (below (n + 1)) roots) (lt-ltb n (n + 1) (less_next n))
-          (all_weaker (below n) (below (n + 1)) (λ k. below_more n (n + 1) k (most_next n)) roots (optional_only (below n) scopes scopes.counts low value fits_value));
+          (all_weaker (below n) (below (n + 1)) (λ k. below_more n (n + 1) k (most_next n)) roots
+          (optional_only (below n) scopes scopes.counts low value fits_value));
       apart = refl;
     })
 
-good_constant : (constant : RawConstant) (test : ℕ → Bool) (scopes : Scopes) → Only test scopes → Low scopes → Holds test scopes (after scopes (constant_marks constant)) (naming [])
+good_constant : (constant : RawConstant) (test : ℕ → Bool) (scopes : Scopes) → Only test scopes → Low scopes
+    → Holds test scopes (after scopes (constant_marks constant)) (naming [])
 good_constant constant test scopes only low =
-    subst (λ new. Holds test scopes new (naming [])) (enter-behind scopes (optional type_marks constant.ty ++ expr_marks constant.value) constant.name kind.Constant (still_value constant.ty (Some constant.value)))
+    subst (λ new. Holds test scopes new (naming [])) (enter-behind scopes (optional type_marks constant.ty ++ expr_marks constant.value) constant.name
+    kind.Constant (still_value constant.ty (Some constant.value)))
     (record {
       grown = most_self scopes.counts.variables;
       only = declare_only test scopes constant.name kind.Constant (λ is. absurd (cc)) only;
@@ -342,43 +368,62 @@ good_constant constant test scopes only low =
 
 cases : Cases StmtGood ArmGood BranchGood
 cases = record {
-  var = λ place name ty value. stmt_good place (RawStmtKind-F.Var name ty value) (λ scopes. NamedStmtKind-F.Declare scopes.counts.variables (option_map (named_expr scopes) value)) (λ scopes. what.outs-Declare scopes.counts.variables (option_map (named_expr scopes) value))
+  var = λ place name ty value. stmt_good place (RawStmtKind-F.Var name ty value)
+      (λ scopes. NamedStmtKind-F.Declare scopes.counts.variables (option_map (named_expr scopes) value))
+      (λ scopes. what.outs-Declare scopes.counts.variables (option_map (named_expr scopes) value))
       (good_declared name ty value);
-  fixed = λ place name ty value. stmt_good place (RawStmtKind-F.Let name ty value) (λ scopes. NamedStmtKind-F.Declare scopes.counts.variables (Some (named_expr scopes value))) (λ scopes. what.outs-Declare scopes.counts.variables (Some (named_expr scopes value)))
+  fixed = λ place name ty value. stmt_good place (RawStmtKind-F.Let name ty value)
+      (λ scopes. NamedStmtKind-F.Declare scopes.counts.variables (Some (named_expr scopes value)))
+      (λ scopes. what.outs-Declare scopes.counts.variables (Some (named_expr scopes value)))
       (good_declared name ty (Some value));
-  constant = λ place constant. stmt_good place (RawStmtKind-F.Const constant) (λ scopes. NamedStmtKind-F.Const scopes.counts.constants) (λ scopes. what.outs-Const scopes.counts.constants)
+  constant = λ place constant. stmt_good place (RawStmtKind-F.Const constant) (λ scopes. NamedStmtKind-F.Const scopes.counts.constants)
+      (λ scopes. what.outs-Const scopes.counts.constants)
       (λ test scopes up only low fits. good_constant constant test scopes only low);
-  assign = λ place target e. stmt_good place (RawStmtKind-F.Assign target e) (λ scopes. NamedStmtKind-F.Assign (named_target scopes target) (named_expr scopes e)) (λ scopes. what.outs-Assign (named_target scopes target) (named_expr scopes e))
+  assign = λ place target e. stmt_good place (RawStmtKind-F.Assign target e)
+      (λ scopes. NamedStmtKind-F.Assign (named_target scopes target) (named_expr scopes e))
+      (λ scopes. what.outs-Assign (named_target scopes target) (named_expr scopes e))
       (λ test scopes up only low fits.
       let fits_target = fits_first scopes (target_marks target wanted.Variable) (expr_marks e) fits in
       let fits_e = fits_behind scopes (target_marks target wanted.Variable) (expr_marks e) (still_target target wanted.Variable) fits in
       holds_plain test scopes (target_marks target wanted.Variable ++ expr_marks e) _
       (still_append (target_marks target wanted.Variable) (expr_marks e) (still_target target wanted.Variable) (still_expr e)) only low
-      (all_append test _ _ (target_only test scopes scopes.counts only target wanted.Variable variable_read fits_target) (expr_only test scopes scopes.counts only e fits_e))
-      (all_append (below scopes.counts.variables) _ _ (target_only (below scopes.counts.variables) scopes scopes.counts low target wanted.Variable variable_read fits_target)
+      (all_append test _ _ (target_only test scopes scopes.counts only target wanted.Variable variable_read fits_target)
+      (expr_only test scopes scopes.counts only e fits_e))
+      (all_append (below scopes.counts.variables) _ _ (target_only (below scopes.counts.variables) scopes scopes.counts low target wanted.Variable
+      variable_read fits_target)
       (expr_only (below scopes.counts.variables) scopes scopes.counts low e fits_e)));
   call = λ place f inputs outputs. stmt_good place (RawStmtKind-F.Call f inputs outputs)
-      (λ scopes. NamedStmtKind-F.Call f.place (position scopes f) (map (named_expr scopes) inputs) (map (named_path scopes) outputs)) (λ scopes. what.outs-Call f.place (position scopes f) (map (named_expr scopes) inputs) (map (named_path scopes) outputs))
+      (λ scopes. NamedStmtKind-F.Call f.place (position scopes f) (map (named_expr scopes) inputs) (map (named_path scopes) outputs))
+      (λ scopes. what.outs-Call f.place (position scopes f) (map (named_expr scopes) inputs) (map (named_path scopes) outputs))
       (λ test scopes up only low fits. holds_plain test scopes (uses f wanted.Function ∷ argument_marks inputs outputs) _
       (still_append (uses f wanted.Function ∷ []) (argument_marks inputs outputs) (still_use f wanted.Function) (still_arguments inputs outputs)) only low
-      (arguments_only test scopes scopes.counts only inputs outputs fits.1) (arguments_only (below scopes.counts.variables) scopes scopes.counts low inputs outputs fits.1));
-  await = λ place e. stmt_good place (RawStmtKind-F.Await e) (λ scopes. NamedStmtKind-F.Await (named_expr scopes e)) (λ scopes. what.outs-Await (named_expr scopes e))
+      (arguments_only test scopes scopes.counts only inputs outputs fits.1)
+      (arguments_only (below scopes.counts.variables) scopes scopes.counts low inputs outputs fits.1));
+  await = λ place e. stmt_good place (RawStmtKind-F.Await e) (λ scopes. NamedStmtKind-F.Await (named_expr scopes e))
+      (λ scopes. what.outs-Await (named_expr scopes e))
       (λ test scopes up only low fits. holds_plain test scopes (expr_marks e) _ (still_expr e) only low
       (expr_only test scopes scopes.counts only e fits) (expr_only (below scopes.counts.variables) scopes scopes.counts low e fits));
   run = λ place target a inputs outputs. stmt_good place (RawStmtKind-F.Run target a inputs outputs)
-      (λ scopes. NamedStmtKind-F.Run (option_map (named_path scopes) target) a.place (position scopes a) (map (named_expr scopes) inputs) (map (named_path scopes) outputs)) (λ scopes. what.outs-Run (option_map (named_path scopes) target) a.place (position scopes a) (map (named_expr scopes) inputs) (map (named_path scopes) outputs))
+      (λ scopes. NamedStmtKind-F.Run (option_map (named_path scopes) target) a.place (position scopes a) (map (named_expr scopes) inputs)
+      (map (named_path scopes) outputs)) (λ scopes. what.outs-Run (option_map (named_path scopes) target) a.place (position scopes a)
+      (map (named_expr scopes) inputs) (map (named_path scopes) outputs))
       (λ test scopes up only low fits.
       let still = still_optional path_marks target (λ path. still_use path.root wanted.Variable) in
       let call = uses a wanted.Activity ∷ argument_marks inputs outputs in
       let fits_target = fits_first scopes (optional path_marks target) call fits in
       let behind = fits_behind scopes (optional path_marks target) call still fits in
       holds_plain test scopes (optional path_marks target ++ call) _
-      (still_append (optional path_marks target) call still (still_append (uses a wanted.Activity ∷ []) (argument_marks inputs outputs) (still_use a wanted.Activity) (still_arguments inputs outputs))) only low
-      (all_append test _ _ (taker_only test scopes scopes.counts only target fits_target) (arguments_only test scopes scopes.counts only inputs outputs behind.1))
+      (still_append (optional path_marks target) call still
+      (still_append (uses a wanted.Activity ∷ []) (argument_marks inputs outputs) (still_use a wanted.Activity) (still_arguments inputs outputs))) only low
+      (all_append test _ _ (taker_only test scopes scopes.counts only target fits_target)
+      (arguments_only test scopes scopes.counts only inputs outputs behind.1))
       (all_append (below scopes.counts.variables) _ _ (taker_only (below scopes.counts.variables) scopes scopes.counts low target fits_target)
       (arguments_only (below scopes.counts.variables) scopes scopes.counts low inputs outputs behind.1)));
   branching = λ place arms other in_arms in_other. stmt_good place (RawStmtKind-F.If arms other)
-      (λ scopes. NamedStmtKind-F.If (made_of_all (map piece_of_arm arms) scopes) (made_of_all (map stmt_piece other) (opened (after scopes (marks_of_all (map piece_of_arm arms)))))) (λ scopes. what.outs-If (made_of_all (map piece_of_arm arms) scopes) (made_of_all (map stmt_piece other) (opened (after scopes (marks_of_all (map piece_of_arm arms))))))
+      (λ scopes. NamedStmtKind-F.If (made_of_all (map piece_of_arm arms) scopes)
+      (made_of_all (map stmt_piece other) (opened (after scopes (marks_of_all (map piece_of_arm arms))))))
+      (λ scopes. what.outs-If (made_of_all (map piece_of_arm arms) scopes)
+      (made_of_all (map stmt_piece other) (opened (after scopes (marks_of_all (map piece_of_arm arms))))))
       (λ test scopes up only low fits.
       let marks = marks_of_all (map piece_of_arm arms) in
       let rest = in_scope (marks_in other) in
@@ -389,30 +434,41 @@ cases = record {
       subst (λ new. Holds test scopes new (together (ones ++ others))) (sym (after-append scopes marks rest))
       (subst (Holds test scopes (after middle rest)) (sym (together_append ones others))
       (holds_pair test scopes middle (after middle rest) (together ones) (together others) first
-      (good_body other in_other test middle (later_up test scopes.counts.variables middle.counts.variables first.grown up) first.only first.low (fits_second scopes marks rest fits)))));
-  cobegin = λ place branches in_branches. stmt_good place (RawStmtKind-F.Cobegin branches) (λ scopes. NamedStmtKind-F.Cobegin (made_of_all (map piece_of_branch branches) scopes)) (λ scopes. what.outs-Cobegin (made_of_all (map piece_of_branch branches) scopes))
+      (good_body other in_other test middle (later_up test scopes.counts.variables middle.counts.variables first.grown up) first.only first.low
+      (fits_second scopes marks rest fits)))));
+  cobegin = λ place branches in_branches. stmt_good place (RawStmtKind-F.Cobegin branches)
+      (λ scopes. NamedStmtKind-F.Cobegin (made_of_all (map piece_of_branch branches) scopes))
+      (λ scopes. what.outs-Cobegin (made_of_all (map piece_of_branch branches) scopes))
       (good_branches branches in_branches);
   guarded = λ place guard e body each. stmt_good place (RawStmtKind-F.When guard e body)
-      (λ scopes. NamedStmtKind-F.When guard (named_expr scopes e) (made_of_all (map stmt_piece body) (opened (after scopes (expr_marks e))))) (λ scopes. what.outs-When guard (named_expr scopes e) (made_of_all (map stmt_piece body) (opened (after scopes (expr_marks e)))))
+      (λ scopes. NamedStmtKind-F.When guard (named_expr scopes e) (made_of_all (map stmt_piece body) (opened (after scopes (expr_marks e)))))
+      (λ scopes. what.outs-When guard (named_expr scopes e) (made_of_all (map stmt_piece body) (opened (after scopes (expr_marks e)))))
       (good_tested e body each);
-  repeat = λ place body each. stmt_good place (RawStmtKind-F.Repeat body) (λ scopes. NamedStmtKind-F.Repeat (made_of_all (map stmt_piece body) (opened scopes))) (λ scopes. what.outs-Repeat (made_of_all (map stmt_piece body) (opened scopes)))
+  repeat = λ place body each. stmt_good place (RawStmtKind-F.Repeat body)
+      (λ scopes. NamedStmtKind-F.Repeat (made_of_all (map stmt_piece body) (opened scopes)))
+      (λ scopes. what.outs-Repeat (made_of_all (map stmt_piece body) (opened scopes)))
       (good_body body each);
-  until = λ place body e each. stmt_good place (RawStmtKind-F.Until body e) (λ scopes. NamedStmtKind-F.Until (made_of_all (map stmt_piece body) (opened scopes)) (named_expr scopes e)) (λ scopes. what.outs-Until (made_of_all (map stmt_piece body) (opened scopes)) (named_expr scopes e))
+  until = λ place body e each. stmt_good place (RawStmtKind-F.Until body e)
+      (λ scopes. NamedStmtKind-F.Until (made_of_all (map stmt_piece body) (opened scopes)) (named_expr scopes e))
+      (λ scopes. what.outs-Until (made_of_all (map stmt_piece body) (opened scopes)) (named_expr scopes e))
       (good_until e body each);
   while = λ place e body each. stmt_good place (RawStmtKind-F.While e body)
-      (λ scopes. NamedStmtKind-F.While (named_expr scopes e) (made_of_all (map stmt_piece body) (opened (after scopes (expr_marks e))))) (λ scopes. what.outs-While (named_expr scopes e) (made_of_all (map stmt_piece body) (opened (after scopes (expr_marks e)))))
+      (λ scopes. NamedStmtKind-F.While (named_expr scopes e) (made_of_all (map stmt_piece body) (opened (after scopes (expr_marks e)))))
+      (λ scopes. what.outs-While (named_expr scopes e) (made_of_all (map stmt_piece body) (opened (after scopes (expr_marks e)))))
       (good_tested e body each);
-  returns = λ place e. stmt_good place (RawStmtKind-F.Return e) (λ scopes. NamedStmtKind-F.Return (option_map (named_expr scopes) e)) (λ scopes. what.outs-Return (option_map (named_expr scopes) e))
+  returns = λ place e. stmt_good place (RawStmtKind-F.Return e) (λ scopes. NamedStmtKind-F.Return (option_map (named_expr scopes) e))
+      (λ scopes. what.outs-Return (option_map (named_expr scopes) e))
       (λ test scopes up only low fits. holds_plain test scopes (optional expr_marks e) _ (still_optional expr_marks e still_expr) only low
       (optional_only test scopes scopes.counts only e fits) (optional_only (below scopes.counts.variables) scopes scopes.counts low e fits));
   arm = λ test body each. subst (Good naming_of_arm) (sym (arm_is test body))
       (λ passes scopes up only low fits. subst (Holds passes scopes (after scopes (expr_marks test ++ in_scope (marks_in body))))
-      (sym (named_arm_at Naming stmt_kind_naming arm_naming branch_naming (named_expr scopes test) (made_of_all (map stmt_piece body) (opened (after scopes (expr_marks test))))))
+      (sym (named_arm_at Naming stmt_kind_naming arm_naming branch_naming stmt_layer_naming (named_expr scopes test)
+      (made_of_all (map stmt_piece body) (opened (after scopes (expr_marks test))))))
       (good_tested test body each passes scopes up only low fits));
   branch = λ weak body each. (
     subst (Good naming_of_branch) (sym (branch_is weak body))
         (λ test scopes up only low fits. subst (Holds test scopes (after scopes (in_scope (marks_in body))))
-        (sym (named_branch_at Naming stmt_kind_naming arm_naming branch_naming weak (made_of_all (map stmt_piece body) (opened scopes))))
+        (sym (named_branch_at Naming stmt_kind_naming arm_naming branch_naming stmt_layer_naming weak (made_of_all (map stmt_piece body) (opened scopes))))
         (good_body body each test scopes up only low fits)),
     λ test scopes only. subst (λ piece. Only test (after scopes piece.marks)) (sym (branch_is weak body))
         (subst (Only test) (sym (own_is (marks_in body) (vars_of_all (map stmt_piece body)) (body_moves body) scopes)) only),

@@ -75,7 +75,8 @@ unit_apart scopes def none fits =
     let low : Low two = subst Low (sym (after-append (opened scopes) ins outs))
     (low_params role.Output def.outputs (after (opened scopes) ins)
     (low_params role.Input def.inputs (opened scopes) (tt, only_weaker never (below scopes.counts.variables) (λ k is. absurd (cc)) scopes none))) in
-    let inside = fits_first (opened scopes) (inside_unit def) (closes ∷ []) (fits_first scopes (in_scope (inside_unit def)) (declares def.name (kind_of_unit def.kind) ∷ []) fits).1 in
+    let inside = fits_first (opened scopes) (inside_unit def) (closes ∷ [])
+    (fits_first scopes (in_scope (inside_unit def)) (declares def.name (kind_of_unit def.kind) ∷ []) fits).1 in
     listed ((block_piece def.body).made two)
     ∙ (good_all naming_of stmt_piece def.body (every_of def.body) always two (λ k more. refl)
     (only_weaker (below two.counts.variables) always (λ k is. refl) two low) low (body_fits (opened scopes) def inside)).apart
@@ -87,21 +88,26 @@ abbrev Known : Scopes → List RawItem → Type 0
 Known scopes items = Only never scopes × Fits scopes (marks_of items)
 
 pub inside_moves : (def : RawUnit) → PieceMoves (inside_piece def)
-inside_moves def = moving_then (params_piece def).marks (block_piece def.body).marks (params_piece def).vars (block_piece def.body).vars (params_move def) (body_moves def.body)
+inside_moves def =
+    moving_then (params_piece def).marks (block_piece def.body).marks (params_piece def).vars (block_piece def.body).vars (params_move def)
+    (body_moves def.body)
 
 unit_only : (kind : UnitKind) (name : Name) (scopes : Scopes) → Only never scopes → Only never (enter scopes (declares name (kind_of_unit kind)))
 unit_only unit.Function name scopes none = declare_only never scopes name kind.Function (λ is. absurd (cc)) none
 unit_only unit.Activity name scopes none = declare_only never scopes name kind.Activity (λ is. absurd (cc)) none
 
 none_behind : (one : RawItem) (scopes : Scopes) → Only never scopes → Only never (after scopes (item_marks one))
-none_behind (item.Struct def) scopes none = subst (Only never) (struct_scopes scopes def) (declare_only never scopes def.name kind.Struct (λ is. absurd (cc)) none)
+none_behind (item.Struct def) scopes none =
+    subst (Only never) (struct_scopes scopes def) (declare_only never scopes def.name kind.Struct (λ is. absurd (cc)) none)
 none_behind (item.Constant constant) scopes none =
-    subst (Only never) (enter-behind scopes (optional type_marks constant.ty ++ expr_marks constant.value) constant.name kind.Constant (still_value constant.ty (Some constant.value)))
+    subst (Only never) (enter-behind scopes (optional type_marks constant.ty ++ expr_marks constant.value) constant.name kind.Constant
+    (still_value constant.ty (Some constant.value)))
     (declare_only never scopes constant.name kind.Constant (λ is. absurd (cc)) none)
 none_behind (item.Unit def) scopes none =
     let inner = after (opened scopes) (inside_piece def).marks in
     let closed : enter inner closes ≡ record scopes { counts = inner.counts } =
-    sym (after-append (opened scopes) (inside_piece def).marks (closes ∷ [])) ∙ own_is (inside_piece def).marks (inside_piece def).vars (inside_moves def) scopes in
+    sym (after-append (opened scopes) (inside_piece def).marks (closes ∷ []))
+    ∙ own_is (inside_piece def).marks (inside_piece def).vars (inside_moves def) scopes in
     subst (Only never) (unit_scopes scopes inner def refl) (unit_only def.kind def.name (enter inner closes) (subst (Only never) (sym closed) none))
 
 known_next : (scopes : Scopes) (one : RawItem) (items : List RawItem) → Known scopes (one ∷ items) → Known (after scopes (item_marks one)) items
@@ -114,4 +120,5 @@ item_apart scopes (item.Unit def) none fits = both (body_apart (named_unit scope
 
 pub units_are_apart : (items : List RawItem) (bytes : ℕ) → Passes items → list_all body_apart (named_program items bytes).units ≡ true
 units_are_apart items bytes passes = along_under Known units_of body_apart known_next
-    (λ scopes one items known. item_apart scopes one known.0 (fits_first scopes (item_marks one) (marks_of items) known.1)) file_scope items ((tt, tt), program_fits items passes)
+    (λ scopes one items known. item_apart scopes one known.0 (fits_first scopes (item_marks one) (marks_of items) known.1)) file_scope items
+    ((tt, tt), program_fits items passes)

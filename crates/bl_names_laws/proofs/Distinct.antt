@@ -33,7 +33,8 @@ use Rattle.bl_names_laws.proofs.Tests.{both}
 
 -- ---- fields
 
-fields_apart : (made : Scopes) (fields : List RawField) (scopes : Scopes) → Fresh scopes (map field_mark fields) → Differ scopes.inner (map (λ field. field.name.text) (map (named_field made) fields))
+fields_apart : (made : Scopes) (fields : List RawField) (scopes : Scopes) → Fresh scopes (map field_mark fields)
+    → Differ scopes.inner (map (λ field. field.name.text) (map (named_field made) fields))
 fields_apart made [] scopes fresh = none_differ scopes.inner
 fields_apart made (field ∷ fields) scopes fresh =
     differ_first scopes (enter scopes (field_mark field)) field.name.text (map (λ field. field.name.text) (map (named_field made) fields))
@@ -48,14 +49,16 @@ struct_apart scopes def fresh =
 
 -- ---- parameters
 
-role_apart : (role : Role) (params : List RawParam) (scopes : Scopes) (names : List (List ℕ)) → Fresh scopes (role_piece role params).marks → Differ (after scopes (role_piece role params).marks).inner names →
+role_apart : (role : Role) (params : List RawParam) (scopes : Scopes) (names : List (List ℕ)) → Fresh scopes (role_piece role params).marks
+    → Differ (after scopes (role_piece role params).marks).inner names →
     Differ scopes.inner (names_of ((role_piece role params).vars scopes) ++ names)
 role_apart role [] scopes names fresh rest = rest
 role_apart role (param ∷ params) scopes names fresh rest =
     let marks = (role_piece role params).marks in
     let middle = after scopes (param_marks param) in
     differ_first scopes middle param.name.text (names_of ((role_piece role params).vars middle) ++ names)
-    (adds scopes (type_marks param.ty) param.name kind.Variable (ap (λ s. s.inner) (still_type param.ty scopes)) (fresh_first scopes (param_marks param) marks fresh))
+    (adds scopes (type_marks param.ty) param.name kind.Variable (ap (λ s. s.inner) (still_type param.ty scopes))
+    (fresh_first scopes (param_marks param) marks fresh))
     (role_apart role params middle names (fresh_second scopes (param_marks param) marks fresh)
     (subst (λ s. Differ s.inner names) (after-append scopes (param_marks param) marks) rest))
 
@@ -83,12 +86,15 @@ unit_params scopes def fresh =
     let outs = role_piece role.Output def.outputs in
     let rest = optional type_marks def.result ++ joined (map stmt_marks def.body) in
     let middle = after s ins.marks in
-    let inside : Fresh s (inside_unit def) = fresh_first s (inside_unit def) (closes ∷ []) (fresh_first scopes (in_scope (inside_unit def)) (declares def.name (kind_of_unit def.kind) ∷ []) fresh).1 in
+    let inside : Fresh s (inside_unit def) = fresh_first s (inside_unit def) (closes ∷ [])
+    (fresh_first scopes (in_scope (inside_unit def)) (declares def.name (kind_of_unit def.kind) ∷ []) fresh).1 in
     let parted : Fresh s (ins.marks ++ (outs.marks ++ rest)) =
     subst (Fresh s) (λ i. sym (role_marks role.Input def.inputs) i ++ (sym (role_marks role.Output def.outputs) i ++ rest)) inside in
     let apart = role_apart role.Input def.inputs s (names_of (outs.vars middle) ++ []) (fresh_first s ins.marks (outs.marks ++ rest) parted)
-    (role_apart role.Output def.outputs middle [] (fresh_first middle outs.marks rest (fresh_second s ins.marks (outs.marks ++ rest) parted)) (none_differ (after middle outs.marks).inner)) in
-    ap are_distinct (taken (ins.vars s) (outs.vars middle) ((block_piece def.body).vars (after s (params_piece def).marks)) (length def.inputs) (length def.outputs)
+    (role_apart role.Output def.outputs middle [] (fresh_first middle outs.marks rest (fresh_second s ins.marks (outs.marks ++ rest) parted))
+    (none_differ (after middle outs.marks).inner)) in
+    ap are_distinct (taken (ins.vars s) (outs.vars middle) ((block_piece def.body).vars (after s (params_piece def).marks)) (length def.inputs)
+    (length def.outputs)
     (role_long role.Input def.inputs s) (role_long role.Output def.outputs middle))
     ∙ apart.distinct
 
@@ -104,11 +110,14 @@ struct_adds scopes def =
     let fields = in_scope (map field_mark def.fields) in
     let still : Still types = still_all field_type_marks def.fields (λ k d within. still_type _) in
     adds scopes (types ++ fields) def.name kind.Struct
-    (ap (λ s. s.inner) (after-append scopes types fields ∙ ap (λ s. after s fields) (still scopes) ∙ own_is (map field_mark def.fields) none (fields_move def.fields) scopes))
+    (ap (λ s. s.inner) (after-append scopes types fields ∙ ap (λ s. after s fields) (still scopes)
+    ∙ own_is (map field_mark def.fields) none (fields_move def.fields) scopes))
 
-constant_adds : (scopes : Scopes) (constant : RawConstant) → Fresh scopes (constant_marks constant) → Adds scopes (after scopes (constant_marks constant)) constant.name.text
+constant_adds : (scopes : Scopes) (constant : RawConstant) → Fresh scopes (constant_marks constant)
+    → Adds scopes (after scopes (constant_marks constant)) constant.name.text
 constant_adds scopes constant =
-    adds scopes (optional type_marks constant.ty ++ expr_marks constant.value) constant.name kind.Constant (ap (λ s. s.inner) (still_value constant.ty (Some constant.value) scopes))
+    adds scopes (optional type_marks constant.ty ++ expr_marks constant.value) constant.name kind.Constant
+    (ap (λ s. s.inner) (still_value constant.ty (Some constant.value) scopes))
 
 unit_adds : (scopes : Scopes) (def : RawUnit) → Fresh scopes (unit_marks def) → Adds scopes (after scopes (unit_marks def)) def.name.text
 unit_adds scopes def =
@@ -123,19 +132,23 @@ struct_names scopes items = map (λ def. def.name.text) (along structs_of scopes
 abbrev unit_names : Scopes → List RawItem → List (List ℕ)
 unit_names scopes items = map (λ unit. unit.name.text) (along units_of scopes items)
 
-items_apart : (items : List RawItem) (scopes : Scopes) → Fresh scopes (marks_of items) → Differ scopes.inner (struct_names scopes items ++ unit_names scopes items)
+items_apart : (items : List RawItem) (scopes : Scopes) → Fresh scopes (marks_of items)
+    → Differ scopes.inner (struct_names scopes items ++ unit_names scopes items)
 items_apart [] scopes fresh = none_differ scopes.inner
 items_apart (item.Struct def ∷ items) scopes fresh =
     let new = after scopes (struct_marks def) in
-    differ_first scopes new def.name.text (struct_names new items ++ unit_names new items) (struct_adds scopes def (fresh_first scopes (struct_marks def) (marks_of items) fresh))
+    differ_first scopes new def.name.text (struct_names new items ++ unit_names new items)
+    (struct_adds scopes def (fresh_first scopes (struct_marks def) (marks_of items) fresh))
     (items_apart items new (fresh_second scopes (struct_marks def) (marks_of items) fresh))
 items_apart (item.Constant constant ∷ items) scopes fresh =
     let new = after scopes (constant_marks constant) in
-    differ_skip scopes new constant.name.text (struct_names new items ++ unit_names new items) (constant_adds scopes constant (fresh_first scopes (constant_marks constant) (marks_of items) fresh))
+    differ_skip scopes new constant.name.text (struct_names new items ++ unit_names new items)
+    (constant_adds scopes constant (fresh_first scopes (constant_marks constant) (marks_of items) fresh))
     (items_apart items new (fresh_second scopes (constant_marks constant) (marks_of items) fresh))
 items_apart (item.Unit def ∷ items) scopes fresh =
     let new = after scopes (unit_marks def) in
-    differ_middle scopes new def.name.text (struct_names new items) (unit_names new items) (unit_adds scopes def (fresh_first scopes (unit_marks def) (marks_of items) fresh))
+    differ_middle scopes new def.name.text (struct_names new items) (unit_names new items)
+    (unit_adds scopes def (fresh_first scopes (unit_marks def) (marks_of items) fresh))
     (items_apart items new (fresh_second scopes (unit_marks def) (marks_of items) fresh))
 
 pub names_differ : (items : List RawItem) (bytes : ℕ) → Passes items → are_distinct (all_names (named_program items bytes)) ≡ true
@@ -160,8 +173,10 @@ item_params scopes (item.Unit def) fresh = both (parameters_differ (named_unit s
 
 pub all_fields_differ : (items : List RawItem) (bytes : ℕ) → Passes items → list_all fields_differ (named_program items bytes).structs ≡ true
 all_fields_differ items bytes passes = along_under Known structs_of fields_differ known_next
-    (λ scopes one items known. item_fields scopes one (fresh_first scopes (item_marks one) (marks_of items) known)) file_scope items (program_fresh items passes)
+    (λ scopes one items known. item_fields scopes one (fresh_first scopes (item_marks one) (marks_of items) known)) file_scope items
+    (program_fresh items passes)
 
 pub all_parameters_differ : (items : List RawItem) (bytes : ℕ) → Passes items → list_all parameters_differ (named_program items bytes).units ≡ true
 all_parameters_differ items bytes passes = along_under Known units_of parameters_differ known_next
-    (λ scopes one items known. item_params scopes one (fresh_first scopes (item_marks one) (marks_of items) known)) file_scope items (program_fresh items passes)
+    (λ scopes one items known. item_params scopes one (fresh_first scopes (item_marks one) (marks_of items) known)) file_scope items
+    (program_fresh items passes)

@@ -39,10 +39,12 @@ raw_step_at part layer is =
     fold_out-RawPart ℕ ℕ ℕ ℕ raw.kind_depth raw.part_depth raw.expr_layer_depth raw.target_layer_depth part
     ∙ ap (λ layer. raw.part_depth (map-RawPart RawExprKind RawPart RawExpr RawTarget ℕ ℕ ℕ ℕ raw_kind raw_step raw.expr_depth raw.target_depth layer)) is
 
-raw_target_at : (place : Place) (root : Name) (steps : List RawPart) → raw.target_depth (roll-RawTarget (record { place = place; root = root; parts = steps })) ≡ greatest (map raw_step steps)
+raw_target_at : (place : Place) (root : Name) (steps : List RawPart)
+    → raw.target_depth (roll-RawTarget (record { place = place; root = root; parts = steps })) ≡ greatest (map raw_step steps)
 raw_target_at place root steps = rw fold-roll-RawTarget refl
 
-pub all_same : {X Y : Type 0} (made : X → Y) (depth : Y → ℕ) (before : X → ℕ) (xs : List X) → All (λ x. depth (made x) ≡ before x) xs → map depth (map made xs) ≡ map before xs
+pub all_same : {X Y : Type 0} (made : X → Y) (depth : Y → ℕ) (before : X → ℕ) (xs : List X) → All (λ x. depth (made x) ≡ before x) xs
+    → map depth (map made xs) ≡ map before xs
 all_same made depth before [] each = refl
 all_same made depth before (x ∷ xs) each =
     λ i. All-head (λ x. depth (made x) ≡ before x) x xs each i ∷ all_same made depth before xs (All-tail (λ x. depth (made x) ≡ before x) x xs each) i
@@ -59,33 +61,43 @@ module _ (scopes : Scopes) where
 
   -- an expression whose kind becomes this
   same : (place : Place) (layer : RawLayer) (made : NamedLayer) →
-      expr_depth (named_expr scopes (expr place layer)) ≡ kind_depth (depth_parts made) → kind_depth (depth_parts made) ≡ raw.kind_depth (raw_parts layer) → SameDepth (expr place layer)
+      expr_depth (named_expr scopes (expr place layer)) ≡ kind_depth (depth_parts made) → kind_depth (depth_parts made) ≡ raw.kind_depth (raw_parts layer)
+      → SameDepth (expr place layer)
   same place layer made is equal = is ∙ equal ∙ sym (raw_at place layer)
 
-  step_same : (part : RawPart) (layer : RawPart-F RawExprKind RawPart RawExpr RawTarget) → out-RawPart part ≡ layer → OfIndex SameDepth layer → step_depth (named_step scopes part) ≡ raw_step part
-  step_same part (RawPart-F.Field name) is of = field_made ℕ kind_depth part_depth target_layer_depth scopes part name is ∙ sym (raw_step_at part (RawPart-F.Field name) is)
+  step_same : (part : RawPart) (layer : RawPart-F RawExprKind RawPart RawExpr RawTarget) → out-RawPart part ≡ layer → OfIndex SameDepth layer
+      → step_depth (named_step scopes part) ≡ raw_step part
+  step_same part (RawPart-F.Field name) is of =
+      field_made ℕ kind_depth part_depth target_layer_depth scopes part name is ∙ sym (raw_step_at part (RawPart-F.Field name) is)
   step_same part (RawPart-F.Index e) is of =
       index_made ℕ kind_depth part_depth target_layer_depth scopes part e is ∙ ap (λ n. 1 + n) of ∙ sym (raw_step_at part (RawPart-F.Index e) is)
 
   cases : Cases SameDepth SameTarget
   cases = record {
     number = λ place minus n. same place (RawExprKind-F.Number minus n) (NamedExprKind-F.Number minus n)
-        (expr_made ℕ kind_depth part_depth target_layer_depth scopes place (RawExprKind-F.Number minus n) (NamedExprKind-F.Number minus n) (what.outs-Number minus n)) refl;
+        (expr_made ℕ kind_depth part_depth target_layer_depth scopes place (RawExprKind-F.Number minus n) (NamedExprKind-F.Number minus n)
+        (what.outs-Number minus n)) refl;
     truth = λ place b. same place (RawExprKind-F.Truth b) (NamedExprKind-F.Truth b)
         (expr_made ℕ kind_depth part_depth target_layer_depth scopes place (RawExprKind-F.Truth b) (NamedExprKind-F.Truth b) (what.outs-Truth b)) refl;
     read = λ place target is. same place (RawExprKind-F.Read target) (NamedExprKind-F.Read (named_target scopes target))
-        (expr_made ℕ kind_depth part_depth target_layer_depth scopes place (RawExprKind-F.Read target) (NamedExprKind-F.Read (named_target scopes target)) (what.outs-Read (named_target scopes target))) is;
+        (expr_made ℕ kind_depth part_depth target_layer_depth scopes place (RawExprKind-F.Read target) (NamedExprKind-F.Read (named_target scopes target))
+        (what.outs-Read (named_target scopes target))) is;
     prev = λ place name. same place (RawExprKind-F.Prev name) (NamedExprKind-F.Prev (position scopes name))
-        (expr_made ℕ kind_depth part_depth target_layer_depth scopes place (RawExprKind-F.Prev name) (NamedExprKind-F.Prev (position scopes name)) (what.outs-Prev (position scopes name))) refl;
+        (expr_made ℕ kind_depth part_depth target_layer_depth scopes place (RawExprKind-F.Prev name) (NamedExprKind-F.Prev (position scopes name))
+        (what.outs-Prev (position scopes name))) refl;
     one = λ place op a is. same place (RawExprKind-F.One op a) (NamedExprKind-F.One op (named_expr scopes a))
-        (expr_made ℕ kind_depth part_depth target_layer_depth scopes place (RawExprKind-F.One op a) (NamedExprKind-F.One op (named_expr scopes a)) (what.outs-One op (named_expr scopes a))) (ap (λ n. 1 + n) is);
+        (expr_made ℕ kind_depth part_depth target_layer_depth scopes place (RawExprKind-F.One op a) (NamedExprKind-F.One op (named_expr scopes a))
+        (what.outs-One op (named_expr scopes a))) (ap (λ n. 1 + n) is);
     two = λ place op a b is_a is_b. same place (RawExprKind-F.Two op a b) (NamedExprKind-F.Two op (named_expr scopes a) (named_expr scopes b))
-        (expr_made ℕ kind_depth part_depth target_layer_depth scopes place (RawExprKind-F.Two op a b) (NamedExprKind-F.Two op (named_expr scopes a) (named_expr scopes b)) (what.outs-Two op (named_expr scopes a) (named_expr scopes b)))
+        (expr_made ℕ kind_depth part_depth target_layer_depth scopes place (RawExprKind-F.Two op a b)
+        (NamedExprKind-F.Two op (named_expr scopes a) (named_expr scopes b)) (what.outs-Two op (named_expr scopes a) (named_expr scopes b)))
         (λ i. 1 + max (is_a i) (is_b i));
     cast = λ place s a is. same place (RawExprKind-F.Cast s a) (NamedExprKind-F.Cast s (named_expr scopes a))
-        (expr_made ℕ kind_depth part_depth target_layer_depth scopes place (RawExprKind-F.Cast s a) (NamedExprKind-F.Cast s (named_expr scopes a)) (what.outs-Cast s (named_expr scopes a))) (ap (λ n. 1 + n) is);
+        (expr_made ℕ kind_depth part_depth target_layer_depth scopes place (RawExprKind-F.Cast s a) (NamedExprKind-F.Cast s (named_expr scopes a))
+        (what.outs-Cast s (named_expr scopes a))) (ap (λ n. 1 + n) is);
     call = λ place f inputs all. same place (RawExprKind-F.Call f inputs) (NamedExprKind-F.Call f.place (position scopes f) (map (named_expr scopes) inputs))
-        (expr_made ℕ kind_depth part_depth target_layer_depth scopes place (RawExprKind-F.Call f inputs) (NamedExprKind-F.Call f.place (position scopes f) (map (named_expr scopes) inputs))
+        (expr_made ℕ kind_depth part_depth target_layer_depth scopes place (RawExprKind-F.Call f inputs)
+        (NamedExprKind-F.Call f.place (position scopes f) (map (named_expr scopes) inputs))
         (what.outs-Call f.place (position scopes f) (map (named_expr scopes) inputs)))
         (ap (λ depths. 1 + greatest depths) (all_same (named_expr scopes) expr_depth raw.expr_depth inputs all));
     target = λ place root steps each. target_made ℕ kind_depth part_depth target_layer_depth scopes place root steps

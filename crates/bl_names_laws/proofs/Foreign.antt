@@ -24,10 +24,12 @@ module _ (one other : ℕ → Bool) (never : (k : ℕ) → one k ≡ true → ot
   not_among k (n ∷ named) is all =
       λ i. not_same k n is (first_holds (other n) (list_all other named) all) i || not_among k named is (second_holds (other n) (list_all other named) all) i
 
-  none_among : (declared named : Roots) → list_all one declared ≡ true → list_all other named ≡ true → list_any (λ k. list_any (nat_eq k) named) declared ≡ false
+  none_among : (declared named : Roots) → list_all one declared ≡ true → list_all other named ≡ true → list_any (λ k. list_any (nat_eq k) named) declared
+      ≡ false
   none_among [] named all are = refl
   none_among (k ∷ declared) named all are =
-      λ i. not_among k named (first_holds (one k) (list_all one declared) all) are i || none_among declared named (second_holds (one k) (list_all one declared) all) are i
+      λ i. not_among k named (first_holds (one k) (list_all one declared) all) are i || none_among declared named
+      (second_holds (one k) (list_all one declared) all) are i
 
   foreign : (declared named : Roots) → list_all one declared ≡ true → list_all other named ≡ true → is_foreign declared named ≡ true
   foreign declared named all are = ap not (none_among declared named all are)
@@ -56,7 +58,8 @@ two_ways false b h = inr h
 
 never_outside : (start m n k : ℕ) → start ≤ m → between m n k ≡ true → outside start n k ≡ true → ⊥
 never_outside start m n k most is are =
-    by_parts (leb-true m k (first_holds (nat_le m k) (nat_lt k n) is)) (ltb-true k n (second_holds (nat_le m k) (nat_lt k n) is)) (two_ways (nat_lt k start) (nat_le n k) are)
+    by_parts (leb-true m k (first_holds (nat_le m k) (nat_lt k n) is)) (ltb-true k n (second_holds (nat_le m k) (nat_lt k n) is))
+    (two_ways (nat_lt k start) (nat_le n k) are)
   where
     by_parts : m ≤ k → k < n → (nat_lt k start ≡ true) ⊎ (nat_le n k ≡ true) → ⊥
     by_parts low high (inl is) = let less = ltb-true k start is in omega (arith)
@@ -66,13 +69,17 @@ never_below : (n k : ℕ) → from n k ≡ true → below n k ≡ true → ⊥
 never_below n k is are = let more = leb-true n k is in let less = ltb-true k n are in omega (arith)
 
 -- a branch from m to n, and another that begins at n
-apart_from : (start m n : ℕ) (one other : Naming) → start ≤ m → list_all (between m n) one.declared ≡ true → list_all (below n) one.named ≡ true → begins_at start n other ≡ true → keep_apart one other ≡ true
+apart_from : (start m n : ℕ) (one other : Naming) → start ≤ m → list_all (between m n) one.declared ≡ true → list_all (below n) one.named ≡ true
+    → begins_at start n other ≡ true → keep_apart one other ≡ true
 apart_from start m n one other most declared named later =
     both (is_foreign one.declared other.named) (is_foreign other.declared one.named)
-    (foreign (between m n) (outside start n) (λ k. never_outside start m n k most) one.declared other.named declared (second_holds (list_all (from n) other.declared) (list_all (outside start n) other.named) later))
-    (foreign (from n) (below n) (never_below n) other.declared one.named (first_holds (list_all (from n) other.declared) (list_all (outside start n) other.named) later) named)
+    (foreign (between m n) (outside start n) (λ k. never_outside start m n k most) one.declared other.named declared
+    (second_holds (list_all (from n) other.declared) (list_all (outside start n) other.named) later))
+    (foreign (from n) (below n) (never_below n) other.declared one.named
+    (first_holds (list_all (from n) other.declared) (list_all (outside start n) other.named) later) named)
 
-pub apart_from_all : (start m n : ℕ) (one : Naming) (others : List Naming) → start ≤ m → list_all (between m n) one.declared ≡ true → list_all (below n) one.named ≡ true →
+pub apart_from_all : (start m n : ℕ) (one : Naming) (others : List Naming) → start ≤ m → list_all (between m n) one.declared ≡ true
+    → list_all (below n) one.named ≡ true →
     list_all (begins_at start n) others ≡ true → list_all (keep_apart one) others ≡ true
 apart_from_all start m n one [] most declared named later = refl
 apart_from_all start m n one (other ∷ others) most declared named later =
@@ -110,4 +117,5 @@ together_append xs ys = λ i. record {
 pub all_weaker : (test other : ℕ → Bool) → ((k : ℕ) → test k ≡ true → other k ≡ true) → (ks : Roots) → list_all test ks ≡ true → list_all other ks ≡ true
 all_weaker test other weaker [] all = refl
 all_weaker test other weaker (k ∷ ks) all =
-    both (other k) (list_all other ks) (weaker k (first_holds (test k) (list_all test ks) all)) (all_weaker test other weaker ks (second_holds (test k) (list_all test ks) all))
+    both (other k) (list_all other ks) (weaker k (first_holds (test k) (list_all test ks) all))
+    (all_weaker test other weaker ks (second_holds (test k) (list_all test ks) all))

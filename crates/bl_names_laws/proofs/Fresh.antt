@@ -4,6 +4,7 @@ use Rattle.std.specs.Prelude.{bytes_eq, is_none, ⊤}
 use Rattle.std.specs.List.{list_all}
 use Rattle.std.proofs.lemmas.Bool.{not-true}
 use Rattle.std.proofs.lemmas.Slice.Eq.{bytes_eq-Decides}
+use Rattle.bl_tree.specs.declared.rule.Rule.TheVariants as rule
 use Rattle.bl_tree.specs.Words.{are_distinct, is_among}
 use Rattle.bl_raw.specs.declared.item.RawItem.{RawItem}
 use Rattle.bl_raw.specs.declared.name.Name.{Name}
@@ -35,11 +36,12 @@ fresh_second scopes [] second fresh = fresh
 fresh_second scopes (mark ∷ first) second fresh = fresh_second (enter scopes mark) first second fresh.1
 
 module _ (items : List RawItem) (passes : Passes items) where
-  declares_fresh : (before : Marks) (name : Name) (kind : Kind) (rest : Marks) → marks_of items ≡ before ++ (declares name kind ∷ rest) → found (after file_scope before).inner name.text ≡ None
+  declares_fresh : (before : Marks) (name : Name) (kind : Kind) (rest : Marks) → marks_of items ≡ before ++ (declares name kind ∷ rest)
+      → found (after file_scope before).inner name.text ≡ None
   declares_fresh before name kind rest there =
       elim (found (after file_scope before).inner name.text) as (λ earlier. found (after file_scope before).inner name.text ≡ earlier → earlier ≡ None) [
         | None ↦ λ is. refl
-        | Some d ↦ λ is. absurd (passes 6 name.place (d.place ∷ []) (inl (
+        | Some d ↦ λ is. absurd (passes rule.Duplicate name.place (d.place ∷ []) (inl (
           refl,
           record {
             name = name;
@@ -64,7 +66,8 @@ module _ (items : List RawItem) (passes : Passes items) where
   rest_fresh before [] there = tt
   rest_fresh before (mark ∷ rest) there = (
     mark_fresh before mark rest there,
-    subst (λ s. Fresh s rest) (after-append file_scope before (mark ∷ [])) (rest_fresh (before ++ (mark ∷ [])) rest (there ∙ sym (append_assoc before (mark ∷ []) rest))),
+    subst (λ s. Fresh s rest) (after-append file_scope before (mark ∷ []))
+        (rest_fresh (before ++ (mark ∷ [])) rest (there ∙ sym (append_assoc before (mark ∷ []) rest))),
   )
 
   pub program_fresh : Fresh file_scope (marks_of items)
@@ -81,7 +84,8 @@ pub record Adds (scopes new : Scopes) (text : List ℕ) : Type 0 where
   pub absent : found scopes.inner text ≡ None
   pub inner : new.inner ≡ scopes.inner ++ ((text, entry) ∷ [])
 
-pub adds : (scopes : Scopes) (marks : Marks) (name : Name) (kind : Kind) → (after scopes marks).inner ≡ scopes.inner → Fresh scopes (declared_after marks name kind) →
+pub adds : (scopes : Scopes) (marks : Marks) (name : Name) (kind : Kind) → (after scopes marks).inner ≡ scopes.inner
+    → Fresh scopes (declared_after marks name kind) →
     Adds scopes (after scopes (declared_after marks name kind)) name.text
 adds scopes marks name kind same fresh =
     let behind = after scopes marks in
@@ -138,7 +142,8 @@ module _ (text : List ℕ) (entry : Declaration) where
         | false ↦ λ is. unseen_before scope name is
       ] none
 
-  all_before : (scope : Declared) (names : List (List ℕ)) → list_all (unseen (longer scope)) names ≡ true → (list_all (unseen scope) names ≡ true) × (is_among text names ≡ false)
+  all_before : (scope : Declared) (names : List (List ℕ)) → list_all (unseen (longer scope)) names ≡ true
+      → (list_all (unseen scope) names ≡ true) × (is_among text names ≡ false)
   all_before scope [] none = (refl, refl)
   all_before scope (name ∷ names) none =
       let here = unseen_before scope name (first_holds (unseen (longer scope) name) (list_all (unseen (longer scope)) names) none) in
@@ -169,27 +174,33 @@ neither_second false b is = is
 
 -- a name between others
 module _ (text : List ℕ) (after : List (List ℕ)) where
-  all_middle : (test : List ℕ → Bool) (before : List (List ℕ)) → test text ≡ true → list_all test (before ++ after) ≡ true → list_all test (before ++ (text ∷ after)) ≡ true
+  all_middle : (test : List ℕ → Bool) (before : List (List ℕ)) → test text ≡ true → list_all test (before ++ after) ≡ true
+      → list_all test (before ++ (text ∷ after)) ≡ true
   all_middle test [] here all = both (test text) (list_all test after) here all
   all_middle test (name ∷ before) here all =
       both (test name) (list_all test (before ++ (text ∷ after))) (first_holds (test name) (list_all test (before ++ after)) all)
       (all_middle test before here (second_holds (test name) (list_all test (before ++ after)) all))
 
-  among_middle : (name : List ℕ) (before : List (List ℕ)) → bytes_eq name text ≡ false → is_among name (before ++ after) ≡ false → is_among name (before ++ (text ∷ after)) ≡ false
+  among_middle : (name : List ℕ) (before : List (List ℕ)) → bytes_eq name text ≡ false → is_among name (before ++ after) ≡ false
+      → is_among name (before ++ (text ∷ after)) ≡ false
   among_middle name [] here all = λ i. here i || all i
   among_middle name (one ∷ before) here all =
-      λ i. neither_first (bytes_eq name one) (is_among name (before ++ after)) all i || among_middle name before here (neither_second (bytes_eq name one) (is_among name (before ++ after)) all) i
+      λ i. neither_first (bytes_eq name one) (is_among name (before ++ after)) all i || among_middle name before here
+      (neither_second (bytes_eq name one) (is_among name (before ++ after)) all) i
 
-  distinct_middle : (before : List (List ℕ)) → is_among text (before ++ after) ≡ false → are_distinct (before ++ after) ≡ true → are_distinct (before ++ (text ∷ after)) ≡ true
+  distinct_middle : (before : List (List ℕ)) → is_among text (before ++ after) ≡ false → are_distinct (before ++ after) ≡ true
+      → are_distinct (before ++ (text ∷ after)) ≡ true
   distinct_middle [] new distinct = both (not (is_among text after)) (are_distinct after) (ap not new) distinct
   distinct_middle (name ∷ before) new distinct =
       let others = before ++ after in
       both (not (is_among name (before ++ (text ∷ after)))) (are_distinct (before ++ (text ∷ after)))
       (ap not (among_middle name before (other_way text name (neither_first (bytes_eq text name) (is_among text others) new))
       (not-true (is_among name others) (first_holds (not (is_among name others)) (are_distinct others) distinct))))
-      (distinct_middle before (neither_second (bytes_eq text name) (is_among text others) new) (second_holds (not (is_among name others)) (are_distinct others) distinct))
+      (distinct_middle before (neither_second (bytes_eq text name) (is_among text others) new)
+      (second_holds (not (is_among name others)) (are_distinct others) distinct))
 
-pub differ_middle : (scopes new : Scopes) (text : List ℕ) (first second : List (List ℕ)) → Adds scopes new text → Differ new.inner (first ++ second) → Differ scopes.inner (first ++ (text ∷ second))
+pub differ_middle : (scopes new : Scopes) (text : List ℕ) (first second : List (List ℕ)) → Adds scopes new text → Differ new.inner (first ++ second)
+    → Differ scopes.inner (first ++ (text ∷ second))
 differ_middle scopes new text first second one rest =
     let known = before scopes new text (first ++ second) one rest in
     record {

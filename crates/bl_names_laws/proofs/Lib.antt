@@ -12,7 +12,7 @@ mod Made
 mod Moves
 mod Names
 mod Only
-mod RawStmtInduction
+mod Starts
 mod StmtDepth
 mod Tests
 mod WhatKeeps

@@ -1,4 +1,4 @@
--- What statements, arms and branches become, and what a definition that goes down them comes to.
+-- What a definition that goes down statements, arms and branches comes to.
 use Rattle.std.proofs.Common.{◌≡◌, Bool, List, map, refl, ap, ◌∙◌}
 use Rattle.bl_tree.specs.declared.place.Place.{Place}
 use Rattle.bl_named.specs.declared.expr.NamedExpr.{NamedExpr}
@@ -13,9 +13,7 @@ use Rattle.bl_raw.specs.declared.stmt.RawBranch.{RawBranch, fold-RawBranch, fold
 use Rattle.bl_raw.specs.declared.stmt.RawStmt.{RawStmt, fold-RawStmt, fold-roll-RawStmt}
 use Rattle.bl_raw.specs.declared.stmt.RawStmtKind.{RawStmtKind, fold-RawStmtKind, fold-roll-RawStmtKind, map-RawStmtKind}
 use Rattle.bl_raw.specs.declared.stmt.RawStmtKind.TheOpen.{RawStmtKind-F, RawArm-F, RawBranch-F, RawStmt-F}
-use Rattle.bl_names.specs.Named.{arm_piece, branch_piece, kind_piece, piece_of_arm, piece_of_branch, stmt_layer_piece, stmt_piece}
-use Rattle.bl_names.proofs.PieceLemmas.{parts}
-use Rattle.bl_names_laws.proofs.RawStmtInduction.{stmt}
+use Rattle.bl_names.proofs.RawStmtInduction.{stmt}
 
 abbrev pub RawLayer : Type 0
 RawLayer = RawStmtKind-F RawStmtKind RawArm RawBranch RawStmt
@@ -23,73 +21,66 @@ RawLayer = RawStmtKind-F RawStmtKind RawArm RawBranch RawStmt
 abbrev pub NamedLayer : Type 0
 NamedLayer = NamedStmtKind-F NamedStmtKind NamedArm NamedBranch NamedStmt
 
--- ---- parts of a program
-
-pub stmt_is : (place : Place) (layer : RawLayer) → stmt_piece (stmt place layer) ≡ stmt_layer_piece (record { place = place; what = kind_piece (parts layer) })
-stmt_is place layer = rw (fold-roll-RawStmt, fold-roll-RawStmtKind) refl
-
-pub arm_is : (test : RawExpr) (body : List RawStmt) → piece_of_arm (roll-RawArm (record { test = test; body = body })) ≡ arm_piece (record { test = test; body = map stmt_piece body })
-arm_is test body = rw fold-roll-RawArm refl
-
-pub branch_is : (weak : Bool) (body : List RawStmt) → piece_of_branch (roll-RawBranch (record { weak = weak; body = body })) ≡ branch_piece (record { weak = weak; body = map stmt_piece body })
-branch_is weak body = rw fold-roll-RawBranch refl
-
 -- ---- definitions that go down a raw tree
 
-module _ (X : Type 0) (of_kind : RawStmtKind-F X X X X → X) (of_arm : RawArm-F X X X X → X) (of_branch : RawBranch-F X X X X → X) where
-  abbrev raw_layer : RawStmt-F X X X X → X
-  raw_layer s = s.what
-
+module _ (X : Type 0) (of_kind : RawStmtKind-F X X X X → X) (of_arm : RawArm-F X X X X → X) (of_branch : RawBranch-F X X X X → X)
+    (of_layer : RawStmt-F X X X X → X) where
   abbrev raw_stmt : RawStmt → X
-  raw_stmt = fold-RawStmt X X X X of_kind of_arm of_branch raw_layer
+  raw_stmt = fold-RawStmt X X X X of_kind of_arm of_branch of_layer
 
   abbrev raw_arm : RawArm → X
-  raw_arm = fold-RawArm X X X X of_kind of_arm of_branch raw_layer
+  raw_arm = fold-RawArm X X X X of_kind of_arm of_branch of_layer
 
   abbrev raw_branch : RawBranch → X
-  raw_branch = fold-RawBranch X X X X of_kind of_arm of_branch raw_layer
+  raw_branch = fold-RawBranch X X X X of_kind of_arm of_branch of_layer
 
   abbrev raw_kind : RawStmtKind → X
-  raw_kind = fold-RawStmtKind X X X X of_kind of_arm of_branch raw_layer
+  raw_kind = fold-RawStmtKind X X X X of_kind of_arm of_branch of_layer
 
   abbrev pub raw_parts : RawLayer → RawStmtKind-F X X X X
   raw_parts = map-RawStmtKind RawStmtKind RawArm RawBranch RawStmt X X X X raw_kind raw_arm raw_branch raw_stmt
 
-  pub raw_at : (place : Place) (layer : RawLayer) → raw_stmt (stmt place layer) ≡ of_kind (raw_parts layer)
+  pub raw_at : (place : Place) (layer : RawLayer) → raw_stmt (stmt place layer) ≡ of_layer (record { place = place; what = of_kind (raw_parts layer) })
   raw_at place layer = rw (fold-roll-RawStmt, fold-roll-RawStmtKind) refl
 
-  pub raw_arm_at : (test : RawExpr) (body : List RawStmt) → raw_arm (roll-RawArm (record { test = test; body = body })) ≡ of_arm (record { test = test; body = map raw_stmt body })
+  pub raw_arm_at : (test : RawExpr) (body : List RawStmt) → raw_arm (roll-RawArm (record { test = test; body = body }))
+      ≡ of_arm (record { test = test; body = map raw_stmt body })
   raw_arm_at test body = rw fold-roll-RawArm refl
 
-  pub raw_branch_at : (weak : Bool) (body : List RawStmt) → raw_branch (roll-RawBranch (record { weak = weak; body = body })) ≡ of_branch (record { weak = weak; body = map raw_stmt body })
+  pub raw_branch_at : (weak : Bool) (body : List RawStmt) → raw_branch (roll-RawBranch (record { weak = weak; body = body }))
+      ≡ of_branch (record { weak = weak; body = map raw_stmt body })
   raw_branch_at weak body = rw fold-roll-RawBranch refl
 
 -- ---- definitions that go down a named tree
 
-module _ (X : Type 0) (of_kind : NamedStmtKind-F X X X X → X) (of_arm : NamedArm-F X X X X → X) (of_branch : NamedBranch-F X X X X → X) where
-  abbrev named_layer : NamedStmt-F X X X X → X
-  named_layer s = s.what
-
+module _ (X : Type 0) (of_kind : NamedStmtKind-F X X X X → X) (of_arm : NamedArm-F X X X X → X) (of_branch : NamedBranch-F X X X X → X)
+    (of_layer : NamedStmt-F X X X X → X) where
   abbrev named_stmt : NamedStmt → X
-  named_stmt = fold-NamedStmt X X X X of_kind of_arm of_branch named_layer
+  named_stmt = fold-NamedStmt X X X X of_kind of_arm of_branch of_layer
 
   abbrev named_arm : NamedArm → X
-  named_arm = fold-NamedArm X X X X of_kind of_arm of_branch named_layer
+  named_arm = fold-NamedArm X X X X of_kind of_arm of_branch of_layer
 
   abbrev named_branch : NamedBranch → X
-  named_branch = fold-NamedBranch X X X X of_kind of_arm of_branch named_layer
+  named_branch = fold-NamedBranch X X X X of_kind of_arm of_branch of_layer
 
   abbrev named_kind : NamedStmtKind → X
-  named_kind = fold-NamedStmtKind X X X X of_kind of_arm of_branch named_layer
+  named_kind = fold-NamedStmtKind X X X X of_kind of_arm of_branch of_layer
 
   abbrev pub named_parts : NamedLayer → NamedStmtKind-F X X X X
   named_parts = map-NamedStmtKind NamedStmtKind NamedArm NamedBranch NamedStmt X X X X named_kind named_arm named_branch named_stmt
 
-  pub named_at : (place : Place) (kind : NamedStmtKind) (layer : NamedLayer) → out-NamedStmtKind kind ≡ layer → named_stmt (roll-NamedStmt (record { place = place; what = kind })) ≡ of_kind (named_parts layer)
-  named_at place kind layer is = rw fold-roll-NamedStmt (fold_out-NamedStmtKind X X X X of_kind of_arm of_branch named_layer kind ∙ ap (λ layer. of_kind (named_parts layer)) is)
+  pub named_at : (place : Place) (kind : NamedStmtKind) (layer : NamedLayer) → out-NamedStmtKind kind ≡ layer
+      → named_stmt (roll-NamedStmt (record { place = place; what = kind })) ≡ of_layer (record { place = place; what = of_kind (named_parts layer) })
+  named_at place kind layer is =
+      rw fold-roll-NamedStmt
+      (ap (λ x. of_layer (record { place = place; what = x }))
+      (fold_out-NamedStmtKind X X X X of_kind of_arm of_branch of_layer kind ∙ ap (λ layer. of_kind (named_parts layer)) is))
 
-  pub named_arm_at : (test : NamedExpr) (body : List NamedStmt) → named_arm (roll-NamedArm (record { test = test; body = body })) ≡ of_arm (record { test = test; body = map named_stmt body })
+  pub named_arm_at : (test : NamedExpr) (body : List NamedStmt) → named_arm (roll-NamedArm (record { test = test; body = body }))
+      ≡ of_arm (record { test = test; body = map named_stmt body })
   named_arm_at test body = rw fold-roll-NamedArm refl
 
-  pub named_branch_at : (weak : Bool) (body : List NamedStmt) → named_branch (roll-NamedBranch (record { weak = weak; body = body })) ≡ of_branch (record { weak = weak; body = map named_stmt body })
+  pub named_branch_at : (weak : Bool) (body : List NamedStmt) → named_branch (roll-NamedBranch (record { weak = weak; body = body }))
+      ≡ of_branch (record { weak = weak; body = map named_stmt body })
   named_branch_at weak body = rw fold-roll-NamedBranch refl

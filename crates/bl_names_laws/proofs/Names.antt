@@ -24,11 +24,11 @@ use Rattle.bl_raw.specs.Names.{arm_stands, branch_stands, expr_named, field_name
 use Rattle.bl_scopes.specs.Marks.{expr_marks, param_marks}
 use Rattle.bl_scopes.specs.Scopes.{Scopes, after, file_scope}
 use Rattle.bl_names.specs.Named.{Piece, block_piece, kind_piece, marks_of_all, named_field, named_program, named_struct, named_unit, opened, params_piece, piece_of_arm, piece_of_branch, role_piece, stmt_piece, structs_of, units_of, vars_of_all}
-use Rattle.bl_names.proofs.PieceLemmas.{parts}
-use Rattle.bl_names_laws.proofs.RawStmtInduction.{Cases, induct, stmt}
+use Rattle.bl_names.proofs.PieceLemmas.{arm_is, branch_is, parts, stmt_is}
+use Rattle.bl_names.proofs.RawStmtInduction.{Cases, induct, stmt}
 use Rattle.bl_names_laws.specs.Keeps.{all_names, fields_named, has_name, variables_named}
 use Rattle.bl_names_laws.proofs.Along.{all_append, along_holds}
-use Rattle.bl_names_laws.proofs.Made.{RawLayer, arm_is, branch_is, raw_arm_at, raw_at, raw_branch_at, raw_parts, stmt_is}
+use Rattle.bl_names_laws.proofs.Made.{RawLayer, raw_arm_at, raw_at, raw_branch_at, raw_parts}
 use Rattle.bl_names_laws.proofs.Tests.{both, first_holds, mapped, second_holds}
 
 -- whether what stands in an arm or a branch does
@@ -57,16 +57,17 @@ good_all stands piece [] each hold scopes = refl
 good_all stands piece (x ∷ xs) each hold scopes =
     all_append has_name ((piece x).vars scopes) (vars_of_all (map piece xs) (after scopes (piece x).marks))
     (All-head (λ x. Good (stands x) (piece x)) x xs each (first_holds (stands x) (all_of (map stands xs)) hold) scopes)
-    (good_all stands piece xs (All-tail (λ x. Good (stands x) (piece x)) x xs each) (second_holds (stands x) (all_of (map stands xs)) hold) (after scopes (piece x).marks))
+    (good_all stands piece xs (All-tail (λ x. Good (stands x) (piece x)) x xs each) (second_holds (stands x) (all_of (map stands xs)) hold)
+    (after scopes (piece x).marks))
 
 abbrev stands_of : RawLayer → Bool
-stands_of layer = stmt_kind_stands (raw_parts Bool stmt_kind_stands arm_stands branch_stands layer)
+stands_of layer = stmt_kind_stands (raw_parts Bool stmt_kind_stands arm_stands branch_stands stmt_layer_stands layer)
 
 -- a statement whose kind has these variables
 stmt_good : (place : Place) (layer : RawLayer) → Good (stands_of layer) (kind_piece (parts layer)) → StmtGood (stmt place layer)
 stmt_good place layer good stands scopes =
     ap (λ piece. list_all has_name (piece.vars scopes)) (stmt_is place layer)
-    ∙ good (sym (raw_at Bool stmt_kind_stands arm_stands branch_stands place layer) ∙ stands) scopes
+    ∙ good (sym (raw_at Bool stmt_kind_stands arm_stands branch_stands stmt_layer_stands place layer) ∙ stands) scopes
 
 one_named : (name : Name) (rest : Bool) → (named name && rest) ≡ true → (named name && true) ≡ true
 one_named name rest hold = both (named name) true (first_holds (named name) rest hold) refl
@@ -82,11 +83,14 @@ cases = record {
   run = λ place target a inputs outputs. stmt_good place (RawStmtKind-F.Run target a inputs outputs) (λ stands scopes. refl);
   branching = λ place arms other in_arms in_other. stmt_good place (RawStmtKind-F.If arms other) (λ stands scopes.
       let inside = second_holds (is_filled (map arm_of_names arms)) (all_of (map arm_of_names arms) && all_of (map stmt_stands other)) stands in
-      all_append has_name (vars_of_all (map piece_of_arm arms) scopes) (vars_of_all (map stmt_piece other) (opened (after scopes (marks_of_all (map piece_of_arm arms)))))
+      all_append has_name (vars_of_all (map piece_of_arm arms) scopes)
+      (vars_of_all (map stmt_piece other) (opened (after scopes (marks_of_all (map piece_of_arm arms)))))
       (good_all arm_of_names piece_of_arm arms in_arms (first_holds (all_of (map arm_of_names arms)) (all_of (map stmt_stands other)) inside) scopes)
-      (good_all stmt_stands stmt_piece other in_other (second_holds (all_of (map arm_of_names arms)) (all_of (map stmt_stands other)) inside) (opened (after scopes (marks_of_all (map piece_of_arm arms))))));
+      (good_all stmt_stands stmt_piece other in_other (second_holds (all_of (map arm_of_names arms)) (all_of (map stmt_stands other)) inside)
+      (opened (after scopes (marks_of_all (map piece_of_arm arms))))));
   cobegin = λ place branches in_branches. stmt_good place (RawStmtKind-F.Cobegin branches) (λ stands scopes.
-      good_all branch_of_names piece_of_branch branches in_branches (second_holds (is_filled (map branch_of_names branches)) (all_of (map branch_of_names branches)) stands) scopes);
+      good_all branch_of_names piece_of_branch branches in_branches
+      (second_holds (is_filled (map branch_of_names branches)) (all_of (map branch_of_names branches)) stands) scopes);
   guarded = λ place guard e body each. stmt_good place (RawStmtKind-F.When guard e body) (λ stands scopes.
       good_all stmt_stands stmt_piece body each (second_holds (expr_named e) (all_of (map stmt_stands body)) stands) (opened (after scopes (expr_marks e))));
   repeat = λ place body each. stmt_good place (RawStmtKind-F.Repeat body) (λ stands scopes. good_all stmt_stands stmt_piece body each stands (opened scopes));
@@ -98,10 +102,12 @@ cases = record {
   arm = λ test body each stands scopes.
       ap (λ piece. list_all has_name (piece.vars scopes)) (arm_is test body)
       ∙ good_all stmt_stands stmt_piece body each
-      (second_holds (expr_named test) (all_of (map stmt_stands body)) (sym (raw_arm_at Bool stmt_kind_stands arm_stands branch_stands test body) ∙ stands)) (opened (after scopes (expr_marks test)));
+      (second_holds (expr_named test) (all_of (map stmt_stands body))
+      (sym (raw_arm_at Bool stmt_kind_stands arm_stands branch_stands stmt_layer_stands test body) ∙ stands)) (opened (after scopes (expr_marks test)));
   branch = λ weak body each stands scopes.
       ap (λ piece. list_all has_name (piece.vars scopes)) (branch_is weak body)
-      ∙ good_all stmt_stands stmt_piece body each (sym (raw_branch_at Bool stmt_kind_stands arm_stands branch_stands weak body) ∙ stands) (opened scopes);
+      ∙ good_all stmt_stands stmt_piece body each (sym (raw_branch_at Bool stmt_kind_stands arm_stands branch_stands stmt_layer_stands weak body) ∙ stands)
+      (opened scopes);
 }
 
 locals_named : (body : List RawStmt) → list_all stmt_stands body ≡ true → (scopes : Scopes) → list_all has_name ((block_piece body).vars scopes) ≡ true
@@ -111,7 +117,8 @@ locals_named (s ∷ body) hold scopes =
     (induct StmtGood ArmGood BranchGood cases s (first_holds (stmt_stands s) (list_all stmt_stands body) hold) scopes)
     (locals_named body (second_holds (stmt_stands s) (list_all stmt_stands body) hold) (after scopes (stmt_piece s).marks))
 
-params_named : (role : Role) (params : List RawParam) → list_all param_named params ≡ true → (scopes : Scopes) → list_all has_name ((role_piece role params).vars scopes) ≡ true
+params_named : (role : Role) (params : List RawParam) → list_all param_named params ≡ true → (scopes : Scopes)
+    → list_all has_name ((role_piece role params).vars scopes) ≡ true
 params_named role [] hold scopes = refl
 params_named role (param ∷ params) hold scopes =
     both (named param.name) (list_all has_name ((role_piece role params).vars (after scopes (param_marks param))))
@@ -120,23 +127,28 @@ params_named role (param ∷ params) hold scopes =
 
 unit_named : (scopes : Scopes) (def : RawUnit) → unit_stands def ≡ true → variables_named (named_unit scopes def) ≡ true
 unit_named scopes def stands =
-    let head = first_holds (named def.name && (list_all param_named def.inputs && list_all param_named def.outputs)) (optional type_named def.result && list_all stmt_stands def.body) stands in
+    let head = first_holds (named def.name && (list_all param_named def.inputs && list_all param_named def.outputs))
+    (optional type_named def.result && list_all stmt_stands def.body) stands in
     let params = second_holds (named def.name) (list_all param_named def.inputs && list_all param_named def.outputs) head in
-    let rest = second_holds (named def.name && (list_all param_named def.inputs && list_all param_named def.outputs)) (optional type_named def.result && list_all stmt_stands def.body) stands in
+    let rest = second_holds (named def.name && (list_all param_named def.inputs && list_all param_named def.outputs))
+    (optional type_named def.result && list_all stmt_stands def.body) stands in
     let inputs = (role_piece role.Input def.inputs).vars (opened scopes) in
     let outputs = (role_piece role.Output def.outputs).vars (after (opened scopes) (role_piece role.Input def.inputs).marks) in
     all_append has_name (inputs ++ outputs) ((block_piece def.body).vars (after (opened scopes) (params_piece def).marks))
     (all_append has_name inputs outputs
     (params_named role.Input def.inputs (first_holds (list_all param_named def.inputs) (list_all param_named def.outputs) params) (opened scopes))
-    (params_named role.Output def.outputs (second_holds (list_all param_named def.inputs) (list_all param_named def.outputs) params) (after (opened scopes) (role_piece role.Input def.inputs).marks)))
-    (locals_named def.body (second_holds (optional type_named def.result) (list_all stmt_stands def.body) rest) (after (opened scopes) (params_piece def).marks))
+    (params_named role.Output def.outputs (second_holds (list_all param_named def.inputs) (list_all param_named def.outputs) params)
+    (after (opened scopes) (role_piece role.Input def.inputs).marks)))
+    (locals_named def.body (second_holds (optional type_named def.result) (list_all stmt_stands def.body) rest)
+    (after (opened scopes) (params_piece def).marks))
 
 item_named : (scopes : Scopes) (one : RawItem) → item_stands one ≡ true → list_all variables_named (units_of scopes one) ≡ true
 item_named scopes (item.Struct def) stands = refl
 item_named scopes (item.Constant constant) stands = refl
 item_named scopes (item.Unit def) stands = both (variables_named (named_unit scopes def)) true (unit_named scopes def stands) refl
 
-pub variables_are_named : (items : List RawItem) (bytes : ℕ) → list_all item_stands items ≡ true → list_all variables_named (named_program items bytes).units ≡ true
+pub variables_are_named : (items : List RawItem) (bytes : ℕ) → list_all item_stands items ≡ true → list_all variables_named (named_program items bytes).units
+    ≡ true
 variables_are_named items bytes = along_holds item_stands units_of variables_named item_named file_scope items
 
 -- ---- structs and units
@@ -153,7 +165,8 @@ fields_filled scopes name (field ∷ fields) stands =
 
 struct_is : (scopes : Scopes) (one : RawItem) → item_stands one ≡ true → list_all fields_named (structs_of scopes one) ≡ true
 struct_is scopes (item.Struct def) stands =
-    both (fields_named (named_struct scopes def)) true (fields_filled scopes def.name def.fields (second_holds (named def.name) (is_filled def.fields && list_all field_named def.fields) stands)) refl
+    both (fields_named (named_struct scopes def)) true (fields_filled scopes def.name def.fields
+    (second_holds (named def.name) (is_filled def.fields && list_all field_named def.fields) stands)) refl
 struct_is scopes (item.Constant constant) stands = refl
 struct_is scopes (item.Unit def) stands = refl
 
@@ -176,11 +189,14 @@ unit_name scopes (item.Struct def) stands = refl
 unit_name scopes (item.Constant constant) stands = refl
 unit_name scopes (item.Unit def) stands =
     one_named def.name (list_all param_named def.inputs && list_all param_named def.outputs)
-    (first_holds (named def.name && (list_all param_named def.inputs && list_all param_named def.outputs)) (optional type_named def.result && list_all stmt_stands def.body) stands)
+    (first_holds (named def.name && (list_all param_named def.inputs && list_all param_named def.outputs))
+    (optional type_named def.result && list_all stmt_stands def.body) stands)
 
 pub names_are : (items : List RawItem) (bytes : ℕ) → list_all item_stands items ≡ true → list_all is_name (all_names (named_program items bytes)) ≡ true
 names_are items bytes stand =
     let named = named_program items bytes in
     all_append is_name (map (λ def. def.name.text) named.structs) (map (λ unit. unit.name.text) named.units)
-    (mapped struct_has_name (λ def. def.name.text) is_name (λ def is. is) named.structs (along_holds item_stands structs_of struct_has_name struct_name file_scope items stand))
-    (mapped unit_has_name (λ unit. unit.name.text) is_name (λ unit is. is) named.units (along_holds item_stands units_of unit_has_name unit_name file_scope items stand))
+    (mapped struct_has_name (λ def. def.name.text) is_name (λ def is. is) named.structs
+    (along_holds item_stands structs_of struct_has_name struct_name file_scope items stand))
+    (mapped unit_has_name (λ unit. unit.name.text) is_name (λ unit is. is) named.units
+    (along_holds item_stands units_of unit_has_name unit_name file_scope items stand))

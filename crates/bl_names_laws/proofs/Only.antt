@@ -39,7 +39,8 @@ given (Some declaration) other = declaration
 given None other = other
 
 module _ (test : ℕ → Bool) where
-  found_only : (scope : Declared) (name : List ℕ) (declaration : Declaration) → ScopeOnly test scope → found scope name ≡ Some declaration → DeclarationOnly test declaration
+  found_only : (scope : Declared) (name : List ℕ) (declaration : Declaration) → ScopeOnly test scope → found scope name ≡ Some declaration
+      → DeclarationOnly test declaration
   found_only [] name declaration only is = absurd (cc)
   found_only (entry ∷ rest) name declaration only is =
       elim (bytes_eq name entry.0) as (λ same. cond same (Some entry.1) (found rest name) ≡ Some declaration → DeclarationOnly test declaration) [
@@ -47,17 +48,21 @@ module _ (test : ℕ → Bool) where
         | false ↦ λ h. found_only rest name declaration only.1 h
       ] is
 
-  around_only : (outer : List Declared) (name : List ℕ) (declaration : Declaration) → OuterOnly test outer → bound_around outer name ≡ Some declaration → DeclarationOnly test declaration
+  around_only : (outer : List Declared) (name : List ℕ) (declaration : Declaration) → OuterOnly test outer → bound_around outer name ≡ Some declaration
+      → DeclarationOnly test declaration
   around_only [] name declaration only is = absurd (cc)
   around_only (scope ∷ outer) name declaration only is =
-      elim (found scope name) as (λ first. found scope name ≡ first → option_or first (bound_around outer name) ≡ Some declaration → DeclarationOnly test declaration) [
+      elim (found scope name) as (λ first. found scope name ≡ first → option_or first (bound_around outer name) ≡ Some declaration
+      → DeclarationOnly test declaration) [
         | Some d ↦ λ there h. found_only scope name declaration only.0 (there ∙ h)
         | None ↦ λ there h. around_only outer name declaration only.1 h
       ] refl is
 
-  pub bound_only : (scopes : Scopes) (name : List ℕ) (declaration : Declaration) → Only test scopes → bound scopes name ≡ Some declaration → DeclarationOnly test declaration
+  pub bound_only : (scopes : Scopes) (name : List ℕ) (declaration : Declaration) → Only test scopes → bound scopes name ≡ Some declaration
+      → DeclarationOnly test declaration
   bound_only scopes name declaration only is =
-      elim (found scopes.inner name) as (λ first. found scopes.inner name ≡ first → option_or first (bound_around scopes.outer name) ≡ Some declaration → DeclarationOnly test declaration) [
+      elim (found scopes.inner name) as (λ first. found scopes.inner name ≡ first → option_or first (bound_around scopes.outer name) ≡ Some declaration
+      → DeclarationOnly test declaration) [
         | Some d ↦ λ there h. found_only scopes.inner name declaration only.0 (there ∙ h)
         | None ↦ λ there h. around_only scopes.outer name declaration only.1 h
       ] refl is
@@ -73,8 +78,10 @@ module _ (test : ℕ → Bool) where
   declared_only (Some d) scope name kind position only one = only
   declared_only None scope name kind position only one = only_append scope ((name.text, declaration_of name kind position) ∷ []) only (one, tt)
 
-  pub declare_only : (scopes : Scopes) (name : Name) (kind : Kind) → DeclarationOnly test (declaration_of name kind (count_of scopes.counts kind)) → Only test scopes → Only test (enter scopes (declares name kind))
-  declare_only scopes name kind one only = (declared_only (found scopes.inner name.text) scopes.inner name kind (count_of scopes.counts kind) only.0 one, only.1)
+  pub declare_only : (scopes : Scopes) (name : Name) (kind : Kind) → DeclarationOnly test (declaration_of name kind (count_of scopes.counts kind))
+      → Only test scopes → Only test (enter scopes (declares name kind))
+  declare_only scopes name kind one only =
+      (declared_only (found scopes.inner name.text) scopes.inner name kind (count_of scopes.counts kind) only.0 one, only.1)
 
 -- ---- a weaker test
 

@@ -19,7 +19,8 @@ pub mapped : {X Y : Type 0} (test : X → Bool) (becomes : X → Y) (other : Y �
     (xs : List X) → list_all test xs ≡ true → list_all other (map becomes xs) ≡ true
 mapped test becomes other each [] hold = refl
 mapped test becomes other each (x ∷ xs) hold =
-    both (other (becomes x)) (list_all other (map becomes xs)) (each x (first_holds (test x) (list_all test xs) hold)) (mapped test becomes other each xs (second_holds (test x) (list_all test xs) hold))
+    both (other (becomes x)) (list_all other (map becomes xs)) (each x (first_holds (test x) (list_all test xs) hold))
+    (mapped test becomes other each xs (second_holds (test x) (list_all test xs) hold))
 
 -- the test of the library
 pub all_is : {A : Type 0} (test : A → Bool) (xs : List A) → list_all test xs ≡ all_of (map test xs)

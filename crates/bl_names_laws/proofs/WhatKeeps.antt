@@ -5,13 +5,13 @@ use Rattle.bl_raw.specs.declared.item.RawItem.{RawItem}
 use Rattle.bl_raw.specs.Keeps.{Keeps as RawKeeps}
 use Rattle.bl_scopes.specs.Rules.{Passes}
 use Rattle.bl_names.specs.Named.{named_program}
-use Rattle.bl_names.specs.Order.{order_of}
 use Rattle.bl_names.proofs.PlacedProgram.{is_placed}
 use Rattle.bl_names_laws.specs.Keeps.{Keeps, body_apart, body_filled, body_shallow, fields_differ, fields_named, parameters_differ, variables_named}
 use Rattle.bl_names_laws.proofs.ApartProgram.{units_are_apart}
 use Rattle.bl_names_laws.proofs.Distinct.{all_fields_differ, all_parameters_differ, names_differ}
 use Rattle.bl_names_laws.proofs.Filled.{units_are_filled}
 use Rattle.bl_names_laws.proofs.Names.{fields_are_named, names_are, variables_are_named}
+use Rattle.bl_names_laws.proofs.Starts.{in_order}
 use Rattle.bl_names_laws.proofs.StmtDepth.{units_are_shallow}
 use Rattle.bl_names_laws.proofs.Tests.{both, first_holds, second_holds}
 
@@ -27,7 +27,6 @@ pub what_keeps : (items : List RawItem) (bytes : ℕ) → RawKeeps items → Pas
 what_keeps items bytes keeps passes =
     let named = named_program items bytes in
     record {
-      order = order_of items;
       placed = is_placed items bytes passes;
       names = names_are items bytes keeps.stand;
       distinct = names_differ items bytes passes;
@@ -36,4 +35,5 @@ what_keeps items bytes keeps passes =
           (all_both variables_named parameters_differ named.units (variables_are_named items bytes keeps.stand) (all_parameters_differ items bytes passes))
           (all_both body_filled (λ unit. body_shallow unit && body_apart unit) named.units (units_are_filled items bytes keeps.stand)
           (all_both body_shallow body_apart named.units (units_are_shallow items bytes keeps.shallow) (units_are_apart items bytes passes)));
+      in_order = in_order items bytes keeps.in_order;
     }

@@ -10,7 +10,9 @@ use Rattle.bl_named.specs.declared.named.Named.{Named}
 use Rattle.bl_names_laws.specs.Apart.{is_apart}
 use Rattle.bl_names_laws.specs.Depths.{is_shallow}
 use Rattle.bl_names_laws.specs.Filled.{is_filled}
-use Rattle.bl_named.specs.Placed.{IsPlaced, Item, parameters}
+use Rattle.bl_named.specs.Placed.{IsPlaced, parameters}
+use Rattle.bl_named.specs.Starts.{all_starts}
+use Rattle.bl_raw.specs.Starts.{ascends}
 
 -- whether the name of a variable is a name
 abbrev pub has_name : NamedVar → Bool
@@ -64,12 +66,13 @@ all_names named = map (λ def. def.name.text) named.structs ++ map (λ unit. uni
 
 -- what holds of the named tree of every text in which names are declared once, known and of the right kind
 pub record Keeps (named : Named) : Type 0 where
-  -- the order of its structs, constants and units in the text, in which every position is that of what is declared before
-  pub order : List Item
-  pub placed : IsPlaced order named
+  -- every position is that of what is declared before
+  pub placed : IsPlaced named
   -- the names of structs and units are names
   pub names : IsTrue (list_all is_name (all_names named))
   -- and differ
   pub distinct : IsTrue (are_distinct (all_names named))
   pub structs : IsTrue (list_all struct_stands named.structs)
   pub units : IsTrue (list_all unit_stands named.units)
+  -- statements and conditions of loops begin one after another, so no two of them have one place
+  pub in_order : IsTrue (ascends (all_starts named))

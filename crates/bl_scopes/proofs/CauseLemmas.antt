@@ -1,229 +1,169 @@
--- What is found first is why a program is refused, and where nothing is found it passes.
-use Rattle.std.proofs.Common.{◌≡◌, ℕ, true, false, cond, List, [], ◌∷◌, ◌++◌, inl, inr, ⊎_elim, Option, Some, None, refl, ap, sym, ◌∙◌, subst, arith}
-use Rattle.std.specs.Prelude.{option_map}
+-- What fails at the marks of a program is what the rules on names say of it.
+use Rattle.std.proofs.Common.{◌≡◌, true, false, cond, List, ◌∷◌, ◌++◌, ◌⊎◌, inl, inr, ⊎_elim, Option, Some, None, refl, ap, sym, ◌∙◌, subst}
 use Rattle.bl_tree.specs.declared.place.Place.{Place}
-use Rattle.bl_tree.specs.declared.place.Refusal.{Refusal}
-use Rattle.bl_tree.specs.declared.place.Refusal.TheVariants.{Rule, NoMemory}
+use Rattle.bl_tree.specs.declared.rule.Failure.{Failure}
+use Rattle.bl_tree.specs.declared.rule.Further.TheVariants.{Nothing, One}
+use Rattle.bl_tree.specs.declared.rule.Refusal.{Refusal}
+use Rattle.bl_tree.specs.declared.rule.Rule.{Rule}
+use Rattle.bl_tree.specs.declared.rule.Rule.TheVariants as rule
+use Rattle.bl_tree.specs.Rules.{Among, Refuses, further_places}
+use Rattle.bl_tree.proofs.FirstLemmas.{In, alike_first, alike_passes, contains_in, first_fails, in_contains, is_cause, none_passes}
 use Rattle.bl_raw.specs.declared.item.RawItem.{RawItem}
-use Rattle.bl_scopes.specs.declared.failure.Failure.{Failure}
-use Rattle.bl_scopes.specs.declared.judge.Judge.{Judge}
+use Rattle.bl_raw.specs.declared.name.Name.{Name}
 use Rattle.bl_scopes.specs.declared.kind.Wanted.{Wanted}
 use Rattle.bl_scopes.specs.declared.scopes.Declaration.{Declaration}
 use Rattle.bl_scopes.specs.Cause.{IsCause}
-use Rattle.bl_scopes.specs.Failures.{Refuses, duplicate_at, kind_at, pair, unbound, unfit, unknown_at}
-use Rattle.bl_scopes.specs.Judged.{fresh, judged_by}
+use Rattle.bl_scopes.specs.Failures.{declared_twice, failure, failure_at, misused}
+use Rattle.bl_scopes.specs.Judged.{first_failure}
 use Rattle.bl_scopes.specs.Kinds.{suits}
 use Rattle.bl_scopes.specs.Marks.{Mark, Marks, opens, closes, declares, uses, marks_of}
-use Rattle.bl_scopes.specs.Rules.{AreNoLater, FailsDuplicate, FailsFirst, FailsKind, FailsUnknown, Passes, Stands}
+use Rattle.bl_scopes.specs.Rules.{Fails, FailsDuplicate, FailsKind, FailsUnknown, Passes, Stands}
 use Rattle.bl_scopes.specs.Scopes.{Scopes, after, bound, file_scope, found}
-use Rattle.bl_scopes.proofs.OrderLemmas.{In, NoLater, first_is, least, none_is}
-use Rattle.bl_scopes.proofs.TellLemmas.{duplicate_is, kind_is, told, told_from, told_to, unknown_is}
+use Rattle.bl_scopes.proofs.TellLemmas.{failures, first_is_told, told, told_from, told_to}
 
--- ---- each rule at a mark
+-- ---- what fails at a mark
 
-record IsMapped {A B : Type 0} (f : A → B) (o : Option A) (y : B) : Type 0 where
-  pub source : A
-  pub is_some : o ≡ Some source
-  pub made : y ≡ f source
+record IsTwice (name : Name) (o : Option Declaration) (f : Failure) : Type 0 where
+  pub earlier : Declaration
+  pub is_some : o ≡ Some earlier
+  pub made : f ≡ failure rule.Duplicate name.place (One earlier.place)
 
-mapped : {A B : Type 0} (f : A → B) (o : Option A) (y : B) → option_map f o ≡ Some y → IsMapped f o y
-mapped f (Some x) y is = record { source = x; is_some = refl; made = cc }
-mapped f None y is = absurd (cc)
+twice_from : (name : Name) (o : Option Declaration) (f : Failure) → declared_twice name o ≡ Some f → IsTwice name o f
+twice_from name (Some earlier) f is = record { earlier = earlier; is_some = refl; made = cc }
+twice_from name None f is = absurd (cc)
 
-unbound_from : (at : Place) (o : Option Declaration) (f : Failure) → unbound at o ≡ Some f → (o ≡ None) × (f ≡ pair at at)
-unbound_from at (Some d) f is = absurd (cc)
-unbound_from at None f is = (refl, cc)
+record IsUnknown (name : Name) (o : Option Declaration) (f : Failure) : Type 0 where
+  pub is_none : o ≡ None
+  pub made : f ≡ failure rule.Unknown name.place Nothing
 
-record IsUnfit (at : Place) (wanted : Wanted) (o : Option Declaration) (f : Failure) : Type 0 where
+record IsUnfit (name : Name) (wanted : Wanted) (o : Option Declaration) (f : Failure) : Type 0 where
   pub declaration : Declaration
   pub is_some : o ≡ Some declaration
   pub unfit : suits wanted declaration.kind ≡ false
-  pub made : f ≡ pair at declaration.place
+  pub made : f ≡ failure rule.Kind name.place (One declaration.place)
 
-unfit_from : (at : Place) (wanted : Wanted) (o : Option Declaration) (f : Failure) → unfit at wanted o ≡ Some f → IsUnfit at wanted o f
-unfit_from at wanted None f is = absurd (cc)
-unfit_from at wanted (Some d) f is =
-    elim (suits wanted d.kind) as (λ test. suits wanted d.kind ≡ test → cond test None (Some (pair at d.place)) ≡ Some f → IsUnfit at wanted (Some d) f) [
+misused_from : (name : Name) (wanted : Wanted) (o : Option Declaration) (f : Failure) → misused name wanted o ≡ Some f
+    → IsUnknown name o f ⊎ IsUnfit name wanted o f
+misused_from name wanted None f is = inl (record { is_none = refl; made = cc })
+misused_from name wanted (Some d) f is =
+    elim (suits wanted d.kind) as (λ test. suits wanted d.kind ≡ test → cond test None (Some (failure rule.Kind name.place (One d.place))) ≡ Some f
+    → IsUnknown name (Some d) f ⊎ IsUnfit name wanted (Some d) f) [
       | true ↦ λ test h. absurd (cc)
-      | false ↦ λ test h. record { declaration = d; is_some = refl; unfit = test; made = cc }
+      | false ↦ λ test h. inr (record { declaration = d; is_some = refl; unfit = test; made = cc })
     ] refl is
 
-unfit_to : (at : Place) (wanted : Wanted) (d : Declaration) → suits wanted d.kind ≡ false → unfit at wanted (Some d) ≡ Some (pair at d.place)
-unfit_to at wanted d fails = ap (λ test. cond test None (Some (pair at d.place))) fails
+unfit_to : (name : Name) (wanted : Wanted) (d : Declaration) → suits wanted d.kind ≡ false
+    → misused name wanted (Some d) ≡ Some (failure rule.Kind name.place (One d.place))
+unfit_to name wanted d fails = ap (λ test. cond test None (Some (failure rule.Kind name.place (One d.place)))) fails
+
+-- ---- as the rules say it
+
+abbrev FailsAs : List RawItem → Failure → Type 0
+FailsAs items f = Fails items f.rule f.at (further_places f.further)
 
 module _ (items : List RawItem) where
-  abbrev marks : Marks
-  marks = marks_of items
-
   stands_at : (before : Marks) (mark : Mark) (rest : Marks) → marks_of items ≡ before ++ (mark ∷ rest) → Stands (marks_of items) mark (after file_scope before)
   stands_at before mark rest there = record { before = before; rest = rest; there = there; are_open = refl }
 
-  duplicate_here : (before : Marks) (mark : Mark) (rest : Marks) (f : Failure) → marks_of items ≡ before ++ (mark ∷ rest) →
-      duplicate_at (after file_scope before) mark ≡ Some f → FailsDuplicate items f.at (f.also ∷ [])
-  duplicate_here before opens rest f there says = absurd (cc)
-  duplicate_here before closes rest f there says = absurd (cc)
-  duplicate_here before (uses name wanted) rest f there says = absurd (cc)
-  duplicate_here before (declares name kind) rest f there says =
+  fails_here : (before : Marks) (mark : Mark) (rest : Marks) (f : Failure) → marks_of items ≡ before ++ (mark ∷ rest)
+      → failure_at (after file_scope before) mark ≡ Some f → FailsAs items f
+  fails_here before opens rest f there says = absurd (cc)
+  fails_here before closes rest f there says = absurd (cc)
+  fails_here before (declares name kind) rest f there says =
       let scopes : Scopes = after file_scope before in
-      let from = mapped (λ earlier. pair name.place earlier.place) (found scopes.inner name.text) f says in
-      record {
-        name = name;
-        kind = kind;
-        scopes = scopes;
-        stands = stands_at before (declares name kind) rest there;
-        earlier = from.source;
-        twice = from.is_some;
-        at_later = ap (λ g. g.at) from.made;
-        at_earlier = ap (λ g. g.also ∷ []) from.made;
-      }
+      let from = twice_from name (found scopes.inner name.text) f says in
+      subst (FailsAs items) (sym from.made)
+      (inl (
+        refl,
+        record {
+          name = name;
+          kind = kind;
+          scopes = scopes;
+          stands = stands_at before (declares name kind) rest there;
+          earlier = from.earlier;
+          twice = from.is_some;
+          at_later = refl;
+          at_earlier = refl;
+        },
+      ))
+  fails_here before (uses name wanted) rest f there says =
+      let scopes : Scopes = after file_scope before in
+      ⊎_elim
+      (λ (unknown : IsUnknown name (bound scopes name.text) f).
+      subst (FailsAs items) (sym unknown.made)
+      (inr (inl (
+        refl,
+        record {
+          name = name;
+          wanted = wanted;
+          scopes = scopes;
+          stands = stands_at before (uses name wanted) rest there;
+          unbound = unknown.is_none;
+          at_use = refl;
+          alone = refl;
+        },
+      ))))
+      (λ (unfit : IsUnfit name wanted (bound scopes name.text) f).
+      subst (FailsAs items) (sym unfit.made)
+      (inr (inr (
+        refl,
+        record {
+          name = name;
+          wanted = wanted;
+          declaration = unfit.declaration;
+          binds = record { scopes = scopes; stands = stands_at before (uses name wanted) rest there; is_bound = unfit.is_some };
+          unfit = unfit.unfit;
+          at_use = refl;
+          at_declaration = refl;
+        },
+      ))))
+      (misused_from name wanted (bound scopes name.text) f says)
 
-  unknown_here : (before : Marks) (mark : Mark) (rest : Marks) (f : Failure) → marks_of items ≡ before ++ (mark ∷ rest) →
-      unknown_at (after file_scope before) mark ≡ Some f → FailsUnknown items f.at []
-  unknown_here before opens rest f there says = absurd (cc)
-  unknown_here before closes rest f there says = absurd (cc)
-  unknown_here before (declares name kind) rest f there says = absurd (cc)
-  unknown_here before (uses name wanted) rest f there says =
-      let from = unbound_from name.place (bound (after file_scope before) name.text) f says in
-      record {
-        name = name;
-        wanted = wanted;
-        scopes = after file_scope before;
-        stands = stands_at before (uses name wanted) rest there;
-        unbound = from.0;
-        at_use = ap (λ g. g.at) from.1;
-        alone = refl;
-      }
+  -- each failure is one of a rule
+  told_fails : (of : Rule) (at : Place) (also : List Place) → Among (failures items) of at also → Fails items of at also
+  told_fails of at also among =
+      let f = among.failure in
+      let happens = told_from file_scope (marks_of items) f (contains_in f (failures items) among.is_there) in
+      subst (λ r. Fails items r at also) (sym among.of_rule)
+      (subst (λ p. Fails items f.rule p also) (sym among.at_place)
+      (subst (Fails items f.rule f.at) (sym among.further) (fails_here happens.before happens.mark happens.rest f happens.there happens.says)))
 
-  kind_here : (before : Marks) (mark : Mark) (rest : Marks) (f : Failure) → marks_of items ≡ before ++ (mark ∷ rest) →
-      kind_at (after file_scope before) mark ≡ Some f → FailsKind items f.at (f.also ∷ [])
-  kind_here before opens rest f there says = absurd (cc)
-  kind_here before closes rest f there says = absurd (cc)
-  kind_here before (declares name kind) rest f there says = absurd (cc)
-  kind_here before (uses name wanted) rest f there says =
-      let from = unfit_from name.place wanted (bound (after file_scope before) name.text) f says in
-      record {
-        name = name;
-        wanted = wanted;
-        declaration = from.declaration;
-        binds = record { scopes = after file_scope before; stands = stands_at before (uses name wanted) rest there; is_bound = from.is_some };
-        unfit = from.unfit;
-        at_use = ap (λ g. g.at) from.made;
-        at_declaration = ap (λ g. g.also ∷ []) from.made;
-      }
+  -- what is said of a mark that stands in the program is among its failures
+  is_among : (f : Failure) (mark : Mark) (scopes : Scopes) → Stands (marks_of items) mark scopes → failure_at scopes mark ≡ Some f
+      → (of : Rule) (at : Place) (also : List Place) → of ≡ f.rule → at ≡ f.at → also ≡ further_places f.further → Among (failures items) of at also
+  is_among f mark scopes stands says of at also rule_is at_is also_is = record {
+    failure = f;
+    is_there = in_contains f (failures items)
+        (subst (λ l. In f (told file_scope l)) (sym stands.there)
+        (told_to file_scope stands.before mark stands.rest f (ap (λ s. failure_at s mark) (sym stands.are_open) ∙ says)));
+    of_rule = rule_is;
+    at_place = at_is;
+    further = also_is;
+  }
 
-  abbrev duplicates : List Failure
-  duplicates = told duplicate_at file_scope (marks_of items)
+  -- where a rule fails, that is one of the failures
+  fails_told : (of : Rule) (at : Place) (also : List Place) → Fails items of at also → Among (failures items) of at also
+  fails_told of at also fails =
+      ⊎_elim
+      (λ (p : (of ≡ rule.Duplicate) × FailsDuplicate items at also). let h = p.1 in
+      is_among (failure rule.Duplicate h.name.place (One h.earlier.place)) (declares h.name h.kind) h.scopes h.stands (ap (declared_twice h.name) h.twice)
+      of at also p.0 h.at_later h.at_earlier)
+      (λ rest. ⊎_elim
+      (λ (p : (of ≡ rule.Unknown) × FailsUnknown items at also). let h = p.1 in
+      is_among (failure rule.Unknown h.name.place Nothing) (uses h.name h.wanted) h.scopes h.stands (ap (misused h.name h.wanted) h.unbound)
+      of at also p.0 h.at_use h.alone)
+      (λ (p : (of ≡ rule.Kind) × FailsKind items at also). let h = p.1 in
+      is_among (failure rule.Kind h.name.place (One h.declaration.place)) (uses h.name h.wanted) h.binds.scopes h.binds.stands
+      (ap (misused h.name h.wanted) h.binds.is_bound ∙ unfit_to h.name h.wanted h.declaration h.unfit)
+      of at also p.0 h.at_use h.at_declaration) rest) fails
 
-  abbrev unknowns : List Failure
-  unknowns = told unknown_at file_scope (marks_of items)
+  -- ---- the verdict
 
-  abbrev misfits : List Failure
-  misfits = told kind_at file_scope (marks_of items)
+  pub passes : None ≡ first_failure items → Passes items
+  passes none = alike_passes (Among (failures items)) (Fails items) told_fails fails_told (none_passes (failures items) (sym (none ∙ first_is_told items)))
 
-  duplicate_from : (f : Failure) → In f duplicates → FailsDuplicate items f.at (f.also ∷ [])
-  duplicate_from f there = let happens = told_from duplicate_at file_scope (marks_of items) f there in duplicate_here happens.before happens.mark happens.rest f happens.there happens.says
-
-  unknown_from : (f : Failure) → In f unknowns → FailsUnknown items f.at []
-  unknown_from f there = let happens = told_from unknown_at file_scope (marks_of items) f there in unknown_here happens.before happens.mark happens.rest f happens.there happens.says
-
-  kind_from : (f : Failure) → In f misfits → FailsKind items f.at (f.also ∷ [])
-  kind_from f there = let happens = told_from kind_at file_scope (marks_of items) f there in kind_here happens.before happens.mark happens.rest f happens.there happens.says
-
-  duplicate_to : (at : Place) (also : List Place) (fails : FailsDuplicate items at also) → In (pair fails.name.place fails.earlier.place) duplicates
-  duplicate_to at also fails =
-      subst (λ l. In (pair fails.name.place fails.earlier.place) (told duplicate_at file_scope l)) (sym fails.stands.there)
-      (told_to duplicate_at file_scope fails.stands.before (declares fails.name fails.kind) fails.stands.rest (pair fails.name.place fails.earlier.place)
-      (ap (option_map (λ earlier. pair fails.name.place earlier.place)) (ap (λ scopes. found scopes.inner fails.name.text) (sym fails.stands.are_open) ∙ fails.twice)))
-
-  unknown_to : (at : Place) (also : List Place) (fails : FailsUnknown items at also) → In (pair fails.name.place fails.name.place) unknowns
-  unknown_to at also fails =
-      subst (λ l. In (pair fails.name.place fails.name.place) (told unknown_at file_scope l)) (sym fails.stands.there)
-      (told_to unknown_at file_scope fails.stands.before (uses fails.name fails.wanted) fails.stands.rest (pair fails.name.place fails.name.place)
-      (ap (unbound fails.name.place) (ap (λ scopes. bound scopes fails.name.text) (sym fails.stands.are_open) ∙ fails.unbound)))
-
-  kind_to : (at : Place) (also : List Place) (fails : FailsKind items at also) → In (pair fails.name.place fails.declaration.place) misfits
-  kind_to at also fails =
-      subst (λ l. In (pair fails.name.place fails.declaration.place) (told kind_at file_scope l)) (sym fails.binds.stands.there)
-      (told_to kind_at file_scope fails.binds.stands.before (uses fails.name fails.wanted) fails.binds.stands.rest (pair fails.name.place fails.declaration.place)
-      (ap (unfit fails.name.place fails.wanted) (ap (λ scopes. bound scopes fails.name.text) (sym fails.binds.stands.are_open) ∙ fails.binds.is_bound)
-      ∙ unfit_to fails.name.place fails.wanted fails.declaration fails.unfit))
-
--- ---- the cause
-
-one_of : (f g : Failure) (also : List Place) → NoLater f g → AreNoLater (f.at ∷ []) (g.at ∷ also)
-one_of f g also h = ⊎_elim (λ before. inl before) (λ same. inr (same.0, tt)) h
-
-told_is : (items : List RawItem) (number : ℕ) (at : Place) (also : List Place) (refusal : Refusal) → FailsFirst items number at also → Refuses number at also refusal → IsCause items refusal
-told_is items number at also (Rule told place further) first h =
-    subst (λ n. FailsFirst items n place further) (sym h.0)
-    (subst (λ p. FailsFirst items number p further) (sym h.1.0) (subst (λ l. FailsFirst items number at l) (sym h.1.1) first))
-told_is items number at also NoMemory first h = tt
-
-module _ (items : List RawItem) where
-  no_duplicate : least None (duplicates items) ≡ None → (at : Place) (also : List Place) → FailsDuplicate items at also → ⊥
-  no_duplicate none at also fails = none_is (duplicates items) none _ (duplicate_to items at also fails)
-
-  no_unknown : least None (unknowns items) ≡ None → (at : Place) (also : List Place) → FailsUnknown items at also → ⊥
-  no_unknown none at also fails = none_is (unknowns items) none _ (unknown_to items at also fails)
-
-  no_misfit : least None (misfits items) ≡ None → (at : Place) (also : List Place) → FailsKind items at also → ⊥
-  no_misfit none at also fails = none_is (misfits items) none _ (kind_to items at also fails)
-
-  module _ (judge : Judge) (is : judge ≡ judged_by fresh (marks_of items)) where
-    duplicates_are : least None (duplicates items) ≡ judge.duplicate
-    duplicates_are = sym (ap (λ j. j.duplicate) is ∙ duplicate_is fresh (marks_of items))
-
-    unknowns_are : least None (unknowns items) ≡ judge.unknown
-    unknowns_are = sym (ap (λ j. j.unknown) is ∙ unknown_is fresh (marks_of items))
-
-    misfits_are : least None (misfits items) ≡ judge.kind
-    misfits_are = sym (ap (λ j. j.kind) is ∙ kind_is fresh (marks_of items))
-
-    pub passes : judge.duplicate ≡ None → judge.unknown ≡ None → judge.kind ≡ None → Passes items
-    passes one two three number at also fails =
-        ⊎_elim (λ p. no_duplicate (duplicates_are ∙ one) at also p.1)
-        (λ rest. ⊎_elim (λ p. no_unknown (unknowns_are ∙ two) at also p.1) (λ p. no_misfit (misfits_are ∙ three) at also p.1) rest) fails
-
-    module _ (first : Failure) (refusal : Refusal) where
-      pub duplicate_cause : judge.duplicate ≡ Some first → Refuses 6 first.at (first.also ∷ []) refusal → IsCause items refusal
-      duplicate_cause is_first refuses =
-          let least_is = first_is (duplicates items) first (duplicates_are ∙ is_first) in
-          told_is items 6 first.at (first.also ∷ []) refusal (record {
-            fails = inl (refl, duplicate_from items first least_is.is_there);
-            least_rule = λ other elsewhere further fails. ⊎_elim (λ p. let e = p.0 in omega arith) (λ rest. ⊎_elim (λ p. let e = p.0 in omega arith) (λ p. let e = p.0 in omega arith) rest) fails;
-            least_places = λ elsewhere further fails.
-                ⊎_elim
-                (λ p. subst (λ l. AreNoLater (first.at ∷ first.also ∷ []) (elsewhere ∷ l)) (sym p.1.at_earlier)
-                (subst (λ q. AreNoLater (first.at ∷ first.also ∷ []) (q ∷ p.1.earlier.place ∷ [])) (sym p.1.at_later) (least_is.earliest _ (duplicate_to items elsewhere further p.1))))
-                (λ rest. ⊎_elim (λ p. absurd (let e = p.0 in omega arith)) (λ p. absurd (let e = p.0 in omega arith)) rest) fails;
-          }) refuses
-
-      pub unknown_cause : judge.duplicate ≡ None → judge.unknown ≡ Some first → Refuses 7 first.at [] refusal → IsCause items refusal
-      unknown_cause one is_first refuses =
-          let least_is = first_is (unknowns items) first (unknowns_are ∙ is_first) in
-          told_is items 7 first.at [] refusal (record {
-            fails = inr (inl (refl, unknown_from items first least_is.is_there));
-            least_rule = λ other elsewhere further fails.
-                ⊎_elim (λ p. absurd (no_duplicate (duplicates_are ∙ one) elsewhere further p.1)) (λ rest. ⊎_elim (λ p. let e = p.0 in omega arith) (λ p. let e = p.0 in omega arith) rest) fails;
-            least_places = λ elsewhere further fails.
-                ⊎_elim (λ p. absurd (let e = p.0 in omega arith))
-                (λ rest. ⊎_elim
-                (λ p. subst (λ q. AreNoLater (first.at ∷ []) (q ∷ further)) (sym p.1.at_use)
-                (one_of first (pair p.1.name.place p.1.name.place) further (least_is.earliest _ (unknown_to items elsewhere further p.1))))
-                (λ p. absurd (let e = p.0 in omega arith)) rest) fails;
-          }) refuses
-
-      pub kind_cause : judge.duplicate ≡ None → judge.unknown ≡ None → judge.kind ≡ Some first → Refuses 8 first.at (first.also ∷ []) refusal → IsCause items refusal
-      kind_cause one two is_first refuses =
-          let least_is = first_is (misfits items) first (misfits_are ∙ is_first) in
-          told_is items 8 first.at (first.also ∷ []) refusal (record {
-            fails = inr (inr (refl, kind_from items first least_is.is_there));
-            least_rule = λ other elsewhere further fails.
-                ⊎_elim (λ p. absurd (no_duplicate (duplicates_are ∙ one) elsewhere further p.1))
-                (λ rest. ⊎_elim (λ p. absurd (no_unknown (unknowns_are ∙ two) elsewhere further p.1)) (λ p. let e = p.0 in omega arith) rest) fails;
-            least_places = λ elsewhere further fails.
-                ⊎_elim (λ p. absurd (let e = p.0 in omega arith))
-                (λ rest. ⊎_elim (λ p. absurd (let e = p.0 in omega arith))
-                (λ p. subst (λ l. AreNoLater (first.at ∷ first.also ∷ []) (elsewhere ∷ l)) (sym p.1.at_declaration)
-                (subst (λ q. AreNoLater (first.at ∷ first.also ∷ []) (q ∷ p.1.declaration.place ∷ [])) (sym p.1.at_use) (least_is.earliest _ (kind_to items elsewhere further p.1)))) rest) fails;
-          }) refuses
+  pub has_cause : (first : Failure) (refusal : Refusal) → Some first ≡ first_failure items → Refuses first refusal → IsCause items refusal
+  has_cause first refusal is =
+      is_cause (Fails items) first refusal
+      (alike_first (Among (failures items)) (Fails items) told_fails fails_told first.rule first.at (further_places first.further)
+      (first_fails (failures items) first (sym (is ∙ first_is_told items))))

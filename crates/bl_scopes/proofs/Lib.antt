@@ -1,5 +1,4 @@
 pub mod CauseLemmas
-pub mod OrderLemmas
 pub mod ScopeLemmas
 pub mod TellLemmas
 pub mod WalkLemmas

@@ -37,7 +37,8 @@ bound_below name outer k scope within is =
     rw (add-one, take-suc outer k scope within, reverse-append, ← is) refl
 
 pub added : {S : Type 0} (old new : IndexMap (Bor (List ℕ)) Declaration S) (key : Bor (List ℕ)) (name : Name) (kind : Kind) (position : ℕ) (scope : Declared)
-    → key.now ≡ name.text → named old.entries ≡ scope → new.entries ≡ insert_entry (λ x y. bytes_eq x.now y.now) old.entries key (declaration_of name kind position)
+    → key.now ≡ name.text → named old.entries ≡ scope → new.entries ≡ insert_entry (λ x y. bytes_eq x.now y.now) old.entries key
+    (declaration_of name kind position)
     → found scope name.text ≡ None → named new.entries ≡ with_name scope name kind position
 added old new key name kind position scope text view is absent =
     inserted old new key (declaration_of name kind position) is (ap (found (named old.entries)) text ∙ ap (λ s. found s name.text) view ∙ absent)

@@ -37,7 +37,8 @@ judged-next marks all rest x judge found is h =
     sym (judged-append judge (marks x) (joined (map marks rest))) ∙ ap (λ l. judged_by judge (joined (map marks l))) (sym is) ∙ h
 
 -- one part after another
-pub then_is : (judge middle last : Judge) (first second whole : Marks) → middle ≡ judged_by judge first → last ≡ judged_by middle second → whole ≡ first ++ second → last ≡ judged_by judge whole
+pub then_is : (judge middle last : Judge) (first second whole : Marks) → middle ≡ judged_by judge first → last ≡ judged_by middle second
+    → whole ≡ first ++ second → last ≡ judged_by judge whole
 then_is judge middle last first second whole one two is =
     two ∙ ap (λ j. judged_by j second) one ∙ sym (judged-append judge first second) ∙ ap (judged_by judge) (sym is)
 
@@ -53,14 +54,16 @@ marks_of_kind = fold-RawExprKind Marks Marks Marks (Wanted → Marks) kind_marks
 abbrev expr_parts : RawExprKind-F RawExprKind RawPart RawExpr RawTarget → RawExprKind-F Marks Marks Marks (Wanted → Marks)
 expr_parts = map-RawExprKind RawExprKind RawPart RawExpr RawTarget Marks Marks Marks (Wanted → Marks) marks_of_kind marks_of_part expr_marks target_marks
 
-expr_at : (e : RawExpr) (layer : RawExprKind-F RawExprKind RawPart RawExpr RawTarget) → out-RawExprKind (out-RawExpr e).what ≡ layer → expr_marks e ≡ kind_marks (expr_parts layer)
+expr_at : (e : RawExpr) (layer : RawExprKind-F RawExprKind RawPart RawExpr RawTarget) → out-RawExprKind (out-RawExpr e).what ≡ layer
+    → expr_marks e ≡ kind_marks (expr_parts layer)
 expr_at e layer is =
     fold_out-RawExpr Marks Marks Marks (Wanted → Marks) kind_marks part_marks expr_layer_marks target_layer_marks e
     ∙ fold_out-RawExprKind Marks Marks Marks (Wanted → Marks) kind_marks part_marks expr_layer_marks target_layer_marks (out-RawExpr e).what
     ∙ ap (λ layer. kind_marks (expr_parts layer)) is
 
 -- both operands
-pub two_out : (e : RawExpr) (op : Op) (a b made_a made_b : RawExpr) → (out-RawExpr e).what ≡ Two op a b → made_a ≡ a → made_b ≡ b → expr_marks e ≡ expr_marks made_a ++ expr_marks made_b
+pub two_out : (e : RawExpr) (op : Op) (a b made_a made_b : RawExpr) → (out-RawExpr e).what ≡ Two op a b → made_a ≡ a → made_b ≡ b
+    → expr_marks e ≡ expr_marks made_a ++ expr_marks made_b
 two_out e op a b made_a made_b is same_a same_b =
     expr_at e (RawExprKind-F.Two op a b) (ap out-RawExprKind is ∙ outs-Two op a b) ∙ (λ i. expr_marks (sym same_a i) ++ expr_marks (sym same_b i))
 
@@ -76,7 +79,8 @@ marks_of_stmt_kind = fold-RawStmtKind Marks Marks Marks Marks stmt_kind_marks ar
 abbrev stmt_parts : RawStmtKind-F RawStmtKind RawArm RawBranch RawStmt → RawStmtKind-F Marks Marks Marks Marks
 stmt_parts = map-RawStmtKind RawStmtKind RawArm RawBranch RawStmt Marks Marks Marks Marks marks_of_stmt_kind marks_of_arm marks_of_branch stmt_marks
 
-stmt_at : (s : RawStmt) (layer : RawStmtKind-F RawStmtKind RawArm RawBranch RawStmt) → out-RawStmtKind (out-RawStmt s).what ≡ layer → stmt_marks s ≡ stmt_kind_marks (stmt_parts layer)
+stmt_at : (s : RawStmt) (layer : RawStmtKind-F RawStmtKind RawArm RawBranch RawStmt) → out-RawStmtKind (out-RawStmt s).what ≡ layer
+    → stmt_marks s ≡ stmt_kind_marks (stmt_parts layer)
 stmt_at s layer is =
     fold_out-RawStmt Marks Marks Marks Marks stmt_kind_marks arm_layer_marks branch_layer_marks stmt_layer_marks s
     ∙ fold_out-RawStmtKind Marks Marks Marks Marks stmt_kind_marks arm_layer_marks branch_layer_marks stmt_layer_marks (out-RawStmt s).what
@@ -89,26 +93,31 @@ abbrev pub body_marks : List RawStmt → Marks
 body_marks body = in_scope (joined (map stmt_marks body))
 
 -- the arms, and what is done where no test is true
-pub if_out : (s : RawStmt) (arms made : List RawArm) (other rest : List RawStmt) → (out-RawStmt s).what ≡ If arms other → made ≡ arms → rest ≡ other → stmt_marks s ≡ arms_marks made ++ body_marks rest
+pub if_out : (s : RawStmt) (arms made : List RawArm) (other rest : List RawStmt) → (out-RawStmt s).what ≡ If arms other → made ≡ arms → rest ≡ other
+    → stmt_marks s ≡ arms_marks made ++ body_marks rest
 if_out s arms made other rest is same same_rest =
     stmt_at s (RawStmtKind-F.If arms other) (ap out-RawStmtKind is ∙ outs-If arms other) ∙ (λ i. arms_marks (sym same i) ++ body_marks (sym same_rest i))
 
 -- the body, and then the condition
-pub until_out : (s : RawStmt) (body made : List RawStmt) (e : RawExpr) → (out-RawStmt s).what ≡ Until body e → made ≡ body → stmt_marks s ≡ body_marks made ++ expr_marks e
+pub until_out : (s : RawStmt) (body made : List RawStmt) (e : RawExpr) → (out-RawStmt s).what ≡ Until body e → made ≡ body
+    → stmt_marks s ≡ body_marks made ++ expr_marks e
 until_out s body made e is same =
     stmt_at s (RawStmtKind-F.Until body e) (ap out-RawStmtKind is ∙ outs-Until body e) ∙ (λ i. body_marks (sym same i) ++ expr_marks e)
 
 -- the condition, and then the body
-pub when_out : (s : RawStmt) (guard : Guard) (e : RawExpr) (body made : List RawStmt) → (out-RawStmt s).what ≡ When guard e body → made ≡ body → stmt_marks s ≡ expr_marks e ++ body_marks made
+pub when_out : (s : RawStmt) (guard : Guard) (e : RawExpr) (body made : List RawStmt) → (out-RawStmt s).what ≡ When guard e body → made ≡ body
+    → stmt_marks s ≡ expr_marks e ++ body_marks made
 when_out s guard e body made is same =
     stmt_at s (RawStmtKind-F.When guard e body) (ap out-RawStmtKind is ∙ outs-When guard e body) ∙ (λ i. expr_marks e ++ body_marks (sym same i))
 
-pub while_out : (s : RawStmt) (e : RawExpr) (body made : List RawStmt) → (out-RawStmt s).what ≡ While e body → made ≡ body → stmt_marks s ≡ expr_marks e ++ body_marks made
+pub while_out : (s : RawStmt) (e : RawExpr) (body made : List RawStmt) → (out-RawStmt s).what ≡ While e body → made ≡ body
+    → stmt_marks s ≡ expr_marks e ++ body_marks made
 while_out s e body made is same =
     stmt_at s (RawStmtKind-F.While e body) (ap out-RawStmtKind is ∙ outs-While e body) ∙ (λ i. expr_marks e ++ body_marks (sym same i))
 
 -- the target, and then the value
-pub assign_out : (s : RawStmt) (target : RawTarget) (e : RawExpr) → (out-RawStmt s).what ≡ Assign target e → stmt_marks s ≡ target_marks target wanted.Variable ++ expr_marks e
+pub assign_out : (s : RawStmt) (target : RawTarget) (e : RawExpr) → (out-RawStmt s).what ≡ Assign target e
+    → stmt_marks s ≡ target_marks target wanted.Variable ++ expr_marks e
 assign_out s target e is =
     stmt_at s (RawStmtKind-F.Assign target e) (ap out-RawStmtKind is ∙ outs-Assign target e)
 

@@ -1,17 +1,23 @@
 -- What a judge remembers after marks.
-use Rattle.std.specs.Prelude.{[], ◌∷◌, None}
+use Rattle.std.specs.Prelude.{List, [], ◌∷◌, Option, Some, None}
+use Rattle.bl_tree.specs.declared.rule.Failure.{Failure}
+use Rattle.bl_tree.specs.Rules.{lesser}
+use Rattle.bl_raw.specs.declared.item.RawItem.{RawItem}
 use Rattle.bl_scopes.specs.declared.judge.Judge.{Judge}
-use Rattle.bl_scopes.specs.Failures.{duplicate_at, kept, kind_at, unknown_at}
-use Rattle.bl_scopes.specs.Marks.{Mark, Marks}
+use Rattle.bl_scopes.specs.Failures.{failure_at}
+use Rattle.bl_scopes.specs.Marks.{Mark, Marks, marks_of}
 use Rattle.bl_scopes.specs.Scopes.{enter, file_scope}
 
--- the scopes after a mark, and of each rule the first failure so far
+-- the first so far, and a failure where there is one
+abbrev pub kept : Option Failure → Option Failure → Option Failure
+kept first None = first
+kept first (Some failure) = lesser first failure
+
+-- the scopes after a mark, and the first failure so far
 abbrev pub judged : Judge → Mark → Judge
 judged judge mark = record {
   scopes = enter judge.scopes mark;
-  duplicate = kept judge.duplicate (duplicate_at judge.scopes mark);
-  unknown = kept judge.unknown (unknown_at judge.scopes mark);
-  kind = kept judge.kind (kind_at judge.scopes mark);
+  first = kept judge.first (failure_at judge.scopes mark);
 }
 
 abbrev pub judged_by : Judge → Marks → Judge
@@ -20,4 +26,8 @@ judged_by judge (mark ∷ rest) = judged_by (judged judge mark) rest
 
 -- a judge at the start of a file
 abbrev pub fresh : Judge
-fresh = record { scopes = file_scope; duplicate = None; unknown = None; kind = None }
+fresh = record { scopes = file_scope; first = None }
+
+-- the first failure in a program
+abbrev pub first_failure : List RawItem → Option Failure
+first_failure items = (judged_by fresh (marks_of items)).first

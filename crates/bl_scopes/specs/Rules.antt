@@ -1,6 +1,9 @@
--- How a program fails the rules Duplicate, Unknown and Kind, which are the rules 6 to 8, and at which places.
-use Rattle.std.specs.Prelude.{◌≡◌, ◌⊎◌, ℕ, ◌<◌, ◌≤◌, false, List, [], ◌∷◌, ◌++◌, Some, None, ⊤}
+-- How a program fails the rules Duplicate, Unknown and Kind, and at which places.
+use Rattle.std.specs.Prelude.{◌≡◌, ◌⊎◌, false, List, [], ◌∷◌, ◌++◌, Some, None}
 use Rattle.bl_tree.specs.declared.place.Place.{Place}
+use Rattle.bl_tree.specs.declared.rule.Rule.{Rule}
+use Rattle.bl_tree.specs.declared.rule.Rule.TheVariants as rule
+use Rattle.bl_tree.specs.Rules as rules
 use Rattle.bl_raw.specs.declared.item.RawItem.{RawItem}
 use Rattle.bl_raw.specs.declared.name.Name.{Name}
 use Rattle.bl_scopes.specs.declared.kind.Kind.{Kind}
@@ -54,28 +57,16 @@ pub record FailsKind (items : List RawItem) (at : Place) (also : List Place) : T
   pub at_use : at ≡ name.place
   pub at_declaration : also ≡ declaration.place ∷ []
 
--- the rule of this number fails at this place, with these further places
-abbrev pub Fails : List RawItem → ℕ → Place → List Place → Type 0
-Fails items number at also =
-    ((number ≡ 6) × FailsDuplicate items at also) ⊎ (((number ≡ 7) × FailsUnknown items at also) ⊎ ((number ≡ 8) × FailsKind items at also))
+-- the rule fails at this place, with these further places
+abbrev pub Fails : List RawItem → Rule → Place → List Place → Type 0
+Fails items of at also =
+    ((of ≡ rule.Duplicate) × FailsDuplicate items at also)
+    ⊎ (((of ≡ rule.Unknown) × FailsUnknown items at also) ⊎ ((of ≡ rule.Kind) × FailsKind items at also))
 
--- the place comes before the other: by their starts, and then by their ends
-abbrev pub IsBefore : Place → Place → Type 0
-IsBefore one other = (one.start < other.start) ⊎ ((one.start ≡ other.start) × (one.end < other.end))
-
--- the places come no later than the others: the first that differ decide
-abbrev pub AreNoLater : List Place → List Place → Type 0
-AreNoLater [] others = ⊤
-AreNoLater (one ∷ rest) [] = ⊥
-AreNoLater (one ∷ rest) (other ∷ others) = IsBefore one other ⊎ ((one ≡ other) × AreNoLater rest others)
-
--- the rule fails at the place with the further places, no lesser rule fails, and this rule fails at no earlier place, and at
--- this place with no earlier further places
-pub record FailsFirst (items : List RawItem) (number : ℕ) (at : Place) (also : List Place) : Type 0 where
-  pub fails : Fails items number at also
-  pub least_rule : (other : ℕ) (elsewhere : Place) (further : List Place) → Fails items other elsewhere further → number ≤ other
-  pub least_places : (elsewhere : Place) (further : List Place) → Fails items number elsewhere further → AreNoLater (at ∷ also) (elsewhere ∷ further)
+-- the rule is the first of the three that fails, and these are its first places
+abbrev pub FailsFirst : List RawItem → Rule → Place → List Place → Type 0
+FailsFirst items = rules.FailsFirst (Fails items)
 
 -- none of the three rules fails
 abbrev pub Passes : List RawItem → Type 0
-Passes items = (number : ℕ) (at : Place) (also : List Place) → ¬ Fails items number at also
+Passes items = rules.Passes (Fails items)

@@ -1,23 +1,23 @@
-//! What is judged on the way through a program: the open scopes, and of each rule the first failure so far.
+//! What is judged on the way through a program: the open scopes, and the first failure so far.
 
 ghost use Rattle.std.specs.Prelude.{◌≡◌, OnOk};
+ghost use Rattle.bl_tree.specs.Rules.{lesser};
+ghost use Rattle.bl_scopes.specs.Failures.{failure};
 ghost use Rattle.bl_scopes.specs.Judged.{fresh, judged};
 ghost use Rattle.bl_scopes.specs.Marks.{closes, declares, opens, uses};
 
-use crate::failure::{Failure, lesser};
 use crate::kind::{Kind, Wanted, suits};
 use crate::scopes::Scopes;
 use bl_raw::name::Name;
-use bl_tree::NoMemory;
+use bl_tree::rule::lesser;
+use bl_tree::{Failure, Further, NoMemory, Place, Rule};
 use std::alloc::Global;
 
-/// The open scopes, and of each rule the first failure so far.
+/// The open scopes, and the first failure so far.
 #[derive(Drop)]
 pub struct Judge<'a> {
     pub scopes: Scopes<'a>,
-    pub duplicate: Option<Failure>,
-    pub unknown: Option<Failure>,
-    pub kind: Option<Failure>,
+    pub first: Option<Failure>,
 }
 
 impl<'a> Judge<'a> {
@@ -26,9 +26,7 @@ impl<'a> Judge<'a> {
     {
         Judge {
             scopes: Scopes::new(alloc),
-            duplicate: None,
-            unknown: None,
-            kind: None,
+            first: None,
         }
     }
 
@@ -51,11 +49,7 @@ impl<'a> Judge<'a> {
         ensures { OnOk result (self.new ≡ judged self.old (declares name.now kind)) }
     {
         if let Some(earlier) = self.scopes.declare(name, kind)? {
-            let failure = Failure {
-                at: name.place,
-                also: earlier.place,
-            };
-            self.duplicate = lesser(self.duplicate, failure);
+            self.fail(Rule::Duplicate, name.place, Further::One(earlier.place));
         }
         Ok(())
     }
@@ -67,20 +61,17 @@ impl<'a> Judge<'a> {
         match self.scopes.find(&name.text) {
             Some(declaration) => {
                 if !suits(wanted, declaration.kind) {
-                    let failure = Failure {
-                        at: name.place,
-                        also: declaration.place,
-                    };
-                    self.kind = lesser(self.kind, failure);
+                    self.fail(Rule::Kind, name.place, Further::One(declaration.place));
                 }
             }
-            None => {
-                let failure = Failure {
-                    at: name.place,
-                    also: name.place,
-                };
-                self.unknown = lesser(self.unknown, failure);
-            }
+            None => self.fail(Rule::Unknown, name.place, Further::Nothing),
         }
+    }
+
+    /// A rule fails. The first failure of all is kept.
+    fn fail(&mut self, rule: Rule, at: Place, further: Further)
+        ensures { self.new ≡ record self.old { first = lesser self.old.first (failure rule at further) } }
+    {
+        self.first = lesser(self.first, Failure { rule, at, further });
     }
 }

@@ -5,7 +5,6 @@
 #![tactic(auto)]
 
 mod expr;
-mod failure;
 mod item;
 mod judge;
 pub mod kind;

@@ -2,52 +2,44 @@
 
 ghost use Rattle.std.specs.Prelude.{◌≡◌, IfErr, IfOk, OnOk};
 ghost use Rattle.bl_scopes.specs.Cause.{IsCause};
-ghost use Rattle.bl_scopes.specs.Judged.{fresh, judged_by};
-ghost use Rattle.bl_scopes.specs.Marks.{marks_of};
+ghost use Rattle.bl_scopes.specs.Judged.{first_failure};
 ghost use Rattle.bl_scopes.specs.Rules.{Passes};
 
-use crate::failure::{alone, with_one};
 use crate::item::items;
 use crate::judge::Judge;
 use bl_raw::Raw;
-use bl_tree::{NoMemory, Refusal};
+use bl_tree::{Failure, NoMemory, Refusal};
 use std::alloc::Global;
 
-/// Judges the rules Duplicate, Unknown and Kind in their order: the first that fails, at its least places.
+/// Judges the rules Duplicate, Unknown and Kind. An error tells the first of them that fails, at its first places, or that there
+/// was no memory.
 pub fn check(alloc: Global, raw: &Raw) -> Result<(), Refusal>
     ensures passes { OnOk result (Passes raw.now.items) }
     ensures cause { IfErr result (IsCause raw.now.items) }
 {
-    match judge_of(alloc, raw) {
-        Ok(judge) => verdict(alloc, raw, &judge),
-        Err(_) => Err(Refusal::NoMemory),
+    match first_failure(alloc, raw) {
+        Ok(first) => verdict(alloc, raw, first),
+        Err(NoMemory) => Err(Refusal::NoMemory),
     }
 }
 
-fn judge_of<'a>(alloc: Global, raw: &'a Raw) -> Result<Judge<'a>, NoMemory>
-    ensures { IfOk result (λ judge. judge ≡ judged_by fresh (marks_of raw.now.items)) }
+/// The first failure of the three rules.
+fn first_failure(alloc: Global, raw: &Raw) -> Result<Option<Failure>, NoMemory>
+    ensures { IfOk result (λ first. first ≡ first_failure raw.now.items) }
 {
     let mut judge = Judge::new(alloc);
     items(alloc, &raw.items, &mut judge)?;
-    Ok(judge)
+    Ok(judge.first)
 }
 
-/// What the judge says of the program through which it went.
-fn verdict(alloc: Global, raw: &Raw, judge: &Judge<'_>) -> Result<(), Refusal>
-    requires { judge.now ≡ judged_by fresh (marks_of raw.now.items) }
+/// What the first failure says of the program.
+fn verdict(alloc: Global, raw: &Raw, first: Option<Failure>) -> Result<(), Refusal>
+    requires { first ≡ first_failure raw.now.items }
     ensures passes { OnOk result (Passes raw.now.items) }
     ensures cause { IfErr result (IsCause raw.now.items) }
 {
-    match judge.duplicate {
-        None => {}
-        Some(failure) => return Err(with_one(alloc, 6, failure)),
-    }
-    match judge.unknown {
-        None => {}
-        Some(failure) => return Err(alone(alloc, 7, failure)),
-    }
-    match judge.kind {
+    match first {
         None => Ok(()),
-        Some(failure) => Err(with_one(alloc, 8, failure)),
+        Some(first) => Err(first.refusal(alloc)),
     }
 }

@@ -38,7 +38,8 @@ fn variable<'a>(
     value: &Option<RawExpr>,
     judge: &mut Judge<'a>,
 ) -> Result<(), NoMemory>
-    ensures { OnOk result (judge.new ≡ judged_by judge.old (declared_after (optional type_marks ty.now ++ optional expr_marks value.now) name.now Kind.Variable)) }
+    ensures { OnOk result
+        (judge.new ≡ judged_by judge.old (declared_after (optional type_marks ty.now ++ optional expr_marks value.now) name.now Kind.Variable)) }
 {
     optional_ty(ty, judge);
     optional_expr(value, judge);

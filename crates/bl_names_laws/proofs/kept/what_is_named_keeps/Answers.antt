@@ -3,6 +3,7 @@ use Rattle.bl_names_laws.proofs.WhatKeeps.{what_keeps}
 use Rattle.bl_names_laws.proofs.ApartProgram.{units_are_apart}
 use Rattle.bl_names_laws.proofs.Filled.{units_are_filled}
 use Rattle.bl_names_laws.proofs.Names.{fields_are_named, names_are, variables_are_named}
+use Rattle.bl_names_laws.proofs.Starts.{starts_are}
 use Rattle.bl_names_laws.proofs.StmtDepth.{units_are_shallow}
 use Rattle.bl_names_laws.proofs.kept.what_is_named_keeps.Goals as goal
 
@@ -32,6 +33,9 @@ returns-clause-distinct_fields c = all_fields_differ
 
 pub returns-clause-distinct_parameters : goal.returns-clause-distinct_parameters
 returns-clause-distinct_parameters c = all_parameters_differ
+
+pub returns-clause-starts : goal.returns-clause-starts
+returns-clause-starts c = starts_are
 
 pub returns-clause-keeps : goal.returns-clause-keeps
 returns-clause-keeps c = what_keeps

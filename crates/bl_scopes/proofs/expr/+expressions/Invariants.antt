@@ -8,4 +8,5 @@ abbrev pub invariant-exprs-loop-e : goal.invariant-exprs-loop-e
 invariant-exprs-loop-e l = judged_by l.judge (joined (map expr_marks (drop l.e-index l.all))) ≡ judged_by l.initial.judge (joined (map expr_marks l.all))
 
 abbrev pub invariant-parts-loop-one : goal.invariant-parts-loop-one
-invariant-parts-loop-one l = judged_by l.judge (joined (map marks_of_part (drop l.one-index l.all))) ≡ judged_by l.initial.judge (joined (map marks_of_part l.all))
+invariant-parts-loop-one l =
+    judged_by l.judge (joined (map marks_of_part (drop l.one-index l.all))) ≡ judged_by l.initial.judge (joined (map marks_of_part l.all))

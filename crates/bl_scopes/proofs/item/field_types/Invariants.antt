@@ -5,4 +5,5 @@ use Rattle.bl_scopes.specs.Marks.{field_type_marks}
 use Rattle.bl_scopes.proofs.item.field_types.Given as goal
 
 abbrev pub invariant-loop-field : goal.invariant-loop-field
-invariant-loop-field l = judged_by l.judge (joined (map field_type_marks (drop l.field-index l.all))) ≡ judged_by l.initial.judge (joined (map field_type_marks l.all))
+invariant-loop-field l =
+    judged_by l.judge (joined (map field_type_marks (drop l.field-index l.all))) ≡ judged_by l.initial.judge (joined (map field_type_marks l.all))

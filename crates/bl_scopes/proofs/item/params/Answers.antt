@@ -5,4 +5,5 @@ use Rattle.bl_scopes.proofs.item.params.Goals as goal
 pub loop-one-preserved : goal.loop-one-preserved
 loop-one-preserved c =
     rw c.in_ok-param.ensures
-    (judged-next param_marks _ _ c.one-item.result c.loop-one.judge _ (next_of c.args.all.now c.loop-one.one-index c.one-item.result c.loop-one-test.true c.one-item.is) c.loop-one.invariant)
+    (judged-next param_marks _ _ c.one-item.result c.loop-one.judge _
+    (next_of c.args.all.now c.loop-one.one-index c.one-item.result c.loop-one-test.true c.one-item.is) c.loop-one.invariant)

@@ -11,4 +11,5 @@ abbrev pub invariant-arms-loop-arm : goal.invariant-arms-loop-arm
 invariant-arms-loop-arm l = judged_by l.judge (joined (map marks_of_arm (drop l.arm-index l.all))) ≡ judged_by l.initial.judge (joined (map marks_of_arm l.all))
 
 abbrev pub invariant-branches-loop-branch : goal.invariant-branches-loop-branch
-invariant-branches-loop-branch l = judged_by l.judge (joined (map marks_of_branch (drop l.branch-index l.all))) ≡ judged_by l.initial.judge (joined (map marks_of_branch l.all))
+invariant-branches-loop-branch l =
+    judged_by l.judge (joined (map marks_of_branch (drop l.branch-index l.all))) ≡ judged_by l.initial.judge (joined (map marks_of_branch l.all))

@@ -9,6 +9,8 @@ returns c =
     elim c.match-insert.branch [
       | in-Ok w ↦
           subst (λ r. OnOk r (named c.insert.new.self.entries ≡ with_name c.args.self.now c.args.name.now c.args.kind c.args.position)) (sym w.result-is)
-          (added c.self.inside.names c.insert.new.self c.as_str.result c.args.name.now c.args.kind c.args.position c.args.self.now c.as_str.ensures c.self.view_is w.in-Ok.ensures.entries c.requires)
-      | in-Err w ↦ subst (λ r. OnOk r (named c.insert.new.self.entries ≡ with_name c.args.self.now c.args.name.now c.args.kind c.args.position)) (sym w.result-is) tt
+          (added c.self.inside.names c.insert.new.self c.as_str.result c.args.name.now c.args.kind c.args.position c.args.self.now c.as_str.ensures
+          c.self.view_is w.in-Ok.ensures.entries c.requires)
+      | in-Err w ↦ subst (λ r. OnOk r (named c.insert.new.self.entries ≡ with_name c.args.self.now c.args.name.now c.args.kind c.args.position))
+          (sym w.result-is) tt
     ]

@@ -1,0 +1,58 @@
+-- Where the statements of a named tree and the conditions of its loops begin.
+use Rattle.std.specs.Prelude.{ℕ, List, [], ◌∷◌, ◌++◌, map}
+use Rattle.bl_tree.specs.Reduce.{joined}
+use Rattle.bl_named.specs.declared.expr.NamedExpr.{NamedExpr, out-NamedExpr}
+use Rattle.bl_named.specs.declared.item.NamedUnit.{NamedUnit}
+use Rattle.bl_named.specs.declared.named.Named.{Named}
+use Rattle.bl_named.specs.declared.stmt.NamedArm.{NamedArm, fold-NamedArm}
+use Rattle.bl_named.specs.declared.stmt.NamedBranch.{NamedBranch, fold-NamedBranch}
+use Rattle.bl_named.specs.declared.stmt.NamedStmt.{NamedStmt, fold-NamedStmt}
+use Rattle.bl_named.specs.declared.stmt.NamedStmtKind.TheOpen.{NamedStmtKind-F, NamedArm-F, NamedBranch-F, NamedStmt-F}
+
+abbrev pub Starts : Type 0
+Starts = List ℕ
+
+abbrev pub start_of : NamedExpr → ℕ
+start_of e = (out-NamedExpr e).place.start
+
+abbrev pub stmt_kind_starts : NamedStmtKind-F Starts Starts Starts Starts → Starts
+stmt_kind_starts (NamedStmtKind-F.Declare k value) = []
+stmt_kind_starts (NamedStmtKind-F.Const k) = []
+stmt_kind_starts (NamedStmtKind-F.Assign target e) = []
+stmt_kind_starts (NamedStmtKind-F.Call at f inputs outputs) = []
+stmt_kind_starts (NamedStmtKind-F.Await e) = []
+stmt_kind_starts (NamedStmtKind-F.Run target at a inputs outputs) = []
+stmt_kind_starts (NamedStmtKind-F.If arms other) = joined arms ++ joined other
+stmt_kind_starts (NamedStmtKind-F.Cobegin branches) = joined branches
+stmt_kind_starts (NamedStmtKind-F.When guard e body) = joined body
+stmt_kind_starts (NamedStmtKind-F.Repeat body) = joined body
+stmt_kind_starts (NamedStmtKind-F.Until body e) = joined body ++ (start_of e ∷ [])
+stmt_kind_starts (NamedStmtKind-F.While e body) = start_of e ∷ joined body
+stmt_kind_starts (NamedStmtKind-F.Return e) = []
+
+abbrev pub arm_starts : NamedArm-F Starts Starts Starts Starts → Starts
+arm_starts arm = joined arm.body
+
+abbrev pub branch_starts : NamedBranch-F Starts Starts Starts Starts → Starts
+branch_starts branch = joined branch.body
+
+abbrev pub stmt_layer_starts : NamedStmt-F Starts Starts Starts Starts → Starts
+stmt_layer_starts s = s.place.start ∷ s.what
+
+-- where a statement, those in it and the conditions of its loops begin, in source order
+abbrev pub starts_of : NamedStmt → Starts
+starts_of = fold-NamedStmt Starts Starts Starts Starts stmt_kind_starts arm_starts branch_starts stmt_layer_starts
+
+-- the same of an arm and of a branch
+abbrev pub starts_of_arm : NamedArm → Starts
+starts_of_arm = fold-NamedArm Starts Starts Starts Starts stmt_kind_starts arm_starts branch_starts stmt_layer_starts
+
+abbrev pub starts_of_branch : NamedBranch → Starts
+starts_of_branch = fold-NamedBranch Starts Starts Starts Starts stmt_kind_starts arm_starts branch_starts stmt_layer_starts
+
+abbrev pub unit_starts : NamedUnit → Starts
+unit_starts unit = joined (map starts_of unit.body)
+
+-- where the statements and the conditions of loops of all units begin, in source order
+abbrev pub all_starts : Named → Starts
+all_starts named = joined (map unit_starts named.units)
