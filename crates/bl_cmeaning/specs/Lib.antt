@@ -6,7 +6,6 @@ pub mod Checked
 pub mod Cost
 pub mod Ends
 pub mod Faults
-pub mod Folds
 pub mod Laws
 pub mod Loops
 pub mod Maps

@@ -2,6 +2,7 @@ pub mod Builtins
 pub mod Cut
 pub mod Depths
 pub mod Fits
+pub mod Folds
 pub mod Names
 pub mod Prefixes
 pub mod Prelude
