@@ -15,7 +15,7 @@ use Rattle.bl_tree.specs.declared.c.CFunc.{CFunc}
 use Rattle.bl_tree.specs.Reduce.{joined}
 use Rattle.bl_ctext.specs.declared.builtin.Builtin.{Builtin}
 use Rattle.bl_cmeaning.specs.Builtin.{builtin_of}
-use Rattle.bl_cmeaning.specs.Folds.{OpenPart}
+use Rattle.bl_ctext.specs.Folds.{OpenPart}
 use Rattle.bl_cmeaning.specs.Sizes.{Sizes}
 use Rattle.bl_cmeaning.specs.Tables.{Table, with_entry, entry_or}
 use Rattle.bl_cmeaning_laws.specs.Layout.{Layouts, frame_cells, slots_of}

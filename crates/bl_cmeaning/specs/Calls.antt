@@ -10,7 +10,7 @@ use Rattle.bl_tree.specs.declared.c.CCall.{CCall, fold-CCall}
 use Rattle.bl_tree.specs.declared.c.CStmtKind.TheOpen.{CStmtKind-F, CStmt-F}
 use Rattle.bl_tree.specs.declared.c.CStmt.{CStmt, fold-CStmt}
 use Rattle.bl_tree.specs.Reduce.{joined, greatest}
-use Rattle.bl_cmeaning.specs.Folds.{OpenPart}
+use Rattle.bl_ctext.specs.Folds.{EachIs}
 use Rattle.bl_cmeaning.specs.Tables.{Table, entry_or}
 
 -- ---- in one level, where the parts' calls are known
@@ -18,38 +18,34 @@ use Rattle.bl_cmeaning.specs.Tables.{Table, entry_or}
 abbrev pub Names : Type 0
 Names = List Text
 
--- a part of an expression, where each part within it calls these functions
-abbrev pub Calling : OpenPart → Type 0
-Calling Of = Of Names Names Names Names Names Names Names
-
-abbrev pub arg_calls : Calling CArg-F → Names
+abbrev pub arg_calls : EachIs Names CArg-F → Names
 arg_calls (CArg-F.Value value) = value
 arg_calls (CArg-F.Address place) = place
 
-abbrev pub kind_calls : Calling CExprKind-F → Names
+abbrev pub kind_calls : EachIs Names CExprKind-F → Names
 kind_calls (CExprKind-F.Literal type n) = []
 kind_calls (CExprKind-F.Read place) = place
 kind_calls (CExprKind-F.Call call) = call
 kind_calls (CExprKind-F.Not operand) = operand
 kind_calls (CExprKind-F.Two op left right) = left ++ right
 
-abbrev pub call_calls : Calling CCall-F → Names
+abbrev pub call_calls : EachIs Names CCall-F → Names
 call_calls call = call.name ∷ joined call.args
 
-abbrev pub expr_calls : Calling CExpr-F → Names
+abbrev pub expr_calls : EachIs Names CExpr-F → Names
 expr_calls expr = expr.what
 
-abbrev pub index_calls : Calling CIndex-F → Names
+abbrev pub index_calls : EachIs Names CIndex-F → Names
 index_calls index = index.at
 
-abbrev pub place_calls : Calling CPlace-F → Names
+abbrev pub place_calls : EachIs Names CPlace-F → Names
 place_calls place = joined place.steps
 
 abbrev pub names_or_none : Option Names → Names
 names_or_none None = []
 names_or_none (Some names) = names
 
-abbrev pub step_calls : Calling CStep-F → Names
+abbrev pub step_calls : EachIs Names CStep-F → Names
 step_calls step = names_or_none step.index
 
 -- ---- the names of the called functions, one for each call

@@ -48,7 +48,7 @@ use Rattle.bl_tree.specs.declared.c.CCall.{CCall, fold-CCall}
 use Rattle.bl_tree.specs.declared.c.CStmtKind.TheOpen.{CStmtKind-F, CStmt-F}
 use Rattle.bl_tree.specs.declared.c.CStmt.{CStmt, fold-CStmt}
 use Rattle.bl_tree.specs.Reduce.{any_of, joined, greatest}
-use Rattle.bl_cmeaning.specs.Folds.{OpenPart}
+use Rattle.bl_ctext.specs.Folds.{OpenPart}
 use Rattle.bl_cmeaning.specs.Parts.{Parts}
 use Rattle.bl_cmeaning.specs.Tables.{found, Table, no_entries, table_of, with_entry, entry_or}
 use Rattle.bl_ctext.specs.declared.builtin.Builtin.{Builtin}

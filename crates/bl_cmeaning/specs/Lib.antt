@@ -5,7 +5,6 @@ pub mod Cells
 pub mod Cost
 pub mod Ends
 pub mod Faults
-pub mod Folds
 pub mod Laws
 pub mod Loops
 pub mod Meaning

@@ -41,7 +41,7 @@ use Rattle.bl_tree.specs.Numbers.{is_one, number_of, takes_one, takes_two}
 use Rattle.bl_ctext.specs.declared.builtin.Builtin.{Builtin}
 use Rattle.bl_ctext.specs.declared.builtin.Builtin.TheVariants.{One, Two}
 use Rattle.bl_cmeaning.specs.Builtin.{builtin_of, builtin_params, builtin_value, index_within}
-use Rattle.bl_cmeaning.specs.Folds.{OpenPart}
+use Rattle.bl_ctext.specs.Folds.{OpenPart}
 use Rattle.bl_cmeaning.specs.Meaning.{End, goes_on, breaks, returns, traps, result_at, turn_limit}
 use Rattle.bl_cmeaning.specs.Sizes.{Sizes}
 use Rattle.bl_cmeaning.specs.Tables.{Table, with_entry, entry_or}

@@ -11,37 +11,38 @@ use Rattle.bl_tree.specs.declared.c.CArg.{CArg, CArg-F, fold-CArg}
 use Rattle.bl_tree.specs.declared.c.CStmt.{CStmt, CStmt-F, fold-CStmt}
 use Rattle.bl_tree.specs.declared.c.CStmtKind.{CStmtKind, CStmtKind-F, fold-CStmtKind}
 use Rattle.bl_tree.specs.Reduce.{greatest}
+use Rattle.bl_ctext.specs.Folds.{EachIs}
 
 -- the number of what may be absent, and 0 where it is
 abbrev pub none_or_depth : Option ℕ → ℕ
 none_or_depth None = 0
 none_or_depth (Some n) = n
 
-abbrev pub arg_nesting : CArg-F ℕ ℕ ℕ ℕ ℕ ℕ ℕ → ℕ
+abbrev pub arg_nesting : EachIs ℕ CArg-F → ℕ
 arg_nesting (CArg-F.Value value) = value
 arg_nesting (CArg-F.Address at) = at
 
 -- a literal has at most the parentheses of a negative number
-abbrev pub kind_nesting : CExprKind-F ℕ ℕ ℕ ℕ ℕ ℕ ℕ → ℕ
+abbrev pub kind_nesting : EachIs ℕ CExprKind-F → ℕ
 kind_nesting (CExprKind-F.Literal s n) = 2
 kind_nesting (CExprKind-F.Read at) = at
 kind_nesting (CExprKind-F.Call call) = call
 kind_nesting (CExprKind-F.Not operand) = operand + 1
 kind_nesting (CExprKind-F.Two o left right) = max left right + 1
 
-abbrev pub call_nesting : CCall-F ℕ ℕ ℕ ℕ ℕ ℕ ℕ → ℕ
+abbrev pub call_nesting : EachIs ℕ CCall-F → ℕ
 call_nesting c = greatest c.args + 1
 
-abbrev pub expr_nesting : CExpr-F ℕ ℕ ℕ ℕ ℕ ℕ ℕ → ℕ
+abbrev pub expr_nesting : EachIs ℕ CExpr-F → ℕ
 expr_nesting e = e.what
 
-abbrev pub index_nesting : CIndex-F ℕ ℕ ℕ ℕ ℕ ℕ ℕ → ℕ
+abbrev pub index_nesting : EachIs ℕ CIndex-F → ℕ
 index_nesting i = i.at + 2
 
-abbrev pub place_nesting : CPlace-F ℕ ℕ ℕ ℕ ℕ ℕ ℕ → ℕ
+abbrev pub place_nesting : EachIs ℕ CPlace-F → ℕ
 place_nesting p = max 1 (greatest p.steps)
 
-abbrev pub step_nesting : CStep-F ℕ ℕ ℕ ℕ ℕ ℕ ℕ → ℕ
+abbrev pub step_nesting : EachIs ℕ CStep-F → ℕ
 step_nesting s = none_or_depth s.index
 
 -- the depth of an expression, of a place and of a call
