@@ -4,7 +4,7 @@ use Rattle.bl_tree.specs.declared.rule.Failure.{Failure}
 use Rattle.bl_tree.specs.Rules.{lesser}
 use Rattle.bl_raw.specs.declared.item.RawItem.{RawItem}
 use Rattle.bl_scopes.specs.declared.judge.Judge.{Judge}
-use Rattle.bl_scopes.specs.Failures.{failure_at}
+use Rattle.bl_scopes.specs.inner.Failures.{failure_at}
 use Rattle.bl_scopes.specs.Marks.{Mark, Marks, marks_of}
 use Rattle.bl_scopes.specs.Scopes.{enter, file_scope}
 
