@@ -1,8 +1,7 @@
-//! What acts read, and what a tree may still write before its next pause (docs/LANGUAGE.md, "Control trees").
+//! What a tree may still write before its next pause (docs/LANGUAGE.md, "Control trees").
 #![tactic(auto)]
 
 pub mod laws;
-pub mod mentions;
 mod surface;
 mod writes;
 
