@@ -1,5 +1,5 @@
-//! Codes that the machine runs, and structs that are laid out in cells, by hand (docs/C_SUBSET.md, "Meaning"). There is
-//! nothing in this crate but its tests.
+//! Tests of `bl_bytecode_machine` and `bl_cinterface`: codes that the machine runs, and structs that are laid out in
+//! cells, written by hand. There is nothing else here.
 #![tactic(auto)]
 
 #[cfg(test)]

@@ -2,11 +2,11 @@
 
 ghost use Rattle.std.specs.Prelude.{◌≡◌, ℕ, [], pos, replicate, true, IfOk};
 ghost use Rattle.bl_bytecode.specs.Laws.{begun};
-ghost use Rattle.bl_bytecode_machine.specs.Halting.{halts_in};
+ghost use Rattle.bl_bytecode_machine.specs.inner.Halting.{halts_in};
 
 use bl_bytecode::instruction::{Callee, Instruction};
 use bl_bytecode_machine::Machine;
-use bl_cmeaning::Builtin;
+use bl_ctext::Builtin;
 use bl_tree::{NoMemory, Op, Scalar, Width};
 use std::alloc::Global;
 

@@ -1,5 +1,5 @@
-//! Small C files of which each fails one clause of well-formedness, and counts of cells (docs/C_SUBSET.md, "Well-formed
-//! files" and "Meaning"). There is nothing in this crate but its tests.
+//! Tests of `bl_cmeaning`: small C files of which each fails one clause of well-formedness, and counts of cells
+//! (docs/C_SUBSET.md, "Well-formed files" and "Meaning"). There is nothing else here.
 #![tactic(auto)]
 
 #[cfg(test)]

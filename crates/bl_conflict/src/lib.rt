@@ -1,5 +1,6 @@
-//! The rules on pauses, on writes of branches that conflict, on arguments that alias and on loops that end at once
-//! (docs/LANGUAGE.md, "Rules").
+//! The rules Pause, Conflict, Alias and Instant (docs/LANGUAGE.md, "Rules"), one module each. `check` answers Ok
+//! exactly where none of the four fails. Else it names the first that fails, at its least places, with the further
+//! places of its line (`Rules.antt` of `bl_effects`, `FailsFirst`); want of memory aside.
 #![tactic(auto, using(crate::proofs::FirstLemmas::firsts))]
 
 ghost use Rattle.std.specs.Prelude.{◌≡◌, None, IfErr, IfOk, OnOk};

@@ -12,3 +12,4 @@ pub mod PrefixedNames
 pub mod TextNesting
 pub mod Texts
 pub mod Words
+pub mod BracketDepths

@@ -13,9 +13,9 @@ use Rattle.bl_tree.specs.declared.tree.Unit.{Unit as UnitDef}
 use Rattle.bl_tree.specs.declared.tree.Var.{Var}
 use Rattle.bl_tree.specs.Types.{scalar_in}
 use Rattle.bl_tree.specs.Typing.{inputs_of}
-use Rattle.bl_ctext.specs.Fits.{place_fits, expr_fits, stmt_fits, stmts_fit, func_fits}
+use Rattle.bl_ctext.specs.inner.Fits.{place_fits, expr_fits, stmt_fits, stmts_fit, func_fits}
 use Rattle.bl_ctext.specs.Names.{is_name, is_struct_name}
-use Rattle.bl_ctext.specs.Prefixes.{is_source_name}
+use Rattle.bl_ctext.specs.inner.Prefixes.{is_source_name}
 use Rattle.bl_ctext.specs.Spellable.{is_spellable, spells_member, spells_struct}
 use Rattle.bl_ctext.proofs.Bytes.{and-fst, and-snd}
 use Rattle.bl_ctext.proofs.Fitting.{step-fits, place-fits, place_fits-more, expr_fits-more, stmt_fits-more, stmts_fit-more, literal-fits, read-fits, called-fits, two-fits, value-fits, address-fits, call-fits, set-fits, call_stmt-fits, return-fits, if-fits, func-fits, struct-spells, file-spells}

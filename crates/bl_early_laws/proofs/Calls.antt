@@ -14,7 +14,7 @@ use Rattle.bl_cmeaning.specs.Memory.{member, state_object, input_object, output_
 use Rattle.bl_cmeaning.specs.Tables.{Table, no_entries, table_of, with_entry}
 use Rattle.bl_cmeaning.specs.Cells.{numbers_of}
 use Rattle.bl_cmeaning.specs.Meaning.{Passed, by_address, Called, Meaning, Scope, Outcome, End, goes_on, given, after, each_of, following, later_call, called_as, call_outcome, called, result_at, runs_c, block_c, function_c}
-use Rattle.bl_cmeaning.specs.Builtin.{builtin_of, builtins}
+use Rattle.bl_cmeaning.specs.Builtin.{builtin_of}
 use Rattle.bl_cmeaning.specs.Trace.{object, entered}
 use Rattle.bl_early.specs.Form.{Item, Step}
 use Rattle.bl_early.specs.Run.{Numbers, Reached, Traps, Pauses, Passes}
@@ -53,7 +53,7 @@ module _ (unit : UnitDef) (steps : List Step) where
   known = with_entry first_known (codes "bl_init") (function_c first_known c_init)
 
   not-builtin : builtin_of (activity_name unit) ≡ None
-  unfolding builtin_of builtins
+  unfolding builtin_of
   not-builtin = refl
 
   activity-known : known (activity_name unit) ≡ Some activity

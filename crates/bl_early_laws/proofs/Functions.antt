@@ -16,7 +16,7 @@ use Rattle.bl_tree.specs.declared.tree.Unit.{Unit as UnitDef}
 use Rattle.bl_tree.specs.declared.tree.Var.{Var}
 use Rattle.bl_tree.specs.Words.{are_distinct}
 use Rattle.bl_tree.specs.Typing.{inputs_of}
-use Rattle.bl_cmeaning.specs.Builtin.{builtin_of, builtins}
+use Rattle.bl_cmeaning.specs.Builtin.{builtin_of}
 use Rattle.bl_cmeaning.specs.Calls.{calls_in_block, most}
 use Rattle.bl_cmeaning.specs.Loops.{counters_in_block}
 use Rattle.bl_cmeaning.specs.Parts.{parts_from}
@@ -184,7 +184,7 @@ module _ (unit : UnitDef) (steps : List Step) (named : list_all is_named_var uni
   tick_context = context_in structs second_functions tick
 
   not-builtin : builtin_of (activity_name unit) ≡ None
-  unfolding builtin_of builtins
+  unfolding builtin_of
   not-builtin = refl
 
   activity-known : second_functions (activity_name unit) ≡ Some (signature_in activity)

@@ -18,7 +18,7 @@ use Rattle.bl_tree.specs.declared.tree.Var.{Var}
 use Rattle.bl_tree.specs.Reduce.{greatest}
 use Rattle.bl_tree.specs.Words.{are_distinct, is_among}
 use Rattle.bl_tree.specs.Typing.{inputs_of}
-use Rattle.bl_ctext.specs.Prefixes.{is_source_name}
+use Rattle.bl_ctext.specs.inner.Prefixes.{is_source_name}
 use Rattle.bl_ctext.proofs.Bytes.{and-fst, and-snd}
 use Rattle.bl_cmeaning.specs.Tables.{Table, found, no_entries, with_entry, entry_or}
 use Rattle.bl_cmeaning.specs.Faults.{Clause, unless, distinct_names, declared_before, short_chain, interface_members, all_distinct, is_declared, limited, depth_of_type, depth_of_struct, is_port, interface_fits, member_table, faults_in_struct, struct_faults_after}

@@ -1,6 +1,6 @@
 -- The written file has the trace of its loop of steps.
 use Rattle.std.proofs.Common.{◌≡◌, ℕ, suc, zero, ◌≤◌, ℤ, pos, Bool, true, false, List, [], ◌∷◌, ◌++◌, map, length, take, drop, Option, Some, None, refl, sym, ap, ap₂, ◌∙◌, subst, arith, codes, take-append-drop, true≢false}
-use Rattle.std.specs.Prelude.{All, slice_set, if◌then◌else◌}
+use Rattle.std.specs.Prelude.{All, is_some, slice_set, if◌then◌else◌}
 use Rattle.std.specs.List.{list_all, list_any}
 use Rattle.std.proofs.lemmas.List.Elements.{All-head, All-tail}
 use Rattle.bl_tree.specs.declared.row.Trace.{Trace}
@@ -16,7 +16,7 @@ use Rattle.bl_cmeaning.specs.Memory.{member, state_object, input_object, output_
 use Rattle.bl_cmeaning.specs.Tables.{no_entries}
 use Rattle.bl_cmeaning.specs.Cells.{Cell, cells_of, memory_of, numbers_of, ports_of, with_inputs, outputs_in}
 use Rattle.bl_cmeaning.specs.Meaning.{Called, Outcome}
-use Rattle.bl_cmeaning.specs.Trace.{Tick, tick_c, tick_of, start_c, cells_where, reply_of, c_trace, c_trace_from, trace_after, traced as c_traced}
+use Rattle.bl_cmeaning.specs.Trace.{Tick, tick_c, tick_of, start_c, started, cells_if, reply_of, c_trace, c_trace_from, trace_after, traced as c_traced}
 use Rattle.bl_early.specs.Form.{Item, Step, Set, Pause, is_pause, is_early}
 use Rattle.bl_early.specs.Run.{Numbers, item_value, source_value, Reached, Traps, Pauses, Passes, reached_with, taken, repeated, Standing, Begins, Waits, ticked, with_row, loop_trace, trace_of, traced as run_traced}
 use Rattle.bl_early.specs.Built.{step_within, steps_at}
@@ -246,8 +246,8 @@ module _ (unit : UnitDef) (steps : List Step) (inputs : unit.inputs ≤ length u
       (traces rows suit.1)
 
   start-is : start_c the_file ≡ Some (numbers_of (cells_of the_file) (begun unit steps))
-  unfolding start_c
-  start-is = ap (λ (called : Called). cells_where the_file called.memory called.result) (init-entered unit steps)
+  unfolding started
+  start-is = ap (λ (called : Called). cells_if (is_some called.result) (numbers_of (cells_of the_file) called.memory)) (init-entered unit steps)
 
   begun-related : Related Begins (map (λ var. pos 0) unit.vars) (numbers_of (cells_of the_file) (begun unit steps))
   begun-related = record {

@@ -1,5 +1,5 @@
-//! Small loops and the traces that they have, worked out by hand (docs/LANGUAGE.md, "What is built"). The functions do
-//! nothing: the contracts say what the definition of such a run comes to.
+//! Small loops and the traces that they have, worked out by hand, as contracts of functions that do nothing
+//! (`specs/Loops.antt`): they show what the definition of such a run comes to (docs/LANGUAGE.md, "What is built").
 #![tactic(auto)]
 
 ghost use Rattle.bl_early_tests.specs.Loops.{CopyRuns, LampRuns, SetTwiceRuns, SumTraps, WaitRuns};

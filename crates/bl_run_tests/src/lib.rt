@@ -1,5 +1,5 @@
-//! Sources and C texts that run over files of rows, and what the program answers (docs/FORMATS.md, "Rows", "Traces" and
-//! "Notes"). There is nothing in this crate but its tests.
+//! Tests of `run` and `exec` of `bl_top` over files of rows, with calls that fail in turn (docs/FORMATS.md, "Rows",
+//! "Traces" and "Notes"). There is nothing else here.
 #![tactic(auto)]
 
 #[cfg(test)]

@@ -1,0 +1,5 @@
+-- What folds over the parts of expressions share.
+
+-- arguments, expressions, calls, indices, places or steps, over what stands for each of the seven kinds of parts within them
+abbrev pub OpenPart : Type 1
+OpenPart = Type 0 → Type 0 → Type 0 → Type 0 → Type 0 → Type 0 → Type 0 → Type 0
