@@ -1,8 +1,9 @@
 -- Failures as values: those of each rule as a list, and the first of a list.
-use Rattle.std.specs.Prelude.{◌≡◌, ℕ, Bool, ◌&&◌, ◌||◌, nat_eq, nat_lt, List, [], ◌∷◌, map, slice_get, find, Option, Some, None, option_map, is_none, if◌then◌else◌, ⊤}
+use Rattle.std.specs.Prelude.{◌&&◌, List, [], ◌∷◌, ◌++◌, map, slice_get, find, Option, Some, None, option_map, is_none, if◌then◌else◌}
 use Rattle.bl_tree.specs.declared.place.Place.{Place}
-use Rattle.bl_tree.specs.declared.place.Refusal.{Refusal}
-use Rattle.bl_tree.specs.declared.place.Refusal.TheVariants.{Rule, NoMemory}
+use Rattle.bl_tree.specs.declared.rule.Failure.{Failure}
+use Rattle.bl_tree.specs.declared.rule.Further.TheVariants.{Nothing, One, Two}
+use Rattle.bl_tree.specs.declared.rule.Rule.TheVariants as rule
 use Rattle.bl_tree.specs.declared.tree.Arm.{Arm, fold-Arm}
 use Rattle.bl_tree.specs.declared.tree.Branch.{Branch, fold-Branch}
 use Rattle.bl_tree.specs.declared.tree.Path.{Path, out-Path}
@@ -16,50 +17,29 @@ use Rattle.bl_tree.specs.declared.static_path.Static.{Static}
 use Rattle.bl_tree.specs.Instant.{is_instant_block}
 use Rattle.bl_effects.specs.Rules.{Aliased, BranchLoops, Loops, Parallel, Split, aliases_in, arm_aliases, arm_loops, arm_parallel, branch_aliases, branch_loops, branch_parallel, instant_loops, kind_aliases, kind_loops, kind_parallel, splits_of, stmt_aliases, stmt_loops, stmt_parallel}
 use Rattle.bl_tree.specs.Static.{overlaps, static_of}
-use Rattle.bl_tree.specs.Rules.{same_place}
-use Rattle.bl_conflict.specs.declared.failure.Failure.{Failure}
+use Rattle.bl_tree.specs.Rules.{first_of, lesser}
 
 -- ---- the first of several
 
--- by their starts, and then by their ends
-abbrev pub is_before : Place → Place → Bool
-is_before a b = nat_lt a.start b.start || (nat_eq a.start b.start && nat_lt a.end b.end)
-
--- the first places that differ decide
-abbrev pub comes_before : Failure → Failure → Bool
-comes_before a b =
-    if same_place a.at b.at
-    then (if same_place a.second b.second then is_before a.third b.third else is_before a.second b.second)
-    else is_before a.at b.at
-
--- the failure, where it comes before the best so far, and else that
-abbrev pub lesser : Option Failure → Failure → Option Failure
-lesser None failure = Some failure
-lesser (Some best) failure = if comes_before failure best then Some failure else Some best
-
 -- the first of the best so far and the failures of these
 abbrev pub least_by : {A : Type 0} → (A → Failure) → Option Failure → List A → Option Failure
-least_by failure best [] = best
-least_by failure best (x ∷ rest) = least_by failure (lesser best (failure x)) rest
-
--- ---- what is refused
-
--- the refusal tells this, or memory was refused
-abbrev pub Refuses : ℕ → Place → List Place → Refusal → Type 0
-Refuses number at also (Rule told place further) = (told ≡ number) × ((place ≡ at) × (further ≡ also))
-Refuses number at also NoMemory = ⊤
+least_by failure best xs = first_of best (map failure xs)
 
 -- ---- the failures of the rules
 
--- a failure that names one place
-abbrev pub single : Place → Failure
-single at = record { at = at; second = at; third = at }
+-- that of an activity that may never pause, at its name
+abbrev pub of_pause : Place → Failure
+of_pause at = record { rule = rule.Pause; at = at; further = Nothing }
 
-abbrev pub pause_of : UnitDef → List Place
-pause_of unit = if is_activity unit.kind && is_instant_block unit.body then unit.place ∷ [] else []
+abbrev pub pause_of : UnitDef → List Failure
+pause_of unit = if is_activity unit.kind && is_instant_block unit.body then of_pause unit.place ∷ [] else []
 
-abbrev pub pause_failures : List UnitDef → List Place
+abbrev pub pause_failures : List UnitDef → List Failure
 pause_failures units = joined (map pause_of units)
+
+-- that of a loop
+abbrev pub of_loop : Place → Failure
+of_loop at = record { rule = rule.Instant; at = at; further = Nothing }
 
 abbrev pub loops_of : UnitDef → List Place
 loops_of unit = if is_activity unit.kind then instant_loops unit else []
@@ -67,13 +47,13 @@ loops_of unit = if is_activity unit.kind then instant_loops unit else []
 abbrev pub instant_failures : List UnitDef → List Place
 instant_failures units = joined (map loops_of units)
 
--- a failure that names two places
-abbrev pub pair : Aliased → Failure
-pair aliased = record { at = aliased.at; second = aliased.also; third = aliased.also }
+-- that of an output or target, with what it overlaps
+abbrev pub of_alias : Aliased → Failure
+of_alias aliased = record { rule = rule.Alias; at = aliased.at; further = One aliased.also }
 
 -- the first of the best so far and the failure at the place, where there is one
 abbrev pub added : Option Failure → Place → Option Place → Option Failure
-added best at (Some also) = lesser best (record { at = at; second = also; third = also })
+added best at (Some also) = lesser best (of_alias (record { at = at; also = also }))
 added best at None = best
 
 abbrev pub aliases_of_unit : UnitDef → List Aliased
@@ -82,13 +62,13 @@ aliases_of_unit unit = joined (map aliases_in unit.body)
 abbrev pub alias_failures : List UnitDef → List Aliased
 alias_failures units = joined (map aliases_of_unit units)
 
-abbrev pub itself : Failure → Failure
-itself failure = failure
+-- that of two writes of branches, with the declaration of their root
+abbrev pub of_clash : Place → Marked → Marked → Failure
+of_clash declared second first = record { rule = rule.Conflict; at = first.place; further = Two second.place declared }
 
 -- the failure of two writes, where they overlap
 abbrev pub clash_of : Place → Marked → Marked → List Failure
-clash_of declared second first =
-    if overlaps first.path second.path then record { at = first.place; second = second.place; third = declared } ∷ [] else []
+clash_of declared second first = if overlaps first.path second.path then of_clash declared second first ∷ [] else []
 
 -- a write and the earlier ones
 abbrev pub clashes_at : Place → List Marked → Marked → List Failure
@@ -114,6 +94,11 @@ clashes_of_unit unit = all_clashes unit.vars (splits_of unit)
 
 abbrev pub conflict_failures : List UnitDef → List Failure
 conflict_failures units = joined (map clashes_of_unit units)
+
+-- all failures of the four rules
+abbrev pub failures : List UnitDef → List Failure
+failures units =
+    pause_failures units ++ (conflict_failures units ++ (map of_alias (alias_failures units) ++ map of_loop (instant_failures units)))
 
 -- ---- parts of the tree
 

@@ -1,3 +1,2 @@
-pub mod Cause
 pub mod Failures
 pub mod Roots

@@ -4,7 +4,7 @@ use crate::check_units;
 use bl_tree::tree::{
     Arm, Branch, Expr, ExprKind, Part, Path, Role, Stmt, StmtKind, Ty, Unit, UnitKind, Var,
 };
-use bl_tree::{List, NoMemory, Place, Refusal, Scalar, Text, Width};
+use bl_tree::{List, NoMemory, Place, Refusal, Rule, Scalar, Text, Width};
 use std::alloc::Global;
 use std::process::Abort;
 
@@ -112,29 +112,23 @@ fn activity(
 }
 
 /// The rule that is told, with its places.
-fn told(alloc: Global, units: &[Unit]) -> Result<Option<(u8, List<Place>)>, NoMemory> {
+fn told(alloc: Global, units: &[Unit]) -> Result<Option<(Rule, List<Place>)>, NoMemory> {
     match check_units(alloc, units) {
         Ok(()) => Ok(None),
-        Err(
-            Refusal::Rule {
-                number,
-                place,
-                also,
-            },
-        ) => {
+        Err(Refusal::Rule { rule, place, also }) => {
             let mut places = one(alloc, place)?;
             for further in also.iter() {
                 places.push(*further)?;
             }
-            Ok(Some((number, places)))
+            Ok(Some((rule, places)))
         }
         Err(Refusal::NoMemory) => Err(NoMemory),
     }
 }
 
-fn tells(alloc: Global, units: &[Unit], number: u8, places: &[Place]) -> Result<bool, NoMemory> {
+fn tells(alloc: Global, units: &[Unit], wanted: Rule, places: &[Place]) -> Result<bool, NoMemory> {
     Ok(match told(alloc, units)? {
-        Some((rule, at)) => rule == number && at.as_slice() == places,
+        Some((rule, at)) => rule == wanted && at.as_slice() == places,
         None => false,
     })
 }
@@ -154,7 +148,7 @@ fn a_body_that_may_end_at_once_fails(rt: HostRuntime) -> Result<(), NoMemory> {
         [at(12, 13), at(22, 23)],
         one(alloc, choice)?,
     )?;
-    assert!(&rt; tells(alloc, &units, 18, &[at(9, 10)])?);
+    assert!(&rt; tells(alloc, &units, Rule::Pause, &[at(9, 10)])?);
     Ok(())
 }
 
@@ -168,7 +162,14 @@ fn writes_of_one_variable_conflict(rt: HostRuntime) -> Result<(), NoMemory> {
     let second = both(alloc, wait(), set(at(79, 84), x))?;
     let body = one(alloc, apart(alloc, first, second)?)?;
     let units = activity(alloc, at(23, 24), [at(28, 29), at(28, 29)], body)?;
-    assert!(&rt; tells(alloc, &units, 19, &[at(46, 51), at(79, 84), at(28, 29)])?);
+    assert!(&rt;
+        tells(
+            alloc,
+            &units,
+            Rule::Conflict,
+            &[at(46, 51), at(79, 84), at(28, 29)]
+        )?
+    );
     Ok(())
 }
 
@@ -191,7 +192,14 @@ fn the_least_pair_is_told(rt: HostRuntime) -> Result<(), NoMemory> {
     let outer_second = both(alloc, set(at(45, 49), s), wait())?;
     let body = one(alloc, apart(alloc, outer_first, outer_second)?)?;
     let units = activity(alloc, at(9, 10), [at(20, 21), at(30, 31)], body)?;
-    assert!(&rt; tells(alloc, &units, 19, &[at(40, 47), at(45, 49), at(20, 21)])?);
+    assert!(&rt;
+        tells(
+            alloc,
+            &units,
+            Rule::Conflict,
+            &[at(40, 47), at(45, 49), at(20, 21)]
+        )?
+    );
     Ok(())
 }
 
@@ -230,7 +238,7 @@ fn mixed(alloc: Global, input: Ty, output: Ty) -> Result<List<Unit>, NoMemory> {
 fn an_output_may_not_be_an_aggregate_input(rt: HostRuntime) -> Result<(), NoMemory> {
     let alloc = rt.alloc();
     let units = mixed(alloc, Ty::Struct(0), Ty::Struct(0))?;
-    assert!(&rt; tells(alloc, &units, 20, &[at(136, 137), at(133, 134)])?);
+    assert!(&rt; tells(alloc, &units, Rule::Alias, &[at(136, 137), at(133, 134)])?);
     let units = mixed(alloc, Ty::Scalar(INT32), Ty::Scalar(INT32))?;
     assert!(&rt; told(alloc, &units)?.is_none());
     Ok(())
@@ -256,7 +264,7 @@ fn repeating(alloc: Global, other: List<Stmt>) -> Result<List<Unit>, NoMemory> {
 fn a_loop_whose_body_may_end_at_once_fails(rt: HostRuntime) -> Result<(), NoMemory> {
     let alloc = rt.alloc();
     let units = repeating(alloc, List::new(alloc))?;
-    assert!(&rt; tells(alloc, &units, 21, &[at(37, 72)])?);
+    assert!(&rt; tells(alloc, &units, Rule::Instant, &[at(37, 72)])?);
     let units = repeating(alloc, one(alloc, wait())?)?;
     assert!(&rt; told(alloc, &units)?.is_none());
     Ok(())

@@ -11,8 +11,8 @@
 mod gather;
 pub mod laws;
 mod marked;
-mod mentions;
-mod sets;
+pub mod mentions;
+pub mod sets;
 mod table;
 #[cfg(test)]
 mod tests;

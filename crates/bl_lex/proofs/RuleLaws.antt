@@ -1,4 +1,4 @@
--- What covers a text is one list of parts; so the first rule that fails is one, at one place.
+-- What covers a text is one list of parts; so each of the first three rules fails at one place, and first where it is found.
 use Rattle.std.proofs.Common.{◌≡◌, ◌≢◌, ℕ, zero, suc, ◌+◌, ◌-◌, ◌<◌, ◌≤◌, Bool, true, false, cond, not, List, [], ◌∷◌, ◌++◌, ◌⊎◌, inl, inr, ⊎_elim, length, get_or, refl, ap, sym, ◌∙◌, subst, arith, add-one}
 use Rattle.std.proofs.Math.ListN.{get_or-eq_default}
 use Rattle.std.proofs.str.Laws.{order}
@@ -6,7 +6,10 @@ use Rattle.std.specs.Prelude.{Option, Some, None, option_map, slice_range, All}
 use Rattle.std.specs.List.{cons_option}
 use Rattle.bl_tree.specs.declared.token.TokenKind.{TokenKind}
 use Rattle.bl_tree.specs.declared.place.Place.{Place}
+use Rattle.bl_tree.specs.declared.rule.Rule.{Rule}
+use Rattle.bl_tree.specs.declared.rule.Rule.TheVariants as rule
 use Rattle.bl_tree.specs.declared.token.Token.{Token}
+use Rattle.bl_tree.specs.Rules.{AreNoLater, number_of}
 use Rattle.bl_lex.specs.declared.piece.Form.{Form}
 use Rattle.bl_lex.specs.declared.piece.Form.TheVariants.{Outside}
 use Rattle.bl_lex.specs.Spelling.{is_word_byte}
@@ -14,7 +17,7 @@ use Rattle.bl_lex.specs.Spelling.IsNumber.{decimal}
 use Rattle.bl_lex.specs.Pieces.{WordIs, IsPiece, NoPieceAt, kind_of, is_between}
 use Rattle.bl_lex.specs.Pieces.WordIs.{keyword, name, number, outside, octal, fraction}
 use Rattle.bl_lex.specs.Tokens.{Part, place_of, IsLongest, Covers, line_at, tokens_of, without_between, Lexes}
-use Rattle.bl_lex.specs.Rules.{FailsSize, FailsLex, FailsProfile, IsStrayByte, IsUnclosedComment, IsMalformedNumber, IsFault, Fails, FailsFirst, IsNoLater, Passes}
+use Rattle.bl_lex.specs.Rules.{FailsSize, FailsLex, FailsProfile, IsStrayByte, IsUnclosedComment, IsMalformedNumber, IsFault, Fails, FailsFirst, Passes}
 use Rattle.bl_lex.specs.Rules.IsLeftOut.{outside as left_outside}
 use Rattle.bl_lex.specs.Walk.{NoneLeftOut, IsFirstLeftOut}
 use Rattle.bl_lex.proofs.WordLaws.{keyword_begins, outside_begins}
@@ -113,28 +116,53 @@ fault_end text p q a b at =
 no_size : (text : List ℕ) → length text ≤ 1048576 → (place : Place) → ¬ FailsSize text place
 no_size text short place is = let long = is.too_long in omega arith
 
-same_place_no_later : (p q : Place) → p.start ≡ q.start → p.end ≡ q.end → IsNoLater p q
-same_place_no_later p q s e = inr (s, omega arith)
+-- one place is no later than itself
+no_later : (p q : Place) (further : List Place) → p.start ≡ q.start → p.end ≡ q.end → AreNoLater (p ∷ []) (q ∷ further)
+no_later p q further s e = inr ((λ i. record { start = s i; end = e i }), tt)
 
--- rule 2
+-- Size
 
-pub first_lex : (text : List ℕ) (parts : List Part) (place : Place) → length text ≤ 1048576 → Covers text 0 parts place.start → IsFault text place → FailsFirst text 2 place
+pub first_size : (text : List ℕ) (place : Place) → FailsSize text place → FailsFirst text rule.Size place []
+first_size text place fails = record { fails = (fails, refl); least_rule = least; least_places = places }
+  where
+    least : (other : Rule) (elsewhere : Place) (further : List Place) → Fails text other elsewhere further → 1 ≤ number_of other
+    least rule.Size elsewhere further f = omega arith
+    least rule.Lex elsewhere further f = omega arith
+    least rule.Profile elsewhere further f = omega arith
+    least _ elsewhere further f = absurd f
+
+    places : (elsewhere : Place) (further : List Place) → Fails text rule.Size elsewhere further → AreNoLater (place ∷ []) (elsewhere ∷ further)
+    places elsewhere further f = inr (fails.at ∙ sym f.0.at, tt)
+
+-- Lex
+
+pub first_lex : (text : List ℕ) (parts : List Part) (place : Place) → length text ≤ 1048576 → Covers text 0 parts place.start → IsFault text place
+    → FailsFirst text rule.Lex place []
 first_lex text parts place short covers fault = record {
-  fails = inr (inl (refl, record { parts = parts; covers = covers; fault = fault }));
-  least_rule = λ other elsewhere fails. ⊎_elim (λ f. absurd (no_size text short elsewhere f.1)) (⊎_elim (λ f. omega (arith, f.0)) (λ f. omega (arith, f.0))) fails;
-  least_place = λ elsewhere fails. ⊎_elim (λ f. absurd (omega (arith, f.0))) (⊎_elim
-      (λ f. let start = (one_cover text 0 parts f.1.parts place.start elsewhere.start covers f.1.covers (fault_begins_nothing text place fault) (fault_begins_nothing text elsewhere f.1.fault)).1 in
-      same_place_no_later place elsewhere start (fault_end text place elsewhere fault f.1.fault start))
-      (λ f. absurd (omega (arith, f.0)))) fails;
+  fails = (record { parts = parts; covers = covers; fault = fault }, refl);
+  least_rule = least;
+  least_places = places;
 }
+  where
+    least : (other : Rule) (elsewhere : Place) (further : List Place) → Fails text other elsewhere further → 2 ≤ number_of other
+    least rule.Size elsewhere further f = absurd (no_size text short elsewhere f.0)
+    least rule.Lex elsewhere further f = omega arith
+    least rule.Profile elsewhere further f = omega arith
+    least _ elsewhere further f = absurd f
 
--- a text that parts cover doesn't fail rule 2
+    places : (elsewhere : Place) (further : List Place) → Fails text rule.Lex elsewhere further → AreNoLater (place ∷ []) (elsewhere ∷ further)
+    places elsewhere further f =
+        let start = (one_cover text 0 parts f.0.parts place.start elsewhere.start covers f.0.covers
+        (fault_begins_nothing text place fault) (fault_begins_nothing text elsewhere f.0.fault)).1 in
+        no_later place elsewhere further start (fault_end text place elsewhere fault f.0.fault start)
+
+-- a text that parts cover doesn't fail rule Lex
 no_lex : (text : List ℕ) (parts : List Part) → Covers text 0 parts (length text) → (place : Place) → ¬ FailsLex text place
 no_lex text parts covers place fails =
     let ends = (one_cover text 0 parts fails.parts (length text) place.start covers fails.covers (nothing_at_end text) (fault_begins_nothing text place fails.fault)).1 in
     let inside = fault_inside text place fails.fault in omega arith
 
--- rule 3
+-- Profile
 
 -- of two elements of a list, they are one, or one stands before the other
 which : {X : Type 0} (xs ys : List X) (x y : X) (us vs : List X) → xs ++ x ∷ us ≡ ys ++ y ∷ vs → ((xs ≡ ys) × (x ≡ y)) ⊎ (((rest : List X) × (xs ≡ ys ++ y ∷ rest)) ⊎ ((rest : List X) × (us ≡ rest ++ y ∷ vs)))
@@ -182,37 +210,58 @@ begins_first low [] x rest y vs a = let h = low_before x.end rest y vs a.2 in om
 begins_first low (z ∷ zs) x rest y vs a = begins_first z.end zs x rest y vs a.2
 
 module _ (text : List ℕ) (short : length text ≤ 1048576) (parts : List Part) (covers : Covers text 0 parts (length text)) where
-  -- the tokens that a failing place of rule 3 has are those of the parts
+  -- the tokens that a failing place of rule Profile has are those of the parts
   same_tokens : (place : Place) (fails : FailsProfile text place) → without_between parts ≡ fails.before ++ fails.part ∷ fails.after
   same_tokens place fails = ap without_between (one_cover text 0 parts fails.parts (length text) (length text) covers fails.covers (nothing_at_end text) (nothing_at_end text)).0 ∙ fails.stands
 
-  no_earlier : (place elsewhere : Place) → IsFirstLeftOut text (without_between parts) place → FailsProfile text elsewhere → IsNoLater place elsewhere
-  no_earlier place elsewhere first fails = ⊎_elim
-      (λ same. same_place_no_later place elsewhere
+  no_earlier : (place elsewhere : Place) (further : List Place) → IsFirstLeftOut text (without_between parts) place → FailsProfile text elsewhere
+      → AreNoLater (place ∷ []) (elsewhere ∷ further)
+  no_earlier place elsewhere further first fails = ⊎_elim
+      (λ same. no_later place elsewhere further
       (ap (λ (p : Place). p.start) first.at ∙ ap (λ (p : Part). p.start) same.1 ∙ sym (ap (λ (p : Place). p.start) fails.at))
       (ap (λ (p : Place). p.end) first.at ∙ ap (λ (p : Part). p.end) same.1 ∙ sym (ap (λ (p : Place). p.end) fails.at)))
       (⊎_elim
       (λ earlier. absurd (first.first fails.before fails.part earlier.0 earlier.1 fails.left_out))
       (λ later.
-      let stands : without_between parts ≡ first.before ++ first.part ∷ (later.0 ++ fails.part ∷ fails.after) = first.stands ∙ ap (λ l. first.before ++ first.part ∷ l) later.1 in
-      let less = begins_first 0 first.before first.part later.0 fails.part fails.after (subst (Ascends 0) stands (tokens_ascend 0 parts (covers_ascend text 0 parts (length text) covers))) in
+      let stands : without_between parts ≡ first.before ++ first.part ∷ (later.0 ++ fails.part ∷ fails.after) =
+      first.stands ∙ ap (λ l. first.before ++ first.part ∷ l) later.1 in
+      let less = begins_first 0 first.before first.part later.0 fails.part fails.after
+      (subst (Ascends 0) stands (tokens_ascend 0 parts (covers_ascend text 0 parts (length text) covers))) in
       let here = ap (λ (p : Place). p.start) first.at in
       let there = ap (λ (p : Place). p.start) fails.at in
-      inl (omega arith)))
+      inl (inl (omega arith))))
       (which first.before fails.before first.part fails.part first.after fails.after (sym first.stands ∙ same_tokens elsewhere fails))
 
-  pub first_profile : (place : Place) → IsFirstLeftOut text (without_between parts) place → FailsFirst text 3 place
+  pub first_profile : (place : Place) → IsFirstLeftOut text (without_between parts) place → FailsFirst text rule.Profile place []
   first_profile place first = record {
-    fails = inr (inr (refl, record { parts = parts; covers = covers; before = first.before; part = first.part; after = first.after; stands = first.stands; left_out = first.left_out; at = first.at }));
-    least_rule = λ other elsewhere fails. ⊎_elim (λ f. absurd (no_size text short elsewhere f.1)) (⊎_elim (λ f. absurd (no_lex text parts covers elsewhere f.1)) (λ f. omega (arith, f.0))) fails;
-    least_place = λ elsewhere fails. ⊎_elim (λ f. absurd (omega (arith, f.0))) (⊎_elim (λ f. absurd (omega (arith, f.0))) (λ f. no_earlier place elsewhere first f.1)) fails;
+    fails = (
+      record {
+        parts = parts;
+        covers = covers;
+        before = first.before;
+        part = first.part;
+        after = first.after;
+        stands = first.stands;
+        left_out = first.left_out;
+        at = first.at;
+      },
+      refl,
+    );
+    least_rule = least;
+    least_places = λ elsewhere further f. no_earlier place elsewhere further first f.0;
   }
+    where
+      least : (other : Rule) (elsewhere : Place) (further : List Place) → Fails text other elsewhere further → 3 ≤ number_of other
+      least rule.Size elsewhere further f = absurd (no_size text short elsewhere f.0)
+      least rule.Lex elsewhere further f = absurd (no_lex text parts covers elsewhere f.0)
+      least rule.Profile elsewhere further f = omega arith
+      least _ elsewhere further f = absurd f
 
   pub passes : NoneLeftOut text (without_between parts) → Passes text
-  passes none rule place fails = ⊎_elim
-      (λ f. no_size text short place f.1)
-      (⊎_elim (λ f. no_lex text parts covers place f.1) (λ f. none f.1.before f.1.part f.1.after (same_tokens place f.1) f.1.left_out))
-      fails
+  passes none rule.Size place also f = no_size text short place f.0
+  passes none rule.Lex place also f = no_lex text parts covers place f.0
+  passes none rule.Profile place also f = none f.0.before f.0.part f.0.after (same_tokens place f.0) f.0.left_out
+  passes none _ place also f = f
 
 -- a part that isn't white space or a comment stands among the tokens
 stands_in : (parts : List Part) (k : ℕ) (d : Part) → k < length parts → is_between (get_or parts k d).form ≡ false → (before : List Part) × ((after : List Part) × (without_between parts ≡ before ++ get_or parts k d ∷ after))
@@ -228,18 +277,6 @@ pub each_has_a_kind : (text : List ℕ) (parts : List Part) → NoneLeftOut text
 each_has_a_kind text parts none k d inside is =
     let h = stands_in parts k d inside (ap is_between is) in
     none h.0 (get_or parts k d) h.1.0 h.1.1 (left_outside is)
-
-pub one_failure : (text : List ℕ) (rule other : ℕ) (place elsewhere : Place) → FailsFirst text rule place → FailsFirst text other elsewhere → (rule ≡ other) × (place ≡ elsewhere)
-one_failure text rule other place elsewhere a b =
-    let less = a.least_rule other elsewhere b.fails in
-    let more = b.least_rule rule place a.fails in
-    let rules : rule ≡ other = omega arith in
-    let before = a.least_place elsewhere (subst (λ (n : ℕ). Fails text n elsewhere) (sym rules) b.fails) in
-    let after = b.least_place place (subst (λ (n : ℕ). Fails text n place) rules a.fails) in
-    (rules, same_place place elsewhere before after)
-  where
-    same_place : (p q : Place) → IsNoLater p q → IsNoLater q p → p ≡ q
-    same_place p q before after = let start : p.start ≡ q.start = omega arith in let end : p.end ≡ q.end = omega arith in λ i. record { start = start i; end = end i }
 
 -- tokens that stand one after the other in a text of this length
 ArePlaced : ℕ → ℕ → List Token → Type 0

@@ -5,7 +5,6 @@
 #![tactic(auto)]
 
 pub mod laws;
-pub mod mentions;
 mod surface;
 mod writes;
 

@@ -1,7 +1,8 @@
 use Rattle.std.proofs.Common.{◌≡◌, ◌++◌, IfOk, ap, sym, ◌∙◌, subst, drop, map}
 use Rattle.bl_conflict.proofs.ConflictLemmas.{arm_out, behind_is, branch_out, branch_step, front_is, grown_is, if_is, rest_is, still_within}
-use Rattle.bl_conflict.proofs.FirstLemmas.{clash-next, more-next, next_of}
-use Rattle.bl_conflict.specs.Failures.{all_clashes, itself, least_by, parallel_of_arm, parallel_of_branch}
+use Rattle.bl_conflict.proofs.FirstLemmas.{next_of, more-next, clash-next}
+use Rattle.bl_tree.specs.Rules.{first_of}
+use Rattle.bl_conflict.specs.Failures.{all_clashes, parallel_of_arm, parallel_of_branch}
 use Rattle.bl_conflict.proofs.RootLemmas.{known_both}
 use Rattle.bl_conflict.specs.Roots.{Knows}
 use Rattle.bl_effects.specs.Rules.{parallel_of, together}
@@ -21,7 +22,7 @@ arms-loop-arm-preserved t c =
     let step = ap (map parallel_of_arm) (next_of c.args.all.now c.loop-arm.arm-index arm c.loop-arm-test.true c.arm-item.is) in
     let body = ap (λ body. together (map parallel_of body)) c.deref.ensures ∙ sym (arm_out arm) in
     let writes = c.in_ok-best.ensures.writes ∙ ap (λ p. c.loop-arm.writes ++ p.writes) body in
-    let best = c.in_ok-best.ensures.best ∙ ap (λ p. least_by itself c.loop-arm.best (all_clashes c.args.vars.now p.splits)) body in (
+    let best = c.in_ok-best.ensures.best ∙ ap (λ p. first_of c.loop-arm.best (all_clashes c.args.vars.now p.splits)) body in (
       rw writes (more-next (λ p. p.writes) _ _ (parallel_of_arm arm) c.loop-arm.writes _ step c.loop-arm.invariant.0),
       rw best (clash-next c.args.vars.now _ _ (parallel_of_arm arm) c.loop-arm.best _ step c.loop-arm.invariant.1),
     )
@@ -43,8 +44,8 @@ branches-loop-branch-preserved t c =
     let step = ap (map parallel_of_branch) (next_of c.args.all.now c.loop-branch.branch-index branch c.loop-branch-test.true c.branch-item.is) in
     let body = ap (λ body. together (map parallel_of body)) c.deref.ensures ∙ sym (branch_out branch) in
     let writes : c.block.new.writes ≡ c.loop-branch.writes ++ x.writes = c.in_ok-best.ensures.writes ∙ ap (λ p. c.loop-branch.writes ++ p.writes) body in
-    let best : c.in_ok-best.best ≡ least_by itself c.loop-branch.best (all_clashes c.args.vars.now x.splits) =
-    c.in_ok-best.ensures.best ∙ ap (λ p. least_by itself c.loop-branch.best (all_clashes c.args.vars.now p.splits)) body in
+    let best : c.in_ok-best.best ≡ first_of c.loop-branch.best (all_clashes c.args.vars.now x.splits) =
+    c.in_ok-best.ensures.best ∙ ap (λ p. first_of c.loop-branch.best (all_clashes c.args.vars.now p.splits)) body in
     let known = known_both c.note.new.roots (drop c.len-start.result c.loop-branch.writes) x.writes
     (c.in_ok-note.ensures.keeps (drop c.len-start.result c.loop-branch.writes) c.loop-branch.invariant.1.1.1)
     (subst (Knows c.note.new.roots)
@@ -64,6 +65,6 @@ branches-loop-branch-preserved t c =
 
 pub statement-returns-in_ok-best-in-If-clause-best : goal.statement-returns-in_ok-best-in-If-clause-best
 statement-returns-in_ok-best-in-If-clause-best t c =
-    let first = ap (λ best. least_by itself best (all_clashes c.args.vars.now (together (map parallel_of c.deref-in-If-2.result.now)).splits)) c.in_ok-best-in-If.ensures.best in
+    let first = ap (λ best. first_of best (all_clashes c.args.vars.now (together (map parallel_of c.deref-in-If-2.result.now)).splits)) c.in_ok-best-in-If.ensures.best in
     subst (λ x. IfOk c.block.result (λ found. found ≡ x))
     (first ∙ if_is c.args.vars.now c.args.s.now c.args.best c.deref-in-If.result.now c.in-If.all c.deref-in-If-2.result.now c.in-If.other c.in-If.is c.deref-in-If.ensures c.deref-in-If-2.ensures) c.block.ensures.best
