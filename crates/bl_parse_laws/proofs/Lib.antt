@@ -19,7 +19,6 @@ pub mod Counts
 pub mod Level
 pub mod Rising
 pub mod InOrder
-pub mod Declared
 pub mod Runs
 pub mod Nested
 pub mod Keeps

@@ -11,14 +11,11 @@ ghost use Rattle.bl_raw.specs.Keeps.{Keeps};
 ghost use Rattle.bl_raw.specs.Names.{item_stands};
 ghost use Rattle.bl_raw.specs.Starts.{all_starts, ascends};
 ghost use Rattle.bl_parse.specs.Programs.{Spells};
-ghost use Rattle.bl_parse_laws.specs.ItemOrder.{NamesAscend};
 
 /// What a raw tree keeps that the tokens of a text spell: names and order follow from the tokens being those of the text, depth from rule Depth.
-/// The names that its items declare, and behind that of a unit those of the constants in it, begin one after another too.
 pub fn what_is_spelled_keeps()
     ensures stand { (text : List ℕ) (tokens : List Token) (raw : Raw) → Lexes text tokens → Spells text tokens raw → IsTrue (list_all item_stands raw.items) }
     ensures shallow { (text : List ℕ) (tokens : List Token) (raw : Raw) → PassesDepth tokens → Spells text tokens raw → IsTrue (list_all item_shallow raw.items) }
     ensures in_order { (text : List ℕ) (tokens : List Token) (raw : Raw) → Lexes text tokens → Spells text tokens raw → IsTrue (ascends (all_starts raw.items)) }
-    ensures names_ascend { (text : List ℕ) (tokens : List Token) (raw : Raw) → Lexes text tokens → Spells text tokens raw → NamesAscend raw.items }
     ensures keeps { (text : List ℕ) (tokens : List Token) (raw : Raw) → Lexes text tokens → PassesDepth tokens → Spells text tokens raw → Keeps raw.items }
 {}

@@ -1,9 +1,10 @@
+//! The rules on names and types, judged in their order, and the typed program of a tree that passes.
+
 ghost use Rattle.std.specs.Prelude.{◌≡◌, IfErr, IfOk, OnOk};
 ghost use Rattle.bl_scopes.specs.Rules.{Passes as NamesPass};
 ghost use Rattle.bl_program.specs.Cause.{IsCause};
 ghost use Rattle.bl_program.specs.Programs.{IsProgramOf, named_of};
 ghost use Rattle.bl_raw.specs.Keeps.{Keeps as RawKeeps};
-ghost use Rattle.bl_parse_laws.specs.ItemOrder.{NamesAscend};
 ghost use Rattle.bl_tree.specs.Program.{Keeps};
 ghost use Rattle.bl_types.specs.Rules.{Passes as TypesPass};
 
@@ -14,10 +15,9 @@ use bl_types_laws::kept::what_is_typed_keeps;
 use std::alloc::Global;
 
 /// Judges the rules on names, and where none of them fails those on types, and makes the typed program of a tree that
-/// passes. The tree is one that a text spells: it keeps what such trees keep, and its names stand in the order of its items.
+/// passes. The tree is one that a text spells: it keeps what such trees keep.
 pub fn check(alloc: Global, raw: &Raw) -> Result<Program, Refusal>
     requires keeps { RawKeeps raw.now.items }
-    requires in_order { NamesAscend raw.now.items }
     ensures names { OnOk result (NamesPass raw.now.items) }
     ensures types { OnOk result (TypesPass (named_of raw.now)) }
     ensures typed { IfOk result (λ program. IsProgramOf raw.now program) }

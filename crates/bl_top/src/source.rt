@@ -6,7 +6,6 @@ ghost use Rattle.bl_io.specs.Count.{NeverFell};
 ghost use Rattle.bl_scopes.specs.Rules.{Passes as NamesPass};
 ghost use Rattle.bl_program.specs.Programs.{IsProgramOf, named_of, typed_of};
 ghost use Rattle.bl_raw.specs.Keeps.{Keeps as RawKeeps};
-ghost use Rattle.bl_parse_laws.specs.ItemOrder.{NamesAscend};
 ghost use Rattle.bl_top.specs.Notes.{line_in};
 ghost use Rattle.bl_top.specs.Reads.{LeftBehind, ReadsOne, source_limit};
 ghost use Rattle.bl_top.specs.Refusals.{IsRefusalOf, IsRefusedBy, IsTreeRefusalOf, Stops};
@@ -74,7 +73,6 @@ fn judged(alloc: Global, source: &[u8]) -> Result<Program, Refusal>
 /// Judges the rules on names, types and units of the tree of a source, and makes its program.
 fn judge_tree(alloc: Global, raw: &Raw) -> Result<Program, Refusal>
     requires keeps { RawKeeps raw.now.items }
-    requires in_order { NamesAscend raw.now.items }
     ensures names { OnOk result (NamesPass raw.now.items) }
     ensures types { OnOk result (TypesPass (named_of raw.now)) }
     ensures units { OnOk result (UnitsPass (typed_of raw.now).units) }

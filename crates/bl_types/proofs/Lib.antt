@@ -1,11 +1,9 @@
 pub mod CallLemmas
 pub mod CauseLemmas
 pub mod GatherLemmas
-pub mod ItemLemmas
 pub mod JudgedLemmas
 pub mod LastLemmas
 pub mod NoteLemmas
-pub mod OrderLemmas
 pub mod SettleLemmas
 pub mod StateLemmas
 pub mod StrayLemmas

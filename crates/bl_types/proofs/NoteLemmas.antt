@@ -1,12 +1,13 @@
 -- What is remembered of failures after some and then others.
 use Rattle.std.proofs.Common.{◌≡◌, map, List, [], ◌∷◌, ◌++◌, Option, refl, sym, ap, ◌∙◌}
 use Rattle.std.specs.Prelude.{Result, Ok, Err, OnOk}
+use Rattle.bl_tree.specs.declared.rule.Failure.{Failure}
 use Rattle.bl_tree.specs.Reduce.{joined}
-use Rattle.bl_types.specs.declared.failure.Failure.{Failure}
 use Rattle.bl_types.specs.declared.failure.Notes.{Notes}
-use Rattle.bl_types.specs.Failures.{first_of_all, lesser, noted}
+use Rattle.bl_tree.specs.Rules.{first_of, lesser}
+use Rattle.bl_types.specs.Failures.{noted}
 
-first-append : (first : Option Failure) (xs ys : List Failure) → first_of_all first (xs ++ ys) ≡ first_of_all (first_of_all first xs) ys
+first-append : (first : Option Failure) (xs ys : List Failure) → first_of first (xs ++ ys) ≡ first_of (first_of first xs) ys
 first-append first [] ys = refl
 first-append first (x ∷ xs) ys = first-append (lesser first x) xs ys
 

@@ -1,8 +1,8 @@
 -- What is known after one part of a program and then another.
 use Rattle.std.proofs.Common.{◌≡◌, List, ◌++◌, sym, ap, ◌∙◌}
+use Rattle.bl_tree.specs.declared.rule.Failure.{Failure}
 use Rattle.bl_types.specs.declared.environment.Environment.{Environment}
 use Rattle.bl_types.specs.declared.environment.State.{State}
-use Rattle.bl_types.specs.declared.failure.Failure.{Failure}
 use Rattle.bl_types.specs.Declarations.{Declaring, and_then}
 use Rattle.bl_types.specs.States.{after, passed}
 use Rattle.bl_types.proofs.NoteLemmas.{noted-append}

@@ -1,6 +1,8 @@
 -- What declarations give: initial values, constants, structs and parameters.
 use Rattle.std.specs.Prelude.{Bool, true, false, is_some, List, [], ◌∷◌, ◌++◌, map, Option, Some, None, option_map, option_and_then, if◌then◌else◌}
 use Rattle.bl_tree.specs.declared.place.Place.{Place}
+use Rattle.bl_tree.specs.declared.rule.Failure.{Failure}
+use Rattle.bl_tree.specs.declared.rule.Rule.TheVariants as rule
 use Rattle.bl_tree.specs.declared.tree.Expr.{Expr}
 use Rattle.bl_tree.specs.declared.tree.Field.{Field}
 use Rattle.bl_tree.specs.declared.tree.Role.{Role}
@@ -17,7 +19,6 @@ use Rattle.bl_named.specs.declared.item.NamedVar.{NamedVar}
 use Rattle.bl_named.specs.declared.types.NamedType.{NamedType}
 use Rattle.bl_types.specs.declared.environment.Constant.{Constant}
 use Rattle.bl_types.specs.declared.environment.Environment.{Environment}
-use Rattle.bl_types.specs.declared.failure.Failure.{Failure}
 use Rattle.bl_types.specs.declared.form.Form.{Form}
 use Rattle.bl_types.specs.declared.form.Form.TheVariants.{Of}
 use Rattle.bl_types.specs.declared.form.Valued.{Valued}
@@ -62,7 +63,7 @@ initial env None e = closed_initial (judged env e).failures (closed_form (judged
 
 -- Type: a constant isn't scalar; at its name
 abbrev pub not_scalar : Place → Option Ty → List Failure
-not_scalar at (Some ty) = unless (is_some (scalar_in ty)) 9 at
+not_scalar at (Some ty) = unless (is_some (scalar_in ty)) rule.Type at
 not_scalar at None = []
 
 abbrev pub not_folded : Place → Option Expr → List Failure

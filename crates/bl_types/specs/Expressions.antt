@@ -2,6 +2,8 @@
 use Rattle.std.specs.Prelude.{ℕ, ℤ, pos, neg_ℤ, ◌+◌, min, ◌^◌, Bool, true, false, ◌&&◌, nat_eq, is_some, List, [], ◌∷◌, ◌++◌, map, length, slice_get, bytes_eq, filter_map, Option, Some, None, option_map, option_and_then, if◌then◌else◌}
 use Rattle.std.specs.List.{cons_option}
 use Rattle.bl_tree.specs.declared.place.Place.{Place}
+use Rattle.bl_tree.specs.declared.rule.Failure.{Failure}
+use Rattle.bl_tree.specs.declared.rule.Rule.TheVariants as rule
 use Rattle.bl_tree.specs.declared.scalar.Op.{Op}
 use Rattle.bl_tree.specs.declared.scalar.Scalar.{Scalar as ScalarType}
 use Rattle.bl_tree.specs.declared.scalar.Scalar.TheVariants.{Bool as OfBool}
@@ -33,7 +35,6 @@ use Rattle.bl_named.specs.declared.expr.Root.TheVariants as root
 use Rattle.bl_types.specs.declared.environment.Constant.{Constant}
 use Rattle.bl_types.specs.declared.environment.Environment.{Environment}
 use Rattle.bl_types.specs.declared.environment.Variable.{Variable}
-use Rattle.bl_types.specs.declared.failure.Failure.{Failure}
 use Rattle.bl_types.specs.declared.form.Form.{Form}
 use Rattle.bl_types.specs.declared.form.Form.TheVariants.{Failing, Open, Of}
 use Rattle.bl_types.specs.declared.form.Found.{Found}
@@ -57,7 +58,7 @@ failing = record { form = Failing; failures = [] }
 
 -- Type: the form at this place fails
 abbrev pub fails_type : Place → Formed
-fails_type at = record { form = Failing; failures = fails_at 9 at }
+fails_type at = record { form = Failing; failures = fails_at rule.Type at }
 
 abbrev pub has_type : Ty → Expr → Formed
 has_type ty e = record { form = Of ty e; failures = [] }
@@ -174,7 +175,7 @@ abbrev pub previous_fits : UnitKind → Role → Ty → Bool
 previous_fits kind role ty = is_activity kind && (is_variable role && is_some (scalar_in ty))
 
 abbrev pub previous_typed : UnitKind → Place → ℕ → Role → Option Ty → Formed
-previous_typed kind at k role (Some ty) = record { form = Of ty (previous at k); failures = unless (previous_fits kind role ty) 14 at }
+previous_typed kind at k role (Some ty) = record { form = Of ty (previous at k); failures = unless (previous_fits kind role ty) rule.Prev at }
 previous_typed kind at k role None = failing
 
 abbrev pub previous_formed : UnitKind → Place → ℕ → Option Variable → Formed
@@ -209,7 +210,7 @@ lost failures = record { ty = None; part = None; failures = failures }
 
 abbrev pub field_found : Place → Option FieldAt → Stepped
 field_found at (Some field) = record { ty = Some field.ty; part = Some (part.Field field.position); failures = [] }
-field_found at None = lost (fails_at 9 at)
+field_found at None = lost (fails_at rule.Type at)
 
 -- a step to a field: it fails at the field's name where what is reached has no such field
 abbrev pub to_field : List StructDef → Name → Option Ty → Stepped
@@ -232,7 +233,7 @@ index_made element index = record { ty = option_map (λ e. element) index.made; 
 -- it fails at the index where what is reached is no array
 abbrev pub element_found : Option Ty → Place → Form → Stepped
 element_found (Some element) at index = index_made element (as_index at index)
-element_found None at index = lost (fails_at 9 at)
+element_found None at index = lost (fails_at rule.Type at)
 
 -- a step to an element, behind the form of its index
 abbrev pub to_element : Place → Form → Option Ty → Stepped
@@ -331,11 +332,11 @@ params_of None = []
 
 -- Arity: a unit has another number of inputs or outputs; at the call's name
 abbrev pub miscounted : Place → ℕ → ℕ → UnitDef → List Failure
-miscounted at inputs outputs callee = unless (nat_eq inputs callee.inputs && nat_eq outputs callee.outputs) 13 at
+miscounted at inputs outputs callee = unless (nat_eq inputs callee.inputs && nat_eq outputs callee.outputs) rule.Arity at
 
 -- a call in an expression has no outputs; Return: it names a function without a result
 abbrev pub misnamed : Place → ℕ → Option UnitDef → List Failure
-misnamed at inputs (Some callee) = miscounted at inputs 0 callee ++ unless (is_some callee.result) 15 at
+misnamed at inputs (Some callee) = miscounted at inputs 0 callee ++ unless (is_some callee.result) rule.Return at
 misnamed at inputs None = []
 
 abbrev pub call : Place → ℕ → List Expr → Expr

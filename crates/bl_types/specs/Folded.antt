@@ -1,11 +1,12 @@
 -- The numbers that constants stand for.
 use Rattle.std.specs.Prelude.{ℤ, pos, Bool, true, false, ◌&&◌, List, [], Option, Some, None, if◌then◌else◌}
 use Rattle.bl_tree.specs.declared.place.Place.{Place}
+use Rattle.bl_tree.specs.declared.rule.Failure.{Failure}
+use Rattle.bl_tree.specs.declared.rule.Rule.TheVariants as rule
 use Rattle.bl_tree.specs.declared.tree.Expr.{Expr, fold-Expr}
 use Rattle.bl_tree.specs.declared.tree.ExprKind.TheOpen.{ExprKind-F, Part-F, Path-F, Expr-F}
 use Rattle.bl_eval.specs.declared.datum.Operand.{Operand}
 use Rattle.bl_eval.specs.Meaning.{Scope, View, meaning_of, operand}
-use Rattle.bl_types.specs.declared.failure.Failure.{Failure}
 use Rattle.bl_types.specs.declared.fold.Number.{Number}
 use Rattle.bl_types.specs.Failures.{fails_at}
 
@@ -55,4 +56,4 @@ number_or_zero None = pos 0
 -- Constant: a constant's value is not made of literals, constants, operators and casts alone, or traps
 abbrev pub not_constant : Place → Option Operand → List Failure
 not_constant at (Some a) = []
-not_constant at None = fails_at 12 at
+not_constant at None = fails_at rule.Constant at

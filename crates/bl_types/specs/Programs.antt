@@ -1,17 +1,15 @@
 -- Programs with their types, and all that fails in them.
-use Rattle.std.specs.Prelude.{ℕ, zero, suc, ◌+◌, Bool, true, false, ◌&&◌, List, [], ◌++◌, length, slice_get, Option, Some, None, option_map, if◌then◌else◌}
+use Rattle.std.specs.Prelude.{false, List, [], ◌∷◌, ◌++◌, length, slice_get, Option, Some, None}
 use Rattle.bl_tree.specs.declared.place.Place.{Place}
+use Rattle.bl_tree.specs.declared.rule.Failure.{Failure}
 use Rattle.bl_tree.specs.declared.tree.UnitKind.TheVariants.{Function}
-use Rattle.bl_named.specs.declared.item.NamedConstant.{NamedConstant}
-use Rattle.bl_named.specs.declared.item.NamedStruct.{NamedStruct}
-use Rattle.bl_named.specs.declared.item.NamedUnit.{NamedUnit}
+use Rattle.bl_named.specs.declared.item.Item.{Item}
+use Rattle.bl_named.specs.declared.item.Item.TheVariants as item
 use Rattle.bl_named.specs.declared.named.Named.{Named}
 use Rattle.bl_types.specs.declared.environment.Environment.{Environment}
 use Rattle.bl_types.specs.declared.environment.State.{State}
 use Rattle.bl_types.specs.declared.environment.Typed.{Typed}
-use Rattle.bl_types.specs.declared.failure.Failure.{Failure}
 use Rattle.bl_types.specs.Declarations.{Declaring, after_constant, after_struct, and_then, unchanged}
-use Rattle.bl_types.specs.Failures.{is_before}
 use Rattle.bl_types.specs.Units.{after_unit, entries, entry_among}
 
 -- what is known before a program
@@ -22,56 +20,32 @@ fresh = record { structs = []; constants = []; units = []; vars = []; kind = Fun
 abbrev pub start : State
 start = record { env = fresh; notes = record { first = None } }
 
--- ---- the items of a program in source order: of the next struct, constant and unit that one whose name stands first. The
--- constants in the body of a unit are among those of the program, and are over with the unit
+-- ---- the items of a program in source order. The constants in the body of a unit are among those of the program, and are over
+-- with the unit
 
-abbrev pub place_of_constant : Option NamedConstant → Option Place
-place_of_constant constant = option_map (λ constant. constant.name.place) constant
+-- after the next of a kind, where there is one
+abbrev pub after_next : {A : Type 0} → (A → Environment → Declaring) → Option A → Environment → Declaring
+after_next after (Some it) env = after it env
+after_next after None env = unchanged env
 
-abbrev pub place_of_unit : Option NamedUnit → Option Place
-place_of_unit unit = option_map (λ unit. unit.name.place) unit
+-- after an item of the program: its next struct, constant or unit
+abbrev pub after_item : Named → Item → Environment → Declaring
+after_item named item.Struct env = after_next after_struct (slice_get named.structs (length env.structs)) env
+after_item named item.Constant env = after_next after_constant (slice_get named.constants (length env.constants)) env
+after_item named item.Unit env = after_next (after_unit named.constants) (slice_get named.units (length env.units)) env
 
--- whether the place comes before the other, where there is one
-abbrev pub comes_first : Place → Option Place → Bool
-comes_first at (Some other) = is_before at other
-comes_first at None = true
+-- after these items, one after another
+abbrev pub after_items : Named → List Item → Environment → Declaring
+after_items named [] env = unchanged env
+after_items named (item ∷ rest) env = and_then (after_item named item env) (after_items named rest)
 
-abbrev pub after_next_unit : List NamedConstant → Option NamedUnit → Environment → Declaring
-after_next_unit constants (Some unit) env = after_unit constants unit env
-after_next_unit constants None env = unchanged env
-
-abbrev pub after_next_constant : List NamedConstant → Option NamedConstant → Option NamedUnit → Environment → Declaring
-after_next_constant constants (Some constant) unit env =
-    if comes_first constant.name.place (place_of_unit unit) then after_constant constant env else after_next_unit constants unit env
-after_next_constant constants None unit env = after_next_unit constants unit env
-
-abbrev pub after_next_struct : List NamedConstant → Option NamedStruct → Option NamedConstant → Option NamedUnit → Environment → Declaring
-after_next_struct constants (Some def) constant unit env =
-    if comes_first def.name.place (place_of_constant constant) && comes_first def.name.place (place_of_unit unit)
-    then after_struct def env else after_next_constant constants constant unit env
-after_next_struct constants None constant unit env = after_next_constant constants constant unit env
-
--- after the next item of the program
-abbrev pub after_item : Named → Environment → Declaring
-after_item named env =
-    after_next_struct named.constants (slice_get named.structs (length env.structs)) (slice_get named.constants (length env.constants))
-    (slice_get named.units (length env.units)) env
-
--- after so many items
-abbrev pub after_items : ℕ → Named → Environment → Declaring
-after_items zero named env = unchanged env
-after_items (suc n) named env = and_then (after_item named env) (after_items n named)
-
--- no program has more items
-abbrev pub item_count : Named → ℕ
-item_count named = length named.structs + (length named.constants + length named.units)
-
+-- the place of what is missing
 abbrev pub text_end : Named → Place
 text_end named = record { start = named.bytes; end = named.bytes }
 
 -- after the whole program
 abbrev pub after_program : Named → Declaring
-after_program named = after_items (item_count named) named fresh
+after_program named = after_items named named.order fresh
 
 -- all that fails in a program
 abbrev pub failures_of : Named → List Failure

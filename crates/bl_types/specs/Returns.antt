@@ -1,6 +1,8 @@
 -- Where a unit's `return` may stand, as it is written: a constant of a block is a statement here.
 use Rattle.std.specs.Prelude.{Bool, true, false, ◌&&◌, ◌||◌, is_none, nat_eq, List, [], ◌∷◌, ◌++◌, map, if◌then◌else◌}
 use Rattle.bl_tree.specs.declared.place.Place.{Place}
+use Rattle.bl_tree.specs.declared.rule.Failure.{Failure}
+use Rattle.bl_tree.specs.declared.rule.Rule.TheVariants as rule
 use Rattle.bl_tree.specs.Reduce.{all_of, joined}
 use Rattle.bl_tree.specs.Returns.{last_of}
 use Rattle.bl_tree.specs.Typing.{is_activity, is_inhabited}
@@ -10,7 +12,6 @@ use Rattle.bl_named.specs.declared.stmt.NamedBranch.{NamedBranch, fold-NamedBran
 use Rattle.bl_named.specs.declared.stmt.NamedStmt.{NamedStmt, fold-NamedStmt, out-NamedStmt}
 use Rattle.bl_named.specs.declared.stmt.NamedStmtKind.{out-NamedStmtKind}
 use Rattle.bl_named.specs.declared.stmt.NamedStmtKind.TheOpen.{NamedStmtKind-F, NamedArm-F, NamedBranch-F, NamedStmt-F}
-use Rattle.bl_types.specs.declared.failure.Failure.{Failure}
 use Rattle.bl_types.specs.Failures.{fails_at, unless}
 
 -- ---- whether a block surely returns: its last statement is a `return`, or an `if` with an `else` all of whose arms surely return
@@ -39,7 +40,7 @@ arm_surely_returns = fold-NamedArm Bool Bool Bool Bool kind_returns arm_returns 
 -- ---- each `return` in a part of a body, where none may stand; at the `return`
 
 abbrev pub kind_strays : NamedStmtKind-F (Place → List Failure) (List Failure) (List Failure) (List Failure) → Place → List Failure
-kind_strays (NamedStmtKind-F.Return e) at = fails_at 15 at
+kind_strays (NamedStmtKind-F.Return e) at = fails_at rule.Return at
 kind_strays (NamedStmtKind-F.If arms other) at = joined arms ++ joined other
 kind_strays (NamedStmtKind-F.Cobegin branches) at = joined branches
 kind_strays (NamedStmtKind-F.When guard e body) at = joined body
@@ -98,5 +99,5 @@ activity_returns unit = is_none unit.result || last_of (map is_return unit.body)
 abbrev pub return_failures : NamedUnit → List Failure
 return_failures unit =
     if is_activity unit.kind
-    then unless (activity_returns unit) 15 unit.name.place ++ strays unit.body
-    else unless (function_returns unit) 15 unit.name.place
+    then unless (activity_returns unit) rule.Return unit.name.place ++ strays unit.body
+    else unless (function_returns unit) rule.Return unit.name.place

@@ -1,6 +1,8 @@
 -- Open expressions: those that are made of numbers alone, and take the type that is wanted of them.
 use Rattle.std.specs.Prelude.{ℤ, Bool, true, false, List, [], ◌++◌, Option, Some, None, if◌then◌else◌}
 use Rattle.bl_tree.specs.declared.place.Place.{Place}
+use Rattle.bl_tree.specs.declared.rule.Failure.{Failure}
+use Rattle.bl_tree.specs.declared.rule.Rule.TheVariants as rule
 use Rattle.bl_tree.specs.declared.scalar.Op.{Op}
 use Rattle.bl_tree.specs.declared.scalar.Op.TheVariants.{Add, Sub, Mul, Div, Rem, BitAnd, BitOr, BitXor, Shl, Shr, Minus, BitNot, And, Or, Not}
 use Rattle.bl_tree.specs.declared.scalar.Scalar.{Scalar as ScalarType}
@@ -13,7 +15,6 @@ use Rattle.bl_tree.specs.declared.tree.Ty.{Ty}
 use Rattle.bl_tree.specs.Numbers.{takes_one, takes_two}
 use Rattle.bl_tree.specs.Scalar.{in_range, is_whole}
 use Rattle.bl_tree.specs.Types.{scalar_in}
-use Rattle.bl_types.specs.declared.failure.Failure.{Failure}
 use Rattle.bl_types.specs.Failures.{fails_at, unless}
 
 -- what an operator of two open operands gives is open: arithmetic, bits and shifts
@@ -71,7 +72,7 @@ nothing = record { made = None; failures = [] }
 
 -- Type: an expression at this place doesn't fit
 abbrev pub unfit : Place → Settled
-unfit at = record { made = None; failures = fails_at 9 at }
+unfit at = record { made = None; failures = fails_at rule.Type at }
 
 -- ---- an open expression as one of a type
 
@@ -90,7 +91,7 @@ behind earlier settled = record { made = settled.made; failures = earlier ++ set
 -- at a place, an operator fails rule Type where the type doesn't have it and its operands have the type, and a number fails
 -- rule Literal where it isn't one of the type
 abbrev pub settled_kind : ScalarType → ExprKind-F (Place → Settled) (Unit {0}) Settled (Unit {0}) → Place → Settled
-settled_kind s (ExprKind-F.Literal n t) at = record { made = Some (literal at n s); failures = unless (in_range s n) 10 at }
+settled_kind s (ExprKind-F.Literal n t) at = record { made = Some (literal at n s); failures = unless (in_range s n) rule.Literal at }
 settled_kind s (ExprKind-F.One op a) at = behind a.failures (one_made s at op a.made)
 settled_kind s (ExprKind-F.Two op a b) at = behind a.failures (behind b.failures (two_made s at op a.made b.made))
 settled_kind s _ at = nothing

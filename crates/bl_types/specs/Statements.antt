@@ -1,6 +1,9 @@
 -- Statements with their types, and what fails in them.
 use Rattle.std.specs.Prelude.{ℕ, Bool, ◌&&◌, nat_eq, is_none, is_some, List, [], ◌∷◌, ◌++◌, map, length, slice_get, filter_map, Option, Some, None, option_map, option_and_then, if◌then◌else◌}
 use Rattle.bl_tree.specs.declared.place.Place.{Place}
+use Rattle.bl_tree.specs.declared.rule.Failure.{Failure}
+use Rattle.bl_tree.specs.declared.rule.Further.TheVariants.{One}
+use Rattle.bl_tree.specs.declared.rule.Rule.TheVariants as rule
 use Rattle.bl_tree.specs.declared.scalar.Scalar.{Scalar as ScalarType}
 use Rattle.bl_tree.specs.declared.scalar.Scalar.TheVariants.{Bool as OfBool}
 use Rattle.bl_tree.specs.declared.tree.Arm.{Arm, roll-Arm}
@@ -31,7 +34,6 @@ use Rattle.bl_named.specs.declared.stmt.NamedStmtKind.{fold-NamedStmtKind}
 use Rattle.bl_named.specs.declared.stmt.NamedStmtKind.TheOpen.{NamedStmtKind-F, NamedArm-F, NamedBranch-F, NamedStmt-F}
 use Rattle.bl_types.specs.declared.environment.Environment.{Environment}
 use Rattle.bl_types.specs.declared.environment.Variable.{Variable}
-use Rattle.bl_types.specs.declared.failure.Failure.{Failure}
 use Rattle.bl_types.specs.declared.form.Found.{Found}
 use Rattle.bl_types.specs.declared.form.Found.TheVariants as found
 use Rattle.bl_types.specs.Declarations.{Declaring, Initial, after_constant, after_variable, initial, unchanged, with_variable}
@@ -68,7 +70,7 @@ walked env made failures = record { env = env; made = made; failures = failures 
 
 -- Where: the statement at this place stands in a function
 abbrev pub misplaced : UnitKind → Place → List Failure
-misplaced kind at = unless (is_activity kind) 16 at
+misplaced kind at = unless (is_activity kind) rule.Where at
 
 -- a condition, which is bool
 abbrev pub condition : Environment → NamedExpr → Settled
@@ -76,7 +78,7 @@ condition env e = in_context (Some (scalar OfBool)) (judged env e)
 
 -- Immutable: the root of a target is neither a `var` nor an output; at the target, also its declaration
 abbrev pub immutable_variable : Place → Option Variable → List Failure
-immutable_variable at (Some var) = if may_change var.role then [] else record { rule = 11; at = at; also = var.place } ∷ []
+immutable_variable at (Some var) = if may_change var.role then [] else record { rule = rule.Immutable; at = at; further = One var.place } ∷ []
 immutable_variable at None = []
 
 abbrev pub immutable : Environment → Place → Root → List Failure
@@ -99,7 +101,7 @@ pub record Lent : Type 0 where
   pub failures : List Failure
 
 abbrev pub lent_as : Option Ty → Place → Found → Lent
-lent_as (Some wanted) at (found.Place path) = if same_type wanted (out-Path path).ty then record { made = Some path; failures = [] } else record { made = None; failures = fails_at 9 at }
+lent_as (Some wanted) at (found.Place path) = if same_type wanted (out-Path path).ty then record { made = Some path; failures = [] } else record { made = None; failures = fails_at rule.Type at }
 lent_as None at (found.Place path) = record { made = Some path; failures = [] }
 lent_as wanted at _ = record { made = None; failures = [] }
 
@@ -155,7 +157,7 @@ arguments env at f inputs outputs =
 
 -- Return: a call statement names a function with a result
 abbrev pub has_result : Place → Option UnitDef → List Failure
-has_result at (Some callee) = unless (is_none callee.result) 15 at
+has_result at (Some callee) = unless (is_none callee.result) rule.Return at
 has_result at None = []
 
 abbrev pub if_complete : Arguments → (List Expr → List Path → StmtKind) → Option StmtKind
@@ -174,7 +176,7 @@ result_type callee = option_and_then (λ unit. option_map scalar unit.result) ca
 
 -- Return: the activity of a run with a target has no result; at the target
 abbrev pub no_result : Place → Option UnitDef → List Failure
-no_result at (Some callee) = unless (is_some callee.result) 15 at
+no_result at (Some callee) = unless (is_some callee.result) rule.Return at
 no_result at None = []
 
 abbrev pub run_target : Environment → Option UnitDef → Option NamedPath → RunTarget
@@ -225,8 +227,8 @@ assign target leads e env =
 -- Return: an expression stands where the unit has no result, or none where it has one; at the statement
 abbrev pub returned : Place → Option NamedExpr → Option ScalarType → Environment → Walked StmtKind
 returned at (Some e) (Some s) env = let value : Settled = in_context (Some (scalar s)) (judged env e) in walked env (option_map (λ e. what.Return (Some e)) value.made) value.failures
-returned at (Some e) None env = let value : Settled = in_context None (judged env e) in walked env (option_map (λ e. what.Return (Some e)) value.made) (value.failures ++ fails_at 15 at)
-returned at None (Some s) env = walked env (Some (what.Return None)) (fails_at 15 at)
+returned at (Some e) None env = let value : Settled = in_context None (judged env e) in walked env (option_map (λ e. what.Return (Some e)) value.made) (value.failures ++ fails_at rule.Return at)
+returned at None (Some s) env = walked env (Some (what.Return None)) (fails_at rule.Return at)
 returned at None None env = walked env (Some (what.Return None)) []
 
 -- ---- blocks

@@ -1,8 +1,8 @@
 -- What is known on the way through a program, after more of it.
 use Rattle.std.specs.Prelude.{List}
+use Rattle.bl_tree.specs.declared.rule.Failure.{Failure}
 use Rattle.bl_types.specs.declared.environment.Environment.{Environment}
 use Rattle.bl_types.specs.declared.environment.State.{State}
-use Rattle.bl_types.specs.declared.failure.Failure.{Failure}
 use Rattle.bl_types.specs.Declarations.{Declaring}
 use Rattle.bl_types.specs.Failures.{noted}
 

@@ -2,6 +2,8 @@
 use Rattle.std.specs.Prelude.{ℕ, ◌+◌, Bool, true, false, not, ◌&&◌, is_none, is_some, List, [], ◌∷◌, ◌++◌, filter_map, Option, Some, None, option_map, if◌then◌else◌}
 use Rattle.std.specs.List.{list_all}
 use Rattle.bl_tree.specs.declared.place.Place.{Place}
+use Rattle.bl_tree.specs.declared.rule.Failure.{Failure}
+use Rattle.bl_tree.specs.declared.rule.Rule.TheVariants as rule
 use Rattle.bl_tree.specs.declared.scalar.Scalar.{Scalar as ScalarType}
 use Rattle.bl_tree.specs.declared.tree.Stmt.{Stmt}
 use Rattle.bl_tree.specs.declared.tree.Ty.{Ty}
@@ -16,7 +18,6 @@ use Rattle.bl_named.specs.declared.types.NamedType.{NamedType, out-NamedType}
 use Rattle.bl_named.specs.declared.types.NamedType.TheOpen.{NamedType-F}
 use Rattle.bl_types.specs.declared.environment.Environment.{Environment}
 use Rattle.bl_types.specs.declared.environment.Variable.{Variable}
-use Rattle.bl_types.specs.declared.failure.Failure.{Failure}
 use Rattle.bl_types.specs.Declarations.{Declaring, after_parameters, is_parameter}
 use Rattle.bl_types.specs.Failures.{unless}
 use Rattle.bl_types.specs.Returns.{return_failures}
@@ -32,7 +33,7 @@ pub record Result : Type 0 where
 
 -- Type: a result isn't scalar; at the unit's name
 abbrev pub result_typed : Place → List Failure → Ty → Result
-result_typed name earlier ty = record { result = scalar_in ty; failures = earlier ++ unless (is_some (scalar_in ty)) 9 name }
+result_typed name earlier ty = record { result = scalar_in ty; failures = earlier ++ unless (is_some (scalar_in ty)) rule.Type name }
 
 abbrev pub result_of : Environment → Place → Option NamedType → Result
 result_of env name (Some written) = result_typed name (bad_lengths env.constants written) (written_type env.constants written)
@@ -102,9 +103,9 @@ drives unit = is_activity unit.kind && (is_none unit.result && list_all can_be_d
 
 -- Entry: no unit has the mark, at the text's end; a second one has it, or it is no unit that the environment can drive, at its name
 abbrev pub entries : Bool → Place → List NamedUnit → List Failure
-entries seen end [] = unless seen 17 end
+entries seen end [] = unless seen rule.Entry end
 entries seen end (unit ∷ rest) =
-    if unit.entry then unless (not seen && drives unit) 17 unit.name.place ++ entries true end rest else entries seen end rest
+    if unit.entry then unless (not seen && drives unit) rule.Entry unit.name.place ++ entries true end rest else entries seen end rest
 
 -- the position of the first unit that has the mark, where these units begin at the position; 0 where none has it
 abbrev pub entry_among : List NamedUnit → ℕ → ℕ

@@ -1,6 +1,8 @@
 -- Types as they are written, and the lengths in them.
 use Rattle.std.specs.Prelude.{ℕ, ℤ, pos, negsuc, Bool, false, ◌&&◌, nat_le, List, [], ◌++◌, slice_get, Option, Some, None, option_and_then, if◌then◌else◌}
 use Rattle.bl_tree.specs.declared.place.Place.{Place}
+use Rattle.bl_tree.specs.declared.rule.Failure.{Failure}
+use Rattle.bl_tree.specs.declared.rule.Rule.TheVariants as rule
 use Rattle.bl_tree.specs.declared.scalar.Scalar.{Scalar as ScalarType}
 use Rattle.bl_tree.specs.declared.tree.Ty.{Ty}
 use Rattle.bl_tree.specs.declared.tree.Ty.TheVariants as type
@@ -10,7 +12,6 @@ use Rattle.bl_named.specs.declared.types.NamedLength.TheVariants as length_of
 use Rattle.bl_named.specs.declared.types.NamedType.{NamedType, fold-NamedType}
 use Rattle.bl_named.specs.declared.types.NamedType.TheOpen.{NamedType-F}
 use Rattle.bl_types.specs.declared.environment.Constant.{Constant}
-use Rattle.bl_types.specs.declared.failure.Failure.{Failure}
 use Rattle.bl_types.specs.Failures.{fails_at}
 
 -- a number as a length: from 1 to 65536
@@ -54,7 +55,7 @@ written_type constants = fold-NamedType Ty (type_level constants)
 -- Constant: a length is no whole number from 1 to 65536
 abbrev pub bad_length : Place → Option ℕ → List Failure
 bad_length at (Some n) = []
-bad_length at None = fails_at 12 at
+bad_length at None = fails_at rule.Constant at
 
 abbrev pub length_level : List Constant → NamedType-F (List Failure) → List Failure
 length_level constants (NamedType-F.Scalar s) = []

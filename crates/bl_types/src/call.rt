@@ -19,7 +19,7 @@ use bl_named::expr::NamedExpr;
 use bl_named::stmt::NamedPath;
 use bl_raw::name::Name;
 use bl_tree::tree::{Expr, Path, Role, StmtKind, Ty, Unit, UnitKind, Var};
-use bl_tree::{List, NoMemory, Place};
+use bl_tree::{List, NoMemory, Place, Rule};
 use std::alloc::Global;
 
 /// How far fields lead from what has the type.
@@ -73,7 +73,7 @@ fn lent_as(wanted: Option<&Ty>, at: Place, found: Found, notes: &mut Notes) -> O
     };
     if let Some(ty) = wanted {
         if !same_type(ty, &path.ty) {
-            notes.fail(9, at);
+            notes.fail(Rule::Type, at);
             return None;
         }
     }
@@ -85,7 +85,7 @@ pub fn placed(at: Place, kind: UnitKind, notes: &mut Notes)
     ensures { notes.new ≡ noted notes.old (misplaced kind at) }
 {
     match kind {
-        UnitKind::Function => notes.fail(16, at),
+        UnitKind::Function => notes.fail(Rule::Where, at),
         UnitKind::Activity => {}
     }
 }
@@ -103,7 +103,7 @@ pub fn changes(at: Place, root: u32, env: &Environment, notes: &mut Notes)
 {
     if let Some(var) = element(&env.vars, root as usize) {
         if !may_change(var.role) {
-            notes.pair(11, at, var.place);
+            notes.pair(Rule::Immutable, at, var.place);
         }
     }
 }
@@ -196,7 +196,7 @@ fn has_result(at: Place, callee: Option<&Unit>, notes: &mut Notes)
 {
     if let Some(callee) = callee {
         if callee.result.is_some() {
-            notes.fail(15, at);
+            notes.fail(Rule::Return, at);
         }
     }
 }
@@ -251,7 +251,7 @@ fn no_result(at: Place, callee: Option<&Unit>, notes: &mut Notes)
 {
     if let Some(callee) = callee {
         if callee.result.is_none() {
-            notes.fail(15, at);
+            notes.fail(Rule::Return, at);
         }
     }
 }

@@ -21,7 +21,7 @@ use bl_named::expr::NamedExpr;
 use bl_named::item::{NamedConstant, NamedField, NamedStruct, NamedVar};
 use bl_named::types::NamedType;
 use bl_tree::tree::{Expr, Field, Role, StructDef, Ty};
-use bl_tree::{List, NoMemory, Place, Scalar, Text};
+use bl_tree::{List, NoMemory, Place, Rule, Scalar, Text};
 use std::alloc::Global;
 
 /// The initial value of what has the type, where one is written.
@@ -84,7 +84,7 @@ fn constant_of(name: Place, at: Place, valued: &Valued, notes: &mut Notes) -> Co
 {
     let ty = scalar_of(&valued.ty);
     if valued.ty.is_some() && ty.is_none() {
-        notes.fail(9, name);
+        notes.fail(Rule::Type, name);
     }
     Constant {
         ty,
@@ -100,7 +100,7 @@ fn number_of(at: Place, value: &Option<Expr>, notes: &mut Notes) -> i128
         Some(e) => match folded(e) {
             Some(a) => a.n,
             None => {
-                notes.fail(12, at);
+                notes.fail(Rule::Constant, at);
                 0
             }
         },

@@ -22,7 +22,7 @@ use crate::target::{
 use crate::types::{copy_of, scalar_in};
 use bl_named::expr::{NamedExpr, NamedExprKind, NamedPart, NamedTarget, Root};
 use bl_tree::tree::{Expr, ExprKind, Role, Ty, Unit, UnitKind, Var};
-use bl_tree::{List, NoMemory, Place, Scalar};
+use bl_tree::{List, NoMemory, Place, Rule, Scalar};
 use std::alloc::Global;
 
 /// The kept value of every number that is greater than all types have.
@@ -63,7 +63,7 @@ fn previous_of(
     match &var.ty {
         Some(ty) => {
             if !previous_fits(kind, var.role, ty) {
-                notes.fail(14, at);
+                notes.fail(Rule::Prev, at);
             }
             let read = Expr {
                 place: at,
@@ -131,7 +131,7 @@ pub fn miscounted(at: Place, inputs: usize, outputs: usize, callee: &Unit, notes
     ensures { notes.new ≡ noted notes.old (miscounted at inputs outputs callee.now) }
 {
     if inputs != callee.inputs as usize || outputs != callee.outputs as usize {
-        notes.fail(13, at);
+        notes.fail(Rule::Arity, at);
     }
 }
 
@@ -142,7 +142,7 @@ fn misnamed(at: Place, inputs: usize, callee: Option<&Unit>, notes: &mut Notes)
     if let Some(callee) = callee {
         miscounted(at, inputs, 0, callee, notes);
         if callee.result.is_none() {
-            notes.fail(15, at);
+            notes.fail(Rule::Return, at);
         }
     }
 }

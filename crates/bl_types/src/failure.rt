@@ -1,59 +1,11 @@
-//! Where a rule fails, and the first of several failures.
+//! The first of the failures so far.
 
 ghost use Rattle.std.specs.Prelude.{◌≡◌, ◌∷◌, []};
-ghost use Rattle.bl_types.specs.Failures.{comes_before, fails_at, is_before, lesser, noted, same_place};
+ghost use Rattle.bl_tree.specs.declared.rule.Further.TheVariants.{One};
+ghost use Rattle.bl_types.specs.Failures.{fails_at, noted};
 
-use bl_tree::Place;
-
-/// A failure of a rule. A line that names one place has it twice.
-#[derive(Clone, Copy, PartialEq, Eq, Debug)]
-pub struct Failure {
-    pub rule: u8,
-    pub at: Place,
-    pub also: Place,
-}
-
-fn same_place(a: Place, b: Place) -> bool
-    ensures { result ≡ same_place a b }
-{
-    a.start == b.start && a.end == b.end
-}
-
-/// By their starts, and then by their ends.
-pub fn is_before(a: Place, b: Place) -> bool
-    ensures { result ≡ is_before a b }
-{
-    a.start < b.start || (a.start == b.start && a.end < b.end)
-}
-
-/// The lesser rule comes first, and of one rule the first places that differ decide.
-fn comes_before(a: Failure, b: Failure) -> bool
-    ensures { result ≡ comes_before a b }
-{
-    if a.rule != b.rule {
-        return a.rule < b.rule;
-    }
-    if !same_place(a.at, b.at) {
-        return is_before(a.at, b.at);
-    }
-    is_before(a.also, b.also)
-}
-
-/// The failure, where it comes before the first so far, and else that.
-fn lesser(first: Option<Failure>, failure: Failure) -> Option<Failure>
-    ensures { result ≡ lesser first failure }
-{
-    match first {
-        None => Some(failure),
-        Some(first) => {
-            if comes_before(failure, first) {
-                Some(failure)
-            } else {
-                Some(first)
-            }
-        }
-    }
-}
+use bl_tree::rule::lesser;
+use bl_tree::{Failure, Further, Place, Rule};
 
 /// The first of the failures so far.
 #[derive(Clone, Copy, PartialEq, Eq, Debug)]
@@ -63,16 +15,30 @@ pub struct Notes {
 
 impl Notes {
     /// A rule fails, and its line names two places.
-    pub fn pair(&mut self, rule: u8, at: Place, also: Place)
-        ensures { self.new ≡ noted self.old (record { rule = rule; at = at; also = also } ∷ []) }
+    pub fn pair(&mut self, rule: Rule, at: Place, also: Place)
+        ensures { self.new ≡ noted self.old (record { rule = rule; at = at; further = One also } ∷ []) }
     {
-        self.first = lesser(self.first, Failure { rule, at, also });
+        self.first = lesser(
+            self.first,
+            Failure {
+                rule,
+                at,
+                further: Further::One(also),
+            },
+        );
     }
 
     /// A rule fails, and its line names one place.
-    pub fn fail(&mut self, rule: u8, at: Place)
+    pub fn fail(&mut self, rule: Rule, at: Place)
         ensures { self.new ≡ noted self.old (fails_at rule at) }
     {
-        self.pair(rule, at, at);
+        self.first = lesser(
+            self.first,
+            Failure {
+                rule,
+                at,
+                further: Further::Nothing,
+            },
+        );
     }
 }

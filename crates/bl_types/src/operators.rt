@@ -16,7 +16,7 @@ use crate::settle::{
 };
 use crate::types::{same_scalar, same_type, scalar_in};
 use bl_tree::tree::{Expr, ExprKind, Ty};
-use bl_tree::{Box, NoMemory, Op, Place, Scalar};
+use bl_tree::{Box, NoMemory, Op, Place, Rule, Scalar};
 use std::alloc::Global;
 
 fn type_of_one(op: Op, ty: &Ty) -> Option<Ty>
@@ -68,7 +68,7 @@ fn formed(ty: Option<Ty>, at: Place, e: Expr, notes: &mut Notes) -> Form
     match ty {
         Some(ty) => Form::Of(ty, e),
         None => {
-            notes.fail(9, at);
+            notes.fail(Rule::Type, at);
             Form::Failing
         }
     }
@@ -90,7 +90,7 @@ pub fn of_one(
             if keeps_one_open(op) {
                 Ok(Form::Open(one(alloc, at, op, a)?))
             } else {
-                notes.fail(9, a.place);
+                notes.fail(Rule::Type, a.place);
                 Ok(Form::Failing)
             }
         }
@@ -113,7 +113,7 @@ fn beside(
     ensures notes { OnOk result (notes.new ≡ noted notes.old (beside op ty.now e.now).failures) }
 {
     if is_logical(op) {
-        notes.fail(9, e.place);
+        notes.fail(Rule::Type, e.place);
         return Ok(None);
     }
     given(alloc, ty, e, notes)
@@ -326,7 +326,7 @@ pub fn fitting(
             if same_type(wanted, &ty) {
                 Ok(Some(e))
             } else {
-                notes.fail(9, at);
+                notes.fail(Rule::Type, at);
                 Ok(None)
             }
         }

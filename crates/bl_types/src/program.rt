@@ -2,19 +2,19 @@
 #![tactic(auto, using(crate::proofs::NoteLemmas::notes, crate::proofs::StateLemmas::states))]
 
 ghost use Rattle.std.specs.Prelude.{◌≡◌, IfErr, IfOk, OnOk, option_map};
-ghost use Rattle.bl_types.specs.Cause.{IsCause};
-ghost use Rattle.bl_types.specs.Failures.{Refuses};
-ghost use Rattle.bl_types.specs.Programs.{after_item, after_items, after_next_constant, after_next_unit, after_program, comes_first, failures_of, item_count, place_of_constant, place_of_unit, start, typed_program};
-ghost use Rattle.bl_types.specs.Rules.{Passes, further_of};
+ghost use Rattle.bl_types.specs.Declarations.{after_constant, after_struct};
+ghost use Rattle.bl_types.specs.Programs.{after_item, after_items, after_next, after_program, failures_of, start, typed_program};
+ghost use Rattle.bl_types.specs.Rules.{IsCause, Passes};
 ghost use Rattle.bl_types.specs.States.{after, passed};
+ghost use Rattle.bl_types.specs.Units.{after_unit};
 
 use crate::declare::{constant, structure};
 use crate::environment::{Environment, State, Typed};
-use crate::failure::{Failure, Notes, is_before};
+use crate::failure::Notes;
 use crate::slices::element;
 use crate::unit::{entries, entry, unit};
 use bl_named::Named;
-use bl_named::item::{NamedConstant, NamedUnit};
+use bl_named::item::{Item, NamedConstant, NamedStruct, NamedUnit};
 use bl_tree::tree::UnitKind;
 use bl_tree::{List, NoMemory, Place, Refusal};
 use std::alloc::Global;
@@ -48,31 +48,25 @@ fn fresh(alloc: Global) -> State
     }
 }
 
-/// Whether the place comes before the other, where there is one.
-fn comes_first(at: Place, other: Option<Place>) -> bool
-    ensures { result ≡ comes_first at other }
+fn next_struct(alloc: Global, next: Option<&NamedStruct>, state: &mut State) -> Result<(), NoMemory>
+    ensures { OnOk result (state.new ≡ after state.old (after_next after_struct (option_map (λ def. def.now) next.entry))) }
 {
-    match other {
-        Some(other) => is_before(at, other),
-        None => true,
+    match next {
+        Some(def) => structure(alloc, def, state),
+        None => Ok(()),
     }
 }
 
-fn place_of_unit(unit: Option<&NamedUnit>) -> Option<Place>
-    ensures { result ≡ place_of_unit (option_map (λ unit. unit.now) unit.entry) }
+fn next_constant(
+    alloc: Global,
+    next: Option<&NamedConstant>,
+    state: &mut State,
+) -> Result<(), NoMemory>
+    ensures { OnOk result (state.new ≡ after state.old (after_next after_constant (option_map (λ def. def.now) next.entry))) }
 {
-    match unit {
-        Some(unit) => Some(unit.name.place),
-        None => None,
-    }
-}
-
-fn place_of_constant(constant: Option<&NamedConstant>) -> Option<Place>
-    ensures { result ≡ place_of_constant (option_map (λ constant. constant.now) constant.entry) }
-{
-    match constant {
-        Some(constant) => Some(constant.name.place),
-        None => None,
+    match next {
+        Some(def) => constant(alloc, def, state),
+        None => Ok(()),
     }
 }
 
@@ -82,7 +76,7 @@ fn next_unit(
     next: Option<&NamedUnit>,
     state: &mut State,
 ) -> Result<(), NoMemory>
-    ensures { OnOk result (state.new ≡ after state.old (after_next_unit constants.now (option_map (λ unit. unit.now) next.entry))) }
+    ensures { OnOk result (state.new ≡ after state.old (after_next (after_unit constants.now) (option_map (λ def. def.now) next.entry))) }
 {
     match next {
         Some(def) => unit(alloc, constants, def, state),
@@ -90,66 +84,42 @@ fn next_unit(
     }
 }
 
-fn next_constant(
-    alloc: Global,
-    constants: &[NamedConstant],
-    next: Option<&NamedConstant>,
-    rival: Option<&NamedUnit>,
-    state: &mut State,
-) -> Result<(), NoMemory>
-    ensures { OnOk result (state.new ≡ after state.old (after_next_constant constants.now (option_map (λ constant. constant.now) next.entry) (option_map (λ unit. unit.now) rival.entry))) }
+/// After an item of the program: its next struct, constant or unit.
+fn item(alloc: Global, named: &Named, item: Item, state: &mut State) -> Result<(), NoMemory>
+    ensures { OnOk result (state.new ≡ after state.old (after_item named.now item)) }
 {
-    match next {
-        Some(def) => {
-            if comes_first(def.name.place, place_of_unit(rival)) {
-                constant(alloc, def, state)
-            } else {
-                next_unit(alloc, constants, rival, state)
-            }
+    match item {
+        Item::Struct => {
+            let next = element(&named.structs, state.env.structs.len());
+            next_struct(alloc, next, state)
         }
-        None => next_unit(alloc, constants, rival, state),
+        Item::Constant => {
+            let next = element(&named.constants, state.env.constants.len());
+            next_constant(alloc, next, state)
+        }
+        Item::Unit => {
+            let next = element(&named.units, state.env.units.len());
+            next_unit(alloc, &named.constants, next, state)
+        }
     }
 }
 
-/// Takes the next item of the program: of the next struct, constant and unit that one whose name stands first.
-fn item(alloc: Global, named: &Named, state: &mut State) -> Result<(), NoMemory>
-    ensures { OnOk result (state.new ≡ after state.old (after_item named.now)) }
+/// After these items, one after another.
+fn items(alloc: Global, order: &[Item], named: &Named, state: &mut State) -> Result<(), NoMemory>
+    ensures { OnOk result (state.new ≡ after state.old (after_items named.now order.now)) }
 {
-    let next = element(&named.structs, state.env.structs.len());
-    let rival = element(&named.constants, state.env.constants.len());
-    let other = element(&named.units, state.env.units.len());
-    match next {
-        Some(def) => {
-            if comes_first(def.name.place, place_of_constant(rival))
-                && comes_first(def.name.place, place_of_unit(other))
-            {
-                structure(alloc, def, state)
-            } else {
-                next_constant(alloc, &named.constants, rival, other, state)
-            }
-        }
-        None => next_constant(alloc, &named.constants, rival, other, state),
-    }
-}
-
-/// Takes so many items.
-fn items(alloc: Global, count: usize, named: &Named, state: &mut State) -> Result<(), NoMemory>
-    ensures { OnOk result (state.new ≡ after state.old (after_items count named.now)) }
-{
-    for turn in 0..count {
-        item(alloc, named, state)?;
+    for one in order {
+        item(alloc, named, *one, state)?;
     }
     Ok(())
 }
 
 /// What is known after all items of the program.
 fn all_items(alloc: Global, named: &Named) -> Result<State, NoMemory>
-    ensures { IfOk result (λ state. state ≡ after start (after_items (item_count named.now) named.now)) }
+    ensures { IfOk result (λ state. state ≡ after start (after_items named.now named.now.order)) }
 {
     let mut state = fresh(alloc);
-    items(alloc, named.structs.len(), named, &mut state)?;
-    items(alloc, named.constants.len(), named, &mut state)?;
-    items(alloc, named.units.len(), named, &mut state)?;
+    items(alloc, &named.order, named, &mut state)?;
     Ok(state)
 }
 
@@ -178,7 +148,7 @@ fn verdict(alloc: Global, named: &Named, state: State) -> Result<Typed, Refusal>
             Ok(entry) => Ok(typed(env, entry)),
             Err(NoMemory) => Err(Refusal::NoMemory),
         },
-        Some(failure) => Err(refusal(alloc, failure)),
+        Some(failure) => Err(failure.refusal(alloc)),
     }
 }
 
@@ -190,22 +160,5 @@ fn typed(env: Environment, entry: u32) -> Typed
         structs,
         units,
         entry,
-    }
-}
-
-fn refusal(alloc: Global, failure: Failure) -> Refusal
-    ensures { Refuses failure.rule failure.at (further_of failure) result }
-{
-    let mut also = List::new(alloc);
-    if failure.rule == 11 {
-        match also.push(failure.also) {
-            Ok(()) => {}
-            Err(_) => return Refusal::NoMemory,
-        }
-    }
-    Refusal::Rule {
-        number: failure.rule,
-        place: failure.at,
-        also,
     }
 }

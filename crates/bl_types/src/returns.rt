@@ -10,6 +10,7 @@ ghost use Rattle.bl_types.specs.Returns.{activity_returns, arm_surely_returns, f
 use crate::failure::Notes;
 use bl_named::item::NamedUnit;
 use bl_named::stmt::{NamedArm, NamedBranch, NamedStmt, NamedStmtKind};
+use bl_tree::Rule;
 use bl_tree::tree::UnitKind;
 
 fn is_return(s: &NamedStmt) -> bool
@@ -59,7 +60,7 @@ fn strays_in(s: &NamedStmt, notes: &mut Notes)
     ensures { notes.new ≡ noted notes.old (strays_in s.now) }
 {
     match &s.what {
-        NamedStmtKind::Return(_) => notes.fail(15, s.place),
+        NamedStmtKind::Return(_) => notes.fail(Rule::Return, s.place),
         NamedStmtKind::If(all, other) => {
             strays_in_arms(all, notes);
             strays_in_block(other, notes);
@@ -150,12 +151,12 @@ pub fn judge_returns(unit: &NamedUnit, notes: &mut Notes)
     match unit.kind {
         UnitKind::Function => {
             if !function_returns(unit) {
-                notes.fail(15, unit.name.place);
+                notes.fail(Rule::Return, unit.name.place);
             }
         }
         UnitKind::Activity => {
             if !activity_returns(unit) {
-                notes.fail(15, unit.name.place);
+                notes.fail(Rule::Return, unit.name.place);
             }
             strays(&unit.body, notes);
         }

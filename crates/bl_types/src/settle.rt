@@ -2,6 +2,7 @@
 #![tactic(auto, using(crate::proofs::NoteLemmas::notes))]
 
 ghost use Rattle.std.specs.Prelude.{◌≡◌, IfOk, OnOk};
+ghost use Rattle.bl_tree.specs.declared.rule.Rule.TheVariants as rule;
 ghost use Rattle.bl_tree.specs.Scalar.{in_range, is_whole};
 ghost use Rattle.bl_types.specs.Failures.{noted, unless};
 ghost use Rattle.bl_types.specs.Settled.{given, keeps_one_open, keeps_two_open, is_logical, literal, one, one_made, settled, settled_if, two, two_made};
@@ -9,7 +10,7 @@ ghost use Rattle.bl_types.specs.Settled.{given, keeps_one_open, keeps_two_open, 
 use crate::failure::Notes;
 use crate::types::scalar_in;
 use bl_tree::tree::{Expr, ExprKind, Ty};
-use bl_tree::{Box, NoMemory, Op, Place, Scalar, Width};
+use bl_tree::{Box, NoMemory, Op, Place, Rule, Scalar, Width};
 use std::alloc::Global;
 
 /// The type where none is wanted.
@@ -84,10 +85,10 @@ fn is_in(s: Scalar, n: i128) -> bool
 
 fn number(at: Place, n: i128, s: Scalar, notes: &mut Notes) -> Expr
     ensures made { result ≡ literal at n s }
-    ensures notes { notes.new ≡ noted notes.old (unless (in_range s n) 10 at) }
+    ensures notes { notes.new ≡ noted notes.old (unless (in_range s n) rule.Literal at) }
 {
     if !is_in(s, n) {
-        notes.fail(10, at);
+        notes.fail(Rule::Literal, at);
     }
     literal(at, n, s)
 }
@@ -109,7 +110,7 @@ fn one_made(
             if op.takes_one(s) {
                 Ok(Some(one(alloc, at, op, a)?))
             } else {
-                notes.fail(9, at);
+                notes.fail(Rule::Type, at);
                 Ok(None)
             }
         }
@@ -137,7 +138,7 @@ fn two_made(
     if op.takes_two(s) {
         Ok(Some(two(alloc, at, op, a, b)?))
     } else {
-        notes.fail(9, at);
+        notes.fail(Rule::Type, at);
         Ok(None)
     }
 }
@@ -182,7 +183,7 @@ pub fn settle_scalar(
     if s.is_whole() {
         settle(alloc, s, e, notes)
     } else {
-        notes.fail(9, e.place);
+        notes.fail(Rule::Type, e.place);
         Ok(None)
     }
 }
@@ -195,7 +196,7 @@ pub fn given(alloc: Global, ty: &Ty, e: &Expr, notes: &mut Notes) -> Result<Opti
     match scalar_in(ty) {
         Some(s) => settle_scalar(alloc, s, e, notes),
         None => {
-            notes.fail(9, e.place);
+            notes.fail(Rule::Type, e.place);
             Ok(None)
         }
     }

@@ -17,7 +17,7 @@ use bl_named::expr::{NamedExpr, NamedTarget, Root};
 use bl_named::item::{NamedConstant, NamedVar};
 use bl_named::stmt::{NamedArm, NamedBranch, NamedStmt, NamedStmtKind};
 use bl_tree::tree::{Arm, Branch, Expr, Guard, Stmt, StmtKind, Ty};
-use bl_tree::{List, NoMemory, Place, Scalar};
+use bl_tree::{List, NoMemory, Place, Rule, Scalar};
 use std::alloc::Global;
 
 /// A condition, which is bool.
@@ -166,7 +166,7 @@ fn returned_value(
         }
         None => {
             let made = in_context(alloc, None, e, &state.env, &mut state.notes)?;
-            state.notes.fail(15, at);
+            state.notes.fail(Rule::Return, at);
             Ok(made)
         }
     }
@@ -189,7 +189,7 @@ fn returned(
         }
         None => {
             if state.env.result.is_some() {
-                state.notes.fail(15, at);
+                state.notes.fail(Rule::Return, at);
             }
             Ok(Some(StmtKind::Return(None)))
         }

@@ -16,7 +16,7 @@ use crate::slices::element;
 use crate::types::{copy_of, scalar_in};
 use bl_raw::name::Name;
 use bl_tree::tree::{Expr, Field, Part, Path, StructDef, Ty};
-use bl_tree::{NoMemory, Place};
+use bl_tree::{NoMemory, Place, Rule};
 use std::alloc::Global;
 
 /// A field of a struct.
@@ -86,7 +86,7 @@ pub fn to_field(
     match field_in(structs, &name.text, &ty) {
         Some(field) => field_step(alloc, field.position, field.ty),
         None => {
-            notes.fail(9, name.place);
+            notes.fail(Rule::Type, name.place);
             Ok(Step::lost())
         }
     }
@@ -118,12 +118,12 @@ fn whole(at: Place, ty: &Ty, e: Expr, notes: &mut Notes) -> Option<Expr>
             if s.is_whole() {
                 Some(e)
             } else {
-                notes.fail(9, at);
+                notes.fail(Rule::Type, at);
                 None
             }
         }
         None => {
-            notes.fail(9, at);
+            notes.fail(Rule::Type, at);
             None
         }
     }
@@ -167,7 +167,7 @@ pub fn to_element(
     match &ty {
         Ty::Array(_, element) => index_step(alloc, element, at, form, notes),
         _ => {
-            notes.fail(9, at);
+            notes.fail(Rule::Type, at);
             Ok(Step::lost())
         }
     }

@@ -11,7 +11,7 @@ use crate::failure::Notes;
 use crate::slices::element;
 use bl_named::types::{NamedLength, NamedType};
 use bl_tree::tree::Ty;
-use bl_tree::{Box, NoMemory, Place, Scalar};
+use bl_tree::{Box, NoMemory, Place, Rule, Scalar};
 use std::alloc::Global;
 
 /// How many elements an array can have.
@@ -153,7 +153,7 @@ fn counted(constants: &[Constant], n: &NamedLength, notes: &mut Notes) -> u32
     match length(constants, n) {
         Some(count) => count,
         None => {
-            notes.fail(12, place_of(n));
+            notes.fail(Rule::Constant, place_of(n));
             0
         }
     }

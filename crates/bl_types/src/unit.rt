@@ -3,6 +3,7 @@
 
 ghost use Rattle.std.specs.Prelude.{◌≡◌, IfOk, OnOk, false, is_some};
 ghost use Rattle.std.specs.List.{list_all};
+ghost use Rattle.bl_tree.specs.declared.rule.Rule.TheVariants as rule;
 ghost use Rattle.bl_tree.specs.Types.{scalar_in};
 ghost use Rattle.bl_types.specs.Failures.{noted, unless};
 ghost use Rattle.bl_types.specs.Returns.{return_failures};
@@ -19,7 +20,7 @@ use crate::types::{scalar_in, typed};
 use bl_named::item::{NamedConstant, NamedUnit, NamedVar};
 use bl_named::types::NamedType;
 use bl_tree::tree::{Stmt, Ty, Unit, UnitKind, Var};
-use bl_tree::{List, NoMemory, Place, Scalar, Text};
+use bl_tree::{List, NoMemory, Place, Rule, Scalar, Text};
 use std::alloc::Global;
 use std::mem;
 
@@ -43,12 +44,12 @@ fn outcome(
 
 fn scalar_outcome(name: Place, ty: &Ty, notes: &mut Notes) -> Option<Scalar>
     ensures outcome { result ≡ scalar_in ty.now }
-    ensures notes { notes.new ≡ noted notes.old (unless (is_some (scalar_in ty.now)) 9 name) }
+    ensures notes { notes.new ≡ noted notes.old (unless (is_some (scalar_in ty.now)) rule.Type name) }
 {
     match scalar_in(ty) {
         Some(s) => Some(s),
         None => {
-            notes.fail(9, name);
+            notes.fail(Rule::Type, name);
             None
         }
     }
@@ -205,13 +206,13 @@ pub fn entries(end: Place, units: &[NamedUnit], notes: &mut Notes)
     for unit in units {
         if unit.entry {
             if seen || !drives(unit) {
-                notes.fail(17, unit.name.place);
+                notes.fail(Rule::Entry, unit.name.place);
             }
             seen = true;
         }
     }
     if !seen {
-        notes.fail(17, end);
+        notes.fail(Rule::Entry, end);
     }
 }
 

@@ -9,6 +9,7 @@ use Rattle.bl_tree.specs.declared.place.Place.{Place}
 use Rattle.bl_tree.specs.declared.scalar.Scalar.TheVariants.{Bool as OfBool}
 use Rattle.bl_tree.specs.declared.tree.Expr.{Expr}
 use Rattle.std.proofs.lemmas.Option.{same_Some}
+use Rattle.bl_tree.specs.declared.rule.Rule.TheVariants as rule
 use Rattle.bl_tree.specs.declared.tree.Path.{Path}
 use Rattle.bl_tree.specs.declared.tree.StmtKind.{StmtKind}
 use Rattle.bl_tree.specs.declared.tree.Unit.{Unit as UnitDef}
@@ -78,7 +79,7 @@ module _ (env : Environment) (site : Site) (within : Within env site) where
       let taken : List Lent = all_lent env outputs (outputs_of unit) in
       let counts : Bool = nat_eq (length given) unit.inputs && nat_eq (length taken) unit.outputs in
       let behind : paths_failures taken ++ miscounted at (length given) (length taken) unit ≡ [] = nil_right (all_failures given) (paths_failures taken ++ miscounted at (length given) (length taken) unit) none in
-      let counted : counts ≡ true = unless_holds counts 13 at (nil_right (paths_failures taken) (miscounted at (length given) (length taken) unit) behind) in
+      let counted : counts ≡ true = unless_holds counts rule.Arity at (nil_right (paths_failures taken) (miscounted at (length given) (length taken) unit) behind) in
       let in_count : length given ≡ unit.inputs = eqb-true (length given) unit.inputs (and_left (nat_eq (length given) unit.inputs) (nat_eq (length taken) unit.outputs) counted) in
       let out_count : length taken ≡ unit.outputs = eqb-true (length taken) unit.outputs (and_right (nat_eq (length given) unit.inputs) (nat_eq (length taken) unit.outputs) counted) in
       let fit = inputs_fit site (map (judged env) inputs) (inputs_of unit) (each_judged inputs placed calls) (sym (length-fitted (map (judged env) inputs) (inputs_of unit)) ∙ in_count ∙ sym (inputs_length unit has))

@@ -5,6 +5,7 @@ use Rattle.std.specs.List.{list_all}
 use Rattle.std.proofs.lemmas.List.Elements.{All-cons, All-head, All-nil, All-tail}
 use Rattle.std.proofs.lemmas.Option.{same_Some}
 use Rattle.bl_tree.specs.declared.place.Place.{Place}
+use Rattle.bl_tree.specs.declared.rule.Failure.{Failure}
 use Rattle.bl_tree.specs.declared.scalar.Scalar.TheVariants.{Bool as OfBool}
 use Rattle.bl_tree.specs.declared.tree.Arm.{Arm}
 use Rattle.bl_tree.specs.declared.tree.Branch.{Branch, fold-roll-Branch, roll-Branch}
@@ -29,7 +30,6 @@ use Rattle.bl_named.specs.declared.stmt.NamedStmtKind.{NamedStmtKind, fold-Named
 use Rattle.bl_named.specs.declared.stmt.NamedStmtKind.TheOpen.{NamedStmtKind-F}
 use Rattle.bl_named.specs.Placed.{Earlier, Step, expr_placed, in_turn, step_of_arm, step_of_branch, stmt_step, tested}
 use Rattle.bl_types.specs.declared.environment.Environment.{Environment}
-use Rattle.bl_types.specs.declared.failure.Failure.{Failure}
 use Rattle.bl_types.specs.Settled.{Settled}
 use Rattle.bl_types.specs.Statements.{Block, Walk, Walked, arm_of, arm_walked, branch_walked, condition, in_order, misplaced, stmt_made, under, walked, walked_arm, walked_block, walked_branch, walked_stmt}
 use Rattle.bl_types_laws.specs.Fitting.{IsMade}

@@ -1,8 +1,8 @@
 -- What is made of the items behind a constant.
-use Rattle.std.proofs.Common.{◌≡◌, ℕ, suc, true, List, [], ◌∷◌, length, map, take, sym, ap, ◌∙◌, append-nil}
-use Rattle.std.specs.Prelude.{nat_lt, slice_get}
+use Rattle.std.proofs.Common.{◌≡◌, refl, true, List, [], ◌∷◌, length, map, take, sym, ap, ◌∙◌, append-nil}
 use Rattle.std.specs.List.{list_all}
 use Rattle.bl_eval.proofs.PassLemmas.{and_left, and_right}
+use Rattle.bl_named.specs.declared.item.Item.TheVariants as kind
 use Rattle.bl_named.specs.declared.item.NamedConstant.{NamedConstant}
 use Rattle.bl_named.specs.declared.item.NamedUnit.{NamedUnit}
 use Rattle.bl_named.specs.declared.named.Named.{Named}
@@ -12,8 +12,8 @@ use Rattle.bl_scopes.specs.Scopes.{Scopes, after}
 use Rattle.bl_raw.specs.declared.item.RawItem.{RawItem}
 use Rattle.bl_raw.specs.declared.item.RawItem.TheVariants as item
 use Rattle.bl_raw.specs.declared.stmt.RawConstant.{RawConstant}
-use Rattle.bl_raw.specs.Starts.{ascends}
 use Rattle.bl_names.specs.Named.{along, constants_of, named_constant, structs_of, units_of}
+use Rattle.bl_names.specs.Order.{order_of}
 use Rattle.bl_names.proofs.FitLemmas.{fits_first, fits_second}
 use Rattle.bl_names.proofs.PlacedExpr.{earlier}
 use Rattle.bl_types.specs.declared.environment.Environment.{Environment}
@@ -22,13 +22,10 @@ use Rattle.bl_types.specs.Programs.{after_item, after_items}
 use Rattle.bl_types_laws.specs.Within.{calls_functions, known_in}
 use Rattle.bl_types_laws.proofs.Forms.{nil_left, nil_right}
 use Rattle.bl_types_laws.proofs.Items.{constant_between}
-use Rattle.bl_parse_laws.specs.ItemOrder.{declared_starts}
 use Rattle.bl_types_laws.proofs.Premises.{Suits}
-use Rattle.bl_types_laws.proofs.Behind.{structs_behind, units_behind}
-use Rattle.bl_types_laws.proofs.Choices.{constant_next}
 use Rattle.bl_types_laws.proofs.Ends.{ends_first, ends_next, ends_on, ends_take}
 use Rattle.bl_types_laws.proofs.Onward.{constant_onward, constant_there}
-use Rattle.bl_types_laws.proofs.Reached.{At, Induction, Made, first_struct, first_taken, first_unit, next_is, no_more, one_more, same_counts}
+use Rattle.bl_types_laws.proofs.Reached.{At, Induction, Made, constant_next, first_taken, no_more, one_more, same_counts}
 
 module _ (named : Named) (suits : Suits named) where
   module _ (def : RawConstant) (items : List RawItem) (scopes : Scopes) (env : Environment) (at : At named scopes (item.Constant def ∷ items) env) where
@@ -38,15 +35,8 @@ module _ (named : Named) (suits : Suits named) where
     abbrev behind_constant : Scopes
     behind_constant = after scopes (constant_marks def)
 
-    constant_chosen : after_item named env ≡ after_constant new_constant env
-    constant_chosen =
-        let n = def.name.place.start in
-        let behind = and_left (list_all (nat_lt n) (declared_starts items)) (ascends (declared_starts items)) at.ascend in
-        let structs = along structs_of behind_constant items in
-        let units = along units_of behind_constant items in
-        next_is named scopes (item.Constant def ∷ items) env at
-        ∙ constant_next named.constants env (slice_get structs 0) new_constant (slice_get units 0)
-        (first_struct n structs (structs_behind n behind_constant items behind)) (first_unit n units (units_behind n behind_constant items behind))
+    constant_chosen : after_item named kind.Constant env ≡ after_constant new_constant env
+    constant_chosen = constant_next named scopes (item.Constant def ∷ items) env at new_constant refl
 
     placed_earlier : constant_placed (earlier scopes) new_constant ≡ true
     placed_earlier =
@@ -71,7 +61,6 @@ module _ (named : Named) (suits : Suits named) where
           below = on.below;
           none = on.none;
           fits = fits_second scopes (constant_marks def) (marks_of items) at.fits;
-          ascend = and_right (list_all (nat_lt def.name.place.start) (declared_starts items)) (ascends (declared_starts items)) at.ascend;
           structs = ends_on named.structs scopes.counts.structs behind_constant.counts.structs [] (along structs_of behind_constant items) on.more_structs at.structs;
           constants = ends_on named.constants scopes.counts.constants behind_constant.counts.constants (new_constant ∷ []) (along constants_of behind_constant items) on.more_constants at.constants;
           units = ends_on named.units scopes.counts.units behind_constant.counts.units [] (along units_of behind_constant items) on.more_units at.units;
@@ -95,14 +84,15 @@ module _ (named : Named) (suits : Suits named) where
       units_stand = rest.units_stand;
       unit_names = rest.unit_names;
       driven = rest.driven;
+      starts = rest.starts;
     }
 
-  pub constant_turn : (def : RawConstant) (items : List RawItem) (n : ℕ) → Induction named items n → Induction named (item.Constant def ∷ items) (suc n)
-  constant_turn def items n rec scopes env at keep_structs keep_units =
+  pub constant_turn : (def : RawConstant) (items : List RawItem) → Induction named items → Induction named (item.Constant def ∷ items)
+  constant_turn def items rec scopes env at keep_structs keep_units =
       let d = named_constant scopes def in
-      first_taken named (item.Constant def) items n scopes env (after_constant d env) (constant_chosen def items scopes env at)
+      first_taken named (item.Constant def) items scopes env (after_constant d env) (constant_chosen def items scopes env at)
       (λ none.
-      let first = nil_left (after_constant d env).failures (after_items n named (after_constant d env).env).failures none in
-      constant_case def items scopes env at (after_items n named (after_constant d env).env).env
+      let first = nil_left (after_constant d env).failures (after_items named (order_of items) (after_constant d env).env).failures none in
+      constant_case def items scopes env at (after_items named (order_of items) (after_constant d env).env).env
       (rec (after scopes (constant_marks def)) (after_constant d env).env (at_constant def items scopes env at first) keep_structs keep_units
-      (nil_right (after_constant d env).failures (after_items n named (after_constant d env).env).failures none)))
+      (nil_right (after_constant d env).failures (after_items named (order_of items) (after_constant d env).env).failures none)))

@@ -2,8 +2,9 @@
 use Rattle.std.proofs.Common.{◌≡◌, ℕ, suc, ◌+◌, List, [], ◌∷◌, ◌++◌, Some, refl, ap, ◌∙◌, arith}
 use Rattle.std.specs.Prelude.{Bool, true, false, not, ◌&&◌, slice_get, if◌then◌else◌}
 use Rattle.bl_tree.specs.declared.place.Place.{Place}
+use Rattle.bl_tree.specs.declared.rule.Failure.{Failure}
+use Rattle.bl_tree.specs.declared.rule.Rule.TheVariants as rule
 use Rattle.bl_named.specs.declared.item.NamedUnit.{NamedUnit}
-use Rattle.bl_types.specs.declared.failure.Failure.{Failure}
 use Rattle.bl_types.specs.Failures.{unless}
 use Rattle.bl_types.specs.Units.{drives, entries, entry_among}
 use Rattle.bl_types_laws.specs.Standing.{IsDriven}
@@ -18,7 +19,7 @@ pub record EntryFound (units : List NamedUnit) (k position : ℕ) : Type 0 where
   pub is_at : position ≡ k + far
 
 abbrev entries_if : Bool → Place → NamedUnit → List NamedUnit → List Failure
-entries_if marked end unit rest = if marked then unless (not false && drives unit) 17 unit.name.place ++ entries true end rest else entries false end rest
+entries_if marked end unit rest = if marked then unless (not false && drives unit) rule.Entry unit.name.place ++ entries true end rest else entries false end rest
 
 entry_first : (k : ℕ) (end : Place) (unit : NamedUnit) (rest : List NamedUnit) (marked : Bool) → entries_if marked end unit rest ≡ [] → (entries false end rest ≡ [] → EntryFound rest (k + 1) (entry_among rest (k + 1))) →
     EntryFound (unit ∷ rest) k (if marked then k else entry_among rest (k + 1))
@@ -26,7 +27,7 @@ entry_first k end unit rest true none further = record {
   far = 0;
   unit = unit;
   is_there = refl;
-  is_driven = unless_holds (drives unit) 17 unit.name.place (nil_left (unless (drives unit) 17 unit.name.place) (entries true end rest) none);
+  is_driven = unless_holds (drives unit) rule.Entry unit.name.place (nil_left (unless (drives unit) rule.Entry unit.name.place) (entries true end rest) none);
   is_at = omega arith;
 }
 entry_first k end unit rest false none further =

@@ -6,6 +6,7 @@ use Rattle.std.proofs.lemmas.Bool.{eq-eqb, eqb-true, ltb-true}
 use Rattle.std.proofs.lemmas.List.{length-take-le}
 use Rattle.std.proofs.lemmas.List.Elements.{All-cons, All-head, All-nil, All-tail}
 use Rattle.bl_tree.specs.declared.place.Place.{Place}
+use Rattle.bl_tree.specs.declared.rule.Rule.TheVariants as rule
 use Rattle.bl_tree.specs.declared.scalar.Op.{Op}
 use Rattle.bl_tree.specs.declared.scalar.Scalar.{Scalar as ScalarType}
 use Rattle.bl_tree.specs.declared.scalar.Scalar.TheVariants.{Bool as OfBool}
@@ -105,8 +106,8 @@ call_fits site at name f arguments unit there function has each none =
     let given : List Settled = fitted arguments (inputs_of unit) in
     let counts : Bool = nat_eq (length given) unit.inputs && nat_eq 0 unit.outputs in
     let named : misnamed name (length given) (Some unit) ≡ [] = nil_right (all_failures given) (misnamed name (length given) (Some unit)) none in
-    let counted : counts ≡ true = unless_holds counts 13 name (nil_left (unless counts 13 name) (unless (is_some unit.result) 15 name) named) in
-    let result = some_of unit.result (unless_holds (is_some unit.result) 15 name (nil_right (unless counts 13 name) (unless (is_some unit.result) 15 name) named)) in
+    let counted : counts ≡ true = unless_holds counts rule.Arity name (nil_left (unless counts rule.Arity name) (unless (is_some unit.result) rule.Return name) named) in
+    let result = some_of unit.result (unless_holds (is_some unit.result) rule.Return name (nil_right (unless counts rule.Arity name) (unless (is_some unit.result) rule.Return name) named)) in
     let inputs : length given ≡ unit.inputs = eqb-true (length given) unit.inputs (and_left (nat_eq (length given) unit.inputs) (nat_eq 0 unit.outputs) counted) in
     let outputs : 0 ≡ unit.outputs = eqb-true 0 unit.outputs (and_right (nat_eq (length given) unit.inputs) (nat_eq 0 unit.outputs) counted) in
     let fit = arguments_fit site arguments (inputs_of unit) each (sym (length-fitted arguments (inputs_of unit)) ∙ inputs ∙ sym (inputs_length unit has)) (nil_left (all_failures given) (misnamed name (length given) (Some unit)) none) in
@@ -122,7 +123,7 @@ previous_at : (site : Site) (at : Place) (k : ℕ) (var : Var) → var_at site k
 previous_at site at k var there none =
     previous_is site at k
     ∙ ap (option_and_then (prev_type site.kind)) there
-    ∙ ap (λ holds. if holds then Some var.ty else None) (unless_holds (previous_fits site.kind var.role var.ty) 14 at none)
+    ∙ ap (λ holds. if holds then Some var.ty else None) (unless_holds (previous_fits site.kind var.role var.ty) rule.Prev at none)
 
 truth_in : (b : Bool) → in_range OfBool (number_of b) ≡ true
 truth_in true = refl

@@ -3,6 +3,9 @@ use Rattle.std.proofs.Common.{◌≡◌, ℕ, ℤ, List, [], ◌∷◌, ◌++◌
 use Rattle.std.specs.Prelude.{option_map, Bool, true, false, ◌&&◌, nat_eq, option_and_then, if◌then◌else◌}
 use Rattle.std.proofs.lemmas.Option.{same_Some}
 use Rattle.bl_tree.specs.declared.place.Place.{Place}
+use Rattle.bl_tree.specs.declared.rule.Failure.{Failure}
+use Rattle.bl_tree.specs.declared.rule.Rule.{Rule}
+use Rattle.bl_tree.specs.declared.rule.Rule.TheVariants as rule
 use Rattle.bl_tree.specs.declared.scalar.Op.{Op}
 use Rattle.bl_tree.specs.declared.scalar.Op.TheVariants.{Add, Sub, Mul, Div, Rem, BitAnd, BitOr, BitXor, Shl, Shr, Minus, BitNot}
 use Rattle.bl_tree.specs.declared.scalar.Scalar.{Scalar as ScalarType}
@@ -20,7 +23,6 @@ use Rattle.bl_tree.specs.Typing.{Site, cast_type, literal_type, one_type, two_ty
 use Rattle.bl_eval.proofs.FitLemmas.{same_type_is, scalar_is}
 use Rattle.bl_eval.proofs.OperatorFits.{scalar_alone}
 use Rattle.bl_eval.proofs.PassLemmas.{both}
-use Rattle.bl_types.specs.declared.failure.Failure.{Failure}
 use Rattle.bl_types.specs.declared.form.Form.{Form}
 use Rattle.bl_types.specs.declared.form.Form.TheVariants.{Failing, Open, Of}
 use Rattle.bl_types.specs.declared.form.Found.{Found}
@@ -41,9 +43,9 @@ pub nil_right : {A : Type 0} (xs ys : List A) → xs ++ ys ≡ [] → ys ≡ []
 nil_right [] ys is = is
 nil_right (x ∷ xs) ys is = absurd (cc)
 
-pub unless_holds : (test : Bool) (rule : ℕ) (at : Place) → unless test rule at ≡ [] → test ≡ true
-unless_holds true rule at is = refl
-unless_holds false rule at is = absurd (cc)
+pub unless_holds : (test : Bool) (broken : Rule) (at : Place) → unless test broken at ≡ [] → test ≡ true
+unless_holds true broken at is = refl
+unless_holds false broken at is = absurd (cc)
 
 -- ---- what there is
 
@@ -127,7 +129,7 @@ module _ (site : Site) where
       (record {
         it = literal at n s;
         is = refl;
-        is_typed = literal_is site at n s ∙ ap (literal_type s) (unless_holds (in_range s n) 10 at (ap (λ (settled : Settled). settled.failures) (sym (settled_literal s at n t)) ∙ none));
+        is_typed = literal_is site at n s ∙ ap (literal_type s) (unless_holds (in_range s n) rule.Literal at (ap (λ (settled : Settled). settled.failures) (sym (settled_literal s at n t)) ∙ none));
       })
 
   one_made_by : (at : Place) (op : Op) (s : ScalarType) (a : Expr) (holds : Bool) → keeps_one_open op ≡ true → takes_one op s ≡ holds → type_of site a ≡ Some (scalar s) →

@@ -3,6 +3,8 @@ use Rattle.std.proofs.Common.{◌≡◌, List, [], Option, Some, None, refl, ap,
 use Rattle.std.specs.Prelude.{Bool, true, is_some, option_and_then, IfSome}
 use Rattle.std.proofs.lemmas.Option.{same_Some}
 use Rattle.bl_tree.specs.declared.place.Place.{Place}
+use Rattle.bl_tree.specs.declared.rule.Failure.{Failure}
+use Rattle.bl_tree.specs.declared.rule.Rule.TheVariants as rule
 use Rattle.bl_tree.specs.declared.scalar.Scalar.{Scalar as ScalarType}
 use Rattle.bl_tree.specs.declared.tree.Expr.{Expr, fold-roll-Expr}
 use Rattle.bl_tree.specs.declared.tree.ExprKind.{ExprKind, fold-ExprKind, fold-roll-ExprKind, map-ExprKind, out-roll-ExprKind, roll-ExprKind}
@@ -28,7 +30,6 @@ use Rattle.bl_named.specs.declared.item.NamedConstant.{NamedConstant}
 use Rattle.bl_named.specs.declared.types.NamedType.{NamedType}
 use Rattle.bl_named.specs.Placed.{expr_placed}
 use Rattle.bl_types.specs.declared.environment.Environment.{Environment}
-use Rattle.bl_types.specs.declared.failure.Failure.{Failure}
 use Rattle.bl_types.specs.declared.form.Form.{Form}
 use Rattle.bl_types.specs.declared.form.Form.TheVariants.{Failing, Open, Of}
 use Rattle.bl_types.specs.declared.form.Valued.{Valued}
@@ -148,7 +149,7 @@ module _ (env : Environment) (site : Site) (within : Within env site) where
   constant_by_value : (name at : Place) (valued : Valued) → InitialFits site valued → constant_failures name at valued ≡ [] → ConstantStands (constant_of valued)
   constant_by_value name at valued fit none =
       let scalar_none : not_scalar name (Some fit.ty) ≡ [] = ap (not_scalar name) (sym fit.is_typed) ∙ nil_left (not_scalar name valued.ty) (not_folded at valued.value) none in
-      let found = some_of (scalar_in fit.ty) (unless_holds (is_some (scalar_in fit.ty)) 9 name scalar_none) in
+      let found = some_of (scalar_in fit.ty) (unless_holds (is_some (scalar_in fit.ty)) rule.Type name scalar_none) in
       let folded_none : not_folded at (Some fit.it) ≡ [] = ap (not_folded at) (sym fit.is_made) ∙ nil_right (not_scalar name valued.ty) (not_folded at valued.value) none in
       let number = folded_some at (folded fit.it) folded_none in
       let holds = where_holds (is_constant fit.it) (number_in fit.it) number.0 number.1 in

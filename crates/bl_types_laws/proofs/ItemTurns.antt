@@ -1,25 +1,22 @@
 -- All turns through the items of a program, from the first.
-use Rattle.std.proofs.Common.{◌≡◌, ℕ, ◌+◌, suc, zero, ◌≤◌, List, [], ◌∷◌, ◌++◌, length, Some, refl, inl, arith}
+use Rattle.std.proofs.Common.{◌≡◌, ℕ, List, [], ◌∷◌, Some, refl, inl}
 use Rattle.std.specs.Prelude.{Contains, slice_get}
-use Rattle.std.proofs.lemmas.List.{length-append}
+use Rattle.bl_tree.specs.declared.rule.Failure.{Failure}
 use Rattle.bl_tree.specs.declared.tree.StructDef.{StructDef}
-use Rattle.bl_named.specs.declared.item.NamedConstant.{NamedConstant}
+use Rattle.bl_tree.specs.Rules.{further_places}
+use Rattle.bl_tree.proofs.FirstLemmas.{in_contains}
 use Rattle.bl_named.specs.declared.named.Named.{Named}
-use Rattle.bl_scopes.specs.Marks.{item_marks}
 use Rattle.bl_scopes.specs.Rules.{Passes as NamesPass}
-use Rattle.bl_scopes.specs.Scopes.{Scopes, after, file_scope}
+use Rattle.bl_scopes.specs.Scopes.{file_scope}
 use Rattle.bl_raw.specs.declared.item.RawItem.{RawItem}
 use Rattle.bl_raw.specs.declared.item.RawItem.TheVariants as item
-use Rattle.bl_names.specs.Named.{along, constants_in_unit, constants_of, named_program, structs_of, units_of}
+use Rattle.bl_names.specs.Named.{named_program}
 use Rattle.bl_names.proofs.FitLemmas.{program_fits}
 use Rattle.bl_types.specs.declared.environment.Constant.{Constant}
 use Rattle.bl_types.specs.declared.environment.Variable.{Variable}
-use Rattle.bl_types.specs.declared.failure.Failure.{Failure}
 use Rattle.bl_types.specs.Programs.{failures_of, fresh}
-use Rattle.bl_types.specs.Rules.{Passes, further_of}
-use Rattle.bl_types.proofs.OrderLemmas.{in_contains}
+use Rattle.bl_types.specs.Rules.{Passes}
 use Rattle.bl_types_laws.specs.Standing.{Between}
-use Rattle.bl_parse_laws.specs.ItemOrder.{NamesAscend}
 use Rattle.bl_types_laws.proofs.Premises.{Shapes, Suits}
 use Rattle.bl_types_laws.proofs.ConstantTurn.{constant_turn}
 use Rattle.bl_types_laws.proofs.Ends.{ends_whole}
@@ -28,46 +25,15 @@ use Rattle.bl_types_laws.proofs.StructTurn.{struct_turn}
 use Rattle.bl_types_laws.proofs.UnitTurn.{unit_turn}
 
 module _ (named : Named) (suits : Suits named) (shapes : Shapes) where
-  turn : (one : RawItem) (items : List RawItem) (n : ℕ) → Induction named items n → Induction named (one ∷ items) (suc n)
-  turn (item.Struct def) items n rec = struct_turn named def items n rec
-  turn (item.Constant def) items n rec = constant_turn named suits def items n rec
-  turn (item.Unit def) items n rec = unit_turn named suits shapes def items n rec
+  turn : (one : RawItem) (items : List RawItem) → Induction named items → Induction named (one ∷ items)
+  turn (item.Struct def) items rec = struct_turn named def items rec
+  turn (item.Constant def) items rec = constant_turn named suits def items rec
+  turn (item.Unit def) items rec = unit_turn named suits shapes def items rec
 
-  less : (a b : ℕ) → suc a ≤ suc b → a ≤ b
-  less a b is = omega arith
-
-  not_none : (a : ℕ) → suc a ≤ 0 → ⊥
-  not_none a is = omega arith
-
-  -- so many turns are enough
-  pub turns : (items : List RawItem) (n : ℕ) → length items ≤ n → Induction named items n
-  turns [] n enough = none_turn named n
-  turns (one ∷ items) zero enough = absurd (not_none (length items) enough)
-  turns (one ∷ items) (suc n) enough = turn one items n (turns items n (less (length items) n enough))
-
--- ---- how many turns
-
-count_struct : (n a b c : ℕ) → n ≤ a + (b + c) → suc n ≤ suc a + (b + c)
-count_struct n a b c is = omega arith
-
-count_constant : (n a b c : ℕ) → n ≤ a + (b + c) → suc n ≤ a + (suc b + c)
-count_constant n a b c is = omega arith
-
-count_unit : (inside constants : List NamedConstant) (n a c : ℕ) → n ≤ a + (length constants + c) → suc n ≤ a + (length (inside ++ constants) + suc c)
-count_unit inside constants n a c is = let sum : length (inside ++ constants) ≡ length inside + length constants = length-append inside constants in omega arith
-
--- each item gives something
-pub all_counted : (items : List RawItem) (scopes : Scopes) → length items ≤ length (along structs_of scopes items) + (length (along constants_of scopes items) + length (along units_of scopes items))
-all_counted [] scopes = omega arith
-all_counted (item.Struct def ∷ items) scopes =
-    let new = after scopes (item_marks (item.Struct def)) in
-    count_struct (length items) (length (along structs_of new items)) (length (along constants_of new items)) (length (along units_of new items)) (all_counted items new)
-all_counted (item.Constant def ∷ items) scopes =
-    let new = after scopes (item_marks (item.Constant def)) in
-    count_constant (length items) (length (along structs_of new items)) (length (along constants_of new items)) (length (along units_of new items)) (all_counted items new)
-all_counted (item.Unit def ∷ items) scopes =
-    let new = after scopes (item_marks (item.Unit def)) in
-    count_unit (constants_in_unit scopes def) (along constants_of new items) (length items) (length (along structs_of new items)) (length (along units_of new items)) (all_counted items new)
+  -- one item after another
+  pub turns : (items : List RawItem) → Induction named items
+  turns [] = none_turn named
+  turns (one ∷ items) = turn one items (turns items)
 
 -- ---- where nothing fails
 
@@ -78,7 +44,7 @@ none_contained (failure ∷ rest) none = absurd (none failure (in_contains failu
 pub no_failure : (named : Named) → Passes named → failures_of named ≡ []
 no_failure named passes =
     none_contained (failures_of named)
-    (λ failure there. passes failure.rule failure.at (further_of failure) (record { failure = failure; is_there = there; of_rule = refl; at_place = refl; further = refl }))
+    (λ failure there. passes failure.rule failure.at (further_places failure.further) (record { failure = failure; is_there = there; of_rule = refl; at_place = refl; further = refl }))
 
 -- ---- the first turn
 
@@ -102,14 +68,13 @@ fresh_between = record {
   heads = refl;
 }
 
-pub at_start : (items : List RawItem) (bytes : ℕ) → NamesPass items → NamesAscend items → At (named_program items bytes) file_scope items fresh
-at_start items bytes passes ascend =
+pub at_start : (items : List RawItem) (bytes : ℕ) → NamesPass items → At (named_program items bytes) file_scope items fresh
+at_start items bytes passes =
     let named = named_program items bytes in
     record {
       below = (tt, tt);
       none = refl;
       fits = program_fits items passes;
-      ascend = ascend;
       structs = ends_whole named.structs;
       constants = ends_whole named.constants;
       units = ends_whole named.units;

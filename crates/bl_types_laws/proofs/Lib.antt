@@ -43,11 +43,12 @@ pub mod ItemNames
 pub mod Narrow
 pub mod WhatSuits
 pub mod Premises
-pub mod Choices
-pub mod Behind
 pub mod Ends
 pub mod Onward
 pub mod Standing
+pub mod Starts
+pub mod Occurrences
+pub mod Places
 pub mod Reached
 pub mod StructTurn
 pub mod ConstantTurn

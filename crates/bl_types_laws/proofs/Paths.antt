@@ -3,6 +3,8 @@ use Rattle.std.proofs.Common.{◌≡◌, ℕ, suc, ℤ, List, [], ◌∷◌, ◌
 use Rattle.std.specs.Prelude.{Bool, true, false, is_some, option_and_then, slice_get, if◌then◌else◌}
 use Rattle.std.specs.List.{cons_option, list_all}
 use Rattle.bl_tree.specs.declared.place.Place.{Place}
+use Rattle.bl_tree.specs.declared.rule.Failure.{Failure}
+use Rattle.bl_tree.specs.declared.rule.Rule.TheVariants as rule
 use Rattle.bl_tree.specs.declared.tree.Expr.{Expr, fold-Expr}
 use Rattle.bl_tree.specs.declared.tree.ExprKind.{ExprKind, fold-ExprKind}
 use Rattle.bl_tree.specs.declared.tree.Part.{Part, fold-Part, fold_out-Part, map-Part}
@@ -27,7 +29,6 @@ use Rattle.bl_types.specs.declared.environment.Environment.{Environment}
 use Rattle.bl_types.specs.declared.environment.Variable.{Variable}
 use Rattle.bl_types.specs.declared.form.Found.TheVariants as found
 use Rattle.bl_types.specs.Expressions.{FieldAt, Formed, Judged, Led, Stepped, Targeted, constant_found, field_found, field_in, judged_kind, judged_layer, judged_part, judged_target, path, path_found, stepped, step_of, targeted, targeted_from, to_field, type_of_constant, type_of_variable, value_of_constant}
-use Rattle.bl_types.specs.declared.failure.Failure.{Failure}
 use Rattle.bl_types.specs.Failures.{fails_at}
 use Rattle.bl_types.specs.Statements.{Lent, all_lent, immutable, immutable_variable, lent, lent_as, paths_failures, paths_made}
 use Rattle.bl_types_laws.specs.Fitting.{AllLent, FoundFits, IsLent}
@@ -72,7 +73,7 @@ type_is at k parts ty = ap (λ layer. layer.ty) (out-roll-Path (record { place =
 
 -- a path, where its type is the one that is wanted
 abbrev lent_if : Place → Path → Bool → Lent
-lent_if at it same = if same then record { made = Some it; failures = [] } else record { made = None; failures = fails_at 9 at }
+lent_if at it same = if same then record { made = Some it; failures = [] } else record { made = None; failures = fails_at rule.Type at }
 
 -- ---- what may be changed
 

@@ -2,6 +2,7 @@
 use Rattle.std.proofs.Common.{List, [], ◌∷◌, map, Option, Some, None}
 use Rattle.std.specs.Prelude.{Bool, true, false, option_map, slice_get, if◌then◌else◌}
 use Rattle.bl_tree.specs.declared.place.Place.{Place}
+use Rattle.bl_tree.specs.declared.rule.Rule.TheVariants as rule
 use Rattle.bl_tree.specs.declared.tree.Path.{Path, out-Path}
 use Rattle.bl_tree.specs.declared.tree.StructDef.{StructDef}
 use Rattle.bl_tree.specs.declared.tree.Ty.{Ty}
@@ -53,7 +54,7 @@ fields_in structs (name ∷ rest) ty =
     made_first part_depth part_roots (to_field structs name ty).part (stepped (map (to_field structs) rest) (to_field structs name ty).ty).parts empty empty (field_in_step structs name ty) (fields_in structs rest (to_field structs name ty).ty)
 
 abbrev lent_if : Bool → Place → Path → Lent
-lent_if same at it = if same then record { made = Some it; failures = [] } else record { made = None; failures = fails_at 9 at }
+lent_if same at it = if same then record { made = Some it; failures = [] } else record { made = None; failures = fails_at rule.Type at }
 
 lent_if_in : (same : Bool) (at : Place) (it : Path) (size : Size) → SizeMost (size_of_path it) size → PathIn size (lent_if same at it).made
 lent_if_in true at it size most = most

@@ -4,6 +4,8 @@ use Rattle.std.specs.Prelude.{Bool, true, false, ◌&&◌, is_none, is_some, nat
 use Rattle.std.specs.List.{list_all}
 use Rattle.std.proofs.lemmas.Option.{same_Some}
 use Rattle.bl_tree.specs.declared.place.Place.{Place}
+use Rattle.bl_tree.specs.declared.rule.Failure.{Failure}
+use Rattle.bl_tree.specs.declared.rule.Rule.TheVariants as rule
 use Rattle.bl_tree.specs.declared.scalar.Scalar.{Scalar as ScalarType}
 use Rattle.bl_tree.specs.declared.scalar.Scalar.TheVariants.{Bool as OfBool}
 use Rattle.bl_tree.specs.declared.tree.Arm.{Arm, fold-Arm, fold-roll-Arm}
@@ -26,7 +28,6 @@ use Rattle.bl_named.specs.declared.expr.NamedTarget.{NamedTarget, out-NamedTarge
 use Rattle.bl_named.specs.declared.stmt.NamedPath.{NamedPath}
 use Rattle.bl_named.specs.Placed.{Earlier, arguments_placed, declares_none, expr_placed, holds_if, holds_of, path_placed, target_placed}
 use Rattle.bl_types.specs.declared.environment.Environment.{Environment}
-use Rattle.bl_types.specs.declared.failure.Failure.{Failure}
 use Rattle.bl_types.specs.declared.form.Found.{Found}
 use Rattle.bl_types.specs.declared.form.Found.TheVariants as found
 use Rattle.bl_types.specs.Expressions.{Targeted, in_context, judged, targeted}
@@ -145,7 +146,7 @@ module _ (site : Site) (at : Place) where
   own_all env around inputs calls = ap (λ units. list_all (calls_functions units) inputs) around.units ∙ calls
 
   pub own_kind : (env : Environment) → Around env site → misplaced env.kind at ≡ [] → is_activity site.kind ≡ true
-  own_kind env around none = ap is_activity (sym around.kind) ∙ unless_holds (is_activity env.kind) 16 at none
+  own_kind env around none = ap is_activity (sym around.kind) ∙ unless_holds (is_activity env.kind) rule.Where at none
 
   pub assign_fits : (target : NamedTarget) (e : NamedExpr) → (target_calls site.earlier target && calls_functions site.earlier e) ≡ true →
       WalkFits false site good (λ env. assign target (targeted env target) e env) (λ earlier. declares_none (target_placed earlier target && expr_placed earlier e) earlier)
@@ -179,7 +180,7 @@ module _ (site : Site) (at : Place) where
       let function : is_function unit.kind ≡ true =
       ap (holds_of (λ (unit : UnitDef). is_function unit.kind)) (sym there) ∙ and_left (holds_of (λ (unit : UnitDef). is_function unit.kind) (slice_get site.earlier f)) (list_all (calls_functions site.earlier) inputs) named in
       let bare : is_none unit.result ≡ true =
-      unless_holds (is_none unit.result) 15 name (ap (has_result name) (sym found.1) ∙ nil_right given.failures (has_result name (slice_get env.units f)) none) in
+      unless_holds (is_none unit.result) rule.Return name (ap (has_result name) (sym found.1) ∙ nil_right given.failures (has_result name (slice_get env.units f)) none) in
       passed_still site good env counts (if_complete given (what.Call f)) (given.failures ++ has_result name (slice_get env.units f)) around known placed.1
       (λ within a is.
       let complete = arguments_good env site within name f inputs outputs unit found.1 (and_left (list_all (expr_placed (known_in env)) inputs) (list_all (path_placed (known_in env)) outputs) parts)
@@ -198,7 +199,7 @@ module _ (site : Site) (at : Place) where
   target_by env within unit (Some target) placed none path is = result_by unit.result refl
     where
       result_by : (result : Option ScalarType) → unit.result ≡ result → target_fits site unit.result path ≡ true
-      result_by None result = absurd (let fails = ap (λ result. unless (is_some result) 15 target.place) (sym result) ∙ nil_right (lent env (result_type (Some unit)) target).failures (no_result target.place (Some unit)) none in cc)
+      result_by None result = absurd (let fails = ap (λ result. unless (is_some result) rule.Return target.place) (sym result) ∙ nil_right (lent env (result_type (Some unit)) target).failures (no_result target.place (Some unit)) none in cc)
       result_by (Some s) result =
           let wanted : result_type (Some unit) ≡ Some (scalar s) = ap (option_map scalar) result in
           target_lent site unit.result s (lent env (result_type (Some unit)) target).made path result

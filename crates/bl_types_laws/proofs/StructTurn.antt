@@ -1,10 +1,10 @@
 -- What is made of a struct, and of the items behind it.
-use Rattle.std.proofs.Common.{◌≡◌, ℕ, ◌+◌, suc, true, List, [], ◌∷◌, length, map, sym, ap, subst, ◌∙◌, append-nil, append_assoc}
-use Rattle.std.specs.Prelude.{nat_lt, slice_get}
+use Rattle.std.proofs.Common.{◌≡◌, refl, ◌+◌, true, List, [], ◌∷◌, length, map, sym, ap, subst, ◌∙◌, append-nil, append_assoc}
 use Rattle.std.specs.List.{list_all}
 use Rattle.std.proofs.lemmas.List.{length-append}
 use Rattle.bl_tree.specs.Program.{struct_stands, structs_stand_from}
 use Rattle.bl_eval.proofs.PassLemmas.{and_left, and_right, both}
+use Rattle.bl_named.specs.declared.item.Item.TheVariants as kind
 use Rattle.bl_named.specs.declared.item.NamedStruct.{NamedStruct}
 use Rattle.bl_named.specs.declared.item.NamedUnit.{NamedUnit}
 use Rattle.bl_named.specs.declared.named.Named.{Named}
@@ -15,8 +15,8 @@ use Rattle.bl_names_laws.specs.Keeps.{struct_stands as struct_keeps}
 use Rattle.bl_raw.specs.declared.item.RawItem.{RawItem}
 use Rattle.bl_raw.specs.declared.item.RawItem.TheVariants as item
 use Rattle.bl_raw.specs.declared.item.RawStruct.{RawStruct}
-use Rattle.bl_raw.specs.Starts.{ascends}
 use Rattle.bl_names.specs.Named.{along, constants_of, named_struct, structs_of, units_of}
+use Rattle.bl_names.specs.Order.{order_of}
 use Rattle.bl_names.proofs.FitLemmas.{fits_first, fits_second}
 use Rattle.bl_names.proofs.PlacedItem.{struct_is}
 use Rattle.bl_types.specs.declared.environment.Environment.{Environment}
@@ -25,13 +25,10 @@ use Rattle.bl_types.specs.Programs.{after_item, after_items}
 use Rattle.bl_types_laws.specs.Within.{known_in}
 use Rattle.bl_types_laws.proofs.Forms.{nil_left, nil_right}
 use Rattle.bl_types_laws.proofs.Items.{struct_between}
-use Rattle.bl_parse_laws.specs.ItemOrder.{declared_starts}
-use Rattle.bl_types_laws.proofs.Behind.{constants_behind, units_behind}
-use Rattle.bl_types_laws.proofs.Choices.{struct_next}
 use Rattle.bl_types_laws.proofs.Ends.{ends_on}
 use Rattle.bl_types_laws.proofs.Onward.{struct_onward}
 use Rattle.bl_types_laws.proofs.Standing.{struct_made}
-use Rattle.bl_types_laws.proofs.Reached.{At, Induction, Made, first_constant, first_taken, first_unit, next_is, no_more, one_more, same_counts}
+use Rattle.bl_types_laws.proofs.Reached.{At, Induction, Made, first_taken, no_more, one_more, same_counts, struct_next}
 
 module _ (named : Named) where
   module _ (def : RawStruct) (items : List RawItem) (scopes : Scopes) (env : Environment) (at : At named scopes (item.Struct def ∷ items) env) where
@@ -41,15 +38,8 @@ module _ (named : Named) where
     abbrev behind_struct : Scopes
     behind_struct = after scopes (struct_marks def)
 
-    struct_chosen : after_item named env ≡ after_struct new_struct env
-    struct_chosen =
-        let n = def.name.place.start in
-        let behind = and_left (list_all (nat_lt n) (declared_starts items)) (ascends (declared_starts items)) at.ascend in
-        let constants = along constants_of behind_struct items in
-        let units = along units_of behind_struct items in
-        next_is named scopes (item.Struct def ∷ items) env at
-        ∙ struct_next named.constants env new_struct (slice_get constants 0) (slice_get units 0)
-        (first_constant n constants (constants_behind n behind_struct items behind)) (first_unit n units (units_behind n behind_struct items behind))
+    struct_chosen : after_item named kind.Struct env ≡ after_struct new_struct env
+    struct_chosen = struct_next named scopes (item.Struct def ∷ items) env at new_struct refl
 
     struct_there : struct_placed (known_in env) new_struct ≡ true
     struct_there = ap (λ (e : Earlier). struct_placed e new_struct) at.counts ∙ struct_is scopes def at.below (fits_first scopes (struct_marks def) (marks_of items) at.fits)
@@ -62,7 +52,6 @@ module _ (named : Named) where
           below = on.below;
           none = on.none;
           fits = fits_second scopes (struct_marks def) (marks_of items) at.fits;
-          ascend = and_right (list_all (nat_lt def.name.place.start) (declared_starts items)) (ascends (declared_starts items)) at.ascend;
           structs = ends_on named.structs scopes.counts.structs behind_struct.counts.structs (new_struct ∷ []) (along structs_of behind_struct items) on.more_structs at.structs;
           constants = ends_on named.constants scopes.counts.constants behind_struct.counts.constants [] (along constants_of behind_struct items) on.more_constants at.constants;
           units = ends_on named.units scopes.counts.units behind_struct.counts.units [] (along units_of behind_struct items) on.more_units at.units;
@@ -89,15 +78,16 @@ module _ (named : Named) where
           units_stand = rest.units_stand;
           unit_names = rest.unit_names;
           driven = rest.driven;
+          starts = rest.starts;
         }
 
-  pub struct_turn : (def : RawStruct) (items : List RawItem) (n : ℕ) → Induction named items n → Induction named (item.Struct def ∷ items) (suc n)
-  struct_turn def items n rec scopes env at keep_structs keep_units =
+  pub struct_turn : (def : RawStruct) (items : List RawItem) → Induction named items → Induction named (item.Struct def ∷ items)
+  struct_turn def items rec scopes env at keep_structs keep_units =
       let d = named_struct scopes def in
       let new = after scopes (struct_marks def) in
-      first_taken named (item.Struct def) items n scopes env (after_struct d env) (struct_chosen def items scopes env at)
+      first_taken named (item.Struct def) items scopes env (after_struct d env) (struct_chosen def items scopes env at)
       (λ none.
-      let first = nil_left (after_struct d env).failures (after_items n named (after_struct d env).env).failures none in
-      struct_case def items scopes env at (after_items n named (after_struct d env).env).env (and_left (struct_keeps d) (list_all struct_keeps (along structs_of new items)) keep_structs) first
+      let first = nil_left (after_struct d env).failures (after_items named (order_of items) (after_struct d env).env).failures none in
+      struct_case def items scopes env at (after_items named (order_of items) (after_struct d env).env).env (and_left (struct_keeps d) (list_all struct_keeps (along structs_of new items)) keep_structs) first
       (rec new (after_struct d env).env (at_struct def items scopes env at first) (and_right (struct_keeps d) (list_all struct_keeps (along structs_of new items)) keep_structs) keep_units
-      (nil_right (after_struct d env).failures (after_items n named (after_struct d env).env).failures none)))
+      (nil_right (after_struct d env).failures (after_items named (order_of items) (after_struct d env).env).failures none)))

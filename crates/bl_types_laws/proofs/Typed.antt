@@ -2,6 +2,7 @@
 use Rattle.std.proofs.Common.{◌≡◌, ℕ, ℤ, List, map, Option, Some, refl, ap, ◌∙◌}
 use Rattle.std.specs.Prelude.{option_and_then, slice_get}
 use Rattle.bl_tree.specs.declared.place.Place.{Place}
+use Rattle.bl_tree.specs.declared.rule.Rule.TheVariants as rule
 use Rattle.bl_tree.specs.declared.scalar.Op.{Op}
 use Rattle.bl_tree.specs.declared.scalar.Scalar.{Scalar as ScalarType}
 use Rattle.bl_tree.specs.declared.tree.Expr.{Expr, fold-roll-Expr, roll-Expr}
@@ -97,7 +98,7 @@ module _ (s : ScalarType) where
       (fold-Part (Place → Settled) (Unit {0}) Settled (Unit {0}) (settled_kind s) settled_part settled_layer settled_path) (settled s)
       (fold-Path (Place → Settled) (Unit {0}) Settled (Unit {0}) (settled_kind s) settled_part settled_layer settled_path) layer) at) is)
 
-  pub settled_literal : (at : Place) (n : ℤ) (t : ScalarType) → settled s (literal at n t) ≡ record { made = Some (literal at n s); failures = unless (in_range s n) 10 at }
+  pub settled_literal : (at : Place) (n : ℤ) (t : ScalarType) → settled s (literal at n t) ≡ record { made = Some (literal at n s); failures = unless (in_range s n) rule.Literal at }
   settled_literal at n t = settled_at at (what.Literal n t) (ExprKind-F.Literal n t) (what.outs-Literal n t)
 
   pub settled_one : (at : Place) (op : Op) (a : Expr) → settled s (one at op a) ≡ behind (settled s a).failures (one_made s at op (settled s a).made)

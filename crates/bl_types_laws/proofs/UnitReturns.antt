@@ -2,6 +2,7 @@
 use Rattle.std.proofs.Common.{◌≡◌, List, [], ◌∷◌, ◌++◌, map, Option, Some, None, refl, ap, sym, ◌∙◌}
 use Rattle.std.specs.Prelude.{Bool, true, false, ◌&&◌, ◌||◌, is_none, nat_eq, if◌then◌else◌}
 use Rattle.std.specs.List.{cons_option}
+use Rattle.bl_tree.specs.declared.rule.Rule.TheVariants as rule
 use Rattle.bl_tree.specs.declared.tree.Stmt.{Stmt}
 use Rattle.bl_tree.specs.declared.tree.Unit.{Unit as UnitDef}
 use Rattle.bl_tree.specs.Reduce.{all_of}
@@ -89,11 +90,11 @@ module _ (constants : List NamedConstant) (vars : List NamedVar) (site : Site) w
         (either_by (is_none unit.result) (last_of (map named_is_return unit.body)) (is_none made.result) (last_of (map is_return made.body)) returns result
         (λ last. ap (λ body. last_of (map is_return body)) body ∙ body_last unit.body named last env around known counts step none))
 
-    returns_by : (activity : Bool) → (if activity then unless (named_activity_returns unit) 15 unit.name.place ++ strays unit.body else unless (named_function_returns unit) 15 unit.name.place) ≡ [] →
+    returns_by : (activity : Bool) → (if activity then unless (named_activity_returns unit) rule.Return unit.name.place ++ strays unit.body else unless (named_function_returns unit) rule.Return unit.name.place) ≡ [] →
         (if activity then activity_returns made else function_returns made) ≡ true
     returns_by true fine =
-        activity_by (unless_holds (named_activity_returns unit) 15 unit.name.place (nil_left (unless (named_activity_returns unit) 15 unit.name.place) (strays unit.body) fine)) (nil_right (unless (named_activity_returns unit) 15 unit.name.place) (strays unit.body) fine)
-    returns_by false fine = function_by (unless_holds (named_function_returns unit) 15 unit.name.place fine)
+        activity_by (unless_holds (named_activity_returns unit) rule.Return unit.name.place (nil_left (unless (named_activity_returns unit) rule.Return unit.name.place) (strays unit.body) fine)) (nil_right (unless (named_activity_returns unit) rule.Return unit.name.place) (strays unit.body) fine)
+    returns_by false fine = function_by (unless_holds (named_function_returns unit) rule.Return unit.name.place fine)
 
     pub unit_made_returns : return_failures unit ≡ [] → unit_returns made ≡ true
     unit_made_returns fine = ap (λ kind. if is_activity kind then activity_returns made else function_returns made) kind ∙ returns_by (is_activity unit.kind) fine

@@ -1,14 +1,15 @@
 -- What is made of a unit, and of the items behind it.
 use Rattle.std.proofs.Common.{◌≡◌, ℕ, suc, zero, true, List, [], ◌∷◌, ◌++◌, length, map, Some, refl, sym, ap, subst, ◌∙◌, append-nil, append_assoc}
-use Rattle.std.specs.Prelude.{nat_lt, slice_get}
+use Rattle.std.specs.Prelude.{slice_get}
 use Rattle.std.specs.List.{list_all}
 use Rattle.std.proofs.lemmas.Option.{same_Some}
 use Rattle.std.proofs.lemmas.List.{map-append}
 use Rattle.bl_tree.specs.declared.tree.StructDef.{StructDef}
 use Rattle.bl_tree.specs.declared.tree.Unit.{Unit as UnitDef}
+use Rattle.bl_tree.specs.declared.tree.UnitKind.{UnitKind}
 use Rattle.bl_tree.specs.Program.{is_entry, structs_stand_from, unit_stands, units_stand_after}
-use Rattle.bl_tree.specs.Reduce.{joined}
 use Rattle.bl_eval.proofs.PassLemmas.{and_left, and_right, both}
+use Rattle.bl_named.specs.declared.item.Item.TheVariants as kind
 use Rattle.bl_named.specs.declared.item.NamedConstant.{NamedConstant}
 use Rattle.bl_named.specs.declared.item.NamedUnit.{NamedUnit}
 use Rattle.bl_named.specs.declared.named.Named.{Named}
@@ -19,27 +20,25 @@ use Rattle.bl_names_laws.specs.Keeps.{unit_stands as unit_keeps}
 use Rattle.bl_raw.specs.declared.item.RawItem.{RawItem}
 use Rattle.bl_raw.specs.declared.item.RawItem.TheVariants as item
 use Rattle.bl_raw.specs.declared.item.RawUnit.{RawUnit}
-use Rattle.bl_raw.specs.Starts.{ascends}
 use Rattle.bl_names.specs.Named.{along, constants_in_unit, constants_of, named_unit, structs_of, units_of}
+use Rattle.bl_names.specs.Order.{order_of}
 use Rattle.bl_names.proofs.FitLemmas.{fits_first, fits_second}
 use Rattle.bl_names.proofs.PlacedExpr.{earlier}
 use Rattle.bl_names.proofs.PlacedItem.{UnitHolds, unit_holds}
 use Rattle.bl_types.specs.declared.environment.Environment.{Environment}
 use Rattle.bl_types.specs.Programs.{after_item, after_items}
-use Rattle.bl_types.specs.Units.{after_unit, drives}
+use Rattle.bl_types.specs.Units.{after_head, after_unit, drives}
 use Rattle.bl_types_laws.specs.Standing.{UnitPassed, unit_named}
 use Rattle.bl_types_laws.specs.Within.{known_in}
 use Rattle.bl_types_laws.proofs.Forms.{nil_left, nil_right}
 use Rattle.bl_types_laws.proofs.Units.{unit_passes}
-use Rattle.bl_parse_laws.specs.ItemOrder.{constant_starts, declared_starts}
 use Rattle.bl_types_laws.proofs.Premises.{Shapes, Suits}
-use Rattle.bl_types_laws.proofs.Behind.{all_append, all_left, all_right, constant_is_behind, constants_behind, structs_behind, unit_good}
-use Rattle.bl_types_laws.proofs.Choices.{unit_next}
 use Rattle.bl_types_laws.proofs.Ends.{ends_first, ends_next, ends_on, ends_take}
 use Rattle.bl_types_laws.proofs.Onward.{unit_onward}
+use Rattle.bl_types_laws.proofs.Places.{starts_stay}
+use Rattle.bl_types_laws.proofs.Starts.{picked_append}
 use Rattle.bl_types_laws.proofs.Standing.{Passing, made_of, passing, unit_made, units_made}
-use Rattle.bl_tree.specs.declared.tree.UnitKind.{UnitKind}
-use Rattle.bl_types_laws.proofs.Reached.{At, Induction, Made, ascends_right, first_constant, first_struct, first_taken, next_is}
+use Rattle.bl_types_laws.proofs.Reached.{At, Induction, Made, first_taken, unit_next}
 
 abbrev kind_made : UnitDef → UnitKind
 kind_made unit = unit.kind
@@ -63,17 +62,8 @@ module _ (named : Named) (suits : Suits named) (shapes : Shapes) where
     abbrev inside : List NamedConstant
     inside = constants_in_unit scopes def
 
-    unit_chosen : after_item named env ≡ after_unit named.constants new_unit env
-    unit_chosen =
-        let n = def.name.place.start in
-        let behind = and_left (list_all (nat_lt n) (joined (map constant_starts def.body) ++ declared_starts items)) (ascends (joined (map constant_starts def.body) ++ declared_starts items)) at.ascend in
-        let later = all_right (nat_lt n) (joined (map constant_starts def.body)) (declared_starts items) behind in
-        let structs = along structs_of behind_unit items in
-        let constants = along constants_of behind_unit items in
-        next_is named scopes (item.Unit def ∷ items) env at
-        ∙ unit_next named.constants env (slice_get structs 0) (slice_get (inside ++ constants) 0) new_unit (first_struct n structs (structs_behind n behind_unit items later))
-        (first_constant n (inside ++ constants)
-        (all_append (constant_is_behind n) inside constants (unit_good n scopes def (all_left (nat_lt n) (joined (map constant_starts def.body)) (declared_starts items) behind)) (constants_behind n behind_unit items later)))
+    unit_chosen : after_item named kind.Unit env ≡ after_unit named.constants new_unit env
+    unit_chosen = unit_next named scopes (item.Unit def ∷ items) env at new_unit refl
 
     holds : UnitHolds (unit_step named.constants new_unit (earlier scopes)) scopes behind_unit inside
     holds =
@@ -108,8 +98,6 @@ module _ (named : Named) (suits : Suits named) (shapes : Shapes) where
           below = on.below;
           none = on.none;
           fits = fits_second scopes (unit_marks def) (marks_of items) at.fits;
-          ascend = ascends_right (joined (map constant_starts def.body)) (declared_starts items)
-              (and_right (list_all (nat_lt def.name.place.start) (joined (map constant_starts def.body) ++ declared_starts items)) (ascends (joined (map constant_starts def.body) ++ declared_starts items)) at.ascend);
           structs = ends_on named.structs scopes.counts.structs behind_unit.counts.structs [] (along structs_of behind_unit items) on.more_structs at.structs;
           constants = ends_on named.constants scopes.counts.constants behind_unit.counts.constants inside (along constants_of behind_unit items) on.more_constants at.constants;
           units = ends_on named.units scopes.counts.units behind_unit.counts.units (new_unit ∷ []) (along units_of behind_unit items) on.more_units at.units;
@@ -142,16 +130,17 @@ module _ (named : Named) (suits : Suits named) (shapes : Shapes) where
               (subst (λ units. units_stand_after final.structs units rest.more ≡ true) (units_are none) rest.units_stand);
           unit_names = ap (λ names. def.name.text ∷ names) rest.unit_names;
           driven = unit_driven final.structs rest.more passes rest.driven;
+          starts = picked_append (starts_stay named.constants new_unit.vars new_unit.body (after_head new_unit env).env) rest.starts;
         }
 
-  pub unit_turn : (def : RawUnit) (items : List RawItem) (n : ℕ) → Induction named items n → Induction named (item.Unit def ∷ items) (suc n)
-  unit_turn def items n rec scopes env at keep_structs keep_units =
+  pub unit_turn : (def : RawUnit) (items : List RawItem) → Induction named items → Induction named (item.Unit def ∷ items)
+  unit_turn def items rec scopes env at keep_structs keep_units =
       let u = named_unit scopes def in
       let new = after scopes (unit_marks def) in
       let taken = after_unit named.constants u env in
-      first_taken named (item.Unit def) items n scopes env taken (unit_chosen def items scopes env at)
+      first_taken named (item.Unit def) items scopes env taken (unit_chosen def items scopes env at)
       (λ none.
-      let first = nil_left taken.failures (after_items n named taken.env).failures none in
-      unit_case def items scopes env at (after_items n named taken.env).env (and_left (unit_keeps u) (list_all unit_keeps (along units_of new items)) keep_units) first
+      let first = nil_left taken.failures (after_items named (order_of items) taken.env).failures none in
+      unit_case def items scopes env at (after_items named (order_of items) taken.env).env (and_left (unit_keeps u) (list_all unit_keeps (along units_of new items)) keep_units) first
       (rec new taken.env (at_unit def items scopes env at first) keep_structs (and_right (unit_keeps u) (list_all unit_keeps (along units_of new items)) keep_units)
-      (nil_right taken.failures (after_items n named taken.env).failures none)))
+      (nil_right taken.failures (after_items named (order_of items) taken.env).failures none)))

@@ -5,6 +5,7 @@ use Rattle.std.specs.List.{cons_option, list_all}
 use Rattle.std.proofs.lemmas.List.{append-nil}
 use Rattle.std.proofs.lemmas.List.Elements.{All-head, All-tail}
 use Rattle.std.proofs.lemmas.Option.{same_Some}
+use Rattle.bl_tree.specs.declared.rule.Failure.{Failure}
 use Rattle.bl_tree.specs.declared.tree.Ty.{Ty}
 use Rattle.bl_tree.specs.Reduce.{all_of}
 use Rattle.bl_tree.specs.Typing.{Site, is_inhabited}
@@ -14,7 +15,6 @@ use Rattle.bl_named.specs.declared.expr.NamedExpr.{NamedExpr}
 use Rattle.bl_named.specs.Placed.{Earlier, in_turn}
 use Rattle.bl_types.specs.declared.environment.Environment.{Environment}
 use Rattle.bl_types.specs.declared.environment.Variable.{Variable}
-use Rattle.bl_types.specs.declared.failure.Failure.{Failure}
 use Rattle.bl_types.specs.Statements.{Block, Walked, in_order, walked}
 use Rattle.bl_types.specs.Units.{var_of, var_typed, vars_of}
 use Rattle.bl_types_laws.specs.Standing.{Around, BlockPassed, Grown, Known, Passed, VariableKnown, VariablesThere}

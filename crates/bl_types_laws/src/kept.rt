@@ -8,15 +8,16 @@ ghost use Rattle.bl_scopes.specs.Rules.{Passes as NamesPass};
 ghost use Rattle.bl_names.specs.Named.{named_program};
 ghost use Rattle.bl_types.specs.Programs.{typed_program};
 ghost use Rattle.bl_types.specs.Rules.{Passes as TypesPass};
-ghost use Rattle.bl_parse_laws.specs.ItemOrder.{NamesAscend};
 
+use crate::named::what_is_named_suits;
+use crate::shapes::what_is_made_keeps_shape;
 use bl_names_laws::kept::what_is_named_keeps;
-use bl_types_laws::named::what_is_named_suits;
-use bl_types_laws::shapes::what_is_made_keeps_shape;
 
 /// What the structs and units with their types keep of a program in which no rule fails, and its entry.
 pub fn what_is_typed_keeps()
-    ensures keeps { (items : List RawItem) (bytes : ℕ) → RawKeeps items → NamesAscend items → NamesPass items → TypesPass (named_program items bytes) → Keeps (typed_program (named_program items bytes)).structs (typed_program (named_program items bytes)).units (typed_program (named_program items bytes)).entry }
+    ensures keeps { (items : List RawItem) (bytes : ℕ) →
+        RawKeeps items → NamesPass items → TypesPass (named_program items bytes) →
+        Keeps (typed_program (named_program items bytes)).structs (typed_program (named_program items bytes)).units (typed_program (named_program items bytes)).entry }
 {
     what_is_named_keeps();
     what_is_named_suits();

@@ -2,12 +2,12 @@
 
 use bl_named::Named;
 use bl_named::expr::{NamedExpr, NamedExprKind, NamedTarget, Root};
-use bl_named::item::{NamedUnit, NamedVar};
+use bl_named::item::{Item, NamedUnit, NamedVar};
 use bl_named::stmt::{NamedStmt, NamedStmtKind};
 use bl_named::types::NamedType;
 use bl_raw::name::Name;
 use bl_tree::tree::{Role, UnitKind};
-use bl_tree::{Box, List, NoMemory, Op, Place, Refusal, Scalar, Text, Width};
+use bl_tree::{Box, List, NoMemory, Op, Place, Refusal, Rule, Scalar, Text, Width};
 use bl_types::judge;
 use std::alloc::Global;
 use std::process::Abort;
@@ -64,10 +64,13 @@ fn program(alloc: Global, ty: Scalar, e: NamedExpr) -> Result<Named, NoMemory> {
         result: None,
         body,
     })?;
+    let mut order = List::new(alloc);
+    order.push(Item::Unit)?;
     Ok(Named {
         structs: List::new(alloc),
         constants: List::new(alloc),
         units,
+        order,
         bytes: 200,
     })
 }
@@ -77,18 +80,18 @@ fn fails(
     alloc: Global,
     ty: Scalar,
     e: NamedExpr,
-    rule: u8,
+    rule: Rule,
     place: Place,
 ) -> Result<bool, NoMemory> {
     match judge(alloc, &program(alloc, ty, e)?) {
         Ok(_) => Ok(false),
         Err(
             Refusal::Rule {
-                number,
+                rule: first,
                 place: told,
                 also,
             },
-        ) => Ok(number == rule && told == place && also.is_empty()),
+        ) => Ok(first == rule && told == place && also.is_empty()),
         Err(Refusal::NoMemory) => Err(NoMemory),
     }
 }
@@ -139,9 +142,9 @@ fn two(
 #[test]
 fn a_number_is_in_the_range_of_the_type_that_is_wanted(rt: HostRuntime) -> Result<(), NoMemory> {
     let alloc = rt.alloc();
-    assert!(&rt; fails(alloc, NAT8, minus(at(0, 2), 1), 10, at(0, 2))?);
+    assert!(&rt; fails(alloc, NAT8, minus(at(0, 2), 1), Rule::Literal, at(0, 2))?);
     assert!(&rt; passes(alloc, INT8, minus(at(0, 4), 128))?);
-    assert!(&rt; fails(alloc, INT8, number(at(0, 3), 128), 10, at(0, 3))?);
+    assert!(&rt; fails(alloc, INT8, number(at(0, 3), 128), Rule::Literal, at(0, 3))?);
     // 3 - 200
     let e = two(
         alloc,
@@ -150,7 +153,7 @@ fn a_number_is_in_the_range_of_the_type_that_is_wanted(rt: HostRuntime) -> Resul
         number(at(0, 1), 3),
         number(at(4, 7), 200),
     )?;
-    assert!(&rt; fails(alloc, INT8, e, 10, at(4, 7))?);
+    assert!(&rt; fails(alloc, INT8, e, Rule::Literal, at(4, 7))?);
     Ok(())
 }
 
@@ -165,7 +168,7 @@ fn an_open_expression_is_no_bool(rt: HostRuntime) -> Result<(), NoMemory> {
         number(at(0, 1), 1),
         number(at(4, 5), 2),
     )?;
-    assert!(&rt; fails(alloc, Scalar::Bool, e, 9, at(0, 5))?);
+    assert!(&rt; fails(alloc, Scalar::Bool, e, Rule::Type, at(0, 5))?);
     // b < 5
     let e = two(
         alloc,
@@ -174,7 +177,7 @@ fn an_open_expression_is_no_bool(rt: HostRuntime) -> Result<(), NoMemory> {
         read(alloc, at(0, 1), B),
         number(at(4, 5), 5),
     )?;
-    assert!(&rt; fails(alloc, Scalar::Bool, e, 9, at(4, 5))?);
+    assert!(&rt; fails(alloc, Scalar::Bool, e, Rule::Type, at(4, 5))?);
     // x and 5
     let e = two(
         alloc,
@@ -183,7 +186,7 @@ fn an_open_expression_is_no_bool(rt: HostRuntime) -> Result<(), NoMemory> {
         read(alloc, at(0, 1), X),
         number(at(6, 7), 5),
     )?;
-    assert!(&rt; fails(alloc, Scalar::Bool, e, 9, at(6, 7))?);
+    assert!(&rt; fails(alloc, Scalar::Bool, e, Rule::Type, at(6, 7))?);
     Ok(())
 }
 
@@ -198,7 +201,7 @@ fn an_operator_takes_operands_that_its_type_has(rt: HostRuntime) -> Result<(), N
         number(at(0, 1), 5),
         number(at(4, 5), 3),
     )?;
-    assert!(&rt; fails(alloc, INT32, e, 9, at(0, 5))?);
+    assert!(&rt; fails(alloc, INT32, e, Rule::Type, at(0, 5))?);
     let e = two(
         alloc,
         at(0, 5),
@@ -215,7 +218,7 @@ fn an_operator_takes_operands_that_its_type_has(rt: HostRuntime) -> Result<(), N
         read(alloc, at(0, 1), X),
         read(alloc, at(4, 5), B),
     )?;
-    assert!(&rt; fails(alloc, INT32, e, 9, at(0, 5))?);
+    assert!(&rt; fails(alloc, INT32, e, Rule::Type, at(0, 5))?);
     // x + 1 == 2147483647
     let sum = two(
         alloc,
@@ -239,7 +242,7 @@ fn an_operator_takes_operands_that_its_type_has(rt: HostRuntime) -> Result<(), N
 fn the_previous_value_of_an_input_is_not_kept(rt: HostRuntime) -> Result<(), NoMemory> {
     let alloc = rt.alloc();
     let e = expr(at(0, 6), NamedExprKind::Prev(X));
-    assert!(&rt; fails(alloc, INT32, e, 14, at(0, 6))?);
+    assert!(&rt; fails(alloc, INT32, e, Rule::Prev, at(0, 6))?);
     Ok(())
 }
 
@@ -250,11 +253,12 @@ fn a_program_has_an_entry(rt: HostRuntime) -> Result<(), NoMemory> {
         structs: List::new(alloc),
         constants: List::new(alloc),
         units: List::new(alloc),
+        order: List::new(alloc),
         bytes: 7,
     };
     match judge(alloc, &named) {
-        Err(Refusal::Rule { number, place, .. }) => {
-            assert!(&rt; number == 17 && place == at(7, 7));
+        Err(Refusal::Rule { rule, place, .. }) => {
+            assert!(&rt; rule == Rule::Entry && place == at(7, 7));
             Ok(())
         }
         Err(Refusal::NoMemory) => Err(NoMemory),

@@ -1,4 +1,3 @@
-use Rattle.bl_parse_laws.proofs.Declared.{names_ascend}
 use Rattle.bl_parse_laws.proofs.InOrder.{starts_ascend}
 use Rattle.bl_parse_laws.proofs.Keeps.{what_keeps}
 use Rattle.bl_parse_laws.proofs.Nested.{what_is_shallow}
@@ -13,9 +12,6 @@ returns-clause-shallow c = what_is_shallow
 
 pub returns-clause-in_order : goal.returns-clause-in_order
 returns-clause-in_order c = starts_ascend
-
-pub returns-clause-names_ascend : goal.returns-clause-names_ascend
-returns-clause-names_ascend c = names_ascend
 
 pub returns-clause-keeps : goal.returns-clause-keeps
 returns-clause-keeps c = what_keeps

@@ -10,7 +10,7 @@ returns-in-Err-clause-cause c = names_cause c.args.raw.now c.in-Err.refusal c.in
 pub program_of-requires : goal.program_of-requires
 program_of-requires c =
     kept c.args.raw.now c.in-Ok.named c.in-Ok-judge.typed c.in-Ok.ensures.named c.in-Ok-judge.ensures.typed
-    (c.what_is_typed_keeps.ensures.keeps c.args.raw.now.items c.args.raw.now.bytes c.requires.keeps c.requires.in_order c.in-Ok.ensures.passes
+    (c.what_is_typed_keeps.ensures.keeps c.args.raw.now.items c.args.raw.now.bytes c.requires.keeps c.in-Ok.ensures.passes
     (subst Passes c.in-Ok.ensures.named c.in-Ok-judge.ensures.passes))
 
 pub returns-in-Ok-judge-clause-types : goal.returns-in-Ok-judge-clause-types
