@@ -6,4 +6,5 @@ use Rattle.bl_types.proofs.call.all_lent.Given as goal
 abbrev pub invariant-loop-path : goal.invariant-loop-path
 invariant-loop-path l =
     (l.made ++ paths_made (all_lent l.env (drop l.path-index l.all) l.params) ≡ paths_made (all_lent l.env l.all l.initial.params))
-    × (noted l.notes (paths_failures (all_lent l.env (drop l.path-index l.all) l.params)) ≡ noted l.initial.notes (paths_failures (all_lent l.env l.all l.initial.params)))
+    × (noted l.notes (paths_failures (all_lent l.env (drop l.path-index l.all) l.params))
+    ≡ noted l.initial.notes (paths_failures (all_lent l.env l.all l.initial.params)))

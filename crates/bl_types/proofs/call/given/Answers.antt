@@ -34,7 +34,8 @@ returns-clause-notes c =
     let count = sym (fitted-length inputs (params_of (slice_get env.units c.args.f)) ∙ length-map c.args.inputs.now (judged env)) in
     let other = sym (all_lent-length env c.args.outputs.now (outputs_wanted (slice_get env.units c.args.f))) in
     let last = counted c.args.at (length first) (length second) (slice_get env.units c.args.f) in
-    then_noted c.args.notes.now c.arguments.new.notes c.counted.new.notes (all_failures first) (paths_failures second ++ last) (all_failures first ++ (paths_failures second ++ last))
+    then_noted c.args.notes.now c.arguments.new.notes c.counted.new.notes (all_failures first) (paths_failures second ++ last)
+    (all_failures first ++ (paths_failures second ++ last))
     (c.in_ok-made.ensures.notes ∙ ap (λ params. noted c.args.notes.now (all_failures (fitted inputs params))) params) refl
     (then_noted c.arguments.new.notes c.all_lent.new.notes c.counted.new.notes (paths_failures second) last (paths_failures second ++ last)
     (c.in_ok-lent.ensures.notes ∙ ap (λ params. noted c.arguments.new.notes (paths_failures (all_lent env c.args.outputs.now params))) wanted) refl

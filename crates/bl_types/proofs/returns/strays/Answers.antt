@@ -12,5 +12,6 @@ loop-k-preserved c =
     let s = c.index-body-k.result in
     let rest = drop (c.loop-k.k + 1) c.args.body.now in
     let step = next_of c.args.body.now c.loop-k.k s c.loop-k-test.true c.index-body-k.is in
-    next_noted c.loop-k.notes c.stray.new.notes _ (stray (is_inhabited rest) s) _ (strays rest) c.stray.ensures (ap (λ followed. stray followed s) (is_followed (c.loop-k.k + 1) c.args.body.now))
+    next_noted c.loop-k.notes c.stray.new.notes _ (stray (is_inhabited rest) s) _ (strays rest) c.stray.ensures
+    (ap (λ followed. stray followed s) (is_followed (c.loop-k.k + 1) c.args.body.now))
     (sym (ap (λ l. noted c.loop-k.notes (strays l)) step) ∙ c.loop-k.invariant)

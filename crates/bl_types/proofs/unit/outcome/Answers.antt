@@ -13,7 +13,8 @@ returns-clause-notes c =
     let env = c.args.env.now in
     let written = c.in-Some.written in
     let ty = c.in_ok-ty.ensures.ty ∙ ap (λ constants. written_type constants written) c.deref.ensures in
-    then_noted c.args.notes.now c.typed.new.notes c.scalar_outcome.new.notes (bad_lengths env.constants written) (unless (is_some (scalar_in (written_type env.constants written))) rule.Type c.args.name)
+    then_noted c.args.notes.now c.typed.new.notes c.scalar_outcome.new.notes (bad_lengths env.constants written)
+    (unless (is_some (scalar_in (written_type env.constants written))) rule.Type c.args.name)
     (result_of env c.args.name c.args.written.now).failures
     (c.in_ok-ty.ensures.notes ∙ ap (λ constants. noted c.args.notes.now (bad_lengths constants written)) c.deref.ensures)
     (ap (λ written. (result_of env c.args.name written).failures) c.in-Some.is)
