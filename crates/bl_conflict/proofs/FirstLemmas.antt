@@ -1,5 +1,35 @@
 -- The first of several failures, list by list.
-use Rattle.std.proofs.Common.{◌≡◌, ℕ, zero, suc, ◌+◌, ◌<◌, ◌≤◌, Bool, true, false, ◌&&◌, ◌||◌, List, [], ◌∷◌, ◌++◌, map, length, get_or, drop, Option, None, refl, ap, sym, ◌∙◌, add-one, append_assoc, arith}
+use Rattle.std.proofs.Common.{
+  ◌≡◌,
+  ℕ,
+  zero,
+  suc,
+  ◌+◌,
+  ◌<◌,
+  ◌≤◌,
+  Bool,
+  true,
+  false,
+  ◌&&◌,
+  ◌||◌,
+  List,
+  [],
+  ◌∷◌,
+  ◌++◌,
+  map,
+  length,
+  get_or,
+  drop,
+  Option,
+  None,
+  refl,
+  ap,
+  sym,
+  ◌∙◌,
+  add-one,
+  append_assoc,
+  arith,
+}
 use Rattle.std.proofs.Math.Seq.{drop-cons}
 use Rattle.bl_tree.proofs.ReduceLemmas.{joined-append}
 use Rattle.bl_tree.specs.declared.tree.Var.{Var}
@@ -9,7 +39,7 @@ use Rattle.bl_effects.specs.Rules.{Parallel, Split, splits_after, together}
 use Rattle.bl_tree.specs.Static.{is_front}
 use Rattle.bl_tree.specs.declared.rule.Failure.{Failure}
 use Rattle.bl_tree.specs.Rules.{first_of, lesser}
-use Rattle.bl_conflict.specs.Failures.{all_clashes, clashes, least_by}
+use Rattle.bl_conflict.specs.inner.Failures.{all_clashes, clashes, least_by}
 
 pub next_of : {X : Type 0} (xs : List X) (k : ℕ) (x : X) → k < length xs → x ≡ get_or xs k x → drop k xs ≡ x ∷ drop (k + 1) xs
 next_of xs k x within is = rw add-one (drop-cons xs k x within ∙ ap (λ y. y ∷ drop (suc k) xs) (sym is))

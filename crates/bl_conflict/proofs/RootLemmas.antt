@@ -1,5 +1,38 @@
 -- A write whose root no earlier one has conflicts with none.
-use Rattle.std.proofs.Common.{◌≡◌, ℕ, zero, suc, ◌+◌, ◌<◌, Bool, true, false, cond, ◌&&◌, ◌||◌, List, [], ◌∷◌, ◌++◌, length, get_or, take, Option, Some, None, refl, ap, sym, ◌∙◌, subst, nat_eq, eqb→eq, T, add-one, arith}
+use Rattle.std.proofs.Common.{
+  ◌≡◌,
+  ℕ,
+  zero,
+  suc,
+  ◌+◌,
+  ◌<◌,
+  Bool,
+  true,
+  false,
+  cond,
+  ◌&&◌,
+  ◌||◌,
+  List,
+  [],
+  ◌∷◌,
+  ◌++◌,
+  length,
+  get_or,
+  take,
+  Option,
+  Some,
+  None,
+  refl,
+  ap,
+  sym,
+  ◌∙◌,
+  subst,
+  nat_eq,
+  eqb→eq,
+  T,
+  add-one,
+  arith,
+}
 use Rattle.std.specs.BTreeSet.{BTreeSet, contains}
 use Rattle.std.specs.Ordering.{nat_cmp}
 use Rattle.std.specs.Prelude.{slice_get}
@@ -9,8 +42,8 @@ use Rattle.bl_effects.specs.declared.marked.Marked.{Marked}
 use Rattle.bl_tree.specs.Static.{is_front}
 use Rattle.bl_tree.specs.declared.rule.Failure.{Failure}
 use Rattle.bl_tree.specs.Rules.{first_of}
-use Rattle.bl_conflict.specs.Failures.{clash_of, clashes_at, clashes_under, clashes_with, of_clash}
-use Rattle.bl_conflict.specs.Roots.{Knows}
+use Rattle.bl_conflict.specs.inner.Failures.{clash_of, clashes_at, clashes_under, clashes_with, of_clash}
+use Rattle.bl_conflict.specs.inner.Roots.{Knows}
 
 nat_same : (m n : ℕ) → nat_eq m n ≡ true → m ≡ n
 nat_same m n is = eqb→eq m n (subst T (sym is) tt)
@@ -28,7 +61,8 @@ none_at roots declared [] second known lacks = refl
 none_at roots declared (first ∷ rest) second known lacks =
     let apart = apart_of roots first.path.root second.path.root known.0 lacks in
     let none : clash_of declared second first ≡ [] =
-    ap (λ test. cond (test && (is_front first.path.fields second.path.fields || is_front second.path.fields first.path.fields)) (of_clash declared second first ∷ []) []) apart in
+    ap (λ test. cond (test && (is_front first.path.fields second.path.fields || is_front second.path.fields first.path.fields))
+    (of_clash declared second first ∷ []) []) apart in
     ap (λ l. l ++ clashes_at declared rest second) none ∙ none_at roots declared rest second known.1 lacks
 
 none_under : (roots : BTreeSet ℕ) (found : Option Var) (earlier : List Marked) (second : Marked)

@@ -3,7 +3,7 @@
 
 ghost use Rattle.std.specs.Prelude.{◌≡◌, map};
 ghost use Rattle.bl_tree.specs.Typing.{is_activity};
-ghost use Rattle.bl_conflict.specs.Failures.{branches_loops, instant_failures, least_by, loops_of, loops_of_arm, loops_of_branch, of_loop};
+ghost use Rattle.bl_conflict.specs.inner.Failures.{branches_loops, instant_failures, least_by, loops_of, loops_of_arm, loops_of_branch, of_loop};
 ghost use Rattle.bl_tree.specs.Instant.{branches_instant};
 ghost use Rattle.bl_effects.specs.Rules.{block_ends, block_loops, loop_places, loops_in};
 ghost use Rattle.bl_tree.specs.Reduce.{any_of};

@@ -5,7 +5,7 @@
 
 ghost use Rattle.std.specs.Prelude.{◌≡◌, None, IfErr, IfOk, OnOk};
 ghost use Rattle.bl_tree.specs.Rules.{IsCause, first_of};
-ghost use Rattle.bl_conflict.specs.Failures.{failures};
+ghost use Rattle.bl_conflict.specs.inner.Failures.{failures};
 ghost use Rattle.bl_effects.specs.Rules.{Fails, Passes};
 
 mod alias;
@@ -13,8 +13,6 @@ mod conflict;
 mod instant;
 mod marks;
 mod pause;
-#[cfg(test)]
-mod tests;
 
 use bl_tree::tree::Unit;
 use bl_tree::{Failure, NoMemory, Program, Refusal};

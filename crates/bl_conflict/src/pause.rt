@@ -3,7 +3,7 @@
 
 ghost use Rattle.std.specs.Prelude.{◌≡◌};
 ghost use Rattle.bl_tree.specs.Rules.{first_of};
-ghost use Rattle.bl_conflict.specs.Failures.{pause_failures, pause_of};
+ghost use Rattle.bl_conflict.specs.inner.Failures.{pause_failures, pause_of};
 
 use crate::instant::{block, is_activity};
 use bl_tree::rule::lesser;

@@ -5,7 +5,7 @@ ghost use Rattle.bl_tree.specs.declared.tree.Arm.{out-Arm};
 ghost use Rattle.bl_tree.specs.declared.tree.Branch.{out-Branch};
 ghost use Rattle.bl_tree.specs.Reduce.{all_of, any_of, joined};
 ghost use Rattle.bl_tree.specs.Effects.{argument_mentions, optional_mentions, reads, target_mentions, target_static, writes};
-ghost use Rattle.bl_effects.specs.Gathered.{Gathers, children_of_kind, ends_of_branch, instant_of_arm, instant_of_kind, reads_of_arm, reads_of_branch, reads_of_kind, writes_of_arm, writes_of_branch, writes_of_kind};
+ghost use Rattle.bl_effects.specs.inner.Gathered.{Gathers, children_of_kind, ends_of_branch, instant_of_arm, instant_of_kind, reads_of_arm, reads_of_branch, reads_of_kind, writes_of_arm, writes_of_branch, writes_of_kind};
 ghost use Rattle.bl_tree.specs.Instant.{branches_instant, instant};
 ghost use Rattle.bl_tree.specs.Static.{mentions, path_mentions, static_of};
 

@@ -14,8 +14,6 @@ mod marked;
 pub mod mentions;
 pub mod sets;
 mod table;
-#[cfg(test)]
-mod tests;
 
 pub use marked::Marked;
 pub use mentions::static_of;

@@ -1,5 +1,5 @@
 use Rattle.std.proofs.Common.{◌≡◌, drop}
-use Rattle.bl_conflict.specs.Failures.{alias_failures, least_by, of_alias}
+use Rattle.bl_conflict.specs.inner.Failures.{alias_failures, least_by, of_alias}
 use Rattle.bl_conflict.proofs.alias.first.Given as goal
 
 abbrev pub invariant-loop-unit : goal.invariant-loop-unit

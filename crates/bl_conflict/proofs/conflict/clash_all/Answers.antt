@@ -1,5 +1,5 @@
 use Rattle.bl_conflict.proofs.FirstLemmas.{first-next, next_of}
-use Rattle.bl_conflict.specs.Failures.{clashes_with}
+use Rattle.bl_conflict.specs.inner.Failures.{clashes_with}
 use Rattle.bl_conflict.proofs.conflict.clash_all.Goals as goal
 
 pub loop-second-preserved : goal.loop-second-preserved

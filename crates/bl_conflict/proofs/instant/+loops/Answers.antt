@@ -2,7 +2,7 @@ use Rattle.std.proofs.Common.{◌≡◌, ◌||◌, ap, sym, ◌∙◌, map, not}
 use Rattle.bl_tree.specs.declared.tree.Branch.{out-Branch}
 use Rattle.bl_conflict.proofs.FirstLemmas.{best-next, next_of, all-next, any-next}
 use Rattle.bl_conflict.proofs.LoopLemmas.{arm_out, branch_out, if_is, repeat_is, until_is, while_is}
-use Rattle.bl_conflict.specs.Failures.{least_by, loops_of_arm, loops_of_branch, of_loop}
+use Rattle.bl_conflict.specs.inner.Failures.{least_by, loops_of_arm, loops_of_branch, of_loop}
 use Rattle.bl_effects.specs.Rules.{block_ends, block_loops, loops_in}
 use Rattle.bl_conflict.proofs.instant.+loops.Goals as goal
 
@@ -18,8 +18,10 @@ arms-loop-arm-preserved t c =
     let arm = c.arm-item.result in
     let step = ap (map loops_of_arm) (next_of c.args.all.now c.loop-arm.arm-index arm c.loop-arm-test.true c.arm-item.is) in
     let body = ap (map loops_in) c.deref.ensures in
-    let instant : c.block-looked.result.instant ≡ (loops_of_arm arm).instant = c.block-looked.ensures.instant ∙ ap block_ends body ∙ sym (ap (λ l. l.instant) (arm_out arm)) in
-    let best = c.block-looked.ensures.best ∙ ap (λ l. least_by of_loop c.loop-arm.best (block_loops l)) body ∙ sym (ap (λ l. least_by of_loop c.loop-arm.best l.places) (arm_out arm)) in (
+    let instant : c.block-looked.result.instant ≡ (loops_of_arm arm).instant =
+    c.block-looked.ensures.instant ∙ ap block_ends body ∙ sym (ap (λ l. l.instant) (arm_out arm)) in
+    let best = c.block-looked.ensures.best ∙ ap (λ l. least_by of_loop c.loop-arm.best (block_loops l)) body
+    ∙ sym (ap (λ l. least_by of_loop c.loop-arm.best l.places) (arm_out arm)) in (
       rw instant (any-next (λ l. l.instant) _ _ (loops_of_arm arm) c.loop-arm.some _ step c.loop-arm.invariant.0),
       rw best (best-next of_loop (λ l. l.places) _ _ (loops_of_arm arm) c.loop-arm.best _ step c.loop-arm.invariant.1),
     )
@@ -31,8 +33,10 @@ branches-loop-branch-preserved t c =
     let ends = ap (map (λ b. b.ends)) step in
     let body = ap (map loops_in) c.deref.ensures in
     let weak : (out-Branch branch).weak ≡ (loops_of_branch branch).ends.weak = sym (ap (λ l. l.ends.weak) (branch_out branch)) in
-    let instant : c.block-looked.result.instant ≡ (loops_of_branch branch).ends.instant = c.block-looked.ensures.instant ∙ ap block_ends body ∙ sym (ap (λ l. l.ends.instant) (branch_out branch)) in
-    let best = c.block-looked.ensures.best ∙ ap (λ l. least_by of_loop c.loop-branch.best (block_loops l)) body ∙ sym (ap (λ l. least_by of_loop c.loop-branch.best l.places) (branch_out branch)) in (
+    let instant : c.block-looked.result.instant ≡ (loops_of_branch branch).ends.instant =
+    c.block-looked.ensures.instant ∙ ap block_ends body ∙ sym (ap (λ l. l.ends.instant) (branch_out branch)) in
+    let best = c.block-looked.ensures.best ∙ ap (λ l. least_by of_loop c.loop-branch.best (block_loops l)) body
+    ∙ sym (ap (λ l. least_by of_loop c.loop-branch.best l.places) (branch_out branch)) in (
       rw weak (any-next (λ e. not e.weak) _ _ (loops_of_branch branch).ends c.loop-branch.is_strong _ ends c.loop-branch.invariant.0),
       (
         rw (weak, instant) (all-next (λ e. e.weak || e.instant) _ _ (loops_of_branch branch).ends c.loop-branch.strong _ ends c.loop-branch.invariant.1.0),
@@ -54,8 +58,10 @@ statement-returns-in-Repeat-clause-best t c =
 
 pub statement-returns-in-Until-clause-best : goal.statement-returns-in-Until-clause-best
 statement-returns-in-Until-clause-best t c =
-    c.looping-in-Until.ensures.best ∙ until_is c.args.s.now c.args.best c.deref-in-Until.result.now c.in-Until.body c.in-Until.field-1 c.in-Until.is c.deref-in-Until.ensures
+    c.looping-in-Until.ensures.best ∙ until_is c.args.s.now c.args.best c.deref-in-Until.result.now c.in-Until.body
+    c.in-Until.field-1 c.in-Until.is c.deref-in-Until.ensures
 
 pub statement-returns-in-While-clause-best : goal.statement-returns-in-While-clause-best
 statement-returns-in-While-clause-best t c =
-    c.looping-in-While.ensures.best ∙ while_is c.args.s.now c.args.best c.deref-in-While.result.now c.in-While.body c.in-While.field-0 c.in-While.is c.deref-in-While.ensures
+    c.looping-in-While.ensures.best ∙ while_is c.args.s.now c.args.best c.deref-in-While.result.now c.in-While.body
+    c.in-While.field-0 c.in-While.is c.deref-in-While.ensures

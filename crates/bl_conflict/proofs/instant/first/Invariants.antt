@@ -1,5 +1,5 @@
 use Rattle.std.proofs.Common.{◌≡◌, drop}
-use Rattle.bl_conflict.specs.Failures.{instant_failures, least_by, of_loop}
+use Rattle.bl_conflict.specs.inner.Failures.{instant_failures, least_by, of_loop}
 use Rattle.bl_conflict.proofs.instant.first.Given as goal
 
 abbrev pub invariant-loop-unit : goal.invariant-loop-unit

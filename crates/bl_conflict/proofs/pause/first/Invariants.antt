@@ -1,6 +1,6 @@
 use Rattle.std.proofs.Common.{◌≡◌, drop}
 use Rattle.bl_tree.specs.Rules.{first_of}
-use Rattle.bl_conflict.specs.Failures.{pause_failures}
+use Rattle.bl_conflict.specs.inner.Failures.{pause_failures}
 use Rattle.bl_conflict.proofs.pause.first.Given as goal
 
 abbrev pub invariant-loop-unit : goal.invariant-loop-unit
