@@ -1,5 +1,37 @@
 -- What covers a text is one list of parts; so each of the first three rules fails at one place, and first where it is found.
-use Rattle.std.proofs.Common.{◌≡◌, ◌≢◌, ℕ, zero, suc, ◌+◌, ◌-◌, ◌<◌, ◌≤◌, Bool, true, false, cond, not, List, [], ◌∷◌, ◌++◌, ◌⊎◌, inl, inr, ⊎_elim, length, get_or, refl, ap, sym, ◌∙◌, subst, arith, add-one}
+use Rattle.std.proofs.Common.{
+  ◌≡◌,
+  ◌≢◌,
+  ℕ,
+  zero,
+  suc,
+  ◌+◌,
+  ◌-◌,
+  ◌<◌,
+  ◌≤◌,
+  Bool,
+  true,
+  false,
+  cond,
+  not,
+  List,
+  [],
+  ◌∷◌,
+  ◌++◌,
+  ◌⊎◌,
+  inl,
+  inr,
+  ⊎_elim,
+  length,
+  get_or,
+  refl,
+  ap,
+  sym,
+  ◌∙◌,
+  subst,
+  arith,
+  add-one,
+}
 use Rattle.std.proofs.Math.ListN.{get_or-eq_default}
 use Rattle.std.proofs.str.Laws.{order}
 use Rattle.std.specs.Prelude.{Option, Some, None, option_map, slice_range, All}
@@ -19,7 +51,7 @@ use Rattle.bl_lex.specs.Pieces.WordIs.{keyword, name, number, outside, octal, fr
 use Rattle.bl_lex.specs.Tokens.{Part, place_of, IsLongest, Covers, line_at, tokens_of, without_between, Lexes}
 use Rattle.bl_lex.specs.Rules.{FailsSize, FailsLex, FailsProfile, IsStrayByte, IsUnclosedComment, IsMalformedNumber, IsFault, Fails, FailsFirst, Passes}
 use Rattle.bl_lex.specs.Rules.IsLeftOut.{outside as left_outside}
-use Rattle.bl_lex.specs.Walk.{NoneLeftOut, IsFirstLeftOut}
+use Rattle.bl_lex.specs.inner.Walk.{NoneLeftOut, IsFirstLeftOut}
 use Rattle.bl_lex.proofs.WordLaws.{keyword_begins, outside_begins}
 use Rattle.bl_lex.proofs.PieceLaws.{clash, one_word, one_form, of_slash, of_word, piece_forward, piece_inside}
 
@@ -37,10 +69,13 @@ one_longest text p q at a b =
     same_part p q at ends (one_form text p.start a.piece (subst (λ (e : ℕ). IsPiece text p.start e q.form) (sym ends) q_here))
 
 -- two covers from one place, to where nothing begins, are one
-one_cover : (text : List ℕ) (start : ℕ) (ps qs : List Part) (a b : ℕ) → Covers text start ps a → Covers text start qs b → NoPieceAt text a → NoPieceAt text b → (ps ≡ qs) × (a ≡ b)
+one_cover : (text : List ℕ) (start : ℕ) (ps qs : List Part) (a b : ℕ) → Covers text start ps a → Covers text start qs b →
+    NoPieceAt text a → NoPieceAt text b → (ps ≡ qs) × (a ≡ b)
 one_cover text start [] [] a b p q none_a none_b = (refl, sym p ∙ q)
-one_cover text start [] (q ∷ qs) a b p c none_a none_b = absurd (none_a q.end q.form (subst (λ (s : ℕ). IsPiece text s q.end q.form) (c.0 ∙ p) c.1.piece))
-one_cover text start (p ∷ ps) [] a b c q none_a none_b = absurd (none_b p.end p.form (subst (λ (s : ℕ). IsPiece text s p.end p.form) (c.0 ∙ q) c.1.piece))
+one_cover text start [] (q ∷ qs) a b p c none_a none_b =
+    absurd (none_a q.end q.form (subst (λ (s : ℕ). IsPiece text s q.end q.form) (c.0 ∙ p) c.1.piece))
+one_cover text start (p ∷ ps) [] a b c q none_a none_b =
+    absurd (none_b p.end p.form (subst (λ (s : ℕ). IsPiece text s p.end p.form) (c.0 ∙ q) c.1.piece))
 one_cover text start (p ∷ ps) (q ∷ qs) a b c d none_a none_b =
     let first = one_longest text p q (c.0 ∙ sym d.0) c.1 d.1 in
     let rest = one_cover text p.end ps qs a b c.2 (subst (λ (e : ℕ). Covers text e qs b) (ap (λ (r : Part). r.end) (sym first)) d.2) none_a none_b in
@@ -89,7 +124,9 @@ byte_inside : (text : List ℕ) (at byte : ℕ) → get_or text at 0 ≡ byte �
 byte_inside text at byte is some = ⊎_elim (λ less. less) (λ more. let past = get_or-eq_default text 0 more in absurd (omega arith)) (order at (length text))
 
 pub fault_inside : (text : List ℕ) (place : Place) → IsFault text place → place.start < length text
-fault_inside text place fault = ⊎_elim (λ stray. stray.inside) (⊎_elim (λ unclosed. byte_inside text place.start 47 unclosed.opens.0 (omega arith)) (λ bad. omega (arith, bad.whole_word.nonempty, bad.whole_word.inside))) fault
+fault_inside text place fault = ⊎_elim (λ stray. stray.inside)
+    (⊎_elim (λ unclosed. byte_inside text place.start 47 unclosed.opens.0 (omega arith))
+    (λ bad. omega (arith, bad.whole_word.nonempty, bad.whole_word.inside))) fault
 
 abbrev here : ℕ → ℕ → Place
 here start end = record { start = start; end = end }
@@ -99,19 +136,25 @@ slash_in_no_word b is = rw is refl
 
 module _ (text : List ℕ) (start : ℕ) where
   stray_end : (e f : ℕ) → IsStrayByte text (here start e) → IsFault text (here start f) → e ≡ f
-  stray_end e f a b = ⊎_elim (λ stray. a.one_byte ∙ sym stray.one_byte) (⊎_elim (λ unclosed. absurd (a.no_comment unclosed.opens)) (λ bad. absurd (clash _ (word_begins text (here start f) bad) a.no_word))) b
+  stray_end e f a b = ⊎_elim (λ stray. a.one_byte ∙ sym stray.one_byte)
+      (⊎_elim (λ unclosed. absurd (a.no_comment unclosed.opens)) (λ bad. absurd (clash _ (word_begins text (here start f) bad) a.no_word))) b
 
   unclosed_end : (e f : ℕ) → IsUnclosedComment text (here start e) → IsFault text (here start f) → e ≡ f
-  unclosed_end e f a b = ⊎_elim (λ stray. absurd (stray.no_comment a.opens)) (⊎_elim (λ unclosed. a.two_bytes ∙ sym unclosed.two_bytes) (λ bad. absurd (clash _ (word_begins text (here start f) bad) (slash_in_no_word _ a.opens.0)))) b
+  unclosed_end e f a b = ⊎_elim (λ stray. absurd (stray.no_comment a.opens))
+      (⊎_elim (λ unclosed. a.two_bytes ∙ sym unclosed.two_bytes)
+      (λ bad. absurd (clash _ (word_begins text (here start f) bad) (slash_in_no_word _ a.opens.0)))) b
 
   malformed_end : (e f : ℕ) → IsMalformedNumber text (here start e) → IsFault text (here start f) → e ≡ f
-  malformed_end e f a b = ⊎_elim (λ stray. absurd (clash _ (word_begins text (here start e) a) stray.no_word)) (⊎_elim (λ unclosed. absurd (clash _ (word_begins text (here start e) a) (slash_in_no_word _ unclosed.opens.0))) (λ bad. one_word text start e f a.whole_word bad.whole_word)) b
+  malformed_end e f a b = ⊎_elim (λ stray. absurd (clash _ (word_begins text (here start e) a) stray.no_word))
+      (⊎_elim (λ unclosed. absurd (clash _ (word_begins text (here start e) a) (slash_in_no_word _ unclosed.opens.0)))
+      (λ bad. one_word text start e f a.whole_word bad.whole_word)) b
 
 -- a fault ends at one place
 fault_end : (text : List ℕ) (p q : Place) → IsFault text p → IsFault text q → p.start ≡ q.start → p.end ≡ q.end
 fault_end text p q a b at =
     let b_here : IsFault text (here p.start q.end) = subst (λ (s : ℕ). IsFault text (here s q.end)) (sym at) b in
-    ⊎_elim (λ x. stray_end text p.start p.end q.end x b_here) (⊎_elim (λ x. unclosed_end text p.start p.end q.end x b_here) (λ x. malformed_end text p.start p.end q.end x b_here)) a
+    ⊎_elim (λ x. stray_end text p.start p.end q.end x b_here)
+    (⊎_elim (λ x. unclosed_end text p.start p.end q.end x b_here) (λ x. malformed_end text p.start p.end q.end x b_here)) a
 
 no_size : (text : List ℕ) → length text ≤ 1048576 → (place : Place) → ¬ FailsSize text place
 no_size text short place is = let long = is.too_long in omega arith
@@ -159,20 +202,23 @@ first_lex text parts place short covers fault = record {
 -- a text that parts cover doesn't fail rule Lex
 no_lex : (text : List ℕ) (parts : List Part) → Covers text 0 parts (length text) → (place : Place) → ¬ FailsLex text place
 no_lex text parts covers place fails =
-    let ends = (one_cover text 0 parts fails.parts (length text) place.start covers fails.covers (nothing_at_end text) (fault_begins_nothing text place fails.fault)).1 in
+    let ends = (one_cover text 0 parts fails.parts (length text) place.start covers fails.covers (nothing_at_end text)
+    (fault_begins_nothing text place fails.fault)).1 in
     let inside = fault_inside text place fails.fault in omega arith
 
 -- Profile
 
 -- of two elements of a list, they are one, or one stands before the other
-which : {X : Type 0} (xs ys : List X) (x y : X) (us vs : List X) → xs ++ x ∷ us ≡ ys ++ y ∷ vs → ((xs ≡ ys) × (x ≡ y)) ⊎ (((rest : List X) × (xs ≡ ys ++ y ∷ rest)) ⊎ ((rest : List X) × (us ≡ rest ++ y ∷ vs)))
+which : {X : Type 0} (xs ys : List X) (x y : X) (us vs : List X) → xs ++ x ∷ us ≡ ys ++ y ∷ vs →
+    ((xs ≡ ys) × (x ≡ y)) ⊎ (((rest : List X) × (xs ≡ ys ++ y ∷ rest)) ⊎ ((rest : List X) × (us ≡ rest ++ y ∷ vs)))
 which [] [] x y us vs e = inl (refl, cc)
 which [] (b ∷ ys) x y us vs e = inr (inr (ys, cc))
 which (a ∷ xs) [] x y us vs e = inr (inl (xs, (let h : a ≡ y = cc in cc)))
 which (a ∷ xs) (b ∷ ys) x y us vs e =
     let first : a ≡ b = cc in
     let rest : xs ++ x ∷ us ≡ ys ++ y ∷ vs = cc in
-    ⊎_elim (λ s. inl ((λ i. first i ∷ s.0 i), s.1)) (⊎_elim (λ s. inr (inl (s.0, (λ i. first i ∷ s.1 i)))) (λ s. inr (inr s))) (which xs ys x y us vs rest)
+    ⊎_elim (λ s. inl ((λ i. first i ∷ s.0 i), s.1)) (⊎_elim (λ s. inr (inl (s.0, (λ i. first i ∷ s.1 i)))) (λ s. inr (inr s)))
+    (which xs ys x y us vs rest)
 
 -- the parts rise, from a place on
 Ascends : ℕ → List Part → Type 0
@@ -204,7 +250,8 @@ low_before low [] y vs a = a.0
 low_before low (x ∷ xs) y vs a = let h = low_before x.end xs y vs a.2 in omega (arith, a.0, a.1)
 
 -- of two parts that rise, the first begins first
-begins_first : (low : ℕ) (xs : List Part) (x : Part) (rest : List Part) (y : Part) (vs : List Part) → Ascends low (xs ++ x ∷ (rest ++ y ∷ vs)) → x.start < y.start
+begins_first : (low : ℕ) (xs : List Part) (x : Part) (rest : List Part) (y : Part) (vs : List Part) →
+    Ascends low (xs ++ x ∷ (rest ++ y ∷ vs)) → x.start < y.start
 unfolding Ascends
 begins_first low [] x rest y vs a = let h = low_before x.end rest y vs a.2 in omega (arith, a.1)
 begins_first low (z ∷ zs) x rest y vs a = begins_first z.end zs x rest y vs a.2
@@ -212,7 +259,8 @@ begins_first low (z ∷ zs) x rest y vs a = begins_first z.end zs x rest y vs a.
 module _ (text : List ℕ) (short : length text ≤ 1048576) (parts : List Part) (covers : Covers text 0 parts (length text)) where
   -- the tokens that a failing place of rule Profile has are those of the parts
   same_tokens : (place : Place) (fails : FailsProfile text place) → without_between parts ≡ fails.before ++ fails.part ∷ fails.after
-  same_tokens place fails = ap without_between (one_cover text 0 parts fails.parts (length text) (length text) covers fails.covers (nothing_at_end text) (nothing_at_end text)).0 ∙ fails.stands
+  same_tokens place fails = ap without_between (one_cover text 0 parts fails.parts (length text) (length text) covers fails.covers
+      (nothing_at_end text) (nothing_at_end text)).0 ∙ fails.stands
 
   no_earlier : (place elsewhere : Place) (further : List Place) → IsFirstLeftOut text (without_between parts) place → FailsProfile text elsewhere
       → AreNoLater (place ∷ []) (elsewhere ∷ further)
@@ -264,12 +312,14 @@ module _ (text : List ℕ) (short : length text ≤ 1048576) (parts : List Part)
   passes none _ place also f = f
 
 -- a part that isn't white space or a comment stands among the tokens
-stands_in : (parts : List Part) (k : ℕ) (d : Part) → k < length parts → is_between (get_or parts k d).form ≡ false → (before : List Part) × ((after : List Part) × (without_between parts ≡ before ++ get_or parts k d ∷ after))
+stands_in : (parts : List Part) (k : ℕ) (d : Part) → k < length parts → is_between (get_or parts k d).form ≡ false →
+    (before : List Part) × ((after : List Part) × (without_between parts ≡ before ++ get_or parts k d ∷ after))
 stands_in [] k d inside token = absurd (omega arith)
 stands_in (p ∷ ps) zero d inside token = ([], (without_between ps, rw token refl))
 stands_in (p ∷ ps) (suc k) d inside token = by_form (not (is_between p.form)) (stands_in ps k d (omega arith) token)
   where
-    by_form : (b : Bool) → ((before : List Part) × ((after : List Part) × (without_between ps ≡ before ++ get_or ps k d ∷ after))) → (before : List Part) × ((after : List Part) × (cond b (p ∷ without_between ps) (without_between ps) ≡ before ++ get_or ps k d ∷ after))
+    by_form : (b : Bool) → ((before : List Part) × ((after : List Part) × (without_between ps ≡ before ++ get_or ps k d ∷ after))) →
+        (before : List Part) × ((after : List Part) × (cond b (p ∷ without_between ps) (without_between ps) ≡ before ++ get_or ps k d ∷ after))
     by_form true h = (p ∷ h.0, (h.1.0, ap (λ l. p ∷ l) h.1.1))
     by_form false h = h
 
@@ -288,23 +338,28 @@ unfolding ArePlaced
 placed_from size low more [] less a = tt
 placed_from size low more (t ∷ ts) less a = (omega (arith, a.0), a.1, a.2, a.3)
 
-tokens_placed : (text : List ℕ) (start : ℕ) (parts : List Part) (end : ℕ) → Covers text start parts end → ArePlaced (length text) start (tokens_of text parts)
+tokens_placed : (text : List ℕ) (start : ℕ) (parts : List Part) (end : ℕ) → Covers text start parts end →
+    ArePlaced (length text) start (tokens_of text parts)
 unfolding ArePlaced
 tokens_placed text start [] end c = tt
 tokens_placed text start (p ∷ ps) end c = by_kind (kind_of p.form) (tokens_placed text p.end ps end c.2)
   where
     by_kind : (kind : Option TokenKind) → ArePlaced (length text) p.end (tokens_of text ps)
-        → ArePlaced (length text) start (cons_option (option_map (λ k. record { kind = k; place = place_of p; line = line_at text p.start }) kind) (tokens_of text ps))
+        → ArePlaced (length text) start (cons_option (option_map
+        (λ k. record { kind = k; place = place_of p; line = line_at text p.start }) kind) (tokens_of text ps))
     by_kind (Some kind) rest = (omega (arith, c.0), piece_forward text p.start c.1.piece, piece_inside text p.start c.1.piece, rest)
-    by_kind None rest = let forward = piece_forward text p.start c.1.piece in placed_from (length text) start p.end (tokens_of text ps) (omega (arith, c.0)) rest
+    by_kind None rest = let forward = piece_forward text p.start c.1.piece in
+        placed_from (length text) start p.end (tokens_of text ps) (omega (arith, c.0)) rest
 
-placed_at : (size low : ℕ) (ts : List Token) (k : ℕ) (d : Token) → ArePlaced size low ts → k < length ts → (low ≤ (get_or ts k d).place.start) × ((get_or ts k d).place.start < (get_or ts k d).place.end) × ((get_or ts k d).place.end ≤ size)
+placed_at : (size low : ℕ) (ts : List Token) (k : ℕ) (d : Token) → ArePlaced size low ts → k < length ts →
+    (low ≤ (get_or ts k d).place.start) × ((get_or ts k d).place.start < (get_or ts k d).place.end) × ((get_or ts k d).place.end ≤ size)
 unfolding ArePlaced
 placed_at size low [] k d a inside = absurd (omega arith)
 placed_at size low (t ∷ ts) zero d a inside = (a.0, a.1, a.2)
 placed_at size low (t ∷ ts) (suc k) d a inside = let h = placed_at size t.place.end ts k d a.3 (omega arith) in (omega (arith, h.0, a.0, a.1), h.1, h.2)
 
-placed_in_order : (size low : ℕ) (ts : List Token) (k : ℕ) (d : Token) → ArePlaced size low ts → suc k < length ts → (get_or ts k d).place.end ≤ (get_or ts (suc k) d).place.start
+placed_in_order : (size low : ℕ) (ts : List Token) (k : ℕ) (d : Token) → ArePlaced size low ts → suc k < length ts →
+    (get_or ts k d).place.end ≤ (get_or ts (suc k) d).place.start
 unfolding ArePlaced
 placed_in_order size low [] k d a inside = absurd (omega arith)
 placed_in_order size low (t ∷ ts) zero d a inside = (placed_at size t.place.end ts zero d a.3 (omega arith)).0
@@ -313,8 +368,10 @@ placed_in_order size low (t ∷ ts) (suc k) d a inside = placed_in_order size t.
 lexed_placed : (text : List ℕ) (tokens : List Token) → Lexes text tokens → ArePlaced (length text) 0 tokens
 lexed_placed text tokens is = rw is.are_tokens (tokens_placed text 0 is.parts (length text) is.covers)
 
-pub tokens_inside : (text : List ℕ) (tokens : List Token) → Lexes text tokens → (k : ℕ) (d : Token) → k < length tokens → ((get_or tokens k d).place.start < (get_or tokens k d).place.end) × ((get_or tokens k d).place.end ≤ length text)
+pub tokens_inside : (text : List ℕ) (tokens : List Token) → Lexes text tokens → (k : ℕ) (d : Token) → k < length tokens →
+    ((get_or tokens k d).place.start < (get_or tokens k d).place.end) × ((get_or tokens k d).place.end ≤ length text)
 tokens_inside text tokens is k d inside = let h = placed_at (length text) 0 tokens k d (lexed_placed text tokens is) inside in (h.1, h.2)
 
-pub tokens_in_order : (text : List ℕ) (tokens : List Token) → Lexes text tokens → (k : ℕ) (d : Token) → k + 1 < length tokens → (get_or tokens k d).place.end ≤ (get_or tokens (k + 1) d).place.start
+pub tokens_in_order : (text : List ℕ) (tokens : List Token) → Lexes text tokens → (k : ℕ) (d : Token) → k + 1 < length tokens →
+    (get_or tokens k d).place.end ≤ (get_or tokens (k + 1) d).place.start
 tokens_in_order text tokens is k d inside = rw add-one (placed_in_order (length text) 0 tokens k d (lexed_placed text tokens is) (omega arith))

@@ -1,5 +1,23 @@
 -- How a text fails the rules Size, Lex and Profile, and at which place.
-use Rattle.std.specs.Prelude.{◌≡◌, ◌≢◌, ℕ, ◌+◌, ◌<◌, ◌≤◌, ◌⊎◌, true, false, List, [], ◌∷◌, ◌++◌, length, slice_index, slice_range, codes}
+use Rattle.std.specs.Prelude.{
+  ◌≡◌,
+  ◌≢◌,
+  ℕ,
+  ◌+◌,
+  ◌<◌,
+  ◌≤◌,
+  ◌⊎◌,
+  true,
+  false,
+  List,
+  [],
+  ◌∷◌,
+  ◌++◌,
+  length,
+  slice_index,
+  slice_range,
+  codes,
+}
 use Rattle.bl_tree.specs.declared.place.Place.{Place}
 use Rattle.bl_tree.specs.declared.rule.Rule.{Rule}
 use Rattle.bl_tree.specs.declared.rule.Rule.TheVariants as rule
@@ -54,7 +72,8 @@ pub data IsLeftOut (text : List ℕ) (before : List Part) (part : Part) : Type 0
   open_brace : part.form ≡ Token (Sign OPEN_BRACE) → IsLeftOut text before part
   close_brace : part.form ≡ Token (Sign CLOSE_BRACE) → IsLeftOut text before part
   attribute : (front : List Part) (at bracket : Part) → before ≡ front ++ (at ∷ bracket ∷ []) → at.form ≡ Token (Sign AT)
-      → bracket.form ≡ Token (Sign OPEN_BRACKET) → part.form ≡ Token Name → slice_range text part.start part.end ≢ codes "EntryPoint" → IsLeftOut text before part
+      → bracket.form ≡ Token (Sign OPEN_BRACKET) → part.form ≡ Token Name →
+      slice_range text part.start part.end ≢ codes "EntryPoint" → IsLeftOut text before part
 
 -- Profile: pieces cover the whole text, and the profile leaves out the token at this place
 pub record FailsProfile (text : List ℕ) (place : Place) : Type 0 where

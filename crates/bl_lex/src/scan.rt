@@ -6,8 +6,8 @@ ghost use Rattle.bl_lex.specs.Pieces.{line_feed};
 ghost use Rattle.bl_lex.specs.Tokens.{Part, Lexes};
 ghost use Rattle.bl_tree.specs.Rules.{IsCause};
 ghost use Rattle.bl_lex.specs.Rules.{Fails, Passes};
-ghost use Rattle.bl_lex.specs.Steps.{IsLongestAt};
-ghost use Rattle.bl_lex.specs.Walk.{IsBefore, IsLeftOutAfter, IsScanned, NextBefore, earlier, token_with};
+ghost use Rattle.bl_lex.specs.inner.Steps.{IsLongestAt};
+ghost use Rattle.bl_lex.specs.inner.Walk.{IsBefore, IsLeftOutAfter, IsScanned, NextBefore, earlier, token_with};
 
 use crate::piece::{Form, Piece, piece_at, place_between};
 use crate::sign;

@@ -5,7 +5,7 @@ ghost use Rattle.bl_tree.specs.Reduce.{any_of, joined};
 ghost use Rattle.bl_tree.specs.Instant.{branches_instant};
 ghost use Rattle.bl_tree.specs.Static.{static_of, whole};
 ghost use Rattle.bl_effects.specs.Surface.{block_instant, block_surface, surface_of};
-ghost use Rattle.bl_pending.specs.Surfaces.{surface_of_arm, surface_of_branch};
+ghost use Rattle.bl_pending.specs.inner.Surfaces.{surface_of_arm, surface_of_branch};
 
 use bl_effects::mentions::{static_of, statics};
 use bl_tree::tree::{Arm, Branch, Stmt, StmtKind};

@@ -10,7 +10,7 @@ ghost use Rattle.bl_ctree.specs.Points.{begins, checks, copying, giving, joining
 ghost use Rattle.bl_ctree.specs.Positions.{kind_of};
 ghost use Rattle.bl_store.specs.Deeds.{effect_of};
 ghost use Rattle.bl_store.specs.Seen.{setting_in};
-ghost use Rattle.bl_steps.specs.Spots.{own, spot_of, spot_told, told_all, told_point, told_run, telling};
+ghost use Rattle.bl_steps.specs.inner.Spots.{own, spot_of, spot_told, told_all, told_point, told_run, telling};
 
 use bl_ctree::copying::position;
 use bl_ctree::node::{At, Branch, Node, Phase};

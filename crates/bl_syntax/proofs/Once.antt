@@ -1,5 +1,25 @@
 -- A failing place of each rule is one, and what is found is the first failure.
-use Rattle.std.proofs.Common.{◌≡◌, ℕ, ◌≤◌, List, [], ◌∷◌, ◌++◌, length, take, refl, ap, sym, ◌∙◌, subst, append_assoc, append-nil, inl, inr, arith}
+use Rattle.std.proofs.Common.{
+  ◌≡◌,
+  ℕ,
+  ◌≤◌,
+  List,
+  [],
+  ◌∷◌,
+  ◌++◌,
+  length,
+  take,
+  refl,
+  ap,
+  sym,
+  ◌∙◌,
+  subst,
+  append_assoc,
+  append-nil,
+  inl,
+  inr,
+  arith,
+}
 use Rattle.std.proofs.Math.Seq.{take-append_seam}
 use Rattle.bl_tree.specs.declared.place.Place.{Place}
 use Rattle.bl_tree.specs.declared.rule.Rule.{Rule}
@@ -63,7 +83,8 @@ one_token tokens place elsewhere a b = by_order (order a.before a.token a.after 
     by_order (earlier back e) = absurd (a.ends (front_begins (a.before ++ a.token ∷ []) back b.before e b.begins))
     by_order (later back e) = absurd (b.ends (front_begins (b.before ++ b.token ∷ []) back a.before e a.begins))
 
-one_syntax : (size : ℕ) (tokens : List Token) (place elsewhere : Place) → FailsSyntax size tokens place → FailsSyntax size tokens elsewhere → place ≡ elsewhere
+one_syntax : (size : ℕ) (tokens : List Token) (place elsewhere : Place) → FailsSyntax size tokens place →
+    FailsSyntax size tokens elsewhere → place ≡ elsewhere
 one_syntax size tokens place elsewhere (inl a) (inl b) = one_token tokens place elsewhere a b
 one_syntax size tokens place elsewhere (inl a) (inr b) = absurd (token_or_begins tokens place a b.begins)
 one_syntax size tokens place elsewhere (inr a) (inl b) = absurd (token_or_begins tokens elsewhere b a.begins)

@@ -2,7 +2,7 @@ use Rattle.std.proofs.Common.{subst}
 use Rattle.std.specs.Prelude.{Option}
 use Rattle.bl_tree.specs.declared.place.Place.{Place}
 use Rattle.bl_lex.specs.Tokens.{without_between}
-use Rattle.bl_lex.specs.Walk.{IsLeftOutPlace}
+use Rattle.bl_lex.specs.inner.Walk.{IsLeftOutPlace}
 use Rattle.bl_lex.proofs.RuleLaws.{first_profile, passes, each_has_a_kind}
 use Rattle.bl_lex.proofs.scan.Scan.finish.Goals as goal
 

@@ -1,5 +1,23 @@
 -- What the walk over a text knows at a place.
-use Rattle.std.specs.Prelude.{◌≡◌, ◌≢◌, ℕ, ◌⊎◌, List, [], ◌∷◌, ◌++◌, Bool, true, false, Option, Some, None, option_map, option_to_list, codes}
+use Rattle.std.specs.Prelude.{
+  ◌≡◌,
+  ◌≢◌,
+  ℕ,
+  ◌⊎◌,
+  List,
+  [],
+  ◌∷◌,
+  ◌++◌,
+  Bool,
+  true,
+  false,
+  Option,
+  Some,
+  None,
+  option_map,
+  option_to_list,
+  codes,
+}
 use Rattle.bl_tree.specs.declared.place.Place.{Place}
 use Rattle.bl_tree.specs.declared.token.TokenKind.TheVariants.{Name, Sign}
 use Rattle.bl_tree.specs.declared.token.Token.{Token as LexedToken}
@@ -37,7 +55,8 @@ IsBefore AtBracket tokens = EndsAtBracket tokens
 
 -- how the tokens end after one part more
 abbrev pub NextBefore : Before → Form → Before → Type 0
-NextBefore before form next = (tokens : List Part) (part : Part) → part.form ≡ form → IsBefore before tokens → IsBefore next (tokens ++ without_between (part ∷ []))
+NextBefore before form next = (tokens : List Part) (part : Part) → part.form ≡ form → IsBefore before tokens →
+    IsBefore next (tokens ++ without_between (part ∷ []))
 
 -- the profile leaves out a token of this form and these bytes, after tokens that end so
 abbrev pub IsLeftOutAfter : Before → Form → List ℕ → Type 0
