@@ -47,7 +47,7 @@ use Rattle.bl_ctext.specs.Spelling.{with_commas, root_tokens, index_front, width
 use Rattle.bl_ctext.specs.Spelling.{index_tokens, ccall_tokens, arg_tokens}
 use Rattle.bl_ctext.specs.Spellable.{is_c_operator, is_literal, is_length, spells_expr, spells_kind, spells_place, spells_step, spells_index}
 use Rattle.bl_ctext.specs.Spellable.{spells_call, spells_arg}
-use Rattle.bl_ctext.proofs.BracketDepths.{expr_depth, kind_depth, place_depth, step_depth, index_depth, call_depth, arg_depth}
+use Rattle.bl_ctext.specs.inner.Depths.{expr_depth, kind_depth, place_depth, step_depth, index_depth, call_depth, arg_depth}
 use Rattle.bl_ctext.proofs.Nesting.{is_bracket, Closes, Nests, EachNests, closes-nil, closes-open, closes-close, closes-plain, closes-append}
 use Rattle.bl_ctext.proofs.Nesting.{nests-append, nests-more, nests-joined, nests-with_commas}
 use Rattle.bl_ctext.proofs.Bytes.{and-fst, and-snd}

@@ -44,7 +44,7 @@ use Rattle.bl_tree.specs.Reduce.{all_of, greatest}
 use Rattle.bl_ctext.specs.Names.{is_name, is_callee, is_function_name, is_struct_name}
 use Rattle.bl_ctext.specs.Spellable.{is_literal, is_c_operator, has_any, is_spellable, spells_expr, spells_place, spells_step, spells_call}
 use Rattle.bl_ctext.specs.Spellable.{spells_arg, spells_stmt, spells_param, spells_local, spells_returned, spells_func, spells_struct, spells_member}
-use Rattle.bl_ctext.proofs.BracketDepths.{expr_depth, place_depth, step_depth, call_depth, arg_depth, stmt_depth, func_depth}
+use Rattle.bl_ctext.specs.inner.Depths.{expr_depth, place_depth, step_depth, call_depth, arg_depth, stmt_depth, func_depth}
 use Rattle.bl_ctext.specs.inner.Fits.{step_fits, place_fits, expr_fits, arg_fits, call_fits, stmt_fits, stmts_fit, func_fits}
 use Rattle.bl_ctext.proofs.Bytes.{and-fst, and-snd}
 use Rattle.bl_ctext.proofs.TextNesting.{spellable-by}

@@ -12,4 +12,3 @@ pub mod PrefixedNames
 pub mod TextNesting
 pub mod Texts
 pub mod Words
-pub mod BracketDepths

@@ -48,7 +48,7 @@ use Rattle.bl_ctext.specs.Spelling.{struct_tokens, star_if, param_tokens, zero_t
 use Rattle.bl_ctext.specs.Spelling.{func_front, func_rest, with_commas, tokens_of}
 use Rattle.bl_ctext.specs.Spellable.{has_any, is_spellable, most_open, spells_expr, spells_place, spells_result, spells_stmt, spells_stmt_kind}
 use Rattle.bl_ctext.specs.Spellable.{spells_type, spells_member, spells_struct, spells_param, spells_local, spells_func, spells_length}
-use Rattle.bl_ctext.proofs.BracketDepths.{expr_depth, place_depth, call_depth, result_depth, stmt_depth, stmt_kind_depth, func_depth}
+use Rattle.bl_ctext.specs.inner.Depths.{expr_depth, place_depth, call_depth, result_depth, stmt_depth, stmt_kind_depth, func_depth}
 use Rattle.bl_ctext.proofs.ExprNesting.{each_shown, expr-nests, place-nests, ccall-nests}
 use Rattle.bl_ctext.proofs.Nesting.{is_bracket, Closes, Nests, EachNests, closes-nil, closes-open, closes-close, closes-plain, closes-append}
 use Rattle.bl_ctext.proofs.Nesting.{nests-append, nests-more, nests-joined, nests-with_commas, each_nests-append, nests-most_open}

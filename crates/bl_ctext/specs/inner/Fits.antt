@@ -9,7 +9,7 @@ use Rattle.bl_tree.specs.declared.c.CArg.{CArg}
 use Rattle.bl_tree.specs.declared.c.CStmt.{CStmt}
 use Rattle.bl_tree.specs.declared.c.CFunc.{CFunc}
 use Rattle.bl_ctext.specs.Spellable.{spells_expr, spells_place, spells_step, spells_call, spells_arg, spells_stmt, spells_func}
-use Rattle.bl_ctext.proofs.BracketDepths.{expr_depth, place_depth, step_depth, call_depth, arg_depth, stmt_depth, func_depth}
+use Rattle.bl_ctext.specs.inner.Depths.{expr_depth, place_depth, step_depth, call_depth, arg_depth, stmt_depth, func_depth}
 
 unfoldable pub step_fits : ℕ → CStep → Bool
 step_fits depth step = spells_step step && nat_le (step_depth step) depth
