@@ -1,4 +1,5 @@
 pub mod Numbers
 pub mod Orders
+pub mod StatementLemmas
 pub mod TypeLemmas
 pub mod UnitLemmas

@@ -20,6 +20,10 @@ pub product_alike : (n a b : ℕ) → saturated a ≡ saturated b → saturated 
 product_alike zero a b e = rw (zero-mul a, zero-mul b) refl
 product_alike (suc n) a b e = rw (suc-mul n a, suc-mul n b) (sum_alike (n * a) (n * b) a b (product_alike n a b e) e)
 
+-- one more than a number that is told as far as 64 bits tell it
+pub one_more : (told n more : ℕ) → told ≡ saturated n → more ≡ saturated (told + 1) → more ≡ saturated (1 + n)
+one_more told n more is grown = omega arith
+
 -- ---- lists
 
 pub total_alike : {X : Type 0} (f g : X → ℕ) → ((x : X) → saturated (f x) ≡ saturated (g x)) → (xs : List X) → saturated (total (map f xs)) ≡ saturated (total (map g xs))
@@ -59,6 +63,11 @@ greatest_more f (y ∷ xs) (suc k) x within is =
 pub sum_more : {X : Type 0} (f : X → ℕ) (xs : List X) (k : ℕ) (x : X) (sum here more : ℕ) → k < length xs → x ≡ get_or xs k x → here ≡ saturated (f x) → more ≡ saturated (sum + here)
     → sum ≡ saturated (total (map f (take k xs))) → more ≡ saturated (total (map f (take (k + 1) xs)))
 sum_more f xs k x sum here more within is e told so_far = let next = total_more f xs k x within is in omega arith
+
+-- the same of numbers that are told whole
+pub sum_step : {X : Type 0} (f : X → ℕ) (xs : List X) (k : ℕ) (x : X) (sum here more : ℕ) → k < length xs → x ≡ get_or xs k x → here ≡ f x → more ≡ saturated (sum + here)
+    → sum ≡ saturated (total (map f (take k xs))) → more ≡ saturated (total (map f (take (k + 1) xs)))
+sum_step f xs k x sum here more within is e told so_far = let next = total_more f xs k x within is in omega arith
 
 -- the sum over all
 pub sum_all : {X : Type 0} (f : X → ℕ) (xs : List X) (k sum : ℕ) → length xs ≤ k → sum ≡ saturated (total (map f (take k xs))) → sum ≡ saturated (total (map f xs))
