@@ -80,4 +80,3 @@ tells_more structs units unit before after told sizes nestings variables stateme
 pub tells_next : (structs : List StructDef) (units : List UnitDef) (k : ℕ) (unit : UnitDef) (after : Measures) → k < length units → unit ≡ get_or units k unit
     → Tells after structs (take k units ++ unit ∷ []) → Tells after structs (take (k + 1) units)
 tells_next structs units k unit after within is told = subst (Tells after structs) (sym (take_one units k unit within is)) told
-

@@ -86,11 +86,7 @@ fn in_target(target: &Option<Path>, into: &mut List<u32>) -> Result<(), NoMemory
     }
 }
 
-fn in_arguments(
-    inputs: &[Expr],
-    outputs: &[Path],
-    into: &mut List<u32>,
-) -> Result<(), NoMemory>
+fn in_arguments(inputs: &[Expr], outputs: &[Path], into: &mut List<u32>) -> Result<(), NoMemory>
     ensures { OnOk result (into.new ≡ into.old ++ argument_calls inputs.now outputs.now) }
 {
     in_exprs(inputs, into)?;

@@ -4,13 +4,13 @@
 #![tactic(auto)]
 
 mod calls;
-
+pub mod laws;
 mod measures;
 mod runs;
 mod statements;
 mod tables;
-
-
+#[cfg(test)]
+mod tests;
 mod types;
 
 pub use calls::calls_of;
