@@ -1,20 +1,18 @@
 -- Measures in terms of each other.
-use Rattle.std.proofs.Common.{◌≡◌, ℕ, zero, suc, ◌+◌, ◌-◌, ◌^◌, ◌<◌, ◌≤◌, ◌⊎◌, inl, inr, ⊎_elim, max, List, [], ◌∷◌, map, length, get_or, take, Some, None, ap, refl, sym, ◌∙◌, arith}
-use Rattle.std.specs.Prelude.{All, Contains, slice_get, slice_index}
+use Rattle.std.proofs.Common.{◌≡◌, ℕ, zero, suc, ◌+◌, ◌<◌, ◌≤◌, ◌⊎◌, inl, inr, ⊎_elim, max, List, [], ◌∷◌, map, length, get_or, take, Some, None, ap, refl, ◌∙◌, arith}
+use Rattle.std.specs.Prelude.{Contains, slice_get, slice_index}
 use Rattle.std.proofs.lemmas.Bool.{cases_lt}
 use Rattle.std.proofs.lemmas.List.{get_or-take, get_or_past, length-take}
 use Rattle.std.proofs.lemmas.Option.{slice_get_cases}
-use Rattle.bl_tree.specs.declared.tree.StructDef.{StructDef}
 use Rattle.bl_tree.specs.declared.tree.Unit.{Unit as UnitDef}
 use Rattle.bl_tree.specs.Reduce.{total, greatest}
 use Rattle.bl_measures.specs.Calls.{calls_of}
 use Rattle.bl_measures.specs.Laws.{CellsAdd, InstancesAdd, LimitsAreTold, NoChainIsLonger, SomeChainIsAsLong}
 use Rattle.bl_measures.specs.Runs.{runs_of}
-use Rattle.bl_measures.specs.Saturated.{saturated}
 use Rattle.bl_measures.specs.Statements.{statements_of}
 use Rattle.bl_measures.specs.Types.{struct_sizes}
 use Rattle.bl_measures.specs.Units.{all_cells, all_chains, all_instances, cells_by, cells_with, chain_at, chain_by, greatest_at, instances_by, variables_of}
-use Rattle.bl_measures.specs.Uses.{Earlier, Heads, IsChain, Uses, UsesEarlier}
+use Rattle.bl_measures.specs.Uses.{Earlier, IsChain, Uses}
 use Rattle.bl_measures.proofs.TableLemmas.{answer_at, known_before}
 
 pub limits_told : LimitsAreTold

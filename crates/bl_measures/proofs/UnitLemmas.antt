@@ -1,5 +1,5 @@
 -- The measures of units, with one unit more.
-use Rattle.std.proofs.Common.{◌≡◌, ℕ, ◌+◌, ◌*◌, ◌<◌, ◌≤◌, max, List, [], ◌∷◌, ◌++◌, map, length, get_or, take, refl, ap, sym, subst, ◌∙◌, take_all, arith}
+use Rattle.std.proofs.Common.{◌≡◌, ℕ, ◌+◌, ◌<◌, List, [], ◌∷◌, ◌++◌, map, length, get_or, take, refl, ap, sym, subst, ◌∙◌, arith}
 use Rattle.std.specs.Prelude.{slice_index}
 use Rattle.std.proofs.lemmas.List.{map-append}
 use Rattle.bl_tree.specs.declared.tree.StructDef.{StructDef}
@@ -14,7 +14,7 @@ use Rattle.bl_measures.specs.Statements.{statements_of}
 use Rattle.bl_measures.specs.Tells.{Tells}
 use Rattle.bl_measures.specs.Types.{size_by, struct_sizes}
 use Rattle.bl_measures.specs.Units.{cells_by, cells_with, chain_by, greatest_at, instances_by, total_at, variables_by, variables_of}
-use Rattle.bl_measures.proofs.Numbers.{greatest_alike, known_alike, known_twice, max_alike, sum_alike, total_alike, twice}
+use Rattle.bl_measures.proofs.Numbers.{greatest_alike, known_twice, max_alike, sum_alike, total_alike}
 use Rattle.bl_measures.proofs.Orders.{Respects, take_one, told_push}
 use Rattle.bl_measures.proofs.TypeLemmas.{size_alike}
 

@@ -1,5 +1,4 @@
-use Rattle.std.proofs.Common.{◌≡◌, ◌+◌, ap, sym, ◌∙◌}
-use Rattle.bl_tree.specs.declared.tree.Arm.{out-Arm}
+use Rattle.std.proofs.Common.{ap, sym, ◌∙◌}
 use Rattle.bl_tree.specs.declared.tree.Branch.{out-Branch}
 use Rattle.bl_measures.specs.Saturated.{saturated}
 use Rattle.bl_measures.specs.Statements.{statements_in, statements_in_arm, statements_in_block, statements_in_branch}

@@ -1,4 +1,4 @@
-use Rattle.std.proofs.Common.{get_or, slice_index, ◌∙◌}
+use Rattle.std.proofs.Common.{get_or, slice_index}
 use Rattle.std.proofs.lemmas.List.{get_or_default}
 use Rattle.bl_measures.proofs.Numbers.{sum_step}
 use Rattle.bl_measures.proofs.tables.total_at.Goals as goal
