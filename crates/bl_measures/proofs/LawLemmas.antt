@@ -7,16 +7,24 @@ use Rattle.std.proofs.lemmas.Option.{slice_get_cases}
 use Rattle.bl_tree.specs.declared.tree.Unit.{Unit as UnitDef}
 use Rattle.bl_tree.specs.Reduce.{total, greatest}
 use Rattle.bl_measures.specs.Calls.{calls_of}
-use Rattle.bl_measures.specs.Laws.{CellsAdd, InstancesAdd, LimitsAreTold, NoChainIsLonger, SomeChainIsAsLong}
+use Rattle.bl_measures.specs.InOrder.{answers}
+use Rattle.bl_measures.specs.Laws.{CellsAdd, InstancesAdd, LimitsAreTold, MissingIsNothing, NoChainIsLonger, SomeChainIsAsLong}
 use Rattle.bl_measures.specs.Runs.{runs_of}
 use Rattle.bl_measures.specs.Statements.{statements_of}
 use Rattle.bl_measures.specs.Types.{struct_sizes}
 use Rattle.bl_measures.specs.Units.{all_cells, all_chains, all_instances, cells_by, cells_with, chain_at, chain_by, greatest_at, instances_by, variables_of}
 use Rattle.bl_measures.specs.Uses.{Earlier, IsChain, Uses}
-use Rattle.bl_measures.proofs.TableLemmas.{answer_at, known_before}
+use Rattle.bl_measures.proofs.TableLemmas.{answer_at, known_before, length_answers}
 
 pub limits_told : LimitsAreTold
 limits_told n limit below = ((λ above. omega arith), (λ above. omega arith))
+
+-- past the end of a table there is nothing
+past : (step : List ℕ → UnitDef → ℕ) (units : List UnitDef) (k : ℕ) → length units ≤ k → slice_index (answers step units) k ≡ 0
+past step units k over = get_or_past (answers step units) k 0 (let long = length_answers step [] units in omega arith)
+
+pub missing : MissingIsNothing
+missing structs units k over = (past instances_by units k over, past chain_by units k over, past (cells_by (struct_sizes structs)) units k over)
 
 -- ---- instances and cells
 

@@ -14,6 +14,11 @@ use Rattle.bl_measures.specs.Uses.{IsChain, UsesEarlier}
 abbrev pub LimitsAreTold : Type 0
 LimitsAreTold = (n limit : ℕ) → limit < 2 ^ 64 - 1 → limit < saturated n ↔ limit < n
 
+-- a unit that isn't there has nothing
+abbrev pub MissingIsNothing : Type 0
+MissingIsNothing =
+    (structs : List StructDef) (units : List UnitDef) (k : ℕ) → length units ≤ k → (instances_at units k ≡ 0) × (chain_at units k ≡ 0) × (cells_at structs units k ≡ 0)
+
 -- a unit expands to itself and to what the activity of each of its `run` statements expands to
 abbrev pub InstancesAdd : Type 0
 InstancesAdd =
