@@ -31,7 +31,7 @@ pub mod NamedSizes
 pub mod ShapeForms
 pub mod Exprs
 pub mod ShapePaths
-pub mod Shapes
+pub mod ShapeParts
 pub mod ShapeStatements
 pub mod Made
 pub mod Told

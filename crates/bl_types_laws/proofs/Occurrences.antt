@@ -152,13 +152,13 @@ starts_there s = subst (In (place_of s).start) (sym (starts_are s)) (inl refl)
 
 within_starts : (inner outer : Stmt) → Within inner outer → In (place_of inner).start (starts_of outer)
 within_starts inner outer itself = starts_there inner
-within_starts inner outer (deeper outer next there within) =
+within_starts inner whole (deeper outer next there within) =
     subst (In (place_of inner).start) (sym (starts_are outer))
     (inr (in_joined starts_of (children outer) next (place_of inner).start (contains_in next (children outer) there) (within_starts inner next within)))
 
 within_ascends : (inner outer : Stmt) → Within inner outer → ascends (starts_of outer) ≡ true → ascends (starts_of inner) ≡ true
 within_ascends inner outer itself up = up
-within_ascends inner outer (deeper outer next there within) up =
+within_ascends inner whole (deeper outer next there within) up =
     within_ascends inner next within (part_ascends starts_of (children outer) next (children_ascend outer up) (contains_in next (children outer) there))
 
 -- what stands in a statement is that, or stands in one directly in its blocks
@@ -169,7 +169,7 @@ record Below (inner outer : Stmt) : Type 0 where
 
 either : (inner outer : Stmt) → Within inner outer → (inner ≡ outer) ⊎ Below inner outer
 either inner outer itself = inl refl
-either inner outer (deeper outer next there within) = inr (record { next = next; is_there = contains_in next (children outer) there; within = within })
+either inner whole (deeper outer next there within) = inr (record { next = next; is_there = contains_in next (children outer) there; within = within })
 
 below_later : (inner outer : Stmt) → ascends (starts_of outer) ≡ true → Below inner outer → (place_of outer).start < (place_of inner).start
 below_later inner outer up below =
@@ -183,7 +183,7 @@ not_less m n is less = omega arith
 pub one_within : (s outer : Stmt) → Within s outer → (t : Stmt) → Within t outer → ascends (starts_of outer) ≡ true → (place_of s).start ≡ (place_of t).start → s ≡ t
 one_within s outer itself t other up same =
     ⊎_elim (λ (is : t ≡ s). sym is) (λ (below : Below t s). absurd (not_less (place_of s).start (place_of t).start same (below_later t s up below))) (either t s other)
-one_within s outer (deeper outer next there within) t other up same =
+one_within s whole (deeper outer next there within) t other up same =
     let first = contains_in next (children outer) there in
     ⊎_elim
     (λ (is : t ≡ outer).

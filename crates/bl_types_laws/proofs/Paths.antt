@@ -4,6 +4,7 @@ use Rattle.std.specs.Prelude.{Bool, true, false, is_some, option_and_then, slice
 use Rattle.std.specs.List.{cons_option, list_all}
 use Rattle.bl_tree.specs.declared.place.Place.{Place}
 use Rattle.bl_tree.specs.declared.rule.Failure.{Failure}
+use Rattle.bl_tree.specs.declared.rule.Further.TheVariants.{One}
 use Rattle.bl_tree.specs.declared.rule.Rule.TheVariants as rule
 use Rattle.bl_tree.specs.declared.tree.Expr.{Expr, fold-Expr}
 use Rattle.bl_tree.specs.declared.tree.ExprKind.{ExprKind, fold-ExprKind}
@@ -78,7 +79,7 @@ lent_if at it same = if same then record { made = Some it; failures = [] } else 
 -- ---- what may be changed
 
 abbrev changed_if : Place → Variable → Bool → List Failure
-changed_if at known may = if may then [] else record { rule = 11; at = at; also = known.place } ∷ []
+changed_if at known may = if may then [] else record { rule = rule.Immutable; at = at; further = One known.place } ∷ []
 
 changes : (at : Place) (known : Variable) (may : Bool) → may_change known.role ≡ may → changed_if at known may ≡ [] → may_change known.role ≡ true
 changes at known true is none = is

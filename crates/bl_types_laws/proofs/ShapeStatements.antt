@@ -42,7 +42,7 @@ use Rattle.bl_types_laws.proofs.ShapeForms.{FoundIn}
 use Rattle.bl_types_laws.proofs.NamedSizes.{inputs_size, named_size, target_size}
 use Rattle.bl_types_laws.proofs.Opens.{ExprIn}
 use Rattle.bl_types_laws.proofs.ShapePaths.{TargetIn, all_lent_in, initial_in, paths_size, run_target_in, size_of_target, taker_size}
-use Rattle.bl_types_laws.proofs.Shapes.{Shape, ShapeIn, ShapeMost, Shapes, ShapesMost, block_shape, bodies_most, branches_shape, branching_most, choice_most, choice_shape, declared_most, declared_shape, in_order_in, plain_most, plain_shape, shapes_of, tested_most, tested_shape}
+use Rattle.bl_types_laws.proofs.ShapeParts.{Shape, ShapeIn, ShapeMost, Shapes, ShapesMost, block_shape, bodies_most, branches_shape, branching_most, choice_most, choice_shape, declared_most, declared_shape, in_order_in, plain_most, plain_shape, shapes_of, tested_most, tested_shape}
 use Rattle.bl_types_laws.proofs.Sizes.{Size, SizeMost, beside, empty, size_all, size_beside, size_empty, size_first, size_of, size_of_path, size_second}
 
 -- ---- typed statements
