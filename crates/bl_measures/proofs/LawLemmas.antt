@@ -1,5 +1,31 @@
 -- Measures in terms of each other.
-use Rattle.std.proofs.Common.{◌≡◌, ℕ, zero, suc, ◌+◌, ◌<◌, ◌≤◌, ◌⊎◌, inl, inr, ⊎_elim, max, List, [], ◌∷◌, map, length, get_or, take, Some, None, ap, refl, ◌∙◌, arith}
+use Rattle.std.proofs.Common.{
+  ◌≡◌,
+  ℕ,
+  zero,
+  suc,
+  ◌+◌,
+  ◌<◌,
+  ◌≤◌,
+  ◌⊎◌,
+  inl,
+  inr,
+  ⊎_elim,
+  max,
+  List,
+  [],
+  ◌∷◌,
+  map,
+  length,
+  get_or,
+  take,
+  Some,
+  None,
+  ap,
+  refl,
+  ◌∙◌,
+  arith,
+}
 use Rattle.std.specs.Prelude.{Contains, slice_get, slice_index}
 use Rattle.std.proofs.lemmas.Bool.{cases_lt}
 use Rattle.std.proofs.lemmas.List.{get_or-take, get_or_past, length-take}
@@ -62,7 +88,12 @@ attained f x (y ∷ xs) =
     let rest : Attained f (y ∷ xs) = attained f y xs in
     let n = greatest (map f (y ∷ xs)) in
     ⊎_elim
-    (λ (less : f x < n). record { element = rest.element; there = (suc rest.there.0, (let below = rest.there.1 in omega arith), rest.there.2); most = (let is = rest.most in omega arith) })
+    (λ (less : f x < n). record {
+      element = rest.element;
+      there =
+          (suc rest.there.0, (let below = rest.there.1 in omega arith), rest.there.2);
+      most = (let is = rest.most in omega arith);
+    })
     (λ (more : n ≤ f x). record { element = x; there = (0, omega arith, refl); most = omega arith })
     (cases_lt (f x) n)
 
@@ -90,7 +121,8 @@ behind_has units k j uses =
 pub no_longer : NoChainIsLonger
 no_longer units k [] chain =
     ⊎_elim
-    (λ (found : (unit : UnitDef) × (k < length units) × (slice_get units k ≡ Some unit) × (get_or units k unit ≡ unit)). let is = chain_is units k found.0 found.2 in omega arith)
+    (λ (found : (unit : UnitDef) × (k < length units) × (slice_get units k ≡ Some unit) × (get_or units k unit ≡ unit)). let is =
+    chain_is units k found.0 found.2 in omega arith)
     (λ (past : (length units ≤ k) × (slice_get units k ≡ None)). absurd (let none = past.0 in let within = chain.0 in omega arith))
     (slice_get_cases units k).1
 no_longer units k (j ∷ rest) chain =
@@ -147,7 +179,8 @@ next_of units k unit there =
     (cases_lt at.position k))
     (best (slice_index known) (calls_of unit) (runs_of unit))
 
-as_long_below : (n : ℕ) (units : List UnitDef) (k : ℕ) → k < n → k < length units → (rest : List ℕ) × (IsChain units (k ∷ rest)) × (length (k ∷ rest) ≡ chain_at units k)
+as_long_below : (n : ℕ) (units : List UnitDef) (k : ℕ) → k < n → k < length units →
+    (rest : List ℕ) × (IsChain units (k ∷ rest)) × (length (k ∷ rest) ≡ chain_at units k)
 as_long_below zero units k below within = absurd (omega arith)
 as_long_below (suc n) units k below within =
     ⊎_elim

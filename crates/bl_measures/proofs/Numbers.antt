@@ -1,5 +1,29 @@
 -- Sums, greatest numbers and products, as far as 64 bits tell them.
-use Rattle.std.proofs.Common.{◌≡◌, ℕ, zero, suc, ◌+◌, ◌*◌, ◌<◌, ◌≤◌, max, List, [], ◌∷◌, map, length, get_or, take, ap, refl, ◌∙◌, suc-mul, zero-mul, take_all, arith}
+use Rattle.std.proofs.Common.{
+  ◌≡◌,
+  ℕ,
+  zero,
+  suc,
+  ◌+◌,
+  ◌*◌,
+  ◌<◌,
+  ◌≤◌,
+  max,
+  List,
+  [],
+  ◌∷◌,
+  map,
+  length,
+  get_or,
+  take,
+  ap,
+  refl,
+  ◌∙◌,
+  suc-mul,
+  zero-mul,
+  take_all,
+  arith,
+}
 use Rattle.std.proofs.Math.ListN.{get_or-map}
 use Rattle.std.specs.Prelude.{slice_index}
 use Rattle.bl_tree.specs.Reduce.{total, greatest}
@@ -26,11 +50,13 @@ one_more told n more is grown = omega arith
 
 -- ---- lists
 
-pub total_alike : {X : Type 0} (f g : X → ℕ) → ((x : X) → saturated (f x) ≡ saturated (g x)) → (xs : List X) → saturated (total (map f xs)) ≡ saturated (total (map g xs))
+pub total_alike : {X : Type 0} (f g : X → ℕ) → ((x : X) → saturated (f x) ≡ saturated (g x)) → (xs : List X) →
+    saturated (total (map f xs)) ≡ saturated (total (map g xs))
 total_alike f g h [] = refl
 total_alike f g h (x ∷ xs) = sum_alike (f x) (g x) (total (map f xs)) (total (map g xs)) (h x) (total_alike f g h xs)
 
-pub greatest_alike : {X : Type 0} (f g : X → ℕ) → ((x : X) → saturated (f x) ≡ saturated (g x)) → (xs : List X) → saturated (greatest (map f xs)) ≡ saturated (greatest (map g xs))
+pub greatest_alike : {X : Type 0} (f g : X → ℕ) → ((x : X) → saturated (f x) ≡ saturated (g x)) → (xs : List X) →
+    saturated (greatest (map f xs)) ≡ saturated (greatest (map g xs))
 greatest_alike f g h [] = refl
 greatest_alike f g h (x ∷ xs) = max_alike (f x) (g x) (greatest (map f xs)) (greatest (map g xs)) (h x) (greatest_alike f g h xs)
 
@@ -43,7 +69,8 @@ known_twice known k = ap saturated (known_alike known k) ∙ twice (slice_index 
 
 -- ---- loops over a list
 
-total_more : {X : Type 0} (f : X → ℕ) (xs : List X) (k : ℕ) (x : X) → k < length xs → x ≡ get_or xs k x → total (map f (take (k + 1) xs)) ≡ total (map f (take k xs)) + f x
+total_more : {X : Type 0} (f : X → ℕ) (xs : List X) (k : ℕ) (x : X) → k < length xs → x ≡ get_or xs k x →
+    total (map f (take (k + 1) xs)) ≡ total (map f (take k xs)) + f x
 total_more f [] k x within is = absurd (omega arith)
 total_more f (y ∷ xs) zero x within is = let e : f x ≡ f y = ap f is in omega arith
 total_more f (y ∷ xs) (suc k) x within is =
@@ -51,7 +78,8 @@ total_more f (y ∷ xs) (suc k) x within is =
     let next : suc k + 1 ≡ suc (k + 1) = omega arith in
     rw next (omega arith)
 
-greatest_more : {X : Type 0} (f : X → ℕ) (xs : List X) (k : ℕ) (x : X) → k < length xs → x ≡ get_or xs k x → greatest (map f (take (k + 1) xs)) ≡ max (greatest (map f (take k xs))) (f x)
+greatest_more : {X : Type 0} (f : X → ℕ) (xs : List X) (k : ℕ) (x : X) → k < length xs → x ≡ get_or xs k x →
+    greatest (map f (take (k + 1) xs)) ≡ max (greatest (map f (take k xs))) (f x)
 greatest_more f [] k x within is = absurd (omega arith)
 greatest_more f (y ∷ xs) zero x within is = let e : f x ≡ f y = ap f is in omega arith
 greatest_more f (y ∷ xs) (suc k) x within is =
@@ -60,32 +88,39 @@ greatest_more f (y ∷ xs) (suc k) x within is =
     rw next (omega arith)
 
 -- the sum so far, and with one element more
-pub sum_more : {X : Type 0} (f : X → ℕ) (xs : List X) (k : ℕ) (x : X) (sum here more : ℕ) → k < length xs → x ≡ get_or xs k x → here ≡ saturated (f x) → more ≡ saturated (sum + here)
+pub sum_more : {X : Type 0} (f : X → ℕ) (xs : List X) (k : ℕ) (x : X) (sum here more : ℕ) → k < length xs → x ≡ get_or xs k x →
+    here ≡ saturated (f x) → more ≡ saturated (sum + here)
     → sum ≡ saturated (total (map f (take k xs))) → more ≡ saturated (total (map f (take (k + 1) xs)))
 sum_more f xs k x sum here more within is e told so_far = let next = total_more f xs k x within is in omega arith
 
 -- the same of numbers that are told whole
-pub sum_step : {X : Type 0} (f : X → ℕ) (xs : List X) (k : ℕ) (x : X) (sum here more : ℕ) → k < length xs → x ≡ get_or xs k x → here ≡ f x → more ≡ saturated (sum + here)
+pub sum_step : {X : Type 0} (f : X → ℕ) (xs : List X) (k : ℕ) (x : X) (sum here more : ℕ) → k < length xs → x ≡ get_or xs k x →
+    here ≡ f x → more ≡ saturated (sum + here)
     → sum ≡ saturated (total (map f (take k xs))) → more ≡ saturated (total (map f (take (k + 1) xs)))
 sum_step f xs k x sum here more within is e told so_far = let next = total_more f xs k x within is in omega arith
 
 -- the sum over all
-pub sum_all : {X : Type 0} (f : X → ℕ) (xs : List X) (k sum : ℕ) → length xs ≤ k → sum ≡ saturated (total (map f (take k xs))) → sum ≡ saturated (total (map f xs))
+pub sum_all : {X : Type 0} (f : X → ℕ) (xs : List X) (k sum : ℕ) → length xs ≤ k → sum ≡ saturated (total (map f (take k xs))) →
+    sum ≡ saturated (total (map f xs))
 sum_all f xs k sum over so_far = so_far ∙ ap (λ front. saturated (total (map f front))) (take_all k xs over)
 
 -- the greatest so far, and with one element more
-pub most_more : {X : Type 0} (f : X → ℕ) (xs : List X) (k : ℕ) (x : X) (most here more : ℕ) → k < length xs → x ≡ get_or xs k x → here ≡ saturated (f x) → more ≡ max most here
+pub most_more : {X : Type 0} (f : X → ℕ) (xs : List X) (k : ℕ) (x : X) (most here more : ℕ) → k < length xs → x ≡ get_or xs k x →
+    here ≡ saturated (f x) → more ≡ max most here
     → most ≡ saturated (greatest (map f (take k xs))) → more ≡ saturated (greatest (map f (take (k + 1) xs)))
 most_more f xs k x most here more within is e told so_far = let next = greatest_more f xs k x within is in omega arith
 
 -- the greatest of all
-pub most_all : {X : Type 0} (f : X → ℕ) (xs : List X) (k most : ℕ) → length xs ≤ k → most ≡ saturated (greatest (map f (take k xs))) → most ≡ saturated (greatest (map f xs))
+pub most_all : {X : Type 0} (f : X → ℕ) (xs : List X) (k most : ℕ) → length xs ≤ k →
+    most ≡ saturated (greatest (map f (take k xs))) → most ≡ saturated (greatest (map f xs))
 most_all f xs k most over so_far = so_far ∙ ap (λ front. saturated (greatest (map f front))) (take_all k xs over)
 
 -- the same where nothing saturates
-pub greatest_step : {X : Type 0} (f : X → ℕ) (xs : List X) (k : ℕ) (x : X) (most here more : ℕ) → k < length xs → x ≡ get_or xs k x → here ≡ f x → more ≡ max most here
+pub greatest_step : {X : Type 0} (f : X → ℕ) (xs : List X) (k : ℕ) (x : X) (most here more : ℕ) → k < length xs →
+    x ≡ get_or xs k x → here ≡ f x → more ≡ max most here
     → most ≡ greatest (map f (take k xs)) → more ≡ greatest (map f (take (k + 1) xs))
 greatest_step f xs k x most here more within is e told so_far = let next = greatest_more f xs k x within is in omega arith
 
-pub greatest_done : {X : Type 0} (f : X → ℕ) (xs : List X) (k most : ℕ) → length xs ≤ k → most ≡ greatest (map f (take k xs)) → most ≡ greatest (map f xs)
+pub greatest_done : {X : Type 0} (f : X → ℕ) (xs : List X) (k most : ℕ) → length xs ≤ k → most ≡ greatest (map f (take k xs)) →
+    most ≡ greatest (map f xs)
 greatest_done f xs k most over so_far = so_far ∙ ap (λ front. greatest (map f front)) (take_all k xs over)

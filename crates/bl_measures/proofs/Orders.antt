@@ -1,5 +1,26 @@
 -- Answers in order, with one element more, and as far as 64 bits tell them.
-use Rattle.std.proofs.Common.{◌≡◌, ℕ, ◌+◌, ◌<◌, ◌≤◌, List, [], ◌∷◌, ◌++◌, map, length, get_or, take, ap, refl, sym, ◌∙◌, take_all, take-suc, add-one}
+use Rattle.std.proofs.Common.{
+  ◌≡◌,
+  ℕ,
+  ◌+◌,
+  ◌<◌,
+  ◌≤◌,
+  List,
+  [],
+  ◌∷◌,
+  ◌++◌,
+  map,
+  length,
+  get_or,
+  take,
+  ap,
+  refl,
+  sym,
+  ◌∙◌,
+  take_all,
+  take-suc,
+  add-one,
+}
 use Rattle.std.proofs.lemmas.List.{map-append}
 use Rattle.bl_measures.specs.InOrder.{answers, answers_after}
 use Rattle.bl_measures.specs.Saturated.{saturated}
@@ -29,8 +50,10 @@ told_push step held then xs x respects told grown =
     ∙ ap (map saturated) (sym (answers_push step [] xs x))
 
 -- a loop over the elements
-pub told_more : {X : Type 0} (step : List ℕ → X → ℕ) (held then : List ℕ) (xs : List X) (k : ℕ) (x : X) → Respects step → k < length xs → x ≡ get_or xs k x
-    → held ≡ map saturated (answers step (take k xs)) → then ≡ held ++ saturated (step held x) ∷ [] → then ≡ map saturated (answers step (take (k + 1) xs))
+pub told_more : {X : Type 0} (step : List ℕ → X → ℕ) (held then : List ℕ) (xs : List X) (k : ℕ) (x : X) → Respects step →
+    k < length xs → x ≡ get_or xs k x
+    → held ≡ map saturated (answers step (take k xs)) → then ≡ held ++ saturated (step held x) ∷ [] →
+    then ≡ map saturated (answers step (take (k + 1) xs))
 told_more step held then xs k x respects within is told grown =
     told_push step held then (take k xs) x respects told grown ∙ ap (λ front. map saturated (answers step front)) (sym (take_one xs k x within is))
 

@@ -64,8 +64,10 @@ nesting_alike known =
     ∙ ap saturated (sym (nesting_array known n element)))
 
 pub fields_size_respects : Respects fields_size
-fields_size_respects known def = total_alike (λ field. size_by (map saturated known) field.ty) (λ field. size_by known field.ty) (λ field. size_alike known field.ty) def.fields
+fields_size_respects known def = total_alike (λ field. size_by (map saturated known) field.ty) (λ field. size_by known field.ty)
+    (λ field. size_alike known field.ty) def.fields
 
 pub fields_nesting_respects : Respects fields_nesting
 fields_nesting_respects known def =
-    sum_alike 1 1 _ _ refl (greatest_alike (λ field. nesting_by (map saturated known) field.ty) (λ field. nesting_by known field.ty) (λ field. nesting_alike known field.ty) def.fields)
+    sum_alike 1 1 _ _ refl (greatest_alike (λ field. nesting_by (map saturated known) field.ty) (λ field. nesting_by known field.ty)
+    (λ field. nesting_alike known field.ty) def.fields)

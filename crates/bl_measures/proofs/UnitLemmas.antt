@@ -1,5 +1,24 @@
 -- The measures of units, with one unit more.
-use Rattle.std.proofs.Common.{◌≡◌, ℕ, ◌+◌, ◌<◌, List, [], ◌∷◌, ◌++◌, map, length, get_or, take, refl, ap, sym, subst, ◌∙◌, arith}
+use Rattle.std.proofs.Common.{
+  ◌≡◌,
+  ℕ,
+  ◌+◌,
+  ◌<◌,
+  List,
+  [],
+  ◌∷◌,
+  ◌++◌,
+  map,
+  length,
+  get_or,
+  take,
+  refl,
+  ap,
+  sym,
+  subst,
+  ◌∙◌,
+  arith,
+}
 use Rattle.std.specs.Prelude.{slice_index}
 use Rattle.std.proofs.lemmas.List.{map-append}
 use Rattle.bl_tree.specs.declared.tree.StructDef.{StructDef}
@@ -25,7 +44,8 @@ pub greatest_at_alike : (known positions : List ℕ) → saturated (greatest_at 
 greatest_at_alike known = greatest_alike (slice_index (map saturated known)) (slice_index known) (known_twice known)
 
 pub variables_alike : (sizes : List ℕ) (unit : UnitDef) → saturated (variables_by (map saturated sizes) unit) ≡ saturated (variables_by sizes unit)
-variables_alike sizes unit = total_alike (λ var. size_by (map saturated sizes) var.ty) (λ var. size_by sizes var.ty) (λ var. size_alike sizes var.ty) unit.vars
+variables_alike sizes unit = total_alike (λ var. size_by (map saturated sizes) var.ty) (λ var. size_by sizes var.ty)
+    (λ var. size_alike sizes var.ty) unit.vars
 
 pub instances_respects : Respects instances_by
 instances_respects known unit = sum_alike 1 1 _ _ refl (total_at_alike known (runs_of unit))
@@ -48,7 +68,8 @@ cells_respects : (sizes : List ℕ) → Respects (cells_by sizes)
 cells_respects sizes known unit = cells_alike unit.kind _ _ _ _ _ _ _ refl (total_at_alike known (runs_of unit)) (greatest_at_alike known (calls_of unit))
 
 -- one element more of a list that goes by each element alone
-mapped_push : {X : Type 0} (f : X → ℕ) (held then : List ℕ) (xs : List X) (x : X) (n : ℕ) → held ≡ map f xs → then ≡ held ++ n ∷ [] → n ≡ f x → then ≡ map f (xs ++ x ∷ [])
+mapped_push : {X : Type 0} (f : X → ℕ) (held then : List ℕ) (xs : List X) (x : X) (n : ℕ) → held ≡ map f xs →
+    then ≡ held ++ n ∷ [] → n ≡ f x → then ≡ map f (xs ++ x ∷ [])
 mapped_push f held then xs x n told grown is =
     grown ∙ ap (λ front. front ++ n ∷ []) told ∙ ap (λ last. map f xs ++ last ∷ []) is ∙ sym (map-append f xs (x ∷ []))
 
@@ -67,16 +88,20 @@ tells_more structs units unit before after told sizes nestings variables stateme
     record {
       sizes = sizes ∙ told.sizes;
       nestings = nestings ∙ told.nestings;
-      variables = mapped_push (λ u. saturated (variables_of structs u)) before.variables after.variables units unit (saturated (variables_by before.struct_sizes unit)) told.variables variables
+      variables = mapped_push (λ u. saturated (variables_of structs u)) before.variables after.variables units unit
+          (saturated (variables_by before.struct_sizes unit)) told.variables variables
           (ap (λ known. saturated (variables_by known unit)) told.sizes ∙ variables_alike exact unit);
-      statements = mapped_push (λ u. saturated (statements_of u)) before.statements after.statements units unit (saturated (statements_of unit)) told.statements statements refl;
+      statements = mapped_push (λ u. saturated (statements_of u)) before.statements after.statements units unit
+          (saturated (statements_of unit)) told.statements statements refl;
       instances = told_push instances_by before.instances after.instances units unit instances_respects told.instances instances;
       chains = told_push chain_by before.chains after.chains units unit chain_respects told.chains chains;
       cells = told_push (cells_by exact) before.cells after.cells units unit (cells_respects exact) told.cells
-          (cells ∙ ap (λ n. before.cells ++ n ∷ []) (ap (λ known. saturated (cells_by known before.cells unit)) told.sizes ∙ cells_sizes exact before.cells unit));
+          (cells ∙ ap (λ n. before.cells ++ n ∷ []) (ap (λ known. saturated (cells_by known before.cells unit)) told.sizes
+          ∙ cells_sizes exact before.cells unit));
     }
 
 -- the same in a loop over the units
-pub tells_next : (structs : List StructDef) (units : List UnitDef) (k : ℕ) (unit : UnitDef) (after : Measures) → k < length units → unit ≡ get_or units k unit
+pub tells_next : (structs : List StructDef) (units : List UnitDef) (k : ℕ) (unit : UnitDef) (after : Measures) → k < length units →
+    unit ≡ get_or units k unit
     → Tells after structs (take k units ++ unit ∷ []) → Tells after structs (take (k + 1) units)
 tells_next structs units k unit after within is told = subst (Tells after structs) (sym (take_one units k unit within is)) told

@@ -17,7 +17,8 @@ LimitsAreTold = (n limit : ℕ) → limit < 2 ^ 64 - 1 → limit < saturated n �
 -- a unit that isn't there has nothing
 abbrev pub MissingIsNothing : Type 0
 MissingIsNothing =
-    (structs : List StructDef) (units : List UnitDef) (k : ℕ) → length units ≤ k → (instances_at units k ≡ 0) × (chain_at units k ≡ 0) × (cells_at structs units k ≡ 0)
+    (structs : List StructDef) (units : List UnitDef) (k : ℕ) → length units ≤ k →
+    (instances_at units k ≡ 0) × (chain_at units k ≡ 0) × (cells_at structs units k ≡ 0)
 
 -- a unit expands to itself and to what the activity of each of its `run` statements expands to
 abbrev pub InstancesAdd : Type 0
@@ -30,7 +31,8 @@ abbrev pub CellsAdd : Type 0
 CellsAdd =
     (structs : List StructDef) (units : List UnitDef) (k : ℕ) (unit : UnitDef) → UsesEarlier units → slice_get units k ≡ Some unit
     → cells_at structs units k
-    ≡ cells_with unit.kind (variables_of structs unit) (statements_of unit) (total (map (cells_at structs units) (runs_of unit))) (greatest (map (cells_at structs units) (calls_of unit)))
+    ≡ cells_with unit.kind (variables_of structs unit) (statements_of unit) (total (map (cells_at structs units) (runs_of unit)))
+    (greatest (map (cells_at structs units) (calls_of unit)))
 
 -- no chain that begins with a unit has more units than the number says
 abbrev pub NoChainIsLonger : Type 0

@@ -9,8 +9,6 @@ mod measures;
 mod runs;
 mod statements;
 mod tables;
-#[cfg(test)]
-mod tests;
 mod types;
 
 pub use calls::calls_of;

@@ -90,7 +90,7 @@ impl Measures {
     }
 
     /// The measures of structs and units, each by those before it.
-    pub(crate) fn of_parts(
+    pub fn of_parts(
         alloc: Global,
         structs: &[StructDef],
         units: &[Unit],

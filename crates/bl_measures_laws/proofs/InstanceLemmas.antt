@@ -1,5 +1,35 @@
 -- The number of instances is how many the list of them has.
-use Rattle.std.proofs.Common.{◌≡◌, ℕ, zero, suc, ◌+◌, ◌<◌, ◌≤◌, Bool, true, false, not, cond, ◌⊎◌, ⊎_elim, List, [], ◌∷◌, ◌++◌, map, length, get_or, Some, None, ap, refl, sym, subst, ◌∙◌, arith}
+use Rattle.std.proofs.Common.{
+  ◌≡◌,
+  ℕ,
+  zero,
+  suc,
+  ◌+◌,
+  ◌<◌,
+  ◌≤◌,
+  Bool,
+  true,
+  false,
+  not,
+  cond,
+  ◌⊎◌,
+  ⊎_elim,
+  List,
+  [],
+  ◌∷◌,
+  ◌++◌,
+  map,
+  length,
+  get_or,
+  Some,
+  None,
+  ap,
+  refl,
+  sym,
+  subst,
+  ◌∙◌,
+  arith,
+}
 use Rattle.std.specs.Prelude.{All, AllPairs, Option, filter, option_map, slice_get, unwrap_or}
 use Rattle.std.proofs.lemmas.List.{length-append, length-map, map-append}
 use Rattle.std.proofs.lemmas.List.Elements.{All-head, All-tail}
@@ -16,8 +46,30 @@ use Rattle.bl_tree.proofs.StmtInduction.{Each, EachArm, EachBranch, induct, stmt
 use Rattle.bl_effects.specs.Table.{same_place}
 use Rattle.bl_ctree.specs.declared.instance.Instance.{Instance}
 use Rattle.bl_ctree.specs.declared.instance.Run.{Run}
-use Rattle.bl_ctree.specs.Instances.{arm_runs, branch_runs, called_from, expanded, instances_below, kind_runs, one_a_place, runs_in, runs_in_arm, runs_in_branch, runs_of, stmt_layer_runs}
-use Rattle.bl_measures.specs.Runs.{arm_runs as arm_activities, branch_runs as branch_activities, kind_runs as kind_activities, runs_in as activities_in, runs_in_arm as activities_in_arm, runs_in_branch as activities_in_branch, runs_of as activities_of, stmt_layer_runs as stmt_activities}
+use Rattle.bl_ctree.specs.Instances.{
+  arm_runs,
+  branch_runs,
+  called_from,
+  expanded,
+  instances_below,
+  kind_runs,
+  one_a_place,
+  runs_in,
+  runs_in_arm,
+  runs_in_branch,
+  runs_of,
+  stmt_layer_runs,
+}
+use Rattle.bl_measures.specs.Runs.{
+  arm_runs as arm_activities,
+  branch_runs as branch_activities,
+  kind_runs as kind_activities,
+  runs_in as activities_in,
+  runs_in_arm as activities_in_arm,
+  runs_in_branch as activities_in_branch,
+  runs_of as activities_of,
+  stmt_layer_runs as stmt_activities,
+}
 use Rattle.bl_measures.specs.Laws.{InstancesAdd, MissingIsNothing}
 use Rattle.bl_measures.specs.Units.{instances_at}
 use Rattle.bl_measures.specs.Uses.{Earlier, UsesEarlier}
@@ -41,7 +93,8 @@ abbrev named_of_kind : StmtKind → List ℕ
 named_of_kind = fold-StmtKind (List ℕ) (List ℕ) (List ℕ) (List ℕ) kind_activities arm_activities branch_activities stmt_activities
 
 abbrev named_parts : StmtKind-F StmtKind Arm Branch Stmt → StmtKind-F (List ℕ) (List ℕ) (List ℕ) (List ℕ)
-named_parts = map-StmtKind StmtKind Arm Branch Stmt (List ℕ) (List ℕ) (List ℕ) (List ℕ) named_of_kind activities_in_arm activities_in_branch activities_in
+named_parts = map-StmtKind StmtKind Arm Branch Stmt (List ℕ) (List ℕ) (List ℕ)
+    (List ℕ) named_of_kind activities_in_arm activities_in_branch activities_in
 
 named_at : (place : Place) (layer : StmtKind-F StmtKind Arm Branch Stmt) → activities_in (stmt place layer) ≡ kind_activities (named_parts layer)
 named_at place layer = rw (fold-roll-Stmt, fold-roll-StmtKind) refl
@@ -50,7 +103,8 @@ abbrev Agrees : Stmt → Type 0
 Agrees s = units_of (runs_in s) ≡ activities_in s
 
 -- parts one after another
-in_order : {A : Type 0} (f : A → List Run) (g : A → List ℕ) (xs : List A) → All (λ x. units_of (f x) ≡ g x) xs → units_of (joined (map f xs)) ≡ joined (map g xs)
+in_order : {A : Type 0} (f : A → List Run) (g : A → List ℕ) (xs : List A) → All (λ x. units_of (f x) ≡ g x) xs →
+    units_of (joined (map f xs)) ≡ joined (map g xs)
 in_order f g [] all = refl
 in_order f g (x ∷ xs) all =
     map-append (λ (run : Run). run.unit) (f x) (joined (map f xs))
@@ -76,14 +130,18 @@ shown : {A : Type 0} (P Q : A → Type 0) → ((x : A) → P x → Q x) → (xs 
 shown P Q gives xs all = λ k d within. gives _ (all k d within)
 
 arms_agree : (arms : List Arm) → EachArm Agrees arms → units_of (joined (map runs_in_arm arms)) ≡ joined (map activities_in_arm arms)
-arms_agree arms each = in_order runs_in_arm activities_in_arm arms (shown (λ arm. Each Agrees (out-Arm arm).body) (λ arm. units_of (runs_in_arm arm) ≡ activities_in_arm arm) in_arm arms each)
+arms_agree arms each = in_order runs_in_arm activities_in_arm arms
+    (shown (λ arm. Each Agrees (out-Arm arm).body) (λ arm. units_of (runs_in_arm arm) ≡ activities_in_arm arm) in_arm arms each)
 
-branches_agree : (branches : List Branch) → EachBranch Agrees branches → units_of (joined (map runs_in_branch branches)) ≡ joined (map activities_in_branch branches)
+branches_agree : (branches : List Branch) → EachBranch Agrees branches →
+    units_of (joined (map runs_in_branch branches)) ≡ joined (map activities_in_branch branches)
 branches_agree branches each =
     in_order runs_in_branch activities_in_branch branches
-    (shown (λ branch. Each Agrees (out-Branch branch).body) (λ branch. units_of (runs_in_branch branch) ≡ activities_in_branch branch) in_branch branches each)
+    (shown (λ branch. Each Agrees (out-Branch branch).body)
+    (λ branch. units_of (runs_in_branch branch) ≡ activities_in_branch branch) in_branch branches each)
 
-same : (place : Place) (layer : StmtKind-F StmtKind Arm Branch Stmt) → units_of (kind_runs (found_parts layer) place) ≡ kind_activities (named_parts layer) → Agrees (stmt place layer)
+same : (place : Place) (layer : StmtKind-F StmtKind Arm Branch Stmt) →
+    units_of (kind_runs (found_parts layer) place) ≡ kind_activities (named_parts layer) → Agrees (stmt place layer)
 same place layer is = ap units_of (found_at place layer) ∙ is ∙ sym (named_at place layer)
 
 agree : (s : Stmt) → Agrees s
@@ -94,7 +152,8 @@ agree = induct Agrees (record {
   await = λ place e. same place (StmtKind-F.Await e) refl;
   run = λ place target a inputs outputs. same place (StmtKind-F.Run target a inputs outputs) refl;
   branching = λ place arms other in_arms in_other. same place (StmtKind-F.If arms other)
-      (map-append (λ (run : Run). run.unit) (joined (map runs_in_arm arms)) (joined (map runs_in other)) ∙ (λ i. arms_agree arms in_arms i ++ block other in_other i));
+      (map-append (λ (run : Run). run.unit) (joined (map runs_in_arm arms)) (joined (map runs_in other))
+      ∙ (λ i. arms_agree arms in_arms i ++ block other in_other i));
   cobegin = λ place branches each. same place (StmtKind-F.Cobegin branches) (branches_agree branches each);
   guarded = λ place guard e body each. same place (StmtKind-F.When guard e body) (block body each);
   repeat = λ place body each. same place (StmtKind-F.Repeat body) (block body each);
@@ -111,7 +170,8 @@ all_agree body = block body (λ k d within. agree _)
 filter_all : {A : Type 0} (p : A → Bool) (xs : List A) → All (λ x. p x ≡ true) xs → filter p xs ≡ xs
 filter_all p [] all = refl
 filter_all p (x ∷ xs) all =
-    ap (λ b. cond b (x ∷ filter p xs) (filter p xs)) (All-head (λ x. p x ≡ true) x xs all) ∙ ap (λ rest. x ∷ rest) (filter_all p xs (All-tail (λ x. p x ≡ true) x xs all))
+    ap (λ b. cond b (x ∷ filter p xs) (filter p xs)) (All-head (λ x. p x ≡ true) x xs all)
+    ∙ ap (λ rest. x ∷ rest) (filter_all p xs (All-tail (λ x. p x ≡ true) x xs all))
 
 abbrev Apart : Run → Run → Type 0
 Apart one other = same_place one.place other.place ≡ false
@@ -119,7 +179,8 @@ Apart one other = same_place one.place other.place ≡ false
 each_once : (runs : List Run) → AllPairs Apart runs → one_a_place runs ≡ runs
 each_once [] apart = refl
 each_once (run ∷ rest) apart =
-    ap (λ found. run ∷ filter (λ (other : Run). not (same_place run.place other.place)) found) (each_once rest (λ i j d less within. apart (suc i) (suc j) d (omega arith) (omega arith)))
+    ap (λ found. run ∷ filter (λ (other : Run). not (same_place run.place other.place)) found)
+    (each_once rest (λ i j d less within. apart (suc i) (suc j) d (omega arith) (omega arith)))
     ∙ ap (λ found. run ∷ found)
     (filter_all (λ (other : Run). not (same_place run.place other.place)) rest (λ k d within. ap not (apart 0 (suc k) d (omega arith) (omega arith))))
 
@@ -128,7 +189,8 @@ named unit apart = ap units_of (each_once (joined (map runs_in unit.body)) apart
 
 -- ---- instances
 
-below_long : (alone : ℕ → List Instance) (n : ℕ) (runs : List Run) → length (instances_below alone n runs) ≡ total (map (λ k. length (alone k)) (units_of runs))
+below_long : (alone : ℕ → List Instance) (n : ℕ) (runs : List Run) →
+    length (instances_below alone n runs) ≡ total (map (λ k. length (alone k)) (units_of runs))
 below_long alone n [] = refl
 below_long alone n (run ∷ rest) =
     let inner = map (called_from n run) (alone run.unit) in
@@ -142,20 +204,25 @@ each_is : (f g : ℕ → ℕ) (xs : List ℕ) → All (λ x. f x ≡ g x) xs →
 each_is f g [] all = refl
 each_is f g (x ∷ xs) all = λ i. All-head (λ x. f x ≡ g x) x xs all i + each_is f g xs (All-tail (λ x. f x ≡ g x) x xs all) i
 
-module _ (adds : InstancesAdd) (none : MissingIsNothing) (units : List UnitDef) (earlier : UsesEarlier units) (apart : (j : ℕ) (unit : UnitDef) → slice_get units j ≡ Some unit → RunsStandApart unit) where
+module _ (adds : InstancesAdd) (none : MissingIsNothing) (units : List UnitDef) (earlier : UsesEarlier units)
+    (apart : (j : ℕ) (unit : UnitDef) → slice_get units j ≡ Some unit → RunsStandApart unit) where
   -- a unit with what it expands to
   expanded_at : (n k : ℕ) (found : Option UnitDef) → slice_get units k ≡ found
-      → length (expanded units (suc n) k) ≡ unwrap_or (option_map (λ unit. 1 + total (map (λ j. length (expanded units n j)) (units_of (runs_of unit)))) found) 0
+      → length (expanded units (suc n) k) ≡ unwrap_or (option_map
+      (λ unit. 1 + total (map (λ j. length (expanded units n j)) (units_of (runs_of unit)))) found) 0
   expanded_at n k None is =
-      ap (λ found. length (unwrap_or (option_map (λ (unit : UnitDef). record { unit = k; depth = 0; origin = None } ∷ instances_below (expanded units n) 1 (runs_of unit)) found) [])) is
+      ap (λ found. length (unwrap_or (option_map (λ (unit : UnitDef). record { unit = k; depth = 0; origin = None }
+      ∷ instances_below (expanded units n) 1 (runs_of unit)) found) [])) is
   expanded_at n k (Some unit) is =
-      ap (λ found. length (unwrap_or (option_map (λ (unit : UnitDef). record { unit = k; depth = 0; origin = None } ∷ instances_below (expanded units n) 1 (runs_of unit)) found) [])) is
+      ap (λ found. length (unwrap_or (option_map (λ (unit : UnitDef). record { unit = k; depth = 0; origin = None }
+      ∷ instances_below (expanded units n) 1 (runs_of unit)) found) [])) is
       ∙ (let below = below_long (expanded units n) 1 (runs_of unit) in omega arith)
 
   missing : (k : ℕ) → slice_get units k ≡ None → instances_at units k ≡ 0
   missing k is =
       ⊎_elim
-      (λ (found : (unit : UnitDef) × (k < length units) × (slice_get units k ≡ Some unit) × (get_or units k unit ≡ unit)). absurd (none-some found.0 (sym is ∙ found.2)))
+      (λ (found : (unit : UnitDef) × (k < length units) × (slice_get units k ≡ Some unit) × (get_or units k unit ≡ unit)). absurd
+      (none-some found.0 (sym is ∙ found.2)))
       (λ (past : (length units ≤ k) × (slice_get units k ≡ None)). (none [] units k past.0).0)
       (slice_get_cases units k).1
 
@@ -165,7 +232,8 @@ module _ (adds : InstancesAdd) (none : MissingIsNothing) (units : List UnitDef) 
   count (suc n) k (Some unit) below is =
       let its : Earlier k unit = earlier k unit is in
       let each : All (λ j. length (expanded units n j) ≡ instances_at units j) (activities_of unit) =
-      shown (λ j. j < k) (λ j. length (expanded units n j) ≡ instances_at units j) (λ j before. count n j (slice_get units j) (omega arith) refl) (activities_of unit) its.runs in
+      shown (λ j. j < k) (λ j. length (expanded units n j) ≡ instances_at units j)
+      (λ j before. count n j (slice_get units j) (omega arith) refl) (activities_of unit) its.runs in
       expanded_at n k (Some unit) is
       ∙ ap (λ runs. 1 + total (map (λ j. length (expanded units n j)) runs)) (named unit (apart k unit is))
       ∙ ap (λ n. 1 + n) (each_is (λ j. length (expanded units n j)) (instances_at units) (activities_of unit) each)

@@ -7,4 +7,5 @@ abbrev pub invariant-in_exprs-loop-e : goal.invariant-in_exprs-loop-e
 invariant-in_exprs-loop-e l = l.into ++ joined (map calls_in_expr (drop l.e-index l.list)) ≡ l.initial.into ++ joined (map calls_in_expr l.list)
 
 abbrev pub invariant-in_path-loop-part : goal.invariant-in_path-loop-part
-invariant-in_path-loop-part l = l.into ++ joined (map calls_in_part (drop l.part-index l.part-items)) ≡ l.initial.into ++ joined (map calls_in_part l.part-items)
+invariant-in_path-loop-part l = l.into ++ joined (map calls_in_part (drop l.part-index l.part-items)) ≡ l.initial.into
+    ++ joined (map calls_in_part l.part-items)

@@ -7,5 +7,7 @@ use Rattle.bl_measures.proofs.types.struct_sizes.Goals as goal
 
 pub loop-def-preserved : goal.loop-def-preserved
 loop-def-preserved c =
-    told_more fields_size c.loop-def.sizes c.push.new.self c.args.structs.now c.loop-def.def-index c.def-item.result fields_size_respects c.loop-def-test.true c.def-item.is c.loop-def.invariant
-    (c.in_ok-push.ensures.ok ∙ ap (λ n. c.loop-def.sizes ++ n ∷ []) (c.fields_size-size.ensures ∙ ap (λ known. saturated (fields_size known c.def-item.result)) c.deref.ensures))
+    told_more fields_size c.loop-def.sizes c.push.new.self c.args.structs.now c.loop-def.def-index c.def-item.result
+    fields_size_respects c.loop-def-test.true c.def-item.is c.loop-def.invariant
+    (c.in_ok-push.ensures.ok ∙ ap (λ n. c.loop-def.sizes ++ n ∷ [])
+    (c.fields_size-size.ensures ∙ ap (λ known. saturated (fields_size known c.def-item.result)) c.deref.ensures))

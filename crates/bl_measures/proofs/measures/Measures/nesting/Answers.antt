@@ -6,4 +6,5 @@ use Rattle.bl_measures.proofs.measures.Measures.nesting.Goals as goal
 
 pub returns : goal.returns
 returns c = λ structs units told.
-    c.nesting_by.ensures ∙ ap (λ known. saturated (nesting_by known c.args.ty.now)) (c.deref.ensures ∙ told.nestings) ∙ nesting_alike (struct_nestings structs) c.args.ty.now
+    c.nesting_by.ensures ∙ ap (λ known. saturated (nesting_by known c.args.ty.now)) (c.deref.ensures ∙ told.nestings)
+    ∙ nesting_alike (struct_nestings structs) c.args.ty.now

@@ -6,4 +6,5 @@ use Rattle.bl_measures.proofs.measures.Measures.size.Goals as goal
 
 pub returns : goal.returns
 returns c = λ structs units told.
-    c.size_by.ensures ∙ ap (λ known. saturated (size_by known c.args.ty.now)) (c.deref.ensures ∙ told.sizes) ∙ size_alike (struct_sizes structs) c.args.ty.now
+    c.size_by.ensures ∙ ap (λ known. saturated (size_by known c.args.ty.now)) (c.deref.ensures ∙ told.sizes)
+    ∙ size_alike (struct_sizes structs) c.args.ty.now

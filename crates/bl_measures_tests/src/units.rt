@@ -1,6 +1,6 @@
 //! Small units built by hand.
 
-use crate::Measures;
+use bl_measures::Measures;
 use bl_tree::tree::{Expr, ExprKind, Role, Stmt, StmtKind, Ty, Unit, UnitKind, Var};
 use bl_tree::{Box, List, NoMemory, Place, Scalar, Text, Width};
 use std::alloc::Global;
