@@ -313,9 +313,9 @@ module _ (site : Site) where
 -- ---- statements
 
 -- what is called and what is run is earlier
-record Names (n : ℕ) (calls runs : List ℕ) : Type 0 where
-  calls : Below n calls
-  runs : Below n runs
+record Names (n : ℕ) (called run : List ℕ) : Type 0 where
+  calls : Below n called
+  runs : Below n run
 
 -- parts one after another
 parts_name : {A : Type 0} (n : ℕ) (fit : A → Bool) (f g : A → List ℕ) (xs : List A) →

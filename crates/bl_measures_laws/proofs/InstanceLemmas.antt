@@ -163,7 +163,7 @@ agree = induct Agrees (record {
 })
 
 all_agree : (body : List Stmt) → units_of (joined (map runs_in body)) ≡ joined (map activities_in body)
-all_agree body = block body (λ k d within. agree _)
+all_agree body = block body (λ k d within. agree (get_or body k d))
 
 -- ---- one for each place
 
@@ -199,6 +199,9 @@ below_long alone n (run ∷ rest) =
     let both = length-append inner (instances_below alone (n + length inner) rest) in
     omega arith
 
+one_more : (a b : ℕ) → a ≡ b → suc a ≡ 1 + b
+one_more a b is = omega arith
+
 -- what is known of each of them
 each_is : (f g : ℕ → ℕ) (xs : List ℕ) → All (λ x. f x ≡ g x) xs → total (map f xs) ≡ total (map g xs)
 each_is f g [] all = refl
@@ -206,17 +209,22 @@ each_is f g (x ∷ xs) all = λ i. All-head (λ x. f x ≡ g x) x xs all i + eac
 
 module _ (adds : InstancesAdd) (none : MissingIsNothing) (units : List UnitDef) (earlier : UsesEarlier units)
     (apart : (j : ℕ) (unit : UnitDef) → slice_get units j ≡ Some unit → RunsStandApart unit) where
+  -- a unit's own instance, and those below it
+  abbrev opened : ℕ → ℕ → UnitDef → List Instance
+  opened n k unit = record { unit = k; depth = 0; origin = None } ∷ instances_below (expanded units n) 1 (runs_of unit)
+
+  opened_at : (n k : ℕ) (found : Option UnitDef) → slice_get units k ≡ found → expanded units (suc n) k ≡ unwrap_or (option_map (opened n k) found) []
+  opened_at n k found is = ap (λ (found : Option UnitDef). unwrap_or (option_map (opened n k) found) []) is
+
+  none_there : (n k : ℕ) → slice_get units k ≡ None → length (expanded units (suc n) k) ≡ 0
+  none_there n k is = ap length (opened_at n k None is)
+
   -- a unit with what it expands to
-  expanded_at : (n k : ℕ) (found : Option UnitDef) → slice_get units k ≡ found
-      → length (expanded units (suc n) k) ≡ unwrap_or (option_map
-      (λ unit. 1 + total (map (λ j. length (expanded units n j)) (units_of (runs_of unit)))) found) 0
-  expanded_at n k None is =
-      ap (λ found. length (unwrap_or (option_map (λ (unit : UnitDef). record { unit = k; depth = 0; origin = None }
-      ∷ instances_below (expanded units n) 1 (runs_of unit)) found) [])) is
-  expanded_at n k (Some unit) is =
-      ap (λ found. length (unwrap_or (option_map (λ (unit : UnitDef). record { unit = k; depth = 0; origin = None }
-      ∷ instances_below (expanded units n) 1 (runs_of unit)) found) [])) is
-      ∙ (let below = below_long (expanded units n) 1 (runs_of unit) in omega arith)
+  expanded_at : (n k : ℕ) (unit : UnitDef) → slice_get units k ≡ Some unit
+      → length (expanded units (suc n) k) ≡ 1 + total (map (λ j. length (expanded units n j)) (units_of (runs_of unit)))
+  expanded_at n k unit is =
+      ap length (opened_at n k (Some unit) is) ∙ one_more (length (instances_below (expanded units n) 1 (runs_of unit)))
+      (total (map (λ j. length (expanded units n j)) (units_of (runs_of unit)))) (below_long (expanded units n) 1 (runs_of unit))
 
   missing : (k : ℕ) → slice_get units k ≡ None → instances_at units k ≡ 0
   missing k is =
@@ -228,13 +236,13 @@ module _ (adds : InstancesAdd) (none : MissingIsNothing) (units : List UnitDef) 
 
   count : (n k : ℕ) (found : Option UnitDef) → k < n → slice_get units k ≡ found → length (expanded units n k) ≡ instances_at units k
   count zero k found below is = absurd (omega arith)
-  count (suc n) k None below is = expanded_at n k None is ∙ sym (missing k is)
+  count (suc n) k None below is = none_there n k is ∙ sym (missing k is)
   count (suc n) k (Some unit) below is =
       let its : Earlier k unit = earlier k unit is in
       let each : All (λ j. length (expanded units n j) ≡ instances_at units j) (activities_of unit) =
       shown (λ j. j < k) (λ j. length (expanded units n j) ≡ instances_at units j)
       (λ j before. count n j (slice_get units j) (omega arith) refl) (activities_of unit) its.runs in
-      expanded_at n k (Some unit) is
+      expanded_at n k unit is
       ∙ ap (λ runs. 1 + total (map (λ j. length (expanded units n j)) runs)) (named unit (apart k unit is))
       ∙ ap (λ n. 1 + n) (each_is (λ j. length (expanded units n j)) (instances_at units) (activities_of unit) each)
       ∙ sym (adds units k unit earlier is)
