@@ -1,5 +1,24 @@
 -- What the machine comes to where a statement is over, and one statement after another.
-use Rattle.std.proofs.Common.{◌≡◌, ℕ, ◌+◌, ℤ, List, [], ◌∷◌, length, Option, Some, None, refl, ap, sym, ◌∙◌, add_assoc, add-zero, arith}
+use Rattle.std.proofs.Common.{
+  ◌≡◌,
+  ℕ,
+  ◌+◌,
+  ℤ,
+  List,
+  [],
+  ◌∷◌,
+  length,
+  Option,
+  Some,
+  None,
+  refl,
+  ap,
+  sym,
+  ◌∙◌,
+  add_assoc,
+  add-zero,
+  arith,
+}
 use Rattle.bl_cmeaning.specs.Meaning.{End, goes_on, breaks, returns, traps}
 use Rattle.bl_cmeaning_laws.specs.Flat.{Cells, Left, Ran, after, ended_by, executed, following, following_end, going}
 use Rattle.bl_bytecode.specs.declared.instruction.Instruction.{Instruction}
@@ -31,8 +50,10 @@ runs_to s at left stack r = ran s at left stack r.cells r.count r.end
 
 ran-later : (s : State) (m : ℕ) (before : Cells) (held : List ℤ) (n at left : ℕ) (stack : List ℤ) (cells : Cells) (k : ℕ) (end : End) →
     ran (moved s m before held n) at left stack cells k end ≡ ran s at left stack cells (n + k) end
-ran-later s m before held n at left stack cells k goes_on = ap (λ c. goes (record s { at = at; cells = cells; stack = stack; count = c })) (add_assoc s.count n k)
-ran-later s m before held n at left stack cells k breaks = ap (λ c. goes (record s { at = at + left; cells = cells; stack = stack; count = c })) (add_assoc s.count n k)
+ran-later s m before held n at left stack cells k goes_on =
+    ap (λ c. goes (record s { at = at; cells = cells; stack = stack; count = c })) (add_assoc s.count n k)
+ran-later s m before held n at left stack cells k breaks =
+    ap (λ c. goes (record s { at = at + left; cells = cells; stack = stack; count = c })) (add_assoc s.count n k)
 ran-later s m before held n at left stack cells k (returns result) = ap (λ c. back_to s.waiting cells c result) (add_assoc s.count n k)
 ran-later s m before held n at left stack cells k traps = ap (trapped cells) (add_assoc s.count n k)
 
@@ -41,7 +62,8 @@ pub later : (s : State) (m : ℕ) (before : Cells) (held : List ℤ) (n at left 
     runs_to (moved s m before held n) at left stack r ≡ runs_to s at left stack (after n r)
 later s m before held n at left stack r = ran-later s m before held n at left stack r.cells r.count r.end
 
-executed-at : {A : Type 0} (own : ℕ) (cells : Cells) (n : ℕ) (answer : Option A) (rest : Cells → A → Ran) → ended_by cells (own + n) answer rest ≡ after own (ended_by cells (0 + n) answer rest)
+executed-at : {A : Type 0} (own : ℕ) (cells : Cells) (n : ℕ) (answer : Option A) (rest : Cells → A → Ran) →
+    ended_by cells (own + n) answer rest ≡ after own (ended_by cells (0 + n) answer rest)
 executed-at own cells n None rest = let e : own + n ≡ own + (0 + n) = omega arith in ap (λ k. record { cells = cells; end = traps; count = k }) e
 executed-at own cells n (Some a) rest =
     let e : own + n + (rest cells a).count ≡ own + (0 + n + (rest cells a).count) = omega arith in
@@ -53,10 +75,12 @@ executed-is own l rest = executed-at own l.cells l.count l.answer rest
 
 module _ (code : Code) (room : Room) where
   -- nothing is left to be done
-  pub is-over : (s : State) (at left : ℕ) (stack : List ℤ) → Has room s → s.at ≡ at → s.stack ≡ stack → Arrives code room s (runs_to s at left stack (going s.cells))
+  pub is-over : (s : State) (at left : ℕ) (stack : List ℤ) → Has room s → s.at ≡ at → s.stack ≡ stack →
+      Arrives code room s (runs_to s at left stack (going s.cells))
   is-over s at left stack has is stands =
       stays code room s (moved s at s.cells stack 0) has
-      (ap (λ p. record s { at = p }) is ∙ ap (λ st. record s { at = at; stack = st }) stands ∙ ap (λ c. record s { at = at; stack = stack; count = c }) (sym (add-zero s.count)))
+      (ap (λ p. record s { at = p }) is ∙ ap (λ st. record s { at = at; stack = st }) stands
+      ∙ ap (λ c. record s { at = at; stack = stack; count = c }) (sym (add-zero s.count)))
 
   -- one instruction is left
   pub one-more : (s : State) (at left : ℕ) (stack : List ℤ) (i : Instruction) (cells : Cells) → Has room s → Span code s.at (i ∷ []) at →
@@ -67,26 +91,32 @@ module _ (code : Code) (room : Room) where
       ∙ ap (λ c. goes (record s { at = at; cells = cells; stack = stack; count = c })) (sym (add-zero s.count)))
 
   -- what a later state comes to
-  pub after-state : (s : State) (m : ℕ) (before : Cells) (held : List ℤ) (n at left : ℕ) (stack : List ℤ) (r : Ran) → Arrives code room s (goes (moved s m before held n)) →
-      Arrives code room (moved s m before held n) (runs_to (moved s m before held n) at left stack r) → Arrives code room s (runs_to s at left stack (after n r))
+  pub after-state : (s : State) (m : ℕ) (before : Cells) (held : List ℤ) (n at left : ℕ) (stack : List ℤ) (r : Ran) →
+      Arrives code room s (goes (moved s m before held n)) →
+      Arrives code room (moved s m before held n) (runs_to (moved s m before held n) at left stack r) →
+      Arrives code room s (runs_to s at left stack (after n r))
   after-state s m before held n at left stack r first rest =
       and-then code room s (moved s m before held n) _ first (ends-as code room (moved s m before held n) _ _ (later s m before held n at left stack r) rest)
 
-  execution-at : {A : Type 0} (s : State) (m at left : ℕ) (onto : A → List ℤ) (stack : List ℤ) (cells : Cells) (n : ℕ) (answer : Option A) (rest : Cells → A → Ran) →
+  execution-at : {A : Type 0} (s : State) (m at left : ℕ) (onto : A → List ℤ) (stack : List ℤ) (cells : Cells) (n : ℕ) (answer : Option A)
+      (rest : Cells → A → Ran) →
       Arrives code room s (answered s m onto cells n answer) →
-      ((a : A) → answer ≡ Some a → length cells ≡ length s.cells → Arrives code room (moved s m cells (onto a) n) (runs_to (moved s m cells (onto a) n) at left stack (rest cells a))) →
+      ((a : A) → answer ≡ Some a → length cells ≡ length s.cells →
+      Arrives code room (moved s m cells (onto a) n) (runs_to (moved s m cells (onto a) n) at left stack (rest cells a))) →
       Arrives code room s (runs_to s at left stack (ended_by cells n answer rest))
   execution-at s m at left onto stack cells n None rest first second = first
   execution-at s m at left onto stack cells n (Some a) rest first second =
       after-state s m cells (onto a) n at left stack (rest cells a) first (second a refl (cells-stay code room s (moved s m cells (onto a) n) first))
 
-  zero-more : {A : Type 0} (cells : Cells) (n : ℕ) (answer : Option A) (rest : Cells → A → Ran) → ended_by cells n answer rest ≡ ended_by cells (0 + n) answer rest
+  zero-more : {A : Type 0} (cells : Cells) (n : ℕ) (answer : Option A) (rest : Cells → A → Ran) →
+      ended_by cells n answer rest ≡ ended_by cells (0 + n) answer rest
   zero-more cells n answer rest = let e : n ≡ 0 + n = omega arith in ap (λ k. ended_by cells k answer rest) e
 
   -- an evaluation, and what is done with its answer
   pub execution : {A : Type 0} (s : State) (m at left : ℕ) (onto : A → List ℤ) (stack : List ℤ) (l : Left A) (rest : Cells → A → Ran) →
       Arrives code room s (answers s m onto l) →
-      ((a : A) → l.answer ≡ Some a → length l.cells ≡ length s.cells → Arrives code room (moved s m l.cells (onto a) l.count) (runs_to (moved s m l.cells (onto a) l.count) at left stack (rest l.cells a))) →
+      ((a : A) → l.answer ≡ Some a → length l.cells ≡ length s.cells →
+      Arrives code room (moved s m l.cells (onto a) l.count) (runs_to (moved s m l.cells (onto a) l.count) at left stack (rest l.cells a))) →
       Arrives code room s (runs_to s at left stack (executed 0 l rest))
   execution s m at left onto stack l rest first second =
       ends-as code room s _ _ (ap (runs_to s at left stack) (zero-more l.cells l.count l.answer rest))
@@ -94,12 +124,14 @@ module _ (code : Code) (room : Room) where
 
   -- a statement begins
   pub counted : (s : State) (at left : ℕ) (stack : List ℤ) (part : Code) (r : Ran) → Has room s → Span code s.at (ins.Count ∷ part) at →
-      Arrives code room (moved s (s.at + 1) s.cells s.stack 1) (runs_to (moved s (s.at + 1) s.cells s.stack 1) at left stack r) → Arrives code room s (runs_to s at left stack (after 1 r))
+      Arrives code room (moved s (s.at + 1) s.cells s.stack 1) (runs_to (moved s (s.at + 1) s.cells s.stack 1) at left stack r) →
+      Arrives code room s (runs_to s at left stack (after 1 r))
   counted s at left stack part r has span rest =
       goes-on code room s (moved s (s.at + 1) s.cells s.stack 1) ins.Count _ has (span-first code s.at ins.Count part at span) refl
       (ends-as code room (moved s (s.at + 1) s.cells s.stack 1) _ _ (later s (s.at + 1) s.cells s.stack 1 at left stack r) rest)
 
-  following-at : (s : State) (m at more left : ℕ) (stack : List ℤ) (cells : Cells) (n : ℕ) (end : End) (rest : Cells → Ran) → m + more ≡ at + left →
+  following-at : (s : State) (m at more left : ℕ) (stack : List ℤ) (cells : Cells) (n : ℕ) (end : End) (rest : Cells → Ran) →
+      m + more ≡ at + left →
       Arrives code room s (ran s m more stack cells n end) →
       (length cells ≡ length s.cells → Arrives code room (moved s m cells stack n) (runs_to (moved s m cells stack n) at left stack (rest cells))) →
       Arrives code room s (runs_to s at left stack (following_end n cells end rest))
@@ -112,7 +144,8 @@ module _ (code : Code) (room : Room) where
   -- a statement, and what follows it
   pub in-order : (s : State) (m at more left : ℕ) (stack : List ℤ) (r : Ran) (rest : Cells → Ran) → m + more ≡ at + left →
       Arrives code room s (runs_to s m more stack r) →
-      (length r.cells ≡ length s.cells → Arrives code room (moved s m r.cells stack r.count) (runs_to (moved s m r.cells stack r.count) at left stack (rest r.cells))) →
+      (length r.cells ≡ length s.cells →
+      Arrives code room (moved s m r.cells stack r.count) (runs_to (moved s m r.cells stack r.count) at left stack (rest r.cells))) →
       Arrives code room s (runs_to s at left stack (following r rest))
   in-order s m at more left stack r rest is first second = following-at s m at more left stack r.cells r.count r.end rest is first second
 
@@ -120,7 +153,8 @@ module _ (code : Code) (room : Room) where
       Arrives code room s (ran s m more stack cells n end) →
       (length cells ≡ length s.cells → Arrives code room (moved s m cells stack n) (goes (moved s at cells stack n))) →
       Arrives code room s (ran s at left stack cells n end)
-  skipped-at s m at more left stack cells n goes_on is first second = and-then code room s (moved s m cells stack n) _ first (second (cells-stay code room s (moved s m cells stack n) first))
+  skipped-at s m at more left stack cells n goes_on is first second =
+      and-then code room s (moved s m cells stack n) _ first (second (cells-stay code room s (moved s m cells stack n) first))
   skipped-at s m at more left stack cells n breaks is first second = ends-as code room s _ _ (ap (λ p. goes (moved s p cells stack n)) is) first
   skipped-at s m at more left stack cells n (returns result) is first second = first
   skipped-at s m at more left stack cells n traps is first second = first

@@ -1,5 +1,27 @@
 -- What the machine comes to where an evaluation is over, and one evaluation after another.
-use Rattle.std.proofs.Common.{◌≡◌, ◌≤◌, ℕ, suc, ◌+◌, ℤ, List, [], ◌∷◌, length, Option, Some, None, refl, ap, sym, ◌∙◌, subst, add_assoc, add-zero, arith}
+use Rattle.std.proofs.Common.{
+  ◌≡◌,
+  ◌≤◌,
+  ℕ,
+  suc,
+  ◌+◌,
+  ℤ,
+  List,
+  [],
+  ◌∷◌,
+  length,
+  Option,
+  Some,
+  None,
+  refl,
+  ap,
+  sym,
+  ◌∙◌,
+  subst,
+  add_assoc,
+  add-zero,
+  arith,
+}
 use Rattle.bl_cmeaning_laws.specs.Flat.{Cells, Left, going_on, left, next}
 use Rattle.bl_bytecode.specs.declared.instruction.Instruction.{Instruction}
 use Rattle.bl_bytecode.specs.Code.{Code}
@@ -36,7 +58,8 @@ fits-has room top calls s k h = record {
 }
 
 -- in another state of the same function there is room for so many fewer as more numbers stand on the stack
-pub fits-to : (room : Room) (top calls : ℕ) (s t : State) (k j : ℕ) → Fits room top calls s k → t.waiting ≡ s.waiting → length t.cells ≡ length s.cells →
+pub fits-to : (room : Room) (top calls : ℕ) (s t : State) (k j : ℕ) → Fits room top calls s k → t.waiting ≡ s.waiting →
+    length t.cells ≡ length s.cells →
     length t.stack + j ≤ length s.stack + k → Fits room top calls t j
 fits-to room top calls s t k j h waits same fewer = record {
   numbers =
@@ -53,10 +76,12 @@ fits-fewer room top calls s k j h fewer = fits-to room top calls s s k j h refl 
 
 -- ---- ends, from a later state on
 
-answered-later : {B : Type 0} (s : State) (m : ℕ) (cells : Cells) (stack : List ℤ) (n at : ℕ) (onto : B → List ℤ) (after : Cells) (k : ℕ) (answer : Option B) →
+answered-later : {B : Type 0} (s : State) (m : ℕ) (cells : Cells) (stack : List ℤ) (n at : ℕ) (onto : B → List ℤ) (after : Cells)
+    (k : ℕ) (answer : Option B) →
     answered (moved s m cells stack n) at onto after k answer ≡ answered s at onto after (n + k) answer
 answered-later s m cells stack n at onto after k None = ap (trapped after) (add_assoc s.count n k)
-answered-later s m cells stack n at onto after k (Some b) = ap (λ c. goes (record s { at = at; cells = after; stack = onto b; count = c })) (add_assoc s.count n k)
+answered-later s m cells stack n at onto after k (Some b) =
+    ap (λ c. goes (record s { at = at; cells = after; stack = onto b; count = c })) (add_assoc s.count n k)
 
 -- an evaluation that gives something of another's answer
 answered-map : {A B : Type 0} (s : State) (at : ℕ) (onto : B → List ℤ) (f : A → B) (cells : Cells) (n : ℕ) (answer : Option A) →
@@ -77,30 +102,37 @@ gives-is : {A : Type 0} (s : State) (at : ℕ) (onto : A → List ℤ) (cells : 
     gives s onto cells answer ≡ answers s at onto (left cells answer)
 gives-is s at onto cells None is = ap (trapped cells) (sym (add-zero s.count))
 gives-is s at onto cells (Some a) is =
-    ap (λ p. goes (record s { at = p; cells = cells; stack = onto a })) is ∙ ap (λ c. goes (record s { at = at; cells = cells; stack = onto a; count = c })) (sym (add-zero s.count))
+    ap (λ p. goes (record s { at = p; cells = cells; stack = onto a })) is
+    ∙ ap (λ c. goes (record s { at = at; cells = cells; stack = onto a; count = c })) (sym (add-zero s.count))
 
 module _ (code : Code) (room : Room) where
   -- an evaluation by one instruction
   pub by-instruction : {A : Type 0} (s : State) (at : ℕ) (i : Instruction) (onto : A → List ℤ) (cells : Cells) (answer : Option A) →
-      Has room s → Span code s.at (i ∷ []) at → step_with s i s.stack ≡ gives s onto cells answer → Arrives code room s (answers s at onto (left cells answer))
+      Has room s → Span code s.at (i ∷ []) at → step_with s i s.stack ≡ gives s onto cells answer →
+      Arrives code room s (answers s at onto (left cells answer))
   by-instruction s at i onto cells answer has span comes =
       ends-at code room s i (answers s at onto (left cells answer)) has (span-first code s.at i [] at span)
       (comes ∙ gives-is s at onto cells answer (span-end code s.at i at span))
 
   -- nothing is left to be evaluated
-  pub at-once : {A : Type 0} (s : State) (at : ℕ) (onto : A → List ℤ) (a : A) → Has room s → s.at ≡ at → s.stack ≡ onto a → Arrives code room s (answers s at onto (left s.cells (Some a)))
+  pub at-once : {A : Type 0} (s : State) (at : ℕ) (onto : A → List ℤ) (a : A) → Has room s → s.at ≡ at → s.stack ≡ onto a →
+      Arrives code room s (answers s at onto (left s.cells (Some a)))
   at-once s at onto a has is stands =
       stays code room s (moved s at s.cells (onto a) 0) has
-      (ap (λ p. record s { at = p }) is ∙ ap (λ st. record s { at = at; stack = st }) stands ∙ ap (λ c. record s { at = at; stack = onto a; count = c }) (sym (add-zero s.count)))
+      (ap (λ p. record s { at = p }) is ∙ ap (λ st. record s { at = at; stack = st }) stands
+      ∙ ap (λ c. record s { at = at; stack = onto a; count = c }) (sym (add-zero s.count)))
 
-  sequence-at : {A B : Type 0} (s : State) (m at : ℕ) (onto : A → List ℤ) (over : B → List ℤ) (cells : Cells) (n : ℕ) (answer : Option A) (rest : Cells → A → Left B) →
+  sequence-at : {A B : Type 0} (s : State) (m at : ℕ) (onto : A → List ℤ) (over : B → List ℤ) (cells : Cells) (n : ℕ) (answer : Option A)
+      (rest : Cells → A → Left B) →
       Arrives code room s (answered s m onto cells n answer) →
-      ((a : A) → answer ≡ Some a → length cells ≡ length s.cells → Arrives code room (moved s m cells (onto a) n) (answers (moved s m cells (onto a) n) at over (rest cells a))) →
+      ((a : A) → answer ≡ Some a → length cells ≡ length s.cells →
+      Arrives code room (moved s m cells (onto a) n) (answers (moved s m cells (onto a) n) at over (rest cells a))) →
       Arrives code room s (answers s at over (going_on cells n answer rest))
   sequence-at s m at onto over cells n None rest first second = first
   sequence-at s m at onto over cells n (Some a) rest first second =
       and-then code room s (moved s m cells (onto a) n) _ first
-      (ends-as code room (moved s m cells (onto a) n) _ _ (answered-later s m cells (onto a) n at over (rest cells a).cells (rest cells a).count (rest cells a).answer)
+      (ends-as code room (moved s m cells (onto a) n) _ _
+      (answered-later s m cells (onto a) n at over (rest cells a).cells (rest cells a).count (rest cells a).answer)
       (second a refl (cells-stay code room s (moved s m cells (onto a) n) first)))
 
   -- one evaluation, and then another with its answer

@@ -1,5 +1,29 @@
 -- The code of an expression pushes its value.
-use Rattle.std.proofs.Common.{◌≡◌, ◌≤◌, ℕ, suc, ◌+◌, ℤ, pos, Bool, true, false, List, [], ◌∷◌, ◌++◌, map, length, Option, Some, None, refl, ap, sym, ◌∙◌, subst, add-zero, append-nil, length-append, arith}
+use Rattle.std.proofs.Common.{
+  ◌≡◌,
+  ◌≤◌,
+  ℕ,
+  suc,
+  ◌+◌,
+  ℤ,
+  pos,
+  Bool,
+  true,
+  false,
+  List,
+  [],
+  ◌∷◌,
+  ◌++◌,
+  map,
+  length,
+  Option,
+  Some,
+  None,
+  refl,
+  ap,
+  sym,
+}
+use Rattle.std.proofs.Common.{◌∙◌, subst, add-zero, append-nil, length-append, arith}
 use Rattle.std.specs.Prelude.{All, not, if◌then◌else◌}
 use Rattle.std.proofs.lemmas.List.{length-map}
 use Rattle.std.proofs.lemmas.List.Elements.{All-head, All-tail}
@@ -8,57 +32,32 @@ use Rattle.bl_tree.specs.declared.scalar.Op.{Op}
 use Rattle.bl_tree.specs.declared.scalar.Op.TheVariants.{And, Or}
 use Rattle.bl_tree.specs.declared.c.CType.{CType}
 use Rattle.bl_tree.specs.declared.c.CType.TheVariants.{Scalar as OfScalar, Struct as OfStruct}
-use Rattle.bl_tree.specs.declared.c.CArg.{CArg, fold-CArg, fold-roll-CArg}
+use Rattle.bl_tree.specs.declared.c.CArg.{CArg, fold-roll-CArg}
 use Rattle.bl_tree.specs.declared.c.CCall.{CCall, fold-roll-CCall}
 use Rattle.bl_tree.specs.declared.c.CExpr.{CExpr, fold-roll-CExpr}
-use Rattle.bl_tree.specs.declared.c.CExprKind.{CExprKind, fold-CExprKind, fold-roll-CExprKind}
-use Rattle.bl_tree.specs.declared.c.CIndex.{CIndex, fold-CIndex, fold-roll-CIndex}
+use Rattle.bl_tree.specs.declared.c.CExprKind.{CExprKind, fold-roll-CExprKind}
+use Rattle.bl_tree.specs.declared.c.CIndex.{CIndex, fold-roll-CIndex}
 use Rattle.bl_tree.specs.declared.c.CPlace.{CPlace, fold-roll-CPlace}
-use Rattle.bl_tree.specs.declared.c.CStep.{CStep, fold-CStep, fold-roll-CStep, roll-CStep}
+use Rattle.bl_tree.specs.declared.c.CStep.{CStep, fold-roll-CStep, roll-CStep}
 use Rattle.bl_tree.specs.Numbers.{is_one, number_of}
 use Rattle.bl_cmeaning.specs.Builtin.{builtin_of}
 use Rattle.bl_cmeaning.specs.Sizes.{Sizes, size_of_type}
 use Rattle.bl_cmeaning.specs.Tables.{Table}
 use Rattle.bl_cmeaning.proofs.Induction.{Optional, ExprCases, induct_call, induct_expr, induct_place}
-use Rattle.bl_cmeaning_laws.specs.Flat as flat
-use Rattle.bl_cmeaning_laws.specs.Flat.{Cells, Evaluates, Grounded, Left, Routine, address_of, at_once, call_flat, cell_at, cell_number, compared, left, next, reach_flat, read_at, two_values, value_flat}
+use Rattle.bl_cmeaning_laws.specs.Flat.{Evaluates, Left, Routine, address_of, at_once, call_flat, cell_at, compared, left, next, reach_flat, read_at}
+use Rattle.bl_cmeaning_laws.specs.Flat.{two_values, value_flat}
 use Rattle.bl_cmeaning_laws.specs.Layout.{Laid, Layouts, Slot, capped}
-use Rattle.bl_cmeaning_laws.specs.Reaching.{Ground, Index, Reach, Step, laid_in, near, nowhere, onward, reach_along, reach_member, start_of_slot, through}
-use Rattle.bl_bytecode.specs.Code as coded
-use Rattle.bl_bytecode.specs.Code.{Code, Coded, Entry, code_of, code_of_call, fetch_code, reach_code, reach_of, two_code}
+use Rattle.bl_cmeaning_laws.specs.Reaching.{Ground, Index, Reach, laid_in, near, nowhere, onward, reach_along, reach_member, start_of_slot, through}
+use Rattle.bl_cmeaning_laws.proofs.Folds.{arg_flat, index_flat, kind_flat, step_flat}
+use Rattle.bl_bytecode.specs.Code.{Code, Entry, arg_code, code_of, code_of_call, fetch_code, reach_code, reach_of, two_code}
 use Rattle.bl_bytecode.specs.declared.instruction.Instruction.TheVariants as ins
 use Rattle.bl_bytecode.specs.Machine.{Room, State, goes, on, on_number, past, step_with}
 use Rattle.bl_bytecode.specs.Laws.{Arrives}
+use Rattle.bl_bytecode.proofs.Folds.{index_code, kind_code, step_code}
 use Rattle.bl_bytecode.proofs.Runs.{Span, ends-as, goes-on, ends-at, span-back, span-first, span-front, span-tail}
 use Rattle.bl_bytecode.proofs.Evaluations.{Fits, answers, answers-map, by-instruction, fits-fewer, fits-has, fits-to, gives, moved, sequence}
 use Rattle.bl_bytecode.proofs.Places.{Leads, Pushes, Terms, address-capped, is-capped, reach-runs, terms-append}
 use Rattle.bl_bytecode.proofs.Calls.{Args, Knows, calling-runs}
-
--- ---- the folds of each kind
-
-abbrev arg_code : CArg → Coded Code
-arg_code = fold-CArg (Coded Code) (Coded Code) (Coded Code) (Coded Code) (Coded (Index Code)) (Coded (Reach Code)) (Step Entry Code) coded.arg_step coded.kind_step coded.call_step coded.expr_step coded.index_step coded.place_step coded.step_step
-
-abbrev kind_code : CExprKind → Coded Code
-kind_code = fold-CExprKind (Coded Code) (Coded Code) (Coded Code) (Coded Code) (Coded (Index Code)) (Coded (Reach Code)) (Step Entry Code) coded.arg_step coded.kind_step coded.call_step coded.expr_step coded.index_step coded.place_step coded.step_step
-
-abbrev index_code : CIndex → Coded (Index Code)
-index_code = fold-CIndex (Coded Code) (Coded Code) (Coded Code) (Coded Code) (Coded (Index Code)) (Coded (Reach Code)) (Step Entry Code) coded.arg_step coded.kind_step coded.call_step coded.expr_step coded.index_step coded.place_step coded.step_step
-
-abbrev step_code : CStep → Step Entry Code
-step_code = fold-CStep (Coded Code) (Coded Code) (Coded Code) (Coded Code) (Coded (Index Code)) (Coded (Reach Code)) (Step Entry Code) coded.arg_step coded.kind_step coded.call_step coded.expr_step coded.index_step coded.place_step coded.step_step
-
-abbrev arg_flat : CArg → Grounded (Evaluates ℤ)
-arg_flat = fold-CArg (Grounded (Evaluates ℤ)) (Grounded (Evaluates ℤ)) (Grounded (Evaluates ℤ)) (Grounded (Evaluates ℤ)) (Grounded (Index (Evaluates ℤ))) (Grounded (Reach (Evaluates ℤ))) (Step Routine (Evaluates ℤ)) flat.arg_step flat.kind_step flat.call_step flat.expr_step flat.index_step flat.place_step flat.step_step
-
-abbrev kind_flat : CExprKind → Grounded (Evaluates ℤ)
-kind_flat = fold-CExprKind (Grounded (Evaluates ℤ)) (Grounded (Evaluates ℤ)) (Grounded (Evaluates ℤ)) (Grounded (Evaluates ℤ)) (Grounded (Index (Evaluates ℤ))) (Grounded (Reach (Evaluates ℤ))) (Step Routine (Evaluates ℤ)) flat.arg_step flat.kind_step flat.call_step flat.expr_step flat.index_step flat.place_step flat.step_step
-
-abbrev index_flat : CIndex → Grounded (Index (Evaluates ℤ))
-index_flat = fold-CIndex (Grounded (Evaluates ℤ)) (Grounded (Evaluates ℤ)) (Grounded (Evaluates ℤ)) (Grounded (Evaluates ℤ)) (Grounded (Index (Evaluates ℤ))) (Grounded (Reach (Evaluates ℤ))) (Step Routine (Evaluates ℤ)) flat.arg_step flat.kind_step flat.call_step flat.expr_step flat.index_step flat.place_step flat.step_step
-
-abbrev step_flat : CStep → Step Routine (Evaluates ℤ)
-step_flat = fold-CStep (Grounded (Evaluates ℤ)) (Grounded (Evaluates ℤ)) (Grounded (Evaluates ℤ)) (Grounded (Evaluates ℤ)) (Grounded (Index (Evaluates ℤ))) (Grounded (Reach (Evaluates ℤ))) (Step Routine (Evaluates ℤ)) flat.arg_step flat.kind_step flat.call_step flat.expr_step flat.index_step flat.place_step flat.step_step
 
 -- ---- one more instruction
 
@@ -82,14 +81,17 @@ module _ (code : Code) (room : Room) (top calls : ℕ) where
   }
 
   -- the address of a place
-  address-runs : (r : Reach Code) (u : Reach (Evaluates ℤ)) → Leads P r u → P (reach_code r) (λ base cells. next (address_of u base cells) (λ after k. left after (Some (pos k))))
+  address-runs : (r : Reach Code) (u : Reach (Evaluates ℤ)) → Leads P r u →
+      P (reach_code r) (λ base cells. next (address_of u base cells) (λ after k. left after (Some (pos k))))
   address-runs r u way = record {
     filled = omega arith;
     runs = λ s at span fits.
-        ends-as code room s _ _ (sym (answers-map s at (λ v. v ∷ s.stack) (λ k. pos k) (address_of u s.base s.cells))) (reach-runs code room top calls r u way s at span fits);
+        ends-as code room s _ _ (sym (answers-map s at (λ v. v ∷ s.stack) (λ k. pos k) (address_of u s.base s.cells)))
+        (reach-runs code room top calls r u way s at span fits);
   }
 
-  fetched : (r : Reach Code) (u : Reach (Evaluates ℤ)) → Leads P r u → P (reach_code r ++ ins.Fetch ∷ []) (λ base cells. next (address_of u base cells) (λ after k. left after (Some (cell_at after k))))
+  fetched : (r : Reach Code) (u : Reach (Evaluates ℤ)) → Leads P r u →
+      P (reach_code r ++ ins.Fetch ∷ []) (λ base cells. next (address_of u base cells) (λ after k. left after (Some (cell_at after k))))
   fetched r u way = record {
     filled = omega arith;
     runs = λ s at span fits.
@@ -98,7 +100,8 @@ module _ (code : Code) (room : Room) (top calls : ℕ) where
         let e : Left ℕ = address_of u s.base s.cells in
         let whole : length (front ++ ins.Fetch ∷ []) ≡ length front + 1 = length-append front (ins.Fetch ∷ []) in
         sequence code room s m at (λ k. pos k ∷ s.stack) (λ v. v ∷ s.stack) e (λ after k. left after (Some (cell_at after k)))
-        (reach-runs code room top calls r u way s m (span-front code s.at front (ins.Fetch ∷ []) at span) (fits-fewer room top calls s _ _ fits (omega arith)))
+        (reach-runs code room top calls r u way s m (span-front code s.at front (ins.Fetch ∷ []) at span)
+        (fits-fewer room top calls s _ _ fits (omega arith)))
         (λ k found same.
         let t : State = moved s m e.cells (pos k ∷ s.stack) e.count in
         by-instruction code room t at ins.Fetch (λ v. v ∷ s.stack) e.cells (Some (cell_at e.cells k))
@@ -111,16 +114,19 @@ module _ (code : Code) (room : Room) (top calls : ℕ) where
   bare : (part : Code) (evaluates : Evaluates ℤ) → P part evaluates → P (part ++ []) evaluates
   bare part evaluates h = subst (λ c. P c evaluates) (sym (append-nil part)) h
 
-  read-runs : (r : Reach Code) (u : Reach (Evaluates ℤ)) → Leads P r u → (ty : Option CType) → P (reach_code r ++ fetch_code ty) (λ base cells. next (address_of u base cells) (λ after k. left after (Some (read_at ty after k))))
+  read-runs : (r : Reach Code) (u : Reach (Evaluates ℤ)) → Leads P r u → (ty : Option CType) →
+      P (reach_code r ++ fetch_code ty) (λ base cells. next (address_of u base cells) (λ after k. left after (Some (read_at ty after k))))
   read-runs r u way None = bare _ _ (address-runs r u way)
   read-runs r u way (Some (OfScalar s)) = fetched r u way
   read-runs r u way (Some (OfStruct name)) = bare _ _ (address-runs r u way)
 
   -- a place that has the same type by code and by evaluations
-  place-read : (r : Reach Code) (u : Reach (Evaluates ℤ)) → Leads P r u → P (reach_code r ++ fetch_code r.ty) (λ base cells. next (address_of u base cells) (λ after k. left after (Some (read_at u.ty after k))))
+  place-read : (r : Reach Code) (u : Reach (Evaluates ℤ)) → Leads P r u →
+      P (reach_code r ++ fetch_code r.ty) (λ base cells. next (address_of u base cells) (λ after k. left after (Some (read_at u.ty after k))))
   place-read r u (Leads.leads start passed ts us ty terms) = read-runs _ _ (Leads.leads start passed ts us ty terms) ty
 
-  negation-runs : (part : Code) (evaluates : Evaluates ℤ) → P part evaluates → P (part ++ ins.Negate ∷ []) (λ base cells. next (evaluates base cells) (λ after a. left after (Some (number_of (if is_one a then false else true)))))
+  negation-runs : (part : Code) (evaluates : Evaluates ℤ) → P part evaluates →
+      P (part ++ ins.Negate ∷ []) (λ base cells. next (evaluates base cells) (λ after a. left after (Some (number_of (if is_one a then false else true)))))
   negation-runs part evaluates h = record {
     filled = omega (arith, length-append part (ins.Negate ∷ []));
     runs = λ s at span fits.
@@ -169,11 +175,14 @@ module _ (code : Code) (room : Room) (top calls : ℕ) where
   }
 
   -- a left operand that decides
-  past-is : (t : State) (n at : ℕ) (v : ℤ) (stack : List ℤ) → t.at + 1 + n ≡ at → past n t (v ∷ stack) ≡ answers t at (λ w. w ∷ stack) (at_once v t.base t.cells)
+  past-is : (t : State) (n at : ℕ) (v : ℤ) (stack : List ℤ) → t.at + 1 + n ≡ at →
+      past n t (v ∷ stack) ≡ answers t at (λ w. w ∷ stack) (at_once v t.base t.cells)
   past-is t n at v stack is =
-      ap (λ p. goes (record t { at = p; stack = v ∷ stack })) is ∙ ap (λ c. goes (record t { at = at; stack = v ∷ stack; count = c })) (sym (add-zero t.count))
+      ap (λ p. goes (record t { at = p; stack = v ∷ stack })) is
+      ∙ ap (λ c. goes (record t { at = at; stack = v ∷ stack; count = c })) (sym (add-zero t.count))
 
-  both-last : (c : Bool) (t : State) (stack : List ℤ) (b : Code) (g : Evaluates ℤ) (at : ℕ) → P b g → step_with t (ins.Both (length b)) t.stack ≡ (if c then on t stack else past (length b) t (pos 0 ∷ stack)) →
+  both-last : (c : Bool) (t : State) (stack : List ℤ) (b : Code) (g : Evaluates ℤ) (at : ℕ) → P b g →
+      step_with t (ins.Both (length b)) t.stack ≡ (if c then on t stack else past (length b) t (pos 0 ∷ stack)) →
       Span code t.at (ins.Both (length b) ∷ b) at → Fits room top calls t (length b) → length stack ≤ length t.stack →
       Arrives code room t (answers t at (λ v. v ∷ stack) ((if c then g else at_once (pos 0)) t.base t.cells))
   both-last true t stack b g at k comes span fits fewer =
@@ -185,7 +194,8 @@ module _ (code : Code) (room : Room) (top calls : ℕ) where
       ends-at code room t (ins.Both (length b)) _ (fits-has room top calls t _ fits) (span-first code t.at (ins.Both (length b)) b at span)
       (comes ∙ past-is t (length b) at (pos 0) stack tail.ends)
 
-  either-last : (c : Bool) (t : State) (stack : List ℤ) (b : Code) (g : Evaluates ℤ) (at : ℕ) → P b g → step_with t (ins.Either (length b)) t.stack ≡ (if c then past (length b) t (pos 1 ∷ stack) else on t stack) →
+  either-last : (c : Bool) (t : State) (stack : List ℤ) (b : Code) (g : Evaluates ℤ) (at : ℕ) → P b g →
+      step_with t (ins.Either (length b)) t.stack ≡ (if c then past (length b) t (pos 1 ∷ stack) else on t stack) →
       Span code t.at (ins.Either (length b) ∷ b) at → Fits room top calls t (length b) → length stack ≤ length t.stack →
       Arrives code room t (answers t at (λ v. v ∷ stack) ((if c then at_once (pos 1) else g) t.base t.cells))
   either-last true t stack b g at k comes span fits fewer =
@@ -210,7 +220,8 @@ module _ (code : Code) (room : Room) (top calls : ℕ) where
         (h.runs s m (span-front code s.at a last at span) (fits-fewer room top calls s _ _ fits (omega arith)))
         (λ x found same.
         let t : State = moved s m e.cells (x ∷ s.stack) e.count in
-        both-last (is_one x) t s.stack b g at k refl (span-back code s.at a last at span) (fits-to room top calls s t _ (length b) fits refl same (omega arith)) (omega arith));
+        both-last (is_one x) t s.stack b g at k refl (span-back code s.at a last at span)
+        (fits-to room top calls s t _ (length b) fits refl same (omega arith)) (omega arith));
   }
 
   either-runs : (a b : Code) (f g : Evaluates ℤ) → P a f → P b g → P (two_code Or a b) (two_values Or f g)
@@ -226,7 +237,8 @@ module _ (code : Code) (room : Room) (top calls : ℕ) where
         (h.runs s m (span-front code s.at a last at span) (fits-fewer room top calls s _ _ fits (omega arith)))
         (λ x found same.
         let t : State = moved s m e.cells (x ∷ s.stack) e.count in
-        either-last (is_one x) t s.stack b g at k refl (span-back code s.at a last at span) (fits-to room top calls s t _ (length b) fits refl same (omega arith)) (omega arith));
+        either-last (is_one x) t s.stack b g at k refl (span-back code s.at a last at span)
+        (fits-to room top calls s t _ (length b) fits refl same (omega arith)) (omega arith));
   }
 
   two-runs : (op : Op) (a b : Code) (f g : Evaluates ℤ) → P a f → P b g → P (two_code op a b) (two_values op f g)
@@ -238,7 +250,8 @@ module _ (code : Code) (room : Room) (top calls : ℕ) where
 
 -- the same index
 pub data SameIndex (P : Code → Evaluates ℤ → Type 0) : Index Code → Index (Evaluates ℤ) → Type 0 where
-  same_index : (length : ℕ) (part : Code) (evaluates : Evaluates ℤ) → P part evaluates → SameIndex P (record { length = length; index = part }) (record { length = length; index = evaluates })
+  same_index : (length : ℕ) (part : Code) (evaluates : Evaluates ℤ) → P part evaluates →
+      SameIndex P (record { length = length; index = part }) (record { length = length; index = evaluates })
 
 nowhere-leads : (P : Code → Evaluates ℤ → Type 0) → Leads P nowhere nowhere
 nowhere-leads P = Leads.leads (near 0) 0 [] [] None Terms.none
@@ -247,11 +260,13 @@ start-leads : (P : Code → Evaluates ℤ → Type 0) (slot : Option Slot) → L
 start-leads P None = nowhere-leads P
 start-leads P (Some slot) = Leads.leads (if slot.pointer then through slot.at else near slot.at) 0 [] [] (Some slot.ty) Terms.none
 
-onward-leads : (P : Code → Evaluates ℤ → Type 0) (r r' : Reach Code) (u u' : Reach (Evaluates ℤ)) → Leads P r u → Leads P r' u' → Leads P (onward r r') (onward u u')
+onward-leads : (P : Code → Evaluates ℤ → Type 0) (r r' : Reach Code) (u u' : Reach (Evaluates ℤ)) → Leads P r u → Leads P r' u' →
+    Leads P (onward r r') (onward u u')
 onward-leads P r r' u u' (Leads.leads start passed ts us ty h) (Leads.leads start' passed' ts' us' ty' k) =
     Leads.leads start (capped (passed + passed')) (ts ++ ts') (us ++ us') ty' (terms-append P ts us ts' us' h k)
 
-module _ (code : Code) (room : Room) (top calls : ℕ) (sizes : Sizes) (structs : Layouts) (slots : Table Slot) (frame : ℕ) (entries : Table Entry) (routines : Table Routine)
+module _ (code : Code) (room : Room) (top calls : ℕ) (sizes : Sizes) (structs : Layouts) (slots : Table Slot) (frame : ℕ) (entries : Table Entry)
+    (routines : Table Routine)
     (knows : Knows code room top calls entries routines) where
   abbrev pub by_code : Ground Entry
   by_code = record { sizes = sizes; structs = structs; known = entries; slots = slots; frame = frame }
@@ -271,10 +286,12 @@ module _ (code : Code) (room : Room) (top calls : ℕ) (sizes : Sizes) (structs 
   member-leads None = nowhere-leads Q
   member-leads (Some laid) = Leads.leads (near 0) laid.at [] [] (Some laid.it.ty) Terms.none
 
-  element-leads : (laid : Option Laid) (i : Index Code) (j : Index (Evaluates ℤ)) → SameIndex Q i j → Leads Q (reach_member by_code laid (Some i)) (reach_member by_value laid (Some j))
+  element-leads : (laid : Option Laid) (i : Index Code) (j : Index (Evaluates ℤ)) → SameIndex Q i j →
+      Leads Q (reach_member by_code laid (Some i)) (reach_member by_value laid (Some j))
   element-leads None i j same = nowhere-leads Q
   element-leads (Some laid) i j (SameIndex.same_index length part evaluates h) =
-      Leads.leads (near 0) laid.at (record { length = length; size = size_of_type sizes laid.it.ty; index = part } ∷ []) (record { length = length; size = size_of_type sizes laid.it.ty; index = evaluates } ∷ []) (Some laid.it.ty)
+      Leads.leads (near 0) laid.at (record { length = length; size = size_of_type sizes laid.it.ty; index = part } ∷ [])
+      (record { length = length; size = size_of_type sizes laid.it.ty; index = evaluates } ∷ []) (Some laid.it.ty)
       (Terms.one length (size_of_type sizes laid.it.ty) part evaluates [] [] h Terms.none)
 
   abbrev OfArg : CArg → Type 0
@@ -304,7 +321,8 @@ module _ (code : Code) (room : Room) (top calls : ℕ) (sizes : Sizes) (structs 
       Args.one (arg_code a by_code) (arg_flat a by_value) (map (λ arg. arg by_code) (map arg_code args)) (map (λ arg. arg by_value) (map arg_flat args))
       (All-head OfArg a args h) (args-same args (All-tail OfArg a args h))
 
-  steps-lead : (steps : List CStep) → All OfStep steps → (r : Reach Code) (u : Reach (Evaluates ℤ)) → Leads Q r u → Leads Q (reach_along (map step_code steps) by_code r) (reach_along (map step_flat steps) by_value u)
+  steps-lead : (steps : List CStep) → All OfStep steps → (r : Reach Code) (u : Reach (Evaluates ℤ)) → Leads Q r u →
+      Leads Q (reach_along (map step_code steps) by_code r) (reach_along (map step_flat steps) by_value u)
   steps-lead [] h r u way = way
   steps-lead (s ∷ steps) h r u (Leads.leads start passed ts us ty terms) =
       let first : Reach Code = record { start = start; passed = passed; terms = ts; ty = ty } in
@@ -315,11 +333,14 @@ module _ (code : Code) (room : Room) (top calls : ℕ) (sizes : Sizes) (structs 
   of_step : (name : Text) (i : Option CIndex) → Optional OfIndex i → OfStep (roll-CStep (record { member = name; index = i }))
   of_step name None h ty =
       let it : Leads Q (reach_member by_code (laid_in by_code ty name) None) (reach_member by_value (laid_in by_value ty name) None) =
-      subst (λ laid. Leads Q (reach_member by_code (laid_in by_code ty name) None) (reach_member by_value laid None)) (laid-same ty name) (member-leads (laid_in by_code ty name)) in
+      subst (λ laid. Leads Q (reach_member by_code (laid_in by_code ty name) None) (reach_member by_value laid None)) (laid-same ty name)
+      (member-leads (laid_in by_code ty name)) in
       rw (fold-roll-CStep, fold-roll-CStep) it
   of_step name (Some i) h ty =
-      let it : Leads Q (reach_member by_code (laid_in by_code ty name) (Some (index_code i by_code))) (reach_member by_value (laid_in by_value ty name) (Some (index_flat i by_value))) =
-      subst (λ laid. Leads Q (reach_member by_code (laid_in by_code ty name) (Some (index_code i by_code))) (reach_member by_value laid (Some (index_flat i by_value)))) (laid-same ty name)
+      let it : Leads Q (reach_member by_code (laid_in by_code ty name) (Some (index_code i by_code)))
+      (reach_member by_value (laid_in by_value ty name) (Some (index_flat i by_value))) =
+      subst (λ laid. Leads Q (reach_member by_code (laid_in by_code ty name) (Some (index_code i by_code)))
+      (reach_member by_value laid (Some (index_flat i by_value)))) (laid-same ty name)
       (element-leads (laid_in by_code ty name) (index_code i by_code) (index_flat i by_value) h) in
       rw (fold-roll-CStep, fold-roll-CStep) it
 
@@ -331,13 +352,17 @@ module _ (code : Code) (room : Room) (top calls : ℕ) (sizes : Sizes) (structs 
     read = λ p h. rw (fold-roll-CExprKind, fold-roll-CExprKind) (place-read code room top calls (reach_of p by_code) (reach_flat p by_value) h);
     call = λ c h. rw (fold-roll-CExprKind, fold-roll-CExprKind) h;
     negation = λ e h. rw (fold-roll-CExprKind, fold-roll-CExprKind) (negation-runs code room top calls (code_of e by_code) (value_flat e by_value) h);
-    two = λ op a b h k. rw (fold-roll-CExprKind, fold-roll-CExprKind) (two-runs code room top calls op (code_of a by_code) (code_of b by_code) (value_flat a by_value) (value_flat b by_value) h k);
+    two = λ op a b h k. rw (fold-roll-CExprKind, fold-roll-CExprKind)
+        (two-runs code room top calls op (code_of a by_code) (code_of b by_code) (value_flat a by_value) (value_flat b by_value) h k);
     calling = λ name args h. rw (fold-roll-CCall, fold-roll-CCall)
-        (calling-runs code room top calls by_code (map (λ arg. arg by_code) (map arg_code args)) (map (λ arg. arg by_value) (map arg_flat args)) (args-same args h)
-        (length (map arg_code args)) (length-map (map arg_code args) (λ arg. arg by_code)) (builtin_of name) (entries name) (routines name) (knows.known name));
+        (calling-runs code room top calls by_code (map (λ arg. arg by_code) (map arg_code args)) (map (λ arg. arg by_value) (map arg_flat args))
+        (args-same args h)
+        (length (map arg_code args)) (length-map (map arg_code args) (λ arg. arg by_code)) (builtin_of name) (entries name)
+        (routines name) (knows.known name));
     expr = λ place what h. rw (fold-roll-CExpr, fold-roll-CExpr) h;
     index = λ signed at length h. rw (fold-roll-CIndex, fold-roll-CIndex) (SameIndex.same_index length (code_of at by_code) (value_flat at by_value) h);
-    place = λ through name steps h. rw (fold-roll-CPlace, fold-roll-CPlace) (steps-lead steps h (start_of_slot (slots name)) (start_of_slot (slots name)) (start-leads Q (slots name)));
+    place = λ through name steps h. rw (fold-roll-CPlace, fold-roll-CPlace)
+        (steps-lead steps h (start_of_slot (slots name)) (start_of_slot (slots name)) (start-leads Q (slots name)));
     step = of_step;
   }
 

@@ -2,6 +2,7 @@ pub mod Runs
 pub mod Evaluations
 pub mod Places
 pub mod Calls
+pub mod Folds
 pub mod Expressions
 pub mod Endings
 pub mod Statements

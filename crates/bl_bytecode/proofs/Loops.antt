@@ -1,5 +1,29 @@
 -- The code of a loop does what the loop does: its counter stands on the stack.
-use Rattle.std.proofs.Common.{◌≡◌, ◌≤◌, ℕ, zero, suc, ◌+◌, ◌-◌, ℤ, pos, Bool, true, false, List, [], ◌∷◌, ◌++◌, length, Some, None, refl, ap, sym, ◌∙◌, subst, add-zero, length-append, arith}
+use Rattle.std.proofs.Common.{
+  ◌≡◌,
+  ◌≤◌,
+  ℕ,
+  zero,
+  suc,
+  ◌+◌,
+  ◌-◌,
+  ℤ,
+  pos,
+  Bool,
+  true,
+  false,
+  List,
+  [],
+  ◌∷◌,
+  ◌++◌,
+  length,
+  Some,
+  None,
+  refl,
+  ap,
+  sym,
+}
+use Rattle.std.proofs.Common.{◌∙◌, subst, add-zero, length-append, arith}
 use Rattle.std.specs.Prelude.{◌+ℤ◌, ltb, if◌then◌else◌}
 use Rattle.std.proofs.lemmas.Bool.Decides.{Decides-ltb}
 use Rattle.bl_tree.specs.Numbers.{is_one}
@@ -67,11 +91,13 @@ module _ (code : Code) (room : Room) (top calls : ℕ) (part body : Code) (f : E
   tested : (left at : ℕ) (next : Cells → Ran) (stack : List ℤ) (n : ℤ) (d : Bool) (t : State) →
       step_with t (ins.Unless (length body + 3)) t.stack ≡ (if d then on t (n ∷ stack) else past (length body + 3) t (n ∷ stack)) →
       Span code t.at Tested at → Fits room top calls t 0 → suc (length stack) ≤ length t.stack →
-      Arrives code room (record t { at = t.at + 1 + 1; stack = n ∷ stack; count = t.count + 1 }) (runs_to (record t { at = t.at + 1 + 1; stack = n ∷ stack; count = t.count + 1 }) at left stack (next t.cells)) →
+      Arrives code room (record t { at = t.at + 1 + 1; stack = n ∷ stack; count = t.count + 1 })
+      (runs_to (record t { at = t.at + 1 + 1; stack = n ∷ stack; count = t.count + 1 }) at left stack (next t.cells)) →
       Arrives code room t (runs_to t at left stack (turn_or_none d next t.cells))
   tested left at next stack n true t comes span fits fewer h =
       let w : State = record t { at = t.at + 1; stack = n ∷ stack } in
-      goes-on code room t w (ins.Unless (length body + 3)) _ (fits-has room top calls t 0 fits) (span-first code t.at (ins.Unless (length body + 3)) (ins.Count ∷ Turning) at span) comes
+      goes-on code room t w (ins.Unless (length body + 3)) _ (fits-has room top calls t 0 fits)
+      (span-first code t.at (ins.Unless (length body + 3)) (ins.Count ∷ Turning) at span) comes
       (counted code room w at left stack Turning (next t.cells) (fits-has room top calls w 0 (fits-to room top calls t w 0 0 fits refl refl (omega arith)))
       (span-tail code t.at (ins.Unless (length body + 3)) (ins.Count ∷ Turning) at span) h)
   tested left at next stack n false t comes span fits fewer h =
@@ -80,14 +106,17 @@ module _ (code : Code) (room : Room) (top calls : ℕ) (part body : Code) (f : E
       let two : Span code (t.at + 1 + 1) Turning at = span-tail code (t.at + 1) ins.Count Turning at one in
       let three : Span code (t.at + 1 + 1 + 1) (body ++ Back) at = span-tail code (t.at + 1 + 1) ins.Turn (body ++ Back) at two in
       let four : Span code (t.at + 1 + 1 + 1 + length body) Back at = span-back code (t.at + 1 + 1 + 1) body Back at three in
-      let last : Span code (t.at + 1 + 1 + 1 + length body + 1) (ins.Over ∷ []) at = span-tail code (t.at + 1 + 1 + 1 + length body) (ins.Again (length part + length body + 3)) (ins.Over ∷ []) at four in
+      let last : Span code (t.at + 1 + 1 + 1 + length body + 1) (ins.Over ∷ []) at =
+      span-tail code (t.at + 1 + 1 + 1 + length body) (ins.Again (length part + length body + 3)) (ins.Over ∷ []) at four in
       let place : t.at + 1 + 1 + 1 + length body + 1 ≡ t.at + 1 + (length body + 3) = omega arith in
-      goes-on code room t w (ins.Unless (length body + 3)) _ (fits-has room top calls t 0 fits) (span-first code t.at (ins.Unless (length body + 3)) (ins.Count ∷ Turning) at span) comes
+      goes-on code room t w (ins.Unless (length body + 3)) _ (fits-has room top calls t 0 fits)
+      (span-first code t.at (ins.Unless (length body + 3)) (ins.Count ∷ Turning) at span) comes
       (one-more code room w at left stack ins.Over t.cells (fits-has room top calls w 0 (fits-to room top calls t w 0 0 fits refl refl (omega arith)))
       (subst (λ p. Span code p (ins.Over ∷ []) at) place last) refl)
 
   -- the condition, where the counter stands on the stack
-  once-runs : (left at : ℕ) (next : Cells → Ran) (s : State) (stack : List ℤ) (k : ℕ) → s.stack ≡ pos k ∷ stack → Span code s.at Loop at → Fits room top calls s (length Loop) →
+  once-runs : (left at : ℕ) (next : Cells → Ran) (s : State) (stack : List ℤ) (k : ℕ) → s.stack ≡ pos k ∷ stack → Span code s.at Loop at →
+      Fits room top calls s (length Loop) →
       ((cells : Cells) (count : ℕ) → length cells ≡ length s.cells →
       Arrives code room (record s { at = s.at + length part + 1 + 1; cells = cells; stack = pos k ∷ stack; count = count })
       (runs_to (record s { at = s.at + length part + 1 + 1; cells = cells; stack = pos k ∷ stack; count = count }) at left stack (next cells))) →
@@ -111,7 +140,8 @@ module _ (code : Code) (room : Room) (top calls : ℕ) (part body : Code) (f : E
       span-tail code (m + length part + 1) ins.Count Turning at
       (span-tail code (m + length part) (ins.Unless (length body + 3)) (ins.Count ∷ Turning) at (span-back code m part Tested at span))
 
-  no-more : (left at k : ℕ) → k ≡ 65536 → (s : State) (stack : List ℤ) → s.stack ≡ pos k ∷ stack → Span code s.at Loop at → Fits room top calls s (length Loop) →
+  no-more : (left at k : ℕ) → k ≡ 65536 → (s : State) (stack : List ℤ) → s.stack ≡ pos k ∷ stack → Span code s.at Loop at →
+      Fits room top calls s (length Loop) →
       Arrives code room s (runs_to s at left stack (once_more f (ending traps) s.base s.cells))
   no-more left at k is s stack stands span fits =
       once-runs left at (ending traps) s stack k stands span fits
@@ -123,9 +153,12 @@ module _ (code : Code) (room : Room) (top calls : ℕ) (part body : Code) (f : E
       (ap (on_number t stack) (no-turn k is) ∙ ap (trapped cells) (sym (add-zero count))))
 
   -- one turn, and what follows it
-  a-turn : (left at k : ℕ) → suc k ≤ 65536 → (again : Cells → Ran) (s : State) (stack : List ℤ) → s.stack ≡ pos k ∷ stack → Span code s.at Loop at → Fits room top calls s (length Loop) →
+  a-turn : (left at k : ℕ) → suc k ≤ 65536 → (again : Cells → Ran) (s : State) (stack : List ℤ) → s.stack ≡ pos k ∷ stack →
+      Span code s.at Loop at →
+      Fits room top calls s (length Loop) →
       ((cells : Cells) (count : ℕ) → length cells ≡ length s.cells →
-      Arrives code room (record s { cells = cells; stack = pos (k + 1) ∷ stack; count = count }) (runs_to (record s { cells = cells; stack = pos (k + 1) ∷ stack; count = count }) at left stack (again cells))) →
+      Arrives code room (record s { cells = cells; stack = pos (k + 1) ∷ stack; count = count })
+      (runs_to (record s { cells = cells; stack = pos (k + 1) ∷ stack; count = count }) at left stack (again cells))) →
       Arrives code room s (runs_to s at left stack (once_more f (λ c. turn_end (B s.base c).count (B s.base c).cells (B s.base c).end again) s.base s.cells))
   a-turn left at k less again s stack stands span fits h =
       once-runs left at (λ c. turn_end (B s.base c).count (B s.base c).cells (B s.base c).end again) s stack k stands span fits
@@ -144,12 +177,14 @@ module _ (code : Code) (room : Room) (top calls : ℕ) (part body : Code) (f : E
       let there : Fits room top calls w (length body) = fits-to room top calls s w _ (length body) fits refl same (omega arith) in
       goes-on code room t w ins.Turn _ (fits-has room top calls t 0 (fits-to room top calls s t _ 0 fits refl same (omega arith)))
       (span-first code u ins.Turn (body ++ Back) at two) (ap (on_number t stack) (next-turn k less))
-      (turned-at code room w m at left (pos (k + 1) ∷ stack) stack r.cells r.count r.end again (turn.runs w m (span-front code (u + 1) body Back at three) there)
+      (turned-at code room w m at left (pos (k + 1) ∷ stack) stack r.cells r.count r.end again
+      (turn.runs w m (span-front code (u + 1) body Back at three) there)
       (λ same'.
       let x : State = moved w m r.cells (pos (k + 1) ∷ stack) r.count in
       let y : State = record x { at = s.at } in
       let place : m - (length part + length body + 3) ≡ s.at = omega arith in
-      goes-on code room x y (ins.Again (length part + length body + 3)) _ (fits-has room top calls x 0 (fits-to room top calls w x _ 0 there refl same' (omega arith)))
+      goes-on code room x y (ins.Again (length part + length body + 3)) _
+      (fits-has room top calls x 0 (fits-to room top calls w x _ 0 there refl same' (omega arith)))
       (span-first code m (ins.Again (length part + length body + 3)) (ins.Over ∷ []) at four) (ap (λ p. goes (record x { at = p })) place)
       (h r.cells (count + r.count) (same' ∙ same)))
       (λ same'.
@@ -158,7 +193,8 @@ module _ (code : Code) (room : Room) (top calls : ℕ) (part body : Code) (f : E
       (span-first code (m + 1) ins.Over [] at five) (ap (λ p. goes (record x { at = p; stack = stack })) (span-end code (m + 1) ins.Over at five)))))
 
   -- a loop that may begin so many turns more
-  turns-run : (n k : ℕ) → n + k ≡ 65536 → (left at : ℕ) (s : State) (stack : List ℤ) → s.stack ≡ pos k ∷ stack → Span code s.at Loop at → Fits room top calls s (length Loop) →
+  turns-run : (n k : ℕ) → n + k ≡ 65536 → (left at : ℕ) (s : State) (stack : List ℤ) → s.stack ≡ pos k ∷ stack → Span code s.at Loop at →
+      Fits room top calls s (length Loop) →
       Arrives code room s (runs_to s at left stack (turns n f B s.base s.cells))
   unfolding turns
   turns-run zero k is left at s stack stands span fits = no-more left at k (omega arith) s stack stands span fits

@@ -1,5 +1,29 @@
 -- The code of a place pushes the number of its first cell.
-use Rattle.std.proofs.Common.{◌≡◌, ◌≤◌, ℕ, suc, ◌+◌, ◌*◌, ℤ, pos, min, List, [], ◌∷◌, ◌++◌, map, length, Option, Some, None, refl, ap, ◌∙◌, subst, length-append, arith}
+use Rattle.std.proofs.Common.{
+  ◌≡◌,
+  ◌≤◌,
+  ℕ,
+  suc,
+  ◌+◌,
+  ◌*◌,
+  ℤ,
+  pos,
+  min,
+  List,
+  [],
+  ◌∷◌,
+  ◌++◌,
+  map,
+  length,
+  Option,
+  Some,
+  None,
+  refl,
+  ap,
+  ◌∙◌,
+  subst,
+}
+use Rattle.std.proofs.Common.{length-append, arith}
 use Rattle.std.specs.Prelude.{option_map}
 use Rattle.bl_tree.specs.Reduce.{joined}
 use Rattle.bl_tree.specs.declared.c.CType.{CType}
@@ -27,7 +51,8 @@ abbrev pub Capped : Option ℕ → Type 0
 Capped None = Unit {0}
 Capped (Some k) = capped k ≡ k
 
-going_on-capped : {A : Type 0} (cells : Cells) (n : ℕ) (answer : Option A) (rest : Cells → A → Left ℕ) → ((c : Cells) (a : A) → answer ≡ Some a → Capped (rest c a).answer) → Capped (going_on cells n answer rest).answer
+going_on-capped : {A : Type 0} (cells : Cells) (n : ℕ) (answer : Option A) (rest : Cells → A → Left ℕ) →
+    ((c : Cells) (a : A) → answer ≡ Some a → Capped (rest c a).answer) → Capped (going_on cells n answer rest).answer
 going_on-capped cells n None rest h = tt
 going_on-capped cells n (Some a) rest h = h cells a refl
 
@@ -46,7 +71,9 @@ along-capped (term ∷ terms) at base cells is =
     (λ same k here. along-capped terms k base same (element-capped at term.size (index_within i (pos term.length)) k here)))
 
 pub address-capped : (reach : Reach (Evaluates ℤ)) (base : ℕ) (cells : Cells) → Capped (address_of reach base cells).answer
-address-capped reach base cells = along-capped reach.terms (capped (start_address reach.start base cells + reach.passed)) base cells (capped-capped (start_address reach.start base cells + reach.passed))
+address-capped reach base cells =
+    along-capped reach.terms (capped (start_address reach.start base cells + reach.passed)) base cells
+    (capped-capped (start_address reach.start base cells + reach.passed))
 
 pub is-capped : (answer : Option ℕ) (k : ℕ) → Capped answer → answer ≡ Some k → capped k ≡ k
 is-capped None k h is = cc
@@ -64,12 +91,15 @@ module _ (code : Code) (room : Room) (top calls : ℕ) where
 -- the same indices by code and by evaluations
 pub data Terms (P : Code → Evaluates ℤ → Type 0) : List (Term Code) → List (Term (Evaluates ℤ)) → Type 0 where
   none : Terms P [] []
-  one : (length size : ℕ) (part : Code) (evaluates : Evaluates ℤ) (ts : List (Term Code)) (us : List (Term (Evaluates ℤ))) → P part evaluates → Terms P ts us →
+  one : (length size : ℕ) (part : Code) (evaluates : Evaluates ℤ) (ts : List (Term Code)) (us : List (Term (Evaluates ℤ))) →
+      P part evaluates → Terms P ts us →
       Terms P (record { length = length; size = size; index = part } ∷ ts) (record { length = length; size = size; index = evaluates } ∷ us)
 
-pub terms-append : (P : Code → Evaluates ℤ → Type 0) (ts : List (Term Code)) (us : List (Term (Evaluates ℤ))) (xs : List (Term Code)) (ys : List (Term (Evaluates ℤ))) → Terms P ts us → Terms P xs ys → Terms P (ts ++ xs) (us ++ ys)
+pub terms-append : (P : Code → Evaluates ℤ → Type 0) (ts : List (Term Code)) (us : List (Term (Evaluates ℤ))) (xs : List (Term Code))
+    (ys : List (Term (Evaluates ℤ))) → Terms P ts us → Terms P xs ys → Terms P (ts ++ xs) (us ++ ys)
 terms-append P ts us xs ys Terms.none k = k
-terms-append P ts us xs ys (Terms.one length size part evaluates ts' us' h rest) k = Terms.one length size part evaluates (ts' ++ xs) (us' ++ ys) h (terms-append P ts' us' xs ys rest k)
+terms-append P ts us xs ys (Terms.one length size part evaluates ts' us' h rest) k =
+    Terms.one length size part evaluates (ts' ++ xs) (us' ++ ys) h (terms-append P ts' us' xs ys rest k)
 
 -- the same place
 pub data Leads (P : Code → Evaluates ℤ → Type 0) : Reach Code → Reach (Evaluates ℤ) → Type 0 where
@@ -77,7 +107,8 @@ pub data Leads (P : Code → Evaluates ℤ → Type 0) : Reach Code → Reach (E
       Leads P (record { start = start; passed = passed; terms = ts; ty = ty }) (record { start = start; passed = passed; terms = us; ty = ty })
 
 element-gives : (s : State) (stack : List ℤ) (at size : ℕ) (index : Option ℤ) → capped at ≡ at →
-    on_number s stack (option_map (λ k. cell_of (cell_number (pos at) + cell_number k * size)) index) ≡ gives s (λ k. pos k ∷ stack) s.cells (option_map (λ k. capped (at + cell_number k * size)) index)
+    on_number s stack (option_map (λ k. cell_of (cell_number (pos at) + cell_number k * size)) index)
+    ≡ gives s (λ k. pos k ∷ stack) s.cells (option_map (λ k. capped (at + cell_number k * size)) index)
 element-gives s stack at size None is = refl
 element-gives s stack at size (Some i) is = ap (λ a. goes (record s { at = s.at + 1; stack = pos (capped (a + cell_number i * size)) ∷ stack })) is
 
@@ -85,7 +116,8 @@ pub length-three : (a b c : Code) → length ((a ++ b) ++ c) ≡ length a + leng
 length-three a b c = length-append (a ++ b) c ∙ ap (λ n. n + length c) (length-append a b)
 
 start-gives : (start : Start) (passed : ℕ) (s : State) →
-    step_with s (start_code start passed) s.stack ≡ goes (record s { at = s.at + 1; stack = pos (capped (start_address start s.base s.cells + passed)) ∷ s.stack })
+    step_with s (start_code start passed) s.stack
+    ≡ goes (record s { at = s.at + 1; stack = pos (capped (start_address start s.base s.cells + passed)) ∷ s.stack })
 start-gives (near k) passed s = refl
 start-gives (through k) passed s = refl
 
@@ -110,12 +142,14 @@ module _ (code : Code) (room : Room) (top calls : ℕ) where
       let deep : length s.stack ≡ suc (length stack) = ap length stands in
       let some : 1 ≤ length part = h.filled in
       let fits' : Fits room top calls s (length part) = fits-fewer room top calls s _ _ fits (omega arith) in
-      sequence code room s m at (λ n. n ∷ s.stack) (λ n. pos n ∷ stack) e (λ after i. next (left after (element_address term k i)) (λ same j. address_along us' j s.base same))
+      sequence code room s m at (λ n. n ∷ s.stack) (λ n. pos n ∷ stack) e
+      (λ after i. next (left after (element_address term k i)) (λ same j. address_along us' j s.base same))
       (h.runs s m (span-front code s.at part element m' front) fits')
       (λ i found same.
       let t : State = moved s m e.cells (i ∷ s.stack) e.count in
       let there : Fits room top calls t (1 + length tail) = fits-to room top calls s t _ (1 + length tail) fits refl same (omega arith) in
-      sequence code room t m' at (λ j. pos j ∷ stack) (λ n. pos n ∷ stack) (left e.cells (element_address term k i)) (λ same j. address_along us' j s.base same)
+      sequence code room t m' at (λ j. pos j ∷ stack) (λ n. pos n ∷ stack) (left e.cells (element_address term k i))
+      (λ same j. address_along us' j s.base same)
       (by-instruction code room t m' (ins.Element long size) (λ j. pos j ∷ stack) e.cells (element_address term k i) (fits-has room top calls t _ there)
       (span-back code s.at part element m' front)
       (ap (λ st. step_with t (ins.Element long size) (i ∷ st)) stands ∙ element-gives t stack k size (index_within i (pos long)) is))
@@ -125,13 +159,16 @@ module _ (code : Code) (room : Room) (top calls : ℕ) where
       (fits-to room top calls t u _ (length tail) there refl refl (omega arith))))
 
   -- the number of a place's first cell
-  pub reach-runs : (r : Reach Code) (u : Reach (Evaluates ℤ)) → Leads (Pushes code room top calls) r u → (s : State) (at : ℕ) → Span code s.at (reach_code r) at →
+  pub reach-runs : (r : Reach Code) (u : Reach (Evaluates ℤ)) → Leads (Pushes code room top calls) r u → (s : State) (at : ℕ) →
+      Span code s.at (reach_code r) at →
       Fits room top calls s (length (reach_code r)) → Arrives code room s (answers s at (λ k. pos k ∷ s.stack) (address_of u s.base s.cells))
   reach-runs r u (Leads.leads start passed ts us ty terms) s at span fits =
       let k : ℕ = capped (start_address start s.base s.cells + passed) in
       let t : State = record s { at = s.at + 1; stack = pos k ∷ s.stack } in
       let tail : Code = joined (map term_code ts) in
-      goes-on code room s t (start_code start passed) (answers s at (λ k. pos k ∷ s.stack) (address_along us k s.base s.cells)) (fits-has room top calls s _ fits)
+      goes-on code room s t (start_code start passed) (answers s at (λ k. pos k ∷ s.stack) (address_along us k s.base s.cells))
+      (fits-has room top calls s _ fits)
       (span-first code s.at (start_code start passed) tail at span) (start-gives start passed s)
-      (along ts us terms t s.stack k at refl (capped-capped (start_address start s.base s.cells + passed)) (span-tail code s.at (start_code start passed) tail at span)
+      (along ts us terms t s.stack k at refl (capped-capped (start_address start s.base s.cells + passed))
+      (span-tail code s.at (start_code start passed) tail at span)
       (fits-to room top calls s t _ (length tail) fits refl refl (omega arith)))

@@ -1,5 +1,28 @@
 -- Runs of the machine, one after the other, and what its steps keep.
-use Rattle.std.proofs.Common.{◌≡◌, ◌≤◌, ℕ, zero, suc, ◌+◌, ◌-◌, ℤ, pos, Bool, true, false, List, [], ◌∷◌, ◌++◌, length, drop, Option, Some, None, refl, ap, sym, ◌∙◌, subst, append_assoc, drop-drop, drop_at, length-append, length-drop, length-set, arith}
+use Rattle.std.proofs.Common.{
+  ◌≡◌,
+  ◌≤◌,
+  ℕ,
+  zero,
+  suc,
+  ◌+◌,
+  ◌-◌,
+  ℤ,
+  pos,
+  Bool,
+  true,
+  false,
+  List,
+  [],
+  ◌∷◌,
+  ◌++◌,
+  length,
+  drop,
+  Option,
+  Some,
+  None,
+}
+use Rattle.std.proofs.Common.{refl, ap, sym, ◌∙◌, subst, append_assoc, drop-drop, drop_at, length-append, length-drop, length-set, arith}
 use Rattle.std.specs.Prelude.{◌&&◌, nat_le, slice_get, slice_set, if◌then◌else◌}
 use Rattle.std.proofs.lemmas.Bool.Decides.{nat_tests}
 use Rattle.std.specs.List.{copy_within}
@@ -10,7 +33,8 @@ use Rattle.bl_cmeaning_laws.specs.Layout.{capped}
 use Rattle.bl_bytecode.specs.declared.instruction.Instruction.{Instruction}
 use Rattle.bl_bytecode.specs.declared.instruction.Instruction.TheVariants as ins
 use Rattle.bl_bytecode.specs.Code.{Code}
-use Rattle.bl_bytecode.specs.Machine.{Has, Room, Runs, State, Stepped, Waiting, args_on, done, element, goes, next_turn, on_number, on, returned, step, step_at, step_with, trapped}
+use Rattle.bl_bytecode.specs.Machine.{Has, Room, Runs, State, Stepped, Waiting, args_on, done, element, goes, next_turn, on_number, on, returned}
+use Rattle.bl_bytecode.specs.Machine.{step, step_at, step_with, trapped}
 use Rattle.bl_bytecode.specs.Laws.{Arrives}
 
 -- ---- where a part of the code stands
@@ -57,7 +81,9 @@ state_of other (done cells count n) = other
 state_of other (trapped cells count) = other
 
 module _ (code : Code) (room : Room) where
-  runs-on : (n : ℕ) (s : State) (mid : Stepped) → Runs code room n s mid → (t : State) → mid ≡ goes t → (end : Stepped) → Arrives code room t end → Arrives code room s end
+  runs-on : (n : ℕ) (s : State) (mid : Stepped) → Runs code room n s mid → (t : State) → mid ≡ goes t → (end : Stepped) →
+      Arrives code room t end →
+      Arrives code room s end
   runs-on n s mid (Runs.here u has) t is end rest = subst (λ v. Arrives code room v end) (sym (ap (state_of u) is)) rest
   runs-on n s mid (Runs.last u m has on) t is end rest = record { steps = suc rest.steps; runs = Runs.more rest.steps u t end has (on ∙ is) rest.runs }
   runs-on n s mid (Runs.more k u v m has on runs) t is end rest =
@@ -71,11 +97,13 @@ module _ (code : Code) (room : Room) where
   step-is s i end is comes = ap (step_at s) is ∙ comes
 
   -- an instruction, and what follows it
-  pub goes-on : (s t : State) (i : Instruction) (end : Stepped) → Has room s → slice_get code s.at ≡ Some i → step_with s i s.stack ≡ goes t → Arrives code room t end → Arrives code room s end
+  pub goes-on : (s t : State) (i : Instruction) (end : Stepped) → Has room s → slice_get code s.at ≡ Some i → step_with s i s.stack ≡ goes t →
+      Arrives code room t end → Arrives code room s end
   goes-on s t i end has is comes rest = record { steps = suc rest.steps; runs = Runs.more rest.steps s t end has (step-is s i (goes t) is comes) rest.runs }
 
   -- an instruction alone
-  pub ends-at : (s : State) (i : Instruction) (end : Stepped) → Has room s → slice_get code s.at ≡ Some i → step_with s i s.stack ≡ end → Arrives code room s end
+  pub ends-at : (s : State) (i : Instruction) (end : Stepped) → Has room s → slice_get code s.at ≡ Some i → step_with s i s.stack ≡ end →
+      Arrives code room s end
   ends-at s i end has is comes = record { steps = 1; runs = Runs.last s end has (step-is s i end is comes) }
 
   pub stays : (s t : State) → Has room s → s ≡ t → Arrives code room s (goes t)
@@ -97,7 +125,8 @@ args-keep at (n ∷ ns) cells = args-keep (suc at) ns (slice_set cells at n) ∙
 pub frame-keeps : (size base : ℕ) (args : List ℤ) (cells : Cells) → length (frame_begun size base args cells) ≡ length cells
 frame-keeps size base args cells = args-keep base args (zeroed size base cells) ∙ zeroed-keeps size base cells
 
-pasted-keeps : (size from at : ℕ) (cells : Cells) → from + size ≤ length cells → at + size ≤ length cells → length (copy_within cells from (from + size) at) ≡ length cells
+pasted-keeps : (size from at : ℕ) (cells : Cells) → from + size ≤ length cells → at + size ≤ length cells →
+    length (copy_within cells from (from + size) at) ≡ length cells
 pasted-keeps size from at cells h k =
     let n : ℕ = from + size - from in
     length-paste cells at (drop from cells) (from + size - from) (omega arith) (omega (arith, length-drop {A = ℤ}))

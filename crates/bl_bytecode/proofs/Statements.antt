@@ -1,5 +1,29 @@
 -- The code of a statement that stands alone, or that chooses, does what the statement does.
-use Rattle.std.proofs.Common.{◌≡◌, ◌≤◌, ℕ, suc, ◌+◌, ℤ, pos, Bool, true, false, List, [], ◌∷◌, ◌++◌, length, Option, Some, None, refl, ap, sym, ◌∙◌, subst, add-zero, length-append, arith}
+use Rattle.std.proofs.Common.{
+  ◌≡◌,
+  ◌≤◌,
+  ℕ,
+  suc,
+  ◌+◌,
+  ℤ,
+  pos,
+  Bool,
+  true,
+  false,
+  List,
+  [],
+  ◌∷◌,
+  ◌++◌,
+  length,
+  Option,
+  Some,
+  None,
+  refl,
+  ap,
+  sym,
+  ◌∙◌,
+}
+use Rattle.std.proofs.Common.{subst, add-zero, length-append, arith}
 use Rattle.std.specs.Prelude.{slice_set, if◌then◌else◌}
 use Rattle.bl_tree.specs.declared.c.CType.{CType}
 use Rattle.bl_tree.specs.declared.c.CType.TheVariants.{Scalar as OfScalar, Struct as OfStruct}
@@ -7,7 +31,8 @@ use Rattle.bl_tree.specs.Numbers.{is_one}
 use Rattle.bl_cmeaning.specs.Meaning.{breaks, returns}
 use Rattle.bl_cmeaning.specs.Sizes.{Sizes}
 use Rattle.bl_cmeaning.specs.Tables.{entry_or}
-use Rattle.bl_cmeaning_laws.specs.Flat.{Cells, Evaluates, Left, Ran, Routine, Runs, address_of, cell_number, copied, ending, executed, going, left as left_with, next, written_at, zeroed}
+use Rattle.bl_cmeaning_laws.specs.Flat.{Cells, Evaluates, Left, Ran, Routine, Runs, address_of, cell_number, copied, ending, executed, going}
+use Rattle.bl_cmeaning_laws.specs.Flat.{left as left_with, next, written_at, zeroed}
 use Rattle.bl_cmeaning_laws.specs.Layout.{capped}
 use Rattle.bl_cmeaning_laws.specs.Reaching.{Ground, Reach}
 use Rattle.bl_bytecode.specs.declared.instruction.Instruction.{Instruction}
@@ -23,12 +48,14 @@ use Rattle.bl_bytecode.proofs.Endings.{back_to, counted, executed-is, execution,
 module _ (code : Code) (room : Room) (top calls : ℕ) where
   -- it does what a statement does, where so many instructions stand behind it up to the end of the loop around it
   pub record Performs (left : ℕ) (part : Code) (run : ℕ → Cells → Ran) : Type 0 where
-    pub runs : (s : State) (at : ℕ) → Span code s.at part at → Fits room top calls s (length part) → Arrives code room s (runs_to s at left s.stack (run s.base s.cells))
+    pub runs : (s : State) (at : ℕ) → Span code s.at part at → Fits room top calls s (length part) →
+        Arrives code room s (runs_to s at left s.stack (run s.base s.cells))
 
 -- what a value is written by
 write-gives : (known : Sizes) (ty : Option CType) (t : State) (stack : List ℤ) (k : ℕ) (v : ℤ) → capped k ≡ k →
     step_with t (write_code known ty) (v ∷ pos k ∷ stack) ≡ gives t (λ (n : ℤ). stack) (written_at known ty k v t.cells) (Some v)
-write-gives known (Some (OfStruct name)) t stack k v is = ap (λ j. goes (record t { at = t.at + 1; cells = copied (entry_or 0 known name) (cell_number v) j t.cells; stack = stack })) is
+write-gives known (Some (OfStruct name)) t stack k v is =
+    ap (λ j. goes (record t { at = t.at + 1; cells = copied (entry_or 0 known name) (cell_number v) j t.cells; stack = stack })) is
 write-gives known (Some (OfScalar s)) t stack k v is = ap (λ j. goes (record t { at = t.at + 1; cells = slice_set t.cells j v; stack = stack })) is
 write-gives known None t stack k v is = ap (λ j. goes (record t { at = t.at + 1; cells = slice_set t.cells j v; stack = stack })) is
 
@@ -40,16 +67,22 @@ module _ (code : Code) (room : Room) (top calls : ℕ) where
   S = Performs code room top calls
 
   -- a statement that counts itself and evaluates first
-  begins : {A : Type 0} (left : ℕ) (s : State) (at : ℕ) (part : Code) (l : Left A) (rest : Cells → A → Ran) → Span code s.at (ins.Count ∷ part) at → Has room s →
+  begins : {A : Type 0} (left : ℕ) (s : State) (at : ℕ) (part : Code) (l : Left A) (rest : Cells → A → Ran) →
+      Span code s.at (ins.Count ∷ part) at →
+      Has room s →
       Arrives code room (moved s (s.at + 1) s.cells s.stack 1) (runs_to (moved s (s.at + 1) s.cells s.stack 1) at left s.stack (executed 0 l rest)) →
       Arrives code room s (runs_to s at left s.stack (executed 1 l rest))
   begins left s at part l rest span has h =
-      ends-as code room s _ _ (ap (runs_to s at left s.stack) (sym (executed-is 1 l rest))) (counted code room s at left s.stack part (executed 0 l rest) has span h)
+      ends-as code room s _ _ (ap (runs_to s at left s.stack) (sym (executed-is 1 l rest)))
+      (counted code room s at left s.stack part (executed 0 l rest) has span h)
 
   -- a place, a value, and the instruction that writes it
-  written : (known : Sizes) (ty : Option CType) (r : Reach Code) (u : Reach (Evaluates ℤ)) → Leads P r u → (part : Code) (g : Evaluates ℤ) → P part g →
-      (s : State) (at : ℕ) → Span code s.at (reach_code r ++ (part ++ write_code known ty ∷ [])) at → Fits room top calls s (length (reach_code r ++ (part ++ write_code known ty ∷ []))) →
-      Arrives code room s (answers s at (λ (n : ℤ). s.stack) (next (address_of u s.base s.cells) (λ c k. next (g s.base c) (λ d v. left_with (written_at known ty k v d) (Some v)))))
+  written : (known : Sizes) (ty : Option CType) (r : Reach Code) (u : Reach (Evaluates ℤ)) → Leads P r u →
+      (part : Code) (g : Evaluates ℤ) → P part g →
+      (s : State) (at : ℕ) → Span code s.at (reach_code r ++ (part ++ write_code known ty ∷ [])) at →
+      Fits room top calls s (length (reach_code r ++ (part ++ write_code known ty ∷ []))) →
+      Arrives code room s (answers s at (λ (n : ℤ). s.stack)
+      (next (address_of u s.base s.cells) (λ c k. next (g s.base c) (λ d v. left_with (written_at known ty k v d) (Some v)))))
   written known ty r u way part g h s at span fits =
       let first : Code = reach_code r in
       let last : Code = write_code known ty ∷ [] in
@@ -61,7 +94,8 @@ module _ (code : Code) (room : Room) (top calls : ℕ) where
       let longer : length (first ++ (part ++ last)) ≡ length first + length (part ++ last) = length-append first (part ++ last) in
       let back : Span code m (part ++ last) at = span-back code s.at first (part ++ last) at span in
       let filled : 1 ≤ length first = omega arith in
-      sequence code room s m at (λ k. pos k ∷ s.stack) (λ (n : ℤ). s.stack) e (λ c k. next (g s.base c) (λ d v. left_with (written_at known ty k v d) (Some v)))
+      sequence code room s m at (λ k. pos k ∷ s.stack) (λ (n : ℤ). s.stack) e
+      (λ c k. next (g s.base c) (λ d v. left_with (written_at known ty k v d) (Some v)))
       (reach-runs code room top calls r u way s m (span-front code s.at first (part ++ last) at span) (fits-fewer room top calls s _ _ fits (omega arith)))
       (λ k found same.
       let t : State = moved s m e.cells (pos k ∷ s.stack) e.count in
@@ -77,9 +111,12 @@ module _ (code : Code) (room : Room) (top calls : ℕ) where
       (write-gives known ty w s.stack k v (is-capped e.answer k (address-capped u s.base s.cells) found))))
 
   -- a place that has the same type by code and by evaluations is set
-  set-at : (left : ℕ) (known : Sizes) (ty : Option CType) (r : Reach Code) (u : Reach (Evaluates ℤ)) → Leads P r u → (part : Code) (g : Evaluates ℤ) → P part g →
+  set-at : (left : ℕ) (known : Sizes) (ty : Option CType) (r : Reach Code) (u : Reach (Evaluates ℤ)) → Leads P r u →
+      (part : Code) (g : Evaluates ℤ) →
+      P part g →
       S left (ins.Count ∷ (reach_code r ++ (part ++ write_code known ty ∷ [])))
-      (λ base cells. executed 1 (next (address_of u base cells) (λ c k. next (g base c) (λ d v. left_with (written_at known ty k v d) (Some v)))) (λ c v. going c))
+      (λ base cells. executed 1 (next (address_of u base cells) (λ c k. next (g base c) (λ d v. left_with (written_at known ty k v d) (Some v))))
+      (λ c v. going c))
   set-at left known ty r u way part g h = record {
     runs = λ s at span fits.
         let body : Code = reach_code r ++ (part ++ write_code known ty ∷ []) in
@@ -94,9 +131,11 @@ module _ (code : Code) (room : Room) (top calls : ℕ) where
         is-over code room w at left s.stack (fits-has room top calls w 0 (fits-to room top calls t w _ 0 there refl same (omega arith))) refl refl));
   }
 
-  pub set-runs : (left : ℕ) (known : Sizes) (r : Reach Code) (u : Reach (Evaluates ℤ)) → Leads P r u → (part : Code) (g : Evaluates ℤ) → P part g →
+  pub set-runs : (left : ℕ) (known : Sizes) (r : Reach Code) (u : Reach (Evaluates ℤ)) → Leads P r u →
+      (part : Code) (g : Evaluates ℤ) → P part g →
       S left (ins.Count ∷ (reach_code r ++ (part ++ write_code known r.ty ∷ [])))
-      (λ base cells. executed 1 (next (address_of u base cells) (λ c k. next (g base c) (λ d v. left_with (written_at known u.ty k v d) (Some v)))) (λ c v. going c))
+      (λ base cells. executed 1 (next (address_of u base cells) (λ c k. next (g base c) (λ d v. left_with (written_at known u.ty k v d) (Some v))))
+      (λ c v. going c))
   set-runs left known r u (Leads.leads start passed ts us ty terms) part g h = set-at left known ty _ _ (Leads.leads start passed ts us ty terms) part g h
 
   pub clear-runs : (left size : ℕ) (r : Reach Code) (u : Reach (Evaluates ℤ)) → Leads P r u →
@@ -120,12 +159,14 @@ module _ (code : Code) (room : Room) (top calls : ℕ) where
         one-more code room w at left s.stack (ins.Zero size) (zeroed size k l.cells)
         (fits-has room top calls w 0 (fits-to room top calls t w _ 0 there refl same (omega arith)))
         (span-back code (s.at + 1) first last at body)
-        (ap (λ j. goes (record w { at = m + 1; cells = zeroed size j l.cells; stack = s.stack })) (is-capped l.answer k (address-capped u s.base s.cells) found))));
+        (ap (λ j. goes (record w { at = m + 1; cells = zeroed size j l.cells; stack = s.stack }))
+        (is-capped l.answer k (address-capped u s.base s.cells) found))));
   }
 
   -- a statement that evaluates, and one instruction with the number
   with-number : (left : ℕ) (part : Code) (f : Evaluates ℤ) → P part f → (i : Instruction) (rest : Cells → ℤ → Ran) →
-      ((t : State) (at : ℕ) (n : ℤ) (stack : List ℤ) → t.stack ≡ n ∷ stack → Has room t → Span code t.at (i ∷ []) at → Arrives code room t (runs_to t at left stack (rest t.cells n))) →
+      ((t : State) (at : ℕ) (n : ℤ) (stack : List ℤ) → t.stack ≡ n ∷ stack → Has room t → Span code t.at (i ∷ []) at →
+      Arrives code room t (runs_to t at left stack (rest t.cells n))) →
       S left (ins.Count ∷ (part ++ i ∷ [])) (λ base cells. executed 1 (f base cells) rest)
   with-number left part f h i rest last-runs = record {
     runs = λ s at span fits.
@@ -142,35 +183,44 @@ module _ (code : Code) (room : Room) (top calls : ℕ) where
         (h.runs t m (span-front code (s.at + 1) part last at body) there)
         (λ n found same.
         let w : State = moved t m l.cells (n ∷ s.stack) l.count in
-        last-runs w at n s.stack refl (fits-has room top calls w 0 (fits-to room top calls t w _ 0 there refl same (omega arith))) (span-back code (s.at + 1) part last at body)));
+        last-runs w at n s.stack refl (fits-has room top calls w 0 (fits-to room top calls t w _ 0 there refl same (omega arith)))
+        (span-back code (s.at + 1) part last at body)));
   }
 
-  drop-gives : (t : State) (n : ℤ) (stack st : List ℤ) → st ≡ n ∷ stack → step_with t ins.Drop st ≡ goes (record t { at = t.at + 1; stack = stack })
+  drop-gives : (t : State) (n : ℤ) (stack st : List ℤ) → st ≡ n ∷ stack →
+      step_with t ins.Drop st ≡ goes (record t { at = t.at + 1; stack = stack })
   drop-gives t n stack st stands = ap (step_with t ins.Drop) stands
 
-  pub call-runs : (left : ℕ) (part : Code) (f : Evaluates ℤ) → P part f → S left (ins.Count ∷ (part ++ ins.Drop ∷ [])) (λ base cells. executed 1 (f base cells) (λ c v. going c))
+  pub call-runs : (left : ℕ) (part : Code) (f : Evaluates ℤ) → P part f →
+      S left (ins.Count ∷ (part ++ ins.Drop ∷ [])) (λ base cells. executed 1 (f base cells) (λ c v. going c))
   call-runs left part f h =
       with-number left part f h ins.Drop (λ c v. going c)
       (λ t at n stack stands has span. one-more code room t at left stack ins.Drop t.cells has span (drop-gives t n stack t.stack stands))
 
-  return-last : (t : State) (at left : ℕ) (n : ℤ) (held stack : List ℤ) → t.stack ≡ n ∷ held → Has room t → Span code t.at (ins.Return ∷ []) at → Arrives code room t (runs_to t at left stack (ending (returns n) t.cells))
+  return-last : (t : State) (at left : ℕ) (n : ℤ) (held stack : List ℤ) → t.stack ≡ n ∷ held → Has room t →
+      Span code t.at (ins.Return ∷ []) at →
+      Arrives code room t (runs_to t at left stack (ending (returns n) t.cells))
   return-last t at left n held stack stands has span =
       ends-at code room t ins.Return _ has (span-first code t.at ins.Return [] at span)
       (ap (step_with t ins.Return) stands ∙ returned-is t n t.waiting ∙ ap (λ c. back_to t.waiting t.cells c n) (sym (add-zero t.count)))
 
-  pub return-runs : (left : ℕ) (part : Code) (f : Evaluates ℤ) → P part f → S left (ins.Count ∷ (part ++ ins.Return ∷ [])) (λ base cells. executed 1 (f base cells) (λ c v. ending (returns v) c))
+  pub return-runs : (left : ℕ) (part : Code) (f : Evaluates ℤ) → P part f →
+      S left (ins.Count ∷ (part ++ ins.Return ∷ [])) (λ base cells. executed 1 (f base cells) (λ c v. ending (returns v) c))
   return-runs left part f h =
       with-number left part f h ins.Return (λ c v. ending (returns v) c) (λ t at n stack stands has span. return-last t at left n stack stack stands has span)
 
   -- 0 is returned
-  pub zero-returned : (t : State) (at left : ℕ) (stack : List ℤ) → Fits room top calls t 2 → Span code t.at (ins.Push (pos 0) ∷ ins.Return ∷ []) at →
+  pub zero-returned : (t : State) (at left : ℕ) (stack : List ℤ) → Fits room top calls t 2 →
+      Span code t.at (ins.Push (pos 0) ∷ ins.Return ∷ []) at →
       Arrives code room t (runs_to t at left stack (ending (returns (pos 0)) t.cells))
   zero-returned t at left stack fits span =
       let w : State = record t { at = t.at + 1; stack = pos 0 ∷ t.stack } in
       goes-on code room t w (ins.Push (pos 0)) _ (fits-has room top calls t _ fits) (span-first code t.at (ins.Push (pos 0)) (ins.Return ∷ []) at span) refl
-      (return-last w at left (pos 0) t.stack stack refl (fits-has room top calls w 0 (fits-to room top calls t w _ 0 fits refl refl (omega arith))) (span-tail code t.at (ins.Push (pos 0)) (ins.Return ∷ []) at span))
+      (return-last w at left (pos 0) t.stack stack refl (fits-has room top calls w 0 (fits-to room top calls t w _ 0 fits refl refl (omega arith)))
+      (span-tail code t.at (ins.Push (pos 0)) (ins.Return ∷ []) at span))
 
-  pub bare-return-runs : (left : ℕ) → S left (ins.Count ∷ ins.Push (pos 0) ∷ ins.Return ∷ []) (λ base cells. record { cells = cells; end = returns (pos 0); count = 1 })
+  pub bare-return-runs : (left : ℕ) →
+      S left (ins.Count ∷ ins.Push (pos 0) ∷ ins.Return ∷ []) (λ base cells. record { cells = cells; end = returns (pos 0); count = 1 })
   bare-return-runs left = record {
     runs = λ s at span fits.
         let body : Code = ins.Push (pos 0) ∷ ins.Return ∷ [] in
@@ -187,7 +237,8 @@ module _ (code : Code) (room : Room) (top calls : ℕ) where
         let tail : Span code (s.at + 1) body at = span-tail code s.at ins.Count body at span in
         let ends : s.at + 1 + 1 ≡ at = span-end code (s.at + 1) (ins.Skip left) at tail in
         counted code room s at left s.stack body (ending breaks s.cells) (fits-has room top calls s _ fits) span
-        (ends-at code room t (ins.Skip left) _ (fits-has room top calls t 0 (fits-to room top calls s t _ 0 fits refl refl (omega arith))) (span-first code (s.at + 1) (ins.Skip left) [] at tail)
+        (ends-at code room t (ins.Skip left) _ (fits-has room top calls t 0 (fits-to room top calls s t _ 0 fits refl refl (omega arith)))
+        (span-first code (s.at + 1) (ins.Skip left) [] at tail)
         (ap (λ p. goes (record t { at = p + left })) ends ∙ ap (λ c. goes (record t { at = at + left; count = c })) (sym (add-zero t.count))));
   }
 
@@ -197,7 +248,8 @@ module _ (code : Code) (room : Room) (top calls : ℕ) where
     abbrev Rest : Code
     Rest = b ++ ins.Skip (length o) ∷ o
 
-    chosen : (d : Bool) (t : State) (stack : List ℤ) (at : ℕ) → step_with t (ins.Unless (length b + 1)) t.stack ≡ (if d then on t stack else past (length b + 1) t stack) →
+    chosen : (d : Bool) (t : State) (stack : List ℤ) (at : ℕ) →
+        step_with t (ins.Unless (length b + 1)) t.stack ≡ (if d then on t stack else past (length b + 1) t stack) →
         Span code t.at (ins.Unless (length b + 1) ∷ Rest) at → Fits room top calls t (length b + length o) → length stack ≤ length t.stack →
         Arrives code room t (runs_to t at left stack ((if d then B else O) here t.base t.cells))
     chosen true t stack at comes span fits fewer =
@@ -209,12 +261,14 @@ module _ (code : Code) (room : Room) (top calls : ℕ) where
         let last : Span code (m + 1) o at = span-tail code m (ins.Skip (length o)) o at back in
         let ends : m + 1 + length o ≡ at = last.ends in
         let there : Fits room top calls w (length b) = fits-to room top calls t w _ (length b) fits refl refl (omega arith) in
-        goes-on code room t w (ins.Unless (length b + 1)) _ (fits-has room top calls t _ fits) (span-first code t.at (ins.Unless (length b + 1)) Rest at span) comes
+        goes-on code room t w (ins.Unless (length b + 1)) _ (fits-has room top calls t _ fits) (span-first code t.at (ins.Unless (length b + 1)) Rest at span)
+        comes
         (skipped code room w m at (1 + length o + left) left stack r (omega arith)
         (block.runs w m (span-front code (t.at + 1) b (ins.Skip (length o) ∷ o) at tail) there)
         (λ same.
         let v : State = moved w m r.cells stack r.count in
-        ends-at code room v (ins.Skip (length o)) _ (fits-has room top calls v 0 (fits-to room top calls w v _ 0 there refl same (omega arith))) (span-first code m (ins.Skip (length o)) o at back)
+        ends-at code room v (ins.Skip (length o)) _ (fits-has room top calls v 0 (fits-to room top calls w v _ 0 there refl same (omega arith)))
+        (span-first code m (ins.Skip (length o)) o at back)
         (ap (λ p. goes (record v { at = p })) ends)))
     chosen false t stack at comes span fits fewer =
         let w : State = record t { at = t.at + 1 + (length b + 1); stack = stack } in
@@ -223,10 +277,12 @@ module _ (code : Code) (room : Room) (top calls : ℕ) where
         let back : Span code m (ins.Skip (length o) ∷ o) at = span-back code (t.at + 1) b (ins.Skip (length o) ∷ o) at tail in
         let last : Span code (m + 1) o at = span-tail code m (ins.Skip (length o)) o at back in
         let place : m + 1 ≡ t.at + 1 + (length b + 1) = omega arith in
-        goes-on code room t w (ins.Unless (length b + 1)) _ (fits-has room top calls t _ fits) (span-first code t.at (ins.Unless (length b + 1)) Rest at span) comes
+        goes-on code room t w (ins.Unless (length b + 1)) _ (fits-has room top calls t _ fits) (span-first code t.at (ins.Unless (length b + 1)) Rest at span)
+        comes
         (other.runs w at (subst (λ p. Span code p o at) place last) (fits-to room top calls t w _ (length o) fits refl refl (omega arith)))
 
-    pub if-runs : (part : Code) (f : Evaluates ℤ) → P part f → S left (if_code part b o) (λ base cells. executed 1 (f base cells) (λ c v. (if is_one v then B else O) here base c))
+    pub if-runs : (part : Code) (f : Evaluates ℤ) → P part f →
+        S left (if_code part b o) (λ base cells. executed 1 (f base cells) (λ c v. (if is_one v then B else O) here base c))
     if-runs part f h = record {
       runs = λ s at span fits.
           let last : Code = ins.Unless (length b + 1) ∷ Rest in
@@ -236,7 +292,8 @@ module _ (code : Code) (room : Room) (top calls : ℕ) where
           let long : length (part ++ last) ≡ length part + suc (length Rest) = length-append part last in
           let longer : length Rest ≡ length b + suc (length o) = length-append b (ins.Skip (length o) ∷ o) in
           let filled : 1 ≤ length part = h.filled in
-          let there : Fits room top calls t (length part + length b + length o) = fits-to room top calls s t _ (length part + length b + length o) fits refl refl (omega arith) in
+          let there : Fits room top calls t (length part + length b + length o) =
+          fits-to room top calls s t _ (length part + length b + length o) fits refl refl (omega arith) in
           let body : Span code (s.at + 1) (part ++ last) at = span-tail code s.at ins.Count (part ++ last) at span in
           begins left s at (part ++ last) l (λ c v. (if is_one v then B else O) here s.base c) span (fits-has room top calls s _ fits)
           (execution code room t m at left (λ n. n ∷ s.stack) s.stack l (λ c v. (if is_one v then B else O) here s.base c)

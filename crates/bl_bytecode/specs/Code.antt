@@ -5,6 +5,7 @@ use Rattle.bl_tree.specs.declared.scalar.Op.TheVariants.{And, Or}
 use Rattle.bl_tree.specs.declared.c.CType.{CType}
 use Rattle.bl_tree.specs.declared.c.CType.TheVariants.{Scalar as OfScalar, Struct as OfStruct}
 use Rattle.bl_tree.specs.declared.c.CArg.TheOpen.{CArg-F, CExprKind-F, CCall-F, CExpr-F, CIndex-F, CPlace-F, CStep-F}
+use Rattle.bl_tree.specs.declared.c.CArg.{CArg, fold-CArg}
 use Rattle.bl_tree.specs.declared.c.CExpr.{CExpr, fold-CExpr}
 use Rattle.bl_tree.specs.declared.c.CPlace.{CPlace, fold-CPlace}
 use Rattle.bl_tree.specs.declared.c.CCall.{CCall, fold-CCall}
@@ -12,8 +13,9 @@ use Rattle.bl_tree.specs.declared.c.CStmtKind.TheOpen.{CStmtKind-F, CStmt-F}
 use Rattle.bl_tree.specs.declared.c.CStmt.{CStmt, fold-CStmt}
 use Rattle.bl_tree.specs.declared.c.CFunc.{CFunc}
 use Rattle.bl_tree.specs.Reduce.{joined}
-use Rattle.bl_cmeaning.specs.declared.builtin.Builtin.{Builtin}
+use Rattle.bl_ctext.specs.declared.builtin.Builtin.{Builtin}
 use Rattle.bl_cmeaning.specs.Builtin.{builtin_of}
+use Rattle.bl_ctext.specs.Folds.{OpenPart}
 use Rattle.bl_cmeaning.specs.Sizes.{Sizes}
 use Rattle.bl_cmeaning.specs.Tables.{Table, with_entry, entry_or}
 use Rattle.bl_cmeaning_laws.specs.Layout.{Layouts, frame_cells, slots_of}
@@ -65,46 +67,54 @@ abbrev pub call_as : Ground Entry → ℕ → Option Builtin → Option Entry �
 call_as here args (Some builtin) known = ins.Prelude builtin args
 call_as here args None known = known_call here args known
 
-abbrev pub arg_step : CArg-F (Coded Code) (Coded Code) (Coded Code) (Coded Code) (Coded (Index Code)) (Coded (Reach Code)) (Step Entry Code) → Coded Code
+-- a part of an expression, where each part within it has this code
+abbrev pub Coding : OpenPart → Type 0
+Coding Of = Of (Coded Code) (Coded Code) (Coded Code) (Coded Code) (Coded (Index Code)) (Coded (Reach Code)) (Step Entry Code)
+
+abbrev pub arg_step : Coding CArg-F → Coded Code
 arg_step (CArg-F.Value value) here = value here
 arg_step (CArg-F.Address place) here = reach_code (place here)
 
-abbrev pub kind_step : CExprKind-F (Coded Code) (Coded Code) (Coded Code) (Coded Code) (Coded (Index Code)) (Coded (Reach Code)) (Step Entry Code) → Coded Code
+abbrev pub kind_step : Coding CExprKind-F → Coded Code
 kind_step (CExprKind-F.Literal type n) here = ins.Push n ∷ []
 kind_step (CExprKind-F.Read place) here = reach_code (place here) ++ fetch_code (place here).ty
 kind_step (CExprKind-F.Call call) here = call here
 kind_step (CExprKind-F.Not operand) here = operand here ++ ins.Negate ∷ []
 kind_step (CExprKind-F.Two op first second) here = two_code op (first here) (second here)
 
-abbrev pub call_step : CCall-F (Coded Code) (Coded Code) (Coded Code) (Coded Code) (Coded (Index Code)) (Coded (Reach Code)) (Step Entry Code) → Coded Code
+abbrev pub call_step : Coding CCall-F → Coded Code
 call_step call here = joined (map (λ arg. arg here) call.args) ++ call_as here (length call.args) (builtin_of call.name) (here.known call.name) ∷ []
 
-abbrev pub expr_step : CExpr-F (Coded Code) (Coded Code) (Coded Code) (Coded Code) (Coded (Index Code)) (Coded (Reach Code)) (Step Entry Code) → Coded Code
+abbrev pub expr_step : Coding CExpr-F → Coded Code
 expr_step expr = expr.what
 
-abbrev pub index_step : CIndex-F (Coded Code) (Coded Code) (Coded Code) (Coded Code) (Coded (Index Code)) (Coded (Reach Code)) (Step Entry Code) → Coded (Index Code)
+abbrev pub index_step : Coding CIndex-F → Coded (Index Code)
 index_step index here = record { length = index.length; index = index.at here }
 
-abbrev pub place_step : CPlace-F (Coded Code) (Coded Code) (Coded Code) (Coded Code) (Coded (Index Code)) (Coded (Reach Code)) (Step Entry Code) → Coded (Reach Code)
+abbrev pub place_step : Coding CPlace-F → Coded (Reach Code)
 place_step place here = reach_along place.steps here (start_of_slot (here.slots place.name))
 
 abbrev pub index_or_none : Option (Coded (Index Code)) → Ground Entry → Option (Index Code)
 index_or_none index here = option_map (λ i. i here) index
 
-abbrev pub step_step : CStep-F (Coded Code) (Coded Code) (Coded Code) (Coded Code) (Coded (Index Code)) (Coded (Reach Code)) (Step Entry Code) → Step Entry Code
+abbrev pub step_step : Coding CStep-F → Step Entry Code
 step_step step here ty = reach_member here (laid_in here ty step.member) (index_or_none step.index here)
 
 -- code that pushes the value of an expression
 abbrev pub code_of : CExpr → Coded Code
-code_of = fold-CExpr (Coded Code) (Coded Code) (Coded Code) (Coded Code) (Coded (Index Code)) (Coded (Reach Code)) (Step Entry Code) arg_step kind_step call_step expr_step index_step place_step step_step
+code_of = fold-CExpr _ _ _ _ _ _ _ arg_step kind_step call_step expr_step index_step place_step step_step
+
+-- code that pushes an argument
+abbrev pub arg_code : CArg → Coded Code
+arg_code = fold-CArg _ _ _ _ _ _ _ arg_step kind_step call_step expr_step index_step place_step step_step
 
 -- how a place is reached
 abbrev pub reach_of : CPlace → Coded (Reach Code)
-reach_of = fold-CPlace (Coded Code) (Coded Code) (Coded Code) (Coded Code) (Coded (Index Code)) (Coded (Reach Code)) (Step Entry Code) arg_step kind_step call_step expr_step index_step place_step step_step
+reach_of = fold-CPlace _ _ _ _ _ _ _ arg_step kind_step call_step expr_step index_step place_step step_step
 
 -- code that pushes what a call gives
 abbrev pub code_of_call : CCall → Coded Code
-code_of_call = fold-CCall (Coded Code) (Coded Code) (Coded Code) (Coded Code) (Coded (Index Code)) (Coded (Reach Code)) (Step Entry Code) arg_step kind_step call_step expr_step index_step place_step step_step
+code_of_call = fold-CCall _ _ _ _ _ _ _ arg_step kind_step call_step expr_step index_step place_step step_step
 
 -- ---- statements: code behind which so many instructions stand up to the end of the loop around it, or of the function
 
@@ -130,7 +140,8 @@ if_code condition block other = ins.Count ∷ (condition ++ ins.Unless (length b
 
 abbrev pub loop_code : Code → Code → Code
 loop_code condition body =
-    ins.Count ∷ ins.Turns ∷ (condition ++ ins.Unless (length body + 3) ∷ ins.Count ∷ ins.Turn ∷ (body ++ ins.Again (length condition + length body + 3) ∷ ins.Over ∷ []))
+    ins.Count ∷ ins.Turns
+    ∷ (condition ++ ins.Unless (length body + 3) ∷ ins.Count ∷ ins.Turn ∷ (body ++ ins.Again (length condition + length body + 3) ∷ ins.Over ∷ []))
 
 abbrev pub stmt_kind_code : CStmtKind-F StmtCode StmtCode → StmtCode
 stmt_kind_code (CStmtKind-F.Set place expr) here left =

@@ -47,7 +47,8 @@ EachDoes code room known structs at calls entries routines [] = Unit {0}
 EachDoes code room known structs at calls entries routines (function ∷ rest) =
     let end : ℕ = at + length (function_code known structs entries function) in
     Does code room end (calls + 1) (entry_of known at function) (routine_flat known structs routines function)
-    × EachDoes code room known structs end (calls + 1) (with_entry entries function.name (entry_of known at function)) (with_entry routines function.name (routine_flat known structs routines function)) rest
+    × EachDoes code room known structs end (calls + 1) (with_entry entries function.name (entry_of known at function))
+    (with_entry routines function.name (routine_flat known structs routines function)) rest
 
 -- known to neither, or to both, and the one does what the other does
 abbrev pub BothDo : Code → Room → ℕ → ℕ → Option Entry → Option Routine → Type 0
@@ -72,7 +73,8 @@ routine_in_file structs functions = table_of (routines_after (capped_sizes struc
 abbrev pub NamedFunctionsRun : List CStruct → List CFunc → Type 0
 NamedFunctionsRun structs functions =
     let code : Code = code_of_file structs functions in
-    (room : Room) (name : Text) → BothDo code room (length code) (length functions) (entry_in_file structs functions name) (routine_in_file structs functions name)
+    (room : Room) (name : Text) →
+    BothDo code room (length code) (length functions) (entry_in_file structs functions name) (routine_in_file structs functions name)
 
 -- each function of a file, in the code of the file
 abbrev pub FunctionsRun : List CStruct → List CFunc → Type 0

@@ -1,5 +1,27 @@
 -- The machine that runs the code of C texts.
-use Rattle.std.specs.Prelude.{◌≡◌, ◌≤◌, ℕ, suc, ◌+◌, ◌-◌, ◌*◌, ℤ, pos, ◌+ℤ◌, not, int_lt, List, [], ◌∷◌, map, length, take, drop, slice_get, slice_set, reverse, Option, Some, None, option_map, if◌then◌else◌}
+use Rattle.std.specs.Prelude.{
+  ◌≡◌,
+  ◌≤◌,
+  ℕ,
+  suc,
+  ◌+◌,
+  ◌-◌,
+  ◌*◌,
+  ℤ,
+  pos,
+  ◌+ℤ◌,
+  not,
+  int_lt,
+  List,
+  [],
+  ◌∷◌,
+  map,
+  length,
+  take,
+  drop,
+  slice_get,
+}
+use Rattle.std.specs.Prelude.{slice_set, reverse, Option, Some, None, option_map, if◌then◌else◌}
 use Rattle.bl_tree.specs.Numbers.{is_one, number_of}
 use Rattle.bl_tree.specs.Reduce.{total}
 use Rattle.bl_cmeaning.specs.Builtin.{index_within}

@@ -1,6 +1,6 @@
 //! The instructions of the machine that runs C texts.
 
-use bl_cmeaning::Builtin;
+use bl_ctext::Builtin;
 use bl_tree::Op;
 
 /// What the machine does in one step. Numbers are pushed on a stack and taken from it; a cell is told by its number.

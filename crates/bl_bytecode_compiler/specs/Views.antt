@@ -2,7 +2,7 @@
 use Rattle.std.specs.Prelude.{ℕ, List, Option, option_map}
 use Rattle.std.specs.Borrow.{Bor}
 use Rattle.std.specs.HashMap.{HashMap}
-use Rattle.bl_cmeaning.specs.Maps.{text_at}
+use Rattle.bl_cmeaning.specs.inner.Maps.{text_at}
 use Rattle.bl_cmeaning.specs.Sizes.{Sizes}
 use Rattle.bl_cmeaning.specs.Tables.{Table}
 use Rattle.bl_cmeaning_laws.specs.Layout.{Laid, Layouts, Slot, capped}
@@ -44,4 +44,5 @@ slots_in slots name = option_map slot_of (text_at slots name)
 
 -- what is known
 abbrev pub ground_of : Here → Ground Entry
-ground_of h = record { sizes = sizes_in h.sizes.now; structs = structs_in h.structs.now; known = entries_in h.known.now; slots = slots_in h.slots.now; frame = h.frame }
+ground_of h = record
+    { sizes = sizes_in h.sizes.now; structs = structs_in h.structs.now; known = entries_in h.known.now; slots = slots_in h.slots.now; frame = h.frame }

@@ -10,11 +10,11 @@ ghost use Rattle.bl_bytecode_compiler.specs.Views.{entries_in, entry_for, sizes_
 use crate::front::{Front, small};
 use crate::here::{Entry, Here, Members, Sizes};
 use crate::layout::{frame_size, slots, struct_layouts};
-use crate::maps::{add, find};
-use crate::prelude::Builtins;
-use crate::sizes::struct_sizes;
 use crate::stmt::statements;
 use bl_bytecode::instruction::Instruction;
+use bl_cmeaning::Builtins;
+use bl_cmeaning::maps::{add, find};
+use bl_cmeaning::sizes::struct_sizes;
 use bl_tree::NoMemory;
 use bl_tree::c::{CFunc, CStruct};
 use std::alloc::Global;

@@ -3,16 +3,15 @@
 ghost use Rattle.std.specs.Prelude.{◌≡◌, ◌++◌, IfOk, length, map, OnOk, option_map};
 ghost use Rattle.bl_tree.specs.Reduce.{joined};
 ghost use Rattle.bl_cmeaning.specs.Builtin.{builtin_of};
-ghost use Rattle.bl_bytecode.specs.Code.{call_as, code_of, code_of_call, fetch_code, reach_code, reach_of, term_code};
-ghost use Rattle.bl_bytecode_compiler.specs.Coded.{arg_code};
+ghost use Rattle.bl_bytecode.specs.Code.{arg_code, call_as, code_of, code_of_call, fetch_code, reach_code, reach_of, term_code};
 ghost use Rattle.bl_bytecode_compiler.specs.Views.{ground_of, laid_of};
-ghost use Rattle.bl_bytecode_compiler.specs.Walks.{IsWalk, term_if};
+ghost use Rattle.bl_bytecode_compiler.specs.inner.Walks.{IsWalk, term_if};
 
 use crate::front::{Front, small};
 use crate::here::{Here, Laid, type_size};
-use crate::maps::find;
 use crate::place::{Walk, walk_to};
 use bl_bytecode::instruction::{Callee, Instruction};
+use bl_cmeaning::maps::find;
 use bl_tree::c::{CArg, CCall, CExpr, CExprKind, CIndex, CPlace, CStep, CType};
 use bl_tree::{Box, NoMemory, Op};
 

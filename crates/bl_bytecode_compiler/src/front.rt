@@ -1,3 +1,5 @@
+//! Code that is made from its end on.
+
 ghost use Rattle.std.specs.Prelude.{◌≡◌, ◌<◌, [], ◌∷◌, ◌++◌, IfOk, length, List, OnOk};
 ghost use Rattle.bl_bytecode.specs.declared.instruction.Instruction.{Instruction as Step};
 

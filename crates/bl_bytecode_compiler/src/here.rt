@@ -7,8 +7,8 @@ ghost use Rattle.bl_cmeaning_laws.specs.Layout.{capped};
 ghost use Rattle.bl_cmeaning_laws.specs.Reaching.{laid_in};
 ghost use Rattle.bl_bytecode_compiler.specs.Views.{ground_of, laid_of, sizes_in, structs_in};
 
-use crate::maps::find;
-use crate::prelude::Builtins;
+use bl_cmeaning::Builtins;
+use bl_cmeaning::maps::{Numbers, find};
 use bl_tree::c::{CMember, CType};
 use std::alloc::Global;
 use std::collections::HashMap;
@@ -42,7 +42,7 @@ pub struct Entry {
 pub type Members<'a> = HashMap<&'a str, Laid<'a>>;
 
 /// How many scalars each struct has, where a number that 64 bits can't hold is told as the greatest that they can.
-pub type Sizes<'a> = HashMap<&'a str, u64>;
+pub type Sizes<'a> = Numbers<'a>;
 
 /// What is known where an expression or statement stands.
 #[derive(Clone, Copy)]

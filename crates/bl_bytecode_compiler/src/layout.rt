@@ -11,8 +11,8 @@ ghost use Rattle.bl_cmeaning_laws.specs.Layout.{capped, frame_cells, layout_of, 
 ghost use Rattle.bl_bytecode_compiler.specs.Views.{members_in, sizes_in, slots_in, structs_in};
 
 use crate::here::{Laid, Members, Sizes, Slot, type_size};
-use crate::maps::{add, has};
 use crate::place::behind;
+use bl_cmeaning::maps::{add, has};
 use bl_tree::NoMemory;
 use bl_tree::c::{CFunc, CLocal, CMember, CParam, CStruct};
 use std::alloc::Global;
@@ -69,7 +69,8 @@ fn add_struct<'a>(
     structs: &mut HashMap<&'a str, Members<'a>>,
     of: &'a CStruct,
 ) -> Result<(), NoMemory>
-    ensures { OnOk result ((asked : List ℕ) → structs_in structs.new asked ≡ with_entry (structs_in structs.old) of.now.name (layout_of (sizes_in sizes.now) of.now).1 asked) }
+    ensures { OnOk result ((asked : List ℕ) →
+        structs_in structs.new asked ≡ with_entry (structs_in structs.old) of.now.name (layout_of (sizes_in sizes.now) of.now).1 asked) }
 {
     if has(structs, &of.name) {
         return Ok(());
@@ -115,7 +116,9 @@ fn add_params<'a>(
     slots: &mut HashMap<&'a str, Slot<'a>>,
     params: &'a [CParam],
 ) -> Result<usize, NoMemory>
-    ensures slots { IfOk result (λ at. (locals : List CLocalTree) (asked : List ℕ) → option_or (slots_in slots.new asked) (found asked (locals_laid (sizes_in sizes.now) at locals)) ≡ option_or (slots_in slots.old asked) (found asked (params_laid (sizes_in sizes.now) 0 params.now locals))) }
+    ensures slots { IfOk result (λ at. (locals : List CLocalTree) (asked : List ℕ) →
+        option_or (slots_in slots.new asked) (found asked (locals_laid (sizes_in sizes.now) at locals))
+        ≡ option_or (slots_in slots.old asked) (found asked (params_laid (sizes_in sizes.now) 0 params.now locals))) }
 {
     let mut at = 0usize;
     for param in params {
@@ -136,7 +139,8 @@ fn add_locals<'a>(
     from: usize,
     locals: &'a [CLocal],
 ) -> Result<(), NoMemory>
-    ensures { OnOk result ((asked : List ℕ) → slots_in slots.new asked ≡ option_or (slots_in slots.old asked) (found asked (locals_laid (sizes_in sizes.now) from locals.now))) }
+    ensures { OnOk result ((asked : List ℕ) →
+        slots_in slots.new asked ≡ option_or (slots_in slots.old asked) (found asked (locals_laid (sizes_in sizes.now) from locals.now))) }
 {
     let mut at = from;
     for local in locals {

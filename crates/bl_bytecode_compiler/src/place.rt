@@ -5,14 +5,21 @@ ghost use Rattle.bl_cmeaning_laws.specs.Reaching.{start_of_slot};
 ghost use Rattle.bl_cmeaning_laws.specs.Layout.{capped};
 ghost use Rattle.bl_bytecode.specs.Code.{start_code};
 ghost use Rattle.bl_bytecode_compiler.specs.Views.{ground_of, laid_of};
-ghost use Rattle.bl_bytecode_compiler.specs.Walks.{cells_before, found_along, founds_of, IsWalk, passed_along, root_of, type_along, type_found};
+ghost use Rattle.bl_bytecode_compiler.specs.inner.Walks.{cells_before, found_along, founds_of, IsWalk, passed_along, root_of, type_along, type_found};
 
 use crate::front::small;
 use crate::here::{CAP, Here, Laid, Slot};
-use crate::maps::find;
 use bl_bytecode::instruction::Instruction;
+use bl_cmeaning::maps::find;
 use bl_tree::NoMemory;
 use bl_tree::c::{CPlace, CStep, CType};
+use smallvec::SmallVec;
+
+/// How many steps of a path into memory are kept in the path itself. Few places have more.
+const SHORT: usize = 2;
+
+/// The path of a place into memory: the member at each step, where there is one.
+type Path<'a> = SmallVec<Option<Laid<'a>>, SHORT>;
 
 /// How a place is reached.
 #[derive(Drop)]
@@ -20,7 +27,7 @@ pub struct Walk<'a> {
     /// What pushes its first cell, but for the indices.
     pub start: Instruction,
     /// The member at each step, where there is one.
-    pub found: Vec<Option<Laid<'a>>>,
+    pub found: Path<'a>,
     /// The type of what stands there.
     pub ty: Option<&'a CType>,
 }
@@ -68,10 +75,10 @@ fn found_in<'a>(
     here: &Here<'_, 'a>,
     steps: &[CStep],
     from: Option<&'a CType>,
-) -> Result<Vec<Option<Laid<'a>>>, NoMemory>
+) -> Result<Path<'a>, NoMemory>
     ensures { IfOk result (λ found. founds_of found.items ≡ found_along (ground_of here.now) steps.now (option_map (λ t. t.now) from.entry)) }
 {
-    let mut found = Vec::new(here.alloc);
+    let mut found = SmallVec::new(here.alloc);
     let mut ty = from;
     for step in steps {
         let next = here.member(ty, &step.member);

@@ -5,7 +5,7 @@ ghost use Rattle.bl_bytecode.specs.Code.{code_of, code_of_block, code_of_call, c
 ghost use Rattle.bl_bytecode.specs.declared.instruction.Instruction.{Instruction as Step};
 ghost use Rattle.bl_bytecode.specs.declared.instruction.Instruction.TheVariants as ins;
 ghost use Rattle.bl_cmeaning.specs.Tables.{entry_or};
-ghost use Rattle.bl_bytecode_compiler.specs.Coded.{return_code, given_code, turning_code};
+ghost use Rattle.bl_bytecode_compiler.specs.inner.Coded.{return_code, given_code, turning_code};
 ghost use Rattle.bl_bytecode_compiler.specs.Views.{ground_of, sizes_in};
 
 use crate::expr::{call, expr, place};
@@ -70,7 +70,8 @@ fn writing(sizes: &Sizes<'_>, ty: Option<&CType>) -> Result<Instruction, NoMemor
 }
 
 fn set(here: &Here<'_, '_>, code: &mut Front, at: &CPlace, value: &CExpr) -> Result<(), NoMemory>
-    ensures { OnOk result (code.new ≡ (ins.Count ∷ (reach_code (reach_of at.now (ground_of here.now)) ++ (code_of value.now (ground_of here.now) ++ write_code (ground_of here.now).sizes (reach_of at.now (ground_of here.now)).ty ∷ []))) ++ code.old) }
+    ensures { OnOk result (code.new ≡ (ins.Count ∷ (reach_code (reach_of at.now (ground_of here.now))
+        ++ (code_of value.now (ground_of here.now) ++ write_code (ground_of here.now).sizes (reach_of at.now (ground_of here.now)).ty ∷ []))) ++ code.old) }
 {
     let walk = walk_to(here, at)?;
     code.put(writing(here.sizes, walk.ty)?)?;
@@ -80,7 +81,8 @@ fn set(here: &Here<'_, '_>, code: &mut Front, at: &CPlace, value: &CExpr) -> Res
 }
 
 fn clear(here: &Here<'_, '_>, code: &mut Front, at: &CPlace, name: &str) -> Result<(), NoMemory>
-    ensures { OnOk result (code.new ≡ (ins.Count ∷ (reach_code (reach_of at.now (ground_of here.now)) ++ ins.Zero (entry_or 0 (ground_of here.now).sizes name.now) ∷ [])) ++ code.old) }
+    ensures { OnOk result (code.new ≡ (ins.Count ∷ (reach_code (reach_of at.now (ground_of here.now))
+        ++ ins.Zero (entry_or 0 (ground_of here.now).sizes name.now) ∷ [])) ++ code.old) }
 {
     let walk = walk_to(here, at)?;
     let size = small(struct_size(here.sizes, name))?;
@@ -160,7 +162,8 @@ fn turning(
     over: usize,
 ) -> Result<(), NoMemory>
     requires { over < length code.old }
-    ensures { OnOk result ((body rest : List Step) (was : Step) → code.old ≡ body ++ was ∷ rest → length rest ≡ over → code.new ≡ turning_code (code_of condition.now (ground_of here.now)) body ++ rest) }
+    ensures { OnOk result ((body rest : List Step) (was : Step) → code.old ≡ body ++ was ∷ rest → length rest ≡ over →
+        code.new ≡ turning_code (code_of condition.now (ground_of here.now)) body ++ rest) }
 {
     code.put(Instruction::Turn)?;
     code.put(Instruction::Count)?;

@@ -1,5 +1,27 @@
 -- What a machine does depends on no count of statements, but for the counts that it leaves.
-use Rattle.std.proofs.Common.{◌≡◌, ℕ, ◌+◌, ◌-◌, ℤ, Bool, true, false, List, [], ◌∷◌, Option, Some, None, arith, sym, ◌∙◌, ap, subst, refl, drop}
+use Rattle.std.proofs.Common.{
+  ◌≡◌,
+  ℕ,
+  ◌+◌,
+  ◌-◌,
+  ℤ,
+  Bool,
+  true,
+  false,
+  List,
+  [],
+  ◌∷◌,
+  Option,
+  Some,
+  None,
+  arith,
+  sym,
+  ◌∙◌,
+  ap,
+  subst,
+  refl,
+  drop,
+}
 use Rattle.std.specs.Prelude.{if◌then◌else◌, slice_get, slice_set}
 use Rattle.bl_tree.specs.Numbers.{is_one}
 use Rattle.bl_cmeaning_laws.specs.Flat.{cell_number, compared, copied, frame_begun, prelude_value, zeroed}
@@ -8,7 +30,8 @@ use Rattle.bl_bytecode.specs.declared.instruction.Callee.{Callee}
 use Rattle.bl_bytecode.specs.declared.instruction.Instruction.{Instruction}
 use Rattle.bl_bytecode.specs.declared.instruction.Instruction.TheVariants as ins
 use Rattle.bl_bytecode.specs.Code.{Code}
-use Rattle.bl_bytecode.specs.Machine.{State, Stepped, Waiting, args_on, done, element, goes, next_turn, on, on_number, past, returned, step, step_at, step_with, trapped}
+use Rattle.bl_bytecode.specs.Machine.{State, Stepped, Waiting, args_on, done, element, goes, next_turn, on, on_number, past, returned, step, step_at}
+use Rattle.bl_bytecode.specs.Machine.{step_with, trapped}
 use Rattle.bl_bytecode_machine.specs.declared.flow.Flow.{Flow}
 use Rattle.bl_bytecode_machine.specs.declared.flow.Flow.TheVariants as flow
 use Rattle.bl_bytecode_machine.specs.Shown.{Shown}
@@ -28,7 +51,8 @@ counting n s = record s { count = n }
 abbrev Beside : ℕ → ℕ → Type 0
 Beside n k = shown_count n ≡ shown_count k
 
-number-alike : (n k : ℕ) (s : State) (stack : List ℤ) (o : Option ℤ) → Beside n k → Alike (on_number (counting n s) stack o) (on_number (counting k s) stack o)
+number-alike : (n k : ℕ) (s : State) (stack : List ℤ) (o : Option ℤ) → Beside n k →
+    Alike (on_number (counting n s) stack o) (on_number (counting k s) stack o)
 number-alike n k s stack None h = (refl, h)
 number-alike n k s stack (Some x) h = ap (λ (c : ℕ). record s { at = s.at + 1; stack = x ∷ stack; count = c }) h
 
@@ -38,9 +62,11 @@ on-alike n k s stack h = ap (λ (c : ℕ). record s { at = s.at + 1; stack = sta
 past-alike : (n k : ℕ) (s : State) (far : ℕ) (stack : List ℤ) → Beside n k → Alike (past far (counting n s) stack) (past far (counting k s) stack)
 past-alike n k s far stack h = ap (λ (c : ℕ). record s { at = s.at + 1 + far; stack = stack; count = c }) h
 
-returned-alike : (n k : ℕ) (s : State) (r : ℤ) (waiting : List Waiting) → Beside n k → Alike (returned (counting n s) r waiting) (returned (counting k s) r waiting)
+returned-alike : (n k : ℕ) (s : State) (r : ℤ) (waiting : List Waiting) → Beside n k →
+    Alike (returned (counting n s) r waiting) (returned (counting k s) r waiting)
 returned-alike n k s r [] h = (refl, h, refl)
-returned-alike n k s r (w ∷ rest) h = ap (λ (c : ℕ). record { at = w.back; base = w.base; cells = s.cells; stack = r ∷ w.stack; waiting = rest; count = c }) h
+returned-alike n k s r (w ∷ rest) h = ap (λ (c : ℕ).
+    record { at = w.back; base = w.base; cells = s.cells; stack = r ∷ w.stack; waiting = rest; count = c }) h
 
 choice-alike : (b : Bool) (x y z w : Stepped) → Alike x z → Alike y w → Alike (if b then x else y) (if b then z else w)
 choice-alike true x y z w h g = h
@@ -62,7 +88,8 @@ called s callee =
       count = s.count;
     }
 
-with-alike : (n k : ℕ) (s : State) (i : Instruction) (stack : List ℤ) → Beside n k → Alike (step_with (counting n s) i stack) (step_with (counting k s) i stack)
+with-alike : (n k : ℕ) (s : State) (i : Instruction) (stack : List ℤ) → Beside n k →
+    Alike (step_with (counting n s) i stack) (step_with (counting k s) i stack)
 with-alike n k s ins.Count stack h = ap (λ (c : ℕ). record s { at = s.at + 1; count = c }) (counted n k h)
 with-alike n k s (ins.Push x) stack h = on-alike n k s _ h
 with-alike n k s (ins.Near a b) stack h = on-alike n k s _ h
@@ -74,12 +101,15 @@ with-alike n k s ins.Fetch [] h = (refl, h)
 with-alike n k s ins.Fetch (at ∷ stack) h = on-alike n k s _ h
 with-alike n k s ins.Store [] h = (refl, h)
 with-alike n k s ins.Store (x ∷ []) h = (refl, h)
-with-alike n k s ins.Store (x ∷ at ∷ stack) h = ap (λ (c : ℕ). record s { at = s.at + 1; cells = slice_set s.cells (cell_number at) x; stack = stack; count = c }) h
+with-alike n k s ins.Store (x ∷ at ∷ stack) h =
+    ap (λ (c : ℕ). record s { at = s.at + 1; cells = slice_set s.cells (cell_number at) x; stack = stack; count = c }) h
 with-alike n k s (ins.Copy size) [] h = (refl, h)
 with-alike n k s (ins.Copy size) (x ∷ []) h = (refl, h)
-with-alike n k s (ins.Copy size) (x ∷ at ∷ stack) h = ap (λ (c : ℕ). record s { at = s.at + 1; cells = copied size (cell_number x) (cell_number at) s.cells; stack = stack; count = c }) h
+with-alike n k s (ins.Copy size) (x ∷ at ∷ stack) h =
+    ap (λ (c : ℕ). record s { at = s.at + 1; cells = copied size (cell_number x) (cell_number at) s.cells; stack = stack; count = c }) h
 with-alike n k s (ins.Zero size) [] h = (refl, h)
-with-alike n k s (ins.Zero size) (at ∷ stack) h = ap (λ (c : ℕ). record s { at = s.at + 1; cells = zeroed size (cell_number at) s.cells; stack = stack; count = c }) h
+with-alike n k s (ins.Zero size) (at ∷ stack) h =
+    ap (λ (c : ℕ). record s { at = s.at + 1; cells = zeroed size (cell_number at) s.cells; stack = stack; count = c }) h
 with-alike n k s ins.Negate [] h = (refl, h)
 with-alike n k s ins.Negate (x ∷ stack) h = on-alike n k s _ h
 with-alike n k s (ins.Two op) [] h = (refl, h)
@@ -120,7 +150,8 @@ step-alike code s t e =
 
 -- ---- what follows
 
-pub came-alike : (numbers calls : ℕ) (a b : Stepped) (answer : Flow) (m : Shown) → Alike a b → Came numbers calls a answer m → Came numbers calls b answer m
+pub came-alike : (numbers calls : ℕ) (a b : Stepped) (answer : Flow) (m : Shown) → Alike a b → Came numbers calls a answer m →
+    Came numbers calls b answer m
 came-alike numbers calls (goes s) (goes t) flow.Goes m h w =
     record { state_is = w.state_is ∙ h; numbers_stay = w.numbers_stay; calls_stay = w.calls_stay }
 came-alike numbers calls (done c n r) (done d k q) (flow.Done x) m h w =

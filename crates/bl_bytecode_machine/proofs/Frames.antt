@@ -1,5 +1,30 @@
 -- Many cells set one after the other.
-use Rattle.std.proofs.Common.{◌≡◌, ℕ, suc, zero, ◌+◌, ◌-◌, ◌≤◌, ◌<◌, ℤ, pos, List, [], ◌∷◌, length, drop, arith, sym, ◌∙◌, ap, refl, get_or, min, ◌^◌, ⊎_elim}
+use Rattle.std.proofs.Common.{
+  ◌≡◌,
+  ℕ,
+  suc,
+  zero,
+  ◌+◌,
+  ◌-◌,
+  ◌≤◌,
+  ◌<◌,
+  ℤ,
+  pos,
+  List,
+  [],
+  ◌∷◌,
+  length,
+  drop,
+  arith,
+  sym,
+  ◌∙◌,
+  ap,
+  refl,
+  get_or,
+  min,
+  ◌^◌,
+  ⊎_elim,
+}
 use Rattle.std.proofs.str.Laws.{order}
 use Rattle.std.specs.Prelude.{slice_set}
 use Rattle.std.proofs.lemmas.List.{set_past, drop_all}
@@ -40,13 +65,15 @@ with_args-one at k args cells h =
 pub zero-begin : (size at : ℕ) (cells : Cells) → zeroed (at + size - at) at cells ≡ zeroed size at cells
 zero-begin size at cells = let e : at + size - at ≡ size = omega arith in rw e refl
 
-pub zero-more : (size at k : ℕ) (cells all : Cells) → k < at + size → zeroed (at + size - k) k cells ≡ all → zeroed (at + size - (k + 1)) (k + 1) (slice_set cells k (pos 0)) ≡ all
+pub zero-more : (size at k : ℕ) (cells all : Cells) → k < at + size → zeroed (at + size - k) k cells ≡ all →
+    zeroed (at + size - (k + 1)) (k + 1) (slice_set cells k (pos 0)) ≡ all
 zero-more size at k cells all less h =
     let some : 0 < at + size - k = omega arith in
     let e : at + size - k - 1 ≡ at + size - (k + 1) = omega arith in
     ap (λ (n : ℕ). zeroed n (k + 1) (slice_set cells k (pos 0))) (sym e) ∙ (sym (zeroed-one (at + size - k) k cells some) ∙ h)
 
-pub zero-last : (size at k : ℕ) (cells all : Cells) → min (min (at + size) (2 ^ 64 - 1)) (length cells) ≤ k → length cells < 2 ^ 64 → zeroed (at + size - k) k cells ≡ all → cells ≡ all
+pub zero-last : (size at k : ℕ) (cells all : Cells) → min (min (at + size) (2 ^ 64 - 1)) (length cells) ≤ k → length cells < 2 ^ 64 →
+    zeroed (at + size - k) k cells ≡ all → cells ≡ all
 zero-last size at k cells all end small h =
     ⊎_elim
     (λ less. let past : length cells ≤ k = omega (arith, less) in sym (zeroed-past (at + size - k) k cells past) ∙ h)
@@ -58,9 +85,12 @@ pub put-more : (at k : ℕ) (args : List ℤ) (cells all : Cells) → at ≤ k �
 put-more at k args cells all low less h =
     let inside : k - at < length args = omega arith in
     let e : k - at + 1 ≡ k + 1 - at = omega arith in
-    ap (λ (n : ℕ). with_args (k + 1) (drop n args) (slice_set cells k (get_or args (k - at) (pos 0)))) (sym e) ∙ (sym (with_args-one k (k - at) args cells inside) ∙ h)
+    ap (λ (n : ℕ). with_args (k + 1) (drop n args) (slice_set cells k (get_or args (k - at) (pos 0)))) (sym e)
+    ∙ (sym (with_args-one k (k - at) args cells inside) ∙ h)
 
-pub put-last : (at k : ℕ) (args : List ℤ) (cells all : Cells) → min (min (at + length args) (2 ^ 64 - 1)) (length cells) ≤ k → length cells < 2 ^ 64 → at ≤ k → with_args k (drop (k - at) args) cells ≡ all → cells ≡ all
+pub put-last : (at k : ℕ) (args : List ℤ) (cells all : Cells) → min (min (at + length args) (2 ^ 64 - 1)) (length cells) ≤ k →
+    length cells < 2 ^ 64 → at ≤ k →
+    with_args k (drop (k - at) args) cells ≡ all → cells ≡ all
 put-last at k args cells all end small low h =
     ⊎_elim
     (λ less. let past : length cells ≤ k = omega (arith, less) in sym (with_args-past k (drop (k - at) args) cells past) ∙ h)

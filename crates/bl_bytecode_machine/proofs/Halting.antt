@@ -6,7 +6,7 @@ use Rattle.bl_bytecode.specs.Code.{Code}
 use Rattle.bl_bytecode.specs.Machine.{Has, Room, Runs, last, more, State, Stepped, done, goes, step, trapped}
 use Rattle.bl_bytecode_machine.specs.Shown.{Shown}
 use Rattle.bl_bytecode_machine.specs.Ends.{Halts, IsEnd}
-use Rattle.bl_bytecode_machine.specs.Halting.{halts_after, halts_in, has}
+use Rattle.bl_bytecode_machine.specs.inner.Halting.{halts_after, halts_in, has}
 
 record Found (code : Code) (room : Room) (n : ℕ) (s : State) : Type 0 where
   end : Stepped
@@ -23,7 +23,8 @@ both-true false b h = absurd (cc)
 is-zero : (n : ℕ) → nat_eq n 0 ≡ true → 1 ≡ suc n
 is-zero n h = grind (arith, nat_tests)
 
-found-after : (code : Code) (room : Room) (n : ℕ) (s : State) (next : Stepped) → Has room s → step code s ≡ next → ((t : State) → halts_in n code room t ≡ true → Found code room n t) →
+found-after : (code : Code) (room : Room) (n : ℕ) (s : State) (next : Stepped) → Has room s → step code s ≡ next →
+    ((t : State) → halts_in n code room t ≡ true → Found code room n t) →
     halts_after (nat_eq n 0) (λ t. halts_in n code room t) next ≡ true → Found code room (suc n) s
 found-after code room n s (goes t) h e rec k =
     let r : Found code room n t = rec t k in
@@ -36,10 +37,19 @@ found-after code room n s (trapped c m) h e rec k =
 found : (code : Code) (room : Room) (n : ℕ) (s : State) → halts_in n code room s ≡ true → Found code room n s
 found code room zero s h = absurd (cc)
 found code room (suc n) s h =
-    let b : (has room s ≡ true) × (halts_after (nat_eq n 0) (λ t. halts_in n code room t) (step code s) ≡ true) = both-true (has room s) (halts_after (nat_eq n 0) (λ t. halts_in n code room t) (step code s)) h in
+    let b : (has room s ≡ true) × (halts_after (nat_eq n 0) (λ t. halts_in n code room t) (step code s) ≡ true) =
+    both-true (has room s) (halts_after (nat_eq n 0) (λ t. halts_in n code room t) (step code s)) h in
     found-after code room n s (step code s) (has-room room s b.0) refl (λ t k. found code room n t k) b.1
 
-pub halts : (code : Code) (room : Room) (n : ℕ) (first begun : State) (m : Shown) → halts_in n code room first ≡ true → first ≡ begun → room.numbers ≤ m.numbers → room.calls ≤ m.calls → Halts code n begun m
+pub halts : (code : Code) (room : Room) (n : ℕ) (first begun : State) (m : Shown) → halts_in n code room first ≡ true → first ≡ begun →
+    room.numbers ≤ m.numbers → room.calls ≤ m.calls → Halts code n begun m
 halts code room n first begun m h e numbers calls =
     let r : Found code room n first = found code room n first h in
-    record { room = room; end = r.end; over = r.over; runs = subst (λ (s : State). Runs code room n s r.end) e r.runs; numbers_fit = numbers; calls_fit = calls }
+    record {
+      room = room;
+      end = r.end;
+      over = r.over;
+      runs = subst (λ (s : State). Runs code room n s r.end) e r.runs;
+      numbers_fit = numbers;
+      calls_fit = calls;
+    }

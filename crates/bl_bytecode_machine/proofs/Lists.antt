@@ -1,5 +1,9 @@
--- Lists of one and of two numbers.
-use Rattle.std.proofs.Common.{◌≡◌, ℤ, pos, refl, arith, List, [], ◌∷◌, length, get_or}
+-- Lists of one, of two and of more numbers.
+use Rattle.std.proofs.Common.{◌≡◌, ◌≤◌, ℤ, pos, Bool, true, false, ◌&&◌, Option, None, refl, arith, List, [], ◌∷◌, length, get_or}
+use Rattle.std.specs.Prelude.{if◌then◌else◌}
+use Rattle.bl_ctext.specs.declared.builtin.Builtin.{Builtin}
+use Rattle.bl_ctext.specs.declared.builtin.Builtin.TheVariants.{Two, One, Cast, Index, Turn, Stop}
+use Rattle.bl_cmeaning_laws.specs.Flat.{prelude_value}
 
 pub one-number : (xs : List ℤ) → length xs ≡ 1 → xs ≡ get_or xs 0 (pos 0) ∷ []
 one-number [] h = absurd (omega arith)
@@ -11,3 +15,19 @@ two-numbers [] h = absurd (omega arith)
 two-numbers (x ∷ []) h = absurd (omega arith)
 two-numbers (x ∷ y ∷ []) h = refl
 two-numbers (x ∷ y ∷ z ∷ xs) h = absurd (omega arith)
+
+none-both : (b : Bool) → let none : Option ℤ = None in none ≡ (if b then none else none)
+none-both true = refl
+none-both false = refl
+
+-- no function of the prelude takes three numbers or more
+pub more-numbers : (b : Builtin) (xs : List ℤ) → 3 ≤ length xs → None ≡ prelude_value b xs
+more-numbers b [] h = absurd (omega arith)
+more-numbers b (x ∷ []) h = absurd (omega arith)
+more-numbers b (x ∷ y ∷ []) h = absurd (omega arith)
+more-numbers (Two op t) (x ∷ y ∷ z ∷ xs) h = none-both _
+more-numbers (One op t) (x ∷ y ∷ z ∷ xs) h = none-both _
+more-numbers (Cast signed t) (x ∷ y ∷ z ∷ xs) h = none-both _
+more-numbers (Index signed) (x ∷ y ∷ z ∷ xs) h = none-both _
+more-numbers Turn (x ∷ y ∷ z ∷ xs) h = none-both _
+more-numbers Stop (x ∷ y ∷ z ∷ xs) h = refl

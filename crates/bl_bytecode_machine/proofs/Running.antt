@@ -18,7 +18,8 @@ no-end a b e h = subst IsEnd e h
 goes-inj : (s t : State) → goes s ≡ goes t → s ≡ t
 goes-inj s t e = cc
 
-pub one-end : (code : Code) (room other : Room) (n k : ℕ) (s : State) (a b : Stepped) → Runs code room n s a → Runs code other k s b → IsEnd a → IsEnd b → a ≡ b
+pub one-end : (code : Code) (room other : Room) (n k : ℕ) (s : State) (a b : Stepped) → Runs code room n s a →
+    Runs code other k s b → IsEnd a → IsEnd b → a ≡ b
 one-end code room other _ k _ _ b (here s h) q ia ib = absurd ia
 one-end code room other _ _ _ _ _ (last s a h e) (here _ g) ia ib = absurd ib
 one-end code room other _ _ _ _ _ (last s a h e) (last _ b g f) ia ib = sym e ∙ f
@@ -54,7 +55,8 @@ over-left f (trapped c n) (goes t) h i = absurd h
 over-left f (trapped c n) (done d k q) h i = refl
 over-left f (trapped c n) (trapped d k) h i = refl
 
-goes-left : (f : State → ℕ) (t : State) (b : Stepped) (k : ℕ) → Alike (goes t) b → ((x : State) → as_shown x ≡ as_shown t → f x ≡ k) → left_after f b ≡ suc k
+goes-left : (f : State → ℕ) (t : State) (b : Stepped) (k : ℕ) → Alike (goes t) b →
+    ((x : State) → as_shown x ≡ as_shown t → f x ≡ k) → left_after f b ≡ suc k
 goes-left f t (goes u) k h g = ap (λ (x : ℕ). suc x) (g u (sym h))
 goes-left f t (done d n q) k h g = absurd h
 goes-left f t (trapped d n) k h g = absurd h
@@ -63,7 +65,9 @@ goes-left f t (trapped d n) k h g = absurd h
 alike-to : (code : Code) (s m : State) (end : Stepped) → step code s ≡ end → as_shown m ≡ as_shown s → Alike end (step code m)
 alike-to code s m end e h = subst (λ (x : Stepped). Alike x (step code m)) e (step-alike code s m (sym h))
 
-pub left-is : (code : Code) (room : Room) (k : ℕ) (s : State) (end : Stepped) → Runs code room k s end → IsEnd end → (n : ℕ) → k ≤ n → (m : State) → as_shown m ≡ as_shown s → left code n m ≡ k
+pub left-is : (code : Code) (room : Room) (k : ℕ) (s : State) (end : Stepped) → Runs code room k s end → IsEnd end → (n : ℕ) →
+    k ≤ n → (m : State) →
+    as_shown m ≡ as_shown s → left code n m ≡ k
 left-is code room _ _ _ (here s h) i n l m w = absurd i
 left-is code room _ _ _ (last s end h e) i zero l m w = absurd (omega arith)
 left-is code room _ _ _ (last s end h e) i (suc n) l m w = over-left (left code n) end (step code m) (alike-to code s m end e w) i
@@ -90,7 +94,8 @@ pub record Going (code : Code) (steps : ℕ) (first : State) (from m : Shown) : 
   pub numbers_stay : m.numbers ≡ from.numbers
   pub calls_stay : m.calls ≡ from.calls
 
-pub begins : (code : Code) (steps : ℕ) (first : State) (from m : Shown) → Halts code steps first from → m ≡ in_state from first → Going code steps first from m
+pub begins : (code : Code) (steps : ℕ) (first : State) (from m : Shown) → Halts code steps first from → m ≡ in_state from first →
+    Going code steps first from m
 begins code steps first from m h e =
     let at_first : Going code steps first from (in_state from first) =
     record {
@@ -119,7 +124,9 @@ suffices-over numbers calls (trapped c n) (goes t) h i = absurd h
 suffices-over numbers calls (trapped c n) (done d k q) h i = tt
 suffices-over numbers calls (trapped c n) (trapped d k) h i = tt
 
-suffices-goes : (room : Room) (numbers calls : ℕ) (t : State) (b : Stepped) → Has room t → room.numbers ≤ numbers → room.calls ≤ calls → Alike (goes t) b → Suffices numbers calls b
+suffices-goes : (room : Room) (numbers calls : ℕ) (t : State) (b : Stepped) → Has room t → room.numbers ≤ numbers →
+    room.calls ≤ calls → Alike (goes t) b →
+    Suffices numbers calls b
 suffices-goes room numbers calls t (goes u) has f g h =
     let a : height t ≡ height u = ap (λ (x : State). height x) h in
     let b : length t.waiting ≡ length u.waiting = ap (λ (x : State). length x.waiting) h in
@@ -127,11 +134,13 @@ suffices-goes room numbers calls t (goes u) has f g h =
 suffices-goes room numbers calls t (done d n q) has f g h = tt
 suffices-goes room numbers calls t (trapped d n) has f g h = tt
 
-room-of : (code : Code) (room : Room) (numbers calls k : ℕ) (s : State) (end : Stepped) (m : State) → Runs code room k s end → IsEnd end → as_shown m ≡ as_shown s →
+room-of : (code : Code) (room : Room) (numbers calls k : ℕ) (s : State) (end : Stepped) (m : State) → Runs code room k s end → IsEnd end →
+    as_shown m ≡ as_shown s →
     room.numbers ≤ numbers → room.calls ≤ calls → Suffices numbers calls (step code m)
 room-of code room numbers calls _ _ _ m (here s h) i w f g = absurd i
 room-of code room numbers calls _ _ _ m (last s end h e) i w f g = suffices-over numbers calls end (step code m) (alike-to code s m end e w) i
-room-of code room numbers calls _ _ _ m (more k s t end h e r) i w f g = suffices-goes room numbers calls t (step code m) (has-room code room k t end r) f g (alike-to code s m (goes t) e w)
+room-of code room numbers calls _ _ _ m (more k s t end h e r) i w f g =
+    suffices-goes room numbers calls t (step code m) (has-room code room k t end r) f g (alike-to code s m (goes t) e w)
 
 pub step-room : (code : Code) (steps : ℕ) (first : State) (from m : Shown) → Going code steps first from m → Roomy m (step code m.state)
 step-room code steps first from m g = room-of code g.room m.numbers m.calls g.rest g.s g.end m.state g.runs g.over g.shows g.numbers_fit g.calls_fit
@@ -151,14 +160,18 @@ came-over numbers calls (goes s) m i w = i
 came-over numbers calls (done c n r) m i w = w
 came-over numbers calls (trapped c n) m i w = w
 
-came-to : (code : Code) (numbers calls : ℕ) (s m : State) (end : Stepped) (answer : Flow) (n : Shown) → step code s ≡ end → as_shown m ≡ as_shown s → Came numbers calls (step code m) answer n → Came numbers calls end answer n
+came-to : (code : Code) (numbers calls : ℕ) (s m : State) (end : Stepped) (answer : Flow) (n : Shown) → step code s ≡ end →
+    as_shown m ≡ as_shown s →
+    Came numbers calls (step code m) answer n → Came numbers calls end answer n
 came-to code numbers calls s m end answer n e w c =
     came-alike numbers calls (step code m) end answer n (alike-back end (step code m) (alike-to code s m end e w)) c
 
-onward : (code : Code) (room : Room) (numbers calls k : ℕ) (s : State) (end : Stepped) (m : State) (n : Shown) → Runs code room k s end → IsEnd end → as_shown m ≡ as_shown s →
+onward : (code : Code) (room : Room) (numbers calls k : ℕ) (s : State) (end : Stepped) (m : State) (n : Shown) → Runs code room k s end → IsEnd end →
+    as_shown m ≡ as_shown s →
     Came numbers calls (step code m) flow.Goes n → Onward code room k end n
 onward code room numbers calls _ _ _ m n (here s h) i w c = absurd i
-onward code room numbers calls _ _ _ m n (last s end h e) i w c = absurd (came-over numbers calls end n i (came-to code numbers calls s m end flow.Goes n e w c))
+onward code room numbers calls _ _ _ m n (last s end h e) i w c =
+    absurd (came-over numbers calls end n i (came-to code numbers calls s m end flow.Goes n e w c))
 onward code room numbers calls _ _ _ m n (more k s t end h e r) i w c =
     let to : Went t numbers calls n = came-to code numbers calls s m (goes t) flow.Goes n e w c in
     record { s = t; rest = k; less = refl; runs = r; shows = to.state_is }
@@ -168,7 +181,8 @@ stay-goes numbers calls (goes s) m w = (w.numbers_stay, w.calls_stay)
 stay-goes numbers calls (done c n r) m w = absurd w
 stay-goes numbers calls (trapped c n) m w = absurd w
 
-pub goes-on : (code : Code) (steps : ℕ) (first : State) (from m n : Shown) → Going code steps first from m → After m (step code m.state) flow.Goes n → Going code steps first from n
+pub goes-on : (code : Code) (steps : ℕ) (first : State) (from m n : Shown) → Going code steps first from m → After m (step code m.state) flow.Goes n →
+    Going code steps first from n
 goes-on code steps first from m n g c =
     let o : Onward code g.room g.rest g.end n = onward code g.room m.numbers m.calls g.rest g.s g.end m.state n g.runs g.over g.shows c in
     let k : (n.numbers ≡ m.numbers) × (n.calls ≡ m.calls) = stay-goes m.numbers m.calls (step code m.state) n c in
@@ -188,7 +202,8 @@ goes-on code steps first from m n g c =
       calls_stay = k.1 ∙ g.calls_stay;
     }
 
-pub goes-less : (code : Code) (steps : ℕ) (first : State) (from m n : Shown) → Going code steps first from m → After m (step code m.state) flow.Goes n → left code steps n.state < left code steps m.state
+pub goes-less : (code : Code) (steps : ℕ) (first : State) (from m n : Shown) → Going code steps first from m → After m (step code m.state) flow.Goes n →
+    left code steps n.state < left code steps m.state
 goes-less code steps first from m n g c =
     let o : Onward code g.room g.rest g.end n = onward code g.room m.numbers m.calls g.rest g.s g.end m.state n g.runs g.over g.shows c in
     let before : left code steps m.state ≡ g.rest = left-is code g.room g.rest g.s g.end g.runs g.over steps g.fewer m.state g.shows in
@@ -203,7 +218,9 @@ IsAnswer flow.Goes o = ⊥
 IsAnswer (flow.Done x) o = o ≡ Some x
 IsAnswer flow.Trapped o = o ≡ None
 
-came-end : (from m : Shown) (end : Stepped) (answer : Flow) (o : Option ℤ) (n : Shown) → m.numbers ≡ from.numbers → m.calls ≡ from.calls → IsAnswer answer o → Came m.numbers m.calls end answer n → Ended from end o n
+came-end : (from m : Shown) (end : Stepped) (answer : Flow) (o : Option ℤ) (n : Shown) → m.numbers ≡ from.numbers →
+    m.calls ≡ from.calls → IsAnswer answer o →
+    Came m.numbers m.calls end answer n → Ended from end o n
 came-end from m (goes s) flow.Goes o n a b i w = absurd i
 came-end from m (goes s) (flow.Done x) o n a b i w = absurd w
 came-end from m (goes s) flow.Trapped o n a b i w = absurd w
@@ -219,17 +236,22 @@ came-end from m (trapped c k) flow.Trapped o n a b i w =
     (record { cells_are = w.cells_are; count_is = w.count_is; numbers_stay = w.numbers_stay ∙ a; calls_stay = w.calls_stay ∙ b })
 
 -- a machine that did not go on is alike to the end of the run
-end-came : (code : Code) (room : Room) (numbers calls k : ℕ) (s : State) (end : Stepped) (m : State) (answer : Flow) (o : Option ℤ) (n : Shown) → Runs code room k s end → IsEnd end → as_shown m ≡ as_shown s →
+end-came : (code : Code) (room : Room) (numbers calls k : ℕ) (s : State) (end : Stepped) (m : State) (answer : Flow) (o : Option ℤ) (n : Shown) →
+    Runs code room k s end → IsEnd end → as_shown m ≡ as_shown s →
     IsAnswer answer o → Came numbers calls (step code m) answer n → Came numbers calls end answer n
 end-came code room numbers calls _ _ _ m answer o n (here s h) i w a c = absurd i
 end-came code room numbers calls _ _ _ m answer o n (last s end h e) i w a c = came-to code numbers calls s m end answer n e w c
-end-came code room numbers calls _ _ _ m answer o n (more k s t end h e r) i w a c = absurd (no-goes numbers calls t answer o n a (came-to code numbers calls s m (goes t) answer n e w c)) where
-  no-goes : (numbers calls : ℕ) (t : State) (answer : Flow) (o : Option ℤ) (n : Shown) → IsAnswer answer o → Came numbers calls (goes t) answer n → ⊥
-  no-goes numbers calls t flow.Goes o n a w = a
-  no-goes numbers calls t (flow.Done x) o n a w = w
-  no-goes numbers calls t flow.Trapped o n a w = w
+end-came code room numbers calls _ _ _ m answer o n (more k s t end h e r) i w a c =
+    absurd (no-goes numbers calls t answer o n a (came-to code numbers calls s m (goes t) answer n e w c)) where
+      no-goes : (numbers calls : ℕ) (t : State) (answer : Flow) (o : Option ℤ) (n : Shown) → IsAnswer answer o →
+          Came numbers calls (goes t) answer n → ⊥
+      no-goes numbers calls t flow.Goes o n a w = a
+      no-goes numbers calls t (flow.Done x) o n a w = w
+      no-goes numbers calls t flow.Trapped o n a w = w
 
-pub ends : (code : Code) (steps : ℕ) (first : State) (from m n : Shown) (answer : Flow) (o : Option ℤ) → Going code steps first from m → IsAnswer answer o → After m (step code m.state) answer n →
+pub ends : (code : Code) (steps : ℕ) (first : State) (from m n : Shown) (answer : Flow) (o : Option ℤ) →
+    Going code steps first from m → IsAnswer answer o →
+    After m (step code m.state) answer n →
     (room : Room) (end : Stepped) → Arrives code room first end → IsEnd end → Ended from end o n
 ends code steps first from m n answer o g a c room end arrives over =
     let same : g.end ≡ end = one-end code g.room room steps arrives.steps first g.end end g.whole arrives.runs g.over over in

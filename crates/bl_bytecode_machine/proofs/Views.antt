@@ -1,7 +1,30 @@
 -- How the numbers on all stacks stand in one list.
-use Rattle.std.proofs.Common.{◌≡◌, ℕ, ◌+◌, ◌-◌, ◌≤◌, ◌<◌, ℤ, List, [], ◌∷◌, ◌++◌, length, take, drop, map, arith, sym, ◌∙◌, ap, subst, ⊎_elim}
+use Rattle.std.proofs.Common.{
+  ◌≡◌,
+  ℕ,
+  ◌+◌,
+  ◌-◌,
+  ◌≤◌,
+  ◌<◌,
+  ℤ,
+  List,
+  [],
+  ◌∷◌,
+  ◌++◌,
+  length,
+  take,
+  drop,
+  map,
+  arith,
+  sym,
+  ◌∙◌,
+  ap,
+  subst,
+  ⊎_elim,
+}
 use Rattle.std.specs.Prelude.{reverse}
-use Rattle.std.proofs.lemmas.List.{length-take, length-drop, length-reverse, reverse-append, take-append-drop, take-take, drop-drop, drop-take, drop_all, take_all, reverse-reverse}
+use Rattle.std.proofs.lemmas.List.{length-take, length-drop, length-reverse, reverse-append, take-append-drop, take-take, drop-drop, drop-take}
+use Rattle.std.proofs.lemmas.List.{drop_all, take_all, reverse-reverse}
 use Rattle.std.proofs.str.Laws.{order}
 use Rattle.std.proofs.Math.Seq.{drop-append_seam, take-append_seam}
 use Rattle.bl_tree.specs.Reduce.{total}
@@ -19,7 +42,8 @@ waiting-height [] floor numbers l h = sym h
 waiting-height (c ∷ callers) floor numbers l h =
     let below : c.floor ≤ floor = h.0 in
     let front : length (take c.floor numbers) ≡ c.floor = omega (arith, length-take c.floor numbers) in
-    let others : total (map (λ (w : Waiting). length w.stack) (waiting_of (take c.floor numbers) callers)) ≡ c.floor = waiting-height callers c.floor (take c.floor numbers) front h.1 in
+    let others : total (map (λ (w : Waiting). length w.stack) (waiting_of (take c.floor numbers) callers)) ≡ c.floor =
+    waiting-height callers c.floor (take c.floor numbers) front h.1 in
     omega (arith, length-reverse (drop c.floor numbers), length-drop c.floor numbers)
 
 pub state-height : (at base floor count : ℕ) (cells : Cells) (numbers : List ℤ) (callers : List Caller) (numbers_room calls_room : ℕ) →
@@ -27,7 +51,8 @@ pub state-height : (at base floor count : ℕ) (cells : Cells) (numbers : List �
 state-height at base floor count cells numbers callers numbers_room calls_room k =
     let w : floor ≤ length numbers = k.within in
     let front : length (take floor numbers) ≡ floor = omega (arith, length-take floor numbers) in
-    let others : total (map (λ (w : Waiting). length w.stack) (waiting_of (take floor numbers) (reverse callers))) ≡ floor = waiting-height (reverse callers) floor (take floor numbers) front k.stands in
+    let others : total (map (λ (w : Waiting). length w.stack) (waiting_of (take floor numbers) (reverse callers))) ≡ floor =
+    waiting-height (reverse callers) floor (take floor numbers) front k.stands in
     omega (arith, length-reverse (drop floor numbers), length-drop floor numbers)
 
 -- a machine that shows room for one more number has it
@@ -49,7 +74,8 @@ drop-split a b n h =
 take-split : (a b : List ℤ) (n : ℕ) → length b ≡ n → reverse (take n (reverse (a ++ b))) ≡ b
 take-split a b n h =
     let e : length (reverse b) ≡ n = length-reverse b ∙ h in
-    rw (reverse-append a b) (subst (λ (k : ℕ). reverse (take k (reverse b ++ reverse a)) ≡ b) e (ap reverse (take-append_seam (reverse b) (reverse a)) ∙ reverse-reverse b))
+    rw (reverse-append a b)
+    (subst (λ (k : ℕ). reverse (take k (reverse b ++ reverse a)) ≡ b) e (ap reverse (take-append_seam (reverse b) (reverse a)) ∙ reverse-reverse b))
 
 pub drop-reversed : (n : ℕ) (xs : List ℤ) → drop n (reverse xs) ≡ reverse (take (length xs - n) xs)
 drop-reversed n xs =

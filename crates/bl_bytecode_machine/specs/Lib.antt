@@ -1,5 +1,4 @@
 pub mod Shown
 pub mod Steps
 pub mod Ends
-pub mod Odd
-pub mod Halting
+pub mod inner

@@ -35,12 +35,21 @@ shown_code =
 -- the functions that wait, the last first, where these numbers stand on their stacks
 abbrev pub waiting_of : List ℤ → List Caller → List Waiting
 waiting_of numbers [] = []
-waiting_of numbers (c ∷ callers) = record { back = c.back; base = c.base; stack = reverse (drop c.floor numbers) } ∷ waiting_of (take c.floor numbers) callers
+waiting_of numbers (c ∷ callers) = record { back = c.back; base = c.base; stack = reverse (drop c.floor numbers) }
+    ∷ waiting_of (take c.floor numbers) callers
 
 -- the state, where the running function's stack begins above so many numbers
 abbrev pub state_of : ℕ → ℕ → ℕ → ℕ → Cells → List ℤ → List Caller → State
 state_of at base floor count cells numbers callers =
-    record { at = at; base = base; cells = cells; stack = reverse (drop floor numbers); waiting = waiting_of (take floor numbers) (reverse callers); count = count }
+    record {
+      at = at;
+      base = base;
+      cells = cells;
+      stack = reverse (drop floor numbers);
+      waiting = waiting_of (take floor numbers) (reverse callers);
+      count =
+          count;
+    }
 
 -- the stacks stand on each other, the first at the bottom
 abbrev pub Stands : ℕ → List Caller → Type 0

@@ -1,3 +1,5 @@
+//! Functions that wait for those that they called.
+
 /// A function that waits for one that it called.
 #[derive(Clone, Copy)]
 pub struct Caller {

@@ -5,7 +5,7 @@ ghost use Rattle.bl_bytecode.specs.declared.instruction.Instruction.TheVariants 
 use crate::flow::Flow;
 use crate::machine::Machine;
 use bl_bytecode::instruction::Callee;
-use bl_cmeaning::Builtin;
+use bl_ctext::Builtin;
 
 impl Machine {
     ghost use Rattle.bl_bytecode_machine.specs.Steps.{Done, Ready};

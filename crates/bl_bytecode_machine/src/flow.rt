@@ -1,3 +1,5 @@
+//! What steps of the machine come to.
+
 /// What a step comes to.
 #[derive(Clone, Copy)]
 pub enum Flow {

@@ -1,4 +1,6 @@
-//! The machine that runs the code of C texts (docs/C_SUBSET.md, "Meaning").
+//! The machine that runs the code of C files. Where a run ends within the room that was reserved (`specs/Ends.antt`,
+//! `Halts`), `Machine::run` answers what the machine of `bl_bytecode` comes to, and the cells and the count are those
+//! of that end, of which there is only one (`Ended`); the count shows at most 2^128 - 1. A run takes no memory.
 #![tactic(auto)]
 
 mod address;
@@ -9,7 +11,6 @@ mod frame;
 mod jumps;
 pub mod machine;
 mod numbers;
-mod odd;
 mod places;
 mod prelude;
 mod run;

@@ -9,7 +9,7 @@ use crate::caller::Caller;
 use crate::flow::Flow;
 use crate::{address, frame, prelude};
 use bl_bytecode::instruction::Callee;
-use bl_cmeaning::Builtin;
+use bl_ctext::Builtin;
 use bl_tree::NoMemory;
 use std::alloc::Global;
 use std::marker::Model;
@@ -40,7 +40,11 @@ impl Model for Machine {
 
     ghost coded = { shown_code };
 
-    ghost view = { λ m. record { state = state_of m.at m.base m.floor m.count m.cells.items m.numbers.items m.callers.items; numbers = vec_capacity m.numbers; calls = vec_capacity m.callers } };
+    ghost view = { λ m. record {
+      state = state_of m.at m.base m.floor m.count m.cells.items m.numbers.items m.callers.items;
+      numbers = vec_capacity m.numbers;
+      calls = vec_capacity m.callers;
+    } };
 
     ghost invariant = { λ m. Keeps m.floor m.numbers.items m.callers.items (vec_capacity m.numbers) (vec_capacity m.callers) };
 }

@@ -6,11 +6,11 @@ ghost use Rattle.bl_tree.specs.Numbers.{checked_of, checked_one_of, fitted, take
 ghost use Rattle.bl_cmeaning.specs.Builtin.{builtin_value, in_c, widest};
 ghost use Rattle.bl_cmeaning_laws.specs.Flat.{prelude_value};
 
-use crate::odd;
-use bl_cmeaning::Builtin;
+use bl_ctext::Builtin;
 use bl_tree::{Op, Scalar, Width, checked, checked_one};
 
-/// What a function of the prelude gives; `None`, a trap, also for numbers outside of its parameters' types.
+/// What a function of the prelude gives; `None`, a trap, also for numbers outside of its parameters' types and for an
+/// operator on a type that it doesn't take.
 pub fn value(builtin: Builtin, numbers: &[i128]) -> Option<i128>
     ensures { result ≡ prelude_value builtin numbers.now }
 {
@@ -72,24 +72,20 @@ fn widest(signed: bool) -> Scalar
 fn two(op: Op, t: Scalar, a: i128, b: i128) -> Option<i128>
     ensures { result ≡ prelude_value (Builtin.Two op t) (a ∷ b ∷ []) }
 {
-    if !holds_in_c(t, a) || !holds_in_c(t, b) {
-        None
-    } else if op.takes_two(t) {
+    if op.takes_two(t) && holds_in_c(t, a) && holds_in_c(t, b) {
         checked(op, t, a, b)
     } else {
-        odd::two(op, t, a, b)
+        None
     }
 }
 
 fn one(op: Op, t: Scalar, a: i128) -> Option<i128>
     ensures { result ≡ prelude_value (Builtin.One op t) (a ∷ []) }
 {
-    if !holds_in_c(t, a) {
-        None
-    } else if op.takes_one(t) {
+    if op.takes_one(t) && holds_in_c(t, a) {
         checked_one(op, t, a)
     } else {
-        odd::one(op, t, a)
+        None
     }
 }
 

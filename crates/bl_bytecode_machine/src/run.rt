@@ -24,7 +24,9 @@ impl Machine {
     ) -> Option<i128>
         ghost steps: { ℕ }
         requires { Halts code.now steps (begun (record { entry = entry; frame = frame }) base args.now self.old.state.cells [] 0) self.old }
-        ensures { (room : Room) (end : Stepped) → Arrives code.now room (begun (record { entry = entry; frame = frame }) base args.now self.old.state.cells [] 0) end → IsEnd end → Ended self.old end result self.new }
+        ensures { (room : Room) (end : Stepped) →
+            Arrives code.now room (begun (record { entry = entry; frame = frame }) base args.now self.old.state.cells [] 0) end →
+            IsEnd end → Ended self.old end result self.new }
     {
         self.begin(entry, frame, base, args);
         loop {

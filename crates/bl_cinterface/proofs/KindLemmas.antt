@@ -1,5 +1,27 @@
 -- The types of the cells of structs, one member after another.
-use Rattle.std.proofs.Common.{◌≡◌, ℕ, zero, suc, ◌+◌, ◌<◌, Bool, true, false, List, [], ◌∷◌, ◌++◌, map, length, get_or, take, Option, Some, None, refl, ap, sym, subst, ◌∙◌, arith, append-nil}
+use Rattle.std.proofs.Common.{
+  ◌≡◌,
+  ℕ,
+  zero,
+  suc,
+  ◌+◌,
+  ◌<◌,
+  Bool,
+  true,
+  false,
+  List,
+  [],
+  ◌∷◌,
+  ◌++◌,
+  map,
+  length,
+  get_or,
+  take,
+  Option,
+  Some,
+  None,
+}
+use Rattle.std.proofs.Common.{refl, ap, sym, subst, ◌∙◌, arith, append-nil}
 use Rattle.std.specs.Prelude.{flat_map, bytes_eq, nat_lt, option_map, unwrap_or, if◌then◌else◌}
 use Rattle.std.specs.Option.{option_or}
 use Rattle.std.proofs.lemmas.Grind.{common_steps}
@@ -13,7 +35,8 @@ use Rattle.bl_cmeaning.specs.Memory.{Part, member, element, Root}
 use Rattle.bl_cmeaning.specs.Tables.{Table, found, no_entries, with_entry}
 use Rattle.bl_cmeaning.specs.Cells.{Inner, below, inside, inner_of_length, inner_of_type, inner_of_member, inner_after, cells_at}
 use Rattle.bl_cmeaning.proofs.MapLemmas.{next_entry, nothing_after, same_table}
-use Rattle.bl_cinterface.specs.Layout.{kinds_in, kinds_named, scalars_of, kinds_of_member, kinds_of_type, kinds_of_members, placed, if_below, placed_before, repeated}
+use Rattle.bl_cinterface.specs.Layout.{kinds_in, kinds_named, scalars_of, kinds_of_member, kinds_of_type, kinds_of_members, placed, if_below}
+use Rattle.bl_cinterface.specs.Layout.{placed_before, repeated}
 
 -- ---- members
 
@@ -32,7 +55,8 @@ pub repeated-last : (n : ℕ) (xs : List Scalar) → repeated n xs ++ xs ≡ xs 
 repeated-last zero xs = sym (append-nil xs)
 repeated-last (suc n) xs = append_assoc xs (repeated n xs) xs ∙ ap (λ l. xs ++ l) (repeated-last n xs)
 
-kinds-repeated : (name : Text) (cells : List Inner) (n : ℕ) → kinds_in (flat_map (λ k. map (inside (member name ∷ element k ∷ [])) cells) (below n)) ≡ repeated n (kinds_in cells)
+kinds-repeated : (name : Text) (cells : List Inner) (n : ℕ) →
+    kinds_in (flat_map (λ k. map (inside (member name ∷ element k ∷ [])) cells) (below n)) ≡ repeated n (kinds_in cells)
 kinds-repeated name cells zero = refl
 kinds-repeated name cells (suc n) =
     let each : ℕ → List Inner = λ k. map (inside (member name ∷ element k ∷ [])) cells in
@@ -51,7 +75,8 @@ kinds-member structs m = by_length m.length (inner_of_type (scalars_of structs) 
     by_length None cells = kinds-inside (member m.name ∷ []) cells ∙ sym (append-nil (kinds_in cells))
     by_length (Some n) cells = kinds-repeated m.name cells n
 
-pub kinds-next : (structs : List CStruct) (m : CMember) (ms : List CMember) → kinds_of_members structs (m ∷ ms) ≡ kinds_of_member structs m ++ kinds_of_members structs ms
+pub kinds-next : (structs : List CStruct) (m : CMember) (ms : List CMember) →
+    kinds_of_members structs (m ∷ ms) ≡ kinds_of_member structs m ++ kinds_of_members structs ms
 kinds-next structs m ms = kinds-append (inner_of_member (scalars_of structs) m) (flat_map (inner_of_member (scalars_of structs)) ms)
 
 pub kinds-at : (root : Root) (cells : List Inner) → map (λ cell. cell.kind) (cells_at root cells) ≡ kinds_in cells
@@ -67,10 +92,12 @@ grown known structs name = option_or (known name) (found name (inner_after known
 grown-none : (known : Table (List Inner)) → grown known [] ≡ known
 grown-none known = same_table (grown known []) known (λ name. nothing_after (known name))
 
-grown-next : (known : Table (List Inner)) (s : CStruct) (rest : List CStruct) → grown known (s ∷ rest) ≡ grown (with_entry known s.name (flat_map (inner_of_member known) s.members)) rest
+grown-next : (known : Table (List Inner)) (s : CStruct) (rest : List CStruct) →
+    grown known (s ∷ rest) ≡ grown (with_entry known s.name (flat_map (inner_of_member known) s.members)) rest
 grown-next known s rest =
     same_table (grown known (s ∷ rest)) (grown (with_entry known s.name (flat_map (inner_of_member known) s.members)) rest)
-    (λ name. sym (next_entry (known name) (bytes_eq s.name name) (flat_map (inner_of_member known) s.members) (found name (inner_after (with_entry known s.name (flat_map (inner_of_member known) s.members)) rest))))
+    (λ name. sym (next_entry (known name) (bytes_eq s.name name) (flat_map (inner_of_member known) s.members)
+    (found name (inner_after (with_entry known s.name (flat_map (inner_of_member known) s.members)) rest))))
 
 pub some_of : {A : Type 0} (a b : A) → Some a ≡ Some b → a ≡ b
 some_of a b h = cc
@@ -90,12 +117,14 @@ module _ (name : Text) where
   module _ (known : Table (List Inner)) (s : CStruct) (rest : List CStruct) (end : ℕ) (d : CStruct)
       (next : (k : ℕ) → placed name rest ≡ Some k → k < end → FoundAt (known_after known s) rest end k d) where
     found-later : (at : ℕ) → at < suc end → (o : Option ℕ) → placed name rest ≡ o → option_map suc o ≡ Some at →
-        found name (inner_after (known_after known s) (take end rest)) ≡ Some (flat_map (inner_of_member (grown known (take at (s ∷ rest)))) (get_or (s ∷ rest) at d).members)
+        found name (inner_after (known_after known s) (take end rest))
+        ≡ Some (flat_map (inner_of_member (grown known (take at (s ∷ rest)))) (get_or (s ∷ rest) at d).members)
     found-later at within None there h = cc
     found-later at within (Some k) there h =
         let same : suc k ≡ at = some_of (suc k) at h in
         let below_end : k < end = omega (arith, same, within) in
-        subst (λ n. found name (inner_after (known_after known s) (take end rest)) ≡ Some (flat_map (inner_of_member (grown known (take n (s ∷ rest)))) (get_or (s ∷ rest) n d).members)) same
+        subst (λ n. found name (inner_after (known_after known s) (take end rest))
+        ≡ Some (flat_map (inner_of_member (grown known (take n (s ∷ rest)))) (get_or (s ∷ rest) n d).members)) same
         (next k there below_end ∙ ap (λ t. Some (flat_map (inner_of_member t) (get_or rest k d).members)) (sym (grown-next known s (take k rest))))
 
     found-here : (at : ℕ) → at < suc end → (b : Bool) → (if b then Some 0 else option_map suc (placed name rest)) ≡ Some at →
@@ -106,7 +135,8 @@ module _ (name : Text) where
         (some_of 0 at h) (ap (λ t. Some (flat_map (inner_of_member t) s.members)) (sym (grown-none known)))
     found-here at within false h = found-later at within (placed name rest) refl h
 
-  found-at : (known : Table (List Inner)) (structs : List CStruct) (end at : ℕ) (d : CStruct) → placed name structs ≡ Some at → at < end → FoundAt known structs end at d
+  found-at : (known : Table (List Inner)) (structs : List CStruct) (end at : ℕ) (d : CStruct) → placed name structs ≡ Some at → at < end →
+      FoundAt known structs end at d
   found-at known [] end at d is within = cc
   found-at known (s ∷ rest) zero at d is within = absurd (grind (arith, common_steps))
   found-at known (s ∷ rest) (suc end) at d is within =
@@ -131,7 +161,8 @@ module _ (name : Text) where
   none-here end true cells later o next h = let below : nat_lt 0 (suc end) ≡ true = grind (arith, common_steps) in some-apart (nat_lt 0 (suc end)) 0 below h
   none-here end false cells later o next h = next (none-later end o h)
 
-  not-found : (known : Table (List Inner)) (structs : List CStruct) (end : ℕ) → placed_before end name structs ≡ None → found name (inner_after known (take end structs)) ≡ None
+  not-found : (known : Table (List Inner)) (structs : List CStruct) (end : ℕ) → placed_before end name structs ≡ None →
+      found name (inner_after known (take end structs)) ≡ None
   not-found known structs zero is = refl
   not-found known [] (suc end) is = refl
   not-found known (s ∷ rest) (suc end) is =
@@ -142,7 +173,8 @@ module _ (name : Text) where
   within-later n at None next h = cc
   within-later n at (Some k) next h = let same : suc k ≡ at = some_of (suc k) at h in let below : k < n = next k refl in omega (arith, same, below)
 
-  within-here : (n at : ℕ) (b : Bool) (o : Option ℕ) → ((k : ℕ) → o ≡ Some k → k < n) → (if b then Some 0 else option_map suc o) ≡ Some at → at < suc n
+  within-here : (n at : ℕ) (b : Bool) (o : Option ℕ) → ((k : ℕ) → o ≡ Some k → k < n) →
+      (if b then Some 0 else option_map suc o) ≡ Some at → at < suc n
   within-here n at true o next h = let same : 0 ≡ at = some_of 0 at h in omega (arith, same)
   within-here n at false o next h = within-later n at o next h
 
@@ -155,7 +187,8 @@ module _ (name : Text) where
     name-later at None there h = cc
     name-later at (Some k) there h = subst (λ n. (get_or (s ∷ rest) n d).name ≡ name) (some_of (suc k) at h) (next k there)
 
-    name-here : (at : ℕ) (b : Bool) → bytes_eq s.name name ≡ b → (if b then Some 0 else option_map suc (placed name rest)) ≡ Some at → (get_or (s ∷ rest) at d).name ≡ name
+    name-here : (at : ℕ) (b : Bool) → bytes_eq s.name name ≡ b → (if b then Some 0 else option_map suc (placed name rest)) ≡ Some at →
+        (get_or (s ∷ rest) at d).name ≡ name
     name-here at true here h = subst (λ n. (get_or (s ∷ rest) n d).name ≡ name) (some_of 0 at h) ((bytes_eq-Decides s.name name).0 here)
     name-here at false here h = name-later at (placed name rest) refl h
 
@@ -171,13 +204,15 @@ module _ (name : Text) where
   kinds-some structs end at d is within = ap (λ o. kinds_in (unwrap_or o [])) (found-at no_entries structs end at d is within)
 
   -- the first struct of a name is made of the structs before it
-  pub kinds-whole : (structs : List CStruct) (at : ℕ) (d : CStruct) → placed name structs ≡ Some at → kinds_named structs name ≡ kinds_of_members (take at structs) (get_or structs at d).members
+  pub kinds-whole : (structs : List CStruct) (at : ℕ) (d : CStruct) → placed name structs ≡ Some at →
+      kinds_named structs name ≡ kinds_of_members (take at structs) (get_or structs at d).members
   kinds-whole structs at d is =
       subst (λ l. kinds_named l name ≡ kinds_of_members (take at structs) (get_or structs at d).members) (take_all (length structs) structs (omega arith))
       (kinds-some structs (length structs) at d is (placed-within structs at is))
 
   -- a struct that stands among the first ones has the same kinds among all
-  pub kinds-same : (structs : List CStruct) (end at : ℕ) (d : CStruct) → placed name structs ≡ Some at → at < end → kinds_named (take end structs) name ≡ kinds_named structs name
+  pub kinds-same : (structs : List CStruct) (end at : ℕ) (d : CStruct) → placed name structs ≡ Some at → at < end →
+      kinds_named (take end structs) name ≡ kinds_named structs name
   kinds-same structs end at d is within = kinds-some structs end at d is within ∙ sym (kinds-whole structs at d is)
 
   pub placed-before : (structs : List CStruct) (end at : ℕ) → placed_before end name structs ≡ Some at → placed name structs ≡ Some at
@@ -195,7 +230,8 @@ module _ (name : Text) where
   before-end structs end at is = there (placed name structs) is
     where
       chosen : (k : ℕ) (b : Bool) → nat_lt k end ≡ b → (if b then Some k else None) ≡ Some at → at < end
-      chosen k true less h = let same : k ≡ at = some_of k at h in let below : nat_lt at end ≡ true = ap (λ n. nat_lt n end) (sym same) ∙ less in grind (arith, common_steps)
+      chosen k true less h = let same : k ≡ at = some_of k at h in let below : nat_lt at end ≡ true = ap (λ n. nat_lt n end) (sym same) ∙ less in
+          grind (arith, common_steps)
       chosen k false less h = cc
 
       there : (o : Option ℕ) → if_below end o ≡ Some at → at < end
@@ -204,7 +240,8 @@ module _ (name : Text) where
 
 -- ---- a map of places
 
-place-step : (o : Option ℕ) (here : Bool) (k : ℕ) (later : Option ℕ) → option_or (option_or o (if here then Some k else None)) (option_map (λ j. k + 1 + j) later)
+place-step : (o : Option ℕ) (here : Bool) (k : ℕ) (later : Option ℕ) →
+    option_or (option_or o (if here then Some k else None)) (option_map (λ j. k + 1 + j) later)
     ≡ option_or o (option_map (λ j. k + j) (if here then Some 0 else option_map suc later))
 place-step (Some x) here k later = refl
 place-step None true k later = let same : k ≡ k + 0 = omega arith in ap Some same
@@ -212,8 +249,10 @@ place-step None false k None = refl
 place-step None false k (Some j) = let same : k + 1 + j ≡ k + suc j = omega arith in ap Some same
 
 -- one more place
-pub places-next : (old new t : Table ℕ) (all rest : List CStruct) (s : CStruct) (k : ℕ) → all ≡ s ∷ rest → ((asked : Text) → new asked ≡ with_entry old s.name k asked) →
-    ((name : Text) → option_or (old name) (option_map (λ j. k + j) (placed name all)) ≡ t name) → (name : Text) → option_or (new name) (option_map (λ j. k + 1 + j) (placed name rest)) ≡ t name
+pub places-next : (old new t : Table ℕ) (all rest : List CStruct) (s : CStruct) (k : ℕ) → all ≡ s ∷ rest →
+    ((asked : Text) → new asked ≡ with_entry old s.name k asked) →
+    ((name : Text) → option_or (old name) (option_map (λ j. k + j) (placed name all)) ≡ t name) → (name : Text) →
+    option_or (new name) (option_map (λ j. k + 1 + j) (placed name rest)) ≡ t name
 places-next old new t all rest s k is add h name =
     ap (λ o. option_or o (option_map (λ j. k + 1 + j) (placed name rest))) (add name)
     ∙ place-step (old name) (bytes_eq s.name name) k (placed name rest)
@@ -223,5 +262,7 @@ pub places-first : (o : Option ℕ) → option_map (λ j. 0 + j) o ≡ o
 places-first None = refl
 places-first (Some j) = let same : 0 + j ≡ j = omega arith in ap Some same
 
-pub places-done : (old t : Table ℕ) (rest : List CStruct) (k : ℕ) → rest ≡ [] → ((name : Text) → option_or (old name) (option_map (λ j. k + j) (placed name rest)) ≡ t name) → (name : Text) → old name ≡ t name
-places-done old t rest k is h name = sym (nothing_after (old name)) ∙ ap (λ l. option_or (old name) (option_map (λ j. k + j) (placed name l))) (sym is) ∙ h name
+pub places-done : (old t : Table ℕ) (rest : List CStruct) (k : ℕ) → rest ≡ [] →
+    ((name : Text) → option_or (old name) (option_map (λ j. k + j) (placed name rest)) ≡ t name) → (name : Text) → old name ≡ t name
+places-done old t rest k is h name = sym (nothing_after (old name))
+    ∙ ap (λ l. option_or (old name) (option_map (λ j. k + j) (placed name l))) (sym is) ∙ h name

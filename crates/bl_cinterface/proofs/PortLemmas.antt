@@ -1,5 +1,28 @@
 -- The inputs and outputs of a well-formed file.
-use Rattle.std.proofs.Common.{◌≡◌, ℕ, zero, suc, ◌+◌, Bool, true, false, ◌&&◌, List, [], ◌∷◌, ◌++◌, map, length, drop, Option, Some, None, refl, ap, sym, subst, ◌∙◌, arith}
+use Rattle.std.proofs.Common.{
+  ◌≡◌,
+  ℕ,
+  zero,
+  suc,
+  ◌+◌,
+  Bool,
+  true,
+  false,
+  ◌&&◌,
+  List,
+  [],
+  ◌∷◌,
+  ◌++◌,
+  map,
+  length,
+  drop,
+  Option,
+  Some,
+  None,
+  refl,
+  ap,
+}
+use Rattle.std.proofs.Common.{sym, subst, ◌∙◌, arith}
 use Rattle.std.specs.Prelude.{⊤, bytes_eq, codes, flat_map, is_none, nat_eq, nat_lt, nat_le, option_map, slice_get, unwrap_or, if◌then◌else◌}
 use Rattle.std.specs.List.{list_all, starts_with}
 use Rattle.std.specs.Str.{IsCharBoundary, IsUtf8}
@@ -20,7 +43,9 @@ use Rattle.bl_cmeaning.specs.Parts.{Parts}
 use Rattle.bl_cmeaning.specs.Memory.{member, Root, state_object, input_object, output_object}
 use Rattle.bl_cmeaning.specs.Tables.{Table, found, no_entries, with_entry}
 use Rattle.bl_cmeaning.specs.Cells.{Cell, Inner, cells_at, cells_of, inner_of, inner_of_length, inner_of_member, inner_of_type, inner_after, members_of, port}
-use Rattle.bl_cmeaning.specs.Faults.{distinct_names, declared_before, short_chain, interface_members, WellFormed, all_distinct, are_ports, depth_of_struct, faults_in, faults_in_struct, interface_fits, is_declared, is_pad, is_port, is_scalar, member_table, same_type, struct_faults_after, unless}
+use Rattle.bl_cmeaning.specs.Faults.{distinct_names, declared_before, short_chain, interface_members, WellFormed, all_distinct, are_ports}
+use Rattle.bl_cmeaning.specs.Faults.{depth_of_struct, faults_in, faults_in_struct, interface_fits, is_declared, is_pad, is_port, is_scalar}
+use Rattle.bl_cmeaning.specs.Faults.{member_table, same_type, struct_faults_after, unless}
 use Rattle.bl_cmeaning.proofs.EndLemmas.{nil-left, nil-right}
 use Rattle.bl_cinterface.specs.Ports.{AllPrefixed, Formed, PortsStand, Prefixed, StandFrom, inputs_start, outputs_start}
 
@@ -51,7 +76,8 @@ unless-nil false clause place h = cc
 
 -- ---- members of the interface structs
 
-interfaces-fit : (structs : Table (Table CMember)) (depths : Table ℕ) (list : List CStruct) → struct_faults_after structs depths list ≡ [] → list_all interface_fits list ≡ true
+interfaces-fit : (structs : Table (Table CMember)) (depths : Table ℕ) (list : List CStruct) → struct_faults_after structs depths list ≡ [] →
+    list_all interface_fits list ≡ true
 interfaces-fit structs depths [] none = refl
 interfaces-fit structs depths (s ∷ rest) none =
     let here : faults_in_struct structs depths s ≡ [] = nil-left (faults_in_struct structs depths s) _ none in
@@ -81,15 +107,19 @@ abbrev Ported : Text → Option (List CMember) → Type 0
 Ported prefix None = ⊤
 Ported prefix (Some ms) = are_ports prefix ms ≡ true
 
-module _ (name prefix : Text) (fit : (s : CStruct) → bytes_eq s.name name ≡ true → interface_fits s ≡ true → are_ports prefix s.members ≡ true) where
-  ported-here : (s : CStruct) (later : Option (List CMember)) → interface_fits s ≡ true → Ported prefix later → (b : Bool) → bytes_eq s.name name ≡ b → Ported prefix (if b then Some s.members else later)
+module _ (name prefix : Text) (fit : (s : CStruct) → bytes_eq s.name name ≡ true → interface_fits s ≡ true →
+    are_ports prefix s.members ≡ true) where
+  ported-here : (s : CStruct) (later : Option (List CMember)) → interface_fits s ≡ true → Ported prefix later → (b : Bool) →
+      bytes_eq s.name name ≡ b →
+      Ported prefix (if b then Some s.members else later)
   ported-here s later fits next true is = fit s is fits
   ported-here s later fits next false is = next
 
   ported : (list : List CStruct) → list_all interface_fits list ≡ true → Ported prefix (found name (map (λ s. (s.name, s.members)) list))
   ported [] all = tt
   ported (s ∷ rest) all =
-      ported-here s (found name (map (λ t. (t.name, t.members)) rest)) (and-left (interface_fits s) _ all) (ported rest (and-right (interface_fits s) _ all)) (bytes_eq s.name name) refl
+      ported-here s (found name (map (λ t. (t.name, t.members)) rest)) (and-left (interface_fits s) _ all) (ported rest (and-right (interface_fits s) _ all))
+      (bytes_eq s.name name) refl
 
 -- ---- names
 
@@ -108,7 +138,8 @@ module _ (prefix : Text) (begins : (name : Text) → starts_with nat_eq name pre
   all-prefixed [] all = All-nil (λ m. Prefixed m.name)
   all-prefixed (m ∷ ms) all =
       All-cons (λ m. Prefixed m.name) m ms
-      (begins m.name (and-left (starts_with nat_eq m.name prefix) _ (and-left (starts_with nat_eq m.name prefix && nat_lt (length prefix) (length m.name)) _ (and-left (is_port prefix m) _ all))))
+      (begins m.name (and-left (starts_with nat_eq m.name prefix) _
+      (and-left (starts_with nat_eq m.name prefix && nat_lt (length prefix) (length m.name)) _ (and-left (is_port prefix m) _ all))))
       (all-prefixed ms (and-right (is_port prefix m) _ all))
 
   ports-prefixed : (o : Option (List CMember)) → Ported prefix o → AllPrefixed (drop 1 (unwrap_or o []))
@@ -136,7 +167,8 @@ one-cell : (known : Table (List Inner)) (m : CMember) → is_scalar m.ty ≡ tru
 one-cell known m scalar single = by_type m.ty m.length scalar single
   where
     by_type : (ty : CType) (length : Option ℕ) → is_scalar ty ≡ true → is_none length ≡ true →
-        (kind : Scalar) × ((ty ≡ OfScalar kind) × (inner_of_length m.name length (inner_of_type known ty) ≡ record { parts = member m.name ∷ []; kind = kind } ∷ []))
+        (kind : Scalar) × ((ty ≡ OfScalar kind)
+        × (inner_of_length m.name length (inner_of_type known ty) ≡ record { parts = member m.name ∷ []; kind = kind } ∷ []))
     by_type (OfScalar kind) None h k = (kind, (refl, refl))
     by_type (OfScalar kind) (Some n) h k = cc
     by_type (OfStruct name) length h k = cc
@@ -170,18 +202,26 @@ module _ (root : Root) (known : Table (List Inner)) (prefix : Text) where
       cells_of_members (m ∷ ms) ≡ record { location = record { root = root; parts = cell.parts }; kind = cell.kind } ∷ cells_of_members ms
   one-more m ms cell is = ap (λ l. cells_at root (l ++ flat_map (inner_of_member known) ms)) is
 
-  ports-stand : (ms : List CMember) (k : ℕ) (m : CMember) → list_all (is_port prefix) ms ≡ true → slice_get ms k ≡ Some m → StandsAt root (cells_of_members ms) k m
+  ports-stand : (ms : List CMember) (k : ℕ) (m : CMember) → list_all (is_port prefix) ms ≡ true → slice_get ms k ≡ Some m →
+      StandsAt root (cells_of_members ms) k m
   ports-stand [] k m all is = cc
   ports-stand (p ∷ ms) zero m all is =
       let here = port-cell known prefix p (and-left (is_port prefix p) _ all) in
-      let same : p ≡ m = some_of p m is in
-      (here.0, (ap (λ (q : CMember). q.ty) (sym same) ∙ here.1.0, ap (λ l. slice_get l 0) (one-more p ms _ here.1.1) ∙ ap (λ q. Some (record { location = port root q; kind = here.0 })) same))
+      let same : p ≡ m = some_of p m is in (
+        here.0,
+        (
+          ap (λ (q : CMember). q.ty) (sym same) ∙ here.1.0,
+          ap (λ l. slice_get l 0) (one-more p ms _ here.1.1)
+              ∙ ap (λ q. Some (record { location = port root q; kind = here.0 })) same,
+        ),
+      )
   ports-stand (p ∷ ms) (suc k) m all is =
       let here = port-cell known prefix p (and-left (is_port prefix p) _ all) in
       let later = ports-stand ms k m (and-right (is_port prefix p) _ all) is in
       (later.0, (later.1.0, ap (λ l. slice_get l (suc k)) (one-more p ms _ here.1.1) ∙ later.1.1))
 
-  behind-pad : (ms : List CMember) (k : ℕ) (m : CMember) → are_ports prefix ms ≡ true → slice_get (drop 1 ms) k ≡ Some m → StandsAt root (cells_of_members ms) (suc k) m
+  behind-pad : (ms : List CMember) (k : ℕ) (m : CMember) → are_ports prefix ms ≡ true → slice_get (drop 1 ms) k ≡ Some m →
+      StandsAt root (cells_of_members ms) (suc k) m
   behind-pad [] k m all is = cc
   behind-pad (p ∷ ms) k m all is =
       let here = pad-cell known p (and-left (is_pad p) _ all) in
@@ -192,22 +232,26 @@ module _ (root : Root) (known : Table (List Inner)) (prefix : Text) where
 abbrev Over : Option (List Inner) → Option (List CMember) → Type 0
 Over cells members = (before : Table (List Inner)) × (cells ≡ option_map (flat_map (inner_of_member before)) members)
 
-over-either : (b : Bool) (known : Table (List Inner)) (ms : List CMember) (cells : Option (List Inner)) (members : Option (List CMember)) → Over cells members →
+over-either : (b : Bool) (known : Table (List Inner)) (ms : List CMember) (cells : Option (List Inner))
+    (members : Option (List CMember)) → Over cells members →
     Over (if b then Some (flat_map (inner_of_member known) ms) else cells) (if b then Some ms else members)
 over-either true known ms cells members later = (known, refl)
 over-either false known ms cells members later = later
 
-by-members : (name : Text) (known : Table (List Inner)) (list : List CStruct) → Over (found name (inner_after known list)) (found name (map (λ s. (s.name, s.members)) list))
+by-members : (name : Text) (known : Table (List Inner)) (list : List CStruct) →
+    Over (found name (inner_after known list)) (found name (map (λ s. (s.name, s.members)) list))
 by-members name known [] = (known, refl)
 by-members name known (s ∷ rest) =
     over-either (bytes_eq s.name name) known s.members (found name (inner_after (with_entry known s.name (flat_map (inner_of_member known) s.members)) rest))
     (found name (map (λ t. (t.name, t.members)) rest)) (by-members name (with_entry known s.name (flat_map (inner_of_member known) s.members)) rest)
 
-object-stands : (root : Root) (name prefix : Text) (structs : List CStruct) → Ported prefix (found name (map (λ s. (s.name, s.members)) structs)) → (k : ℕ) (m : CMember) →
+object-stands : (root : Root) (name prefix : Text) (structs : List CStruct) → Ported prefix (found name (map (λ s. (s.name, s.members)) structs)) →
+    (k : ℕ) (m : CMember) →
     slice_get (drop 1 (members_of name structs)) k ≡ Some m → StandsAt root (cells_at root (inner_of structs name)) (suc k) m
 object-stands root name prefix structs fit k m is =
     let laid = by-members name no_entries structs in
-    subst (λ o. StandsAt root (cells_at root (unwrap_or o [])) (suc k) m) (sym laid.1) (chosen laid.0 (found name (map (λ s. (s.name, s.members)) structs)) fit is)
+    subst (λ o. StandsAt root (cells_at root (unwrap_or o [])) (suc k) m) (sym laid.1)
+    (chosen laid.0 (found name (map (λ s. (s.name, s.members)) structs)) fit is)
   where
     chosen : (before : Table (List Inner)) (o : Option (List CMember)) → Ported prefix o → slice_get (drop 1 (unwrap_or o [])) k ≡ Some m →
         StandsAt root (cells_at root (unwrap_or (option_map (flat_map (inner_of_member before)) o) [])) (suc k) m
@@ -216,7 +260,8 @@ object-stands root name prefix structs fit k m is =
 
 get-behind : {A : Type 0} (xs ys : List A) (k : ℕ) → slice_get (xs ++ ys) (length xs + k) ≡ slice_get ys k
 get-behind [] ys k = let same : 0 + k ≡ k = omega arith in ap (slice_get ys) same
-get-behind (x ∷ xs) ys k = let same : suc (length xs) + k ≡ suc (length xs + k) = omega arith in ap (slice_get (x ∷ (xs ++ ys))) same ∙ get-behind xs ys k
+get-behind (x ∷ xs) ys k = let same : suc (length xs) + k ≡ suc (length xs + k) = omega arith in
+    ap (slice_get (x ∷ (xs ++ ys))) same ∙ get-behind xs ys k
 
 get-front : {A : Type 0} (xs ys : List A) (k : ℕ) (a : A) → slice_get xs k ≡ Some a → slice_get (xs ++ ys) k ≡ Some a
 get-front [] ys k a is = cc
@@ -249,7 +294,8 @@ module _ (file : Parts) (formed : WellFormed file) where
   inputs-stand : StandFrom file (inputs_start file.structs) input_object (codes "bl_in")
   unfolding cells_of
   inputs-stand k m is =
-      let here = object-stands input_object (codes "bl_in") (codes "i_") file.structs (ported (codes "bl_in") (codes "i_") input-fits file.structs (all-fit file formed)) k m is in (
+      let here = object-stands input_object (codes "bl_in") (codes "i_") file.structs
+      (ported (codes "bl_in") (codes "i_") input-fits file.structs (all-fit file formed)) k m is in (
         here.0,
         (
           here.1.0,
@@ -261,7 +307,8 @@ module _ (file : Parts) (formed : WellFormed file) where
   outputs-stand : StandFrom file (outputs_start file.structs) output_object (codes "bl_out")
   unfolding cells_of
   outputs-stand k m is =
-      let here = object-stands output_object (codes "bl_out") (codes "o_") file.structs (ported (codes "bl_out") (codes "o_") output-fits file.structs (all-fit file formed)) k m is in (
+      let here = object-stands output_object (codes "bl_out") (codes "o_") file.structs
+      (ported (codes "bl_out") (codes "o_") output-fits file.structs (all-fit file formed)) k m is in (
         here.0,
         (
           here.1.0,

@@ -1,5 +1,28 @@
 -- Parts of a list that grows.
-use Rattle.std.proofs.Common.{◌≡◌, ℕ, suc, ◌+◌, ◌≤◌, Bool, true, false, List, ◌++◌, length, take, drop, Option, Some, None, refl, ap, sym, subst, ◌∙◌, arith, length-append}
+use Rattle.std.proofs.Common.{
+  ◌≡◌,
+  ℕ,
+  suc,
+  ◌+◌,
+  ◌≤◌,
+  Bool,
+  true,
+  false,
+  List,
+  ◌++◌,
+  length,
+  take,
+  drop,
+  Option,
+  Some,
+  None,
+  refl,
+  ap,
+  sym,
+  subst,
+  ◌∙◌,
+}
+use Rattle.std.proofs.Common.{arith, length-append}
 use Rattle.std.specs.Prelude.{bytes_eq, if◌then◌else◌}
 use Rattle.std.specs.Option.{option_or}
 use Rattle.std.proofs.lemmas.Slice.Eq.{bytes_eq-Decides}
@@ -38,21 +61,28 @@ stands-last kinds more span start len = record {
   here = ap (take span.len) (drop_at kinds more span.start (sym start)) ∙ take_all span.len more (omega (arith, len));
 }
 
-pub laid-next : (structs : List CStruct) (spans new : Table Span) (name : Text) (span : Span) (kinds : List Scalar) → ((asked : Text) → new asked ≡ with_entry spans name span asked) →
+pub laid-next : (structs : List CStruct) (spans new : Table Span) (name : Text) (span : Span) (kinds : List Scalar) →
+    ((asked : Text) → new asked ≡ with_entry spans name span asked) →
     Stands kinds span (kinds_named structs name) → Laid structs spans kinds → Laid structs new kinds
 laid-next structs spans new name span kinds add here h = record { each = λ asked found is. chosen asked found (spans asked) refl (sym (add asked) ∙ is) }
   where
-    fresh : (asked : Text) (found : Span) (b : Bool) → bytes_eq name asked ≡ b → (if b then Some span else None) ≡ Some found → Stands kinds found (kinds_named structs asked)
+    fresh : (asked : Text) (found : Span) (b : Bool) → bytes_eq name asked ≡ b → (if b then Some span else None) ≡ Some found →
+        Stands kinds found (kinds_named structs asked)
     fresh asked found true same is =
-        subst (λ s. Stands kinds s (kinds_named structs asked)) (some_of span found is) (subst (λ n. Stands kinds span (kinds_named structs n)) ((bytes_eq-Decides name asked).0 same) here)
+        subst (λ s. Stands kinds s (kinds_named structs asked)) (some_of span found is)
+        (subst (λ n. Stands kinds span (kinds_named structs n)) ((bytes_eq-Decides name asked).0 same) here)
     fresh asked found false same is = cc
 
-    chosen : (asked : Text) (found : Span) (o : Option Span) → spans asked ≡ o → option_or o (if bytes_eq name asked then Some span else None) ≡ Some found → Stands kinds found (kinds_named structs asked)
+    chosen : (asked : Text) (found : Span) (o : Option Span) → spans asked ≡ o →
+        option_or o (if bytes_eq name asked then Some span else None) ≡ Some found →
+        Stands kinds found (kinds_named structs asked)
     chosen asked found (Some old) there is = subst (λ s. Stands kinds s (kinds_named structs asked)) (some_of old found is) (h.each asked old there)
     chosen asked found None there is = fresh asked found (bytes_eq name asked) refl is
 
 -- one more time
-pub times-next : (old now new : List Scalar) (span : Span) (k : ℕ) → span.start + span.len ≤ length old → now ≡ old ++ repeated k (at_span span old) → new ≡ now ++ at_span span now →
+pub times-next : (old now new : List Scalar) (span : Span) (k : ℕ) → span.start + span.len ≤ length old →
+    now ≡ old ++ repeated k (at_span span old) →
+    new ≡ now ++ at_span span now →
     new ≡ old ++ repeated (k + 1) (at_span span old)
 times-next old now new span k within so_far told =
     let part = at_span span old in

@@ -2,14 +2,14 @@
 
 ghost use Rattle.std.specs.Prelude.{◌≡◌, ◌++◌, ◌<◌, IfOk, length, List, OnOk, Some, take};
 ghost use Rattle.bl_tree.specs.declared.c.CFunc.{CFunc};
-ghost use Rattle.bl_cmeaning.specs.Maps.{text_at};
+ghost use Rattle.bl_cmeaning.specs.inner.Maps.{text_at};
 ghost use Rattle.bl_cmeaning.specs.Parts.{parts_from};
 ghost use Rattle.bl_cinterface.specs.Layout.{Laid, kinds_named, kinds_of, kinds_of_member, kinds_of_members, kinds_of_type, placed};
 ghost use Rattle.bl_cinterface.specs.Ports.{inputs_start, outputs_start};
 
-use crate::names::{add, find};
 use crate::places::Places;
 use crate::repeat::{Span, push, push_part, push_times};
+use bl_cmeaning::maps::{add, find};
 use bl_tree::c::{CMember, CStruct, CType};
 use bl_tree::{NoMemory, Scalar};
 use std::alloc::Global;

@@ -1,10 +1,11 @@
-//! What a file of the C subset tells before it runs: its inputs and outputs, and the types of its cells
-//! (docs/C_SUBSET.md, "Meaning").
+//! What a file of the C subset tells before it runs. `inputs` and `outputs` are exactly the columns of a well-formed
+//! file, and `kinds` and `lay_out` the types of the cells of its three objects, in order (`Cells.antt` of
+//! `bl_cmeaning`: `inputs_of`, `outputs_of`, `cells_of`); want of memory aside. As a law, the inputs and the outputs
+//! stand one by one in these cells (`specs/Ports.antt`, `PortsStand`).
 #![tactic(auto)]
 
 pub mod laws;
 mod layout;
-mod names;
 mod places;
 mod ports;
 mod repeat;

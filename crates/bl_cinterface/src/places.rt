@@ -1,8 +1,10 @@
+//! Structs by name.
+
 ghost use Rattle.std.specs.Prelude.{◌≡◌, ℕ, List, IfOk};
-ghost use Rattle.bl_cmeaning.specs.Maps.{text_at};
+ghost use Rattle.bl_cmeaning.specs.inner.Maps.{text_at};
 ghost use Rattle.bl_cinterface.specs.Layout.{placed, placed_before};
 
-use crate::names::{add, find};
+use bl_cmeaning::maps::{add, find};
 use bl_tree::NoMemory;
 use bl_tree::c::CStruct;
 use std::alloc::Global;

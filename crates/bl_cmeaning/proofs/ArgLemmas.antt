@@ -1,5 +1,28 @@
 -- Arguments against parameters, one by one.
-use Rattle.std.proofs.Common.{◌≡◌, ℕ, zero, suc, ◌+◌, ◌<◌, ◌≤◌, Bool, true, false, ◌&&◌, ◌||◌, List, [], ◌∷◌, map, length, get_or, drop, Option, Some, None, refl, ap, sym, ◌∙◌, add-one, arith}
+use Rattle.std.proofs.Common.{
+  ◌≡◌,
+  ℕ,
+  zero,
+  suc,
+  ◌+◌,
+  ◌<◌,
+  ◌≤◌,
+  Bool,
+  true,
+  false,
+  ◌&&◌,
+  ◌||◌,
+  List,
+  [],
+  ◌∷◌,
+  map,
+  length,
+  get_or,
+  drop,
+  Option,
+  Some,
+}
+use Rattle.std.proofs.Common.{None, refl, ap, sym, ◌∙◌, add-one, arith}
 use Rattle.std.specs.Prelude.{slice_get, nat_le}
 use Rattle.std.proofs.lemmas.Grind.{common_steps}
 use Rattle.std.proofs.Math.Seq.{drop-cons}
@@ -10,7 +33,7 @@ use Rattle.bl_tree.specs.declared.c.CType.{CType}
 use Rattle.bl_tree.specs.Reduce.{any_of, joined}
 use Rattle.bl_cmeaning.proofs.FirstLemmas.{earlier_of-assoc, first_place-append}
 use Rattle.bl_cmeaning.specs.Faults.{Context, Judged, Steps, judge_steps, earlier_of, first_place, Variable, Signature, JudgedArg, fit_each, fits_arg, fit_args}
-use Rattle.bl_cmeaning.specs.Checked.{is_handed, judged_args, fit_from, fits_nth, fits_param_at, wants_up_to}
+use Rattle.bl_cmeaning.specs.inner.Checked.{is_handed, judged_args, fit_from, fits_nth, fits_param_at, wants_up_to}
 
 each-step : (widens : Bool) (params : List Variable) (k : ℕ) (a : JudgedArg) (rest : List JudgedArg) →
     fit_each widens (drop k params) (a ∷ rest) ≡ (fits_param_at widens (slice_get params k) a.address a.ty && fit_each widens (drop (suc k) params) rest)
@@ -71,7 +94,8 @@ first-next a rest all first x is h =
     ∙ ap (λ l. earlier_of first (first_place (joined (map (λ b. b.faults) l)))) (sym is) ∙ h
 
 -- after the last argument
-pub fit-done : (signature : Option Signature) (args : List CArg) (k : ℕ) (context : Context) (at : Place) (fit x : Bool) → length args ≤ k → k ≤ length args →
+pub fit-done : (signature : Option Signature) (args : List CArg) (k : ℕ) (context : Context) (at : Place) (fit x : Bool) →
+    length args ≤ k → k ≤ length args →
     (fit && fit_from signature k (judged_args (drop k args) context at)) ≡ x → (fit && wants_up_to signature (length args)) ≡ x
 fit-done signature args k context at fit x low high h =
     let same : length args ≡ k = omega arith in
@@ -81,12 +105,14 @@ fit-done signature args k context at fit x low high h =
 
 -- ---- one more step of a place
 
-pub type-next : (all rest : List Steps) (step : Steps) (context : Context) (at : Place) (ty next x : Option CType) → all ≡ step ∷ rest → next ≡ (step context at ty).ty →
+pub type-next : (all rest : List Steps) (step : Steps) (context : Context) (at : Place) (ty next x : Option CType) → all ≡ step ∷ rest →
+    next ≡ (step context at ty).ty →
     (judge_steps all context at ty).ty ≡ x → (judge_steps rest context at next).ty ≡ x
 type-next all rest step context at ty next x is to h =
     ap (λ t. (judge_steps rest context at t).ty) to ∙ ap (λ l. (judge_steps l context at ty).ty) (sym is) ∙ h
 
-pub place-next : (all rest : List Steps) (step : Steps) (context : Context) (at : Place) (ty next : Option CType) (first x : Option Place) → all ≡ step ∷ rest → next ≡ (step context at ty).ty →
+pub place-next : (all rest : List Steps) (step : Steps) (context : Context) (at : Place) (ty next : Option CType) (first x : Option Place) →
+    all ≡ step ∷ rest → next ≡ (step context at ty).ty →
     earlier_of first (first_place (judge_steps all context at ty).faults) ≡ x →
     earlier_of (earlier_of first (first_place (step context at ty).faults)) (first_place (judge_steps rest context at next).faults) ≡ x
 place-next all rest step context at ty next first x is to h =

@@ -1,71 +1,75 @@
 -- No statement, function or tick executes more statements than its cost.
-use Rattle.std.proofs.Common.{◌≡◌, ℕ, zero, suc, ◌+◌, ◌*◌, ◌≤◌, ℤ, pos, Bool, true, false, max, List, [], ◌∷◌, ◌++◌, map, Option, Some, None, refl, sym, subst, ap, ◌∙◌, arith}
+use Rattle.std.proofs.Common.{
+  ◌≡◌,
+  ℕ,
+  zero,
+  suc,
+  ◌+◌,
+  ◌*◌,
+  ◌≤◌,
+  ℤ,
+  pos,
+  Bool,
+  true,
+  false,
+  max,
+  List,
+  [],
+  ◌∷◌,
+  ◌++◌,
+  map,
+  Option,
+  Some,
+  None,
+  refl,
+}
+use Rattle.std.proofs.Common.{subst, ◌∙◌, arith}
 use Rattle.std.specs.Prelude.{All, if◌then◌else◌, option_map, unwrap_or, is_none, bytes_eq, codes}
 use Rattle.std.specs.Option.{option_or}
 use Rattle.std.proofs.lemmas.List.Elements.{All-head, All-tail}
 use Rattle.bl_tree.specs.declared.text.Text.{Text}
-use Rattle.bl_tree.specs.declared.c.CArg.{CArg, fold-CArg, fold-roll-CArg}
-use Rattle.bl_tree.specs.declared.c.CCall.{CCall, fold-CCall, fold-roll-CCall}
-use Rattle.bl_tree.specs.declared.c.CExpr.{CExpr, fold-CExpr, fold-roll-CExpr}
-use Rattle.bl_tree.specs.declared.c.CExprKind.{CExprKind, fold-CExprKind, fold-roll-CExprKind}
-use Rattle.bl_tree.specs.declared.c.CIndex.{CIndex, fold-CIndex, fold-roll-CIndex}
-use Rattle.bl_tree.specs.declared.c.CPlace.{CPlace, fold-CPlace, fold-roll-CPlace}
-use Rattle.bl_tree.specs.declared.c.CStep.{CStep, fold-CStep, fold-roll-CStep, roll-CStep}
+use Rattle.bl_tree.specs.declared.c.CArg.{CArg, fold-roll-CArg}
+use Rattle.bl_tree.specs.declared.c.CCall.{CCall, fold-roll-CCall}
+use Rattle.bl_tree.specs.declared.c.CExpr.{CExpr, fold-roll-CExpr}
+use Rattle.bl_tree.specs.declared.c.CExprKind.{CExprKind, fold-roll-CExprKind}
+use Rattle.bl_tree.specs.declared.c.CIndex.{CIndex, fold-roll-CIndex}
+use Rattle.bl_tree.specs.declared.c.CPlace.{CPlace, fold-roll-CPlace}
+use Rattle.bl_tree.specs.declared.c.CStep.{CStep, fold-roll-CStep, roll-CStep}
 use Rattle.bl_tree.specs.declared.c.CStmt.{CStmt, fold-roll-CStmt}
 use Rattle.bl_tree.specs.declared.c.CStmtKind.{fold-roll-CStmtKind}
 use Rattle.bl_tree.specs.declared.c.CStmtKind.TheOpen.{CStmtKind-F}
 use Rattle.bl_tree.specs.declared.c.CFunc.{CFunc}
 use Rattle.bl_tree.specs.declared.place.Place.{Place}
 use Rattle.bl_tree.specs.Reduce.{joined, total}
-use Rattle.bl_tree.proofs.ReduceLemmas.{total-append}
 use Rattle.bl_tree.specs.declared.scalar.Op.{Op}
 use Rattle.bl_tree.specs.declared.scalar.Op.TheVariants.{And, Or, Not}
 use Rattle.bl_tree.specs.declared.scalar.Scalar.TheVariants.{Bool as OfBool}
 use Rattle.bl_tree.specs.Numbers.{checked_of, checked_one_of, is_one}
-use Rattle.bl_cmeaning.specs.Memory.{Memory, CValue, Location, Part, member, number_in, scalar, value_at, set_at, zeros, without_frame}
+use Rattle.bl_cmeaning.specs.Memory.{Memory, CValue, member, number_in, scalar, value_at, set_at, zeros, without_frame}
 use Rattle.bl_cmeaning.specs.Tables.{found, Table, no_entries, table_of, with_entry, entry_or}
-use Rattle.bl_cmeaning.specs.declared.builtin.Builtin.{Builtin}
+use Rattle.bl_ctext.specs.declared.builtin.Builtin.{Builtin}
 use Rattle.bl_cmeaning.specs.Builtin.{builtin_of, index_within}
-use Rattle.bl_cmeaning.specs.Meaning.{Counted, given, going_on, next, Passed, by_value, by_address, Called, Meaning, further, start_of, way_of, element_at, Scope, applied, called, called_as, called_after, Evaluates, each_of, at_once, two_values, result_of, arg_step, kind_step, call_step, expr_step, index_step, place_step, step_step, value_c, location_c, call_c, Outcome, End, goes_on, breaks, returns, traps, Runs, after, following, following_end, block_of, block_or_none, ended_by, turn_end, turn_or_none, once_more, turns, turn_limit, runs_c, block_c, function_c, meanings_after, meanings, going, returning, executed, pointers_of, with_params}
-use Rattle.bl_cmeaning.specs.Calls.{Names, arg_calls, kind_calls, call_calls, expr_calls, index_calls, place_calls, step_calls, calls_in, calls_in_place, calls_in_call}
-use Rattle.bl_cmeaning.specs.Cost.{Costs, cost_of_calls, block_cost, other_cost, cost_of_stmt, cost_of_function, costs_after, costs as all_costs, bound}
+use Rattle.bl_cmeaning.specs.Meaning.{Counted, given, going_on, next, Passed, by_value, by_address, Meaning, further, start_of, way_of, element_at}
+use Rattle.bl_cmeaning.specs.Meaning.{Scope, applied, called, called_as, called_after, Evaluates, each_of, at_once, two_values, value_c, location_c}
+use Rattle.bl_cmeaning.specs.Meaning.{call_c, Outcome, End, goes_on, breaks, returns, traps, Runs, after, following_end, block_of, block_or_none}
+use Rattle.bl_cmeaning.specs.Meaning.{ended_by, turn_end, turn_or_none, turns, turn_limit, runs_c, block_c, function_c, meanings_after, meanings}
+use Rattle.bl_cmeaning.specs.Meaning.{going, returning, executed, pointers_of, with_params}
+use Rattle.bl_cmeaning.specs.Calls.{Names, calls_in, calls_in_arg, calls_in_place, calls_in_call, calls_in_step}
+use Rattle.bl_cmeaning.proofs.Folds.{arg_c, calls_in_index, calls_in_kind, index_c, kind_c, step_c}
+use Rattle.bl_cmeaning.specs.Cost.{Costs, cost_of_calls, block_cost, cost_of_stmt, cost_of_function, costs_after, costs as all_costs, bound}
 use Rattle.bl_cmeaning.specs.Trace.{entered, tick_c}
 use Rattle.bl_cmeaning.specs.Parts.{Parts}
 use Rattle.bl_cmeaning.proofs.Induction.{Optional, ExprCases, induct_expr, induct_place, induct_call, StmtCases, induct_stmt, stmt}
 
--- ---- the seven folds of each kind
-
-abbrev arg_c : CArg → Evaluates Passed
-arg_c = fold-CArg (Evaluates Passed) (Evaluates CValue) (Scope → Memory → Called) (Evaluates CValue) (Evaluates (List Part)) (Evaluates Location) (Evaluates (List Part)) arg_step kind_step call_step expr_step index_step place_step step_step
-
-abbrev kind_c : CExprKind → Evaluates CValue
-kind_c = fold-CExprKind (Evaluates Passed) (Evaluates CValue) (Scope → Memory → Called) (Evaluates CValue) (Evaluates (List Part)) (Evaluates Location) (Evaluates (List Part)) arg_step kind_step call_step expr_step index_step place_step step_step
-
-abbrev index_c : CIndex → Evaluates (List Part)
-index_c = fold-CIndex (Evaluates Passed) (Evaluates CValue) (Scope → Memory → Called) (Evaluates CValue) (Evaluates (List Part)) (Evaluates Location) (Evaluates (List Part)) arg_step kind_step call_step expr_step index_step place_step step_step
-
-abbrev step_c : CStep → Evaluates (List Part)
-step_c = fold-CStep (Evaluates Passed) (Evaluates CValue) (Scope → Memory → Called) (Evaluates CValue) (Evaluates (List Part)) (Evaluates Location) (Evaluates (List Part)) arg_step kind_step call_step expr_step index_step place_step step_step
-
-abbrev calls_in_arg : CArg → Names
-calls_in_arg = fold-CArg Names Names Names Names Names Names Names arg_calls kind_calls call_calls expr_calls index_calls place_calls step_calls
-
-abbrev calls_in_kind : CExprKind → Names
-calls_in_kind = fold-CExprKind Names Names Names Names Names Names Names arg_calls kind_calls call_calls expr_calls index_calls place_calls step_calls
-
-abbrev calls_in_index : CIndex → Names
-calls_in_index = fold-CIndex Names Names Names Names Names Names Names arg_calls kind_calls call_calls expr_calls index_calls place_calls step_calls
-
-abbrev calls_in_step : CStep → Names
-calls_in_step = fold-CStep Names Names Names Names Names Names Names arg_calls kind_calls call_calls expr_calls index_calls place_calls step_calls
-
 -- ---- counts of what comes one after the other
 
-going_on-le : {A B : Type 0} (n k : ℕ) (answer : Option A) (rest : A → Counted B) → ((a : A) → (rest a).count ≤ k) → (going_on n answer rest).count ≤ n + k
+going_on-le : {A B : Type 0} (n k : ℕ) (answer : Option A) (rest : A → Counted B) → ((a : A) → (rest a).count ≤ k) →
+    (going_on n answer rest).count ≤ n + k
 going_on-le n k None rest after = omega arith
 going_on-le n k (Some a) rest after = let h : (rest a).count ≤ k = after a in omega arith
 
-pub next-le : {A B : Type 0} (first : Counted A) (rest : A → Counted B) (n k : ℕ) → first.count ≤ n → ((a : A) → (rest a).count ≤ k) → (next first rest).count ≤ n + k
+pub next-le : {A B : Type 0} (first : Counted A) (rest : A → Counted B) (n k : ℕ) → first.count ≤ n → ((a : A) → (rest a).count ≤ k) →
+    (next first rest).count ≤ n + k
 next-le first rest n k before after =
     let h : (next first rest).count ≤ first.count + k = going_on-le first.count k first.answer rest after in omega arith
 
@@ -77,9 +81,11 @@ cost-append costs (x ∷ xs) ys = omega (arith, cost-append costs xs ys)
 -- each of these functions has a cost, and executes at most that
 pub record Covers (known : Table Meaning) (costs : Costs) : Type 0 where
   pub same : (name : Text) → is_none (costs name) ≡ is_none (known name)
-  pub covers : (name : Text) (depth : ℕ) (passed : List Passed) (memory : Memory) → (applied (known name) depth passed memory).count ≤ entry_or 0 costs name
+  pub covers : (name : Text) (depth : ℕ) (passed : List Passed) (memory : Memory) →
+      (applied (known name) depth passed memory).count ≤ entry_or 0 costs name
 
-called_as-le : (known : Table Meaning) (costs : Costs) → Covers known costs → (builtin : Option Builtin) (name : Text) (depth : ℕ) (passed : List Passed) (memory : Memory) →
+called_as-le : (known : Table Meaning) (costs : Costs) → Covers known costs →
+    (builtin : Option Builtin) (name : Text) (depth : ℕ) (passed : List Passed) (memory : Memory) →
     (called_as builtin (known name) depth passed memory).count ≤ entry_or 0 costs name
 called_as-le known costs h (Some b) name depth passed memory = omega arith
 called_as-le known costs h None name depth passed memory = h.covers name depth passed memory
@@ -88,7 +94,8 @@ called_after-le : (costs : Costs) (scope : Scope) → Covers scope.known costs �
     (called_after scope memory name n passed).count ≤ n + entry_or 0 costs name
 called_after-le costs scope h memory name n None = omega arith
 called_after-le costs scope h memory name n (Some passed) =
-    let k : (called scope name passed memory).count ≤ entry_or 0 costs name = called_as-le scope.known costs h (builtin_of name) name (scope.depth + 1) passed memory in omega arith
+    let k : (called scope name passed memory).count ≤ entry_or 0 costs name =
+    called_as-le scope.known costs h (builtin_of name) name (scope.depth + 1) passed memory in omega arith
 
 module _ (costs : Costs) (scope : Scope) (covers : Covers scope.known costs) (memory : Memory) where
   abbrev Least : {A : Type 0} → Evaluates A → Names → Type 0
@@ -121,20 +128,24 @@ module _ (costs : Costs) (scope : Scope) (covers : Covers scope.known costs) (me
   each_of-le f g [] h = omega arith
   each_of-le f g (x ∷ xs) h =
       let first : (f x scope memory).count ≤ cost_of_calls costs (g x) = All-head (λ y. Least (f y) (g y)) x xs h in
-      let rest : (each_of (map f xs) scope memory).count ≤ cost_of_calls costs (joined (map g xs)) = each_of-le f g xs (All-tail (λ y. Least (f y) (g y)) x xs h) in
+      let rest : (each_of (map f xs) scope memory).count ≤ cost_of_calls costs (joined (map g xs)) =
+      each_of-le f g xs (All-tail (λ y. Least (f y) (g y)) x xs h) in
       let both : (each_of (map f (x ∷ xs)) scope memory).count ≤ cost_of_calls costs (g x) + (cost_of_calls costs (joined (map g xs)) + 0) =
       next-le _ _ _ _ first (λ a. next-le _ _ _ _ rest (λ others. omega arith)) in
       omega (arith, cost-append costs (g x) (joined (map g xs)))
 
-  choice-le : (b : Bool) (f g : Evaluates CValue) (n : ℕ) → (f scope memory).count ≤ n → (g scope memory).count ≤ n → ((if b then f else g) scope memory).count ≤ n
+  choice-le : (b : Bool) (f g : Evaluates CValue) (n : ℕ) → (f scope memory).count ≤ n → (g scope memory).count ≤ n →
+      ((if b then f else g) scope memory).count ≤ n
   choice-le true f g n h k = h
   choice-le false f g n h k = k
 
-  two_values-le : (op : Op) (left right : Evaluates CValue) (n k : ℕ) → (left scope memory).count ≤ n → (right scope memory).count ≤ k → (two_values op left right scope memory).count ≤ n + k
+  two_values-le : (op : Op) (left right : Evaluates CValue) (n k : ℕ) → (left scope memory).count ≤ n → (right scope memory).count ≤ k →
+      (two_values op left right scope memory).count ≤ n + k
   two_values-le And left right n k h r = next-le _ _ n k h (λ a. choice-le (is_one (number_in a)) right (at_once (pos 0)) k r (omega arith))
   two_values-le Or left right n k h r = next-le _ _ n k h (λ a. choice-le (is_one (number_in a)) (at_once (pos 1)) right k (omega arith) r)
   two_values-le op left right n k h r =
-      let all : (next (left scope memory) (λ a. next (right scope memory) (λ b. given (option_map scalar (checked_of op OfBool (number_in a) (number_in b)))))).count ≤ n + (k + 0) =
+      let all : (next (left scope memory)
+      (λ a. next (right scope memory) (λ b. given (option_map scalar (checked_of op OfBool (number_in a) (number_in b)))))).count ≤ n + (k + 0) =
       next-le _ _ n (k + 0) h (λ a. next-le _ _ k 0 r (λ b. omega arith)) in
       omega arith
 
@@ -148,34 +159,45 @@ module _ (costs : Costs) (scope : Scope) (covers : Covers scope.known costs) (me
   expr_cases : ExprCases OfArg OfKind OfCall OfExpr OfIndex OfPlace OfStep
   expr_cases = record {
     value = λ e h.
-        let all : (next (value_c e scope memory) (λ v. given (Some (by_value v)))).count ≤ cost_of_calls costs (calls_in e) + 0 = next-le _ _ _ 0 h (λ v. omega arith) in
+        let all : (next (value_c e scope memory) (λ v. given (Some (by_value v)))).count ≤ cost_of_calls costs (calls_in e) + 0 =
+        next-le _ _ _ 0 h (λ v. omega arith) in
         rw (fold-roll-CArg, fold-roll-CArg) (omega arith);
     address = λ p h.
-        let all : (next (location_c p scope memory) (λ l. given (Some (by_address l)))).count ≤ cost_of_calls costs (calls_in_place p) + 0 = next-le _ _ _ 0 h (λ l. omega arith) in
+        let all : (next (location_c p scope memory) (λ l. given (Some (by_address l)))).count ≤ cost_of_calls costs (calls_in_place p) + 0 =
+        next-le _ _ _ 0 h (λ l. omega arith) in
         rw (fold-roll-CArg, fold-roll-CArg) (omega arith);
     literal = λ t n. rw (fold-roll-CExprKind, fold-roll-CExprKind) (omega arith);
     read = λ p h.
-        let all : (next (location_c p scope memory) (λ l. given (Some (value_at memory l)))).count ≤ cost_of_calls costs (calls_in_place p) + 0 = next-le _ _ _ 0 h (λ l. omega arith) in
+        let all : (next (location_c p scope memory) (λ l. given (Some (value_at memory l)))).count ≤ cost_of_calls costs (calls_in_place p) + 0 =
+        next-le _ _ _ 0 h (λ l. omega arith) in
         rw (fold-roll-CExprKind, fold-roll-CExprKind) (omega arith);
     call = λ c h. rw (fold-roll-CExprKind, fold-roll-CExprKind) h;
     negation = λ e h.
-        let all : (next (value_c e scope memory) (λ a. given (option_map scalar (checked_one_of Not OfBool (number_in a))))).count ≤ cost_of_calls costs (calls_in e) + 0 = next-le _ _ _ 0 h (λ a. omega arith) in
+        let all : (next (value_c e scope memory) (λ a. given (option_map scalar (checked_one_of Not OfBool (number_in a))))).count ≤ cost_of_calls costs
+        (calls_in e) + 0 = next-le _ _ _ 0 h (λ a. omega arith) in
         rw (fold-roll-CExprKind, fold-roll-CExprKind) (omega arith);
     two = λ op a b h k.
-        let all : (two_values op (value_c a) (value_c b) scope memory).count ≤ cost_of_calls costs (calls_in a) + cost_of_calls costs (calls_in b) = two_values-le op _ _ _ _ h k in
+        let all : (two_values op (value_c a) (value_c b) scope memory).count ≤ cost_of_calls costs (calls_in a) + cost_of_calls costs (calls_in b) =
+        two_values-le op _ _ _ _ h k in
         rw (fold-roll-CExprKind, fold-roll-CExprKind) (omega (arith, cost-append costs (calls_in a) (calls_in b)));
     calling = λ name args h.
-        let passed : (each_of (map arg_c args) scope memory).count ≤ cost_of_calls costs (joined (map calls_in_arg args)) = each_of-le arg_c calls_in_arg args h in
-        let all : (called_after scope memory name (each_of (map arg_c args) scope memory).count (each_of (map arg_c args) scope memory).answer).count ≤ (each_of (map arg_c args) scope memory).count + entry_or 0 costs name =
+        let passed : (each_of (map arg_c args) scope memory).count ≤ cost_of_calls costs (joined (map calls_in_arg args)) =
+        each_of-le arg_c calls_in_arg args h in
+        let all : (called_after scope memory name (each_of (map arg_c args) scope memory).count
+        (each_of (map arg_c args) scope memory).answer).count ≤ (each_of (map arg_c args) scope memory).count + entry_or 0 costs name =
         called_after-le costs scope covers memory name _ _ in
         rw (fold-roll-CCall, fold-roll-CCall) (omega arith);
     expr = λ place what h. rw (fold-roll-CExpr, fold-roll-CExpr) h;
     index = λ signed at length h.
-        let all : (next (value_c at scope memory) (λ i. given (element_at (index_within (number_in i) (pos length))))).count ≤ cost_of_calls costs (calls_in at) + 0 = next-le _ _ _ 0 h (λ i. omega arith) in
+        let all : (next (value_c at scope memory) (λ i. given (element_at (index_within (number_in i) (pos length))))).count ≤ cost_of_calls costs
+        (calls_in at) + 0 = next-le _ _ _ 0 h (λ i. omega arith) in
         rw (fold-roll-CIndex, fold-roll-CIndex) (omega arith);
     place = λ through name steps h.
-        let ways : (each_of (map step_c steps) scope memory).count ≤ cost_of_calls costs (joined (map calls_in_step steps)) = each_of-le step_c calls_in_step steps h in
-        let all : (next (each_of (map step_c steps) scope memory) (λ parts. given (Some (further (start_of scope through name) (way_of parts))))).count ≤ cost_of_calls costs (joined (map calls_in_step steps)) + 0 = next-le _ _ _ 0 ways (λ parts. omega arith) in
+        let ways : (each_of (map step_c steps) scope memory).count ≤ cost_of_calls costs (joined (map calls_in_step steps)) =
+        each_of-le step_c calls_in_step steps h in
+        let all : (next (each_of (map step_c steps) scope memory)
+        (λ parts. given (Some (further (start_of scope through name) (way_of parts))))).count ≤ cost_of_calls costs
+        (joined (map calls_in_step steps)) + 0 = next-le _ _ _ 0 ways (λ parts. omega arith) in
         rw (fold-roll-CPlace, fold-roll-CPlace) (omega arith);
     step = of_step;
   }
@@ -194,23 +216,27 @@ module _ (costs : Costs) (scope : Scope) (covers : Covers scope.known costs) (me
 
 -- ---- statements
 
-ended_by-le : {A : Type 0} (memory : Memory) (n k : ℕ) (answer : Option A) (rest : A → Outcome) → ((a : A) → (rest a).count ≤ k) → (ended_by memory n answer rest).count ≤ n + k
+ended_by-le : {A : Type 0} (memory : Memory) (n k : ℕ) (answer : Option A) (rest : A → Outcome) → ((a : A) → (rest a).count ≤ k) →
+    (ended_by memory n answer rest).count ≤ n + k
 ended_by-le memory n k None rest h = omega arith
 ended_by-le memory n k (Some a) rest h = let r : (rest a).count ≤ k = h a in omega arith
 
-following_end-le : (n k : ℕ) (memory : Memory) (end : End) (rest : Memory → Outcome) → (rest memory).count ≤ k → (following_end n memory end rest).count ≤ n + k
+following_end-le : (n k : ℕ) (memory : Memory) (end : End) (rest : Memory → Outcome) → (rest memory).count ≤ k →
+    (following_end n memory end rest).count ≤ n + k
 following_end-le n k memory goes_on rest h = omega arith
 following_end-le n k memory breaks rest h = omega arith
 following_end-le n k memory (returns r) rest h = omega arith
 following_end-le n k memory traps rest h = omega arith
 
-turn_end-le : (n k : ℕ) (memory : Memory) (end : End) (again : Memory → Outcome) → (again memory).count ≤ k → (turn_end n memory end again).count ≤ n + k
+turn_end-le : (n k : ℕ) (memory : Memory) (end : End) (again : Memory → Outcome) → (again memory).count ≤ k →
+    (turn_end n memory end again).count ≤ n + k
 turn_end-le n k memory goes_on again h = omega arith
 turn_end-le n k memory breaks again h = omega arith
 turn_end-le n k memory (returns r) again h = omega arith
 turn_end-le n k memory traps again h = omega arith
 
-turn_or_none-le : (b : Bool) (memory : Memory) (turn : Memory → Outcome) (k : ℕ) → (turn memory).count ≤ k → (turn_or_none b memory turn).count ≤ 1 + k
+turn_or_none-le : (b : Bool) (memory : Memory) (turn : Memory → Outcome) (k : ℕ) → (turn memory).count ≤ k →
+    (turn_or_none b memory turn).count ≤ 1 + k
 turn_or_none-le true memory turn k h = omega arith
 turn_or_none-le false memory turn k h = omega arith
 
@@ -227,8 +253,10 @@ turns-le zero k b condition body scope hc hb m =
 turns-le (suc n) k b condition body scope hc hb m =
     let c : (condition scope m).count ≤ k = hc m in
     let o : (body scope m).count ≤ b = hb m in
-    let rest : (turns n condition body scope (body scope m).memory).count ≤ (n + 1) * (1 + (k + b)) = turns-le n k b condition body scope hc hb (body scope m).memory in
-    let turn : (turn_end (body scope m).count (body scope m).memory (body scope m).end (turns n condition body scope)).count ≤ (body scope m).count + (n + 1) * (1 + (k + b)) =
+    let rest : (turns n condition body scope (body scope m).memory).count ≤ (n + 1) * (1 + (k + b)) =
+    turns-le n k b condition body scope hc hb (body scope m).memory in
+    let turn : (turn_end (body scope m).count (body scope m).memory (body scope m).end (turns n condition body scope)).count ≤ (body scope
+    m).count + (n + 1) * (1 + (k + b)) =
     turn_end-le _ _ _ _ _ rest in
     let all : (turns (suc n) condition body scope m).count ≤ (condition scope m).count + (1 + ((body scope m).count + (n + 1) * (1 + (k + b)))) =
     ended_by-le m _ _ _ _ (λ v. turn_or_none-le (is_one (number_in v)) m _ _ turn) in
@@ -238,7 +266,8 @@ module _ (costs : Costs) (scope : Scope) (covers : Covers scope.known costs) whe
   abbrev OfStmt : CStmt → Type 0
   OfStmt s = (memory : Memory) → (runs_c s scope memory).count ≤ cost_of_stmt s costs
 
-  block-le : (stmts : List CStmt) → All OfStmt stmts → (memory : Memory) → (block_of (map runs_c stmts) scope memory).count ≤ block_cost (map cost_of_stmt stmts) costs
+  block-le : (stmts : List CStmt) → All OfStmt stmts → (memory : Memory) →
+      (block_of (map runs_c stmts) scope memory).count ≤ block_cost (map cost_of_stmt stmts) costs
   block-le [] h memory = omega arith
   block-le (s ∷ stmts) h memory =
       let first : (runs_c s scope memory).count ≤ cost_of_stmt s costs = All-head OfStmt s stmts h memory in
@@ -248,15 +277,18 @@ module _ (costs : Costs) (scope : Scope) (covers : Covers scope.known costs) whe
       following_end-le _ _ _ _ _ rest in
       omega arith
 
-  choose-le : (b : Bool) (f g : Runs) (n k : ℕ) (memory : Memory) → (f scope memory).count ≤ n → (g scope memory).count ≤ k → ((if b then f else g) scope memory).count ≤ max n k
+  choose-le : (b : Bool) (f g : Runs) (n k : ℕ) (memory : Memory) → (f scope memory).count ≤ n → (g scope memory).count ≤ k →
+      ((if b then f else g) scope memory).count ≤ max n k
   choose-le true f g n k memory h r = omega arith
   choose-le false f g n k memory h r = omega arith
 
-  of_if : (at : Place) (e : CExpr) (block : List CStmt) (other : Option (List CStmt)) → All OfStmt block → Optional (All OfStmt) other → OfStmt (stmt at (CStmtKind-F.If e block other))
+  of_if : (at : Place) (e : CExpr) (block : List CStmt) (other : Option (List CStmt)) → All OfStmt block → Optional (All OfStmt) other →
+      OfStmt (stmt at (CStmtKind-F.If e block other))
   of_if at e block None h r memory =
       let c : (value_c e scope memory).count ≤ cost_of_calls costs (calls_in e) = expr-le costs scope covers memory e in
       let b : (block_of (map runs_c block) scope memory).count ≤ block_cost (map cost_of_stmt block) costs = block-le block h memory in
-      let all : (executed memory (value_c e scope memory) (λ v. (if is_one (number_in v) then block_of (map runs_c block) else block_or_none None) scope memory)).count
+      let all : (executed memory (value_c e scope memory)
+      (λ v. (if is_one (number_in v) then block_of (map runs_c block) else block_or_none None) scope memory)).count
       ≤ (1 + (value_c e scope memory).count) + max (block_cost (map cost_of_stmt block) costs) 0 =
       ended_by-le memory _ _ _ _ (λ v. choose-le (is_one (number_in v)) (block_of (map runs_c block)) (block_or_none None) _ 0 memory b (omega arith)) in
       rw (fold-roll-CStmt, fold-roll-CStmt, fold-roll-CStmtKind, fold-roll-CStmtKind) (omega arith)
@@ -264,9 +296,11 @@ module _ (costs : Costs) (scope : Scope) (covers : Covers scope.known costs) whe
       let c : (value_c e scope memory).count ≤ cost_of_calls costs (calls_in e) = expr-le costs scope covers memory e in
       let b : (block_of (map runs_c block) scope memory).count ≤ block_cost (map cost_of_stmt block) costs = block-le block h memory in
       let o : (block_of (map runs_c other) scope memory).count ≤ block_cost (map cost_of_stmt other) costs = block-le other r memory in
-      let all : (executed memory (value_c e scope memory) (λ v. (if is_one (number_in v) then block_of (map runs_c block) else block_or_none (Some (map runs_c other))) scope memory)).count
+      let all : (executed memory (value_c e scope memory)
+      (λ v. (if is_one (number_in v) then block_of (map runs_c block) else block_or_none (Some (map runs_c other))) scope memory)).count
       ≤ (1 + (value_c e scope memory).count) + max (block_cost (map cost_of_stmt block) costs) (block_cost (map cost_of_stmt other) costs) =
-      ended_by-le memory _ _ _ _ (λ v. choose-le (is_one (number_in v)) (block_of (map runs_c block)) (block_or_none (Some (map runs_c other))) _ _ memory b o) in
+      ended_by-le memory _ _ _ _ (λ v. choose-le (is_one (number_in v)) (block_of (map runs_c block)) (block_or_none (Some (map runs_c other))) _ _ memory b o)
+      in
       rw (fold-roll-CStmt, fold-roll-CStmt, fold-roll-CStmtKind, fold-roll-CStmtKind) (omega arith)
 
   of_return : (at : Place) (e : Option CExpr) → OfStmt (stmt at (CStmtKind-F.Return e))
@@ -282,9 +316,12 @@ module _ (costs : Costs) (scope : Scope) (covers : Covers scope.known costs) whe
     set = λ at p e memory.
         let l : (location_c p scope memory).count ≤ cost_of_calls costs (calls_in_place p) = place-le costs scope covers memory p in
         let c : (value_c e scope memory).count ≤ cost_of_calls costs (calls_in e) = expr-le costs scope covers memory e in
-        let both : (next (location_c p scope memory) (λ q. next (value_c e scope memory) (λ v. given (Some (set_at memory q v))))).count ≤ cost_of_calls costs (calls_in_place p) + (cost_of_calls costs (calls_in e) + 0) =
+        let both : (next (location_c p scope memory) (λ q. next (value_c e scope memory)
+        (λ v. given (Some (set_at memory q v))))).count ≤ cost_of_calls costs
+        (calls_in_place p) + (cost_of_calls costs (calls_in e) + 0) =
         next-le _ _ _ _ l (λ q. next-le _ _ _ 0 c (λ v. omega arith)) in
-        let all : (executed memory (next (location_c p scope memory) (λ q. next (value_c e scope memory) (λ v. given (Some (set_at memory q v))))) going).count
+        let all : (executed memory (next (location_c p scope memory)
+        (λ q. next (value_c e scope memory) (λ v. given (Some (set_at memory q v))))) going).count
         ≤ (1 + (next (location_c p scope memory) (λ q. next (value_c e scope memory) (λ v. given (Some (set_at memory q v))))).count) + 0 =
         ended_by-le memory _ 0 _ _ (λ m. omega arith) in
         rw (fold-roll-CStmt, fold-roll-CStmt, fold-roll-CStmtKind, fold-roll-CStmtKind) (omega arith);
@@ -323,7 +360,8 @@ module _ (costs : Costs) (scope : Scope) (covers : Covers scope.known costs) whe
 
 -- ---- functions
 
-choice_of-le : (asked name : Text) (b : Bool) (old : Option Meaning) (cost : Option ℕ) (f : Meaning) (c : ℕ) (depth : ℕ) (passed : List Passed) (memory : Memory) →
+choice_of-le : (asked name : Text) (b : Bool) (old : Option Meaning) (cost : Option ℕ) (f : Meaning) (c : ℕ) (depth : ℕ) (passed : List Passed)
+    (memory : Memory) →
     (f depth passed memory).count ≤ c → (applied old depth passed memory).count ≤ unwrap_or cost 0 → is_none cost ≡ is_none old →
     (applied (option_or old (if b then Some f else None)) depth passed memory).count ≤ unwrap_or (option_or cost (if b then Some c else None)) 0
 choice_of-le asked name b (Some g) (Some d) f c depth passed memory h r same = r
@@ -342,17 +380,20 @@ choice-same b (Some d) None c f h = cc
 
 -- one more function, with its cost
 covers-entry : (known : Table Meaning) (costs : Costs) → Covers known costs → (name : Text) (f : Meaning) (c : ℕ) →
-    ((depth : ℕ) (passed : List Passed) (memory : Memory) → (f depth passed memory).count ≤ c) → Covers (with_entry known name f) (with_entry costs name c)
+    ((depth : ℕ) (passed : List Passed) (memory : Memory) → (f depth passed memory).count ≤ c) →
+    Covers (with_entry known name f) (with_entry costs name c)
 covers-entry known costs h name f c le = record {
   same = λ asked. choice-same (bytes_eq name asked) (costs asked) (known asked) c f (h.same asked);
   covers = λ asked depth passed memory.
-      choice_of-le asked name (bytes_eq name asked) (known asked) (costs asked) f c depth passed memory (le depth passed memory) (h.covers asked depth passed memory) (h.same asked);
+      choice_of-le asked name (bytes_eq name asked) (known asked) (costs asked) f c depth passed memory (le depth passed memory)
+      (h.covers asked depth passed memory) (h.same asked);
 }
 
 -- the functions of two lists, one by one: the same name, and no more statements than the cost
 abbrev pub Aligned : List (Text × Meaning) → List (Text × ℕ) → Type 0
 Aligned [] [] = Unit {0}
-Aligned (f ∷ known) (c ∷ costs) = (f.0 ≡ c.0) × ((depth : ℕ) (passed : List Passed) (memory : Memory) → (f.1 depth passed memory).count ≤ c.1) × Aligned known costs
+Aligned (f ∷ known) (c ∷ costs) =
+    (f.0 ≡ c.0) × ((depth : ℕ) (passed : List Passed) (memory : Memory) → (f.1 depth passed memory).count ≤ c.1) × Aligned known costs
 Aligned [] (c ∷ costs) = ⊥
 Aligned (f ∷ known) [] = ⊥
 
@@ -363,7 +404,8 @@ applied-le true f c rest n depth passed memory h r = h
 applied-le false f c rest n depth passed memory h r = r
 
 covers_at : (known : List (Text × Meaning)) (costs : List (Text × ℕ)) → Aligned known costs →
-    (name : Text) (depth : ℕ) (passed : List Passed) (memory : Memory) → (applied (found name known) depth passed memory).count ≤ unwrap_or (found name costs) 0
+    (name : Text) (depth : ℕ) (passed : List Passed) (memory : Memory) →
+    (applied (found name known) depth passed memory).count ≤ unwrap_or (found name costs) 0
 covers_at [] [] h name depth passed memory = omega arith
 covers_at (f ∷ known) (c ∷ costs) h name depth passed memory =
     let rest : (applied (found name known) depth passed memory).count ≤ unwrap_or (found name costs) 0 = covers_at known costs h.2 name depth passed memory in
@@ -373,13 +415,15 @@ covers_at [] (c ∷ costs) h name depth passed memory = absurd h
 covers_at (f ∷ known) [] h name depth passed memory = absurd h
 
 -- a function over earlier ones
-pub function-le : (known : Table Meaning) (costs : Costs) → Covers known costs → (function : CFunc) (depth : ℕ) (passed : List Passed) (memory : Memory) →
+pub function-le : (known : Table Meaning) (costs : Costs) → Covers known costs →
+    (function : CFunc) (depth : ℕ) (passed : List Passed) (memory : Memory) →
     (function_c known function depth passed memory).count ≤ cost_of_function costs function
 function-le known costs h function depth passed memory =
     body-le costs (record { known = known; depth = depth; pointers = table_of (pointers_of function.params passed) })
     h function.body (with_params depth function.params passed (without_frame depth memory))
 
-aligned_after : (known : Table Meaning) (costs : Costs) (functions : List CFunc) → Covers known costs → Aligned (meanings_after known functions) (costs_after costs functions)
+aligned_after : (known : Table Meaning) (costs : Costs) (functions : List CFunc) → Covers known costs →
+    Aligned (meanings_after known functions) (costs_after costs functions)
 aligned_after known costs [] h = tt
 aligned_after known costs (f ∷ functions) h = (
   refl,
@@ -392,7 +436,8 @@ nothing-covers : Covers no_entries no_entries
 nothing-covers = record { same = λ name. refl; covers = λ name depth passed memory. omega arith }
 
 -- every call from outside
-pub entered-le : (file : Parts) (name : Text) (passed : List Passed) (memory : Memory) → (entered file name passed memory).count ≤ unwrap_or (found name (all_costs file.funcs)) 0
+pub entered-le : (file : Parts) (name : Text) (passed : List Passed) (memory : Memory) →
+    (entered file name passed memory).count ≤ unwrap_or (found name (all_costs file.funcs)) 0
 unfolding entered
 entered-le file name passed memory =
     covers_at (meanings file.funcs) (all_costs file.funcs) (aligned_after no_entries no_entries file.funcs nothing-covers) name 0 passed memory

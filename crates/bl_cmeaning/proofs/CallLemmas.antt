@@ -1,5 +1,25 @@
 -- The greatest number of called functions.
-use Rattle.std.proofs.Common.{◌≡◌, ℕ, ◌+◌, ◌<◌, List, [], ◌∷◌, ◌++◌, map, max, drop, length, get_or, refl, ap, sym, subst, ◌∙◌, arith}
+use Rattle.std.proofs.Common.{
+  ◌≡◌,
+  ℕ,
+  ◌+◌,
+  ◌<◌,
+  List,
+  [],
+  ◌∷◌,
+  ◌++◌,
+  map,
+  max,
+  drop,
+  length,
+  get_or,
+  refl,
+  ap,
+  sym,
+  subst,
+  ◌∙◌,
+  arith,
+}
 use Rattle.bl_tree.specs.declared.text.Text.{Text}
 use Rattle.bl_tree.specs.Reduce.{joined, greatest}
 use Rattle.bl_cmeaning.specs.Calls.{most}
@@ -13,7 +33,8 @@ most-append t (x ∷ xs) ys = omega (arith, most-append t xs ys)
 pub ruleset mosts = (most-append)
 
 -- one more list of names
-pub most-next : {X : Type 0} (t : Table ℕ) (names : X → List Text) (xs : List X) (k : ℕ) (x : X) (so_far all : ℕ) → k < length xs → x ≡ get_or xs k x →
+pub most-next : {X : Type 0} (t : Table ℕ) (names : X → List Text) (xs : List X) (k : ℕ) (x : X) (so_far all : ℕ) → k < length xs →
+    x ≡ get_or xs k x →
     max so_far (most t (joined (map names (drop k xs)))) ≡ all → max (max so_far (most t (names x))) (most t (joined (map names (drop (k + 1) xs)))) ≡ all
 most-next t names xs k x so_far all within is h =
     let here : max so_far (most t (names x ++ joined (map names (drop (k + 1) xs)))) ≡ all =

@@ -1,5 +1,28 @@
 -- How statements of a well-formed file end.
-use Rattle.std.proofs.Common.{◌≡◌, ℕ, zero, suc, ◌+◌, ◌<◌, ℤ, pos, Bool, true, false, ◌&&◌, ◌||◌, List, [], ◌∷◌, ◌++◌, map, length, get_or, Option, Some, None, refl, sym, subst, ap, ◌∙◌, arith}
+use Rattle.std.proofs.Common.{
+  ◌≡◌,
+  ℕ,
+  zero,
+  suc,
+  ◌+◌,
+  ◌<◌,
+  ℤ,
+  pos,
+  Bool,
+  true,
+  false,
+  ◌&&◌,
+  ◌||◌,
+  List,
+  [],
+  ◌∷◌,
+  ◌++◌,
+  map,
+  length,
+  get_or,
+  Option,
+}
+use Rattle.std.proofs.Common.{Some, None, refl, sym, subst, ap, ◌∙◌, arith}
 use Rattle.std.specs.Prelude.{All, not, is_none, nat_lt, nat_le, if◌then◌else◌}
 use Rattle.std.specs.List.{list_all}
 use Rattle.std.proofs.lemmas.List.Elements.{All-nil, All-cons, All-head, All-tail}
@@ -15,11 +38,17 @@ use Rattle.bl_tree.specs.declared.c.CFunc.{CFunc}
 use Rattle.bl_tree.specs.Reduce.{joined}
 use Rattle.bl_tree.specs.Numbers.{is_one}
 use Rattle.bl_cmeaning.specs.Memory.{Memory, CValue, number_in, set_at, zeros}
-use Rattle.bl_cmeaning.specs.Meaning.{Counted, Evaluates, given, next, Scope, Outcome, End, goes_on, breaks, returns, traps, Runs, following_end, block_of, block_or_none, ended_by, executed, call_end, turn_end, turn_or_none, once_more, turns, turn_limit, runs_c, block_c, value_c, location_c, call_c, going, returning}
+use Rattle.bl_cmeaning.specs.Meaning.{Counted, Evaluates, given, next, Scope, Outcome, End, goes_on, breaks, returns, traps, Runs, following_end}
+use Rattle.bl_cmeaning.specs.Meaning.{block_of, block_or_none, ended_by, executed, call_end, turn_end, turn_or_none, once_more, turns, turn_limit}
+use Rattle.bl_cmeaning.specs.Meaning.{runs_c, block_c, value_c, location_c, call_c, going, returning}
 use Rattle.bl_cmeaning.specs.Ends.{EndsAs, EndsInside, AlwaysEnds}
 use Rattle.bl_cmeaning.specs.Tables.{Table, no_entries, table_of, with_entry}
-use Rattle.bl_cmeaning.specs.Faults.{Clause, distinct_names, declared_before, scalar_parameter, static_functions, short_chain, returns_result, all_distinct, is_declared, is_scalar, Fault, Context, Variable, Signature, unless, block_faults, faults_in_stmt, surely_returns, last_returns, faults_in_head, variable_names, names_table, faults_in_function, function_faults_after, faults_in, WellFormed, condition_faults, context_in, repeated, variables_of, depth_of_function, signature_in, struct_table, struct_faults_after}
-use Rattle.bl_cmeaning.specs.Loops.{counters_in_block}
+use Rattle.bl_cmeaning.specs.Faults.{Clause, distinct_names, declared_before, scalar_parameter, static_functions, short_chain, returns_result}
+use Rattle.bl_cmeaning.specs.Faults.{all_distinct, is_declared, is_scalar, Fault, Context, Variable, Signature, unless, block_faults, faults_in_stmt}
+use Rattle.bl_cmeaning.specs.Faults.{surely_returns, last_returns, faults_in_head, variable_names, names_table, faults_in_function}
+use Rattle.bl_cmeaning.specs.Faults.{function_faults_after, faults_in, WellFormed, condition_faults, context_in, repeated, variables_of}
+use Rattle.bl_cmeaning.specs.Faults.{depth_of_function, signature_in, struct_table, struct_faults_after}
+use Rattle.bl_cmeaning.specs.Loops.{turns_in_block}
 use Rattle.bl_cmeaning.specs.Parts.{Parts}
 use Rattle.bl_cmeaning.proofs.Induction.{Optional, StmtCases, induct_stmt, stmt}
 
@@ -55,21 +84,26 @@ staying traps = Unit {0}
 pub record Stays (end : End) : Type 0 where
   pub it : staying end
 
-ended_by-leaves : {A : Type 0} (memory : Memory) (n : ℕ) (answer : Option A) (rest : A → Outcome) → ((a : A) → Leaves (rest a).end) → Leaves (ended_by memory n answer rest).end
+ended_by-leaves : {A : Type 0} (memory : Memory) (n : ℕ) (answer : Option A) (rest : A → Outcome) → ((a : A) → Leaves (rest a).end) →
+    Leaves (ended_by memory n answer rest).end
 ended_by-leaves memory n None rest h = record { it = tt }
 ended_by-leaves memory n (Some a) rest h = h a
 
-ended_by-stays : {A : Type 0} (memory : Memory) (n : ℕ) (answer : Option A) (rest : A → Outcome) → ((a : A) → Stays (rest a).end) → Stays (ended_by memory n answer rest).end
+ended_by-stays : {A : Type 0} (memory : Memory) (n : ℕ) (answer : Option A) (rest : A → Outcome) → ((a : A) → Stays (rest a).end) →
+    Stays (ended_by memory n answer rest).end
 ended_by-stays memory n None rest h = record { it = tt }
 ended_by-stays memory n (Some a) rest h = h a
 
-executed-leaves : {A : Type 0} (memory : Memory) (evaluated : Counted A) (rest : A → Outcome) → ((a : A) → Leaves (rest a).end) → Leaves (executed memory evaluated rest).end
+executed-leaves : {A : Type 0} (memory : Memory) (evaluated : Counted A) (rest : A → Outcome) → ((a : A) → Leaves (rest a).end) →
+    Leaves (executed memory evaluated rest).end
 executed-leaves memory evaluated rest h = ended_by-leaves memory (1 + evaluated.count) evaluated.answer rest h
 
-executed-stays : {A : Type 0} (memory : Memory) (evaluated : Counted A) (rest : A → Outcome) → ((a : A) → Stays (rest a).end) → Stays (executed memory evaluated rest).end
+executed-stays : {A : Type 0} (memory : Memory) (evaluated : Counted A) (rest : A → Outcome) → ((a : A) → Stays (rest a).end) →
+    Stays (executed memory evaluated rest).end
 executed-stays memory evaluated rest h = ended_by-stays memory (1 + evaluated.count) evaluated.answer rest h
 
-following-leaves : (n : ℕ) (memory : Memory) (end : End) (rest : Memory → Outcome) → Leaves (rest memory).end → Leaves (following_end n memory end rest).end
+following-leaves : (n : ℕ) (memory : Memory) (end : End) (rest : Memory → Outcome) → Leaves (rest memory).end →
+    Leaves (following_end n memory end rest).end
 following-leaves n memory goes_on rest h = h
 following-leaves n memory breaks rest h = record { it = tt }
 following-leaves n memory (returns r) rest h = record { it = tt }
@@ -81,7 +115,8 @@ following-left n memory breaks rest h = record { it = tt }
 following-left n memory (returns r) rest h = record { it = tt }
 following-left n memory traps rest h = record { it = tt }
 
-following-stays : (n : ℕ) (memory : Memory) (end : End) (rest : Memory → Outcome) → Stays end → Stays (rest memory).end → Stays (following_end n memory end rest).end
+following-stays : (n : ℕ) (memory : Memory) (end : End) (rest : Memory → Outcome) → Stays end → Stays (rest memory).end →
+    Stays (following_end n memory end rest).end
 following-stays n memory goes_on rest h r = r
 following-stays n memory breaks rest h r = h
 following-stays n memory (returns v) rest h r = record { it = tt }
@@ -102,11 +137,15 @@ unfolding turns
 turns-stays zero condition body scope m =
     let stop : Memory → Outcome = λ w. record { memory = w; end = traps; count = 0 } in
     let trapped : Stays (stop m).end = record { it = tt } in
-    ended_by-stays m (condition scope m).count (condition scope m).answer (λ v. turn_or_none (is_one (number_in v)) m stop) (λ v. turn_or_none-stays (is_one (number_in v)) m stop trapped)
+    ended_by-stays m (condition scope m).count (condition scope m).answer (λ v. turn_or_none (is_one (number_in v)) m stop)
+    (λ v. turn_or_none-stays (is_one (number_in v)) m stop trapped)
 turns-stays (suc n) condition body scope m =
     let turn : Memory → Outcome = λ w. turn_end (body scope w).count (body scope w).memory (body scope w).end (turns n condition body scope) in
-    let rest : Stays (turn m).end = turn_end-stays (body scope m).count (body scope m).memory (body scope m).end (turns n condition body scope) (turns-stays n condition body scope (body scope m).memory) in
-    ended_by-stays m (condition scope m).count (condition scope m).answer (λ v. turn_or_none (is_one (number_in v)) m turn) (λ v. turn_or_none-stays (is_one (number_in v)) m turn rest)
+    let rest : Stays (turn m).end =
+    turn_end-stays (body scope m).count (body scope m).memory (body scope m).end (turns n condition body scope)
+    (turns-stays n condition body scope (body scope m).memory) in
+    ended_by-stays m (condition scope m).count (condition scope m).answer (λ v. turn_or_none (is_one (number_in v)) m turn)
+    (λ v. turn_or_none-stays (is_one (number_in v)) m turn rest)
 
 call_end-stays : (result : Option ℤ) → Stays (call_end result)
 call_end-stays (Some n) = record { it = tt }
@@ -126,26 +165,36 @@ module _ (scope : Scope) where
   abbrev Returns : CStmt → Type 0
   Returns s = surely_returns s ≡ true → (memory : Memory) → Leaves (runs_c s scope memory).end
 
-  block-leaves : (stmts : List CStmt) → All Returns stmts → last_returns (map surely_returns stmts) ≡ true → (memory : Memory) → Leaves (block_of (map runs_c stmts) scope memory).end
+  block-leaves : (stmts : List CStmt) → All Returns stmts → last_returns (map surely_returns stmts) ≡ true → (memory : Memory) →
+      Leaves (block_of (map runs_c stmts) scope memory).end
   block-leaves [] h last memory = cc
-  block-leaves (s ∷ []) h last memory = following-left (runs_c s scope memory).count (runs_c s scope memory).memory (runs_c s scope memory).end (λ m. block_of [] scope m) (All-head Returns s [] h last memory)
+  block-leaves (s ∷ []) h last memory =
+      following-left (runs_c s scope memory).count (runs_c s scope memory).memory (runs_c s scope memory).end (λ m. block_of [] scope m)
+      (All-head Returns s [] h last memory)
   block-leaves (s ∷ t ∷ stmts) h last memory =
-      following-leaves (runs_c s scope memory).count (runs_c s scope memory).memory (runs_c s scope memory).end (λ m. block_of (map runs_c (t ∷ stmts)) scope m) (block-leaves (t ∷ stmts) (All-tail Returns s (t ∷ stmts) h) last (runs_c s scope memory).memory)
+      following-leaves (runs_c s scope memory).count (runs_c s scope memory).memory (runs_c s scope memory).end
+      (λ m. block_of (map runs_c (t ∷ stmts)) scope m) (block-leaves (t ∷ stmts) (All-tail Returns s (t ∷ stmts) h) last (runs_c s scope memory).memory)
 
-  choose-leaves : (b : Bool) (f g : Runs) (memory : Memory) → Leaves (f scope memory).end → Leaves (g scope memory).end → Leaves ((if b then f else g) scope memory).end
+  choose-leaves : (b : Bool) (f g : Runs) (memory : Memory) → Leaves (f scope memory).end → Leaves (g scope memory).end →
+      Leaves ((if b then f else g) scope memory).end
   choose-leaves true f g memory h r = h
   choose-leaves false f g memory h r = r
 
-  if-returns : (at : Place) (e : CExpr) (block : List CStmt) (other : Option (List CStmt)) → All Returns block → Optional (All Returns) other → Returns (stmt at (CStmtKind-F.If e block other))
+  if-returns : (at : Place) (e : CExpr) (block : List CStmt) (other : Option (List CStmt)) → All Returns block → Optional (All Returns) other →
+      Returns (stmt at (CStmtKind-F.If e block other))
   if-returns at e block None h r sure memory =
       let e : (last_returns (map surely_returns block) && false) ≡ true = rw (fold-roll-CStmt, fold-roll-CStmtKind) at sure in
       absurd (let x : false ≡ true = and-right (last_returns (map surely_returns block)) false e in cc)
   if-returns at e block (Some other) h r sure memory =
-      let both : (last_returns (map surely_returns block) && last_returns (map surely_returns other)) ≡ true = rw (fold-roll-CStmt, fold-roll-CStmtKind) at sure in
+      let both : (last_returns (map surely_returns block) && last_returns (map surely_returns other)) ≡ true =
+      rw (fold-roll-CStmt, fold-roll-CStmtKind) at sure in
       let first : Leaves (block_of (map runs_c block) scope memory).end = block-leaves block h (and-left _ _ both) memory in
       let second : Leaves (block_of (map runs_c other) scope memory).end = block-leaves other r (and-right _ _ both) memory in
-      let all : Leaves (executed memory (value_c e scope memory) (λ v. (if is_one (number_in v) then block_of (map runs_c block) else block_or_none (Some (map runs_c other))) scope memory)).end =
-      executed-leaves memory (value_c e scope memory) (λ v. (if is_one (number_in v) then block_of (map runs_c block) else block_or_none (Some (map runs_c other))) scope memory) (λ v. choose-leaves (is_one (number_in v)) (block_of (map runs_c block)) (block_or_none (Some (map runs_c other))) memory first second) in
+      let all : Leaves (executed memory (value_c e scope memory)
+      (λ v. (if is_one (number_in v) then block_of (map runs_c block) else block_or_none (Some (map runs_c other))) scope memory)).end =
+      executed-leaves memory (value_c e scope memory)
+      (λ v. (if is_one (number_in v) then block_of (map runs_c block) else block_or_none (Some (map runs_c other))) scope memory)
+      (λ v. choose-leaves (is_one (number_in v)) (block_of (map runs_c block)) (block_or_none (Some (map runs_c other))) memory first second) in
       rw (fold-roll-CStmt, fold-roll-CStmtKind) all
 
   return-returns : (at : Place) (e : Option CExpr) → Returns (stmt at (CStmtKind-F.Return e))
@@ -172,39 +221,56 @@ module _ (scope : Scope) where
   -- a body that surely returns
   pub body-leaves : (stmts : List CStmt) → last_returns (map surely_returns stmts) ≡ true → (memory : Memory) → Leaves (block_c stmts scope memory).end
   body-leaves [] last memory = cc
-  body-leaves (s ∷ []) last memory = following-left (runs_c s scope memory).count (runs_c s scope memory).memory (runs_c s scope memory).end (λ m. block_of [] scope m) (stmt-returns s last memory)
-  body-leaves (s ∷ t ∷ stmts) last memory = following-leaves (runs_c s scope memory).count (runs_c s scope memory).memory (runs_c s scope memory).end (λ m. block_of (map runs_c (t ∷ stmts)) scope m) (body-leaves (t ∷ stmts) last (runs_c s scope memory).memory)
+  body-leaves (s ∷ []) last memory =
+      following-left (runs_c s scope memory).count (runs_c s scope memory).memory (runs_c s scope memory).end (λ m. block_of [] scope m)
+      (stmt-returns s last memory)
+  body-leaves (s ∷ t ∷ stmts) last memory =
+      following-leaves (runs_c s scope memory).count (runs_c s scope memory).memory (runs_c s scope memory).end
+      (λ m. block_of (map runs_c (t ∷ stmts)) scope m) (body-leaves (t ∷ stmts) last (runs_c s scope memory).memory)
 
   -- ---- a statement without faults outside of loops breaks nothing off
 
   abbrev Keeps : CStmt → Type 0
   Keeps s = (context : Context) → faults_in_stmt s context false ≡ [] → (memory : Memory) → Stays (runs_c s scope memory).end
 
-  block-stays : (stmts : List CStmt) → All Keeps stmts → (context : Context) → block_faults (map faults_in_stmt stmts) context false ≡ [] → (memory : Memory) → Stays (block_of (map runs_c stmts) scope memory).end
+  block-stays : (stmts : List CStmt) → All Keeps stmts → (context : Context) →
+      block_faults (map faults_in_stmt stmts) context false ≡ [] → (memory : Memory) →
+      Stays (block_of (map runs_c stmts) scope memory).end
   block-stays [] h context none memory = record { it = tt }
   block-stays (s ∷ stmts) h context none memory =
       following-stays (runs_c s scope memory).count (runs_c s scope memory).memory (runs_c s scope memory).end (λ m. block_of (map runs_c stmts) scope m)
       (All-head Keeps s stmts h context (nil-left _ _ none) memory)
       (block-stays stmts (All-tail Keeps s stmts h) context (nil-right (faults_in_stmt s context false) _ none) (runs_c s scope memory).memory)
 
-  choose-stays : (b : Bool) (f g : Runs) (memory : Memory) → Stays (f scope memory).end → Stays (g scope memory).end → Stays ((if b then f else g) scope memory).end
+  choose-stays : (b : Bool) (f g : Runs) (memory : Memory) → Stays (f scope memory).end → Stays (g scope memory).end →
+      Stays ((if b then f else g) scope memory).end
   choose-stays true f g memory h r = h
   choose-stays false f g memory h r = r
 
-  if-keeps : (at : Place) (e : CExpr) (block : List CStmt) (other : Option (List CStmt)) → All Keeps block → Optional (All Keeps) other → Keeps (stmt at (CStmtKind-F.If e block other))
+  if-keeps : (at : Place) (e : CExpr) (block : List CStmt) (other : Option (List CStmt)) → All Keeps block → Optional (All Keeps) other →
+      Keeps (stmt at (CStmtKind-F.If e block other))
   if-keeps at e block None h r context none memory =
-      let all : condition_faults e context ++ (block_faults (map faults_in_stmt block) context false ++ []) ≡ [] = rw (fold-roll-CStmt, fold-roll-CStmtKind) at none in
-      let first : Stays (block_of (map runs_c block) scope memory).end = block-stays block h context (nil-left _ _ (nil-right (condition_faults e context) _ all)) memory in
-      let all : Stays (executed memory (value_c e scope memory) (λ v. (if is_one (number_in v) then block_of (map runs_c block) else block_or_none None) scope memory)).end =
-      executed-stays memory (value_c e scope memory) (λ v. (if is_one (number_in v) then block_of (map runs_c block) else block_or_none None) scope memory) (λ v. choose-stays (is_one (number_in v)) (block_of (map runs_c block)) (block_or_none None) memory first (record { it = tt })) in
+      let all : condition_faults e context ++ (block_faults (map faults_in_stmt block) context false ++ []) ≡ [] =
+      rw (fold-roll-CStmt, fold-roll-CStmtKind) at none in
+      let first : Stays (block_of (map runs_c block) scope memory).end =
+      block-stays block h context (nil-left _ _ (nil-right (condition_faults e context) _ all)) memory in
+      let all : Stays (executed memory (value_c e scope memory)
+      (λ v. (if is_one (number_in v) then block_of (map runs_c block) else block_or_none None) scope memory)).end =
+      executed-stays memory (value_c e scope memory) (λ v. (if is_one (number_in v) then block_of (map runs_c block) else block_or_none None) scope memory)
+      (λ v. choose-stays (is_one (number_in v)) (block_of (map runs_c block)) (block_or_none None) memory first (record { it = tt })) in
       rw (fold-roll-CStmt, fold-roll-CStmtKind) all
   if-keeps at e block (Some other) h r context none memory =
-      let all : condition_faults e context ++ (block_faults (map faults_in_stmt block) context false ++ block_faults (map faults_in_stmt other) context false) ≡ [] = rw (fold-roll-CStmt, fold-roll-CStmtKind) at none in
-      let first : Stays (block_of (map runs_c block) scope memory).end = block-stays block h context (nil-left _ _ (nil-right (condition_faults e context) _ all)) memory in
+      let all : condition_faults e context ++ (block_faults (map faults_in_stmt block) context false ++ block_faults (map faults_in_stmt other) context false)
+      ≡ [] = rw (fold-roll-CStmt, fold-roll-CStmtKind) at none in
+      let first : Stays (block_of (map runs_c block) scope memory).end =
+      block-stays block h context (nil-left _ _ (nil-right (condition_faults e context) _ all)) memory in
       let second : Stays (block_of (map runs_c other) scope memory).end =
       block-stays other r context (nil-right (block_faults (map faults_in_stmt block) context false) _ (nil-right (condition_faults e context) _ all)) memory in
-      let all : Stays (executed memory (value_c e scope memory) (λ v. (if is_one (number_in v) then block_of (map runs_c block) else block_or_none (Some (map runs_c other))) scope memory)).end =
-      executed-stays memory (value_c e scope memory) (λ v. (if is_one (number_in v) then block_of (map runs_c block) else block_or_none (Some (map runs_c other))) scope memory) (λ v. choose-stays (is_one (number_in v)) (block_of (map runs_c block)) (block_or_none (Some (map runs_c other))) memory first second) in
+      let all : Stays (executed memory (value_c e scope memory)
+      (λ v. (if is_one (number_in v) then block_of (map runs_c block) else block_or_none (Some (map runs_c other))) scope memory)).end =
+      executed-stays memory (value_c e scope memory)
+      (λ v. (if is_one (number_in v) then block_of (map runs_c block) else block_or_none (Some (map runs_c other))) scope memory)
+      (λ v. choose-stays (is_one (number_in v)) (block_of (map runs_c block)) (block_or_none (Some (map runs_c other))) memory first second) in
       rw (fold-roll-CStmt, fold-roll-CStmtKind) all
 
   return-keeps : (at : Place) (e : Option CExpr) → Keeps (stmt at (CStmtKind-F.Return e))
@@ -217,8 +283,10 @@ module _ (scope : Scope) where
   keep_cases : StmtCases Keeps
   keep_cases = record {
     set = λ at p e context none memory.
-        let all : Stays (executed memory (next (location_c p scope memory) (λ q. next (value_c e scope memory) (λ v. given (Some (set_at memory q v))))) going).end =
-        executed-stays memory (next (location_c p scope memory) (λ q. next (value_c e scope memory) (λ v. given (Some (set_at memory q v))))) going (λ m. record { it = tt }) in
+        let all : Stays (executed memory (next (location_c p scope memory) (λ q. next (value_c e scope memory) (λ v. given (Some (set_at memory q v)))))
+        going).end =
+        executed-stays memory (next (location_c p scope memory) (λ q. next (value_c e scope memory) (λ v. given (Some (set_at memory q v))))) going
+        (λ m. record { it = tt }) in
         rw (fold-roll-CStmt, fold-roll-CStmtKind) all;
     clear = λ at p name context none memory.
         let all : Stays (executed memory (location_c p scope memory) (λ q. going (set_at memory q zeros))).end =
@@ -226,7 +294,8 @@ module _ (scope : Scope) where
         rw (fold-roll-CStmt, fold-roll-CStmtKind) all;
     call = λ at c context none memory. rw (fold-roll-CStmt, fold-roll-CStmtKind) (call_end-stays (call_c c scope memory).result);
     branching = if-keeps;
-    loop = λ at turn e body h context none memory. rw (fold-roll-CStmt, fold-roll-CStmtKind) (turns-stays turn_limit (value_c e) (block_of (map runs_c body)) scope memory);
+    loop = λ at turn e body h context none memory. rw (fold-roll-CStmt, fold-roll-CStmtKind)
+        (turns-stays turn_limit (value_c e) (block_of (map runs_c body)) scope memory);
     break = λ at context none memory. absurd (let x = rw (fold-roll-CStmt, fold-roll-CStmtKind) at none in cc);
     returns = return-keeps;
   }
@@ -235,10 +304,12 @@ module _ (scope : Scope) where
   stmt-keeps = induct_stmt Keeps keep_cases
 
   -- a body without faults
-  pub body-stays : (stmts : List CStmt) (context : Context) → block_faults (map faults_in_stmt stmts) context false ≡ [] → (memory : Memory) → Stays (block_c stmts scope memory).end
+  pub body-stays : (stmts : List CStmt) (context : Context) → block_faults (map faults_in_stmt stmts) context false ≡ [] → (memory : Memory) →
+      Stays (block_c stmts scope memory).end
   body-stays [] context none memory = record { it = tt }
   body-stays (s ∷ stmts) context none memory =
-      following-stays (runs_c s scope memory).count (runs_c s scope memory).memory (runs_c s scope memory).end (λ m. block_of (map runs_c stmts) scope m) (stmt-keeps s context (nil-left _ _ none) memory)
+      following-stays (runs_c s scope memory).count (runs_c s scope memory).memory (runs_c s scope memory).end (λ m. block_of (map runs_c stmts) scope m)
+      (stmt-keeps s context (nil-left _ _ none) memory)
       (body-stays stmts context (nil-right (faults_in_stmt s context false) _ none) (runs_c s scope memory).memory)
 
 -- ---- functions
@@ -265,13 +336,14 @@ function-ends structs functions depths last f none scope memory =
     let h0 = nil-left (faults_in_head structs functions depths last f) _ none in
     let h1 = nil-right (unless (is_none (functions f.name)) distinct_names f.place) _ h0 in
     let h2 = nil-right (unless (all_distinct no_entries (variable_names f)) distinct_names f.place) _ h1 in
-    let h3 = nil-right (unless (list_all (λ p. is_declared structs p.ty) f.params && list_all (λ l. is_declared structs l.ty) f.locals) declared_before f.place) _ h2 in
+    let h3 = nil-right (unless (list_all (λ p. is_declared structs p.ty) f.params && list_all (λ l. is_declared structs l.ty) f.locals) declared_before
+    f.place) _ h2 in
     let h4 = nil-right (unless (list_all (λ p. p.pointer || is_scalar p.ty) f.params) scalar_parameter f.place) _ h3 in
     let h5 = nil-right (unless (if last then not f.fixed else f.fixed) static_functions f.place) _ h4 in
     let h6 = nil-right (unless (nat_le (depth_of_function depths f) 300) short_chain f.place) _ h5 in
     let returning = unless-nil (is_none f.result || last_returns (map surely_returns f.body)) returns_result f.place h6 in
     let h7 = nil-right (faults_in_head structs functions depths last f) _ none in
-    let body = nil-right (repeated (names_table (variable_names f)) (counters_in_block f.body)) _ h7 in
+    let body = nil-right (repeated (names_table (variable_names f)) (turns_in_block f.body)) _ h7 in
     ends_as f.result (block_c f.body scope memory).end
     (body-stays scope f.body (context_in structs functions f) body memory)
     (λ has. body-leaves scope f.body (sure (is_none f.result) (last_returns (map surely_returns f.body)) returning has) memory)
@@ -289,4 +361,5 @@ functions-end structs functions depths (f ∷ rest) none =
 pub always-ends : (file : Parts) → AlwaysEnds file
 unfolding faults_in
 always-ends file formed =
-    functions-end (struct_table file.structs) no_entries no_entries file.funcs (nil-left _ _ (nil-right (struct_faults_after no_entries no_entries file.structs) _ formed.none))
+    functions-end (struct_table file.structs) no_entries no_entries file.funcs
+    (nil-left _ _ (nil-right (struct_faults_after no_entries no_entries file.structs) _ formed.none))

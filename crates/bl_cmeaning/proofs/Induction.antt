@@ -27,7 +27,8 @@ Optional P (Some a) = P a
 
 -- ---- expressions
 
-module _ (A : CArg → Type 0) (K : CExprKind → Type 0) (C : CCall → Type 0) (E : CExpr → Type 0) (I : CIndex → Type 0) (P : CPlace → Type 0) (S : CStep → Type 0) where
+module _ (A : CArg → Type 0) (K : CExprKind → Type 0) (C : CCall → Type 0) (E : CExpr → Type 0) (I : CIndex → Type 0) (P : CPlace → Type 0)
+    (S : CStep → Type 0) where
   -- what shows the facts of every expression and its parts
   pub record ExprCases : Type 0 where
     pub value : (e : CExpr) → E e → A (roll-CArg (CArg-F.Value e))
@@ -40,7 +41,8 @@ module _ (A : CArg → Type 0) (K : CExprKind → Type 0) (C : CCall → Type 0)
     pub calling : (name : Text) (args : List CArg) → All A args → C (roll-CCall (record { name = name; args = args }))
     pub expr : (place : Place) (what : CExprKind) → K what → E (roll-CExpr (record { place = place; what = what }))
     pub index : (signed : Bool) (at : CExpr) (length : ℕ) → E at → I (roll-CIndex (record { signed = signed; at = at; length = length }))
-    pub place : (through : Bool) (name : Text) (steps : List CStep) → All S steps → P (roll-CPlace (record { through = through; name = name; steps = steps }))
+    pub place : (through : Bool) (name : Text) (steps : List CStep) → All S steps →
+        P (roll-CPlace (record { through = through; name = name; steps = steps }))
     pub step : (member : Text) (index : Option CIndex) → Optional I index → S (roll-CStep (record { member = member; index = index }))
 
   module _ (cases : ExprCases) where
@@ -139,7 +141,8 @@ pub record StmtCases (P : CStmt → Type 0) : Type 0 where
   pub set : (at : Place) (p : CPlace) (e : CExpr) → P (stmt at (CStmtKind-F.Set p e))
   pub clear : (at : Place) (p : CPlace) (name : Text) → P (stmt at (CStmtKind-F.Clear p name))
   pub call : (at : Place) (c : CCall) → P (stmt at (CStmtKind-F.Call c))
-  pub branching : (at : Place) (e : CExpr) (block : List CStmt) (other : Option (List CStmt)) → All P block → Optional (All P) other → P (stmt at (CStmtKind-F.If e block other))
+  pub branching : (at : Place) (e : CExpr) (block : List CStmt) (other : Option (List CStmt)) → All P block → Optional (All P) other →
+      P (stmt at (CStmtKind-F.If e block other))
   pub loop : (at : Place) (turn : Text) (e : CExpr) (body : List CStmt) → All P body → P (stmt at (CStmtKind-F.Loop turn e body))
   pub break : (at : Place) → P (stmt at CStmtKind-F.Break)
   pub returns : (at : Place) (e : Option CExpr) → P (stmt at (CStmtKind-F.Return e))

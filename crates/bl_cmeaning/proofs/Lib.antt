@@ -3,8 +3,8 @@ pub mod BoundLemmas
 pub mod CallLemmas
 pub mod DeclaredLemmas
 pub mod EndLemmas
-pub mod Examples
 pub mod FirstLemmas
+pub mod Folds
 pub mod Induction
 pub mod MapLemmas
 pub mod NameLemmas

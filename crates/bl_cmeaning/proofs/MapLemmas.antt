@@ -31,7 +31,8 @@ kept old name value present asked =
     at_present (bytes_eq name asked) (old asked) value
     (λ same. subst (λ n. is_some (old n) ≡ true) ((bytes_eq-Decides name asked).0 same) present)
   where
-    at_present : {A : Type 0} (same : Bool) (old : Option A) (value : A) → (same ≡ true → is_some old ≡ true) → old ≡ option_or old (if same then Some value else None)
+    at_present : {A : Type 0} (same : Bool) (old : Option A) (value : A) → (same ≡ true → is_some old ≡ true) →
+        old ≡ option_or old (if same then Some value else None)
     at_present true (Some x) value h = refl
     at_present false (Some x) value h = refl
     at_present false None value h = refl

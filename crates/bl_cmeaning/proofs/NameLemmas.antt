@@ -1,5 +1,28 @@
 -- Names of a list, one by one.
-use Rattle.std.proofs.Common.{◌≡◌, ℕ, suc, ◌+◌, ◌<◌, Bool, true, false, not, ◌&&◌, List, [], ◌∷◌, map, length, get_or, drop, Option, Some, None, max, refl, ap, sym, subst, ◌∙◌, add-one, arith}
+use Rattle.std.proofs.Common.{
+  ◌≡◌,
+  ℕ,
+  suc,
+  ◌+◌,
+  ◌<◌,
+  Bool,
+  true,
+  false,
+  not,
+  ◌&&◌,
+  List,
+  [],
+  ◌∷◌,
+  map,
+  length,
+  get_or,
+  drop,
+  Option,
+  Some,
+  None,
+  max,
+}
+use Rattle.std.proofs.Common.{refl, ap, sym, subst, ◌∙◌, add-one, arith}
 use Rattle.std.specs.Prelude.{is_some, is_none}
 use Rattle.std.specs.Borrow.{Bor}
 use Rattle.std.specs.List.{list_all}
@@ -8,7 +31,7 @@ use Rattle.bl_cmeaning.proofs.ArgLemmas.{next_of}
 use Rattle.std.proofs.Math.Seq.{drop-cons}
 use Rattle.bl_tree.specs.declared.place.Place.{Place}
 use Rattle.bl_cmeaning.specs.Faults.{Fault, all_distinct, distinct_names, earlier_of, first_place, repeated, unless}
-use Rattle.bl_cmeaning.specs.Maps.{bytes_of, named}
+use Rattle.bl_cmeaning.specs.inner.Maps.{bytes_of, named}
 use Rattle.bl_cmeaning.specs.Tables.{Table, with_entry}
 use Rattle.bl_cmeaning.proofs.FirstLemmas.{earlier_of-assoc, first_place-append}
 use Rattle.bl_cmeaning.proofs.MapLemmas.{same_table}
@@ -22,7 +45,8 @@ and_assoc true b c = refl
 and_assoc false b c = refl
 
 pub differ-next : (seen more : Table (Unit {0})) (names : List (Bor (List ℕ))) (k : ℕ) (d : Bor (List ℕ)) (answer x : Bool) → k < length names →
-    ((asked : List ℕ) → more asked ≡ with_entry seen (get_or names k d).now tt asked) → (answer && all_distinct seen (bytes_of (drop k names))) ≡ x →
+    ((asked : List ℕ) → more asked ≡ with_entry seen (get_or names k d).now tt asked) →
+    (answer && all_distinct seen (bytes_of (drop k names))) ≡ x →
     ((answer && not (is_some (seen (get_or names k d).now))) && all_distinct more (bytes_of (drop (k + 1) names))) ≡ x
 differ-next seen more names k d answer x within add h =
     let name = (get_or names k d).now in
@@ -31,7 +55,9 @@ differ-next seen more names k d answer x within add h =
     ∙ and_assoc answer (not (is_some (seen name))) (all_distinct (with_entry seen name tt) rest)
     ∙ ap (λ xs. answer && all_distinct seen (bytes_of xs)) (sym (at_index names k d within)) ∙ h
 
-pub repeated-next : (seen more : Table (Unit {0})) (entries : List (Bor (List ℕ) × Place)) (k : ℕ) (d : Bor (List ℕ) × Place) (first x : Option Place) → k < length entries →
+pub repeated-next : (seen more : Table (Unit {0})) (entries : List (Bor (List ℕ) × Place)) (k : ℕ) (d : Bor (List ℕ) × Place)
+    (first x : Option Place) →
+    k < length entries →
     ((asked : List ℕ) → more asked ≡ with_entry seen (get_or entries k d).0.now tt asked) →
     earlier_of first (first_place (repeated seen (named (drop k entries)))) ≡ x →
     earlier_of (earlier_of first (first_place (unless (not (is_some (seen (get_or entries k d).0.now))) distinct_names (get_or entries k d).1)))
@@ -56,5 +82,6 @@ all-next p xs k x so_far all within is h =
 pub greatest-next : {X : Type 0} (f : X → ℕ) (xs : List X) (k : ℕ) (x : X) (so_far all : ℕ) → k < length xs → x ≡ get_or xs k x →
     max so_far (greatest (map f (drop k xs))) ≡ all → max (max so_far (f x)) (greatest (map f (drop (k + 1) xs))) ≡ all
 greatest-next f xs k x so_far all within is h =
-    let here : max so_far (max (f x) (greatest (map f (drop (k + 1) xs)))) ≡ all = subst (λ l. max so_far (greatest (map f l)) ≡ all) (next_of xs k x within is) h in
+    let here : max so_far (max (f x) (greatest (map f (drop (k + 1) xs)))) ≡ all =
+    subst (λ l. max so_far (greatest (map f l)) ≡ all) (next_of xs k x within is) h in
     omega arith

@@ -1,11 +1,11 @@
 -- The table of the prelude's functions in the code is that of the definitions.
 use Rattle.std.proofs.Common.{◌≡◌, ℕ, List, Option, None, map, refl, ap}
-use Rattle.bl_cmeaning.specs.declared.builtin.TheConstants.{BUILTINS}
-use Rattle.bl_cmeaning.specs.Builtin.{builtins, builtin_of}
+use Rattle.bl_ctext.specs.declared.builtin.TheConstants.{BUILTINS}
+use Rattle.bl_ctext.specs.Builtins.{builtins}
+use Rattle.bl_cmeaning.specs.Builtin.{builtin_of}
 use Rattle.bl_cmeaning.specs.Tables.{found}
 
 table_is : map (λ e. (e.0.now, e.1)) BUILTINS ≡ builtins
-unfolding builtins
 table_is = refl
 
 -- what is found in it

@@ -5,7 +5,8 @@ use Rattle.std.specs.Option.{option_or}
 use Rattle.bl_tree.specs.declared.text.Text.{Text}
 use Rattle.bl_cmeaning.specs.Tables.{found}
 
-later : {A : Type 0} (same : Bool) (value : A) (first rest : Option A) → (if same then Some value else option_or first rest) ≡ option_or (if same then Some value else first) rest
+later : {A : Type 0} (same : Bool) (value : A) (first rest : Option A) →
+    (if same then Some value else option_or first rest) ≡ option_or (if same then Some value else first) rest
 later true value first rest = refl
 later false value first rest = refl
 

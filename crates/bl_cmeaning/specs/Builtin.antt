@@ -1,59 +1,41 @@
--- The functions of the prelude: their names, what they take and what they give.
-use Rattle.std.specs.Prelude.{ℕ, ◌+◌, ◌%◌, ◌^◌, ℤ, pos, ◌+ℤ◌, Bool, true, false, ◌&&◌, List, [], ◌∷◌, ◌++◌, map, flat_map, Option, Some, None, codes, int_lt, int_le, if◌then◌else◌}
+-- The functions of the prelude by name: what they take and what they give.
+use Rattle.std.specs.Prelude.{
+  ℕ,
+  ◌+◌,
+  ◌%◌,
+  ◌^◌,
+  ℤ,
+  pos,
+  ◌+ℤ◌,
+  Bool,
+  true,
+  false,
+  ◌&&◌,
+  List,
+  [],
+  ◌∷◌,
+  Option,
+  Some,
+  None,
+  int_lt,
+  int_le,
+  if◌then◌else◌,
+}
 use Rattle.std.specs.Int.{int_rem_euclid}
 use Rattle.std.specs.Ordering.{int_eq}
 use Rattle.bl_tree.specs.declared.text.Text.{Text}
 use Rattle.bl_tree.specs.declared.scalar.Scalar.{Scalar}
 use Rattle.bl_tree.specs.declared.scalar.Scalar.TheVariants.{Bool as OfBool, Int, Nat, Bits}
-use Rattle.bl_tree.specs.declared.scalar.Width.{Width}
-use Rattle.bl_tree.specs.declared.scalar.Width.TheVariants.{W8, W16, W32, W64}
-use Rattle.bl_tree.specs.declared.scalar.Op.{Op}
-use Rattle.bl_tree.specs.declared.scalar.Op.TheVariants.{Add, Sub, Mul, Div, Rem, Minus, BitAnd, BitOr, BitXor, BitNot, Shl, Shr}
-use Rattle.bl_cmeaning.specs.declared.builtin.Builtin.{Builtin}
-use Rattle.bl_cmeaning.specs.declared.builtin.Builtin.TheVariants.{Two, One, Cast, Index, Turn, Stop}
+use Rattle.bl_tree.specs.declared.scalar.Width.TheVariants.{W32, W64}
+use Rattle.bl_ctext.specs.declared.builtin.Builtin.{Builtin}
+use Rattle.bl_ctext.specs.declared.builtin.Builtin.TheVariants.{Two, One, Cast, Index, Turn, Stop}
 use Rattle.bl_tree.specs.Scalar.{in_range}
 use Rattle.bl_tree.specs.Numbers.{checked_of, checked_one_of}
+use Rattle.bl_ctext.specs.Builtins.{builtins}
 use Rattle.bl_cmeaning.specs.Tables.{found}
-
--- ---- which functions there are
-
--- the first words of the functions that every type has, and what they do on a type
-abbrev pub words_of_all : Scalar → List (Text × Builtin)
-words_of_all t =
-    (codes "bl_add_", Two Add t) ∷ (codes "bl_sub_", Two Sub t) ∷ (codes "bl_mul_", Two Mul t)
-    ∷ (codes "bl_div_", Two Div t) ∷ (codes "bl_rem_", Two Rem t)
-    ∷ (codes "bl_of_s_", Cast true t) ∷ (codes "bl_of_u_", Cast false t) ∷ []
-
--- those that a type has beside them
-abbrev pub words_of_own : Scalar → List (Text × Builtin)
-words_of_own (Int w) = (codes "bl_neg_", One Minus (Int w)) ∷ []
-words_of_own (Bits w) =
-    (codes "bl_neg_", One Minus (Bits w)) ∷ (codes "bl_not_", One BitNot (Bits w))
-    ∷ (codes "bl_and_", Two BitAnd (Bits w)) ∷ (codes "bl_or_", Two BitOr (Bits w)) ∷ (codes "bl_xor_", Two BitXor (Bits w))
-    ∷ (codes "bl_shl_", Two Shl (Bits w)) ∷ (codes "bl_shr_", Two Shr (Bits w)) ∷ []
-words_of_own (Nat w) = []
-words_of_own OfBool = []
-
--- the last words of their names, and the types
-abbrev pub types_by_word : List (Text × Scalar)
-types_by_word =
-    (codes "i8", Int W8) ∷ (codes "i16", Int W16) ∷ (codes "i32", Int W32) ∷ (codes "i64", Int W64)
-    ∷ (codes "n8", Nat W8) ∷ (codes "n16", Nat W16) ∷ (codes "n32", Nat W32) ∷ (codes "n64", Nat W64)
-    ∷ (codes "b8", Bits W8) ∷ (codes "b16", Bits W16) ∷ (codes "b32", Bits W32) ∷ (codes "b64", Bits W64) ∷ []
-
--- the functions of one type, by name
-abbrev pub builtins_on : Text × Scalar → List (Text × Builtin)
-builtins_on typed = map (λ function. (function.0 ++ typed.0, function.1)) (words_of_all typed.1 ++ words_of_own typed.1)
-
--- every function of the prelude, by name
-unfoldable pub builtins : List (Text × Builtin)
-builtins =
-    (codes "bl_trap", Stop) ∷ (codes "bl_turn", Turn) ∷ (codes "bl_ix_s", Index true) ∷ (codes "bl_ix_u", Index false)
-    ∷ flat_map builtins_on types_by_word
 
 -- the function of the prelude that has this name
 unfoldable pub builtin_of : Text → Option Builtin
-unfolding builtins
 builtin_of name = found name builtins
 
 -- ---- what they take and give

@@ -10,6 +10,7 @@ use Rattle.bl_tree.specs.declared.c.CCall.{CCall, fold-CCall}
 use Rattle.bl_tree.specs.declared.c.CStmtKind.TheOpen.{CStmtKind-F, CStmt-F}
 use Rattle.bl_tree.specs.declared.c.CStmt.{CStmt, fold-CStmt}
 use Rattle.bl_tree.specs.Reduce.{joined, greatest}
+use Rattle.bl_ctext.specs.Folds.{EachIs}
 use Rattle.bl_cmeaning.specs.Tables.{Table, entry_or}
 
 -- ---- in one level, where the parts' calls are known
@@ -17,52 +18,52 @@ use Rattle.bl_cmeaning.specs.Tables.{Table, entry_or}
 abbrev pub Names : Type 0
 Names = List Text
 
-abbrev pub arg_calls : CArg-F Names Names Names Names Names Names Names → Names
+abbrev pub arg_calls : EachIs Names CArg-F → Names
 arg_calls (CArg-F.Value value) = value
 arg_calls (CArg-F.Address place) = place
 
-abbrev pub kind_calls : CExprKind-F Names Names Names Names Names Names Names → Names
+abbrev pub kind_calls : EachIs Names CExprKind-F → Names
 kind_calls (CExprKind-F.Literal type n) = []
 kind_calls (CExprKind-F.Read place) = place
 kind_calls (CExprKind-F.Call call) = call
 kind_calls (CExprKind-F.Not operand) = operand
 kind_calls (CExprKind-F.Two op left right) = left ++ right
 
-abbrev pub call_calls : CCall-F Names Names Names Names Names Names Names → Names
+abbrev pub call_calls : EachIs Names CCall-F → Names
 call_calls call = call.name ∷ joined call.args
 
-abbrev pub expr_calls : CExpr-F Names Names Names Names Names Names Names → Names
+abbrev pub expr_calls : EachIs Names CExpr-F → Names
 expr_calls expr = expr.what
 
-abbrev pub index_calls : CIndex-F Names Names Names Names Names Names Names → Names
+abbrev pub index_calls : EachIs Names CIndex-F → Names
 index_calls index = index.at
 
-abbrev pub place_calls : CPlace-F Names Names Names Names Names Names Names → Names
+abbrev pub place_calls : EachIs Names CPlace-F → Names
 place_calls place = joined place.steps
 
 abbrev pub names_or_none : Option Names → Names
 names_or_none None = []
 names_or_none (Some names) = names
 
-abbrev pub step_calls : CStep-F Names Names Names Names Names Names Names → Names
+abbrev pub step_calls : EachIs Names CStep-F → Names
 step_calls step = names_or_none step.index
 
 -- ---- the names of the called functions, one for each call
 
 abbrev pub calls_in : CExpr → List Text
-calls_in = fold-CExpr Names Names Names Names Names Names Names arg_calls kind_calls call_calls expr_calls index_calls place_calls step_calls
+calls_in = fold-CExpr _ _ _ _ _ _ _ arg_calls kind_calls call_calls expr_calls index_calls place_calls step_calls
 
 abbrev pub calls_in_place : CPlace → List Text
-calls_in_place = fold-CPlace Names Names Names Names Names Names Names arg_calls kind_calls call_calls expr_calls index_calls place_calls step_calls
+calls_in_place = fold-CPlace _ _ _ _ _ _ _ arg_calls kind_calls call_calls expr_calls index_calls place_calls step_calls
 
 abbrev pub calls_in_call : CCall → List Text
-calls_in_call = fold-CCall Names Names Names Names Names Names Names arg_calls kind_calls call_calls expr_calls index_calls place_calls step_calls
+calls_in_call = fold-CCall _ _ _ _ _ _ _ arg_calls kind_calls call_calls expr_calls index_calls place_calls step_calls
 
 abbrev pub calls_in_arg : CArg → List Text
-calls_in_arg = fold-CArg Names Names Names Names Names Names Names arg_calls kind_calls call_calls expr_calls index_calls place_calls step_calls
+calls_in_arg = fold-CArg _ _ _ _ _ _ _ arg_calls kind_calls call_calls expr_calls index_calls place_calls step_calls
 
 abbrev pub calls_in_step : CStep → List Text
-calls_in_step = fold-CStep Names Names Names Names Names Names Names arg_calls kind_calls call_calls expr_calls index_calls place_calls step_calls
+calls_in_step = fold-CStep _ _ _ _ _ _ _ arg_calls kind_calls call_calls expr_calls index_calls place_calls step_calls
 
 abbrev pub calls_or_none : Option CExpr → List Text
 calls_or_none None = []

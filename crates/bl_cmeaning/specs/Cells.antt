@@ -8,7 +8,8 @@ use Rattle.bl_tree.specs.declared.c.CMember.{CMember}
 use Rattle.bl_tree.specs.declared.c.CStruct.{CStruct}
 use Rattle.bl_tree.specs.declared.row.Column.{Column}
 use Rattle.bl_cmeaning.specs.Parts.{Parts}
-use Rattle.bl_cmeaning.specs.Memory.{Part, member, element, Root, state_object, input_object, output_object, Location, Memory, CValue, scalar, number_in, cleared, value_at, set_at}
+use Rattle.bl_cmeaning.specs.Memory.{Part, member, element, Root, state_object, input_object, output_object, Location, Memory, CValue, scalar}
+use Rattle.bl_cmeaning.specs.Memory.{number_in, cleared, value_at, set_at}
 use Rattle.bl_cmeaning.specs.Tables.{found, Table, no_entries, with_entry, entry_or}
 
 -- ---- the members of a struct

@@ -1,5 +1,27 @@
 -- The clauses of a well-formed file: each failure of one has a name and a place.
-use Rattle.std.specs.Prelude.{◌≡◌, ℕ, ◌+◌, ◌-◌, Bool, true, false, not, ◌&&◌, ◌||◌, nat_lt, nat_le, nat_eq, min, ◌==◌, List, [], ◌∷◌, ◌++◌, map, length, drop, Option, Some, None, is_some, is_none, option_map, option_and_then, bytes_eq, codes, Contains, if◌then◌else◌}
+use Rattle.std.specs.Prelude.{
+  ◌≡◌,
+  ℕ,
+  ◌+◌,
+  ◌-◌,
+  Bool,
+  true,
+  false,
+  not,
+  ◌&&◌,
+  ◌||◌,
+  nat_lt,
+  nat_le,
+  nat_eq,
+  min,
+  ◌==◌,
+  List,
+  [],
+  ◌∷◌,
+  ◌++◌,
+  map,
+}
+use Rattle.std.specs.Prelude.{length, drop, Option, Some, None, is_some, is_none, option_map, option_and_then, bytes_eq, codes, if◌then◌else◌}
 use Rattle.std.specs.List.{list_any, list_all, starts_with}
 use Rattle.bl_tree.specs.declared.text.Text.{Text}
 use Rattle.bl_tree.specs.declared.place.Place.{Place}
@@ -26,19 +48,20 @@ use Rattle.bl_tree.specs.declared.c.CCall.{CCall, fold-CCall}
 use Rattle.bl_tree.specs.declared.c.CStmtKind.TheOpen.{CStmtKind-F, CStmt-F}
 use Rattle.bl_tree.specs.declared.c.CStmt.{CStmt, fold-CStmt}
 use Rattle.bl_tree.specs.Reduce.{any_of, joined, greatest}
+use Rattle.bl_ctext.specs.Folds.{OpenPart}
 use Rattle.bl_cmeaning.specs.Parts.{Parts}
 use Rattle.bl_cmeaning.specs.Tables.{found, Table, no_entries, table_of, with_entry, entry_or}
-use Rattle.bl_cmeaning.specs.declared.builtin.Builtin.{Builtin}
-use Rattle.bl_cmeaning.specs.declared.builtin.Builtin.TheVariants.{Stop}
+use Rattle.bl_ctext.specs.declared.builtin.Builtin.{Builtin}
+use Rattle.bl_ctext.specs.declared.builtin.Builtin.TheVariants.{Stop}
 use Rattle.bl_cmeaning.specs.Builtin.{builtin_of, builtin_params, builtin_result}
 use Rattle.bl_cmeaning.specs.Calls.{calls_in_block, most}
-use Rattle.bl_cmeaning.specs.Loops.{counters_in_block}
+use Rattle.bl_cmeaning.specs.Loops.{turns_in_block}
 
 -- ---- what can fail, and where
 
 -- what a well-formed file keeps
 pub data Clause : Type 0 where
-  -- structs, functions, the members of a struct, the parameters and locals of a function, and the counters of its loops have different names
+  -- structs, functions, the members of a struct, the parameters and locals of a function, and what counts the turns of its loops have different names
   distinct_names : Clause
   -- a struct, variable, member or function is declared before it is used
   declared_before : Clause
@@ -224,6 +247,10 @@ Judges A = Context → Place → A
 abbrev pub Steps : Type 0
 Steps = Context → Place → Option CType → Judged
 
+-- a part of an expression, where each part within it is judged so
+abbrev pub Judging : OpenPart → Type 0
+Judging Of = Of (Judges JudgedArg) (Judges Judged) (Judges JudgedCall) (Context → Judged) (Judges JudgedIndex) (Judges JudgedPlace) Steps
+
 -- whether an argument of a type fits a parameter's
 abbrev pub fits_param : Bool → CType → CType → Bool
 fits_param true (OfScalar (Int W64)) t = indexes true t
@@ -245,7 +272,7 @@ abbrev pub fit_args : Option Signature → List JudgedArg → Bool
 fit_args None args = true
 fit_args (Some s) args = fit_each s.widens s.params args
 
-abbrev pub judge_arg : CArg-F (Judges JudgedArg) (Judges Judged) (Judges JudgedCall) (Context → Judged) (Judges JudgedIndex) (Judges JudgedPlace) Steps → Judges JudgedArg
+abbrev pub judge_arg : Judging CArg-F → Judges JudgedArg
 judge_arg (CArg-F.Value value) context place =
     let v : Judged = value context in
     record { address = false; through = false; ty = v.ty; faults = v.faults }
@@ -271,7 +298,7 @@ is_void (Some result) = is_none result
 abbrev pub hands_on : Option Signature → List JudgedArg → Bool
 hands_on signature args = is_void (known_result signature) && any_of (map (λ a. a.address && a.through) args)
 
-abbrev pub judge_kind : CExprKind-F (Judges JudgedArg) (Judges Judged) (Judges JudgedCall) (Context → Judged) (Judges JudgedIndex) (Judges JudgedPlace) Steps → Judges Judged
+abbrev pub judge_kind : Judging CExprKind-F → Judges Judged
 judge_kind (CExprKind-F.Literal type n) context place = record { ty = Some (OfScalar type); faults = [] }
 judge_kind (CExprKind-F.Read target) context place =
     let p : JudgedPlace = target context place in
@@ -290,7 +317,7 @@ judge_kind (CExprKind-F.Two op left right) context place =
       faults = a.faults ++ (b.faults ++ unless (if_typed a.ty (takes op) && if_typed b.ty (takes op) && agree a.ty b.ty) operand_type place);
     }
 
-abbrev pub judge_call : CCall-F (Judges JudgedArg) (Judges Judged) (Judges JudgedCall) (Context → Judged) (Judges JudgedIndex) (Judges JudgedPlace) Steps → Judges JudgedCall
+abbrev pub judge_call : Judging CCall-F → Judges JudgedCall
 judge_call call context place =
     let signature : Option Signature = signature_of context call.name in
     let args : List JudgedArg = map (λ judge. judge context place) call.args in
@@ -302,10 +329,10 @@ judge_call call context place =
           ++ unless (not (context.keeps && hands_on signature args)) changes_nothing place));
     }
 
-abbrev pub judge_expr : CExpr-F (Judges JudgedArg) (Judges Judged) (Judges JudgedCall) (Context → Judged) (Judges JudgedIndex) (Judges JudgedPlace) Steps → Context → Judged
+abbrev pub judge_expr : Judging CExpr-F → Context → Judged
 judge_expr expr context = expr.what context expr.place
 
-abbrev pub judge_index : CIndex-F (Judges JudgedArg) (Judges Judged) (Judges JudgedCall) (Context → Judged) (Judges JudgedIndex) (Judges JudgedPlace) Steps → Judges JudgedIndex
+abbrev pub judge_index : Judging CIndex-F → Judges JudgedIndex
 judge_index index context place =
     let i : Judged = index.at context in
     record { length = index.length; faults = i.faults ++ unless (if_typed i.ty (indexes index.signed)) indices place }
@@ -325,7 +352,7 @@ judge_steps (step ∷ steps) context place ty =
     let last : Judged = judge_steps steps context place first.ty in
     record { ty = last.ty; faults = first.faults ++ last.faults }
 
-abbrev pub judge_place : CPlace-F (Judges JudgedArg) (Judges Judged) (Judges JudgedCall) (Context → Judged) (Judges JudgedIndex) (Judges JudgedPlace) Steps → Judges JudgedPlace
+abbrev pub judge_place : Judging CPlace-F → Judges JudgedPlace
 judge_place target context place =
     let root : Judged = judge_root (context.variables target.name) target.through place in
     let last : Judged = judge_steps target.steps context place root.ty in
@@ -359,7 +386,7 @@ abbrev pub faults_in_index : Option JudgedIndex → List Fault
 faults_in_index None = []
 faults_in_index (Some i) = i.faults
 
-abbrev pub judge_step : CStep-F (Judges JudgedArg) (Judges Judged) (Judges JudgedCall) (Context → Judged) (Judges JudgedIndex) (Judges JudgedPlace) Steps → Steps
+abbrev pub judge_step : Judging CStep-F → Steps
 judge_step step context place ty =
     let i : Option JudgedIndex = index_or_none step.index context place in
     let m : Judged = judge_into context step.member (option_map (λ j. j.length) i) place ty in
@@ -367,25 +394,25 @@ judge_step step context place ty =
 
 -- an expression where these things are declared
 abbrev pub judged_expr : CExpr → Context → Judged
-judged_expr = fold-CExpr (Judges JudgedArg) (Judges Judged) (Judges JudgedCall) (Context → Judged) (Judges JudgedIndex) (Judges JudgedPlace) Steps judge_arg judge_kind judge_call judge_expr judge_index judge_place judge_step
+judged_expr = fold-CExpr _ _ _ _ _ _ _ judge_arg judge_kind judge_call judge_expr judge_index judge_place judge_step
 
 -- a place in a statement
 abbrev pub judged_place : CPlace → Judges JudgedPlace
-judged_place = fold-CPlace (Judges JudgedArg) (Judges Judged) (Judges JudgedCall) (Context → Judged) (Judges JudgedIndex) (Judges JudgedPlace) Steps judge_arg judge_kind judge_call judge_expr judge_index judge_place judge_step
+judged_place = fold-CPlace _ _ _ _ _ _ _ judge_arg judge_kind judge_call judge_expr judge_index judge_place judge_step
 
 -- a call that is a statement
 abbrev pub judged_call : CCall → Judges JudgedCall
-judged_call = fold-CCall (Judges JudgedArg) (Judges Judged) (Judges JudgedCall) (Context → Judged) (Judges JudgedIndex) (Judges JudgedPlace) Steps judge_arg judge_kind judge_call judge_expr judge_index judge_place judge_step
+judged_call = fold-CCall _ _ _ _ _ _ _ judge_arg judge_kind judge_call judge_expr judge_index judge_place judge_step
 
 -- an argument, an index, a step
 abbrev pub judged_arg : CArg → Judges JudgedArg
-judged_arg = fold-CArg (Judges JudgedArg) (Judges Judged) (Judges JudgedCall) (Context → Judged) (Judges JudgedIndex) (Judges JudgedPlace) Steps judge_arg judge_kind judge_call judge_expr judge_index judge_place judge_step
+judged_arg = fold-CArg _ _ _ _ _ _ _ judge_arg judge_kind judge_call judge_expr judge_index judge_place judge_step
 
 abbrev pub judged_index : CIndex → Judges JudgedIndex
-judged_index = fold-CIndex (Judges JudgedArg) (Judges Judged) (Judges JudgedCall) (Context → Judged) (Judges JudgedIndex) (Judges JudgedPlace) Steps judge_arg judge_kind judge_call judge_expr judge_index judge_place judge_step
+judged_index = fold-CIndex _ _ _ _ _ _ _ judge_arg judge_kind judge_call judge_expr judge_index judge_place judge_step
 
 abbrev pub judged_step : CStep → Steps
-judged_step = fold-CStep (Judges JudgedArg) (Judges Judged) (Judges JudgedCall) (Context → Judged) (Judges JudgedIndex) (Judges JudgedPlace) Steps judge_arg judge_kind judge_call judge_expr judge_index judge_place judge_step
+judged_step = fold-CStep _ _ _ _ _ _ _ judge_arg judge_kind judge_call judge_expr judge_index judge_place judge_step
 
 -- ---- statements
 
@@ -585,7 +612,7 @@ faults_in_head structs functions depths last f =
 abbrev pub faults_in_function : Table (Table CMember) → Table Signature → Table ℕ → Bool → CFunc → List Fault
 faults_in_function structs functions depths last f =
     faults_in_head structs functions depths last f
-    ++ (repeated (names_table (variable_names f)) (counters_in_block f.body)
+    ++ (repeated (names_table (variable_names f)) (turns_in_block f.body)
     ++ block_faults (map faults_in_stmt f.body) (context_in structs functions f) false)
 
 abbrev pub function_faults_after : Table (Table CMember) → Table Signature → Table ℕ → List CFunc → List Fault
@@ -665,10 +692,6 @@ faults_in file =
     ++ (unless (is_some (structs (codes "bl_state")) && (is_some (structs (codes "bl_in")) && is_some (structs (codes "bl_out"))))
     interface_structs (last_place file.funcs)
     ++ interface_faults file.funcs))
-
--- this clause fails at this place
-pub record Fails (file : Parts) (clause : Clause) (at : Place) : Type 0 where
-  pub among : Contains (faults_in file) (record { clause = clause; at = at })
 
 -- no clause fails anywhere
 pub record WellFormed (file : Parts) : Type 0 where

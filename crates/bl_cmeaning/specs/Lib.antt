@@ -2,14 +2,11 @@ pub mod Builtin
 pub mod Calls
 pub mod Cause
 pub mod Cells
-pub mod Checked
 pub mod Cost
 pub mod Ends
 pub mod Faults
-pub mod HandText
 pub mod Laws
 pub mod Loops
-pub mod Maps
 pub mod Meaning
 pub mod Memory
 pub mod Parts
@@ -17,3 +14,4 @@ pub mod Saturated
 pub mod Sizes
 pub mod Tables
 pub mod Trace
+pub mod inner

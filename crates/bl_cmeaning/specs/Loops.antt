@@ -1,4 +1,4 @@
--- The counters of loops.
+-- The variables that count the turns of loops.
 use Rattle.std.specs.Prelude.{List, [], ◌∷◌, ◌++◌, map, Option, Some, None}
 use Rattle.bl_tree.specs.declared.text.Text.{Text}
 use Rattle.bl_tree.specs.declared.place.Place.{Place}
@@ -6,25 +6,25 @@ use Rattle.bl_tree.specs.declared.c.CStmtKind.TheOpen.{CStmtKind-F, CStmt-F}
 use Rattle.bl_tree.specs.declared.c.CStmt.{CStmt, fold-CStmt}
 use Rattle.bl_tree.specs.Reduce.{joined}
 
--- the counters of a statement's loops, each with the place of its loop, in the order of the text
-abbrev pub Counters : Type 0
-Counters = List (Text × Place)
+-- what counts the turns of a statement's loops: each variable with the place of its loop, in the order of the text
+abbrev pub Turns : Type 0
+Turns = List (Text × Place)
 
-abbrev pub counters_or_none : Option (List Counters) → Counters
-counters_or_none None = []
-counters_or_none (Some block) = joined block
+abbrev pub turns_or_none : Option (List Turns) → Turns
+turns_or_none None = []
+turns_or_none (Some block) = joined block
 
-abbrev pub stmt_kind_counters : CStmtKind-F (Place → Counters) Counters → Place → Counters
-stmt_kind_counters (CStmtKind-F.If condition block other) place = joined block ++ counters_or_none other
-stmt_kind_counters (CStmtKind-F.Loop turn condition body) place = (turn, place) ∷ joined body
-stmt_kind_counters _ place = []
+abbrev pub stmt_kind_turns : CStmtKind-F (Place → Turns) Turns → Place → Turns
+stmt_kind_turns (CStmtKind-F.If condition block other) place = joined block ++ turns_or_none other
+stmt_kind_turns (CStmtKind-F.Loop turn condition body) place = (turn, place) ∷ joined body
+stmt_kind_turns _ place = []
 
-abbrev pub stmt_counters_step : CStmt-F (Place → Counters) Counters → Counters
-stmt_counters_step stmt = stmt.what stmt.place
+abbrev pub stmt_turns_step : CStmt-F (Place → Turns) Turns → Turns
+stmt_turns_step stmt = stmt.what stmt.place
 
-abbrev pub counters_in : CStmt → Counters
-counters_in = fold-CStmt (Place → Counters) Counters stmt_kind_counters stmt_counters_step
+abbrev pub turns_in : CStmt → Turns
+turns_in = fold-CStmt (Place → Turns) Turns stmt_kind_turns stmt_turns_step
 
 -- those of a block
-abbrev pub counters_in_block : List CStmt → Counters
-counters_in_block block = joined (map counters_in block)
+abbrev pub turns_in_block : List CStmt → Turns
+turns_in_block block = joined (map turns_in block)

@@ -1,6 +1,26 @@
 -- What C expressions, statements and functions do: the value or the memory after, how it ended, and how many statements were executed.
 -- A form that no well-formed file has (a function that isn't known, a number where a place is due) traps or gives some fixed value.
-use Rattle.std.specs.Prelude.{ℕ, zero, suc, ◌+◌, ℤ, pos, Bool, true, false, List, [], ◌∷◌, ◌++◌, map, Option, Some, None, option_map, if◌then◌else◌}
+use Rattle.std.specs.Prelude.{
+  ℕ,
+  zero,
+  suc,
+  ◌+◌,
+  ℤ,
+  pos,
+  Bool,
+  true,
+  false,
+  List,
+  [],
+  ◌∷◌,
+  ◌++◌,
+  map,
+  Option,
+  Some,
+  None,
+  option_map,
+  if◌then◌else◌,
+}
 use Rattle.bl_tree.specs.declared.text.Text.{Text}
 use Rattle.bl_tree.specs.declared.scalar.Scalar.TheVariants.{Bool as OfBool}
 use Rattle.bl_tree.specs.declared.scalar.Op.{Op}
@@ -14,9 +34,10 @@ use Rattle.bl_tree.specs.declared.c.CStmt.{CStmt, fold-CStmt}
 use Rattle.bl_tree.specs.declared.c.CParam.{CParam}
 use Rattle.bl_tree.specs.declared.c.CFunc.{CFunc}
 use Rattle.bl_tree.specs.Numbers.{checked_of, checked_one_of, is_one}
+use Rattle.bl_ctext.specs.Folds.{OpenPart}
 use Rattle.bl_cmeaning.specs.Memory.{Part, member, element, Root, variable, Location, CValue, Memory, scalar, number_in, zeros, value_at, set_at, without_frame}
 use Rattle.bl_cmeaning.specs.Tables.{Table, no_entries, table_of, with_entry, entry_or}
-use Rattle.bl_cmeaning.specs.declared.builtin.Builtin.{Builtin}
+use Rattle.bl_ctext.specs.declared.builtin.Builtin.{Builtin}
 use Rattle.bl_cmeaning.specs.Builtin.{builtin_of, builtin_value, index_within}
 
 -- ---- answers with a count
@@ -146,11 +167,16 @@ two_values op left right scope memory =
 abbrev pub result_of : Called → Counted CValue
 result_of c = record { count = c.count; answer = option_map scalar c.result }
 
-abbrev pub arg_step : CArg-F (Evaluates Passed) (Evaluates CValue) (Scope → Memory → Called) (Evaluates CValue) (Evaluates (List Part)) (Evaluates Location) (Evaluates (List Part)) → Evaluates Passed
+-- a part of an expression, where each part within it does this
+abbrev pub Evaluating : OpenPart → Type 0
+Evaluating Of = Of (Evaluates Passed) (Evaluates CValue) (Scope → Memory → Called) (Evaluates CValue) (Evaluates (List Part)) (Evaluates Location)
+    (Evaluates (List Part))
+
+abbrev pub arg_step : Evaluating CArg-F → Evaluates Passed
 arg_step (CArg-F.Value value) scope memory = next (value scope memory) (λ v. given (Some (by_value v)))
 arg_step (CArg-F.Address place) scope memory = next (place scope memory) (λ p. given (Some (by_address p)))
 
-abbrev pub kind_step : CExprKind-F (Evaluates Passed) (Evaluates CValue) (Scope → Memory → Called) (Evaluates CValue) (Evaluates (List Part)) (Evaluates Location) (Evaluates (List Part)) → Evaluates CValue
+abbrev pub kind_step : Evaluating CExprKind-F → Evaluates CValue
 kind_step (CExprKind-F.Literal type n) scope memory = given (Some (scalar n))
 kind_step (CExprKind-F.Read place) scope memory = next (place scope memory) (λ p. given (Some (value_at memory p)))
 kind_step (CExprKind-F.Call call) scope memory = result_of (call scope memory)
@@ -158,19 +184,19 @@ kind_step (CExprKind-F.Not operand) scope memory =
     next (operand scope memory) (λ a. given (option_map scalar (checked_one_of Not OfBool (number_in a))))
 kind_step (CExprKind-F.Two op left right) scope memory = two_values op left right scope memory
 
-abbrev pub call_step : CCall-F (Evaluates Passed) (Evaluates CValue) (Scope → Memory → Called) (Evaluates CValue) (Evaluates (List Part)) (Evaluates Location) (Evaluates (List Part)) → Scope → Memory → Called
+abbrev pub call_step : Evaluating CCall-F → Scope → Memory → Called
 call_step call scope memory =
     let passed = each_of call.args scope memory in
     called_after scope memory call.name passed.count passed.answer
 
-abbrev pub expr_step : CExpr-F (Evaluates Passed) (Evaluates CValue) (Scope → Memory → Called) (Evaluates CValue) (Evaluates (List Part)) (Evaluates Location) (Evaluates (List Part)) → Evaluates CValue
+abbrev pub expr_step : Evaluating CExpr-F → Evaluates CValue
 expr_step expr = expr.what
 
-abbrev pub index_step : CIndex-F (Evaluates Passed) (Evaluates CValue) (Scope → Memory → Called) (Evaluates CValue) (Evaluates (List Part)) (Evaluates Location) (Evaluates (List Part)) → Evaluates (List Part)
+abbrev pub index_step : Evaluating CIndex-F → Evaluates (List Part)
 index_step index scope memory =
     next (index.at scope memory) (λ i. given (element_at (index_within (number_in i) (pos index.length))))
 
-abbrev pub place_step : CPlace-F (Evaluates Passed) (Evaluates CValue) (Scope → Memory → Called) (Evaluates CValue) (Evaluates (List Part)) (Evaluates Location) (Evaluates (List Part)) → Evaluates Location
+abbrev pub place_step : Evaluating CPlace-F → Evaluates Location
 place_step place scope memory =
     next (each_of place.steps scope memory) (λ ways. given (Some (further (start_of scope place.through place.name) (way_of ways))))
 
@@ -179,20 +205,20 @@ abbrev pub indexed : Text → Option (Evaluates (List Part)) → Evaluates (List
 indexed name None scope memory = given (Some (member name ∷ []))
 indexed name (Some index) scope memory = next (index scope memory) (λ parts. given (Some (member name ∷ parts)))
 
-abbrev pub step_step : CStep-F (Evaluates Passed) (Evaluates CValue) (Scope → Memory → Called) (Evaluates CValue) (Evaluates (List Part)) (Evaluates Location) (Evaluates (List Part)) → Evaluates (List Part)
+abbrev pub step_step : Evaluating CStep-F → Evaluates (List Part)
 step_step step = indexed step.member step.index
 
 -- the value of an expression
 abbrev pub value_c : CExpr → Evaluates CValue
-value_c = fold-CExpr (Evaluates Passed) (Evaluates CValue) (Scope → Memory → Called) (Evaluates CValue) (Evaluates (List Part)) (Evaluates Location) (Evaluates (List Part)) arg_step kind_step call_step expr_step index_step place_step step_step
+value_c = fold-CExpr _ _ _ _ _ _ _ arg_step kind_step call_step expr_step index_step place_step step_step
 
 -- the place that a place's text names
 abbrev pub location_c : CPlace → Evaluates Location
-location_c = fold-CPlace (Evaluates Passed) (Evaluates CValue) (Scope → Memory → Called) (Evaluates CValue) (Evaluates (List Part)) (Evaluates Location) (Evaluates (List Part)) arg_step kind_step call_step expr_step index_step place_step step_step
+location_c = fold-CPlace _ _ _ _ _ _ _ arg_step kind_step call_step expr_step index_step place_step step_step
 
 -- what a call does
 abbrev pub call_c : CCall → Scope → Memory → Called
-call_c = fold-CCall (Evaluates Passed) (Evaluates CValue) (Scope → Memory → Called) (Evaluates CValue) (Evaluates (List Part)) (Evaluates Location) (Evaluates (List Part)) arg_step kind_step call_step expr_step index_step place_step step_step
+call_c = fold-CCall _ _ _ _ _ _ _ arg_step kind_step call_step expr_step index_step place_step step_step
 
 -- ---- statements
 

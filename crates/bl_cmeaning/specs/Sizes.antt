@@ -1,5 +1,24 @@
 -- How many cells a C file needs while it runs.
-use Rattle.std.specs.Prelude.{ℕ, ◌+◌, ◌*◌, Bool, true, false, max, List, [], ◌∷◌, ◌++◌, map, length, Option, Some, None, codes, if◌then◌else◌}
+use Rattle.std.specs.Prelude.{
+  ℕ,
+  ◌+◌,
+  ◌*◌,
+  Bool,
+  true,
+  false,
+  max,
+  List,
+  [],
+  ◌∷◌,
+  ◌++◌,
+  map,
+  length,
+  Option,
+  Some,
+  None,
+  codes,
+  if◌then◌else◌,
+}
 use Rattle.bl_tree.specs.declared.text.Text.{Text}
 use Rattle.bl_tree.specs.declared.c.CType.{CType}
 use Rattle.bl_tree.specs.declared.c.CType.TheVariants.{Scalar as OfScalar, Struct as OfStruct}
@@ -13,7 +32,7 @@ use Rattle.bl_tree.specs.declared.c.CFunc.{CFunc}
 use Rattle.bl_tree.specs.Reduce.{total, greatest}
 use Rattle.bl_cmeaning.specs.Parts.{Parts}
 use Rattle.bl_cmeaning.specs.Tables.{found, Table, no_entries, table_of, with_entry, entry_or}
-use Rattle.bl_cmeaning.specs.Loops.{counters_in_block}
+use Rattle.bl_cmeaning.specs.Loops.{turns_in_block}
 use Rattle.bl_cmeaning.specs.Calls.{calls_in_block, most}
 
 -- ---- types
@@ -57,7 +76,7 @@ size_of_param known param = if param.pointer then 1 else size_of_type known para
 abbrev pub own_cells : Sizes → CFunc → ℕ
 own_cells known function =
     total (map (size_of_param known) function.params)
-    + (total (map (λ l. size_of_type known l.ty) function.locals) + length (counters_in_block function.body))
+    + (total (map (λ l. size_of_type known l.ty) function.locals) + length (turns_in_block function.body))
 
 -- the cells of the deepest chain of calls that begins with a function: its own, and the most of a function that it calls. The prelude's have none
 abbrev pub chain_cells : Sizes → Table ℕ → CFunc → ℕ

@@ -1,5 +1,5 @@
 -- What a C file does over rows of inputs.
-use Rattle.std.specs.Prelude.{ℕ, ℤ, pos, Bool, true, false, List, [], ◌∷◌, ◌++◌, map, Option, Some, None, codes, if◌then◌else◌}
+use Rattle.std.specs.Prelude.{ℕ, ℤ, pos, Bool, true, false, List, [], ◌∷◌, ◌++◌, map, Option, Some, None, is_some, codes, if◌then◌else◌}
 use Rattle.std.specs.Ordering.{int_eq}
 use Rattle.bl_tree.specs.declared.row.Trace.{Trace}
 use Rattle.bl_tree.specs.declared.row.Last.TheVariants.{Open, Ended, Trap}
@@ -55,16 +55,26 @@ tick_c file cells ins =
     tick_of file (entered file (codes "bl_tick") (object state_object ∷ object input_object ∷ object output_object ∷ [])
     (with_inputs (ports_of (codes "bl_in") file) ins (memory_of (cells_of file) cells)))
 
--- the cells where a call ended, none where it trapped
-abbrev pub cells_where : Parts → Memory → Option ℤ → Option (List ℤ)
-cells_where file memory None = None
-cells_where file memory (Some n) = Some (numbers_of (cells_of file) memory)
+-- the start: `bl_init` is called where everything is 0
+unfoldable pub started : Parts → Called
+started file = entered file (codes "bl_init") (object state_object ∷ []) cleared
 
--- the numbers of all cells before the first tick: everything is 0 and `bl_init` is called. None where it traps
-unfoldable pub start_c : Parts → Option (List ℤ)
-start_c file =
-    let c : Called = entered file (codes "bl_init") (object state_object ∷ []) cleared in
-    cells_where file c.memory c.result
+-- whether the start doesn't trap
+abbrev pub starts : Parts → Bool
+starts file = is_some (started file).result
+
+-- the numbers of all cells after the start, also where it has trapped
+abbrev pub start_cells : Parts → List ℤ
+start_cells file = numbers_of (cells_of file) (started file).memory
+
+-- the numbers from which ticks go on: none where the start has trapped
+abbrev pub cells_if : Bool → List ℤ → Option (List ℤ)
+cells_if false cells = None
+cells_if true cells = Some cells
+
+-- those before the first tick
+abbrev pub start_c : Parts → Option (List ℤ)
+start_c file = cells_if (starts file) (start_cells file)
 
 -- the trace that begins with a tick, where `rest` is that of the further ticks
 abbrev pub traced : Reply → List ℤ → Trace → Trace

@@ -3,7 +3,7 @@
 
 ghost use Rattle.std.specs.Prelude.{◌≡◌, ◌&&◌, codes, IfErr, IfOk, is_some, OnOk};
 ghost use Rattle.bl_cmeaning.specs.Cause.{IsCause};
-ghost use Rattle.bl_cmeaning.specs.Checked.{structs_of};
+ghost use Rattle.bl_cmeaning.specs.inner.Checked.{structs_of};
 ghost use Rattle.bl_cmeaning.specs.Faults.{WellFormed, first_fault};
 ghost use Rattle.bl_cmeaning.specs.Parts.{parts_from, parts_of};
 ghost use Rattle.bl_cmeaning.specs.Saturated.{saturated};
@@ -19,23 +19,21 @@ mod functions;
 mod interface;
 mod loops;
 mod names;
-mod prelude;
-mod sizes;
 mod stmt;
 mod structs;
 mod types;
 mod variables;
 
-use crate::check::calls::number_of;
 use crate::check::chains::deepest_chain;
 use crate::check::context::Structs;
 use crate::check::declared::declare_structs;
 use crate::check::first::{both, earlier, unless};
 use crate::check::functions::judge_functions;
 use crate::check::interface::{judge_interface, last_place};
-use crate::check::prelude::Builtins;
-use crate::check::sizes::struct_sizes;
 use crate::check::structs::has_struct;
+use crate::maps::number_of;
+use crate::prelude::Builtins;
+use crate::sizes::struct_sizes;
 use bl_ctext::CFile;
 use bl_tree::c::{CFunc, CStruct};
 use bl_tree::{NoMemory, Place};
@@ -50,7 +48,8 @@ pub enum CheckFault {
 }
 
 fn has_interface(structs: &Structs<'_>) -> bool
-    ensures { result ≡ (is_some (structs_of structs.now (codes "bl_state")) && (is_some (structs_of structs.now (codes "bl_in")) && is_some (structs_of structs.now (codes "bl_out")))) }
+    ensures { result ≡ (is_some (structs_of structs.now (codes "bl_state"))
+        && (is_some (structs_of structs.now (codes "bl_in")) && is_some (structs_of structs.now (codes "bl_out")))) }
 {
     let ports = both(has_struct(structs, "bl_in"), has_struct(structs, "bl_out"));
     both(has_struct(structs, "bl_state"), ports)

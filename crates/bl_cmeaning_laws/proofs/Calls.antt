@@ -3,19 +3,21 @@ use Rattle.std.proofs.Common.{◌≡◌, ℕ, ◌+◌, ◌≤◌, ℤ, Bool, tru
 use Rattle.std.specs.Prelude.{is_some, if◌then◌else◌}
 use Rattle.bl_tree.specs.declared.text.Text.{Text}
 use Rattle.bl_tree.specs.declared.scalar.Scalar.{Scalar}
-use Rattle.bl_cmeaning.specs.declared.builtin.Builtin.{Builtin}
-use Rattle.bl_cmeaning.specs.declared.builtin.Builtin.TheVariants.{Two, One, Cast, Index, Turn, Stop}
+use Rattle.bl_ctext.specs.declared.builtin.Builtin.{Builtin}
+use Rattle.bl_ctext.specs.declared.builtin.Builtin.TheVariants.{Two, One, Cast, Index, Turn, Stop}
 use Rattle.bl_cmeaning.specs.Builtin.{builtin_of, builtin_params, builtin_result, builtin_value}
 use Rattle.bl_cmeaning.specs.Memory.{Root, variable, Memory}
-use Rattle.bl_cmeaning.specs.Meaning.{Called, Counted, Passed, Scope, applied as applied_c, called as called_c, called_after, called_as as called_as_c, number_of_passed}
+use Rattle.bl_cmeaning.specs.Meaning.{Called, Counted, Passed, Scope, applied as applied_c, called as called_c, called_after}
+use Rattle.bl_cmeaning.specs.Meaning.{called_as as called_as_c, number_of_passed}
 use Rattle.bl_cmeaning.specs.Sizes.{Sizes}
 use Rattle.bl_cmeaning.specs.Tables.{Table, entry_or}
 use Rattle.bl_cmeaning.specs.Faults.{Context, JudgedArg, Signature, by_value, builtin_signature, fit_args, fit_each, signature_as}
-use Rattle.bl_cmeaning_laws.specs.Fitting.{in_ranges}
-use Rattle.bl_cmeaning_laws.proofs.Results.{builtins-fit}
+use Rattle.bl_tree.specs.Ports.{in_ranges}
+use Rattle.bl_cmeaning_laws.proofs.Results.{builtin-typed, builtins-fit}
 use Rattle.bl_cmeaning_laws.specs.Layout.{capped}
 use Rattle.bl_cmeaning_laws.specs.Reaching.{Ground}
-use Rattle.bl_cmeaning_laws.specs.Flat.{Cells, Left, Routine, applied, called, called_as, going_on, left, next, prelude_value}
+use Rattle.bl_cmeaning_laws.specs.Flat.{Cells, Left, Routine, applied, called, called_as, going_on, is_typed, left, next, prelude_value}
+use Rattle.bl_cmeaning_laws.proofs.Lists.{and-both}
 use Rattle.bl_cmeaning_laws.proofs.Ways.{Lists, Shaped, Structs}
 use Rattle.bl_cmeaning_laws.proofs.Standing.{Stand, Stands, World}
 use Rattle.bl_cmeaning_laws.proofs.Evaluations.{Agree, Matches}
@@ -33,7 +35,8 @@ none-stands : (o : Option Stand) → o ≡ None → is_some o ≡ false
 none-stands None h = refl
 none-stands (Some s) h = cc
 
-module _ (known : Sizes) (lists : Lists) (structs : Structs) (shaped : Shaped known lists structs) (limit : ℕ) (context : Context) (scope : Scope) (ground : Ground Routine) (chains : Table ℕ)
+module _ (known : Sizes) (lists : Lists) (structs : Structs) (shaped : Shaped known lists structs) (limit : ℕ) (context : Context) (scope : Scope)
+    (ground : Ground Routine) (chains : Table ℕ)
     (base : ℕ) (w : World) (running : Running known lists structs shaped limit context scope ground chains base w) (memory : Memory) where
   abbrev Stood : Cells → Type 0
   Stood = Stands known lists structs shaped limit w memory
@@ -48,7 +51,8 @@ module _ (known : Sizes) (lists : Lists) (structs : Structs) (shaped : Shaped kn
     pub agrees : CallAgrees known lists structs shaped limit w s.result c l
     pub same : is_some s.result ≡ true → (root : Root) (t : Stand) → w.stand root ≡ Some t → c.memory root ≡ memory root
 
-  builtin-signed : (b : Builtin) (s : Signature) → builtin_signature b ≡ Some s → s ≡ record { widens = true; params = map by_value (builtin_params b); result = builtin_result b }
+  builtin-signed : (b : Builtin) (s : Signature) → builtin_signature b ≡ Some s →
+      s ≡ record { widens = true; params = map by_value (builtin_params b); result = builtin_result b }
   builtin-signed (Two op t) s h = some_of s _ (sym h)
   builtin-signed (One op t) s h = some_of s _ (sym h)
   builtin-signed (Cast signed t) s h = some_of s _ (sym h)
@@ -56,46 +60,60 @@ module _ (known : Sizes) (lists : Lists) (structs : Structs) (shaped : Shaped kn
   builtin-signed Turn s h = some_of s _ (sym h)
   builtin-signed Stop s h = cc
 
-  chosen-value : (b : Builtin) (ns : List ℤ) → in_ranges (builtin_params b) ns ≡ true → prelude_value b ns ≡ builtin_value b ns
-  chosen-value b ns h = ap (λ x. if x then builtin_value b ns else None) h
+  chosen-value : (b : Builtin) (ns : List ℤ) → is_typed b ≡ true → in_ranges (builtin_params b) ns ≡ true →
+      prelude_value b ns ≡ builtin_value b ns
+  chosen-value b ns typed h = ap (λ x. if x then builtin_value b ns else None) (and-both (is_typed b) (in_ranges (builtin_params b) ns) typed h)
 
-  builtin-ranged : (name : Text) (b : Builtin) (ns : List ℤ) → builtin_of name ≡ Some b → in_ranges (builtin_params b) ns ≡ true → (result : Option Scalar) → builtin_result b ≡ result →
+  builtin-ranged : (name : Text) (b : Builtin) (ns : List ℤ) → builtin_of name ≡ Some b → in_ranges (builtin_params b) ns ≡ true →
+      (result : Option Scalar) →
+      builtin_result b ≡ result →
       (answer : Option ℤ) → builtin_value b ns ≡ answer → Ranged known lists structs shaped limit result answer
   builtin-ranged name b ns is fits None r answer v = tt
   builtin-ranged name b ns is fits (Some t) r None v = tt
   builtin-ranged name b ns is fits (Some t) r (Some n) v = builtins-fit name b ns t n is fits r v
 
   -- a call of the prelude
-  prelude-call : (name : Text) (b : Builtin) (s : Signature) (js : List JudgedArg) (vs : List Passed) (ns : List ℤ) (cells : Cells) → builtin_of name ≡ Some b → builtin_signature b ≡ Some s →
+  prelude-call : (name : Text) (b : Builtin) (s : Signature) (js : List JudgedArg) (vs : List Passed) (ns : List ℤ) (cells : Cells) →
+      builtin_of name ≡ Some b → builtin_signature b ≡ Some s →
       fit_each s.widens s.params js ≡ true → Passing js vs ns → Stood cells →
-      CallAgrees known lists structs shaped limit w s.result (record { memory = memory; count = 0; result = builtin_value b (map number_of_passed vs) }) (left cells (prelude_value b ns))
+      CallAgrees known lists structs shaped limit w s.result (record { memory = memory; count = 0; result = builtin_value b (map number_of_passed vs) })
+      (left cells (prelude_value b ns))
   prelude-call name b s js vs ns cells is signed fit passes stood =
       let e = builtin-signed b s signed in
-      let f = numbers-fit known lists structs shaped limit w memory (builtin_params b) js vs ns (subst (λ x. fit_each x.widens x.params js ≡ true) e fit) passes in
+      let f = numbers-fit known lists structs shaped limit w memory (builtin_params b) js vs ns (subst (λ x. fit_each x.widens x.params js ≡ true) e fit)
+      passes in
       let value : builtin_value b (map number_of_passed vs) ≡ builtin_value b ns = ap (builtin_value b) f.0 in
       record {
         count = refl;
-        answer = value ∙ sym (chosen-value b ns f.1);
+        answer = value ∙ sym (chosen-value b ns (builtin-typed name b is) f.1);
         stands = stood;
-        range = builtin-ranged name b (map number_of_passed vs) is (subst (λ xs. in_ranges (builtin_params b) xs ≡ true) (sym f.0) f.1) s.result (sym (ap (λ x. x.result) e)) (builtin_value b (map number_of_passed vs)) refl;
+        range = builtin-ranged name b (map number_of_passed vs) is (subst (λ xs. in_ranges (builtin_params b) xs ≡ true) (sym f.0) f.1) s.result
+            (sym (ap (λ x. x.result) e)) (builtin_value b (map number_of_passed vs)) refl;
       }
 
   safe : Root → Bool
   safe root = is_some (w.stand root)
 
   -- a call of a function of the file
-  own-call : (name : Text) (s : Signature) (js : List JudgedArg) (vs : List Passed) (ns : List ℤ) (cells : Cells) → context.functions name ≡ Some s → s.widens ≡ false → fit_each s.widens s.params js ≡ true →
+  own-call : (name : Text) (s : Signature) (js : List JudgedArg) (vs : List Passed) (ns : List ℤ) (cells : Cells) → context.functions name ≡ Some s →
+      s.widens ≡ false → fit_each s.widens s.params js ≡ true →
       w.top + entry_or 0 chains name ≤ limit → Passing js vs ns → Stood cells →
-      CallAgrees known lists structs shaped limit w s.result (applied_c (scope.known name) (scope.depth + 1) vs memory) (applied (ground.known name) (capped (base + ground.frame)) ns cells)
+      CallAgrees known lists structs shaped limit w s.result (applied_c (scope.known name) (scope.depth + 1) vs memory)
+      (applied (ground.known name) (capped (base + ground.frame)) ns cells)
   own-call name s js vs ns cells is plain fit room passes stood =
       let f = running.functions name s is in
       let at = running.next in
       let all = passed-all known lists structs shaped limit w memory s.params js vs ns (ap (λ x. fit_each x s.params js) (sym plain) ∙ fit) passes in
-      subst (λ o. CallAgrees known lists structs shaped limit w s.result (applied_c o (scope.depth + 1) vs memory) (applied (ground.known name) (capped (base + ground.frame)) ns cells)) (sym f.is)
-      (subst (λ o. CallAgrees known lists structs shaped limit w s.result (f.c (scope.depth + 1) vs memory) (applied o (capped (base + ground.frame)) ns cells)) (sym f.also)
-      (f.agrees.agree w (scope.depth + 1) (capped (base + ground.frame)) vs ns memory cells running.separate running.shallow (omega arith) (omega arith) stood all))
+      subst (λ o. CallAgrees known lists structs shaped limit w s.result (applied_c o (scope.depth + 1) vs memory)
+      (applied (ground.known name) (capped (base + ground.frame)) ns cells)) (sym f.is)
+      (subst (λ o. CallAgrees known lists structs shaped limit w s.result (f.c (scope.depth + 1) vs memory)
+      (applied o (capped (base + ground.frame)) ns cells)) (sym f.also)
+      (f.agrees.agree w (scope.depth + 1) (capped (base + ground.frame)) vs ns memory cells running.separate running.shallow (omega arith) (omega arith) stood
+      all))
 
-  own-same : (name : Text) (s : Signature) (vs : List Passed) → context.functions name ≡ Some s → is_some s.result ≡ true → (root : Root) (t : Stand) → w.stand root ≡ Some t →
+  own-same : (name : Text) (s : Signature) (vs : List Passed) → context.functions name ≡ Some s → is_some s.result ≡ true →
+      (root : Root) (t : Stand) →
+      w.stand root ≡ Some t →
       (applied_c (scope.known name) (scope.depth + 1) vs memory).memory root ≡ memory root
   own-same name s vs is has root t there =
       let f = running.functions name s is in
@@ -104,10 +122,13 @@ module _ (known : Sizes) (lists : Lists) (structs : Structs) (shaped : Shaped kn
       (λ no. absurd (let x : true ≡ false = sym has ∙ no in cc)) root (stood-is (w.stand root) t there)
 
   -- what is called, once the arguments are there
-  called-agrees : (name : Text) (signature : Option Signature) (js : List JudgedArg) (vs : List Passed) (ns : List ℤ) (cells : Cells) (b : Option Builtin) → builtin_of name ≡ b →
-      signature_as b (context.functions name) ≡ signature → is_some signature ≡ true → fit_args signature js ≡ true → ((s : Signature) → context.functions name ≡ Some s → s.widens ≡ false) →
+  called-agrees : (name : Text) (signature : Option Signature) (js : List JudgedArg) (vs : List Passed) (ns : List ℤ) (cells : Cells) (b : Option Builtin) →
+      builtin_of name ≡ b →
+      signature_as b (context.functions name) ≡ signature → is_some signature ≡ true → fit_args signature js ≡ true →
+      ((s : Signature) → context.functions name ≡ Some s → s.widens ≡ false) →
       w.top + entry_or 0 chains name ≤ limit → Passing js vs ns → Stood cells →
-      CallFacts signature (called_as_c b (scope.known name) (scope.depth + 1) vs memory) (called_as b (ground.known name) (capped (base + ground.frame)) ns cells)
+      CallFacts signature (called_as_c b (scope.known name) (scope.depth + 1) vs memory)
+      (called_as b (ground.known name) (capped (base + ground.frame)) ns cells)
   called-agrees name None js vs ns cells b is signed there fit plain room passes stood = cc
   called-agrees name (Some s) js vs ns cells (Some b) is signed there fit plain room passes stood = record {
     s = s;
@@ -123,11 +144,18 @@ module _ (known : Sizes) (lists : Lists) (structs : Structs) (shaped : Shaped kn
   }
 
   later-facts : (signature : Option Signature) (n k : ℕ) (c : Called) (l : Left ℤ) → n ≡ k → CallFacts signature c l →
-      CallFacts signature (record { memory = c.memory; count = n + c.count; result = c.result }) (record { cells = l.cells; count = k + l.count; answer = l.answer })
+      CallFacts signature (record { memory = c.memory; count = n + c.count; result = c.result })
+      (record { cells = l.cells; count = k + l.count; answer = l.answer })
   later-facts signature n k c l same facts = record {
     s = facts.s;
     is = facts.is;
-    agrees = record { count = let e = facts.agrees.count in omega arith; answer = facts.agrees.answer; stands = facts.agrees.stands; range = facts.agrees.range };
+    agrees = record {
+      count = let e = facts.agrees.count in
+          omega arith;
+      answer = facts.agrees.answer;
+      stands = facts.agrees.stands;
+      range = facts.agrees.range;
+    };
     same = facts.same;
   }
 
@@ -145,8 +173,11 @@ module _ (known : Sizes) (lists : Lists) (structs : Structs) (shaped : Shaped kn
     same = λ has root t at. refl;
   }
 
-  after-args : (name : Text) (signature : Option Signature) (js : List JudgedArg) (n k : ℕ) (cells : Cells) (a : Option (List Passed)) (b : Option (List ℤ)) → n ≡ k → Stood cells → Matches (Passing js) a b →
-      is_some signature ≡ true → ((vs : List Passed) (ns : List ℤ) → Passing js vs ns → CallFacts signature (called_c scope name vs memory) (called ground name base ns cells)) →
+  after-args : (name : Text) (signature : Option Signature) (js : List JudgedArg) (n k : ℕ) (cells : Cells)
+      (a : Option (List Passed)) (b : Option (List ℤ)) →
+      n ≡ k → Stood cells → Matches (Passing js) a b →
+      is_some signature ≡ true →
+      ((vs : List Passed) (ns : List ℤ) → Passing js vs ns → CallFacts signature (called_c scope name vs memory) (called ground name base ns cells)) →
       CallFacts signature (called_after scope memory name n a) (going_on cells k b (λ after args. called ground name base args after))
   after-args name signature js n k cells None None same stood h there go = trapped-facts signature n k cells same there stood
   after-args name signature js n k cells None (Some b) same stood h there go = absurd h
@@ -155,8 +186,10 @@ module _ (known : Sizes) (lists : Lists) (structs : Structs) (shaped : Shaped kn
       later-facts signature n k (called_c scope name vs memory) (called ground name base ns cells) same (go vs ns h)
 
   -- a call
-  pub call-agrees : (name : Text) (signature : Option Signature) (js : List JudgedArg) (c : Counted (List Passed)) (l : Left (List ℤ)) → signature_as (builtin_of name) (context.functions name) ≡ signature →
-      is_some signature ≡ true → fit_args signature js ≡ true → ((s : Signature) → context.functions name ≡ Some s → s.widens ≡ false) → w.top + entry_or 0 chains name ≤ limit →
+  pub call-agrees : (name : Text) (signature : Option Signature) (js : List JudgedArg) (c : Counted (List Passed)) (l : Left (List ℤ)) →
+      signature_as (builtin_of name) (context.functions name) ≡ signature →
+      is_some signature ≡ true → fit_args signature js ≡ true → ((s : Signature) → context.functions name ≡ Some s → s.widens ≡ false) →
+      w.top + entry_or 0 chains name ≤ limit →
       Agree known lists structs shaped limit w memory (Passing js) c l →
       CallFacts signature (called_after scope memory name c.count c.answer) (next l (λ after args. called ground name base args after))
   call-agrees name signature js c l signed there fit plain room agrees =

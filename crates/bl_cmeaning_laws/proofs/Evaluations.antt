@@ -23,7 +23,8 @@ more-none l = let e : 0 + l.count ≡ l.count = omega arith in ap (λ n. record 
 more-twice : {A : Type 0} (n k : ℕ) (l : Left A) → more (n + k) l ≡ more n (more k l)
 more-twice n k l = let e : n + k + l.count ≡ n + (k + l.count) = omega arith in ap (λ m. record { cells = l.cells; count = m; answer = l.answer }) e
 
-going-inner : {A B : Type 0} (n k : ℕ) (cells : Cells) (answer : Option A) (g : Cells → A → Left B) → going_on cells (n + k) answer g ≡ more n (going_on cells k answer g)
+going-inner : {A B : Type 0} (n k : ℕ) (cells : Cells) (answer : Option A) (g : Cells → A → Left B) →
+    going_on cells (n + k) answer g ≡ more n (going_on cells k answer g)
 going-inner n k cells None g = refl
 going-inner n k cells (Some a) g = more-twice n k (g cells a)
 
@@ -41,7 +42,8 @@ along-append (x ∷ xs) ys at base cells =
     ap (λ f. going_on i.cells i.count i.answer f)
     (λ j after n. (ap (λ f. going_on after 0 (element_address x at n) f) (λ h same k. along-append xs ys k base same h)
     ∙ sym (going-assoc 0 after (element_address x at n) (λ same k. address_along xs k base same) (λ c k. address_along ys k base c))) j)
-    ∙ sym (going-assoc i.count i.cells i.answer (λ after n. next (left after (element_address x at n)) (λ same k. address_along xs k base same)) (λ c k. address_along ys k base c))
+    ∙ sym (going-assoc i.count i.cells i.answer (λ after n. next (left after (element_address x at n)) (λ same k. address_along xs k base same))
+    (λ c k. address_along ys k base c))
 
 module _ (known : Sizes) (lists : Lists) (structs : Structs) (shaped : Shaped known lists structs) (limit : ℕ) (w : World) (memory : Memory) where
   abbrev Stood : Cells → Type 0
@@ -53,11 +55,15 @@ module _ (known : Sizes) (lists : Lists) (structs : Structs) (shaped : Shaped kn
     pub stands : Stood l.cells
     pub answer : Matches R c.answer l.answer
 
-  pub at-once : {A B : Type 0} (R : A → B → Type 0) (cells : Cells) (a : Option A) (b : Option B) → Stood cells → Matches R a b → Agree R (given a) (left cells b)
+  pub at-once : {A B : Type 0} (R : A → B → Type 0) (cells : Cells) (a : Option A) (b : Option B) → Stood cells → Matches R a b →
+      Agree R (given a) (left cells b)
   at-once R cells a b stands h = record { count = refl; stands = stands; answer = h }
 
-  going-agrees : {A B C D : Type 0} (R : A → B → Type 0) (Q : C → D → Type 0) (n k : ℕ) (cells : Cells) (a : Option A) (b : Option B) (f : A → Counted C) (g : Cells → B → Left D) →
-      n ≡ k → Stood cells → Matches R a b → ((x : A) (y : B) (c : Cells) → R x y → Stood c → Agree Q (f x) (g c y)) → Agree Q (going_on_c n a f) (going_on cells k b g)
+  going-agrees : {A B C D : Type 0} (R : A → B → Type 0) (Q : C → D → Type 0) (n k : ℕ) (cells : Cells) (a : Option A)
+      (b : Option B) (f : A → Counted C)
+      (g : Cells → B → Left D) →
+      n ≡ k → Stood cells → Matches R a b → ((x : A) (y : B) (c : Cells) → R x y → Stood c → Agree Q (f x) (g c y)) →
+      Agree Q (going_on_c n a f) (going_on cells k b g)
   going-agrees R Q n k cells None None f g same stands h rest = record { count = same; stands = stands; answer = tt }
   going-agrees R Q n k cells None (Some b) f g same stands h rest = absurd h
   going-agrees R Q n k cells (Some a) None f g same stands h rest = absurd h
@@ -66,18 +72,21 @@ module _ (known : Sizes) (lists : Lists) (structs : Structs) (shaped : Shaped kn
       let e = r.count in
       record { count = omega arith; stands = r.stands; answer = r.answer }
 
-  pub next-agrees : {A B C D : Type 0} (R : A → B → Type 0) (Q : C → D → Type 0) (c : Counted A) (l : Left B) (f : A → Counted C) (g : Cells → B → Left D) →
+  pub next-agrees : {A B C D : Type 0} (R : A → B → Type 0) (Q : C → D → Type 0) (c : Counted A) (l : Left B) (f : A → Counted C)
+      (g : Cells → B → Left D) →
       Agree R c l → ((x : A) (y : B) (cells : Cells) → R x y → Stood cells → Agree Q (f x) (g cells y)) → Agree Q (next_c c f) (next l g)
   next-agrees R Q c l f g h rest = going-agrees R Q c.count l.count l.cells c.answer l.answer f g h.count h.stands h.answer rest
 
   mapped-agrees : {A B C : Type 0} (R : A → B → Type 0) (Q : C → B → Type 0) (n k : ℕ) (cells : Cells) (a : Option A) (b : Option B) (f : A → C) →
-      n ≡ k → Stood cells → Matches R a b → ((x : A) (y : B) → R x y → Q (f x) y) → Agree Q (going_on_c n a (λ x. given (Some (f x)))) (record { cells = cells; count = k; answer = b })
+      n ≡ k → Stood cells → Matches R a b → ((x : A) (y : B) → R x y → Q (f x) y) →
+      Agree Q (going_on_c n a (λ x. given (Some (f x)))) (record { cells = cells; count = k; answer = b })
   mapped-agrees R Q n k cells None None f same stands h rest = record { count = same; stands = stands; answer = tt }
   mapped-agrees R Q n k cells None (Some b) f same stands h rest = absurd h
   mapped-agrees R Q n k cells (Some a) None f same stands h rest = absurd h
   mapped-agrees R Q n k cells (Some a) (Some b) f same stands h rest = record { count = omega arith; stands = stands; answer = rest a b h }
 
   -- what is made of the one answer has to do with the other
-  pub made-agrees : {A B C : Type 0} (R : A → B → Type 0) (Q : C → B → Type 0) (c : Counted A) (l : Left B) (f : A → C) → Agree R c l → ((x : A) (y : B) → R x y → Q (f x) y) →
+  pub made-agrees : {A B C : Type 0} (R : A → B → Type 0) (Q : C → B → Type 0) (c : Counted A) (l : Left B) (f : A → C) → Agree R c l →
+      ((x : A) (y : B) → R x y → Q (f x) y) →
       Agree Q (next_c c (λ x. given (Some (f x)))) l
   made-agrees R Q c l f h rest = mapped-agrees R Q c.count l.count l.cells c.answer l.answer f h.count h.stands h.answer rest

@@ -35,12 +35,20 @@ pub record SlotFor (found : Option Slot) (v : Variable) (offset : ℕ) : Type 0 
   pub ty : slot.ty ≡ v.ty
   pub at : slot.at ≡ capped offset
 
-slot-first : (b : Bool) (k at : ℕ) (pointer : Bool) (ty : CType) (v : Variable) (size later : ℕ) (others : Option Variable) (rest : Option Slot) → k ≡ capped at →
+slot-first : (b : Bool) (k at : ℕ) (pointer : Bool) (ty : CType) (v : Variable) (size later : ℕ) (others : Option Variable) (rest : Option Slot) →
+    k ≡ capped at →
     (if b then Some (record { pointer = pointer; ty = ty }) else others) ≡ Some v → (others ≡ Some v → SlotFor rest v (at + size + later)) →
     SlotFor (if b then Some (record { at = k; pointer = pointer; ty = ty }) else rest) v (at + (if b then 0 else size + later))
 slot-first true k at pointer ty v size later others rest is h r =
     let e : record { pointer = pointer; ty = ty } ≡ v = some_of (record { pointer = pointer; ty = ty }) v h in
-    record { slot = record { at = k; pointer = pointer; ty = ty }; is = refl; pointer = ap (λ x. x.pointer) e; ty = ap (λ x. x.ty) e; at = is ∙ omega arith }
+    record {
+      slot = record { at = k; pointer = pointer; ty = ty };
+      is = refl;
+      pointer = ap (λ x. x.pointer) e;
+      ty =
+          ap (λ x. x.ty) e;
+      at = is ∙ omega arith;
+    }
 slot-first false k at pointer ty v size later others rest is h r =
     let s = r h in
     record { slot = s.slot; is = s.is; pointer = s.pointer; ty = s.ty; at = s.at ∙ omega arith }
@@ -58,31 +66,38 @@ module _ (list : List CStruct) where
   locals-slot at k [] name v is h = cc
   locals-slot at k (l ∷ locals) name v is h =
       let e = capped-type list l.ty in
-      slot-first (bytes_eq l.name name) k at false l.ty v (size_of_type (sizes list) l.ty) (offset_of (variable_size (sizes list)) (map local_variable locals) name) (found name (map local_variable locals))
+      slot-first (bytes_eq l.name name) k at false l.ty v (size_of_type (sizes list) l.ty)
+      (offset_of (variable_size (sizes list)) (map local_variable locals) name) (found name (map local_variable locals))
       (found name (locals_laid (capped_sizes list) (capped (k + size_of_type (capped_sizes list) l.ty)) locals)) is h
       (λ later. locals-slot (at + size_of_type (sizes list) l.ty) (capped (k + size_of_type (capped_sizes list) l.ty)) locals name v (omega arith) later)
 
-  pub params-slot : (at k : ℕ) (params : List CParam) (locals : List CLocal) (name : Text) (v : Variable) → k ≡ capped at → found name (entries params locals) ≡ Some v →
+  pub params-slot : (at k : ℕ) (params : List CParam) (locals : List CLocal) (name : Text) (v : Variable) → k ≡ capped at →
+      found name (entries params locals) ≡ Some v →
       SlotFor (found name (params_laid (capped_sizes list) k params locals)) v (at + offset_of (variable_size (sizes list)) (entries params locals) name)
   params-slot at k [] locals name v is h = locals-slot at k locals name v is h
   params-slot at k (p ∷ params) locals name v is h =
       let e = capped-param list p in
-      slot-first (bytes_eq p.name name) k at p.pointer p.ty v (variable_size (sizes list) (param_variable p).1) (offset_of (variable_size (sizes list)) (entries params locals) name) (found name (entries params locals))
+      slot-first (bytes_eq p.name name) k at p.pointer p.ty v (variable_size (sizes list) (param_variable p).1)
+      (offset_of (variable_size (sizes list)) (entries params locals) name) (found name (entries params locals))
       (found name (params_laid (capped_sizes list) (capped (k + size_of_param (capped_sizes list) p)) params locals)) is h
-      (λ later. params-slot (at + variable_size (sizes list) (param_variable p).1) (capped (k + size_of_param (capped_sizes list) p)) params locals name v (omega arith) later)
+      (λ later. params-slot (at + variable_size (sizes list) (param_variable p).1) (capped (k + size_of_param (capped_sizes list) p)) params locals name v
+      (omega arith) later)
 
   -- how many cells a frame has, in the end
-  locals-total : (locals : List CLocal) → capped (total (map (λ l. size_of_type (capped_sizes list) l.ty) locals)) ≡ capped (sum_of (variable_size (sizes list)) (map local_variable locals))
+  locals-total : (locals : List CLocal) →
+      capped (total (map (λ l. size_of_type (capped_sizes list) l.ty) locals)) ≡ capped (sum_of (variable_size (sizes list)) (map local_variable locals))
   locals-total [] = refl
   locals-total (l ∷ locals) = let e = capped-type list l.ty in let r = locals-total locals in omega arith
 
   pub frame-total : (params : List CParam) (locals : List CLocal) →
-      capped (total (map (size_of_param (capped_sizes list)) params) + total (map (λ l. size_of_type (capped_sizes list) l.ty) locals)) ≡ capped (sum_of (variable_size (sizes list)) (entries params locals))
+      capped (total (map (size_of_param (capped_sizes list)) params) + total (map (λ l. size_of_type (capped_sizes list) l.ty) locals))
+      ≡ capped (sum_of (variable_size (sizes list)) (entries params locals))
   frame-total [] locals = let r = locals-total locals in omega arith
   frame-total (p ∷ params) locals = let e = capped-param list p in let r = frame-total params locals in omega arith
 
 -- the same, as the definition of what a file needs has it
-locals-sum : (known : Sizes) (locals : List CLocal) → sum_of (variable_size known) (map local_variable locals) ≡ total (map (λ l. size_of_type known l.ty) locals)
+locals-sum : (known : Sizes) (locals : List CLocal) →
+    sum_of (variable_size known) (map local_variable locals) ≡ total (map (λ l. size_of_type known l.ty) locals)
 locals-sum known [] = refl
 locals-sum known (l ∷ locals) = ap (λ n. size_of_type known l.ty + n) (locals-sum known locals)
 

@@ -1,5 +1,28 @@
 -- The scalars of a type in order, and the cells before each.
-use Rattle.std.proofs.Common.{◌≡◌, ℕ, zero, suc, ◌+◌, ◌*◌, ◌≤◌, ◌<◌, Bool, true, false, List, [], ◌∷◌, ◌++◌, map, length, Option, Some, None, refl, ap, sym, subst, ◌∙◌, arith, append-nil, append_assoc, length-append, suc-mul, zero-mul}
+use Rattle.std.proofs.Common.{
+  ◌≡◌,
+  ℕ,
+  zero,
+  suc,
+  ◌+◌,
+  ◌*◌,
+  ◌≤◌,
+  ◌<◌,
+  Bool,
+  true,
+  false,
+  List,
+  [],
+  ◌∷◌,
+  ◌++◌,
+  map,
+  length,
+  Option,
+  Some,
+  None,
+  refl,
+}
+use Rattle.std.proofs.Common.{ap, sym, subst, ◌∙◌, arith, append-nil, append_assoc, length-append, suc-mul, zero-mul}
 use Rattle.std.specs.Prelude.{flat_map, is_some, is_none, bytes_eq, unwrap_or, option_map, option_and_then, nat_lt, if◌then◌else◌}
 use Rattle.std.specs.List.{list_all}
 use Rattle.std.specs.Option.{option_or}
@@ -14,7 +37,8 @@ use Rattle.bl_tree.specs.Reduce.{total}
 use Rattle.bl_cmeaning.specs.Cells.{Inner, below, inner_of_length, inner_of_member, inner_of_type, inside}
 use Rattle.bl_cmeaning.specs.Memory.{Part, member, element}
 use Rattle.bl_cmeaning.specs.Sizes.{Sizes, size_of_length, size_of_member, size_of_type}
-use Rattle.bl_cmeaning.specs.Faults.{distinct_names, declared_before, all_distinct, depth_of_struct, faults_in_struct, is_declared, member_table, struct_faults_after, unless}
+use Rattle.bl_cmeaning.specs.Faults.{distinct_names, declared_before, all_distinct, depth_of_struct, faults_in_struct, is_declared, member_table}
+use Rattle.bl_cmeaning.specs.Faults.{struct_faults_after, unless}
 use Rattle.bl_cmeaning.specs.Tables.{Table, found, no_entries, table_of, with_entry}
 use Rattle.bl_cmeaning.proofs.EndLemmas.{nil-left, nil-right}
 use Rattle.bl_cmeaning.proofs.MapLemmas.{next_entry}
@@ -48,7 +72,8 @@ module _ (known : Sizes) (lists : Lists) (structs : Structs) (shaped : Shaped kn
   -- each scalar is led to from a spot, and stands so many cells behind it
   abbrev pub Led : Spot → ℕ → List Inner → Type 0
   Led spot at [] = Unit {0}
-  Led spot at (i ∷ is) = ((walk structs (Some spot) i.parts ≡ Some (whole (OfScalar i.kind))) × (Offset (Some spot) i.parts ≡ at)) × Led spot (suc at) is
+  Led spot at (i ∷ is) = ((walk structs (Some spot) i.parts ≡ Some (whole (OfScalar i.kind))) × (Offset (Some spot) i.parts ≡ at))
+      × Led spot (suc at) is
 
   led-append : (spot : Spot) (at : ℕ) (xs ys : List Inner) → Led spot at xs → Led spot (at + length xs) ys → Led spot at (xs ++ ys)
   led-append spot at [] ys h k = let e : at + 0 ≡ at = omega arith in subst (λ n. Led spot n ys) e k
@@ -56,22 +81,31 @@ module _ (known : Sizes) (lists : Lists) (structs : Structs) (shaped : Shaped kn
       let e : at + suc (length xs) ≡ suc at + length xs = omega arith in
       (h.0, led-append spot (suc at) xs ys h.1 (subst (λ n. Led spot n ys) e k))
 
-  led-inside : (spot next : Spot) (p : Part) (at : ℕ) (is : List Inner) → step_in structs spot p ≡ Some next → Led next at is → Led spot (part_offset known lists spot p + at) (map (inside (p ∷ [])) is)
+  led-inside : (spot next : Spot) (p : Part) (at : ℕ) (is : List Inner) → step_in structs spot p ≡ Some next → Led next at is →
+      Led spot (part_offset known lists spot p + at) (map (inside (p ∷ [])) is)
   led-inside spot next p at [] steps h = tt
   led-inside spot next p at (i ∷ is) steps h =
       let e : part_offset known lists spot p + suc at ≡ suc (part_offset known lists spot p + at) = omega arith in (
-        (ap (λ o. walk structs o i.parts) steps ∙ h.0.0, ap (λ o. part_offset known lists spot p + Offset o i.parts) steps ∙ ap (λ n. part_offset known lists spot p + n) h.0.1),
+        (
+          ap (λ o. walk structs o i.parts) steps ∙ h.0.0,
+          ap (λ o. part_offset known lists spot p + Offset o i.parts) steps
+              ∙ ap (λ n. part_offset known lists spot p + n) h.0.1,
+        ),
         subst (λ n. Led spot n (map (inside (p ∷ [])) is)) e (led-inside spot next p (suc at) is steps h.1),
       )
 
-  led-inside-two : (spot mid next : Spot) (p q : Part) (at : ℕ) (is : List Inner) → step_in structs spot p ≡ Some mid → step_in structs mid q ≡ Some next → Led next at is →
+  led-inside-two : (spot mid next : Spot) (p q : Part) (at : ℕ) (is : List Inner) → step_in structs spot p ≡ Some mid →
+      step_in structs mid q ≡ Some next →
+      Led next at is →
       Led spot (part_offset known lists spot p + (part_offset known lists mid q + at)) (map (inside (p ∷ q ∷ [])) is)
   led-inside-two spot mid next p q at [] first second h = tt
   led-inside-two spot mid next p q at (i ∷ is) first second h =
-      let e : part_offset known lists spot p + (part_offset known lists mid q + suc at) ≡ suc (part_offset known lists spot p + (part_offset known lists mid q + at)) = omega arith in (
+      let e : part_offset known lists spot p + (part_offset known lists mid q + suc at)
+      ≡ suc (part_offset known lists spot p + (part_offset known lists mid q + at)) = omega arith in (
         (
           ap (λ o. walk structs o (q ∷ i.parts)) first ∙ ap (λ o. walk structs o i.parts) second ∙ h.0.0,
-          ap (λ o. part_offset known lists spot p + Offset o (q ∷ i.parts)) first ∙ ap (λ o. part_offset known lists spot p + (part_offset known lists mid q + Offset o i.parts)) second
+          ap (λ o. part_offset known lists spot p + Offset o (q ∷ i.parts)) first
+              ∙ ap (λ o. part_offset known lists spot p + (part_offset known lists mid q + Offset o i.parts)) second
               ∙ ap (λ n. part_offset known lists spot p + (part_offset known lists mid q + n)) h.0.1,
         ),
         subst (λ n. Led spot n (map (inside (p ∷ q ∷ [])) is)) e (led-inside-two spot mid next p q (suc at) is first second h.1),
@@ -91,26 +125,36 @@ module _ (known : Sizes) (lists : Lists) (structs : Structs) (shaped : Shaped kn
 
   -- the elements of an array, in order
   led-row : (spot : Spot) (name : Text) (n m : ℕ) (ty : CType) → step_in structs spot (member name) ≡ Some (row n ty) → LedType ty → m ≤ n →
-      Led spot (part_offset known lists spot (member name)) (flat_map (λ k. map (inside (member name ∷ element k ∷ [])) (inner_of_type scalars ty)) (below m))
+      Led spot (part_offset known lists spot (member name))
+      (flat_map (λ k. map (inside (member name ∷ element k ∷ [])) (inner_of_type scalars ty)) (below m))
       × (length (flat_map (λ k. map (inside (member name ∷ element k ∷ [])) (inner_of_type scalars ty)) (below m)) ≡ m * size_of_type known ty)
   led-row spot name n zero ty steps t fits = (tt, sym (zero-mul (size_of_type known ty)))
   led-row spot name n (suc m) ty steps t fits =
       let before = led-row spot name n m ty steps t (omega arith) in
       let split : flat_map (λ k. map (inside (member name ∷ element k ∷ [])) (inner_of_type scalars ty)) (below m ++ m ∷ [])
-      ≡ flat_map (λ k. map (inside (member name ∷ element k ∷ [])) (inner_of_type scalars ty)) (below m) ++ (map (inside (member name ∷ element m ∷ [])) (inner_of_type scalars ty) ++ []) =
+      ≡ flat_map (λ k. map (inside (member name ∷ element k ∷ [])) (inner_of_type scalars ty)) (below m)
+      ++ (map (inside (member name ∷ element m ∷ [])) (inner_of_type scalars ty) ++ []) =
       flat-append (λ k. map (inside (member name ∷ element k ∷ [])) (inner_of_type scalars ty)) (below m) (m ∷ []) in
-      let here : Led spot (part_offset known lists spot (member name) + (m * size_of_type known ty + 0)) (map (inside (member name ∷ element m ∷ [])) (inner_of_type scalars ty)) =
+      let here : Led spot (part_offset known lists spot (member name) + (m * size_of_type known ty + 0))
+      (map (inside (member name ∷ element m ∷ [])) (inner_of_type scalars ty)) =
       led-inside-two spot (row n ty) (whole ty) (member name) (element m) 0 (inner_of_type scalars ty) steps (within-so m n ty (omega arith)) t.led in
       let long = length-inside (member name ∷ element m ∷ []) (inner_of_type scalars ty) in
       let tl = t.long in
       let bl = before.1 in
-      let at : part_offset known lists spot (member name) + (m * size_of_type known ty + 0) ≡ part_offset known lists spot (member name) + length (flat_map (λ k. map (inside (member name ∷ element k ∷ [])) (inner_of_type scalars ty)) (below m)) = omega arith in
-      let la = length-append (flat_map (λ k. map (inside (member name ∷ element k ∷ [])) (inner_of_type scalars ty)) (below m)) (map (inside (member name ∷ element m ∷ [])) (inner_of_type scalars ty) ++ []) in
+      let at : part_offset known lists spot (member name) + (m * size_of_type known ty + 0)
+      ≡ part_offset known lists spot (member name) + length
+      (flat_map (λ k. map (inside (member name ∷ element k ∷ [])) (inner_of_type scalars ty)) (below m)) = omega arith in
+      let la = length-append (flat_map (λ k. map (inside (member name ∷ element k ∷ [])) (inner_of_type scalars ty)) (below m))
+      (map (inside (member name ∷ element m ∷ [])) (inner_of_type scalars ty) ++ []) in
       let ln = ap length (append-nil (map (inside (member name ∷ element m ∷ [])) (inner_of_type scalars ty))) in
       let mul = suc-mul m (size_of_type known ty) in (
         subst (Led spot (part_offset known lists spot (member name))) (sym split)
-            (led-append spot (part_offset known lists spot (member name)) (flat_map (λ k. map (inside (member name ∷ element k ∷ [])) (inner_of_type scalars ty)) (below m)) (map (inside (member name ∷ element m ∷ [])) (inner_of_type scalars ty) ++ []) before.0
-            (subst (Led spot (part_offset known lists spot (member name) + length (flat_map (λ k. map (inside (member name ∷ element k ∷ [])) (inner_of_type scalars ty)) (below m)))) (sym (append-nil (map (inside (member name ∷ element m ∷ [])) (inner_of_type scalars ty))))
+            (led-append spot (part_offset known lists spot (member name))
+            (flat_map (λ k. map (inside (member name ∷ element k ∷ [])) (inner_of_type scalars ty)) (below m))
+            (map (inside (member name ∷ element m ∷ [])) (inner_of_type scalars ty) ++ []) before.0
+            (subst (Led spot (part_offset known lists spot (member name) + length
+            (flat_map (λ k. map (inside (member name ∷ element k ∷ [])) (inner_of_type scalars ty)) (below m))))
+            (sym (append-nil (map (inside (member name ∷ element m ∷ [])) (inner_of_type scalars ty))))
             (subst (λ k. Led spot k (map (inside (member name ∷ element m ∷ [])) (inner_of_type scalars ty))) at here))),
         ap length split ∙ omega arith,
       )
@@ -121,28 +165,34 @@ module _ (known : Sizes) (lists : Lists) (structs : Structs) (shaped : Shaped kn
   led-member spot m steps t = chosen m.length steps
     where
       chosen : (l : Option ℕ) → step_in structs spot (member m.name) ≡ Some (spot_of_length m.ty l) →
-          Led spot (part_offset known lists spot (member m.name)) (inner_of_length m.name l (inner_of_type scalars m.ty)) × (length (inner_of_length m.name l (inner_of_type scalars m.ty)) ≡ size_of_length l (size_of_type known m.ty))
+          Led spot (part_offset known lists spot (member m.name)) (inner_of_length m.name l (inner_of_type scalars m.ty))
+          × (length (inner_of_length m.name l (inner_of_type scalars m.ty)) ≡ size_of_length l (size_of_type known m.ty))
       chosen None steps =
           let e : part_offset known lists spot (member m.name) + 0 ≡ part_offset known lists spot (member m.name) = omega arith in (
-            subst (λ n. Led spot n (map (inside (member m.name ∷ [])) (inner_of_type scalars m.ty))) e (led-inside spot (whole m.ty) (member m.name) 0 (inner_of_type scalars m.ty) steps t.led),
+            subst (λ n. Led spot n (map (inside (member m.name ∷ [])) (inner_of_type scalars m.ty))) e
+                (led-inside spot (whole m.ty) (member m.name) 0 (inner_of_type scalars m.ty) steps t.led),
             length-inside (member m.name ∷ []) (inner_of_type scalars m.ty) ∙ t.long,
           )
       chosen (Some n) steps = led-row spot m.name n n m.ty steps t (omega arith)
 
   -- the members of a struct, one behind the other
-  led-members : (struct : Text) (all : List CMember) (behind : ℕ) (ms : List CMember) → lists struct ≡ Some all → Positioned (size_of_member known) (by_name all) behind (by_name ms) →
+  led-members : (struct : Text) (all : List CMember) (behind : ℕ) (ms : List CMember) → lists struct ≡ Some all →
+      Positioned (size_of_member known) (by_name all) behind (by_name ms) →
       ((m : CMember) → found m.name (by_name all) ≡ Some m → step_in structs (whole (OfStruct struct)) (member m.name) ≡ Some (spot_of m)) →
       ((m : CMember) → found m.name (by_name all) ≡ Some m → LedType m.ty) →
-      Led (whole (OfStruct struct)) behind (flat_map (inner_of_member scalars) ms) × (length (flat_map (inner_of_member scalars) ms) ≡ total (map (size_of_member known) ms))
+      Led (whole (OfStruct struct)) behind (flat_map (inner_of_member scalars) ms)
+      × (length (flat_map (inner_of_member scalars) ms) ≡ total (map (size_of_member known) ms))
   led-members struct all behind [] is positions steps types = (tt, refl)
   led-members struct all behind (m ∷ ms) is positions steps types =
       let here = led-member (whole (OfStruct struct)) m (steps m positions.0.0) (types m positions.0.0) in
-      let at : part_offset known lists (whole (OfStruct struct)) (member m.name) ≡ behind = ap (λ o. offset_in known (unwrap_or o []) m.name) is ∙ positions.0.1 in
+      let at : part_offset known lists (whole (OfStruct struct)) (member m.name) ≡ behind =
+      ap (λ o. offset_in known (unwrap_or o []) m.name) is ∙ positions.0.1 in
       let rest = led-members struct all (behind + size_of_member known m) ms is positions.1 steps types in
       let long = here.1 in
       let more = rest.1 in
       let la = length-append (inner_of_member scalars m) (flat_map (inner_of_member scalars) ms) in (
-        led-append (whole (OfStruct struct)) behind (inner_of_member scalars m) (flat_map (inner_of_member scalars) ms) (subst (λ n. Led (whole (OfStruct struct)) n (inner_of_member scalars m)) at here.0)
+        led-append (whole (OfStruct struct)) behind (inner_of_member scalars m) (flat_map (inner_of_member scalars) ms)
+            (subst (λ n. Led (whole (OfStruct struct)) n (inner_of_member scalars m)) at here.0)
             (subst (λ n. Led (whole (OfStruct struct)) (behind + n) (flat_map (inner_of_member scalars) ms)) (sym long) rest.0),
         omega arith,
       )
@@ -163,28 +213,35 @@ module _ (known : Sizes) (lists : Lists) (structs : Structs) (shaped : Shaped kn
   member-names [] = refl
   member-names (m ∷ ms) = ap (λ ns. m.name ∷ ns) (member-names ms)
 
-  all-so : (p : CMember → Bool) (name : Text) (m : CMember) (ms : List CMember) → found name (by_name ms) ≡ Some m → list_all p ms ≡ true → p m ≡ true
+  all-so : (p : CMember → Bool) (name : Text) (m : CMember) (ms : List CMember) → found name (by_name ms) ≡ Some m →
+      list_all p ms ≡ true → p m ≡ true
   all-so p name m [] h all = cc
   all-so p name m (x ∷ ms) h all = chosen (bytes_eq x.name name) h (λ later. all-so p name m ms later (and-right (p x) _ all))
     where
-      chosen : (b : Bool) → (if b then Some x else found name (by_name ms)) ≡ Some m → (found name (by_name ms) ≡ Some m → p m ≡ true) → p m ≡ true
+      chosen : (b : Bool) → (if b then Some x else found name (by_name ms)) ≡ Some m →
+          (found name (by_name ms) ≡ Some m → p m ≡ true) → p m ≡ true
       chosen true h rest = ap p (sym (some_of x m h)) ∙ and-left (p x) _ all
       chosen false h rest = rest h
 
   -- a struct over those before it
-  led-struct : (table : Structs) (name : Text) (ms : List CMember) → Done table → lists name ≡ Some ms → all_distinct no_entries (map (λ m. m.name) ms) ≡ true → list_all (λ m. is_declared table m.ty) ms ≡ true → LedType (OfStruct name)
+  led-struct : (table : Structs) (name : Text) (ms : List CMember) → Done table → lists name ≡ Some ms →
+      all_distinct no_entries (map (λ m. m.name) ms) ≡ true → list_all (λ m. is_declared table m.ty) ms ≡ true → LedType (OfStruct name)
   led-struct table name ms done is apart declared =
-      let places : Positioned (size_of_member known) (by_name ms) 0 (by_name ms) = positioned (size_of_member known) no_entries (by_name ms) (ap (all_distinct no_entries) (sym (member-names ms)) ∙ apart) in
+      let places : Positioned (size_of_member known) (by_name ms) 0 (by_name ms) =
+      positioned (size_of_member known) no_entries (by_name ms) (ap (all_distinct no_entries) (sym (member-names ms)) ∙ apart) in
       let steps : (m : CMember) → found m.name (by_name ms) ≡ Some m → step_in structs (whole (OfStruct name)) (member m.name) ≡ Some (spot_of m) =
-      λ m there. ap (λ o. spot_if (option_and_then (λ members. members m.name) o)) (shaped.tables name ∙ ap (option_map (λ xs. table_of (by_name xs))) is) ∙ ap spot_if there in
-      let all = led-members name ms 0 ms is places steps (λ m there. led-declared table done m.ty (all-so (λ x. is_declared table x.ty) m.name m ms there declared)) in
+      λ m there. ap (λ o. spot_if (option_and_then (λ members. members m.name) o)) (shaped.tables name ∙ ap (option_map (λ xs. table_of (by_name xs))) is)
+      ∙ ap spot_if there in
+      let all = led-members name ms 0 ms is places steps
+      (λ m there. led-declared table done m.ty (all-so (λ x. is_declared table x.ty) m.name m ms there declared)) in
       let scalars-are : inner_of_type scalars (OfStruct name) ≡ flat_map (inner_of_member scalars) ms = ap (λ o. unwrap_or o []) (inner name ms is) in
       record {
         led = subst (Led (whole (OfStruct name)) 0) (sym scalars-are) all.0;
         long = ap length scalars-are ∙ all.1 ∙ sym (ap (λ o. unwrap_or o 0) (shaped.sized name ms is));
       }
 
-  first-listed : (o : Option (List CMember)) (b : Bool) (ms : List CMember) (rest : Option (List CMember)) → o ≡ None → b ≡ true → option_or o (if b then Some ms else rest) ≡ Some ms
+  first-listed : (o : Option (List CMember)) (b : Bool) (ms : List CMember) (rest : Option (List CMember)) → o ≡ None → b ≡ true →
+      option_or o (if b then Some ms else rest) ≡ Some ms
   first-listed None true ms rest h k = refl
   first-listed None false ms rest h k = cc
   first-listed (Some x) b ms rest h k = cc
@@ -201,21 +258,26 @@ module _ (known : Sizes) (lists : Lists) (structs : Structs) (shaped : Shaped kn
   or-together None None true v u h = refl
   or-together None None false v u h = refl
 
-  pub led-all : (table : Structs) (before : Lists) (depths : Table ℕ) (rest : List CStruct) → ((name : Text) → is_some (before name) ≡ is_some (table name)) →
-      ((name : Text) → lists name ≡ option_or (before name) (found name (map (λ s. (s.name, s.members)) rest))) → Done table → struct_faults_after table depths rest ≡ [] → Done (entries_after member_table table rest)
+  pub led-all : (table : Structs) (before : Lists) (depths : Table ℕ) (rest : List CStruct) →
+      ((name : Text) → is_some (before name) ≡ is_some (table name)) →
+      ((name : Text) → lists name ≡ option_or (before name) (found name (map (λ s. (s.name, s.members)) rest))) → Done table →
+      struct_faults_after table depths rest ≡ [] → Done (entries_after member_table table rest)
   led-all table before depths [] together all done none = done
   led-all table before depths (s ∷ rest) together all done none =
       let here : faults_in_struct table depths s ≡ [] = nil-left (faults_in_struct table depths s) _ none in
       let h1 = nil-right (unless (is_none (table s.name)) distinct_names s.place) _ here in
-      let declared = unless-nil _ declared_before s.place (nil-left (unless (list_all (λ m. is_declared table m.ty) s.members) declared_before s.place) _ h1) in
+      let declared = unless-nil _ declared_before s.place
+      (nil-left (unless (list_all (λ m. is_declared table m.ty) s.members) declared_before s.place) _ h1) in
       let h2 = nil-right (unless (list_all (λ m. is_declared table m.ty) s.members) declared_before s.place) _ h1 in
-      let apart = unless-nil _ distinct_names s.place (nil-left (unless (all_distinct no_entries (map (λ m. m.name) s.members)) distinct_names s.place) _ h2) in
+      let apart = unless-nil _ distinct_names s.place (nil-left
+      (unless (all_distinct no_entries (map (λ m. m.name) s.members)) distinct_names s.place) _ h2) in
       led-all (with_entry table s.name (member_table s)) (with_entry before s.name s.members) (with_entry depths s.name (depth_of_struct depths s)) rest
       (λ name. or-together (before name) (table name) (bytes_eq s.name name) s.members (member_table s) (together name))
       (λ name. all name ∙ sym (next_entry (before name) (bytes_eq s.name name) s.members (found name (map (λ t. (t.name, t.members)) rest))))
       (λ name h. chosen declared apart name (table name) refl h) (nil-right (faults_in_struct table depths s) _ none)
     where
-      chosen : list_all (λ m. is_declared table m.ty) s.members ≡ true → all_distinct no_entries (map (λ m. m.name) s.members) ≡ true → (name : Text) (o : Option (Table CMember)) → table name ≡ o →
+      chosen : list_all (λ m. is_declared table m.ty) s.members ≡ true → all_distinct no_entries (map (λ m. m.name) s.members) ≡ true →
+          (name : Text) (o : Option (Table CMember)) → table name ≡ o →
           is_some (option_or o (if bytes_eq s.name name then Some (member_table s) else None)) ≡ true → LedType (OfStruct name)
       chosen declared apart name (Some x) is h = done name (ap is_some is)
       chosen declared apart name None is h = new (bytes_eq s.name name) refl h
@@ -224,4 +286,5 @@ module _ (known : Sizes) (lists : Lists) (structs : Structs) (shaped : Shaped kn
           new false same h = cc
           new true same h =
               led-struct table name s.members done
-              (all name ∙ first-listed (before name) (bytes_eq s.name name) s.members (found name (map (λ t. (t.name, t.members)) rest)) (none-of (before name) (together name ∙ ap is_some is)) same) apart declared
+              (all name ∙ first-listed (before name) (bytes_eq s.name name) s.members (found name (map (λ t. (t.name, t.members)) rest))
+              (none-of (before name) (together name ∙ ap is_some is)) same) apart declared

@@ -14,6 +14,7 @@ pub mod Running
 pub mod Values
 pub mod FlatPlaces
 pub mod Calls
+pub mod Folds
 pub mod Expressions
 pub mod Statements
 pub mod Effects

@@ -1,5 +1,28 @@
 -- Tests of each element of a list.
-use Rattle.std.proofs.Common.{◌≡◌, ℕ, zero, suc, ◌<◌, Bool, true, false, not, ◌&&◌, List, [], ◌∷◌, ◌++◌, map, Option, Some, None, refl, ap, sym, subst, ◌∙◌, arith}
+use Rattle.std.proofs.Common.{
+  ◌≡◌,
+  ℕ,
+  zero,
+  suc,
+  ◌<◌,
+  Bool,
+  true,
+  false,
+  not,
+  ◌&&◌,
+  List,
+  [],
+  ◌∷◌,
+  ◌++◌,
+  map,
+  Option,
+  Some,
+  None,
+  refl,
+  ap,
+  sym,
+}
+use Rattle.std.proofs.Common.{subst, ◌∙◌, arith}
 use Rattle.std.specs.Prelude.{flat_map, is_some, is_none, bytes_eq, nat_lt, ◌==◌, if◌then◌else◌}
 use Rattle.std.specs.List.{list_all}
 use Rattle.std.specs.Option.{option_or}
@@ -49,7 +72,8 @@ all-true p h (x ∷ xs) = and-both (p x) (list_all p xs) (h x) (all-true p h xs)
 
 -- ---- the numbers below one
 
-at-or-before : (p : ℕ → Bool) (n k : ℕ) (b : Bool) → nat_lt k n ≡ b → nat_lt k (suc n) ≡ true → (nat_lt k n ≡ true → p k ≡ true) → p n ≡ true → p k ≡ true
+at-or-before : (p : ℕ → Bool) (n k : ℕ) (b : Bool) → nat_lt k n ≡ b → nat_lt k (suc n) ≡ true → (nat_lt k n ≡ true → p k ≡ true) →
+    p n ≡ true → p k ≡ true
 at-or-before p n k true is within earlier last = earlier is
 at-or-before p n k false is within earlier last = let same : k ≡ n = grind (arith, common_steps) in ap p same ∙ last
 
@@ -65,13 +89,16 @@ other-or-same p q k n true is here there = let same : k ≡ n = grind (arith, co
 other-or-same p q k n false is here there = there is
 
 -- the test holds of one number, and of each other one for which another test does
-pub all-below-but : (p q : ℕ → Bool) (k : ℕ) → q k ≡ true → ((j : ℕ) → (k == j) ≡ false → p j ≡ true → q j ≡ true) → (n : ℕ) → list_all p (below n) ≡ true → list_all q (below n) ≡ true
+pub all-below-but : (p q : ℕ → Bool) (k : ℕ) → q k ≡ true → ((j : ℕ) → (k == j) ≡ false → p j ≡ true → q j ≡ true) → (n : ℕ) →
+    list_all p (below n) ≡ true →
+    list_all q (below n) ≡ true
 all-below-but p q k here there zero all = refl
 all-below-but p q k here there (suc n) all =
     let both : (list_all p (below n) && (p n && true)) ≡ true = sym (all-append p (below n) (n ∷ [])) ∙ all in
     all-append q (below n) (n ∷ [])
     ∙ and-both (list_all q (below n)) (q n && true) (all-below-but p q k here there n (and-left _ _ both))
-    (and-both (q n) true (other-or-same p q k n (k == n) refl here (λ is. there n is (and-left (p n) true (and-right (list_all p (below n)) (p n && true) both)))) refl)
+    (and-both (q n) true
+    (other-or-same p q k n (k == n) refl here (λ is. there n is (and-left (p n) true (and-right (list_all p (below n)) (p n && true) both)))) refl)
 
 -- ---- what is found by name
 
@@ -88,9 +115,12 @@ not-both : (o : Option (Unit {0})) → is_some o ≡ true → is_none o ≡ true
 not-both (Some u) h k = let x : false ≡ true = k in cc
 not-both None h k = let x : false ≡ true = h in cc
 
-differs : (names : Table (Unit {0})) (other name : Text) → is_some (names name) ≡ true → is_none (names other) ≡ true → (b : Bool) → bytes_eq other name ≡ b → not b ≡ true
+differs : (names : Table (Unit {0})) (other name : Text) → is_some (names name) ≡ true → is_none (names other) ≡ true → (b : Bool) →
+    bytes_eq other name ≡ b →
+    not b ≡ true
 differs names other name there absent false is = refl
-differs names other name there absent true is = absurd (not-both (names other) (subst (λ n. is_some (names n) ≡ true) (sym ((bytes_eq-Decides other name).0 is)) there) absent)
+differs names other name there absent true is =
+    absurd (not-both (names other) (subst (λ n. is_some (names n) ≡ true) (sym ((bytes_eq-Decides other name).0 is)) there) absent)
 
 falsely : (b : Bool) → not b ≡ true → b ≡ false
 falsely false h = refl
@@ -103,7 +133,9 @@ module _ {A : Type 0} (name_of : A → Text) where
   some_of : (a b : A) → Some a ≡ Some b → a ≡ b
   some_of a b h = cc
 
-  now-or-later : (p : A → Bool) (x y : A) (rest : Option A) (b : Bool) → (if b then Some x else rest) ≡ Some y → p x ≡ true → (rest ≡ Some y → p y ≡ true) → p y ≡ true
+  now-or-later : (p : A → Bool) (x y : A) (rest : Option A) (b : Bool) → (if b then Some x else rest) ≡ Some y → p x ≡ true →
+      (rest ≡ Some y → p y ≡ true) →
+      p y ≡ true
   now-or-later p x y rest true is here later = subst (λ z. p z ≡ true) (some_of x y is) here
   now-or-later p x y rest false is here later = later is
 
@@ -120,7 +152,8 @@ module _ {A : Type 0} (name_of : A → Text) where
   added-name names name = added (names name) (bytes_eq name name) ((bytes_eq-Decides name name).1 refl)
 
   -- a name that stands among others isn't one of distinct names after them
-  other-names : (names : Table (Unit {0})) (name : Text) → is_some (names name) ≡ true → (xs : List A) → all_distinct names (map name_of xs) ≡ true →
+  other-names : (names : Table (Unit {0})) (name : Text) → is_some (names name) ≡ true → (xs : List A) →
+      all_distinct names (map name_of xs) ≡ true →
       list_all (λ x. not (bytes_eq (name_of x) name)) xs ≡ true
   other-names names name there [] apart = refl
   other-names names name there (x ∷ xs) apart =
@@ -136,9 +169,12 @@ module _ {A : Type 0} (name_of : A → Text) where
       (there x (falsely (bytes_eq (name_of x) name) (and-left (not (bytes_eq (name_of x) name)) _ apart)) (and-left (p x) _ all))
       (all-others p q name there xs (and-right (not (bytes_eq (name_of x) name)) _ apart) (and-right (p x) _ all))
 
-  found-or-other : (p q : A → Bool) (name : Text) (y : A) → q y ≡ true → ((x : A) → bytes_eq (name_of x) name ≡ false → p x ≡ true → q x ≡ true) →
-      (names : Table (Unit {0})) (x : A) (xs : List A) → all_distinct (with_entry names (name_of x) tt) (map name_of xs) ≡ true → list_all p (x ∷ xs) ≡ true →
-      (b : Bool) → bytes_eq (name_of x) name ≡ b → (if b then Some x else found name (named xs)) ≡ Some y → (found name (named xs) ≡ Some y → list_all q xs ≡ true) → list_all q (x ∷ xs) ≡ true
+  found-or-other : (p q : A → Bool) (name : Text) (y : A) → q y ≡ true →
+      ((x : A) → bytes_eq (name_of x) name ≡ false → p x ≡ true → q x ≡ true) →
+      (names : Table (Unit {0})) (x : A) (xs : List A) → all_distinct (with_entry names (name_of x) tt) (map name_of xs) ≡ true →
+      list_all p (x ∷ xs) ≡ true →
+      (b : Bool) → bytes_eq (name_of x) name ≡ b → (if b then Some x else found name (named xs)) ≡ Some y →
+      (found name (named xs) ≡ Some y → list_all q xs ≡ true) → list_all q (x ∷ xs) ≡ true
   found-or-other p q name y here there names x xs apart all true same is later =
       let among : is_some (with_entry names (name_of x) tt name) ≡ true =
       subst (λ n. is_some (with_entry names (name_of x) tt n) ≡ true) ((bytes_eq-Decides (name_of x) name).0 same) (added-name names (name_of x)) in
@@ -148,9 +184,13 @@ module _ {A : Type 0} (name_of : A → Text) where
       and-both (q x) (list_all q xs) (there x same (and-left (p x) _ all)) (later is)
 
   -- the test holds of the one that is found, and of each other one for which another test does
-  pub all-found-but : (p q : A → Bool) (name : Text) (y : A) → q y ≡ true → ((x : A) → bytes_eq (name_of x) name ≡ false → p x ≡ true → q x ≡ true) →
-      (names : Table (Unit {0})) (xs : List A) → all_distinct names (map name_of xs) ≡ true → found name (named xs) ≡ Some y → list_all p xs ≡ true → list_all q xs ≡ true
+  pub all-found-but : (p q : A → Bool) (name : Text) (y : A) → q y ≡ true →
+      ((x : A) → bytes_eq (name_of x) name ≡ false → p x ≡ true → q x ≡ true) →
+      (names : Table (Unit {0})) (xs : List A) → all_distinct names (map name_of xs) ≡ true → found name (named xs) ≡ Some y →
+      list_all p xs ≡ true →
+      list_all q xs ≡ true
   all-found-but p q name y here there names [] apart is all = refl
   all-found-but p q name y here there names (x ∷ xs) apart is all =
       found-or-other p q name y here there names x xs (and-right (is_none (names (name_of x))) _ apart) all (bytes_eq (name_of x) name) refl is
-      (λ later. all-found-but p q name y here there (with_entry names (name_of x) tt) xs (and-right (is_none (names (name_of x))) _ apart) later (and-right (p x) _ all))
+      (λ later. all-found-but p q name y here there (with_entry names (name_of x) tt) xs (and-right (is_none (names (name_of x))) _ apart) later
+      (and-right (p x) _ all))

@@ -1,5 +1,29 @@
 -- Memories that fit a file.
-use Rattle.std.proofs.Common.{◌≡◌, ℕ, ℤ, pos, Bool, true, false, ◌&&◌, List, [], ◌∷◌, ◌++◌, map, Option, Some, None, refl, ap, sym, subst, ◌∙◌, arith, append-nil}
+use Rattle.std.proofs.Common.{
+  ◌≡◌,
+  ℕ,
+  ℤ,
+  pos,
+  Bool,
+  true,
+  false,
+  ◌&&◌,
+  List,
+  [],
+  ◌∷◌,
+  ◌++◌,
+  map,
+  Option,
+  Some,
+  None,
+  refl,
+  ap,
+  sym,
+  subst,
+  ◌∙◌,
+  arith,
+}
+use Rattle.std.proofs.Common.{append-nil}
 use Rattle.std.specs.Prelude.{bytes_eq, ◌==◌, codes, if◌then◌else◌}
 use Rattle.std.specs.List.{list_all}
 use Rattle.std.proofs.lemmas.Grind.{common_steps}
@@ -17,9 +41,11 @@ use Rattle.bl_tree.specs.Scalar.{in_range}
 use Rattle.bl_cmeaning.specs.Parts.{Parts}
 use Rattle.bl_cmeaning.specs.Tables.{Table}
 use Rattle.bl_cmeaning.specs.Faults.{WellFormed, struct_table}
-use Rattle.bl_cmeaning.specs.Memory.{Part, Root, state_object, input_object, output_object, variable, Location, CValue, Memory, same_root, with_part, set_at, value_at, cleared, zeros}
+use Rattle.bl_cmeaning.specs.Memory.{Part, Root, state_object, input_object, output_object, variable, Location, CValue, Memory, same_root, with_part}
+use Rattle.bl_cmeaning.specs.Memory.{set_at, value_at, cleared, zeros}
 use Rattle.bl_cmeaning.specs.Cells.{Inner, inner_of_type, inner_of, cells_at, cells_of}
-use Rattle.bl_cmeaning_laws.specs.Fitting.{Spot, whole, row, scalars, holds, fits, walk, whole_type, whole_spot, RootTypes, place_type, fits_where, MemoryFits, ObjectsAre, cell_holds, ClearedFits, ReadingFits, SettingFits, CellsFit}
+use Rattle.bl_cmeaning_laws.specs.Fitting.{Spot, whole, row, scalars, holds, fits, walk, whole_type, whole_spot, RootTypes, place_type, fits_where}
+use Rattle.bl_cmeaning_laws.specs.Fitting.{MemoryFits, ObjectsAre, cell_holds, ClearedFits, ReadingFits, SettingFits, CellsFit}
 use Rattle.bl_cmeaning_laws.proofs.Lists.{all-append, all-map, all-same, all-true, and-both, and-left, and-right}
 use Rattle.bl_cmeaning_laws.proofs.Members.{AllLaidOut, Scalars, Structs, laid-out}
 use Rattle.bl_cmeaning_laws.proofs.Places.{read-walk, set-walk, spot_fits, walk-nowhere}
@@ -83,37 +109,45 @@ root-is (variable d m) (variable e n) h =
     ap (λ x. variable x m) same ∙ ap (variable e) ((bytes_eq-Decides m n).0 (and-right (d == e) (bytes_eq m n) h))
 
 module _ (known : Scalars) (structs : Structs) (laid : AllLaidOut known structs) where
-  read-where : (root : Option CType) (parts : List Part) (ty : CType) (v : CValue) → whole_type (walk structs (whole_spot root) parts) ≡ Some ty → fits_where known root v ≡ true →
+  read-where : (root : Option CType) (parts : List Part) (ty : CType) (v : CValue) → whole_type (walk structs (whole_spot root) parts) ≡ Some ty →
+      fits_where known root v ≡ true →
       fits known ty (λ way. v (parts ++ way)) ≡ true
   read-where None parts ty v h fit = let x : None ≡ Some ty = sym (ap whole_type (walk-nowhere known structs laid parts)) ∙ h in cc
   read-where (Some t) parts ty v h fit = read-walk known structs laid parts (whole t) (whole ty) v (whole-is (walk structs (Some (whole t)) parts) ty h) fit
 
-  set-where : (root : Option CType) (parts : List Part) (ty : CType) (v part : CValue) → whole_type (walk structs (whole_spot root) parts) ≡ Some ty → fits_where known root v ≡ true →
+  set-where : (root : Option CType) (parts : List Part) (ty : CType) (v part : CValue) → whole_type (walk structs (whole_spot root) parts) ≡ Some ty →
+      fits_where known root v ≡ true →
       fits known ty part ≡ true → fits_where known root (with_part v parts part) ≡ true
   set-where None parts ty v part h fit new = refl
-  set-where (Some t) parts ty v part h fit new = set-walk known structs laid parts (whole t) (whole ty) v part (whole-is (walk structs (Some (whole t)) parts) ty h) fit new
+  set-where (Some t) parts ty v part h fit new =
+      set-walk known structs laid parts (whole t) (whole ty) v part (whole-is (walk structs (Some (whole t)) parts) ty h) fit new
 
 pub reading-fits : (file : Parts) → ReadingFits file
 reading-fits file formed types memory place ty fit is =
-    read-where (scalars file.structs) (struct_table file.structs) (laid-out file formed) (types place.root) place.parts ty (memory place.root) is (fit.each place.root)
+    read-where (scalars file.structs) (struct_table file.structs) (laid-out file formed) (types place.root) place.parts ty (memory place.root) is
+    (fit.each place.root)
 
 pub setting-fits : (file : Parts) → SettingFits file
 setting-fits file formed types memory place ty value fit is new = record { each = λ root. chosen root (same_root place.root root) refl }
   where
-    chosen : (root : Root) (b : Bool) → same_root place.root root ≡ b → fits_where (scalars file.structs) (types root) (if b then with_part (memory root) place.parts value else memory root) ≡ true
+    chosen : (root : Root) (b : Bool) → same_root place.root root ≡ b →
+        fits_where (scalars file.structs) (types root) (if b then with_part (memory root) place.parts value else memory root) ≡ true
     chosen root false same = fit.each root
     chosen root true same =
         let here : whole_type (walk (struct_table file.structs) (whole_spot (types root)) place.parts) ≡ Some ty =
         subst (λ r. whole_type (walk (struct_table file.structs) (whole_spot (types r)) place.parts) ≡ Some ty) (root-is place.root root same) is in
-        set-where (scalars file.structs) (struct_table file.structs) (laid-out file formed) (types root) place.parts ty (memory root) value here (fit.each root) new
+        set-where (scalars file.structs) (struct_table file.structs) (laid-out file formed) (types root) place.parts ty (memory root) value here
+        (fit.each root) new
 
 -- ---- cells
 
-object-holds : (structs : List CStruct) (types : RootTypes) (memory : Memory) (root : Root) (name : Text) → types root ≡ Some (OfStruct name) → MemoryFits structs types memory →
+object-holds : (structs : List CStruct) (types : RootTypes) (memory : Memory) (root : Root) (name : Text) → types root ≡ Some (OfStruct name) →
+    MemoryFits structs types memory →
     list_all (cell_holds memory) (cells_at root (inner_of structs name)) ≡ true
 object-holds structs types memory root name is fit =
     all-map (cell_holds memory) (λ cell. record { location = record { root = root; parts = cell.parts }; kind = cell.kind }) (inner_of structs name)
-    ∙ all-same (λ cell. in_range cell.kind (memory root (cell.parts ++ []))) (holds (memory root)) (λ cell. ap (λ parts. in_range cell.kind (memory root parts)) (append-nil cell.parts)) (inner_of structs name)
+    ∙ all-same (λ cell. in_range cell.kind (memory root (cell.parts ++ []))) (holds (memory root))
+    (λ cell. ap (λ parts. in_range cell.kind (memory root parts)) (append-nil cell.parts)) (inner_of structs name)
     ∙ subst (λ ty. fits_where (scalars structs) ty (memory root) ≡ true) is (fit.each root)
 
 pub cells-fit : (file : Parts) → CellsFit file

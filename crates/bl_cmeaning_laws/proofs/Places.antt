@@ -1,5 +1,27 @@
 -- Parts of values: what is read there, and what a value is after one was set.
-use Rattle.std.proofs.Common.{◌≡◌, ℕ, Bool, true, false, not, ◌&&◌, List, [], ◌∷◌, ◌++◌, map, Option, Some, None, refl, ap, sym, subst, ◌∙◌, arith}
+use Rattle.std.proofs.Common.{
+  ◌≡◌,
+  ℕ,
+  Bool,
+  true,
+  false,
+  not,
+  ◌&&◌,
+  List,
+  [],
+  ◌∷◌,
+  ◌++◌,
+  map,
+  Option,
+  Some,
+  None,
+  refl,
+  ap,
+  sym,
+  subst,
+  ◌∙◌,
+  arith,
+}
 use Rattle.std.specs.Prelude.{flat_map, bytes_eq, nat_lt, ◌==◌, unwrap_or, option_and_then, if◌then◌else◌}
 use Rattle.std.specs.List.{list_all}
 use Rattle.std.proofs.lemmas.Grind.{common_steps}
@@ -30,7 +52,8 @@ sub value part way = value (part ∷ way)
 
 -- ---- a value by its parts
 
-row-fits : (known : Scalars) (n : ℕ) (ty : CType) (v : CValue) → spot_fits known (row n ty) v ≡ list_all (λ k. fits known ty (sub v (element k))) (below n)
+row-fits : (known : Scalars) (n : ℕ) (ty : CType) (v : CValue) →
+    spot_fits known (row n ty) v ≡ list_all (λ k. fits known ty (sub v (element k))) (below n)
 row-fits known n ty v =
     all-flat (holds v) (λ k. map (inside (element k ∷ [])) (inner_of_type known ty)) (below n)
     ∙ all-same (λ k. list_all (holds v) (map (inside (element k ∷ [])) (inner_of_type known ty))) (λ k. fits known ty (sub v (element k)))
@@ -41,7 +64,8 @@ length-fits : (known : Scalars) (name : Text) (ty : CType) (length : Option ℕ)
 length-fits known name ty None v = all-map (holds v) (inside (member name ∷ [])) (inner_of_type known ty)
 length-fits known name ty (Some n) v =
     all-flat (holds v) (λ k. map (inside (member name ∷ element k ∷ [])) (inner_of_type known ty)) (below n)
-    ∙ all-same (λ k. list_all (holds v) (map (inside (member name ∷ element k ∷ [])) (inner_of_type known ty))) (λ k. fits known ty (sub (sub v (member name)) (element k)))
+    ∙ all-same (λ k. list_all (holds v) (map (inside (member name ∷ element k ∷ [])) (inner_of_type known ty)))
+    (λ k. fits known ty (sub (sub v (member name)) (element k)))
     (λ k. all-map (holds v) (inside (member name ∷ element k ∷ [])) (inner_of_type known ty)) (below n)
     ∙ sym (row-fits known n ty (sub v (member name)))
 
@@ -61,13 +85,15 @@ struct-fits known structs name members laid v =
 some_member : (a b : CMember) → Some a ≡ Some b → a ≡ b
 some_member a b h = cc
 
-so-or-later : (name : Text) (m x : CMember) (rest : Option CMember) (b : Bool) → bytes_eq x.name name ≡ b → (if b then Some x else rest) ≡ Some m → (rest ≡ Some m → m.name ≡ name) → m.name ≡ name
+so-or-later : (name : Text) (m x : CMember) (rest : Option CMember) (b : Bool) → bytes_eq x.name name ≡ b → (if b then Some x else rest) ≡ Some m →
+    (rest ≡ Some m → m.name ≡ name) → m.name ≡ name
 so-or-later name m x rest true same is later = ap (λ y. y.name) (sym (some_member x m is)) ∙ (bytes_eq-Decides x.name name).0 same
 so-or-later name m x rest false same is later = later is
 
 named-so : (name : Text) (m : CMember) (list : List CMember) → found name (map (λ x. (x.name, x)) list) ≡ Some m → m.name ≡ name
 named-so name m [] h = cc
-named-so name m (x ∷ list) h = so-or-later name m x (found name (map (λ y. (y.name, y)) list)) (bytes_eq x.name name) refl h (λ later. named-so name m list later)
+named-so name m (x ∷ list) h =
+    so-or-later name m x (found name (map (λ y. (y.name, y)) list)) (bytes_eq x.name name) refl h (λ later. named-so name m list later)
 
 unequal-other : (a b : Text) → bytes_eq a b ≡ false → bytes_eq b a ≡ false
 unequal-other a b h = chosen (bytes_eq b a) refl
@@ -98,45 +124,67 @@ module _ (known : Scalars) (structs : Structs) (laid : AllLaidOut known structs)
   stepped : (struct name : Text) (next : Spot) → step_in structs (whole (OfStruct struct)) (member name) ≡ Some next → Stepped struct name next
   stepped struct name next h = chosen (structs struct) refl h
     where
-      with_member : (members : Table CMember) (is : structs struct ≡ Some members) (o : Option CMember) → members name ≡ o → spot_if o ≡ Some next → Stepped struct name next
+      with_member : (members : Table CMember) (is : structs struct ≡ Some members) (o : Option CMember) → members name ≡ o → spot_if o ≡ Some next →
+          Stepped struct name next
       with_member members is None at k = cc
       with_member members is (Some m) at k =
-          let there : found name (map (λ x. (x.name, x)) (laid struct members is).list) ≡ Some m = ap (λ t. t name) (sym (laid struct members is).table) ∙ at in
-          record { members = members; is = is; it = m; there = there; named = named-so name m (laid struct members is).list there; spot = some_spot (spot_of m) next k }
+          let there : found name (map (λ x. (x.name, x)) (laid struct members is).list) ≡ Some m =
+          ap (λ t. t name) (sym (laid struct members is).table) ∙ at in
+          record {
+            members = members;
+            is = is;
+            it = m;
+            there = there;
+            named = named-so name m (laid struct members is).list there;
+            spot = some_spot (spot_of m)
+                next k;
+          }
 
-      chosen : (o : Option (Table CMember)) → structs struct ≡ o → spot_if (option_and_then (λ members. members name) o) ≡ Some next → Stepped struct name next
+      chosen : (o : Option (Table CMember)) → structs struct ≡ o →
+          spot_if (option_and_then (λ members. members name) o) ≡ Some next → Stepped struct name next
       chosen None is k = cc
       chosen (Some members) is k = with_member members is (members name) refl k
 
-  read-member : (struct name : Text) (next : Spot) (v : CValue) → step_in structs (whole (OfStruct struct)) (member name) ≡ Some next → spot_fits known (whole (OfStruct struct)) v ≡ true →
+  read-member : (struct name : Text) (next : Spot) (v : CValue) → step_in structs (whole (OfStruct struct)) (member name) ≡ Some next →
+      spot_fits known (whole (OfStruct struct)) v ≡ true →
       spot_fits known next (sub v (member name)) ≡ true
   read-member struct name next v h fit =
       let s = stepped struct name next h in
       let all = sym (struct-fits known structs struct s.members (laid struct s.members s.is) v) ∙ fit in
-      let here : spot_fits known (spot_of s.it) (sub v (member s.it.name)) ≡ true = all-found (λ m. m.name) (member_fits known v) name s.it (laid struct s.members s.is).list s.there all in
+      let here : spot_fits known (spot_of s.it) (sub v (member s.it.name)) ≡ true =
+      all-found (λ m. m.name) (member_fits known v) name s.it (laid struct s.members s.is).list s.there all in
       subst (λ n. spot_fits known next (sub v (member n)) ≡ true) s.named (subst (λ t. spot_fits known t (sub v (member s.it.name)) ≡ true) s.spot here)
 
-  set-member : (struct name : Text) (next : Spot) (v w new : CValue) → step_in structs (whole (OfStruct struct)) (member name) ≡ Some next → spot_fits known (whole (OfStruct struct)) v ≡ true →
-      spot_fits known next w ≡ true → sub new (member name) ≡ w → ((q : Part) → same_part (member name) q ≡ false → sub new q ≡ sub v q) → spot_fits known (whole (OfStruct struct)) new ≡ true
+  set-member : (struct name : Text) (next : Spot) (v w new : CValue) → step_in structs (whole (OfStruct struct)) (member name) ≡ Some next →
+      spot_fits known (whole (OfStruct struct)) v ≡ true →
+      spot_fits known next w ≡ true → sub new (member name) ≡ w → ((q : Part) → same_part (member name) q ≡ false → sub new q ≡ sub v q) →
+      spot_fits known (whole (OfStruct struct)) new ≡ true
   set-member struct name next v w new h fit part at others =
       let s = stepped struct name next h in
       let l = laid struct s.members s.is in
       let all = sym (struct-fits known structs struct s.members l v) ∙ fit in
       let here : member_fits known new s.it ≡ true =
-      ap (λ t. spot_fits known t (sub new (member s.it.name))) s.spot ∙ ap (λ n. spot_fits known next (sub new (member n))) s.named ∙ ap (spot_fits known next) at ∙ part in
+      ap (λ t. spot_fits known t (sub new (member s.it.name))) s.spot ∙ ap (λ n. spot_fits known next (sub new (member n))) s.named
+      ∙ ap (spot_fits known next) at ∙ part in
       struct-fits known structs struct s.members l new
       ∙ all-found-but (λ m. m.name) (member_fits known v) (member_fits known new) name s.it here
-      (λ m differs was. ap (spot_fits known (spot_of m)) (others (member m.name) (unequal-other m.name name differs)) ∙ was) no_entries l.list l.apart s.there all
+      (λ m differs was. ap (spot_fits known (spot_of m)) (others (member m.name) (unequal-other m.name name differs)) ∙ was)
+      no_entries l.list l.apart s.there
+      all
 
-  read-element : (n k : ℕ) (ty : CType) (next : Spot) (v : CValue) (b : Bool) → nat_lt k n ≡ b → (if b then Some (whole ty) else None) ≡ Some next → spot_fits known (row n ty) v ≡ true →
+  read-element : (n k : ℕ) (ty : CType) (next : Spot) (v : CValue) (b : Bool) → nat_lt k n ≡ b → (if b then Some (whole ty) else None) ≡ Some next →
+      spot_fits known (row n ty) v ≡ true →
       spot_fits known next (sub v (element k)) ≡ true
   read-element n k ty next v true within h fit =
       subst (λ t. spot_fits known t (sub v (element k)) ≡ true) (some_spot (whole ty) next h)
       (all-below-at (λ j. fits known ty (sub v (element j))) n k within (sym (row-fits known n ty v) ∙ fit))
   read-element n k ty next v false within h fit = cc
 
-  set-element : (n k : ℕ) (ty : CType) (next : Spot) (v w new : CValue) (b : Bool) → nat_lt k n ≡ b → (if b then Some (whole ty) else None) ≡ Some next → spot_fits known (row n ty) v ≡ true →
-      spot_fits known next w ≡ true → sub new (element k) ≡ w → ((q : Part) → same_part (element k) q ≡ false → sub new q ≡ sub v q) → spot_fits known (row n ty) new ≡ true
+  set-element : (n k : ℕ) (ty : CType) (next : Spot) (v w new : CValue) (b : Bool) → nat_lt k n ≡ b →
+      (if b then Some (whole ty) else None) ≡ Some next →
+      spot_fits known (row n ty) v ≡ true →
+      spot_fits known next w ≡ true → sub new (element k) ≡ w → ((q : Part) → same_part (element k) q ≡ false → sub new q ≡ sub v q) →
+      spot_fits known (row n ty) new ≡ true
   set-element n k ty next v w new true within h fit part at others =
       let here : fits known ty (sub new (element k)) ≡ true =
       ap (λ t. spot_fits known t (sub new (element k))) (some_spot (whole ty) next h) ∙ ap (spot_fits known next) at ∙ part in
@@ -145,7 +193,8 @@ module _ (known : Scalars) (structs : Structs) (laid : AllLaidOut known structs)
       (λ j differs was. ap (fits known ty) (others (element j) differs) ∙ was) n (sym (row-fits known n ty v) ∙ fit)
   set-element n k ty next v w new false within h fit part at others = cc
 
-  read-step : (spot next : Spot) (p : Part) (v : CValue) → step_in structs spot p ≡ Some next → spot_fits known spot v ≡ true → spot_fits known next (sub v p) ≡ true
+  read-step : (spot next : Spot) (p : Part) (v : CValue) → step_in structs spot p ≡ Some next → spot_fits known spot v ≡ true →
+      spot_fits known next (sub v p) ≡ true
   read-step (whole (OfScalar kind)) next (member name) v h fit = cc
   read-step (whole (OfScalar kind)) next (element k) v h fit = cc
   read-step (whole (OfStruct struct)) next (element k) v h fit = cc
@@ -153,7 +202,8 @@ module _ (known : Scalars) (structs : Structs) (laid : AllLaidOut known structs)
   read-step (row n ty) next (member name) v h fit = cc
   read-step (row n ty) next (element k) v h fit = read-element n k ty next v (nat_lt k n) refl h fit
 
-  set-step : (spot next : Spot) (p : Part) (v w new : CValue) → step_in structs spot p ≡ Some next → spot_fits known spot v ≡ true → spot_fits known next w ≡ true →
+  set-step : (spot next : Spot) (p : Part) (v w new : CValue) → step_in structs spot p ≡ Some next → spot_fits known spot v ≡ true →
+      spot_fits known next w ≡ true →
       sub new p ≡ w → ((q : Part) → same_part p q ≡ false → sub new q ≡ sub v q) → spot_fits known spot new ≡ true
   set-step (whole (OfScalar kind)) next (member name) v w new h fit part at others = cc
   set-step (whole (OfScalar kind)) next (element k) v w new h fit part at others = cc
@@ -188,11 +238,14 @@ module _ (known : Scalars) (structs : Structs) (laid : AllLaidOut known structs)
   set-at-part : (v : CValue) (p : Part) (parts : List Part) (part : CValue) → sub (with_part v (p ∷ parts) part) p ≡ with_part (sub v p) parts part
   set-at-part v p parts part = λ i way. ap (λ b. number_or (if b then left_after parts way else None) part (v (p ∷ way))) (part-itself p) i
 
-  set-at-other : (v : CValue) (p : Part) (parts : List Part) (part : CValue) (q : Part) → same_part p q ≡ false → sub (with_part v (p ∷ parts) part) q ≡ sub v q
+  set-at-other : (v : CValue) (p : Part) (parts : List Part) (part : CValue) (q : Part) → same_part p q ≡ false →
+      sub (with_part v (p ∷ parts) part) q ≡ sub v q
   set-at-other v p parts part q h = λ i way. ap (λ b. number_or (if b then left_after parts way else None) part (v (q ∷ way))) h i
 
   -- a value still fits after the end of a way was set to what fits there
-  pub set-walk : (parts : List Part) (spot goal : Spot) (v part : CValue) → walk structs (Some spot) parts ≡ Some goal → spot_fits known spot v ≡ true → spot_fits known goal part ≡ true →
+  pub set-walk : (parts : List Part) (spot goal : Spot) (v part : CValue) → walk structs (Some spot) parts ≡ Some goal →
+      spot_fits known spot v ≡ true →
+      spot_fits known goal part ≡ true →
       spot_fits known spot (with_part v parts part) ≡ true
   set-walk [] spot goal v part h fit new = subst (λ t. spot_fits known t part ≡ true) (sym (some_spot spot goal h)) new
   set-walk (p ∷ parts) spot goal v part h fit new =

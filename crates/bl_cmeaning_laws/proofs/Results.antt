@@ -1,5 +1,30 @@
 -- What the prelude's functions give is in range.
-use Rattle.std.proofs.Common.{◌≡◌, ℕ, ◌+◌, ◌^◌, ◌<◌, ℤ, pos, negsuc, ◌+ℤ◌, Bool, true, false, ◌&&◌, List, [], ◌∷◌, Option, Some, None, refl, ap, sym, subst, ◌∙◌, arith}
+use Rattle.bl_tree.specs.Ports.{in_ranges}
+use Rattle.std.proofs.Common.{
+  ◌≡◌,
+  ℕ,
+  ◌+◌,
+  ◌^◌,
+  ◌<◌,
+  ℤ,
+  pos,
+  negsuc,
+  ◌+ℤ◌,
+  Bool,
+  true,
+  false,
+  ◌&&◌,
+  List,
+  [],
+  ◌∷◌,
+  Option,
+  Some,
+  None,
+  refl,
+  ap,
+  sym,
+}
+use Rattle.std.proofs.Common.{subst, ◌∙◌, arith}
 use Rattle.std.specs.Prelude.{bytes_eq, int_le, int_lt, IfSome, if◌then◌else◌}
 use Rattle.std.specs.Int.{int_rem_euclid}
 use Rattle.std.specs.Ordering.{int_eq}
@@ -10,15 +35,18 @@ use Rattle.bl_tree.specs.declared.scalar.Scalar.{Scalar}
 use Rattle.bl_tree.specs.declared.scalar.Scalar.TheVariants.{Bool as OfBool, Int, Nat, Bits}
 use Rattle.bl_tree.specs.declared.scalar.Width.TheVariants.{W32}
 use Rattle.bl_tree.specs.declared.scalar.Op.{Op}
-use Rattle.bl_tree.specs.declared.scalar.Op.TheVariants.{Add, Sub, Mul, Div, Rem, Minus, BitAnd, BitOr, BitXor, BitNot, Shl, Shr, Eq, Ne, Lt, Le, Gt, Ge, And, Or, Not}
+use Rattle.bl_tree.specs.declared.scalar.Op.TheVariants.{Add, Sub, Mul, Div, Rem, Minus, BitAnd, BitOr, BitXor, BitNot, Shl, Shr, Eq, Ne, Lt, Le, Gt}
+use Rattle.bl_tree.specs.declared.scalar.Op.TheVariants.{Ge, And, Or, Not}
 use Rattle.bl_tree.specs.Scalar.{in_range, InRange}
 use Rattle.bl_tree.specs.Numbers.{checked_of, checked_one_of, takes_two, takes_one, type_of_result}
 use Rattle.bl_tree.proofs.NumberLemmas.{checked_of-in_range, checked_one_of-in_range, fitted-in_range, in_range_holds, in_range_passes}
-use Rattle.bl_cmeaning.specs.declared.builtin.Builtin.{Builtin}
-use Rattle.bl_cmeaning.specs.declared.builtin.Builtin.TheVariants.{Two, One, Cast, Index, Turn, Stop}
-use Rattle.bl_cmeaning.specs.Builtin.{builtins, builtin_of, builtin_params, builtin_result, builtin_value, in_c, index_within, only_if, widest}
+use Rattle.bl_ctext.specs.declared.builtin.Builtin.{Builtin}
+use Rattle.bl_ctext.specs.declared.builtin.Builtin.TheVariants.{Two, One, Cast, Index, Turn, Stop}
+use Rattle.bl_ctext.specs.Builtins.{builtins}
+use Rattle.bl_cmeaning.specs.Builtin.{builtin_of, builtin_params, builtin_result, builtin_value, in_c, index_within, only_if, widest}
 use Rattle.bl_cmeaning.specs.Tables.{found}
-use Rattle.bl_cmeaning_laws.specs.Fitting.{in_ranges, BuiltinsFit}
+use Rattle.bl_cmeaning_laws.specs.Fitting.{BuiltinsFit}
+use Rattle.bl_cmeaning_laws.specs.Flat.{is_typed}
 use Rattle.bl_cmeaning_laws.proofs.Lists.{and-left, and-right}
 
 -- an operator whose result has its operands' type
@@ -64,24 +92,38 @@ proper (One op t) = takes_one op t && keeps_type op
 proper _ = true
 
 all-proper : list_all (λ e. proper e.1) builtins ≡ true
-unfolding builtins
 all-proper = refl
 
 some_builtin : (a b : Builtin) → Some a ≡ Some b → a ≡ b
 some_builtin a b h = cc
 
-now-or-later : (b : Bool) (x y : Builtin) (rest : Option Builtin) → (if b then Some x else rest) ≡ Some y → proper x ≡ true → (rest ≡ Some y → proper y ≡ true) → proper y ≡ true
+now-or-later : (b : Bool) (x y : Builtin) (rest : Option Builtin) → (if b then Some x else rest) ≡ Some y → proper x ≡ true →
+    (rest ≡ Some y → proper y ≡ true) → proper y ≡ true
 now-or-later true x y rest is here later = subst (λ z. proper z ≡ true) (some_builtin x y is) here
 now-or-later false x y rest is here later = later is
 
-found-proper : (name : Text) (entries : List (Text × Builtin)) (b : Builtin) → found name entries ≡ Some b → list_all (λ e. proper e.1) entries ≡ true → proper b ≡ true
+found-proper : (name : Text) (entries : List (Text × Builtin)) (b : Builtin) → found name entries ≡ Some b →
+    list_all (λ e. proper e.1) entries ≡ true →
+    proper b ≡ true
 found-proper name [] b is all = cc
 found-proper name (e ∷ entries) b is all =
-    now-or-later (bytes_eq e.0 name) e.1 b (found name entries) is (and-left (proper e.1) _ all) (λ later. found-proper name entries b later (and-right (proper e.1) _ all))
+    now-or-later (bytes_eq e.0 name) e.1 b (found name entries) is (and-left (proper e.1) _ all)
+    (λ later. found-proper name entries b later (and-right (proper e.1) _ all))
 
 builtin-proper : (name : Text) (b : Builtin) → builtin_of name ≡ Some b → proper b ≡ true
 unfolding builtin_of
 builtin-proper name b is = found-proper name builtins b is all-proper
+
+typed-if : (b : Builtin) → proper b ≡ true → is_typed b ≡ true
+typed-if (Two op t) h = and-left (takes_two op t) _ h
+typed-if (One op t) h = and-left (takes_one op t) _ h
+typed-if (Cast signed t) h = refl
+typed-if (Index signed) h = refl
+typed-if Turn h = refl
+typed-if Stop h = refl
+
+pub builtin-typed : (name : Text) (b : Builtin) → builtin_of name ≡ Some b → is_typed b ≡ true
+builtin-typed name b is = typed-if b (builtin-proper name b is)
 
 -- ---- numbers
 
@@ -101,7 +143,8 @@ some_number a b h = cc
 spelled : (s t : Scalar) (n : ℤ) → Some (in_c s) ≡ Some t → in_range s n ≡ true → in_range t n ≡ true
 spelled s t n is h = ap (λ x. in_range x n) (sym (some_scalar (in_c s) t is)) ∙ in-c s n ∙ h
 
-operated : (op : Op) (s : Scalar) (r : Option ℤ) (n : ℤ) → keeps_type op ≡ true → IfSome r (InRange (type_of_result op s)) → r ≡ Some n → in_range s n ≡ true
+operated : (op : Op) (s : Scalar) (r : Option ℤ) (n : ℤ) → keeps_type op ≡ true → IfSome r (InRange (type_of_result op s)) →
+    r ≡ Some n → in_range s n ≡ true
 operated op s r n kept h is =
     in_range_passes s n (subst (λ x. InRange x n) (type-kept op s kept) (subst (λ o. IfSome o (InRange (type_of_result op s))) is h))
 
@@ -122,7 +165,8 @@ turned false t n h =
     ap (in_range (Nat W32)) (sym (some_number (int_rem_euclid (t +ℤ pos 1) (pos (2 ^ 32))) n h))
     ∙ in_range_passes (Bits W32) (int_rem_euclid (t +ℤ pos 1) (pos (2 ^ 32))) (fitted-in_range (Bits W32) (t +ℤ pos 1))
 
-value-fits : (b : Builtin) (numbers : List ℤ) (t : Scalar) (n : ℤ) → proper b ≡ true → in_ranges (builtin_params b) numbers ≡ true → builtin_result b ≡ Some t →
+value-fits : (b : Builtin) (numbers : List ℤ) (t : Scalar) (n : ℤ) → proper b ≡ true → in_ranges (builtin_params b) numbers ≡ true →
+    builtin_result b ≡ Some t →
     builtin_value b numbers ≡ Some n → in_range t n ≡ true
 value-fits (Two op s) [] t n is h result value = cc
 value-fits (Two op s) (a ∷ []) t n is h result value = cc

@@ -32,7 +32,8 @@ Ends safe depth = (d : ℕ) (name : Text) → depth ≤ d → safe (variable d n
 
 -- a function with a result changes nothing but its own variables, and another one only what it is handed beside them
 pub record Keeps (meaning : Meaning) (s : Signature) : Type 0 where
-  pub stay : (safe : Root → Bool) (depth : ℕ) (passed : List Passed) (memory : Memory) → Ends safe depth → (is_some s.result ≡ false → Unsafe safe passed) →
+  pub stay : (safe : Root → Bool) (depth : ℕ) (passed : List Passed) (memory : Memory) → Ends safe depth →
+      (is_some s.result ≡ false → Unsafe safe passed) →
       (root : Root) → safe root ≡ true → (meaning depth passed memory).memory root ≡ memory root
 
 -- ---- layouts
@@ -46,7 +47,8 @@ pub record LaidAs (found : Option Laid) (m : CMember) (offset : ℕ) : Type 0 wh
 
 pub record Laying (known : Sizes) (lists : Lists) (structs : Structs) (sizes : Sizes) (layouts : Layouts) : Type 0 where
   pub sized : (name : Text) → sizes name ≡ option_map capped (known name)
-  pub laid : (struct name : Text) (list : List CMember) (m : CMember) → lists struct ≡ Some list → option_and_then (λ members. members name) (structs struct) ≡ Some m →
+  pub laid : (struct name : Text) (list : List CMember) (m : CMember) → lists struct ≡ Some list →
+      option_and_then (λ members. members name) (structs struct) ≡ Some m →
       LaidAs (option_and_then (λ members. members name) (layouts struct)) m (offset_in known list name)
 
 module _ (known : Sizes) (lists : Lists) (structs : Structs) (shaped : Shaped known lists structs) (limit : ℕ) where
@@ -111,7 +113,8 @@ module _ (known : Sizes) (lists : Lists) (structs : Structs) (shaped : Shaped kn
   -- a function in both, which needs this many cells
   pub record Agrees (meaning : Meaning) (routine : Routine) (s : Signature) (room : ℕ) : Type 0 where
     pub agree : (w : World) (depth base : ℕ) (passed : List Passed) (args : List ℤ) (memory : Memory) (cells : Cells) →
-        Separate known w → Shallow depth w → w.top ≤ base → base + room ≤ limit → Stands known lists structs shaped limit w memory cells → PassedAll w memory s.params passed args →
+        Separate known w → Shallow depth w → w.top ≤ base → base + room ≤ limit → Stands known lists structs shaped limit w memory cells →
+        PassedAll w memory s.params passed args →
         CallAgrees w s.result (meaning depth passed memory) (routine base args cells)
 
   -- ---- the running function
@@ -160,5 +163,7 @@ module _ (known : Sizes) (lists : Lists) (structs : Structs) (shaped : Shaped kn
     pub laying : Laying known lists structs ground.sizes ground.structs
     pub next : capped (base + ground.frame) ≡ w.top
     pub shallow : Shallow (scope.depth + 1) w
-    pub variables : (name : Text) (v : Variable) → context.variables name ≡ Some v → VariableAs w scope.depth base v (scope.pointers name) name (ground.slots name)
-    pub functions : (name : Text) (s : Signature) → context.functions name ≡ Some s → FunctionAs s (scope.known name) (ground.known name) (entry_or 0 chains name)
+    pub variables : (name : Text) (v : Variable) → context.variables name ≡ Some v →
+        VariableAs w scope.depth base v (scope.pointers name) name (ground.slots name)
+    pub functions : (name : Text) (s : Signature) → context.functions name ≡ Some s →
+        FunctionAs s (scope.known name) (ground.known name) (entry_or 0 chains name)

@@ -1,5 +1,30 @@
 -- What cells have after some of them were written.
-use Rattle.std.proofs.Common.{◌≡◌, ℕ, zero, suc, ◌+◌, ◌-◌, ◌≤◌, ◌<◌, inl, inr, ⊎_elim, ℤ, pos, Bool, true, false, ◌&&◌, List, [], ◌∷◌, ◌++◌, length, take, drop, get_or, refl, ap, ◌∙◌, arith, length-set, get_or-set_same, get_or-set_other, length-append, length-take-le, length-drop, get_or-take, get_or-drop}
+use Rattle.std.proofs.Common.{
+  ◌≡◌,
+  ℕ,
+  zero,
+  suc,
+  ◌+◌,
+  ◌-◌,
+  ◌≤◌,
+  ◌<◌,
+  inl,
+  inr,
+  ⊎_elim,
+  ℤ,
+  pos,
+  Bool,
+  true,
+  false,
+  ◌&&◌,
+  List,
+  [],
+  ◌∷◌,
+  ◌++◌,
+  length,
+}
+use Rattle.std.proofs.Common.{take, drop, get_or, refl, ap, ◌∙◌, arith, length-set, get_or-set_same, get_or-set_other, length-append, length-take-le}
+use Rattle.std.proofs.Common.{length-drop, get_or-take, get_or-drop}
 use Rattle.std.specs.Prelude.{nat_le, slice_set, if◌then◌else◌}
 use Rattle.std.specs.List.{copy_within}
 use Rattle.std.proofs.lemmas.Grind.{common_steps}
@@ -47,11 +72,13 @@ length-args at (n ∷ ns) cells = length-args (suc at) ns (slice_set cells at n)
 pub args-elsewhere : (at : ℕ) (ns : List ℤ) (cells : Cells) (j : ℕ) → Apart at (length ns) j 1 → cell_at (with_args at ns cells) j ≡ cell_at cells j
 args-elsewhere at [] cells j apart = refl
 args-elsewhere at (n ∷ ns) cells j apart =
-    let rest : Apart (suc at) (length ns) j 1 = ⊎_elim (λ (l : at + suc (length ns) ≤ j). inl (omega arith)) (λ (r : j + 1 ≤ at). inr (omega arith)) apart in
+    let rest : Apart (suc at) (length ns) j 1 = ⊎_elim (λ (l : at + suc (length ns) ≤ j). inl (omega arith))
+    (λ (r : j + 1 ≤ at). inr (omega arith)) apart in
     let here : Apart at 1 j 1 = ⊎_elim (λ (l : at + suc (length ns) ≤ j). inl (omega arith)) (λ (r : j + 1 ≤ at). inr (omega arith)) apart in
     args-elsewhere (suc at) ns (slice_set cells at n) j rest ∙ set-elsewhere cells at j n here
 
-pub args-there : (at : ℕ) (ns : List ℤ) (cells : Cells) (k : ℕ) → k < length ns → at + length ns ≤ length cells → cell_at (with_args at ns cells) (at + k) ≡ get_or ns k (pos 0)
+pub args-there : (at : ℕ) (ns : List ℤ) (cells : Cells) (k : ℕ) → k < length ns → at + length ns ≤ length cells →
+    cell_at (with_args at ns cells) (at + k) ≡ get_or ns k (pos 0)
 args-there at [] cells k h room = absurd (omega arith)
 args-there at (n ∷ ns) cells zero h room =
     let e : at + zero ≡ at = omega arith in
@@ -71,7 +98,8 @@ module _ (size from at : ℕ) (cells : Cells) (source : from + size ≤ length c
   abbrev pasted : Cells
   pasted = take at cells ++ take size (drop from cells) ++ drop (at + size) cells
 
-  chosen : (b c : Bool) → nat_le (from + size) (length cells) ≡ b → nat_le (at + size) (length cells) ≡ c → (if b && c then copy_within cells from (from + size) at else cells) ≡ pasted
+  chosen : (b c : Bool) → nat_le (from + size) (length cells) ≡ b → nat_le (at + size) (length cells) ≡ c →
+      (if b && c then copy_within cells from (from + size) at else cells) ≡ pasted
   chosen true true hb hc = ap (λ n. take at cells ++ take n (drop from cells) ++ drop (at + n) cells) span
   chosen true false hb hc = absurd (grind (arith, common_steps))
   chosen false c hb hc = absurd (grind (arith, common_steps))

@@ -1,5 +1,28 @@
 -- Values and arguments in a C text and over numbered cells.
-use Rattle.std.proofs.Common.{◌≡◌, ℕ, ℤ, pos, negsuc, Bool, true, false, not, List, [], ◌∷◌, map, Option, Some, None, refl, ap, sym, subst, ◌∙◌, arith}
+use Rattle.std.proofs.Common.{
+  ◌≡◌,
+  ℕ,
+  ℤ,
+  pos,
+  negsuc,
+  Bool,
+  true,
+  false,
+  not,
+  List,
+  [],
+  ◌∷◌,
+  map,
+  Option,
+  Some,
+  None,
+  refl,
+  ap,
+  sym,
+  subst,
+  ◌∙◌,
+  arith,
+}
 use Rattle.std.specs.Prelude.{if◌then◌else◌}
 use Rattle.std.proofs.lemmas.Int.{ints}
 use Rattle.std.proofs.lemmas.Slice.Eq.{bytes_eq-Decides}
@@ -8,7 +31,8 @@ use Rattle.bl_tree.specs.declared.scalar.Scalar.TheVariants.{Bool as OfBool, Int
 use Rattle.bl_tree.specs.declared.scalar.Width.{Width}
 use Rattle.bl_tree.specs.declared.scalar.Width.TheVariants.{W8, W16, W32, W64}
 use Rattle.bl_tree.specs.declared.scalar.Op.{Op}
-use Rattle.bl_tree.specs.declared.scalar.Op.TheVariants.{Add, Sub, Mul, Div, Rem, Minus, BitAnd, BitOr, BitXor, BitNot, Shl, Shr, Eq, Ne, Lt, Le, Gt, Ge, And, Or, Not}
+use Rattle.bl_tree.specs.declared.scalar.Op.TheVariants.{Add, Sub, Mul, Div, Rem, Minus, BitAnd, BitOr, BitXor, BitNot, Shl, Shr, Eq, Ne, Lt, Le, Gt}
+use Rattle.bl_tree.specs.declared.scalar.Op.TheVariants.{Ge, And, Or, Not}
 use Rattle.bl_tree.specs.declared.c.CType.{CType}
 use Rattle.bl_tree.specs.declared.c.CType.TheVariants.{Scalar as OfScalar, Struct as OfStruct}
 use Rattle.bl_tree.specs.Scalar.{in_range}
@@ -17,8 +41,9 @@ use Rattle.bl_ctext.specs.Spellable.{is_literal}
 use Rattle.bl_cmeaning.specs.Memory.{CValue, Location, Memory, number_in}
 use Rattle.bl_cmeaning.specs.Meaning.{Passed, by_value, by_address, number_of_passed}
 use Rattle.bl_cmeaning.specs.Sizes.{Sizes}
-use Rattle.bl_cmeaning.specs.Faults.{JudgedArg, Variable, agree, by_value as by_value_of, fit_each, fits_arg, fits_param, if_typed, same_scalar, same_type, same_width, takes}
-use Rattle.bl_cmeaning_laws.specs.Fitting.{in_ranges}
+use Rattle.bl_cmeaning.specs.Faults.{JudgedArg, Variable, agree, by_value as by_value_of, fit_each, fits_arg, fits_param, if_typed, same_scalar}
+use Rattle.bl_cmeaning.specs.Faults.{same_type, same_width, takes}
+use Rattle.bl_tree.specs.Ports.{in_ranges}
 use Rattle.bl_cmeaning_laws.proofs.Lists.{and-both, and-left, and-right}
 use Rattle.bl_cmeaning_laws.proofs.Ways.{Lists, Shaped, Structs}
 use Rattle.bl_cmeaning_laws.proofs.Standing.{World}
@@ -144,7 +169,8 @@ module _ (known : Sizes) (lists : Lists) (structs : Structs) (shaped : Shaped kn
   value-agrees (Some ty) other v n h valued = subst (λ t. ValueAs t v n) (same-type ty other h) valued
 
   -- the same, for what `&&` and `||` take
-  pub value-typed : (ty : Option CType) (other : CType) (v : CValue) (n : ℤ) → if_typed ty (λ t. same_type t other) ≡ true → Value ty v n → ValueAs other v n
+  pub value-typed : (ty : Option CType) (other : CType) (v : CValue) (n : ℤ) → if_typed ty (λ t. same_type t other) ≡ true →
+      Value ty v n → ValueAs other v n
   value-typed None other v n h valued = absurd valued
   value-typed (Some ty) other v n h valued = subst (λ t. ValueAs t v n) (same-type ty other h) valued
 
@@ -168,26 +194,37 @@ module _ (known : Sizes) (lists : Lists) (structs : Structs) (shaped : Shaped kn
   pointer-so false true h = cc
   pointer-so false false h = refl
 
-  value-for : (ty : CType) (given : Option CType) (v : CValue) (n : ℤ) → if_typed given (fits_param false ty) ≡ true → Value given v n → ValueAs ty v n
+  value-for : (ty : CType) (given : Option CType) (v : CValue) (n : ℤ) → if_typed given (fits_param false ty) ≡ true →
+      Value given v n → ValueAs ty v n
   value-for ty None v n h valued = absurd valued
   value-for ty (Some t) v n h valued = subst (λ x. ValueAs x v n) (sym (same-type ty t h)) valued
 
-  address-for : (ty : CType) (given : Option CType) (place : Location) (n : ℤ) → if_typed given (fits_param false ty) ≡ true → AddressAt known lists structs shaped limit w given place n →
+  address-for : (ty : CType) (given : Option CType) (place : Location) (n : ℤ) → if_typed given (fits_param false ty) ≡ true →
+      AddressAt known lists structs shaped limit w given place n →
       AddressAt known lists structs shaped limit w (Some ty) place n
   address-for ty None place n h at = absurd at.placed
   address-for ty (Some t) place n h at = subst (λ x. AddressAt known lists structs shaped limit w (Some x) place n) (sym (same-type ty t h)) at
 
-  passed-for : (p : Variable) (j : JudgedArg) (v : Passed) (n : ℤ) → fits_arg false p j ≡ true → Passes j v n → PassedFor known lists structs shaped limit w memory p v n
-  passed-for p j (by_value v) n h passes =
-      (sym (pointer-so p.pointer j.address (and-left _ _ h)) ∙ passes.0, value-for p.ty j.ty v n (and-right (if p.pointer then j.address else not j.address) _ h) passes.1)
-  passed-for p j (by_address place) n h passes =
-      (sym (pointer-so p.pointer j.address (and-left _ _ h)) ∙ passes.0, address-for p.ty j.ty place n (and-right (if p.pointer then j.address else not j.address) _ h) passes.1)
+  passed-for : (p : Variable) (j : JudgedArg) (v : Passed) (n : ℤ) → fits_arg false p j ≡ true → Passes j v n →
+      PassedFor known lists structs shaped limit w memory p v n
+  passed-for p j (by_value v) n h passes = (
+    sym (pointer-so p.pointer j.address (and-left _ _ h))
+        ∙ passes.0,
+    value-for p.ty j.ty v n (and-right (if p.pointer then j.address else not j.address) _ h) passes.1,
+  )
+  passed-for p j (by_address place) n h passes = (
+    sym (pointer-so p.pointer j.address (and-left _ _ h))
+        ∙ passes.0,
+    address-for p.ty j.ty place n (and-right (if p.pointer then j.address else not j.address) _ h) passes.1,
+  )
 
   -- arguments that fit a function of the file
-  pub passed-all : (params : List Variable) (js : List JudgedArg) (vs : List Passed) (ns : List ℤ) → fit_each false params js ≡ true → PassedList js vs ns →
+  pub passed-all : (params : List Variable) (js : List JudgedArg) (vs : List Passed) (ns : List ℤ) →
+      fit_each false params js ≡ true → PassedList js vs ns →
       PassedAll known lists structs shaped limit w memory params vs ns
   passed-all [] [] [] [] h passes = tt
-  passed-all (p ∷ ps) (j ∷ js) (v ∷ vs) (n ∷ ns) h passes = (passed-for p j v n (and-left _ _ h) passes.0, passed-all ps js vs ns (and-right (fits_arg false p j) _ h) passes.1)
+  passed-all (p ∷ ps) (j ∷ js) (v ∷ vs) (n ∷ ns) h passes =
+      (passed-for p j v n (and-left _ _ h) passes.0, passed-all ps js vs ns (and-right (fits_arg false p j) _ h) passes.1)
   passed-all [] (j ∷ js) vs ns h passes = cc
   passed-all (p ∷ ps) [] vs ns h passes = cc
   passed-all [] [] (v ∷ vs) ns h passes = absurd passes
@@ -223,17 +260,20 @@ module _ (known : Sizes) (lists : Lists) (structs : Structs) (shaped : Shaped kn
   widened (Nat W32) ty v n h valued = scalar-as (Nat W32) ty v n h valued
   widened (Bits w) ty v n h valued = scalar-as (Bits w) ty v n h valued
 
-  widened-if : (t : Scalar) (ty : Option CType) (v : CValue) (n : ℤ) → if_typed ty (fits_param true (OfScalar t)) ≡ true → Value ty v n → Fitting t v n
+  widened-if : (t : Scalar) (ty : Option CType) (v : CValue) (n : ℤ) → if_typed ty (fits_param true (OfScalar t)) ≡ true →
+      Value ty v n → Fitting t v n
   widened-if t None v n h valued = absurd valued
   widened-if t (Some ty) v n h valued = widened t ty v n h valued
 
-  number-fits : (t : Scalar) (j : JudgedArg) (v : Passed) (n : ℤ) → fits_arg true (by_value_of t) j ≡ true → Passes j v n → (number_of_passed v ≡ n) × (in_range t n ≡ true)
+  number-fits : (t : Scalar) (j : JudgedArg) (v : Passed) (n : ℤ) → fits_arg true (by_value_of t) j ≡ true → Passes j v n →
+      (number_of_passed v ≡ n) × (in_range t n ≡ true)
   number-fits t j (by_value v) n h passes = widened-if t j.ty v n (and-right (not j.address) _ h) passes.1
   number-fits t j (by_address place) n h passes =
       absurd (let x : not true ≡ true = sym (ap not passes.0) ∙ and-left (not j.address) _ h in cc)
 
   -- arguments that fit a function of the prelude
-  pub numbers-fit : (ts : List Scalar) (js : List JudgedArg) (vs : List Passed) (ns : List ℤ) → fit_each true (map by_value_of ts) js ≡ true → PassedList js vs ns →
+  pub numbers-fit : (ts : List Scalar) (js : List JudgedArg) (vs : List Passed) (ns : List ℤ) → fit_each true (map by_value_of ts) js ≡ true →
+      PassedList js vs ns →
       (map number_of_passed vs ≡ ns) × (in_ranges ts ns ≡ true)
   numbers-fit [] [] [] [] h passes = (refl, refl)
   numbers-fit (t ∷ ts) (j ∷ js) (v ∷ vs) (n ∷ ns) h passes =

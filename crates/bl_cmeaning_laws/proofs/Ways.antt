@@ -1,5 +1,28 @@
 -- How many cells stand before a part of a value.
-use Rattle.std.proofs.Common.{◌≡◌, ℕ, zero, suc, ◌+◌, ◌*◌, ◌≤◌, ◌<◌, inl, inr, ⊎_elim, Bool, true, false, List, [], ◌∷◌, ◌++◌, map, Option, Some, None, refl, ap, sym, ◌∙◌, arith, suc-mul}
+use Rattle.std.proofs.Common.{
+  ◌≡◌,
+  ℕ,
+  zero,
+  suc,
+  ◌+◌,
+  ◌*◌,
+  ◌≤◌,
+  ◌<◌,
+  inl,
+  inr,
+  ⊎_elim,
+  Bool,
+  true,
+  false,
+  List,
+  [],
+  ◌∷◌,
+  ◌++◌,
+  map,
+  Option,
+  Some,
+}
+use Rattle.std.proofs.Common.{None, refl, ap, sym, ◌∙◌, arith, suc-mul}
 use Rattle.std.specs.Prelude.{unwrap_or, option_map, option_and_then, nat_lt, ◌==◌, if◌then◌else◌}
 use Rattle.std.proofs.lemmas.Grind.{common_steps}
 use Rattle.std.proofs.lemmas.Slice.Eq.{bytes_eq-Decides}
@@ -58,7 +81,8 @@ pub record Shaped (known : Sizes) (lists : Lists) (structs : Structs) : Type 0 w
 some_of : {A : Type 0} (a b : A) → Some a ≡ Some b → a ≡ b
 some_of a b h = cc
 
-pub spot_size-length : (known : Sizes) (ty : CType) (length : Option ℕ) → spot_size known (spot_of_length ty length) ≡ size_of_length length (size_of_type known ty)
+pub spot_size-length : (known : Sizes) (ty : CType) (length : Option ℕ) →
+    spot_size known (spot_of_length ty length) ≡ size_of_length length (size_of_type known ty)
 spot_size-length known ty None = refl
 spot_size-length known ty (Some n) = refl
 
@@ -111,11 +135,14 @@ module _ (known : Sizes) (lists : Lists) (structs : Structs) (shaped : Shaped kn
   pub stepped : (struct name : Text) (next : Spot) → step_in structs (whole (OfStruct struct)) (member name) ≡ Some next → Stepped struct name next
   stepped struct name next h = chosen (lists struct) refl (sym (ap (λ o. spot_if (option_and_then (λ members. members name) o)) (shaped.tables struct)) ∙ h)
     where
-      with_member : (list : List CMember) → lists struct ≡ Some list → (o : Option CMember) → found name (by_name list) ≡ o → spot_if o ≡ Some next → Stepped struct name next
+      with_member : (list : List CMember) → lists struct ≡ Some list → (o : Option CMember) → found name (by_name list) ≡ o →
+          spot_if o ≡ Some next →
+          Stepped struct name next
       with_member list is None at k = cc
       with_member list is (Some m) at k = record { list = list; is = is; it = m; there = at; spot = some_spot (spot_of m) next k }
 
-      chosen : (o : Option (List CMember)) → lists struct ≡ o → spot_if (option_and_then (λ members. members name) (option_map (λ ms. table_of (by_name ms)) o)) ≡ Some next → Stepped struct name next
+      chosen : (o : Option (List CMember)) → lists struct ≡ o →
+          spot_if (option_and_then (λ members. members name) (option_map (λ ms. table_of (by_name ms)) o)) ≡ Some next → Stepped struct name next
       chosen None is k = cc
       chosen (Some list) is k = with_member list is (found name (by_name list)) refl k
 
@@ -127,19 +154,23 @@ module _ (known : Sizes) (lists : Lists) (structs : Structs) (shaped : Shaped kn
   element-within k n ty next true is h = grind (arith, common_steps)
   element-within k n ty next false is h = cc
 
-  size-of-struct : (struct : Text) (list : List CMember) → lists struct ≡ Some list → size_of_type known (OfStruct struct) ≡ total (map (size_of_member known) list)
+  size-of-struct : (struct : Text) (list : List CMember) → lists struct ≡ Some list →
+      size_of_type known (OfStruct struct) ≡ total (map (size_of_member known) list)
   size-of-struct struct list is = ap (λ o. unwrap_or o 0) (shaped.sized struct list is)
 
-  offset-of-member : (struct name : Text) (list : List CMember) → lists struct ≡ Some list → part_offset known lists (whole (OfStruct struct)) (member name) ≡ offset_in known list name
+  offset-of-member : (struct name : Text) (list : List CMember) → lists struct ≡ Some list →
+      part_offset known lists (whole (OfStruct struct)) (member name) ≡ offset_in known list name
   offset-of-member struct name list is = ap (λ o. offset_in known (unwrap_or o []) name) is
 
   size-of-next : (m : CMember) (next : Spot) → spot_of m ≡ next → size_of_member known m ≡ spot_size known next
   size-of-next m next is = sym (spot_size-length known m.ty m.length) ∙ ap (spot_size known) is
 
-  pub step-within : (spot next : Spot) (p : Part) → step_in structs spot p ≡ Some next → part_offset known lists spot p + spot_size known next ≤ spot_size known spot
+  pub step-within : (spot next : Spot) (p : Part) → step_in structs spot p ≡ Some next →
+      part_offset known lists spot p + spot_size known next ≤ spot_size known spot
   step-within (whole (OfStruct struct)) next (member name) h =
       let s : Stepped struct name next = stepped struct name next h in
-      let fits : offset_in known s.list name + size_of_member known s.it ≤ total (map (size_of_member known) s.list) = offset-fits known s.list name s.it s.there in
+      let fits : offset_in known s.list name + size_of_member known s.it ≤ total (map (size_of_member known) s.list) =
+      offset-fits known s.list name s.it s.there in
       let a = offset-of-member struct name s.list s.is in
       let b = size-of-struct struct s.list s.is in
       let c = size-of-next s.it next s.spot in
@@ -147,7 +178,8 @@ module _ (known : Sizes) (lists : Lists) (structs : Structs) (shaped : Shaped kn
   step-within (row n ty) next (element k) h =
       let is : whole ty ≡ next = element-next n k ty next (nat_lt k n) h in
       let e : size_of_type known ty ≡ spot_size known next = ap (spot_size known) is in
-      let r : k * size_of_type known ty + size_of_type known ty ≤ n * size_of_type known ty = product-within k n (size_of_type known ty) (element-within k n ty next (nat_lt k n) refl h) in
+      let r : k * size_of_type known ty + size_of_type known ty ≤ n * size_of_type known ty =
+      product-within k n (size_of_type known ty) (element-within k n ty next (nat_lt k n) refl h) in
       omega arith
   step-within (whole (OfStruct struct)) next (element k) h = cc
   step-within (whole (OfScalar kind)) next p h = cc
@@ -173,7 +205,8 @@ module _ (known : Sizes) (lists : Lists) (structs : Structs) (shaped : Shaped kn
       let eb : size_of_type known ty ≡ spot_size known b = ap (spot_size known) (element-next n k ty b (nat_lt k n) l) in
       let size = size_of_type known ty in
       ⊎_elim (λ (x : j * size_of_type known ty + size_of_type known ty ≤ k * size_of_type known ty). inl (omega arith))
-      (λ (x : k * size_of_type known ty + size_of_type known ty ≤ j * size_of_type known ty). inr (omega arith)) (product-apart j k (size_of_type known ty) differ)
+      (λ (x : k * size_of_type known ty + size_of_type known ty ≤ j * size_of_type known ty). inr (omega arith))
+      (product-apart j k (size_of_type known ty) differ)
   step-apart (whole (OfStruct struct)) a b (member m) (element k) h l differ = cc
   step-apart (whole (OfStruct struct)) a b (element j) q h l differ = cc
   step-apart (whole (OfScalar kind)) a b p q h l differ = cc
@@ -201,14 +234,17 @@ module _ (known : Sizes) (lists : Lists) (structs : Structs) (shaped : Shaped kn
   offset-append None (p ∷ ps) qs = let e = nowhere-offset qs in omega arith
   offset-append (Some spot) (p ∷ ps) qs = let e = offset-append (step_in structs spot p) ps qs in omega arith
 
-  pub walk-within : (o : Option Spot) (spot goal : Spot) (ps : List Part) → o ≡ Some spot → walk structs o ps ≡ Some goal → way_offset known lists structs o ps + spot_size known goal ≤ spot_size known spot
-  walk-within o spot goal [] is h = let e : spot_size known spot ≡ spot_size known goal = ap (spot_size known) (some_spot spot goal (sym is ∙ h)) in omega arith
+  pub walk-within : (o : Option Spot) (spot goal : Spot) (ps : List Part) → o ≡ Some spot → walk structs o ps ≡ Some goal →
+      way_offset known lists structs o ps + spot_size known goal ≤ spot_size known spot
+  walk-within o spot goal [] is h = let e : spot_size known spot ≡ spot_size known goal =
+      ap (spot_size known) (some_spot spot goal (sym is ∙ h)) in omega arith
   walk-within None spot goal (p ∷ ps) is h = cc
   walk-within (Some x) spot goal (p ∷ ps) is h =
       through (step_in structs x p) refl h (λ next at k. walk-within (step_in structs x p) next goal ps at (ap (λ o. walk structs o ps) at ∙ k))
     where
       through : (o : Option Spot) → step_in structs x p ≡ o → walk structs o ps ≡ Some goal →
-          ((next : Spot) → step_in structs x p ≡ Some next → walk structs (Some next) ps ≡ Some goal → way_offset known lists structs (step_in structs x p) ps + spot_size known goal ≤ spot_size known next) →
+          ((next : Spot) → step_in structs x p ≡ Some next → walk structs (Some next) ps ≡ Some goal →
+          way_offset known lists structs (step_in structs x p) ps + spot_size known goal ≤ spot_size known next) →
           part_offset known lists x p + way_offset known lists structs (step_in structs x p) ps + spot_size known goal ≤ spot_size known spot
       through None at k inner = let bad : None ≡ Some goal = sym (walk-nowhere ps) ∙ k in cc
       through (Some next) at k inner =
@@ -226,12 +262,15 @@ module _ (known : Sizes) (lists : Lists) (structs : Structs) (shaped : Shaped kn
   left-is (p ∷ ps) [] rest h = cc
   left-is (p ∷ ps) (q ∷ qs) rest h = chosen (same_part p q) refl h (λ k. left-is ps qs rest k)
     where
-      chosen : (b : Bool) → same_part p q ≡ b → (if b then left_after ps qs else None) ≡ Some rest → (left_after ps qs ≡ Some rest → qs ≡ ps ++ rest) → q ∷ qs ≡ (p ∷ ps) ++ rest
+      chosen : (b : Bool) → same_part p q ≡ b → (if b then left_after ps qs else None) ≡ Some rest →
+          (left_after ps qs ≡ Some rest → qs ≡ ps ++ rest) →
+          q ∷ qs ≡ (p ∷ ps) ++ rest
       chosen true is k inner = ap (λ x. x ∷ qs) (sym (same-part-is p q is)) ∙ ap (λ xs. p ∷ xs) (inner k)
       chosen false is k inner = cc
 
   -- a scalar outside of a part has its cell outside of it
-  pub ways-apart : (o : Option Spot) (goal : Spot) (kind : Scalar) (ps qs : List Part) → walk structs o ps ≡ Some goal → walk structs o qs ≡ Some (whole (OfScalar kind)) → left_after ps qs ≡ None →
+  pub ways-apart : (o : Option Spot) (goal : Spot) (kind : Scalar) (ps qs : List Part) → walk structs o ps ≡ Some goal →
+      walk structs o qs ≡ Some (whole (OfScalar kind)) → left_after ps qs ≡ None →
       Apart (way_offset known lists structs o ps) (spot_size known goal) (way_offset known lists structs o qs) 1
   ways-apart o goal kind [] qs h k none = cc
   ways-apart None goal kind (p ∷ ps) qs h k none = cc
@@ -245,26 +284,35 @@ module _ (known : Sizes) (lists : Lists) (structs : Structs) (shaped : Shaped kn
   ways-apart (Some spot) goal kind (p ∷ ps) (q ∷ qs) h k none =
       same (same_part p q) refl none (λ there n. ways-apart (step_in structs spot p) goal kind ps qs h there n)
     where
-      differ : (a b : Option Spot) → step_in structs spot p ≡ a → step_in structs spot q ≡ b → walk structs a ps ≡ Some goal → walk structs b qs ≡ Some (whole (OfScalar kind)) → same_part p q ≡ false →
-          Apart (part_offset known lists spot p + way_offset known lists structs (step_in structs spot p) ps) (spot_size known goal) (part_offset known lists spot q + way_offset known lists structs (step_in structs spot q) qs) 1
+      differ : (a b : Option Spot) → step_in structs spot p ≡ a → step_in structs spot q ≡ b → walk structs a ps ≡ Some goal →
+          walk structs b qs ≡ Some (whole (OfScalar kind)) → same_part p q ≡ false →
+          Apart (part_offset known lists spot p + way_offset known lists structs (step_in structs spot p) ps) (spot_size known goal)
+          (part_offset known lists spot q + way_offset known lists structs (step_in structs spot q) qs) 1
       differ None b ia ib wa wb other = let bad : None ≡ Some goal = sym (walk-nowhere ps) ∙ wa in cc
       differ (Some a) None ia ib wa wb other = let bad : None ≡ Some (whole (OfScalar kind)) = sym (walk-nowhere qs) ∙ wb in cc
       differ (Some a) (Some b) ia ib wa wb other =
-          let inner-a : way_offset known lists structs (step_in structs spot p) ps + spot_size known goal ≤ spot_size known a = walk-within (step_in structs spot p) a goal ps ia (ap (λ o. walk structs o ps) ia ∙ wa) in
-          let inner-b : way_offset known lists structs (step_in structs spot q) qs + 1 ≤ spot_size known b = walk-within (step_in structs spot q) b (whole (OfScalar kind)) qs ib (ap (λ o. walk structs o qs) ib ∙ wb) in
+          let inner-a : way_offset known lists structs (step_in structs spot p) ps + spot_size known goal ≤ spot_size known a =
+          walk-within (step_in structs spot p) a goal ps ia (ap (λ o. walk structs o ps) ia ∙ wa) in
+          let inner-b : way_offset known lists structs (step_in structs spot q) qs + 1 ≤ spot_size known b =
+          walk-within (step_in structs spot q) b (whole (OfScalar kind)) qs ib (ap (λ o. walk structs o qs) ib ∙ wb) in
           ⊎_elim (λ (l : part_offset known lists spot p + spot_size known a ≤ part_offset known lists spot q). inl (omega arith))
-          (λ (r : part_offset known lists spot q + spot_size known b ≤ part_offset known lists spot p). inr (omega arith)) (step-apart spot a b p q ia ib other)
+          (λ (r : part_offset known lists spot q + spot_size known b ≤ part_offset known lists spot p). inr (omega arith))
+          (step-apart spot a b p q ia ib other)
 
       same : (b : Bool) → same_part p q ≡ b → (if b then left_after ps qs else None) ≡ None →
           (walk structs (step_in structs spot p) qs ≡ Some (whole (OfScalar kind)) → left_after ps qs ≡ None →
-          Apart (way_offset known lists structs (step_in structs spot p) ps) (spot_size known goal) (way_offset known lists structs (step_in structs spot p) qs) 1) →
-          Apart (part_offset known lists spot p + way_offset known lists structs (step_in structs spot p) ps) (spot_size known goal) (part_offset known lists spot q + way_offset known lists structs (step_in structs spot q) qs) 1
+          Apart (way_offset known lists structs (step_in structs spot p) ps) (spot_size known goal)
+          (way_offset known lists structs (step_in structs spot p) qs) 1) →
+          Apart (part_offset known lists spot p + way_offset known lists structs (step_in structs spot p) ps) (spot_size known goal)
+          (part_offset known lists spot q + way_offset known lists structs (step_in structs spot q) qs) 1
       same false is n inner = differ (step_in structs spot p) (step_in structs spot q) refl refl h k is
       same true is n inner =
           let e : p ≡ q = same-part-is p q is in
           let there : walk structs (step_in structs spot p) qs ≡ Some (whole (OfScalar kind)) = ap (λ x. walk structs (step_in structs spot x) qs) e ∙ k in
           let a : part_offset known lists spot p ≡ part_offset known lists spot q = ap (part_offset known lists spot) e in
-          let b : way_offset known lists structs (step_in structs spot p) qs ≡ way_offset known lists structs (step_in structs spot q) qs = ap (λ x. way_offset known lists structs (step_in structs spot x) qs) e in
-          ⊎_elim (λ (l : way_offset known lists structs (step_in structs spot p) ps + spot_size known goal ≤ way_offset known lists structs (step_in structs spot p) qs). inl (omega arith))
-          (λ (r : way_offset known lists structs (step_in structs spot p) qs + 1 ≤ way_offset known lists structs (step_in structs spot p) ps). inr (omega arith))
+          let b : way_offset known lists structs (step_in structs spot p) qs ≡ way_offset known lists structs (step_in structs spot q) qs =
+          ap (λ x. way_offset known lists structs (step_in structs spot x) qs) e in
+          let mine : ℕ = way_offset known lists structs (step_in structs spot p) ps in
+          let other : ℕ = way_offset known lists structs (step_in structs spot p) qs in
+          ⊎_elim (λ (l : mine + spot_size known goal ≤ other). inl (omega arith)) (λ (r : other + 1 ≤ mine). inr (omega arith))
           (inner there n)

@@ -1,5 +1,25 @@
 -- Values of C types, and memories in which every place has a value of its type.
-use Rattle.std.specs.Prelude.{◌≡◌, ℕ, ℤ, Bool, true, false, ◌&&◌, nat_lt, List, [], ◌∷◌, map, flat_map, Option, Some, None, option_and_then, codes, if◌then◌else◌}
+use Rattle.std.specs.Prelude.{
+  ◌≡◌,
+  ℕ,
+  ℤ,
+  Bool,
+  true,
+  false,
+  ◌&&◌,
+  nat_lt,
+  List,
+  [],
+  ◌∷◌,
+  map,
+  flat_map,
+  Option,
+  Some,
+  None,
+  option_and_then,
+  codes,
+}
+use Rattle.std.specs.Prelude.{if◌then◌else◌}
 use Rattle.std.specs.List.{list_all}
 use Rattle.bl_tree.specs.declared.text.Text.{Text}
 use Rattle.bl_tree.specs.declared.scalar.Scalar.{Scalar}
@@ -7,12 +27,14 @@ use Rattle.bl_tree.specs.declared.c.CType.{CType}
 use Rattle.bl_tree.specs.declared.c.CType.TheVariants.{Scalar as OfScalar, Struct as OfStruct}
 use Rattle.bl_tree.specs.declared.c.CMember.{CMember}
 use Rattle.bl_tree.specs.declared.c.CStruct.{CStruct}
+use Rattle.bl_tree.specs.Ports.{in_ranges}
 use Rattle.bl_tree.specs.Scalar.{in_range}
-use Rattle.bl_cmeaning.specs.declared.builtin.Builtin.{Builtin}
+use Rattle.bl_ctext.specs.declared.builtin.Builtin.{Builtin}
 use Rattle.bl_cmeaning.specs.Builtin.{builtin_of, builtin_params, builtin_result, builtin_value}
 use Rattle.bl_cmeaning.specs.Parts.{Parts}
 use Rattle.bl_cmeaning.specs.Tables.{Table, no_entries, table_of}
-use Rattle.bl_cmeaning.specs.Memory.{Part, member, element, Root, state_object, input_object, output_object, Location, CValue, Memory, number_in, value_at, set_at, cleared}
+use Rattle.bl_cmeaning.specs.Memory.{Part, member, element, Root, state_object, input_object, output_object, Location, CValue, Memory, number_in}
+use Rattle.bl_cmeaning.specs.Memory.{value_at, set_at, cleared}
 use Rattle.bl_cmeaning.specs.Cells.{Inner, inside, below, inner_of_type, inner_after, Cell, cells_of}
 use Rattle.bl_cmeaning.specs.Faults.{WellFormed, struct_table}
 
@@ -110,8 +132,10 @@ ReadingFits file = WellFormed file → (types : RootTypes) (memory : Memory) (pl
 
 -- memory still fits after a place of a type was set to a value of that type
 abbrev pub SettingFits : Parts → Type 0
-SettingFits file = WellFormed file → (types : RootTypes) (memory : Memory) (place : Location) (ty : CType) (value : CValue) → MemoryFits file.structs types memory →
-    place_type file.structs types place ≡ Some ty → fits (scalars file.structs) ty value ≡ true → MemoryFits file.structs types (set_at memory place value)
+SettingFits file = WellFormed file → (types : RootTypes) (memory : Memory) (place : Location) (ty : CType) (value : CValue) →
+    MemoryFits file.structs types memory →
+    place_type file.structs types place ≡ Some ty → fits (scalars file.structs) ty value ≡ true →
+    MemoryFits file.structs types (set_at memory place value)
 
 -- whether the number of a cell is in its range
 abbrev pub cell_holds : Memory → Cell → Bool
@@ -119,16 +143,11 @@ cell_holds memory cell = in_range cell.kind (number_in (value_at memory cell.loc
 
 -- each cell of the three objects has a number in its range
 abbrev pub CellsFit : Parts → Type 0
-CellsFit file = (types : RootTypes) (memory : Memory) → ObjectsAre types → MemoryFits file.structs types memory → list_all (cell_holds memory) (cells_of file) ≡ true
-
--- whether there is a number for each of these types, in its range
-abbrev pub in_ranges : List Scalar → List ℤ → Bool
-in_ranges [] [] = true
-in_ranges (t ∷ ts) (n ∷ ns) = in_range t n && in_ranges ts ns
-in_ranges [] (n ∷ ns) = false
-in_ranges (t ∷ ts) [] = false
+CellsFit file = (types : RootTypes) (memory : Memory) → ObjectsAre types → MemoryFits file.structs types memory →
+    list_all (cell_holds memory) (cells_of file) ≡ true
 
 -- a function of the prelude that is given numbers of its parameters' types gives one of its result's type, where it doesn't trap
 abbrev pub BuiltinsFit : Type 0
-BuiltinsFit = (name : Text) (b : Builtin) (numbers : List ℤ) (t : Scalar) (n : ℤ) → builtin_of name ≡ Some b → in_ranges (builtin_params b) numbers ≡ true →
+BuiltinsFit = (name : Text) (b : Builtin) (numbers : List ℤ) (t : Scalar) (n : ℤ) → builtin_of name ≡ Some b →
+    in_ranges (builtin_params b) numbers ≡ true →
     builtin_result b ≡ Some t → builtin_value b numbers ≡ Some n → in_range t n ≡ true

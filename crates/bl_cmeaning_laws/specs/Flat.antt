@@ -1,7 +1,28 @@
 -- What C expressions, statements and functions do over numbered cells: a place is the number of its first cell, a pointer such a
 -- number, and the frame of a function that runs begins at its base. How statements end, what they count and in which order things are
 -- evaluated is as in the meaning of C texts. Where a form has no meaning there, some value is given.
-use Rattle.std.specs.Prelude.{ℕ, zero, suc, ◌+◌, ◌*◌, ℤ, pos, negsuc, Bool, true, false, ◌&&◌, nat_le, List, [], ◌∷◌, map, length, slice_set, slice_index_or, Option, Some, None, option_map, if◌then◌else◌, not, int_lt, int_le}
+use Rattle.std.specs.Prelude.{
+  ℕ,
+  zero,
+  suc,
+  ◌+◌,
+  ◌*◌,
+  ℤ,
+  pos,
+  negsuc,
+  Bool,
+  true,
+  false,
+  ◌&&◌,
+  nat_le,
+  List,
+  [],
+  ◌∷◌,
+  map,
+  length,
+  slice_set,
+}
+use Rattle.std.specs.Prelude.{slice_index_or, Option, Some, None, option_map, if◌then◌else◌, not, int_lt, int_le}
 use Rattle.std.specs.List.{copy_within}
 use Rattle.std.specs.Ordering.{int_eq}
 use Rattle.bl_tree.specs.declared.text.Text.{Text}
@@ -16,13 +37,15 @@ use Rattle.bl_tree.specs.declared.c.CCall.{CCall, fold-CCall}
 use Rattle.bl_tree.specs.declared.c.CStmtKind.TheOpen.{CStmtKind-F, CStmt-F}
 use Rattle.bl_tree.specs.declared.c.CStmt.{CStmt, fold-CStmt}
 use Rattle.bl_tree.specs.declared.c.CFunc.{CFunc}
-use Rattle.bl_tree.specs.Numbers.{is_one, number_of}
-use Rattle.bl_cmeaning.specs.declared.builtin.Builtin.{Builtin}
+use Rattle.bl_tree.specs.Numbers.{is_one, number_of, takes_one, takes_two}
+use Rattle.bl_ctext.specs.declared.builtin.Builtin.{Builtin}
+use Rattle.bl_ctext.specs.declared.builtin.Builtin.TheVariants.{One, Two}
 use Rattle.bl_cmeaning.specs.Builtin.{builtin_of, builtin_params, builtin_value, index_within}
+use Rattle.bl_ctext.specs.Folds.{OpenPart}
 use Rattle.bl_cmeaning.specs.Meaning.{End, goes_on, breaks, returns, traps, result_at, turn_limit}
 use Rattle.bl_cmeaning.specs.Sizes.{Sizes}
 use Rattle.bl_cmeaning.specs.Tables.{Table, with_entry, entry_or}
-use Rattle.bl_cmeaning_laws.specs.Fitting.{in_ranges}
+use Rattle.bl_tree.specs.Ports.{in_ranges}
 use Rattle.bl_cmeaning_laws.specs.Layout.{Layouts, capped, frame_cells, slots_of}
 use Rattle.bl_cmeaning_laws.specs.Reaching.{Ground, Index, Reach, Start, Step, Term, laid_in, near, reach_along, reach_member, start_of_slot, through}
 
@@ -126,9 +149,15 @@ two_values Or first second base cells = next (first base cells) (λ after a. (if
 two_values op first second base cells =
     next (first base cells) (λ after a. next (second base after) (λ last b. left last (compared op a b)))
 
--- what a function of the prelude gives for numbers of its parameters' types
+-- whether an operator is one that takes its type; every function of the prelude that has a name is so
+abbrev pub is_typed : Builtin → Bool
+is_typed (Two op t) = takes_two op t
+is_typed (One op t) = takes_one op t
+is_typed _ = true
+
+-- what a function of the prelude gives for numbers of its parameters' types, and none, a trap, for others
 abbrev pub prelude_value : Builtin → List ℤ → Option ℤ
-prelude_value b numbers = if in_ranges (builtin_params b) numbers then builtin_value b numbers else None
+prelude_value b numbers = if is_typed b && in_ranges (builtin_params b) numbers then builtin_value b numbers else None
 
 -- a call of a function that may be known; its frame stands behind that of the caller
 abbrev pub applied : Option Routine → ℕ → List ℤ → Cells → Left ℤ
@@ -145,11 +174,17 @@ called here name base args cells = called_as (builtin_of name) (here.known name)
 abbrev pub Grounded : Type 0 → Type 0
 Grounded A = Ground Routine → A
 
-abbrev pub arg_step : CArg-F (Grounded (Evaluates ℤ)) (Grounded (Evaluates ℤ)) (Grounded (Evaluates ℤ)) (Grounded (Evaluates ℤ)) (Grounded (Index (Evaluates ℤ))) (Grounded (Reach (Evaluates ℤ))) (Step Routine (Evaluates ℤ)) → Grounded (Evaluates ℤ)
+-- a part of an expression, where each part within it is evaluated so
+abbrev pub Evaluating : OpenPart → Type 0
+Evaluating Of = Of (Grounded (Evaluates ℤ)) (Grounded (Evaluates ℤ)) (Grounded (Evaluates ℤ)) (Grounded (Evaluates ℤ))
+    (Grounded (Index (Evaluates ℤ)))
+    (Grounded (Reach (Evaluates ℤ))) (Step Routine (Evaluates ℤ))
+
+abbrev pub arg_step : Evaluating CArg-F → Grounded (Evaluates ℤ)
 arg_step (CArg-F.Value value) here base cells = value here base cells
 arg_step (CArg-F.Address place) here base cells = next (address_of (place here) base cells) (λ after k. left after (Some (pos k)))
 
-abbrev pub kind_step : CExprKind-F (Grounded (Evaluates ℤ)) (Grounded (Evaluates ℤ)) (Grounded (Evaluates ℤ)) (Grounded (Evaluates ℤ)) (Grounded (Index (Evaluates ℤ))) (Grounded (Reach (Evaluates ℤ))) (Step Routine (Evaluates ℤ)) → Grounded (Evaluates ℤ)
+abbrev pub kind_step : Evaluating CExprKind-F → Grounded (Evaluates ℤ)
 kind_step (CExprKind-F.Literal type n) here base cells = left cells (Some n)
 kind_step (CExprKind-F.Read place) here base cells =
     next (address_of (place here) base cells) (λ after k. left after (Some (read_at (place here).ty after k)))
@@ -158,36 +193,36 @@ kind_step (CExprKind-F.Not operand) here base cells =
     next (operand here base cells) (λ after a. left after (Some (number_of (if is_one a then false else true))))
 kind_step (CExprKind-F.Two op first second) here base cells = two_values op (first here) (second here) base cells
 
-abbrev pub call_step : CCall-F (Grounded (Evaluates ℤ)) (Grounded (Evaluates ℤ)) (Grounded (Evaluates ℤ)) (Grounded (Evaluates ℤ)) (Grounded (Index (Evaluates ℤ))) (Grounded (Reach (Evaluates ℤ))) (Step Routine (Evaluates ℤ)) → Grounded (Evaluates ℤ)
+abbrev pub call_step : Evaluating CCall-F → Grounded (Evaluates ℤ)
 call_step call here base cells =
     next (each_of (map (λ arg. arg here) call.args) base cells) (λ after args. called here call.name base args after)
 
-abbrev pub expr_step : CExpr-F (Grounded (Evaluates ℤ)) (Grounded (Evaluates ℤ)) (Grounded (Evaluates ℤ)) (Grounded (Evaluates ℤ)) (Grounded (Index (Evaluates ℤ))) (Grounded (Reach (Evaluates ℤ))) (Step Routine (Evaluates ℤ)) → Grounded (Evaluates ℤ)
+abbrev pub expr_step : Evaluating CExpr-F → Grounded (Evaluates ℤ)
 expr_step expr = expr.what
 
-abbrev pub index_step : CIndex-F (Grounded (Evaluates ℤ)) (Grounded (Evaluates ℤ)) (Grounded (Evaluates ℤ)) (Grounded (Evaluates ℤ)) (Grounded (Index (Evaluates ℤ))) (Grounded (Reach (Evaluates ℤ))) (Step Routine (Evaluates ℤ)) → Grounded (Index (Evaluates ℤ))
+abbrev pub index_step : Evaluating CIndex-F → Grounded (Index (Evaluates ℤ))
 index_step index here = record { length = index.length; index = index.at here }
 
-abbrev pub place_step : CPlace-F (Grounded (Evaluates ℤ)) (Grounded (Evaluates ℤ)) (Grounded (Evaluates ℤ)) (Grounded (Evaluates ℤ)) (Grounded (Index (Evaluates ℤ))) (Grounded (Reach (Evaluates ℤ))) (Step Routine (Evaluates ℤ)) → Grounded (Reach (Evaluates ℤ))
+abbrev pub place_step : Evaluating CPlace-F → Grounded (Reach (Evaluates ℤ))
 place_step place here = reach_along place.steps here (start_of_slot (here.slots place.name))
 
 abbrev pub index_or_none : Option (Grounded (Index (Evaluates ℤ))) → Ground Routine → Option (Index (Evaluates ℤ))
 index_or_none index here = option_map (λ i. i here) index
 
-abbrev pub step_step : CStep-F (Grounded (Evaluates ℤ)) (Grounded (Evaluates ℤ)) (Grounded (Evaluates ℤ)) (Grounded (Evaluates ℤ)) (Grounded (Index (Evaluates ℤ))) (Grounded (Reach (Evaluates ℤ))) (Step Routine (Evaluates ℤ)) → Step Routine (Evaluates ℤ)
+abbrev pub step_step : Evaluating CStep-F → Step Routine (Evaluates ℤ)
 step_step step here ty = reach_member here (laid_in here ty step.member) (index_or_none step.index here)
 
 -- the value of an expression
 abbrev pub value_flat : CExpr → Grounded (Evaluates ℤ)
-value_flat = fold-CExpr (Grounded (Evaluates ℤ)) (Grounded (Evaluates ℤ)) (Grounded (Evaluates ℤ)) (Grounded (Evaluates ℤ)) (Grounded (Index (Evaluates ℤ))) (Grounded (Reach (Evaluates ℤ))) (Step Routine (Evaluates ℤ)) arg_step kind_step call_step expr_step index_step place_step step_step
+value_flat = fold-CExpr _ _ _ _ _ _ _ arg_step kind_step call_step expr_step index_step place_step step_step
 
 -- how a place is reached
 abbrev pub reach_flat : CPlace → Grounded (Reach (Evaluates ℤ))
-reach_flat = fold-CPlace (Grounded (Evaluates ℤ)) (Grounded (Evaluates ℤ)) (Grounded (Evaluates ℤ)) (Grounded (Evaluates ℤ)) (Grounded (Index (Evaluates ℤ))) (Grounded (Reach (Evaluates ℤ))) (Step Routine (Evaluates ℤ)) arg_step kind_step call_step expr_step index_step place_step step_step
+reach_flat = fold-CPlace _ _ _ _ _ _ _ arg_step kind_step call_step expr_step index_step place_step step_step
 
 -- what a call gives
 abbrev pub call_flat : CCall → Grounded (Evaluates ℤ)
-call_flat = fold-CCall (Grounded (Evaluates ℤ)) (Grounded (Evaluates ℤ)) (Grounded (Evaluates ℤ)) (Grounded (Evaluates ℤ)) (Grounded (Index (Evaluates ℤ))) (Grounded (Reach (Evaluates ℤ))) (Step Routine (Evaluates ℤ)) arg_step kind_step call_step expr_step index_step place_step step_step
+call_flat = fold-CCall _ _ _ _ _ _ _ arg_step kind_step call_step expr_step index_step place_step step_step
 
 -- ---- statements
 
@@ -275,7 +310,8 @@ turns (suc n) condition body base cells =
 
 abbrev pub stmt_kind_step : CStmtKind-F Runs Runs → Runs
 stmt_kind_step (CStmtKind-F.Set place expr) here base cells =
-    executed 1 (next (address_of (reach_flat place here) base cells) (λ c k. next (value_flat expr here base c) (λ d v. left (written_at here.sizes (reach_flat place here).ty k v d) (Some v))))
+    executed 1 (next (address_of (reach_flat place here) base cells)
+    (λ c k. next (value_flat expr here base c) (λ d v. left (written_at here.sizes (reach_flat place here).ty k v d) (Some v))))
     (λ c v. going c)
 stmt_kind_step (CStmtKind-F.Clear place name) here base cells =
     executed 1 (address_of (reach_flat place here) base cells) (λ c k. going (zeroed (entry_or 0 here.sizes name) k c))

@@ -1,5 +1,25 @@
 -- What holds of every C file that is run over numbered cells.
-use Rattle.std.specs.Prelude.{◌≡◌, ◌≤◌, ℕ, ◌+◌, ℤ, pos, true, List, [], ◌∷◌, ◌++◌, map, length, take, drop, replicate, codes, Option, option_map, IfSome}
+use Rattle.bl_tree.specs.Ports.{in_ranges, row_fits}
+use Rattle.std.specs.Prelude.{
+  ◌≡◌,
+  ◌≤◌,
+  ℕ,
+  ◌+◌,
+  ℤ,
+  pos,
+  true,
+  List,
+  [],
+  ◌∷◌,
+  ◌++◌,
+  map,
+  length,
+  take,
+  drop,
+  replicate,
+  codes,
+  is_some,
+}
 use Rattle.std.specs.List.{list_all}
 use Rattle.bl_tree.specs.declared.text.Text.{Text}
 use Rattle.bl_tree.specs.declared.scalar.Scalar.{Scalar}
@@ -9,9 +29,9 @@ use Rattle.bl_cmeaning.specs.Tables.{entry_or, found, no_entries}
 use Rattle.bl_cmeaning.specs.Meaning.{Called}
 use Rattle.bl_cmeaning.specs.Cells.{cells_of, inputs_of, numbers_of, outputs_of}
 use Rattle.bl_cmeaning.specs.Sizes.{cells_needed, sizes}
-use Rattle.bl_cmeaning.specs.Trace.{Tick, entered, object, reply_of, start_c, tick_c}
+use Rattle.bl_cmeaning.specs.Trace.{Tick, entered, object, reply_of, start_cells, starts, tick_c}
 use Rattle.bl_cmeaning.specs.Faults.{WellFormed}
-use Rattle.bl_cmeaning_laws.specs.Fitting.{cell_holds, in_ranges}
+use Rattle.bl_cmeaning_laws.specs.Fitting.{cell_holds}
 use Rattle.bl_cmeaning_laws.specs.Layout.{capped_sizes, layouts}
 use Rattle.bl_cmeaning_laws.specs.Flat.{Cells, Left, Routine, applied, routines_after, with_args}
 
@@ -41,7 +61,8 @@ entered_flat file name args cells = applied (found name (routines file)) (behind
 
 -- ---- what holds
 
--- a call in a C text and over numbered cells: they count and answer alike, and the first cells have the numbers of the three objects' scalars, each in its range
+-- a call in a C text and over numbered cells: they count and answer alike, and the first cells have the numbers of the three objects'
+-- scalars, each in its range
 pub record SameCall (file : Parts) (c : Called) (l : Left ℤ) : Type 0 where
   pub count : c.count ≡ l.count
   pub answer : c.result ≡ l.answer
@@ -51,7 +72,8 @@ pub record SameCall (file : Parts) (c : Called) (l : Left ℤ) : Type 0 where
 
 -- a call from a memory whose scalars are in their ranges, over cells that have their numbers and then any others, as many as the file needs
 abbrev pub CallsAgree : Parts → Text → (Memory → Called) → List ℤ → Type 0
-CallsAgree file name call args = WellFormed file → cells_needed file ≤ 1000000 → (memory : Memory) (others : List ℤ) → list_all (cell_holds memory) (cells_of file) ≡ true →
+CallsAgree file name call args =
+    WellFormed file → cells_needed file ≤ 1000000 → (memory : Memory) (others : List ℤ) → list_all (cell_holds memory) (cells_of file) ≡ true →
     cells_needed file ≤ length (numbers_of (cells_of file) memory ++ others) →
     SameCall file (call memory) (entered_flat file name args (numbers_of (cells_of file) memory ++ others))
 
@@ -86,18 +108,22 @@ pub record SameTick (file : Parts) (t : Tick) (l : Left ℤ) : Type 0 where
 
 -- a tick over cells of which the first have the numbers of the three objects' scalars, once those of the inputs are set to a row
 abbrev pub TicksRun : Parts → Type 0
-TicksRun file = WellFormed file → cells_needed file ≤ 1000000 → (numbers others ins : List ℤ) → Fitting file numbers → in_ranges (map (λ column. column.ty) (inputs_of file)) ins ≡ true →
+TicksRun file = WellFormed file → cells_needed file ≤ 1000000 → (numbers others ins : List ℤ) → Fitting file numbers →
+    row_fits (inputs_of file) ins ≡ true →
     cells_needed file ≤ length (numbers ++ others) →
     SameTick file (tick_c file numbers ins)
-    (entered_flat file (codes "bl_tick") (pos 0 ∷ pos (input_at file) ∷ pos (output_at file) ∷ []) (with_args (input_at file + 1) ins (numbers ++ others)))
+    (entered_flat file (codes "bl_tick") (pos 0 ∷ pos (input_at file) ∷ pos (output_at file) ∷ [])
+    (with_args (input_at file + 1) ins (numbers ++ others)))
 
--- a start in a C text and over numbered cells
-pub record SameStart (file : Parts) (start : Option (List ℤ)) (l : Left ℤ) : Type 0 where
-  pub cells : start ≡ option_map (λ n. take (length (cells_of file)) l.cells) l.answer
+-- the start in a C text and over numbered cells
+pub record SameStart (file : Parts) (l : Left ℤ) : Type 0 where
+  pub ready : starts file ≡ is_some l.answer
+  pub cells : take (length (cells_of file)) l.cells ≡ start_cells file
   pub room : cells_needed file ≤ length l.cells
-  pub fits : IfSome start (Fitting file)
+  pub fits : Fitting file (start_cells file)
 
 -- a start over cells of which those of the three objects are 0
 abbrev pub StartsRun : Parts → Type 0
-StartsRun file = WellFormed file → cells_needed file ≤ 1000000 → (others : List ℤ) → cells_needed file ≤ length (replicate (length (cells_of file)) (pos 0) ++ others) →
-    SameStart file (start_c file) (entered_flat file (codes "bl_init") (pos 0 ∷ []) (replicate (length (cells_of file)) (pos 0) ++ others))
+StartsRun file = WellFormed file → cells_needed file ≤ 1000000 → (others : List ℤ) →
+    cells_needed file ≤ length (replicate (length (cells_of file)) (pos 0) ++ others) →
+    SameStart file (entered_flat file (codes "bl_init") (pos 0 ∷ []) (replicate (length (cells_of file)) (pos 0) ++ others))

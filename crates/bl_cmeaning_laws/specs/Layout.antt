@@ -52,17 +52,19 @@ pub record Slot : Type 0 where
 
 abbrev pub locals_laid : Sizes → ℕ → List CLocal → List (Text × Slot)
 locals_laid known at [] = []
-locals_laid known at (l ∷ rest) = (l.name, record { at = at; pointer = Bool.false; ty = l.ty }) ∷ locals_laid known (capped (at + size_of_type known l.ty)) rest
+locals_laid known at (l ∷ rest) = (l.name, record { at = at; pointer = Bool.false; ty = l.ty })
+    ∷ locals_laid known (capped (at + size_of_type known l.ty)) rest
 
 -- the parameters, and then these locals
 abbrev pub params_laid : Sizes → ℕ → List CParam → List CLocal → List (Text × Slot)
 params_laid known at [] locals = locals_laid known at locals
-params_laid known at (p ∷ rest) locals = (p.name, record { at = at; pointer = p.pointer; ty = p.ty }) ∷ params_laid known (capped (at + size_of_param known p)) rest locals
+params_laid known at (p ∷ rest) locals =
+    (p.name, record { at = at; pointer = p.pointer; ty = p.ty }) ∷ params_laid known (capped (at + size_of_param known p)) rest locals
 
 -- the parameters and locals of a function by name
 abbrev pub slots_of : Sizes → CFunc → Table Slot
 slots_of known function = table_of (params_laid known 0 function.params function.locals)
 
--- how many cells the frame of a function has. The counters of loops stand elsewhere
+-- how many cells the frame of a function has. What counts the turns of loops stands elsewhere
 abbrev pub frame_cells : Sizes → CFunc → ℕ
 frame_cells known function = capped (total (map (size_of_param known) function.params) + total (map (λ l. size_of_type known l.ty) function.locals))

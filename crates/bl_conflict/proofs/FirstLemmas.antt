@@ -1,5 +1,35 @@
 -- The first of several failures, list by list.
-use Rattle.std.proofs.Common.{◌≡◌, ℕ, zero, suc, ◌+◌, ◌<◌, ◌≤◌, Bool, true, false, ◌&&◌, ◌||◌, List, [], ◌∷◌, ◌++◌, map, length, get_or, drop, Option, refl, ap, sym, ◌∙◌, add-one, append_assoc, arith}
+use Rattle.std.proofs.Common.{
+  ◌≡◌,
+  ℕ,
+  zero,
+  suc,
+  ◌+◌,
+  ◌<◌,
+  ◌≤◌,
+  Bool,
+  true,
+  false,
+  ◌&&◌,
+  ◌||◌,
+  List,
+  [],
+  ◌∷◌,
+  ◌++◌,
+  map,
+  length,
+  get_or,
+  drop,
+  Option,
+  None,
+  refl,
+  ap,
+  sym,
+  ◌∙◌,
+  add-one,
+  append_assoc,
+  arith,
+}
 use Rattle.std.proofs.Math.Seq.{drop-cons}
 use Rattle.bl_tree.proofs.ReduceLemmas.{joined-append}
 use Rattle.bl_tree.specs.declared.tree.Var.{Var}
@@ -7,19 +37,36 @@ use Rattle.bl_tree.specs.Reduce.{all_of, any_of, joined}
 use Rattle.bl_effects.specs.declared.marked.Marked.{Marked}
 use Rattle.bl_effects.specs.Rules.{Parallel, Split, splits_after, together}
 use Rattle.bl_tree.specs.Static.{is_front}
-use Rattle.bl_conflict.specs.declared.failure.Failure.{Failure}
-use Rattle.bl_conflict.specs.Failures.{all_clashes, clashes, itself, least_by, lesser}
+use Rattle.bl_tree.specs.declared.rule.Failure.{Failure}
+use Rattle.bl_tree.specs.Rules.{first_of, lesser}
+use Rattle.bl_conflict.specs.inner.Failures.{all_clashes, clashes, least_by}
 
 pub next_of : {X : Type 0} (xs : List X) (k : ℕ) (x : X) → k < length xs → x ≡ get_or xs k x → drop k xs ≡ x ∷ drop (k + 1) xs
 next_of xs k x within is = rw add-one (drop-cons xs k x within ∙ ap (λ y. y ∷ drop (suc k) xs) (sym is))
 
-pub least-append : {A : Type 0} (f : A → Failure) (best : Option Failure) (xs ys : List A) → least_by f best (xs ++ ys) ≡ least_by f (least_by f best xs) ys
+pub first-append : (best : Option Failure) (xs ys : List Failure) → first_of best (xs ++ ys) ≡ first_of (first_of best xs) ys
+first-append best [] ys = refl
+first-append best (x ∷ xs) ys = first-append (lesser best x) xs ys
+
+pub least-append : {A : Type 0} (f : A → Failure) (best : Option Failure) (xs ys : List A)
+    → least_by f best (xs ++ ys) ≡ least_by f (least_by f best xs) ys
 least-append f best [] ys = refl
 least-append f best (x ∷ xs) ys = least-append f (lesser best (f x)) xs ys
 
+-- four lists, one after another
+pub four_are : (a b c d : List Failure) → first_of (first_of (first_of (first_of None a) b) c) d ≡ first_of None (a ++ (b ++ (c ++ d)))
+four_are a b c d =
+    sym (first-append (first_of (first_of None a) b) c d) ∙ sym (first-append (first_of None a) b (c ++ d)) ∙ sym (first-append None a (b ++ (c ++ d)))
+
 -- one more list of failures
-pub best-next : {A X : Type 0} (f : A → Failure) (g : X → List A) (all rest : List X) (x : X) (best found : Option Failure) → all ≡ x ∷ rest →
-    least_by f best (joined (map g all)) ≡ found → least_by f (least_by f best (g x)) (joined (map g rest)) ≡ found
+pub first-next : {X : Type 0} (g : X → List Failure) (all rest : List X) (x : X) (best found : Option Failure) → all ≡ x ∷ rest →
+    first_of best (joined (map g all)) ≡ found → first_of (first_of best (g x)) (joined (map g rest)) ≡ found
+first-next g all rest x best found is h =
+    sym (first-append best (g x) (joined (map g rest))) ∙ ap (λ l. first_of best (joined (map g l))) (sym is) ∙ h
+
+-- the same of what failures are made of
+pub best-next : {A X : Type 0} (f : A → Failure) (g : X → List A) (all rest : List X) (x : X) (best found : Option Failure)
+    → all ≡ x ∷ rest → least_by f best (joined (map g all)) ≡ found → least_by f (least_by f best (g x)) (joined (map g rest)) ≡ found
 best-next f g all rest x best found is h =
     sym (least-append f best (g x) (joined (map g rest))) ∙ ap (λ l. least_by f best (joined (map g l))) (sym is) ∙ h
 
@@ -56,24 +103,25 @@ clashes-append vars xs ys = ap joined (map-append (clashes vars) xs ys) ∙ join
 
 -- the branches of one more statement
 pub clash-next : (vars : List Var) (all rest : List Parallel) (x : Parallel) (best found : Option Failure) → all ≡ x ∷ rest →
-    least_by itself best (all_clashes vars (together all).splits) ≡ found →
-    least_by itself (least_by itself best (all_clashes vars x.splits)) (all_clashes vars (together rest).splits) ≡ found
+    first_of best (all_clashes vars (together all).splits) ≡ found →
+    first_of (first_of best (all_clashes vars x.splits)) (all_clashes vars (together rest).splits) ≡ found
 clash-next vars all rest x best found is h =
-    sym (least-append itself best (all_clashes vars x.splits) (all_clashes vars (together rest).splits))
-    ∙ ap (least_by itself best) (sym (clashes-append vars x.splits (together rest).splits))
-    ∙ ap (λ l. least_by itself best (all_clashes vars (together l).splits)) (sym is) ∙ h
+    sym (first-append best (all_clashes vars x.splits) (all_clashes vars (together rest).splits))
+    ∙ ap (first_of best) (sym (clashes-append vars x.splits (together rest).splits))
+    ∙ ap (λ l. first_of best (all_clashes vars (together l).splits)) (sym is) ∙ h
 
 -- one more branch, and it beside those before it
 pub branch-next : (vars : List Var) (before : List Marked) (all rest : List Parallel) (x : Parallel) (best found : Option Failure) → all ≡ x ∷ rest →
-    least_by itself best (all_clashes vars (splits_after before all)) ≡ found →
-    least_by itself (least_by itself (least_by itself best (all_clashes vars x.splits)) (clashes vars (record { earlier = before; writes = x.writes }))) (all_clashes vars (splits_after (before ++ x.writes) rest)) ≡ found
+    first_of best (all_clashes vars (splits_after before all)) ≡ found →
+    first_of (first_of (first_of best (all_clashes vars x.splits)) (clashes vars (record { earlier = before; writes = x.writes })))
+    (all_clashes vars (splits_after (before ++ x.writes) rest)) ≡ found
 branch-next vars before all rest x best found is h =
     let this : Split = record { earlier = before; writes = x.writes } in
     let later = splits_after (before ++ x.writes) rest in
-    sym (least-append itself (least_by itself best (all_clashes vars x.splits)) (clashes vars this) (all_clashes vars later))
-    ∙ sym (least-append itself best (all_clashes vars x.splits) (all_clashes vars (this ∷ later)))
-    ∙ ap (least_by itself best) (sym (clashes-append vars x.splits (this ∷ later)))
-    ∙ ap (λ l. least_by itself best (all_clashes vars (splits_after before l))) (sym is) ∙ h
+    sym (first-append (first_of best (all_clashes vars x.splits)) (clashes vars this) (all_clashes vars later))
+    ∙ sym (first-append best (all_clashes vars x.splits) (all_clashes vars (this ∷ later)))
+    ∙ ap (first_of best) (sym (clashes-append vars x.splits (this ∷ later)))
+    ∙ ap (λ l. first_of best (all_clashes vars (splits_after before l))) (sym is) ∙ h
 
 -- ---- paths
 
@@ -90,4 +138,4 @@ front_past (x ∷ xs) [] (suc k) below past = none_front xs k (omega arith)
 front_past (x ∷ xs) (y ∷ ys) zero below past = absurd (omega arith)
 front_past (x ∷ xs) (y ∷ ys) (suc k) below past = front_past xs ys k (omega arith) (omega arith)
 
-pub ruleset firsts = (least-append)
+pub ruleset firsts = (first-append, least-append)

@@ -11,11 +11,12 @@ use Rattle.bl_tree.specs.declared.tree.StmtKind.{StmtKind, fold-StmtKind, fold_o
 use Rattle.bl_tree.specs.declared.tree.StmtKind.TheOpen.{StmtKind-F}
 use Rattle.bl_tree.specs.declared.tree.Unit.{Unit as UnitDef}
 use Rattle.bl_tree.specs.Typing.{is_activity}
-use Rattle.bl_conflict.specs.declared.failure.Failure.{Failure}
+use Rattle.bl_tree.specs.declared.rule.Failure.{Failure}
 use Rattle.bl_tree.specs.Reduce.{all_of, any_of}
 use Rattle.bl_tree.specs.Instant.{Ends, arm_instant, branch_ends, branches_instant, instant, is_instant_block, kind_instant, stmt_instant}
 use Rattle.bl_effects.specs.Rules.{block_ends, loop_instants, loops_in}
-use Rattle.bl_conflict.specs.Failures.{least_by, lesser, loops_of_arm, loops_of_branch, pause_of, single}
+use Rattle.bl_tree.specs.Rules.{first_of, lesser}
+use Rattle.bl_conflict.specs.inner.Failures.{loops_of_arm, loops_of_branch, of_pause, pause_of}
 use Rattle.bl_conflict.proofs.LoopLemmas.{arm_out as loops_of_arm_out, branch_out as loops_of_branch_out, done as loops_done, loops_at}
 
 abbrev instant_of_arm : Arm → Bool
@@ -48,7 +49,8 @@ layer_of place layer = ap (λ s. out-StmtKind s.what) (out-roll-Stmt (record { p
 abbrev Same : Stmt → Type 0
 Same s = (loops_in s).instant ≡ instant s
 
-map_same : {A B C : Type 0} (P : A → Type 0) (f : B → C) (g : A → B) (h : A → C) → ((x : A) → P x → f (g x) ≡ h x) → (xs : List A) → All P xs → map f (map g xs) ≡ map h xs
+map_same : {A B C : Type 0} (P : A → Type 0) (f : B → C) (g : A → B) (h : A → C) → ((x : A) → P x → f (g x) ≡ h x) → (xs : List A) →
+    All P xs → map f (map g xs) ≡ map h xs
 map_same P f g h each [] all = refl
 map_same P f g h each (x ∷ xs) all =
     let first = each x (All-head P x xs all) in
@@ -72,7 +74,8 @@ same_branches branches each =
     ∙ sym (branch_out branch)) branches each
 
 -- the two answers for a layer, where they agree on it
-both : (place : Place) (layer : StmtKind-F StmtKind Arm Branch Stmt) → kind_instant (loop_instants (loops_done layer)) ≡ kind_instant (done layer) → Same (stmt place layer)
+both : (place : Place) (layer : StmtKind-F StmtKind Arm Branch Stmt) →
+    kind_instant (loop_instants (loops_done layer)) ≡ kind_instant (done layer) → Same (stmt place layer)
 both place layer is =
     ap (λ l. l.instant) (loops_at (stmt place layer) layer (layer_of place layer)) ∙ is ∙ sym (instant_at (stmt place layer) layer (layer_of place layer))
 
@@ -84,7 +87,8 @@ cases = record {
   await = λ place e. both place (StmtKind-F.Await e) refl;
   run = λ place target a inputs outputs. both place (StmtKind-F.Run target a inputs outputs) refl;
   branching = λ place arms other each rest.
-      both place (StmtKind-F.If arms other) (ap (λ bs. any_of bs || block_ends (map loops_in other)) (same_arms arms each) ∙ ap (λ b. any_of (map instant_of_arm arms) || b) (same_block other rest));
+      both place (StmtKind-F.If arms other) (ap (λ bs. any_of bs || block_ends (map loops_in other)) (same_arms arms each)
+      ∙ ap (λ b. any_of (map instant_of_arm arms) || b) (same_block other rest));
   cobegin = λ place branches each. both place (StmtKind-F.Cobegin branches) (ap branches_instant (same_branches branches each));
   guarded = λ place guard e body each. both place (StmtKind-F.When guard e body) (same_block body each);
   repeat = λ place body each. both place (StmtKind-F.Repeat body) refl;
@@ -96,28 +100,35 @@ cases = record {
 -- what is found of a block
 pub block_is : (body : List Stmt) → block_ends (map loops_in body) ≡ all_of (map instant body)
 block_is [] = refl
-block_is (s ∷ rest) = let first = induct Same cases s in let later = block_is rest in ap (λ b. all_of (b ∷ map (λ l. l.instant) (map loops_in rest))) first ∙ ap (λ b. instant s && b) later
+block_is (s ∷ rest) =
+    let first = induct Same cases s in
+    let later = block_is rest in
+    ap (λ b. all_of (b ∷ map (λ l. l.instant) (map loops_in rest))) first ∙ ap (λ b. instant s && b) later
 
 -- ---- activities
 
-abbrev listed : Bool → Bool → Place → List Place
-listed activity ends place = if activity && ends then place ∷ [] else []
+abbrev listed : Bool → Bool → Place → List Failure
+listed activity ends place = if activity && ends then of_pause place ∷ [] else []
 
-listed_none : (activity : Bool) (place : Place) (best : Option Failure) → best ≡ least_by single best (listed activity false place)
+listed_none : (activity : Bool) (place : Place) (best : Option Failure) → best ≡ first_of best (listed activity false place)
 listed_none true place best = refl
 listed_none false place best = refl
 
-pub pause_none : (unit : UnitDef) (made : List Stmt) (ends : Bool) (best : Option Failure) → ends ≡ block_ends (map loops_in made) → made ≡ unit.body → ends ≡ false → best ≡ least_by single best (pause_of unit)
+pub pause_none : (unit : UnitDef) (made : List Stmt) (ends : Bool) (best : Option Failure)
+    → ends ≡ block_ends (map loops_in made) → made ≡ unit.body → ends ≡ false → best ≡ first_of best (pause_of unit)
 pause_none unit made ends best is same none =
-    let told : is_instant_block unit.body ≡ false = sym (block_is unit.body) ∙ ap (λ body. block_ends (map loops_in body)) (sym same) ∙ sym is ∙ none in
-    listed_none (is_activity unit.kind) unit.place best ∙ ap (λ ends. least_by single best (listed (is_activity unit.kind) ends unit.place)) (sym told)
+    let told : is_instant_block unit.body ≡ false = sym (block_is unit.body)
+    ∙ ap (λ body. block_ends (map loops_in body)) (sym same) ∙ sym is ∙ none in
+    listed_none (is_activity unit.kind) unit.place best ∙ ap (λ ends. first_of best (listed (is_activity unit.kind) ends unit.place)) (sym told)
 
-pub pause_some : (unit : UnitDef) (made : List Stmt) (activity ends : Bool) (best : Option Failure) → activity ≡ is_activity unit.kind → activity ≡ true → ends ≡ block_ends (map loops_in made) → made ≡ unit.body → ends ≡ true
-    → lesser best (single unit.place) ≡ least_by single best (pause_of unit)
+pub pause_some : (unit : UnitDef) (made : List Stmt) (activity ends : Bool) (best : Option Failure)
+    → activity ≡ is_activity unit.kind → activity ≡ true → ends ≡ block_ends (map loops_in made) → made ≡ unit.body → ends ≡ true
+    → lesser best (of_pause unit.place) ≡ first_of best (pause_of unit)
 pause_some unit made activity ends best is_kind active_so is same some =
     let told : is_instant_block unit.body ≡ true = sym (block_is unit.body) ∙ ap (λ body. block_ends (map loops_in body)) (sym same) ∙ sym is ∙ some in
     let active : is_activity unit.kind ≡ true = sym is_kind ∙ active_so in
-    ap (λ ends. least_by single best (listed true ends unit.place)) (sym told) ∙ ap (λ activity. least_by single best (listed activity (is_instant_block unit.body) unit.place)) (sym active)
+    ap (λ ends. first_of best (listed true ends unit.place)) (sym told)
+    ∙ ap (λ activity. first_of best (listed activity (is_instant_block unit.body) unit.place)) (sym active)
 
 pub not_true : (b : Bool) → not b ≡ true → b ≡ false
 not_true true is = sym is

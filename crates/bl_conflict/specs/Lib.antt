@@ -1,3 +1,1 @@
-pub mod Cause
-pub mod Failures
-pub mod Roots
+pub mod inner

@@ -2,24 +2,28 @@
 //! overlaps an output.
 #![tactic(auto, using(crate::proofs::FirstLemmas::firsts))]
 
-ghost use Rattle.std.specs.Prelude.{◌≡◌, ◌++◌, [], None, is_none, map, IfOk, OnOk};
-ghost use Rattle.bl_conflict.specs.Failures.{added, alias_failures, aliases_of_arm, aliases_of_branch, least_by, marked_read, pair, place_overlapping};
+ghost use Rattle.std.specs.Prelude.{◌≡◌, ◌++◌, [], is_none, map, IfOk, OnOk};
+ghost use Rattle.bl_conflict.specs.inner.Failures.{added, alias_failures, aliases_of_arm, aliases_of_branch, least_by, marked_read, of_alias, place_overlapping};
 ghost use Rattle.bl_effects.specs.Rules.{aliased_with, aliases_in, aliases_of, marked_input, marked_inputs, outputs_aliased, target_aliased};
 ghost use Rattle.bl_tree.specs.Reduce.{joined};
 ghost use Rattle.bl_tree.specs.Types.{scalar_in};
 
-use crate::failure::{Failure, lesser};
 use crate::marks::{marked_path, marked_paths, overlaps};
 use bl_effects::{Marked, static_of};
+use bl_tree::rule::lesser;
 use bl_tree::tree::{Arm, Branch, Expr, ExprKind, Path, Stmt, StmtKind, Ty, Unit};
-use bl_tree::{List, NoMemory, Place};
+use bl_tree::{Failure, Further, List, NoMemory, Place, Rule};
 use std::alloc::Global;
 
-/// The first failure of a call or `run`.
-pub fn first(alloc: Global, units: &[Unit]) -> Result<Option<Failure>, NoMemory>
-    ensures { IfOk result (λ best. best ≡ least_by pair None (alias_failures units.now)) }
+/// The first so far, or the first failure of a call or `run`.
+pub fn first(
+    alloc: Global,
+    units: &[Unit],
+    best: Option<Failure>,
+) -> Result<Option<Failure>, NoMemory>
+    ensures { IfOk result (λ found. found ≡ least_by of_alias best (alias_failures units.now)) }
 {
-    let mut best = None;
+    let mut best = best;
     for unit in units {
         best = block(alloc, &unit.body, best)?;
     }
@@ -28,7 +32,7 @@ pub fn first(alloc: Global, units: &[Unit]) -> Result<Option<Failure>, NoMemory>
 
 #[cycle(calls)]
 fn block(alloc: Global, body: &[Stmt], best: Option<Failure>) -> Result<Option<Failure>, NoMemory>
-    ensures { IfOk result (λ found. found ≡ least_by pair best (joined (map aliases_in body.now))) }
+    ensures { IfOk result (λ found. found ≡ least_by of_alias best (joined (map aliases_in body.now))) }
 {
     let mut best = best;
     for s in body {
@@ -39,7 +43,7 @@ fn block(alloc: Global, body: &[Stmt], best: Option<Failure>) -> Result<Option<F
 
 #[cycle(calls)]
 fn statement(alloc: Global, s: &Stmt, best: Option<Failure>) -> Result<Option<Failure>, NoMemory>
-    ensures { IfOk result (λ found. found ≡ least_by pair best (aliases_in s.now)) }
+    ensures { IfOk result (λ found. found ≡ least_by of_alias best (aliases_in s.now)) }
 {
     match &s.what {
         StmtKind::Declare(_, _)
@@ -62,7 +66,7 @@ fn statement(alloc: Global, s: &Stmt, best: Option<Failure>) -> Result<Option<Fa
 
 #[cycle(calls)]
 fn arms(alloc: Global, all: &[Arm], best: Option<Failure>) -> Result<Option<Failure>, NoMemory>
-    ensures { IfOk result (λ found. found ≡ least_by pair best (joined (map aliases_of_arm all.now))) }
+    ensures { IfOk result (λ found. found ≡ least_by of_alias best (joined (map aliases_of_arm all.now))) }
 {
     let mut best = best;
     for arm in all {
@@ -77,7 +81,7 @@ fn branches(
     all: &[Branch],
     best: Option<Failure>,
 ) -> Result<Option<Failure>, NoMemory>
-    ensures { IfOk result (λ found. found ≡ least_by pair best (joined (map aliases_of_branch all.now))) }
+    ensures { IfOk result (λ found. found ≡ least_by of_alias best (joined (map aliases_of_branch all.now))) }
 {
     let mut best = best;
     for branch in all {
@@ -94,7 +98,7 @@ fn call(
     outputs: &[Path],
     best: Option<Failure>,
 ) -> Result<Option<Failure>, NoMemory>
-    ensures { IfOk result (λ found. found ≡ least_by pair best (aliases_of target.now inputs.now outputs.now)) }
+    ensures { IfOk result (λ found. found ≡ least_by of_alias best (aliases_of target.now inputs.now outputs.now)) }
 {
     let outputs = marked_paths(alloc, outputs)?;
     let inputs = marked_inputs(alloc, inputs)?;
@@ -177,9 +181,9 @@ fn add(best: Option<Failure>, at: Place, also: Option<Place>) -> Option<Failure>
         Some(also) => lesser(
             best,
             Failure {
+                rule: Rule::Alias,
                 at,
-                second: also,
-                third: also,
+                further: Further::One(also),
             },
         ),
         None => best,
@@ -193,7 +197,7 @@ fn aliased_with(
     one: &Marked,
     best: Option<Failure>,
 ) -> Option<Failure>
-    ensures { result ≡ least_by pair best (aliased_with (others.now ++ more.now) one.now) }
+    ensures { result ≡ least_by of_alias best (aliased_with (others.now ++ more.now) one.now) }
 {
     add(best, one.place, first_of_all(others, more, one))
 }
@@ -204,7 +208,7 @@ fn target_aliased(
     target: &Option<Path>,
     best: Option<Failure>,
 ) -> Result<Option<Failure>, NoMemory>
-    ensures { IfOk result (λ found. found ≡ least_by pair best (target_aliased outputs.now target.now)) }
+    ensures { IfOk result (λ found. found ≡ least_by of_alias best (target_aliased outputs.now target.now)) }
 {
     match target {
         Some(path) => {
@@ -217,7 +221,7 @@ fn target_aliased(
 
 /// Each output is compared with those before it, and then with the inputs.
 fn outputs_aliased(inputs: &[Marked], outputs: &[Marked], best: Option<Failure>) -> Option<Failure>
-    ensures { result ≡ least_by pair best (outputs_aliased inputs.now [] outputs.now) }
+    ensures { result ≡ least_by of_alias best (outputs_aliased inputs.now [] outputs.now) }
 {
     let mut best = best;
     for k in 0..outputs.len() {

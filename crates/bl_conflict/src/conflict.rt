@@ -3,27 +3,32 @@
 
 ghost use Rattle.std.specs.BTreeSet.{contains};
 ghost use Rattle.std.specs.Ordering.{nat_cmp};
-ghost use Rattle.std.specs.Prelude.{◌≡◌, ◌≤◌, ◌++◌, ◌∷◌, ℕ, List as Elements, true, [], None, length, map, take, drop, IfOk, OnOk};
-ghost use Rattle.bl_conflict.specs.Failures.{all_clashes, clashes, clash_of, clashes_at, clashes_with, clashes_of_unit, conflict_failures, itself, least_by, parallel_of_arm, parallel_of_branch, written};
+ghost use Rattle.std.specs.Prelude.{◌≡◌, ◌≤◌, ◌++◌, ◌∷◌, ℕ, List as Elements, true, [], length, map, take, drop, IfOk, OnOk};
+ghost use Rattle.bl_conflict.specs.inner.Failures.{all_clashes, clashes, clash_of, clashes_at, clashes_with, clashes_of_unit, conflict_failures, parallel_of_arm, parallel_of_branch, written};
 ghost use Rattle.bl_effects.specs.declared.marked.Marked.{Marked as MarkedPath};
-ghost use Rattle.bl_conflict.specs.Roots.{Knows};
+ghost use Rattle.bl_conflict.specs.inner.Roots.{Knows};
 ghost use Rattle.bl_tree.specs.Effects.{target_static};
+ghost use Rattle.bl_tree.specs.Rules.{first_of};
 ghost use Rattle.bl_effects.specs.Rules.{Split, parallel_of, splits_after, together};
 ghost use Rattle.bl_tree.specs.Static.{static_of};
 
-use crate::failure::{Failure, lesser};
 use crate::marks::overlaps;
 use bl_effects::{Marked, static_of};
+use bl_tree::rule::lesser;
 use bl_tree::tree::{Arm, Branch, Path, Stmt, StmtKind, Unit, Var};
-use bl_tree::{List, NoMemory, Place};
+use bl_tree::{Failure, Further, List, NoMemory, Place, Rule};
 use std::alloc::{AllocError, Global};
 use std::collections::BTreeSet;
 
-/// The first pair of acts that conflict, with the declaration of a root that both write.
-pub fn first(alloc: Global, units: &[Unit]) -> Result<Option<Failure>, NoMemory>
-    ensures { IfOk result (λ best. best ≡ least_by itself None (conflict_failures units.now)) }
+/// The first so far, or the first pair of acts that conflict, with the declaration of a root that both write.
+pub fn first(
+    alloc: Global,
+    units: &[Unit],
+    best: Option<Failure>,
+) -> Result<Option<Failure>, NoMemory>
+    ensures { IfOk result (λ found. found ≡ first_of best (conflict_failures units.now)) }
 {
-    let mut best = None;
+    let mut best = best;
     for unit in units {
         best = judge(alloc, unit, best)?;
     }
@@ -31,7 +36,7 @@ pub fn first(alloc: Global, units: &[Unit]) -> Result<Option<Failure>, NoMemory>
 }
 
 fn judge(alloc: Global, unit: &Unit, best: Option<Failure>) -> Result<Option<Failure>, NoMemory>
-    ensures { IfOk result (λ found. found ≡ least_by itself best (clashes_of_unit unit.now)) }
+    ensures { IfOk result (λ found. found ≡ first_of best (clashes_of_unit unit.now)) }
 {
     let mut writes = List::new(alloc);
     block(alloc, &unit.vars, &unit.body, &mut writes, best)
@@ -47,7 +52,7 @@ fn block(
     best: Option<Failure>,
 ) -> Result<Option<Failure>, NoMemory>
     ensures writes { OnOk result (writes.new ≡ writes.old ++ (together (map parallel_of body.now)).writes) }
-    ensures best { IfOk result (λ found. found ≡ least_by itself best (all_clashes vars.now (together (map parallel_of body.now)).splits)) }
+    ensures best { IfOk result (λ found. found ≡ first_of best (all_clashes vars.now (together (map parallel_of body.now)).splits)) }
 {
     let mut best = best;
     for s in body {
@@ -65,7 +70,7 @@ fn statement(
     best: Option<Failure>,
 ) -> Result<Option<Failure>, NoMemory>
     ensures writes { OnOk result (writes.new ≡ writes.old ++ (parallel_of s.now).writes) }
-    ensures best { IfOk result (λ found. found ≡ least_by itself best (all_clashes vars.now (parallel_of s.now).splits)) }
+    ensures best { IfOk result (λ found. found ≡ first_of best (all_clashes vars.now (parallel_of s.now).splits)) }
 {
     match &s.what {
         StmtKind::Declare(_, _) | StmtKind::Await(_) | StmtKind::Return(_) => Ok(best),
@@ -103,7 +108,7 @@ fn arms(
     best: Option<Failure>,
 ) -> Result<Option<Failure>, NoMemory>
     ensures writes { OnOk result (writes.new ≡ writes.old ++ (together (map parallel_of_arm all.now)).writes) }
-    ensures best { IfOk result (λ found. found ≡ least_by itself best (all_clashes vars.now (together (map parallel_of_arm all.now)).splits)) }
+    ensures best { IfOk result (λ found. found ≡ first_of best (all_clashes vars.now (together (map parallel_of_arm all.now)).splits)) }
 {
     let mut best = best;
     for arm in all {
@@ -122,7 +127,7 @@ fn branches(
     best: Option<Failure>,
 ) -> Result<Option<Failure>, NoMemory>
     ensures writes { OnOk result (writes.new ≡ writes.old ++ (together (map parallel_of_branch all.now)).writes) }
-    ensures best { IfOk result (λ found. found ≡ least_by itself best (all_clashes vars.now (splits_after [] (map parallel_of_branch all.now)))) }
+    ensures best { IfOk result (λ found. found ≡ first_of best (all_clashes vars.now (splits_after [] (map parallel_of_branch all.now)))) }
 {
     let start = writes.len();
     let mut roots = BTreeSet::new(alloc);
@@ -169,7 +174,7 @@ fn clash(
     requires from { start ≤ mark }
     requires to { mark ≤ length writes.now }
     requires known { Knows roots.now (drop start (take mark writes.now)) }
-    ensures { result ≡ least_by itself best (clashes vars.now (record { earlier = drop start (take mark writes.now); writes = drop mark writes.now })) }
+    ensures { result ≡ first_of best (clashes vars.now (record { earlier = drop start (take mark writes.now); writes = drop mark writes.now })) }
 {
     let earlier = &writes[..mark];
     let earlier = &earlier[start..];
@@ -184,7 +189,7 @@ fn clash_all(
     best: Option<Failure>,
 ) -> Option<Failure>
     requires { Knows roots.now earlier.now }
-    ensures { result ≡ least_by itself best (clashes vars.now (record { earlier = earlier.now; writes = writes.now })) }
+    ensures { result ≡ first_of best (clashes vars.now (record { earlier = earlier.now; writes = writes.now })) }
 {
     let mut best = best;
     for second in writes {
@@ -203,7 +208,7 @@ fn clash_with(
     best: Option<Failure>,
 ) -> Option<Failure>
     requires { Knows roots.now earlier.now }
-    ensures { result ≡ least_by itself best (clashes_with vars.now earlier.now second.now) }
+    ensures { result ≡ first_of best (clashes_with vars.now earlier.now second.now) }
 {
     if !roots.contains(&second.path.root) {
         return best;
@@ -220,7 +225,7 @@ fn clash_one(
     second: &Marked,
     best: Option<Failure>,
 ) -> Option<Failure>
-    ensures { result ≡ least_by itself best (clashes_at declared earlier.now second.now) }
+    ensures { result ≡ first_of best (clashes_at declared earlier.now second.now) }
 {
     let mut best = best;
     for first in earlier {
@@ -235,7 +240,7 @@ fn clash_pair(
     second: &Marked,
     best: Option<Failure>,
 ) -> Option<Failure>
-    ensures { result ≡ least_by itself best (clash_of declared second.now first.now) }
+    ensures { result ≡ first_of best (clash_of declared second.now first.now) }
 {
     if !overlaps(&first.path, &second.path) {
         return best;
@@ -243,9 +248,9 @@ fn clash_pair(
     lesser(
         best,
         Failure {
+            rule: Rule::Conflict,
             at: first.place,
-            second: second.place,
-            third: declared,
+            further: Further::Two(second.place, declared),
         },
     )
 }

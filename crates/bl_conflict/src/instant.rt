@@ -1,16 +1,16 @@
 //! Rule Instant: a loop of an activity whose body may end in the tick in which it begins.
 #![tactic(auto, using(crate::proofs::FirstLemmas::firsts))]
 
-ghost use Rattle.std.specs.Prelude.{◌≡◌, None, map};
+ghost use Rattle.std.specs.Prelude.{◌≡◌, map};
 ghost use Rattle.bl_tree.specs.Typing.{is_activity};
-ghost use Rattle.bl_conflict.specs.Failures.{branches_loops, instant_failures, least_by, loops_of, loops_of_arm, loops_of_branch, single};
+ghost use Rattle.bl_conflict.specs.inner.Failures.{branches_loops, instant_failures, least_by, loops_of, loops_of_arm, loops_of_branch, of_loop};
 ghost use Rattle.bl_tree.specs.Instant.{branches_instant};
 ghost use Rattle.bl_effects.specs.Rules.{block_ends, block_loops, loop_places, loops_in};
 ghost use Rattle.bl_tree.specs.Reduce.{any_of};
 
-use crate::failure::{Failure, lesser, single};
-use bl_tree::Place;
+use bl_tree::rule::lesser;
 use bl_tree::tree::{Arm, Branch, Stmt, StmtKind, Unit, UnitKind};
+use bl_tree::{Failure, Further, Place, Rule};
 
 /// What is known of a part of the tree: whether it may end in the tick in which it begins, and the first loop so far that
 /// fails.
@@ -29,11 +29,11 @@ pub fn is_activity(kind: UnitKind) -> bool
     }
 }
 
-/// The first of the loops of activities that fail.
-pub fn first(units: &[Unit]) -> Option<Failure>
-    ensures { result ≡ least_by single None (instant_failures units.now) }
+/// The first so far, or the first of the loops of activities that fail.
+pub fn first(units: &[Unit], best: Option<Failure>) -> Option<Failure>
+    ensures { result ≡ least_by of_loop best (instant_failures units.now) }
 {
-    let mut best = None;
+    let mut best = best;
     for unit in units {
         best = judge(unit, best);
     }
@@ -41,7 +41,7 @@ pub fn first(units: &[Unit]) -> Option<Failure>
 }
 
 fn judge(unit: &Unit, best: Option<Failure>) -> Option<Failure>
-    ensures { result ≡ least_by single best (loops_of unit.now) }
+    ensures { result ≡ least_by of_loop best (loops_of unit.now) }
 {
     if is_activity(unit.kind) {
         block(&unit.body, best).best
@@ -53,7 +53,7 @@ fn judge(unit: &Unit, best: Option<Failure>) -> Option<Failure>
 #[cycle(loops)]
 pub fn block(body: &[Stmt], best: Option<Failure>) -> Looked
     ensures instant { result.instant ≡ block_ends (map loops_in body.now) }
-    ensures best { result.best ≡ least_by single best (block_loops (map loops_in body.now)) }
+    ensures best { result.best ≡ least_by of_loop best (block_loops (map loops_in body.now)) }
 {
     let mut all = true;
     let mut best = best;
@@ -68,7 +68,7 @@ pub fn block(body: &[Stmt], best: Option<Failure>) -> Looked
 #[cycle(loops)]
 fn statement(s: &Stmt, best: Option<Failure>) -> Looked
     ensures instant { result.instant ≡ (loops_in s.now).instant }
-    ensures best { result.best ≡ least_by single best ((loops_in s.now).places) }
+    ensures best { result.best ≡ least_by of_loop best ((loops_in s.now).places) }
 {
     match &s.what {
         StmtKind::Declare(_, _)
@@ -108,7 +108,7 @@ fn statement(s: &Stmt, best: Option<Failure>) -> Looked
 #[cycle(loops)]
 fn looping(at: Place, body: &[Stmt], best: Option<Failure>) -> Looked
     ensures instant { result.instant ≡ block_ends (map loops_in body.now) }
-    ensures best { result.best ≡ least_by single best (loop_places at (map loops_in body.now)) }
+    ensures best { result.best ≡ least_by of_loop best (loop_places at (map loops_in body.now)) }
 {
     let looked = block(body, best);
     if !looked.instant {
@@ -116,7 +116,18 @@ fn looping(at: Place, body: &[Stmt], best: Option<Failure>) -> Looked
     }
     Looked {
         instant: true,
-        best: lesser(looked.best, single(at)),
+        best: lesser(looked.best, failing(at)),
+    }
+}
+
+/// The loop at the place fails.
+fn failing(at: Place) -> Failure
+    ensures { result ≡ of_loop at }
+{
+    Failure {
+        rule: Rule::Instant,
+        at,
+        further: Further::Nothing,
     }
 }
 
@@ -124,7 +135,7 @@ fn looping(at: Place, body: &[Stmt], best: Option<Failure>) -> Looked
 #[cycle(loops)]
 fn arms(all: &[Arm], best: Option<Failure>) -> Looked
     ensures instant { result.instant ≡ any_of (map (λ arm. arm.instant) (map loops_of_arm all.now)) }
-    ensures best { result.best ≡ least_by single best (block_loops (map loops_of_arm all.now)) }
+    ensures best { result.best ≡ least_by of_loop best (block_loops (map loops_of_arm all.now)) }
 {
     let mut some = false;
     let mut best = best;
@@ -143,7 +154,7 @@ fn arms(all: &[Arm], best: Option<Failure>) -> Looked
 #[cycle(loops)]
 fn branches(all: &[Branch], best: Option<Failure>) -> Looked
     ensures instant { result.instant ≡ branches_instant (map (λ branch. branch.ends) (map loops_of_branch all.now)) }
-    ensures best { result.best ≡ least_by single best (branches_loops (map loops_of_branch all.now)) }
+    ensures best { result.best ≡ least_by of_loop best (branches_loops (map loops_of_branch all.now)) }
 {
     let mut is_strong = false;
     let mut strong = true;

@@ -1,53 +1,48 @@
-//! The rules on pauses, on writes of branches that conflict, on arguments that alias and on loops that end at once
-//! (docs/LANGUAGE.md, "Rules").
-#![tactic(auto)]
+//! The rules Pause, Conflict, Alias and Instant (docs/LANGUAGE.md, "Rules"), one module each. `check` answers Ok
+//! exactly where none of the four fails. Else it names the first that fails, at its least places, with the further
+//! places of its line (`Rules.antt` of `bl_effects`, `FailsFirst`); want of memory aside.
+#![tactic(auto, using(crate::proofs::FirstLemmas::firsts))]
 
-ghost use Rattle.std.specs.Prelude.{IfErr, OnOk};
-ghost use Rattle.bl_conflict.specs.Cause.{IsCause};
-ghost use Rattle.bl_effects.specs.Rules.{Passes};
+ghost use Rattle.std.specs.Prelude.{◌≡◌, None, IfErr, IfOk, OnOk};
+ghost use Rattle.bl_tree.specs.Rules.{IsCause, first_of};
+ghost use Rattle.bl_conflict.specs.inner.Failures.{failures};
+ghost use Rattle.bl_effects.specs.Rules.{Fails, Passes};
 
 mod alias;
 mod conflict;
-mod failure;
 mod instant;
 mod marks;
 mod pause;
-#[cfg(test)]
-mod tests;
 
-use crate::failure::{Failure, alone, with_one, with_two};
 use bl_tree::tree::Unit;
-use bl_tree::{Program, Refusal};
+use bl_tree::{Failure, NoMemory, Program, Refusal};
 use std::alloc::Global;
 
-/// Judges the rules Pause, Conflict, Alias and Instant in their order: the first that fails, at its least places.
+/// Judges the rules Pause, Conflict, Alias and Instant: the first that fails, at its least places.
 pub fn check(alloc: Global, program: &Program) -> Result<(), Refusal>
     ensures passes { OnOk result (Passes program.now.units) }
-    ensures cause { IfErr result (IsCause program.now.units) }
+    ensures cause { IfErr result (IsCause (Fails program.now.units)) }
 {
     check_units(alloc, &program.units)
 }
 
 fn check_units(alloc: Global, units: &[Unit]) -> Result<(), Refusal>
     ensures passes { OnOk result (Passes units.now) }
-    ensures cause { IfErr result (IsCause units.now) }
+    ensures cause { IfErr result (IsCause (Fails units.now)) }
 {
-    match pause::first(units) {
-        None => {}
-        Some(failure) => return Err(alone(alloc, 18, failure)),
+    match first_failure(alloc, units) {
+        Ok(None) => Ok(()),
+        Ok(Some(failure)) => Err(failure.refusal(alloc)),
+        Err(NoMemory) => Err(Refusal::NoMemory),
     }
-    match conflict::first(alloc, units) {
-        Ok(None) => {}
-        Ok(Some(failure)) => return Err(with_two(alloc, 19, failure)),
-        Err(_) => return Err(Refusal::NoMemory),
-    }
-    match alias::first(alloc, units) {
-        Ok(None) => {}
-        Ok(Some(failure)) => return Err(with_one(alloc, 20, failure)),
-        Err(_) => return Err(Refusal::NoMemory),
-    }
-    match instant::first(units) {
-        None => Ok(()),
-        Some(failure) => Err(alone(alloc, 21, failure)),
-    }
+}
+
+/// The first failure of the four rules. Fails only for want of memory.
+fn first_failure(alloc: Global, units: &[Unit]) -> Result<Option<Failure>, NoMemory>
+    ensures { IfOk result (λ found. found ≡ first_of None (failures units.now)) }
+{
+    let first = pause::first(units, None);
+    let first = conflict::first(alloc, units, first)?;
+    let first = alias::first(alloc, units, first)?;
+    Ok(instant::first(units, first))
 }

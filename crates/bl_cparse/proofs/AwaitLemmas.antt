@@ -1,7 +1,7 @@
 -- What is expected behind parts that are open, where one is opened or closed.
 use Rattle.std.proofs.Common.{◌≡◌, List, [], ◌∷◌, ◌++◌, sym, ap, ◌∙◌, append_assoc, append-nil}
 use Rattle.bl_csyntax.specs.Grammar.{Wanted}
-use Rattle.bl_cparse.specs.Awaiting.{unwound}
+use Rattle.bl_cparse.specs.inner.Awaiting.{unwound}
 
 -- one more, which is closed first
 unwound_more : {A : Type 0} (f : A → List Wanted) (xs : List A) (x : A) → unwound f (xs ++ x ∷ []) ≡ f x ++ unwound f xs

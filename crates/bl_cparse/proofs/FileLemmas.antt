@@ -1,5 +1,32 @@
 -- From the pieces of a text to the file that it spells.
-use Rattle.std.proofs.Common.{◌≡◌, ◌≢◌, ℕ, ◌≤◌, ◌<◌, ◌^◌, Bool, true, false, nat_le, ◌==◌, List, [], ◌∷◌, ◌++◌, length, map, drop, refl, sym, ap, ◌∙◌, subst, inl, inr, arith}
+use Rattle.std.proofs.Common.{
+  ◌≡◌,
+  ◌≢◌,
+  ℕ,
+  ◌≤◌,
+  ◌<◌,
+  ◌^◌,
+  Bool,
+  true,
+  false,
+  nat_le,
+  ◌==◌,
+  List,
+  [],
+  ◌∷◌,
+  ◌++◌,
+  length,
+  map,
+  drop,
+  refl,
+  sym,
+  ap,
+  ◌∙◌,
+  subst,
+  inl,
+  inr,
+  arith,
+}
 use Rattle.std.specs.Prelude.{Option, Some, None, MatchOption}
 use Rattle.std.specs.List.{starts_with}
 use Rattle.std.proofs.lemmas.Slice.Eq.{starts_is}
@@ -34,16 +61,19 @@ use Rattle.bl_cparse.proofs.ItemOpening.{file_opens}
 at_most : (a b : ℕ) → a ≤ b → nat_le a b ≡ true
 at_most a b h = grind (arith, nat_tests)
 
-pub whole_tokens : (structs : List CStruct) (funcs : List CFunc) (all rest : List Token) → all ≡ joined (map struct_tokens structs) ++ rest → rest ≡ joined (map func_tokens funcs) → all ≡ tokens_of structs funcs
+pub whole_tokens : (structs : List CStruct) (funcs : List CFunc) (all rest : List Token) →
+    all ≡ joined (map struct_tokens structs) ++ rest → rest ≡ joined (map func_tokens funcs) → all ≡ tokens_of structs funcs
 whole_tokens structs funcs all rest h k = h ∙ ap (λ ts. joined (map struct_tokens structs) ++ ts) k
 
 pub is_file : (structs : List CStruct) (funcs : List CFunc) (all : List Token) → all ≡ tokens_of structs funcs →
-    has_any structs ≡ true → has_any funcs ≡ true → all_of (map spells_struct structs) ≡ true → all_of (map spells_func funcs) ≡ true → most_open 0 all ≤ 2000 → is_spellable structs funcs ≡ true
+    has_any structs ≡ true → has_any funcs ≡ true → all_of (map spells_struct structs) ≡ true →
+    all_of (map spells_func funcs) ≡ true → most_open 0 all ≤ 2000 → is_spellable structs funcs ≡ true
 is_file structs funcs all e s f ss fs flat =
     let low : most_open 0 (tokens_of structs funcs) ≤ 2000 = subst (λ ts. most_open 0 ts ≤ 2000) e flat in
     both _ _ s (both _ _ f (both _ _ ss (both _ _ fs (at_most (most_open 0 (tokens_of structs funcs)) 2000 low))))
 
-pub spells_file : (structs : List CStruct) (funcs : List CFunc) (text : List ℕ) → pieces text ≡ tokens_of structs funcs → are_tokens (pieces text) ≡ true → SpacedC (tokens_of structs funcs) text
+pub spells_file : (structs : List CStruct) (funcs : List CFunc) (text : List ℕ) → pieces text ≡ tokens_of structs funcs →
+    are_tokens (pieces text) ≡ true → SpacedC (tokens_of structs funcs) text
 spells_file structs funcs text e h = subst (λ ts. SpacedC ts text) e (spaced text h)
 
 pub prelude_is : PRELUDE.now ≡ prelude
@@ -51,7 +81,8 @@ unfolding prelude
 prelude_is = refl
 
 -- what begins with the prelude goes on behind it
-pub begins : (text : List ℕ) (r : Bool) → r ≡ starts_with (◌==◌) text PRELUDE.now → r ≡ true → text ≡ prelude ++ drop (length PRELUDE.now) text
+pub begins : (text : List ℕ) (r : Bool) → r ≡ starts_with (◌==◌) text PRELUDE.now → r ≡ true →
+    text ≡ prelude ++ drop (length PRELUDE.now) text
 begins text r h k = (starts_is Decides-eqb text PRELUDE.now r h).0 k ∙ ap (λ p. p ++ drop (length PRELUDE.now) text) prelude_is
 
 -- the file that the pieces behind the prelude are read as
@@ -61,7 +92,8 @@ pub spells : (structs : List CStruct) (funcs : List CFunc) (text rest : List ℕ
 spells structs funcs text rest left h s f k = (rest, (h, spells_file structs funcs rest (whole_tokens structs funcs (pieces rest) left s f) k))
 
 -- what doesn't begin with the prelude has nothing behind it
-pub other_front : (text : List ℕ) (r : Bool) → r ≡ starts_with (◌==◌) text PRELUDE.now → r ≡ false → (rest : List ℕ) → text ≢ prelude ++ rest
+pub other_front : (text : List ℕ) (r : Bool) → r ≡ starts_with (◌==◌) text PRELUDE.now → r ≡ false → (rest : List ℕ) →
+    text ≢ prelude ++ rest
 other_front text r h k rest e =
     let front : text ≡ PRELUDE.now ++ rest = e ∙ ap (λ (p : List ℕ). p ++ rest) (sym prelude_is) in
     let yes : r ≡ true = (starts_is Decides-eqb text PRELUDE.now r h).1 rest front in
@@ -90,14 +122,16 @@ pub place_is : (text : List ℕ) (at : ℕ) → FailsFirst text (length PRELUDE.
 place_is text at fails = subst (λ (p : List ℕ). FailsFirst text (length p) at) prelude_is fails
 
 -- what the test of the pieces says, by its answer
-pub failed_at : (text : List ℕ) (start : ℕ) (fault : Option ℕ) (at : ℕ) → fault ≡ Some at → MatchOption fault (Passes text start) (FailsFirst text start) → FailsFirst text start at
+pub failed_at : (text : List ℕ) (start : ℕ) (fault : Option ℕ) (at : ℕ) → fault ≡ Some at →
+    MatchOption fault (Passes text start) (FailsFirst text start) → FailsFirst text start at
 failed_at text start None at e h = cc
 failed_at text start (Some found) at e h = subst (FailsFirst text start) (some_same e) h
   where
     some_same : {a b : ℕ} → Some a ≡ Some b → a ≡ b
     some_same e = cc
 
-pub passed : (text : List ℕ) (start : ℕ) (fault : Option ℕ) → fault ≡ None → MatchOption fault (Passes text start) (FailsFirst text start) → Passes text start
+pub passed : (text : List ℕ) (start : ℕ) (fault : Option ℕ) → fault ≡ None →
+    MatchOption fault (Passes text start) (FailsFirst text start) → Passes text start
 passed text start None e h = h
 passed text start (Some found) e h = cc
 
@@ -112,7 +146,8 @@ other_none text other file (rest, (begins, spaced)) = other rest begins
 -- what is expected of a text that passes
 pub expected : (ts : List Token) (text : List ℕ) → ts ≡ pieces (drop (length PRELUDE.now) text) → Passes text (length PRELUDE.now)
     → Expects (part Struct grammar.most_open ∷ part Structs grammar.most_open ∷ part Func grammar.most_open ∷ part Funcs grammar.most_open ∷ []) ts
-expected ts text is passes = file_opens (subst (λ (us : List Token). Expects (part File grammar.most_open ∷ []) us) (sym is) (expects_text (pieces (drop (length PRELUDE.now) text)) passes))
+expected ts text is passes = file_opens (subst (λ (us : List Token). Expects (part File grammar.most_open ∷ []) us) (sym is)
+    (expects_text (pieces (drop (length PRELUDE.now) text)) passes))
 
 pub wants_memory : (text : List ℕ) (r : CRefusal) → WantsMemory r → RefusesNone text r
 wants_memory text (NotSubset at) w = absurd w

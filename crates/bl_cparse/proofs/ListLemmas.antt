@@ -1,5 +1,25 @@
 -- What is read of a list of parts, with one part more.
-use Rattle.std.proofs.Common.{◌≡◌, ◌<◌, ◌≤◌, Bool, true, false, List, [], ◌∷◌, ◌++◌, length, map, refl, sym, ap, ◌∙◌, append_assoc, append-nil, arith}
+use Rattle.std.proofs.Common.{
+  ◌≡◌,
+  ◌<◌,
+  ◌≤◌,
+  Bool,
+  true,
+  false,
+  List,
+  [],
+  ◌∷◌,
+  ◌++◌,
+  length,
+  map,
+  refl,
+  sym,
+  ap,
+  ◌∙◌,
+  append_assoc,
+  append-nil,
+  arith,
+}
 use Rattle.std.specs.Prelude.{codes}
 use Rattle.std.proofs.lemmas.List.{length-append}
 use Rattle.bl_tree.specs.Reduce.{all_of, joined}
@@ -20,20 +40,24 @@ pub joined_snoc : {A : Type 0} (f : A → List Token) (xs : List A) (x : A) → 
 joined_snoc f [] x = append-nil (f x)
 joined_snoc f (y ∷ xs) x = ap (λ ts. f y ++ ts) (joined_snoc f xs x) ∙ sym (append_assoc (f y) (joined (map f xs)) (f x))
 
-pub joined_more : {A : Type 0} (f : A → List Token) (before old new : List Token) (xs : List A) (x : A) → before ≡ joined (map f xs) ++ old → old ≡ f x ++ new → before ≡ joined (map f (xs ++ x ∷ [])) ++ new
+pub joined_more : {A : Type 0} (f : A → List Token) (before old new : List Token) (xs : List A) (x : A) →
+    before ≡ joined (map f xs) ++ old → old ≡ f x ++ new → before ≡ joined (map f (xs ++ x ∷ [])) ++ new
 joined_more f before old new xs x h k =
     h ∙ (ap (λ ts. joined (map f xs) ++ ts) k ∙ (sym (append_assoc (joined (map f xs)) (f x) new) ∙ ap (λ ts. ts ++ new) (sym (joined_snoc f xs x))))
 
-listed_snoc : {A : Type 0} (f : A → List Token) (first : Bool) (y : A) (xs : List A) (x : A) → listed first (map f ((y ∷ xs) ++ x ∷ [])) ≡ listed first (map f (y ∷ xs)) ++ (codes "," ∷ f x)
+listed_snoc : {A : Type 0} (f : A → List Token) (first : Bool) (y : A) (xs : List A) (x : A) →
+    listed first (map f ((y ∷ xs) ++ x ∷ [])) ≡ listed first (map f (y ∷ xs)) ++ (codes "," ∷ f x)
 listed_snoc f first y [] x =
     ap (λ ts. comma_before first ++ (f y ++ codes "," ∷ ts)) (append-nil (f x))
-    ∙ (sym (append_assoc (comma_before first) (f y) (codes "," ∷ f x)) ∙ ap (λ ts. comma_before first ++ ts ++ (codes "," ∷ f x)) (sym (append-nil (f y))))
+    ∙ (sym (append_assoc (comma_before first) (f y) (codes "," ∷ f x))
+    ∙ ap (λ ts. comma_before first ++ ts ++ (codes "," ∷ f x)) (sym (append-nil (f y))))
 listed_snoc f first y (z ∷ xs) x =
     ap (λ ts. comma_before first ++ (f y ++ ts)) (listed_snoc f false z xs x)
     ∙ (ap (λ ts. comma_before first ++ ts) (sym (append_assoc (f y) (listed false (map f (z ∷ xs))) (codes "," ∷ f x)))
     ∙ sym (append_assoc (comma_before first) (f y ++ listed false (map f (z ∷ xs))) (codes "," ∷ f x)))
 
-pub commas_snoc : {A : Type 0} (f : A → List Token) (xs : List A) (x : A) → has_any xs ≡ true → with_commas (map f (xs ++ x ∷ [])) ≡ with_commas (map f xs) ++ (codes "," ∷ f x)
+pub commas_snoc : {A : Type 0} (f : A → List Token) (xs : List A) (x : A) → has_any xs ≡ true →
+    with_commas (map f (xs ++ x ∷ [])) ≡ with_commas (map f xs) ++ (codes "," ∷ f x)
 commas_snoc f [] x h = cc
 commas_snoc f (y ∷ xs) x h = listed_snoc f true y xs x
 

@@ -1,5 +1,36 @@
 -- What the digits of a number are.
-use Rattle.std.proofs.Common.{◌≡◌, ℕ, suc, ◌+◌, ◌-◌, ◌^◌, ◌≤◌, ◌<◌, Bool, true, false, not, ◌||◌, ◌==◌, nat_eq, nat_le, nat_lt, List, [], ◌∷◌, length, map, refl, sym, ap, ◌∙◌, subst, inl, inr, arith}
+use Rattle.std.proofs.Common.{
+  ◌≡◌,
+  ℕ,
+  suc,
+  ◌+◌,
+  ◌-◌,
+  ◌^◌,
+  ◌≤◌,
+  ◌<◌,
+  Bool,
+  true,
+  false,
+  not,
+  ◌||◌,
+  ◌==◌,
+  nat_eq,
+  nat_le,
+  nat_lt,
+  List,
+  [],
+  ◌∷◌,
+  length,
+  map,
+  refl,
+  sym,
+  ap,
+  ◌∙◌,
+  subst,
+  inl,
+  inr,
+  arith,
+}
 use Rattle.std.proofs.lemmas.Bool.Decides.{nat_tests}
 use Rattle.std.proofs.lemmas.Fmt.{decimal-digits_value, decimal_injective}
 use Rattle.std.proofs.lemmas.Str.{IsUtf8-from_ascii}
@@ -30,7 +61,8 @@ digits_own = numerals_by_value (λ (ds : List ℕ). all_ascii_digits ds ≡ true
 
 all_digits : (ds : List ℕ) → all_of (map is_ascii_digit ds) ≡ true → all_ascii_digits ds ≡ true
 all_digits [] h = refl
-all_digits (d ∷ ds) h = rw (and-fst (is_ascii_digit d) (all_of (map is_ascii_digit ds)) h) (all_digits ds (and-snd (is_ascii_digit d) (all_of (map is_ascii_digit ds)) h))
+all_digits (d ∷ ds) h = rw (and-fst (is_ascii_digit d) (all_of (map is_ascii_digit ds)) h)
+    (all_digits ds (and-snd (is_ascii_digit d) (all_of (map is_ascii_digit ds)) h))
 
 digit_ascii : (d : ℕ) → is_ascii_digit d ≡ true → d < 128
 digit_ascii d h = grind (arith, nat_tests)
@@ -40,7 +72,8 @@ digits_ascii [] h = IsAscii-nil
 digits_ascii (d ∷ ds) h = IsAscii-cons d ds (digit_ascii d (and-fst _ _ h)) (digits_ascii ds (and-snd _ _ h))
 
 lone : (b : ℕ) (bs : List ℕ) → (not (b == 48) || nat_le (length bs) 0) ≡ true → b ≡ 48 → suc (length bs) ≡ 1
-lone b bs h e = elim (either (not (b == 48)) (nat_le (length bs) 0) h) [ inl differs ↦ absurd (grind (arith, nat_tests)) | inr short ↦ grind (arith, nat_tests) ]
+lone b bs h e = elim (either (not (b == 48)) (nat_le (length bs) 0) h)
+    [ inl differs ↦ absurd (grind (arith, nat_tests)) | inr short ↦ grind (arith, nat_tests) ]
 
 at_least : (a b : ℕ) → nat_le a b ≡ true → a ≤ b
 at_least a b h = grind (arith, nat_tests)
@@ -71,7 +104,8 @@ numeral_of of (b ∷ bs) h =
     let digits = and-fst (are_digits (b ∷ bs)) _ h in
     let range = and-snd (are_digits (b ∷ bs)) _ h in
     let high : digits_value 10 (b ∷ bs) < bound of = below (digits_value 10 (b ∷ bs)) (bound of) (and-snd _ _ range) in
-    let all : all_ascii_digits (b ∷ bs) ≡ true = all_digits (b ∷ bs) (and-fst (all_of (map is_ascii_digit (b ∷ bs))) (not (b == 48) || nat_le (length bs) 0) digits) in
+    let all : all_ascii_digits (b ∷ bs) ≡ true = all_digits (b ∷ bs)
+    (and-fst (all_of (map is_ascii_digit (b ∷ bs))) (not (b == 48) || nat_le (length bs) 0) digits) in
     let zero_alone = and-snd (all_of (map is_ascii_digit (b ∷ bs))) (not (b == 48) || nat_le (length bs) 0) digits in
     let small : digits_value 10 (b ∷ bs) < 2 ^ 64 = wide (digits_value 10 (b ∷ bs)) (bound of) high (bound_le of) in
     record {
@@ -88,24 +122,28 @@ pub numeral : (of : Digits) (t : Token) → matches (number of) t ≡ true → N
 unfolding matches
 numeral of t m = numeral_of of t m
 
-pub parsed : {E : Type 0} (of : Digits) (t : Token) (r : Result ℕ E) → ParsesUnsigned 64 10 t r → matches (number of) t ≡ true → r ≡ Ok (digits_value 10 t)
+pub parsed : {E : Type 0} (of : Digits) (t : Token) (r : Result ℕ E) → ParsesUnsigned 64 10 t r → matches (number of) t ≡ true →
+    r ≡ Ok (digits_value 10 t)
 parsed of t r p m = let n = numeral of t m in parse_gives digits_own 64 t r p n.digits n.some n.small
 
 -- of a number that the digits spell, that it is in the range
-pub in_range : (of : Digits) (t : Token) (n low high : ℕ) → n < 2 ^ 64 → t ≡ decimal n → least of ≡ low → bound of ≡ high + 1 → matches (number of) t ≡ true → (low ≤ n) × (n ≤ high)
+pub in_range : (of : Digits) (t : Token) (n low high : ℕ) → n < 2 ^ 64 → t ≡ decimal n → least of ≡ low → bound of ≡ high + 1 →
+    matches (number of) t ≡ true → (low ≤ n) × (n ≤ high)
 in_range of t n low high small is l h m =
     let k = numeral of t m in
     let same : digits_value 10 t ≡ n = decimal_injective (digits_value 10 t) n k.small small (sym k.is ∙ is) in
     (omega (arith, k.low, l, same), omega (arith, k.high, h, same))
 
-pub not_parsed : {E : Type 0} (of : Digits) (t : Token) (r : Result ℕ E) {e : E} → ParsesUnsigned 64 10 t r → r ≡ Err e → matches (number of) t ≡ true → ⊥
+pub not_parsed : {E : Type 0} (of : Digits) (t : Token) (r : Result ℕ E) {e : E} → ParsesUnsigned 64 10 t r → r ≡ Err e →
+    matches (number of) t ≡ true → ⊥
 not_parsed of t r {e} p is m = no_value (sym is ∙ parsed of t r p m)
   where
     no_value : {A E : Type 0} {a : A} {e : E} → ◌≡◌ {A = Result A E} (Err e) (Ok a) → ⊥
     no_value e = cc
 
 -- the test that the number is written as the digits fails for none of them
-pub written : {E : Type 0} (of : Digits) (t w : Token) (r : Result ℕ E) (same : Bool) {n : ℕ} → ParsesUnsigned 64 10 t r → r ≡ Ok n → w ≡ decimal n → same ≡ pointwise nat_eq w t → same ≡ false → matches (number of) t ≡ true → ⊥
+pub written : {E : Type 0} (of : Digits) (t w : Token) (r : Result ℕ E) (same : Bool) {n : ℕ} → ParsesUnsigned 64 10 t r →
+    r ≡ Ok n → w ≡ decimal n → same ≡ pointwise nat_eq w t → same ≡ false → matches (number of) t ≡ true → ⊥
 unfolding is_same
 written of t w r same {n} p is text test off m =
     let k : Numeral of t = numeral of t m in

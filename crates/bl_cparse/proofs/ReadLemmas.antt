@@ -1,5 +1,27 @@
 -- How a reader knows what stands next.
-use Rattle.std.proofs.Common.{◌≡◌, ℕ, zero, suc, ◌-◌, ◌≤◌, Bool, true, false, cond, List, [], ◌∷◌, ◌++◌, map, refl, ap, sym, ◌∙◌, subst, arith}
+use Rattle.std.proofs.Common.{
+  ◌≡◌,
+  ℕ,
+  zero,
+  suc,
+  ◌-◌,
+  ◌≤◌,
+  Bool,
+  true,
+  false,
+  cond,
+  List,
+  [],
+  ◌∷◌,
+  ◌++◌,
+  map,
+  refl,
+  ap,
+  sym,
+  ◌∙◌,
+  subst,
+  arith,
+}
 use Rattle.std.specs.Prelude.{Option, Some, None, nat_le, Result, Ok, Err, IsErrAnd, MatchOption, MatchResult}
 use Rattle.std.proofs.lemmas.Bool.{leb-true}
 use Rattle.bl_ctext.specs.Token.{Token}
@@ -36,17 +58,25 @@ pub next : {class : Class} {rest : List Wanted} {pieces : List Token} → Expect
 next {class} {rest} {pieces} e =
     let s = expects_token class rest pieces e in
     let first : first_of pieces ≡ s.next = ap first_of s.stands in
-    record { left = s.left; is = s.stands ∙ ap (λ t. t ∷ s.left) (sym first); matched = subst (λ t. matches class t ≡ true) (sym first) s.is; expects = s.expects }
+    record {
+      left = s.left;
+      is = s.stands ∙ ap (λ t. t ∷ s.left) (sym first);
+      matched =
+          subst (λ t. matches class t ≡ true) (sym first) s.is;
+      expects = s.expects;
+    }
 
 same_tail : {a b : Token} {xs ys : List Token} → a ∷ xs ≡ b ∷ ys → xs ≡ ys
 same_tail e = cc
 
 -- what follows a piece that was passed
-pub passed : {class : Class} {rest : List Wanted} {old new : List Token} {t : Token} → old ≡ t ∷ new → Expects (Terminal class ∷ rest) old → Expects rest new
+pub passed : {class : Class} {rest : List Wanted} {old new : List Token} {t : Token} → old ≡ t ∷ new →
+    Expects (Terminal class ∷ rest) old → Expects rest new
 passed {rest = rest} is e = let n = next e in subst (λ (ts : List Token). Expects rest ts) (same_tail (sym n.is ∙ is)) n.expects
 
 -- where a piece of another class stands, none of this one is expected
-pub other_next : {class : Class} {rest : List Wanted} {pieces : List Token} → matches class (first_of pieces) ≡ false → Expects (Terminal class ∷ rest) pieces → ⊥
+pub other_next : {class : Class} {rest : List Wanted} {pieces : List Token} → matches class (first_of pieces) ≡ false →
+    Expects (Terminal class ∷ rest) pieces → ⊥
 other_next off e = not_both _ (next e).matched off
 
 pub sign_next : {word : Token} {rest : List Wanted} {pieces : List Token} → Expects (sign word ∷ rest) pieces → first_of pieces ≡ word
@@ -73,7 +103,8 @@ seated_is room own (Nonterminal within) = ap (λ n. Nonterminal (record { part =
 
 all_seated : (room : ℕ) (own : Token) (shapes : List Shape) → map (placed room own) shapes ≡ map (seated room own) shapes
 all_seated room own [] = refl
-all_seated room own (x ∷ xs) = ap (λ w. w ∷ map (placed room own) xs) (seated_is room own x) ∙ ap (λ ws. seated room own x ∷ ws) (all_seated room own xs)
+all_seated room own (x ∷ xs) = ap (λ w. w ∷ map (placed room own) xs) (seated_is room own x)
+    ∙ ap (λ ws. seated room own x ∷ ws) (all_seated room own xs)
 
 -- of a part one of its productions is expected
 pub record Opened (what : Part) (room : ℕ) (rest : List Wanted) (pieces : List Token) : Type 0 where
@@ -99,16 +130,20 @@ opened {what} {room} {rest} {pieces} e =
       });
     }
 
-decided_is : (room : ℕ) (t : Token) (may : Bool) (p : Production) (wanted : List Wanted) → decided room t may (Some p) ≡ Some wanted → (p.needs ≤ room) × (wanted_of room t p ≡ wanted)
+decided_is : (room : ℕ) (t : Token) (may : Bool) (p : Production) (wanted : List Wanted) →
+    decided room t may (Some p) ≡ Some wanted → (p.needs ≤ room) × (wanted_of room t p ≡ wanted)
 decided_is room t may p wanted e = by_room (nat_le p.needs room) refl e
   where
-    by_room : (b : Bool) → nat_le p.needs room ≡ b → cond b (Some (wanted_of room t p)) None ≡ Some wanted → (p.needs ≤ room) × (wanted_of room t p ≡ wanted)
+    by_room : (b : Bool) → nat_le p.needs room ≡ b → cond b (Some (wanted_of room t p)) None ≡ Some wanted →
+        (p.needs ≤ room) × (wanted_of room t p ≡ wanted)
     by_room true is e = (leb-true p.needs room is, same_some _ _ e)
     by_room false is e = absurd (no_some wanted e)
 
 -- the production that the next piece begins
-pub begun : {what : Part} {room : ℕ} {rest : List Wanted} {pieces : List Token} (p : Production) → IsAmong p (productions what) → has (firsts starts p.shapes) [] ≡ false
-    → has (firsts starts p.shapes) (first_of pieces) ≡ true → Expects (part what room ∷ rest) pieces → (p.needs ≤ room) × Expects (map (seated room (turn_of (first_of pieces))) p.shapes ++ rest) pieces
+pub begun : {what : Part} {room : ℕ} {rest : List Wanted} {pieces : List Token} (p : Production) → IsAmong p (productions what) →
+    has (firsts starts p.shapes) [] ≡ false
+    → has (firsts starts p.shapes) (first_of pieces) ≡ true → Expects (part what room ∷ rest) pieces →
+    (p.needs ≤ room) × Expects (map (seated room (turn_of (first_of pieces))) p.shapes ++ rest) pieces
 unfolding pick
 begun {pieces = []} p among some is e = absurd (not_both _ is some)
 begun {what = what} {room = room} {rest = rest} {pieces = t ∷ ts} p among some is e =
@@ -117,14 +152,16 @@ begun {what = what} {room = room} {rest = rest} {pieces = t ∷ ts} p among some
     (d.0, subst (λ (w : List Wanted). Expects (w ++ rest) (t ∷ ts)) (sym d.1 ∙ all_seated room (turn_of t) p.shapes) h.2)
 
 -- a part that the next piece doesn't begin is absent
-pub omitted : {what : Part} {room : ℕ} {rest : List Wanted} {pieces : List Token} → absent what ≡ true → has (starts what) (first_of pieces) ≡ false → Expects (part what room ∷ rest) pieces → Expects rest pieces
+pub omitted : {what : Part} {room : ℕ} {rest : List Wanted} {pieces : List Token} → absent what ≡ true →
+    has (starts what) (first_of pieces) ≡ false → Expects (part what room ∷ rest) pieces → Expects rest pieces
 omitted {what = what} {room = room} {rest = rest} {pieces = []} may off e = (expects_absent (record { part = what; room = room }) rest e).1
 omitted {what = what} {room = room} {rest = rest} {pieces = t ∷ ts} may off e =
     let h = expects_production (record { part = what; room = room }) rest t ts e in
     subst (λ (w : List Wanted). Expects (w ++ rest) (t ∷ ts)) (same_some _ _ (sym h.1 ∙ unpicked (record { part = what; room = room }) t may off)) h.2
 
 -- the error of a `?` is the one that came
-pub wanting : {A : Type 0} (P : A → Type 0) (r : Result A CRefusal) (e : CRefusal) → IsErrAnd r (λ x. x ≡ e) → WantsMemory e → MatchResult r P WantsMemory
+pub wanting : {A : Type 0} (P : A → Type 0) (r : Result A CRefusal) (e : CRefusal) → IsErrAnd r (λ x. x ≡ e) → WantsMemory e →
+    MatchResult r P WantsMemory
 wanting P (Ok x) e is w = elim is [ ]
 wanting P (Err x) e is w = subst WantsMemory (sym is) w
 
@@ -135,17 +172,20 @@ pub sign_seen : (word : Token) (pieces : List Token) → matches (exactly word) 
 sign_seen word pieces m = sym (exactly_is word (first_of pieces) m)
 
 -- what is known where nothing is found, made weaker
-pub widened : {A E : Type 0} {P P' : Type 0} (Q : A → Type 0) (W : E → Type 0) (r : Result (Option A) E) → (P → P') → MatchResult r (λ found. MatchOption found P Q) W → MatchResult r (λ found. MatchOption found P' Q) W
+pub widened : {A E : Type 0} {P P' : Type 0} (Q : A → Type 0) (W : E → Type 0) (r : Result (Option A) E) → (P → P') →
+    MatchResult r (λ found. MatchOption found P Q) W → MatchResult r (λ found. MatchOption found P' Q) W
 widened Q W (Ok None) f h = f h
 widened Q W (Ok (Some x)) f h = h
 widened Q W (Err e) f h = h
 
 -- what stands next is of another class too
-pub retold : {class other : Class} {rest : List Wanted} {pieces : List Token} → matches other (first_of pieces) ≡ true → Expects (Terminal class ∷ rest) pieces → Expects (Terminal other ∷ rest) pieces
+pub retold : {class other : Class} {rest : List Wanted} {pieces : List Token} → matches other (first_of pieces) ≡ true →
+    Expects (Terminal class ∷ rest) pieces → Expects (Terminal other ∷ rest) pieces
 retold {other = other} {rest = rest} is e =
     let n = next e in
     subst (λ (ts : List Token). Expects (Terminal other ∷ rest) ts) (sym n.is) (record { good = n.expects.good; spells = terminal is n.expects.spells })
 
 -- a test of the next piece, where no piece was passed before it
-pub at_same : {old new : List Token} → new ≡ old → (word : Token) → matches (exactly word) (first_of old) ≡ false → matches (exactly word) (first_of new) ≡ false
+pub at_same : {old new : List Token} → new ≡ old → (word : Token) → matches (exactly word) (first_of old) ≡ false →
+    matches (exactly word) (first_of new) ≡ false
 at_same same word off = ap (λ (ts : List Token). matches (exactly word) (first_of ts)) same ∙ off

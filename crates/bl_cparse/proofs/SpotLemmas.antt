@@ -1,5 +1,31 @@
 -- Where the next piece of a text stands.
-use Rattle.std.proofs.Common.{◌≡◌, ℕ, zero, suc, ◌+◌, ◌-◌, ◌<◌, ◌≤◌, Bool, true, false, cond, ⊎_elim, List, [], ◌∷◌, length, drop, get_or, refl, sym, ap, ◌∙◌, subst, arith}
+use Rattle.std.proofs.Common.{
+  ◌≡◌,
+  ℕ,
+  zero,
+  suc,
+  ◌+◌,
+  ◌-◌,
+  ◌<◌,
+  ◌≤◌,
+  Bool,
+  true,
+  false,
+  cond,
+  ⊎_elim,
+  List,
+  [],
+  ◌∷◌,
+  length,
+  drop,
+  get_or,
+  refl,
+  sym,
+  ap,
+  ◌∙◌,
+  subst,
+  arith,
+}
 use Rattle.std.specs.Prelude.{slice_range}
 use Rattle.std.proofs.str.Laws.{order}
 use Rattle.std.proofs.lemmas.List.{length-drop, length-take-le, drop-drop, get_or-drop}
@@ -62,7 +88,8 @@ module _ (text : List ℕ) where
   first_solid : (i : ℕ) → i < length text → is_blank (get_or text i 0) ≡ false → solid (drop i text) ≡ suc (solid (drop (i + 1) text))
   first_solid i inside h = ap solid (drop_more text i 0 inside) ∙ ap (λ c. cond c (solid (drop (i + 1) text)) (suc (solid (drop (i + 1) text)))) h
 
-  no_earlier : (i j : ℕ) → i < j → j ≤ length text → (i < length text → is_blank (get_or text i 0) ≡ false) → solid (drop i text) ≡ solid (drop j text) → ⊥
+  no_earlier : (i j : ℕ) → i < j → j ≤ length text → (i < length text → is_blank (get_or text i 0) ≡ false) →
+      solid (drop i text) ≡ solid (drop j text) → ⊥
   no_earlier i j less inside h e =
       let within : i < length text = omega (arith, less, inside) in
       let first = first_solid i within (h within) in
@@ -70,7 +97,8 @@ module _ (text : List ℕ) where
       omega (arith, first, rest, e)
 
   -- where a piece starts or nothing is left, one offset alone has so many bytes behind it that are no blanks
-  only_one : (i j : ℕ) → i ≤ length text → j ≤ length text → (i < length text → is_blank (get_or text i 0) ≡ false) → (j < length text → is_blank (get_or text j 0) ≡ false) →
+  only_one : (i j : ℕ) → i ≤ length text → j ≤ length text → (i < length text → is_blank (get_or text i 0) ≡ false) →
+      (j < length text → is_blank (get_or text j 0) ≡ false) →
       solid (drop i text) ≡ solid (drop j text) → i ≡ j
   only_one i j a b h k e =
       ⊎_elim (λ less. absurd (no_earlier i j less b h e))
@@ -79,7 +107,8 @@ module _ (text : List ℕ) where
   range_length : (a b : ℕ) → a ≤ b → b ≤ length text → length (slice_range text a b) ≡ b - a
   range_length a b h k = length-take-le (b - a) (drop a text) (omega (arith, h, k, length-drop a text))
 
-more_blanks : (bs : List ℕ) (b : ℕ) (c : Bool) → is_blank b ≡ c → solid (drop (blanks bs) bs) ≡ solid bs → solid (drop (cond c (suc (blanks bs)) 0) (b ∷ bs)) ≡ cond c (solid bs) (suc (solid bs))
+more_blanks : (bs : List ℕ) (b : ℕ) (c : Bool) → is_blank b ≡ c → solid (drop (blanks bs) bs) ≡ solid bs →
+    solid (drop (cond c (suc (blanks bs)) 0) (b ∷ bs)) ≡ cond c (solid bs) (suc (solid bs))
 more_blanks bs b true e h = h
 more_blanks bs b false e h = rw e refl
 
@@ -105,7 +134,8 @@ blanks_stop [] h = absurd (omega (arith, h))
 blanks_stop (b ∷ bs) h = stops_more bs b (is_blank b) refl (blanks_stop bs) h
 
 -- what is known of the next piece tells where it starts and ends
-pub starts : (text : List ℕ) (at start : ℕ) → at ≤ length text → start ≤ length text → pieces (drop start text) ≡ pieces (drop at text) → (start < length text → is_blank (get_or text start 0) ≡ false) →
+pub starts : (text : List ℕ) (at start : ℕ) → at ≤ length text → start ≤ length text →
+    pieces (drop start text) ≡ pieces (drop at text) → (start < length text → is_blank (get_or text start 0) ≡ false) →
     start ≡ at + blanks (drop at text)
 starts text at start inside within same no_blank =
     let left : length (drop at text) ≡ length text - at = length-drop at text in
@@ -118,11 +148,13 @@ starts text at start inside within same no_blank =
     (λ less. ap is_blank (sym (get_or-drop at text (blanks (drop at text)) 0)) ∙ blanks_stop (drop at text) (omega (arith, less, left)))
     (weighed ∙ sym there)
 
-pub ends : (text : List ℕ) (at start end : ℕ) → start ≤ end → end ≤ length text → (start ≡ end → end ≡ length text) → left_of text start end ≡ pieces (drop at text) →
+pub ends : (text : List ℕ) (at start end : ℕ) → start ≤ end → end ≤ length text → (start ≡ end → end ≡ length text) →
+    left_of text start end ≡ pieces (drop at text) →
     end ≡ start + length (first_of (pieces (drop at text)))
 ends text at start end in_order inside at_end left =
     let first : length (first_of (pieces (drop at text))) ≡ end - start =
-    ap (λ ts. length (first_of ts)) (sym left) ∙ (ap length (first_left text start end in_order inside at_end) ∙ range_length text start end in_order inside) in
+    ap (λ ts. length (first_of ts)) (sym left) ∙ (ap length (first_left text start end in_order inside at_end)
+    ∙ range_length text start end in_order inside) in
     omega (arith, first, in_order)
 
 -- behind so many pieces

@@ -1,5 +1,31 @@
 -- Walks over lists, with one part more.
-use Rattle.std.proofs.Common.{◌≡◌, ℕ, zero, suc, ◌+◌, ◌<◌, Bool, true, false, nat_eq, List, [], ◌∷◌, ◌++◌, length, take, get_or, map, slice_set, refl, sym, ap, subst, ◌∙◌, arith}
+use Rattle.std.proofs.Common.{
+  ◌≡◌,
+  ℕ,
+  zero,
+  suc,
+  ◌+◌,
+  ◌<◌,
+  Bool,
+  true,
+  false,
+  nat_eq,
+  List,
+  [],
+  ◌∷◌,
+  ◌++◌,
+  length,
+  take,
+  get_or,
+  map,
+  slice_set,
+  refl,
+  sym,
+  ap,
+  subst,
+  ◌∙◌,
+  arith,
+}
 use Rattle.std.proofs.Math.Seq.{map-set_same}
 use Rattle.std.proofs.lemmas.Bool.{eqb-true}
 use Rattle.std.proofs.lemmas.List.{take_more_set}
@@ -15,7 +41,8 @@ rest_is a b us vs e = cc
 pair_is : {A : Type 0} (r : A × Spot) (a : A) (s : Spot) → r.0 ≡ a → r.1 ≡ s → r ≡ (a, s)
 pair_is r a s e h = ap (λ x. (x, r.1)) e ∙ ap (λ y. (a, y)) h
 
-pub turn_more : {A : Type 0} (f : A → Walk A) (xs : List A) (x : A) (from between behind : Spot) → in_turn (map f xs) from ≡ (xs, between) → f x between ≡ (x, behind) →
+pub turn_more : {A : Type 0} (f : A → Walk A) (xs : List A) (x : A) (from between behind : Spot) →
+    in_turn (map f xs) from ≡ (xs, between) → f x between ≡ (x, behind) →
     in_turn (map f (xs ++ x ∷ [])) from ≡ (xs ++ x ∷ [], behind)
 turn_more f [] x from between behind h k = ap (λ r. (r.0 ∷ [], r.1)) (ap (f x) (ap (λ r. r.1) h) ∙ k)
 turn_more f (y ∷ xs) x from between behind h k =
@@ -24,20 +51,24 @@ turn_more f (y ∷ xs) x from between behind h k =
     ap (λ r. ((f y from).0 ∷ r.0, r.1)) (turn_more f xs x (f y from).1 between behind rest k) ∙ ap (λ z. (z ∷ (xs ++ x ∷ []), behind)) first
 
 -- behind a part there is a comma before the next
-list_on : {A : Type 0} (f : A → Walk A) (first : Bool) (y : A) (xs : List A) (x : A) (from between behind : Spot) → in_list first (map f (y ∷ xs)) from ≡ (y ∷ xs, between) →
+list_on : {A : Type 0} (f : A → Walk A) (first : Bool) (y : A) (xs : List A) (x : A) (from between behind : Spot) →
+    in_list first (map f (y ∷ xs)) from ≡ (y ∷ xs, between) →
     f x (past (comma_before false) between) ≡ (x, behind) → in_list first (map f ((y ∷ xs) ++ x ∷ [])) from ≡ ((y ∷ xs) ++ x ∷ [], behind)
 list_on f first y [] x from between behind h k =
     let walked = f y (past (comma_before first) from) in
     let same : walked.0 ≡ y = first_is _ _ _ _ (ap (λ r. r.0) h) in
-    ap (λ r. (walked.0 ∷ r.0 ∷ [], r.1)) (ap (λ s. f x (past (comma_before false) s)) (ap (λ r. r.1) h) ∙ k) ∙ ap (λ z. (z ∷ x ∷ [], behind)) same
+    ap (λ r. (walked.0 ∷ r.0 ∷ [], r.1)) (ap (λ s. f x (past (comma_before false) s)) (ap (λ r. r.1) h) ∙ k)
+    ∙ ap (λ z. (z ∷ x ∷ [], behind)) same
 list_on f first y (z ∷ xs) x from between behind h k =
     let walked = f y (past (comma_before first) from) in
     let same : walked.0 ≡ y = first_is _ _ _ _ (ap (λ r. r.0) h) in
     let rest : in_list false (map f (z ∷ xs)) walked.1 ≡ (z ∷ xs, between) = pair_is _ _ _ (rest_is _ _ _ _ (ap (λ r. r.0) h)) (ap (λ r. r.1) h) in
     ap (λ r. (walked.0 ∷ r.0, r.1)) (list_on f false z xs x walked.1 between behind rest k) ∙ ap (λ w. (w ∷ ((z ∷ xs) ++ x ∷ []), behind)) same
 
-pub list_more : {A : Type 0} (f : A → Walk A) (first : Bool) (xs : List A) (x : A) (from between behind : Spot) → (first ≡ true → xs ≡ []) → (xs ≡ [] → first ≡ true) →
-    in_list true (map f xs) from ≡ (xs, between) → f x (past (comma_before first) between) ≡ (x, behind) → in_list true (map f (xs ++ x ∷ [])) from ≡ (xs ++ x ∷ [], behind)
+pub list_more : {A : Type 0} (f : A → Walk A) (first : Bool) (xs : List A) (x : A) (from between behind : Spot) →
+    (first ≡ true → xs ≡ []) → (xs ≡ [] → first ≡ true) →
+    in_list true (map f xs) from ≡ (xs, between) → f x (past (comma_before first) between) ≡ (x, behind) →
+    in_list true (map f (xs ++ x ∷ [])) from ≡ (xs ++ x ∷ [], behind)
 list_more f first [] x from between behind none empty h k =
     ap (λ r. (r.0 ∷ [], r.1)) (ap (f x) (ap (λ r. r.1) h) ∙ (ap (λ c. f x (past (comma_before c) between)) (sym (empty refl)) ∙ k))
 list_more f true (y ∷ xs) x from between behind none empty h k = absurd (no_cons (none refl))
@@ -47,7 +78,8 @@ list_more f true (y ∷ xs) x from between behind none empty h k = absurd (no_co
 list_more f false (y ∷ xs) x from between behind none empty h k = list_on f true y xs x from between behind h k
 
 -- the same where the part stands in a list, behind those that have their places
-pub turn_set : {A : Type 0} (f : A → Walk A) (xs : List A) (k : ℕ) (x : A) (from between behind : Spot) → k < length xs → in_turn (map f (take k xs)) from ≡ (take k xs, between) →
+pub turn_set : {A : Type 0} (f : A → Walk A) (xs : List A) (k : ℕ) (x : A) (from between behind : Spot) → k < length xs →
+    in_turn (map f (take k xs)) from ≡ (take k xs, between) →
     f x between ≡ (x, behind) → in_turn (map f (take (k + 1) (slice_set xs k x))) from ≡ (take (k + 1) (slice_set xs k x), behind)
 turn_set f xs k x from between behind within h step =
     subst (λ ys. in_turn (map f ys) from ≡ (ys, behind)) (sym (take_more_set xs k x within)) (turn_more f (take k xs) x from between behind h step)
@@ -61,12 +93,15 @@ taken_none xs zero within h = refl
 taken_none [] (suc k) within h = elim within [ ]
 taken_none (x ∷ xs) (suc k) within h = cc
 
-pub list_set : {A : Type 0} (f : A → Walk A) (xs : List A) (k : ℕ) (x : A) (from between behind : Spot) → k < length xs → in_list true (map f (take k xs)) from ≡ (take k xs, between) →
-    f x (past (comma_before (nat_eq k 0)) between) ≡ (x, behind) → in_list true (map f (take (k + 1) (slice_set xs k x))) from ≡ (take (k + 1) (slice_set xs k x), behind)
+pub list_set : {A : Type 0} (f : A → Walk A) (xs : List A) (k : ℕ) (x : A) (from between behind : Spot) → k < length xs →
+    in_list true (map f (take k xs)) from ≡ (take k xs, between) →
+    f x (past (comma_before (nat_eq k 0)) between) ≡ (x, behind) →
+    in_list true (map f (take (k + 1) (slice_set xs k x))) from ≡ (take (k + 1) (slice_set xs k x), behind)
 list_set f xs k x from between behind within h step =
     subst (λ ys. in_list true (map f ys) from ≡ (ys, behind)) (sym (take_more_set xs k x within))
     (list_more f (nat_eq k 0) (take k xs) x from between behind (none_taken xs k within) (taken_none xs k within) h step)
 
 -- what tells nothing of a part's place tells the same of the list
-pub mapped_set : {A B : Type 0} (f : A → B) (xs : List A) (k : ℕ) (x was : A) → was ≡ get_or xs k was → f x ≡ f was → map f (slice_set xs k x) ≡ map f xs
+pub mapped_set : {A B : Type 0} (f : A → B) (xs : List A) (k : ℕ) (x was : A) → was ≡ get_or xs k was → f x ≡ f was →
+    map f (slice_set xs k x) ≡ map f xs
 mapped_set f xs k x was is same = map-set_same f xs k x was (same ∙ ap f is)

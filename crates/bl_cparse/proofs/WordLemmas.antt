@@ -45,7 +45,8 @@ unsigned_word W16 = refl
 unsigned_word W32 = refl
 unsigned_word W64 = refl
 
-pub least_word : (w : Width) → by_width (codes "INT8_MIN") (codes "INT16_MIN") (codes "INT32_MIN") (codes "INT64_MIN") w ≡ codes "INT" ++ (width_digits w ++ codes "_MIN")
+pub least_word : (w : Width) → by_width (codes "INT8_MIN") (codes "INT16_MIN") (codes "INT32_MIN") (codes "INT64_MIN") w
+    ≡ codes "INT" ++ (width_digits w ++ codes "_MIN")
 least_word W8 = refl
 least_word W16 = refl
 least_word W32 = refl
@@ -100,33 +101,46 @@ none_of_nine a b c d e f g h i ea eb ef = rw ea (by_four b c d e eb)
     by_four false false true e x = cc
     by_four false false false true x = cc
 
-pub no_scalar : (t : Token) → matches (exactly (codes "bool")) t ≡ false → has (exactly_one (codes "int8_t") (codes "int16_t") (codes "int32_t") (codes "int64_t")) t ≡ false
+pub no_scalar : (t : Token) → matches (exactly (codes "bool")) t ≡ false →
+    has (exactly_one (codes "int8_t") (codes "int16_t") (codes "int32_t") (codes "int64_t")) t ≡ false
     → has (exactly_one (codes "uint8_t") (codes "uint16_t") (codes "uint32_t") (codes "uint64_t")) t ≡ false → matches (one_of ScalarTypes) t ≡ false
 unfolding matches is_among is_same
-no_scalar t a b c = none_of_nine (matches (exactly (codes "bool")) t) (matches (exactly (codes "int8_t")) t) (matches (exactly (codes "int16_t")) t) (matches (exactly (codes "int32_t")) t) (matches (exactly (codes "int64_t")) t) (matches (exactly (codes "uint8_t")) t) (matches (exactly (codes "uint16_t")) t) (matches (exactly (codes "uint32_t")) t) (matches (exactly (codes "uint64_t")) t) a b c
+no_scalar t a b c = none_of_nine (matches (exactly (codes "bool")) t) (matches (exactly (codes "int8_t")) t)
+    (matches (exactly (codes "int16_t")) t) (matches (exactly (codes "int32_t")) t) (matches (exactly (codes "int64_t")) t)
+    (matches (exactly (codes "uint8_t")) t) (matches (exactly (codes "uint16_t")) t) (matches (exactly (codes "uint32_t")) t)
+    (matches (exactly (codes "uint64_t")) t) a b c
 
-none_of_eight : (eq ne lt le gt ge both either : Bool) → eq ≡ false → ne ≡ false → both ≡ false → either ≡ false → lt || (le || (gt || (ge || false))) ≡ false
+none_of_eight : (eq ne lt le gt ge both either : Bool) → eq ≡ false → ne ≡ false → both ≡ false → either ≡ false →
+    lt || (le || (gt || (ge || false))) ≡ false
     → eq || (ne || (lt || (le || (gt || (ge || (both || (either || false))))))) ≡ false
 none_of_eight eq ne lt le gt ge both either ea eb ec ed h = rw (ea, eb, ec, ed) h
 
-pub no_operator : (t : Token) → matches (exactly (codes "==")) t ≡ false → matches (exactly (codes "!=")) t ≡ false → matches (exactly (codes "&&")) t ≡ false → matches (exactly (codes "||")) t ≡ false
+pub no_operator : (t : Token) → matches (exactly (codes "==")) t ≡ false → matches (exactly (codes "!=")) t ≡ false →
+    matches (exactly (codes "&&")) t ≡ false → matches (exactly (codes "||")) t ≡ false
     → has (exactly_one (codes "<") (codes "<=") (codes ">") (codes ">=")) t ≡ false → matches (one_of Operators) t ≡ false
 unfolding matches is_among is_same
-no_operator t a b c d h = none_of_eight (matches (exactly (codes "==")) t) (matches (exactly (codes "!=")) t) (matches (exactly (codes "<")) t) (matches (exactly (codes "<=")) t) (matches (exactly (codes ">")) t) (matches (exactly (codes ">=")) t) (matches (exactly (codes "&&")) t) (matches (exactly (codes "||")) t) a b c d h
+no_operator t a b c d h = none_of_eight (matches (exactly (codes "==")) t) (matches (exactly (codes "!=")) t)
+    (matches (exactly (codes "<")) t) (matches (exactly (codes "<=")) t) (matches (exactly (codes ">")) t)
+    (matches (exactly (codes ">=")) t) (matches (exactly (codes "&&")) t) (matches (exactly (codes "||")) t) a b c d h
 
-none_of_six : (a b c d e f : Bool) → a ≡ false → b ≡ false → c || (d || (e || (f || false))) ≡ false → a || (b || (c || (d || (e || (f || false))))) ≡ false
+none_of_six : (a b c d e f : Bool) → a ≡ false → b ≡ false → c || (d || (e || (f || false))) ≡ false →
+    a || (b || (c || (d || (e || (f || false))))) ≡ false
 none_of_six a b c d e f ea eb h = rw (ea, eb) h
 
-pub no_plain : (t : Token) → matches (exactly (codes "true")) t ≡ false → matches (exactly (codes "false")) t ≡ false → has (exactly_one (codes "INT8_MIN") (codes "INT16_MIN") (codes "INT32_MIN") (codes "INT64_MIN")) t ≡ false
+pub no_plain : (t : Token) → matches (exactly (codes "true")) t ≡ false → matches (exactly (codes "false")) t ≡ false →
+    has (exactly_one (codes "INT8_MIN") (codes "INT16_MIN") (codes "INT32_MIN") (codes "INT64_MIN")) t ≡ false
     → matches (one_of PlainLiterals) t ≡ false
 unfolding matches is_among is_same
-no_plain t a b h = none_of_six (matches (exactly (codes "true")) t) (matches (exactly (codes "false")) t) (matches (exactly (codes "INT8_MIN")) t) (matches (exactly (codes "INT16_MIN")) t) (matches (exactly (codes "INT32_MIN")) t) (matches (exactly (codes "INT64_MIN")) t) a b h
+no_plain t a b h = none_of_six (matches (exactly (codes "true")) t) (matches (exactly (codes "false")) t)
+    (matches (exactly (codes "INT8_MIN")) t) (matches (exactly (codes "INT16_MIN")) t) (matches (exactly (codes "INT32_MIN")) t)
+    (matches (exactly (codes "INT64_MIN")) t) a b h
 
 pub no_literal : (t : Token) → matches (one_of PlainLiterals) t ≡ false → has constant_starts t ≡ false → has literal_starts t ≡ false
 no_literal t plain constant = rw plain constant
 
 -- the words of constants are none of the two kinds
-none_of_eight_words : (a b c d e f g h : Bool) → a || (b || (c || (d || false))) ≡ false → e || (f || (g || (h || false))) ≡ false → a || (b || (c || (d || (e || (f || (g || (h || false))))))) ≡ false
+none_of_eight_words : (a b c d e f g h : Bool) → a || (b || (c || (d || false))) ≡ false → e || (f || (g || (h || false))) ≡ false →
+    a || (b || (c || (d || (e || (f || (g || (h || false))))))) ≡ false
 none_of_eight_words false false false false e f g h x y = y
 none_of_eight_words true b c d e f g h x y = cc
 none_of_eight_words false true c d e f g h x y = cc
@@ -134,8 +148,10 @@ none_of_eight_words false false true d e f g h x y = cc
 none_of_eight_words false false false true e f g h x y = cc
 
 pub no_constant : (t : Token) → has signed_starts t ≡ false → has unsigned_starts t ≡ false → has constant_starts t ≡ false
-no_constant t a b = none_of_eight_words (matches (exactly (codes "INT8_C")) t) (matches (exactly (codes "INT16_C")) t) (matches (exactly (codes "INT32_C")) t) (matches (exactly (codes "INT64_C")) t)
-    (matches (exactly (codes "UINT8_C")) t) (matches (exactly (codes "UINT16_C")) t) (matches (exactly (codes "UINT32_C")) t) (matches (exactly (codes "UINT64_C")) t) a b
+no_constant t a b = none_of_eight_words (matches (exactly (codes "INT8_C")) t) (matches (exactly (codes "INT16_C")) t)
+    (matches (exactly (codes "INT32_C")) t) (matches (exactly (codes "INT64_C")) t)
+    (matches (exactly (codes "UINT8_C")) t) (matches (exactly (codes "UINT16_C")) t) (matches (exactly (codes "UINT32_C")) t)
+    (matches (exactly (codes "UINT64_C")) t) a b
 
 pub scalar_stands : (t : Token) (s : Scalar) → t ≡ scalar_word s → is_c_scalar s ≡ true → matches (one_of ScalarTypes) t ≡ true
 scalar_stands t s e h = ap (matches (one_of ScalarTypes)) e ∙ by_scalar s h

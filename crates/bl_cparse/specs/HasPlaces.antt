@@ -1,6 +1,28 @@
 -- The places of the parts of a file: each from the start of its first token in the text to the end of its last. A walk goes over
 -- the text and the file side by side, as many pieces as each part has tokens, and sets them.
-use Rattle.std.specs.Prelude.{◌≡◌, ℕ, suc, ◌+◌, Bool, true, false, cond, List, [], ◌∷◌, ◌++◌, length, drop, map, fold, option_map, Option, Some, None, codes}
+use Rattle.std.specs.Prelude.{
+  ◌≡◌,
+  ℕ,
+  suc,
+  ◌+◌,
+  Bool,
+  true,
+  false,
+  cond,
+  List,
+  [],
+  ◌∷◌,
+  ◌++◌,
+  length,
+  drop,
+  map,
+  fold,
+  option_map,
+  Option,
+  Some,
+  None,
+  codes,
+}
 use Rattle.std.specs.Fmt.{decimal}
 use Rattle.bl_tree.specs.declared.place.Place.{Place}
 use Rattle.bl_tree.specs.declared.c.CStruct.{CStruct}
@@ -16,7 +38,21 @@ use Rattle.bl_tree.specs.declared.c.CStmt.{CStmt, CStmt-F, fold-CStmt, roll-CStm
 use Rattle.bl_tree.specs.declared.c.CStmtKind.{CStmtKind, CStmtKind-F, fold-CStmtKind, roll-CStmtKind}
 use Rattle.bl_tree.specs.Reduce.{joined}
 use Rattle.bl_ctext.specs.Token.{Token, is_blank}
-use Rattle.bl_ctext.specs.Spelling.{comma_before, with_commas, literal_tokens, operator_sign, index_front, root_tokens, zeros_tokens, turn_declared, turn_counted, struct_tokens, param_tokens, local_tokens, func_front}
+use Rattle.bl_ctext.specs.Spelling.{
+  comma_before,
+  with_commas,
+  literal_tokens,
+  operator_sign,
+  index_front,
+  root_tokens,
+  zeros_tokens,
+  turn_declared,
+  turn_counted,
+  struct_tokens,
+  param_tokens,
+  local_tokens,
+  func_front,
+}
 use Rattle.bl_ctext.specs.Prelude.{prelude}
 use Rattle.bl_ctext.specs.declared.file.CFile.{CFile}
 use Rattle.bl_csyntax.specs.Pieces.{pieces, first_of}
@@ -90,7 +126,8 @@ kind_step (CExprKind-F.Two o left right) s =
     (and_then (λ l r. roll-CExprKind (CExprKind-F.Two o l r)) (made (λ e. e) (operator_sign o ∷ []) (left (past (codes "(" ∷ []) s))) right)
 
 abbrev pub call_step : CCall-F (Walk CArg) (Walk CExprKind) (Walk CCall) (Walk CExpr) (Walk CIndex) (Walk CPlace) (Walk CStep) → Walk CCall
-call_step c s = made (λ args. roll-CCall (record { name = c.name; args = args })) (codes ")" ∷ []) (in_list true c.args (past (c.name ∷ codes "(" ∷ []) s))
+call_step c s = made (λ args. roll-CCall (record { name = c.name; args = args })) (codes ")" ∷ [])
+    (in_list true c.args (past (c.name ∷ codes "(" ∷ []) s))
 
 -- an expression, whose place is set
 abbrev pub expr_from : Spot → CExprKind × Spot → CExpr × Spot
@@ -101,10 +138,12 @@ expr_step e s = expr_from s (e.what s)
 
 abbrev pub index_step : CIndex-F (Walk CArg) (Walk CExprKind) (Walk CCall) (Walk CExpr) (Walk CIndex) (Walk CPlace) (Walk CStep) → Walk CIndex
 index_step i s =
-    made (λ e. roll-CIndex (record { signed = i.signed; at = e; length = i.length })) (codes "," ∷ decimal i.length ∷ codes ")" ∷ codes "]" ∷ []) (i.at (past (index_front i.signed) s))
+    made (λ e. roll-CIndex (record { signed = i.signed; at = e; length = i.length }))
+    (codes "," ∷ decimal i.length ∷ codes ")" ∷ codes "]" ∷ []) (i.at (past (index_front i.signed) s))
 
 abbrev pub place_step : CPlace-F (Walk CArg) (Walk CExprKind) (Walk CCall) (Walk CExpr) (Walk CIndex) (Walk CPlace) (Walk CStep) → Walk CPlace
-place_step p s = made (λ steps. roll-CPlace (record { through = p.through; name = p.name; steps = steps })) [] (in_turn p.steps (past (root_tokens p.through p.name) s))
+place_step p s = made (λ steps. roll-CPlace (record { through = p.through; name = p.name; steps = steps })) []
+    (in_turn p.steps (past (root_tokens p.through p.name) s))
 
 abbrev pub step_step : CStep-F (Walk CArg) (Walk CExprKind) (Walk CCall) (Walk CExpr) (Walk CIndex) (Walk CPlace) (Walk CStep) → Walk CStep
 step_step t s = made (λ index. roll-CStep (record { member = t.member; index = index })) [] (if_there t.index (past (codes "." ∷ t.member ∷ []) s))
@@ -144,7 +183,8 @@ stmt_kind_step (CStmtKind-F.Call call) s = made (λ c. roll-CStmtKind (CStmtKind
 stmt_kind_step (CStmtKind-F.If test then_part else_part) s =
     and_then (λ (front : CExpr × List CStmt) e. roll-CStmtKind (CStmtKind-F.If front.0 front.1 e))
     (made (λ front. front) (codes "}" ∷ [])
-    (and_then (λ t stmts. (t, stmts)) (made (λ t. t) (codes ")" ∷ codes "{" ∷ []) (expr_walk test (past (codes "if" ∷ codes "(" ∷ []) s))) (in_turn then_part)))
+    (and_then (λ t stmts. (t, stmts)) (made (λ t. t) (codes ")" ∷ codes "{" ∷ [])
+    (expr_walk test (past (codes "if" ∷ codes "(" ∷ []) s))) (in_turn then_part)))
     (else_walk else_part)
 stmt_kind_step (CStmtKind-F.Loop turn test body) s =
     made (λ k. k) (codes "}" ∷ codes "}" ∷ [])

@@ -32,7 +32,8 @@ WantsMemory NoMemory = ⊤
 -- Where these symbols are expected of the pieces that are left, with anything after them, nothing but memory can be wanting, and
 -- these are expected of the pieces behind what was read.
 abbrev pub Follows : {A : Type 0} → Result A CRefusal → List Wanted → List Wanted → List Token → List Token → Type 0
-Follows result symbols more old new = (rest : List Wanted) → Expects (symbols ++ rest) old → MatchResult result (λ _. Expects (more ++ rest) new) WantsMemory
+Follows result symbols more old new = (rest : List Wanted) → Expects (symbols ++ rest) old →
+    MatchResult result (λ _. Expects (more ++ rest) new) WantsMemory
 
 -- the same where no value is read that could be wanting
 abbrev pub Turns : List Wanted → List Wanted → List Token → List Token → Type 0
@@ -73,7 +74,8 @@ prelude_function = Terminal (one_of PreludeFunctions)
 
 -- the front of a loop's body, where its turns are counted
 abbrev pub turn_wanted : Token → List Wanted
-turn_wanted turn = sign (codes "{") ∷ sign turn ∷ sign (codes "=") ∷ sign (codes "bl_turn") ∷ sign (codes "(") ∷ sign turn ∷ sign (codes ")") ∷ sign (codes ";") ∷ []
+turn_wanted turn = sign (codes "{") ∷ sign turn ∷ sign (codes "=") ∷ sign (codes "bl_turn") ∷ sign (codes "(") ∷ sign turn
+    ∷ sign (codes ")") ∷ sign (codes ";") ∷ []
 
 -- a loop behind the name of its turns
 abbrev pub behind_turn : Token → ℕ → List Wanted

@@ -1,3 +1,5 @@
+//! Why a text is no file of the C subset.
+
 ghost use Rattle.bl_cparse.specs.Reading.{WantsMemory};
 
 use bl_tree::NoMemory;

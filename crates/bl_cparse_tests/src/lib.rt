@@ -1,5 +1,5 @@
-//! C texts read back, cut and spoiled (docs/C_SUBSET.md, "Where a text fails"). There is nothing in this crate but its
-//! tests.
+//! Tests of `bl_cparse` and of `bl_csyntax` below it: C texts read back, cut and spoiled (docs/C_SUBSET.md, "Where a
+//! text fails"). There is nothing else here.
 #![tactic(auto)]
 
 #[cfg(test)]

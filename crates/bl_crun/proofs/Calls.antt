@@ -24,30 +24,36 @@ abbrev room_for : ℕ → ℕ → List ℤ → Room
 room_for numbers calls cells = record { numbers = numbers; calls = calls; cells = length cells }
 
 -- how a function that does what its routine does comes to its end
-arriving : (code : Code) (numbers calls : ℕ) (entry : Entry) (routine : Option Routine) (base : ℕ) (args cells : List ℤ) → BothDo code (room_for numbers calls cells) numbers calls (Some entry) routine →
-    Arrives code (room_for numbers calls cells) (begun entry base args cells [] 0) (ended_as (begun entry base args cells [] 0) (applied routine base args cells))
+arriving : (code : Code) (numbers calls : ℕ) (entry : Entry) (routine : Option Routine) (base : ℕ) (args cells : List ℤ) →
+    BothDo code (room_for numbers calls cells) numbers calls (Some entry) routine →
+    Arrives code (room_for numbers calls cells) (begun entry base args cells [] 0)
+    (ended_as (begun entry base args cells [] 0) (applied routine base args cells))
 arriving code numbers calls entry None base args cells does = absurd does
 arriving code numbers calls entry (Some routine) base args cells does = does.does base args cells [] 0 (omega arith) (omega arith) refl
 
 -- in how many steps
-steps_in : (code : Code) (numbers calls : ℕ) (entry : Option Entry) (routine : Option Routine) (base : ℕ) (args cells : List ℤ) → BothDo code (room_for numbers calls cells) numbers calls entry routine → ℕ
+steps_in : (code : Code) (numbers calls : ℕ) (entry : Option Entry) (routine : Option Routine) (base : ℕ) (args cells : List ℤ) →
+    BothDo code (room_for numbers calls cells) numbers calls entry routine → ℕ
 steps_in code numbers calls None routine base args cells does = 0
 steps_in code numbers calls (Some entry) routine base args cells does = (arriving code numbers calls entry routine base args cells does).steps
 
 both-do : (file : Parts) (name : Text) (cells : List ℤ) →
-    BothDo (code_of_file file.structs file.funcs) (room_for (length (code_of_file file.structs file.funcs)) (length file.funcs) cells) (length (code_of_file file.structs file.funcs)) (length file.funcs)
+    BothDo (code_of_file file.structs file.funcs) (room_for (length (code_of_file file.structs file.funcs)) (length file.funcs) cells)
+    (length (code_of_file file.structs file.funcs)) (length file.funcs)
     (entry_in_file file.structs file.funcs name) (routine_in_file file.structs file.funcs name)
 both-do file name cells = named-functions-run file.structs file.funcs (room_for (length (code_of_file file.structs file.funcs)) (length file.funcs) cells) name
 
 -- the steps of a function of a file that is called from outside
 pub steps_of : Parts → Text → List ℤ → List ℤ → ℕ
 steps_of file name args cells =
-    steps_in (code_of_file file.structs file.funcs) (length (code_of_file file.structs file.funcs)) (length file.funcs) (entry_in_file file.structs file.funcs name) (routine_in_file file.structs file.funcs name)
+    steps_in (code_of_file file.structs file.funcs) (length (code_of_file file.structs file.funcs)) (length file.funcs)
+    (entry_in_file file.structs file.funcs name) (routine_in_file file.structs file.funcs name)
     (behind_objects file) args cells (both-do file name cells)
 
 -- ---- what is called comes to its end
 
-comes : (code : Code) (numbers calls : ℕ) (entry : Option Entry) (routine : Option Routine) (base : ℕ) (args : List ℤ) (m : Shown) (does : BothDo code (room_for numbers calls m.state.cells) numbers calls entry routine) →
+comes : (code : Code) (numbers calls : ℕ) (entry : Option Entry) (routine : Option Routine) (base : ℕ) (args : List ℤ) (m : Shown)
+    (does : BothDo code (room_for numbers calls m.state.cells) numbers calls entry routine) →
     (o : Option CodeEntry) → option_map entry_for o ≡ entry → numbers ≤ m.numbers → calls ≤ m.calls →
     Comes (steps_in code numbers calls entry routine base args m.state.cells does) code o base args m (applied routine base args m.state.cells)
 unfolding steps_in
@@ -61,25 +67,30 @@ comes code numbers calls (Some entry) routine base args m does (Some e) is n c =
     some_is : (a b : Entry) → Some a ≡ Some b → a ≡ b
     some_is a b h = cc
 
-    put : (e : CodeEntry) → entry_for e ≡ entry → Halting (arriving code numbers calls entry routine base args m.state.cells does).steps code e base args m (applied routine base args m.state.cells)
+    put : (e : CodeEntry) → entry_for e ≡ entry →
+        Halting (arriving code numbers calls entry routine base args m.state.cells does).steps code e base args m (applied routine base args m.state.cells)
     put e same = record {
       room = room_for numbers calls m.state.cells;
       runs =
-          subst (λ f. Runs code (room_for numbers calls m.state.cells) (arriving code numbers calls entry routine base args m.state.cells does).steps (begun f base args m.state.cells [] 0)
+          subst (λ f. Runs code (room_for numbers calls m.state.cells) (arriving code numbers calls entry routine base args m.state.cells does).steps
+          (begun f base args m.state.cells [] 0)
           (ended_as (begun f base args m.state.cells [] 0) (applied routine base args m.state.cells)))
           (sym same) (arriving code numbers calls entry routine base args m.state.cells does).runs;
       numbers_fit = n;
       calls_fit = c;
     }
 
-pub file-comes : (file : Parts) (name : Text) (args : List ℤ) (m : Shown) (code : Code) (o : Option CodeEntry) (base : ℕ) → code ≡ code_of_file file.structs file.funcs → option_map entry_for o ≡ entry_in_file file.structs file.funcs name →
+pub file-comes : (file : Parts) (name : Text) (args : List ℤ) (m : Shown) (code : Code) (o : Option CodeEntry) (base : ℕ) →
+    code ≡ code_of_file file.structs file.funcs → option_map entry_for o ≡ entry_in_file file.structs file.funcs name →
     base ≡ behind_objects file → length code ≤ m.numbers → length file.funcs ≤ m.calls →
     Comes (steps_of file name args m.state.cells) code o base args m (entered_flat file name args m.state.cells)
 unfolding steps_of entered_flat
 file-comes file name args m code o base code-is entry-is base-is n c =
     subst (λ k. Comes (steps_of file name args m.state.cells) k o base args m (entered_flat file name args m.state.cells)) (sym code-is)
-    (subst (λ b. Comes (steps_of file name args m.state.cells) (code_of_file file.structs file.funcs) o b args m (entered_flat file name args m.state.cells)) (sym base-is)
-    (comes (code_of_file file.structs file.funcs) (length (code_of_file file.structs file.funcs)) (length file.funcs) (entry_in_file file.structs file.funcs name) (routine_in_file file.structs file.funcs name)
+    (subst (λ b. Comes (steps_of file name args m.state.cells) (code_of_file file.structs file.funcs) o b args m (entered_flat file name args m.state.cells))
+    (sym base-is)
+    (comes (code_of_file file.structs file.funcs) (length (code_of_file file.structs file.funcs)) (length file.funcs)
+    (entry_in_file file.structs file.funcs name) (routine_in_file file.structs file.funcs name)
     (behind_objects file) args m (both-do file name m.state.cells) o entry-is (subst (λ k. length k ≤ m.numbers) code-is n) c))
 
 -- ---- ends
@@ -96,42 +107,69 @@ is-end s (Some n) is = put s.waiting is
 abbrev state_at : CodeEntry → ℕ → Left ℤ → State
 state_at e base l = record { at = e.entry; base = base; cells = l.cells; stack = []; waiting = []; count = 0 + l.count }
 
-pub call-halts : (steps : ℕ) (code : Code) (o : Option CodeEntry) (e : CodeEntry) (base : ℕ) (args : List ℤ) (m : Shown) → o ≡ Some e → (l : Left ℤ) × Comes steps code o base args m l →
+pub call-halts : (steps : ℕ) (code : Code) (o : Option CodeEntry) (e : CodeEntry) (base : ℕ) (args : List ℤ) (m : Shown) → o ≡ Some e →
+    (l : Left ℤ) × Comes steps code o base args m l →
     Halts code steps (begun (entry_for e) base args m.state.cells [] 0) m
 call-halts steps code None e base args m is p = cc
 call-halts steps code (Some f) e base args m is p =
     let h : Halting steps code f base args m p.0 = p.1 in
     subst (λ g. Halts code steps (begun (entry_for g) base args m.state.cells [] 0) m) (some_is f e is)
-    (record { room = h.room; end = ended_as (begun (entry_for f) base args m.state.cells [] 0) p.0; over = is-end (state_at f base p.0) p.0.answer refl; runs = h.runs; numbers_fit = h.numbers_fit; calls_fit = h.calls_fit })
+    (record {
+      room = h.room;
+      end = ended_as (begun (entry_for f) base args m.state.cells [] 0) p.0;
+      over = is-end (state_at f base p.0) p.0.answer refl;
+      runs =
+          h.runs;
+      numbers_fit = h.numbers_fit;
+      calls_fit = h.calls_fit;
+    })
   where
     some_is : (a b : CodeEntry) → Some a ≡ Some b → a ≡ b
     some_is a b h = cc
 
 -- what a run's end says of an answer
-end-says : (s : State) (cells : List ℤ) (count : ℕ) (o answer : Option ℤ) (before after : Shown) → s.waiting ≡ [] → s.cells ≡ cells → s.count ≡ count → Ended before (ended s o) answer after → (answer ≡ o) × Over cells count before.numbers before.calls after
-end-says s cells count None None before after w c n e = (refl, subst (λ k. Over k count before.numbers before.calls after) c (subst (λ k. Over s.cells k before.numbers before.calls after) n e))
+end-says : (s : State) (cells : List ℤ) (count : ℕ) (o answer : Option ℤ) (before after : Shown) → s.waiting ≡ [] →
+    s.cells ≡ cells → s.count ≡ count →
+    Ended before (ended s o) answer after → (answer ≡ o) × Over cells count before.numbers before.calls after
+end-says s cells count None None before after w c n e =
+    (refl, subst (λ k. Over k count before.numbers before.calls after) c (subst (λ k. Over s.cells k before.numbers before.calls after) n e))
 end-says s cells count None (Some a) before after w c n e = absurd e
 end-says s cells count (Some r) answer before after w c n e = put s.waiting w answer e
   where
-    put : (w : List Waiting) → w ≡ [] → (answer : Option ℤ) → Ended before (returned s r w) answer after → (answer ≡ Some r) × Over cells count before.numbers before.calls after
+    put : (w : List Waiting) → w ≡ [] → (answer : Option ℤ) → Ended before (returned s r w) answer after →
+        (answer ≡ Some r) × Over cells count before.numbers before.calls after
     put [] w None e = absurd e
-    put [] w (Some a) e = (ap Some e.1, subst (λ k. Over k count before.numbers before.calls after) c (subst (λ k. Over s.cells k before.numbers before.calls after) n e.0))
+    put [] w (Some a) e =
+        (ap Some e.1, subst (λ k. Over k count before.numbers before.calls after) c (subst (λ k. Over s.cells k before.numbers before.calls after) n e.0))
     put (x ∷ xs) w answer e = cc
 
-pub call-done : (steps : ℕ) (code : Code) (o : Option CodeEntry) (e : CodeEntry) (base : ℕ) (args : List ℤ) (m after : Shown) (called : Called) → o ≡ Some e →
-    ((room : Room) (end : Stepped) → Arrives code room (begun (entry_for e) base args m.state.cells [] 0) end → IsEnd end → Ended m end called.answer after) → called.count ≡ shown_count after.state.count →
+pub call-done : (steps : ℕ) (code : Code) (o : Option CodeEntry) (e : CodeEntry) (base : ℕ) (args : List ℤ) (m after : Shown)
+    (called : Called) → o ≡ Some e →
+    ((room : Room) (end : Stepped) → Arrives code room (begun (entry_for e) base args m.state.cells [] 0) end → IsEnd end →
+    Ended m end called.answer after) →
+    called.count ≡ shown_count after.state.count →
     (l : Left ℤ) → Comes steps code o base args m l → CallDone l m called after
 call-done steps code None e base args m after called is ends count l h = cc
 call-done steps code (Some f) e base args m after called is ends count l h =
     let g : Halting steps code e base args m l = subst (λ k. Halting steps code k base args m l) (some_is f e is) h in
     let z : 0 + l.count ≡ l.count = omega arith in
-    let d = end-says (state_at e base l) l.cells l.count l.answer called.answer m after refl refl z (ends g.room (ended_as (begun (entry_for e) base args m.state.cells [] 0) l) (record { steps = steps; runs = g.runs }) (is-end (state_at e base l) l.answer refl)) in
+    let d = end-says (state_at e base l) l.cells l.count l.answer called.answer m after refl refl z
+    (ends g.room (ended_as (begun (entry_for e) base args m.state.cells [] 0) l) (record { steps = steps; runs = g.runs })
+    (is-end (state_at e base l) l.answer refl)) in
     record { answer = d.0; count = count ∙ d.1.count_is; cells = d.1.cells_are; numbers = d.1.numbers_stay; calls = d.1.calls_stay }
   where
     some_is : (a b : CodeEntry) → Some a ≡ Some b → a ≡ b
     some_is a b h = cc
 
-pub none-done : (steps : ℕ) (code : Code) (o : Option CodeEntry) (base : ℕ) (args : List ℤ) (m : Shown) → o ≡ None → (l : Left ℤ) → Comes steps code o base args m l → CallDone l m (record { answer = None; count = 0 }) m
+pub none-done : (steps : ℕ) (code : Code) (o : Option CodeEntry) (base : ℕ) (args : List ℤ) (m : Shown) → o ≡ None → (l : Left ℤ) →
+    Comes steps code o base args m l → CallDone l m (record { answer = None; count = 0 }) m
 none-done steps code (Some f) base args m is l h = cc
 none-done steps code None base args m is l h =
-    record { answer = ap (λ (k : Left ℤ). k.answer) (sym h); count = ap (λ (k : Left ℤ). shown_count k.count) (sym h); cells = ap (λ (k : Left ℤ). k.cells) (sym h); numbers = refl; calls = refl }
+    record {
+      answer = ap (λ (k : Left ℤ). k.answer) (sym h);
+      count = ap (λ (k : Left ℤ). shown_count k.count) (sym h);
+      cells = ap (λ (k : Left ℤ). k.cells)
+          (sym h);
+      numbers = refl;
+      calls = refl;
+    }

@@ -1,5 +1,26 @@
 -- No cell of the three objects lies within another, so each keeps its number while another is set.
-use Rattle.std.proofs.Common.{◌≡◌, ℕ, zero, suc, ◌<◌, ℤ, Bool, true, false, not, ◌&&◌, ◌||◌, List, [], ◌∷◌, ◌++◌, length, slice_get, slice_set, Option, Some, None, refl, ap, sym, subst, ◌∙◌, arith, append-nil, append_assoc, length-append}
+use Rattle.std.proofs.Common.{
+  ◌≡◌,
+  ℕ,
+  zero,
+  suc,
+  ◌<◌,
+  ℤ,
+  Bool,
+  true,
+  false,
+  not,
+  ◌&&◌,
+  ◌||◌,
+  List,
+  [],
+  ◌∷◌,
+  ◌++◌,
+  length,
+  slice_get,
+  slice_set,
+}
+use Rattle.std.proofs.Common.{Option, Some, None, refl, ap, sym, subst, ◌∙◌, arith, append-nil, append_assoc, length-append}
 use Rattle.std.specs.Prelude.{is_some, is_none, bytes_eq, codes, ◌==◌, if◌then◌else◌}
 use Rattle.std.proofs.lemmas.Grind.{common_steps}
 use Rattle.std.proofs.lemmas.Slice.Eq.{bytes_eq-Decides}
@@ -10,7 +31,8 @@ use Rattle.bl_tree.specs.declared.c.CType.{CType}
 use Rattle.bl_tree.specs.declared.c.CType.TheVariants.{Scalar as OfScalar, Struct as OfStruct}
 use Rattle.bl_cmeaning.specs.Cells.{Cell, Inner, cells_at, cells_of, inner_of, memory_of, numbers_of}
 use Rattle.bl_cmeaning.specs.Faults.{WellFormed, faults_in, function_faults_after, interface_structs, last_place, struct_faults_after, struct_table}
-use Rattle.bl_cmeaning.specs.Memory.{Part, member, element, Root, state_object, input_object, output_object, variable, Location, Memory, CValue, left_after, number_in, number_or, same_part, same_root, scalar, set_at, value_at, with_part}
+use Rattle.bl_cmeaning.specs.Memory.{Part, member, element, Root, state_object, input_object, output_object, variable, Location, Memory, CValue}
+use Rattle.bl_cmeaning.specs.Memory.{left_after, number_in, number_or, same_part, same_root, scalar, set_at, value_at, with_part}
 use Rattle.bl_cmeaning.specs.Parts.{Parts}
 use Rattle.bl_cmeaning.specs.Sizes.{sizes}
 use Rattle.bl_cmeaning.specs.Tables.{no_entries}
@@ -35,11 +57,13 @@ number-kept : (o : Option (List Part)) (n old : ℤ) → is_none o ≡ true → 
 number-kept None n old h = refl
 number-kept (Some rest) n old h = cc
 
-way-kept : (value : CValue) (same : Bool) (parts way : List Part) (n : ℤ) → (not same || is_none (left_after parts way)) ≡ true → (if same then with_part value parts (scalar n) else value) way ≡ value way
+way-kept : (value : CValue) (same : Bool) (parts way : List Part) (n : ℤ) → (not same || is_none (left_after parts way)) ≡ true →
+    (if same then with_part value parts (scalar n) else value) way ≡ value way
 way-kept value false parts way n h = refl
 way-kept value true parts way n h = number-kept (left_after parts way) n (value way) h
 
-set-spares : (memory : Memory) (l : Location) (n : ℤ) (c : Cell) → spared l c ≡ true → number_in (value_at (set_at memory l (scalar n)) c.location) ≡ number_in (value_at memory c.location)
+set-spares : (memory : Memory) (l : Location) (n : ℤ) (c : Cell) → spared l c ≡ true →
+    number_in (value_at (set_at memory l (scalar n)) c.location) ≡ number_in (value_at memory c.location)
 set-spares memory l n c h =
     ap (set_at memory l (scalar n) c.location.root) (append-nil c.location.parts)
     ∙ way-kept (memory c.location.root) (same_root l.root c.location.root) l.parts c.location.parts n h
@@ -67,7 +91,8 @@ nothing-left (p ∷ ps) = chosen-true (same_part p p) (left_after ps ps) None (s
 set-there : (memory : Memory) (l : Location) (n : ℤ) → number_in (value_at (set_at memory l (scalar n)) l) ≡ n
 set-there memory l n =
     ap (set_at memory l (scalar n) l.root) (append-nil l.parts)
-    ∙ ap (λ (v : CValue). v l.parts) (chosen-true (same_root l.root l.root) (with_part (memory l.root) l.parts (scalar n)) (memory l.root) (same-root l.root))
+    ∙ ap (λ (v : CValue). v l.parts) (chosen-true (same_root l.root l.root) (with_part (memory l.root) l.parts (scalar n))
+    (memory l.root) (same-root l.root))
     ∙ ap (λ o. number_or o (scalar n) (memory l.root l.parts)) (nothing-left l.parts)
 
 -- ---- lists of cells
@@ -77,7 +102,8 @@ abbrev pub Separate : List Cell → Type 0
 Separate [] = Unit {0}
 Separate (c ∷ cs) = (list_all (spared c.location) cs ≡ true) × ((list_all (λ d. spared d.location c) cs ≡ true) × Separate cs)
 
-numbers-spared : (cs : List Cell) (memory : Memory) (l : Location) (n : ℤ) → list_all (spared l) cs ≡ true → numbers_of cs (set_at memory l (scalar n)) ≡ numbers_of cs memory
+numbers-spared : (cs : List Cell) (memory : Memory) (l : Location) (n : ℤ) → list_all (spared l) cs ≡ true →
+    numbers_of cs (set_at memory l (scalar n)) ≡ numbers_of cs memory
 numbers-spared [] memory l n h = refl
 numbers-spared (c ∷ cs) memory l n h =
     ap (λ x. x ∷ numbers_of cs (set_at memory l (scalar n))) (set-spares memory l n c (and-left (spared l c) _ h))
@@ -101,14 +127,17 @@ all-at p (y ∷ ys) zero x all there = ap p (sym (some_is y x there)) ∙ and-le
 all-at p (y ∷ ys) (suc k) x all there = all-at p ys k x (and-right (p y) _ all) there
 
 -- one cell is set
-pub numbers-set : (cs : List Cell) (k : ℕ) (c : Cell) (memory : Memory) (n : ℤ) → Separate cs → slice_get cs k ≡ Some c → numbers_of cs (set_at memory c.location (scalar n)) ≡ slice_set (numbers_of cs memory) k n
+pub numbers-set : (cs : List Cell) (k : ℕ) (c : Cell) (memory : Memory) (n : ℤ) → Separate cs → slice_get cs k ≡ Some c →
+    numbers_of cs (set_at memory c.location (scalar n)) ≡ slice_set (numbers_of cs memory) k n
 numbers-set [] k c memory n apart there = cc
 numbers-set (d ∷ cs) zero c memory n apart there =
     let same : d ≡ c = some_is d c there in
-    ap (λ x. x ∷ numbers_of cs (set_at memory c.location (scalar n))) (ap (λ e. number_in (value_at (set_at memory c.location (scalar n)) e.location)) same ∙ set-there memory c.location n)
+    ap (λ x. x ∷ numbers_of cs (set_at memory c.location (scalar n)))
+    (ap (λ e. number_in (value_at (set_at memory c.location (scalar n)) e.location)) same ∙ set-there memory c.location n)
     ∙ ap (λ xs. n ∷ xs) (numbers-spared cs memory c.location n (ap (λ e. list_all (spared e.location) cs) (sym same) ∙ apart.0))
 numbers-set (d ∷ cs) (suc k) c memory n apart there =
-    ap (λ x. x ∷ numbers_of cs (set_at memory c.location (scalar n))) (set-spares memory c.location n d (all-at (λ e. spared e.location d) cs k c apart.1.0 there))
+    ap (λ x. x ∷ numbers_of cs (set_at memory c.location (scalar n)))
+    (set-spares memory c.location n d (all-at (λ e. spared e.location d) cs k c apart.1.0 there))
     ∙ ap (λ xs. number_in (value_at memory d.location) ∷ xs) (numbers-set cs k c memory n apart.1.1 there)
 
 -- ---- cells of different objects
@@ -132,19 +161,24 @@ or-second false b h = h
 strange-spared : (r : Root) (l : Location) (cs : List Cell) → l.root ≡ r → list_all (strange r) cs ≡ true → list_all (spared l) cs ≡ true
 strange-spared r l [] is all = refl
 strange-spared r l (c ∷ cs) is all =
-    and-both _ _ (or-first _ _ (ap (λ q. not (same_root q c.location.root)) is ∙ and-left (not (same_root r c.location.root)) _ (and-left (strange r c) _ all)))
+    and-both _ _ (or-first _ _ (ap (λ q. not (same_root q c.location.root)) is
+    ∙ and-left (not (same_root r c.location.root)) _ (and-left (strange r c) _ all)))
     (strange-spared r l cs is (and-right (strange r c) _ all))
 
-strange-spares : (r : Root) (d : Cell) (cs : List Cell) → d.location.root ≡ r → list_all (strange r) cs ≡ true → list_all (λ c. spared c.location d) cs ≡ true
+strange-spares : (r : Root) (d : Cell) (cs : List Cell) → d.location.root ≡ r → list_all (strange r) cs ≡ true →
+    list_all (λ c. spared c.location d) cs ≡ true
 strange-spares r d [] is all = refl
 strange-spares r d (c ∷ cs) is all =
-    and-both _ _ (or-first _ _ (ap (λ q. not (same_root c.location.root q)) is ∙ and-right (not (same_root r c.location.root)) _ (and-left (strange r c) _ all)))
+    and-both _ _ (or-first _ _
+    (ap (λ q. not (same_root c.location.root q)) is ∙ and-right (not (same_root r c.location.root)) _ (and-left (strange r c) _ all)))
     (strange-spares r d cs is (and-right (strange r c) _ all))
 
-separate-append : (r : Root) (is : List Inner) (cs : List Cell) → list_all (strange r) cs ≡ true → Separate (cells_at r is) → Separate cs → Separate (cells_at r is ++ cs)
+separate-append : (r : Root) (is : List Inner) (cs : List Cell) → list_all (strange r) cs ≡ true → Separate (cells_at r is) → Separate cs →
+    Separate (cells_at r is ++ cs)
 separate-append r [] cs all first second = second
 separate-append r (i ∷ is) cs all first second = (
-  all-append (spared (record { root = r; parts = i.parts })) (cells_at r is) cs ∙ and-both _ _ first.0 (strange-spared r (record { root = r; parts = i.parts }) cs refl all),
+  all-append (spared (record { root = r; parts = i.parts })) (cells_at r is) cs
+      ∙ and-both _ _ first.0 (strange-spared r (record { root = r; parts = i.parts }) cs refl all),
   (
     all-append (λ d. spared d.location (record { location = record { root = r; parts = i.parts }; kind = i.kind })) (cells_at r is) cs
         ∙ and-both _ _ first.1.0 (strange-spares r (record { location = record { root = r; parts = i.parts }; kind = i.kind }) cs refl all),
@@ -168,27 +202,32 @@ module _ (file : Parts) (formed : WellFormed file) where
   Offset spot parts = way_offset (sizes file.structs) (lists_of file.structs) (struct_table file.structs) (Some spot) parts
 
   -- behind a scalar there is nothing
-  scalar-end : (kind other : Scalar) (rest : List Part) → walk (struct_table file.structs) (Some (whole (OfScalar kind))) rest ≡ Some (whole (OfScalar other)) → rest ≡ []
+  scalar-end : (kind other : Scalar) (rest : List Part) →
+      walk (struct_table file.structs) (Some (whole (OfScalar kind))) rest ≡ Some (whole (OfScalar other)) → rest ≡ []
   scalar-end kind other [] h = refl
   scalar-end kind other (q ∷ []) h = cc
   scalar-end kind other (q ∷ r ∷ rest) h = cc
 
   -- two scalars with different offsets
-  none-left : (spot : Spot) (i j : Inner) → walk (struct_table file.structs) (Some spot) i.parts ≡ Some (whole (OfScalar i.kind)) → walk (struct_table file.structs) (Some spot) j.parts ≡ Some (whole (OfScalar j.kind)) →
+  none-left : (spot : Spot) (i j : Inner) → walk (struct_table file.structs) (Some spot) i.parts ≡ Some (whole (OfScalar i.kind)) →
+      walk (struct_table file.structs) (Some spot) j.parts ≡ Some (whole (OfScalar j.kind)) →
       (Offset spot i.parts ≡ Offset spot j.parts → ⊥) → is_none (left_after i.parts j.parts) ≡ true
   none-left spot i j a b differ = chosen (left_after i.parts j.parts) refl
     where
       chosen : (o : Option (List Part)) → left_after i.parts j.parts ≡ o → is_none o ≡ true
       chosen None is = refl
       chosen (Some rest) is =
-          let way : j.parts ≡ i.parts ++ rest = left-is (sizes file.structs) (lists_of file.structs) (struct_table file.structs) shaped i.parts j.parts rest is in
+          let way : j.parts ≡ i.parts ++ rest =
+          left-is (sizes file.structs) (lists_of file.structs) (struct_table file.structs) shaped i.parts j.parts rest is in
           let last : walk (struct_table file.structs) (Some (whole (OfScalar i.kind))) rest ≡ Some (whole (OfScalar j.kind)) =
-          ap (λ o. walk (struct_table file.structs) o rest) (sym a) ∙ sym (walk-append (sizes file.structs) (lists_of file.structs) (struct_table file.structs) shaped (Some spot) i.parts rest)
+          ap (λ o. walk (struct_table file.structs) o rest) (sym a)
+          ∙ sym (walk-append (sizes file.structs) (lists_of file.structs) (struct_table file.structs) shaped (Some spot) i.parts rest)
           ∙ ap (walk (struct_table file.structs) (Some spot)) (sym way) ∙ b in
           let same : j.parts ≡ i.parts = way ∙ ap (λ r. i.parts ++ r) (scalar-end i.kind j.kind rest last) ∙ append-nil i.parts in
           absurd (differ (ap (Offset spot) (sym same)))
 
-  first-apart : (root : Root) (spot : Spot) (i : Inner) (at : ℕ) (is : List Inner) → walk (struct_table file.structs) (Some spot) i.parts ≡ Some (whole (OfScalar i.kind)) → Offset spot i.parts < at → Leads spot at is →
+  first-apart : (root : Root) (spot : Spot) (i : Inner) (at : ℕ) (is : List Inner) →
+      walk (struct_table file.structs) (Some spot) i.parts ≡ Some (whole (OfScalar i.kind)) → Offset spot i.parts < at → Leads spot at is →
       (list_all (spared (record { root = root; parts = i.parts })) (cells_at root is) ≡ true)
       × (list_all (λ d. spared d.location (record { location = record { root = root; parts = i.parts }; kind = i.kind })) (cells_at root is) ≡ true)
   first-apart root spot i at [] a low led = (refl, refl)
@@ -209,16 +248,21 @@ module _ (file : Parts) (formed : WellFormed file) where
   struct-led : (name : Text) → is_some (struct_table file.structs name) ≡ true → Typed (OfStruct name)
   unfolding faults_in
   struct-led name there =
-      let none : struct_faults_after no_entries no_entries file.structs ≡ [] = nil-left (struct_faults_after no_entries no_entries file.structs) _ formed.none in
-      led-all (sizes file.structs) (lists_of file.structs) (struct_table file.structs) shaped (scalars file.structs) (inner-file file formed) no_entries no_entries no_entries file.structs (λ n. refl) (λ n. refl)
+      let none : struct_faults_after no_entries no_entries file.structs ≡ [] =
+      nil-left (struct_faults_after no_entries no_entries file.structs) _ formed.none in
+      led-all (sizes file.structs) (lists_of file.structs) (struct_table file.structs) shaped (scalars file.structs) (inner-file file formed) no_entries
+      no_entries no_entries file.structs (λ n. refl) (λ n. refl)
       (λ n h. cc) none name (ap (λ t. is_some (t name)) (entries-all _ file.structs) ∙ there)
 
-  objects-declared : (is_some (struct_table file.structs (codes "bl_state")) && (is_some (struct_table file.structs (codes "bl_in")) && is_some (struct_table file.structs (codes "bl_out")))) ≡ true
+  objects-declared : (is_some (struct_table file.structs (codes "bl_state"))
+      && (is_some (struct_table file.structs (codes "bl_in")) && is_some (struct_table file.structs (codes "bl_out")))) ≡ true
   unfolding faults_in
   objects-declared =
       let h1 = nil-right (struct_faults_after no_entries no_entries file.structs) _ formed.none in
       let h2 = nil-right (function_faults_after (struct_table file.structs) no_entries no_entries file.funcs) _ h1 in
-      unless-nil (is_some (struct_table file.structs (codes "bl_state")) && (is_some (struct_table file.structs (codes "bl_in")) && is_some (struct_table file.structs (codes "bl_out")))) interface_structs (last_place file.funcs) (nil-left _ _ h2)
+      unless-nil (is_some (struct_table file.structs (codes "bl_state"))
+      && (is_some (struct_table file.structs (codes "bl_in")) && is_some (struct_table file.structs (codes "bl_out")))) interface_structs
+      (last_place file.funcs) (nil-left _ _ h2)
 
   state-typed : Typed (OfStruct (codes "bl_state"))
   state-typed = struct-led (codes "bl_state") (and-left _ _ objects-declared)
@@ -227,7 +271,9 @@ module _ (file : Parts) (formed : WellFormed file) where
   input-typed = struct-led (codes "bl_in") (and-left _ _ (and-right (is_some (struct_table file.structs (codes "bl_state"))) _ objects-declared))
 
   output-typed : Typed (OfStruct (codes "bl_out"))
-  output-typed = struct-led (codes "bl_out") (and-right (is_some (struct_table file.structs (codes "bl_in"))) _ (and-right (is_some (struct_table file.structs (codes "bl_state"))) _ objects-declared))
+  output-typed = struct-led (codes "bl_out")
+      (and-right (is_some (struct_table file.structs (codes "bl_in"))) _
+      (and-right (is_some (struct_table file.structs (codes "bl_state"))) _ objects-declared))
 
   pub cells-separate : Separate (cells_of file)
   unfolding cells_of
@@ -238,9 +284,13 @@ module _ (file : Parts) (formed : WellFormed file) where
       let a : List Cell = cells_at state_object (inner_of file.structs (codes "bl_state")) in
       let b : List Cell = cells_at input_object (inner_of file.structs (codes "bl_in")) in
       let c : List Cell = cells_at output_object (inner_of file.structs (codes "bl_out")) in
-      let later : Separate (b ++ c) = separate-append input_object (inner_of file.structs (codes "bl_in")) c (all-strange input_object output_object (inner_of file.structs (codes "bl_out")) refl refl) second third in
+      let later : Separate (b ++ c) =
+      separate-append input_object (inner_of file.structs (codes "bl_in")) c
+      (all-strange input_object output_object (inner_of file.structs (codes "bl_out")) refl refl) second third in
       let others : list_all (strange state_object) (b ++ c) ≡ true =
-      all-append (strange state_object) b c ∙ and-both _ _ (all-strange state_object input_object (inner_of file.structs (codes "bl_in")) refl refl) (all-strange state_object output_object (inner_of file.structs (codes "bl_out")) refl refl) in
+      all-append (strange state_object) b c
+      ∙ and-both _ _ (all-strange state_object input_object (inner_of file.structs (codes "bl_in")) refl refl)
+      (all-strange state_object output_object (inner_of file.structs (codes "bl_out")) refl refl) in
       subst Separate (sym (append_assoc a b c)) (separate-append state_object (inner_of file.structs (codes "bl_state")) (b ++ c) others first later)
 
   length-at : (root : Root) (is : List Inner) → length (cells_at root is) ≡ length is

@@ -1,16 +1,39 @@
 -- What is prepared after the start and after a tick.
-use Rattle.std.proofs.Common.{◌≡◌, ℕ, ◌+◌, ◌≤◌, ◌<◌, ◌^◌, ℤ, pos, true, List, [], ◌∷◌, length, take, drop, ◌-◌, replicate, Option, Some, None, refl, ap, sym, subst, ◌∙◌, arith}
+use Rattle.std.proofs.Common.{
+  ◌≡◌,
+  ℕ,
+  ◌+◌,
+  ◌≤◌,
+  ◌<◌,
+  ◌^◌,
+  ℤ,
+  pos,
+  true,
+  List,
+  [],
+  ◌∷◌,
+  length,
+  take,
+  drop,
+  ◌-◌,
+  replicate,
+  Option,
+  Some,
+  None,
+  refl,
+}
+use Rattle.std.proofs.Common.{ap, sym, subst, ◌∙◌, arith}
 use Rattle.std.specs.Prelude.{codes, is_some, min, option_map}
 use Rattle.bl_bytecode.specs.Code.{Code}
-use Rattle.bl_cmeaning_laws.specs.Fitting.{in_ranges}
+use Rattle.bl_tree.specs.Ports.{in_ranges, row_fits, types_of}
 use Rattle.bl_cmeaning_laws.specs.Flat.{Left, with_args}
 use Rattle.bl_cmeaning_laws.specs.Laws.{StartsAgree, TicksAgree, behind_objects, entered_flat, input_at, output_at}
 use Rattle.bl_bytecode_machine.specs.Shown.{Shown}
 use Rattle.bl_bytecode_machine.specs.Steps.{holding}
-use Rattle.bl_cmeaning.specs.Cells.{cells_of, outputs_of}
+use Rattle.bl_cmeaning.specs.Cells.{cells_of, inputs_of, outputs_of}
 use Rattle.bl_cmeaning.specs.Parts.{Parts}
 use Rattle.bl_cmeaning.specs.Sizes.{cells_needed}
-use Rattle.bl_cmeaning.specs.Trace.{reply_of, start_c}
+use Rattle.bl_cmeaning.specs.Trace.{reply_of, start_cells, starts}
 use Rattle.bl_cinterface.specs.Layout.{kinds_of}
 use Rattle.bl_cinterface.specs.Ports.{PortsStand, inputs_start, outputs_start}
 use Rattle.std.proofs.lemmas.List.{length-map}
@@ -18,14 +41,14 @@ use Rattle.bl_crun.specs.Cause.{Runs}
 use Rattle.bl_crun.specs.declared.call.Called.{Called}
 use Rattle.bl_crun.specs.declared.prepared.Prepared.{Prepared}
 use Rattle.bl_crun.specs.Done.{CallDone, CellsKeep, Comes, IsStart, IsTick, first_cells}
-use Rattle.bl_crun.specs.Prepared.{Keeps, Ticked, numbers_in, state_of}
-use Rattle.bl_crun.specs.Running.{row_fits, types_of}
+use Rattle.bl_crun.specs.Prepared.{Keeps, Ticked, numbers_in}
 use Rattle.bl_crun.proofs.Calls.{file-comes, steps_of}
 use Rattle.bl_crun.proofs.Cells.{cells-long, input-start, output-start}
 use Rattle.bl_crun.proofs.Ticks.{inputs-within, outputs-within, start-is, tick-is}
 
 -- another machine with as much room
-pub kept : (file : Parts) (p : Prepared) (m : Shown) → Keeps file p → m.numbers ≡ p.machine.numbers → m.calls ≡ p.machine.calls → CellsKeep file m.state.cells → Keeps file (record p { machine = m })
+pub kept : (file : Parts) (p : Prepared) (m : Shown) → Keeps file p → m.numbers ≡ p.machine.numbers → m.calls ≡ p.machine.calls →
+    CellsKeep file m.state.cells → Keeps file (record p { machine = m })
 kept file p m k n c cells = record {
   runs = k.runs;
   code = k.code;
@@ -69,7 +92,8 @@ pub start-comes : (file : Parts) (p : Prepared) → Keeps file p →
     Comes (steps_of file (codes "bl_init") (pos 0 ∷ []) p.machine.state.cells) p.code.items p.init p.base (pos 0 ∷ []) p.machine (Start file p)
 start-comes file p k = file-comes file (codes "bl_init") (pos 0 ∷ []) p.machine p.code.items p.init p.base k.code k.init k.base k.numbers k.calls
 
-module _ (file : Parts) (p : Prepared) (k : Keeps file p) (agrees : StartsAgree file) (cleared : p.machine.state.cells ≡ replicate (cells_needed file) (pos 0))
+module _ (file : Parts) (p : Prepared) (k : Keeps file p) (agrees : StartsAgree file)
+    (cleared : p.machine.state.cells ≡ replicate (cells_needed file) (pos 0))
     (called : Called) (after : Shown) (done : CallDone (entered_flat file (codes "bl_init") (pos 0 ∷ []) p.machine.state.cells) p.machine called after) where
   started : IsStart file (Start file p)
   started = start-is file k.runs agrees p.machine.state.cells cleared
@@ -77,17 +101,11 @@ module _ (file : Parts) (p : Prepared) (k : Keeps file p) (agrees : StartsAgree 
   pub start-keeps : Keeps file (record p { machine = after })
   start-keeps = kept file p after k done.numbers done.calls (subst (CellsKeep file) (sym done.cells) started.keeps)
 
-  pub start-state : state_of (is_some called.answer) (record p { machine = after }) ≡ start_c file
-  start-state =
-      let numbers : numbers_in (record p { machine = after }) ≡ first_cells file (Start file p).cells = first-numbers file p after k ∙ ap (first_cells file) done.cells in
-      chosen called.answer (Start file p).answer done.answer numbers ∙ started.state
-    where
-      chosen : (a b : Option ℤ) → a ≡ b → numbers_in (record p { machine = after }) ≡ first_cells file (Start file p).cells →
-          state_of (is_some a) (record p { machine = after }) ≡ option_map (λ n. first_cells file (Start file p).cells) b
-      chosen None None is numbers = refl
-      chosen None (Some n) is numbers = cc
-      chosen (Some n) None is numbers = cc
-      chosen (Some n) (Some m) is numbers = ap Some numbers
+  pub start-ready : is_some called.answer ≡ starts file
+  start-ready = ap is_some done.answer ∙ started.ready
+
+  pub start-numbers : numbers_in (record p { machine = after }) ≡ start_cells file
+  start-numbers = first-numbers file p after k ∙ ap (first_cells file) done.cells ∙ started.cells
 
 -- ---- ticks
 
@@ -99,22 +117,31 @@ abbrev pub Set : Prepared → List ℤ → Shown
 Set p ins = holding p.machine (with_args (p.input_at + 1) ins p.machine.state.cells)
 
 pub tick-comes : (file : Parts) (p : Prepared) (m : Shown) (ins : List ℤ) → Keeps file p → m ≡ Set p ins →
-    Comes (steps_of file (codes "bl_tick") (Args p) m.state.cells) p.code.items p.tick p.base (Args p) m (entered_flat file (codes "bl_tick") (Args p) m.state.cells)
+    Comes (steps_of file (codes "bl_tick") (Args p) m.state.cells) p.code.items p.tick p.base (Args p) m
+    (entered_flat file (codes "bl_tick") (Args p) m.state.cells)
 tick-comes file p m ins k is =
     file-comes file (codes "bl_tick") (Args p) m p.code.items p.tick p.base k.code k.tick k.base
     (subst (λ (x : Shown). length p.code.items ≤ x.numbers) (sym is) k.numbers) (subst (λ (x : Shown). length file.funcs ≤ x.calls) (sym is) k.calls)
 
-tick-called : (file : Parts) (p : Prepared) (m : Shown) (ins : List ℤ) → Keeps file p → m ≡ Set p ins → (code : Code) → code ≡ p.code.items → (args : List ℤ) → args ≡ Args p →
+tick-called : (file : Parts) (p : Prepared) (m : Shown) (ins : List ℤ) → Keeps file p → m ≡ Set p ins → (code : Code) →
+    code ≡ p.code.items → (args : List ℤ) →
+    args ≡ Args p →
     Comes (steps_of file (codes "bl_tick") args m.state.cells) code p.tick p.base args m (entered_flat file (codes "bl_tick") args m.state.cells)
 tick-called file p m ins keeps is code code-is args args-are =
-    subst (λ k. Comes (steps_of file (codes "bl_tick") args m.state.cells) k p.tick p.base args m (entered_flat file (codes "bl_tick") args m.state.cells)) (sym code-is)
-    (subst (λ given. Comes (steps_of file (codes "bl_tick") given m.state.cells) p.code.items p.tick p.base given m (entered_flat file (codes "bl_tick") given m.state.cells)) (sym args-are) (tick-comes file p m ins keeps is))
+    subst (λ k. Comes (steps_of file (codes "bl_tick") args m.state.cells) k p.tick p.base args m (entered_flat file (codes "bl_tick") args m.state.cells))
+    (sym code-is)
+    (subst (λ given. Comes (steps_of file (codes "bl_tick") given m.state.cells) p.code.items p.tick p.base given m
+    (entered_flat file (codes "bl_tick") given m.state.cells)) (sym args-are) (tick-comes file p m ins keeps is))
 
-pub tick-required : (file : Parts) (p : Prepared) (m : Shown) (ins : List ℤ) → Keeps file p → m ≡ Set p ins → (code : Code) → code ≡ p.code.items → (args : List ℤ) → args ≡ Args p →
+pub tick-required : (file : Parts) (p : Prepared) (m : Shown) (ins : List ℤ) → Keeps file p → m ≡ Set p ins → (code : Code) →
+    code ≡ p.code.items →
+    (args : List ℤ) → args ≡ Args p →
     (l : Left ℤ) × Comes (steps_of file (codes "bl_tick") args m.state.cells) code p.tick p.base args m l
-tick-required file p m ins keeps is code code-is args args-are = (entered_flat file (codes "bl_tick") args m.state.cells, tick-called file p m ins keeps is code code-is args args-are)
+tick-required file p m ins keeps is code code-is args args-are =
+    (entered_flat file (codes "bl_tick") args m.state.cells, tick-called file p m ins keeps is code code-is args args-are)
 
-pub tick-done : (file : Parts) (p : Prepared) (m : Shown) (ins : List ℤ) → Keeps file p → m ≡ Set p ins → (code : Code) → code ≡ p.code.items → (args : List ℤ) → args ≡ Args p → (called : Called) (after : Shown) →
+pub tick-done : (file : Parts) (p : Prepared) (m : Shown) (ins : List ℤ) → Keeps file p → m ≡ Set p ins → (code : Code) → code ≡ p.code.items →
+    (args : List ℤ) → args ≡ Args p → (called : Called) (after : Shown) →
     ((l : Left ℤ) → Comes (steps_of file (codes "bl_tick") args m.state.cells) code p.tick p.base args m l → CallDone l m called after) →
     CallDone (entered_flat file (codes "bl_tick") (pos 0 ∷ pos p.input_at ∷ pos p.output_at ∷ []) m.state.cells) m called after
 tick-done file p m ins keeps is code code-is args args-are called after does =
@@ -124,26 +151,33 @@ tick-done file p m ins keeps is code code-is args args-are called after does =
 start-called : (file : Parts) (p : Prepared) → Keeps file p → (code : Code) → code ≡ p.code.items →
     Comes (steps_of file (codes "bl_init") (pos 0 ∷ []) p.machine.state.cells) code p.init p.base (pos 0 ∷ []) p.machine (Start file p)
 start-called file p keeps code code-is =
-    subst (λ k. Comes (steps_of file (codes "bl_init") (pos 0 ∷ []) p.machine.state.cells) k p.init p.base (pos 0 ∷ []) p.machine (Start file p)) (sym code-is) (start-comes file p keeps)
+    subst (λ k. Comes (steps_of file (codes "bl_init") (pos 0 ∷ []) p.machine.state.cells) k p.init p.base (pos 0 ∷ []) p.machine
+    (Start file p)) (sym code-is)
+    (start-comes file p keeps)
 
 pub start-required : (file : Parts) (p : Prepared) → Keeps file p → (code : Code) → code ≡ p.code.items →
     (l : Left ℤ) × Comes (steps_of file (codes "bl_init") (pos 0 ∷ []) p.machine.state.cells) code p.init p.base (pos 0 ∷ []) p.machine l
 start-required file p keeps code code-is = (Start file p, start-called file p keeps code code-is)
 
 pub start-done : (file : Parts) (p : Prepared) → Keeps file p → (code : Code) → code ≡ p.code.items → (called : Called) (after : Shown) →
-    ((l : Left ℤ) → Comes (steps_of file (codes "bl_init") (pos 0 ∷ []) p.machine.state.cells) code p.init p.base (pos 0 ∷ []) p.machine l → CallDone l p.machine called after) →
+    ((l : Left ℤ) → Comes (steps_of file (codes "bl_init") (pos 0 ∷ []) p.machine.state.cells) code p.init p.base (pos 0 ∷ []) p.machine l →
+    CallDone l p.machine called after) →
     CallDone (entered_flat file (codes "bl_init") (pos 0 ∷ []) p.machine.state.cells) p.machine called after
 start-done file p keeps code code-is called after does = does (Start file p) (start-called file p keeps code code-is)
 
-pub set-within : (file : Parts) (p : Prepared) (ins : List ℤ) → Keeps file p → PortsStand file → row_fits file ins ≡ true → (k : ℕ) → k < length ins → p.input_at + 1 + k < length p.machine.state.cells
+pub set-within : (file : Parts) (p : Prepared) (ins : List ℤ) → Keeps file p → PortsStand file →
+    row_fits (inputs_of file) ins ≡ true → (k : ℕ) → k < length ins →
+    p.input_at + 1 + k < length p.machine.state.cells
 set-within file p ins keeps stand fits k within =
     let at = keeps.input_at in
     let h = inputs-within file keeps.runs stand ins p.machine.state.cells keeps.cells.room fits k within in
     omega arith
 
-module _ (file : Parts) (p : Prepared) (k : Keeps file p) (agrees : TicksAgree file) (stand : PortsStand file) (ins : List ℤ) (fits : row_fits file ins ≡ true)
+module _ (file : Parts) (p : Prepared) (k : Keeps file p) (agrees : TicksAgree file) (stand : PortsStand file) (ins : List ℤ)
+    (fits : row_fits (inputs_of file) ins ≡ true)
     (m : Shown) (is : m ≡ holding p.machine (with_args (p.input_at + 1) ins p.machine.state.cells))
-    (called : Called) (after : Shown) (done : CallDone (entered_flat file (codes "bl_tick") (pos 0 ∷ pos p.input_at ∷ pos p.output_at ∷ []) m.state.cells) m called after) where
+    (called : Called) (after : Shown)
+    (done : CallDone (entered_flat file (codes "bl_tick") (pos 0 ∷ pos p.input_at ∷ pos p.output_at ∷ []) m.state.cells) m called after) where
   abbrev Left-of : Left ℤ
   Left-of = entered_flat file (codes "bl_tick") (pos 0 ∷ pos p.input_at ∷ pos p.output_at ∷ []) m.state.cells
 
@@ -159,14 +193,21 @@ module _ (file : Parts) (p : Prepared) (k : Keeps file p) (agrees : TicksAgree f
       let cells : m.state.cells ≡ with_args (p.input_at + 1) ins p.machine.state.cells = ap (λ (x : Shown). x.state.cells) is in
       let t = tick-is file k.runs stand agrees p.machine.state.cells ins k.cells fits in
       subst (λ ns. IsTick file ns ins (entered_flat file (codes "bl_tick") (pos 0 ∷ pos p.input_at ∷ pos p.output_at ∷ []) m.state.cells)) (sym numbers)
-      (subst (λ cs. IsTick file (first_cells file p.machine.state.cells) ins (entered_flat file (codes "bl_tick") (pos 0 ∷ pos p.input_at ∷ pos p.output_at ∷ []) cs)) (sym cells)
-      (subst (λ a. IsTick file (first_cells file p.machine.state.cells) ins (entered_flat file (codes "bl_tick") (pos 0 ∷ pos p.input_at ∷ pos p.output_at ∷ []) (with_args (a + 1) ins p.machine.state.cells))) in-at
-      (subst (λ a. IsTick file (first_cells file p.machine.state.cells) ins (entered_flat file (codes "bl_tick") (pos 0 ∷ pos a ∷ pos p.output_at ∷ []) (with_args (inputs_start file.structs + 1) ins p.machine.state.cells))) in-flat
-      (subst (λ a. IsTick file (first_cells file p.machine.state.cells) ins (entered_flat file (codes "bl_tick") (pos 0 ∷ pos (input_at file) ∷ pos a ∷ []) (with_args (inputs_start file.structs + 1) ins p.machine.state.cells))) out-flat t))))
+      (subst (λ cs. IsTick file (first_cells file p.machine.state.cells) ins
+      (entered_flat file (codes "bl_tick") (pos 0 ∷ pos p.input_at ∷ pos p.output_at ∷ []) cs)) (sym cells)
+      (subst (λ a. IsTick file (first_cells file p.machine.state.cells) ins
+      (entered_flat file (codes "bl_tick") (pos 0 ∷ pos p.input_at ∷ pos p.output_at ∷ []) (with_args (a + 1) ins p.machine.state.cells))) in-at
+      (subst (λ a. IsTick file (first_cells file p.machine.state.cells) ins
+      (entered_flat file (codes "bl_tick") (pos 0 ∷ pos a ∷ pos p.output_at ∷ []) (with_args (inputs_start file.structs + 1) ins p.machine.state.cells)))
+      in-flat
+      (subst (λ a. IsTick file (first_cells file p.machine.state.cells) ins
+      (entered_flat file (codes "bl_tick") (pos 0 ∷ pos (input_at file) ∷ pos a ∷ [])
+      (with_args (inputs_start file.structs + 1) ins p.machine.state.cells))) out-flat t))))
 
   pub tick-keeps : Keeps file (record p { machine = after })
   tick-keeps =
-      kept file p after k (done.numbers ∙ ap (λ (x : Shown). x.numbers) is) (done.calls ∙ ap (λ (x : Shown). x.calls) is) (subst (CellsKeep file) (sym done.cells) ticks.keeps)
+      kept file p after k (done.numbers ∙ ap (λ (x : Shown). x.numbers) is) (done.calls ∙ ap (λ (x : Shown). x.calls) is)
+      (subst (CellsKeep file) (sym done.cells) ticks.keeps)
 
   pub tick-ticked : Ticked file (numbers_in p) ins called (record p { machine = after })
   tick-ticked = record {
@@ -174,7 +215,8 @@ module _ (file : Parts) (p : Prepared) (k : Keeps file p) (agrees : TicksAgree f
     count = done.count ∙ ap (λ n. min n (2 ^ 128 - 1)) ticks.count;
     after = first-numbers file p after k ∙ ap (first_cells file) done.cells ∙ ticks.after;
     outputs =
-        ap (λ cols. take (length cols) (drop (p.output_at + 1) after.state.cells)) k.outputs ∙ ap (λ a. take (length (outputs_of file)) (drop (a + 1) after.state.cells)) k.output_at
+        ap (λ cols. take (length cols) (drop (p.output_at + 1) after.state.cells)) k.outputs
+        ∙ ap (λ a. take (length (outputs_of file)) (drop (a + 1) after.state.cells)) k.output_at
         ∙ ap (λ cs. take (length (outputs_of file)) (drop (outputs_start file.structs + 1) cs)) done.cells ∙ ticks.outputs;
     ranges =
         ap (λ cols. in_ranges (types_of cols) (take (length cols) (drop (p.output_at + 1) after.state.cells))) k.outputs

@@ -1,13 +1,35 @@
 -- What the start and the ticks of a file do to numbered cells.
-use Rattle.std.proofs.Common.{◌≡◌, ℕ, zero, suc, ◌+◌, ◌≤◌, ◌<◌, ℤ, pos, true, List, [], ◌∷◌, ◌++◌, map, length, take, drop, replicate, slice_get, Option, Some, None, refl, ap, sym, subst, ◌∙◌, arith, length-take-le}
-use Rattle.std.specs.Prelude.{codes, option_map}
+use Rattle.std.proofs.Common.{
+  ◌≡◌,
+  ℕ,
+  zero,
+  suc,
+  ◌+◌,
+  ◌≤◌,
+  ◌<◌,
+  ℤ,
+  pos,
+  true,
+  List,
+  [],
+  ◌∷◌,
+  ◌++◌,
+  map,
+  length,
+  take,
+  drop,
+  replicate,
+  slice_get,
+}
+use Rattle.std.proofs.Common.{Some, refl, ap, sym, subst, ◌∙◌, arith, length-take-le}
+use Rattle.std.specs.Prelude.{codes, is_some}
 use Rattle.std.specs.List.{list_all}
 use Rattle.std.proofs.lemmas.Option.{slice_get_within}
 use Rattle.std.proofs.lemmas.List.{length-map, take-append-drop, take-replicate}
 use Rattle.bl_tree.specs.declared.scalar.Scalar.{Scalar}
 use Rattle.bl_tree.specs.declared.text.Text.{Text}
 use Rattle.bl_tree.specs.declared.c.CMember.{CMember}
-use Rattle.bl_cmeaning_laws.specs.Fitting.{cell_holds, in_ranges}
+use Rattle.bl_cmeaning_laws.specs.Fitting.{cell_holds}
 use Rattle.bl_cmeaning_laws.proofs.Lists.{and-both}
 use Rattle.bl_cmeaning_laws.specs.Flat.{Left, with_args}
 use Rattle.bl_cmeaning_laws.specs.Laws.{SameCall, StartsAgree, TicksAgree, entered_flat, input_at, output_at}
@@ -19,12 +41,12 @@ use Rattle.bl_cmeaning.specs.Meaning.{Called}
 use Rattle.bl_cmeaning.specs.Memory.{Memory, cleared, state_object, input_object, output_object}
 use Rattle.bl_cmeaning.specs.Parts.{Parts}
 use Rattle.bl_cmeaning.specs.Sizes.{cells_needed}
-use Rattle.bl_cmeaning.specs.Trace.{cells_where, entered, object, reply_of, start_c, tick_c}
+use Rattle.bl_cmeaning.specs.Trace.{entered, object, reply_of, started, tick_c}
 use Rattle.bl_cinterface.specs.Layout.{kinds_of}
 use Rattle.bl_cinterface.specs.Ports.{PortsStand, inputs_start, outputs_start}
 use Rattle.bl_crun.specs.Cause.{Runs}
 use Rattle.bl_crun.specs.Done.{CellsKeep, IsStart, IsTick, first_cells}
-use Rattle.bl_crun.specs.Running.{row_fits, types_of}
+use Rattle.bl_tree.specs.Ports.{in_ranges, row_fits, types_of}
 use Rattle.bl_crun.proofs.Cells.{cells-long, cells-separate, numbers-made}
 use Rattle.bl_crun.proofs.Rows.{args-taken, columns-long, inputs-fit, inputs-long, inputs-set, outputs-fit, outputs-taken, ranges-are, within-taken}
 
@@ -45,7 +67,9 @@ module _ (file : Parts) (runs : Runs file) where
       (WellFormed file → cells_needed file ≤ 1000000 → (memory : Memory) (others : List ℤ) → list_all (cell_holds memory) (cells_of file) ≡ true →
       cells_needed file ≤ length (numbers_of (cells_of file) memory ++ others) →
       SameCall file (call memory) (entered_flat file name args (numbers_of (cells_of file) memory ++ others))) →
-      (memory : Memory) (cells : List ℤ) → cells_needed file ≤ length cells → numbers_of (cells_of file) memory ≡ take (length (cells_of file)) cells → in_ranges (kinds_of file) (take (length (cells_of file)) cells) ≡ true →
+      (memory : Memory) (cells : List ℤ) → cells_needed file ≤ length cells →
+      numbers_of (cells_of file) memory ≡ take (length (cells_of file)) cells →
+      in_ranges (kinds_of file) (take (length (cells_of file)) cells) ≡ true →
       SameCall file (call memory) (entered_flat file name args cells)
   call-agrees name call args agrees memory cells room begin ranges =
       let whole : numbers_of (cells_of file) memory ++ drop (length (cells_of file)) cells ≡ cells =
@@ -60,7 +84,9 @@ module _ (file : Parts) (runs : Runs file) where
   call-keeps c l same = record {
     room = same.room;
     ranges =
-        ap (λ n. in_ranges (kinds_of file) (take n l.cells)) kinds-long ∙ ap (in_ranges (kinds_of file)) same.cells ∙ sym (ranges-are (cells_of file) c.memory) ∙ same.fits;
+        ap (λ n. in_ranges (kinds_of file) (take n l.cells)) kinds-long ∙ ap (in_ranges (kinds_of file)) same.cells
+        ∙ sym (ranges-are (cells_of file) c.memory)
+        ∙ same.fits;
   }
 
   first-are : (c : Called) (l : Left ℤ) → SameCall file c l → first_cells file l.cells ≡ numbers_of (cells_of file) c.memory
@@ -76,16 +102,12 @@ module _ (file : Parts) (runs : Runs file) where
   zeros-fit [] = refl
   zeros-fit (t ∷ ts) = and-both _ _ (zero-fits t) (zeros-fit ts)
 
-  state-where : (c : Called) (l : Left ℤ) (r o : Option ℤ) → r ≡ o → first_cells file l.cells ≡ numbers_of (cells_of file) c.memory →
-      option_map (λ n. first_cells file l.cells) o ≡ cells_where file c.memory r
-  state-where c l r None is first = ap (cells_where file c.memory) (sym is)
-  state-where c l r (Some n) is first = ap Some first ∙ ap (cells_where file c.memory) (sym is)
-
   length-zeros : (n : ℕ) → length (replicate n (pos 0)) ≡ n
   length-zeros zero = refl
   length-zeros (suc n) = ap suc (length-zeros n)
 
-  zeros-begin : (cells : List ℤ) → cells ≡ replicate (cells_needed file) (pos 0) → take (length (cells_of file)) cells ≡ replicate (length (cells_of file)) (pos 0)
+  zeros-begin : (cells : List ℤ) → cells ≡ replicate (cells_needed file) (pos 0) →
+      take (length (cells_of file)) cells ≡ replicate (length (cells_of file)) (pos 0)
   zeros-begin cells is = ap (take (length (cells_of file))) is ∙ take-replicate (length (cells_of file)) (cells_needed file) (pos 0) few
 
   pub zeros-keep : (cells : List ℤ) → cells ≡ replicate (cells_needed file) (pos 0) → CellsKeep file cells
@@ -96,15 +118,16 @@ module _ (file : Parts) (runs : Runs file) where
         ∙ ap (in_ranges (kinds_of file)) (zeros-begin cells is ∙ ap (λ n. replicate n (pos 0)) (sym kinds-long)) ∙ zeros-fit (kinds_of file);
   }
 
-  pub start-is : StartsAgree file → (cells : List ℤ) → cells ≡ replicate (cells_needed file) (pos 0) → IsStart file (entered_flat file (codes "bl_init") (pos 0 ∷ []) cells)
-  unfolding start_c
+  pub start-is : StartsAgree file → (cells : List ℤ) → cells ≡ replicate (cells_needed file) (pos 0) →
+      IsStart file (entered_flat file (codes "bl_init") (pos 0 ∷ []) cells)
+  unfolding started
   start-is agrees cells is =
       let keeps = zeros-keep cells is in
       let same = call-agrees (codes "bl_init") (entered file (codes "bl_init") (object state_object ∷ [])) (pos 0 ∷ []) agrees cleared cells keeps.room
       (zeros-there (cells_of file) ∙ sym (zeros-begin cells is)) (ap (λ n. in_ranges (kinds_of file) (take n cells)) (sym kinds-long) ∙ keeps.ranges) in
       let c : Called = entered file (codes "bl_init") (object state_object ∷ []) cleared in
       let l : Left ℤ = entered_flat file (codes "bl_init") (pos 0 ∷ []) cells in
-      record { state = state-where c l c.result l.answer same.answer (first-are c l same); keeps = call-keeps c l same }
+      record { ready = ap is_some (sym same.answer); cells = first-are c l same; keeps = call-keeps c l same }
 
   -- ---- ticks
 
@@ -134,7 +157,9 @@ module _ (file : Parts) (runs : Runs file) where
         let l = slice_get_within (cells_of file) (outs_at + j) (record { location = port output_object m.0; kind = p.0 }) p.1.1 in
         omega arith
 
-    pub inputs-within : (ins cells : List ℤ) → cells_needed file ≤ length cells → row_fits file ins ≡ true → (k : ℕ) → k < length ins → ins_at + k < length cells
+    pub inputs-within : (ins cells : List ℤ) → cells_needed file ≤ length cells → row_fits (inputs_of file) ins ≡ true → (k : ℕ) →
+        k < length ins →
+        ins_at + k < length cells
     unfolding inputs_of
     inputs-within ins cells room fits k within =
         let long = inputs-long (cells_of file) ins_at in_ports ins (stand runs.formed).0 fits in
@@ -154,8 +179,9 @@ module _ (file : Parts) (runs : Runs file) where
         let f = few in
         omega arith
 
-    pub tick-is : TicksAgree file → (cells ins : List ℤ) → CellsKeep file cells → row_fits file ins ≡ true →
-        IsTick file (first_cells file cells) ins (entered_flat file (codes "bl_tick") (pos 0 ∷ pos (input_at file) ∷ pos (output_at file) ∷ []) (with_args ins_at ins cells))
+    pub tick-is : TicksAgree file → (cells ins : List ℤ) → CellsKeep file cells → row_fits (inputs_of file) ins ≡ true →
+        IsTick file (first_cells file cells) ins
+        (entered_flat file (codes "bl_tick") (pos 0 ∷ pos (input_at file) ∷ pos (output_at file) ∷ []) (with_args ins_at ins cells))
     unfolding tick_c inputs_of outputs_of
     tick-is agrees cells ins keeps fits =
         let n : ℕ = length (cells_of file) in
@@ -164,15 +190,19 @@ module _ (file : Parts) (runs : Runs file) where
         let long : length (take n cells) ≡ n = length-take-le n cells (let f = few in let r = keeps.room in omega arith) in
         let before : Memory = memory_of (cells_of file) (first_cells file cells) in
         let memory : Memory = with_inputs in_ports ins before in
-        let made : numbers_of (cells_of file) before ≡ take n cells = numbers-made (cells_of file) (first_cells file cells) (cells-separate file runs.formed) (ap length short ∙ long) ∙ short in
+        let made : numbers_of (cells_of file) before ≡ take n cells =
+        numbers-made (cells_of file) (first_cells file cells) (cells-separate file runs.formed) (ap length short ∙ long) ∙ short in
         let set : numbers_of (cells_of file) memory ≡ with_args ins_at ins (take n cells) =
-        inputs-set (cells_of file) (cells-separate file runs.formed) ins_at in_ports ins before ports.0 (inputs-long (cells_of file) ins_at in_ports ins ports.0 fits) ∙ ap (with_args ins_at ins) made in
+        inputs-set (cells_of file) (cells-separate file runs.formed) ins_at in_ports ins before ports.0
+        (inputs-long (cells_of file) ins_at in_ports ins ports.0 fits) ∙ ap (with_args ins_at ins) made in
         let begin : numbers_of (cells_of file) memory ≡ take n (with_args ins_at ins cells) = set ∙ sym (args-taken n ins_at ins cells) in
         let ranges : in_ranges (kinds_of file) (take n (with_args ins_at ins cells)) ≡ true =
         ap (in_ranges (kinds_of file)) (args-taken n ins_at ins cells)
         ∙ inputs-fit (cells_of file) ins_at in_ports ins (take n cells) ports.0 fits (ap (in_ranges (kinds_of file)) (sym short) ∙ keeps.ranges) in
-        let room : cells_needed file ≤ length (with_args ins_at ins cells) = subst (λ k. cells_needed file ≤ k) (sym (length-args ins_at ins cells)) keeps.room in
-        let same = call-agrees (codes "bl_tick") (entered file (codes "bl_tick") (object state_object ∷ object input_object ∷ object output_object ∷ [])) (pos 0 ∷ pos (input_at file) ∷ pos (output_at file) ∷ []) agrees memory (with_args ins_at ins cells) room begin ranges in
+        let room : cells_needed file ≤ length (with_args ins_at ins cells) =
+        subst (λ k. cells_needed file ≤ k) (sym (length-args ins_at ins cells)) keeps.room in
+        let same = call-agrees (codes "bl_tick") (entered file (codes "bl_tick") (object state_object ∷ object input_object ∷ object output_object ∷ []))
+        (pos 0 ∷ pos (input_at file) ∷ pos (output_at file) ∷ []) agrees memory (with_args ins_at ins cells) room begin ranges in
         let c : Called = entered file (codes "bl_tick") (object state_object ∷ object input_object ∷ object output_object ∷ []) memory in
         let l : Left ℤ = entered_flat file (codes "bl_tick") (pos 0 ∷ pos (input_at file) ∷ pos (output_at file) ∷ []) (with_args ins_at ins cells) in
         record {
@@ -188,9 +218,11 @@ module _ (file : Parts) (runs : Runs file) where
         outs-fit c l same =
             let ports = stand runs.formed in
             ap (in_ranges (types_of (outputs_of file))) (outputs-taken (cells_of file) outs_at out_ports c.memory ports.1)
-            ∙ outputs-fit (cells_of file) outs_at out_ports (numbers_of (cells_of file) c.memory) ports.1 (sym (ranges-are (cells_of file) c.memory) ∙ same.fits)
+            ∙ outputs-fit (cells_of file) outs_at out_ports (numbers_of (cells_of file) c.memory) ports.1
+            (sym (ranges-are (cells_of file) c.memory) ∙ same.fits)
 
-        outs-are : (c : Called) (l : Left ℤ) → SameCall file c l → take (length (outputs_of file)) (drop outs_at l.cells) ≡ outputs_in out_ports c.memory
+        outs-are : (c : Called) (l : Left ℤ) → SameCall file c l →
+            take (length (outputs_of file)) (drop outs_at l.cells) ≡ outputs_in out_ports c.memory
         outs-are c l same =
             let ports = stand runs.formed in
             let n : ℕ = length (cells_of file) in

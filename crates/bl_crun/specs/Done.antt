@@ -1,20 +1,19 @@
 -- What calls of a file's functions come to in the machine.
-use Rattle.std.specs.Prelude.{◌≡◌, ◌≤◌, ◌+◌, ◌-◌, ◌^◌, ℕ, min, ℤ, true, List, [], length, take, drop, Option, Some, None, option_map}
+use Rattle.std.specs.Prelude.{◌≡◌, ◌≤◌, ◌+◌, ◌-◌, ◌^◌, ℕ, min, ℤ, true, List, [], length, take, drop, Option, Some, None, is_some}
 use Rattle.bl_bytecode.specs.Code.{Code}
 use Rattle.bl_bytecode.specs.Laws.{begun, ended_as}
 use Rattle.bl_bytecode.specs.Machine.{Room, Runs}
 use Rattle.bl_bytecode_compiler.specs.Views.{entry_for}
 use Rattle.bl_bytecode_compiler.specs.declared.here.Entry.{Entry as CodeEntry}
-use Rattle.bl_cmeaning_laws.specs.Fitting.{in_ranges}
+use Rattle.bl_tree.specs.Ports.{in_ranges, row_fits}
 use Rattle.bl_cmeaning_laws.specs.Flat.{Left, left}
 use Rattle.bl_bytecode_machine.specs.Shown.{Shown}
 use Rattle.bl_cmeaning.specs.Cells.{outputs_of}
 use Rattle.bl_cmeaning.specs.Parts.{Parts}
 use Rattle.bl_cmeaning.specs.Sizes.{cells_needed}
-use Rattle.bl_cmeaning.specs.Trace.{reply_of, start_c, tick_c}
+use Rattle.bl_cmeaning.specs.Trace.{reply_of, start_cells, starts, tick_c}
 use Rattle.bl_cinterface.specs.Layout.{kinds_of}
 use Rattle.bl_cinterface.specs.Ports.{outputs_start}
-use Rattle.bl_crun.specs.Running.{types_of}
 use Rattle.bl_crun.specs.declared.call.Called.{Called}
 
 -- in so many steps the function at an entry of some code does this, and the room that a machine has is enough
@@ -48,14 +47,15 @@ pub record CellsKeep (file : Parts) (cells : List ℤ) : Type 0 where
 
 -- a routine does what the start does
 pub record IsStart (file : Parts) (left : Left ℤ) : Type 0 where
-  pub state : option_map (λ n. first_cells file left.cells) left.answer ≡ start_c file
+  pub ready : is_some left.answer ≡ starts file
+  pub cells : first_cells file left.cells ≡ start_cells file
   pub keeps : CellsKeep file left.cells
 
 -- a routine does what a tick does
 pub record IsTick (file : Parts) (cells ins : List ℤ) (left : Left ℤ) : Type 0 where
   pub reply : reply_of left.answer ≡ (tick_c file cells ins).reply
   pub outputs : take (length (outputs_of file)) (drop (outputs_start file.structs + 1) left.cells) ≡ (tick_c file cells ins).outputs
-  pub ranges : in_ranges (types_of (outputs_of file)) (tick_c file cells ins).outputs ≡ true
+  pub ranges : row_fits (outputs_of file) (tick_c file cells ins).outputs ≡ true
   pub after : first_cells file left.cells ≡ (tick_c file cells ins).cells
   pub count : left.count ≡ (tick_c file cells ins).count
   pub keeps : CellsKeep file left.cells

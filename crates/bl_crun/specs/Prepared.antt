@@ -1,9 +1,9 @@
 -- What a runner keeps of its file.
-use Rattle.std.specs.Prelude.{◌≡◌, ◌≤◌, ◌<◌, ◌+◌, ◌-◌, ◌^◌, ℕ, min, ℤ, Bool, true, false, List, length, take, drop, Option, Some, None, option_map, codes}
+use Rattle.std.specs.Prelude.{◌≡◌, ◌≤◌, ◌<◌, ◌+◌, ◌-◌, ◌^◌, ℕ, min, ℤ, true, List, length, take, drop, option_map, codes}
 use Rattle.bl_bytecode.specs.Laws.{code_of_file, entry_in_file}
 use Rattle.bl_bytecode_compiler.specs.Views.{entry_for}
 use Rattle.bl_cmeaning_laws.specs.Laws.{behind_objects}
-use Rattle.bl_cmeaning_laws.specs.Fitting.{in_ranges}
+use Rattle.bl_tree.specs.Ports.{row_fits}
 use Rattle.bl_cmeaning.specs.Cells.{inputs_of, outputs_of}
 use Rattle.bl_cmeaning.specs.Parts.{Parts}
 use Rattle.bl_cmeaning.specs.Trace.{reply_of, tick_c}
@@ -11,7 +11,6 @@ use Rattle.bl_cinterface.specs.Layout.{kinds_of}
 use Rattle.bl_cinterface.specs.Ports.{inputs_start, outputs_start}
 use Rattle.bl_crun.specs.Cause.{Runs}
 use Rattle.bl_crun.specs.Done.{CellsKeep}
-use Rattle.bl_crun.specs.Running.{types_of}
 use Rattle.bl_crun.specs.declared.call.Called.{Called}
 use Rattle.bl_crun.specs.declared.prepared.Prepared.{Prepared}
 
@@ -35,11 +34,6 @@ pub record Keeps (file : Parts) (p : Prepared) : Type 0 where
 abbrev pub numbers_in : Prepared → List ℤ
 numbers_in p = take (length p.kinds.items) p.machine.state.cells
 
--- the same, where the start hasn't trapped
-abbrev pub state_of : Bool → Prepared → Option (List ℤ)
-state_of false p = None
-state_of true p = Some (numbers_in p)
-
 -- the numbers of the outputs
 abbrev pub outputs_in : Prepared → List ℤ
 outputs_in p = take (length p.outputs) (drop (p.output_at + 1) p.machine.state.cells)
@@ -50,5 +44,5 @@ pub record Ticked (file : Parts) (cells ins : List ℤ) (called : Called) (p : P
   pub count : called.count ≡ min (tick_c file cells ins).count (2 ^ 128 - 1)
   pub after : numbers_in p ≡ (tick_c file cells ins).cells
   pub outputs : outputs_in p ≡ (tick_c file cells ins).outputs
-  pub ranges : in_ranges (types_of p.outputs) (outputs_in p) ≡ true
+  pub ranges : row_fits p.outputs (outputs_in p) ≡ true
   pub within : (k : ℕ) → k < length p.outputs → p.output_at + 1 + k < length p.machine.state.cells

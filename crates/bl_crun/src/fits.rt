@@ -2,8 +2,7 @@
 
 ghost use Rattle.std.specs.Prelude.{◌≡◌};
 ghost use Rattle.bl_tree.specs.Scalar.{in_range};
-ghost use Rattle.bl_cmeaning_laws.specs.Fitting.{in_ranges};
-ghost use Rattle.bl_crun.specs.Running.{types_of};
+ghost use Rattle.bl_tree.specs.Ports.{row_fits};
 
 use bl_tree::{Column, Row, Scalar};
 
@@ -16,7 +15,7 @@ fn fits(kind: Scalar, n: i128) -> bool
 
 /// Whether a row has a number for each column, in the range of its type.
 pub fn fit_all(columns: &[Column], row: &Row) -> bool
-    ensures { result ≡ in_ranges (types_of columns.now) row.now }
+    ensures { result ≡ row_fits columns.now row.now }
 {
     if columns.len() != row.len() as usize {
         return false;

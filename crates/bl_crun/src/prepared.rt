@@ -1,13 +1,14 @@
 //! What a runner keeps of its file, and the calls of the start and of ticks.
 
 ghost use Rattle.std.specs.Prelude.{◌≡◌, [], ◌∷◌, ℕ, ◌+◌, ◌<◌, pos, true, length, replicate, IfErr, IfOk};
-ghost use Rattle.bl_cmeaning_laws.specs.Fitting.{in_ranges};
+ghost use Rattle.bl_tree.specs.Ports.{row_fits};
+ghost use Rattle.bl_cmeaning.specs.Cells.{inputs_of};
 ghost use Rattle.bl_cmeaning.specs.Parts.{parts_of};
 ghost use Rattle.bl_cmeaning.specs.Sizes.{cells_needed};
-ghost use Rattle.bl_cmeaning.specs.Trace.{start_c};
+ghost use Rattle.bl_cmeaning.specs.Trace.{start_cells, starts};
 ghost use Rattle.bl_crun.specs.Cause.{IsCause, Runs};
-ghost use Rattle.bl_crun.specs.Prepared.{Keeps, Ticked, numbers_in, outputs_in, state_of};
-ghost use Rattle.bl_crun.specs.Running.{OutputsFit, row_fits, types_of, unless_trapped};
+ghost use Rattle.bl_crun.specs.Prepared.{Keeps, Ticked, numbers_in, outputs_in};
+ghost use Rattle.bl_crun.specs.Running.{OutputsFit, unless_trapped};
 
 use crate::call::{Called, call};
 use crate::fault::{LoadFault, needed};
@@ -95,7 +96,8 @@ pub fn start(file: &CFile, prepared: &mut Prepared) -> bool
     requires keeps { Keeps (parts_of file.now) prepared.old }
     requires cleared { prepared.old.machine.state.cells ≡ replicate (cells_needed (parts_of file.now)) (pos 0) }
     ensures keeps { Keeps (parts_of file.now) prepared.new }
-    ensures state { state_of result prepared.new ≡ start_c (parts_of file.now) }
+    ensures ready { result ≡ starts (parts_of file.now) }
+    ensures cells { numbers_in prepared.new ≡ start_cells (parts_of file.now) }
 {
     starts_agree(file);
     let called = call(
@@ -119,7 +121,7 @@ fn tick_args(input_at: u32, output_at: u32) -> [i128; 3]
 /// Does a tick with a row of inputs.
 pub fn do_tick(file: &CFile, prepared: &mut Prepared, ins: &Row) -> Called
     requires keeps { Keeps (parts_of file.now) prepared.old }
-    requires fits { row_fits (parts_of file.now) ins.now ≡ true }
+    requires fits { row_fits (inputs_of (parts_of file.now)) ins.now ≡ true }
     ensures keeps { Keeps (parts_of file.now) prepared.new }
     ensures ticked { Ticked (parts_of file.now) (numbers_in prepared.old) ins.now result prepared.new }
 {
@@ -141,7 +143,7 @@ pub fn do_tick(file: &CFile, prepared: &mut Prepared, ins: &Row) -> Called
 pub fn tell(prepared: &Prepared, answer: Tick, outs: &mut Row)
     requires within { (k : ℕ) → k < length prepared.now.outputs → prepared.now.output_at + 1 + k < length prepared.now.machine.state.cells }
     requires long { length outs.old ≡ length prepared.now.outputs }
-    requires ranges { in_ranges (types_of prepared.now.outputs) (outputs_in prepared.now) ≡ true }
+    requires ranges { row_fits prepared.now.outputs (outputs_in prepared.now) ≡ true }
     ensures told { outs.new ≡ unless_trapped answer (outputs_in prepared.now) outs.old }
     ensures fit { OutputsFit prepared.now.outputs answer outs.new }
 {

@@ -1,9 +1,9 @@
 //! The runner of a file.
 
-ghost use Rattle.std.specs.Prelude.{◌≡◌, ◌↔◌, ◌<◌, ℤ, List as Elements, Some, true, length, slice_get, is_some, IfErr, IfOk, IsTrue, OnOk};
+ghost use Rattle.std.specs.Prelude.{◌≡◌, ◌<◌, Some, true, length, slice_get, IfErr, IfOk, OnOk};
 ghost use Rattle.bl_tree.specs.declared.scalar.Scalar.{Scalar as Kind};
 ghost use Rattle.bl_tree.specs.Scalar.{in_range};
-ghost use Rattle.bl_cmeaning_laws.specs.Fitting.{in_ranges};
+ghost use Rattle.bl_tree.specs.Ports.{row_fits};
 ghost use Rattle.bl_cmeaning.specs.Cells.{cells_of, inputs_of, outputs_of};
 ghost use Rattle.bl_cinterface.specs.Layout.{kinds_of};
 
@@ -31,14 +31,14 @@ impl Model for Runner {
     ghost use Rattle.bl_tree.specs.contracts.c.CStmt as stmt;
     ghost use Rattle.bl_tree.specs.contracts.c.CStmtKind as kind;
     ghost use Rattle.bl_cmeaning.specs.Parts.{parts_of};
-    ghost use Rattle.bl_crun.specs.Prepared.{Keeps, state_of};
+    ghost use Rattle.bl_crun.specs.Prepared.{Keeps, numbers_in};
     ghost use Rattle.bl_crun.specs.Running.{Running};
 
     ghost Value = { Running };
 
     ghost coded = { Prim.hlevel (codes, stmt.the_row.coded, kind.the_row.coded) };
 
-    ghost view = { λ r. record { parts = parts_of r.file; state = state_of r.ready r.prepared; live = r.live } };
+    ghost view = { λ r. record { parts = parts_of r.file; cells = numbers_in r.prepared; ready = r.ready; live = r.live } };
 
     ghost invariant = { λ r. Keeps (parts_of r.file) r.prepared };
 }
@@ -46,7 +46,7 @@ impl Model for Runner {
 impl Runner {
     ghost use Rattle.bl_cmeaning.specs.Parts.{parts_of};
     ghost use Rattle.bl_crun.specs.Cause.{IsCause, Runs};
-    ghost use Rattle.bl_crun.specs.Running.{OutputsFit, after_tick, answer_of, count_after, loaded, outputs_after, reply_at, row_fits, with_cell};
+    ghost use Rattle.bl_crun.specs.Running.{OutputsFit, after_tick, answer_of, count_after, loaded, outputs_after, reply_at, with_cell};
 
     /// Loads a file: clears its cells and does its start. After a fault the file comes back.
     pub fn load(alloc: Global, file: CFile) -> Result<Runner, (CFile, LoadFault)>
@@ -83,7 +83,7 @@ impl Runner {
 
     /// Whether a row has a number for each input, in the range of its type.
     pub fn fits(&self, ins: &Row) -> bool
-        ensures { result ≡ row_fits self.now.parts ins.now }
+        ensures { result ≡ row_fits (inputs_of self.now.parts) ins.now }
     {
         fit_all(&self.prepared.inputs, ins)
     }
@@ -97,7 +97,7 @@ impl Runner {
 
     /// Whether the start hasn't trapped.
     pub fn ready(&self) -> bool
-        ensures { result ≡ is_some self.now.state }
+        ensures { result ≡ self.now.ready }
     {
         self.ready
     }
@@ -105,7 +105,7 @@ impl Runner {
     /// Does a tick with a row of inputs, and fills the row of outputs unless it traps. Where the start has trapped, the
     /// first tick traps.
     pub fn tick(&mut self, ins: &Row, outs: &mut Row) -> Tick
-        requires fits { row_fits self.old.parts ins.now ≡ true }
+        requires fits { row_fits (inputs_of self.old.parts) ins.now ≡ true }
         requires long { length outs.old ≡ length (outputs_of self.old.parts) }
         requires live { self.old.live ≡ true }
         ensures answer { result ≡ answer_of (reply_at self.old ins.now) }
@@ -119,7 +119,7 @@ impl Runner {
 
     /// Does a tick and tells how many statements it executed, at most 2^128 - 1.
     pub fn tick_counted(&mut self, ins: &Row, outs: &mut Row, count: &mut u128) -> Tick
-        requires fits { row_fits self.old.parts ins.now ≡ true }
+        requires fits { row_fits (inputs_of self.old.parts) ins.now ≡ true }
         requires long { length outs.old ≡ length (outputs_of self.old.parts) }
         requires live { self.old.live ≡ true }
         ensures answer { result ≡ answer_of (reply_at self.old ins.now) }
@@ -156,10 +156,10 @@ impl Runner {
         self.prepared.kinds[k as usize]
     }
 
-    /// The number of a cell.
+    /// The number of a cell, also where the start or a tick has trapped.
     pub fn cell(&self, k: u32) -> i128
         requires { k < length (cells_of self.now.parts) }
-        ensures number { (state : Elements ℤ) → self.now.state ≡ Some state → slice_get state k ≡ Some result }
+        ensures number { slice_get self.now.cells k ≡ Some result }
         ensures range { (kind : Kind) → slice_get (kinds_of self.now.parts) k ≡ Some kind → in_range kind result ≡ true }
     {
         self.prepared.machine.get(k as usize)

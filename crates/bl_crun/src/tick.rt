@@ -1,3 +1,5 @@
+//! What ticks come to.
+
 /// What a tick comes to.
 #[derive(Clone, Copy, PartialEq, Eq, Debug)]
 pub enum Tick {

@@ -1,5 +1,5 @@
-//! C texts that are read, loaded and run over rows of inputs (docs/C_SUBSET.md, "Meaning"). There is nothing in this crate
-//! but its tests.
+//! Tests of `bl_crun`: C texts that are read, loaded and run over rows of inputs (docs/C_SUBSET.md, "Meaning"). There
+//! is nothing else here.
 #![tactic(auto)]
 
 #[cfg(test)]

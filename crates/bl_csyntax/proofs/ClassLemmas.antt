@@ -9,7 +9,15 @@ use Rattle.bl_ctext.specs.Token.{Token, is_word}
 use Rattle.bl_ctext.specs.Names.{is_among, is_name, is_turn_name, begins_with_digit, prelude_functions}
 use Rattle.bl_grammar.proofs.Predictive.{and_left, and_right, not_both}
 use Rattle.bl_csyntax.specs.declared.grammar.Group.{Group}
-use Rattle.bl_csyntax.specs.declared.grammar.Group.TheVariants.{ScalarTypes, PlainLiterals, Operators, IndexFunctions, StructWords, FunctionWords, PreludeFunctions}
+use Rattle.bl_csyntax.specs.declared.grammar.Group.TheVariants.{
+  ScalarTypes,
+  PlainLiterals,
+  Operators,
+  IndexFunctions,
+  StructWords,
+  FunctionWords,
+  PreludeFunctions,
+}
 use Rattle.bl_csyntax.specs.declared.grammar.Digits.TheVariants.{Elements, Int, Negated, Unsigned}
 use Rattle.bl_csyntax.specs.Pieces.{is_same}
 use Rattle.bl_csyntax.specs.Classes.{Class, words_of, is_number, matches}
@@ -55,27 +63,33 @@ unfolding is_same
 is_same-self word = same_self word
 
 -- of a test that all words pass, a piece that is one of them passes it
-pub among_all : (test : Token → Bool) (words : List Token) (piece : Token) → list_all test words ≡ true → is_among piece words ≡ true → test piece ≡ true
+pub among_all : (test : Token → Bool) (words : List Token) (piece : Token) → list_all test words ≡ true →
+    is_among piece words ≡ true → test piece ≡ true
 unfolding is_among is_same
 among_all test [] piece all is = absurd (not_both false is refl)
 among_all test (word ∷ words) piece all is = by_same (pointwise nat_eq word piece) refl is (among_all test words piece (and_right (test word) _ all))
   where
-    by_same : (b : Bool) → pointwise nat_eq word piece ≡ b → b || is_among piece words ≡ true → (is_among piece words ≡ true → test piece ≡ true) → test piece ≡ true
+    by_same : (b : Bool) → pointwise nat_eq word piece ≡ b → b || is_among piece words ≡ true →
+        (is_among piece words ≡ true → test piece ≡ true) → test piece ≡ true
     by_same true e is rest = subst (λ t. test t ≡ true) (is_same-same word piece e) (and_left _ _ all)
     by_same false e is rest = rest is
 
-exactly_apart : (word : Token) (other : Class) (piece : Token) → not (matches other word) ≡ true → matches (exactly word) piece ≡ true → matches other piece ≡ false
+exactly_apart : (word : Token) (other : Class) (piece : Token) → not (matches other word) ≡ true →
+    matches (exactly word) piece ≡ true → matches other piece ≡ false
 unfolding matches
 exactly_apart word other piece none is = subst (λ t. matches other t ≡ false) (is_same-same word piece is) (not_false _ none)
 
-from_exactly : (word : Token) (other : Class) (piece : Token) → not (matches other word) ≡ true → matches other piece ≡ true → matches (exactly word) piece ≡ false
+from_exactly : (word : Token) (other : Class) (piece : Token) → not (matches other word) ≡ true → matches other piece ≡ true →
+    matches (exactly word) piece ≡ false
 from_exactly word other piece none is = not_true _ (λ same. not_both _ is (exactly_apart word other piece none same))
 
-group_apart : (group : Group) (other : Class) (piece : Token) → has_none other (words_of group) ≡ true → matches (one_of group) piece ≡ true → matches other piece ≡ false
+group_apart : (group : Group) (other : Class) (piece : Token) → has_none other (words_of group) ≡ true →
+    matches (one_of group) piece ≡ true → matches other piece ≡ false
 unfolding matches
 group_apart group other piece none is = not_false _ (among_all (λ word. not (matches other word)) (words_of group) piece none is)
 
-from_group : (group : Group) (other : Class) (piece : Token) → has_none other (words_of group) ≡ true → matches other piece ≡ true → matches (one_of group) piece ≡ false
+from_group : (group : Group) (other : Class) (piece : Token) → has_none other (words_of group) ≡ true → matches other piece ≡ true →
+    matches (one_of group) piece ≡ false
 from_group group other piece none is = not_true _ (λ one. not_both _ is (group_apart group other piece none one))
 
 prelude_begin : list_all (λ word. starts_with nat_eq word (codes "bl_")) prelude_functions ≡ true
@@ -89,7 +103,8 @@ no_name : (word : Token) → starts_with nat_eq word (codes "bl_") ≡ true → 
 unfolding is_name
 no_name word h = by_word (is_word word) (not (begins_with_digit word)) _ h
   where
-    by_word : (a b rest : Bool) → starts_with nat_eq word (codes "bl_") ≡ true → a && (b && (not (starts_with nat_eq word (codes "bl_")) && rest)) ≡ false
+    by_word : (a b rest : Bool) → starts_with nat_eq word (codes "bl_") ≡ true →
+        a && (b && (not (starts_with nat_eq word (codes "bl_")) && rest)) ≡ false
     by_word true true rest h = rw h refl
     by_word true false rest h = refl
     by_word false b rest h = refl
@@ -138,7 +153,8 @@ same_is _ _ e = absurd (not_both _ e refl)
 
 -- names of turns
 
-pub named_of : (name : Token) (class : Class) (piece : Token) → is_turn_name name ≡ true → matches (named name class) piece ≡ true → matches class piece ≡ true
+pub named_of : (name : Token) (class : Class) (piece : Token) → is_turn_name name ≡ true → matches (named name class) piece ≡ true →
+    matches class piece ≡ true
 unfolding matches
 named_of name (exactly word) piece is m = m
 named_of name (one_of group) piece is m = m

@@ -23,8 +23,15 @@ expects_text pieces spells = record { good = start.good; spells = spells }
 pub expects_production : (part : Roomed) (rest : List Wanted) (next : Token) (pieces : List Token) → Expects (Nonterminal part ∷ rest) (next ∷ pieces)
     → (production : List Wanted) × (pick part next ≡ Some production) × Expects (production ++ rest) (next ∷ pieces)
 expects_production part rest next pieces expects =
-    let h = step Produces matches tables predictive part rest next pieces expects.good expects.spells in
-    (h.0, h.1, record { good = good_expand Produces matches tables predictive part rest (Some next) h.0 expects.good (predictive.picked part next h.0 h.1); spells = h.2 })
+    let h = step Produces matches tables predictive part rest next pieces expects.good expects.spells in (
+      h.0,
+      h.1,
+      record {
+        good = good_expand Produces matches tables predictive part rest (Some next) h.0 expects.good
+            (predictive.picked part next h.0 h.1);
+        spells = h.2;
+      },
+    )
 
 -- at the end a part is absent
 pub expects_absent : (part : Roomed) (rest : List Wanted) → Expects (Nonterminal part ∷ rest) [] → (absent part.part ≡ true) × Expects rest []

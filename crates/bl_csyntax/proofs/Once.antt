@@ -1,5 +1,37 @@
 -- A text fails at one place.
-use Rattle.std.proofs.Common.{◌≡◌, ℕ, zero, suc, ◌+◌, ◌-◌, ◌<◌, ◌≤◌, Bool, true, false, ◌&&◌, cond, List, [], ◌∷◌, ◌++◌, length, drop, get_or, refl, ap, sym, ◌∙◌, subst, ⊎_elim, inl, inr, arith, append_assoc, append-nil}
+use Rattle.std.proofs.Common.{
+  ◌≡◌,
+  ℕ,
+  zero,
+  suc,
+  ◌+◌,
+  ◌-◌,
+  ◌<◌,
+  ◌≤◌,
+  Bool,
+  true,
+  false,
+  ◌&&◌,
+  cond,
+  List,
+  [],
+  ◌∷◌,
+  ◌++◌,
+  length,
+  drop,
+  get_or,
+  refl,
+  ap,
+  sym,
+  ◌∙◌,
+  subst,
+  ⊎_elim,
+  inl,
+  inr,
+  arith,
+  append_assoc,
+  append-nil,
+}
 use Rattle.std.proofs.Math.Seq.{drop-cons}
 use Rattle.std.proofs.str.Laws.{order}
 use Rattle.std.proofs.lemmas.List.{drop_all}
@@ -60,16 +92,19 @@ module _ (text : List ℕ) where
       let there : count (drop (k + i) text) ≤ count (drop i text) = none_more k i in
       rw e (omega (arith, here, there))
 
-  fewer_behind : (at other : ℕ) → at < length text → is_blank (get_or text at 0) ≡ false → at < other → count (drop other text) < count (drop at text)
+  fewer_behind : (at other : ℕ) → at < length text → is_blank (get_or text at 0) ≡ false → at < other →
+      count (drop other text) < count (drop at text)
   fewer_behind at other inside solid less =
       let k : ℕ = other - suc at in
       let e : k + suc at ≡ other = omega (arith, less) in
       let here : count (drop at text) ≡ suc (count (drop (suc at) text)) = ap count (drop-cons text at 0 inside) ∙ rw solid refl in
-      let rest : count (drop other text) ≤ count (drop (suc at) text) = subst (λ n. count (drop n text) ≤ count (drop (suc at) text)) e (none_more k (suc at)) in
+      let rest : count (drop other text) ≤ count (drop (suc at) text) =
+      subst (λ n. count (drop n text) ≤ count (drop (suc at) text)) e (none_more k (suc at)) in
       omega (arith, here, rest)
 
   same_count : (at other : ℕ) (left : List Token) → StandAt text at left → StandAt text other left → count (drop at text) ≡ count (drop other text)
-  same_count at other left a b = sym (counted (drop at text)) ∙ ap (λ ts. length (joined ts)) (a.left_there ∙ sym b.left_there) ∙ counted (drop other text)
+  same_count at other left a b = sym (counted (drop at text)) ∙ ap (λ ts. length (joined ts)) (a.left_there ∙ sym b.left_there)
+      ∙ counted (drop other text)
 
   not_behind : (at other : ℕ) (left : List Token) → StandAt text at left → StandAt text other left → other ≤ at
   not_behind at other left a b = ⊎_elim
@@ -84,7 +119,8 @@ data Order (before : List Token) (piece : Token) (after front : List Token) (oth
   earlier : (rest : List Token) → front ≡ before ++ piece ∷ [] ++ rest → Order before piece after front other back
   later : (rest : List Token) → before ≡ front ++ other ∷ [] ++ rest → Order before piece after front other back
 
-order_of : (before : List Token) (piece : Token) (after front : List Token) (other : Token) (back : List Token) → before ++ piece ∷ after ≡ front ++ other ∷ back → Order before piece after front other back
+order_of : (before : List Token) (piece : Token) (after front : List Token) (other : Token) (back : List Token) →
+    before ++ piece ∷ after ≡ front ++ other ∷ back → Order before piece after front other back
 order_of [] piece after [] other back e = same e
 order_of [] piece after (x ∷ front) other back e = earlier front (let h : x ≡ piece = cc in ap (λ y. y ∷ front) h)
 order_of (y ∷ before) piece after [] other back e = later before (let h : y ≡ other = cc in ap (λ x. x ∷ before) h)
@@ -104,7 +140,8 @@ front_begins front back all is begins =
 
 piece_or_begins : (text : List ℕ) (start at : ℕ) → FailsAtPiece text start at → ¬ BeginsText (pieces (drop start text))
 piece_or_begins text start at a begins =
-    a.ends (front_begins (a.before ++ a.piece ∷ []) a.after (pieces (drop start text)) (a.stands ∙ sym (append_assoc a.before (a.piece ∷ []) a.after)) begins)
+    a.ends (front_begins (a.before ++ a.piece ∷ []) a.after (pieces (drop start text))
+    (a.stands ∙ sym (append_assoc a.before (a.piece ∷ []) a.after)) begins)
 
 one_piece : (text : List ℕ) (start at other : ℕ) → FailsAtPiece text start at → FailsAtPiece text start other → at ≡ other
 one_piece text start at other a b = by_order (order_of a.before a.piece a.after b.before b.piece b.after (sym a.stands ∙ b.stands))

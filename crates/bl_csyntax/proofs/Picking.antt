@@ -8,14 +8,15 @@ use Rattle.bl_csyntax.specs.declared.grammar.Within.{Within}
 use Rattle.bl_csyntax.specs.declared.grammar.Roomed.{Roomed}
 use Rattle.bl_csyntax.specs.Grammar.{Wanted, Production, placed}
 use Rattle.bl_csyntax.specs.Tables.{Choice, absent, choices, chosen, turn_of, decided, pick}
-use Rattle.bl_csyntax.specs.Rows.{shape_shown, wanted_from}
+use Rattle.bl_csyntax.specs.inner.Rows.{shape_shown, wanted_from}
 
 pub picked : (whole : Roomed) (piece : Token) (rows : List Choice) (found : Option Production) → rows ≡ choices whole.part → found ≡ chosen rows piece
     → decided whole.room piece (absent whole.part) found ≡ pick whole piece
 unfolding pick
 picked whole piece rows found is by = rw (by, is) refl
 
-pub none_picked : (whole : Roomed) (piece : Token) (rows : List Choice) (may : Bool) → rows ≡ choices whole.part → None ≡ chosen rows piece → may ≡ absent whole.part
+pub none_picked : (whole : Roomed) (piece : Token) (rows : List Choice) (may : Bool) → rows ≡ choices whole.part →
+    None ≡ chosen rows piece → may ≡ absent whole.part
     → decided whole.room piece may None ≡ pick whole piece
 none_picked whole piece rows may is by same = ap (λ b. decided whole.room piece b None) same ∙ picked whole piece rows None is by
 

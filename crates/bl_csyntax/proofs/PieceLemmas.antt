@@ -1,5 +1,33 @@
 -- What bytes are cut into, by how they begin.
-use Rattle.std.proofs.Common.{◌≡◌, ℕ, suc, ◌+◌, ◌-◌, ◌<◌, ◌≤◌, Bool, true, false, ◌&&◌, nat_lt, List, [], ◌∷◌, ◌++◌, length, map, drop, get_or, refl, sym, ap, ◌∙◌, ◌⊎◌, ⊎_elim, arith}
+use Rattle.std.proofs.Common.{
+  ◌≡◌,
+  ℕ,
+  suc,
+  ◌+◌,
+  ◌-◌,
+  ◌<◌,
+  ◌≤◌,
+  Bool,
+  true,
+  false,
+  ◌&&◌,
+  nat_lt,
+  List,
+  [],
+  ◌∷◌,
+  ◌++◌,
+  length,
+  map,
+  drop,
+  get_or,
+  refl,
+  sym,
+  ap,
+  ◌∙◌,
+  ◌⊎◌,
+  ⊎_elim,
+  arith,
+}
 use Rattle.std.specs.Prelude.{slice_range}
 use Rattle.std.proofs.lemmas.Bool.Decides.{nat_tests}
 use Rattle.std.proofs.str.Laws.{order}
@@ -29,7 +57,8 @@ abbrev pub begins_word : List ℕ → Bool
 begins_word [] = false
 begins_word (b ∷ bs) = is_word_byte b
 
-all_more : (xs : List ℕ) (b : ℕ) → all_of (map is_word_byte xs) ≡ true → is_word_byte b ≡ true → all_of (map is_word_byte (xs ++ b ∷ [])) ≡ true
+all_more : (xs : List ℕ) (b : ℕ) → all_of (map is_word_byte xs) ≡ true → is_word_byte b ≡ true →
+    all_of (map is_word_byte (xs ++ b ∷ [])) ≡ true
 all_more [] b h k = both _ _ k refl
 all_more (x ∷ xs) b h k = both _ _ (and-fst _ _ h) (all_more xs b (and-snd _ _ h) k)
 
@@ -37,7 +66,8 @@ pub word_more : (w : List ℕ) (b : ℕ) → is_word w ≡ true → is_word_byte
 word_more [] b h k = cc
 word_more (x ∷ xs) b h k = both _ _ (and-fst _ _ h) (all_more xs b (and-snd _ _ h) k)
 
-word_cut : (b : ℕ) (bs rest : List ℕ) → is_word_byte b ≡ true → all_of (map is_word_byte bs) ≡ true → begins_word rest ≡ false → pieces (b ∷ (bs ++ rest)) ≡ (b ∷ bs) ∷ pieces rest
+word_cut : (b : ℕ) (bs rest : List ℕ) → is_word_byte b ≡ true → all_of (map is_word_byte bs) ≡ true → begins_word rest ≡ false →
+    pieces (b ∷ (bs ++ rest)) ≡ (b ∷ bs) ∷ pieces rest
 word_cut b [] [] h k stops = rw (word_byte-not_blank b h) refl
 word_cut b [] (c ∷ cs) h k stops = rw (word_byte-not_blank b h, no_pair b c h, h, stops) refl
 word_cut b (c ∷ cs) rest h k stops =
@@ -59,7 +89,8 @@ abbrev pub begins_pair : List ℕ → Bool
 begins_pair (a ∷ b ∷ bs) = is_double_sign a b
 begins_pair _ = false
 
-pub single_piece : (a : ℕ) (bs : List ℕ) → is_blank a ≡ false → is_word_byte a ≡ false → begins_pair (a ∷ bs) ≡ false → pieces (a ∷ bs) ≡ (a ∷ []) ∷ pieces bs
+pub single_piece : (a : ℕ) (bs : List ℕ) → is_blank a ≡ false → is_word_byte a ≡ false → begins_pair (a ∷ bs) ≡ false →
+    pieces (a ∷ bs) ≡ (a ∷ []) ∷ pieces bs
 single_piece a [] h k p = rw h refl
 single_piece a (b ∷ bs) h k p = rw (h, p, k) refl
 
@@ -97,13 +128,15 @@ module _ (text : List ℕ) where
           let first : b ≡ get_or text i 0 = cc in
           rw first (h inside)
 
-  pub word_at : (start end : ℕ) → start < end → end ≤ length text → is_word (slice_range text start end) ≡ true → (end < length text → is_word_byte (get_or text end 0) ≡ false) →
+  pub word_at : (start end : ℕ) → start < end → end ≤ length text → is_word (slice_range text start end) ≡ true →
+      (end < length text → is_word_byte (get_or text end 0) ≡ false) →
       pieces (drop start text) ≡ slice_range text start end ∷ pieces (drop end text)
   word_at start end beyond inside word stops =
       ap pieces (drop_split text start end (omega arith)) ∙ word_pieces (slice_range text start end) (drop end text) word (begins_at end stops)
 
   pub one_byte : (start : ℕ) → start < length text → slice_range text start (start + 1) ≡ get_or text start 0 ∷ []
-  one_byte start inside = range_cons text start (start + 1) 0 (omega arith) (omega arith) ∙ ap (λ xs. get_or text start 0 ∷ xs) (range_none text (start + 1) (start + 1) (omega arith))
+  one_byte start inside = range_cons text start (start + 1) 0 (omega arith) (omega arith)
+      ∙ ap (λ xs. get_or text start 0 ∷ xs) (range_none text (start + 1) (start + 1) (omega arith))
 
   pub two_bytes : (start : ℕ) → start + 1 < length text → slice_range text start (start + 2) ≡ get_or text start 0 ∷ get_or text (start + 1) 0 ∷ []
   two_bytes start inside =
@@ -111,10 +144,12 @@ module _ (text : List ℕ) where
       range_cons text start (start + 2) 0 (omega arith) (omega arith)
       ∙ ap (λ xs. get_or text start 0 ∷ xs) (ap (λ n. slice_range text (start + 1) n) (sym more) ∙ one_byte (start + 1) inside)
 
-  pub word_first : (start : ℕ) → start < length text → is_word_byte (get_or text start 0) ≡ true → is_word (slice_range text start (start + 1)) ≡ true
+  pub word_first : (start : ℕ) → start < length text → is_word_byte (get_or text start 0) ≡ true →
+      is_word (slice_range text start (start + 1)) ≡ true
   word_first start inside h = rw (one_byte start inside) (both _ _ h refl)
 
-  pub word_next : (start end : ℕ) → start ≤ end → end < length text → is_word (slice_range text start end) ≡ true → is_word_byte (get_or text end 0) ≡ true → is_word (slice_range text start (end + 1)) ≡ true
+  pub word_next : (start end : ℕ) → start ≤ end → end < length text → is_word (slice_range text start end) ≡ true →
+      is_word_byte (get_or text end 0) ≡ true → is_word (slice_range text start (end + 1)) ≡ true
   word_next start end le inside word h = rw (range_snoc text start end 0 le inside) (word_more (slice_range text start end) (get_or text end 0) word h)
 
   pub pair_at : (start : ℕ) → start + 1 < length text → is_double_sign (get_or text start 0) (get_or text (start + 1) 0) ≡ true →
@@ -125,14 +160,16 @@ module _ (text : List ℕ) where
       let second : drop (start + 1) text ≡ get_or text (start + 1) 0 ∷ drop (start + 1 + 1) text = drop_more text (start + 1) 0 inside in
       let third : drop (start + 1 + 1) text ≡ drop (start + 2) text = ap (λ n. drop n text) more in
       ap pieces (first ∙ ap (λ xs. get_or text start 0 ∷ xs) (second ∙ ap (λ xs. get_or text (start + 1) 0 ∷ xs) third))
-      ∙ (pair_pieces (get_or text start 0) (get_or text (start + 1) 0) (drop (start + 2) text) h ∙ ap (λ t. t ∷ pieces (drop (start + 2) text)) (sym (two_bytes start inside)))
+      ∙ (pair_pieces (get_or text start 0) (get_or text (start + 1) 0) (drop (start + 2) text) h
+      ∙ ap (λ t. t ∷ pieces (drop (start + 2) text)) (sym (two_bytes start inside)))
 
   pub single_at : (start : ℕ) → start < length text → is_blank (get_or text start 0) ≡ false → is_word_byte (get_or text start 0) ≡ false →
       (nat_lt (start + 1) (length text) && is_double_sign (get_or text start 0) (get_or text (start + 1) 0)) ≡ false →
       pieces (drop start text) ≡ slice_range text start (start + 1) ∷ pieces (drop (start + 1) text)
   single_at start inside h k none =
       ap pieces (drop_more text start 0 inside)
-      ∙ (single_piece (get_or text start 0) (drop (start + 1) text) h k (no_pair_at (drop (start + 1) text) refl) ∙ ap (λ t. t ∷ pieces (drop (start + 1) text)) (sym (one_byte start inside)))
+      ∙ (single_piece (get_or text start 0) (drop (start + 1) text) h k (no_pair_at (drop (start + 1) text) refl)
+      ∙ ap (λ t. t ∷ pieces (drop (start + 1) text)) (sym (one_byte start inside)))
     where
       no_pair_at : (rest : List ℕ) → drop (start + 1) text ≡ rest → begins_pair (get_or text start 0 ∷ rest) ≡ false
       no_pair_at [] e = refl
@@ -147,8 +184,12 @@ module _ (text : List ℕ) where
   left_cut start end beyond inside = rw (range_cons text start end 0 beyond inside) refl
 
   -- the first of what is left is the piece between the offsets, also at the end
-  pub first_left : (start end : ℕ) → start ≤ end → end ≤ length text → (start ≡ end → end ≡ length text) → first_of (left_of text start end) ≡ slice_range text start end
-  first_left start end order inside at_end = ⊎_elim (λ less. ap first_of (left_cut start end less inside)) (λ more. at_the_end start end (omega (arith, order, more)) (at_end (omega (arith, order, more)))) (order_of start end)
+  pub first_left : (start end : ℕ) → start ≤ end → end ≤ length text → (start ≡ end → end ≡ length text) →
+      first_of (left_of text start end) ≡ slice_range text start end
+  first_left start end order inside at_end = ⊎_elim (λ less. ap first_of (left_cut start end less inside))
+      (λ more. at_the_end start end (omega (arith, order, more)) (at_end (omega (arith, order, more)))) (order_of start end)
 
-  pub behind_left : (start end : ℕ) → start ≤ end → end ≤ length text → (start ≡ end → end ≡ length text) → drop 1 (left_of text start end) ≡ pieces (drop end text)
-  behind_left start end order inside at_end = ⊎_elim (λ less. ap (λ ts. drop 1 ts) (left_cut start end less inside)) (λ more. nothing_behind start end (omega (arith, order, more)) (at_end (omega (arith, order, more)))) (order_of start end)
+  pub behind_left : (start end : ℕ) → start ≤ end → end ≤ length text → (start ≡ end → end ≡ length text) →
+      drop 1 (left_of text start end) ≡ pieces (drop end text)
+  behind_left start end order inside at_end = ⊎_elim (λ less. ap (λ ts. drop 1 ts) (left_cut start end less inside))
+      (λ more. nothing_behind start end (omega (arith, order, more)) (at_end (omega (arith, order, more)))) (order_of start end)

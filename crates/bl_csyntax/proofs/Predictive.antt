@@ -1,5 +1,27 @@
 -- The grammar is one that the next piece decides.
-use Rattle.std.proofs.Common.{◌≡◌, ℕ, ◌<◌, ◌≤◌, Bool, true, false, not, cond, ◌&&◌, ◌||◌, List, [], ◌∷◌, map, refl, ap, sym, ◌∙◌, subst, arith}
+use Rattle.std.proofs.Common.{
+  ◌≡◌,
+  ℕ,
+  ◌<◌,
+  ◌≤◌,
+  Bool,
+  true,
+  false,
+  not,
+  cond,
+  ◌&&◌,
+  ◌||◌,
+  List,
+  [],
+  ◌∷◌,
+  map,
+  refl,
+  ap,
+  sym,
+  ◌∙◌,
+  subst,
+  arith,
+}
 use Rattle.std.specs.Prelude.{Option, Some, None, nat_lt, nat_le, codes}
 use Rattle.std.proofs.lemmas.Bool.{ltb-true, leb-true}
 use Rattle.bl_ctext.specs.Token.{Token}
@@ -16,7 +38,23 @@ use Rattle.bl_csyntax.specs.Tables.{has, firsts, starts, absent, choices, chosen
 use Rattle.bl_csyntax.specs.Follow.{avoided, height, depth, are_lower, is_lower, lower_of}
 use Rattle.bl_csyntax.specs.Stack.{tables}
 use Rattle.bl_csyntax.proofs.ClassLemmas.{not_true, not_false, named_of, exactly_is, turn_of_is, turn_of_turn, sampled}
-use Rattle.bl_csyntax.proofs.Checks.{are_apart, are_within, heads_of, may_vanish, follows, is_headed, has_lower, is_turn, has_no_turn, names_first, headed, followed, shallow, lower, named_first}
+use Rattle.bl_csyntax.proofs.Checks.{
+  are_apart,
+  are_within,
+  heads_of,
+  may_vanish,
+  follows,
+  is_headed,
+  has_lower,
+  is_turn,
+  has_no_turn,
+  names_first,
+  headed,
+  followed,
+  shallow,
+  lower,
+  named_first,
+}
 use Rattle.bl_csyntax.proofs.Right.{apart, within, has_append, all_among, Empty, empty_is, is_empty, chosen_among, begun_of, pick_of, empty_pick, free_of}
 
 -- one of the part's productions in its room, where this is the name of the loop's turns
@@ -25,7 +63,8 @@ in_room A name shapes = map (placed A.room name) shapes
 
 -- what a production begins with is what the tables say
 
-module _ (A : Roomed) (p : Production) (among : IsAmong p (productions A.part)) (has_room : p.needs ≤ A.room) (name : Token) (is : is_turn_name name ≡ true) where
+module _ (A : Roomed) (p : Production) (among : IsAmong p (productions A.part)) (has_room : p.needs ≤ A.room) (name : Token)
+    (is : is_turn_name name ≡ true) where
   absent_of : (shapes : List Shape) → p.shapes ≡ shapes → shapes ≡ [] → absent A.part ≡ true
   unfolding absent
   absent_of shapes e none = empty_is (productions A.part) p among (e ∙ none)
@@ -43,7 +82,8 @@ module _ (A : Roomed) (p : Production) (among : IsAmong p (productions A.part)) 
   headed_at next (Nonterminal B ∷ q) e = (not_false _ (and_left _ _ (head_of (Nonterminal B ∷ q) e)), λ t n b. begun_at (Nonterminal B ∷ q) e t b)
 
   names_at : (shapes : List Shape) → p.shapes ≡ shapes → names_first shapes ≡ true
-  names_at shapes e = subst (λ (ss : List Shape). names_first ss ≡ true) e (all_among (λ q. names_first q.shapes) (productions A.part) p (named_first A.part) among)
+  names_at shapes e = subst (λ (ss : List Shape). names_first ss ≡ true) e
+      (all_among (λ q. names_first q.shapes) (productions A.part) p (named_first A.part) among)
 
   -- where no other name is to stand, the name is any
   any_class : (k : Class) (other : Token) → is_turn k ≡ false → named name k ≡ named other k
@@ -61,7 +101,8 @@ module _ (A : Roomed) (p : Production) (among : IsAmong p (productions A.part)) 
       rw (first, rest) refl
   any_name (Nonterminal B ∷ q) other none = ap (λ (ws : List Wanted). placed A.room name (Nonterminal B) ∷ ws) (any_name q other none)
 
-  by_first : (k : Class) (q : List Shape) (t : Token) → is_turn k || has_no_turn q ≡ true → matches (named name k) t ≡ true → in_room A name (Terminal k ∷ q) ≡ in_room A (turn_of t) (Terminal k ∷ q)
+  by_first : (k : Class) (q : List Shape) (t : Token) → is_turn k || has_no_turn q ≡ true → matches (named name k) t ≡ true →
+      in_room A name (Terminal k ∷ q) ≡ in_room A (turn_of t) (Terminal k ∷ q)
   by_first turn q t first m =
       let same : name ≡ t = exactly_is name t m in
       let own : turn_of t ≡ t = turn_of_turn t (subst (λ n. is_turn_name n ≡ true) same is) in
@@ -71,15 +112,18 @@ module _ (A : Roomed) (p : Production) (among : IsAmong p (productions A.part)) 
   by_first a_name q t first m = ap (λ (ws : List Wanted). Terminal a_name ∷ ws) (any_name q (turn_of t) first)
   by_first (number of) q t first m = ap (λ (ws : List Wanted). Terminal (number of) ∷ ws) (any_name q (turn_of t) first)
 
-  pick_at : (shapes : List Shape) → p.shapes ≡ shapes → (t : Token) → has (firsts starts shapes) t ≡ true → in_room A name shapes ≡ in_room A (turn_of t) shapes → pick A t ≡ Some (in_room A name shapes)
+  pick_at : (shapes : List Shape) → p.shapes ≡ shapes → (t : Token) → has (firsts starts shapes) t ≡ true →
+      in_room A name shapes ≡ in_room A (turn_of t) shapes → pick A t ≡ Some (in_room A name shapes)
   pick_at shapes e t on same =
       pick_of A p t among has_room (subst (λ (ss : List Shape). has (firsts starts ss) t ≡ true) (sym e) on)
       ∙ ap (λ (ws : List Wanted). Some ws) (ap (in_room A (turn_of t)) e ∙ sym same)
 
   forced_at : (t : Token) (shapes : List Shape) → p.shapes ≡ shapes → Predictive.IsForced Produces matches tables A t (in_room A name shapes)
   forced_at t [] e = λ none. empty_pick A t (absent_of [] e refl) none
-  forced_at t (Terminal k ∷ q) e = λ m. pick_at (Terminal k ∷ q) e t (or_left _ _ (named_of name k t is m)) (by_first k q t (names_at (Terminal k ∷ q) e) m)
-  forced_at t (Nonterminal B ∷ q) e = λ b. pick_at (Nonterminal B ∷ q) e t b (any_name (Nonterminal B ∷ q) (turn_of t) (names_at (Nonterminal B ∷ q) e))
+  forced_at t (Terminal k ∷ q) e = λ m. pick_at (Terminal k ∷ q) e t (or_left _ _ (named_of name k t is m))
+      (by_first k q t (names_at (Terminal k ∷ q) e) m)
+  forced_at t (Nonterminal B ∷ q) e = λ b. pick_at (Nonterminal B ∷ q) e t b
+      (any_name (Nonterminal B ∷ q) (turn_of t) (names_at (Nonterminal B ∷ q) e))
 
   descends_at : (shapes : List Shape) → p.shapes ≡ shapes → Predictive.Descends Produces matches tables A (in_room A name shapes)
   descends_at [] e = absent_of [] e refl
@@ -100,14 +144,16 @@ module _ (A : Roomed) (p : Production) (among : IsAmong p (productions A.part)) 
 
 -- what follows
 
-heads_has : (room : ℕ) (name : Token) → is_turn_name name ≡ true → (q : List Shape) (t : Token) → Predictive.heads Produces matches tables (map (placed room name) q) t ≡ true → has (heads_of q) t ≡ true
+heads_has : (room : ℕ) (name : Token) → is_turn_name name ≡ true → (q : List Shape) (t : Token) →
+    Predictive.heads Produces matches tables (map (placed room name) q) t ≡ true → has (heads_of q) t ≡ true
 heads_has room name is [] t h = h
 heads_has room name is (Terminal k ∷ q) t h = or_left _ _ (named_of name k t is h)
 heads_has room name is (Nonterminal B ∷ q) t h =
     has_append (starts B.part) (cond (absent B.part) (heads_of q) []) t ∙ by_start (has (starts B.part) t) (absent B.part) h (heads_has room name is q t)
   where
     by_start : (on gone : Bool) → on || (gone && Predictive.heads Produces matches tables (map (placed room name) q) t) ≡ true
-        → (Predictive.heads Produces matches tables (map (placed room name) q) t ≡ true → has (heads_of q) t ≡ true) → on || has (cond gone (heads_of q) []) t ≡ true
+        → (Predictive.heads Produces matches tables (map (placed room name) q) t ≡ true → has (heads_of q) t ≡ true) →
+        on || has (cond gone (heads_of q) []) t ≡ true
     by_start true gone h rest = refl
     by_start false true h rest = rest h
     by_start false false h rest = absurd (not_both false h refl)
@@ -117,11 +163,13 @@ vanish_same room name [] = refl
 vanish_same room name (Terminal k ∷ q) = refl
 vanish_same room name (Nonterminal B ∷ q) = ap (λ b. absent B.part && b) (vanish_same room name q)
 
-none_within : (xs ys : List Class) (may vanishes : Bool) (t : Token) → not may || are_within xs ys ≡ true → vanishes ≡ may → vanishes ≡ true → has ys t ≡ false → has xs t ≡ false
+none_within : (xs ys : List Class) (may vanishes : Bool) (t : Token) → not may || are_within xs ys ≡ true → vanishes ≡ may →
+    vanishes ≡ true → has ys t ≡ false → has xs t ≡ false
 none_within xs ys true vanishes t h e v none = not_true _ (λ on. not_both _ (within xs ys t h on) none)
 none_within xs ys false vanishes t h e v none = absurd (not_both _ v e)
 
-follow_at : (A : Roomed) (room : ℕ) (name : Token) → is_turn_name name ≡ true → (q : List Shape) → follows (avoided A.part) q ≡ true → Predictive.Follow Produces matches tables A (map (placed room name) q)
+follow_at : (A : Roomed) (room : ℕ) (name : Token) → is_turn_name name ≡ true → (q : List Shape) →
+    follows (avoided A.part) q ≡ true → Predictive.Follow Produces matches tables A (map (placed room name) q)
 follow_at A room name is [] h = tt
 follow_at A room name is (Terminal k ∷ q) h = follow_at A room name is q h
 follow_at A room name is (Nonterminal B ∷ q) h =
@@ -147,11 +195,21 @@ module _ (A : Roomed) (t : Token) (wanted : List Wanted) where
       }
   none_made false e is = absurd (no_some wanted is)
 
-  one_made : (p : Production) → IsAmong p (productions A.part) → (b : Bool) → nat_le p.needs A.room ≡ b → cond b (Some (wanted_of A.room t p)) None ≡ Some wanted → Produces A (Some t) wanted
-  one_made p among true room is = record { production = p; is_one = among; has_room = leb-true _ _ room; name = turn_of t; is_turn = turn_of_is t; made = sym (same_some _ _ is) }
+  one_made : (p : Production) → IsAmong p (productions A.part) → (b : Bool) → nat_le p.needs A.room ≡ b →
+      cond b (Some (wanted_of A.room t p)) None ≡ Some wanted → Produces A (Some t) wanted
+  one_made p among true room is = record {
+    production = p;
+    is_one = among;
+    has_room = leb-true _ _ room;
+    name = turn_of t;
+    is_turn =
+        turn_of_is t;
+    made = sym (same_some _ _ is);
+  }
   one_made p among false room is = absurd (no_some wanted is)
 
-  picked_by : (found : Option Production) → chosen (choices A.part) t ≡ found → decided A.room t (absent A.part) found ≡ Some wanted → Produces A (Some t) wanted
+  picked_by : (found : Option Production) → chosen (choices A.part) t ≡ found →
+      decided A.room t (absent A.part) found ≡ Some wanted → Produces A (Some t) wanted
   unfolding choices
   picked_by (Some p) e is = one_made p (chosen_among (productions A.part) t p e) (nat_le p.needs A.room) refl is
   picked_by None e is = none_made (absent A.part) refl is
@@ -174,19 +232,23 @@ at_end A may =
       made = sym (ap (map (placed A.room (turn_of (codes "t0")))) h.none);
     }
 
-lower_among : (high : ℕ) (ps : List Production) → has_lower high ps ≡ true → IsAmong (lower_of high ps) ps × (is_lower high (lower_of high ps) ≡ true)
+lower_among : (high : ℕ) (ps : List Production) → has_lower high ps ≡ true →
+    IsAmong (lower_of high ps) ps × (is_lower high (lower_of high ps) ≡ true)
 lower_among high [] is = absurd (not_both false is refl)
 lower_among high (p ∷ ps) is = by_here (is_lower high p) refl is (lower_among high ps)
   where
-    by_here : (b : Bool) → is_lower high p ≡ b → b || has_lower high ps ≡ true → (has_lower high ps ≡ true → IsAmong (lower_of high ps) ps × (is_lower high (lower_of high ps) ≡ true))
+    by_here : (b : Bool) → is_lower high p ≡ b → b || has_lower high ps ≡ true →
+        (has_lower high ps ≡ true → IsAmong (lower_of high ps) ps × (is_lower high (lower_of high ps) ≡ true))
         → IsAmong (cond b p (lower_of high ps)) (p ∷ ps) × (is_lower high (cond b p (lower_of high ps)) ≡ true)
     by_here true e is rest = (here, e)
     by_here false e is rest = let h = rest is in (later h.0, h.1)
 
-lower_shapes : (high room : ℕ) (name : Token) (q : List Shape) → are_lower high q ≡ true → Predictive.AreLower Produces matches tables high (map (placed room name) q)
+lower_shapes : (high room : ℕ) (name : Token) (q : List Shape) → are_lower high q ≡ true →
+    Predictive.AreLower Produces matches tables high (map (placed room name) q)
 lower_shapes high room name [] is = tt
 lower_shapes high room name (Terminal k ∷ q) is = lower_shapes high room name q is
-lower_shapes high room name (Nonterminal B ∷ q) is = (ltb-true _ _ (and_left _ _ is), lower_shapes high room name q (and_right (nat_lt (height B.part) high) _ is))
+lower_shapes high room name (Nonterminal B ∷ q) is =
+    (ltb-true _ _ (and_left _ _ is), lower_shapes high room name q (and_right (nat_lt (height B.part) high) _ is))
 
 module _ (A : Roomed) where
   abbrev easiest : Production
@@ -198,7 +260,15 @@ module _ (A : Roomed) where
   easy_made : (next : Option Token) → Produces A next (wanted_of A.room (codes "t0") easiest)
   easy_made next =
       let few : easiest.needs ≤ 0 = leb-true _ _ (and_left _ _ easy_is.1) in
-      record { production = easiest; is_one = easy_is.0; has_room = omega (arith, few); name = turn_of (codes "t0"); is_turn = turn_of_is (codes "t0"); made = refl }
+      record {
+        production = easiest;
+        is_one = easy_is.0;
+        has_room = omega (arith, few);
+        name = turn_of (codes "t0");
+        is_turn =
+            turn_of_is (codes "t0");
+        made = refl;
+      }
 
   easy_lower : Predictive.AreLower Produces matches tables (height A.part) (wanted_of A.room (codes "t0") easiest)
   easy_lower = lower_shapes (height A.part) A.room (turn_of (codes "t0")) easiest.shapes (and_right (nat_le easiest.needs 0) _ easy_is.1)
@@ -215,7 +285,8 @@ headed_of A next wanted m = subst (λ (ws : List Wanted). Predictive.IsHeaded Pr
 
 follow_of : (A : Roomed) (next : Option Token) (wanted : List Wanted) → Produces A next wanted → Predictive.Follow Produces matches tables A wanted
 follow_of A next wanted m = subst (λ (ws : List Wanted). Predictive.Follow Produces matches tables A ws) (sym m.made)
-    (follow_at A A.room m.name m.is_turn m.production.shapes (all_among (λ p. follows (avoided A.part) p.shapes) (productions A.part) m.production (followed A.part) m.is_one))
+    (follow_at A A.room m.name m.is_turn m.production.shapes
+    (all_among (λ p. follows (avoided A.part) p.shapes) (productions A.part) m.production (followed A.part) m.is_one))
 
 forced_of : (A : Roomed) (t : Token) (wanted : List Wanted) → Produces A (Some t) wanted → Predictive.IsForced Produces matches tables A t wanted
 forced_of A t wanted m = subst (λ (ws : List Wanted). Predictive.IsForced Produces matches tables A t ws) (sym m.made)

@@ -1,5 +1,26 @@
 -- Laws of the bytes between two offsets.
-use Rattle.std.proofs.Common.{◌≡◌, ℕ, suc, ◌+◌, ◌-◌, ◌≤◌, ◌<◌, List, [], ◌∷◌, ◌++◌, length, take, drop, get_or, sym, ap, ◌∙◌, arith, add-one}
+use Rattle.std.proofs.Common.{
+  ◌≡◌,
+  ℕ,
+  suc,
+  ◌+◌,
+  ◌-◌,
+  ◌≤◌,
+  ◌<◌,
+  List,
+  [],
+  ◌∷◌,
+  ◌++◌,
+  length,
+  take,
+  drop,
+  get_or,
+  sym,
+  ap,
+  ◌∙◌,
+  arith,
+  add-one,
+}
 use Rattle.std.specs.Prelude.{slice_range}
 use Rattle.std.proofs.Math.Seq.{take-suc, get_or-drop, drop-cons}
 use Rattle.std.proofs.lemmas.List.{length-drop}
@@ -20,4 +41,5 @@ module _ {X : Type 0} where
   range_snoc xs a b d p q =
       let e : b + 1 - a ≡ suc (b - a) = omega arith in
       let at : a + (b - a) ≡ b = omega arith in
-      ap (λ n. take n (drop a xs)) e ∙ take-suc (drop a xs) (b - a) d (omega (arith, length-drop a xs)) ∙ ap (λ y. slice_range xs a b ++ y ∷ []) (get_or-drop a xs (b - a) d ∙ ap (λ n. get_or xs n d) at)
+      ap (λ n. take n (drop a xs)) e ∙ take-suc (drop a xs) (b - a) d (omega (arith, length-drop a xs))
+      ∙ ap (λ y. slice_range xs a b ++ y ∷ []) (get_or-drop a xs (b - a) d ∙ ap (λ n. get_or xs n d) at)

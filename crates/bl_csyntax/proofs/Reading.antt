@@ -1,5 +1,24 @@
 -- What the stack says of the pieces that were read.
-use Rattle.std.proofs.Common.{◌≡◌, ◌<◌, Bool, true, false, ◌&&◌, List, [], ◌∷◌, ◌++◌, map, reverse, refl, ap, sym, ◌∙◌, subst, append_assoc}
+use Rattle.std.proofs.Common.{
+  ◌≡◌,
+  ◌<◌,
+  Bool,
+  true,
+  false,
+  ◌&&◌,
+  List,
+  [],
+  ◌∷◌,
+  ◌++◌,
+  map,
+  reverse,
+  refl,
+  ap,
+  sym,
+  ◌∙◌,
+  subst,
+  append_assoc,
+}
 use Rattle.std.specs.Prelude.{Some, None}
 use Rattle.std.proofs.lemmas.List.{reverse-append}
 use Rattle.std.specs.List.{list_all}
@@ -25,14 +44,17 @@ start = RunLaws.starts Produces matches tables predictive file
 pub opened : (next : Token) (stack : List Wanted) → IsGood stack → Expands next stack stack
 opened next stack good = RunLaws.opened Produces matches tables predictive next stack good
 
-expand : (next : Token) (stack rest production : List Wanted) (part : Roomed) → Expands next stack (Nonterminal part ∷ rest) → pick part next ≡ Some production → Expands next stack (production ++ rest)
+expand : (next : Token) (stack rest production : List Wanted) (part : Roomed) → Expands next stack (Nonterminal part ∷ rest) →
+    pick part next ≡ Some production → Expands next stack (production ++ rest)
 expand next stack rest production part now picked = RunLaws.expand Produces matches tables predictive next stack part rest production now picked
 
-terminal_answer : (next : Token) (stack rest : List Wanted) (class : Class) (taken : Bool) → Expands next stack (Terminal class ∷ rest) → taken ≡ matches class next → Answers next stack taken rest
+terminal_answer : (next : Token) (stack rest : List Wanted) (class : Class) (taken : Bool) →
+    Expands next stack (Terminal class ∷ rest) → taken ≡ matches class next → Answers next stack taken rest
 terminal_answer next stack rest class true now is = RunLaws.take Produces matches tables predictive next stack class rest now (sym is)
 terminal_answer next stack rest class false now is = RunLaws.refuse_other Produces matches tables predictive next stack class rest now (sym is)
 
-none_picked : (next : Token) (stack rest : List Wanted) (part : Roomed) → Expands next stack (Nonterminal part ∷ rest) → pick part next ≡ None → Answers next stack false rest
+none_picked : (next : Token) (stack rest : List Wanted) (part : Roomed) → Expands next stack (Nonterminal part ∷ rest) →
+    pick part next ≡ None → Answers next stack false rest
 none_picked next stack rest part now none = RunLaws.refuse_unpicked Produces matches tables predictive next stack part rest now none
 
 pub none_left : (next : Token) (stack rest : List Wanted) → Expands next stack [] → Answers next stack false rest
@@ -57,7 +79,8 @@ popped xs ys s is = ap seen is ∙ ap reverse (map_append ys (s ∷ [])) ∙ rev
 -- what was on top of a stack whose list ends with it
 module _ (next : Token) (stack : List Wanted) (xs ys : Rows) (s : Symbol Row Roomed) (now : Expands next stack (seen xs)) (top : xs ≡ ys ++ s ∷ []) where
   opened_at : (wanted : Wanted) → shown s ≡ wanted → Expands next stack (wanted ∷ seen ys)
-  opened_at wanted is = subst (λ (x : Wanted). Expands next stack (x ∷ seen ys)) is (subst (λ (zs : List Wanted). Expands next stack zs) (popped xs ys s top) now)
+  opened_at wanted is = subst (λ (x : Wanted). Expands next stack (x ∷ seen ys)) is
+      (subst (λ (zs : List Wanted). Expands next stack zs) (popped xs ys s top) now)
 
   pub at_terminal : (class : Row) (taken : Bool) → s ≡ Terminal class → taken ≡ matches (class_shown class) next → Answers next stack taken (seen ys)
   at_terminal class taken is same = terminal_answer next stack (seen ys) (class_shown class) taken (opened_at (Terminal (class_shown class)) (ap shown is)) same
@@ -65,9 +88,11 @@ module _ (next : Token) (stack : List Wanted) (xs ys : Rows) (s : Symbol Row Roo
   pub at_none : (part : Roomed) → s ≡ Nonterminal part → None ≡ pick part next → Answers next stack false (seen ys)
   at_none part is none = none_picked next stack (seen ys) part (opened_at (Nonterminal part) (ap shown is)) (sym none)
 
-  module _ (part : Roomed) (is : s ≡ Nonterminal part) (production : List Wanted) (picked : Some production ≡ pick part next) (news : Rows) (pushed : seen news ≡ production ++ seen ys) where
+  module _ (part : Roomed) (is : s ≡ Nonterminal part) (production : List Wanted) (picked : Some production ≡ pick part next)
+      (news : Rows) (pushed : seen news ≡ production ++ seen ys) where
     pub at_part : Expands next stack (seen news)
-    at_part = subst (λ (zs : List Wanted). Expands next stack zs) (sym pushed) (expand next stack (seen ys) production part (opened_at (Nonterminal part) (ap shown is)) (sym picked))
+    at_part = subst (λ (zs : List Wanted). Expands next stack zs) (sym pushed)
+        (expand next stack (seen ys) production part (opened_at (Nonterminal part) (ap shown is)) (sym picked))
 
     pub nearer : level (seen news) < level (seen xs)
     nearer = rw (pushed, popped xs ys s top, is) (descend Produces matches tables predictive part (seen ys) next production (sym picked))
@@ -81,10 +106,12 @@ begins_text front stack stands =
     (h.tokens, stands.back h.tokens h.spells)
 
 -- with a piece that the stack refuses it doesn't
-pub begins_none : (front : List Token) (piece : Token) (stack rest : List Wanted) → Stands front stack → Answers piece stack false rest → ¬ BeginsText (front ++ piece ∷ [])
+pub begins_none : (front : List Token) (piece : Token) (stack rest : List Wanted) → Stands front stack →
+    Answers piece stack false rest → ¬ BeginsText (front ++ piece ∷ [])
 begins_none front piece stack rest stands refuses b = refuses b.0 (stands.there (piece ∷ b.0) (subst SpellText (append_assoc front (piece ∷ []) b.0) b.1))
 
-pub read_one : (front : List Token) (piece : Token) (stack rest : List Wanted) → Stands front stack → Answers piece stack true rest → Stands (front ++ piece ∷ []) rest
+pub read_one : (front : List Token) (piece : Token) (stack rest : List Wanted) → Stands front stack →
+    Answers piece stack true rest → Stands (front ++ piece ∷ []) rest
 read_one front piece stack rest stands takes = RunLaws.next Produces matches tables predictive file front piece stack rest stands takes
 
 pub accepts : (pieces : List Token) (stack : List Wanted) → Stands pieces stack → vanish stack ≡ true → SpellText pieces

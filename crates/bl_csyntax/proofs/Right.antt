@@ -1,5 +1,27 @@
 -- The tables are right, and one piece decides.
-use Rattle.std.proofs.Common.{◌≡◌, ◌≤◌, Bool, true, false, not, cond, ◌||◌, ◌⊎◌, ⊎_elim, inl, inr, List, [], ◌∷◌, ◌++◌, refl, ap, sym, ◌∙◌, subst}
+use Rattle.std.proofs.Common.{
+  ◌≡◌,
+  ◌≤◌,
+  Bool,
+  true,
+  false,
+  not,
+  cond,
+  ◌||◌,
+  ◌⊎◌,
+  ⊎_elim,
+  inl,
+  inr,
+  List,
+  [],
+  ◌∷◌,
+  ◌++◌,
+  refl,
+  ap,
+  sym,
+  ◌∙◌,
+  subst,
+}
 use Rattle.std.specs.Prelude.{Some, None, nat_le}
 use Rattle.std.proofs.lemmas.Bool.{leb-true, le-leb}
 use Rattle.std.specs.List.{list_all, list_any}
@@ -18,7 +40,8 @@ use Rattle.bl_csyntax.proofs.Checks.{are_apart, are_within, all_on, are_separate
 -- classes
 
 -- one of the classes that all pass a test has the piece
-all_of_them : (P : Type 0) (test : Class → Bool) (xs : List Class) (t : Token) → list_all test xs ≡ true → has xs t ≡ true → ((k : Class) → test k ≡ true → matches k t ≡ true → P) → P
+all_of_them : (P : Type 0) (test : Class → Bool) (xs : List Class) (t : Token) → list_all test xs ≡ true → has xs t ≡ true →
+    ((k : Class) → test k ≡ true → matches k t ≡ true → P) → P
 all_of_them P test [] t all is give = absurd (not_both false is refl)
 all_of_them P test (x ∷ xs) t all is give = by_first (matches x t) refl is (λ h. all_of_them P test xs t (and_right (test x) _ all) h give)
   where
@@ -37,7 +60,8 @@ within_one : (k : Class) (ys : List Class) (t : Token) → list_any (same_class 
 within_one k [] t any is = absurd (not_both false any refl)
 within_one k (y ∷ ys) t any is = by_same (same_class k y) refl any (λ h. within_one k ys t h is)
   where
-    by_same : (b : Bool) → same_class k y ≡ b → b || list_any (same_class k) ys ≡ true → (list_any (same_class k) ys ≡ true → has ys t ≡ true) → matches y t || has ys t ≡ true
+    by_same : (b : Bool) → same_class k y ≡ b → b || list_any (same_class k) ys ≡ true →
+        (list_any (same_class k) ys ≡ true → has ys t ≡ true) → matches y t || has ys t ≡ true
     by_same true e any rest = or_left _ _ (subst (λ (c : Class). matches c t ≡ true) (same_is k y e) is)
     by_same false e any rest = or_right (matches y t) _ (rest any)
 
@@ -89,7 +113,8 @@ is_empty (q ∷ ps) e = by_first (is_none q.shapes) refl e (is_empty ps)
 
 -- choices
 
-before_on : (p : Production) (ss : List Shape) (cs : List Choice) (t : Token) → has (firsts starts ss) t ≡ true → has (all_on (choice_before p ss cs)) t ≡ true
+before_on : (p : Production) (ss : List Shape) (cs : List Choice) (t : Token) → has (firsts starts ss) t ≡ true →
+    has (all_on (choice_before p ss cs)) t ≡ true
 before_on p [] cs t is = absurd (not_both false is refl)
 before_on p (x ∷ q) cs t is = has_append (firsts starts (x ∷ q)) (all_on cs) t ∙ or_left _ _ is
 
@@ -97,12 +122,14 @@ later_on : (p : Production) (ss : List Shape) (cs : List Choice) (t : Token) →
 later_on p [] cs t is = is
 later_on p (x ∷ q) cs t is = has_append (firsts starts (x ∷ q)) (all_on cs) t ∙ or_right (has (firsts starts (x ∷ q)) t) _ is
 
-pub on_choice : (ps : List Production) (p : Production) (t : Token) → IsAmong p ps → has (firsts starts p.shapes) t ≡ true → has (all_on (choices_of ps)) t ≡ true
+pub on_choice : (ps : List Production) (p : Production) (t : Token) → IsAmong p ps → has (firsts starts p.shapes) t ≡ true →
+    has (all_on (choices_of ps)) t ≡ true
 on_choice [] p t among is = elim among [ ]
 on_choice (r ∷ ps) p t here is = before_on p p.shapes (choices_of ps) t is
 on_choice (r ∷ ps) p t (later among) is = later_on r r.shapes (choices_of ps) t (on_choice ps p t among is)
 
-chosen_here : (p : Production) (ss : List Shape) (cs : List Choice) (t : Token) → has (firsts starts ss) t ≡ true → chosen (choice_before p ss cs) t ≡ Some p
+chosen_here : (p : Production) (ss : List Shape) (cs : List Choice) (t : Token) → has (firsts starts ss) t ≡ true →
+    chosen (choice_before p ss cs) t ≡ Some p
 chosen_here p [] cs t is = absurd (not_both false is refl)
 chosen_here p (x ∷ q) cs t is = rw is refl
 
@@ -110,13 +137,16 @@ separate_later : (p : Production) (ss : List Shape) (cs : List Choice) → are_s
 separate_later p [] cs e = e
 separate_later p (x ∷ q) cs e = and_right (are_apart (firsts starts (x ∷ q)) (all_on cs)) _ e
 
-chosen_later : (p : Production) (ss : List Shape) (cs : List Choice) (t : Token) → are_separate (choice_before p ss cs) ≡ true → has (all_on cs) t ≡ true → chosen (choice_before p ss cs) t ≡ chosen cs t
+chosen_later : (p : Production) (ss : List Shape) (cs : List Choice) (t : Token) → are_separate (choice_before p ss cs) ≡ true →
+    has (all_on cs) t ≡ true → chosen (choice_before p ss cs) t ≡ chosen cs t
 chosen_later p [] cs t e is = refl
 chosen_later p (x ∷ q) cs t e is =
-    let other : has (firsts starts (x ∷ q)) t ≡ false = not_true _ (λ on. not_both _ is (apart (firsts starts (x ∷ q)) (all_on cs) t (and_left _ _ e) on)) in
+    let other : has (firsts starts (x ∷ q)) t ≡ false =
+    not_true _ (λ on. not_both _ is (apart (firsts starts (x ∷ q)) (all_on cs) t (and_left _ _ e) on)) in
     rw other refl
 
-pub chosen_choice : (ps : List Production) (p : Production) (t : Token) → are_separate (choices_of ps) ≡ true → IsAmong p ps → has (firsts starts p.shapes) t ≡ true → chosen (choices_of ps) t ≡ Some p
+pub chosen_choice : (ps : List Production) (p : Production) (t : Token) → are_separate (choices_of ps) ≡ true → IsAmong p ps →
+    has (firsts starts p.shapes) t ≡ true → chosen (choices_of ps) t ≡ Some p
 chosen_choice [] p t e among is = elim among [ ]
 chosen_choice (r ∷ ps) p t e here is = chosen_here p p.shapes (choices_of ps) t is
 chosen_choice (r ∷ ps) p t e (later among) is =
@@ -127,11 +157,13 @@ pub chosen_none : (cs : List Choice) (t : Token) → has (all_on cs) t ≡ false
 chosen_none [] t none = refl
 chosen_none (x ∷ cs) t none = by_here (has x.on t) (has (all_on cs) t) refl (sym (has_append x.on (all_on cs) t) ∙ none) (chosen_none cs t)
   where
-    by_here : (a b : Bool) → has (all_on cs) t ≡ b → a || b ≡ false → (has (all_on cs) t ≡ false → chosen cs t ≡ None) → cond a (Some x.production) (chosen cs t) ≡ None
+    by_here : (a b : Bool) → has (all_on cs) t ≡ b → a || b ≡ false → (has (all_on cs) t ≡ false → chosen cs t ≡ None) →
+        cond a (Some x.production) (chosen cs t) ≡ None
     by_here true b eb none rest = absurd (not_both true refl none)
     by_here false b eb none rest = rest (eb ∙ none)
 
-chosen_first : (r : Production) (ss : List Shape) (cs : List Choice) (t : Token) (p : Production) → chosen (choice_before r ss cs) t ≡ Some p → (r ≡ p) ⊎ (chosen cs t ≡ Some p)
+chosen_first : (r : Production) (ss : List Shape) (cs : List Choice) (t : Token) (p : Production) →
+    chosen (choice_before r ss cs) t ≡ Some p → (r ≡ p) ⊎ (chosen cs t ≡ Some p)
 chosen_first r [] cs t p is = inr is
 chosen_first r (x ∷ q) cs t p is = by_here (has (firsts starts (x ∷ q)) t) is
   where
@@ -142,11 +174,13 @@ chosen_first r (x ∷ q) cs t p is = by_here (has (firsts starts (x ∷ q)) t) i
 pub chosen_among : (ps : List Production) (t : Token) (p : Production) → chosen (choices_of ps) t ≡ Some p → IsAmong p ps
 chosen_among [] t p is = absurd (no_some p is)
 chosen_among (r ∷ ps) t p is =
-    ⊎_elim (λ e. subst (λ (q : Production). IsAmong q (r ∷ ps)) e here) (λ e. later (chosen_among ps t p e)) (chosen_first r r.shapes (choices_of ps) t p is)
+    ⊎_elim (λ e. subst (λ (q : Production). IsAmong q (r ∷ ps)) e here) (λ e. later (chosen_among ps t p e))
+    (chosen_first r r.shapes (choices_of ps) t p is)
 
 -- the parts of the grammar
 
-pub chosen_of : (A : Part) (p : Production) (t : Token) → IsAmong p (productions A) → has (firsts starts p.shapes) t ≡ true → chosen (choices A) t ≡ Some p
+pub chosen_of : (A : Part) (p : Production) (t : Token) → IsAmong p (productions A) → has (firsts starts p.shapes) t ≡ true →
+    chosen (choices A) t ≡ Some p
 unfolding choices
 chosen_of A p t among is = chosen_choice (productions A) p t (separate A) among is
 
@@ -154,7 +188,8 @@ pub begun_of : (A : Part) (p : Production) (t : Token) → IsAmong p (production
 unfolding choices
 begun_of A p t among is = subst (λ (cs : List Class). has cs t ≡ true) (starts_are A) (on_choice (productions A) p t among is)
 
-pub pick_of : (A : Roomed) (p : Production) (t : Token) → IsAmong p (productions A.part) → p.needs ≤ A.room → has (firsts starts p.shapes) t ≡ true → pick A t ≡ Some (wanted_of A.room t p)
+pub pick_of : (A : Roomed) (p : Production) (t : Token) → IsAmong p (productions A.part) → p.needs ≤ A.room →
+    has (firsts starts p.shapes) t ≡ true → pick A t ≡ Some (wanted_of A.room t p)
 unfolding pick
 pick_of A p t among room is = rw (chosen_of A.part p t among is, le-leb p.needs A.room room) refl
 
@@ -164,7 +199,8 @@ unfolding pick
 unpicked A t may none = rw (chosen_none (choices A.part) t (subst (λ (cs : List Class). has cs t ≡ false) (sym (starts_are A.part)) none), may) refl
 
 pub empty_pick : (A : Roomed) (t : Token) → absent A.part ≡ true → has (avoided A.part) t ≡ false → pick A t ≡ Some []
-empty_pick A t may none = unpicked A t may (not_true _ (λ on. not_both _ (within (starts A.part) (avoided A.part) t (own (absent A.part) may (own_avoided A.part)) on) none))
+empty_pick A t may none = unpicked A t may (not_true _
+    (λ on. not_both _ (within (starts A.part) (avoided A.part) t (own (absent A.part) may (own_avoided A.part)) on) none))
   where
     own : (b : Bool) → b ≡ true → not b || are_within (starts A.part) (avoided A.part) ≡ true → are_within (starts A.part) (avoided A.part) ≡ true
     own true e h = h

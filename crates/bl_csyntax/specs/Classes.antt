@@ -7,7 +7,15 @@ use Rattle.bl_ctext.specs.Token.{Token}
 use Rattle.bl_ctext.specs.Names.{is_among, is_name, is_turn_name, prelude_functions}
 use Rattle.bl_ctext.specs.Spelling.{negatives}
 use Rattle.bl_csyntax.specs.declared.grammar.Group.{Group}
-use Rattle.bl_csyntax.specs.declared.grammar.Group.TheVariants.{ScalarTypes, PlainLiterals, Operators, IndexFunctions, StructWords, FunctionWords, PreludeFunctions}
+use Rattle.bl_csyntax.specs.declared.grammar.Group.TheVariants.{
+  ScalarTypes,
+  PlainLiterals,
+  Operators,
+  IndexFunctions,
+  StructWords,
+  FunctionWords,
+  PreludeFunctions,
+}
 use Rattle.bl_csyntax.specs.declared.grammar.Digits.{Digits}
 use Rattle.bl_csyntax.specs.declared.grammar.Digits.TheVariants.{Elements, Int, Negated, Unsigned}
 use Rattle.bl_csyntax.specs.Pieces.{is_same}
@@ -23,7 +31,8 @@ pub data Class : Type 0 where
 -- the words and signs of a list
 abbrev pub words_of : Group → List Token
 words_of ScalarTypes =
-    codes "bool" ∷ codes "int8_t" ∷ codes "int16_t" ∷ codes "int32_t" ∷ codes "int64_t" ∷ codes "uint8_t" ∷ codes "uint16_t" ∷ codes "uint32_t" ∷ codes "uint64_t" ∷ []
+    codes "bool" ∷ codes "int8_t" ∷ codes "int16_t" ∷ codes "int32_t" ∷ codes "int64_t" ∷ codes "uint8_t" ∷ codes "uint16_t"
+    ∷ codes "uint32_t" ∷ codes "uint64_t" ∷ []
 words_of PlainLiterals = codes "true" ∷ codes "false" ∷ codes "INT8_MIN" ∷ codes "INT16_MIN" ∷ codes "INT32_MIN" ∷ codes "INT64_MIN" ∷ []
 words_of Operators = codes "==" ∷ codes "!=" ∷ codes "<" ∷ codes "<=" ∷ codes ">" ∷ codes ">=" ∷ codes "&&" ∷ codes "||" ∷ []
 words_of IndexFunctions = codes "bl_ix_s" ∷ codes "bl_ix_u" ∷ []

@@ -4,7 +4,41 @@ use Rattle.std.specs.Prelude.{nat_lt, nat_le, codes}
 use Rattle.bl_grammar.specs.declared.symbol.Symbol.TheVariants.{Terminal, Nonterminal}
 use Rattle.bl_csyntax.specs.declared.grammar.Group.TheVariants.{ScalarTypes, PlainLiterals, PreludeFunctions}
 use Rattle.bl_csyntax.specs.declared.grammar.Part.{Part}
-use Rattle.bl_csyntax.specs.declared.grammar.Part.TheVariants.{File, Structs, Struct, Members, Member, Length, Funcs, Func, PlainFunc, FuncRest, Params, ParamRest, Param, Star, Locals, Stmts, Stmt, Else, Turns, AfterName, AssignTail, Value, AfterOpen, Expr, Simple, Inside, NameUse, Steps, Index, Args, ArgRest, Arg, Place}
+use Rattle.bl_csyntax.specs.declared.grammar.Part.TheVariants.{
+  File,
+  Structs,
+  Struct,
+  Members,
+  Member,
+  Length,
+  Funcs,
+  Func,
+  PlainFunc,
+  FuncRest,
+  Params,
+  ParamRest,
+  Param,
+  Star,
+  Locals,
+  Stmts,
+  Stmt,
+  Else,
+  Turns,
+  AfterName,
+  AssignTail,
+  Value,
+  AfterOpen,
+  Expr,
+  Simple,
+  Inside,
+  NameUse,
+  Steps,
+  Index,
+  Args,
+  ArgRest,
+  Arg,
+  Place,
+}
 use Rattle.bl_csyntax.specs.Classes.{Class}
 use Rattle.bl_csyntax.specs.Classes.Class.{exactly, one_of, a_name}
 use Rattle.bl_csyntax.specs.Grammar.{Shape, Production, plain, productions}
@@ -20,7 +54,8 @@ type_starts = one_of ScalarTypes ∷ exactly (codes "struct") ∷ []
 -- those that a statement begins with
 abbrev pub statement_starts : List Class
 statement_starts =
-    a_name ∷ one_of PreludeFunctions ∷ exactly (codes "(") ∷ exactly (codes "if") ∷ exactly (codes "{") ∷ exactly (codes "break") ∷ exactly (codes "return") ∷ []
+    a_name ∷ one_of PreludeFunctions ∷ exactly (codes "(") ∷ exactly (codes "if") ∷ exactly (codes "{") ∷ exactly (codes "break")
+    ∷ exactly (codes "return") ∷ []
 
 -- those that a constant begins with
 abbrev pub constant_starts : List Class

@@ -7,11 +7,60 @@ use Rattle.bl_ctext.specs.Names.{is_turn_name}
 use Rattle.bl_grammar.specs.declared.symbol.Symbol.{Symbol}
 use Rattle.bl_grammar.specs.declared.symbol.Symbol.TheVariants.{Terminal, Nonterminal}
 use Rattle.bl_grammar.specs.Derivations
-use Rattle.bl_csyntax.specs.declared.grammar.Group.TheVariants.{ScalarTypes, PlainLiterals, Operators, IndexFunctions, StructWords, FunctionWords, PreludeFunctions}
+use Rattle.bl_csyntax.specs.declared.grammar.Group.TheVariants.{
+  ScalarTypes,
+  PlainLiterals,
+  Operators,
+  IndexFunctions,
+  StructWords,
+  FunctionWords,
+  PreludeFunctions,
+}
 use Rattle.bl_csyntax.specs.declared.grammar.Digits.{Digits}
 use Rattle.bl_csyntax.specs.declared.grammar.Digits.TheVariants.{Elements, Int, Negated, Unsigned}
 use Rattle.bl_csyntax.specs.declared.grammar.Part.{Part}
-use Rattle.bl_csyntax.specs.declared.grammar.Part.TheVariants.{File, Structs, Struct, StructName, Members, Member, TypeName, Length, Funcs, Func, PlainFunc, FuncRest, FuncName, Params, ParamRest, Param, Star, Locals, Local, Stmts, Stmt, Else, Turns, AfterName, AssignTail, Value, AfterOpen, Result, Expr, Simple, Constant, Inside, Negative, NameUse, Steps, Index, Args, ArgRest, Arg, Place}
+use Rattle.bl_csyntax.specs.declared.grammar.Part.TheVariants.{
+  File,
+  Structs,
+  Struct,
+  StructName,
+  Members,
+  Member,
+  TypeName,
+  Length,
+  Funcs,
+  Func,
+  PlainFunc,
+  FuncRest,
+  FuncName,
+  Params,
+  ParamRest,
+  Param,
+  Star,
+  Locals,
+  Local,
+  Stmts,
+  Stmt,
+  Else,
+  Turns,
+  AfterName,
+  AssignTail,
+  Value,
+  AfterOpen,
+  Result,
+  Expr,
+  Simple,
+  Constant,
+  Inside,
+  Negative,
+  NameUse,
+  Steps,
+  Index,
+  Args,
+  ArgRest,
+  Arg,
+  Place,
+}
 use Rattle.bl_csyntax.specs.declared.grammar.Within.{Within}
 use Rattle.bl_csyntax.specs.declared.grammar.Roomed.{Roomed}
 use Rattle.bl_csyntax.specs.Classes.{Class, matches}
@@ -68,15 +117,18 @@ constant bytes of = word bytes ∷ word (codes "(") ∷ digits of ∷ word (code
 -- a loop behind its brace and the type of its turns; two of its brackets are open around its condition and its statements
 abbrev pub turns : List Shape
 turns =
-    turn_name ∷ word (codes "=") ∷ word (codes "0") ∷ word (codes ";") ∷ word (codes "while") ∷ word (codes "(") ∷ inside 2 Expr ∷ word (codes ")") ∷
-    word (codes "{") ∷ turn_name ∷ word (codes "=") ∷ word (codes "bl_turn") ∷ word (codes "(") ∷ turn_name ∷ word (codes ")") ∷ word (codes ";") ∷
+    turn_name ∷ word (codes "=") ∷ word (codes "0") ∷ word (codes ";") ∷ word (codes "while") ∷ word (codes "(") ∷ inside 2 Expr
+    ∷ word (codes ")") ∷
+    word (codes "{") ∷ turn_name ∷ word (codes "=") ∷ word (codes "bl_turn") ∷ word (codes "(") ∷ turn_name ∷ word (codes ")")
+    ∷ word (codes ";") ∷
     inside 2 Stmts ∷ word (codes "}") ∷ word (codes "}") ∷ []
 
 -- the productions of each part; `plain []` says that the part may be absent
 abbrev pub productions : Part → List Production
 productions File = plain (the Struct ∷ the Structs ∷ the Func ∷ the Funcs ∷ []) ∷ []
 productions Structs = plain (the Struct ∷ the Structs ∷ []) ∷ plain [] ∷ []
-productions Struct = plain (word (codes "struct") ∷ the StructName ∷ word (codes "{") ∷ inside 1 Member ∷ inside 1 Members ∷ word (codes "}") ∷ word (codes ";") ∷ []) ∷ []
+productions Struct = plain (word (codes "struct") ∷ the StructName ∷ word (codes "{") ∷ inside 1 Member ∷ inside 1 Members
+    ∷ word (codes "}") ∷ word (codes ";") ∷ []) ∷ []
 productions StructName = plain (name ∷ []) ∷ plain (Terminal (one_of StructWords) ∷ []) ∷ []
 productions Members = plain (the Member ∷ the Members ∷ []) ∷ plain [] ∷ []
 productions Member = plain (the TypeName ∷ name ∷ the Length ∷ word (codes ";") ∷ []) ∷ []
@@ -86,7 +138,8 @@ productions Funcs = plain (the Func ∷ the Funcs ∷ []) ∷ plain [] ∷ []
 productions Func = plain (word (codes "static") ∷ the PlainFunc ∷ []) ∷ plain (the PlainFunc ∷ []) ∷ []
 productions PlainFunc = plain (word (codes "void") ∷ the FuncRest ∷ []) ∷ plain (Terminal (one_of ScalarTypes) ∷ the FuncRest ∷ []) ∷ []
 productions FuncRest =
-    plain (the FuncName ∷ word (codes "(") ∷ inside 1 Params ∷ word (codes ")") ∷ word (codes "{") ∷ inside 1 Locals ∷ inside 1 Stmts ∷ word (codes "}") ∷ []) ∷ []
+    plain (the FuncName ∷ word (codes "(") ∷ inside 1 Params ∷ word (codes ")") ∷ word (codes "{") ∷ inside 1 Locals
+    ∷ inside 1 Stmts ∷ word (codes "}") ∷ []) ∷ []
 productions FuncName = plain (name ∷ []) ∷ plain (Terminal (one_of FunctionWords) ∷ []) ∷ []
 productions Params = plain (the Param ∷ the ParamRest ∷ []) ∷ plain [] ∷ []
 productions ParamRest = plain (word (codes ",") ∷ the Param ∷ the ParamRest ∷ []) ∷ plain [] ∷ []
@@ -95,13 +148,15 @@ productions Star = plain (word (codes "*") ∷ []) ∷ plain [] ∷ []
 productions Locals = plain (the Local ∷ the Locals ∷ []) ∷ plain [] ∷ []
 productions Local =
     plain (Terminal (one_of ScalarTypes) ∷ name ∷ word (codes "=") ∷ word (codes "0") ∷ word (codes ";") ∷ []) ∷
-    plain (word (codes "struct") ∷ the StructName ∷ name ∷ word (codes "=") ∷ word (codes "{") ∷ word (codes "0") ∷ word (codes "}") ∷ word (codes ";") ∷ []) ∷ []
+    plain (word (codes "struct") ∷ the StructName ∷ name ∷ word (codes "=") ∷ word (codes "{") ∷ word (codes "0") ∷ word (codes "}")
+    ∷ word (codes ";") ∷ []) ∷ []
 productions Stmts = plain (the Stmt ∷ the Stmts ∷ []) ∷ plain [] ∷ []
 productions Stmt =
     plain (name ∷ the AfterName ∷ []) ∷
     needing 1 (Terminal (one_of PreludeFunctions) ∷ word (codes "(") ∷ inside 1 Args ∷ word (codes ")") ∷ word (codes ";") ∷ []) ∷
     needing 1 (word (codes "(") ∷ word (codes "*") ∷ name ∷ word (codes ")") ∷ the AssignTail ∷ []) ∷
-    needing 1 (word (codes "if") ∷ word (codes "(") ∷ inside 1 Expr ∷ word (codes ")") ∷ word (codes "{") ∷ inside 1 Stmts ∷ word (codes "}") ∷ the Else ∷ []) ∷
+    needing 1 (word (codes "if") ∷ word (codes "(") ∷ inside 1 Expr ∷ word (codes ")") ∷ word (codes "{") ∷ inside 1 Stmts
+    ∷ word (codes "}") ∷ the Else ∷ []) ∷
     needing 3 (word (codes "{") ∷ word (codes "uint32_t") ∷ the Turns ∷ []) ∷
     plain (word (codes "break") ∷ word (codes ";") ∷ []) ∷
     plain (word (codes "return") ∷ the Result ∷ []) ∷ []
@@ -125,8 +180,10 @@ productions Simple =
     plain (Terminal (one_of PlainLiterals) ∷ []) ∷
     needing 1 (the Constant ∷ []) ∷ []
 productions Constant =
-    plain (constant (codes "INT8_C") (Int W8)) ∷ plain (constant (codes "INT16_C") (Int W16)) ∷ plain (constant (codes "INT32_C") (Int W32)) ∷ plain (constant (codes "INT64_C") (Int W64)) ∷
-    plain (constant (codes "UINT8_C") (Unsigned W8)) ∷ plain (constant (codes "UINT16_C") (Unsigned W16)) ∷ plain (constant (codes "UINT32_C") (Unsigned W32)) ∷ plain (constant (codes "UINT64_C") (Unsigned W64)) ∷ []
+    plain (constant (codes "INT8_C") (Int W8)) ∷ plain (constant (codes "INT16_C") (Int W16))
+    ∷ plain (constant (codes "INT32_C") (Int W32)) ∷ plain (constant (codes "INT64_C") (Int W64)) ∷
+    plain (constant (codes "UINT8_C") (Unsigned W8)) ∷ plain (constant (codes "UINT16_C") (Unsigned W16))
+    ∷ plain (constant (codes "UINT32_C") (Unsigned W32)) ∷ plain (constant (codes "UINT64_C") (Unsigned W64)) ∷ []
 -- the parenthesis before it is the first of its brackets
 productions Inside =
     plain (word (codes "*") ∷ name ∷ word (codes ")") ∷ the Steps ∷ []) ∷
@@ -134,19 +191,22 @@ productions Inside =
     needing 2 (word (codes "-") ∷ the Negative ∷ word (codes ")") ∷ []) ∷
     plain (inside 1 Expr ∷ Terminal (one_of Operators) ∷ inside 1 Expr ∷ word (codes ")") ∷ []) ∷ []
 productions Negative =
-    plain (constant (codes "INT8_C") (Negated W8)) ∷ plain (constant (codes "INT16_C") (Negated W16)) ∷ plain (constant (codes "INT32_C") (Negated W32)) ∷ plain (constant (codes "INT64_C") (Negated W64)) ∷ []
+    plain (constant (codes "INT8_C") (Negated W8)) ∷ plain (constant (codes "INT16_C") (Negated W16))
+    ∷ plain (constant (codes "INT32_C") (Negated W32)) ∷ plain (constant (codes "INT64_C") (Negated W64)) ∷ []
 productions NameUse =
     needing 1 (word (codes "(") ∷ inside 1 Args ∷ word (codes ")") ∷ []) ∷
     plain (word (codes ".") ∷ name ∷ the Index ∷ the Steps ∷ []) ∷
     plain [] ∷ []
 productions Steps = plain (word (codes ".") ∷ name ∷ the Index ∷ the Steps ∷ []) ∷ plain [] ∷ []
 productions Index =
-    needing 2 (word (codes "[") ∷ Terminal (one_of IndexFunctions) ∷ word (codes "(") ∷ inside 2 Expr ∷ word (codes ",") ∷ digits Elements ∷ word (codes ")") ∷ word (codes "]") ∷ []) ∷
+    needing 2 (word (codes "[") ∷ Terminal (one_of IndexFunctions) ∷ word (codes "(") ∷ inside 2 Expr ∷ word (codes ",")
+    ∷ digits Elements ∷ word (codes ")") ∷ word (codes "]") ∷ []) ∷
     plain [] ∷ []
 productions Args = plain (the Arg ∷ the ArgRest ∷ []) ∷ plain [] ∷ []
 productions ArgRest = plain (word (codes ",") ∷ the Arg ∷ the ArgRest ∷ []) ∷ plain [] ∷ []
 productions Arg = plain (word (codes "&") ∷ the Place ∷ []) ∷ plain (the Expr ∷ []) ∷ []
-productions Place = plain (name ∷ the Steps ∷ []) ∷ needing 1 (word (codes "(") ∷ word (codes "*") ∷ name ∷ word (codes ")") ∷ the Steps ∷ []) ∷ []
+productions Place = plain (name ∷ the Steps ∷ []) ∷ needing 1
+    (word (codes "(") ∷ word (codes "*") ∷ name ∷ word (codes ")") ∷ the Steps ∷ []) ∷ []
 
 -- the class, where this is the name of the loop's turns
 abbrev pub named : Token → Class → Class

@@ -6,4 +6,4 @@ pub mod Follow
 pub mod Stack
 pub mod Rules
 pub mod Expects
-pub mod Rows
+pub mod inner

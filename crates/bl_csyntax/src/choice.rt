@@ -4,7 +4,7 @@ ghost use Rattle.std.specs.Prelude.{◌≡◌, ℕ, List, Bool, true, false, Non
 ghost use Rattle.bl_csyntax.specs.Classes.{matches};
 ghost use Rattle.bl_csyntax.specs.Tables.{choices, chosen, has, absent, decided, pick};
 ghost use Rattle.bl_csyntax.specs.Stack.{class_shown};
-ghost use Rattle.bl_csyntax.specs.Rows.{choice_shown, wanted_from, production_shown};
+ghost use Rattle.bl_csyntax.specs.inner.Rows.{choice_shown, wanted_from, production_shown};
 
 use crate::classes::is_of;
 use crate::grammar::{Class, Part, Roomed, Within};

@@ -1,5 +1,10 @@
 //! Which pieces spell a text of the C subset, and where the others fail first (docs/C_SUBSET.md, "Grammar" and "Where a
-//! text fails").
+//! text fails"). `check` answers None exactly where the pieces of a text behind its prelude spell one
+//! (`specs/Grammar.antt`, `SpellText`), and else the offset at which they stop beginning one (`specs/Rules.antt`,
+//! `FailsFirst`), with both halves, as in `bl_syntax`; want of memory aside. The limit of 2,000 open brackets is part
+//! of the grammar.
+//!
+//! Laws: a text fails first at one place, the pieces of a part are read in one way, and a reader knows what follows.
 #![tactic(auto)]
 
 mod choice;

@@ -4,7 +4,7 @@ ghost use Rattle.std.specs.Prelude.{◌≡◌, ℕ, true, List, [], ◌∷◌, �
 ghost use Rattle.std.specs.List.{list_all};
 ghost use Rattle.bl_csyntax.specs.Grammar.{placed, named};
 ghost use Rattle.bl_csyntax.specs.Tables.{turn_of};
-ghost use Rattle.bl_csyntax.specs.Rows.{shape_shown};
+ghost use Rattle.bl_csyntax.specs.inner.Rows.{shape_shown};
 ghost use Rattle.bl_csyntax.specs.Stack.{IsGood, Stands, Answers, may_vanish, class_shown, shown};
 
 use crate::choice::{Shape, may_be_absent, pick};

@@ -1,5 +1,37 @@
 -- The pieces of a text that derives are tokens, and no more brackets are open at once than there is room for.
-use Rattle.std.proofs.Common.{◌≡◌, ℕ, suc, ◌+◌, ◌-◌, ◌^◌, ◌≤◌, ◌<◌, max, cond, Bool, true, false, not, ◌&&◌, nat_eq, nat_le, List, [], ◌∷◌, ◌++◌, map, refl, sym, ap, ◌∙◌, subst, append_assoc, append-nil, arith, Option}
+use Rattle.std.proofs.Common.{
+  ◌≡◌,
+  ℕ,
+  suc,
+  ◌+◌,
+  ◌-◌,
+  ◌^◌,
+  ◌≤◌,
+  ◌<◌,
+  max,
+  cond,
+  Bool,
+  true,
+  false,
+  not,
+  ◌&&◌,
+  nat_eq,
+  nat_le,
+  List,
+  [],
+  ◌∷◌,
+  ◌++◌,
+  map,
+  refl,
+  sym,
+  ap,
+  ◌∙◌,
+  subst,
+  append_assoc,
+  append-nil,
+  arith,
+  Option,
+}
 use Rattle.std.specs.Fmt.{decimal}
 use Rattle.std.specs.List.{list_all}
 use Rattle.std.proofs.lemmas.Bool.Decides.{nat_tests}
@@ -15,10 +47,59 @@ use Rattle.bl_ctext.proofs.Words.{name-token, turn_name-token, decimal-token}
 use Rattle.bl_grammar.specs.declared.symbol.Symbol.TheVariants.{Terminal, Nonterminal}
 use Rattle.bl_grammar.specs.Derivations.Derives.{done, terminal, part}
 use Rattle.bl_csyntax.specs.declared.grammar.Group.{Group}
-use Rattle.bl_csyntax.specs.declared.grammar.Group.TheVariants.{ScalarTypes, PlainLiterals, Operators, IndexFunctions, StructWords, FunctionWords, PreludeFunctions}
+use Rattle.bl_csyntax.specs.declared.grammar.Group.TheVariants.{
+  ScalarTypes,
+  PlainLiterals,
+  Operators,
+  IndexFunctions,
+  StructWords,
+  FunctionWords,
+  PreludeFunctions,
+}
 use Rattle.bl_csyntax.specs.declared.grammar.Digits.{Digits}
 use Rattle.bl_csyntax.specs.declared.grammar.Part.{Part}
-use Rattle.bl_csyntax.specs.declared.grammar.Part.TheVariants.{File, Structs, Struct, StructName, Members, Member, TypeName, Length, Funcs, Func, PlainFunc, FuncRest, FuncName, Params, ParamRest, Param, Star, Locals, Local, Stmts, Stmt, Else, Turns, AfterName, AssignTail, Value, AfterOpen, Result, Expr, Simple, Constant, Inside, Negative, NameUse, Steps, Index, Args, ArgRest, Arg, Place}
+use Rattle.bl_csyntax.specs.declared.grammar.Part.TheVariants.{
+  File,
+  Structs,
+  Struct,
+  StructName,
+  Members,
+  Member,
+  TypeName,
+  Length,
+  Funcs,
+  Func,
+  PlainFunc,
+  FuncRest,
+  FuncName,
+  Params,
+  ParamRest,
+  Param,
+  Star,
+  Locals,
+  Local,
+  Stmts,
+  Stmt,
+  Else,
+  Turns,
+  AfterName,
+  AssignTail,
+  Value,
+  AfterOpen,
+  Result,
+  Expr,
+  Simple,
+  Constant,
+  Inside,
+  Negative,
+  NameUse,
+  Steps,
+  Index,
+  Args,
+  ArgRest,
+  Arg,
+  Place,
+}
 use Rattle.bl_csyntax.specs.declared.grammar.Roomed.{Roomed}
 use Rattle.bl_csyntax.specs.declared.grammar.Within.{Within}
 use Rattle.bl_csyntax.specs.Classes.{Class, words_of, bound, matches}
@@ -77,11 +158,13 @@ is_last (shape ∷ shapes) = false
 abbrev sound : ℕ → ℕ → List Shape → Bool
 sound m opened [] = nat_eq opened 0
 sound m opened (Terminal (exactly w) ∷ shapes) =
-    is_token w && cond (is_opening w) (nat_le (suc opened) m && sound m (suc opened) shapes) (cond (is_closing w) (nat_le 1 opened && sound m (opened - 1) shapes) (sound m opened shapes))
+    is_token w && cond (is_opening w) (nat_le (suc opened) m && sound m (suc opened) shapes)
+    (cond (is_closing w) (nat_le 1 opened && sound m (opened - 1) shapes) (sound m opened shapes))
 sound m opened (Terminal _ ∷ shapes) = sound m opened shapes
 sound m opened (Nonterminal within ∷ shapes) =
     nat_le (within.around + least_room within.part) m && cond (nat_eq (inner within.part) 0)
-    (cond (is_constant within.part) (nat_le (opened + own_depth within.part) m) (nat_le opened within.around && nat_le within.around m) && sound m opened shapes)
+    (cond (is_constant within.part) (nat_le (opened + own_depth within.part) m)
+    (nat_le opened within.around && nat_le within.around m) && sound m opened shapes)
     (nat_eq opened (inner within.part) && (nat_eq within.around 0 && (not (is_constant within.part) && is_last shapes)))
 
 -- the room that a production has at least
@@ -172,7 +255,8 @@ number_plain : (of : Digits) (t : Token) → matches (number of) t ≡ true → 
 number_plain of t m = by_spelled (number_is of t m)
   where
     by_spelled : Spelled of t → plain t ≡ true
-    by_spelled s = subst (λ t. plain t ≡ true) (sym s.is) (by_both (decimal s.n) (decimal-token s.n (wide s.n (bound of) s.high (bound_le of))) (decimal-plain s.n (wide s.n (bound of) s.high (bound_le of))))
+    by_spelled s = subst (λ t. plain t ≡ true) (sym s.is)
+        (by_both (decimal s.n) (decimal-token s.n (wide s.n (bound of) s.high (bound_le of))) (decimal-plain s.n (wide s.n (bound of) s.high (bound_le of))))
 
 turn_plain : (own t : Token) → is_turn_name own ≡ true → matches (exactly own) t ≡ true → plain t ≡ true
 turn_plain own t h m = subst (λ t. plain t ≡ true) (word_is m) (by_both own (turn_name-token own h) (turn_name-plain own h))
@@ -201,13 +285,19 @@ Marks (Nonterminal whole ∷ wanted) ts = (a : List Token) × ((b : List Token) 
 kept_as : {opened room : ℕ} {ts us : List Token} → ts ≡ us → Kept opened room us → Kept opened room ts
 kept_as {opened} {room} e k = subst (λ ts. Kept opened room ts) (sym e) k
 
-keep_open : (opened room : ℕ) (t : Token) (b : List Token) → is_opening t ≡ true → is_token t ≡ true → opened ≤ room → Kept (suc opened) room b → Kept opened room (t ∷ b)
-keep_open opened room t b h one le k = record { closes = closes-open opened room t b h le (subst (λ n. Closes n room b) (after opened) k.closes); tokens = both (is_token t) (are_tokens b) one k.tokens }
+keep_open : (opened room : ℕ) (t : Token) (b : List Token) → is_opening t ≡ true → is_token t ≡ true → opened ≤ room →
+    Kept (suc opened) room b → Kept opened room (t ∷ b)
+keep_open opened room t b h one le k = record {
+  closes =
+      closes-open opened room t b h le (subst (λ n. Closes n room b) (after opened) k.closes);
+  tokens = both (is_token t) (are_tokens b) one k.tokens;
+}
   where
     after : (n : ℕ) → suc n ≡ n + 1
     after n = omega arith
 
-keep_close : (opened room : ℕ) (t : Token) (b : List Token) → is_opening t ≡ false → is_closing t ≡ true → is_token t ≡ true → 1 ≤ opened → opened ≤ room → Kept (opened - 1) room b → Kept opened room (t ∷ b)
+keep_close : (opened room : ℕ) (t : Token) (b : List Token) → is_opening t ≡ false → is_closing t ≡ true → is_token t ≡ true →
+    1 ≤ opened → opened ≤ room → Kept (opened - 1) room b → Kept opened room (t ∷ b)
 keep_close opened room t b h i one some le k =
     record {
       closes = subst (λ n. Closes n room (t ∷ b)) (back opened some) (closes-close (opened - 1) room t b h i (at_most opened room some le) k.closes);
@@ -226,11 +316,15 @@ off false h = refl
 
 keep_plain : (opened room : ℕ) (t : Token) (b : List Token) → plain t ≡ true → opened ≤ room → Kept opened room b → Kept opened room (t ∷ b)
 keep_plain opened room t b h le k =
-    record { closes = closes-plain opened room t b (off (is_bracket t) (and-snd (is_token t) (not (is_bracket t)) h)) le k.closes; tokens = both (is_token t) (are_tokens b) (and-fst (is_token t) (not (is_bracket t)) h) k.tokens }
+    record {
+      closes = closes-plain opened room t b (off (is_bracket t) (and-snd (is_token t) (not (is_bracket t)) h)) le k.closes;
+      tokens = both (is_token t) (are_tokens b) (and-fst (is_token t) (not (is_bracket t)) h) k.tokens;
+    }
 
 tokens_both : (xs ys : List Token) → are_tokens xs ≡ true → are_tokens ys ≡ true → are_tokens (xs ++ ys) ≡ true
 tokens_both [] ys h k = k
-tokens_both (x ∷ xs) ys h k = both (is_token x) (are_tokens (xs ++ ys)) (and-fst (is_token x) (are_tokens xs) h) (tokens_both xs ys (and-snd (is_token x) (are_tokens xs) h) k)
+tokens_both (x ∷ xs) ys h k = both (is_token x) (are_tokens (xs ++ ys)) (and-fst (is_token x) (are_tokens xs) h)
+    (tokens_both xs ys (and-snd (is_token x) (are_tokens xs) h) k)
 
 keep_part : (opened room e : ℕ) (a b : List Token) → Kept 0 e a → opened + e ≤ room → Kept opened room b → Kept opened room (a ++ b)
 keep_part opened room e a b h le k = record { closes = closes-append opened room e a b h.closes le k.closes; tokens = tokens_both a b h.tokens k.tokens }
@@ -253,7 +347,8 @@ module _ (m room : ℕ) (le : m ≤ room) where
   abbrev Closed : ℕ → List Shape → List Token → Type 0
   Closed opened shapes b = sound m opened shapes ≡ true → opened ≤ m → Kept opened room b
 
-  by_word : (w : Token) (opened : ℕ) (shapes : List Shape) (b : List Token) → ((n : ℕ) → Closed n shapes b) → Checked m opened (exactly w) shapes → opened ≤ m → Kept opened room (w ∷ b)
+  by_word : (w : Token) (opened : ℕ) (shapes : List Shape) (b : List Token) → ((n : ℕ) → Closed n shapes b) →
+      Checked m opened (exactly w) shapes → opened ≤ m → Kept opened room (w ∷ b)
   by_word w opened shapes b rest h k = by_test (is_opening w) (is_closing w) refl refl
     where
       one : is_token w ≡ true
@@ -315,12 +410,14 @@ last_is : (shapes : List Shape) (room : ℕ) (own : Token) (b : List Token) → 
 last_is [] room own b h r = r
 last_is (shape ∷ shapes) room own b h r = cc
 
-kept_shapes : (m room : ℕ) → m ≤ room → (own : Token) → is_turn_name own ≡ true → (shapes : List Shape) (opened : ℕ) → sound m opened shapes ≡ true → opened ≤ m → (ts : List Token)
+kept_shapes : (m room : ℕ) → m ≤ room → (own : Token) → is_turn_name own ≡ true → (shapes : List Shape) (opened : ℕ) →
+    sound m opened shapes ≡ true → opened ≤ m → (ts : List Token)
     → Marks (map (placed room own) shapes) ts → Kept opened room ts
 kept_shapes m room le own turned [] opened h k ts r =
     subst (λ n. Kept n room ts) (sym (the_same opened 0 h)) (kept_as r (record { closes = closes-nil room; tokens = refl }))
 kept_shapes m room le own turned (Terminal (exactly w) ∷ shapes) opened h k ts (t, (b, (e, (is, r)))) =
-    kept_as (e ∙ ap (λ u. u ∷ b) (sym (word_is is))) (by_word m room le w opened shapes b (λ n h k. kept_shapes m room le own turned shapes n h k b r) h k)
+    kept_as (e ∙ ap (λ u. u ∷ b) (sym (word_is is))) (by_word m room le w opened shapes b
+    (λ n h k. kept_shapes m room le own turned shapes n h k b r) h k)
 kept_shapes m room le own turned (Terminal (one_of g) ∷ shapes) opened h k ts (t, (b, (e, (is, r)))) =
     kept_as e (keep_plain opened room t b (one_plain g t is) (omega (arith, k, le)) (kept_shapes m room le own turned shapes opened h k b r))
 kept_shapes m room le own turned (Terminal a_name ∷ shapes) opened h k ts (t, (b, (e, (is, r)))) =
@@ -343,10 +440,12 @@ kept_shapes m room le own turned (Nonterminal within ∷ shapes) opened h k ts (
         let now = rw f at (and-snd (nat_le (within.around + least_room within.part) m) _ h) in
         kept_as e (by_part m room opened within a b le k (the_same (inner within.part) 0 f) (and-fst _ _ now) kept (rest (and-snd _ _ now)))
     by_test false f rest =
-        let now : (nat_eq opened (inner within.part) && (nat_eq within.around 0 && (not (is_constant within.part) && is_last shapes))) ≡ true = rw f at (and-snd (nat_le (within.around + least_room within.part) m) _ h) in
+        let now : (nat_eq opened (inner within.part) && (nat_eq within.around 0
+        && (not (is_constant within.part) && is_last shapes))) ≡ true = rw f at (and-snd (nat_le (within.around + least_room within.part) m) _ h) in
         let more = and-snd (nat_eq within.around 0) _ (and-snd (nat_eq opened (inner within.part)) _ now) in
         kept_as (e ∙ (ap (λ b. a ++ b) (last_is shapes room own b (and-snd (not (is_constant within.part)) (is_last shapes) more) r) ∙ append-nil a))
-        (by_last room opened within a (the_same opened (inner within.part) (and-fst _ _ now)) (the_same within.around 0 (and-fst _ _ (and-snd (nat_eq opened (inner within.part)) _ now)))
+        (by_last room opened within a (the_same opened (inner within.part) (and-fst _ _ now))
+        (the_same within.around 0 (and-fst _ _ (and-snd (nat_eq opened (inner within.part)) _ now)))
         (off (is_constant within.part) (and-fst (not (is_constant within.part)) (is_last shapes) more)) kept)
 
 -- ---- productions
@@ -402,7 +501,8 @@ all_bare ArgRest = refl
 all_bare Arg = refl
 all_bare Place = refl
 
-terminals_alike : (room other : ℕ) (own : Token) (shapes : List Shape) → are_terminals shapes ≡ true → map (placed room own) shapes ≡ map (placed other own) shapes
+terminals_alike : (room other : ℕ) (own : Token) (shapes : List Shape) → are_terminals shapes ≡ true →
+    map (placed room own) shapes ≡ map (placed other own) shapes
 terminals_alike room other own [] h = refl
 terminals_alike room other own (Terminal class ∷ shapes) h = ap (λ ws. placed other own (Terminal class) ∷ ws) (terminals_alike room other own shapes h)
 terminals_alike room other own (Nonterminal within ∷ shapes) h = cc
@@ -458,7 +558,8 @@ right_le a b c h = omega (arith, h)
 same_le : (n : ℕ) → n ≤ n
 same_le n = omega arith
 
-kept_production : (whole : Roomed) (p : Production) → IsAmong p (productions whole.part) → p.needs ≤ whole.room → (own : Token) → is_turn_name own ≡ true → (ts : List Token)
+kept_production : (whole : Roomed) (p : Production) → IsAmong p (productions whole.part) → p.needs ≤ whole.room → (own : Token) →
+    is_turn_name own ≡ true → (ts : List Token)
     → Marks (map (placed whole.room own) p.shapes) ts → Held whole ts
 kept_production whole p one needs own turned ts marks room = by_test (is_constant whole.part) refl
   where
@@ -473,25 +574,33 @@ kept_production whole p one needs own turned ts marks room = by_test (is_constan
         let now : sound (own_depth whole.part) (inner whole.part) p.shapes ≡ true = rw e at checked in
         let few : nat_le (inner whole.part) (own_depth whole.part) ≡ true = rw e at (inner_le whole.part) in
         let terminals : are_terminals p.shapes ≡ true = rw e at bared in
-        rw e (kept_shapes (own_depth whole.part) (own_depth whole.part) (same_le (own_depth whole.part)) own turned p.shapes (inner whole.part) now (at_most (inner whole.part) (own_depth whole.part) few) ts
+        rw e (kept_shapes (own_depth whole.part) (own_depth whole.part) (same_le (own_depth whole.part)) own turned p.shapes
+        (inner whole.part) now (at_most (inner whole.part) (own_depth whole.part) few) ts
         (subst (λ ws. Marks ws ts) (terminals_alike whole.room (own_depth whole.part) own p.shapes terminals) marks))
     by_test false e =
         let now : sound (max p.needs (least_room whole.part)) (inner whole.part) p.shapes ≡ true = rw e at checked in
         let few : nat_le (inner whole.part) (least_room whole.part) ≡ true = rw e at (inner_le whole.part) in
-        rw e (kept_shapes (max p.needs (least_room whole.part)) whole.room (both_le p.needs (least_room whole.part) whole.room needs room) own turned p.shapes (inner whole.part) now
+        rw e (kept_shapes (max p.needs (least_room whole.part)) whole.room
+        (both_le p.needs (least_room whole.part) whole.room needs room) own turned p.shapes (inner whole.part) now
         (right_le p.needs (least_room whole.part) (inner whole.part) (at_most (inner whole.part) (least_room whole.part) few)) ts marks)
 
 held : (whole : Roomed) (next : Option Token) (wanted : List Wanted) → Produces whole next wanted → (ts : List Token) → Marks wanted ts → Held whole ts
 held whole next wanted made ts marks =
     kept_production whole made.production made.is_one made.has_room made.name made.is_turn ts (subst (λ ws. Marks ws ts) made.made marks)
 
-pub marks : {wanted : List Wanted} {pieces left : List Token} → Derives wanted pieces left → (ts : List Token) × ((pieces ≡ ts ++ left) × Marks wanted ts)
+pub marks : {wanted : List Wanted} {pieces left : List Token} → Derives wanted pieces left →
+    (ts : List Token) × ((pieces ≡ ts ++ left) × Marks wanted ts)
 marks done = ([], (refl, refl))
 marks (terminal {token = t} m r) = let h = marks r in (t ∷ h.0, (ap (λ us. t ∷ us) h.1.0, (t, (h.0, (refl, (m, h.1.1))))))
 marks (part {A = whole} {production = production} {symbols = wanted} {tokens = pieces} {between = between} {left = left} made inner r) =
     let h = marks inner in
-    let k = marks r in
-    (h.0 ++ k.0, (h.1.0 ∙ (ap (λ us. h.0 ++ us) k.1.0 ∙ sym (append_assoc h.0 k.0 left)), (h.0, (k.0, (refl, (held whole _ production made h.0 h.1.1, k.1.1))))))
+    let k = marks r in (
+      h.0 ++ k.0,
+      (
+        h.1.0 ∙ (ap (λ us. h.0 ++ us) k.1.0 ∙ sym (append_assoc h.0 k.0 left)),
+        (h.0, (k.0, (refl, (held whole _ production made h.0 h.1.1, k.1.1)))),
+      ),
+    )
 
 -- the pieces of a text are tokens that open at most 2,000 brackets at once
 pub text_kept : (pieces : List Token) → SpellText pieces → (are_tokens pieces ≡ true) × (most_open 0 pieces ≤ 2000)

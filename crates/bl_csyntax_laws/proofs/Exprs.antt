@@ -1,5 +1,30 @@
 -- The tokens of an expression that has a spelling derive, and so do those of its parts.
-use Rattle.std.proofs.Common.{◌≡◌, ℕ, ◌+◌, ◌-◌, ◌≤◌, ◌<◌, Bool, true, false, ◌&&◌, nat_le, List, [], ◌∷◌, ◌++◌, map, Option, Some, None, refl, sym, subst, arith, codes}
+use Rattle.std.proofs.Common.{
+  ◌≡◌,
+  ℕ,
+  ◌+◌,
+  ◌-◌,
+  ◌≤◌,
+  ◌<◌,
+  Bool,
+  true,
+  false,
+  ◌&&◌,
+  nat_le,
+  List,
+  [],
+  ◌∷◌,
+  ◌++◌,
+  map,
+  Option,
+  Some,
+  None,
+  refl,
+  sym,
+  subst,
+  arith,
+  codes,
+}
 use Rattle.std.proofs.lemmas.Bool.Decides.{nat_tests}
 use Rattle.std.specs.Fmt.{decimal}
 use Rattle.bl_tree.specs.declared.place.Place.{Place as TextPlace}
@@ -15,8 +40,30 @@ use Rattle.bl_tree.specs.declared.c.CArg.{CArg, CArg-F, fold-roll-CArg, map-CArg
 use Rattle.bl_tree.specs.Reduce.{all_of}
 use Rattle.bl_ctext.specs.Token.{Token}
 use Rattle.bl_ctext.specs.Names.{is_among, is_name, is_callee}
-use Rattle.bl_ctext.specs.Spelling.{operator_sign, call_tokens, index_front, expr_tokens, kind_tokens, place_tokens, step_tokens, index_tokens, ccall_tokens, arg_tokens}
-use Rattle.bl_ctext.specs.Spellable.{is_c_operator, is_length, most_open, spells_expr, spells_kind, spells_place, spells_step, spells_index, spells_call, spells_arg}
+use Rattle.bl_ctext.specs.Spelling.{
+  operator_sign,
+  call_tokens,
+  index_front,
+  expr_tokens,
+  kind_tokens,
+  place_tokens,
+  step_tokens,
+  index_tokens,
+  ccall_tokens,
+  arg_tokens,
+}
+use Rattle.bl_ctext.specs.Spellable.{
+  is_c_operator,
+  is_length,
+  most_open,
+  spells_expr,
+  spells_kind,
+  spells_place,
+  spells_step,
+  spells_index,
+  spells_call,
+  spells_arg,
+}
 use Rattle.bl_ctext.proofs.Bytes.{and-fst, and-snd}
 use Rattle.bl_ctext.proofs.Nesting.{is_bracket}
 use Rattle.bl_csyntax.specs.declared.grammar.Group.TheVariants.{Operators, IndexFunctions}
@@ -29,7 +76,20 @@ use Rattle.bl_csyntax.specs.Grammar.IsAmong.{here, later}
 use Rattle.bl_csyntax_laws.proofs.Shallow.{Goes, at, roomed, free, open_then, close_then, class_then, word_then, one_behind}
 use Rattle.bl_csyntax_laws.proofs.Literals.{OfKindTokens, literal_begun, number_is, number_plain}
 use Rattle.bl_csyntax_laws.proofs.Literals.Begun.{simple}
-use Rattle.bl_csyntax_laws.proofs.Lists.{Whole, Each, OfStepTokens, OfPlaceTokens, apart, name_then, whole_expr, not_begun, two_begun, call_simple, call_stmt, place_goes}
+use Rattle.bl_csyntax_laws.proofs.Lists.{
+  Whole,
+  Each,
+  OfStepTokens,
+  OfPlaceTokens,
+  apart,
+  name_then,
+  whole_expr,
+  not_begun,
+  two_begun,
+  call_simple,
+  call_stmt,
+  place_goes,
+}
 
 sign_is : (o : Op) → is_c_operator o ≡ true → (matches (one_of Operators) (operator_sign o) ≡ true) × (is_bracket (operator_sign o) ≡ false)
 unfolding matches is_among
@@ -45,7 +105,8 @@ sign_is _ h = absurd (let e : false ≡ true = h in cc)
 
 -- an index
 
-function_is : (signed : Bool) → (word : Token) × ((index_front signed ≡ codes "[" ∷ word ∷ codes "(" ∷ []) × (matches (one_of IndexFunctions) word ≡ true) × (is_bracket word ≡ false))
+function_is : (signed : Bool) → (word : Token) × ((index_front signed ≡ codes "[" ∷ word ∷ codes "(" ∷ [])
+    × (matches (one_of IndexFunctions) word ≡ true) × (is_bracket word ≡ false))
 unfolding matches is_among
 function_is true = (codes "bl_ix_s", (refl, refl, refl))
 function_is false = (codes "bl_ix_u", (refl, refl, refl))
@@ -62,20 +123,25 @@ length_is n h =
     let high : nat_le n 65536 ≡ true = and-snd (nat_le 1 n) (nat_le n 65536) h in
     (grind (arith, nat_tests), grind (arith, nat_tests))
 
-index_by : (word : Token) (xs : List Token) (n : ℕ) → matches (one_of IndexFunctions) word ≡ true → is_bracket word ≡ false → is_length n ≡ true → Whole Expr xs
+index_by : (word : Token) (xs : List Token) (n : ℕ) → matches (one_of IndexFunctions) word ≡ true → is_bracket word ≡ false →
+    is_length n ≡ true → Whole Expr xs
     → Whole Index (codes "[" ∷ word ∷ codes "(" ∷ (xs ++ (codes "," ∷ decimal n ∷ codes ")" ∷ codes "]" ∷ [])))
 index_by word xs n m h i of k ss ts go =
     let range = length_is n i in
-    roomed k k Index ss (codes "[" ∷ word ∷ codes "(" ∷ ((xs ++ (codes "," ∷ decimal n ∷ codes ")" ∷ codes "]" ∷ [])) ++ ts)) here (λ few. two_open k word _ h few)
+    roomed k k Index ss (codes "[" ∷ word ∷ codes "(" ∷ ((xs ++ (codes "," ∷ decimal n ∷ codes ")" ∷ codes "]" ∷ [])) ++ ts)) here
+    (λ few. two_open k word _ h few)
     (open_then k _ _ _ refl (class_then (one_of IndexFunctions) (k + 1) word _ _ m h (open_then (k + 1) _ _ _ refl
     (apart (k + 1 + 1) _ xs _ ts (of (k + 1 + 1) _ (codes "," ∷ decimal n ∷ codes ")" ∷ codes "]" ∷ ts)
-    (word_then (k + 1 + 1) _ _ _ refl (class_then (number Elements) (k + 1 + 1) (decimal n) _ _ (number_is Elements n range.0 range.1) (number_plain Elements n range.1)
+    (word_then (k + 1 + 1) _ _ _ refl (class_then (number Elements) (k + 1 + 1) (decimal n) _ _
+    (number_is Elements n range.0 range.1) (number_plain Elements n range.1)
     (close_then (k + 1) _ _ _ refl refl (close_then k _ _ _ refl refl go)))))))))
 
-index_goes : (signed : Bool) (xs : List Token) (n : ℕ) → is_length n ≡ true → Whole Expr xs → Whole Index (index_front signed ++ (xs ++ (codes "," ∷ decimal n ∷ codes ")" ∷ codes "]" ∷ [])))
+index_goes : (signed : Bool) (xs : List Token) (n : ℕ) → is_length n ≡ true → Whole Expr xs →
+    Whole Index (index_front signed ++ (xs ++ (codes "," ∷ decimal n ∷ codes ")" ∷ codes "]" ∷ [])))
 index_goes signed xs n i of =
     let f = function_is signed in
-    subst (λ (front : List Token). Whole Index (front ++ (xs ++ (codes "," ∷ decimal n ∷ codes ")" ∷ codes "]" ∷ [])))) (sym f.1.0) (index_by f.0 xs n f.1.1 f.1.2 i of)
+    subst (λ (front : List Token). Whole Index (front ++ (xs ++ (codes "," ∷ decimal n ∷ codes ")" ∷ codes "]" ∷ [])))) (sym f.1.0)
+    (index_by f.0 xs n f.1.1 f.1.2 i of)
 
 -- the parts of an expression
 
@@ -140,7 +206,8 @@ plain_step = map-CStep ArgOf KindOf CallOf ExprOf IndexOf PlaceOf StepOf CArg CE
 
 -- every part of a list, where each is shown with it
 pub each_shown : {A : Type 0} (P : List Token → Type 0) (tokens : A → List Token) (spells : A → Bool)
-    (xs : List ((a : A) × (spells a ≡ true → P (tokens a)))) → all_of (map spells (map (λ e. e.0) xs)) ≡ true → Each P (map tokens (map (λ e. e.0) xs))
+    (xs : List ((a : A) × (spells a ≡ true → P (tokens a)))) → all_of (map spells (map (λ e. e.0) xs)) ≡ true →
+    Each P (map tokens (map (λ e. e.0) xs))
 each_shown P tokens spells [] h = tt
 each_shown P tokens spells (x ∷ xs) h = (x.1 (and-fst _ _ h), each_shown P tokens spells xs (and-snd _ _ h))
 
@@ -177,17 +244,20 @@ call_goes name parts h each = record { simply = call_simple name parts h each; a
 by_call : (name : Token) (args : List ArgOf) → OfCall (roll-CCall (record { name = name; args = map (λ e. e.0) args }))
 by_call name args h =
     let all : (is_callee name && all_of (map spells_arg (map (λ e. e.0) args))) ≡ true = rw fold-roll-CCall at h in
-    rw fold-roll-CCall (call_goes name (map arg_tokens (map (λ e. e.0) args)) (and-fst _ _ all) (each_shown (Whole Arg) arg_tokens spells_arg args (and-snd _ _ all)))
+    rw fold-roll-CCall (call_goes name (map arg_tokens (map (λ e. e.0) args)) (and-fst _ _ all)
+    (each_shown (Whole Arg) arg_tokens spells_arg args (and-snd _ _ all)))
 
 by_index : (signed : Bool) (e : ExprOf) (n : ℕ) → OfIndex (roll-CIndex (record { signed = signed; at = e.0; length = n }))
 by_index signed e n h =
     let all : (spells_expr e.0 && is_length n) ≡ true = rw fold-roll-CIndex at h in
     rw fold-roll-CIndex (index_goes signed (expr_tokens e.0) n (and-snd _ _ all) (whole_expr (expr_tokens e.0) (e.1 (and-fst _ _ all))))
 
-by_place : (through : Bool) (name : Token) (steps : List StepOf) → OfPlace (roll-CPlace (record { through = through; name = name; steps = map (λ e. e.0) steps }))
+by_place : (through : Bool) (name : Token) (steps : List StepOf) →
+    OfPlace (roll-CPlace (record { through = through; name = name; steps = map (λ e. e.0) steps }))
 by_place through name steps h =
     let all : (is_name name && all_of (map spells_step (map (λ e. e.0) steps))) ≡ true = rw fold-roll-CPlace at h in
-    rw fold-roll-CPlace (place_goes through name (map step_tokens (map (λ e. e.0) steps)) (and-fst _ _ all) (each_shown OfStepTokens step_tokens spells_step steps (and-snd _ _ all)))
+    rw fold-roll-CPlace (place_goes through name (map step_tokens (map (λ e. e.0) steps)) (and-fst _ _ all)
+    (each_shown OfStepTokens step_tokens spells_step steps (and-snd _ _ all)))
 
 bare_step : (member : Token) → is_name member ≡ true → OfStepTokens (codes "." ∷ member ∷ [])
 bare_step member h k ss ts go = word_then k _ _ _ refl (name_then k member _ _ h (free k k Index ss ts (later here) (omega arith) go))

@@ -1,5 +1,31 @@
 -- The tokens of structs and functions that have a spelling derive, and so do those of a file.
-use Rattle.std.proofs.Common.{◌≡◌, ℕ, ◌+◌, ◌≤◌, Bool, true, false, ◌&&◌, List, [], ◌∷◌, ◌++◌, map, Option, Some, None, refl, sym, ap, ◌∙◌, subst, append_assoc, append-nil, arith, codes}
+use Rattle.std.proofs.Common.{
+  ◌≡◌,
+  ℕ,
+  ◌+◌,
+  ◌≤◌,
+  Bool,
+  true,
+  false,
+  ◌&&◌,
+  List,
+  [],
+  ◌∷◌,
+  ◌++◌,
+  map,
+  Option,
+  Some,
+  None,
+  refl,
+  sym,
+  ap,
+  ◌∙◌,
+  subst,
+  append_assoc,
+  append-nil,
+  arith,
+  codes,
+}
 use Rattle.std.proofs.lemmas.Bool.{leb-true}
 use Rattle.std.specs.Fmt.{decimal}
 use Rattle.bl_tree.specs.declared.scalar.Width.TheVariants.{W8, W16, W32, W64}
@@ -15,13 +41,65 @@ use Rattle.bl_tree.specs.declared.c.CFunc.{CFunc}
 use Rattle.bl_tree.specs.Reduce.{all_of, joined}
 use Rattle.bl_ctext.specs.Token.{Token}
 use Rattle.bl_ctext.specs.Names.{is_among, is_name, is_struct_name, is_function_name}
-use Rattle.bl_ctext.specs.Spelling.{scalar_word, type_tokens, length_tokens, member_tokens, struct_tokens, star_if, param_tokens, zero_tokens, local_tokens, returned_tokens, static_if, stmt_tokens, func_tokens, func_front, func_rest, listed, with_commas, tokens_of}
-use Rattle.bl_ctext.specs.Spellable.{has_any, is_c_scalar, is_spellable, most_open, spells_type, spells_length, spells_member, spells_struct, spells_param, spells_local, spells_returned, spells_stmt, spells_func}
+use Rattle.bl_ctext.specs.Spelling.{
+  scalar_word,
+  type_tokens,
+  length_tokens,
+  member_tokens,
+  struct_tokens,
+  star_if,
+  param_tokens,
+  zero_tokens,
+  local_tokens,
+  returned_tokens,
+  static_if,
+  stmt_tokens,
+  func_tokens,
+  func_front,
+  func_rest,
+  listed,
+  with_commas,
+  tokens_of,
+}
+use Rattle.bl_ctext.specs.Spellable.{
+  has_any,
+  is_c_scalar,
+  is_spellable,
+  most_open,
+  spells_type,
+  spells_length,
+  spells_member,
+  spells_struct,
+  spells_param,
+  spells_local,
+  spells_returned,
+  spells_stmt,
+  spells_func,
+}
 use Rattle.bl_ctext.proofs.Bytes.{and-fst, and-snd}
 use Rattle.bl_ctext.proofs.Nesting.{is_bracket}
 use Rattle.bl_csyntax.specs.declared.grammar.Group.TheVariants.{ScalarTypes}
 use Rattle.bl_csyntax.specs.declared.grammar.Digits.TheVariants.{Elements}
-use Rattle.bl_csyntax.specs.declared.grammar.Part.TheVariants.{File, Structs, Struct, Members, Member, TypeName, Length, Funcs, Func, PlainFunc, FuncRest, Params, ParamRest, Param, Star, Locals, Local, Stmt}
+use Rattle.bl_csyntax.specs.declared.grammar.Part.TheVariants.{
+  File,
+  Structs,
+  Struct,
+  Members,
+  Member,
+  TypeName,
+  Length,
+  Funcs,
+  Func,
+  PlainFunc,
+  FuncRest,
+  Params,
+  ParamRest,
+  Param,
+  Star,
+  Locals,
+  Local,
+  Stmt,
+}
 use Rattle.bl_csyntax.specs.Classes.{matches}
 use Rattle.bl_csyntax.specs.Classes.Class.{one_of, number}
 use Rattle.bl_csyntax.specs.Grammar.{Wanted, SpellText}
@@ -55,20 +133,24 @@ type_is (scalar.Nat W64) h = (refl, refl)
 type_is (scalar.Bits w) h = absurd (let e : false ≡ true = h in cc)
 
 type_goes : (ty : CType) → spells_type ty ≡ true → Whole TypeName (type_tokens ty)
-type_goes (ctype.Scalar s) h k ss ts go = free k k TypeName ss (scalar_word s ∷ ts) here (omega arith) (class_then (one_of ScalarTypes) k (scalar_word s) ss ts (type_is s h).0 (type_is s h).1 go)
-type_goes (ctype.Struct name) h k ss ts go = free k k TypeName ss (codes "struct" ∷ name ∷ ts) (later here) (omega arith) (word_then k _ _ _ refl (struct_name name h k k ss ts go))
+type_goes (ctype.Scalar s) h k ss ts go = free k k TypeName ss (scalar_word s ∷ ts) here (omega arith)
+    (class_then (one_of ScalarTypes) k (scalar_word s) ss ts (type_is s h).0 (type_is s h).1 go)
+type_goes (ctype.Struct name) h k ss ts go = free k k TypeName ss (codes "struct" ∷ name ∷ ts) (later here) (omega arith)
+    (word_then k _ _ _ refl (struct_name name h k k ss ts go))
 
 length_goes : (n : Option ℕ) → spells_length n ≡ true → Whole Length (length_tokens n)
 length_goes None h k ss ts go = free k k Length ss ts (later here) (omega arith) go
 length_goes (Some n) h k ss ts go =
     let range = length_is n h in
     free k k Length ss (codes "[" ∷ decimal n ∷ codes "]" ∷ ts) here (omega arith)
-    (open_then k _ _ _ refl (class_then (number Elements) (k + 1) (decimal n) _ _ (number_is Elements n range.0 range.1) (number_plain Elements n range.1) (close_then k _ _ _ refl refl go)))
+    (open_then k _ _ _ refl (class_then (number Elements) (k + 1) (decimal n) _ _ (number_is Elements n range.0 range.1)
+    (number_plain Elements n range.1) (close_then k _ _ _ refl refl go)))
 
 member_goes : (m : CMember) → spells_member m ≡ true → Whole Member (member_tokens m)
 member_goes m h k ss ts go = free k k Member ss (member_tokens m ++ ts) here (omega arith)
     (apart k _ (type_tokens m.ty) _ ts (type_goes m.ty (and-fst _ _ h) k _ _ (name_then k m.name _ _ (and-fst _ _ (and-snd _ _ h))
-    (apart k _ (length_tokens m.length) (codes ";" ∷ []) ts (length_goes m.length (and-snd _ _ (and-snd _ _ h)) k _ (codes ";" ∷ ts) (word_then k _ _ _ refl go))))))
+    (apart k _ (length_tokens m.length) (codes ";" ∷ []) ts
+    (length_goes m.length (and-snd _ _ (and-snd _ _ h)) k _ (codes ";" ∷ ts) (word_then k _ _ _ refl go))))))
 
 -- parts of one kind, one after another
 
@@ -113,11 +195,13 @@ struct_by name xs parts h one each k ss ts go =
     (apart (k + 1) _ xs (joined parts) (codes "}" ∷ codes ";" ∷ ts) (one (k + 1) _ _
     (members_goes parts each (k + 1) _ (codes "}" ∷ codes ";" ∷ ts) (close_then k _ _ _ refl refl (word_then k _ _ _ refl go)))))))))
 
-members_some : (name : Token) (members : List CMember) → is_struct_name name ≡ true → has_any members ≡ true → all_of (map spells_member members) ≡ true
+members_some : (name : Token) (members : List CMember) → is_struct_name name ≡ true → has_any members ≡ true →
+    all_of (map spells_member members) ≡ true
     → Whole Struct (codes "struct" ∷ name ∷ ((codes "{" ∷ (joined (map member_tokens members) ++ codes "}" ∷ [])) ++ codes ";" ∷ []))
 members_some name [] h some all = absurd (let e : false ≡ true = some in cc)
 members_some name (m ∷ members) h some all =
-    struct_by name (member_tokens m) (map member_tokens members) h (member_goes m (and-fst _ _ all)) (each_of (Whole Member) member_tokens spells_member member_goes members (and-snd _ _ all))
+    struct_by name (member_tokens m) (map member_tokens members) h (member_goes m (and-fst _ _ all))
+    (each_of (Whole Member) member_tokens spells_member member_goes members (and-snd _ _ all))
 
 struct_goes : (s : CStruct) → spells_struct s ≡ true → Whole Struct (struct_tokens s)
 struct_goes s h = members_some s.name s.members (and-fst _ _ h) (and-fst _ _ (and-snd _ _ h)) (and-snd _ _ (and-snd _ _ h))
@@ -133,7 +217,8 @@ param_goes p h k ss ts go = free k k Param ss (param_tokens p ++ ts) here (omega
     (apart k _ (type_tokens p.ty) _ ts (type_goes p.ty (and-fst _ _ h) k _ _
     (apart k _ (star_if p.pointer) (p.name ∷ []) ts (star_goes p.pointer k _ (p.name ∷ ts) (name_then k p.name ss ts (and-snd _ _ h) go)))))
 
-local_by : (ty : CType) (name : Token) → spells_type ty ≡ true → is_name name ≡ true → Whole Local (type_tokens ty ++ (name ∷ codes "=" ∷ (zero_tokens ty ++ codes ";" ∷ [])))
+local_by : (ty : CType) (name : Token) → spells_type ty ≡ true → is_name name ≡ true →
+    Whole Local (type_tokens ty ++ (name ∷ codes "=" ∷ (zero_tokens ty ++ codes ";" ∷ [])))
 local_by (ctype.Scalar s) name h i k ss ts go = free k k Local ss (scalar_word s ∷ name ∷ codes "=" ∷ codes "0" ∷ codes ";" ∷ ts) here (omega arith)
     (class_then (one_of ScalarTypes) k (scalar_word s) _ _ (type_is s h).0 (type_is s h).1 (name_then k name _ _ i
     (word_then k _ _ _ refl (word_then k _ _ _ refl (word_then k _ _ _ refl go)))))
@@ -146,20 +231,25 @@ local_goes : (x : CLocal) → spells_local x ≡ true → Whole Local (local_tok
 local_goes x h = local_by x.ty x.name (and-fst _ _ h) (and-snd _ _ h)
 
 -- what stands before a function's name
-returned_goes : (s : Option Scalar) → spells_returned s ≡ true → (k : ℕ) (ss : List Wanted) (ts : List Token) → Goes k (at k FuncRest ∷ ss) ts → Goes k (at k PlainFunc ∷ ss) (returned_tokens s ++ ts)
+returned_goes : (s : Option Scalar) → spells_returned s ≡ true → (k : ℕ) (ss : List Wanted) (ts : List Token) →
+    Goes k (at k FuncRest ∷ ss) ts → Goes k (at k PlainFunc ∷ ss) (returned_tokens s ++ ts)
 returned_goes None h k ss ts go = free k k PlainFunc ss (codes "void" ∷ ts) here (omega arith) (word_then k _ _ _ refl go)
-returned_goes (Some s) h k ss ts go = free k k PlainFunc ss (scalar_word s ∷ ts) (later here) (omega arith) (class_then (one_of ScalarTypes) k (scalar_word s) _ _ (type_is s h).0 (type_is s h).1 go)
+returned_goes (Some s) h k ss ts go = free k k PlainFunc ss (scalar_word s ∷ ts) (later here) (omega arith)
+    (class_then (one_of ScalarTypes) k (scalar_word s) _ _ (type_is s h).0 (type_is s h).1 go)
 
 static_goes : (b : Bool) (k : ℕ) (ss : List Wanted) (ts : List Token) → Goes k (at k PlainFunc ∷ ss) ts → Goes k (at k Func ∷ ss) (static_if b ++ ts)
 static_goes true k ss ts go = free k k Func ss (codes "static" ∷ ts) here (omega arith) (word_then k _ _ _ refl go)
 static_goes false k ss ts go = free k k Func ss ts (later here) (omega arith) go
 
 -- a function from its name on
-rest_goes : (name : Token) (params locals body : List (List Token)) → is_function_name name ≡ true → Each (Whole Param) params → Each (Whole Local) locals → Each (Whole Stmt) body
+rest_goes : (name : Token) (params locals body : List (List Token)) → is_function_name name ≡ true → Each (Whole Param) params →
+    Each (Whole Local) locals → Each (Whole Stmt) body
     → (k : ℕ) (ss : List Wanted) (ts : List Token) → Goes k ss ts
-    → Goes k (at k FuncRest ∷ ss) (name ∷ codes "(" ∷ (with_commas params ++ (codes ")" ∷ codes "{" ∷ (joined locals ++ (joined body ++ (codes "}" ∷ ts))))))
+    → Goes k (at k FuncRest ∷ ss) (name ∷ codes "(" ∷ (with_commas params
+    ++ (codes ")" ∷ codes "{" ∷ (joined locals ++ (joined body ++ (codes "}" ∷ ts))))))
 rest_goes name params locals body h each_param each_local each_stmt k ss ts go =
-    free k k FuncRest ss (name ∷ codes "(" ∷ (with_commas params ++ (codes ")" ∷ codes "{" ∷ (joined locals ++ (joined body ++ (codes "}" ∷ ts)))))) here (omega arith)
+    free k k FuncRest ss (name ∷ codes "(" ∷ (with_commas params
+    ++ (codes ")" ∷ codes "{" ∷ (joined locals ++ (joined body ++ (codes "}" ∷ ts)))))) here (omega arith)
     (function_name name h k _ _ (open_then k _ _ _ refl (params_goes params each_param (k + 1) _ _ (close_then k _ _ _ refl refl (open_then k _ _ _ refl
     (locals_goes locals each_local (k + 1) _ _ (stmts_goes body each_stmt (k + 1) _ _ (close_then k _ _ _ refl refl go))))))))
 
@@ -174,18 +264,22 @@ module _ (f : CFunc) (ts : List Token) where
   body = joined (map stmt_tokens f.body)
 
   -- the tokens of a function before others, put together from its front
-  func_apart : func_tokens f ++ ts ≡ static_if f.fixed ++ (returned_tokens f.result ++ (f.name ∷ codes "(" ∷ (params ++ (codes ")" ∷ codes "{" ∷ (locals ++ (body ++ (codes "}" ∷ ts)))))))
+  func_apart : func_tokens f ++ ts ≡ static_if f.fixed
+      ++ (returned_tokens f.result ++ (f.name ∷ codes "(" ∷ (params ++ (codes ")" ∷ codes "{" ∷ (locals ++ (body ++ (codes "}" ∷ ts)))))))
   func_apart =
       append_assoc (func_front f) (params ++ (codes ")" ∷ codes "{" ∷ func_rest f)) ts
-      ∙ append_assoc (static_if f.fixed) (returned_tokens f.result ++ (f.name ∷ codes "(" ∷ [])) ((params ++ (codes ")" ∷ codes "{" ∷ func_rest f)) ++ ts)
-      ∙ ap (λ (zs : List Token). static_if f.fixed ++ zs) (append_assoc (returned_tokens f.result) (f.name ∷ codes "(" ∷ []) ((params ++ (codes ")" ∷ codes "{" ∷ func_rest f)) ++ ts)
+      ∙ append_assoc (static_if f.fixed) (returned_tokens f.result ++ (f.name ∷ codes "(" ∷ []))
+      ((params ++ (codes ")" ∷ codes "{" ∷ func_rest f)) ++ ts)
+      ∙ ap (λ (zs : List Token). static_if f.fixed ++ zs)
+      (append_assoc (returned_tokens f.result) (f.name ∷ codes "(" ∷ []) ((params ++ (codes ")" ∷ codes "{" ∷ func_rest f)) ++ ts)
       ∙ ap (λ (zs : List Token). returned_tokens f.result ++ (f.name ∷ codes "(" ∷ zs)) (append_assoc params (codes ")" ∷ codes "{" ∷ func_rest f) ts
       ∙ ap (λ (zs : List Token). params ++ (codes ")" ∷ codes "{" ∷ zs)) (append_assoc locals (body ++ codes "}" ∷ []) ts
       ∙ ap (λ (zs : List Token). locals ++ zs) (append_assoc body (codes "}" ∷ []) ts))))
 
 func_goes : (f : CFunc) → spells_func f ≡ true → Whole Func (func_tokens f)
 func_goes f h k ss ts go =
-    let named : (is_function_name f.name && (all_of (map spells_param f.params) && (all_of (map spells_local f.locals) && all_of (map spells_stmt f.body)))) ≡ true = and-snd _ _ h in
+    let named : (is_function_name f.name && (all_of (map spells_param f.params)
+    && (all_of (map spells_local f.locals) && all_of (map spells_stmt f.body)))) ≡ true = and-snd _ _ h in
     let given : (all_of (map spells_param f.params) && (all_of (map spells_local f.locals) && all_of (map spells_stmt f.body))) ≡ true = and-snd _ _ named in
     let rest : (all_of (map spells_local f.locals) && all_of (map spells_stmt f.body)) ≡ true = and-snd _ _ given in
     subst (λ (zs : List Token). Goes k (at k Func ∷ ss) zs) (sym (func_apart f ts))
@@ -197,7 +291,8 @@ func_goes f h k ss ts go =
 
 -- files
 
-file_by : (xs : List Token) (structs : List (List Token)) (ys : List Token) (funcs : List (List Token)) → Whole Struct xs → Each (Whole Struct) structs → Whole Func ys → Each (Whole Func) funcs
+file_by : (xs : List Token) (structs : List (List Token)) (ys : List Token) (funcs : List (List Token)) → Whole Struct xs →
+    Each (Whole Struct) structs → Whole Func ys → Each (Whole Func) funcs
     → Goes 0 (at 0 File ∷ []) ((xs ++ joined structs) ++ (ys ++ joined funcs))
 file_by xs structs ys funcs one each func each_func =
     let end : joined funcs ++ [] ≡ joined funcs = append-nil (joined funcs) in
@@ -205,7 +300,8 @@ file_by xs structs ys funcs one each func each_func =
     (apart 0 _ xs (joined structs) (ys ++ joined funcs) (one 0 _ _ (structs_goes structs each 0 _ _ (func 0 _ _
     (subst (λ (zs : List Token). Goes 0 (at 0 Funcs ∷ []) zs) end (funcs_goes funcs each_func 0 [] [] (λ few. done)))))))
 
-both_some : (structs : List CStruct) (funcs : List CFunc) → has_any structs ≡ true → has_any funcs ≡ true → all_of (map spells_struct structs) ≡ true → all_of (map spells_func funcs) ≡ true
+both_some : (structs : List CStruct) (funcs : List CFunc) → has_any structs ≡ true → has_any funcs ≡ true →
+    all_of (map spells_struct structs) ≡ true → all_of (map spells_func funcs) ≡ true
     → Goes 0 (at 0 File ∷ []) (tokens_of structs funcs)
 both_some [] funcs some some_func h i = absurd (let e : false ≡ true = some in cc)
 both_some (s ∷ structs) [] some some_func h i = absurd (let e : false ≡ true = some_func in cc)

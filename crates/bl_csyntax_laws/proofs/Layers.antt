@@ -1,5 +1,25 @@
 -- One level of an expression: its tokens, whether it has a spelling, and itself without places, by what they are of its parts.
-use Rattle.std.proofs.Common.{◌≡◌, ℕ, Bool, true, ◌&&◌, List, [], ◌∷◌, ◌++◌, map, Option, Some, None, refl, sym, ap, ◌∙◌, subst, codes}
+use Rattle.std.proofs.Common.{
+  ◌≡◌,
+  ℕ,
+  Bool,
+  true,
+  ◌&&◌,
+  List,
+  [],
+  ◌∷◌,
+  ◌++◌,
+  map,
+  Option,
+  Some,
+  None,
+  refl,
+  sym,
+  ap,
+  ◌∙◌,
+  subst,
+  codes,
+}
 use Rattle.std.specs.Fmt.{decimal}
 use Rattle.bl_tree.specs.declared.c.CPlace.{CPlace, CPlace-F, fold-roll-CPlace, roll-CPlace}
 use Rattle.bl_tree.specs.declared.c.CStep.{CStep, CStep-F, fold-roll-CStep, roll-CStep}
@@ -11,9 +31,42 @@ use Rattle.bl_tree.specs.declared.c.CArg.{CArg, CArg-F, fold-roll-CArg, roll-CAr
 use Rattle.bl_tree.specs.Reduce.{all_of, joined}
 use Rattle.bl_ctext.specs.Token.{Token}
 use Rattle.bl_ctext.specs.Names.{is_name, is_callee}
-use Rattle.bl_ctext.specs.Spelling.{literal_tokens, operator_sign, call_tokens, root_tokens, index_front, expr_tokens, kind_tokens, place_tokens, step_tokens, index_tokens, ccall_tokens, arg_tokens}
-use Rattle.bl_ctext.specs.Spellable.{is_c_operator, is_literal, is_length, spells_expr, spells_kind, spells_place, spells_step, spells_index, spells_call, spells_arg}
-use Rattle.bl_csyntax_laws.specs.Placeless.{nowhere, placeless_expr, placeless_kind, placeless_place, placeless_step, placeless_index, placeless_call, placeless_arg}
+use Rattle.bl_ctext.specs.Spelling.{
+  literal_tokens,
+  operator_sign,
+  call_tokens,
+  root_tokens,
+  index_front,
+  expr_tokens,
+  kind_tokens,
+  place_tokens,
+  step_tokens,
+  index_tokens,
+  ccall_tokens,
+  arg_tokens,
+}
+use Rattle.bl_ctext.specs.Spellable.{
+  is_c_operator,
+  is_literal,
+  is_length,
+  spells_expr,
+  spells_kind,
+  spells_place,
+  spells_step,
+  spells_index,
+  spells_call,
+  spells_arg,
+}
+use Rattle.bl_csyntax_laws.specs.Placeless.{
+  nowhere,
+  placeless_expr,
+  placeless_kind,
+  placeless_place,
+  placeless_step,
+  placeless_index,
+  placeless_call,
+  placeless_arg,
+}
 use Rattle.bl_csyntax_laws.proofs.Rows.{Only}
 
 abbrev pub Args : Type 0
@@ -128,7 +181,8 @@ abbrev pub step_bare : Steps → CStep
 step_bare s = roll-CStep (record { member = s.member; index = maybe_bare s.index })
 
 -- what the tokens, the spelling and the placeless tree of a whole are, by its level
-pub record Levels {A L : Type 0} (tokens : A → List Token) (bare : A → A) (ok : A → Bool) (roll : L → A) (level : L → List Token) (bare_level : L → A) (ok_level : L → Bool) (z : L) : Type 0 where
+pub record Levels {A L : Type 0} (tokens : A → List Token) (bare : A → A) (ok : A → Bool) (roll : L → A) (level : L → List Token)
+    (bare_level : L → A) (ok_level : L → Bool) (z : L) : Type 0 where
   pub tokens_are : tokens (roll z) ≡ level z
   pub bare_is : bare (roll z) ≡ bare_level z
   pub ok_is : ok (roll z) ≡ ok_level z
@@ -138,11 +192,36 @@ arg_levels (CArg-F.Value e) = record { tokens_are = rw fold-roll-CArg refl; bare
 arg_levels (CArg-F.Address at) = record { tokens_are = rw fold-roll-CArg refl; bare_is = rw fold-roll-CArg refl; ok_is = rw fold-roll-CArg refl }
 
 pub kind_levels : (z : Kinds) → Levels kind_tokens placeless_kind spells_kind roll-CExprKind kind_level kind_bare kind_ok z
-kind_levels (CExprKind-F.Literal s n) = record { tokens_are = rw fold-roll-CExprKind refl; bare_is = rw fold-roll-CExprKind refl; ok_is = rw fold-roll-CExprKind refl }
-kind_levels (CExprKind-F.Read at) = record { tokens_are = rw fold-roll-CExprKind refl; bare_is = rw fold-roll-CExprKind refl; ok_is = rw fold-roll-CExprKind refl }
-kind_levels (CExprKind-F.Call call) = record { tokens_are = rw fold-roll-CExprKind refl; bare_is = rw fold-roll-CExprKind refl; ok_is = rw fold-roll-CExprKind refl }
-kind_levels (CExprKind-F.Not e) = record { tokens_are = rw fold-roll-CExprKind refl; bare_is = rw fold-roll-CExprKind refl; ok_is = rw fold-roll-CExprKind refl }
-kind_levels (CExprKind-F.Two o a b) = record { tokens_are = rw fold-roll-CExprKind refl; bare_is = rw fold-roll-CExprKind refl; ok_is = rw fold-roll-CExprKind refl }
+kind_levels (CExprKind-F.Literal s n) = record {
+  tokens_are = rw fold-roll-CExprKind refl;
+  bare_is =
+      rw fold-roll-CExprKind refl;
+  ok_is = rw fold-roll-CExprKind refl;
+}
+kind_levels (CExprKind-F.Read at) = record {
+  tokens_are = rw fold-roll-CExprKind refl;
+  bare_is =
+      rw fold-roll-CExprKind refl;
+  ok_is = rw fold-roll-CExprKind refl;
+}
+kind_levels (CExprKind-F.Call call) = record {
+  tokens_are = rw fold-roll-CExprKind refl;
+  bare_is =
+      rw fold-roll-CExprKind refl;
+  ok_is = rw fold-roll-CExprKind refl;
+}
+kind_levels (CExprKind-F.Not e) = record {
+  tokens_are = rw fold-roll-CExprKind refl;
+  bare_is = rw fold-roll-CExprKind refl;
+  ok_is =
+      rw fold-roll-CExprKind refl;
+}
+kind_levels (CExprKind-F.Two o a b) = record {
+  tokens_are = rw fold-roll-CExprKind refl;
+  bare_is =
+      rw fold-roll-CExprKind refl;
+  ok_is = rw fold-roll-CExprKind refl;
+}
 
 pub call_levels : (z : Calls) → Levels ccall_tokens placeless_call spells_call roll-CCall call_level call_bare call_ok z
 call_levels z = record { tokens_are = rw fold-roll-CCall refl; bare_is = rw fold-roll-CCall refl; ok_is = rw fold-roll-CCall refl }
@@ -156,7 +235,8 @@ index_levels z = record { tokens_are = rw fold-roll-CIndex refl; bare_is = rw fo
 pub place_levels : (z : Places) → Levels place_tokens placeless_place spells_place roll-CPlace place_level place_bare place_ok z
 place_levels z = record { tokens_are = rw fold-roll-CPlace refl; bare_is = rw fold-roll-CPlace refl; ok_is = rw fold-roll-CPlace refl }
 
-step_levels_at : (member : List ℕ) (index : Option CIndex) → Levels step_tokens placeless_step spells_step roll-CStep step_level step_bare step_ok (record { member = member; index = index })
+step_levels_at : (member : List ℕ) (index : Option CIndex) →
+    Levels step_tokens placeless_step spells_step roll-CStep step_level step_bare step_ok (record { member = member; index = index })
 step_levels_at member None = record { tokens_are = rw fold-roll-CStep refl; bare_is = rw fold-roll-CStep refl; ok_is = rw fold-roll-CStep refl }
 step_levels_at member (Some i) = record { tokens_are = rw fold-roll-CStep refl; bare_is = rw fold-roll-CStep refl; ok_is = rw fold-roll-CStep refl }
 
@@ -166,24 +246,31 @@ step_levels z = step_levels_at z.member z.index
 -- two levels that are told apart by their tokens alone
 abbrev pub OnlyLevel : {A L : Type 0} → (L → List Token) → (L → A) → (L → Bool) → (List Token → Bool) → L → Type 0
 OnlyLevel {A} {L} level bare ok off x =
-    (z : L) → ok x ≡ true → ok z ≡ true → (a b : List Token) → off a ≡ true → off b ≡ true → level x ++ a ≡ level z ++ b → (bare x ≡ bare z) × (a ≡ b)
+    (z : L) → ok x ≡ true → ok z ≡ true → (a b : List Token) → off a ≡ true → off b ≡ true → level x ++ a ≡ level z ++ b →
+    (bare x ≡ bare z) × (a ≡ b)
 
-module _ {A L : Type 0} (tokens : A → List Token) (bare : A → A) (ok : A → Bool) (off : List Token → Bool) (roll : L → A) (level : L → List Token) (bare_level : L → A) (ok_level : L → Bool)
+module _ {A L : Type 0} (tokens : A → List Token) (bare : A → A) (ok : A → Bool) (off : List Token → Bool) (roll : L → A)
+    (level : L → List Token) (bare_level : L → A) (ok_level : L → Bool)
     (levels : (z : L) → Levels tokens bare ok roll level bare_level ok_level z) where
-  only_roll : (x : L) → OnlyLevel level bare_level ok_level off x → ok (roll x) ≡ true → (z : L) → ok (roll z) ≡ true → (a b : List Token) → off a ≡ true → off b ≡ true
+  only_roll : (x : L) → OnlyLevel level bare_level ok_level off x → ok (roll x) ≡ true → (z : L) → ok (roll z) ≡ true →
+      (a b : List Token) → off a ≡ true → off b ≡ true
       → tokens (roll x) ++ a ≡ tokens (roll z) ++ b → (bare (roll x) ≡ bare (roll z)) × (a ≡ b)
   only_roll x one h z k a b s t e =
-      let m = one z (sym (levels x).ok_is ∙ h) (sym (levels z).ok_is ∙ k) a b s t (sym (ap (λ ts. ts ++ a) (levels x).tokens_are) ∙ (e ∙ ap (λ ts. ts ++ b) (levels z).tokens_are)) in
+      let m = one z (sym (levels x).ok_is ∙ h) (sym (levels z).ok_is ∙ k) a b s t
+      (sym (ap (λ ts. ts ++ a) (levels x).tokens_are) ∙ (e ∙ ap (λ ts. ts ++ b) (levels z).tokens_are)) in
       ((levels x).bare_is ∙ (m.0 ∙ sym (levels z).bare_is), m.1)
 
   -- a whole is told by its tokens where its level is
-  pub only_whole : (out : A → L) → ((y : A) → roll (out y) ≡ y) → (x : L) → OnlyLevel level bare_level ok_level off x → Only tokens bare ok off (roll x)
+  pub only_whole : (out : A → L) → ((y : A) → roll (out y) ≡ y) → (x : L) → OnlyLevel level bare_level ok_level off x →
+      Only tokens bare ok off (roll x)
   only_whole out back x one h y =
-      subst (λ (y : A). ok y ≡ true → (a b : List Token) → off a ≡ true → off b ≡ true → tokens (roll x) ++ a ≡ tokens y ++ b → (bare (roll x) ≡ bare y) × (a ≡ b))
+      subst (λ (y : A). ok y ≡ true → (a b : List Token) → off a ≡ true → off b ≡ true → tokens (roll x) ++ a ≡ tokens y ++ b →
+      (bare (roll x) ≡ bare y) × (a ≡ b))
       (back y) (only_roll x one h (out y))
 
   -- what holds of the tokens of every level holds of those of every whole
-  pub by_level : (out : A → L) → ((y : A) → roll (out y) ≡ y) → (P : List Token → Type 0) → ((z : L) → ok_level z ≡ true → P (level z)) → (y : A) → ok y ≡ true → P (tokens y)
+  pub by_level : (out : A → L) → ((y : A) → roll (out y) ≡ y) → (P : List Token → Type 0) →
+      ((z : L) → ok_level z ≡ true → P (level z)) → (y : A) → ok y ≡ true → P (tokens y)
   by_level out back P each y =
       subst (λ (y : A). ok y ≡ true → P (tokens y)) (back y)
       (λ (h : ok (roll (out y)) ≡ true). subst P (sym (levels (out y)).tokens_are) (each (out y) (sym (levels (out y)).ok_is ∙ h)))

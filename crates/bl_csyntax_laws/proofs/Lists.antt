@@ -1,5 +1,25 @@
 -- Names, steps and arguments, one after another.
-use Rattle.std.proofs.Common.{◌≡◌, ℕ, ◌+◌, Bool, true, false, ◌⊎◌, inl, inr, List, [], ◌∷◌, ◌++◌, refl, sym, subst, append_assoc, arith, codes}
+use Rattle.std.proofs.Common.{
+  ◌≡◌,
+  ℕ,
+  ◌+◌,
+  Bool,
+  true,
+  false,
+  ◌⊎◌,
+  inl,
+  inr,
+  List,
+  [],
+  ◌∷◌,
+  ◌++◌,
+  refl,
+  sym,
+  subst,
+  append_assoc,
+  arith,
+  codes,
+}
 use Rattle.bl_tree.specs.Reduce.{joined}
 use Rattle.bl_ctext.specs.Token.{Token}
 use Rattle.bl_ctext.specs.Names.{is_among, is_name, is_struct_name, is_function_name, is_callee, prelude_functions}
@@ -10,7 +30,25 @@ use Rattle.bl_ctext.proofs.PlainWords.{name-plain, callee-plain, struct_name-pla
 use Rattle.bl_grammar.specs.declared.symbol.Symbol.TheVariants.{Terminal}
 use Rattle.bl_csyntax.specs.declared.grammar.Group.TheVariants.{Operators, PreludeFunctions, StructWords, FunctionWords}
 use Rattle.bl_csyntax.specs.declared.grammar.Part.{Part}
-use Rattle.bl_csyntax.specs.declared.grammar.Part.TheVariants.{StructName, FuncName, Stmt, AfterName, AssignTail, Value, AfterOpen, Expr, Simple, Inside, NameUse, Steps, Index, Args, ArgRest, Arg, Place}
+use Rattle.bl_csyntax.specs.declared.grammar.Part.TheVariants.{
+  StructName,
+  FuncName,
+  Stmt,
+  AfterName,
+  AssignTail,
+  Value,
+  AfterOpen,
+  Expr,
+  Simple,
+  Inside,
+  NameUse,
+  Steps,
+  Index,
+  Args,
+  ArgRest,
+  Arg,
+  Place,
+}
 use Rattle.bl_csyntax.specs.Classes.{matches}
 use Rattle.bl_csyntax.specs.Classes.Class.{exactly, one_of, a_name}
 use Rattle.bl_csyntax.specs.Grammar.{Wanted}
@@ -44,14 +82,16 @@ pub among_is : (w : Token) → is_among w prelude_functions ≡ true → matches
 unfolding matches
 among_is w h = h
 
-pub name_then : (k : ℕ) (w : Token) (ss : List Wanted) (ts : List Token) → is_name w ≡ true → Goes k ss ts → Goes k (Terminal a_name ∷ ss) (w ∷ ts)
+pub name_then : (k : ℕ) (w : Token) (ss : List Wanted) (ts : List Token) → is_name w ≡ true → Goes k ss ts →
+    Goes k (Terminal a_name ∷ ss) (w ∷ ts)
 name_then k w ss ts h go = class_then a_name k w ss ts (name_is w h) (name-plain w h) go
 
 pub callee_either : (w : Token) → is_callee w ≡ true → (is_name w ≡ true) ⊎ (is_among w prelude_functions ≡ true)
 unfolding is_callee
 callee_either w h = either _ _ h
 
-pub struct_name : (w : Token) → is_struct_name w ≡ true → (k j : ℕ) (ss : List Wanted) (ts : List Token) → Goes k ss ts → Goes k (at j StructName ∷ ss) (w ∷ ts)
+pub struct_name : (w : Token) → is_struct_name w ≡ true → (k j : ℕ) (ss : List Wanted) (ts : List Token) → Goes k ss ts →
+    Goes k (at j StructName ∷ ss) (w ∷ ts)
 unfolding is_struct_name matches
 struct_name w h k j ss ts go = elim (either _ _ h) [
   | inl plain ↦ free k j StructName ss (w ∷ ts) here (omega arith) (name_then k w ss ts plain go)
@@ -86,7 +126,8 @@ not_begun xs of k ss ts go = bracketed (codes "!" ∷ (xs ++ codes ")" ∷ [])) 
     (free (k + 1) k Inside ss (codes "!" ∷ ((xs ++ codes ")" ∷ []) ++ ts)) (later here) (omega arith)
     (word_then (k + 1) _ _ _ refl (apart (k + 1) _ xs (codes ")" ∷ []) ts (of (k + 1) _ (codes ")" ∷ ts) (close_then k _ _ _ refl refl go)))))
 
-pub two_begun : (xs ys : List Token) (sign : Token) → matches (one_of Operators) sign ≡ true → is_bracket sign ≡ false → Whole Expr xs → Whole Expr ys
+pub two_begun : (xs ys : List Token) (sign : Token) → matches (one_of Operators) sign ≡ true → is_bracket sign ≡ false →
+    Whole Expr xs → Whole Expr ys
     → OfKindTokens (codes "(" ∷ (xs ++ (sign ∷ (ys ++ codes ")" ∷ []))))
 two_begun xs ys sign m h of_left of_right k ss ts go = bracketed (xs ++ (sign ∷ (ys ++ codes ")" ∷ []))) refl
     (free (k + 1) k Inside ss ((xs ++ (sign ∷ (ys ++ codes ")" ∷ []))) ++ ts) (later (later (later here))) (omega arith)
@@ -113,7 +154,8 @@ bracketed_args parts = codes "(" ∷ (with_commas parts ++ codes ")" ∷ [])
 in_brackets : (parts : List (List Token)) → Each (Whole Arg) parts → (k : ℕ) (ss : List Wanted) (ts : List Token) → Goes k ss ts
     → Goes k (Terminal (exactly (codes "(")) ∷ at (k + 1) Args ∷ Terminal (exactly (codes ")")) ∷ ss) (bracketed_args parts ++ ts)
 in_brackets parts each k ss ts go =
-    open_then k _ _ _ refl (apart (k + 1) _ (with_commas parts) (codes ")" ∷ []) ts (args_goes parts each (k + 1) _ (codes ")" ∷ ts) (close_then k _ _ _ refl refl go)))
+    open_then k _ _ _ refl (apart (k + 1) _ (with_commas parts) (codes ")" ∷ []) ts
+    (args_goes parts each (k + 1) _ (codes ")" ∷ ts) (close_then k _ _ _ refl refl go)))
 
 pub call_simple : (name : Token) (parts : List (List Token)) → is_callee name ≡ true → Each (Whole Arg) parts → Whole Simple (call_tokens name parts)
 call_simple name parts h each k ss ts go = elim (callee_either name h) [
@@ -123,13 +165,15 @@ call_simple name parts h each k ss ts go = elim (callee_either name h) [
       (class_then (one_of PreludeFunctions) k name _ _ (among_is name other) (callee-plain name h) (in_brackets parts each k ss ts go))
 ]
 
-pub call_stmt : (name : Token) (parts : List (List Token)) → is_callee name ≡ true → Each (Whole Arg) parts → (k : ℕ) (ss : List Wanted) (ts : List Token) → Goes k ss ts
+pub call_stmt : (name : Token) (parts : List (List Token)) → is_callee name ≡ true → Each (Whole Arg) parts →
+    (k : ℕ) (ss : List Wanted) (ts : List Token) → Goes k ss ts
     → Goes k (at k Stmt ∷ ss) (call_tokens name parts ++ (codes ";" ∷ ts))
 call_stmt name parts h each k ss ts go = elim (callee_either name h) [
   | inl plain ↦ free k k Stmt ss (name ∷ (bracketed_args parts ++ (codes ";" ∷ ts))) here (omega arith) (name_then k name _ _ plain
       (roomed k k AfterName ss (bracketed_args parts ++ (codes ";" ∷ ts)) here (λ few. one_open k _ few)
       (in_brackets parts each k _ (codes ";" ∷ ts) (word_then k _ _ _ refl go))))
-  | inr other ↦ roomed k k Stmt ss (name ∷ (bracketed_args parts ++ (codes ";" ∷ ts))) (later here) (λ few. one_behind k name _ (callee-plain name h) few)
+  | inr other ↦ roomed k k Stmt ss (name ∷ (bracketed_args parts ++ (codes ";" ∷ ts))) (later here)
+      (λ few. one_behind k name _ (callee-plain name h) few)
       (class_then (one_of PreludeFunctions) k name _ _ (among_is name other) (callee-plain name h)
       (in_brackets parts each k _ (codes ";" ∷ ts) (word_then k _ _ _ refl go)))
 ]
@@ -138,7 +182,8 @@ call_stmt name parts h each k ss ts go = elim (callee_either name h) [
 
 -- the tokens are those of a step
 abbrev pub OfStepTokens : List Token → Type 0
-OfStepTokens xs = (k : ℕ) (ss : List Wanted) (ts : List Token) → Goes k ss ts → Goes k (Terminal (exactly (codes ".")) ∷ Terminal a_name ∷ at k Index ∷ ss) (xs ++ ts)
+OfStepTokens xs = (k : ℕ) (ss : List Wanted) (ts : List Token) → Goes k ss ts →
+    Goes k (Terminal (exactly (codes ".")) ∷ Terminal a_name ∷ at k Index ∷ ss) (xs ++ ts)
 
 pub steps_goes : (parts : List (List Token)) → Each OfStepTokens parts → Whole Steps (joined parts)
 steps_goes [] each k ss ts go = free k k Steps ss ts (later here) (omega arith) go
@@ -168,17 +213,22 @@ starred : (name : Token) (k : ℕ) (ss : List Wanted) (ts : List Token) → is_n
     → Goes (k + 1) (Terminal (exactly (codes "*")) ∷ Terminal a_name ∷ Terminal (exactly (codes ")")) ∷ ss) (codes "*" ∷ name ∷ codes ")" ∷ ts)
 starred name k ss ts h go = word_then (k + 1) _ _ _ refl (name_then (k + 1) name _ _ h (close_then k _ _ _ refl refl go))
 
-pub place_goes : (through : Bool) (name : Token) (parts : List (List Token)) → is_name name ≡ true → Each OfStepTokens parts → OfPlaceTokens (root_tokens through name ++ joined parts)
+pub place_goes : (through : Bool) (name : Token) (parts : List (List Token)) → is_name name ≡ true → Each OfStepTokens parts →
+    OfPlaceTokens (root_tokens through name ++ joined parts)
 place_goes true name parts h each = record {
   read = λ k ss ts go. bracketed (codes "*" ∷ name ∷ codes ")" ∷ joined parts) refl
-      (free (k + 1) k Inside ss (codes "*" ∷ name ∷ codes ")" ∷ (joined parts ++ ts)) here (omega arith) (starred name k _ _ h (steps_goes parts each k ss ts go)));
-  whole = λ k ss ts go. roomed k k Place ss (codes "(" ∷ codes "*" ∷ name ∷ codes ")" ∷ (joined parts ++ ts)) (later here) (λ few. one_open k (codes "*" ∷ name ∷ codes ")" ∷ (joined parts ++ ts)) few)
+      (free (k + 1) k Inside ss (codes "*" ∷ name ∷ codes ")" ∷ (joined parts ++ ts)) here (omega arith)
+      (starred name k _ _ h (steps_goes parts each k ss ts go)));
+  whole = λ k ss ts go. roomed k k Place ss (codes "(" ∷ codes "*" ∷ name ∷ codes ")" ∷ (joined parts ++ ts)) (later here)
+      (λ few. one_open k (codes "*" ∷ name ∷ codes ")" ∷ (joined parts ++ ts)) few)
       (open_then k _ _ _ refl (starred name k _ _ h (steps_goes parts each k ss ts go)));
-  set = λ k ss ts go. roomed k k Stmt ss (codes "(" ∷ codes "*" ∷ name ∷ codes ")" ∷ (joined parts ++ ts)) (later (later here)) (λ few. one_open k (codes "*" ∷ name ∷ codes ")" ∷ (joined parts ++ ts)) few)
+  set = λ k ss ts go. roomed k k Stmt ss (codes "(" ∷ codes "*" ∷ name ∷ codes ")" ∷ (joined parts ++ ts)) (later (later here))
+      (λ few. one_open k (codes "*" ∷ name ∷ codes ")" ∷ (joined parts ++ ts)) few)
       (open_then k _ _ _ refl (starred name k _ _ h (tail_goes parts each k ss ts go)));
 }
 place_goes false name parts h each = record {
-  read = λ k ss ts go. simple (free k k Simple ss (name ∷ (joined parts ++ ts)) here (omega arith) (name_then k name _ _ h (use_goes parts each k ss ts go)));
+  read = λ k ss ts go. simple (free k k Simple ss (name ∷ (joined parts ++ ts)) here (omega arith)
+      (name_then k name _ _ h (use_goes parts each k ss ts go)));
   whole = λ k ss ts go. free k k Place ss (name ∷ (joined parts ++ ts)) here (omega arith) (name_then k name _ _ h (steps_goes parts each k ss ts go));
   set = λ k ss ts go. free k k Stmt ss (name ∷ (joined parts ++ ts)) here (omega arith) (name_then k name _ _ h
       (free k k AfterName ss (joined parts ++ ts) (later here) (omega arith) (tail_goes parts each k ss ts go)));

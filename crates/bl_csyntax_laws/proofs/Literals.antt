@@ -1,5 +1,35 @@
 -- Numbers and literals are of the classes that the grammar has for them.
-use Rattle.std.proofs.Common.{◌≡◌, ℕ, zero, suc, ◌+◌, ◌-◌, ◌*◌, ◌^◌, ◌≤◌, ◌<◌, ℤ, pos, negsuc, Bool, true, false, ◌==◌, cond, nat_lt, List, [], ◌∷◌, ◌++◌, length, get_or, map, refl, arith, codes}
+use Rattle.std.proofs.Common.{
+  ◌≡◌,
+  ℕ,
+  zero,
+  suc,
+  ◌+◌,
+  ◌-◌,
+  ◌*◌,
+  ◌^◌,
+  ◌≤◌,
+  ◌<◌,
+  ℤ,
+  pos,
+  negsuc,
+  Bool,
+  true,
+  false,
+  ◌==◌,
+  cond,
+  nat_lt,
+  List,
+  [],
+  ◌∷◌,
+  ◌++◌,
+  length,
+  get_or,
+  map,
+  refl,
+  arith,
+  codes,
+}
 use Rattle.std.proofs.lemmas.Bool.{le-leb, lt-ltb}
 use Rattle.std.proofs.lemmas.Bool.Decides.{nat_tests}
 use Rattle.std.proofs.lemmas.Fmt.{decimal_is_IsNumeral, decimal_digit, first_decimal}
@@ -74,11 +104,13 @@ number_plain of n high = decimal-plain n (omega (arith, high, bound-le of))
 
 -- constants
 
-constant_goes : (k j : ℕ) (part : Part) (bytes : Token) (of : Digits) (n : ℕ) (ss : List Wanted) (ts : List Token) → IsAmong (plain (constant bytes of)) (productions part)
+constant_goes : (k j : ℕ) (part : Part) (bytes : Token) (of : Digits) (n : ℕ) (ss : List Wanted) (ts : List Token) →
+    IsAmong (plain (constant bytes of)) (productions part)
     → is_bracket bytes ≡ false → least of ≤ n → n < bound of → Goes k ss ts → Goes k (at j part ∷ ss) (constant_tokens bytes n ++ ts)
 constant_goes k j part bytes of n ss ts among h low high go =
     free k j part ss (bytes ∷ codes "(" ∷ decimal n ∷ codes ")" ∷ ts) among (omega arith)
-    (word_then k bytes _ _ h (open_then k _ _ _ refl (class_then (number of) (k + 1) (decimal n) _ _ (number_is of n low high) (number_plain of n high) (close_then k _ _ _ refl refl go))))
+    (word_then k bytes _ _ h (open_then k _ _ _ refl (class_then (number of) (k + 1) (decimal n) _ _ (number_is of n low high)
+    (number_plain of n high) (close_then k _ _ _ refl refl go))))
 
 int_among : (w : Width) → IsAmong (plain (constant (constant_word (codes "INT") w) (Int w))) (productions Constant)
 int_among W8 = here
@@ -111,7 +143,8 @@ unsigned_plain W32 = refl
 unsigned_plain W64 = refl
 
 -- a constant as an expression
-simple_constant : (k : ℕ) (bytes : Token) (of : Digits) (n : ℕ) (ss : List Wanted) (ts : List Token) → IsAmong (plain (constant bytes of)) (productions Constant)
+simple_constant : (k : ℕ) (bytes : Token) (of : Digits) (n : ℕ) (ss : List Wanted) (ts : List Token) →
+    IsAmong (plain (constant bytes of)) (productions Constant)
     → is_bracket bytes ≡ false → least of ≤ n → n < bound of → Goes k ss ts → Goes k (at k Simple ∷ ss) (constant_tokens bytes n ++ ts)
 simple_constant k bytes of n ss ts among h low high go =
     roomed k k Simple ss (constant_tokens bytes n ++ ts) (later (later (later here))) (λ few. one_behind k bytes (decimal n ∷ codes ")" ∷ ts) h few)
@@ -119,15 +152,18 @@ simple_constant k bytes of n ss ts among h low high go =
 
 -- literals of one word
 
-plain_word : (k : ℕ) (w : Token) (ss : List Wanted) (ts : List Token) → matches (one_of PlainLiterals) w ≡ true → is_bracket w ≡ false → Goes k ss ts → Goes k (at k Simple ∷ ss) (w ∷ ts)
+plain_word : (k : ℕ) (w : Token) (ss : List Wanted) (ts : List Token) → matches (one_of PlainLiterals) w ≡ true →
+    is_bracket w ≡ false → Goes k ss ts → Goes k (at k Simple ∷ ss) (w ∷ ts)
 plain_word k w ss ts m h go = free k k Simple ss (w ∷ ts) (later (later here)) (omega arith) (class_then (one_of PlainLiterals) k w ss ts m h go)
 
-truth_is : (b : Bool) → (matches (one_of PlainLiterals) (cond b (codes "false") (codes "true")) ≡ true) × (is_bracket (cond b (codes "false") (codes "true")) ≡ false)
+truth_is : (b : Bool) → (matches (one_of PlainLiterals) (cond b (codes "false") (codes "true")) ≡ true)
+    × (is_bracket (cond b (codes "false") (codes "true")) ≡ false)
 unfolding matches is_among
 truth_is true = (refl, refl)
 truth_is false = (refl, refl)
 
-least_is : (w : Width) → (matches (one_of PlainLiterals) (codes "INT" ++ (width_digits w ++ codes "_MIN")) ≡ true) × (is_bracket (codes "INT" ++ (width_digits w ++ codes "_MIN")) ≡ false)
+least_is : (w : Width) → (matches (one_of PlainLiterals) (codes "INT" ++ (width_digits w ++ codes "_MIN")) ≡ true)
+    × (is_bracket (codes "INT" ++ (width_digits w ++ codes "_MIN")) ≡ false)
 unfolding matches is_among
 least_is W8 = (refl, refl)
 least_is W16 = (refl, refl)
@@ -146,13 +182,15 @@ OfKindTokens xs = (k : ℕ) (ss : List Wanted) (ts : List Token) → Goes k ss t
 abbrev minus_rest : Width → ℕ → List Token
 minus_rest w n = codes "-" ∷ (constant_tokens (constant_word (codes "INT") w) n ++ codes ")" ∷ [])
 
-two_open : (k : ℕ) (w : Token) (ts : List Token) → is_bracket w ≡ false → most_open (k + 1) (codes "-" ∷ w ∷ codes "(" ∷ ts) ≤ 2000 → 2 ≤ 2000 - k
+two_open : (k : ℕ) (w : Token) (ts : List Token) → is_bracket w ≡ false →
+    most_open (k + 1) (codes "-" ∷ w ∷ codes "(" ∷ ts) ≤ 2000 → 2 ≤ 2000 - k
 two_open k w ts h few =
     let deep : most_open (k + 1) (w ∷ codes "(" ∷ ts) ≤ 2000 = omega (arith, few) in
     let one : 1 ≤ 2000 - (k + 1) = one_behind (k + 1) w ts h deep in
     omega (arith, one)
 
-minus_goes : (k : ℕ) (w : Width) (n : ℕ) (ss : List Wanted) (ts : List Token) → 1 ≤ n → n < negatives w → Goes k ss ts → Goes (k + 1) (at k Inside ∷ ss) (minus_rest w n ++ ts)
+minus_goes : (k : ℕ) (w : Width) (n : ℕ) (ss : List Wanted) (ts : List Token) → 1 ≤ n → n < negatives w → Goes k ss ts →
+    Goes (k + 1) (at k Inside ∷ ss) (minus_rest w n ++ ts)
 minus_goes k w n ss ts low high go =
     roomed (k + 1) k Inside ss (minus_rest w n ++ ts) (later (later here))
     (λ few. two_open k (constant_word (codes "INT") w) (decimal n ∷ codes ")" ∷ codes ")" ∷ ts) (int_plain w) few)
@@ -166,7 +204,8 @@ negative_begun w n low high k ss ts go = by_least (n == negatives w) refl
     other : (n == negatives w) ≡ false → n < negatives w
     other e = grind (arith, nat_tests)
 
-    by_least : (b : Bool) → (n == negatives w) ≡ b → Begun k ss ts (cond b ((codes "INT" ++ (width_digits w ++ codes "_MIN")) ∷ []) (codes "(" ∷ minus_rest w n))
+    by_least : (b : Bool) → (n == negatives w) ≡ b → Begun k ss ts
+        (cond b ((codes "INT" ++ (width_digits w ++ codes "_MIN")) ∷ []) (codes "(" ∷ minus_rest w n))
     by_least true e = simple (plain_word k _ ss ts (least_is w).0 (least_is w).1 go)
     by_least false e = bracketed (minus_rest w n) refl (minus_goes k w n ss ts low (other e) go)
 
@@ -176,8 +215,11 @@ below n m h = grind (arith, nat_tests)
 pub literal_begun : (s : Scalar) (n : ℤ) → is_literal s n ≡ true → OfKindTokens (literal_tokens s n)
 literal_begun scalar.Bool (pos n) h k ss ts go = simple (plain_word k _ ss ts (truth_is (n == 0)).0 (truth_is (n == 0)).1 go)
 literal_begun scalar.Bool (negsuc n) h k ss ts go = absurd (let e : false ≡ true = h in cc)
-literal_begun (scalar.Int w) (pos n) h k ss ts go = simple (simple_constant k _ (Int w) n ss ts (int_among w) (int_plain w) (omega arith) (below n (negatives w) h) go)
-literal_begun (scalar.Int w) (negsuc n) h k ss ts go = let small : n < negatives w = below n (negatives w) h in negative_begun w (suc n) (omega arith) (omega (arith, small)) k ss ts go
-literal_begun (scalar.Nat w) (pos n) h k ss ts go = simple (simple_constant k _ (Unsigned w) n ss ts (unsigned_among w) (unsigned_plain w) (omega arith) (below n (2 * negatives w) h) go)
+literal_begun (scalar.Int w) (pos n) h k ss ts go =
+    simple (simple_constant k _ (Int w) n ss ts (int_among w) (int_plain w) (omega arith) (below n (negatives w) h) go)
+literal_begun (scalar.Int w) (negsuc n) h k ss ts go = let small : n < negatives w = below n (negatives w) h in
+    negative_begun w (suc n) (omega arith) (omega (arith, small)) k ss ts go
+literal_begun (scalar.Nat w) (pos n) h k ss ts go =
+    simple (simple_constant k _ (Unsigned w) n ss ts (unsigned_among w) (unsigned_plain w) (omega arith) (below n (2 * negatives w) h) go)
 literal_begun (scalar.Nat w) (negsuc n) h k ss ts go = absurd (let e : false ≡ true = h in cc)
 literal_begun (scalar.Bits w) n h k ss ts go = absurd (let e : false ≡ true = h in cc)

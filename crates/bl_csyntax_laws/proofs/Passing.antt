@@ -1,5 +1,25 @@
 -- A text whose pieces derive spells a file.
-use Rattle.std.proofs.Common.{◌≡◌, ℕ, ◌≤◌, true, ◌&&◌, nat_le, List, [], ◌∷◌, ◌++◌, length, drop, map, refl, sym, ap, ◌∙◌, subst, arith}
+use Rattle.std.proofs.Common.{
+  ◌≡◌,
+  ℕ,
+  ◌≤◌,
+  true,
+  ◌&&◌,
+  nat_le,
+  List,
+  [],
+  ◌∷◌,
+  ◌++◌,
+  length,
+  drop,
+  map,
+  refl,
+  sym,
+  ap,
+  ◌∙◌,
+  subst,
+  arith,
+}
 use Rattle.std.proofs.lemmas.Bool.Decides.{nat_tests}
 use Rattle.bl_tree.specs.declared.c.CStruct.{CStruct}
 use Rattle.bl_tree.specs.declared.c.CFunc.{CFunc}
@@ -25,19 +45,23 @@ use Rattle.bl_ctext.specs.SpellsC.{SpellsC}
 at_most : (a b : ℕ) → a ≤ b → nat_le a b ≡ true
 at_most a b h = grind (arith, nat_tests)
 
-spellable : (structs : List CStruct) (funcs : List CFunc) (ts : List Token) → ts ≡ tokens_of structs funcs → (has_any structs && all_of (map spells_struct structs)) ≡ true → (has_any funcs && all_of (map spells_func funcs)) ≡ true
+spellable : (structs : List CStruct) (funcs : List CFunc) (ts : List Token) → ts ≡ tokens_of structs funcs →
+    (has_any structs && all_of (map spells_struct structs)) ≡ true → (has_any funcs && all_of (map spells_func funcs)) ≡ true
     → most_open 0 ts ≤ 2000 → is_spellable structs funcs ≡ true
 spellable structs funcs ts is s f few =
     let flat : shallow structs funcs ≡ true = at_most (most_open 0 (tokens_of structs funcs)) 2000 (subst (λ ts. most_open 0 ts ≤ 2000) is few) in
-    both (has_any structs) _ (and-fst _ _ s) (both (has_any funcs) _ (and-fst _ _ f) (both (all_of (map spells_struct structs)) _ (and-snd _ _ s) (both (all_of (map spells_func funcs)) _ (and-snd _ _ f) flat)))
+    both (has_any structs) _ (and-fst _ _ s) (both (has_any funcs) _ (and-fst _ _ f)
+    (both (all_of (map spells_struct structs)) _ (and-snd _ _ s) (both (all_of (map spells_func funcs)) _ (and-snd _ _ f) flat)))
 
 pub spells_some : (text : List ℕ) → SpellText (pieces text) → (file : CFile) × SpacedC (tokens_of file.structs file.funcs) text
 spells_some text spells = by_file (tree_there file (pieces text) spells)
   where
     by_file : ToldFile (pieces text) → (file : CFile) × SpacedC (tokens_of file.structs file.funcs) text
     by_file (structs, (funcs, (is, (s, f)))) =
-        let kept = text_kept (pieces text) spells in
-        (record { structs = structs; funcs = funcs; spellable = spellable structs funcs (pieces text) is s f kept.1 }, subst (λ ts. SpacedC ts text) is (spaced text kept.0))
+        let kept = text_kept (pieces text) spells in (
+          record { structs = structs; funcs = funcs; spellable = spellable structs funcs (pieces text) is s f kept.1 },
+          subst (λ ts. SpacedC ts text) is (spaced text kept.0),
+        )
 
 behind : (front rest : List ℕ) → drop (length front) (front ++ rest) ≡ rest
 behind [] rest = refl
@@ -47,9 +71,20 @@ pub passing_spelled : (bytes rest : List ℕ) → bytes ≡ prelude ++ rest → 
 passing_spelled bytes rest begins passes = by_file (spells_some (drop (length prelude) bytes) passes)
   where
     by_file : (file : CFile) × SpacedC (tokens_of file.structs file.funcs) (drop (length prelude) bytes) → (file : CFile) × SpellsC file bytes
-    by_file (file, spaced) = (file, (rest, (begins, subst (SpacedC (tokens_of file.structs file.funcs)) (ap (drop (length prelude)) begins ∙ behind prelude rest) spaced)))
+    by_file (file, spaced) = (
+      file,
+      (
+        rest,
+        (
+          begins,
+          subst (SpacedC (tokens_of file.structs file.funcs))
+              (ap (drop (length prelude)) begins ∙ behind prelude rest) spaced,
+        ),
+      ),
+    )
 
 pub spelled_passing : (file : CFile) (bytes : List ℕ) → SpellsC file bytes → Passes bytes (length prelude)
 spelled_passing file bytes (rest, (begins, spaced)) =
-    subst SpellText (sym (tokens_are (tokens_of file.structs file.funcs) rest spaced) ∙ sym (ap pieces (ap (drop (length prelude)) begins ∙ behind prelude rest)))
+    subst SpellText (sym (tokens_are (tokens_of file.structs file.funcs) rest spaced)
+    ∙ sym (ap pieces (ap (drop (length prelude)) begins ∙ behind prelude rest)))
     (file_derives file.structs file.funcs file.spellable)

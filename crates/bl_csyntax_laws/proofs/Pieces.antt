@@ -1,5 +1,30 @@
 -- What a piece of a class is.
-use Rattle.std.proofs.Common.{◌≡◌, ℕ, suc, ◌^◌, ◌≤◌, ◌<◌, true, not, ◌||◌, ◌==◌, nat_eq, nat_le, nat_lt, List, [], ◌∷◌, length, map, refl, sym, subst, inl, inr, arith}
+use Rattle.std.proofs.Common.{
+  ◌≡◌,
+  ℕ,
+  suc,
+  ◌^◌,
+  ◌≤◌,
+  ◌<◌,
+  true,
+  not,
+  ◌||◌,
+  ◌==◌,
+  nat_eq,
+  nat_le,
+  nat_lt,
+  List,
+  [],
+  ◌∷◌,
+  length,
+  map,
+  refl,
+  sym,
+  subst,
+  inl,
+  inr,
+  arith,
+}
 use Rattle.std.proofs.lemmas.Bool.Decides.{nat_tests}
 use Rattle.std.proofs.lemmas.Fmt.{decimal-digits_value}
 use Rattle.std.proofs.lemmas.Str.Parse.{IsNumeralModel, numerals_by_value, tells_all_ascii_digits}
@@ -47,7 +72,8 @@ this_one {t} {w} {ws} e = subst (λ (u : Token). OneOf t (u ∷ ws)) (sym e) One
 one_among : (t : Token) (ws : List Token) → is_among t ws ≡ true → OneOf t ws
 unfolding is_among
 one_among t [] h = cc
-one_among t (w ∷ ws) h = elim (either (pointwise nat_eq w t) (is_among t ws) h) [ inl same ↦ this_one (is_same w t same) | inr rest ↦ OneOf.other (one_among t ws rest) ]
+one_among t (w ∷ ws) h = elim (either (pointwise nat_eq w t) (is_among t ws) h)
+    [ inl same ↦ this_one (is_same w t same) | inr rest ↦ OneOf.other (one_among t ws rest) ]
 
 pub group_is : (g : Group) (t : Token) → matches (one_of g) t ≡ true → OneOf t (words_of g)
 unfolding matches
@@ -72,7 +98,8 @@ digits_own = numerals_by_value (λ (ds : List ℕ). all_ascii_digits ds ≡ true
 
 all_digits : (ds : List ℕ) → all_of (map is_ascii_digit ds) ≡ true → all_ascii_digits ds ≡ true
 all_digits [] h = refl
-all_digits (d ∷ ds) h = rw (and-fst (is_ascii_digit d) (all_of (map is_ascii_digit ds)) h) (all_digits ds (and-snd (is_ascii_digit d) (all_of (map is_ascii_digit ds)) h))
+all_digits (d ∷ ds) h = rw (and-fst (is_ascii_digit d) (all_of (map is_ascii_digit ds)) h)
+    (all_digits ds (and-snd (is_ascii_digit d) (all_of (map is_ascii_digit ds)) h))
 
 -- the number that digits spell
 pub record Spelled (of : Digits) (t : Token) : Type 0 where
@@ -82,7 +109,8 @@ pub record Spelled (of : Digits) (t : Token) : Type 0 where
   pub high : n < bound of
 
 lone : (b : ℕ) (bs : List ℕ) → (not (b == 48) || nat_le (length bs) 0) ≡ true → b ≡ 48 → suc (length bs) ≡ 1
-lone b bs h e = elim (either (not (b == 48)) (nat_le (length bs) 0) h) [ inl differs ↦ absurd (grind (arith, nat_tests)) | inr short ↦ grind (arith, nat_tests) ]
+lone b bs h e = elim (either (not (b == 48)) (nat_le (length bs) 0) h)
+    [ inl differs ↦ absurd (grind (arith, nat_tests)) | inr short ↦ grind (arith, nat_tests) ]
 
 pub bound_le : (of : Digits) → bound of ≤ 2 ^ 64
 bound_le Elements = omega arith
@@ -114,7 +142,8 @@ number_of of (b ∷ bs) h =
     let zero_alone = and-snd (all_of (map is_ascii_digit (b ∷ bs))) (not (b == 48) || nat_le (length bs) 0) digits in
     record {
       n = digits_value 10 (b ∷ bs);
-      is = sym (decimal-digits_value digits_own (b ∷ bs) all (has_some bs) (λ (e : b ≡ 48). lone b bs zero_alone e) (wide (digits_value 10 (b ∷ bs)) (bound of) high (bound_le of)));
+      is = sym (decimal-digits_value digits_own (b ∷ bs) all (has_some bs) (λ (e : b ≡ 48). lone b bs zero_alone e)
+          (wide (digits_value 10 (b ∷ bs)) (bound of) high (bound_le of)));
       low = low;
       high = high;
     }
@@ -134,7 +163,8 @@ scalar_is (OneOf.other (OneOf.other (OneOf.other (OneOf.other OneOf.this)))) = (
 scalar_is (OneOf.other (OneOf.other (OneOf.other (OneOf.other (OneOf.other OneOf.this))))) = (scalar.Nat W8, (refl, refl))
 scalar_is (OneOf.other (OneOf.other (OneOf.other (OneOf.other (OneOf.other (OneOf.other OneOf.this)))))) = (scalar.Nat W16, (refl, refl))
 scalar_is (OneOf.other (OneOf.other (OneOf.other (OneOf.other (OneOf.other (OneOf.other (OneOf.other OneOf.this))))))) = (scalar.Nat W32, (refl, refl))
-scalar_is (OneOf.other (OneOf.other (OneOf.other (OneOf.other (OneOf.other (OneOf.other (OneOf.other (OneOf.other OneOf.this)))))))) = (scalar.Nat W64, (refl, refl))
+scalar_is (OneOf.other (OneOf.other (OneOf.other (OneOf.other (OneOf.other (OneOf.other (OneOf.other (OneOf.other OneOf.this))))))))
+    = (scalar.Nat W64, (refl, refl))
 scalar_is (OneOf.other (OneOf.other (OneOf.other (OneOf.other (OneOf.other (OneOf.other (OneOf.other (OneOf.other (OneOf.other none))))))))) = elim none [ ]
 
 pub operator_is : {t : Token} → OneOf t (words_of Operators) → (o : Op) × ((t ≡ operator_sign o) × (is_c_operator o ≡ true))

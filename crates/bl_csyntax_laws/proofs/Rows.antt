@@ -9,7 +9,8 @@ use Rattle.bl_csyntax_laws.proofs.Tests.{is, first, tail, no_truth, is_same}
 -- Whatever has the same tokens as the part, each followed by what may follow it, is the part, and the same follows it.
 abbrev pub Only : {A B : Type 0} → (A → List Token) → (A → B) → (A → Bool) → (List Token → Bool) → A → Type 0
 Only {A} {B} tokens bare ok off x =
-    ok x ≡ true → (y : A) → ok y ≡ true → (a b : List Token) → off a ≡ true → off b ≡ true → tokens x ++ a ≡ tokens y ++ b → (bare x ≡ bare y) × (a ≡ b)
+    ok x ≡ true → (y : A) → ok y ≡ true → (a b : List Token) → off a ≡ true → off b ≡ true → tokens x ++ a ≡ tokens y ++ b →
+    (bare x ≡ bare y) × (a ≡ b)
 
 -- P of each of a list
 abbrev pub Each : {A : Type 0} → (A → Type 0) → List A → Type 0
@@ -36,9 +37,11 @@ module _ {A B : Type 0} (tokens : A → List Token) (bare : A → B) (ok : A →
   follows (y ∷ ys) b h s = ap off (append_assoc (tokens y) (joined (map tokens ys)) b) ∙ row.between y (joined (map tokens ys) ++ b) (and-fst _ _ h)
 
   ended : {P : Type 0} (y : A) (ys : List A) (a b : List Token) → ok y ≡ true → stop a ≡ true → a ≡ joined (map tokens (y ∷ ys)) ++ b → P
-  ended y ys a b h s e = no_truth (sym s ∙ (ap stop (e ∙ append_assoc (tokens y) (joined (map tokens ys)) b) ∙ row.starts y (joined (map tokens ys) ++ b) h))
+  ended y ys a b h s e = no_truth (sym s ∙ (ap stop (e ∙ append_assoc (tokens y) (joined (map tokens ys)) b)
+      ∙ row.starts y (joined (map tokens ys) ++ b) h))
 
-  pub rows_same : (xs ys : List A) → Each (Only tokens bare ok off) xs → all_of (map ok xs) ≡ true → all_of (map ok ys) ≡ true → (a b : List Token) → stop a ≡ true → stop b ≡ true
+  pub rows_same : (xs ys : List A) → Each (Only tokens bare ok off) xs → all_of (map ok xs) ≡ true → all_of (map ok ys) ≡ true →
+      (a b : List Token) → stop a ≡ true → stop b ≡ true
       → joined (map tokens xs) ++ a ≡ joined (map tokens ys) ++ b → (map bare xs ≡ map bare ys) × (a ≡ b)
   rows_same [] [] each h k a b s t e = (refl, e)
   rows_same [] (y ∷ ys) each h k a b s t e = ended y ys a b (and-fst _ _ k) s e
@@ -46,7 +49,8 @@ module _ {A B : Type 0} (tokens : A → List Token) (bare : A → B) (ok : A →
   rows_same (x ∷ xs) (y ∷ ys) (one, each) h k a b s t e =
       let apart : tokens x ++ (joined (map tokens xs) ++ a) ≡ tokens y ++ (joined (map tokens ys) ++ b) =
       sym (append_assoc (tokens x) (joined (map tokens xs)) a) ∙ (e ∙ append_assoc (tokens y) (joined (map tokens ys)) b) in
-      let m = one (and-fst _ _ h) y (and-fst _ _ k) (joined (map tokens xs) ++ a) (joined (map tokens ys) ++ b) (follows xs a (and-snd _ _ h) s) (follows ys b (and-snd _ _ k) t) apart in
+      let m = one (and-fst _ _ h) y (and-fst _ _ k) (joined (map tokens xs) ++ a) (joined (map tokens ys) ++ b)
+      (follows xs a (and-snd _ _ h) s) (follows ys b (and-snd _ _ k) t) apart in
       let rest = rows_same xs ys each (and-snd _ _ h) (and-snd _ _ k) a b s t m.1 in
       (ap (λ z. z ∷ map bare xs) m.0 ∙ ap (λ zs. bare y ∷ zs) rest.0, rest.1)
 
@@ -54,7 +58,8 @@ module _ {A B : Type 0} (tokens : A → List Token) (bare : A → B) (ok : A →
 abbrev pub stands : Token → List Token → Bool
 stands w ts = is (first ts) w
 
-pub stands_is : (off : List Token → Bool) (b : ℕ) (bs : List ℕ) → ((r : List Token) → off ((b ∷ bs) ∷ r) ≡ true) → (r : List Token) → stands (b ∷ bs) r ≡ true → off r ≡ true
+pub stands_is : (off : List Token → Bool) (b : ℕ) (bs : List ℕ) → ((r : List Token) → off ((b ∷ bs) ∷ r) ≡ true) →
+    (r : List Token) → stands (b ∷ bs) r ≡ true → off r ≡ true
 stands_is off b bs h [] s = cc
 stands_is off b bs h (t ∷ ts) s = subst (λ (t : Token). off (t ∷ ts) ≡ true) (sym (is_same t (b ∷ bs) s)) (h ts)
 
@@ -89,7 +94,8 @@ module _ {A B : Type 0} (tokens : A → List Token) (bare : A → B) (ok : A →
   each_behind (x ∷ xs) (one, each) = (behind_only x one, each_behind xs each)
 
   more_same : (xs ys : List A) → Each (Only tokens bare ok off) xs → all_of (map ok xs) ≡ true → all_of (map ok ys) ≡ true → (a b : List Token)
-      → listed false (map tokens xs) ++ (codes ")" ∷ a) ≡ listed false (map tokens ys) ++ (codes ")" ∷ b) → (map bare xs ≡ map bare ys) × (codes ")" ∷ a ≡ codes ")" ∷ b)
+      → listed false (map tokens xs) ++ (codes ")" ∷ a) ≡ listed false (map tokens ys) ++ (codes ")" ∷ b) →
+      (map bare xs ≡ map bare ys) × (codes ")" ∷ a ≡ codes ")" ∷ b)
   more_same xs ys each h k a b e =
       rows_same behind bare ok off (stands (codes ")")) in_row xs ys (each_behind xs each) h k (codes ")" ∷ a) (codes ")" ∷ b) refl refl
       (sym (ap (λ ts. ts ++ (codes ")" ∷ a)) (commas tokens xs)) ∙ (e ∙ ap (λ ts. ts ++ (codes ")" ∷ b)) (commas tokens ys)))
@@ -98,11 +104,14 @@ module _ {A B : Type 0} (tokens : A → List Token) (bare : A → B) (ok : A →
   off_more [] b = row.close b
   off_more (y ∷ ys) b = row.comma ((tokens y ++ listed false (map tokens ys)) ++ (codes ")" ∷ b))
 
-  none : {P : Type 0} (y : A) (ys : List A) (a b : List Token) → ok y ≡ true → codes ")" ∷ a ≡ with_commas (map tokens (y ∷ ys)) ++ (codes ")" ∷ b) → P
+  none : {P : Type 0} (y : A) (ys : List A) (a b : List Token) → ok y ≡ true →
+      codes ")" ∷ a ≡ with_commas (map tokens (y ∷ ys)) ++ (codes ")" ∷ b) → P
   none y ys a b h e =
-      no_truth (ap (stands (codes ")")) (e ∙ append_assoc (tokens y) (listed false (map tokens ys)) (codes ")" ∷ b)) ∙ row.starts y (listed false (map tokens ys) ++ (codes ")" ∷ b)) h)
+      no_truth (ap (stands (codes ")")) (e ∙ append_assoc (tokens y) (listed false (map tokens ys)) (codes ")" ∷ b))
+      ∙ row.starts y (listed false (map tokens ys) ++ (codes ")" ∷ b)) h)
 
-  pub commas_same : (xs ys : List A) → Each (Only tokens bare ok off) xs → all_of (map ok xs) ≡ true → all_of (map ok ys) ≡ true → (a b : List Token)
+  pub commas_same : (xs ys : List A) → Each (Only tokens bare ok off) xs → all_of (map ok xs) ≡ true → all_of (map ok ys) ≡ true →
+      (a b : List Token)
       → with_commas (map tokens xs) ++ (codes ")" ∷ a) ≡ with_commas (map tokens ys) ++ (codes ")" ∷ b) → (map bare xs ≡ map bare ys) × (a ≡ b)
   commas_same [] [] each h k a b e = (refl, ap tail e)
   commas_same [] (y ∷ ys) each h k a b e = none y ys a b (and-fst _ _ k) e
@@ -111,7 +120,8 @@ module _ {A B : Type 0} (tokens : A → List Token) (bare : A → B) (ok : A →
       let xr = listed false (map tokens xs) ++ (codes ")" ∷ a) in
       let yr = listed false (map tokens ys) ++ (codes ")" ∷ b) in
       let apart : tokens x ++ xr ≡ tokens y ++ yr =
-      sym (append_assoc (tokens x) (listed false (map tokens xs)) (codes ")" ∷ a)) ∙ (e ∙ append_assoc (tokens y) (listed false (map tokens ys)) (codes ")" ∷ b)) in
+      sym (append_assoc (tokens x) (listed false (map tokens xs)) (codes ")" ∷ a))
+      ∙ (e ∙ append_assoc (tokens y) (listed false (map tokens ys)) (codes ")" ∷ b)) in
       let m = one (and-fst _ _ h) y (and-fst _ _ k) xr yr (off_more xs a) (off_more ys b) apart in
       let rest = more_same xs ys each (and-snd _ _ h) (and-snd _ _ k) a b m.1 in
       (ap (λ z. z ∷ map bare xs) m.0 ∙ ap (λ zs. bare y ∷ zs) rest.0, ap tail rest.1)
@@ -121,12 +131,17 @@ module _ {A B : Type 0} (tokens : A → List Token) (bare : A → B) (ok : A →
 pub braces : (xs a : List Token) → (xs ++ codes "}" ∷ []) ++ a ≡ xs ++ (codes "}" ∷ a)
 braces xs a = append_assoc xs (codes "}" ∷ []) a
 
-module _ {A B : Type 0} (tokens : A → List Token) (bare : A → B) (ok : A → Bool) (off : List Token → Bool) (row : InRow tokens ok off (stands (codes "}"))) where
+module _ {A B : Type 0} (tokens : A → List Token) (bare : A → B) (ok : A → Bool) (off : List Token → Bool)
+    (row : InRow tokens ok off (stands (codes "}"))) where
   -- a list up to the brace behind it
-  pub closed_same : (xs ys : List A) → Each (Only tokens bare ok off) xs → all_of (map ok xs) ≡ true → all_of (map ok ys) ≡ true → (a b : List Token)
+  pub closed_same : (xs ys : List A) → Each (Only tokens bare ok off) xs → all_of (map ok xs) ≡ true → all_of (map ok ys) ≡ true →
+      (a b : List Token)
       → joined (map tokens xs) ++ (codes "}" ∷ a) ≡ joined (map tokens ys) ++ (codes "}" ∷ b) → (map bare xs ≡ map bare ys) × (a ≡ b)
-  closed_same xs ys each h k a b e = let r = rows_same tokens bare ok off (stands (codes "}")) row xs ys each h k (codes "}" ∷ a) (codes "}" ∷ b) refl refl e in (r.0, ap tail r.1)
+  closed_same xs ys each h k a b e = let r = rows_same tokens bare ok off (stands (codes "}")) row xs ys each h k (codes "}" ∷ a)
+      (codes "}" ∷ b) refl refl e in (r.0, ap tail r.1)
 
-  pub braced_same : (xs ys : List A) → Each (Only tokens bare ok off) xs → all_of (map ok xs) ≡ true → all_of (map ok ys) ≡ true → (a b : List Token)
+  pub braced_same : (xs ys : List A) → Each (Only tokens bare ok off) xs → all_of (map ok xs) ≡ true → all_of (map ok ys) ≡ true →
+      (a b : List Token)
       → braced (map tokens xs) ++ a ≡ braced (map tokens ys) ++ b → (map bare xs ≡ map bare ys) × (a ≡ b)
-  braced_same xs ys each h k a b e = closed_same xs ys each h k a b (sym (braces (joined (map tokens xs)) a) ∙ (ap tail e ∙ braces (joined (map tokens ys)) b))
+  braced_same xs ys each h k a b e = closed_same xs ys each h k a b
+      (sym (braces (joined (map tokens xs)) a) ∙ (ap tail e ∙ braces (joined (map tokens ys)) b))

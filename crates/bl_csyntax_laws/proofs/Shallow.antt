@@ -1,5 +1,29 @@
 -- Pieces that spell what is wanted of them, while no more brackets are open at once than may be.
-use Rattle.std.proofs.Common.{◌≡◌, ℕ, zero, suc, ◌+◌, ◌-◌, ◌≤◌, Bool, true, false, ◌||◌, List, [], ◌∷◌, ◌++◌, map, refl, ap, sym, ◌∙◌, subst, arith, codes}
+use Rattle.std.proofs.Common.{
+  ◌≡◌,
+  ℕ,
+  zero,
+  suc,
+  ◌+◌,
+  ◌-◌,
+  ◌≤◌,
+  Bool,
+  true,
+  false,
+  ◌||◌,
+  List,
+  [],
+  ◌∷◌,
+  ◌++◌,
+  map,
+  refl,
+  ap,
+  sym,
+  ◌∙◌,
+  subst,
+  arith,
+  codes,
+}
 use Rattle.bl_ctext.specs.Token.{Token}
 use Rattle.bl_ctext.specs.Names.{is_turn_name}
 use Rattle.bl_ctext.specs.Spellable.{is_opening, is_closing, open_behind, most_open}
@@ -47,7 +71,8 @@ put_is k own (Nonterminal within ∷ rest) =
     ∙ ap (λ (ws : List Wanted). at (deeper within.around k) within.part ∷ ws) (put_is k own rest)
 
 -- a production of a part
-pub by_production : {p : Production} (k j : ℕ) (part : Part) (own : Token) (ss : List Wanted) (ts : List Token) → IsAmong p (productions part) → is_turn_name own ≡ true
+pub by_production : {p : Production} (k j : ℕ) (part : Part) (own : Token) (ss : List Wanted) (ts : List Token) →
+    IsAmong p (productions part) → is_turn_name own ≡ true
     → (most_open k ts ≤ 2000 → p.needs ≤ 2000 - j) → Goes k (map (put j own) p.shapes ++ ss) ts → Goes k (at j part ∷ ss) ts
 by_production {p = p} k j part own ss ts among turn needs go few =
     fold_in Produces matches (map (put j own) p.shapes)
@@ -92,16 +117,20 @@ pub behind : (k n : ℕ) (w : Token) (ts : List Token) → open_behind k w ≡ n
 behind k n w ts e few = subst (λ i. most_open i ts ≤ 2000) e (omega (arith, few))
 
 -- an opening bracket, a closing one, and another piece of a class
-pub open_then : (k : ℕ) (w : Token) (ss : List Wanted) (ts : List Token) → is_opening w ≡ true → Goes (k + 1) ss ts → Goes k (Terminal (exactly w) ∷ ss) (w ∷ ts)
+pub open_then : (k : ℕ) (w : Token) (ss : List Wanted) (ts : List Token) → is_opening w ≡ true → Goes (k + 1) ss ts →
+    Goes k (Terminal (exactly w) ∷ ss) (w ∷ ts)
 open_then k w ss ts h go few = terminal (exact w) (go (behind k (k + 1) w ts (opened k w h) few))
 
-pub close_then : (k : ℕ) (w : Token) (ss : List Wanted) (ts : List Token) → is_opening w ≡ false → is_closing w ≡ true → Goes k ss ts → Goes (k + 1) (Terminal (exactly w) ∷ ss) (w ∷ ts)
+pub close_then : (k : ℕ) (w : Token) (ss : List Wanted) (ts : List Token) → is_opening w ≡ false → is_closing w ≡ true →
+    Goes k ss ts → Goes (k + 1) (Terminal (exactly w) ∷ ss) (w ∷ ts)
 close_then k w ss ts h i go few = terminal (exact w) (go (behind (k + 1) k w ts (closed k w h i) few))
 
-pub class_then : (class : Class) (k : ℕ) (w : Token) (ss : List Wanted) (ts : List Token) → matches class w ≡ true → is_bracket w ≡ false → Goes k ss ts → Goes k (Terminal class ∷ ss) (w ∷ ts)
+pub class_then : (class : Class) (k : ℕ) (w : Token) (ss : List Wanted) (ts : List Token) → matches class w ≡ true →
+    is_bracket w ≡ false → Goes k ss ts → Goes k (Terminal class ∷ ss) (w ∷ ts)
 class_then class k w ss ts m h go few = terminal m (go (behind k k w ts (stays k w h) few))
 
-pub word_then : (k : ℕ) (w : Token) (ss : List Wanted) (ts : List Token) → is_bracket w ≡ false → Goes k ss ts → Goes k (Terminal (exactly w) ∷ ss) (w ∷ ts)
+pub word_then : (k : ℕ) (w : Token) (ss : List Wanted) (ts : List Token) → is_bracket w ≡ false → Goes k ss ts →
+    Goes k (Terminal (exactly w) ∷ ss) (w ∷ ts)
 word_then k w ss ts h go = class_then (exactly w) k w ss ts (exact w) h go
 
 -- the room that brackets show

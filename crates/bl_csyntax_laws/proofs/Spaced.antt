@@ -1,5 +1,30 @@
 -- The pieces of bytes, where each is a token, are the tokens that the bytes are spaced into.
-use Rattle.std.proofs.Common.{◌≡◌, ◌⊎◌, ℕ, ◌≤◌, Bool, true, false, ◌&&◌, ◌||◌, cond, List, [], ◌∷◌, ◌++◌, length, map, refl, sym, ap, ◌∙◌, subst, inl, inr, arith}
+use Rattle.std.proofs.Common.{
+  ◌≡◌,
+  ◌⊎◌,
+  ℕ,
+  ◌≤◌,
+  Bool,
+  true,
+  false,
+  ◌&&◌,
+  ◌||◌,
+  cond,
+  List,
+  [],
+  ◌∷◌,
+  ◌++◌,
+  length,
+  map,
+  refl,
+  sym,
+  ap,
+  ◌∙◌,
+  subst,
+  inl,
+  inr,
+  arith,
+}
 use Rattle.std.proofs.lemmas.Bool.Decides.{nat_tests}
 use Rattle.bl_tree.specs.Reduce.{all_of}
 use Rattle.bl_ctext.specs.Token.{Token, is_blank, is_word_byte, is_double_sign, is_word, is_sign, is_token, IsLongest, SpacedC}
@@ -30,10 +55,25 @@ Cuts (piece ∷ others) bytes = (after : List ℕ) × (Next piece bytes after ×
 
 one_blank : (b : ℕ) (bs : List ℕ) (ts : List Token) → is_blank b ≡ true → Cuts ts bs → Cuts ts (b ∷ bs)
 one_blank b bs [] h cuts = both _ _ h cuts
-one_blank b bs (t ∷ ts) h (after, (next, rest)) =
-    (after, (record { blanks = b ∷ next.blanks; blank = both _ _ h next.blank; cut = ap (λ (xs : List ℕ). b ∷ xs) next.cut; first = next.first; others = next.others; some = next.some; stops = next.stops }, rest))
+one_blank b bs (t ∷ ts) h (after, (next, rest)) = (
+  after,
+  (
+    record {
+      blanks = b ∷ next.blanks;
+      blank = both _ _ h next.blank;
+      cut = ap (λ (xs : List ℕ). b ∷ xs) next.cut;
+      first =
+          next.first;
+      others = next.others;
+      some = next.some;
+      stops = next.stops;
+    },
+    rest,
+  ),
+)
 
-no_blanks : (c : ℕ) (cs blanks rest : List ℕ) → is_blank c ≡ false → all_of (map is_blank blanks) ≡ true → c ∷ cs ≡ blanks ++ rest → c ∷ cs ≡ rest
+no_blanks : (c : ℕ) (cs blanks rest : List ℕ) → is_blank c ≡ false → all_of (map is_blank blanks) ≡ true → c ∷ cs ≡ blanks ++ rest →
+    c ∷ cs ≡ rest
 no_blanks c cs [] rest h k e = e
 no_blanks c cs (d ∷ ds) rest h k e =
     let same : c ≡ d = cc in
@@ -45,7 +85,8 @@ no_pair : (a b : ℕ) → is_word_byte a ≡ true → is_double_sign a b ≡ fal
 no_pair a b h = grind (arith, nat_tests)
 
 -- a piece that begins with a byte of words and doesn't go on has no such byte behind it
-word_stops : (c : ℕ) (others after : List ℕ) (a : ℕ) (more : List ℕ) → is_word_byte c ≡ true → goes c others after ≡ false → goes a (c ∷ more) after ≡ false
+word_stops : (c : ℕ) (others after : List ℕ) (a : ℕ) (more : List ℕ) → is_word_byte c ≡ true → goes c others after ≡ false →
+    goes a (c ∷ more) after ≡ false
 word_stops c [] [] a more h stops = refl
 word_stops c [] (d ∷ after) a more h stops = no_more (is_word_byte a) (is_word_byte d) (rw h at stops)
   where
@@ -60,22 +101,38 @@ word_stops c (x ∷ others) (d ∷ after) a more h stops = no_more (is_word_byte
     no_more false w k = refl
     no_more true w k = k
 
-one_more : (a c : ℕ) (cs : List ℕ) (t : Token) (ts : List Token) → is_word_byte c ≡ true → Cuts (t ∷ ts) (c ∷ cs) → Cuts ((a ∷ t) ∷ ts) (a ∷ c ∷ cs)
+one_more : (a c : ℕ) (cs : List ℕ) (t : Token) (ts : List Token) → is_word_byte c ≡ true → Cuts (t ∷ ts) (c ∷ cs) →
+    Cuts ((a ∷ t) ∷ ts) (a ∷ c ∷ cs)
 one_more a c cs t ts h (after, (next, rest)) =
     let here : c ∷ cs ≡ t ++ after = no_blanks c cs next.blanks (t ++ after) (word_byte-not_blank c h) next.blank next.cut in
     let begins : c ∷ cs ≡ next.first ∷ (next.others ++ after) = here ∙ ap (λ (xs : List ℕ). xs ++ after) next.some in
     let same : c ≡ next.first = cc in
     let word : is_word_byte next.first ≡ true = subst (λ (x : ℕ). is_word_byte x ≡ true) same h in
-    let stops : goes a (next.first ∷ next.others) after ≡ false = word_stops next.first next.others after a next.others word next.stops in
-    (after, (record { blanks = []; blank = refl; cut = ap (λ (xs : List ℕ). a ∷ xs) here; first = a; others = next.first ∷ next.others; some = ap (λ (xs : List ℕ). a ∷ xs) next.some; stops = stops }, rest))
+    let stops : goes a (next.first ∷ next.others) after ≡ false = word_stops next.first next.others after a next.others word next.stops in (
+      after,
+      (
+        record {
+          blanks = [];
+          blank = refl;
+          cut = ap (λ (xs : List ℕ). a ∷ xs) here;
+          first = a;
+          others =
+              next.first ∷ next.others;
+          some = ap (λ (xs : List ℕ). a ∷ xs) next.some;
+          stops = stops;
+        },
+        rest,
+      ),
+    )
 
 -- the pieces of bytes that begin with a byte of words
 some_piece : (c : ℕ) (cs : List ℕ) → is_word_byte c ≡ true → (t : Token) × ((ts : List Token) × (pieces (c ∷ cs) ≡ t ∷ ts))
 some_piece c [] h = (c ∷ [], ([], rw (word_byte-not_blank c h) refl))
-some_piece c (d ∷ ds) h = elim (is_word_byte d) as (λ v. is_word_byte d ≡ v → (t : Token) × ((ts : List Token) × (pieces (c ∷ d ∷ ds) ≡ t ∷ ts))) [
-  | true ↦ λ e. goes_on e (put (pieces (d ∷ ds)))
-  | false ↦ λ e. (c ∷ [], (pieces (d ∷ ds), rw (word_byte-not_blank c h, no_pair c d h, h, e) refl))
-] refl
+some_piece c (d ∷ ds) h = elim (is_word_byte d) as (λ v. is_word_byte d ≡ v →
+    (t : Token) × ((ts : List Token) × (pieces (c ∷ d ∷ ds) ≡ t ∷ ts))) [
+      | true ↦ λ e. goes_on e (put (pieces (d ∷ ds)))
+      | false ↦ λ e. (c ∷ [], (pieces (d ∷ ds), rw (word_byte-not_blank c h, no_pair c d h, h, e) refl))
+    ] refl
   where
     Put : List Token → Type 0
     Put ts = (t : Token) × ((us : List Token) × (put_before c ts ≡ t ∷ us))
@@ -84,7 +141,8 @@ some_piece c (d ∷ ds) h = elim (is_word_byte d) as (λ v. is_word_byte d ≡ v
     put [] = (c ∷ [], ([], refl))
     put (t ∷ ts) = (c ∷ t, (ts, refl))
 
-    goes_on : is_word_byte d ≡ true → (t : Token) × ((us : List Token) × (put_before c (pieces (d ∷ ds)) ≡ t ∷ us)) → (t : Token) × ((ts : List Token) × (pieces (c ∷ d ∷ ds) ≡ t ∷ ts))
+    goes_on : is_word_byte d ≡ true → (t : Token) × ((us : List Token) × (put_before c (pieces (d ∷ ds)) ≡ t ∷ us)) →
+        (t : Token) × ((ts : List Token) × (pieces (c ∷ d ∷ ds) ≡ t ∷ ts))
     goes_on e (t, (us, f)) = (t, (us, rw (word_byte-not_blank c h, no_pair c d h, h, e) f))
 
 pair_no_word : (a b : ℕ) → is_double_sign a b ≡ true → is_word_byte a ≡ false
@@ -94,7 +152,8 @@ pair_stops : (a b : ℕ) (bs : List ℕ) → is_double_sign a b ≡ true → goe
 pair_stops a b [] h = refl
 pair_stops a b (c ∷ cs) h = rw (pair_no_word a b h) refl
 
-step : (a b : ℕ) (bs : List ℕ) (blank pair word : Bool) → is_blank a ≡ blank → is_double_sign a b ≡ pair → (is_word_byte a && is_word_byte b) ≡ word →
+step : (a b : ℕ) (bs : List ℕ) (blank pair word : Bool) → is_blank a ≡ blank → is_double_sign a b ≡ pair →
+    (is_word_byte a && is_word_byte b) ≡ word →
     Cuts (pieces bs) bs → Cuts (pieces (b ∷ bs)) (b ∷ bs) → Cuts (cut_off blank pair word a b (pieces bs) (pieces (b ∷ bs))) (a ∷ b ∷ bs)
 step a b bs true pair word h k w far near = one_blank a (b ∷ bs) (pieces (b ∷ bs)) h near
 step a b bs false true word h k w far near =
@@ -122,21 +181,25 @@ all_in : (others : List ℕ) (c : ℕ) (more : List ℕ) → all_of (map is_word
 all_in [] c more h = and-fst _ _ h
 all_in (o ∷ others) c more h = all_in others c more (and-snd _ _ h)
 
-word_goes : (f : ℕ) (others : List ℕ) (c : ℕ) (more rest : List ℕ) → is_word ((f ∷ others) ++ c ∷ more) ≡ true → goes f others (c ∷ rest) ≡ true
+word_goes : (f : ℕ) (others : List ℕ) (c : ℕ) (more rest : List ℕ) → is_word ((f ∷ others) ++ c ∷ more) ≡ true →
+    goes f others (c ∷ rest) ≡ true
 word_goes f [] c more rest h =
     or-fst (is_word_byte f && is_word_byte c) (is_double_sign f c) (both (is_word_byte f) (is_word_byte c) (and-fst _ _ h) (all_in [] c more (and-snd _ _ h)))
 word_goes f (o ∷ others) c more rest h = both (is_word_byte f) (is_word_byte c) (and-fst _ _ h) (all_in (o ∷ others) c more (and-snd _ _ h))
 
-sign_goes : (f : ℕ) (others : List ℕ) (c : ℕ) (more rest : List ℕ) → is_sign ((f ∷ others) ++ c ∷ more) ≡ true → goes f others (c ∷ rest) ≡ true
+sign_goes : (f : ℕ) (others : List ℕ) (c : ℕ) (more rest : List ℕ) → is_sign ((f ∷ others) ++ c ∷ more) ≡ true →
+    goes f others (c ∷ rest) ≡ true
 sign_goes f [] c [] rest h = or-snd (is_word_byte f && is_word_byte c) (is_double_sign f c) h
 sign_goes f [] c (m ∷ more) rest h = cc
 sign_goes f (o ∷ []) c more rest h = cc
 sign_goes f (o ∷ x ∷ others) c more rest h = cc
 
 -- where a longer token begins there, the piece goes on
-token_goes : (f : ℕ) (others : List ℕ) (c : ℕ) (more rest : List ℕ) → is_token ((f ∷ others) ++ c ∷ more) ≡ true → goes f others (c ∷ rest) ≡ true
+token_goes : (f : ℕ) (others : List ℕ) (c : ℕ) (more rest : List ℕ) → is_token ((f ∷ others) ++ c ∷ more) ≡ true →
+    goes f others (c ∷ rest) ≡ true
 token_goes f others c more rest h =
-    elim (either (is_word ((f ∷ others) ++ c ∷ more)) (is_sign ((f ∷ others) ++ c ∷ more)) h) [ inl word ↦ word_goes f others c more rest word | inr sign ↦ sign_goes f others c more rest sign ]
+    elim (either (is_word ((f ∷ others) ++ c ∷ more)) (is_sign ((f ∷ others) ++ c ∷ more)) h)
+    [ inl word ↦ word_goes f others c more rest word | inr sign ↦ sign_goes f others c more rest sign ]
 
 -- Of two fronts of the same bytes one goes on where the other ends.
 record GoesOn (t longer after : List ℕ) : Type 0 where

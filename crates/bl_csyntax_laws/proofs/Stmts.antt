@@ -1,5 +1,30 @@
 -- The tokens of a statement that has a spelling derive.
-use Rattle.std.proofs.Common.{◌≡◌, ℕ, ◌+◌, ◌-◌, ◌≤◌, true, false, ◌&&◌, List, [], ◌∷◌, ◌++◌, map, Option, Some, None, refl, sym, ap, ◌∙◌, subst, append_assoc, arith, codes}
+use Rattle.std.proofs.Common.{
+  ◌≡◌,
+  ℕ,
+  ◌+◌,
+  ◌-◌,
+  ◌≤◌,
+  true,
+  false,
+  ◌&&◌,
+  List,
+  [],
+  ◌∷◌,
+  ◌++◌,
+  map,
+  Option,
+  Some,
+  None,
+  refl,
+  sym,
+  ap,
+  ◌∙◌,
+  subst,
+  append_assoc,
+  arith,
+  codes,
+}
 use Rattle.bl_tree.specs.declared.place.Place.{Place as TextPlace}
 use Rattle.bl_tree.specs.declared.c.CExpr.{CExpr}
 use Rattle.bl_tree.specs.declared.c.CStmt.{CStmt, fold-roll-CStmt, roll-CStmt, ind-CStmt}
@@ -7,7 +32,18 @@ use Rattle.bl_tree.specs.declared.c.CStmtKind.{CStmtKind, CStmtKind-F, fold-roll
 use Rattle.bl_tree.specs.Reduce.{all_of, joined}
 use Rattle.bl_ctext.specs.Token.{Token}
 use Rattle.bl_ctext.specs.Names.{is_struct_name, is_turn_name}
-use Rattle.bl_ctext.specs.Spelling.{expr_tokens, place_tokens, ccall_tokens, result_tokens, condition_tokens, zeros_tokens, turn_declared, turn_counted, stmt_tokens, stmt_kind_tokens}
+use Rattle.bl_ctext.specs.Spelling.{
+  expr_tokens,
+  place_tokens,
+  ccall_tokens,
+  result_tokens,
+  condition_tokens,
+  zeros_tokens,
+  turn_declared,
+  turn_counted,
+  stmt_tokens,
+  stmt_kind_tokens,
+}
 use Rattle.bl_ctext.specs.Spellable.{most_open, spells_expr, spells_place, spells_result, spells_stmt, spells_stmt_kind}
 use Rattle.bl_ctext.proofs.Bytes.{and-fst, and-snd}
 use Rattle.bl_ctext.proofs.ExprNesting.{expr-nests}
@@ -42,7 +78,8 @@ clear_goes xs name of_place h k ss ts go =
     (free k k AssignTail ss (zeros_tokens name ++ ts) here (omega arith) (word_then k _ _ _ refl
     (roomed k k Value _ (codes "(" ∷ codes "struct" ∷ name ∷ codes ")" ∷ codes "{" ∷ codes "0" ∷ codes "}" ∷ codes ";" ∷ ts) here
     (λ few. one_open k (codes "struct" ∷ name ∷ codes ")" ∷ codes "{" ∷ codes "0" ∷ codes "}" ∷ codes ";" ∷ ts) few)
-    (open_then k _ _ _ refl (free (k + 1) k AfterOpen _ (codes "struct" ∷ name ∷ codes ")" ∷ codes "{" ∷ codes "0" ∷ codes "}" ∷ codes ";" ∷ ts) here (omega arith)
+    (open_then k _ _ _ refl (free (k + 1) k AfterOpen _
+    (codes "struct" ∷ name ∷ codes ")" ∷ codes "{" ∷ codes "0" ∷ codes "}" ∷ codes ";" ∷ ts) here (omega arith)
     (word_then (k + 1) _ _ _ refl (struct_name name h (k + 1) k _ _ (close_then k _ _ _ refl refl
     (open_then k _ _ _ refl (word_then (k + 1) _ _ _ refl (close_then k _ _ _ refl refl (word_then k _ _ _ refl go)))))))))))))
 
@@ -72,7 +109,8 @@ some_else inner of k ss ts go = roomed_else
   where
     roomed_else : Goes k (at k Else ∷ ss) (codes "else" ∷ codes "{" ∷ ((inner ++ codes "}" ∷ []) ++ ts))
     roomed_else = free k k Else ss (codes "else" ∷ codes "{" ∷ ((inner ++ codes "}" ∷ []) ++ ts)) here (omega arith)
-        (word_then k _ _ _ refl (open_then k _ _ _ refl (apart (k + 1) _ inner (codes "}" ∷ []) ts (of (k + 1) _ (codes "}" ∷ ts) (close_then k _ _ _ refl refl go)))))
+        (word_then k _ _ _ refl (open_then k _ _ _ refl (apart (k + 1) _ inner (codes "}" ∷ []) ts
+        (of (k + 1) _ (codes "}" ∷ ts) (close_then k _ _ _ refl refl go)))))
 
 -- loops
 
@@ -83,7 +121,8 @@ abbrev loop_front : Token → List Token → List Token
 loop_front turn after = codes "{" ∷ codes "uint32_t" ∷ turn ∷ codes "=" ∷ codes "0" ∷ codes ";" ∷ codes "while" ∷ codes "(" ∷ after
 
 -- behind the condition as many brackets are open as before it
-condition_closes : (k : ℕ) (e : CExpr) (after : List Token) → spells_expr e ≡ true → most_open k (expr_tokens e ++ after) ≤ 2000 → most_open k after ≤ 2000
+condition_closes : (k : ℕ) (e : CExpr) (after : List Token) → spells_expr e ≡ true → most_open k (expr_tokens e ++ after) ≤ 2000 →
+    most_open k after ≤ 2000
 condition_closes k e after h few =
     let plus : k + 0 ≡ k = omega arith in
     let same : open_after k (expr_tokens e) ≡ k = ap (λ n. open_after n (expr_tokens e)) (sym plus) ∙ (expr-nests e h).after k in
@@ -93,15 +132,21 @@ condition_closes k e after h few =
 three_open : (k : ℕ) (turn : Token) (e : CExpr) (after : List Token) → is_bracket turn ≡ false → spells_expr e ≡ true
     → most_open k (loop_front turn (expr_tokens e ++ (codes ")" ∷ loop_rest turn after))) ≤ 2000 → 3 ≤ 2000 - k
 three_open k turn e after h i few =
-    let a : most_open (k + 1) (turn ∷ codes "=" ∷ codes "0" ∷ codes ";" ∷ codes "while" ∷ codes "(" ∷ (expr_tokens e ++ (codes ")" ∷ loop_rest turn after))) ≤ 2000 = omega (arith, few) in
-    let b : most_open (k + 1) (codes "=" ∷ codes "0" ∷ codes ";" ∷ codes "while" ∷ codes "(" ∷ (expr_tokens e ++ (codes ")" ∷ loop_rest turn after))) ≤ 2000 =
-    behind (k + 1) (k + 1) turn (codes "=" ∷ codes "0" ∷ codes ";" ∷ codes "while" ∷ codes "(" ∷ (expr_tokens e ++ (codes ")" ∷ loop_rest turn after))) (stays (k + 1) turn h) a in
+    let a : most_open (k + 1) (turn ∷ codes "=" ∷ codes "0" ∷ codes ";" ∷ codes "while" ∷ codes "("
+    ∷ (expr_tokens e ++ (codes ")" ∷ loop_rest turn after))) ≤ 2000 = omega (arith, few) in
+    let b : most_open (k + 1) (codes "=" ∷ codes "0" ∷ codes ";" ∷ codes "while" ∷ codes "("
+    ∷ (expr_tokens e ++ (codes ")" ∷ loop_rest turn after))) ≤ 2000 =
+    behind (k + 1) (k + 1) turn (codes "=" ∷ codes "0" ∷ codes ";" ∷ codes "while" ∷ codes "("
+    ∷ (expr_tokens e ++ (codes ")" ∷ loop_rest turn after))) (stays (k + 1) turn h) a in
     let c : most_open (k + 1 + 1) (expr_tokens e ++ (codes ")" ∷ loop_rest turn after)) ≤ 2000 = omega (arith, b) in
     let d : most_open (k + 1 + 1) (codes ")" ∷ loop_rest turn after) ≤ 2000 = condition_closes (k + 1 + 1) e (codes ")" ∷ loop_rest turn after) i c in
-    let f : most_open (k + 1) (loop_rest turn after) ≤ 2000 = behind (k + 1 + 1) (k + 1) (codes ")") (loop_rest turn after) (closed (k + 1) (codes ")") refl refl) d in
-    let g : most_open (k + 1 + 1) (turn ∷ codes "=" ∷ codes "bl_turn" ∷ codes "(" ∷ turn ∷ codes ")" ∷ codes ";" ∷ after) ≤ 2000 = omega (arith, f) in
+    let f : most_open (k + 1) (loop_rest turn after) ≤ 2000 =
+    behind (k + 1 + 1) (k + 1) (codes ")") (loop_rest turn after) (closed (k + 1) (codes ")") refl refl) d in
+    let g : most_open (k + 1 + 1) (turn ∷ codes "=" ∷ codes "bl_turn" ∷ codes "(" ∷ turn ∷ codes ")" ∷ codes ";" ∷ after) ≤ 2000 =
+    omega (arith, f) in
     let l : most_open (k + 1 + 1) (codes "=" ∷ codes "bl_turn" ∷ codes "(" ∷ turn ∷ codes ")" ∷ codes ";" ∷ after) ≤ 2000 =
-    behind (k + 1 + 1) (k + 1 + 1) turn (codes "=" ∷ codes "bl_turn" ∷ codes "(" ∷ turn ∷ codes ")" ∷ codes ";" ∷ after) (stays (k + 1 + 1) turn h) g in
+    behind (k + 1 + 1) (k + 1 + 1) turn (codes "=" ∷ codes "bl_turn" ∷ codes "(" ∷ turn ∷ codes ")" ∷ codes ";" ∷ after)
+    (stays (k + 1 + 1) turn h) g in
     let m : most_open (k + 1 + 1 + 1) (turn ∷ codes ")" ∷ codes ";" ∷ after) ≤ 2000 = omega (arith, l) in
     omega (arith, m, most_open-first (k + 1 + 1 + 1) (turn ∷ codes ")" ∷ codes ";" ∷ after))
 
@@ -111,12 +156,15 @@ loop_goes : (turn : Token) (e : CExpr) (inner : List Token) → is_turn_name tur
 loop_goes turn e inner h i of k ss ts go =
     let plain : is_bracket turn ≡ false = turn_name-plain turn h in
     let after : List Token = inner ++ (codes "}" ∷ codes "}" ∷ ts) in
-    roomed k k Stmt ss (loop_front turn (expr_tokens e ++ (codes ")" ∷ loop_rest turn after))) (later (later (later (later here)))) (λ few. three_open k turn e after plain i few)
+    roomed k k Stmt ss (loop_front turn (expr_tokens e ++ (codes ")" ∷ loop_rest turn after))) (later (later (later (later here))))
+    (λ few. three_open k turn e after plain i few)
     (open_then k _ _ _ refl (word_then (k + 1) _ _ _ refl
-    (by_production (k + 1) k Turns turn ss (turn ∷ codes "=" ∷ codes "0" ∷ codes ";" ∷ codes "while" ∷ codes "(" ∷ (expr_tokens e ++ (codes ")" ∷ loop_rest turn after))) here h (λ few. omega arith)
+    (by_production (k + 1) k Turns turn ss (turn ∷ codes "=" ∷ codes "0" ∷ codes ";" ∷ codes "while" ∷ codes "("
+    ∷ (expr_tokens e ++ (codes ")" ∷ loop_rest turn after))) here h (λ few. omega arith)
     (word_then (k + 1) turn _ _ plain (word_then (k + 1) _ _ _ refl (word_then (k + 1) _ _ _ refl (word_then (k + 1) _ _ _ refl (word_then (k + 1) _ _ _ refl
     (open_then (k + 1) _ _ _ refl (whole_expr (expr_tokens e) (expr_goes e i) (k + 1 + 1) _ (codes ")" ∷ loop_rest turn after)
-    (close_then (k + 1) _ _ _ refl refl (open_then (k + 1) _ _ _ refl (word_then (k + 1 + 1) turn _ _ plain (word_then (k + 1 + 1) _ _ _ refl (word_then (k + 1 + 1) _ _ _ refl
+    (close_then (k + 1) _ _ _ refl refl (open_then (k + 1) _ _ _ refl
+    (word_then (k + 1 + 1) turn _ _ plain (word_then (k + 1 + 1) _ _ _ refl (word_then (k + 1 + 1) _ _ _ refl
     (open_then (k + 1 + 1) _ _ _ refl (word_then (k + 1 + 1 + 1) turn _ _ plain (close_then (k + 1 + 1) _ _ _ refl refl (word_then (k + 1 + 1) _ _ _ refl
     (of (k + 1 + 1) _ (codes "}" ∷ codes "}" ∷ ts) (close_then (k + 1) _ _ _ refl refl (close_then k _ _ _ refl refl go))))))))))))))))))))))
 
@@ -124,7 +172,8 @@ loop_whole : (turn : Token) (e : CExpr) (inner : List Token) → is_turn_name tu
     → Whole Stmt (turn_declared turn ++ (condition_tokens e ++ (turn_counted turn ++ (inner ++ codes "}" ∷ codes "}" ∷ []))))
 loop_whole turn e inner h i of k ss ts go =
     let back : List Token = loop_rest turn (inner ++ codes "}" ∷ codes "}" ∷ []) in
-    let same : ((expr_tokens e ++ codes ")" ∷ []) ++ back) ++ ts ≡ expr_tokens e ++ (codes ")" ∷ loop_rest turn (inner ++ (codes "}" ∷ codes "}" ∷ ts))) =
+    let same : ((expr_tokens e ++ codes ")" ∷ []) ++ back) ++ ts ≡ expr_tokens e
+    ++ (codes ")" ∷ loop_rest turn (inner ++ (codes "}" ∷ codes "}" ∷ ts))) =
     append_assoc (expr_tokens e ++ codes ")" ∷ []) back ts ∙ append_assoc (expr_tokens e) (codes ")" ∷ []) (back ++ ts)
     ∙ ap (λ (zs : List Token). expr_tokens e ++ (codes ")" ∷ loop_rest turn zs)) (append_assoc inner (codes "}" ∷ codes "}" ∷ []) ts) in
     subst (λ (zs : List Token). Goes k (at k Stmt ∷ ss) (loop_front turn zs)) (sym same) (loop_goes turn e inner h i of k ss ts go)
@@ -132,12 +181,14 @@ loop_whole turn e inner h i of k ss ts go =
 -- the others
 
 break_goes : Whole Stmt (codes "break" ∷ codes ";" ∷ [])
-break_goes k ss ts go = free k k Stmt ss (codes "break" ∷ codes ";" ∷ ts) (later (later (later (later (later here))))) (omega arith) (word_then k _ _ _ refl (word_then k _ _ _ refl go))
+break_goes k ss ts go = free k k Stmt ss (codes "break" ∷ codes ";" ∷ ts) (later (later (later (later (later here))))) (omega arith)
+    (word_then k _ _ _ refl (word_then k _ _ _ refl go))
 
 return_goes : (result : Option CExpr) → spells_result result ≡ true → Whole Stmt (codes "return" ∷ (result_tokens result ++ codes ";" ∷ []))
 return_goes None h k ss ts go = free k k Stmt ss (codes "return" ∷ codes ";" ∷ ts) (later (later (later (later (later (later here)))))) (omega arith)
     (word_then k _ _ _ refl (free k k Result ss (codes ";" ∷ ts) here (omega arith) (word_then k _ _ _ refl go)))
-return_goes (Some e) h k ss ts go = free k k Stmt ss (codes "return" ∷ ((expr_tokens e ++ codes ";" ∷ []) ++ ts)) (later (later (later (later (later (later here)))))) (omega arith)
+return_goes (Some e) h k ss ts go = free k k Stmt ss (codes "return" ∷ ((expr_tokens e ++ codes ";" ∷ []) ++ ts))
+    (later (later (later (later (later (later here)))))) (omega arith)
     (word_then k _ _ _ refl (free k k Result ss ((expr_tokens e ++ codes ";" ∷ []) ++ ts) (later here) (omega arith)
     (apart k _ (expr_tokens e) (codes ";" ∷ []) ts (whole_expr (expr_tokens e) (expr_goes e h) k _ (codes ";" ∷ ts) (word_then k _ _ _ refl go)))))
 
@@ -169,9 +220,11 @@ by_kind (CStmtKind-F.Clear at name) h =
 by_kind (CStmtKind-F.Call call) h = rw fold-roll-CStmtKind (call_goes (ccall_tokens call) (whole_call call (rw fold-roll-CStmtKind at h)))
 by_kind (CStmtKind-F.If test inner None) h =
     let all : (spells_expr test && (all_of (map spells_stmt (map (λ e. e.0) inner)) && true)) ≡ true = rw fold-roll-CStmtKind at h in
-    rw fold-roll-CStmtKind (else_goes [] no_else (expr_tokens test) _ (whole_expr (expr_tokens test) (expr_goes test (and-fst _ _ all))) (inner_goes inner (and-fst _ _ (and-snd _ _ all))))
+    rw fold-roll-CStmtKind (else_goes [] no_else (expr_tokens test) _
+    (whole_expr (expr_tokens test) (expr_goes test (and-fst _ _ all))) (inner_goes inner (and-fst _ _ (and-snd _ _ all))))
 by_kind (CStmtKind-F.If test inner (Some other)) h =
-    let all : (spells_expr test && (all_of (map spells_stmt (map (λ e. e.0) inner)) && all_of (map spells_stmt (map (λ e. e.0) other)))) ≡ true = rw fold-roll-CStmtKind at h in
+    let all : (spells_expr test && (all_of (map spells_stmt (map (λ e. e.0) inner))
+    && all_of (map spells_stmt (map (λ e. e.0) other)))) ≡ true = rw fold-roll-CStmtKind at h in
     rw fold-roll-CStmtKind (else_goes _ (some_else _ (inner_goes other (and-snd _ _ (and-snd _ _ all)))) (expr_tokens test) _
     (whole_expr (expr_tokens test) (expr_goes test (and-fst _ _ all))) (inner_goes inner (and-fst _ _ (and-snd _ _ all))))
 by_kind (CStmtKind-F.Loop turn test body) h =

@@ -64,10 +64,14 @@ among_none p t ws h k = by_test (among t ws) refl
 -- the words and signs of the grammar that are no name
 abbrev pub reserved : List Token
 reserved =
-    codes "(" ∷ codes ")" ∷ codes "[" ∷ codes "]" ∷ codes "{" ∷ codes "}" ∷ codes "." ∷ codes "," ∷ codes ";" ∷ codes "=" ∷ codes "*" ∷ codes "&" ∷ codes "!" ∷ codes "-" ∷
-    codes "true" ∷ codes "false" ∷ codes "static" ∷ codes "struct" ∷ codes "void" ∷ codes "if" ∷ codes "else" ∷ codes "while" ∷ codes "break" ∷ codes "return" ∷
-    codes "bool" ∷ codes "int8_t" ∷ codes "int16_t" ∷ codes "int32_t" ∷ codes "int64_t" ∷ codes "uint8_t" ∷ codes "uint16_t" ∷ codes "uint32_t" ∷ codes "uint64_t" ∷
-    codes "INT8_C" ∷ codes "INT16_C" ∷ codes "INT32_C" ∷ codes "INT64_C" ∷ codes "UINT8_C" ∷ codes "UINT16_C" ∷ codes "UINT32_C" ∷ codes "UINT64_C" ∷
+    codes "(" ∷ codes ")" ∷ codes "[" ∷ codes "]" ∷ codes "{" ∷ codes "}" ∷ codes "." ∷ codes "," ∷ codes ";" ∷ codes "="
+    ∷ codes "*" ∷ codes "&" ∷ codes "!" ∷ codes "-" ∷
+    codes "true" ∷ codes "false" ∷ codes "static" ∷ codes "struct" ∷ codes "void" ∷ codes "if" ∷ codes "else" ∷ codes "while"
+    ∷ codes "break" ∷ codes "return" ∷
+    codes "bool" ∷ codes "int8_t" ∷ codes "int16_t" ∷ codes "int32_t" ∷ codes "int64_t" ∷ codes "uint8_t" ∷ codes "uint16_t"
+    ∷ codes "uint32_t" ∷ codes "uint64_t" ∷
+    codes "INT8_C" ∷ codes "INT16_C" ∷ codes "INT32_C" ∷ codes "INT64_C" ∷ codes "UINT8_C" ∷ codes "UINT16_C" ∷ codes "UINT32_C"
+    ∷ codes "UINT64_C" ∷
     codes "INT8_MIN" ∷ codes "INT16_MIN" ∷ codes "INT32_MIN" ∷ codes "INT64_MIN" ∷ []
 
 none_callee : all_of (map (λ w. not (is_callee w)) reserved) ≡ true

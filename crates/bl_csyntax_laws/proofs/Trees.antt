@@ -1,5 +1,26 @@
 -- The tokens that a derivation of a text is the derivation of are those of a file.
-use Rattle.std.proofs.Common.{◌≡◌, ℕ, true, false, List, [], ◌∷◌, ◌++◌, map, Option, Some, None, refl, sym, ap, ◌∙◌, subst, append_assoc, append-nil, codes}
+use Rattle.std.proofs.Common.{
+  ◌≡◌,
+  ℕ,
+  true,
+  false,
+  List,
+  [],
+  ◌∷◌,
+  ◌++◌,
+  map,
+  Option,
+  Some,
+  None,
+  refl,
+  sym,
+  ap,
+  ◌∙◌,
+  subst,
+  append_assoc,
+  append-nil,
+  codes,
+}
 use Rattle.bl_tree.specs.declared.scalar.Width.TheVariants.{W8, W16, W32, W64}
 use Rattle.bl_tree.specs.declared.c.CType.TheVariants as ctype
 use Rattle.bl_tree.specs.declared.c.CExprKind.{CExprKind-F}
@@ -13,7 +34,48 @@ use Rattle.bl_ctext.proofs.PrefixedNames.{name-struct, name-function, name-calle
 use Rattle.bl_grammar.specs.declared.symbol.Symbol.TheVariants.{Terminal, Nonterminal}
 use Rattle.bl_grammar.specs.Derivations.Derives.{done, terminal, part}
 use Rattle.bl_csyntax.specs.declared.grammar.Part.{Part}
-use Rattle.bl_csyntax.specs.declared.grammar.Part.TheVariants.{File, Structs, Struct, StructName, Members, Member, TypeName, Length, Funcs, Func, PlainFunc, FuncRest, FuncName, Params, ParamRest, Param, Star, Locals, Local, Stmts, Stmt, Else, Turns, AfterName, AssignTail, Value, AfterOpen, Result, Expr, Simple, Constant, Inside, Negative, NameUse, Steps, Index, Args, ArgRest, Arg, Place}
+use Rattle.bl_csyntax.specs.declared.grammar.Part.TheVariants.{
+  File,
+  Structs,
+  Struct,
+  StructName,
+  Members,
+  Member,
+  TypeName,
+  Length,
+  Funcs,
+  Func,
+  PlainFunc,
+  FuncRest,
+  FuncName,
+  Params,
+  ParamRest,
+  Param,
+  Star,
+  Locals,
+  Local,
+  Stmts,
+  Stmt,
+  Else,
+  Turns,
+  AfterName,
+  AssignTail,
+  Value,
+  AfterOpen,
+  Result,
+  Expr,
+  Simple,
+  Constant,
+  Inside,
+  Negative,
+  NameUse,
+  Steps,
+  Index,
+  Args,
+  ArgRest,
+  Arg,
+  Place,
+}
 use Rattle.bl_csyntax.specs.declared.grammar.Group.TheVariants.{ScalarTypes, PlainLiterals, Operators, IndexFunctions}
 use Rattle.bl_csyntax.specs.declared.grammar.Roomed.{Roomed}
 use Rattle.bl_csyntax.specs.Classes.{Class, matches}
@@ -23,7 +85,44 @@ use Rattle.bl_csyntax.specs.Classes.Class.{exactly, one_of, a_name, number, turn
 use Rattle.bl_csyntax.specs.declared.grammar.Group.{Group}
 use Rattle.bl_csyntax.specs.declared.grammar.Digits.{Digits}
 use Rattle.bl_csyntax_laws.proofs.Pieces.{Spelled, word_is, name_is, group_is, callee_is, struct_word, function_word, number_is, scalar_is, operator_is}
-use Rattle.bl_csyntax_laws.proofs.Told.{Tree, row_more, comma_more, first_more, arg_from, kind_from, stmt_from, step_told, place_told, read_expr, called, call_expr, two_told, int_told, nat_told, negated_told, plain_literal, function_is, index_told, call_stmt, rooted, stepped, set_told, clear_told, if_told, loop_told, scalar_type, length_told, member_told, structure_told, param_told, scalar_local, struct_local, scalar_func, function_told, file_told}
+use Rattle.bl_csyntax_laws.proofs.Told.{
+  Tree,
+  row_more,
+  comma_more,
+  first_more,
+  arg_from,
+  kind_from,
+  stmt_from,
+  step_told,
+  place_told,
+  read_expr,
+  called,
+  call_expr,
+  two_told,
+  int_told,
+  nat_told,
+  negated_told,
+  plain_literal,
+  function_is,
+  index_told,
+  call_stmt,
+  rooted,
+  stepped,
+  set_told,
+  clear_told,
+  if_told,
+  loop_told,
+  scalar_type,
+  length_told,
+  member_told,
+  structure_told,
+  param_told,
+  scalar_local,
+  struct_local,
+  scalar_func,
+  function_told,
+  file_told,
+}
 
 -- what a piece of the class is
 pub data Fits : Class → Token → Type 0 where
@@ -43,13 +142,16 @@ fits turn t m = Fits.turned t m
 -- the tokens that some symbols stand for, one after the other
 pub data Trees : List Wanted → List Token → Type 0 where
   none : Trees [] []
-  token : {class : Class} {t : Token} {wanted : List Wanted} {ts : List Token} → Fits class t → Trees wanted ts → Trees (Terminal class ∷ wanted) (t ∷ ts)
+  token : {class : Class} {t : Token} {wanted : List Wanted} {ts : List Token} → Fits class t → Trees wanted ts →
+      Trees (Terminal class ∷ wanted) (t ∷ ts)
   last : {whole : Roomed} {ts : List Token} → Tree whole.part ts → Trees (Nonterminal whole ∷ []) ts
-  tree : {whole : Roomed} {next : Wanted} {wanted : List Wanted} {us : List Token} (ts : List Token) → Tree whole.part ts → Trees (next ∷ wanted) us → Trees (Nonterminal whole ∷ next ∷ wanted) (ts ++ us)
+  tree : {whole : Roomed} {next : Wanted} {wanted : List Wanted} {us : List Token} (ts : List Token) → Tree whole.part ts →
+      Trees (next ∷ wanted) us → Trees (Nonterminal whole ∷ next ∷ wanted) (ts ++ us)
 
 -- the tokens of each production are those of its part
 abbrev Case : Part → Type 0
-Case of = (p : Production) → IsAmong p (productions of) → (room : ℕ) (own : Token) → is_turn_name own ≡ true → (ts : List Token) → Trees (map (placed room own) p.shapes) ts → Tree of ts
+Case of = (p : Production) → IsAmong p (productions of) → (room : ℕ) (own : Token) → is_turn_name own ≡ true → (ts : List Token) →
+    Trees (map (placed room own) p.shapes) ts → Tree of ts
 
 file_of : Case File
 file_of p here room own turns ts (Trees.tree _ x (Trees.tree _ xs (Trees.tree _ f (Trees.last fs)))) = file_told x xs f fs
@@ -61,7 +163,9 @@ structs_of p (later here) room own turns ts Trees.none = ([], (refl, refl))
 structs_of p (later (later gone)) room own turns ts h = elim gone [ ]
 
 struct_of : Case Struct
-struct_of p here room own turns ts (Trees.token Fits.same (Trees.tree _ name (Trees.token Fits.same (Trees.tree _ x (Trees.tree _ xs (Trees.token Fits.same (Trees.token Fits.same Trees.none))))))) = structure_told name x xs
+struct_of p here room own turns ts (Trees.token Fits.same
+    (Trees.tree _ name (Trees.token Fits.same (Trees.tree _ x
+    (Trees.tree _ xs (Trees.token Fits.same (Trees.token Fits.same Trees.none))))))) = structure_told name x xs
 struct_of p (later gone) room own turns ts h = elim gone [ ]
 
 struct_name_of : Case StructName
@@ -75,7 +179,8 @@ members_of p (later here) room own turns ts Trees.none = ([], (refl, refl))
 members_of p (later (later gone)) room own turns ts h = elim gone [ ]
 
 member_of : Case Member
-member_of p here room own turns ts (Trees.tree _ ty (Trees.token (Fits.named name named_so) (Trees.tree _ length (Trees.token Fits.same Trees.none)))) = member_told ty name named_so length
+member_of p here room own turns ts (Trees.tree _ ty
+    (Trees.token (Fits.named name named_so) (Trees.tree _ length (Trees.token Fits.same Trees.none)))) = member_told ty name named_so length
 member_of p (later gone) room own turns ts h = elim gone [ ]
 
 type_name_of : Case TypeName
@@ -100,11 +205,15 @@ func_of p (later (later gone)) room own turns ts h = elim gone [ ]
 
 plain_func_of : Case PlainFunc
 plain_func_of p here room own turns ts (Trees.token Fits.same (Trees.last f)) fixed = f fixed None refl
-plain_func_of p (later here) room own turns ts (Trees.token (Fits.among word m) (Trees.last f)) fixed = scalar_func word (scalar_is (group_is ScalarTypes word m)) f fixed
+plain_func_of p (later here) room own turns ts (Trees.token (Fits.among word m) (Trees.last f)) fixed =
+    scalar_func word (scalar_is (group_is ScalarTypes word m)) f fixed
 plain_func_of p (later (later gone)) room own turns ts h fixed = elim gone [ ]
 
 func_rest_of : Case FuncRest
-func_rest_of p here room own turns ts (Trees.tree _ name (Trees.token Fits.same (Trees.tree _ params (Trees.token Fits.same (Trees.token Fits.same (Trees.tree _ locals (Trees.tree _ body (Trees.token Fits.same Trees.none)))))))) fixed result returned = function_told fixed result returned name params locals body
+func_rest_of p here room own turns ts (Trees.tree _ name
+    (Trees.token Fits.same (Trees.tree _ params (Trees.token Fits.same
+    (Trees.token Fits.same (Trees.tree _ locals (Trees.tree _ body (Trees.token Fits.same Trees.none)))))))) fixed result returned =
+    function_told fixed result returned name params locals body
 func_rest_of p (later gone) room own turns ts h fixed result returned = elim gone [ ]
 
 func_name_of : Case FuncName
@@ -137,8 +246,13 @@ locals_of p (later here) room own turns ts Trees.none = ([], (refl, refl))
 locals_of p (later (later gone)) room own turns ts h = elim gone [ ]
 
 local_of : Case Local
-local_of p here room own turns ts (Trees.token (Fits.among word m) (Trees.token (Fits.named name named_so) (Trees.token Fits.same (Trees.token Fits.same (Trees.token Fits.same Trees.none))))) = scalar_local word (scalar_is (group_is ScalarTypes word m)) name named_so
-local_of p (later here) room own turns ts (Trees.token Fits.same (Trees.tree _ of (Trees.token (Fits.named name named_so) (Trees.token Fits.same (Trees.token Fits.same (Trees.token Fits.same (Trees.token Fits.same (Trees.token Fits.same Trees.none)))))))) = struct_local of name named_so
+local_of p here room own turns ts (Trees.token (Fits.among word m)
+    (Trees.token (Fits.named name named_so) (Trees.token Fits.same (Trees.token Fits.same (Trees.token Fits.same Trees.none))))) =
+    scalar_local word (scalar_is (group_is ScalarTypes word m)) name named_so
+local_of p (later here) room own turns ts (Trees.token Fits.same
+    (Trees.tree _ of (Trees.token (Fits.named name named_so)
+    (Trees.token Fits.same (Trees.token Fits.same (Trees.token Fits.same
+    (Trees.token Fits.same (Trees.token Fits.same Trees.none)))))))) = struct_local of name named_so
 local_of p (later (later gone)) room own turns ts h = elim gone [ ]
 
 stmts_of : Case Stmts
@@ -148,31 +262,47 @@ stmts_of p (later (later gone)) room own turns ts h = elim gone [ ]
 
 stmt_of : Case Stmt
 stmt_of p here room own turns ts (Trees.token (Fits.named name named_so) (Trees.last tail)) = stmt_from (tail name named_so)
-stmt_of p (later here) room own turns ts (Trees.token (Fits.among word m) (Trees.token Fits.same (Trees.tree _ args (Trees.token Fits.same (Trees.token Fits.same Trees.none))))) = stmt_from (call_stmt word (callee_is word m) args)
-stmt_of p (later (later here)) room own turns ts (Trees.token Fits.same (Trees.token Fits.same (Trees.token (Fits.named name named_so) (Trees.token Fits.same (Trees.last tail))))) = stmt_from (rooted true name named_so _ tail)
-stmt_of p (later (later (later here))) room own turns ts (Trees.token Fits.same (Trees.token Fits.same (Trees.tree _ test (Trees.token Fits.same (Trees.token Fits.same (Trees.tree _ body (Trees.token Fits.same (Trees.last other)))))))) = stmt_from (if_told test body other)
+stmt_of p (later here) room own turns ts (Trees.token (Fits.among word m)
+    (Trees.token Fits.same (Trees.tree _ args (Trees.token Fits.same (Trees.token Fits.same Trees.none))))) = stmt_from (call_stmt word (callee_is word m) args)
+stmt_of p (later (later here)) room own turns ts (Trees.token Fits.same
+    (Trees.token Fits.same (Trees.token (Fits.named name named_so) (Trees.token Fits.same (Trees.last tail))))) = stmt_from (rooted true name named_so _ tail)
+stmt_of p (later (later (later here))) room own turns ts
+    (Trees.token Fits.same (Trees.token Fits.same (Trees.tree _ test
+    (Trees.token Fits.same (Trees.token Fits.same (Trees.tree _ body (Trees.token Fits.same (Trees.last other)))))))) = stmt_from (if_told test body other)
 stmt_of p (later (later (later (later here)))) room own turns ts (Trees.token Fits.same (Trees.token Fits.same (Trees.last loop))) = stmt_from loop
-stmt_of p (later (later (later (later (later here))))) room own turns ts (Trees.token Fits.same (Trees.token Fits.same Trees.none)) = stmt_from (CStmtKind-F.Break, (refl, refl))
+stmt_of p (later (later (later (later (later here))))) room own turns ts
+    (Trees.token Fits.same (Trees.token Fits.same Trees.none)) = stmt_from (CStmtKind-F.Break, (refl, refl))
 stmt_of p (later (later (later (later (later (later here)))))) room own turns ts (Trees.token Fits.same (Trees.last result)) = stmt_from result
 stmt_of p (later (later (later (later (later (later (later gone))))))) room own turns ts h = elim gone [ ]
 
 else_of : Case Else
-else_of p here room own turns ts (Trees.token Fits.same (Trees.token Fits.same (Trees.tree _ (xs, (i, h)) (Trees.token Fits.same Trees.none)))) = (Some xs, (ap (λ a. codes "else" ∷ codes "{" ∷ (a ++ codes "}" ∷ [])) i, h))
+else_of p here room own turns ts (Trees.token Fits.same
+    (Trees.token Fits.same (Trees.tree _ (xs, (i, h)) (Trees.token Fits.same Trees.none)))) =
+    (Some xs, (ap (λ a. codes "else" ∷ codes "{" ∷ (a ++ codes "}" ∷ [])) i, h))
 else_of p (later here) room own turns ts Trees.none = (None, (refl, refl))
 else_of p (later (later gone)) room own turns ts h = elim gone [ ]
 
 turns_of : Case Turns
-turns_of p here room own turns ts (Trees.token Fits.same (Trees.token Fits.same (Trees.token Fits.same (Trees.token Fits.same (Trees.token Fits.same (Trees.token Fits.same (Trees.tree _ test (Trees.token Fits.same (Trees.token Fits.same (Trees.token Fits.same (Trees.token Fits.same (Trees.token Fits.same (Trees.token Fits.same (Trees.token Fits.same (Trees.token Fits.same (Trees.token Fits.same (Trees.tree _ body (Trees.token Fits.same (Trees.token Fits.same Trees.none))))))))))))))))))) = loop_told own turns test body
+turns_of p here room own turns ts (Trees.token Fits.same
+    (Trees.token Fits.same (Trees.token Fits.same (Trees.token Fits.same
+    (Trees.token Fits.same (Trees.token Fits.same (Trees.tree _ test
+    (Trees.token Fits.same (Trees.token Fits.same (Trees.token Fits.same
+    (Trees.token Fits.same (Trees.token Fits.same (Trees.token Fits.same
+    (Trees.token Fits.same (Trees.token Fits.same (Trees.token Fits.same
+    (Trees.tree _ body (Trees.token Fits.same (Trees.token Fits.same Trees.none))))))))))))))))))) = loop_told own turns test body
 turns_of p (later gone) room own turns ts h = elim gone [ ]
 
 after_name_of : Case AfterName
-after_name_of p here room own turns ts (Trees.token Fits.same (Trees.tree _ args (Trees.token Fits.same (Trees.token Fits.same Trees.none)))) name named_so = call_stmt name (name-callee name named_so) args
+after_name_of p here room own turns ts (Trees.token Fits.same
+    (Trees.tree _ args (Trees.token Fits.same (Trees.token Fits.same Trees.none)))) name named_so = call_stmt name (name-callee name named_so) args
 after_name_of p (later here) room own turns ts (Trees.last tail) name named_so = rooted false name named_so _ tail
 after_name_of p (later (later gone)) room own turns ts h name named_so = elim gone [ ]
 
 assign_tail_of : Case AssignTail
 assign_tail_of p here room own turns ts (Trees.token Fits.same (Trees.tree _ value (Trees.token Fits.same Trees.none))) place spelled = value place spelled
-assign_tail_of p (later here) room own turns ts (Trees.token Fits.same (Trees.token (Fits.named name named_so) (Trees.tree _ index (Trees.last tail)))) place spelled = stepped place spelled _ (step_told name named_so index) tail
+assign_tail_of p (later here) room own turns ts (Trees.token Fits.same
+    (Trees.token (Fits.named name named_so) (Trees.tree _ index (Trees.last tail)))) place spelled =
+    stepped place spelled _ (step_told name named_so index) tail
 assign_tail_of p (later (later gone)) room own turns ts h place spelled = elim gone [ ]
 
 value_of : Case Value
@@ -181,13 +311,16 @@ value_of p (later here) room own turns ts (Trees.last x) place spelled = set_tol
 value_of p (later (later gone)) room own turns ts h place spelled = elim gone [ ]
 
 after_open_of : Case AfterOpen
-after_open_of p here room own turns ts (Trees.token Fits.same (Trees.tree _ name (Trees.token Fits.same (Trees.token Fits.same (Trees.token Fits.same (Trees.token Fits.same Trees.none)))))) place spelled = clear_told place spelled name
+after_open_of p here room own turns ts (Trees.token Fits.same
+    (Trees.tree _ name (Trees.token Fits.same (Trees.token Fits.same (Trees.token Fits.same (Trees.token Fits.same Trees.none))))))
+    place spelled = clear_told place spelled name
 after_open_of p (later here) room own turns ts (Trees.last x) place spelled = set_told place spelled x
 after_open_of p (later (later gone)) room own turns ts h place spelled = elim gone [ ]
 
 result_of : Case Result
 result_of p here room own turns ts (Trees.token Fits.same Trees.none) = (CStmtKind-F.Return None, (refl, refl))
-result_of p (later here) room own turns ts (Trees.tree _ (x, (i, h)) (Trees.token Fits.same Trees.none)) = (CStmtKind-F.Return (Some x), (ap (λ a. codes "return" ∷ (a ++ codes ";" ∷ [])) i, h))
+result_of p (later here) room own turns ts (Trees.tree _ (x, (i, h)) (Trees.token Fits.same Trees.none)) =
+    (CStmtKind-F.Return (Some x), (ap (λ a. codes "return" ∷ (a ++ codes ";" ∷ [])) i, h))
 result_of p (later (later gone)) room own turns ts h = elim gone [ ]
 
 expr_of : Case Expr
@@ -197,49 +330,73 @@ expr_of p (later (later gone)) room own turns ts h = elim gone [ ]
 
 simple_of : Case Simple
 simple_of p here room own turns ts (Trees.token (Fits.named name named_so) (Trees.last rest)) = rest name named_so
-simple_of p (later here) room own turns ts (Trees.token (Fits.among word m) (Trees.token Fits.same (Trees.tree _ args (Trees.token Fits.same Trees.none)))) = call_expr (called word (callee_is word m) args)
+simple_of p (later here) room own turns ts (Trees.token (Fits.among word m)
+    (Trees.token Fits.same (Trees.tree _ args (Trees.token Fits.same Trees.none)))) = call_expr (called word (callee_is word m) args)
 simple_of p (later (later here)) room own turns ts (Trees.token (Fits.among word m) Trees.none) = kind_from (plain_literal (group_is PlainLiterals word m))
 simple_of p (later (later (later here))) room own turns ts (Trees.last k) = kind_from k
 simple_of p (later (later (later (later gone)))) room own turns ts h = elim gone [ ]
 
 constant_of : Case Constant
-constant_of p here room own turns ts (Trees.token Fits.same (Trees.token Fits.same (Trees.token (Fits.counted digits s) (Trees.token Fits.same Trees.none)))) = int_told W8 digits s
-constant_of p (later here) room own turns ts (Trees.token Fits.same (Trees.token Fits.same (Trees.token (Fits.counted digits s) (Trees.token Fits.same Trees.none)))) = int_told W16 digits s
-constant_of p (later (later here)) room own turns ts (Trees.token Fits.same (Trees.token Fits.same (Trees.token (Fits.counted digits s) (Trees.token Fits.same Trees.none)))) = int_told W32 digits s
-constant_of p (later (later (later here))) room own turns ts (Trees.token Fits.same (Trees.token Fits.same (Trees.token (Fits.counted digits s) (Trees.token Fits.same Trees.none)))) = int_told W64 digits s
-constant_of p (later (later (later (later here)))) room own turns ts (Trees.token Fits.same (Trees.token Fits.same (Trees.token (Fits.counted digits s) (Trees.token Fits.same Trees.none)))) = nat_told W8 digits s
-constant_of p (later (later (later (later (later here))))) room own turns ts (Trees.token Fits.same (Trees.token Fits.same (Trees.token (Fits.counted digits s) (Trees.token Fits.same Trees.none)))) = nat_told W16 digits s
-constant_of p (later (later (later (later (later (later here)))))) room own turns ts (Trees.token Fits.same (Trees.token Fits.same (Trees.token (Fits.counted digits s) (Trees.token Fits.same Trees.none)))) = nat_told W32 digits s
-constant_of p (later (later (later (later (later (later (later here))))))) room own turns ts (Trees.token Fits.same (Trees.token Fits.same (Trees.token (Fits.counted digits s) (Trees.token Fits.same Trees.none)))) = nat_told W64 digits s
+constant_of p here room own turns ts (Trees.token Fits.same
+    (Trees.token Fits.same (Trees.token (Fits.counted digits s) (Trees.token Fits.same Trees.none)))) = int_told W8 digits s
+constant_of p (later here) room own turns ts (Trees.token Fits.same
+    (Trees.token Fits.same (Trees.token (Fits.counted digits s) (Trees.token Fits.same Trees.none)))) = int_told W16 digits s
+constant_of p (later (later here)) room own turns ts
+    (Trees.token Fits.same (Trees.token Fits.same (Trees.token (Fits.counted digits s) (Trees.token Fits.same Trees.none)))) = int_told W32 digits s
+constant_of p (later (later (later here))) room own turns ts
+    (Trees.token Fits.same (Trees.token Fits.same (Trees.token (Fits.counted digits s) (Trees.token Fits.same Trees.none)))) = int_told W64 digits s
+constant_of p (later (later (later (later here)))) room own turns ts
+    (Trees.token Fits.same (Trees.token Fits.same (Trees.token (Fits.counted digits s) (Trees.token Fits.same Trees.none)))) = nat_told W8 digits s
+constant_of p (later (later (later (later (later here))))) room own turns ts
+    (Trees.token Fits.same (Trees.token Fits.same (Trees.token (Fits.counted digits s) (Trees.token Fits.same Trees.none)))) = nat_told W16 digits s
+constant_of p (later (later (later (later (later (later here)))))) room own turns ts
+    (Trees.token Fits.same (Trees.token Fits.same (Trees.token (Fits.counted digits s) (Trees.token Fits.same Trees.none)))) = nat_told W32 digits s
+constant_of p (later (later (later (later (later (later (later here))))))) room own turns ts
+    (Trees.token Fits.same (Trees.token Fits.same (Trees.token (Fits.counted digits s) (Trees.token Fits.same Trees.none)))) = nat_told W64 digits s
 constant_of p (later (later (later (later (later (later (later (later gone)))))))) room own turns ts h = elim gone [ ]
 
 inside_of : Case Inside
-inside_of p here room own turns ts (Trees.token Fits.same (Trees.token (Fits.named name named_so) (Trees.token Fits.same (Trees.last steps)))) = read_expr (place_told true name named_so steps)
-inside_of p (later here) room own turns ts (Trees.token Fits.same (Trees.tree _ (x, (i, h)) (Trees.token Fits.same Trees.none))) = kind_from (CExprKind-F.Not x, (ap (λ a. codes "(" ∷ codes "!" ∷ (a ++ codes ")" ∷ [])) i, h))
+inside_of p here room own turns ts (Trees.token Fits.same
+    (Trees.token (Fits.named name named_so) (Trees.token Fits.same (Trees.last steps)))) = read_expr (place_told true name named_so steps)
+inside_of p (later here) room own turns ts (Trees.token Fits.same (Trees.tree _ (x, (i, h)) (Trees.token Fits.same Trees.none))) =
+    kind_from (CExprKind-F.Not x, (ap (λ a. codes "(" ∷ codes "!" ∷ (a ++ codes ")" ∷ [])) i, h))
 inside_of p (later (later here)) room own turns ts (Trees.token Fits.same (Trees.tree _ k (Trees.token Fits.same Trees.none))) = kind_from k
-inside_of p (later (later (later here))) room own turns ts (Trees.tree _ x (Trees.token (Fits.among word m) (Trees.tree _ y (Trees.token Fits.same Trees.none)))) = two_told x word (operator_is (group_is Operators word m)) y
+inside_of p (later (later (later here))) room own turns ts
+    (Trees.tree _ x (Trees.token (Fits.among word m) (Trees.tree _ y (Trees.token Fits.same Trees.none)))) =
+    two_told x word (operator_is (group_is Operators word m)) y
 inside_of p (later (later (later (later gone)))) room own turns ts h = elim gone [ ]
 
 negative_of : Case Negative
-negative_of p here room own turns ts (Trees.token Fits.same (Trees.token Fits.same (Trees.token (Fits.counted digits s) (Trees.token Fits.same Trees.none)))) = negated_told W8 digits s
-negative_of p (later here) room own turns ts (Trees.token Fits.same (Trees.token Fits.same (Trees.token (Fits.counted digits s) (Trees.token Fits.same Trees.none)))) = negated_told W16 digits s
-negative_of p (later (later here)) room own turns ts (Trees.token Fits.same (Trees.token Fits.same (Trees.token (Fits.counted digits s) (Trees.token Fits.same Trees.none)))) = negated_told W32 digits s
-negative_of p (later (later (later here))) room own turns ts (Trees.token Fits.same (Trees.token Fits.same (Trees.token (Fits.counted digits s) (Trees.token Fits.same Trees.none)))) = negated_told W64 digits s
+negative_of p here room own turns ts (Trees.token Fits.same
+    (Trees.token Fits.same (Trees.token (Fits.counted digits s) (Trees.token Fits.same Trees.none)))) = negated_told W8 digits s
+negative_of p (later here) room own turns ts (Trees.token Fits.same
+    (Trees.token Fits.same (Trees.token (Fits.counted digits s) (Trees.token Fits.same Trees.none)))) = negated_told W16 digits s
+negative_of p (later (later here)) room own turns ts
+    (Trees.token Fits.same (Trees.token Fits.same (Trees.token (Fits.counted digits s) (Trees.token Fits.same Trees.none)))) = negated_told W32 digits s
+negative_of p (later (later (later here))) room own turns ts
+    (Trees.token Fits.same (Trees.token Fits.same (Trees.token (Fits.counted digits s) (Trees.token Fits.same Trees.none)))) = negated_told W64 digits s
 negative_of p (later (later (later (later gone)))) room own turns ts h = elim gone [ ]
 
 name_use_of : Case NameUse
-name_use_of p here room own turns ts (Trees.token Fits.same (Trees.tree _ args (Trees.token Fits.same Trees.none))) name named_so = call_expr (called name (name-callee name named_so) args)
-name_use_of p (later here) room own turns ts (Trees.token Fits.same (Trees.token (Fits.named member h) (Trees.tree _ index (Trees.last steps)))) name named_so = read_expr (place_told false name named_so (row_more step_tokens spells_step (step_told member h index) steps))
+name_use_of p here room own turns ts (Trees.token Fits.same (Trees.tree _ args (Trees.token Fits.same Trees.none))) name named_so =
+    call_expr (called name (name-callee name named_so) args)
+name_use_of p (later here) room own turns ts (Trees.token Fits.same
+    (Trees.token (Fits.named member h) (Trees.tree _ index (Trees.last steps)))) name named_so =
+    read_expr (place_told false name named_so (row_more step_tokens spells_step (step_told member h index) steps))
 name_use_of p (later (later here)) room own turns ts Trees.none name named_so = read_expr (place_told false name named_so ([], (refl, refl)))
 name_use_of p (later (later (later gone))) room own turns ts h name named_so = elim gone [ ]
 
 steps_of : Case Steps
-steps_of p here room own turns ts (Trees.token Fits.same (Trees.token (Fits.named name named_so) (Trees.tree _ index (Trees.last steps)))) = row_more step_tokens spells_step (step_told name named_so index) steps
+steps_of p here room own turns ts (Trees.token Fits.same
+    (Trees.token (Fits.named name named_so) (Trees.tree _ index (Trees.last steps)))) = row_more step_tokens spells_step (step_told name named_so index) steps
 steps_of p (later here) room own turns ts Trees.none = ([], (refl, refl))
 steps_of p (later (later gone)) room own turns ts h = elim gone [ ]
 
 index_of : Case Index
-index_of p here room own turns ts (Trees.token Fits.same (Trees.token (Fits.among word m) (Trees.token Fits.same (Trees.tree _ x (Trees.token Fits.same (Trees.token (Fits.counted digits s) (Trees.token Fits.same (Trees.token Fits.same Trees.none)))))))) = index_told word (function_is (group_is IndexFunctions word m)) x digits s
+index_of p here room own turns ts (Trees.token Fits.same
+    (Trees.token (Fits.among word m) (Trees.token Fits.same
+    (Trees.tree _ x (Trees.token Fits.same (Trees.token (Fits.counted digits s)
+    (Trees.token Fits.same (Trees.token Fits.same Trees.none)))))))) = index_told word (function_is (group_is IndexFunctions word m)) x digits s
 index_of p (later here) room own turns ts Trees.none = (None, (refl, refl))
 index_of p (later (later gone)) room own turns ts h = elim gone [ ]
 
@@ -260,7 +417,8 @@ arg_of p (later (later gone)) room own turns ts h = elim gone [ ]
 
 place_of : Case Place
 place_of p here room own turns ts (Trees.token (Fits.named name named_so) (Trees.last steps)) = place_told false name named_so steps
-place_of p (later here) room own turns ts (Trees.token Fits.same (Trees.token Fits.same (Trees.token (Fits.named name named_so) (Trees.token Fits.same (Trees.last steps))))) = place_told true name named_so steps
+place_of p (later here) room own turns ts (Trees.token Fits.same
+    (Trees.token Fits.same (Trees.token (Fits.named name named_so) (Trees.token Fits.same (Trees.last steps))))) = place_told true name named_so steps
 place_of p (later (later gone)) room own turns ts h = elim gone [ ]
 
 tree_of : (of : Part) → Case of
@@ -305,7 +463,8 @@ tree_of ArgRest p one room own turns ts h = arg_rest_of p one room own turns ts 
 tree_of Arg p one room own turns ts h = arg_of p one room own turns ts h
 tree_of Place p one room own turns ts h = place_of p one room own turns ts h
 
-built : (whole : Roomed) (next : Option Token) (wanted : List Wanted) → Produces whole next wanted → (ts : List Token) → Trees wanted ts → Tree whole.part ts
+built : (whole : Roomed) (next : Option Token) (wanted : List Wanted) → Produces whole next wanted → (ts : List Token) →
+    Trees wanted ts → Tree whole.part ts
 built whole next wanted made ts h = tree_of whole.part made.production made.is_one whole.room made.name made.is_turn ts (subst (λ w. Trees w ts) made.made h)
 
 nothing : {ts : List Token} → Trees [] ts → ts ≡ []
@@ -316,13 +475,19 @@ put whole [] a b h r = Trees.last (subst (λ ts. Tree whole.part ts) (sym (appen
 put whole (next ∷ wanted) a b h r = Trees.tree a h r
 
 -- what is derived are such tokens, before those that are left
-pub trees : {wanted : List Wanted} {pieces left : List Token} → Derives wanted pieces left → (ts : List Token) × ((pieces ≡ ts ++ left) × Trees wanted ts)
+pub trees : {wanted : List Wanted} {pieces left : List Token} → Derives wanted pieces left →
+    (ts : List Token) × ((pieces ≡ ts ++ left) × Trees wanted ts)
 trees done = ([], (refl, Trees.none))
 trees (terminal {class = class} {token = t} m r) = let h = trees r in (t ∷ h.0, (ap (λ us. t ∷ us) h.1.0, Trees.token (fits class t m) h.1.1))
 trees (part {A = whole} {production = production} {symbols = wanted} {left = left} made inner r) =
     let h = trees inner in
-    let k = trees r in
-    (h.0 ++ k.0, (h.1.0 ∙ (ap (λ us. h.0 ++ us) k.1.0 ∙ sym (append_assoc h.0 k.0 left)), put whole wanted h.0 k.0 (built whole _ production made h.0 h.1.1) k.1.1))
+    let k = trees r in (
+      h.0 ++ k.0,
+      (
+        h.1.0 ∙ (ap (λ us. h.0 ++ us) k.1.0 ∙ sym (append_assoc h.0 k.0 left)),
+        put whole wanted h.0 k.0 (built whole _ production made h.0 h.1.1) k.1.1,
+      ),
+    )
 
 whole_tree : {whole : Roomed} {ts : List Token} → Trees (Nonterminal whole ∷ []) ts → Tree whole.part ts
 whole_tree (Trees.last h) = h

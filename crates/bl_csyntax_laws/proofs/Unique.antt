@@ -1,5 +1,27 @@
 -- Bytes are spaced into tokens in one way: into their pieces.
-use Rattle.std.proofs.Common.{◌≡◌, ℕ, ◌≤◌, Bool, true, false, List, [], ◌∷◌, ◌++◌, length, map, refl, sym, ap, ◌∙◌, append-nil, append_assoc, inl, inr, arith}
+use Rattle.std.proofs.Common.{
+  ◌≡◌,
+  ℕ,
+  ◌≤◌,
+  Bool,
+  true,
+  false,
+  List,
+  [],
+  ◌∷◌,
+  ◌++◌,
+  length,
+  map,
+  refl,
+  sym,
+  ap,
+  ◌∙◌,
+  append-nil,
+  append_assoc,
+  inl,
+  inr,
+  arith,
+}
 use Rattle.std.proofs.lemmas.Bool.Decides.{nat_tests}
 use Rattle.std.proofs.lemmas.List.{length-append}
 use Rattle.bl_tree.specs.Reduce.{all_of}
@@ -29,12 +51,14 @@ no_longer t c rest longest token =
 word_ends : (w rest : List ℕ) → is_word w ≡ true → IsLongest w rest → begins_word rest ≡ false
 word_ends w [] h longest = refl
 word_ends w (c ∷ cs) h longest =
-    not_true (is_word_byte c) (λ (k : is_word_byte c ≡ true). no_longer w c cs longest (or-fst (is_word (w ++ c ∷ [])) (is_sign (w ++ c ∷ [])) (word_more w c h k)))
+    not_true (is_word_byte c) (λ (k : is_word_byte c ≡ true). no_longer w c cs longest
+    (or-fst (is_word (w ++ c ∷ [])) (is_sign (w ++ c ∷ [])) (word_more w c h k)))
 
 no_pair_behind : (a : ℕ) (rest : List ℕ) → IsLongest (a ∷ []) rest → begins_pair (a ∷ rest) ≡ false
 no_pair_behind a [] longest = refl
 no_pair_behind a (b ∷ bs) longest =
-    not_true (is_double_sign a b) (λ (k : is_double_sign a b ≡ true). no_longer (a ∷ []) b bs longest (or-snd (is_word (a ∷ b ∷ [])) (is_sign (a ∷ b ∷ [])) k))
+    not_true (is_double_sign a b) (λ (k : is_double_sign a b ≡ true). no_longer (a ∷ []) b bs longest
+    (or-snd (is_word (a ∷ b ∷ [])) (is_sign (a ∷ b ∷ [])) k))
 
 sign_no_word : (a : ℕ) → is_sign_byte a ≡ true → is_word_byte a ≡ false
 sign_no_word a h = grind (arith, nat_tests)
@@ -47,7 +71,11 @@ sign_first (a ∷ b ∷ c ∷ more) rest h longest = cc
 
 token_first : (t rest : List ℕ) → is_token t ≡ true → IsLongest t rest → pieces (t ++ rest) ≡ t ∷ pieces rest
 token_first t rest h longest =
-    elim (either (is_word t) (is_sign t) h) [ inl word ↦ word_pieces t rest word (word_ends t rest word longest) | inr sign ↦ sign_first t rest sign longest ]
+    elim (either (is_word t) (is_sign t) h) [
+      | inl word ↦ word_pieces t rest word
+          (word_ends t rest word longest)
+      | inr sign ↦ sign_first t rest sign longest
+    ]
 
 pub tokens_are : (tokens : List Token) (text : List ℕ) → SpacedC tokens text → pieces text ≡ tokens
 tokens_are [] text spaced = all_blank text spaced

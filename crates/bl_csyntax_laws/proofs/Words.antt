@@ -1,5 +1,33 @@
 -- The words of types, the signs of operators and the tokens of literals tell what they spell.
-use Rattle.std.proofs.Common.{◌≡◌, ℕ, zero, suc, ◌*◌, ◌^◌, ◌<◌, ◌≤◌, cond, ℤ, pos, negsuc, Bool, true, false, ◌==◌, nat_lt, List, [], ◌∷◌, ◌++◌, refl, sym, ap, ◌∙◌, arith, codes}
+use Rattle.std.proofs.Common.{
+  ◌≡◌,
+  ℕ,
+  zero,
+  suc,
+  ◌*◌,
+  ◌^◌,
+  ◌<◌,
+  ◌≤◌,
+  cond,
+  ℤ,
+  pos,
+  negsuc,
+  Bool,
+  true,
+  false,
+  ◌==◌,
+  nat_lt,
+  List,
+  [],
+  ◌∷◌,
+  ◌++◌,
+  refl,
+  sym,
+  ap,
+  ◌∙◌,
+  arith,
+  codes,
+}
 use Rattle.std.proofs.lemmas.Bool.Decides.{nat_tests}
 use Rattle.std.proofs.lemmas.Fmt.{decimal_is_IsNumeral}
 use Rattle.std.specs.Fmt.{decimal}
@@ -19,8 +47,10 @@ use Rattle.bl_csyntax_laws.proofs.Tests.{is, among, first, tail, second}
 
 scalar_in : Token → Scalar
 scalar_in t =
-    cond (is t (codes "int8_t")) (scalar.Int W8) (cond (is t (codes "int16_t")) (scalar.Int W16) (cond (is t (codes "int32_t")) (scalar.Int W32) (cond (is t (codes "int64_t")) (scalar.Int W64)
-    (cond (is t (codes "uint8_t")) (scalar.Nat W8) (cond (is t (codes "uint16_t")) (scalar.Nat W16) (cond (is t (codes "uint32_t")) (scalar.Nat W32) (cond (is t (codes "uint64_t")) (scalar.Nat W64)
+    cond (is t (codes "int8_t")) (scalar.Int W8) (cond (is t (codes "int16_t")) (scalar.Int W16)
+    (cond (is t (codes "int32_t")) (scalar.Int W32) (cond (is t (codes "int64_t")) (scalar.Int W64)
+    (cond (is t (codes "uint8_t")) (scalar.Nat W8) (cond (is t (codes "uint16_t")) (scalar.Nat W16)
+    (cond (is t (codes "uint32_t")) (scalar.Nat W32) (cond (is t (codes "uint64_t")) (scalar.Nat W64)
     scalar.Bool)))))))
 
 scalar_back : (s : Scalar) → is_c_scalar s ≡ true → scalar_in (scalar_word s) ≡ s
@@ -91,12 +121,16 @@ word_in t n =
     cond (is t (codes "true")) (scalar.Bool, pos 1) (cond (is t (codes "false")) (scalar.Bool, pos 0)
     (cond (is t (codes "INT8_MIN")) (scalar.Int W8, minus (negatives W8)) (cond (is t (codes "INT16_MIN")) (scalar.Int W16, minus (negatives W16))
     (cond (is t (codes "INT32_MIN")) (scalar.Int W32, minus (negatives W32)) (cond (is t (codes "INT64_MIN")) (scalar.Int W64, minus (negatives W64))
-    (cond (is t (codes "INT8_C")) (scalar.Int W8, pos n) (cond (is t (codes "INT16_C")) (scalar.Int W16, pos n) (cond (is t (codes "INT32_C")) (scalar.Int W32, pos n) (cond (is t (codes "INT64_C")) (scalar.Int W64, pos n)
-    (cond (is t (codes "UINT8_C")) (scalar.Nat W8, pos n) (cond (is t (codes "UINT16_C")) (scalar.Nat W16, pos n) (cond (is t (codes "UINT32_C")) (scalar.Nat W32, pos n) (scalar.Nat W64, pos n)))))))))))))
+    (cond (is t (codes "INT8_C")) (scalar.Int W8, pos n)
+    (cond (is t (codes "INT16_C")) (scalar.Int W16, pos n)
+    (cond (is t (codes "INT32_C")) (scalar.Int W32, pos n) (cond (is t (codes "INT64_C")) (scalar.Int W64, pos n)
+    (cond (is t (codes "UINT8_C")) (scalar.Nat W8, pos n)
+    (cond (is t (codes "UINT16_C")) (scalar.Nat W16, pos n) (cond (is t (codes "UINT32_C")) (scalar.Nat W32, pos n) (scalar.Nat W64, pos n)))))))))))))
 
 negative_in : Token → ℕ → Literal
 negative_in t n =
-    cond (is t (codes "INT8_C")) (scalar.Int W8, minus n) (cond (is t (codes "INT16_C")) (scalar.Int W16, minus n) (cond (is t (codes "INT32_C")) (scalar.Int W32, minus n) (scalar.Int W64, minus n)))
+    cond (is t (codes "INT8_C")) (scalar.Int W8, minus n)
+    (cond (is t (codes "INT16_C")) (scalar.Int W16, minus n) (cond (is t (codes "INT32_C")) (scalar.Int W32, minus n) (scalar.Int W64, minus n)))
 
 literal_in : List Token → Literal
 literal_in ts = cond (is (first ts) (codes "(")) (negative_in (third ts) (digits_value 10 (fifth ts))) (word_in (first ts) (digits_value 10 (third ts)))
@@ -151,7 +185,8 @@ module _ (n : ℕ) (a : List Token) where
       ((codes "INT" ++ (Rattle.bl_ctext.specs.Spelling.width_digits w ++ codes "_MIN")) ∷ [])
       (codes "(" ∷ codes "-" ∷ (Rattle.bl_ctext.specs.Spelling.constant_tokens (constant_word (codes "INT") w) (suc n) ++ codes ")" ∷ []))
 
-  minus_back : (w : Width) (least : Bool) → (suc n == negatives w) ≡ least → suc n < 2 ^ 64 → literal_in (least_or w least ++ a) ≡ (scalar.Int w, negsuc n)
+  minus_back : (w : Width) (least : Bool) → (suc n == negatives w) ≡ least → suc n < 2 ^ 64 →
+      literal_in (least_or w least ++ a) ≡ (scalar.Int w, negsuc n)
   unfolding literal_in word_in negative_in minus
   minus_back W8 true e h = ap (λ n. (scalar.Int W8, minus n)) (sym (same_number (suc n) (negatives W8) e))
   minus_back W16 true e h = ap (λ n. (scalar.Int W16, minus n)) (sym (same_number (suc n) (negatives W16) e))
@@ -217,7 +252,8 @@ literal_behind (scalar.Nat w) (negsuc n) a h = cc
 literal_behind (scalar.Bits w) n a h = cc
 
 -- a literal is told by its tokens, whatever follows it
-pub literal_same : (s t : Scalar) (n m : ℤ) (a b : List Token) → is_literal s n ≡ true → is_literal t m ≡ true → literal_tokens s n ++ a ≡ literal_tokens t m ++ b
+pub literal_same : (s t : Scalar) (n m : ℤ) (a b : List Token) → is_literal s n ≡ true → is_literal t m ≡ true →
+    literal_tokens s n ++ a ≡ literal_tokens t m ++ b
     → ((s ≡ t) × (n ≡ m)) × (a ≡ b)
 literal_same s t n m a b h k e =
     let same : (s, n) ≡ (t, m) = sym (literal_back s n a h) ∙ (ap literal_in e ∙ literal_back t m b k) in

@@ -71,7 +71,16 @@ abbrev pub placeless_struct : CStruct → CStruct
 placeless_struct s = record { place = nowhere; name = s.name; members = s.members }
 
 abbrev pub placeless_func : CFunc → CFunc
-placeless_func f = record { place = nowhere; fixed = f.fixed; result = f.result; name = f.name; params = f.params; locals = f.locals; body = map placeless_stmt f.body }
+placeless_func f = record {
+  place = nowhere;
+  fixed = f.fixed;
+  result = f.result;
+  name = f.name;
+  params = f.params;
+  locals =
+      f.locals;
+  body = map placeless_stmt f.body;
+}
 
 -- the two files differ in the places of their parts at most
 abbrev pub SameButPlaces : CFile → CFile → Type 0

@@ -1,5 +1,28 @@
 -- An expression that has a spelling closes each bracket that it opens, and opens at once no more than its depth.
-use Rattle.std.proofs.Common.{◌≡◌, ℕ, suc, ◌+◌, ◌*◌, ◌^◌, ◌≤◌, ◌<◌, max, cond, ℤ, pos, negsuc, Bool, true, false, ◌&&◌, ◌==◌, nat_lt, nat_le, List, [], ◌∷◌, ◌++◌, map, Option, Some, None, refl, subst, arith, codes}
+use Rattle.std.proofs.Common.{
+  ◌≡◌,
+  ℕ,
+  suc,
+  ◌+◌,
+  ◌*◌,
+  ◌^◌,
+  ◌≤◌,
+  ◌<◌,
+  max,
+  cond,
+  ℤ,
+  pos,
+  negsuc,
+  Bool,
+  true,
+  false,
+  ◌&&◌,
+  ◌==◌,
+  nat_lt,
+  nat_le,
+  List,
+}
+use Rattle.std.proofs.Common.{[], ◌∷◌, ◌++◌, map, Option, Some, None, refl, subst, arith, codes}
 use Rattle.std.proofs.lemmas.Bool.Decides.{nat_tests}
 use Rattle.std.specs.Fmt.{decimal}
 use Rattle.bl_tree.specs.declared.place.Place.{Place as TextPlace}
@@ -19,10 +42,14 @@ use Rattle.bl_tree.specs.declared.c.CArg.{CArg, CArg-F, fold-roll-CArg, map-CArg
 use Rattle.bl_tree.specs.Reduce.{all_of, joined, greatest}
 use Rattle.bl_ctext.specs.Token.{Token}
 use Rattle.bl_ctext.specs.Names.{is_name, is_callee}
-use Rattle.bl_ctext.specs.Spelling.{constant_word, constant_tokens, negatives, negative_tokens, literal_tokens, operator_sign, call_tokens, with_commas, root_tokens, index_front, width_digits, expr_tokens, kind_tokens, place_tokens, step_tokens, index_tokens, ccall_tokens, arg_tokens}
-use Rattle.bl_ctext.specs.Spellable.{is_c_operator, is_literal, is_length, spells_expr, spells_kind, spells_place, spells_step, spells_index, spells_call, spells_arg}
-use Rattle.bl_ctext.specs.Depths.{expr_depth, kind_depth, place_depth, step_depth, index_depth, call_depth, arg_depth}
-use Rattle.bl_ctext.proofs.Nesting.{is_bracket, Closes, Nests, EachNests, closes-nil, closes-open, closes-close, closes-plain, closes-append, nests-append, nests-more, nests-joined, nests-with_commas}
+use Rattle.bl_ctext.specs.Spelling.{constant_word, constant_tokens, negatives, negative_tokens, literal_tokens, operator_sign, call_tokens}
+use Rattle.bl_ctext.specs.Spelling.{with_commas, root_tokens, index_front, width_digits, expr_tokens, kind_tokens, place_tokens, step_tokens}
+use Rattle.bl_ctext.specs.Spelling.{index_tokens, ccall_tokens, arg_tokens}
+use Rattle.bl_ctext.specs.Spellable.{is_c_operator, is_literal, is_length, spells_expr, spells_kind, spells_place, spells_step, spells_index}
+use Rattle.bl_ctext.specs.Spellable.{spells_call, spells_arg}
+use Rattle.bl_ctext.specs.inner.Depths.{expr_depth, kind_depth, place_depth, step_depth, index_depth, call_depth, arg_depth}
+use Rattle.bl_ctext.proofs.Nesting.{is_bracket, Closes, Nests, EachNests, closes-nil, closes-open, closes-close, closes-plain, closes-append}
+use Rattle.bl_ctext.proofs.Nesting.{nests-append, nests-more, nests-joined, nests-with_commas}
 use Rattle.bl_ctext.proofs.Bytes.{and-fst, and-snd}
 use Rattle.bl_ctext.proofs.PlainWords.{name-plain, callee-plain, decimal-plain}
 
@@ -68,7 +95,8 @@ least_word-plain W16 = refl
 least_word-plain W32 = refl
 least_word-plain W64 = refl
 
-minus-nests : (w : Width) (n : ℕ) → n < 2 ^ 64 → Nests 2 (codes "(" ∷ codes "-" ∷ (constant_tokens (constant_word (codes "INT") w) n ++ codes ")" ∷ []))
+minus-nests : (w : Width) (n : ℕ) → n < 2 ^ 64 → Nests 2
+    (codes "(" ∷ codes "-" ∷ (constant_tokens (constant_word (codes "INT") w) n ++ codes ")" ∷ []))
 minus-nests w n h =
     closes-open 0 2 _ _ refl (omega arith) (closes-plain 1 2 _ _ refl (omega arith)
     (closes-append 1 2 1 (constant_tokens (constant_word (codes "INT") w) n) _ (constant-nests 1 _ n (omega arith) (int_word-plain w) h) (omega arith)
@@ -76,7 +104,9 @@ minus-nests w n h =
 
 negative-nests : (w : Width) (n : ℕ) → n < 2 ^ 64 → Nests 2 (negative_tokens w n)
 negative-nests w n h =
-    elim (n == negatives w) as (λ v. Nests 2 (cond v ((codes "INT" ++ (width_digits w ++ codes "_MIN")) ∷ []) (codes "(" ∷ codes "-" ∷ (constant_tokens (constant_word (codes "INT") w) n ++ codes ")" ∷ [])))) [
+    elim (n == negatives w) as (λ v. Nests 2
+    (cond v ((codes "INT" ++ (width_digits w ++ codes "_MIN")) ∷ [])
+    (codes "(" ∷ codes "-" ∷ (constant_tokens (constant_word (codes "INT") w) n ++ codes ")" ∷ [])))) [
       | true ↦ closes-plain 0 2 _ _ (least_word-plain w) (omega arith) (closes-nil 2)
       | false ↦ minus-nests w n h
     ]
@@ -120,7 +150,8 @@ two-nests a b xs ys sign plain x y =
     (closes-append 1 d b ys _ y (omega arith) (closes-close 0 d _ _ refl refl (omega arith) (closes-nil d)))))
 
 -- parts with commas in parentheses behind a name
-pub call-nests : (d : ℕ) (name : List ℕ) (args : List (List Token)) → is_bracket name ≡ false → EachNests d args → Nests (d + 1) (call_tokens name args)
+pub call-nests : (d : ℕ) (name : List ℕ) (args : List (List Token)) → is_bracket name ≡ false → EachNests d args →
+    Nests (d + 1) (call_tokens name args)
 call-nests d name args plain each =
     closes-plain 0 (d + 1) name _ plain (omega arith) (closes-open 0 (d + 1) _ _ refl (omega arith)
     (closes-append 1 (d + 1) d (with_commas args) _ (nests-with_commas d args each) (omega arith)
@@ -143,9 +174,11 @@ index_behind d ts n h i =
 index-nests : (d : ℕ) (signed : Bool) (ts : List Token) (n : ℕ) → is_length n ≡ true → Nests d ts →
     Nests (d + 2) (index_front signed ++ (ts ++ (codes "," ∷ decimal n ∷ codes ")" ∷ codes "]" ∷ [])))
 index-nests d true ts n h i =
-    closes-open 0 (d + 2) _ _ refl (omega arith) (closes-plain 1 (d + 2) _ _ refl (omega arith) (closes-open 1 (d + 2) _ _ refl (omega arith) (index_behind d ts n h i)))
+    closes-open 0 (d + 2) _ _ refl (omega arith)
+    (closes-plain 1 (d + 2) _ _ refl (omega arith) (closes-open 1 (d + 2) _ _ refl (omega arith) (index_behind d ts n h i)))
 index-nests d false ts n h i =
-    closes-open 0 (d + 2) _ _ refl (omega arith) (closes-plain 1 (d + 2) _ _ refl (omega arith) (closes-open 1 (d + 2) _ _ refl (omega arith) (index_behind d ts n h i)))
+    closes-open 0 (d + 2) _ _ refl (omega arith)
+    (closes-plain 1 (d + 2) _ _ refl (omega arith) (closes-open 1 (d + 2) _ _ refl (omega arith) (index_behind d ts n h i)))
 
 abbrev OfArg : CArg → Type 0
 OfArg a = spells_arg a ≡ true → Nests (arg_depth a) (arg_tokens a)
@@ -230,7 +263,8 @@ by_index signed at n h =
     let whole : (spells_expr at.0 && is_length n) ≡ true = rw fold-roll-CIndex at h in
     rw (fold-roll-CIndex, fold-roll-CIndex) (index-nests (expr_depth at.0) signed (expr_tokens at.0) n (and-snd _ _ whole) (at.1 (and-fst _ _ whole)))
 
-by_place : (through : Bool) (name : List ℕ) (steps : List Step) → OfPlace (roll-CPlace (record { through = through; name = name; steps = map (λ e. e.0) steps }))
+by_place : (through : Bool) (name : List ℕ) (steps : List Step) →
+    OfPlace (roll-CPlace (record { through = through; name = name; steps = map (λ e. e.0) steps }))
 by_place through name steps h =
     let whole : (is_name name && all_of (map spells_step (map (λ e. e.0) steps))) ≡ true = rw fold-roll-CPlace at h in
     let d : ℕ = max 1 (greatest (map step_depth (map (λ e. e.0) steps))) in
@@ -242,7 +276,8 @@ by_place through name steps h =
 by_step : (member : List ℕ) (index : Option Index) → OfStep (roll-CStep (plain_step (record { member = member; index = index })))
 by_step member None h =
     let whole : (is_name member && true) ≡ true = rw fold-roll-CStep at h in
-    rw (fold-roll-CStep, fold-roll-CStep) (closes-plain 0 0 _ _ refl (omega arith) (closes-plain 0 0 member _ (name-plain member (and-fst _ _ whole)) (omega arith) (closes-nil 0)))
+    rw (fold-roll-CStep, fold-roll-CStep)
+    (closes-plain 0 0 _ _ refl (omega arith) (closes-plain 0 0 member _ (name-plain member (and-fst _ _ whole)) (omega arith) (closes-nil 0)))
 by_step member (Some i) h =
     let whole : (is_name member && spells_index i.0) ≡ true = rw fold-roll-CStep at h in
     let d : ℕ = index_depth i.0 in

@@ -1,5 +1,25 @@
 -- What fits a depth, by what it is made of.
-use Rattle.std.proofs.Common.{◌≡◌, ℕ, ◌+◌, ◌≤◌, ℤ, Bool, true, ◌&&◌, nat_le, List, [], ◌∷◌, ◌++◌, map, Some, None, refl, subst, arith}
+use Rattle.std.proofs.Common.{
+  ◌≡◌,
+  ℕ,
+  ◌+◌,
+  ◌≤◌,
+  ℤ,
+  Bool,
+  true,
+  ◌&&◌,
+  nat_le,
+  List,
+  [],
+  ◌∷◌,
+  ◌++◌,
+  map,
+  Some,
+  None,
+  refl,
+  subst,
+  arith,
+}
 use Rattle.std.proofs.lemmas.Bool.Decides.{nat_tests}
 use Rattle.std.specs.List.{list_all}
 use Rattle.bl_tree.specs.declared.place.Place.{Place}
@@ -22,9 +42,10 @@ use Rattle.bl_tree.specs.declared.c.CStruct.{CStruct}
 use Rattle.bl_tree.specs.declared.c.CFunc.{CFunc}
 use Rattle.bl_tree.specs.Reduce.{all_of, greatest}
 use Rattle.bl_ctext.specs.Names.{is_name, is_callee, is_function_name, is_struct_name}
-use Rattle.bl_ctext.specs.Spellable.{is_literal, is_c_operator, has_any, is_spellable, spells_expr, spells_place, spells_step, spells_call, spells_arg, spells_stmt, spells_param, spells_local, spells_returned, spells_func, spells_struct, spells_member}
-use Rattle.bl_ctext.specs.Depths.{expr_depth, place_depth, step_depth, call_depth, arg_depth, stmt_depth, func_depth}
-use Rattle.bl_ctext.specs.Fits.{step_fits, place_fits, expr_fits, arg_fits, call_fits, stmt_fits, stmts_fit, func_fits}
+use Rattle.bl_ctext.specs.Spellable.{is_literal, is_c_operator, has_any, is_spellable, spells_expr, spells_place, spells_step, spells_call}
+use Rattle.bl_ctext.specs.Spellable.{spells_arg, spells_stmt, spells_param, spells_local, spells_returned, spells_func, spells_struct, spells_member}
+use Rattle.bl_ctext.specs.inner.Depths.{expr_depth, place_depth, step_depth, call_depth, arg_depth, stmt_depth, func_depth}
+use Rattle.bl_ctext.specs.inner.Fits.{step_fits, place_fits, expr_fits, arg_fits, call_fits, stmt_fits, stmts_fit, func_fits}
 use Rattle.bl_ctext.proofs.Bytes.{and-fst, and-snd}
 use Rattle.bl_ctext.proofs.TextNesting.{spellable-by}
 
@@ -35,13 +56,15 @@ joined_fits spells n d h le = let test : nat_le n d ≡ true = grind (arith, nat
 bound : (spells : Bool) (n d : ℕ) → (spells && nat_le n d) ≡ true → n ≤ d
 bound spells n d h = let test : nat_le n d ≡ true = and-snd spells (nat_le n d) h in grind (arith, nat_tests)
 
-list-spells : {A : Type 0} (spells : A → Bool) (depth : A → ℕ) (d : ℕ) (xs : List A) → list_all (λ x. spells x && nat_le (depth x) d) xs ≡ true → all_of (map spells xs) ≡ true
+list-spells : {A : Type 0} (spells : A → Bool) (depth : A → ℕ) (d : ℕ) (xs : List A) → list_all (λ x. spells x && nat_le (depth x) d) xs ≡ true →
+    all_of (map spells xs) ≡ true
 list-spells spells depth d [] h = refl
 list-spells spells depth d (x ∷ xs) h =
     let here : (spells x && nat_le (depth x) d) ≡ true = and-fst _ (list_all (λ x. spells x && nat_le (depth x) d) xs) h in
     rw (and-fst (spells x) (nat_le (depth x) d) here) (list-spells spells depth d xs (and-snd (spells x && nat_le (depth x) d) _ h))
 
-list-depth : {A : Type 0} (spells : A → Bool) (depth : A → ℕ) (d : ℕ) (xs : List A) → list_all (λ x. spells x && nat_le (depth x) d) xs ≡ true → greatest (map depth xs) ≤ d
+list-depth : {A : Type 0} (spells : A → Bool) (depth : A → ℕ) (d : ℕ) (xs : List A) → list_all (λ x. spells x && nat_le (depth x) d) xs ≡ true →
+    greatest (map depth xs) ≤ d
 list-depth spells depth d [] h = omega arith
 list-depth spells depth d (x ∷ xs) h =
     let here : depth x ≤ d = bound (spells x) (depth x) d (and-fst _ (list_all (λ x. spells x && nat_le (depth x) d) xs) h) in
@@ -60,7 +83,8 @@ step-fits d name h =
     let n : step_depth (roll-CStep (record { member = name; index = None })) ≤ d = rw fold-roll-CStep (omega arith) in
     joined_fits _ (step_depth (roll-CStep (record { member = name; index = None }))) d e n
 
-pub place-fits : (d : ℕ) (through : Bool) (name : List ℕ) (steps : List CStep) → 1 ≤ d → is_name name ≡ true → list_all (step_fits d) steps ≡ true →
+pub place-fits : (d : ℕ) (through : Bool) (name : List ℕ) (steps : List CStep) → 1 ≤ d → is_name name ≡ true →
+    list_all (step_fits d) steps ≡ true →
     place_fits d (roll-CPlace (record { through = through; name = name; steps = steps })) ≡ true
 unfolding place_fits step_fits
 place-fits d through name steps le h i =
@@ -77,7 +101,8 @@ place_fits-more d e at le h = joined_fits (spells_place at) (place_depth at) e (
 
 pub expr_fits-more : (d e : ℕ) (value : CExpr) → d ≤ e → expr_fits d value ≡ true → expr_fits e value ≡ true
 unfolding expr_fits
-expr_fits-more d e value le h = joined_fits (spells_expr value) (expr_depth value) e (and-fst _ _ h) (omega (arith, bound (spells_expr value) (expr_depth value) d h))
+expr_fits-more d e value le h =
+    joined_fits (spells_expr value) (expr_depth value) e (and-fst _ _ h) (omega (arith, bound (spells_expr value) (expr_depth value) d h))
 
 pub stmt_fits-more : (d e : ℕ) (s : CStmt) → d ≤ e → stmt_fits d s ≡ true → stmt_fits e s ≡ true
 unfolding stmt_fits
@@ -85,12 +110,14 @@ stmt_fits-more d e s le h = joined_fits (spells_stmt s) (stmt_depth s) e (and-fs
 
 pub stmts_fit-more : (d e : ℕ) (body : List CStmt) → d ≤ e → stmts_fit d body ≡ true → stmts_fit e body ≡ true
 stmts_fit-more d e [] le h = refl
-stmts_fit-more d e (s ∷ body) le h = rw (stmt_fits-more d e s le (and-fst (stmt_fits d s) (stmts_fit d body) h)) (stmts_fit-more d e body le (and-snd (stmt_fits d s) (stmts_fit d body) h))
+stmts_fit-more d e (s ∷ body) le h =
+    rw (stmt_fits-more d e s le (and-fst (stmt_fits d s) (stmts_fit d body) h)) (stmts_fit-more d e body le (and-snd (stmt_fits d s) (stmts_fit d body) h))
 
 abbrev kind : Place → CExprKind-F CArg CExprKind CCall CExpr CIndex CPlace CStep → CExpr
 kind place layer = roll-CExpr (record { place = place; what = roll-CExprKind layer })
 
-literal_open-fits : (d : ℕ) (place : Place) (s : Scalar) (n : ℤ) → 2 ≤ d → is_literal s n ≡ true → expr_fits d (kind place (CExprKind-F.Literal s n)) ≡ true
+literal_open-fits : (d : ℕ) (place : Place) (s : Scalar) (n : ℤ) → 2 ≤ d → is_literal s n ≡ true →
+    expr_fits d (kind place (CExprKind-F.Literal s n)) ≡ true
 unfolding expr_fits
 literal_open-fits d place s n le h =
     let e : spells_expr (kind place (CExprKind-F.Literal s n)) ≡ true = rw (fold-roll-CExpr, fold-roll-CExprKind) h in
@@ -108,10 +135,12 @@ called_open-fits : (d : ℕ) (place : Place) (call : CCall) → call_fits d call
 unfolding expr_fits call_fits
 called_open-fits d place call h =
     let e : spells_expr (kind place (CExprKind-F.Call call)) ≡ true = rw (fold-roll-CExpr, fold-roll-CExprKind) (and-fst _ _ h) in
-    let m : expr_depth (kind place (CExprKind-F.Call call)) ≤ d = rw (fold-roll-CExpr, fold-roll-CExprKind) (bound (spells_call call) (call_depth call) d h) in
+    let m : expr_depth (kind place (CExprKind-F.Call call)) ≤ d =
+    rw (fold-roll-CExpr, fold-roll-CExprKind) (bound (spells_call call) (call_depth call) d h) in
     joined_fits _ (expr_depth (kind place (CExprKind-F.Call call))) d e m
 
-two_open-fits : (d e : ℕ) (place : Place) (o : Op) (a b : CExpr) → d + 1 ≤ e → is_c_operator o ≡ true → expr_fits d a ≡ true → expr_fits d b ≡ true →
+two_open-fits : (d e : ℕ) (place : Place) (o : Op) (a b : CExpr) → d + 1 ≤ e → is_c_operator o ≡ true → expr_fits d a ≡ true →
+    expr_fits d b ≡ true →
     expr_fits e (kind place (CExprKind-F.Two o a b)) ≡ true
 unfolding expr_fits
 two_open-fits d e place o a b le h i j =
@@ -150,7 +179,8 @@ call-fits d e name args le h i =
 abbrev what : Place → CStmtKind-F CStmtKind CStmt → CStmt
 what place layer = roll-CStmt (record { place = place; what = roll-CStmtKind layer })
 
-set_open-fits : (d : ℕ) (place : Place) (at : CPlace) (value : CExpr) → place_fits d at ≡ true → expr_fits d value ≡ true → stmt_fits d (what place (CStmtKind-F.Set at value)) ≡ true
+set_open-fits : (d : ℕ) (place : Place) (at : CPlace) (value : CExpr) → place_fits d at ≡ true → expr_fits d value ≡ true →
+    stmt_fits d (what place (CStmtKind-F.Set at value)) ≡ true
 unfolding stmt_fits place_fits expr_fits
 set_open-fits d place at value h i =
     let one : spells_place at ≡ true = and-fst _ _ h in
@@ -165,14 +195,17 @@ call_stmt_open-fits : (d : ℕ) (place : Place) (call : CCall) → call_fits d c
 unfolding stmt_fits call_fits
 call_stmt_open-fits d place call h =
     let s : spells_stmt (what place (CStmtKind-F.Call call)) ≡ true = rw (fold-roll-CStmt, fold-roll-CStmtKind) (and-fst _ _ h) in
-    let m : stmt_depth (what place (CStmtKind-F.Call call)) ≤ d = rw (fold-roll-CStmt, fold-roll-CStmtKind) (bound (spells_call call) (call_depth call) d h) in
+    let m : stmt_depth (what place (CStmtKind-F.Call call)) ≤ d =
+    rw (fold-roll-CStmt, fold-roll-CStmtKind) (bound (spells_call call) (call_depth call) d h) in
     joined_fits _ (stmt_depth (what place (CStmtKind-F.Call call))) d s m
 
-return_open-fits : (d : ℕ) (place : Place) (value : CExpr) → expr_fits d value ≡ true → stmt_fits d (what place (CStmtKind-F.Return (Some value))) ≡ true
+return_open-fits : (d : ℕ) (place : Place) (value : CExpr) → expr_fits d value ≡ true →
+    stmt_fits d (what place (CStmtKind-F.Return (Some value))) ≡ true
 unfolding stmt_fits expr_fits
 return_open-fits d place value h =
     let s : spells_stmt (what place (CStmtKind-F.Return (Some value))) ≡ true = rw (fold-roll-CStmt, fold-roll-CStmtKind) (and-fst _ _ h) in
-    let m : stmt_depth (what place (CStmtKind-F.Return (Some value))) ≤ d = rw (fold-roll-CStmt, fold-roll-CStmtKind) (bound (spells_expr value) (expr_depth value) d h) in
+    let m : stmt_depth (what place (CStmtKind-F.Return (Some value))) ≤ d =
+    rw (fold-roll-CStmt, fold-roll-CStmtKind) (bound (spells_expr value) (expr_depth value) d h) in
     joined_fits _ (stmt_depth (what place (CStmtKind-F.Return (Some value)))) d s m
 
 if_open-fits : (d e : ℕ) (place : Place) (test : CExpr) (body : List CStmt) → d + 1 ≤ e → expr_fits d test ≡ true → stmts_fit d body ≡ true →
@@ -187,19 +220,29 @@ if_open-fits d e place test body le h i =
     let m : stmt_depth (what place (CStmtKind-F.If test body None)) ≤ e = rw (fold-roll-CStmt, fold-roll-CStmtKind) (omega arith) in
     joined_fits _ (stmt_depth (what place (CStmtKind-F.If test body None))) e s m
 
-pub literal-fits : (d : ℕ) (place : Place) (s : Scalar) (n : ℤ) → 2 ≤ d → is_literal s n ≡ true → expr_fits d (roll-CExpr (record { place = place; what = expression.Literal s n })) ≡ true
-literal-fits d place s n le h = subst (λ (k : CExprKind). expr_fits d (roll-CExpr (record { place = place; what = k })) ≡ true) (expression.rolls-Literal s n) (literal_open-fits d place s n le h)
+pub literal-fits : (d : ℕ) (place : Place) (s : Scalar) (n : ℤ) → 2 ≤ d → is_literal s n ≡ true →
+    expr_fits d (roll-CExpr (record { place = place; what = expression.Literal s n })) ≡ true
+literal-fits d place s n le h =
+    subst (λ (k : CExprKind). expr_fits d (roll-CExpr (record { place = place; what = k })) ≡ true) (expression.rolls-Literal s n)
+    (literal_open-fits d place s n le h)
 
-pub read-fits : (d : ℕ) (place : Place) (at : CPlace) → place_fits d at ≡ true → expr_fits d (roll-CExpr (record { place = place; what = expression.Read at })) ≡ true
-read-fits d place at h = subst (λ (k : CExprKind). expr_fits d (roll-CExpr (record { place = place; what = k })) ≡ true) (expression.rolls-Read at) (read_open-fits d place at h)
+pub read-fits : (d : ℕ) (place : Place) (at : CPlace) → place_fits d at ≡ true →
+    expr_fits d (roll-CExpr (record { place = place; what = expression.Read at })) ≡ true
+read-fits d place at h =
+    subst (λ (k : CExprKind). expr_fits d (roll-CExpr (record { place = place; what = k })) ≡ true) (expression.rolls-Read at) (read_open-fits d place at h)
 
-pub called-fits : (d : ℕ) (place : Place) (call : CCall) → call_fits d call ≡ true → expr_fits d (roll-CExpr (record { place = place; what = expression.Call call })) ≡ true
-called-fits d place call h = subst (λ (k : CExprKind). expr_fits d (roll-CExpr (record { place = place; what = k })) ≡ true) (expression.rolls-Call call) (called_open-fits d place call h)
+pub called-fits : (d : ℕ) (place : Place) (call : CCall) → call_fits d call ≡ true →
+    expr_fits d (roll-CExpr (record { place = place; what = expression.Call call })) ≡ true
+called-fits d place call h =
+    subst (λ (k : CExprKind). expr_fits d (roll-CExpr (record { place = place; what = k })) ≡ true) (expression.rolls-Call call)
+    (called_open-fits d place call h)
 
-pub two-fits : (d e : ℕ) (place : Place) (o : Op) (a b : CExpr) → d + 1 ≤ e → is_c_operator o ≡ true → expr_fits d a ≡ true → expr_fits d b ≡ true →
+pub two-fits : (d e : ℕ) (place : Place) (o : Op) (a b : CExpr) → d + 1 ≤ e → is_c_operator o ≡ true → expr_fits d a ≡ true →
+    expr_fits d b ≡ true →
     expr_fits e (roll-CExpr (record { place = place; what = expression.Two o a b })) ≡ true
 two-fits d e place o a b le h i j =
-    subst (λ (k : CExprKind). expr_fits e (roll-CExpr (record { place = place; what = k })) ≡ true) (expression.rolls-Two o a b) (two_open-fits d e place o a b le h i j)
+    subst (λ (k : CExprKind). expr_fits e (roll-CExpr (record { place = place; what = k })) ≡ true) (expression.rolls-Two o a b)
+    (two_open-fits d e place o a b le h i j)
 
 pub value-fits : (d : ℕ) (value : CExpr) → expr_fits d value ≡ true → arg_fits d (argument.Value value) ≡ true
 value-fits d value h = subst (λ (arg : CArg). arg_fits d arg ≡ true) (argument.rolls-Value value) (value_open-fits d value h)
@@ -207,24 +250,36 @@ value-fits d value h = subst (λ (arg : CArg). arg_fits d arg ≡ true) (argumen
 pub address-fits : (d : ℕ) (at : CPlace) → place_fits d at ≡ true → arg_fits d (argument.Address at) ≡ true
 address-fits d at h = subst (λ (arg : CArg). arg_fits d arg ≡ true) (argument.rolls-Address at) (address_open-fits d at h)
 
-pub set-fits : (d : ℕ) (place : Place) (at : CPlace) (value : CExpr) → place_fits d at ≡ true → expr_fits d value ≡ true → stmt_fits d (roll-CStmt (record { place = place; what = statement.Set at value })) ≡ true
-set-fits d place at value h i = subst (λ (k : CStmtKind). stmt_fits d (roll-CStmt (record { place = place; what = k })) ≡ true) (statement.rolls-Set at value) (set_open-fits d place at value h i)
+pub set-fits : (d : ℕ) (place : Place) (at : CPlace) (value : CExpr) → place_fits d at ≡ true → expr_fits d value ≡ true →
+    stmt_fits d (roll-CStmt (record { place = place; what = statement.Set at value })) ≡ true
+set-fits d place at value h i =
+    subst (λ (k : CStmtKind). stmt_fits d (roll-CStmt (record { place = place; what = k })) ≡ true) (statement.rolls-Set at value)
+    (set_open-fits d place at value h i)
 
-pub call_stmt-fits : (d : ℕ) (place : Place) (call : CCall) → call_fits d call ≡ true → stmt_fits d (roll-CStmt (record { place = place; what = statement.Call call })) ≡ true
-call_stmt-fits d place call h = subst (λ (k : CStmtKind). stmt_fits d (roll-CStmt (record { place = place; what = k })) ≡ true) (statement.rolls-Call call) (call_stmt_open-fits d place call h)
+pub call_stmt-fits : (d : ℕ) (place : Place) (call : CCall) → call_fits d call ≡ true →
+    stmt_fits d (roll-CStmt (record { place = place; what = statement.Call call })) ≡ true
+call_stmt-fits d place call h =
+    subst (λ (k : CStmtKind). stmt_fits d (roll-CStmt (record { place = place; what = k })) ≡ true) (statement.rolls-Call call)
+    (call_stmt_open-fits d place call h)
 
-pub return-fits : (d : ℕ) (place : Place) (value : CExpr) → expr_fits d value ≡ true → stmt_fits d (roll-CStmt (record { place = place; what = statement.Return (Some value) })) ≡ true
-return-fits d place value h = subst (λ (k : CStmtKind). stmt_fits d (roll-CStmt (record { place = place; what = k })) ≡ true) (statement.rolls-Return (Some value)) (return_open-fits d place value h)
+pub return-fits : (d : ℕ) (place : Place) (value : CExpr) → expr_fits d value ≡ true →
+    stmt_fits d (roll-CStmt (record { place = place; what = statement.Return (Some value) })) ≡ true
+return-fits d place value h =
+    subst (λ (k : CStmtKind). stmt_fits d (roll-CStmt (record { place = place; what = k })) ≡ true) (statement.rolls-Return (Some value))
+    (return_open-fits d place value h)
 
 pub if-fits : (d e : ℕ) (place : Place) (test : CExpr) (body : List CStmt) → d + 1 ≤ e → expr_fits d test ≡ true → stmts_fit d body ≡ true →
     stmt_fits e (roll-CStmt (record { place = place; what = statement.If test body None })) ≡ true
-if-fits d e place test body le h i = subst (λ (k : CStmtKind). stmt_fits e (roll-CStmt (record { place = place; what = k })) ≡ true) (statement.rolls-If test body None) (if_open-fits d e place test body le h i)
+if-fits d e place test body le h i =
+    subst (λ (k : CStmtKind). stmt_fits e (roll-CStmt (record { place = place; what = k })) ≡ true) (statement.rolls-If test body None)
+    (if_open-fits d e place test body le h i)
 
 all_of-list_all : {A : Type 0} (p : A → Bool) (xs : List A) → list_all p xs ≡ true → all_of (map p xs) ≡ true
 all_of-list_all p [] h = refl
 all_of-list_all p (x ∷ xs) h = rw (and-fst (p x) (list_all p xs) h) (all_of-list_all p xs (and-snd (p x) (list_all p xs) h))
 
-pub func-fits : (d e : ℕ) (f : CFunc) → d + 1 ≤ e → 1 ≤ d → spells_returned f.result ≡ true → is_function_name f.name ≡ true → list_all spells_param f.params ≡ true → list_all spells_local f.locals ≡ true → stmts_fit d f.body ≡ true →
+pub func-fits : (d e : ℕ) (f : CFunc) → d + 1 ≤ e → 1 ≤ d → spells_returned f.result ≡ true → is_function_name f.name ≡ true →
+    list_all spells_param f.params ≡ true → list_all spells_local f.locals ≡ true → stmts_fit d f.body ≡ true →
     func_fits e f ≡ true
 unfolding func_fits stmt_fits
 func-fits d e f le le' result named params locals body =
@@ -234,15 +289,19 @@ func-fits d e f le le' result named params locals body =
     let i : all_of (map spells_local f.locals) ≡ true = all_of-list_all spells_local f.locals locals in
     joined_fits (spells_func f) (func_depth f) e (rw (result, named, h, i, all) refl) (omega arith)
 
-pub struct-spells : (place : Place) (name : List ℕ) (members : List CMember) → is_struct_name name ≡ true → has_any members ≡ true → list_all spells_member members ≡ true →
+pub struct-spells : (place : Place) (name : List ℕ) (members : List CMember) → is_struct_name name ≡ true → has_any members ≡ true →
+    list_all spells_member members ≡ true →
     spells_struct (record { place = place; name = name; members = members }) ≡ true
 struct-spells place name members named some all =
     let h : all_of (map spells_member members) ≡ true = all_of-list_all spells_member members all in
     rw (named, some, h) refl
 
 -- A text of at least one struct and one function has a spelling where all its structs have and its functions fit.
-pub file-spells : (structs : List CStruct) (funcs : List CFunc) → has_any structs ≡ true → has_any funcs ≡ true → list_all spells_struct structs ≡ true → list_all (func_fits 2000) funcs ≡ true →
+pub file-spells : (structs : List CStruct) (funcs : List CFunc) → has_any structs ≡ true → has_any funcs ≡ true →
+    list_all spells_struct structs ≡ true →
+    list_all (func_fits 2000) funcs ≡ true →
     is_spellable structs funcs ≡ true
 unfolding func_fits
 file-spells structs funcs some some' h i =
-    spellable-by structs funcs some some' (all_of-list_all spells_struct structs h) (list-spells spells_func func_depth 2000 funcs i) (list-depth spells_func func_depth 2000 funcs i)
+    spellable-by structs funcs some some' (all_of-list_all spells_struct structs h) (list-spells spells_func func_depth 2000 funcs i)
+    (list-depth spells_func func_depth 2000 funcs i)

@@ -1,5 +1,26 @@
 -- How many brackets are open over lists of tokens, by how the lists are put together.
-use Rattle.std.proofs.Common.{◌≡◌, ℕ, ◌+◌, ◌-◌, ◌≤◌, max, Bool, true, false, ◌||◌, List, [], ◌∷◌, ◌++◌, refl, sym, ◌∙◌, ap, subst, arith}
+use Rattle.std.proofs.Common.{
+  ◌≡◌,
+  ℕ,
+  ◌+◌,
+  ◌-◌,
+  ◌≤◌,
+  max,
+  Bool,
+  true,
+  false,
+  ◌||◌,
+  List,
+  [],
+  ◌∷◌,
+  ◌++◌,
+  refl,
+  sym,
+  ◌∙◌,
+  ap,
+  subst,
+  arith,
+}
 use Rattle.bl_tree.specs.Reduce.{joined}
 use Rattle.bl_ctext.specs.Token.{Token}
 use Rattle.bl_ctext.specs.Spelling.{listed, with_commas}
@@ -58,17 +79,20 @@ or-right true b h = cc
 or-right false b h = h
 
 -- a step of one token, by what is open behind it
-stepped : (k m d : ℕ) (t : Token) (ts : List Token) → k ≤ d → ((n : ℕ) → open_behind (n + k) t ≡ n + m) → Closes m d ts → Closes k d (t ∷ ts)
+stepped : (k m d : ℕ) (t : Token) (ts : List Token) → k ≤ d → ((n : ℕ) → open_behind (n + k) t ≡ n + m) → Closes m d ts →
+    Closes k d (t ∷ ts)
 stepped k m d t ts le step c = record {
   after = λ n. ap (λ (i : ℕ). open_after i ts) (step n) ∙ c.after n;
-  within = λ n. let e : most_open (open_behind (n + k) t) ts ≡ most_open (n + m) ts = ap (λ (i : ℕ). most_open i ts) (step n) in omega (arith, c.within n);
+  within = λ n. let e : most_open (open_behind (n + k) t) ts ≡ most_open (n + m) ts = ap (λ (i : ℕ). most_open i ts) (step n) in
+      omega (arith, c.within n);
 }
 
 -- an opening bracket before tokens that close it
 pub closes-open : (k d : ℕ) (t : Token) (ts : List Token) → is_opening t ≡ true → k ≤ d → Closes (k + 1) d ts → Closes k d (t ∷ ts)
 closes-open k d t ts h le c = stepped k (k + 1) d t ts le (λ n. opened (n + k) t h ∙ omega arith) c
 
-pub closes-close : (k d : ℕ) (t : Token) (ts : List Token) → is_opening t ≡ false → is_closing t ≡ true → k + 1 ≤ d → Closes k d ts → Closes (k + 1) d (t ∷ ts)
+pub closes-close : (k d : ℕ) (t : Token) (ts : List Token) → is_opening t ≡ false → is_closing t ≡ true → k + 1 ≤ d →
+    Closes k d ts → Closes (k + 1) d (t ∷ ts)
 closes-close k d t ts h i le c = stepped (k + 1) k d t ts le (λ n. closed (n + (k + 1)) t h i ∙ omega arith) c
 
 -- a token that is no bracket

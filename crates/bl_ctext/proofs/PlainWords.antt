@@ -1,5 +1,29 @@
 -- Names, numbers and other words are no brackets.
-use Rattle.std.proofs.Common.{◌≡◌, ◌⊎◌, ℕ, ◌+◌, ◌%◌, ◌^◌, ◌≤◌, ◌<◌, Bool, true, false, not, ◌&&◌, ◌||◌, ◌==◌, nat_eq, List, [], ◌∷◌, ◌++◌, map, refl, sym, ◌∙◌, subst, inl, inr, arith}
+use Rattle.std.proofs.Common.{
+  ◌≡◌,
+  ◌⊎◌,
+  ℕ,
+  ◌+◌,
+  ◌%◌,
+  ◌^◌,
+  ◌≤◌,
+  ◌<◌,
+  Bool,
+  true,
+  false,
+  not,
+  ◌&&◌,
+  ◌||◌,
+  ◌==◌,
+  nat_eq,
+  List,
+  [],
+  ◌∷◌,
+  ◌++◌,
+  map,
+  refl,
+}
+use Rattle.std.proofs.Common.{sym, ◌∙◌, subst, inl, inr, arith}
 use Rattle.std.proofs.lemmas.Bool.Decides.{nat_tests}
 use Rattle.std.proofs.lemmas.Fmt.{decimal_by_steps}
 use Rattle.std.specs.Cmp.Lexicographic.{pointwise}
@@ -33,14 +57,23 @@ pub word-plain : (t : Token) → is_word t ≡ true → is_bracket t ≡ false
 word-plain [] h = cc
 word-plain (b ∷ []) h =
     let word : is_word_byte b ≡ true = and-fst _ _ h in
-    rw (other_byte b 40 refl word, other_byte b 91 refl word, other_byte b 123 refl word, other_byte b 41 refl word, other_byte b 93 refl word, other_byte b 125 refl word)
+    rw (
+      other_byte b 40 refl word,
+      other_byte b 91 refl word,
+      other_byte b 123 refl word,
+      other_byte b 41 refl word,
+      other_byte b 93 refl word,
+      other_byte b
+          125 refl word,
+    )
 word-plain (b ∷ c ∷ bs) h = refl
 
 not-false : (b : Bool) → not b ≡ true → b ≡ false
 not-false true h = cc
 not-false false h = refl
 
-among-plain : (word : Token) (words : List Token) → is_among word words ≡ true → all_of (map (λ w. not (is_bracket w)) words) ≡ true → is_bracket word ≡ false
+among-plain : (word : Token) (words : List Token) → is_among word words ≡ true →
+    all_of (map (λ w. not (is_bracket w)) words) ≡ true → is_bracket word ≡ false
 unfolding is_among
 among-plain word [] h k = cc
 among-plain word (w ∷ words) h k =
@@ -90,4 +123,5 @@ pub decimal-plain : (n : ℕ) → n < 2 ^ 64 → is_bracket (decimal n) ≡ fals
 decimal-plain n h =
     decimal_by_steps (λ (m : ℕ) (digits : List ℕ). is_bracket digits ≡ false)
     (λ (m : ℕ) (small : m < 10). longer-plain [] (48 + m) (digit-word_byte m small))
-    (λ (m : ℕ) (digits : List ℕ) (big : 10 ≤ m) (word : is_bracket digits ≡ false). longer-plain digits (48 + m % 10) (digit-word_byte (m % 10) (last_digit m))) n h
+    (λ (m : ℕ) (digits : List ℕ) (big : 10 ≤ m) (word : is_bracket digits ≡ false). longer-plain digits (48 + m % 10)
+    (digit-word_byte (m % 10) (last_digit m))) n h

@@ -8,7 +8,7 @@ use Rattle.bl_tree.specs.Words as source
 use Rattle.bl_tree.specs.Reduce.{all_of}
 use Rattle.bl_ctext.specs.Token.{is_word_byte}
 use Rattle.bl_ctext.specs.Names.{is_among, grammar_words, c_keywords, is_name, is_struct_name, is_function_name, is_callee}
-use Rattle.bl_ctext.specs.Prefixes.{is_prefix, is_source_name}
+use Rattle.bl_ctext.specs.inner.Prefixes.{is_prefix, is_source_name}
 use Rattle.bl_ctext.proofs.Bytes.{and-fst, and-snd}
 
 -- whether `_` isn't the second byte
@@ -29,24 +29,28 @@ differs [] b word h = refl
 differs (x ∷ []) b word h = and-both (nat_eq x b) false refl
 differs (x ∷ y ∷ w) b word h = and-both (nat_eq x b) (nat_eq y 95 && pointwise nat_eq w word) (rw (not-true (nat_eq y 95) h) refl)
 
-pub not-among : (b : ℕ) (word : List ℕ) (words : List (List ℕ)) → all_of (map has_other_second words) ≡ true → is_among (b ∷ 95 ∷ word) words ≡ false
+pub not-among : (b : ℕ) (word : List ℕ) (words : List (List ℕ)) → all_of (map has_other_second words) ≡ true →
+    is_among (b ∷ 95 ∷ word) words ≡ false
 unfolding is_among
 not-among b word [] h = refl
 not-among b word (w ∷ words) h =
-    rw (differs w b word (and-fst (has_other_second w) (all_of (map has_other_second words)) h)) (not-among b word words (and-snd (has_other_second w) (all_of (map has_other_second words)) h))
+    rw (differs w b word (and-fst (has_other_second w) (all_of (map has_other_second words)) h))
+    (not-among b word words (and-snd (has_other_second w) (all_of (map has_other_second words)) h))
 
 -- the word before whose second byte no `bl_` stands
 no_front : (b : ℕ) (word : List ℕ) → starts_with nat_eq (b ∷ 95 ∷ word) (codes "bl_") ≡ false
 no_front b word = and-both (nat_eq 98 b) false refl
 
-pub prefixed-name : (b : ℕ) (word : List ℕ) → is_word_byte b ≡ true → is_ascii_digit b ≡ false → all_of (map is_word_byte word) ≡ true → is_name (b ∷ 95 ∷ word) ≡ true
+pub prefixed-name : (b : ℕ) (word : List ℕ) → is_word_byte b ≡ true → is_ascii_digit b ≡ false → all_of (map is_word_byte word) ≡ true →
+    is_name (b ∷ 95 ∷ word) ≡ true
 unfolding is_name
 prefixed-name b word h i k =
     rw (h, k, i, no_front b word, not-among b word grammar_words refl, not-among b word c_keywords refl, not-among b word (codes "abort" ∷ []) refl) refl
 
 word_bytes : (text : List ℕ) → list_all source.is_word_byte text ≡ true → all_of (map is_word_byte text) ≡ true
 word_bytes [] h = refl
-word_bytes (b ∷ bs) h = rw (and-fst (is_word_byte b) (list_all source.is_word_byte bs) h) (word_bytes bs (and-snd (is_word_byte b) (list_all source.is_word_byte bs) h))
+word_bytes (b ∷ bs) h =
+    rw (and-fst (is_word_byte b) (list_all source.is_word_byte bs) h) (word_bytes bs (and-snd (is_word_byte b) (list_all source.is_word_byte bs) h))
 
 source_bytes : (text : List ℕ) → source.is_name text ≡ true → list_all source.is_word_byte text ≡ true
 source_bytes [] h = refl
@@ -61,7 +65,8 @@ unfolding is_source_name
 name-with_prefix [] word h i = cc
 name-with_prefix (b ∷ []) word h i = cc
 name-with_prefix (b ∷ u ∷ []) word h i =
-    let digit : is_ascii_digit b ≡ false = not-true (is_ascii_digit b) (and-fst (not (is_ascii_digit b)) (nat_eq u 95) (and-snd (is_word_byte b) (not (is_ascii_digit b) && nat_eq u 95) h)) in
+    let digit : is_ascii_digit b ≡ false =
+    not-true (is_ascii_digit b) (and-fst (not (is_ascii_digit b)) (nat_eq u 95) (and-snd (is_word_byte b) (not (is_ascii_digit b) && nat_eq u 95) h)) in
     let mark : u ≡ 95 = byte_of u (and-snd (not (is_ascii_digit b)) (nat_eq u 95) (and-snd (is_word_byte b) (not (is_ascii_digit b) && nat_eq u 95) h)) in
     rw mark (prefixed-name b word (and-fst (is_word_byte b) (not (is_ascii_digit b) && nat_eq u 95) h) digit (word_bytes word (source_bytes word i)))
 name-with_prefix (b ∷ u ∷ c ∷ more) word h i = cc

@@ -1,5 +1,24 @@
 -- The writer's text: the prelude, and tokens behind it.
-use Rattle.std.proofs.Common.{◌≡◌, ℕ, ◌≤◌, Bool, true, false, cond, List, [], ◌∷◌, ◌++◌, length, drop, refl, append-nil, append_assoc, length-append, sym, ◌∙◌, ap, subst, arith}
+use Rattle.std.proofs.Common.{
+  ◌≡◌,
+  ℕ,
+  ◌≤◌,
+  Bool,
+  true,
+  false,
+  cond,
+  List,
+  [],
+  ◌∷◌,
+  ◌++◌,
+  length,
+  drop,
+  refl,
+  append-nil,
+  append_assoc,
+  length-append,
+}
+use Rattle.std.proofs.Common.{sym, ◌∙◌, ap, subst, arith}
 use Rattle.std.proofs.lemmas.List.{drop-append-le}
 use Rattle.bl_ctext.specs.Prelude.{prelude}
 use Rattle.bl_ctext.specs.declared.prelude.TheConstants.{PRELUDE}
@@ -34,7 +53,8 @@ grows_by bytes next text apart tokens =
     let P : List Token → Type 0 = λ ts. are_tokens ts ≡ true in (
       sum,
       record {
-        begins = ap (λ (xs : List ℕ). xs ++ next) text.begins ∙ (append_assoc prelude (behind_prelude bytes) next ∙ ap (λ (xs : List ℕ). prelude ++ xs) (sym behind));
+        begins = ap (λ (xs : List ℕ). xs ++ next) text.begins
+            ∙ (append_assoc prelude (behind_prelude bytes) next ∙ ap (λ (xs : List ℕ). prelude ++ xs) (sym behind));
         tokens = subst P (sym sum) (are_tokens-append (tokens_in (behind_prelude bytes)) (tokens_in next) text.tokens tokens);
       },
     )
@@ -67,7 +87,9 @@ pub record Grown (bytes next after : List ℕ) : Type 0 where
   pub text : IsText after
   pub tokens : tokens_in (behind_prelude after) ≡ tokens_in (behind_prelude bytes) ++ tokens_in next
 
-pub grown : (bytes next front after : List ℕ) → IsText bytes → are_tokens (tokens_in next) ≡ true → front ≡ parted bytes next → after ≡ front ++ next → Grown bytes next after
+pub grown : (bytes next front after : List ℕ) → IsText bytes → are_tokens (tokens_in next) ≡ true → front ≡ parted bytes next →
+    after ≡ front ++ next →
+    Grown bytes next after
 grown bytes next front after text tokens e f =
     let step : Parted bytes next (parted bytes next) = parts bytes next text in
     let (sum, whole) = grows_by (parted bytes next) next step.text step.apart tokens in

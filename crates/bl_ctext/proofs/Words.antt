@@ -1,5 +1,25 @@
 -- Names and numbers are words.
-use Rattle.std.proofs.Common.{◌≡◌, ℕ, ◌+◌, ◌%◌, ◌^◌, ◌≤◌, ◌<◌, true, nat_eq, List, [], ◌∷◌, ◌++◌, map, refl, subst, inl, inr, arith}
+use Rattle.std.proofs.Common.{
+  ◌≡◌,
+  ℕ,
+  ◌+◌,
+  ◌%◌,
+  ◌^◌,
+  ◌≤◌,
+  ◌<◌,
+  true,
+  nat_eq,
+  List,
+  [],
+  ◌∷◌,
+  ◌++◌,
+  map,
+  refl,
+  subst,
+  inl,
+  inr,
+  arith,
+}
 use Rattle.std.proofs.lemmas.Bool.Decides.{nat_tests}
 use Rattle.std.proofs.lemmas.Fmt.{decimal_by_steps}
 use Rattle.std.specs.Cmp.Lexicographic.{pointwise}
@@ -61,12 +81,14 @@ turn_name-token [] h = cc
 turn_name-token (t ∷ digits) h =
     let same : t ≡ 116 = same_number t 116 (and-fst _ _ h) in
     let first : is_word_byte t ≡ true = rw same refl in
-    or-fst (is_word (t ∷ digits)) (is_sign (t ∷ digits)) (both (is_word_byte t) (all_of (map is_word_byte digits)) first (word_bytes digits (and-fst _ _ (and-snd _ _ h))))
+    or-fst (is_word (t ∷ digits)) (is_sign (t ∷ digits))
+    (both (is_word_byte t) (all_of (map is_word_byte digits)) first (word_bytes digits (and-fst _ _ (and-snd _ _ h))))
 
 digit-word_byte : (n : ℕ) → n < 10 → is_word_byte (48 + n) ≡ true
 digit-word_byte n h = grind (arith, nat_tests)
 
-all_word-append : (xs : List ℕ) (b : ℕ) → all_of (map is_word_byte xs) ≡ true → is_word_byte b ≡ true → all_of (map is_word_byte (xs ++ (b ∷ []))) ≡ true
+all_word-append : (xs : List ℕ) (b : ℕ) → all_of (map is_word_byte xs) ≡ true → is_word_byte b ≡ true →
+    all_of (map is_word_byte (xs ++ (b ∷ []))) ≡ true
 all_word-append [] b h k = both (is_word_byte b) true k refl
 all_word-append (x ∷ xs) b h k = both (is_word_byte x) (all_of (map is_word_byte (xs ++ (b ∷ [])))) (and-fst _ _ h) (all_word-append xs b (and-snd _ _ h) k)
 
@@ -81,7 +103,8 @@ decimal-word : (n : ℕ) → n < 2 ^ 64 → is_word (decimal n) ≡ true
 decimal-word n h =
     decimal_by_steps (λ (m : ℕ) (digits : List ℕ). is_word digits ≡ true)
     (λ (m : ℕ) (small : m < 10). both (is_word_byte (48 + m)) true (digit-word_byte m small) refl)
-    (λ (m : ℕ) (digits : List ℕ) (big : 10 ≤ m) (word : is_word digits ≡ true). word-append digits (48 + m % 10) word (digit-word_byte (m % 10) (last_digit m))) n h
+    (λ (m : ℕ) (digits : List ℕ) (big : 10 ≤ m) (word : is_word digits ≡ true). word-append digits (48 + m % 10) word
+    (digit-word_byte (m % 10) (last_digit m))) n h
 
 pub decimal-token : (n : ℕ) → n < 2 ^ 64 → is_token (decimal n) ≡ true
 decimal-token n h = or-fst (is_word (decimal n)) (is_sign (decimal n)) (decimal-word n h)

@@ -1,10 +1,10 @@
+pub mod Builtins
 pub mod Cut
-pub mod Depths
-pub mod Fits
+pub mod Folds
 pub mod Names
-pub mod Prefixes
 pub mod Prelude
 pub mod Spellable
 pub mod Spelling
 pub mod SpellsC
 pub mod Token
+pub mod inner

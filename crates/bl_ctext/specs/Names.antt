@@ -1,9 +1,10 @@
 -- Which words name something in a text of the C subset.
-use Rattle.std.specs.Prelude.{ℕ, Bool, false, not, ◌&&◌, ◌||◌, ◌==◌, nat_eq, List, [], ◌∷◌, ◌++◌, map, codes}
+use Rattle.std.specs.Prelude.{ℕ, Bool, false, not, ◌&&◌, ◌||◌, ◌==◌, nat_eq, List, [], ◌∷◌, map, codes}
 use Rattle.std.specs.Char.{is_ascii_digit}
 use Rattle.std.specs.List.{starts_with}
 use Rattle.std.specs.Cmp.Lexicographic.{pointwise}
-use Rattle.bl_tree.specs.Reduce.{all_of, any_of, joined}
+use Rattle.bl_tree.specs.Reduce.{all_of, any_of}
+use Rattle.bl_ctext.specs.Builtins.{builtins}
 use Rattle.bl_ctext.specs.Token.{is_word}
 
 -- whether the word is one of these
@@ -13,7 +14,9 @@ is_among word words = any_of (map (λ w. pointwise nat_eq w word) words)
 -- the words of the grammar that don't begin with `bl_`
 abbrev pub grammar_words : List (List ℕ)
 grammar_words =
-    codes "bool" ∷ codes "true" ∷ codes "false" ∷ codes "static" ∷ codes "struct" ∷ codes "void" ∷ codes "if" ∷ codes "else" ∷ codes "while" ∷ codes "break" ∷ codes "return" ∷
+    codes "bool" ∷ codes "true" ∷ codes "false" ∷ codes "static" ∷ codes "struct" ∷ codes "void" ∷ codes "if" ∷ codes "else"
+    ∷ codes "while" ∷ codes "break"
+    ∷ codes "return" ∷
     codes "int8_t" ∷ codes "int16_t" ∷ codes "int32_t" ∷ codes "int64_t" ∷
     codes "uint8_t" ∷ codes "uint16_t" ∷ codes "uint32_t" ∷ codes "uint64_t" ∷
     codes "INT8_C" ∷ codes "INT16_C" ∷ codes "INT32_C" ∷ codes "INT64_C" ∷
@@ -23,9 +26,14 @@ grammar_words =
 -- the keywords of C99
 abbrev pub c_keywords : List (List ℕ)
 c_keywords =
-    codes "auto" ∷ codes "break" ∷ codes "case" ∷ codes "char" ∷ codes "const" ∷ codes "continue" ∷ codes "default" ∷ codes "do" ∷ codes "double" ∷ codes "else" ∷
-    codes "enum" ∷ codes "extern" ∷ codes "float" ∷ codes "for" ∷ codes "goto" ∷ codes "if" ∷ codes "inline" ∷ codes "int" ∷ codes "long" ∷ codes "register" ∷
-    codes "restrict" ∷ codes "return" ∷ codes "short" ∷ codes "signed" ∷ codes "sizeof" ∷ codes "static" ∷ codes "struct" ∷ codes "switch" ∷ codes "typedef" ∷ codes "union" ∷
+    codes "auto" ∷ codes "break" ∷ codes "case" ∷ codes "char" ∷ codes "const" ∷ codes "continue" ∷ codes "default" ∷ codes "do"
+    ∷ codes "double"
+    ∷ codes "else" ∷
+    codes "enum" ∷ codes "extern" ∷ codes "float" ∷ codes "for" ∷ codes "goto" ∷ codes "if" ∷ codes "inline" ∷ codes "int"
+    ∷ codes "long" ∷ codes "register" ∷
+    codes "restrict" ∷ codes "return" ∷ codes "short" ∷ codes "signed" ∷ codes "sizeof" ∷ codes "static" ∷ codes "struct"
+    ∷ codes "switch" ∷ codes "typedef"
+    ∷ codes "union" ∷
     codes "unsigned" ∷ codes "void" ∷ codes "volatile" ∷ codes "while" ∷ codes "_Bool" ∷ codes "_Complex" ∷ codes "_Imaginary" ∷ []
 
 -- whether the word begins with a digit
@@ -47,22 +55,9 @@ is_struct_name word = is_name word || is_among word (codes "bl_state" ∷ codes 
 unfoldable pub is_function_name : List ℕ → Bool
 is_function_name word = is_name word || is_among word (codes "bl_init" ∷ codes "bl_tick" ∷ [])
 
--- what the prelude names an operation on a type: `bl_`, the operation, `_` and the type
-abbrev pub prelude_names : List (List ℕ) → List (List ℕ) → List (List ℕ)
-prelude_names operations types = joined (map (λ o. map (λ t. codes "bl_" ++ (o ++ (codes "_" ++ t))) types) operations)
-
--- the functions of the prelude
+-- the names of the prelude's functions
 abbrev pub prelude_functions : List (List ℕ)
-prelude_functions =
-    codes "bl_turn" ∷ codes "bl_ix_s" ∷ codes "bl_ix_u" ∷ codes "bl_trap" ∷
-    (prelude_names
-    (codes "add" ∷ codes "sub" ∷ codes "mul" ∷ codes "div" ∷ codes "rem" ∷ codes "of_s" ∷ codes "of_u" ∷ [])
-    (codes "i8" ∷ codes "i16" ∷ codes "i32" ∷ codes "i64" ∷ codes "n8" ∷ codes "n16" ∷ codes "n32" ∷ codes "n64" ∷ codes "b8" ∷ codes "b16" ∷ codes "b32" ∷ codes "b64" ∷ [])
-    ++ (prelude_names (codes "neg" ∷ [])
-    (codes "i8" ∷ codes "i16" ∷ codes "i32" ∷ codes "i64" ∷ codes "b8" ∷ codes "b16" ∷ codes "b32" ∷ codes "b64" ∷ [])
-    ++ prelude_names
-    (codes "not" ∷ codes "and" ∷ codes "or" ∷ codes "xor" ∷ codes "shl" ∷ codes "shr" ∷ [])
-    (codes "b8" ∷ codes "b16" ∷ codes "b32" ∷ codes "b64" ∷ [])))
+prelude_functions = map (λ e. e.0) builtins
 
 -- a name, or that of a function of the prelude
 unfoldable pub is_callee : List ℕ → Bool

@@ -1,5 +1,28 @@
 -- Which trees of the C subset have a spelling: what the type of a file keeps.
-use Rattle.std.specs.Prelude.{ℕ, ◌+◌, ◌-◌, ◌*◌, max, nat_lt, nat_le, ℤ, pos, negsuc, Bool, true, false, ◌&&◌, ◌||◌, ◌==◌, cond, List, [], ◌∷◌, map, Option, Some, None}
+use Rattle.std.specs.Prelude.{
+  ℕ,
+  ◌+◌,
+  ◌-◌,
+  ◌*◌,
+  max,
+  nat_lt,
+  nat_le,
+  ℤ,
+  pos,
+  negsuc,
+  Bool,
+  true,
+  false,
+  ◌&&◌,
+  ◌||◌,
+  ◌==◌,
+  cond,
+  List,
+  [],
+  ◌∷◌,
+  map,
+}
+use Rattle.std.specs.Prelude.{Option, Some, None}
 use Rattle.bl_tree.specs.declared.scalar.Scalar.{Scalar}
 use Rattle.bl_tree.specs.declared.scalar.Scalar.TheVariants as scalar
 use Rattle.bl_tree.specs.declared.scalar.Op.{Op}
@@ -22,6 +45,7 @@ use Rattle.bl_tree.specs.declared.c.CStmt.{CStmt, CStmt-F, fold-CStmt}
 use Rattle.bl_tree.specs.declared.c.CStmtKind.{CStmtKind, CStmtKind-F, fold-CStmtKind}
 use Rattle.bl_tree.specs.Reduce.{all_of}
 use Rattle.bl_ctext.specs.Token.{Token}
+use Rattle.bl_ctext.specs.Folds.{EachIs}
 use Rattle.bl_ctext.specs.Names.{is_name, is_struct_name, is_function_name, is_callee, is_turn_name}
 use Rattle.bl_ctext.specs.Spelling.{negatives, tokens_of}
 
@@ -66,30 +90,30 @@ abbrev pub has_any : {A : Type 0} → List A → Bool
 has_any [] = false
 has_any (x ∷ xs) = true
 
-abbrev pub is_arg : CArg-F Bool Bool Bool Bool Bool Bool Bool → Bool
+abbrev pub is_arg : EachIs Bool CArg-F → Bool
 is_arg (CArg-F.Value value) = value
 is_arg (CArg-F.Address at) = at
 
-abbrev pub is_expr_kind : CExprKind-F Bool Bool Bool Bool Bool Bool Bool → Bool
+abbrev pub is_expr_kind : EachIs Bool CExprKind-F → Bool
 is_expr_kind (CExprKind-F.Literal s n) = is_literal s n
 is_expr_kind (CExprKind-F.Read at) = at
 is_expr_kind (CExprKind-F.Call call) = call
 is_expr_kind (CExprKind-F.Not operand) = operand
 is_expr_kind (CExprKind-F.Two o left right) = is_c_operator o && (left && right)
 
-abbrev pub is_call : CCall-F Bool Bool Bool Bool Bool Bool Bool → Bool
+abbrev pub is_call : EachIs Bool CCall-F → Bool
 is_call c = is_callee c.name && all_of c.args
 
-abbrev pub is_expr : CExpr-F Bool Bool Bool Bool Bool Bool Bool → Bool
+abbrev pub is_expr : EachIs Bool CExpr-F → Bool
 is_expr e = e.what
 
-abbrev pub is_index : CIndex-F Bool Bool Bool Bool Bool Bool Bool → Bool
+abbrev pub is_index : EachIs Bool CIndex-F → Bool
 is_index i = i.at && is_length i.length
 
-abbrev pub is_place : CPlace-F Bool Bool Bool Bool Bool Bool Bool → Bool
+abbrev pub is_place : EachIs Bool CPlace-F → Bool
 is_place p = is_name p.name && all_of p.steps
 
-abbrev pub is_step : CStep-F Bool Bool Bool Bool Bool Bool Bool → Bool
+abbrev pub is_step : EachIs Bool CStep-F → Bool
 is_step s = is_name s.member && none_or s.index
 
 -- whether the names, literals, operators and lengths of an expression have a spelling; the same of its parts

@@ -1,5 +1,26 @@
 -- The tokens that spell a text of the C subset, by cases on its tree. White space aside a tree has one spelling.
-use Rattle.std.specs.Prelude.{ℕ, suc, ◌==◌, ◌^◌, ℤ, pos, negsuc, Bool, true, false, cond, List, [], ◌∷◌, ◌++◌, map, Option, Some, None, codes}
+use Rattle.std.specs.Prelude.{
+  ℕ,
+  suc,
+  ◌==◌,
+  ◌^◌,
+  ℤ,
+  pos,
+  negsuc,
+  Bool,
+  true,
+  false,
+  cond,
+  List,
+  [],
+  ◌∷◌,
+  ◌++◌,
+  map,
+  Option,
+  Some,
+  None,
+  codes,
+}
 use Rattle.std.specs.Fmt.{decimal}
 use Rattle.bl_tree.specs.declared.scalar.Width.{Width}
 use Rattle.bl_tree.specs.declared.scalar.Width.TheVariants.{W8, W16, W32, W64}
@@ -24,6 +45,7 @@ use Rattle.bl_tree.specs.declared.c.CArg.{CArg, CArg-F, fold-CArg}
 use Rattle.bl_tree.specs.declared.c.CStmt.{CStmt, CStmt-F, fold-CStmt}
 use Rattle.bl_tree.specs.declared.c.CStmtKind.{CStmtKind, CStmtKind-F, fold-CStmtKind}
 use Rattle.bl_tree.specs.Reduce.{joined}
+use Rattle.bl_ctext.specs.Folds.{EachIs}
 use Rattle.bl_ctext.specs.Token.{Token}
 
 -- what stands before a part of a list: nothing before the first
@@ -108,21 +130,21 @@ call_tokens name args = name ∷ codes "(" ∷ (with_commas args ++ codes ")" �
 abbrev Spelled : Type 0
 Spelled = List Token
 
-abbrev pub arg_spelling : CArg-F Spelled Spelled Spelled Spelled Spelled Spelled Spelled → Spelled
+abbrev pub arg_spelling : EachIs Spelled CArg-F → Spelled
 arg_spelling (CArg-F.Value value) = value
 arg_spelling (CArg-F.Address at) = codes "&" ∷ at
 
-abbrev pub kind_spelling : CExprKind-F Spelled Spelled Spelled Spelled Spelled Spelled Spelled → Spelled
+abbrev pub kind_spelling : EachIs Spelled CExprKind-F → Spelled
 kind_spelling (CExprKind-F.Literal s n) = literal_tokens s n
 kind_spelling (CExprKind-F.Read at) = at
 kind_spelling (CExprKind-F.Call call) = call
 kind_spelling (CExprKind-F.Not operand) = codes "(" ∷ codes "!" ∷ (operand ++ codes ")" ∷ [])
 kind_spelling (CExprKind-F.Two o left right) = codes "(" ∷ (left ++ (operator_sign o ∷ (right ++ codes ")" ∷ [])))
 
-abbrev pub call_spelling : CCall-F Spelled Spelled Spelled Spelled Spelled Spelled Spelled → Spelled
+abbrev pub call_spelling : EachIs Spelled CCall-F → Spelled
 call_spelling c = call_tokens c.name c.args
 
-abbrev pub expr_spelling : CExpr-F Spelled Spelled Spelled Spelled Spelled Spelled Spelled → Spelled
+abbrev pub expr_spelling : EachIs Spelled CExpr-F → Spelled
 expr_spelling e = e.what
 
 -- `[` and the function that takes the index
@@ -130,7 +152,7 @@ abbrev pub index_front : Bool → List Token
 index_front true = codes "[" ∷ codes "bl_ix_s" ∷ codes "(" ∷ []
 index_front false = codes "[" ∷ codes "bl_ix_u" ∷ codes "(" ∷ []
 
-abbrev pub index_spelling : CIndex-F Spelled Spelled Spelled Spelled Spelled Spelled Spelled → Spelled
+abbrev pub index_spelling : EachIs Spelled CIndex-F → Spelled
 index_spelling i = index_front i.signed ++ (i.at ++ codes "," ∷ decimal i.length ∷ codes ")" ∷ codes "]" ∷ [])
 
 -- what a place begins with: its name, or `(*`, the name and `)`
@@ -138,7 +160,7 @@ abbrev pub root_tokens : Bool → List ℕ → List Token
 root_tokens true name = codes "(" ∷ codes "*" ∷ name ∷ codes ")" ∷ []
 root_tokens false name = name ∷ []
 
-abbrev pub place_spelling : CPlace-F Spelled Spelled Spelled Spelled Spelled Spelled Spelled → Spelled
+abbrev pub place_spelling : EachIs Spelled CPlace-F → Spelled
 place_spelling p = root_tokens p.through p.name ++ joined p.steps
 
 -- the tokens, or none
@@ -146,7 +168,7 @@ abbrev pub if_any : Option (List Token) → List Token
 if_any None = []
 if_any (Some tokens) = tokens
 
-abbrev pub step_spelling : CStep-F Spelled Spelled Spelled Spelled Spelled Spelled Spelled → Spelled
+abbrev pub step_spelling : EachIs Spelled CStep-F → Spelled
 step_spelling s = codes "." ∷ s.member ∷ if_any s.index
 
 -- the tokens of an expression, of a place and of a call

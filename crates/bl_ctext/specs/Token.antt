@@ -17,7 +17,8 @@ is_word_byte b = is_ascii_alphanumeric b || b == 95
 
 -- whether the byte is one of `( ) [ ] { } ; , . * & ! = < > -`
 abbrev pub is_sign_byte : ℕ → Bool
-is_sign_byte b = any_of (map (λ s. b == s) (40 ∷ 41 ∷ 91 ∷ 93 ∷ 123 ∷ 125 ∷ 59 ∷ 44 ∷ 46 ∷ 42 ∷ 38 ∷ 33 ∷ 61 ∷ 60 ∷ 62 ∷ 45 ∷ []))
+is_sign_byte b = any_of (map (λ s. b == s) (40 ∷ 41 ∷ 91 ∷ 93 ∷ 123 ∷ 125 ∷ 59 ∷ 44 ∷ 46 ∷ 42 ∷ 38 ∷ 33 ∷ 61 ∷ 60 ∷ 62 ∷ 45
+    ∷ []))
 
 -- whether the two bytes are one of `== != <= >= && ||`
 abbrev pub is_double_sign : ℕ → ℕ → Bool

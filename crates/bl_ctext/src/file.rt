@@ -1,3 +1,5 @@
+//! Texts of the C subset as trees.
+
 ghost use Rattle.std.specs.Prelude.{IsTrue};
 ghost use Rattle.bl_ctext.specs.Spellable.{is_spellable};
 

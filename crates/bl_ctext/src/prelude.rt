@@ -1,3 +1,5 @@
+//! The prelude of C texts.
+
 /// The lines that every text of the C subset begins with (docs/C_SUBSET.md, "The prelude").
 pub const PRELUDE: &[u8] = b"#include <stdbool.h>\n\
 #include <stdint.h>\n\
@@ -9,7 +11,8 @@ static uint32_t bl_ix_u(uint64_t i, uint32_t n) { if (i >= n) bl_trap(); return 
 #define BL_INT(N, T, LO, HI) \\\n\
 static T bl_add_##N(T a, T b) { if (b > 0 ? a > HI - b : a < LO - b) bl_trap(); return (T)(a + b); } \\\n\
 static T bl_sub_##N(T a, T b) { if (b > 0 ? a < LO + b : a > HI + b) bl_trap(); return (T)(a - b); } \\\n\
-static T bl_mul_##N(T a, T b) { if (a > 0 ? (b > 0 ? a > HI / b : b < LO / a) : (b > 0 ? a < LO / b : a != 0 && b < HI / a)) bl_trap(); return (T)(a * b); } \\\n\
+static T bl_mul_##N(T a, T b) { if (a > 0 ? (b > 0 ? a > HI / b : b < LO / a) : (b > 0 ? a < LO / b : a != 0 && b < HI / a)) bl_trap(); \
+return (T)(a * b); } \\\n\
 static T bl_div_##N(T a, T b) { if (b == 0 || (b == -1 && a == LO)) bl_trap(); return (T)(a / b); } \\\n\
 static T bl_rem_##N(T a, T b) { if (b == 0) bl_trap(); return b == -1 ? (T)0 : (T)(a % b); } \\\n\
 static T bl_neg_##N(T a) { if (a == LO) bl_trap(); return (T)(-a); } \\\n\

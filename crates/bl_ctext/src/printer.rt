@@ -23,7 +23,3 @@ pub fn print(alloc: Global, file: &CFile) -> Result<Vec<u8>, NoMemory>
     item::funcs(&mut out, &file.funcs)?;
     Ok(out.finish())
 }
-
-#[cfg(test)]
-#[tactic(auto, unfolding(crate::specs::Names::is_name, crate::specs::Names::is_among, crate::specs::Names::is_struct_name, crate::specs::Names::is_callee, crate::specs::Names::is_function_name, crate::specs::Names::is_turn_name))]
-mod tests;

@@ -1,3 +1,5 @@
+//! The text that is written, token by token.
+
 ghost use Rattle.std.specs.Prelude.{◌≡◌, ℕ, List, [], ◌∷◌, ◌++◌, IsTrue, IfOk, OnOk, OnErr};
 ghost use Rattle.bl_ctext.specs.Prelude.{prelude};
 ghost use Rattle.bl_ctext.specs.Token.{is_token, is_word_byte as word_byte, is_double_sign as double_sign, SpacedC};

@@ -1,5 +1,29 @@
 -- The listed points of a tree are the steps of the relation.
-use Rattle.std.proofs.Common.{◌≡◌, ℕ, Bool, true, false, not, ◌&&◌, List, [], ◌∷◌, ◌++◌, map, refl, sym, ap, subst, ◌∙◌, Option, Some, None, ◌⊎◌, inl, inr}
+use Rattle.std.proofs.Common.{
+  ◌≡◌,
+  ℕ,
+  Bool,
+  true,
+  false,
+  not,
+  ◌&&◌,
+  List,
+  [],
+  ◌∷◌,
+  ◌++◌,
+  map,
+  refl,
+  sym,
+  ap,
+  subst,
+  ◌∙◌,
+  Option,
+  Some,
+  None,
+  ◌⊎◌,
+  inl,
+  inr,
+}
 use Rattle.std.specs.Prelude.{if◌then◌else◌, option_map, option_and_then, unwrap_or}
 use Rattle.bl_tree.specs.declared.tree.Arm.{Arm}
 use Rattle.bl_tree.specs.declared.tree.Branch.{Branch}
@@ -9,14 +33,95 @@ use Rattle.bl_tree.specs.declared.tree.StmtKind.{StmtKind}
 use Rattle.bl_tree.specs.declared.tree.StmtKind.TheOpen.{StmtKind-F}
 use Rattle.bl_tree.specs.declared.tree.Unit.{Unit as UnitDef}
 use Rattle.bl_ctree.specs.Actions.{Action, Effect, Silent, Acts, Asks, Copies, Gives, Performed, action, effect_on, done, perform, values_there}
-use Rattle.bl_ctree.specs.Control.{Control, Branches, Nil, Wait, Test, Idle, Do, Turn, Seq, Par, Guard, Run, no_branch, branch, Check, Body, are_settled, are_done, is_nil, seq}
+use Rattle.bl_ctree.specs.Control.{
+  Control,
+  Branches,
+  Nil,
+  Wait,
+  Test,
+  Idle,
+  Do,
+  Turn,
+  Seq,
+  Par,
+  Guard,
+  Run,
+  no_branch,
+  branch,
+  Check,
+  Body,
+  are_settled,
+  are_done,
+  is_nil,
+  seq,
+}
 use Rattle.bl_ctree.specs.Instances.{Setting, callee_of, unit_at}
 use Rattle.bl_ctree.specs.Laws.{PointsAct, PointsMove, MovesAreListed, StepsAreListed, StillIsUnlisted, Listed, can_answer}
 use Rattle.bl_ctree.specs.Pending.{meets, any_meets}
-use Rattle.bl_ctree.specs.Points.{Among, here, there, Point, points, branch_points, within, in_first, in_later, guard_points, run_points, joining, free_of, sure, asking, giving, begins, tests, turns_on, checks, copying, or_nothing, run_begins}
+use Rattle.bl_ctree.specs.Points.{
+  Among,
+  here,
+  there,
+  Point,
+  points,
+  branch_points,
+  within,
+  in_first,
+  in_later,
+  guard_points,
+  run_points,
+  joining,
+  free_of,
+  sure,
+  asking,
+  giving,
+  begins,
+  tests,
+  turns_on,
+  checks,
+  copying,
+  or_nothing,
+  run_begins,
+}
 use Rattle.bl_ctree.specs.Positions.{Located, kind_of, place_of, is_act}
 use Rattle.bl_ctree.specs.Store.{Store, with_frame, with_inputs}
-use Rattle.bl_ctree.specs.Steps.{Acting, leads, fails, IsStill, Moves, OneMoves, acts, takes_arm, passes_arm, takes_else, pauses, runs, repeats, repeats_until, leaves, turns, enters, skips, forks, guards, goes_on, waits, lets, aborts, resets, guard_ends, copies, run_ends, joins, in_seq, in_par, in_guard, in_run, first, later}
+use Rattle.bl_ctree.specs.Steps.{
+  Acting,
+  leads,
+  fails,
+  IsStill,
+  Moves,
+  OneMoves,
+  acts,
+  takes_arm,
+  passes_arm,
+  takes_else,
+  pauses,
+  runs,
+  repeats,
+  repeats_until,
+  leaves,
+  turns,
+  enters,
+  skips,
+  forks,
+  guards,
+  goes_on,
+  waits,
+  lets,
+  aborts,
+  resets,
+  guard_ends,
+  copies,
+  run_ends,
+  joins,
+  in_seq,
+  in_par,
+  in_guard,
+  in_run,
+  first,
+  later,
+}
 use Rattle.bl_ctree.proofs.Bools.{not-true, not-false}
 use Rattle.bl_ctree.proofs.Elements.{among-map, of-map, among-left, among-right, of-append, of-filter, among-filter}
 
@@ -25,7 +130,8 @@ use Rattle.bl_ctree.proofs.Elements.{among-map, of-map, among-left, among-right,
 -- the one point of `sure` moves where its answer true does
 of_sure : {w : Setting} {i : ℕ} {c : Control} (s : Located) (effect : Effect) (after : Control) →
     ((d : Bool) → can_answer effect d ≡ d) → Moves w i c true (action i s effect) after →
-    (p : Point Control) → Among (Point Control) p (sure i s effect after) → (d : Bool) → can_answer p.action.effect d ≡ true → Moves w i c d p.action (p.after d)
+    (p : Point Control) → Among (Point Control) p (sure i s effect after) → (d : Bool) → can_answer p.action.effect d ≡ true →
+    Moves w i c d p.action (p.after d)
 of_sure s effect after one move p here true h = move
 of_sure s effect after one move p here false h = absurd (let e = one false in cc)
 of_sure s effect after one move p (there m) d h = elim m [ ]
@@ -45,7 +151,8 @@ Sound w i c listed =
 nothing_sound : (w : Setting) (i : ℕ) (c : Control) → Sound w i c []
 nothing_sound w i c p m d h = elim m [ ]
 
-sound_unit : (w : Setting) (i : ℕ) (s : Located) {target : _} {a : ℕ} {inputs : _} {outputs : _} (callee : ℕ) → kind_of s ≡ StmtKind-F.Run target a inputs outputs →
+sound_unit : (w : Setting) (i : ℕ) (s : Located) {target : _} {a : ℕ} {inputs : _} {outputs : _} (callee : ℕ) →
+    kind_of s ≡ StmtKind-F.Run target a inputs outputs →
     callee_of w i (place_of s) ≡ Some callee → (unit : Option UnitDef) → unit_at w callee ≡ unit →
     Sound w i (Do s) (or_nothing (option_map (run_begins w i s (Copies callee inputs) callee) unit))
 sound_unit w i s callee e at None there_is p m d h = elim m [ ]
@@ -87,7 +194,8 @@ sound_checks w i s stood c (StmtKind-F.When Abort test body) e p m d h = of_aski
 sound_checks w i s stood c (StmtKind-F.When Reset test body) e p m d h = of_asking s _ _ _ (resets e) (lets e) p m d
 sound_checks w i s stood c _ e p m d h = elim m [ ]
 
-sound_copying : (w : Setting) (i : ℕ) (s : Located) (callee : ℕ) (stood : Bool) (c : Control) (k : StmtKind-F StmtKind Arm Branch Stmt) → kind_of s ≡ k →
+sound_copying : (w : Setting) (i : ℕ) (s : Located) (callee : ℕ) (stood : Bool) (c : Control)
+    (k : StmtKind-F StmtKind Arm Branch Stmt) → kind_of s ≡ k →
     Sound w i (Run s callee Check stood c) (copying i s callee stood c k)
 sound_copying w i s callee stood c (StmtKind-F.Run target a inputs outputs) e p m d h = of_sure s _ _ (λ d. refl) (copies e) p m d h
 sound_copying w i s callee stood c _ e p m d h = elim m [ ]
@@ -130,14 +238,17 @@ sound_in_run : (w : Setting) (i : ℕ) (s : Located) (callee : ℕ) (stood : Boo
     Sound w i (Run s callee Body stood c) (run_points i s callee stood c inner)
 sound_in_run w i s callee stood c inner sound = go (is_nil c) refl
   where
-    go : (b : Bool) → is_nil c ≡ b → Sound w i (Run s callee Body stood c) (if b then giving i s callee (kind_of s) else map (within (Run s callee Body stood)) inner)
-    go true e = subst (λ c. Sound w i (Run s callee Body stood c) (giving i s callee (kind_of s))) (sym (nil_is c e)) (sound_giving w i s callee stood (kind_of s) refl)
+    go : (b : Bool) → is_nil c ≡ b → Sound w i (Run s callee Body stood c)
+        (if b then giving i s callee (kind_of s) else map (within (Run s callee Body stood)) inner)
+    go true e = subst (λ c. Sound w i (Run s callee Body stood c) (giving i s callee (kind_of s))) (sym (nil_is c e))
+        (sound_giving w i s callee stood (kind_of s) refl)
     go false e = sound_within (Run s callee Body stood) inner (λ d a after move. in_run move) sound
 
 sound_joining : (w : Setting) (i : ℕ) (s : Located) (stood : Bool) (branches : Branches) → Sound w i (Par s stood branches) (joining i s branches)
 sound_joining w i s stood branches = go (are_settled branches) (are_done branches) refl refl
   where
-    go : (a b : Bool) → are_settled branches ≡ a → are_done branches ≡ b → Sound w i (Par s stood branches) (if a && b then sure i s Silent Nil else [])
+    go : (a b : Bool) → are_settled branches ≡ a → are_done branches ≡ b →
+        Sound w i (Par s stood branches) (if a && b then sure i s Silent Nil else [])
     go true true settled done = of_sure s Silent Nil (λ d. refl) (joins settled done)
     go true false settled done = nothing_sound w i (Par s stood branches)
     go false b settled done = nothing_sound w i (Par s stood branches)
@@ -145,7 +256,8 @@ sound_joining w i s stood branches = go (are_settled branches) (are_done branche
 -- the same of branches
 abbrev OneSound : Setting → ℕ → Branches → List (Point Branches) → Type 0
 OneSound w i branches listed =
-    (p : Point Branches) → Among (Point Branches) p listed → (d : Bool) → can_answer p.action.effect d ≡ true → OneMoves w i branches d p.action (p.after d)
+    (p : Point Branches) → Among (Point Branches) p listed → (d : Bool) → can_answer p.action.effect d ≡ true →
+    OneMoves w i branches d p.action (p.after d)
 
 sound_par : (w : Setting) (i : ℕ) (s : Located) (stood : Bool) (branches : Branches) (listed : List (Point Branches)) → OneSound w i branches listed →
     Sound w i (Par s stood branches) (map (within (Par s stood)) listed)
@@ -177,7 +289,8 @@ either_sound {w} {i} {c} xs ys left right p m d h = go (of-append xs m)
     go (inl n) = left p n d h
     go (inr n) = right p n d h
 
-one_either_sound : {w : Setting} {i : ℕ} {c : Branches} (xs ys : List (Point Branches)) → OneSound w i c xs → OneSound w i c ys → OneSound w i c (xs ++ ys)
+one_either_sound : {w : Setting} {i : ℕ} {c : Branches} (xs ys : List (Point Branches)) → OneSound w i c xs → OneSound w i c ys →
+    OneSound w i c (xs ++ ys)
 one_either_sound {w} {i} {c} xs ys left right p m d h = go (of-append xs m)
   where
     go : Among (Point Branches) p xs ⊎ Among (Point Branches) p ys → OneMoves w i c d p.action (p.after d)
@@ -216,10 +329,12 @@ points_move w i c point m d h = sound w i c point m d h
 listed_sure : (i : ℕ) (s : Located) (effect : Effect) (after : Control) → Listed (sure i s effect after) true (action i s effect) after
 listed_sure i s effect after = record { point = _; among = here; acts = refl; leads = refl }
 
-listed_true : (i : ℕ) (s : Located) (effect : Effect) (if_true if_false : Control) → Listed (asking i s effect if_true if_false) true (action i s effect) if_true
+listed_true : (i : ℕ) (s : Located) (effect : Effect) (if_true if_false : Control) →
+    Listed (asking i s effect if_true if_false) true (action i s effect) if_true
 listed_true i s effect if_true if_false = record { point = _; among = here; acts = refl; leads = refl }
 
-listed_false : (i : ℕ) (s : Located) (effect : Effect) (if_true if_false : Control) → Listed (asking i s effect if_true if_false) false (action i s effect) if_false
+listed_false : (i : ℕ) (s : Located) (effect : Effect) (if_true if_false : Control) →
+    Listed (asking i s effect if_true if_false) false (action i s effect) if_false
 listed_false i s effect if_true if_false = record { point = _; among = here; acts = refl; leads = refl }
 
 listed_within : {A B : Type 0} (around : A → B) {all : List (Point A)} {d : Bool} {a : Action} {after : A} →
@@ -234,18 +349,27 @@ listed_later : (around : Branches → Branches) {all : List (Point Branches)} {d
     Listed all d a after → Listed (map (in_later around) all) d a (around after)
 listed_later around l = record { point = in_later around l.point; among = among-map (in_later around) l.among; acts = l.acts; leads = ap around l.leads }
 
-listed_left : {A : Type 0} {xs : List (Point A)} (ys : List (Point A)) {d : Bool} {a : Action} {after : A} → Listed xs d a after → Listed (xs ++ ys) d a after
+listed_left : {A : Type 0} {xs : List (Point A)} (ys : List (Point A)) {d : Bool} {a : Action} {after : A} → Listed xs d a after →
+    Listed (xs ++ ys) d a after
 listed_left ys l = record { point = l.point; among = among-left ys l.among; acts = l.acts; leads = l.leads }
 
-listed_right : {A : Type 0} (xs : List (Point A)) {ys : List (Point A)} {d : Bool} {a : Action} {after : A} → Listed ys d a after → Listed (xs ++ ys) d a after
+listed_right : {A : Type 0} (xs : List (Point A)) {ys : List (Point A)} {d : Bool} {a : Action} {after : A} → Listed ys d a after →
+    Listed (xs ++ ys) d a after
 listed_right xs l = record { point = l.point; among = among-right xs l.among; acts = l.acts; leads = l.leads }
 
 listed_free : {A : Type 0} (meets : Action → Bool) {all : List (Point A)} {d : Bool} {a : Action} {after : A} →
     Listed all d a after → meets a ≡ false → Listed (free_of meets all) d a after
 listed_free meets l free =
-    record { point = l.point; among = among-filter (λ point. not (meets point.action)) l.among (not-false (meets l.point.action) (ap meets l.acts ∙ free)); acts = l.acts; leads = l.leads }
+    record {
+      point = l.point;
+      among = among-filter (λ point. not (meets point.action)) l.among
+          (not-false (meets l.point.action) (ap meets l.acts ∙ free));
+      acts = l.acts;
+      leads = l.leads;
+    }
 
-listed_act : (w : Setting) (i : ℕ) (s : Located) (k : StmtKind-F StmtKind Arm Branch Stmt) → is_act k ≡ true → Listed (begins w i s k) true (action i s (Acts s.stmt)) Nil
+listed_act : (w : Setting) (i : ℕ) (s : Located) (k : StmtKind-F StmtKind Arm Branch Stmt) → is_act k ≡ true →
+    Listed (begins w i s k) true (action i s (Acts s.stmt)) Nil
 listed_act w i s (StmtKind-F.Declare k initial) e = listed_sure i s (Acts s.stmt) Nil
 listed_act w i s (StmtKind-F.Assign path value) e = listed_sure i s (Acts s.stmt) Nil
 listed_act w i s (StmtKind-F.Call f inputs outputs) e = listed_sure i s (Acts s.stmt) Nil
@@ -259,14 +383,17 @@ listed_act w i s (StmtKind-F.Repeat body) e = absurd cc
 listed_act w i s (StmtKind-F.Until body test) e = absurd cc
 listed_act w i s (StmtKind-F.While test body) e = absurd cc
 
-by_is : {A B : Type 0} (f : A → List (Point B)) {x y : A} {d : Bool} {a : Action} {after : B} → x ≡ y → Listed (f y) d a after → Listed (f x) d a after
+by_is : {A B : Type 0} (f : A → List (Point B)) {x y : A} {d : Bool} {a : Action} {after : B} → x ≡ y → Listed (f y) d a after →
+    Listed (f x) d a after
 by_is f {d = d} {a = a} {after = after} e l = subst (λ x. Listed (f x) d a after) (sym e) l
 
 of_found : (w : Setting) (i : ℕ) (s : Located) (effect : ℕ → Effect) {callee : ℕ} {unit : UnitDef} {d : Bool} {a : Action} {after : Control} →
     callee_of w i (place_of s) ≡ Some callee → unit_at w callee ≡ Some unit → Listed (run_begins w i s (effect callee) callee unit) d a after →
-    Listed (or_nothing (option_and_then (λ callee. option_map (run_begins w i s (effect callee) callee) (unit_at w callee)) (callee_of w i (place_of s)))) d a after
+    Listed (or_nothing (option_and_then (λ callee. option_map (run_begins w i s (effect callee) callee) (unit_at w callee))
+    (callee_of w i (place_of s)))) d a after
 of_found w i s effect {callee} {unit} {d} {a} {after} at there_is l =
-    subst (λ found. Listed (or_nothing (option_and_then (λ callee. option_map (run_begins w i s (effect callee) callee) (unit_at w callee)) found)) d a after) (sym at)
+    subst (λ found. Listed (or_nothing (option_and_then
+    (λ callee. option_map (run_begins w i s (effect callee) callee) (unit_at w callee)) found)) d a after) (sym at)
     (subst (λ found. Listed (or_nothing (option_map (run_begins w i s (effect callee) callee) found)) d a after) (sym there_is) l)
 
 -- what moves has not ended
@@ -306,7 +433,8 @@ mutual
   complete {w} (passes_arm {i} {s} e) = by_is (begins w i s) e (listed_false i s _ _ _)
   complete {w} (takes_else {i} {s} e) = by_is (begins w i s) e (listed_false i s _ _ _)
   complete {w} (pauses {i} {s} e) = by_is (begins w i s) e (listed_sure i s _ _)
-  complete {w} (runs {i} {s} {inputs = inputs} e at there_is) = by_is (begins w i s) e (of_found w i s (λ callee. Copies callee inputs) at there_is (listed_sure i s _ _))
+  complete {w} (runs {i} {s} {inputs = inputs} e at there_is) =
+      by_is (begins w i s) e (of_found w i s (λ callee. Copies callee inputs) at there_is (listed_sure i s _ _))
   complete {w} (repeats {i} {s} e) = by_is (begins w i s) e (listed_sure i s _ _)
   complete {w} (repeats_until {i} {s} e) = by_is (begins w i s) e (listed_sure i s _ _)
   complete {w} (leaves {i} {s} e) = by_is (λ k. turns_on i s k) e (listed_true i s _ _ _)
@@ -330,11 +458,14 @@ mutual
   complete {w} (in_seq {rest = rest} move) = listed_within (λ c. seq c rest) (complete move)
   complete {w} (in_par {i} {s} {stood} {branches} move) = listed_right (joining i s branches) (listed_within (Par s stood) (complete_one move))
   complete {w} (in_guard {i} {s} {stood} {c} move) =
-      by_is (λ b. if b then sure i s Silent Nil else map (within (Guard s Body stood)) (points w i c)) (moving move) (listed_within (Guard s Body stood) (complete move))
+      by_is (λ b. if b then sure i s Silent Nil else map (within (Guard s Body stood)) (points w i c)) (moving move)
+      (listed_within (Guard s Body stood) (complete move))
   complete {w} (in_run {i} {s} {callee} {stood} {c} move) =
-      by_is (λ b. if b then giving i s callee (kind_of s) else map (within (Run s callee Body stood)) (points w callee c)) (moving move) (listed_within (Run s callee Body stood) (complete move))
+      by_is (λ b. if b then giving i s callee (kind_of s) else map (within (Run s callee Body stood)) (points w callee c))
+      (moving move) (listed_within (Run s callee Body stood) (complete move))
 
-  complete_one : {w : Setting} {i : ℕ} {c : Branches} {d : Bool} {a : Action} {c' : Branches} → OneMoves w i c d a c' → Listed (branch_points w i c) d a c'
+  complete_one : {w : Setting} {i : ℕ} {c : Branches} {d : Bool} {a : Action} {c' : Branches} → OneMoves w i c d a c' →
+      Listed (branch_points w i c) d a c'
   complete_one {w} (first {i} {weak} {c} {others} move free) =
       listed_left (map (in_later (branch weak c)) (free_of (meets w i c) (branch_points w i others)))
       (listed_first (λ c. branch weak c others) (listed_free (any_meets w i others) (complete move) free))
@@ -358,7 +489,8 @@ done_answer : (found : Option Store) (d : Bool) (store : Store) → option_map d
 done_answer None d store e = absurd cc
 done_answer (Some found) d store e = sym (ap (λ p. unwrap_or (option_map (λ p. p.answer) p) d) e)
 
-copied_answer : {A : Type 0} (found : Option A) (f : A → Store) (d : Bool) (store : Store) → option_map (λ a. done (f a)) found ≡ Some (record { answer = d; store = store }) → d ≡ true
+copied_answer : {A : Type 0} (found : Option A) (f : A → Store) (d : Bool) (store : Store) →
+    option_map (λ a. done (f a)) found ≡ Some (record { answer = d; store = store }) → d ≡ true
 copied_answer None f d store e = absurd cc
 copied_answer (Some found) f d store e = sym (ap (λ p. unwrap_or (option_map (λ p. p.answer) p) d) e)
 
@@ -367,10 +499,12 @@ answers : (w : Setting) (i : ℕ) (effect : Effect) (store : Store) (d : Bool) (
 answers w i Silent store d store' e = done_answer (Some store) d store' e
 answers w i (Acts s) store d store' e = done_answer _ d store' e
 answers w i (Asks test) store d store' e = refl
-answers w i (Copies callee inputs) store d store' e = copied_answer (values_there w store i inputs) (λ values. with_frame callee (with_inputs values) store) d store' e
+answers w i (Copies callee inputs) store d store' e =
+    copied_answer (values_there w store i inputs) (λ values. with_frame callee (with_inputs values) store) d store' e
 answers w i (Gives callee target) store d store' e = done_answer (Some _) d store' e
 
-moved : {w : Setting} {i : ℕ} {c : Control} {d : Bool} {p : Action} {a : Action} {q : Control} {c' : Control} → p ≡ a → q ≡ c' → Moves w i c d p q → Moves w i c d a c'
+moved : {w : Setting} {i : ℕ} {c : Control} {d : Bool} {p : Action} {a : Action} {q : Control} {c' : Control} → p ≡ a → q ≡ c' →
+    Moves w i c d p q → Moves w i c d a c'
 moved {w} {i} {c} {d} {p} {a} {q} {c'} same_action same_tree move =
     subst (λ a. Moves w i c d a c') same_action (subst (λ c'. Moves w i c d p c') same_tree move)
 
@@ -382,7 +516,8 @@ steps_are_listed w c store a c' store' = (
     moves =
         moved taken.listed.acts taken.listed.leads
         (sound w 0 c taken.listed.point taken.listed.among taken.answer
-        (subst (λ a. can_answer a.effect taken.answer ≡ true) (sym taken.listed.acts) (answers w a.instance a.effect store taken.answer store' taken.performs)));
+        (subst (λ a. can_answer a.effect taken.answer ≡ true) (sym taken.listed.acts)
+        (answers w a.instance a.effect store taken.answer store' taken.performs)));
     performs = taken.performs;
   },
 )

@@ -1,5 +1,32 @@
 -- Points are listed in order, and each stands for a node.
-use Rattle.std.proofs.Common.{◌≡◌, ℕ, suc, Bool, true, false, not, ◌&&◌, ◌||◌, List, [], ◌∷◌, ◌++◌, map, filter, cond, refl, sym, subst, Option, Some, None, ◌⊎◌, inl, inr, arith}
+use Rattle.std.proofs.Common.{
+  ◌≡◌,
+  ℕ,
+  suc,
+  Bool,
+  true,
+  false,
+  not,
+  ◌&&◌,
+  ◌||◌,
+  List,
+  [],
+  ◌∷◌,
+  ◌++◌,
+  map,
+  filter,
+  cond,
+  refl,
+  sym,
+  subst,
+  Option,
+  Some,
+  None,
+  ◌⊎◌,
+  inl,
+  inr,
+  arith,
+}
 use Rattle.std.proofs.lemmas.Bool.Decides.{nat_tests}
 use Rattle.std.specs.Prelude.{if◌then◌else◌, nat_eq, nat_lt, option_map, option_and_then}
 use Rattle.bl_tree.specs.declared.tree.Arm.{Arm}
@@ -10,11 +37,55 @@ use Rattle.bl_tree.specs.declared.tree.StmtKind.TheOpen.{StmtKind-F}
 use Rattle.bl_tree.specs.declared.tree.Unit.{Unit as UnitDef}
 use Rattle.bl_tree.specs.Static.{fields_precede}
 use Rattle.bl_ctree.specs.Actions.{Effect, Silent, Copies}
-use Rattle.bl_ctree.specs.Control.{Control, Branches, Nil, Wait, Test, Idle, Do, Turn, Seq, Par, Guard, Run, no_branch, branch, Check, Body, are_settled, are_done, is_nil, seq}
+use Rattle.bl_ctree.specs.Control.{
+  Control,
+  Branches,
+  Nil,
+  Wait,
+  Test,
+  Idle,
+  Do,
+  Turn,
+  Seq,
+  Par,
+  Guard,
+  Run,
+  no_branch,
+  branch,
+  Check,
+  Body,
+  are_settled,
+  are_done,
+  is_nil,
+  seq,
+}
 use Rattle.bl_ctree.specs.Instances.{Setting, callee_of, unit_at}
 use Rattle.bl_ctree.specs.Laws.{InOrder, no_point, comes_first, PointsInOrder}
 use Rattle.bl_ctree.specs.Pending.{meets, any_meets}
-use Rattle.bl_ctree.specs.Points.{Among, here, there, Point, points, branch_points, within, in_first, in_later, one_on, joining, free_of, sure, asking, giving, begins, tests, turns_on, checks, copying, or_nothing, run_begins}
+use Rattle.bl_ctree.specs.Points.{
+  Among,
+  here,
+  there,
+  Point,
+  points,
+  branch_points,
+  within,
+  in_first,
+  in_later,
+  one_on,
+  joining,
+  free_of,
+  sure,
+  asking,
+  giving,
+  begins,
+  tests,
+  turns_on,
+  checks,
+  copying,
+  or_nothing,
+  run_begins,
+}
 use Rattle.bl_ctree.specs.Positions.{Located, kind_of, place_of}
 use Rattle.bl_ctree.proofs.Elements.{of-map, of-append, of-filter}
 
@@ -26,13 +97,15 @@ Precede p q = fields_precede p.path q.path ≡ true
 single : {A : Type 0} (p : Point A) → InOrder A (p ∷ [])
 single p = comes_first (λ q m. elim m [ ]) no_point
 
-order_map : {A B : Type 0} (f : Point A → Point B) → ((p q : Point A) → Precede p q → Precede (f p) (f q)) → (xs : List (Point A)) → InOrder A xs → InOrder B (map f xs)
+order_map : {A B : Type 0} (f : Point A → Point B) → ((p q : Point A) → Precede p q → Precede (f p) (f q)) → (xs : List (Point A)) →
+    InOrder A xs → InOrder B (map f xs)
 order_map f keeps [] no_point = no_point
 order_map f keeps (x ∷ xs) (comes_first before rest) =
     comes_first (λ q m. let image = of-map f xs m in subst (λ q. Precede (f x) q) image.is (keeps x image.source (before image.source image.among)))
     (order_map f keeps xs rest)
 
-order_cond : {A : Type 0} (b : Bool) (x : Point A) (ys : List (Point A)) → ((q : Point A) → Among (Point A) q ys → Precede x q) → InOrder A ys → InOrder A (cond b (x ∷ ys) ys)
+order_cond : {A : Type 0} (b : Bool) (x : Point A) (ys : List (Point A)) → ((q : Point A) → Among (Point A) q ys → Precede x q) →
+    InOrder A ys → InOrder A (cond b (x ∷ ys) ys)
 order_cond true x ys before rest = comes_first before rest
 order_cond false x ys before rest = rest
 
@@ -41,7 +114,8 @@ order_filter test [] no_point = no_point
 order_filter test (x ∷ xs) (comes_first before rest) =
     order_cond (test x) x (filter test xs) (λ q m. before q (of-filter test xs m).among) (order_filter test xs rest)
 
-before_both : {A : Type 0} (x : Point A) {xs ys : List (Point A)} → ((q : Point A) → Among (Point A) q xs → Precede x q) → ((q : Point A) → Among (Point A) q ys → Precede x q) →
+before_both : {A : Type 0} (x : Point A) {xs ys : List (Point A)} → ((q : Point A) → Among (Point A) q xs → Precede x q) →
+    ((q : Point A) → Among (Point A) q ys → Precede x q) →
     (q : Point A) → Among (Point A) q xs ⊎ Among (Point A) q ys → Precede x q
 before_both x left right q (inl m) = left q m
 before_both x left right q (inr m) = right q m
@@ -91,7 +165,8 @@ order_sure i s effect after = single _
 order_asking : (i : ℕ) (s : Located) (effect : Effect) (if_true if_false : Control) → InOrder Control (asking i s effect if_true if_false)
 order_asking i s effect if_true if_false = single _
 
-order_unit : (w : Setting) (i : ℕ) (s : Located) (effect : Effect) (callee : ℕ) (unit : Option UnitDef) → InOrder Control (or_nothing (option_map (run_begins w i s effect callee) unit))
+order_unit : (w : Setting) (i : ℕ) (s : Located) (effect : Effect) (callee : ℕ) (unit : Option UnitDef) →
+    InOrder Control (or_nothing (option_map (run_begins w i s effect callee) unit))
 order_unit w i s effect callee None = no_point
 order_unit w i s effect callee (Some unit) = order_sure i s effect _
 
@@ -127,7 +202,8 @@ order_checks : (i : ℕ) (s : Located) (stood : Bool) (c : Control) (k : StmtKin
 order_checks i s stood c (StmtKind-F.When guard test body) = order_asking i s _ _ _
 order_checks i s stood c _ = no_point
 
-order_copying : (i : ℕ) (s : Located) (callee : ℕ) (stood : Bool) (c : Control) (k : StmtKind-F StmtKind Arm Branch Stmt) → InOrder Control (copying i s callee stood c k)
+order_copying : (i : ℕ) (s : Located) (callee : ℕ) (stood : Bool) (c : Control) (k : StmtKind-F StmtKind Arm Branch Stmt) →
+    InOrder Control (copying i s callee stood c k)
 order_copying i s callee stood c (StmtKind-F.Run target a inputs outputs) = order_sure i s _ _
 order_copying i s callee stood c _ = no_point
 
@@ -155,21 +231,26 @@ join_path i s true p (there m) = elim m [ ]
 join_path i s false p m = elim m [ ]
 
 -- a point in a branch has that branch above it
-led_first : (around : Control → Branches) (xs : List (Point Control)) (q : Point Branches) → Among (Point Branches) q (map (in_first around) xs) → fields_precede [] q.path ≡ true
+led_first : (around : Control → Branches) (xs : List (Point Control)) (q : Point Branches) →
+    Among (Point Branches) q (map (in_first around) xs) → fields_precede [] q.path ≡ true
 led_first around xs q m = let image = of-map (in_first around) xs m in subst (λ q. fields_precede [] q.path ≡ true) image.is refl
 
-led_later : (around : Branches → Branches) (xs : List (Point Branches)) → ((q : Point Branches) → Among (Point Branches) q xs → fields_precede [] q.path ≡ true) →
+led_later : (around : Branches → Branches) (xs : List (Point Branches)) →
+    ((q : Point Branches) → Among (Point Branches) q xs → fields_precede [] q.path ≡ true) →
     (q : Point Branches) → Among (Point Branches) q (map (in_later around) xs) → fields_precede [] q.path ≡ true
 led_later around xs led q m =
     let image = of-map (in_later around) xs m in
     subst (λ q. fields_precede [] q.path ≡ true) image.is (later_longer image.source.path (led image.source image.among))
 
-led_either : {xs ys : List (Point Branches)} {q : Point Branches} → ((q : Point Branches) → Among (Point Branches) q xs → fields_precede [] q.path ≡ true) →
-    ((q : Point Branches) → Among (Point Branches) q ys → fields_precede [] q.path ≡ true) → Among (Point Branches) q xs ⊎ Among (Point Branches) q ys → fields_precede [] q.path ≡ true
+led_either : {xs ys : List (Point Branches)} {q : Point Branches} →
+    ((q : Point Branches) → Among (Point Branches) q xs → fields_precede [] q.path ≡ true) →
+    ((q : Point Branches) → Among (Point Branches) q ys → fields_precede [] q.path ≡ true) →
+    Among (Point Branches) q xs ⊎ Among (Point Branches) q ys → fields_precede [] q.path ≡ true
 led_either {q = q} left right (inl m) = left q m
 led_either {q = q} left right (inr m) = right q m
 
-led : (w : Setting) (i : ℕ) (branches : Branches) (q : Point Branches) → Among (Point Branches) q (branch_points w i branches) → fields_precede [] q.path ≡ true
+led : (w : Setting) (i : ℕ) (branches : Branches) (q : Point Branches) → Among (Point Branches) q (branch_points w i branches) →
+    fields_precede [] q.path ≡ true
 led w i no_branch q m = elim m [ ]
 led w i (branch weak c others) q m =
     led_either (led_first (λ c. branch weak c others) (free_of (any_meets w i others) (points w i c)))
@@ -177,8 +258,10 @@ led w i (branch weak c others) q m =
     (λ q n. led w i others q (of-filter (λ point. not (meets w i c point.action)) (branch_points w i others) n).among))
     (of-append (map (in_first (λ c. branch weak c others)) (free_of (any_meets w i others) (points w i c))) m)
 
-join_before : (i : ℕ) (s : Located) (stood b : Bool) (xs : List (Point Branches)) → ((q : Point Branches) → Among (Point Branches) q xs → fields_precede [] q.path ≡ true) →
-    (p q : Point Control) → Among (Point Control) p (if b then sure i s Silent Nil else []) → Among (Point Control) q (map (within (Par s stood)) xs) → Precede p q
+join_before : (i : ℕ) (s : Located) (stood b : Bool) (xs : List (Point Branches)) →
+    ((q : Point Branches) → Among (Point Branches) q xs → fields_precede [] q.path ≡ true) →
+    (p q : Point Control) → Among (Point Control) p (if b then sure i s Silent Nil else []) →
+    Among (Point Control) q (map (within (Par s stood)) xs) → Precede p q
 join_before i s stood b xs led p q m n =
     let image = of-map (within (Par s stood)) xs n in
     subst (λ path. fields_precede path q.path ≡ true) (sym (join_path i s b p m))
@@ -225,7 +308,8 @@ mutual
       (order_filter (λ point. not (any_meets w i others point.action)) (points w i c) (order w i c)))
       (order_map (in_later (branch weak c)) (λ p q e. later_keeps p.path q.path e) (free_of (meets w i c) (branch_points w i others))
       (order_filter (λ point. not (meets w i c point.action)) (branch_points w i others) (order_branches w i others)))
-      (first_then_later (λ c. branch weak c others) (branch weak c) (free_of (any_meets w i others) (points w i c)) (free_of (meets w i c) (branch_points w i others))
+      (first_then_later (λ c. branch weak c others) (branch weak c) (free_of (any_meets w i others) (points w i c))
+      (free_of (meets w i c) (branch_points w i others))
       (λ q n. led w i others q (of-filter (λ point. not (meets w i c point.action)) (branch_points w i others) n).among))
 
 pub points_in_order : PointsInOrder

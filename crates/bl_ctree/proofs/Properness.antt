@@ -6,14 +6,87 @@ use Rattle.bl_tree.specs.declared.tree.Branch.{Branch, out-Branch}
 use Rattle.bl_tree.specs.declared.tree.Stmt.{Stmt}
 use Rattle.bl_tree.specs.declared.tree.Unit.{Unit as UnitDef}
 use Rattle.bl_ctree.specs.Actions.{Action}
-use Rattle.bl_ctree.specs.Control.{Control, Branches, Nil, Wait, Test, Idle, Do, Turn, Seq, Par, Guard, Run, do_all, followed, seq, begun, woken, all_woken, is_nil}
+use Rattle.bl_ctree.specs.Control.{
+  Control,
+  Branches,
+  Nil,
+  Wait,
+  Test,
+  Idle,
+  Do,
+  Turn,
+  Seq,
+  Par,
+  Guard,
+  Run,
+  do_all,
+  followed,
+  seq,
+  begun,
+  woken,
+  all_woken,
+  is_nil,
+}
 use Rattle.bl_ctree.specs.Instances.{Setting, unit_at}
 use Rattle.bl_ctree.specs.Laws.{ItemsBeginProper, MovesKeepProper, ReachedInsideIsProper, ReachedIsProper, SeqIsProper, WakingKeepsProper}
 use Rattle.bl_ctree.specs.Means.{entry_items}
 use Rattle.bl_ctree.specs.Positions.{Item, Located, Position, block_items, items_from, body_items}
-use Rattle.bl_ctree.specs.Proper.{ItemsProper, no_item, a_begin, an_again, Proper, a_nil, a_wait, a_test, a_do, a_turn, a_seq, a_par, a_guard, a_run, BranchesProper, no_more, a_branch, ProperTree, not_begun, has_begun}
+use Rattle.bl_ctree.specs.Proper.{
+  ItemsProper,
+  no_item,
+  a_begin,
+  an_again,
+  Proper,
+  a_nil,
+  a_wait,
+  a_test,
+  a_do,
+  a_turn,
+  a_seq,
+  a_par,
+  a_guard,
+  a_run,
+  BranchesProper,
+  no_more,
+  a_branch,
+  ProperTree,
+  not_begun,
+  has_begun,
+}
 use Rattle.bl_ctree.specs.Reaches.{Reaches, at_first, after_tick}
-use Rattle.bl_ctree.specs.Steps.{Moves, OneMoves, acts, takes_arm, passes_arm, takes_else, pauses, runs, repeats, repeats_until, leaves, turns, enters, skips, forks, guards, goes_on, waits, lets, aborts, resets, guard_ends, copies, run_ends, joins, in_seq, in_par, in_guard, in_run, first, later}
+use Rattle.bl_ctree.specs.Steps.{
+  Moves,
+  OneMoves,
+  acts,
+  takes_arm,
+  passes_arm,
+  takes_else,
+  pauses,
+  runs,
+  repeats,
+  repeats_until,
+  leaves,
+  turns,
+  enters,
+  skips,
+  forks,
+  guards,
+  goes_on,
+  waits,
+  lets,
+  aborts,
+  resets,
+  guard_ends,
+  copies,
+  run_ends,
+  joins,
+  in_seq,
+  in_par,
+  in_guard,
+  in_run,
+  first,
+  later,
+}
 use Rattle.bl_ctree.specs.Store.{Store}
 use Rattle.bl_ctree.specs.Ticks.{End, Rests, Steps, none, traps, step}
 
@@ -30,7 +103,8 @@ then_proper position k (s ∷ body) then p = a_begin (then_proper position (suc 
 
 -- ---- sequences
 
-followed_proper : {w : Setting} {i : ℕ} (c : Control) (rest : List Item) → is_nil c ≡ false → Proper w i c → ItemsProper rest → Proper w i (followed c rest)
+followed_proper : {w : Setting} {i : ℕ} (c : Control) (rest : List Item) → is_nil c ≡ false → Proper w i c → ItemsProper rest →
+    Proper w i (followed c rest)
 followed_proper c [] busy p items = p
 followed_proper c (item ∷ rest) busy p items = a_seq busy refl p items
 
@@ -61,7 +135,8 @@ block_proper : {w : Setting} {i : ℕ} (s : Located) (block : ℕ) (body : List 
 block_proper s block body = do_proper (statements_proper (s.position ++ block ∷ []) 0 body)
 
 -- the body of a loop, and what ends its turn
-turn_proper : {w : Setting} {i : ℕ} (s : Located) (body : List Stmt) (next : Item) → ItemsProper (next ∷ []) → Proper w i (do_all (block_items s 0 body ++ next ∷ []))
+turn_proper : {w : Setting} {i : ℕ} (s : Located) (body : List Stmt) (next : Item) → ItemsProper (next ∷ []) →
+    Proper w i (do_all (block_items s 0 body ++ next ∷ []))
 turn_proper s body next p = do_proper (then_proper (s.position ++ 0 ∷ []) 0 body (next ∷ []) p)
 
 begun_proper : (w : Setting) (i : ℕ) (s : Located) (k : ℕ) (branches : List Branch) → BranchesProper w i branches (begun s k branches)
@@ -100,7 +175,8 @@ mutual
   keeps (in_guard move) (a_guard e inner) = a_guard e (keeps move inner)
   keeps (in_run move) (a_run e at there inner) = a_run e at there (keeps move inner)
 
-  keeps_one : {w : Setting} {i : ℕ} {c : Branches} {d : Bool} {a : Action} {c' : Branches} {written : List Branch} → OneMoves w i c d a c' → BranchesProper w i written c → BranchesProper w i written c'
+  keeps_one : {w : Setting} {i : ℕ} {c : Branches} {d : Bool} {a : Action} {c' : Branches} {written : List Branch} →
+      OneMoves w i c d a c' → BranchesProper w i written c → BranchesProper w i written c'
   keeps_one (first move free) (a_branch inner others) = a_branch (keeps move inner) others
   keeps_one (later move free) (a_branch inner others) = a_branch inner (keeps_one move others)
 
@@ -121,7 +197,8 @@ mutual
   wakes (a_guard e inner) = a_guard e (wakes inner)
   wakes (a_run e at there inner) = a_run e at there (wakes inner)
 
-  all_wake : {w : Setting} {i : ℕ} {written : List Branch} {branches : Branches} → BranchesProper w i written branches → BranchesProper w i written (all_woken branches)
+  all_wake : {w : Setting} {i : ℕ} {written : List Branch} {branches : Branches} → BranchesProper w i written branches →
+      BranchesProper w i written (all_woken branches)
   all_wake no_more = no_more
   all_wake (a_branch inner others) = a_branch (wakes inner) (all_wake others)
 

@@ -2,7 +2,28 @@
 use Rattle.std.proofs.Common.{◌≢◌, ℕ, Bool, true, false, not, ◌&&◌, List, [], ◌∷◌, map, sym, subst, ◌⊎◌, inl, inr}
 use Rattle.std.specs.Prelude.{if◌then◌else◌}
 use Rattle.bl_ctree.specs.Actions.{Silent}
-use Rattle.bl_ctree.specs.Control.{Control, Branches, Nil, Wait, Test, Idle, Do, Turn, Seq, Par, Guard, Run, no_branch, branch, Check, Body, are_settled, are_done, is_nil, seq}
+use Rattle.bl_ctree.specs.Control.{
+  Control,
+  Branches,
+  Nil,
+  Wait,
+  Test,
+  Idle,
+  Do,
+  Turn,
+  Seq,
+  Par,
+  Guard,
+  Run,
+  no_branch,
+  branch,
+  Check,
+  Body,
+  are_settled,
+  are_done,
+  is_nil,
+  seq,
+}
 use Rattle.bl_ctree.specs.GraphNodes.{NodeAt, node_of, node_in, node_at, end_kind}
 use Rattle.bl_ctree.specs.Instances.{Setting}
 use Rattle.bl_ctree.specs.Laws.{PointsHaveNodes}
@@ -21,42 +42,50 @@ nodes_in branches [] = []
 nodes_in branches (k ∷ path) = node_in branches k path
 
 -- those of a point inside, seen from around it
-stands_within : {A B : Type 0} (around : A → B) (nodes : List ℕ → List NodeAt) (xs : List (Point A)) → ((p : Point A) → Among (Point A) p xs → nodes p.path ≢ []) →
+stands_within : {A B : Type 0} (around : A → B) (nodes : List ℕ → List NodeAt) (xs : List (Point A)) →
+    ((p : Point A) → Among (Point A) p xs → nodes p.path ≢ []) →
     (p : Point B) → Among (Point B) p (map (within around) xs) → nodes p.path ≢ []
 stands_within around nodes xs inner p m =
     let image = of-map (within around) xs m in subst (λ p. nodes p.path ≢ []) image.is (inner image.source image.among)
 
-stands_first : (weak : Bool) (c : Control) (others : Branches) (xs : List (Point Control)) → ((p : Point Control) → Among (Point Control) p xs → node_of c p.path ≢ []) →
+stands_first : (weak : Bool) (c : Control) (others : Branches) (xs : List (Point Control)) →
+    ((p : Point Control) → Among (Point Control) p xs → node_of c p.path ≢ []) →
     (p : Point Branches) → Among (Point Branches) p (map (in_first (λ c. branch weak c others)) xs) → nodes_in (branch weak c others) p.path ≢ []
 stands_first weak c others xs inner p m =
     let image = of-map (in_first (λ c. branch weak c others)) xs m in
     subst (λ p. nodes_in (branch weak c others) p.path ≢ []) image.is (inner image.source image.among)
 
-one_on_nodes : (weak : Bool) (c : Control) (others : Branches) (path : List ℕ) → nodes_in others path ≢ [] → nodes_in (branch weak c others) (one_on path) ≢ []
+one_on_nodes : (weak : Bool) (c : Control) (others : Branches) (path : List ℕ) → nodes_in others path ≢ [] →
+    nodes_in (branch weak c others) (one_on path) ≢ []
 one_on_nodes weak c others [] some = some
 one_on_nodes weak c others (k ∷ path) some = some
 
-stands_later : (weak : Bool) (c : Control) (others : Branches) (xs : List (Point Branches)) → ((p : Point Branches) → Among (Point Branches) p xs → nodes_in others p.path ≢ []) →
+stands_later : (weak : Bool) (c : Control) (others : Branches) (xs : List (Point Branches)) →
+    ((p : Point Branches) → Among (Point Branches) p xs → nodes_in others p.path ≢ []) →
     (p : Point Branches) → Among (Point Branches) p (map (in_later (branch weak c)) xs) → nodes_in (branch weak c others) p.path ≢ []
 stands_later weak c others xs inner p m =
     let image = of-map (in_later (branch weak c)) xs m in
     subst (λ p. nodes_in (branch weak c others) p.path ≢ []) image.is (one_on_nodes weak c others image.source.path (inner image.source image.among))
 
-stands_either : {A : Type 0} (nodes : List ℕ → List NodeAt) (xs ys : List (Point A)) → ((p : Point A) → Among (Point A) p xs → nodes p.path ≢ []) →
+stands_either : {A : Type 0} (nodes : List ℕ → List NodeAt) (xs ys : List (Point A)) →
+    ((p : Point A) → Among (Point A) p xs → nodes p.path ≢ []) →
     ((p : Point A) → Among (Point A) p ys → nodes p.path ≢ []) → (p : Point A) → Among (Point A) p xs ⊎ Among (Point A) p ys → nodes p.path ≢ []
 stands_either nodes xs ys left right p (inl m) = left p m
 stands_either nodes xs ys left right p (inr m) = right p m
 
-stands_join : (i : ℕ) (s : Located) (stood b : Bool) (branches : Branches) (p : Point Control) → Among (Point Control) p (if b then sure i s Silent Nil else []) →
+stands_join : (i : ℕ) (s : Located) (stood b : Bool) (branches : Branches) (p : Point Control) →
+    Among (Point Control) p (if b then sure i s Silent Nil else []) →
     node_of (Par s stood branches) p.path ≢ []
 stands_join i s stood b branches p m = subst (λ path. node_of (Par s stood branches) path ≢ []) (sym (join_path i s b p m)) (a_node _ [])
 
-par_nodes : (s : Located) (stood : Bool) (branches : Branches) (path : List ℕ) → nodes_in branches path ≢ [] → node_of (Par s stood branches) path ≢ []
+par_nodes : (s : Located) (stood : Bool) (branches : Branches) (path : List ℕ) → nodes_in branches path ≢ [] →
+    node_of (Par s stood branches) path ≢ []
 par_nodes s stood branches [] some = a_node _ []
 par_nodes s stood branches (k ∷ path) some = some
 
 -- a guard in phase body: its end, or what is inside
-stands_guard : (i : ℕ) (s : Located) (stood : Bool) (c : Control) (inner : List (Point Control)) → ((p : Point Control) → Among (Point Control) p inner → node_of c p.path ≢ []) →
+stands_guard : (i : ℕ) (s : Located) (stood : Bool) (c : Control) (inner : List (Point Control)) →
+    ((p : Point Control) → Among (Point Control) p inner → node_of c p.path ≢ []) →
     (b : Bool) (p : Point Control) → Among (Point Control) p (if b then sure i s Silent Nil else map (within (Guard s Body stood)) inner) →
     (if b then node_at s (end_kind stood) ∷ [] else node_of c p.path) ≢ []
 stands_guard i s stood c inner each true p m = a_node _ []
@@ -81,7 +110,8 @@ mutual
   stands w i (Run s callee Check stood c) p m = a_node _ []
   stands w i (Run s callee Body stood c) p m = a_node _ (node_of c p.path)
 
-  stands_in : (w : Setting) (i : ℕ) (branches : Branches) (p : Point Branches) → Among (Point Branches) p (branch_points w i branches) → nodes_in branches p.path ≢ []
+  stands_in : (w : Setting) (i : ℕ) (branches : Branches) (p : Point Branches) →
+      Among (Point Branches) p (branch_points w i branches) → nodes_in branches p.path ≢ []
   stands_in w i no_branch p m = elim m [ ]
   stands_in w i (branch weak c others) p m =
       stands_either (nodes_in (branch weak c others)) (map (in_first (λ c. branch weak c others)) (free_of (any_meets w i others) (points w i c)))

@@ -11,7 +11,8 @@ use Rattle.bl_ctree.specs.Ticks.{End, Rests, Trapped, Steps, none, traps, step}
 taking_none : (w : Setting) (c : Control) (store : Store) → Taking w c store []
 taking_none w c store = record { end = Rests c store; steps = none }
 
-taking_trap : {w : Setting} {c : Control} {store : Store} {a b : Action} (front rest : List Action) → b ≡ a → front ++ rest ≡ [] → Traps w c store a → Taking w c store (b ∷ front)
+taking_trap : {w : Setting} {c : Control} {store : Store} {a b : Action} (front rest : List Action) → b ≡ a → front ++ rest ≡ [] →
+    Traps w c store a → Taking w c store (b ∷ front)
 taking_trap {w} {c} {store} {a} {b} [] rest same over t = record { end = Trapped; steps = traps (subst (λ a. Traps w c store a) (sym same) t) }
 taking_trap (x ∷ front) rest same over t = absurd cc
 
@@ -42,7 +43,8 @@ fronts_are_steps w c store front rest end steps = front_taken steps front rest r
 follow : {w : Setting} {c : Control} {store : Store} {front rest : List Action} {middle end : End} {c' : Control} {store' : Store} →
     Steps w c store front middle → middle ≡ Rests c' store' → Steps w c' store' rest end → Steps w c store (front ++ rest) end
 follow {w} {rest = rest} {end = end} {c' = c'} {store' = store'} (none {c} {store}) e more =
-    subst (λ c. Steps w c store rest end) (sym (tree_same c c' store store' e)) (subst (λ store. Steps w c' store rest end) (sym (store_same c c' store store' e)) more)
+    subst (λ c. Steps w c store rest end) (sym (tree_same c c' store store' e))
+    (subst (λ store. Steps w c' store rest end) (sym (store_same c c' store store' e)) more)
   where
     tree_same : (c c' : Control) (store store' : Store) → Rests c store ≡ Rests c' store' → c ≡ c'
     tree_same c c' store store' e = cc

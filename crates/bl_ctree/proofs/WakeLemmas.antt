@@ -6,7 +6,7 @@ use Rattle.bl_ctree.specs.declared.node.Node.{Node, the_lemmas}
 use Rattle.bl_ctree.specs.declared.node.Node.TheViews.{Par as ParNode}
 use Rattle.bl_ctree.specs.Control.{Par, all_woken, branch, woken}
 use Rattle.bl_ctree.specs.Nodes.{Seen, branches_of, control_of, located, seen_of}
-use Rattle.bl_ctree.specs.Wakings.{wake_seen}
+use Rattle.bl_ctree.specs.inner.Wakings.{wake_seen}
 
 pub branches_woken : (all : List Seen) → branches_of (map wake_seen all) ≡ all_woken (branches_of all)
 branches_woken [] = refl

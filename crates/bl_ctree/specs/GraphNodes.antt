@@ -1,7 +1,20 @@
 -- The node of the tick graph that a point of a tree stands for.
 use Rattle.std.specs.Prelude.{ℕ, zero, suc, Bool, List, [], ◌∷◌, if◌then◌else◌}
 use Rattle.bl_tree.specs.declared.graph.NodeKind.{NodeKind}
-use Rattle.bl_tree.specs.declared.graph.NodeKind.TheVariants.{Act, Test as TestNode, Pause, Resume, Start, Head, Check as CheckNode, SurfaceEnd, DepthEnd, Fork, SurfaceJoin, DepthJoin}
+use Rattle.bl_tree.specs.declared.graph.NodeKind.TheVariants.{
+  Act,
+  Test as TestNode,
+  Pause,
+  Resume,
+  Start,
+  Head,
+  Check as CheckNode,
+  SurfaceEnd,
+  DepthEnd,
+  Fork,
+  SurfaceJoin,
+  DepthJoin,
+}
 use Rattle.bl_tree.specs.declared.tree.StmtKind.TheOpen.{StmtKind-F}
 use Rattle.bl_ctree.specs.Control.{Control, Branches, Nil, Wait, Test, Idle, Do, Turn, Seq, Par, Guard, Run, no_branch, branch, Check, Body, is_nil}
 use Rattle.bl_ctree.specs.Positions.{Located, Position, kind_of}

@@ -1,5 +1,29 @@
 -- The activity instances of a program. The entry is instance 0, and each `run` statement of an instance is a further one.
-use Rattle.std.specs.Prelude.{ℕ, zero, suc, ◌+◌, Bool, not, ◌&&◌, nat_eq, List, [], ◌∷◌, ◌++◌, map, length, slice_get, Option, Some, None, option_map, option_and_then, filter, position, unwrap_or}
+use Rattle.std.specs.Prelude.{
+  ℕ,
+  zero,
+  suc,
+  ◌+◌,
+  Bool,
+  not,
+  ◌&&◌,
+  nat_eq,
+  List,
+  [],
+  ◌∷◌,
+  ◌++◌,
+  map,
+  length,
+  slice_get,
+  Option,
+  Some,
+  None,
+  option_map,
+  option_and_then,
+  filter,
+  position,
+  unwrap_or,
+}
 use Rattle.bl_tree.specs.declared.place.Place.{Place}
 use Rattle.bl_tree.specs.declared.tree.Arm.{Arm, fold-Arm}
 use Rattle.bl_tree.specs.declared.tree.Branch.{Branch, fold-Branch}
@@ -80,7 +104,8 @@ instances_below alone n (run ∷ rest) =
 abbrev pub expanded : List UnitDef → ℕ → ℕ → List Instance
 expanded units zero k = []
 expanded units (suc longest) k =
-    unwrap_or (option_map (λ unit. record { unit = k; depth = 0; origin = None } ∷ instances_below (expanded units longest) 1 (runs_of unit)) (slice_get units k)) []
+    unwrap_or (option_map (λ unit. record { unit = k; depth = 0; origin = None }
+    ∷ instances_below (expanded units longest) 1 (runs_of unit)) (slice_get units k)) []
 
 -- the instances that the unit at the position expands to
 abbrev pub instances_of : List UnitDef → ℕ → List Instance

@@ -14,4 +14,4 @@ pub mod Reaches
 pub mod Steps
 pub mod Store
 pub mod Ticks
-pub mod Wakings
+pub mod inner

@@ -55,7 +55,12 @@ block_items s block body = items_from (s.position ++ block ∷ []) 0 body
 -- the place of that arm's condition, which is the place of no statement: no table by places tells of it
 abbrev pub left_of_if : Position → ℕ → Arm → List Arm → List Stmt → Located
 left_of_if position passed arm arms other =
-    record { position = position; passed = passed; stmt = roll-Stmt (record { place = (out-Expr (out-Arm arm).test).place; what = roll-StmtKind (StmtKind-F.If (arm ∷ arms) other) }) }
+    record {
+      position = position;
+      passed = passed;
+      stmt =
+          roll-Stmt (record { place = (out-Expr (out-Arm arm).test).place; what = roll-StmtKind (StmtKind-F.If (arm ∷ arms) other) });
+    }
 
 -- the `if` with its further arms
 abbrev pub further : Located → Arm → List Arm → List Stmt → Located

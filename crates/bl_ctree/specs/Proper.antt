@@ -34,7 +34,8 @@ mutual
     a_guard : {i : ℕ} {s : Located} {phase : Phase} {stood : Bool} {c : Control} {guard : GuardKind} {e : Expr} {body : List Stmt} →
         kind_of s ≡ StmtKind-F.When guard e body → Proper w i c → Proper w i (Guard s phase stood c)
     -- the instance is the one that the `run` begins, and what is left of its body stands there
-    a_run : {i : ℕ} {s : Located} {callee : ℕ} {phase : Phase} {stood : Bool} {c : Control} {target : Option Path} {a : ℕ} {inputs : List Expr} {outputs : List Path} {unit : UnitDef} →
+    a_run : {i : ℕ} {s : Located} {callee : ℕ} {phase : Phase} {stood : Bool} {c : Control} {target : Option Path} {a : ℕ}
+        {inputs : List Expr} {outputs : List Path} {unit : UnitDef} →
         kind_of s ≡ StmtKind-F.Run target a inputs outputs → callee_of w i (place_of s) ≡ Some callee → unit_at w callee ≡ Some unit →
         Proper w callee c → Proper w i (Run s callee phase stood c)
 

@@ -28,7 +28,8 @@ pub record ReachesInside (w : Setting) (rows : List (List ℤ)) (row : List ℤ)
 abbrev pub Bounded : List StructDef → List UnitDef → ℕ → Type 0
 Bounded structs units entry =
     let w = setting_of structs units entry in
-    (rows : List (List ℤ)) (row : List ℤ) (actions : List Action) (end : End) → ReachesInside w rows row actions end → length actions ≤ steps structs units entry
+    (rows : List (List ℤ)) (row : List ℤ) (actions : List Action) (end : End) → ReachesInside w rows row actions end →
+    length actions ≤ steps structs units entry
 
 -- no tree that a run reaches inside a tick is stuck: where no point may act nothing is left to do
 abbrev pub NeverStuck : List StructDef → List UnitDef → ℕ → Type 0

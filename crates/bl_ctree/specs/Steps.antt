@@ -10,7 +10,27 @@ use Rattle.bl_tree.specs.declared.tree.Stmt.{Stmt}
 use Rattle.bl_tree.specs.declared.tree.StmtKind.TheOpen.{StmtKind-F}
 use Rattle.bl_tree.specs.declared.tree.Unit.{Unit as UnitDef}
 use Rattle.bl_ctree.specs.Actions.{Action, action, Silent, Acts, Asks, Copies, Gives, perform}
-use Rattle.bl_ctree.specs.Control.{Control, Branches, Nil, Wait, Test, Do, Turn, Seq, Par, Guard, Run, branch, Check, Body, do_all, seq, begun, are_settled, are_done}
+use Rattle.bl_ctree.specs.Control.{
+  Control,
+  Branches,
+  Nil,
+  Wait,
+  Test,
+  Do,
+  Turn,
+  Seq,
+  Par,
+  Guard,
+  Run,
+  branch,
+  Check,
+  Body,
+  do_all,
+  seq,
+  begun,
+  are_settled,
+  are_done,
+}
 use Rattle.bl_ctree.specs.Instances.{Setting, callee_of, unit_at}
 use Rattle.bl_ctree.specs.Pending.{meets, any_meets}
 use Rattle.bl_ctree.specs.Positions.{Item, Begin, Again, Located, kind_of, place_of, block_items, body_items, further, is_act}
@@ -91,7 +111,8 @@ mutual
         kind_of s ≡ StmtKind-F.When Abort e body → Moves w i (Guard s Check stood c) true (action i s (Asks e)) Nil
     -- and `reset` begins it anew
     resets : {i : ℕ} {s : Located} {stood : Bool} {e : Expr} {body : List Stmt} {c : Control} →
-        kind_of s ≡ StmtKind-F.When Reset e body → Moves w i (Guard s Check stood c) true (action i s (Asks e)) (Guard s Body stood (do_all (block_items s 0 body)))
+        kind_of s ≡ StmtKind-F.When Reset e body → Moves w i (Guard s Check stood c) true (action i s (Asks e))
+        (Guard s Body stood (do_all (block_items s 0 body)))
     -- a guard ends where its body has ended
     guard_ends : {i : ℕ} {s : Located} {stood : Bool} → Moves w i (Guard s Body stood Nil) true (action i s Silent) Nil
     -- a `run` that was woken: its inputs are copied

@@ -1,5 +1,34 @@
 -- The store: the values of every instance's variables, now and at the end of the previous tick.
-use Rattle.std.specs.Prelude.{ℕ, zero, suc, ◌+◌, ◌-◌, ℤ, pos, Bool, ◌&&◌, nat_eq, nat_lt, nat_le, List, [], ◌∷◌, ◌++◌, map, take, drop, length, slice_get, slice_set, Option, None, option_map, option_and_then, unwrap_or, if◌then◌else◌}
+use Rattle.std.specs.Prelude.{
+  ℕ,
+  zero,
+  suc,
+  ◌+◌,
+  ◌-◌,
+  ℤ,
+  pos,
+  Bool,
+  ◌&&◌,
+  nat_eq,
+  nat_lt,
+  nat_le,
+  List,
+  [],
+  ◌∷◌,
+  ◌++◌,
+  map,
+  take,
+  drop,
+  length,
+  slice_get,
+  slice_set,
+  Option,
+  None,
+  option_map,
+  option_and_then,
+  unwrap_or,
+  if◌then◌else◌,
+}
 use Rattle.std.specs.List.{range_with_len}
 use Rattle.bl_tree.specs.declared.scalar.Scalar.{Scalar as ScalarType}
 use Rattle.bl_tree.specs.declared.tree.StructDef.{StructDef}
@@ -113,7 +142,8 @@ put at value store = unwrap_or (option_and_then (with_now store at value) (slice
 -- the value that stands at a static path in these variables of an instance goes to the path's home
 abbrev pub put_path : Setting → ℕ → List Value → Static → Store → Store
 put_path w i variables path store =
-    unwrap_or (option_map (λ value. put (home w (record { instance = i; path = path })) value store) (option_and_then (value_at path.fields) (slice_get variables path.root))) store
+    unwrap_or (option_map (λ value. put (home w (record { instance = i; path = path })) value store)
+    (option_and_then (value_at path.fields) (slice_get variables path.root))) store
 
 -- the store after an act that left these variables and wrote these static paths: at the home of each of them stands its
 -- value, and all else is as before

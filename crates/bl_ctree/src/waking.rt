@@ -3,7 +3,7 @@
 ghost use Rattle.std.specs.Prelude.{◌≡◌, map, IfOk};
 ghost use Rattle.bl_ctree.specs.Control.{woken};
 ghost use Rattle.bl_ctree.specs.Nodes.{control_of, seen_of};
-ghost use Rattle.bl_ctree.specs.Wakings.{wake_seen};
+ghost use Rattle.bl_ctree.specs.inner.Wakings.{wake_seen};
 
 use crate::copying::{arms, at, rest};
 use crate::node::{Branch, Node, Phase};

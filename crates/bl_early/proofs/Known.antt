@@ -30,7 +30,7 @@ use Rattle.bl_tree.specs.Scalar.{in_range}
 use Rattle.bl_tree.specs.Types.{scalar_in, type_stands}
 use Rattle.bl_tree.specs.Typing.{Site, site_of, type_of, type_of_path, kind_type, part_type, expr_type, path_type, literal_type, are_same, is_truth, is_activity, is_assignable, kind_fits, arm_fits, branch_fits, stmt_fits, fits, two_type}
 use Rattle.bl_tree.specs.Words as words
-use Rattle.bl_ctext.specs.Prefixes.{is_source_name}
+use Rattle.bl_ctext.specs.inner.Prefixes.{is_source_name}
 use Rattle.bl_ctext.specs.Spellable.{is_literal, is_spellable}
 use Rattle.bl_ctext.proofs.Bytes.{and-fst, and-snd}
 use Rattle.bl_early.specs.Form.{Item, Number, Of, Source, Just, Sum, Step, Set, Pause, is_early, is_early_unit, is_early_type, item_in, item_of, source_in, source_of, step_in, step_of, steps_of, steps_suit, alone, loop_of, repeated, unit_steps, is_pause}

@@ -1,7 +1,7 @@
 -- The names that the emitter makes are names of the C subset.
 use Rattle.std.proofs.Common.{◌≡◌, ℕ, true, List, ◌++◌, refl, codes}
 use Rattle.bl_ctext.specs.Names.{is_among, is_name, is_struct_name, is_function_name, is_callee}
-use Rattle.bl_ctext.specs.Prefixes.{is_source_name}
+use Rattle.bl_ctext.specs.inner.Prefixes.{is_source_name}
 use Rattle.bl_ctext.proofs.PrefixedNames.{name-with_prefix, name-struct, name-function, name-callee}
 
 pub p_f-name : is_name (codes "p_f") ≡ true

@@ -12,15 +12,16 @@ use Rattle.bl_tree.specs.declared.c.CStmt.{CStmt}
 use Rattle.bl_tree.specs.declared.tree.Unit.{Unit as UnitDef}
 use Rattle.bl_tree.specs.declared.tree.Var.{Var}
 use Rattle.bl_tree.specs.Types.{scalar_in}
-use Rattle.bl_ctext.specs.Fits.{place_fits, expr_fits, stmt_fits, stmts_fit, func_fits}
+use Rattle.bl_tree.specs.Typing.{inputs_of}
+use Rattle.bl_ctext.specs.inner.Fits.{place_fits, expr_fits, stmt_fits, stmts_fit, func_fits}
 use Rattle.bl_ctext.specs.Names.{is_name, is_struct_name}
-use Rattle.bl_ctext.specs.Prefixes.{is_source_name}
+use Rattle.bl_ctext.specs.inner.Prefixes.{is_source_name}
 use Rattle.bl_ctext.specs.Spellable.{is_spellable, spells_member, spells_struct}
 use Rattle.bl_ctext.proofs.Bytes.{and-fst, and-snd}
 use Rattle.bl_ctext.proofs.Fitting.{step-fits, place-fits, place_fits-more, expr_fits-more, stmt_fits-more, stmts_fit-more, literal-fits, read-fits, called-fits, two-fits, value-fits, address-fits, call-fits, set-fits, call_stmt-fits, return-fits, if-fits, func-fits, struct-spells, file-spells}
 use Rattle.bl_early.specs.Form.{Item, Number, Of, Source, Just, Sum, Step, Set, Pause, has_early_type}
 use Rattle.bl_early.specs.Built.{item_within, source_within, step_within}
-use Rattle.bl_early.specs.Emitted.{nowhere, c_through, c_target, c_step, c_count, c_read, c_equal, c_set, c_when, c_port, c_item, c_source, c_counter, c_now, c_stretch, c_numbered, c_resumed, c_tick_body, c_ports, c_structs, c_funcs, c_activity, c_init, c_tick, c_tick_args, c_frame, c_state, c_member, c_row, c_column, input_name, output_name, ins_of, outs_of, frame_name, activity_name}
+use Rattle.bl_early.specs.Emitted.{nowhere, c_through, c_target, c_step, c_count, c_read, c_equal, c_set, c_when, c_port, c_item, c_source, c_counter, c_now, c_stretch, c_numbered, c_resumed, c_tick_body, c_ports, c_structs, c_funcs, c_activity, c_init, c_tick, c_tick_args, c_frame, c_state, c_member, c_row, c_column, input_name, output_name, outs_of, frame_name, activity_name}
 use Rattle.bl_early.proofs.Names.{p_f-name, p_i-name, p_o-name, l_0-name, c0-name, m_0-name, pad-name, s-name, i-name, o-name, state-name, in-name, out-name, init-name, tick-name, add-name, frame-name, activity-name, callee-name, input-name, output-name}
 
 both : (a b : Bool) → a ≡ true → b ≡ true → (a && b) ≡ true
@@ -42,7 +43,7 @@ list_all-append : {A : Type 0} (p : A → Bool) (xs ys : List A) → list_all p 
 list_all-append p [] ys h i = i
 list_all-append p (x ∷ xs) ys h i = both (p x) _ (and-fst (p x) (list_all p xs) h) (list_all-append p xs ys (and-snd (p x) (list_all p xs) h) i)
 
-list_all-take : {A : Type 0} (p : A → Bool) (n : ℕ) (xs : List A) → list_all p xs ≡ true → list_all p (take n xs) ≡ true
+pub list_all-take : {A : Type 0} (p : A → Bool) (n : ℕ) (xs : List A) → list_all p xs ≡ true → list_all p (take n xs) ≡ true
 list_all-take p zero xs h = refl
 list_all-take p (suc n) [] h = refl
 list_all-take p (suc n) (x ∷ xs) h = both (p x) _ (and-fst (p x) (list_all p xs) h) (list_all-take p n xs (and-snd (p x) (list_all p xs) h))
@@ -69,8 +70,8 @@ outputs-fit (var ∷ vars) h =
 
 ports-fit : (unit : UnitDef) → list_all is_named_var unit.vars ≡ true → list_all (place_fits 2) (c_ports unit) ≡ true
 ports-fit unit h =
-    list_all-append (place_fits 2) (map (λ var. c_through (codes "p_i") (input_name var)) (ins_of unit)) (map (λ var. c_through (codes "p_o") (output_name var)) (outs_of unit))
-    (inputs-fit (ins_of unit) (list_all-take is_named_var unit.inputs unit.vars h))
+    list_all-append (place_fits 2) (map (λ var. c_through (codes "p_i") (input_name var)) (inputs_of unit)) (map (λ var. c_through (codes "p_o") (output_name var)) (outs_of unit))
+    (inputs-fit (inputs_of unit) (list_all-take is_named_var unit.inputs unit.vars h))
     (outputs-fit (outs_of unit) (list_all-drop is_named_var unit.inputs unit.vars h))
 
 -- ---- the statements of the activity
@@ -167,8 +168,8 @@ module _ (unit : UnitDef) (named : is_source_name unit.name ≡ true) (vars : li
   structs-spell typed =
       let frame : spells_struct (c_frame unit) ≡ true = struct-spells nowhere (frame_name unit) (c_member (OfScalar (Nat W32)) (codes "c0") ∷ []) (frame-name unit.name named) refl (both _ true (both _ true c0-name refl) refl) in
       let state : spells_struct (c_state unit) ≡ true = struct-spells nowhere (codes "bl_state") (c_member (OfStruct (frame_name unit)) (codes "m_0") ∷ []) state-name refl (both _ true (both _ _ (frame-name unit.name named) (both _ true m_0-name refl)) refl) in
-      let ins : spells_struct (c_row (codes "bl_in") input_name (ins_of unit)) ≡ true =
-      row-spells (codes "bl_in") input_name (ins_of unit) in-name (columns-spell input_name (λ var. input-name var.name) (ins_of unit) (list_all-take is_named_var unit.inputs unit.vars vars) (list_all-take is_typed_var unit.inputs unit.vars typed)) in
+      let ins : spells_struct (c_row (codes "bl_in") input_name (inputs_of unit)) ≡ true =
+      row-spells (codes "bl_in") input_name (inputs_of unit) in-name (columns-spell input_name (λ var. input-name var.name) (inputs_of unit) (list_all-take is_named_var unit.inputs unit.vars vars) (list_all-take is_typed_var unit.inputs unit.vars typed)) in
       let outs : spells_struct (c_row (codes "bl_out") output_name (outs_of unit)) ≡ true =
       row-spells (codes "bl_out") output_name (outs_of unit) out-name (columns-spell output_name (λ var. output-name var.name) (outs_of unit) (list_all-drop is_named_var unit.inputs unit.vars vars) (list_all-drop is_typed_var unit.inputs unit.vars typed)) in
       both _ _ frame (both _ _ state (both _ _ ins (both _ true outs refl)))

@@ -27,6 +27,7 @@ use Rattle.bl_tree.specs.declared.c.CStmtKind.TheVariants as statement
 use Rattle.bl_tree.specs.declared.tree.Unit.{Unit as UnitDef}
 use Rattle.bl_tree.specs.declared.tree.Var.{Var}
 use Rattle.bl_tree.specs.Types.{scalar_in}
+use Rattle.bl_tree.specs.Typing.{inputs_of}
 use Rattle.bl_early.specs.Form.{Item, Number, Of, Source, Just, Sum, Step, Set, Pause}
 use Rattle.bl_early.specs.Built.{loop_steps}
 
@@ -136,23 +137,21 @@ c_column name var = c_member (OfScalar (unwrap_or (scalar_in var.ty) OfBool)) (n
 abbrev pub c_row : Text → (Var → Text) → List Var → CStruct
 c_row struct name vars = c_struct struct (c_member (OfScalar (Nat W8)) (codes "pad") ∷ map (c_column name) vars)
 
-abbrev pub ins_of : UnitDef → List Var
-ins_of unit = take unit.inputs unit.vars
-
+-- the variables behind the inputs: a program of the form has no other than its outputs there
 abbrev pub outs_of : UnitDef → List Var
 outs_of unit = drop unit.inputs unit.vars
 
 -- the frame, the state, the inputs and the outputs
 abbrev pub c_structs : UnitDef → List CStruct
 c_structs unit =
-    c_frame unit ∷ c_state unit ∷ c_row (codes "bl_in") input_name (ins_of unit) ∷ c_row (codes "bl_out") output_name (outs_of unit) ∷ []
+    c_frame unit ∷ c_state unit ∷ c_row (codes "bl_in") input_name (inputs_of unit) ∷ c_row (codes "bl_out") output_name (outs_of unit) ∷ []
 
 -- ---- the activity's function
 
 -- the places of the parameters, in order
 abbrev pub c_ports : UnitDef → List CPlace
 c_ports unit =
-    map (λ var. c_through (codes "p_i") (input_name var)) (ins_of unit)
+    map (λ var. c_through (codes "p_i") (input_name var)) (inputs_of unit)
     ++ map (λ var. c_through (codes "p_o") (output_name var)) (outs_of unit)
 
 -- the number of the pause at which the activity waits

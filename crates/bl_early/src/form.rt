@@ -1,3 +1,5 @@
+//! Whether a program is of the form that is built.
+
 ghost use Rattle.std.specs.Prelude.{◌≡◌, is_some, option_map};
 ghost use Rattle.std.specs.List.{list_all, list_any};
 ghost use Rattle.bl_early.specs.Built.{has_pause, is_any_step};

@@ -8,16 +8,17 @@ use Rattle.bl_tree.specs.declared.scalar.Scalar.TheVariants.{Nat}
 use Rattle.bl_tree.specs.declared.scalar.Width.TheVariants.{W32}
 use Rattle.bl_tree.specs.declared.c.CArg.TheVariants.{Address}
 use Rattle.bl_tree.specs.declared.tree.Unit.{Unit as UnitDef}
+use Rattle.bl_tree.specs.Typing.{inputs_of}
 use Rattle.bl_cmeaning.specs.Parts.{Parts, parts_from}
 use Rattle.bl_cmeaning.specs.Memory.{member, state_object, input_object, output_object, Memory, scalar, set_at, without_frame, cleared}
 use Rattle.bl_cmeaning.specs.Tables.{Table, no_entries, table_of, with_entry}
 use Rattle.bl_cmeaning.specs.Cells.{numbers_of}
 use Rattle.bl_cmeaning.specs.Meaning.{Passed, by_address, Called, Meaning, Scope, Outcome, End, goes_on, given, after, each_of, following, later_call, called_as, call_outcome, called, result_at, runs_c, block_c, function_c}
-use Rattle.bl_cmeaning.specs.Builtin.{builtin_of, builtins}
+use Rattle.bl_cmeaning.specs.Builtin.{builtin_of}
 use Rattle.bl_cmeaning.specs.Trace.{object, entered}
 use Rattle.bl_early.specs.Form.{Item, Step}
 use Rattle.bl_early.specs.Run.{Numbers, Reached, Traps, Pauses, Passes}
-use Rattle.bl_early.specs.Emitted.{c_step, c_target, c_through, c_count, c_call, c_calling, c_returning, c_tick_args, c_tick, c_init, c_activity, c_funcs, c_structs, c_tick_body, c_ports, activity_name, input_name, output_name, ins_of, outs_of}
+use Rattle.bl_early.specs.Emitted.{c_step, c_target, c_through, c_count, c_call, c_calling, c_returning, c_tick_args, c_tick, c_init, c_activity, c_funcs, c_structs, c_tick_body, c_ports, activity_name, input_name, output_name, outs_of}
 use Rattle.bl_early.specs.Built.{step_within}
 use Rattle.bl_early_laws.proofs.Cells.{Each, each-append, each-map, number_at, Same, same-numbers, Own, Clear, AllApart}
 use Rattle.bl_early_laws.proofs.WrittenValues.{passes, pointer-place, through-place, two-place, literal-value, address-arg, three-args, call-does, set-runs, calling-runs, returning-runs}
@@ -52,7 +53,7 @@ module _ (unit : UnitDef) (steps : List Step) where
   known = with_entry first_known (codes "bl_init") (function_c first_known c_init)
 
   not-builtin : builtin_of (activity_name unit) ≡ None
-  unfolding builtin_of builtins
+  unfolding builtin_of
   not-builtin = refl
 
   activity-known : known (activity_name unit) ≡ Some activity
@@ -111,7 +112,7 @@ module _ (unit : UnitDef) (steps : List Step) where
   pub slots-same : (m n : Memory) → m input_object ≡ n input_object → m output_object ≡ n output_object → Same m n (slots_of unit)
   slots-same m n i o =
       each-append (λ cell. number_at m cell ≡ number_at n cell) (in_cells unit) (out_cells unit)
-      (each-map (λ cell. number_at m cell ≡ number_at n cell) (port_cell input_object input_name) (λ v. ap (λ f. f (member (input_name v) ∷ [])) i) (ins_of unit))
+      (each-map (λ cell. number_at m cell ≡ number_at n cell) (port_cell input_object input_name) (λ v. ap (λ f. f (member (input_name v) ∷ [])) i) (inputs_of unit))
       (each-map (λ cell. number_at m cell ≡ number_at n cell) (port_cell output_object output_name) (λ v. ap (λ f. f (member (output_name v) ∷ [])) o) (outs_of unit))
 
   -- what the call comes to, where the body has ended so

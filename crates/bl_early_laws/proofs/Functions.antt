@@ -15,14 +15,15 @@ use Rattle.bl_tree.specs.declared.c.CType.TheVariants.{Scalar as OfScalar, Struc
 use Rattle.bl_tree.specs.declared.tree.Unit.{Unit as UnitDef}
 use Rattle.bl_tree.specs.declared.tree.Var.{Var}
 use Rattle.bl_tree.specs.Words.{are_distinct}
-use Rattle.bl_cmeaning.specs.Builtin.{builtin_of, builtins}
+use Rattle.bl_tree.specs.Typing.{inputs_of}
+use Rattle.bl_cmeaning.specs.Builtin.{builtin_of}
 use Rattle.bl_cmeaning.specs.Calls.{calls_in_block, most}
 use Rattle.bl_cmeaning.specs.Loops.{counters_in_block}
 use Rattle.bl_cmeaning.specs.Parts.{parts_from}
 use Rattle.bl_cmeaning.specs.Tables.{Table, found, no_entries, with_entry, entry_or}
 use Rattle.bl_cmeaning.specs.Faults.{unless, distinct_names, declared_before, scalar_parameter, static_functions, short_chain, returns_result, Signature, signature_as, Context, all_distinct, is_declared, is_scalar, depth_of_function, member_table, signature_in, signature_of, context_in, variable_names, names_table, repeated, last_returns, surely_returns, block_faults, faults_in_stmt, faults_in_head, faults_in_function, function_faults_after, struct_table, faults_in, judged_step}
 use Rattle.bl_early.specs.Form.{Step}
-use Rattle.bl_early.specs.Emitted.{c_activity, c_call, c_column, c_count, c_counter, c_frame, c_funcs, c_init, c_now, c_ports, c_row, c_state, c_step, c_structs, c_target, c_through, c_tick, c_tick_args, activity_name, frame_name, input_name, output_name, ins_of, outs_of}
+use Rattle.bl_early.specs.Emitted.{c_activity, c_call, c_column, c_count, c_counter, c_frame, c_funcs, c_init, c_now, c_ports, c_row, c_state, c_step, c_structs, c_target, c_through, c_tick, c_tick_args, activity_name, frame_name, input_name, output_name, outs_of}
 use Rattle.bl_early.proofs.Spelled.{is_named_var}
 use Rattle.bl_early_laws.proofs.Activity.{StepHas, PortsHave, type_of_var, ports-append, body-fine}
 use Rattle.bl_early_laws.proofs.Cells.{Each}
@@ -84,14 +85,14 @@ columns-have context pointer struct members name h i (v ∷ vars) each =
 found-first : {A : Type 0} (name : Text) (a : A) (rest : List (Text × A)) → found name ((name, a) ∷ rest) ≡ Some a
 found-first name a rest = ap (λ (b : Bool). if b then Some a else found name rest) (same-name name)
 
-module _ (unit : UnitDef) (steps : List Step) (named : list_all is_named_var unit.vars ≡ true) (ins : are_distinct (names_of (ins_of unit)) ≡ true) (outs : are_distinct (names_of (outs_of unit)) ≡ true) (typed : Each (StepHas unit.vars) steps) where
+module _ (unit : UnitDef) (steps : List Step) (named : list_all is_named_var unit.vars ≡ true) (ins : are_distinct (names_of (inputs_of unit)) ≡ true) (outs : are_distinct (names_of (outs_of unit)) ≡ true) (typed : Each (StepHas unit.vars) steps) where
   abbrev structs : Table (Table CMember)
   structs = struct_table (c_structs unit)
 
   frame-known : structs (frame_name unit) ≡ Some (member_table (c_frame unit))
   frame-known =
       found-first (frame_name unit) (member_table (c_frame unit))
-      ((codes "bl_state", member_table (c_state unit)) ∷ (codes "bl_in", member_table (c_row (codes "bl_in") input_name (ins_of unit))) ∷ (codes "bl_out", member_table (c_row (codes "bl_out") output_name (outs_of unit))) ∷ [])
+      ((codes "bl_state", member_table (c_state unit)) ∷ (codes "bl_in", member_table (c_row (codes "bl_in") input_name (inputs_of unit))) ∷ (codes "bl_out", member_table (c_row (codes "bl_out") output_name (outs_of unit))) ∷ [])
 
   -- ---- the activity
 
@@ -104,9 +105,9 @@ module _ (unit : UnitDef) (steps : List Step) (named : list_all is_named_var uni
   ports-have : PortsHave activity_context (c_ports unit) unit.vars
   ports-have =
       subst (PortsHave activity_context (c_ports unit)) (take-append-drop unit.inputs unit.vars)
-      (ports-append activity_context (map (λ (v : Var). c_through (codes "p_i") (input_name v)) (ins_of unit)) (map (λ (v : Var). c_through (codes "p_o") (output_name v)) (outs_of unit)) (ins_of unit) (outs_of unit)
-      (columns-have activity_context (codes "p_i") (codes "bl_in") (member_table (c_row (codes "bl_in") input_name (ins_of unit))) input_name refl refl (ins_of unit)
-      (row-found input_name input-differ (codes "bl_in") (λ v. refl) (ins_of unit) ins))
+      (ports-append activity_context (map (λ (v : Var). c_through (codes "p_i") (input_name v)) (inputs_of unit)) (map (λ (v : Var). c_through (codes "p_o") (output_name v)) (outs_of unit)) (inputs_of unit) (outs_of unit)
+      (columns-have activity_context (codes "p_i") (codes "bl_in") (member_table (c_row (codes "bl_in") input_name (inputs_of unit))) input_name refl refl (inputs_of unit)
+      (row-found input_name input-differ (codes "bl_in") (λ v. refl) (inputs_of unit) ins))
       (columns-have activity_context (codes "p_o") (codes "bl_out") (member_table (c_row (codes "bl_out") output_name (outs_of unit))) output_name refl refl (outs_of unit)
       (row-found output_name output-differ (codes "bl_out") (λ v. refl) (outs_of unit) outs)))
 
@@ -183,7 +184,7 @@ module _ (unit : UnitDef) (steps : List Step) (named : list_all is_named_var uni
   tick_context = context_in structs second_functions tick
 
   not-builtin : builtin_of (activity_name unit) ≡ None
-  unfolding builtin_of builtins
+  unfolding builtin_of
   not-builtin = refl
 
   activity-known : second_functions (activity_name unit) ≡ Some (signature_in activity)

@@ -21,7 +21,7 @@ use Rattle.bl_tree.specs.declared.c.CStmt.{CStmt, fold-roll-CStmt, roll-CStmt}
 use Rattle.bl_tree.specs.declared.c.CStmtKind.{CStmtKind, CStmtKind-F, fold-roll-CStmtKind}
 use Rattle.bl_tree.specs.declared.c.CStmtKind.TheVariants as statement
 use Rattle.bl_tree.specs.Reduce.{joined}
-use Rattle.bl_cmeaning.specs.Builtin.{builtin_of, builtins}
+use Rattle.bl_cmeaning.specs.Builtin.{builtin_of}
 use Rattle.bl_cmeaning.specs.Loops.{Counters, counters_in, counters_in_block}
 use Rattle.bl_cmeaning.specs.Tables.{Table}
 use Rattle.bl_cmeaning.specs.Faults.{Fault, unless, declared_before, arguments, changes_nothing, assigned_type, condition_type, operand_type, returns_result, void_as_statement, Variable, Signature, Context, Judged, JudgedPlace, JudgedArg, JudgedCall, Judges, Steps, agree, if_typed, takes, same_type, bool_type, by_value, signature_of, fit_args, fit_each, hands_on, known_result, result_type, is_void, judge_root, judge_steps, judge_member, member_of, judged_expr, judged_place, judged_call, judged_arg, judged_step, block_faults, faults_in_stmt, return_faults, surely_returns}
@@ -190,7 +190,7 @@ module _ (context : Context) where
   sum_signature = record { widens = true; params = by_value (Int W32) ∷ by_value (Int W32) ∷ []; result = Some (Int W32) }
 
   sum-known : signature_of context (codes "bl_add_i32") ≡ Some sum_signature
-  unfolding builtin_of builtins
+  unfolding builtin_of
   sum-known = refl
 
   called-open : (call : CCall) → JudgedWell context call sum_signature → IsExpr context (kind (CExprKind-F.Call call)) whole

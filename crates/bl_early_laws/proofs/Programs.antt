@@ -13,6 +13,7 @@ use Rattle.bl_tree.specs.declared.tree.StmtKind.TheOpen.{StmtKind-F}
 use Rattle.bl_tree.specs.declared.tree.StructDef.{StructDef}
 use Rattle.bl_tree.specs.declared.tree.Unit.{Unit as UnitDef}
 use Rattle.bl_tree.specs.declared.tree.Var.{Var}
+use Rattle.bl_tree.specs.Ports.{RowsFit, input_columns}
 use Rattle.bl_tree.specs.Program.{unit_stands, units_stand_after}
 use Rattle.bl_tree.specs.Reduce.{all_of, joined, total}
 use Rattle.bl_tree.specs.Types.{scalar_in}
@@ -37,7 +38,6 @@ use Rattle.bl_ctree.specs.declared.instance.Instance.{Instance}
 use Rattle.bl_early.specs.Form.{Step, has_early_type, is_early_unit, is_pause, loop_of, repeated, step_in, step_of, steps_of, steps_suit, unit_steps}
 use Rattle.bl_early.specs.Run.{trace_of}
 use Rattle.bl_early_laws.specs.Laws.{Early, EarlyIsBounded, EarlyIsNeverStuck, OneTrace}
-use Rattle.bl_early_laws.specs.Rows.{RowsFit}
 use Rattle.bl_early_laws.proofs.Acts.{alone, stmt_whole}
 use Rattle.bl_early_laws.proofs.Bounds.{never_stuck, ticks_bounded}
 use Rattle.bl_early_laws.proofs.Traces.{loop_has_one_trace}
@@ -165,7 +165,7 @@ module _ (unit : UnitDef) (steps : List Step) (early : Early [] (unit ∷ []) 0 
 
   -- ---- the laws
 
-  trace_is : (rows : List (List ℤ)) (shows : Shown) → RowsFit unit rows → Means [] (unit ∷ []) 0 rows shows ↔ (shows ≡ shown (trace_of unit steps rows))
+  trace_is : (rows : List (List ℤ)) (shows : Shown) → RowsFit (input_columns unit) rows → Means [] (unit ∷ []) 0 rows shows ↔ (shows ≡ shown (trace_of unit steps rows))
   trace_is rows shows fit =
       subst (λ w. Allows w rows (Idle (entry_items w)) (first_store w) shows ↔ (shows ≡ shown (trace_of unit steps rows))) (sym setting_is)
       (subst (λ items. Allows (alone unit) rows (Idle items) (first_store (alone unit)) shows ↔ (shows ≡ shown (trace_of unit steps rows))) (sym begins)
@@ -197,7 +197,7 @@ module _ (unit : UnitDef) (steps : List Step) (P : List StructDef → List UnitD
 
 pub early_one_trace : OneTrace
 early_one_trace structs units entry unit steps rows shows early fit =
-    of_early unit steps (λ structs units entry. RowsFit unit rows → Means structs units entry rows shows ↔ (shows ≡ shown (trace_of unit steps rows)))
+    of_early unit steps (λ structs units entry. RowsFit (input_columns unit) rows → Means structs units entry rows shows ↔ (shows ≡ shown (trace_of unit steps rows)))
     (λ early. trace_is unit steps early (unit_loop unit steps early.is_loop) rows shows) structs units entry early fit
 
 pub early_bounded : EarlyIsBounded

@@ -12,7 +12,7 @@ use Rattle.bl_tree.specs.declared.tree.Unit.{Unit as UnitDef}
 use Rattle.bl_tree.specs.declared.tree.Var.{Var}
 use Rattle.bl_tree.specs.Program as program
 use Rattle.bl_tree.specs.Reduce.{total, greatest}
-use Rattle.bl_tree.specs.Typing.{Site, site_of}
+use Rattle.bl_tree.specs.Typing.{Site, site_of, inputs_of}
 use Rattle.bl_tree.specs.Words.{are_distinct}
 use Rattle.bl_ctext.proofs.Bytes.{and-fst, and-snd}
 use Rattle.bl_cmeaning.specs.Calls.{calls_in_block, most}
@@ -22,7 +22,7 @@ use Rattle.bl_cmeaning.specs.Sizes.{Sizes, size_of_member, size_of_struct, sizes
 use Rattle.bl_cmeaning.specs.Tables.{Table, no_entries, with_entry, entry_or}
 use Rattle.bl_early.specs.Form.{Step, is_early, is_early_unit}
 use Rattle.bl_early.specs.Built.{steps_at}
-use Rattle.bl_early.specs.Emitted.{c_activity, c_column, c_frame, c_funcs, c_init, c_row, c_state, c_structs, c_tick, activity_name, frame_name, input_name, output_name, ins_of, outs_of}
+use Rattle.bl_early.specs.Emitted.{c_activity, c_column, c_frame, c_funcs, c_init, c_row, c_state, c_structs, c_tick, activity_name, frame_name, input_name, output_name, outs_of}
 use Rattle.bl_early.proofs.Known.{Stands, unit-stands, unit-loop}
 use Rattle.bl_early.proofs.Spelled.{is_named_var}
 use Rattle.bl_early_laws.specs.Written.{written, WrittenIsSmall}
@@ -77,13 +77,13 @@ sizes-few : (unit : UnitDef) → length unit.vars ≤ 1000 → Bounded (sizes (c
 sizes-few unit few =
     let frame : Sizes = with_entry no_entries (frame_name unit) (size_of_struct no_entries (c_frame unit)) in
     let state : Sizes = with_entry frame (codes "bl_state") (size_of_struct frame (c_state unit)) in
-    let ins : Sizes = with_entry state (codes "bl_in") (size_of_struct state (c_row (codes "bl_in") input_name (ins_of unit))) in
+    let ins : Sizes = with_entry state (codes "bl_in") (size_of_struct state (c_row (codes "bl_in") input_name (inputs_of unit))) in
     let outs : CStruct = c_row (codes "bl_out") output_name (outs_of unit) in
     let frame-within : Bounded frame 5000 = with-within no_entries 5000 (size_of_struct no_entries (c_frame unit)) (frame_name unit) (none-within 5000) (omega arith) in
     let state-within : Bounded state 5000 = with-within frame 5000 (size_of_struct frame (c_state unit)) (codes "bl_state") frame-within (state-few unit frame frame-within) in
-    let in-few : length (ins_of unit) ≤ 1000 = (let taken : length (take unit.inputs unit.vars) ≤ length unit.vars = take-few unit.inputs unit.vars in omega arith) in
+    let in-few : length (inputs_of unit) ≤ 1000 = (let taken : length (take unit.inputs unit.vars) ≤ length unit.vars = take-few unit.inputs unit.vars in omega arith) in
     let out-few : length (outs_of unit) ≤ 1000 = (let dropped : length (drop unit.inputs unit.vars) ≤ length unit.vars = drop-few unit.inputs unit.vars in omega arith) in
-    let ins-within : Bounded ins 5000 = with-within state 5000 (size_of_struct state (c_row (codes "bl_in") input_name (ins_of unit))) (codes "bl_in") state-within (row-few state (codes "bl_in") input_name (ins_of unit) in-few) in
+    let ins-within : Bounded ins 5000 = with-within state 5000 (size_of_struct state (c_row (codes "bl_in") input_name (inputs_of unit))) (codes "bl_in") state-within (row-few state (codes "bl_in") input_name (inputs_of unit) in-few) in
     with-within ins 5000 (size_of_struct ins outs) (codes "bl_out") ins-within (row-few ins (codes "bl_out") output_name (outs_of unit) out-few)
 
 -- ---- the functions
@@ -93,7 +93,7 @@ chain-few known earlier n k f h own =
     let others : most earlier (calls_in_block f.body) ≤ n = greatest-bounded (entry_or 0 earlier) n h (calls_in_block f.body) in
     omega arith
 
-module _ (unit : UnitDef) (steps : List Step) (named : list_all is_named_var unit.vars ≡ true) (ins : are_distinct (names_of (ins_of unit)) ≡ true) (outs : are_distinct (names_of (outs_of unit)) ≡ true) (typed : Each (StepHas unit.vars) steps) (known : Sizes) where
+module _ (unit : UnitDef) (steps : List Step) (named : list_all is_named_var unit.vars ≡ true) (ins : are_distinct (names_of (inputs_of unit)) ≡ true) (outs : are_distinct (names_of (outs_of unit)) ≡ true) (typed : Each (StepHas unit.vars) steps) (known : Sizes) where
   activity-own : own_cells known (c_activity unit steps) ≤ 5000
   activity-own = let none : length (counters_in_block (c_activity unit steps).body) ≡ 0 = ap length (activity-counterless unit steps named ins outs typed) in omega arith
 
@@ -125,7 +125,7 @@ module _ (unit : UnitDef) (steps : List Step) (named : list_all is_named_var uni
 four : (a b c d : ℕ) → a ≤ 5000 → b ≤ 5000 → c ≤ 5000 → d ≤ 15000 → a + (b + (c + d)) ≤ 1000000
 four a b c d h i j k = omega arith
 
-file-small : (unit : UnitDef) (steps : List Step) → list_all is_named_var unit.vars ≡ true → are_distinct (names_of (ins_of unit)) ≡ true → are_distinct (names_of (outs_of unit)) ≡ true → Each (StepHas unit.vars) steps →
+file-small : (unit : UnitDef) (steps : List Step) → list_all is_named_var unit.vars ≡ true → are_distinct (names_of (inputs_of unit)) ≡ true → are_distinct (names_of (outs_of unit)) ≡ true → Each (StepHas unit.vars) steps →
     length unit.vars ≤ 1000 → cells_needed (parts_from (c_structs unit) (c_funcs unit steps)) ≤ 1000000
 file-small unit steps named ins outs typed few =
     let known : Sizes = sizes (c_structs unit) in

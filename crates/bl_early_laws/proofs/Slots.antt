@@ -13,13 +13,14 @@ use Rattle.bl_tree.specs.declared.tree.Unit.{Unit as UnitDef}
 use Rattle.bl_tree.specs.declared.tree.Var.{Var}
 use Rattle.bl_tree.specs.Types.{scalar_in}
 use Rattle.bl_tree.specs.Words.{are_distinct, is_among}
+use Rattle.bl_tree.specs.Typing.{inputs_of}
 use Rattle.bl_ctext.proofs.Bytes.{and-fst, and-snd}
 use Rattle.bl_cmeaning.specs.Parts.{parts_from}
 use Rattle.bl_cmeaning.specs.Memory.{Part, member, Root, state_object, input_object, output_object}
 use Rattle.bl_cmeaning.specs.Tables.{Table, no_entries, with_entry}
 use Rattle.bl_cmeaning.specs.Cells.{Inner, Cell, inner_of_member, inner_of, inside, cells_at, cells_of}
 use Rattle.bl_cmeaning.specs.Meaning.{Meaning, Scope}
-use Rattle.bl_early.specs.Emitted.{c_through, c_column, c_frame, c_state, c_row, c_structs, c_ports, frame_name, input_name, output_name, ins_of, outs_of}
+use Rattle.bl_early.specs.Emitted.{c_through, c_column, c_frame, c_state, c_row, c_structs, c_ports, frame_name, input_name, output_name, outs_of}
 use Rattle.bl_early_laws.proofs.Cells.{Each, each-append, each-map, hits, Apart, Own, Clear, AllApart, apart-append}
 use Rattle.bl_early_laws.proofs.WrittenValues.{through-place}
 use Rattle.bl_early_laws.proofs.Stretches.{counter, current, activity_scope, Leads}
@@ -34,7 +35,7 @@ abbrev pub pad : Root → Cell
 pad root = record { location = record { root = root; parts = member (codes "pad") ∷ [] }; kind = Nat W8 }
 
 abbrev pub in_cells : UnitDef → List Cell
-in_cells unit = map (port_cell input_object input_name) (ins_of unit)
+in_cells unit = map (port_cell input_object input_name) (inputs_of unit)
 
 abbrev pub out_cells : UnitDef → List Cell
 out_cells unit = map (port_cell output_object output_name) (outs_of unit)
@@ -65,10 +66,10 @@ abbrev known_second : UnitDef → Table (List Inner)
 known_second unit = with_entry (known_first unit) (codes "bl_state") (flat_map (inner_of_member (known_first unit)) (c_state unit).members)
 
 abbrev known_third : UnitDef → Table (List Inner)
-known_third unit = with_entry (known_second unit) (codes "bl_in") (flat_map (inner_of_member (known_second unit)) (c_row (codes "bl_in") input_name (ins_of unit)).members)
+known_third unit = with_entry (known_second unit) (codes "bl_in") (flat_map (inner_of_member (known_second unit)) (c_row (codes "bl_in") input_name (inputs_of unit)).members)
 
 in-cells : (unit : UnitDef) → cells_at input_object (inner_of (c_structs unit) (codes "bl_in")) ≡ pad input_object ∷ in_cells unit
-in-cells unit = ap (λ rest. pad input_object ∷ rest) (columns-cells (known_second unit) input_object input_name (ins_of unit))
+in-cells unit = ap (λ rest. pad input_object ∷ rest) (columns-cells (known_second unit) input_object input_name (inputs_of unit))
 
 out-cells : (unit : UnitDef) → cells_at output_object (inner_of (c_structs unit) (codes "bl_out")) ≡ pad output_object ∷ out_cells unit
 out-cells unit = ap (λ rest. pad output_object ∷ rest) (columns-cells (known_third unit) output_object output_name (outs_of unit))
@@ -153,7 +154,7 @@ distinct-drop (suc n) (v ∷ vars) h = distinct-drop n vars (and-snd (not (is_am
 
 module _ (unit : UnitDef) (distinct : are_distinct (names_of unit.vars) ≡ true) where
   pub ins-apart : AllApart (in_cells unit)
-  ins-apart = ports-apart input_object input_name in-hit (ins_of unit) (distinct-take unit.inputs unit.vars distinct)
+  ins-apart = ports-apart input_object input_name in-hit (inputs_of unit) (distinct-take unit.inputs unit.vars distinct)
 
   pub outs-apart : AllApart (out_cells unit)
   outs-apart = ports-apart output_object output_name out-hit (outs_of unit) (distinct-drop unit.inputs unit.vars distinct)
@@ -164,7 +165,7 @@ module _ (unit : UnitDef) (distinct : are_distinct (names_of unit.vars) ≡ true
       (λ v. each-map (Apart (port_cell input_object input_name v)) (port_cell output_object output_name) (λ w. record { there = refl; back = refl }) outs) ins
 
   pub slots-apart : AllApart (slots_of unit)
-  slots-apart = apart-append (in_cells unit) (out_cells unit) ins-apart outs-apart (across (ins_of unit) (outs_of unit))
+  slots-apart = apart-append (in_cells unit) (out_cells unit) ins-apart outs-apart (across (inputs_of unit) (outs_of unit))
 
   pad-across : (ins outs : List Var) → Each (λ x. Clear x (pad output_object ∷ map (port_cell output_object output_name) outs)) (pad input_object ∷ map (port_cell input_object input_name) ins)
   pad-across ins outs = (
@@ -175,12 +176,12 @@ module _ (unit : UnitDef) (distinct : are_distinct (names_of unit.vars) ≡ true
 
   pub all-apart : AllApart (all_cells unit)
   all-apart =
-      let first : Clear counter (pad input_object ∷ in_cells unit) = (record { there = refl; back = refl }, each-map (Apart counter) (port_cell input_object input_name) (λ v. record { there = refl; back = refl }) (ins_of unit)) in
+      let first : Clear counter (pad input_object ∷ in_cells unit) = (record { there = refl; back = refl }, each-map (Apart counter) (port_cell input_object input_name) (λ v. record { there = refl; back = refl }) (inputs_of unit)) in
       let second : Clear counter (pad output_object ∷ out_cells unit) = (record { there = refl; back = refl }, each-map (Apart counter) (port_cell output_object output_name) (λ v. record { there = refl; back = refl }) (outs_of unit)) in
-      let ins : AllApart (pad input_object ∷ in_cells unit) = (each-map (Apart (pad input_object)) (port_cell input_object input_name) (λ v. record { there = refl; back = refl }) (ins_of unit), ins-apart) in
+      let ins : AllApart (pad input_object ∷ in_cells unit) = (each-map (Apart (pad input_object)) (port_cell input_object input_name) (λ v. record { there = refl; back = refl }) (inputs_of unit), ins-apart) in
       let outs : AllApart (pad output_object ∷ out_cells unit) = (each-map (Apart (pad output_object)) (port_cell output_object output_name) (λ v. record { there = refl; back = refl }) (outs_of unit), outs-apart) in (
         each-append (Apart counter) (pad input_object ∷ in_cells unit) (pad output_object ∷ out_cells unit) first second,
-        apart-append (pad input_object ∷ in_cells unit) (pad output_object ∷ out_cells unit) ins outs (pad-across (ins_of unit) (outs_of unit)),
+        apart-append (pad input_object ∷ in_cells unit) (pad output_object ∷ out_cells unit) ins outs (pad-across (inputs_of unit) (outs_of unit)),
       )
 
 -- ---- each is its own
@@ -192,7 +193,7 @@ out-own : (v : Var) → Own (port_cell output_object output_name v)
 out-own v = record { root = refl; whole = is-hit (bytes_eq v.name v.name) (same-name v.name) }
 
 pub ins-own : (unit : UnitDef) → Each Own (in_cells unit)
-ins-own unit = each-map Own (port_cell input_object input_name) in-own (ins_of unit)
+ins-own unit = each-map Own (port_cell input_object input_name) in-own (inputs_of unit)
 
 pub outs-own : (unit : UnitDef) → Each Own (out_cells unit)
 outs-own unit = each-map Own (port_cell output_object output_name) out-own (outs_of unit)
@@ -209,13 +210,13 @@ all-own unit = (
 pub counter-clear : (unit : UnitDef) → Clear counter (slots_of unit)
 counter-clear unit =
     each-append (Apart counter) (in_cells unit) (out_cells unit)
-    (each-map (Apart counter) (port_cell input_object input_name) (λ v. record { there = refl; back = refl }) (ins_of unit))
+    (each-map (Apart counter) (port_cell input_object input_name) (λ v. record { there = refl; back = refl }) (inputs_of unit))
     (each-map (Apart counter) (port_cell output_object output_name) (λ v. record { there = refl; back = refl }) (outs_of unit))
 
 pub current-clear : (unit : UnitDef) → Clear current (slots_of unit)
 current-clear unit =
     each-append (Apart current) (in_cells unit) (out_cells unit)
-    (each-map (Apart current) (port_cell input_object input_name) (λ v. record { there = refl; back = refl }) (ins_of unit))
+    (each-map (Apart current) (port_cell input_object input_name) (λ v. record { there = refl; back = refl }) (inputs_of unit))
     (each-map (Apart current) (port_cell output_object output_name) (λ v. record { there = refl; back = refl }) (outs_of unit))
 
 -- ---- the places lead to them
@@ -236,5 +237,5 @@ outs-lead known (v ∷ vars) = ((λ m. through-place (activity_scope known) m (c
 
 pub ports-lead : (known : Table Meaning) (unit : UnitDef) → Leads (activity_scope known) (c_ports unit) (slots_of unit)
 ports-lead known unit =
-    leads-append (activity_scope known) (map (λ var. c_through (codes "p_i") (input_name var)) (ins_of unit)) (map (λ var. c_through (codes "p_o") (output_name var)) (outs_of unit)) (in_cells unit) (out_cells unit)
-    (ins-lead known (ins_of unit)) (outs-lead known (outs_of unit))
+    leads-append (activity_scope known) (map (λ var. c_through (codes "p_i") (input_name var)) (inputs_of unit)) (map (λ var. c_through (codes "p_o") (output_name var)) (outs_of unit)) (in_cells unit) (out_cells unit)
+    (ins-lead known (inputs_of unit)) (outs-lead known (outs_of unit))

@@ -17,11 +17,12 @@ use Rattle.bl_tree.specs.declared.tree.Unit.{Unit as UnitDef}
 use Rattle.bl_tree.specs.declared.tree.Var.{Var}
 use Rattle.bl_tree.specs.Reduce.{greatest}
 use Rattle.bl_tree.specs.Words.{are_distinct, is_among}
-use Rattle.bl_ctext.specs.Prefixes.{is_source_name}
+use Rattle.bl_tree.specs.Typing.{inputs_of}
+use Rattle.bl_ctext.specs.inner.Prefixes.{is_source_name}
 use Rattle.bl_ctext.proofs.Bytes.{and-fst, and-snd}
 use Rattle.bl_cmeaning.specs.Tables.{Table, found, no_entries, with_entry, entry_or}
 use Rattle.bl_cmeaning.specs.Faults.{Clause, unless, distinct_names, declared_before, short_chain, interface_members, all_distinct, is_declared, limited, depth_of_type, depth_of_struct, is_port, interface_fits, member_table, faults_in_struct, struct_faults_after}
-use Rattle.bl_early.specs.Emitted.{c_member, c_column, c_frame, c_state, c_row, c_structs, frame_name, input_name, output_name, ins_of, outs_of}
+use Rattle.bl_early.specs.Emitted.{c_member, c_column, c_frame, c_state, c_row, c_structs, frame_name, input_name, output_name, outs_of}
 use Rattle.bl_early.proofs.Spelled.{is_named_var, list_all-drop}
 use Rattle.bl_early_laws.proofs.Activity.{type_of_var}
 use Rattle.bl_early_laws.proofs.Cells.{Each, each-of}
@@ -219,9 +220,9 @@ output-differ v w h = h
 
 -- ---- the four structs
 
-module _ (unit : UnitDef) (named : list_all is_named_var unit.vars ≡ true) (ins : are_distinct (names_of (ins_of unit)) ≡ true) (outs : are_distinct (names_of (outs_of unit)) ≡ true) where
+module _ (unit : UnitDef) (named : list_all is_named_var unit.vars ≡ true) (ins : are_distinct (names_of (inputs_of unit)) ≡ true) (outs : are_distinct (names_of (outs_of unit)) ≡ true) where
   abbrev in_row : CStruct
-  in_row = c_row (codes "bl_in") input_name (ins_of unit)
+  in_row = c_row (codes "bl_in") input_name (inputs_of unit)
 
   abbrev out_row : CStruct
   out_row = c_row (codes "bl_out") output_name (outs_of unit)
@@ -255,8 +256,8 @@ module _ (unit : UnitDef) (named : list_all is_named_var unit.vars ≡ true) (in
 
   in-faultless : Bounded second_depths 2 → struct_faults_after second_structs second_depths (in_row ∷ out_row ∷ []) ≡ []
   in-faultless bounded =
-      structs-faultless second_structs second_depths 2 in_row (out_row ∷ []) bounded (omega arith) refl (columns-declared second_structs input_name (ins_of unit))
-      (row-distinct input_name input-differ (λ v. refl) (ins_of unit) ins) (input-ports (ins_of unit) (named-take unit.inputs unit.vars named)) out-faultless
+      structs-faultless second_structs second_depths 2 in_row (out_row ∷ []) bounded (omega arith) refl (columns-declared second_structs input_name (inputs_of unit))
+      (row-distinct input_name input-differ (λ v. refl) (inputs_of unit) ins) (input-ports (inputs_of unit) (named-take unit.inputs unit.vars named)) out-faultless
 
   state-faultless : Bounded first_depths 1 → struct_faults_after first_structs first_depths (c_state unit ∷ in_row ∷ out_row ∷ []) ≡ []
   state-faultless bounded =

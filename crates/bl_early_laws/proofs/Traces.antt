@@ -8,6 +8,7 @@ use Rattle.bl_tree.specs.declared.tree.StmtKind.TheOpen.{StmtKind-F}
 use Rattle.bl_tree.specs.declared.tree.Unit.{Unit as UnitDef}
 use Rattle.bl_tree.specs.declared.tree.Var.{Var}
 use Rattle.bl_tree.specs.Reduce.{all_of}
+use Rattle.bl_tree.specs.Ports.{input_columns, row_fits}
 use Rattle.bl_tree.specs.Types.{scalar_in}
 use Rattle.bl_tree.specs.Typing.{fits, inputs_of, site_of}
 use Rattle.bl_eval.specs.Functions.{callees_of}
@@ -20,7 +21,8 @@ use Rattle.bl_ctree.specs.Ticks.{End, Rests, Trapped}
 use Rattle.bl_early.specs.Form.{Step, has_early_type, is_pause, steps_of}
 use Rattle.bl_early.specs.Run.{Begins, Numbers, Passes, Pauses, Reached, Standing, Traps, Waits, loop_trace, ticked, trace_of, traced, with_row}
 use Rattle.bl_early_laws.specs.Machine.{Follows, Matches, both_pause, both_trap, Reaction, fails, machine_trace, pauses, reacted}
-use Rattle.bl_early_laws.specs.Rows.{row_fits}
+use Rattle.bl_early.proofs.Spelled.{list_all-take}
+use Rattle.bl_early_laws.proofs.Columns.{is_early_var}
 use Rattle.bl_early_laws.proofs.Acts.{Held, alone}
 use Rattle.bl_early_laws.proofs.OneThreaded.{Leads}
 use Rattle.bl_early_laws.proofs.Simulation.{one_trace}
@@ -80,14 +82,17 @@ module _ (unit : UnitDef) (sound : Sound [] [] unit (callees_of [] [])) (vars_ea
   }
   ending (comes_past {now} onward held) never = absurd (never now refl)
 
-  tick_ends : (row : List ℤ) (c : Control) (store : Store) (m : State) → Related c store m → row_fits unit row ≡ true →
+  inputs_early : list_all is_early_var (inputs_of unit) ≡ true
+  inputs_early = list_all-take is_early_var unit.inputs unit.vars vars_early
+
+  tick_ends : (row : List ℤ) (c : Control) (store : Store) (m : State) → Related c store m → row_fits (input_columns unit) row ≡ true →
       Ending (woken c) (woken_store row store) (ticked steps m.standing (with_row unit.inputs row m.numbers))
   tick_ends row c store m related fit =
       ending (tick_comes unit sound vars_early loop body steps loop_kind body_steps body_fits related.stands (with_row unit.inputs row m.numbers) (woken_store row store)
-      (woken_held unit sound vars_early as_many_vars row store m.numbers (numbers_values (inputs_of unit) row fit) related.held))
+      (woken_held unit sound vars_early as_many_vars row store m.numbers (numbers_values (inputs_of unit) row inputs_early fit) related.held))
       (λ now. tick_past steps m.standing (with_row unit.inputs row m.numbers) now some_pause)
 
-  follows : Follows (alone unit) State (react unit.inputs steps) (row_fits unit) Related
+  follows : Follows (alone unit) State (react unit.inputs steps) (row_fits (input_columns unit)) Related
   follows = record {
     one_end = λ row c store m related fit end other tick tock. let e = tick_ends row c store m related fit in
         e.leads.only tick.actions end tick.maximal ∙ sym (e.leads.only tock.actions other tock.maximal);
@@ -96,11 +101,11 @@ module _ (unit : UnitDef) (sound : Sound [] [] unit (callees_of [] [])) (vars_ea
   }
 
   -- the meaning allows the trace of the loop, and no other
-  pub loop_has_one_trace : (rows : List (List ℤ)) (shows : Shown) → list_all (row_fits unit) rows ≡ true →
+  pub loop_has_one_trace : (rows : List (List ℤ)) (shows : Shown) → list_all (row_fits (input_columns unit)) rows ≡ true →
       Allows (alone unit) rows (Idle (Begin loop ∷ [])) (first_store (alone unit)) shows ↔ (shows ≡ shown (trace_of unit steps rows))
   loop_has_one_trace rows shows fit =
       let at_first : State = record { standing = Begins; numbers = map (λ var. pos 0) unit.vars } in
       subst (λ trace. Allows (alone unit) rows (Idle (Begin loop ∷ [])) (first_store (alone unit)) shows ↔ (shows ≡ shown trace))
       (machine_is unit.inputs steps rows Begins (map (λ var. pos 0) unit.vars))
-      (one_trace (alone unit) State (react unit.inputs steps) (row_fits unit) Related follows rows (Idle (Begin loop ∷ [])) (first_store (alone unit)) at_first
+      (one_trace (alone unit) State (react unit.inputs steps) (row_fits (input_columns unit)) Related follows rows (Idle (Begin loop ∷ [])) (first_store (alone unit)) at_first
       (record { stands = not_begun; held = first_held unit sound vars_early }) fit shows)

@@ -2,12 +2,16 @@
 use Rattle.std.proofs.Common.{◌≡◌, ◌+◌, ◌≤◌, ℤ, pos, Bool, true, List, [], ◌∷◌, ◌++◌, length, map, take, drop, Option, Some, None, refl, sym, ap, subst, ◌∙◌, arith}
 use Rattle.std.proofs.lemmas.List.{length-drop, length-take, take-append-drop, take_all}
 use Rattle.std.specs.List.{list_all}
+use Rattle.std.specs.Prelude.{unwrap_or}
 use Rattle.bl_tree.specs.declared.scalar.Scalar.{Scalar as ScalarType}
+use Rattle.bl_tree.specs.declared.scalar.Scalar.TheVariants.{Bool as OfBool}
 use Rattle.bl_tree.specs.declared.tree.Ty.{Ty, fold-roll-Ty}
 use Rattle.bl_tree.specs.declared.tree.Unit.{Unit as UnitDef}
 use Rattle.bl_tree.specs.declared.tree.Var.{Var}
 use Rattle.bl_tree.specs.declared.value.Value.{Value}
 use Rattle.bl_tree.specs.declared.value.Value.TheVariants.{Number}
+use Rattle.bl_tree.specs.Ports.{column_type, columns_of, row_fits}
+use Rattle.bl_tree.specs.Scalar.{in_range}
 use Rattle.bl_tree.specs.Types.{scalar_in, type_stands}
 use Rattle.bl_tree.specs.Typing.{inputs_of}
 use Rattle.bl_eval.specs.declared.datum.Datum.TheVariants.{Scalar as OfScalar}
@@ -21,7 +25,7 @@ use Rattle.bl_eval.proofs.PassLemmas.{and_left, and_right, both, pass_append, pa
 use Rattle.bl_ctree.specs.Store.{Store, first_store, number_or_zero, outputs_row, woken_store, zero_result, zeros}
 use Rattle.bl_early.specs.Form.{has_early_type}
 use Rattle.bl_early.specs.Run.{Numbers, with_row}
-use Rattle.bl_early_laws.specs.Rows.{is_one_of, numbers_fit}
+use Rattle.bl_early_laws.proofs.Columns.{early_column, is_early_var}
 use Rattle.bl_early_laws.proofs.Acts.{Held, alone}
 use Rattle.bl_early_laws.proofs.Numbers.{as_many, numbers_back, values, values_append, values_drop, values_length, values_take}
 
@@ -45,19 +49,27 @@ zeros_fit vars stand =
 
 -- ---- numbers that fit
 
-number_value : (ty : Ty) (s : Option ScalarType) (n : ℤ) → scalar_in ty ≡ s → is_one_of s n ≡ true → value_fits [] ty (Number n) ≡ true
-number_value ty None n is fit = absurd cc
-number_value ty (Some s) n is fit = plain_fits [] ty (OfScalar s n) (scalar_is ty s is, fit)
+abbrev column_range : Option ScalarType → ℤ → Bool
+column_range found n = in_range (column_type (unwrap_or found OfBool)) n
 
--- numbers that fit are values that do
-pub numbers_values : (vars : List Var) (row : List ℤ) → numbers_fit vars row ≡ true → AllFit [] vars (values row)
-numbers_values [] [] fit = refl
-numbers_values [] (n ∷ row) fit = absurd cc
-numbers_values (var ∷ vars) [] fit = absurd cc
-numbers_values (var ∷ vars) (n ∷ row) fit =
+number_value : (ty : Ty) (s : Option ScalarType) (n : ℤ) → scalar_in ty ≡ s → has_early_type s ≡ true → column_range s n ≡ true
+    → value_fits [] ty (Number n) ≡ true
+number_value ty None n is early fit = absurd cc
+number_value ty (Some s) n is early fit =
+    plain_fits [] ty (OfScalar s n) (scalar_is ty s is, subst (λ t. in_range t n ≡ true) (early_column (Some s) early) fit)
+
+-- numbers that fit the columns of variables of the form are values that fit the variables
+pub numbers_values : (vars : List Var) (row : List ℤ) → list_all is_early_var vars ≡ true → row_fits (columns_of vars) row ≡ true
+    → AllFit [] vars (values row)
+numbers_values [] [] early fit = refl
+numbers_values [] (n ∷ row) early fit = absurd cc
+numbers_values (var ∷ vars) [] early fit = absurd cc
+numbers_values (var ∷ vars) (n ∷ row) early fit =
+    let range = column_range (scalar_in var.ty) n in
     both (value_fits [] var.ty (Number n)) (values_fit [] vars (values row))
-    (number_value var.ty (scalar_in var.ty) n refl (and_left (is_one_of (scalar_in var.ty) n) (numbers_fit vars row) fit))
-    (numbers_values vars row (and_right (is_one_of (scalar_in var.ty) n) (numbers_fit vars row) fit))
+    (number_value var.ty (scalar_in var.ty) n refl (and_left (is_early_var var) (list_all is_early_var vars) early)
+    (and_left range (row_fits (columns_of vars) row) fit))
+    (numbers_values vars row (and_right (is_early_var var) (list_all is_early_var vars) early) (and_right range (row_fits (columns_of vars) row) fit))
 
 module _ (unit : UnitDef) (sound : Sound [] [] unit (callees_of [] [])) (vars_early : list_all (λ (var : Var). has_early_type (scalar_in var.ty)) unit.vars ≡ true) where
   -- every number is 0 at first

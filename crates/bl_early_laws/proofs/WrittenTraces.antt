@@ -1,6 +1,6 @@
 -- The written file has the trace of its loop of steps.
 use Rattle.std.proofs.Common.{◌≡◌, ℕ, suc, zero, ◌≤◌, ℤ, pos, Bool, true, false, List, [], ◌∷◌, ◌++◌, map, length, take, drop, Option, Some, None, refl, sym, ap, ap₂, ◌∙◌, subst, arith, codes, take-append-drop, true≢false}
-use Rattle.std.specs.Prelude.{All, slice_set, if◌then◌else◌}
+use Rattle.std.specs.Prelude.{All, is_some, slice_set, if◌then◌else◌}
 use Rattle.std.specs.List.{list_all, list_any}
 use Rattle.std.proofs.lemmas.List.Elements.{All-head, All-tail}
 use Rattle.bl_tree.specs.declared.row.Trace.{Trace}
@@ -10,16 +10,17 @@ use Rattle.bl_tree.specs.declared.tree.Var.{Var}
 use Rattle.bl_tree.specs.Numbers.{is_one}
 use Rattle.bl_tree.specs.Program as program
 use Rattle.bl_tree.specs.Words as words
+use Rattle.bl_tree.specs.Typing.{inputs_of}
 use Rattle.bl_cmeaning.specs.Parts.{Parts}
 use Rattle.bl_cmeaning.specs.Memory.{member, state_object, input_object, output_object, Memory, scalar, set_at, without_frame}
 use Rattle.bl_cmeaning.specs.Tables.{no_entries}
 use Rattle.bl_cmeaning.specs.Cells.{Cell, cells_of, memory_of, numbers_of, ports_of, with_inputs, outputs_in}
 use Rattle.bl_cmeaning.specs.Meaning.{Called, Outcome}
-use Rattle.bl_cmeaning.specs.Trace.{Tick, tick_c, tick_of, start_c, cells_where, reply_of, c_trace, c_trace_from, trace_after, traced as c_traced}
+use Rattle.bl_cmeaning.specs.Trace.{Tick, tick_c, tick_of, start_c, started, cells_if, reply_of, c_trace, c_trace_from, trace_after, traced as c_traced}
 use Rattle.bl_early.specs.Form.{Item, Step, Set, Pause, is_pause, is_early}
 use Rattle.bl_early.specs.Run.{Numbers, item_value, source_value, Reached, Traps, Pauses, Passes, reached_with, taken, repeated, Standing, Begins, Waits, ticked, with_row, loop_trace, trace_of, traced as run_traced}
 use Rattle.bl_early.specs.Built.{step_within, steps_at}
-use Rattle.bl_early.specs.Emitted.{c_column, c_funcs, c_ports, input_name, output_name, ins_of, outs_of}
+use Rattle.bl_early.specs.Emitted.{c_column, c_funcs, c_ports, input_name, output_name, outs_of}
 use Rattle.bl_early.proofs.Known.{Stands, unit-stands, steps-within}
 use Rattle.bl_early_laws.specs.Written.{HasTrace, WrittenTrace}
 use Rattle.bl_early_laws.proofs.Cells.{Each, each-right, number_at, hits, Own, set-other, set-own, Clear, AllApart, same-numbers, restored}
@@ -160,7 +161,7 @@ module _ (unit : UnitDef) (steps : List Step) (inputs : unit.inputs ≤ length u
   the_file = file unit steps
 
   abbrev columns_set : List ℤ → Memory → Memory
-  columns_set row m = with_inputs (map (c_column input_name) (ins_of unit)) row m
+  columns_set row m = with_inputs (map (c_column input_name) (inputs_of unit)) row m
 
   tick-is : (cells row : List ℤ) → tick_c the_file cells row ≡ tick_of the_file (tick_called unit steps (columns_set row (memory_of (all_cells unit) cells)))
   unfolding tick_c
@@ -177,18 +178,18 @@ module _ (unit : UnitDef) (steps : List Step) (inputs : unit.inputs ≤ length u
       let same = restored (all_cells unit) m (all-apart unit distinct) (all-own unit) in
       let outs : numbers_of (out_cells unit) made ≡ numbers_of (out_cells unit) m =
       same-numbers made m (out_cells unit) (each-right (λ cell. number_at made cell ≡ number_at m cell) (pad input_object ∷ in_cells unit) (pad output_object ∷ out_cells unit) same.1).1 in
-      let many : length (ins_of unit) ≡ unit.inputs = take-length unit.inputs unit.vars inputs in
+      let many : length (inputs_of unit) ≡ unit.inputs = take-length unit.inputs unit.vars inputs in
       let behind : drop unit.inputs now ≡ numbers_of (out_cells unit) m =
       ap (drop unit.inputs) (sym numbers ∙ numbers-append (in_cells unit) (out_cells unit) m)
-      ∙ drop-exact unit.inputs (numbers_of (in_cells unit) m) (numbers_of (out_cells unit) m) (length-numbers in_cell (ins_of unit) m ∙ many) in
+      ∙ drop-exact unit.inputs (numbers_of (in_cells unit) m) (numbers_of (out_cells unit) m) (length-numbers in_cell (inputs_of unit) m ∙ many) in
       record {
-        counted = ap (λ f. f (member (codes "m_0") ∷ member (codes "c0") ∷ [])) (state-kept (ins_of unit) row made) ∙ same.0 ∙ counted;
+        counted = ap (λ f. f (member (codes "m_0") ∷ member (codes "c0") ∷ [])) (state-kept (inputs_of unit) row made) ∙ same.0 ∙ counted;
         local = refl;
         numbers =
             same-numbers (without_frame 1 (without_frame 0 set)) set (slots_of unit) (slots-same unit steps (without_frame 1 (without_frame 0 set)) set refl refl)
             ∙ numbers-append (in_cells unit) (out_cells unit) set
-            ∙ ap₂ (λ xs ys. xs ++ ys) (inputs-set (ins_of unit) row made (ins-apart unit distinct) (ins-own unit) (long ∙ sym many))
-            (outs-same (outs_of unit) set made (output-kept (ins_of unit) row made) ∙ outs ∙ sym behind);
+            ∙ ap₂ (λ xs ys. xs ++ ys) (inputs-set (inputs_of unit) row made (ins-apart unit distinct) (ins-own unit) (long ∙ sym many))
+            (outs-same (outs_of unit) set made (output-kept (inputs_of unit) row made) ∙ outs ∙ sym behind);
       }
 
   abbrev Done : Reached → Outcome → Type 0
@@ -209,7 +210,7 @@ module _ (unit : UnitDef) (steps : List Step) (inputs : unit.inputs ≤ length u
   row-is : (m : Memory) (now : Numbers) → numbers_of (slots_of unit) m ≡ now → outputs_in (map (c_column output_name) (outs_of unit)) m ≡ drop unit.inputs now
   row-is m now numbers =
       outputs-are (outs_of unit) m
-      ∙ sym (drop-exact unit.inputs (numbers_of (in_cells unit) m) (numbers_of (out_cells unit) m) (length-numbers in_cell (ins_of unit) m ∙ take-length unit.inputs unit.vars inputs))
+      ∙ sym (drop-exact unit.inputs (numbers_of (in_cells unit) m) (numbers_of (out_cells unit) m) (length-numbers in_cell (inputs_of unit) m ∙ take-length unit.inputs unit.vars inputs))
       ∙ ap (drop unit.inputs) (sym (numbers-append (in_cells unit) (out_cells unit) m) ∙ numbers)
 
   after-tick : (reached : Reached) (called : Called) (rows : List (List ℤ)) → TickEnds unit steps reached called → NoPass reached → Goes rows →
@@ -245,8 +246,8 @@ module _ (unit : UnitDef) (steps : List Step) (inputs : unit.inputs ≤ length u
       (traces rows suit.1)
 
   start-is : start_c the_file ≡ Some (numbers_of (cells_of the_file) (begun unit steps))
-  unfolding start_c
-  start-is = ap (λ (called : Called). cells_where the_file called.memory called.result) (init-entered unit steps)
+  unfolding started
+  start-is = ap (λ (called : Called). cells_if (is_some called.result) (numbers_of (cells_of the_file) called.memory)) (init-entered unit steps)
 
   begun-related : Related Begins (map (λ var. pos 0) unit.vars) (numbers_of (cells_of the_file) (begun unit steps))
   begun-related = record {
@@ -256,8 +257,8 @@ module _ (unit : UnitDef) (steps : List Step) (inputs : unit.inputs ≤ length u
     counted = refl;
     numbers =
         numbers-append (in_cells unit) (out_cells unit) (begun unit steps)
-        ∙ ap₂ (λ xs ys. xs ++ ys) (zero-numbers in_cell (begun unit steps) (λ v. refl) (ins_of unit)) (zero-numbers out_cell (begun unit steps) (λ v. refl) (outs_of unit))
-        ∙ zeros-append (ins_of unit) (outs_of unit)
+        ∙ ap₂ (λ xs ys. xs ++ ys) (zero-numbers in_cell (begun unit steps) (λ v. refl) (inputs_of unit)) (zero-numbers out_cell (begun unit steps) (λ v. refl) (outs_of unit))
+        ∙ zeros-append (inputs_of unit) (outs_of unit)
         ∙ ap (map (λ var. pos 0)) (take-append-drop unit.inputs unit.vars);
     stands = refl;
   }

@@ -22,7 +22,7 @@ use Rattle.bl_tree.specs.declared.c.CStmtKind.TheVariants as statement
 use Rattle.bl_tree.specs.Numbers.{is_one, fitted, number_of}
 use Rattle.bl_cmeaning.specs.Memory.{Part, member, Location, CValue, Memory, scalar, number_in, value_at, set_at}
 use Rattle.bl_cmeaning.specs.Meaning.{Counted, Evaluates, given, next, Passed, by_value, by_address, Called, Scope, goes_on, returns, traps, after, going, call_outcome, later_call, called, called_after, result_of, executed, returning, value_c, location_c, call_c, runs_c, block_c, each_of, further, start_of, arg_step, kind_step, call_step, expr_step, index_step, place_step, step_step}
-use Rattle.bl_cmeaning.specs.Builtin.{builtin_of, builtins}
+use Rattle.bl_cmeaning.specs.Builtin.{builtin_of}
 use Rattle.bl_early.specs.Emitted.{nowhere, c_step, c_target, c_through, c_variable, c_literal, c_read, c_equal, c_call, c_called, c_set, c_calling, c_when, c_returning}
 
 abbrev pub kind : CExprKind-F CArg CExprKind CCall CExpr CIndex CPlace CStep → CExpr
@@ -121,7 +121,7 @@ module _ (scope : Scope) (memory : Memory) where
   call-does name args passed h = rw fold-roll-CCall (ap (λ c. called_after scope memory name c.count c.answer) h)
 
   sum-called : (a b : CValue) → called scope (codes "bl_add_i32") (by_value a ∷ by_value b ∷ []) memory ≡ record { memory = memory; count = 0; result = fitted (Int W32) (number_in a +ℤ number_in b) }
-  unfolding builtin_of builtins
+  unfolding builtin_of
   sum-called a b = refl
 
   called-open : (call : CCall) (c : Called) → call_c call scope memory ≡ c → value_c (kind (CExprKind-F.Call call)) scope memory ≡ result_of c

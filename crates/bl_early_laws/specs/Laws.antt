@@ -2,12 +2,12 @@
 use Rattle.std.specs.Prelude.{ℕ, ℤ, List, ◌≡◌, ◌↔◌, true, Some, slice_get}
 use Rattle.bl_tree.specs.declared.tree.StructDef.{StructDef}
 use Rattle.bl_tree.specs.declared.tree.Unit.{Unit as UnitDef}
+use Rattle.bl_tree.specs.Ports.{RowsFit, input_columns}
 use Rattle.bl_tree.specs.Program.{Keeps}
 use Rattle.bl_early.specs.Form.{Step, is_early, unit_steps}
 use Rattle.bl_early.specs.Run.{trace_of}
 use Rattle.bl_ctree.specs.Means.{Means, Shown, shown}
 use Rattle.bl_ctree.specs.Reaches.{Bounded, NeverStuck}
-use Rattle.bl_early_laws.specs.Rows.{RowsFit}
 
 -- a typed program of the form, with its entry and the steps of the entry's loop
 pub record Early (structs : List StructDef) (units : List UnitDef) (entry : ℕ) (unit : UnitDef) (steps : List Step) : Type 0 where
@@ -20,7 +20,8 @@ pub record Early (structs : List StructDef) (units : List UnitDef) (entry : ℕ)
 abbrev pub OneTrace : Type 0
 OneTrace =
     (structs : List StructDef) (units : List UnitDef) (entry : ℕ) (unit : UnitDef) (steps : List Step) (rows : List (List ℤ)) (shows : Shown) →
-    Early structs units entry unit steps → RowsFit unit rows → Means structs units entry rows shows ↔ (shows ≡ shown (trace_of unit steps rows))
+    Early structs units entry unit steps → RowsFit (input_columns unit) rows →
+    Means structs units entry rows shows ↔ (shows ≡ shown (trace_of unit steps rows))
 
 -- every tick ends
 abbrev pub EarlyIsBounded : Type 0

@@ -1,17 +1,14 @@
 -- The C file that is written for a program of the form: its trace, its columns and its form.
-use Rattle.std.specs.Prelude.{◌≡◌, ◌≤◌, ℤ, List, [], ◌∷◌, map, length, unwrap_or, All}
-use Rattle.bl_tree.specs.declared.row.Column.{Column}
-use Rattle.bl_tree.specs.declared.scalar.Scalar.TheVariants.{Bool as OfBool}
+use Rattle.std.specs.Prelude.{◌≡◌, ◌≤◌, ℤ, List, [], ◌∷◌, length, All}
 use Rattle.bl_tree.specs.declared.tree.Unit.{Unit as UnitDef}
-use Rattle.bl_tree.specs.declared.tree.Var.{Var}
-use Rattle.bl_tree.specs.Types.{scalar_in}
+use Rattle.bl_tree.specs.Ports.{input_columns, output_columns}
 use Rattle.bl_cmeaning.specs.Cells.{inputs_of, outputs_of}
 use Rattle.bl_cmeaning.specs.Faults.{WellFormed}
 use Rattle.bl_cmeaning.specs.Parts.{Parts, parts_from}
 use Rattle.bl_cmeaning.specs.Sizes.{cells_needed}
 use Rattle.bl_cmeaning.specs.Trace.{c_trace}
 use Rattle.bl_early.specs.Built.{loop_steps}
-use Rattle.bl_early.specs.Emitted.{c_structs, c_funcs, ins_of, outs_of}
+use Rattle.bl_early.specs.Emitted.{c_structs, c_funcs}
 use Rattle.bl_early.specs.Run.{trace_of}
 
 -- the file of an activity of the form
@@ -33,14 +30,10 @@ WrittenTrace _ = Unit {0}
 
 -- ---- its columns
 
--- the name and the type of each parameter
-abbrev pub columns_of : List Var → List Column
-columns_of vars = map (λ var. record { name = var.name; ty = unwrap_or (scalar_in var.ty) OfBool }) vars
-
 -- the inputs and the outputs of the file are those of the activity, in order
 pub record HasColumns (unit : UnitDef) : Type 0 where
-  pub inputs : inputs_of (written unit) ≡ columns_of (ins_of unit)
-  pub outputs : outputs_of (written unit) ≡ columns_of (outs_of unit)
+  pub inputs : inputs_of (written unit) ≡ input_columns unit
+  pub outputs : outputs_of (written unit) ≡ output_columns unit
 
 -- the same of a program that has one unit alone
 abbrev pub WrittenColumns : List UnitDef → Type 0

@@ -17,6 +17,7 @@ pub fn written_trace(_program: &Program)
 
 /// The file's inputs and outputs have the names and the types of the activity's, in order.
 pub fn written_columns(_program: &Program)
+    requires { IsTrue (is_early _program.now.structs _program.now.units) }
     ensures { WrittenColumns _program.now.units }
 {}
 

@@ -1,5 +1,35 @@
 -- What the table's map has at a key is what is found at its place.
-use Rattle.std.proofs.Common.{None, Option, ◌≡◌, Bor, ℕ, Bool, true, false, cond, ◌&&◌, List, [], ◌∷◌, map, Some, refl, sym, ap, ◌∙◌, subst, nat_cmp, is_eq, nat_eq, Ordering, Less, Equal, Greater, eqb→eq, T}
+use Rattle.std.proofs.Common.{
+  None,
+  Option,
+  ◌≡◌,
+  Bor,
+  ℕ,
+  Bool,
+  true,
+  false,
+  cond,
+  ◌&&◌,
+  List,
+  [],
+  ◌∷◌,
+  map,
+  Some,
+  refl,
+  sym,
+  ap,
+  ◌∙◌,
+  subst,
+  nat_cmp,
+  is_eq,
+  nat_eq,
+  Ordering,
+  Less,
+  Equal,
+  Greater,
+  eqb→eq,
+  T,
+}
 use Rattle.std.specs.BTreeMap.{is_at}
 use Rattle.std.specs.Cmp.{nat_eq_equiv, unsigned_tied}
 use Rattle.std.specs.Map.{lookup}
@@ -43,14 +73,18 @@ same_place_is a b is =
 pub same_place_refl : (a : Place) → same_place a a ≡ true
 same_place_refl a = λ i. nat_eq_equiv.refl a.start i && nat_eq_equiv.refl a.end i
 
-pub found_entry : (entries : List ((ℕ × ℕ) × Sets)) (at : Place) → found (map entry entries) at ≡ option_map (effect_at at) (lookup (is_at (key_cmp (key_of at))) entries)
+pub found_entry : (entries : List ((ℕ × ℕ) × Sets)) (at : Place) →
+    found (map entry entries) at ≡ option_map (effect_at at) (lookup (is_at (key_cmp (key_of at))) entries)
 found_entry [] at = refl
 found_entry (e ∷ entries) at =
     let test : is_eq (key_cmp (key_of at) e.0) ≡ same_place (place_at e.0) at = same_key at (place_at e.0) ∙ same_place-symm at (place_at e.0) in
-    step (same_place (place_at e.0) at) refl (found_entry entries at) ∙ ap (λ t. option_map (effect_at at) (cond t (Some e.1) (lookup (is_at (key_cmp (key_of at))) entries))) (sym test)
+    step (same_place (place_at e.0) at) refl (found_entry entries at)
+    ∙ ap (λ t. option_map (effect_at at) (cond t (Some e.1) (lookup (is_at (key_cmp (key_of at))) entries))) (sym test)
   where
-    step : (t : Bool) → same_place (place_at e.0) at ≡ t → found (map entry entries) at ≡ option_map (effect_at at) (lookup (is_at (key_cmp (key_of at))) entries)
-        → cond t (Some (entry e)) (found (map entry entries) at) ≡ option_map (effect_at at) (cond t (Some e.1) (lookup (is_at (key_cmp (key_of at))) entries))
+    step : (t : Bool) → same_place (place_at e.0) at ≡ t →
+        found (map entry entries) at ≡ option_map (effect_at at) (lookup (is_at (key_cmp (key_of at))) entries)
+        → cond t (Some (entry e)) (found (map entry entries) at)
+        ≡ option_map (effect_at at) (cond t (Some e.1) (lookup (is_at (key_cmp (key_of at))) entries))
     step true is rest = ap (λ place. Some (effect_at place e.1)) (same_place_is (place_at e.0) at is)
     step false is rest = rest
 
@@ -63,7 +97,8 @@ found_inserted old new at q sets is =
     ∙ step (same_place at q) refl
   where
     step : (t : Bool) → same_place at q ≡ t
-        → option_map (effect_at q) (cond t (Some sets) (lookup (is_at (key_cmp (key_of q))) old)) ≡ cond t (Some (effect_at at sets)) (found (map entry old) q)
+        → option_map (effect_at q) (cond t (Some sets) (lookup (is_at (key_cmp (key_of q))) old))
+        ≡ cond t (Some (effect_at at sets)) (found (map entry old) q)
     step true same = ap (λ place. Some (effect_at place sets)) (sym (same_place_is at q same))
     step false same = sym (found_entry old q)
 

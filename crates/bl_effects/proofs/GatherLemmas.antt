@@ -1,5 +1,43 @@
 -- How what is gathered of parts comes to what is gathered of the whole.
-use Rattle.std.proofs.Common.{◌≡◌, ℕ, zero, suc, ◌+◌, ◌<◌, ◌≤◌, Bool, true, false, cond, not, ◌&&◌, ◌||◌, List, [], ◌∷◌, ◌++◌, ◌⊎◌, inl, inr, ⊎_elim, map, take, drop, length, get_or, Some, refl, sym, ap, ◌∙◌, subst, arith, append_assoc, append-nil, drop_of_length-le}
+use Rattle.std.proofs.Common.{
+  ◌≡◌,
+  ℕ,
+  zero,
+  suc,
+  ◌+◌,
+  ◌<◌,
+  ◌≤◌,
+  Bool,
+  true,
+  false,
+  cond,
+  not,
+  ◌&&◌,
+  ◌||◌,
+  List,
+  [],
+  ◌∷◌,
+  ◌++◌,
+  ◌⊎◌,
+  inl,
+  inr,
+  ⊎_elim,
+  map,
+  take,
+  drop,
+  length,
+  get_or,
+  Some,
+  refl,
+  sym,
+  ap,
+  ◌∙◌,
+  subst,
+  arith,
+  append_assoc,
+  append-nil,
+  drop_of_length-le,
+}
 use Rattle.std.specs.Prelude.{Contains, Result, Ok, Err, OnOk}
 use Rattle.std.proofs.lemmas.List.Elements.{Contains-append_left, Contains-append_right, Contains-append_cases}
 use Rattle.bl_tree.specs.declared.place.Place.{Place}
@@ -17,7 +55,22 @@ use Rattle.bl_tree.specs.declared.static_path.Static.{Static}
 use Rattle.bl_effects.specs.declared.table.Sets.{Sets}
 use Rattle.bl_tree.specs.Effects.{arm_reads, arm_writes, branch_paths, kind_reads, kind_writes, reads, stmt_set, writes}
 use Rattle.bl_effects.specs.Entries.{effect_at}
-use Rattle.bl_effects.specs.Gathered.{Gathers, Kept, Records, Told, children_of_kind, ends_of_branch, instant_of_arm, instant_of_kind, reads_of_arm, reads_of_branch, reads_of_kind, writes_of_arm, writes_of_branch, writes_of_kind}
+use Rattle.bl_effects.specs.inner.Gathered.{
+  Gathers,
+  Kept,
+  Records,
+  Told,
+  children_of_kind,
+  ends_of_branch,
+  instant_of_arm,
+  instant_of_kind,
+  reads_of_arm,
+  reads_of_branch,
+  reads_of_kind,
+  writes_of_arm,
+  writes_of_branch,
+  writes_of_kind,
+}
 use Rattle.bl_tree.specs.Instant.{Ends, arm_instant, branch_ends, branches_instant, instant, kind_instant, stmt_instant}
 use Rattle.bl_tree.specs.Static.{mentions, set_of}
 use Rattle.bl_tree.specs.Within.{Effect, StandsIn, Within, itself, deeper, children, effect_of, kind_children, place_of}
@@ -33,8 +86,18 @@ pub records_then : (P Q R : Stmt → Type 0) → ((s : Stmt) → R s → P s ⊎
 records_then P Q R splits first second a b c one other at =
     ⊎_elim
     (λ (kept : Kept Q b c at). ⊎_elim
-    (λ (before : Kept P a b at). inl (record { same = kept.same ∙ before.same; none = λ s stands. ⊎_elim (λ p. before.none s p) (λ q. kept.none s q) (splits s stands) }))
-    (λ (told : Told P b at). inr (record { statement = told.statement; stands = first told.statement told.stands; there = told.there; tells = kept.same ∙ told.tells }))
+    (λ (before : Kept P a b at). inl (record {
+      same = kept.same ∙ before.same;
+      none =
+          λ s stands. ⊎_elim (λ p. before.none s p) (λ q. kept.none s q) (splits s stands);
+    }))
+    (λ (told : Told P b at). inr (record {
+      statement = told.statement;
+      stands = first told.statement told.stands;
+      there =
+          told.there;
+      tells = kept.same ∙ told.tells;
+    }))
     (one at))
     (λ (told : Told Q c at). inr (record { statement = told.statement; stands = second told.statement told.stands; there = told.there; tells = told.tells }))
     (other at)
@@ -94,7 +157,8 @@ reads_after r rs ws xs p q s a b gathers reads writes = record {
 
 -- ---- loops over parts
 
-one_more : {A B : Type 0} (f : A → List B) (xs : List A) (k : ℕ) (x : A) → k < length xs → x ≡ get_or xs k x → joined (map f (take k xs)) ++ f x ≡ joined (map f (take (k + 1) xs))
+one_more : {A B : Type 0} (f : A → List B) (xs : List A) (k : ℕ) (x : A) → k < length xs → x ≡ get_or xs k x →
+    joined (map f (take k xs)) ++ f x ≡ joined (map f (take (k + 1) xs))
 one_more f (y ∷ xs) zero x within is = ap f is ∙ sym (append-nil (f y))
 one_more f (y ∷ xs) (suc k) x within is =
     append_assoc (f y) (joined (map f (take k xs))) (f x) ∙ ap (λ rest. f y ++ rest) (one_more f xs k x (omega arith) is)
@@ -126,7 +190,8 @@ module _ {A : Type 0} (f g : A → List Static) (h : A → List Stmt) where
       take_over (x ∷ xs) (suc k) over = ap (λ rest. x ∷ rest) (take_over xs k (omega arith))
 
   -- of none
-  pub gathers_start : (xs : List A) (p : Paths) (a : List Effect) → Gathers (joined (map f (take 0 xs))) (joined (map g (take 0 xs))) (joined (map h (take 0 xs))) p p a a
+  pub gathers_start : (xs : List A) (p : Paths) (a : List Effect) →
+      Gathers (joined (map f (take 0 xs))) (joined (map g (take 0 xs))) (joined (map h (take 0 xs))) p p a a
   gathers_start xs p a = gathers_none [] [] p p a (sym (append-nil p.reads)) (sym (append-nil p.writes))
 
 pub singles : (xs : List Stmt) → joined (map (λ s. s ∷ []) xs) ≡ xs
@@ -138,7 +203,8 @@ singles (x ∷ xs) = ap (λ rest. x ∷ rest) (singles xs)
 next_drop : {A : Type 0} (xs : List A) (k : ℕ) (x : A) → k < length xs → x ≡ get_or xs k x → drop k xs ≡ x ∷ drop (k + 1) xs
 next_drop [] k x within is = absurd (omega arith)
 next_drop (y ∷ xs) zero x within is = ap (λ z. z ∷ xs) (sym is)
-next_drop (y ∷ xs) (suc k) x within is = next_drop xs k x (omega arith) is ∙ (let next : suc k + 1 ≡ suc (k + 1) = omega arith in ap (λ n. x ∷ drop n (y ∷ xs)) (sym next))
+next_drop (y ∷ xs) (suc k) x within is = next_drop xs k x (omega arith) is
+    ∙ (let next : suc k + 1 ≡ suc (k + 1) = omega arith in ap (λ n. x ∷ drop n (y ∷ xs)) (sym next))
 
 or_regroup : (a b c : Bool) → ((a || b) || c) ≡ (a || (b || c))
 or_regroup true b c = refl
@@ -192,14 +258,16 @@ reads_branch_out = fold_out-Branch (List Static) (List Static) (List Static) (Li
 pub writes_branch_out : (branch : Branch) → writes_of_branch branch ≡ joined (map writes (out-Branch branch).body)
 writes_branch_out = fold_out-Branch (List Static) (List Static) (List Static) (List Static) kind_writes arm_writes branch_paths stmt_set
 
-pub ends_branch_out : (branch : Branch) → ends_of_branch branch ≡ record { weak = (out-Branch branch).weak; instant = all_of (map instant (out-Branch branch).body) }
+pub ends_branch_out : (branch : Branch) → ends_of_branch branch
+    ≡ record { weak = (out-Branch branch).weak; instant = all_of (map instant (out-Branch branch).body) }
 ends_branch_out = fold_out-Branch Bool Bool Ends Bool kind_instant arm_instant branch_ends stmt_instant
 
 abbrev pub read_parts : StmtKind-F StmtKind Arm Branch Stmt → StmtKind-F (List Static) (List Static) (List Static) (List Static)
 read_parts = map-StmtKind StmtKind Arm Branch Stmt (List Static) (List Static) (List Static) (List Static) reads_of_kind reads_of_arm reads_of_branch reads
 
 abbrev pub written_parts : StmtKind-F StmtKind Arm Branch Stmt → StmtKind-F (List Static) (List Static) (List Static) (List Static)
-written_parts = map-StmtKind StmtKind Arm Branch Stmt (List Static) (List Static) (List Static) (List Static) writes_of_kind writes_of_arm writes_of_branch writes
+written_parts = map-StmtKind StmtKind Arm Branch Stmt (List Static) (List Static) (List Static)
+    (List Static) writes_of_kind writes_of_arm writes_of_branch writes
 
 -- what is gathered of the parts of a kind of statement
 pub gathers_kind : (what : StmtKind) (layer : StmtKind-F StmtKind Arm Branch Stmt) → out-StmtKind what ≡ layer → (p q : Paths) (a b : List Effect)
@@ -207,43 +275,54 @@ pub gathers_kind : (what : StmtKind) (layer : StmtKind-F StmtKind Arm Branch Stm
     → Gathers (reads_of_kind what) (writes_of_kind what) (children_of_kind what) p q a b
 gathers_kind what layer is p q a b gathers =
     subst (λ r. Gathers r (writes_of_kind what) (children_of_kind what) p q a b)
-    (sym (fold_out-StmtKind (List Static) (List Static) (List Static) (List Static) kind_reads arm_reads branch_paths stmt_set what ∙ ap (λ layer. kind_reads (read_parts layer)) is))
+    (sym (fold_out-StmtKind (List Static) (List Static) (List Static) (List Static) kind_reads arm_reads branch_paths stmt_set what
+    ∙ ap (λ layer. kind_reads (read_parts layer)) is))
     (subst (λ w. Gathers (kind_reads (read_parts layer)) w (children_of_kind what) p q a b)
-    (sym (fold_out-StmtKind (List Static) (List Static) (List Static) (List Static) kind_writes arm_writes branch_paths stmt_set what ∙ ap (λ layer. kind_writes (written_parts layer)) is))
+    (sym (fold_out-StmtKind (List Static) (List Static) (List Static)
+    (List Static) kind_writes arm_writes branch_paths stmt_set what ∙ ap (λ layer. kind_writes (written_parts layer)) is))
     (subst (λ body. Gathers (kind_reads (read_parts layer)) (kind_writes (written_parts layer)) body p q a b) (sym (ap kind_children is)) gathers))
 
-pub if_gathers : (what : StmtKind) (arms made_arms : List Arm) (other made : List Stmt) → what ≡ If arms other → made_arms ≡ arms → made ≡ other → (p q r : Paths) (a b c : List Effect)
+pub if_gathers : (what : StmtKind) (arms made_arms : List Arm) (other made : List Stmt) → what ≡ If arms other → made_arms ≡ arms →
+    made ≡ other → (p q r : Paths) (a b c : List Effect)
     → Gathers (joined (map reads_of_arm made_arms)) (joined (map writes_of_arm made_arms)) (joined (map (λ arm. (out-Arm arm).body) made_arms)) p q a b
-    → Gathers (joined (map reads made)) (joined (map writes made)) made q r b c → Gathers (reads_of_kind what) (writes_of_kind what) (children_of_kind what) p r a c
+    → Gathers (joined (map reads made)) (joined (map writes made)) made q r b c →
+    Gathers (reads_of_kind what) (writes_of_kind what) (children_of_kind what) p r a c
 if_gathers what arms made_arms other made is same_arms same p q r a b c one then =
     gathers_kind what (StmtKind-F.If arms other) (ap out-StmtKind is ∙ outs-If arms other) p r a c
-    (subst (λ arms. Gathers (joined (map reads_of_arm arms) ++ joined (map reads other)) (joined (map writes_of_arm arms) ++ joined (map writes other)) (joined (map (λ arm. (out-Arm arm).body) arms) ++ other) p r a c) same_arms
-    (subst (λ body. Gathers (joined (map reads_of_arm made_arms) ++ joined (map reads body)) (joined (map writes_of_arm made_arms) ++ joined (map writes body)) (joined (map (λ arm. (out-Arm arm).body) made_arms) ++ body) p r a c) same
+    (subst (λ arms. Gathers (joined (map reads_of_arm arms) ++ joined (map reads other))
+    (joined (map writes_of_arm arms) ++ joined (map writes other)) (joined (map (λ arm. (out-Arm arm).body) arms) ++ other) p r a c) same_arms
+    (subst (λ body. Gathers (joined (map reads_of_arm made_arms) ++ joined (map reads body))
+    (joined (map writes_of_arm made_arms) ++ joined (map writes body)) (joined (map (λ arm. (out-Arm arm).body) made_arms) ++ body) p r a c) same
     (gathers_then _ _ _ _ _ _ p q r a b c one then)))
 
-pub when_gathers : (what : StmtKind) (guard : Guard) (e : Expr) (body made : List Stmt) → what ≡ When guard e body → made ≡ body → (p q r : Paths) (a b : List Effect)
+pub when_gathers : (what : StmtKind) (guard : Guard) (e : Expr) (body made : List Stmt) → what ≡ When guard e body → made ≡ body →
+    (p q r : Paths) (a b : List Effect)
     → q.reads ≡ p.reads ++ mentions e → q.writes ≡ p.writes → Gathers (joined (map reads made)) (joined (map writes made)) made q r a b
     → Gathers (reads_of_kind what) (writes_of_kind what) (children_of_kind what) p r a b
 when_gathers what guard e body made is same p q r a b read wrote then =
     gathers_kind what (StmtKind-F.When guard e body) (ap out-StmtKind is ∙ outs-When guard e body) p r a b
-    (subst (λ body. Gathers (mentions e ++ joined (map reads body)) (joined (map writes body)) body p r a b) same (reads_before _ _ _ _ p q r a b read wrote then))
+    (subst (λ body. Gathers (mentions e ++ joined (map reads body)) (joined (map writes body)) body p r a b) same
+    (reads_before _ _ _ _ p q r a b read wrote then))
 
 pub while_gathers : (what : StmtKind) (e : Expr) (body made : List Stmt) → what ≡ While e body → made ≡ body → (p q r : Paths) (a b : List Effect)
     → q.reads ≡ p.reads ++ mentions e → q.writes ≡ p.writes → Gathers (joined (map reads made)) (joined (map writes made)) made q r a b
     → Gathers (reads_of_kind what) (writes_of_kind what) (children_of_kind what) p r a b
 while_gathers what e body made is same p q r a b read wrote then =
     gathers_kind what (StmtKind-F.While e body) (ap out-StmtKind is ∙ outs-While e body) p r a b
-    (subst (λ body. Gathers (mentions e ++ joined (map reads body)) (joined (map writes body)) body p r a b) same (reads_before _ _ _ _ p q r a b read wrote then))
+    (subst (λ body. Gathers (mentions e ++ joined (map reads body)) (joined (map writes body)) body p r a b) same
+    (reads_before _ _ _ _ p q r a b read wrote then))
 
 pub until_gathers : (what : StmtKind) (e : Expr) (body made : List Stmt) → what ≡ Until body e → made ≡ body → (p q r : Paths) (a b : List Effect)
     → Gathers (joined (map reads made)) (joined (map writes made)) made p q a b → r.reads ≡ q.reads ++ mentions e → r.writes ≡ q.writes
     → Gathers (reads_of_kind what) (writes_of_kind what) (children_of_kind what) p r a b
 until_gathers what e body made is same p q r a b first read wrote =
     gathers_kind what (StmtKind-F.Until body e) (ap out-StmtKind is ∙ outs-Until body e) p r a b
-    (subst (λ body. Gathers (joined (map reads body) ++ mentions e) (joined (map writes body)) body p r a b) same (reads_after _ _ _ _ p q r a b first read wrote))
+    (subst (λ body. Gathers (joined (map reads body) ++ mentions e) (joined (map writes body)) body p r a b) same
+    (reads_after _ _ _ _ p q r a b first read wrote))
 
 pub branch_gathers : (branch : Branch) (body : List Stmt) → body ≡ (out-Branch branch).body → (p q : Paths) (a b : List Effect)
-    → Gathers (joined (map reads body)) (joined (map writes body)) body p q a b → Gathers (reads_of_branch branch) (writes_of_branch branch) (out-Branch branch).body p q a b
+    → Gathers (joined (map reads body)) (joined (map writes body)) body p q a b →
+    Gathers (reads_of_branch branch) (writes_of_branch branch) (out-Branch branch).body p q a b
 branch_gathers branch body same p q a b gathers =
     subst (λ r. Gathers r (writes_of_branch branch) (out-Branch branch).body p q a b) (sym (reads_branch_out branch))
     (subst (λ w. Gathers (joined (map reads (out-Branch branch).body)) w (out-Branch branch).body p q a b) (sym (writes_branch_out branch))
@@ -255,17 +334,21 @@ pub arm_gathers : (arm : Arm) (body : List Stmt) → body ≡ (out-Arm arm).body
 arm_gathers arm body same p q r a b read wrote gathers =
     subst (λ read. Gathers read (writes_of_arm arm) (out-Arm arm).body p r a b) (sym (reads_arm_out arm))
     (subst (λ w. Gathers (mentions (out-Arm arm).test ++ joined (map reads (out-Arm arm).body)) w (out-Arm arm).body p r a b) (sym (writes_arm_out arm))
-    (subst (λ body. Gathers (mentions (out-Arm arm).test ++ joined (map reads body)) (joined (map writes body)) body p r a b) same (reads_before _ _ _ _ p q r a b read wrote gathers)))
+    (subst (λ body. Gathers (mentions (out-Arm arm).test ++ joined (map reads body)) (joined (map writes body)) body p r a b) same
+    (reads_before _ _ _ _ p q r a b read wrote gathers)))
 
 -- what the tests of branches come to
 pub branches_end : (all : List Branch) (k : ℕ) (is_strong strong some : Bool) → length all ≤ k
-    → (is_strong || any_of (map (λ branch. not (ends_of_branch branch).weak) (drop k all))) ≡ any_of (map (λ branch. not (ends_of_branch branch).weak) all)
-    → (strong && all_of (map (λ branch. (ends_of_branch branch).weak || (ends_of_branch branch).instant) (drop k all))) ≡ all_of (map (λ branch. (ends_of_branch branch).weak || (ends_of_branch branch).instant) all)
+    → (is_strong || any_of (map (λ branch. not (ends_of_branch branch).weak) (drop k all)))
+    ≡ any_of (map (λ branch. not (ends_of_branch branch).weak) all)
+    → (strong && all_of (map (λ branch. (ends_of_branch branch).weak || (ends_of_branch branch).instant) (drop k all)))
+    ≡ all_of (map (λ branch. (ends_of_branch branch).weak || (ends_of_branch branch).instant) all)
     → (some || any_of (map (λ branch. (ends_of_branch branch).instant) (drop k all))) ≡ any_of (map (λ branch. (ends_of_branch branch).instant) all)
     → cond is_strong strong some ≡ branches_instant (map ends_of_branch all)
 branches_end all k is_strong strong some over strongs alls somes =
     let first = any_end (λ branch. not (ends_of_branch branch).weak) all k is_strong over strongs ∙ ap any_of (sym (twice (λ ends. not ends.weak) all)) in
-    let second = all_end (λ branch. (ends_of_branch branch).weak || (ends_of_branch branch).instant) all k strong over alls ∙ ap all_of (sym (twice (λ ends. ends.weak || ends.instant) all)) in
+    let second = all_end (λ branch. (ends_of_branch branch).weak || (ends_of_branch branch).instant) all k strong over alls
+    ∙ ap all_of (sym (twice (λ ends. ends.weak || ends.instant) all)) in
     let third = any_end (λ branch. (ends_of_branch branch).instant) all k some over somes ∙ ap any_of (sym (twice (λ ends. ends.instant) all)) in
     λ i. cond (first i) (second i) (third i)
   where
@@ -304,14 +387,21 @@ records_statement s sets a b c inside is inserted at = step (same_place (place_o
     step : (t : Bool) → same_place (place_of s) at ≡ t → Kept (StandsIn (children s)) a b at ⊎ Told (StandsIn (children s)) b at
         → Kept (StandsIn (s ∷ [])) a c at ⊎ Told (StandsIn (s ∷ [])) c at
     step true here before =
-        inr (record { statement = s; stands = alone s s itself; there = same_place_is (place_of s) at here; tells = inserted at ∙ ap (λ t. cond t (Some (effect_at (place_of s) sets)) (found b at)) here ∙ ap Some is })
+        inr (record {
+          statement = s;
+          stands = alone s s itself;
+          there = same_place_is (place_of s) at here;
+          tells =
+              inserted at ∙ ap (λ t. cond t (Some (effect_at (place_of s) sets)) (found b at)) here ∙ ap Some is;
+        })
     step false here before =
         let past = inserted at ∙ ap (λ t. cond t (Some (effect_at (place_of s) sets)) (found b at)) here in
         ⊎_elim
         (λ (kept : Kept (StandsIn (children s)) a b at). inl (record {
           same = past ∙ kept.same;
           none = λ t stands there.
-              ⊎_elim (λ same. let seen : same_place (place_of s) at ≡ true = ap (λ u. same_place (place_of u) at) (sym same) ∙ ap (λ place. same_place place at) there ∙ same_place_refl at in absurd (cc))
+              ⊎_elim (λ same. let seen : same_place (place_of s) at ≡ true =
+              ap (λ u. same_place (place_of u) at) (sym same) ∙ ap (λ place. same_place place at) there ∙ same_place_refl at in absurd (cc))
               (λ deep. kept.none t deep there) (within_cases t s (only s t stands));
         }))
         (λ (told : Told (StandsIn (children s)) b at). inr (record {
@@ -325,7 +415,8 @@ records_statement s sets a b c inside is inserted at = step (same_place (place_o
 -- what is gathered of a statement, from what is gathered of its parts
 pub statement_gathers : (s : Stmt) (sets : Sets) (empty inner p q : Paths) (a b c : List Effect)
     → Gathers (reads_of_kind (out-Stmt s).what) (writes_of_kind (out-Stmt s).what) (children_of_kind (out-Stmt s).what) empty inner a b
-    → empty.reads ≡ [] → empty.writes ≡ [] → sets.reads ≡ set_of inner.reads → sets.writes ≡ set_of inner.writes → sets.instant ≡ instant_of_kind (out-Stmt s).what
+    → empty.reads ≡ [] → empty.writes ≡ [] → sets.reads ≡ set_of inner.reads → sets.writes ≡ set_of inner.writes →
+    sets.instant ≡ instant_of_kind (out-Stmt s).what
     → q.reads ≡ p.reads ++ sets.reads → q.writes ≡ p.writes ++ sets.writes
     → ((at : Place) → found c at ≡ cond (same_place (place_of s) at) (Some (effect_at (place_of s) sets)) (found b at))
     → Gathers (reads s) (writes s) (s ∷ []) p q a c
@@ -335,7 +426,8 @@ statement_gathers s sets empty inner p q a b c gathers no_reads no_writes read w
     let writes_is : sets.writes ≡ writes s = wrote ∙ ap set_of (gathers.writes_grow ∙ ap (λ xs. xs ++ writes_of_kind (out-Stmt s).what) no_writes)
     ∙ sym (fold_out-Stmt (List Static) (List Static) (List Static) (List Static) kind_writes arm_writes branch_paths stmt_set s) in
     let ends_is : sets.instant ≡ instant s = ends ∙ sym (fold_out-Stmt Bool Bool Ends Bool kind_instant arm_instant branch_ends stmt_instant s) in
-    let effect_is : effect_at (place_of s) sets ≡ effect_of s = λ i. record { place = place_of s; reads = reads_is i; writes = writes_is i; instant = ends_is i } in
+    let effect_is : effect_at (place_of s) sets ≡ effect_of s =
+    λ i. record { place = place_of s; reads = reads_is i; writes = writes_is i; instant = ends_is i } in
     record {
       reads_grow = grown ∙ ap (λ xs. p.reads ++ xs) reads_is;
       writes_grow = grown_too ∙ ap (λ xs. p.writes ++ xs) writes_is;

@@ -10,7 +10,7 @@ use Rattle.bl_tree.specs.declared.tree.StmtKind.{StmtKind, fold-StmtKind, fold-r
 use Rattle.bl_tree.specs.declared.tree.StmtKind.TheOpen.{StmtKind-F}
 use Rattle.bl_tree.specs.Reduce.{all_of, any_of}
 use Rattle.bl_tree.proofs.StmtInduction.{Cases, Each, EachArm, EachBranch, induct, stmt}
-use Rattle.bl_effects.specs.Gathered.{ends_of_branch, instant_of_arm, instant_of_kind}
+use Rattle.bl_effects.specs.inner.Gathered.{ends_of_branch, instant_of_arm, instant_of_kind}
 use Rattle.bl_tree.specs.Instant.{Ends, arm_instant, branch_ends, instant, kind_instant, stmt_instant}
 use Rattle.bl_effects.specs.Rules.{BranchLoops, Loops, arm_loops, branch_loops, kind_loops, loop_instants, loops_in, stmt_loops}
 use Rattle.bl_effects.specs.Surface.{BranchSurface, Surface, arm_surface, branch_surface, instants_of, kind_surface, stmt_surface, surface_of}
@@ -63,7 +63,8 @@ surface_branch branch each =
     ap (λ s. s.ends) (fold_out-Branch Surface Surface BranchSurface Surface kind_surface arm_surface branch_surface stmt_surface branch)
     ∙ (λ i. record { weak = (out-Branch branch).weak; instant = all_of (surface_blocks (out-Branch branch).body each i) }) ∙ sym (ends_branch_out branch)
 
-surface_same : (place : Place) (layer : StmtKind-F StmtKind Arm Branch Stmt) → instants_of (surface_parts layer) ≡ instant_parts layer → SurfaceAgrees (stmt place layer)
+surface_same : (place : Place) (layer : StmtKind-F StmtKind Arm Branch Stmt) →
+    instants_of (surface_parts layer) ≡ instant_parts layer → SurfaceAgrees (stmt place layer)
 surface_same place layer is = ap (λ s. s.instant) (surface_at place layer) ∙ ap kind_instant is ∙ sym (instant_at place layer)
 
 -- what the surface of a statement carries along is whether it may end at once
@@ -75,9 +76,11 @@ surface_agrees = induct SurfaceAgrees (record {
   await = λ place e. surface_same place (StmtKind-F.Await e) refl;
   run = λ place target a inputs outputs. surface_same place (StmtKind-F.Run target a inputs outputs) refl;
   branching = λ place arms other in_arms in_other. surface_same place (StmtKind-F.If arms other)
-      (λ i. StmtKind-F.If (alike surface_of_arm (λ s. s.instant) instant_of_arm arms (shown (λ arm. Each SurfaceAgrees (out-Arm arm).body) _ surface_arm arms in_arms) i) (surface_blocks other in_other i));
+      (λ i. StmtKind-F.If (alike surface_of_arm (λ s. s.instant) instant_of_arm arms
+      (shown (λ arm. Each SurfaceAgrees (out-Arm arm).body) _ surface_arm arms in_arms) i) (surface_blocks other in_other i));
   cobegin = λ place branches in_branches. surface_same place (StmtKind-F.Cobegin branches)
-      (ap StmtKind-F.Cobegin (alike surface_of_branch (λ s. s.ends) ends_of_branch branches (shown (λ branch. Each SurfaceAgrees (out-Branch branch).body) _ surface_branch branches in_branches)));
+      (ap StmtKind-F.Cobegin (alike surface_of_branch (λ s. s.ends) ends_of_branch branches
+      (shown (λ branch. Each SurfaceAgrees (out-Branch branch).body) _ surface_branch branches in_branches)));
   guarded = λ place guard e body each. surface_same place (StmtKind-F.When guard e body) (ap (StmtKind-F.When guard e) (surface_blocks body each));
   repeat = λ place body each. surface_same place (StmtKind-F.Repeat body) (ap StmtKind-F.Repeat (surface_blocks body each));
   until = λ place body e each. surface_same place (StmtKind-F.Until body e) (ap (λ body. StmtKind-F.Until body e) (surface_blocks body each));
@@ -118,7 +121,8 @@ loop_branch branch each =
     ap (λ s. s.ends) (fold_out-Branch (Place → Loops) Loops BranchLoops Loops kind_loops arm_loops branch_loops stmt_loops branch)
     ∙ (λ i. record { weak = (out-Branch branch).weak; instant = all_of (loop_blocks (out-Branch branch).body each i) }) ∙ sym (ends_branch_out branch)
 
-loop_same : (place : Place) (layer : StmtKind-F StmtKind Arm Branch Stmt) → kind_instant (loop_instants (loop_parts layer)) ≡ kind_instant (instant_parts layer) → LoopsAgree (stmt place layer)
+loop_same : (place : Place) (layer : StmtKind-F StmtKind Arm Branch Stmt) →
+    kind_instant (loop_instants (loop_parts layer)) ≡ kind_instant (instant_parts layer) → LoopsAgree (stmt place layer)
 loop_same place layer is = ap (λ s. s.instant) (loops_at place layer) ∙ is ∙ sym (instant_at place layer)
 
 -- and so does what is known of its loops
@@ -130,9 +134,12 @@ loops_agree = induct LoopsAgree (record {
   await = λ place e. loop_same place (StmtKind-F.Await e) refl;
   run = λ place target a inputs outputs. loop_same place (StmtKind-F.Run target a inputs outputs) refl;
   branching = λ place arms other in_arms in_other. loop_same place (StmtKind-F.If arms other)
-      (λ i. any_of (alike loops_of_arm (λ s. s.instant) instant_of_arm arms (shown (λ arm. Each LoopsAgree (out-Arm arm).body) _ loop_arm arms in_arms) i) || all_of (loop_blocks other in_other i));
+      (λ i. any_of (alike loops_of_arm (λ s. s.instant) instant_of_arm arms
+      (shown (λ arm. Each LoopsAgree (out-Arm arm).body) _ loop_arm arms in_arms) i) || all_of (loop_blocks other in_other i));
   cobegin = λ place branches in_branches. loop_same place (StmtKind-F.Cobegin branches)
-      (ap (λ ends. kind_instant (StmtKind-F.Cobegin ends)) (alike loops_of_branch (λ s. s.ends) ends_of_branch branches (shown (λ branch. Each LoopsAgree (out-Branch branch).body) _ loop_branch branches in_branches)));
+      (ap (λ ends. kind_instant (StmtKind-F.Cobegin ends))
+      (alike loops_of_branch (λ s. s.ends) ends_of_branch branches
+      (shown (λ branch. Each LoopsAgree (out-Branch branch).body) _ loop_branch branches in_branches)));
   guarded = λ place guard e body each. loop_same place (StmtKind-F.When guard e body) (ap all_of (loop_blocks body each));
   repeat = λ place body each. loop_same place (StmtKind-F.Repeat body) refl;
   until = λ place body e each. loop_same place (StmtKind-F.Until body e) (ap all_of (loop_blocks body each));

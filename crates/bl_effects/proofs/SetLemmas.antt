@@ -1,5 +1,38 @@
 -- A set of static paths is what its members make it: the one ascending list of them.
-use Rattle.std.proofs.Common.{◌≡◌, IsTrue, get_or, ℕ, zero, suc, Bool, true, false, cond, ◌&&◌, ◌||◌, List, [], ◌∷◌, ◌⊎◌, inl, inr, ⊎_elim, refl, sym, ap, ◌∙◌, subst, arith, nat_cmp, is_lt, is_eq, Ordering, Less, Equal, Greater}
+use Rattle.std.proofs.Common.{
+  ◌≡◌,
+  IsTrue,
+  get_or,
+  ℕ,
+  zero,
+  suc,
+  Bool,
+  true,
+  false,
+  cond,
+  ◌&&◌,
+  ◌||◌,
+  List,
+  [],
+  ◌∷◌,
+  ◌⊎◌,
+  inl,
+  inr,
+  ⊎_elim,
+  refl,
+  sym,
+  ap,
+  ◌∙◌,
+  subst,
+  arith,
+  nat_cmp,
+  is_lt,
+  is_eq,
+  Ordering,
+  Less,
+  Equal,
+  Greater,
+}
 use Rattle.std.specs.Cmp.{nat_eq_equiv, tied_itself, eq_by_cmp_equiv}
 use Rattle.std.specs.Cmp.Lexicographic.{slice_cmp}
 use Rattle.std.specs.FinMap.{IsAntisymmetric, nat_cmp-IsAntisymmetric, slice_cmp-IsAntisymmetric}
@@ -32,9 +65,11 @@ static_cmp_tells a b is =
 
 fields_less : (xs ys : List ℕ) → is_lt (slice_cmp nat_cmp xs ys) ≡ fields_precede xs ys
 fields_less xs ys =
-    same_from_slice_cmp nat_cmp is_lt fields_precede refl (λ _ _. refl) (λ _ _. refl) (λ x y xs ys o h. grind (arith, nat_tests)) xs ys (slice_cmp nat_cmp xs ys) refl
+    same_from_slice_cmp nat_cmp is_lt fields_precede refl (λ _ _. refl) (λ _ _. refl)
+    (λ x y xs ys o h. grind (arith, nat_tests)) xs ys (slice_cmp nat_cmp xs ys) refl
 
-tests_agree : (less equal fields : Bool) (s : Ordering) → is_lt s ≡ fields → (less || (equal && fields)) ≡ is_lt (ordering_then (cond less Less (cond equal Equal Greater)) s)
+tests_agree : (less equal fields : Bool) (s : Ordering) → is_lt s ≡ fields →
+    (less || (equal && fields)) ≡ is_lt (ordering_then (cond less Less (cond equal Equal Greater)) s)
 tests_agree true equal fields s is = refl
 tests_agree false true fields s is = sym is
 tests_agree false false fields s is = refl
@@ -56,7 +91,8 @@ two_tests Greater x y z = refl
 placed_by : (a b : Static) (rest : List Static) → placed a (b ∷ rest) ≡ by_order (static_cmp a b) (a ∷ b ∷ rest) (b ∷ rest) (b ∷ placed a rest)
 placed_by a b rest =
     ap (λ test. cond test (a ∷ b ∷ rest) (cond (precedes b a) (b ∷ placed a rest) (b ∷ rest))) (precedes_less a b)
-    ∙ ap (λ test. cond (is_lt (static_cmp a b)) (a ∷ b ∷ rest) (cond test (b ∷ placed a rest) (b ∷ rest))) (precedes_less b a ∙ ap is_lt (static_cmp_total.antisymm b a))
+    ∙ ap (λ test. cond (is_lt (static_cmp a b)) (a ∷ b ∷ rest) (cond test (b ∷ placed a rest) (b ∷ rest)))
+    (precedes_less b a ∙ ap is_lt (static_cmp_total.antisymm b a))
     ∙ two_tests (static_cmp a b) (a ∷ b ∷ rest) (b ∷ rest) (b ∷ placed a rest)
 
 -- ---- members
@@ -77,10 +113,12 @@ in_placed x a (b ∷ rest) h =
 placed_in : (x a : Static) (xs : List Static) → (x ≡ a) ⊎ In x xs → In x (placed a xs)
 placed_in x a [] h = h
 placed_in x a (b ∷ rest) h =
-    subst (In x) (sym (placed_by a b rest)) (elim (static_cmp a b) as (λ o. static_cmp a b ≡ o → (x ≡ a) ⊎ In x (b ∷ rest) → In x (by_order o (a ∷ b ∷ rest) (b ∷ rest) (b ∷ placed a rest))) [
+    subst (In x) (sym (placed_by a b rest)) (elim (static_cmp a b)
+    as (λ o. static_cmp a b ≡ o → (x ≡ a) ⊎ In x (b ∷ rest) → In x (by_order o (a ∷ b ∷ rest) (b ∷ rest) (b ∷ placed a rest))) [
       | Less ↦ λ is h. h
       | Equal ↦ λ is h. ⊎_elim (λ same. inl (same ∙ static_cmp_tells a b is)) (λ old. old) h
-      | Greater ↦ λ is h. ⊎_elim (λ same. inr (placed_in x a rest (inl same))) (λ old. ⊎_elim (λ same. inl same) (λ later. inr (placed_in x a rest (inr later))) old) h
+      | Greater ↦ λ is h. ⊎_elim (λ same. inr (placed_in x a rest (inl same)))
+          (λ old. ⊎_elim (λ same. inl same) (λ later. inr (placed_in x a rest (inr later))) old) h
     ] refl h)
 
 pub in_set : (x : Static) (xs : List Static) → In x (set_of xs) → In x xs
@@ -106,10 +144,15 @@ turned a b is = static_cmp_total.antisymm b a ∙ ap ordering_reverse is
 ascending_placed : (a : Static) (xs : List Static) → Ascending xs → Ascending (placed a xs)
 ascending_placed a [] h = ((λ y none. absurd none), tt)
 ascending_placed a (b ∷ rest) h =
-    subst Ascending (sym (placed_by a b rest)) (elim (static_cmp a b) as (λ o. static_cmp a b ≡ o → Ascending (by_order o (a ∷ b ∷ rest) (b ∷ rest) (b ∷ placed a rest))) [
+    subst Ascending (sym (placed_by a b rest)) (elim (static_cmp a b)
+    as (λ o. static_cmp a b ≡ o → Ascending (by_order o (a ∷ b ∷ rest) (b ∷ rest) (b ∷ placed a rest))) [
       | Less ↦ λ is. ((λ y there. ⊎_elim (λ same. ap (static_cmp a) same ∙ is) (λ later. static_cmp_total.trans a b y is (h.0 y later)) there), h)
       | Equal ↦ λ is. h
-      | Greater ↦ λ is. ((λ y there. ⊎_elim (λ same. ap (static_cmp b) same ∙ turned a b is) (λ old. h.0 y old) (in_placed y a rest there)), ascending_placed a rest h.1)
+      | Greater ↦ λ is. (
+        (λ y there. ⊎_elim (λ same. ap (static_cmp b) same ∙ turned a b is) (λ old. h.0 y old)
+            (in_placed y a rest there)),
+        ascending_placed a rest h.1,
+      )
     ] refl)
 
 pub ascending_set : (xs : List Static) → Ascending (set_of xs)
@@ -123,13 +166,15 @@ not_itself : (a b : Static) → static_cmp a b ≡ Less → b ≡ a → ⊥
 not_itself a b less same = let tied : static_cmp a b ≡ Equal = ap (static_cmp a) same ∙ tied_itself static_cmp_total a in cc
 
 -- two ascending lists with the same members are one
-pub one_ascending : (xs ys : List Static) → Ascending xs → Ascending ys → ((x : Static) → In x xs → In x ys) → ((x : Static) → In x ys → In x xs) → xs ≡ ys
+pub one_ascending : (xs ys : List Static) → Ascending xs → Ascending ys → ((x : Static) → In x xs → In x ys) →
+    ((x : Static) → In x ys → In x xs) → xs ≡ ys
 one_ascending [] [] up_xs up_ys there back = refl
 one_ascending [] (y ∷ ys) up_xs up_ys there back = absurd (back y (inl refl))
 one_ascending (x ∷ xs) [] up_xs up_ys there back = absurd (there x (inl refl))
 one_ascending (x ∷ xs) (y ∷ ys) up_xs up_ys there back =
     let first : x ≡ y =
-    ⊎_elim (λ is. is) (λ later. ⊎_elim (λ is. sym is) (λ other. absurd (not_both x y (up_xs.0 y other) (up_ys.0 x later))) (back y (inl refl))) (there x (inl refl)) in
+    ⊎_elim (λ is. is) (λ later. ⊎_elim (λ is. sym is) (λ other. absurd (not_both x y (up_xs.0 y other) (up_ys.0 x later)))
+    (back y (inl refl))) (there x (inl refl)) in
     let rest = one_ascending xs ys up_xs.1 up_ys.1
     (λ z in_xs. ⊎_elim (λ is. absurd (not_itself x z (up_xs.0 z in_xs) (is ∙ sym first))) (λ later. later) (there z (inr in_xs)))
     (λ z in_ys. ⊎_elim (λ is. absurd (not_itself y z (up_ys.0 z in_ys) (is ∙ first))) (λ later. later) (back z (inr in_ys))) in
@@ -144,7 +189,8 @@ contains_in x (y ∷ xs) (suc k, below, is) = inr (contains_in x xs (k, omega ar
 
 pub in_contains : (x : Static) (xs : List Static) → In x xs → Contains xs x
 in_contains x [] h = absurd h
-in_contains x (y ∷ xs) h = ⊎_elim (λ is. (zero, omega arith, sym is)) (λ later. let there = in_contains x xs later in let below = there.1 in (suc there.0, omega arith, there.2)) h
+in_contains x (y ∷ xs) h = ⊎_elim (λ is. (zero, omega arith, sym is))
+    (λ later. let there = in_contains x xs later in let below = there.1 in (suc there.0, omega arith, there.2)) h
 
 in_recursion : (P : Static → Type 0) (xs : List Static) → AllByRecursion P xs → (y : Static) → In y xs → P y
 in_recursion P [] all y h = absurd h
@@ -168,8 +214,10 @@ pub sorted_is_set : (xs sorted : List Static) → IsPermutation xs sorted → Is
 sorted_is_set xs sorted moved up =
     one_ascending (dedup (eq_by_cmp static_cmp) sorted) (set_of xs)
     (ascending_from _ (IsStrictlySortedBy-dedup static_cmp_total (λ x y. refl) sorted up)) (ascending_set xs)
-    (λ x kept. set_in x xs (contains_in x xs (Contains-permutation sorted xs x (IsPermutation-sym xs sorted moved) (Contains-from_dedup (eq_by_cmp static_cmp) sorted x (in_contains x _ kept)))))
-    (λ x there. contains_in x _ (Contains-dedup (eq_by_cmp_equiv static_cmp_total) tied_is sorted x (Contains-permutation xs sorted x moved (in_contains x xs (in_set x xs there)))))
+    (λ x kept. set_in x xs (contains_in x xs (Contains-permutation sorted xs x (IsPermutation-sym xs sorted moved)
+    (Contains-from_dedup (eq_by_cmp static_cmp) sorted x (in_contains x _ kept)))))
+    (λ x there. contains_in x _ (Contains-dedup (eq_by_cmp_equiv static_cmp_total) tied_is sorted x
+    (Contains-permutation xs sorted x moved (in_contains x xs (in_set x xs there)))))
 
 -- ---- what a set has, and its order
 
@@ -180,7 +228,8 @@ ascending_pairs : (xs : List Static) → Ascending xs → AllPairs (λ a b. IsTr
 ascending_pairs [] h = λ i j d before within. absurd (omega arith)
 ascending_pairs (x ∷ xs) h =
     AllPairs-cons (λ a b. IsTrue (precedes a b)) x xs
-    (λ k d within. precedes_less x (get_or xs k d) ∙ ap is_lt (h.0 (get_or xs k d) (contains_in (get_or xs k d) xs (Contains-get_or xs k d within)))) (ascending_pairs xs h.1)
+    (λ k d within. precedes_less x (get_or xs k d) ∙ ap is_lt
+    (h.0 (get_or xs k d) (contains_in (get_or xs k d) xs (Contains-get_or xs k d within)))) (ascending_pairs xs h.1)
 
 pub set_ascends : (xs : List Static) → AllPairs (λ a b. IsTrue (precedes a b)) (set_of xs)
 set_ascends xs = ascending_pairs (set_of xs) (ascending_set xs)

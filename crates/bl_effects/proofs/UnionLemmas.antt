@@ -1,5 +1,25 @@
 -- What stands in a statement reads and writes no more than the statement.
-use Rattle.std.proofs.Common.{◌≡◌, ℕ, List, [], ◌∷◌, ◌++◌, ◌⊎◌, inl, inr, ⊎_elim, map, refl, sym, ap, ◌∙◌, subst, zero, suc, arith}
+use Rattle.std.proofs.Common.{
+  ◌≡◌,
+  ℕ,
+  List,
+  [],
+  ◌∷◌,
+  ◌++◌,
+  ◌⊎◌,
+  inl,
+  inr,
+  ⊎_elim,
+  map,
+  refl,
+  sym,
+  ap,
+  ◌∙◌,
+  subst,
+  zero,
+  suc,
+  arith,
+}
 use Rattle.std.specs.Prelude.{Contains}
 use Rattle.std.proofs.lemmas.List.Elements.{Contains-append_left, Contains-append_right, Contains-append_cases}
 use Rattle.bl_tree.specs.declared.tree.Arm.{Arm, out-Arm}
@@ -10,7 +30,7 @@ use Rattle.bl_tree.specs.declared.tree.StmtKind.TheOpen.{StmtKind-F}
 use Rattle.bl_tree.specs.Reduce.{joined}
 use Rattle.bl_tree.specs.declared.static_path.Static.{Static}
 use Rattle.bl_tree.specs.Effects.{arm_reads, arm_writes, branch_paths, kind_reads, kind_writes, reads, stmt_set, writes}
-use Rattle.bl_effects.specs.Gathered.{reads_of_arm, reads_of_branch, reads_of_kind, writes_of_arm, writes_of_branch, writes_of_kind}
+use Rattle.bl_effects.specs.inner.Gathered.{reads_of_arm, reads_of_branch, reads_of_kind, writes_of_arm, writes_of_branch, writes_of_kind}
 use Rattle.bl_tree.specs.Static.{mentions, set_of}
 use Rattle.bl_tree.specs.Within.{Within, children, deeper, itself, kind_children}
 use Rattle.bl_effects.proofs.GatherLemmas.{read_parts, reads_arm_out, reads_branch_out, writes_arm_out, writes_branch_out, written_parts}
@@ -28,21 +48,26 @@ of_part : {A B C : Type 0} (f : A → List B) (g : A → List C) (b : B) (c : C)
     → (xs : List A) → Contains (joined (map f xs)) b → Contains (joined (map g xs)) c
 of_part f g b c gives [] there = absurd (none b there)
 of_part f g b c gives (x ∷ xs) there =
-    ⊎_elim (λ first. Contains-append_left (g x) (joined (map g xs)) c (gives x first)) (λ rest. Contains-append_right (g x) (joined (map g xs)) c (of_part f g b c gives xs rest))
+    ⊎_elim (λ first. Contains-append_left (g x) (joined (map g xs)) c (gives x first))
+    (λ rest. Contains-append_right (g x) (joined (map g xs)) c (of_part f g b c gives xs rest))
     (Contains-append_cases (f x) (joined (map f xs)) b there)
 
 of_one : {A C : Type 0} (g : A → List C) (a : A) (c : C) → Contains (g a) c → (xs : List A) → Contains xs a → Contains (joined (map g xs)) c
 of_one g a c gives [] there = absurd (none a there)
 of_one g a c gives (x ∷ xs) there =
-    ⊎_elim (λ first. Contains-append_left (g x) (joined (map g xs)) c (subst (λ y. Contains (g y) c) (sym (sole x a first)) gives)) (λ rest. Contains-append_right (g x) (joined (map g xs)) c (of_one g a c gives xs rest))
+    ⊎_elim (λ first. Contains-append_left (g x) (joined (map g xs)) c (subst (λ y. Contains (g y) c) (sym (sole x a first)) gives))
+    (λ rest. Contains-append_right (g x) (joined (map g xs)) c (of_one g a c gives xs rest))
     (Contains-append_cases (x ∷ []) xs a there)
 
-read_child : (layer : StmtKind-F StmtKind Arm Branch Stmt) (s : Stmt) (x : Static) → Contains (kind_children layer) s → Contains (reads s) x → Contains (kind_reads (read_parts layer)) x
+read_child : (layer : StmtKind-F StmtKind Arm Branch Stmt) (s : Stmt) (x : Static) → Contains (kind_children layer) s →
+    Contains (reads s) x → Contains (kind_reads (read_parts layer)) x
 read_child (StmtKind-F.If arms other) s x there has =
     ⊎_elim
     (λ first. Contains-append_left (joined (map reads_of_arm arms)) (joined (map reads other)) x
     (of_part (λ arm. (out-Arm arm).body) reads_of_arm s x
-    (λ arm inside. subst (λ r. Contains r x) (sym (reads_arm_out arm)) (Contains-append_right (mentions (out-Arm arm).test) (joined (map reads (out-Arm arm).body)) x (of_one reads s x has (out-Arm arm).body inside))) arms first))
+    (λ arm inside. subst (λ r. Contains r x) (sym (reads_arm_out arm))
+    (Contains-append_right (mentions (out-Arm arm).test) (joined (map reads (out-Arm arm).body)) x
+    (of_one reads s x has (out-Arm arm).body inside))) arms first))
     (λ rest. Contains-append_right (joined (map reads_of_arm arms)) (joined (map reads other)) x (of_one reads s x has other rest))
     (Contains-append_cases (joined (map (λ arm. (out-Arm arm).body) arms)) other s there)
 read_child (StmtKind-F.Cobegin branches) s x there has =
@@ -54,7 +79,8 @@ read_child (StmtKind-F.Until body e) s x there has = Contains-append_left (joine
 read_child (StmtKind-F.While e body) s x there has = Contains-append_right (mentions e) (joined (map reads body)) x (of_one reads s x has body there)
 read_child _ s x there has = absurd (none s there)
 
-written_child : (layer : StmtKind-F StmtKind Arm Branch Stmt) (s : Stmt) (x : Static) → Contains (kind_children layer) s → Contains (writes s) x → Contains (kind_writes (written_parts layer)) x
+written_child : (layer : StmtKind-F StmtKind Arm Branch Stmt) (s : Stmt) (x : Static) → Contains (kind_children layer) s →
+    Contains (writes s) x → Contains (kind_writes (written_parts layer)) x
 written_child (StmtKind-F.If arms other) s x there has =
     ⊎_elim
     (λ first. Contains-append_left (joined (map writes_of_arm arms)) (joined (map writes other)) x

@@ -1,5 +1,5 @@
 pub mod Entries
-pub mod Gathered
 pub mod Rules
 pub mod Surface
 pub mod Table
+pub mod inner

@@ -1,6 +1,28 @@
--- How a program fails the rules Pause, Conflict, Alias and Instant, which are the rules 18 to 21, and what their lines name.
-use Rattle.std.specs.Prelude.{◌≡◌, ℕ, ◌<◌, ◌≤◌, ◌⊎◌, Bool, true, List, [], ◌∷◌, ◌++◌, map, slice_get, find, Contains, Option, Some, None, option_map, option_to_list, IsTrue, is_none, if◌then◌else◌, ⊤}
+-- How a program fails the rules Pause, Conflict, Alias and Instant, and what their lines name.
+use Rattle.std.specs.Prelude.{
+  ◌≡◌,
+  Bool,
+  true,
+  List,
+  [],
+  ◌∷◌,
+  ◌++◌,
+  map,
+  slice_get,
+  find,
+  Contains,
+  Option,
+  Some,
+  None,
+  option_map,
+  option_to_list,
+  IsTrue,
+  is_none,
+  if◌then◌else◌,
+}
 use Rattle.bl_tree.specs.declared.place.Place.{Place}
+use Rattle.bl_tree.specs.declared.rule.Rule.{Rule}
+use Rattle.bl_tree.specs.declared.rule.Rule.TheVariants as rule
 use Rattle.bl_tree.specs.declared.tree.Expr.{Expr, out-Expr}
 use Rattle.bl_tree.specs.declared.tree.ExprKind.{out-ExprKind}
 use Rattle.bl_tree.specs.declared.tree.ExprKind.TheOpen.{ExprKind-F}
@@ -11,6 +33,7 @@ use Rattle.bl_tree.specs.declared.tree.StmtKind.TheOpen.{StmtKind-F, Arm-F, Bran
 use Rattle.bl_tree.specs.declared.tree.Unit.{Unit as UnitDef}
 use Rattle.bl_tree.specs.declared.tree.Var.{Var}
 use Rattle.bl_tree.specs.Reduce.{all_of, joined}
+use Rattle.bl_tree.specs.Rules.{FailsFirst as FirstOf, Passes as NoneOf}
 use Rattle.bl_tree.specs.Types.{scalar_in}
 use Rattle.bl_tree.specs.Typing.{is_activity}
 use Rattle.bl_effects.specs.declared.marked.Marked.{Marked}
@@ -260,32 +283,20 @@ pub record FailsInstant (units : List UnitDef) (at : Place) (also : List Place) 
   pub at_loop : at ≡ place
   pub alone : also ≡ []
 
--- ---- the first of them
+-- ---- the rules by name
 
--- the rule of this number fails at this place, with these further places
-abbrev pub Fails : List UnitDef → ℕ → Place → List Place → Type 0
-Fails units number at also =
-    ((number ≡ 18) × FailsPause units at also)
-    ⊎ (((number ≡ 19) × FailsConflict units at also)
-    ⊎ (((number ≡ 20) × FailsAlias units at also) ⊎ ((number ≡ 21) × FailsInstant units at also)))
+-- the rule fails at this place, with these further places; the others aren't judged here
+abbrev pub Fails : List UnitDef → Rule → Place → List Place → Type 0
+Fails units rule.Pause at also = FailsPause units at also
+Fails units rule.Conflict at also = FailsConflict units at also
+Fails units rule.Alias at also = FailsAlias units at also
+Fails units rule.Instant at also = FailsInstant units at also
+Fails units _ at also = ⊥
 
--- the place comes before the other: by their starts, and then by their ends
-abbrev pub IsBefore : Place → Place → Type 0
-IsBefore one other = (one.start < other.start) ⊎ ((one.start ≡ other.start) × (one.end < other.end))
+-- it is the first of the four that fails
+abbrev pub FailsFirst : List UnitDef → Rule → Place → List Place → Type 0
+FailsFirst units = FirstOf (Fails units)
 
--- the places come no later than the others: the first that differ decide
-abbrev pub AreNoLater : List Place → List Place → Type 0
-AreNoLater [] others = ⊤
-AreNoLater (one ∷ rest) [] = ⊥
-AreNoLater (one ∷ rest) (other ∷ others) = IsBefore one other ⊎ ((one ≡ other) × AreNoLater rest others)
-
--- the rule fails at the place with the further places, no lesser rule fails, and this rule fails at no earlier place, and at
--- this place with no earlier further places
-pub record FailsFirst (units : List UnitDef) (number : ℕ) (at : Place) (also : List Place) : Type 0 where
-  pub fails : Fails units number at also
-  pub least_rule : (other : ℕ) (elsewhere : Place) (further : List Place) → Fails units other elsewhere further → number ≤ other
-  pub least_places : (elsewhere : Place) (further : List Place) → Fails units number elsewhere further → AreNoLater (at ∷ also) (elsewhere ∷ further)
-
--- none of the four rules fails
+-- none of the four fails
 abbrev pub Passes : List UnitDef → Type 0
-Passes units = (number : ℕ) (at : Place) (also : List Place) → ¬ Fails units number at also
+Passes units = NoneOf (Fails units)

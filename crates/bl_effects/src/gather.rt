@@ -5,11 +5,11 @@ ghost use Rattle.bl_tree.specs.declared.tree.Arm.{out-Arm};
 ghost use Rattle.bl_tree.specs.declared.tree.Branch.{out-Branch};
 ghost use Rattle.bl_tree.specs.Reduce.{all_of, any_of, joined};
 ghost use Rattle.bl_tree.specs.Effects.{argument_mentions, optional_mentions, reads, target_mentions, target_static, writes};
-ghost use Rattle.bl_effects.specs.Gathered.{Gathers, children_of_kind, ends_of_branch, instant_of_arm, instant_of_kind, reads_of_arm, reads_of_branch, reads_of_kind, writes_of_arm, writes_of_branch, writes_of_kind};
+ghost use Rattle.bl_effects.specs.inner.Gathered.{Gathers, children_of_kind, ends_of_branch, instant_of_arm, instant_of_kind, reads_of_arm, reads_of_branch, reads_of_kind, writes_of_arm, writes_of_branch, writes_of_kind};
 ghost use Rattle.bl_tree.specs.Instant.{branches_instant, instant};
 ghost use Rattle.bl_tree.specs.Static.{mentions, path_mentions, static_of};
 
-use crate::mentions::{expr, exprs, indices, reading, static_of};
+use crate::mentions::{arguments, expr, indices, optional, static_of, statics};
 use crate::sets::set_of;
 use crate::table::{Effects, Sets};
 use bl_tree::static_path::append_copies;
@@ -24,48 +24,12 @@ pub struct Paths {
     pub writes: List<Static>,
 }
 
-/// Appends what an optional expression reads.
-fn optional(alloc: Global, e: &Option<Expr>, into: &mut List<Static>) -> Result<(), NoMemory>
-    ensures { OnOk result (into.new ≡ into.old ++ optional_mentions e.now) }
-{
-    match e {
-        Some(e) => expr(alloc, e, into),
-        None => Ok(()),
-    }
-}
-
-/// Appends the static paths of the outputs.
-fn statics(alloc: Global, outputs: &[Path], into: &mut List<Static>) -> Result<(), NoMemory>
-    ensures { OnOk result (into.new ≡ into.old ++ map static_of outputs.now) }
-{
-    for path in outputs {
-        into.push(static_of(alloc, path)?)?;
-    }
-    Ok(())
-}
-
-/// Appends what the outputs read.
-fn readings(alloc: Global, outputs: &[Path], into: &mut List<Static>) -> Result<(), NoMemory>
-    ensures { OnOk result (into.new ≡ into.old ++ joined (map path_mentions outputs.now)) }
-{
-    for path in outputs {
-        reading(alloc, path, into)?;
-    }
-    Ok(())
-}
-
 /// A call or `run` reads its inputs and outputs, and writes its outputs.
-fn arguments(
-    alloc: Global,
-    inputs: &[Expr],
-    outputs: &[Path],
-    paths: &mut Paths,
-) -> Result<(), NoMemory>
+fn call(alloc: Global, inputs: &[Expr], outputs: &[Path], paths: &mut Paths) -> Result<(), NoMemory>
     ensures reads { OnOk result (paths.new.reads ≡ paths.old.reads ++ argument_mentions inputs.now outputs.now) }
     ensures writes { OnOk result (paths.new.writes ≡ paths.old.writes ++ map static_of outputs.now) }
 {
-    exprs(alloc, inputs, &mut paths.reads)?;
-    readings(alloc, outputs, &mut paths.reads)?;
+    arguments(alloc, inputs, outputs, &mut paths.reads)?;
     statics(alloc, outputs, &mut paths.writes)
 }
 
@@ -164,7 +128,7 @@ fn parts(
             Ok(true)
         }
         StmtKind::Call(_, inputs, outputs) => {
-            arguments(alloc, inputs, outputs, paths)?;
+            call(alloc, inputs, outputs, paths)?;
             Ok(true)
         }
         StmtKind::Await(e) => {
@@ -173,7 +137,7 @@ fn parts(
         }
         StmtKind::Run(path, _, inputs, outputs) => {
             target(alloc, path, paths)?;
-            arguments(alloc, inputs, outputs, paths)?;
+            call(alloc, inputs, outputs, paths)?;
             Ok(false)
         }
         StmtKind::If(arms, other) => {

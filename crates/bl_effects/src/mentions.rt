@@ -1,4 +1,4 @@
-//! What expressions and paths read.
+//! Static paths, and what expressions, paths and arguments read.
 
 ghost use Rattle.std.specs.Prelude.{◌≡◌, ◌∷◌, [], ◌++◌, map, IfOk, OnOk, option_map};
 ghost use Rattle.bl_tree.specs.Reduce.{joined};
@@ -33,6 +33,16 @@ fn leading_fields(alloc: Global, parts: &[Part]) -> Result<List<u32>, NoMemory>
     Ok(fields)
 }
 
+/// Appends the static paths of paths.
+pub fn statics(alloc: Global, paths: &[Path], into: &mut List<Static>) -> Result<(), NoMemory>
+    ensures { OnOk result (into.new ≡ into.old ++ map static_of paths.now) }
+{
+    for path in paths {
+        into.push(static_of(alloc, path)?)?;
+    }
+    Ok(())
+}
+
 /// Appends what an expression reads.
 #[cycle(mentions)]
 pub fn expr(alloc: Global, e: &Expr, into: &mut List<Static>) -> Result<(), NoMemory>
@@ -62,7 +72,7 @@ pub fn exprs(alloc: Global, inputs: &[Expr], into: &mut List<Static>) -> Result<
 
 /// Appends what reading the path reads: its static path, and what its indices read.
 #[cycle(mentions)]
-pub fn reading(alloc: Global, path: &Path, into: &mut List<Static>) -> Result<(), NoMemory>
+fn reading(alloc: Global, path: &Path, into: &mut List<Static>) -> Result<(), NoMemory>
     ensures { OnOk result (into.new ≡ into.old ++ path_mentions path.now) }
 {
     into.push(static_of(alloc, path)?)?;
@@ -88,4 +98,37 @@ fn index(alloc: Global, part: &Part, into: &mut List<Static>) -> Result<(), NoMe
         Part::Field(_) => Ok(()),
         Part::Index(e) => expr(alloc, e, into),
     }
+}
+
+/// Appends what an optional expression reads.
+pub fn optional(alloc: Global, e: &Option<Expr>, into: &mut List<Static>) -> Result<(), NoMemory>
+    ensures { OnOk result (into.new ≡ into.old ++ optional_mentions e.now) }
+{
+    match e {
+        Some(e) => expr(alloc, e, into),
+        None => Ok(()),
+    }
+}
+
+/// Appends what outputs read.
+fn readings(alloc: Global, outputs: &[Path], into: &mut List<Static>) -> Result<(), NoMemory>
+    ensures { OnOk result (into.new ≡ into.old ++ joined (map path_mentions outputs.now)) }
+{
+    for path in outputs {
+        reading(alloc, path, into)?;
+    }
+    Ok(())
+}
+
+/// Appends what the inputs and outputs of a call or `run` read.
+pub fn arguments(
+    alloc: Global,
+    inputs: &[Expr],
+    outputs: &[Path],
+    into: &mut List<Static>,
+) -> Result<(), NoMemory>
+    ensures { OnOk result (into.new ≡ into.old ++ argument_mentions inputs.now outputs.now) }
+{
+    exprs(alloc, inputs, into)?;
+    readings(alloc, outputs, into)
 }

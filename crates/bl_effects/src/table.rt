@@ -2,7 +2,6 @@
 
 ghost use Rattle.std.specs.Prelude.{◌≡◌, cond, [], Some, IfOk, OnOk, option_map};
 ghost use Rattle.bl_effects.specs.Entries.{effect_at};
-ghost use Rattle.bl_tree.specs.Within.{PlacesDecide};
 ghost use Rattle.bl_tree.specs.Rules.{same_place};
 ghost use Rattle.bl_effects.specs.Table.{Has, Tells, found, instant_at, reads_at, writes_at};
 
@@ -44,7 +43,6 @@ impl Model for Effects {
 impl Effects {
     /// The effects of all statements of the program, at any depth.
     pub fn of(alloc: Global, program: &Program) -> Result<Effects, NoMemory>
-        requires { PlacesDecide program.now.units }
         ensures { IfOk result (λ effects. Tells effects program.now.units) }
     {
         let mut effects = Effects::new(alloc);

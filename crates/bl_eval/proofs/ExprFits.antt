@@ -1,5 +1,30 @@
 -- The value of an expression that stands at a site is one of its type, and a path leads to what is of its type.
-use Rattle.std.proofs.Common.{◌≡◌, ℕ, ℤ, suc, zero, length, Bool, true, ◌&&◌, List, [], ◌∷◌, map, take, arith, Option, Some, None, refl, sym, ap, ◌∙◌, subst, IfSome}
+use Rattle.std.proofs.Common.{
+  ◌≡◌,
+  ℕ,
+  ℤ,
+  suc,
+  zero,
+  length,
+  Bool,
+  true,
+  ◌&&◌,
+  List,
+  [],
+  ◌∷◌,
+  map,
+  take,
+  arith,
+  Option,
+  Some,
+  None,
+  refl,
+  sym,
+  ap,
+  ◌∙◌,
+  subst,
+  IfSome,
+}
 use Rattle.std.proofs.lemmas.Bool.{eqb-true}
 use Rattle.std.proofs.lemmas.List.Elements.{All-head, All-tail}
 use Rattle.std.proofs.lemmas.Option.{same_Some}
@@ -21,12 +46,49 @@ use Rattle.bl_tree.specs.declared.value.Value.{Value}
 use Rattle.bl_tree.specs.Program.{parameters_of, structs_stand_from}
 use Rattle.bl_tree.specs.Scalar.{in_range}
 use Rattle.bl_tree.specs.Types.{same_type, scalar, scalar_in, type_stands}
-use Rattle.bl_tree.specs.Typing.{Site, after_parts, call_type, cast_type, inputs_of, is_activity, is_function, is_variable, one_type, outputs_of, prev_type, site_of, two_type, type_of, type_of_path, types_match, where_same}
+use Rattle.bl_tree.specs.Typing.{
+  Site,
+  after_parts,
+  call_type,
+  cast_type,
+  inputs_of,
+  is_activity,
+  is_function,
+  is_variable,
+  one_type,
+  outputs_of,
+  prev_type,
+  site_of,
+  two_type,
+  type_of,
+  type_of_path,
+  types_match,
+  where_same,
+}
 use Rattle.bl_tree.proofs.ExprInduction.{Cases, EachIndex, expr, induct, induct_path}
 use Rattle.bl_eval.specs.declared.datum.Datum.{Datum}
 use Rattle.bl_eval.specs.declared.datum.Left.{Left}
 use Rattle.bl_eval.specs.Functions.{scope_among}
-use Rattle.bl_eval.specs.Meaning.{Callee, Meaning, Scope, Spot, View, call_datum, cast_datum, datum_of, meaning_of, one_datum, operand, plain, read_at, reading, scalar_of, spot_of, two_datum, values_of}
+use Rattle.bl_eval.specs.Meaning.{
+  Callee,
+  Meaning,
+  Scope,
+  Spot,
+  View,
+  call_datum,
+  cast_datum,
+  datum_of,
+  meaning_of,
+  one_datum,
+  operand,
+  plain,
+  read_at,
+  reading,
+  scalar_of,
+  spot_of,
+  two_datum,
+  values_of,
+}
 use Rattle.bl_eval.specs.Values.{value_fits, values_fit}
 use Rattle.bl_eval.proofs.FitLemmas.{same_type_is}
 use Rattle.bl_eval.proofs.OperatorFits.{DatumFits, OperandFits, cast_fits, datum_fits, one_fits, operand_fits, plain_fits, some_found, two_fits, where_holds}
@@ -44,7 +106,8 @@ LeftFits structs unit left = (values_fit structs (outputs_of unit) left.outputs 
 
 -- from arguments of its parameters' types a function leaves what is of its outputs' and its result's types
 abbrev pub CalleeFits : List StructDef → UnitDef → Callee → Type 0
-CalleeFits structs unit callee = (arguments : List Value) → values_fit structs (parameters_of unit) arguments ≡ true → IfSome (callee arguments) (LeftFits structs unit)
+CalleeFits structs unit callee = (arguments : List Value) → values_fit structs (parameters_of unit) arguments ≡ true →
+    IfSome (callee arguments) (LeftFits structs unit)
 
 pub callee_at : (structs : List StructDef) (units : List UnitDef) (callees : List Callee) (f : ℕ) (unit : UnitDef) → AllZip (CalleeFits structs) units callees
     → slice_get units f ≡ Some unit → IfSome (slice_get callees f) (CalleeFits structs unit)
@@ -53,7 +116,8 @@ callee_at structs (first ∷ units) [] f unit all there = absurd all
 callee_at structs (first ∷ units) (callee ∷ callees) zero unit all there = subst (λ unit. CalleeFits structs unit callee) (same_Some first unit there) all.0
 callee_at structs (first ∷ units) (callee ∷ callees) (suc f) unit all there = callee_at structs units callees f unit all.1 there
 
-result_by : (structs : List StructDef) (ty : Ty) (result : Option ScalarType) (given : Option Datum) → option_map scalar result ≡ Some ty → ResultFits structs result given
+result_by : (structs : List StructDef) (ty : Ty) (result : Option ScalarType) (given : Option Datum) → option_map scalar result ≡ Some ty →
+    ResultFits structs result given
     → IfSome given (DatumFits structs ty)
 result_by structs ty None given typed fit = absurd (cc)
 result_by structs ty (Some s) None typed fit = tt
@@ -64,7 +128,8 @@ result_by structs ty (Some s) (Some datum) typed fit = subst (λ ty. DatumFits s
 abbrev pub GivesFit : List StructDef → View → Meaning → Option Ty → Type 0
 GivesFit structs view means typed = (ty : Ty) → typed ≡ Some ty → IfSome (means view) (DatumFits structs ty)
 
-values_first : (structs : List StructDef) (var : Var) (vars : List Var) (ty : Ty) (first : Option Datum) (rest : Option (List Value)) → same_type ty var.ty ≡ true
+values_first : (structs : List StructDef) (var : Var) (vars : List Var) (ty : Ty) (first : Option Datum) (rest : Option (List Value)) →
+    same_type ty var.ty ≡ true
     → IfSome first (DatumFits structs ty) → IfSome rest (λ values. values_fit structs vars values ≡ true)
     → IfSome (option_and_then (λ datum. option_map (λ values. plain datum ∷ values) rest) first) (λ values. values_fit structs (var ∷ vars) values ≡ true)
 values_first structs var vars ty None rest same one more = tt
@@ -78,7 +143,8 @@ module _ {X : Type 0} (structs : List StructDef) (view : View) (means : X → Me
   EachFits xs = All (λ x. GivesFit structs view (means x) (types x)) xs
 
   abbrev AllMatch : List X → Type 0
-  AllMatch xs = (vars : List Var) → types_match (map types xs) vars ≡ true → IfSome (values_of (map means xs) view) (λ values. values_fit structs vars values ≡ true)
+  AllMatch xs = (vars : List Var) → types_match (map types xs) vars ≡ true →
+      IfSome (values_of (map means xs) view) (λ values. values_fit structs vars values ≡ true)
 
   match_first : (x : X) (xs : List X) (vars : List Var) (typed : Option Ty) → types x ≡ typed → types_match (typed ∷ map types xs) vars ≡ true
       → GivesFit structs view (means x) (types x) → AllMatch xs → IfSome (values_of (map means (x ∷ xs)) view) (λ values. values_fit structs vars values ≡ true)
@@ -86,7 +152,8 @@ module _ {X : Type 0} (structs : List StructDef) (view : View) (means : X → Me
   match_first x xs [] (Some ty) is all one more = absurd (cc)
   match_first x xs (var ∷ vars) None is all one more = absurd (cc)
   match_first x xs (var ∷ vars) (Some ty) is all one more =
-      values_first structs var vars ty (means x view) (values_of (map means xs) view) (and_left (same_type ty var.ty) (types_match (map types xs) vars) all) (one ty is)
+      values_first structs var vars ty (means x view) (values_of (map means xs) view)
+      (and_left (same_type ty var.ty) (types_match (map types xs) vars) all) (one ty is)
       (more vars (and_right (same_type ty var.ty) (types_match (map types xs) vars) all))
 
   pub match_fits : (xs : List X) → EachFits xs → AllMatch xs
@@ -111,7 +178,8 @@ pub record SpotFits (structs : List StructDef) (vars : List Var) (view : View) (
   pub is_typed : spot.ty ≡ ty
   pub leads : IfSome (spot.positions view) (λ ks. Leads structs var.ty ks ty)
 
-pub reading_fits : (structs : List StructDef) (vars : List Var) (view : View) (ty : Ty) (spot : Spot) → values_fit structs vars view.now ≡ true → SpotFits structs vars view ty spot
+pub reading_fits : (structs : List StructDef) (vars : List Var) (view : View) (ty : Ty) (spot : Spot) →
+    values_fit structs vars view.now ≡ true → SpotFits structs vars view ty spot
     → IfSome (reading spot view) (DatumFits structs ty)
 reading_fits structs vars view ty spot fit found =
     let read : IfSome (option_and_then (read_at spot.root view.now) (spot.positions view)) (Fits structs ty) =
@@ -141,7 +209,8 @@ module _ (structs : List StructDef) (earlier : List UnitDef) (unit : UnitDef) (c
 
   read_path_fits : (place : Place) (path : Path) → Q path → P (expr place (ExprKind-F.Read path))
   read_path_fits place path leads ty typed =
-      rw (fold-roll-Expr, fold-roll-ExprKind) (reading_fits structs unit.vars view ty (spot_of scope path) now_fits (leads ty (rw (fold-roll-Expr, fold-roll-ExprKind) at typed)))
+      rw (fold-roll-Expr, fold-roll-ExprKind) (reading_fits structs unit.vars view ty (spot_of scope path) now_fits
+      (leads ty (rw (fold-roll-Expr, fold-roll-ExprKind) at typed)))
 
   before_at : (k : ℕ) (ty : Ty) → option_and_then (prev_type unit.kind) (slice_get unit.vars k) ≡ Some ty
       → IfSome (option_map (datum_of (scalar_of (slice_get unit.vars k))) (slice_get view.before k)) (DatumFits structs ty)
@@ -158,7 +227,8 @@ module _ (structs : List StructDef) (earlier : List UnitDef) (unit : UnitDef) (c
   prev_fits place k ty typed = rw (fold-roll-Expr, fold-roll-ExprKind) (before_at k ty (rw (fold-roll-Expr, fold-roll-ExprKind) at typed))
 
   -- an operand of a scalar type
-  operand_at : (a : Expr) (s : ScalarType) → P a → option_and_then scalar_in (type_of site a) ≡ Some s → IfSome (operand (meaning_of scope a) view) (OperandFits s)
+  operand_at : (a : Expr) (s : ScalarType) → P a → option_and_then scalar_in (type_of site a) ≡ Some s →
+      IfSome (operand (meaning_of scope a) view) (OperandFits s)
   operand_at a s fit typed =
       let found = some_found scalar_in (type_of site a) s typed in
       operand_fits structs found.0 s (meaning_of scope a view) found.2 (fit found.0 found.1)
@@ -172,10 +242,12 @@ module _ (structs : List StructDef) (earlier : List UnitDef) (unit : UnitDef) (c
 
   two_expr_fits : (place : Place) (op : Op) (a b : Expr) → P a → P b → P (expr place (ExprKind-F.Two op a b))
   two_expr_fits place op a b fit other ty typed =
-      let found = some_found (λ s. option_and_then (two_type op s) (option_and_then scalar_in (type_of site b))) (option_and_then scalar_in (type_of site a)) ty (rw (fold-roll-Expr, fold-roll-ExprKind) at typed) in
+      let found = some_found (λ s. option_and_then (two_type op s) (option_and_then scalar_in (type_of site b)))
+      (option_and_then scalar_in (type_of site a)) ty (rw (fold-roll-Expr, fold-roll-ExprKind) at typed) in
       let right = some_found (two_type op found.0) (option_and_then scalar_in (type_of site b)) ty found.2 in
       rw (fold-roll-Expr, fold-roll-ExprKind)
-      (if_then (OperandFits found.0) (DatumFits structs ty) (two_datum op (operand (meaning_of scope b) view)) (operand (meaning_of scope a) view) (operand_at a found.0 fit found.1)
+      (if_then (OperandFits found.0) (DatumFits structs ty) (two_datum op (operand (meaning_of scope b) view))
+      (operand (meaning_of scope a) view) (operand_at a found.0 fit found.1)
       (λ left one. two_fits structs ty op found.0 right.0 left one right.2 (operand (meaning_of scope b) view)))
 
   cast_expr_fits : (place : Place) (target : ScalarType) (a : Expr) → P a → P (expr place (ExprKind-F.Cast target a))
@@ -194,13 +266,16 @@ module _ (structs : List StructDef) (earlier : List UnitDef) (unit : UnitDef) (c
       let shape : Bool = nat_eq callee.outputs 0 && types_match (map (type_of site) inputs) (inputs_of callee) in
       let is = where_holds (is_function callee.kind && shape) (option_map scalar callee.result) ty found.2 in
       let fitting : shape ≡ true = and_right (is_function callee.kind) shape is.0 in
-      let none : callee.outputs ≡ 0 = eqb-true callee.outputs 0 (and_left (nat_eq callee.outputs 0) (types_match (map (type_of site) inputs) (inputs_of callee)) fitting) in
+      let none : callee.outputs ≡ 0 = eqb-true callee.outputs 0
+      (and_left (nat_eq callee.outputs 0) (types_match (map (type_of site) inputs) (inputs_of callee)) fitting) in
       let same : inputs_of callee ≡ parameters_of callee = ap (λ n. take n callee.vars) (omega arith) in
       let given : IfSome (values_of (map (meaning_of scope) inputs) view) (λ values. values_fit structs (inputs_of callee) values ≡ true) =
-      match_fits structs view (meaning_of scope) (type_of site) inputs each (inputs_of callee) (and_right (nat_eq callee.outputs 0) (types_match (map (type_of site) inputs) (inputs_of callee)) fitting) in
+      match_fits structs view (meaning_of scope) (type_of site) inputs each (inputs_of callee)
+      (and_right (nat_eq callee.outputs 0) (types_match (map (type_of site) inputs) (inputs_of callee)) fitting) in
       if_then (CalleeFits structs callee) (DatumFits structs ty) (call_datum (values_of (map (meaning_of scope) inputs) view)) (slice_get callees f)
       (callee_at structs earlier callees f callee sound.callees_fit found.1)
-      (λ does fits. if_then (λ values. values_fit structs (inputs_of callee) values ≡ true) (DatumFits structs ty) (λ values. option_and_then (λ (left : Left). left.result) (does values))
+      (λ does fits. if_then (λ values. values_fit structs (inputs_of callee) values ≡ true) (DatumFits structs ty)
+      (λ values. option_and_then (λ (left : Left). left.result) (does values))
       (values_of (map (meaning_of scope) inputs) view) given
       (λ values all. if_then (LeftFits structs callee) (DatumFits structs ty) (λ (left : Left). left.result) (does values)
       (fits values (subst (λ vars. values_fit structs vars values ≡ true) same all)) (λ left one. result_by structs ty callee.result left.result is.1 one.1)))
@@ -209,9 +284,11 @@ module _ (structs : List StructDef) (earlier : List UnitDef) (unit : UnitDef) (c
   call_fits place f inputs each ty typed = rw (fold-roll-Expr, fold-roll-ExprKind) (call_at f inputs ty each (rw (fold-roll-Expr, fold-roll-ExprKind) at typed))
 
   -- a path
-  path_fits : (place : Place) (root : ℕ) (parts : List Part) (written : Ty) → EachIndex P parts → Q (roll-Path (record { place = place; root = root; parts = parts; ty = written }))
+  path_fits : (place : Place) (root : ℕ) (parts : List Part) (written : Ty) → EachIndex P parts →
+      Q (roll-Path (record { place = place; root = root; parts = parts; ty = written }))
   path_fits place root parts written each ty typed =
-      let whole = some_found (where_same written) (option_and_then (λ (var : Var). after_parts (map (type_of_part site) parts) var.ty) (slice_get unit.vars root)) ty (rw fold-roll-Path at typed) in
+      let whole = some_found (where_same written) (option_and_then (λ (var : Var). after_parts (map (type_of_part site) parts) var.ty)
+      (slice_get unit.vars root)) ty (rw fold-roll-Path at typed) in
       let found = some_found (λ (var : Var). after_parts (map (type_of_part site) parts) var.ty) (slice_get unit.vars root) whole.0 whole.1 in
       let is = where_holds (same_type written whole.0) (Some whole.0) ty whole.2 in
       let same : whole.0 ≡ ty = same_Some whole.0 ty is.1 in

@@ -1,5 +1,33 @@
 -- Which values a type has: types that are one, the tests of structs, and zeros.
-use Rattle.std.proofs.Common.{◌≡◌, ℕ, suc, zero, ◌+◌, ◌<◌, ◌≤◌, Bool, true, ◌&&◌, List, [], ◌∷◌, ◌++◌, length, get_or, take, replicate, arith, Option, Some, refl, sym, ap, ◌∙◌, subst, length-append}
+use Rattle.std.proofs.Common.{
+  ◌≡◌,
+  ℕ,
+  suc,
+  zero,
+  ◌+◌,
+  ◌<◌,
+  ◌≤◌,
+  Bool,
+  true,
+  ◌&&◌,
+  List,
+  [],
+  ◌∷◌,
+  ◌++◌,
+  length,
+  get_or,
+  take,
+  replicate,
+  arith,
+  Option,
+  Some,
+  refl,
+  sym,
+  ap,
+  ◌∙◌,
+  subst,
+  length-append,
+}
 use Rattle.std.proofs.lemmas.Bool.{eqb-true, eq-eqb, ltb-true}
 use Rattle.std.proofs.lemmas.List.{length-replicate}
 use Rattle.std.proofs.lemmas.Option.{same_Some}
@@ -19,7 +47,20 @@ use Rattle.bl_tree.specs.declared.value.Value.TheVariants.{Parts, outs-Number, o
 use Rattle.bl_tree.specs.Program.{struct_stands, structs_stand_from}
 use Rattle.bl_tree.specs.Scalar.{bits_of, in_range}
 use Rattle.bl_tree.specs.Types.{same_as_array, same_as_scalar, same_as_struct, same_scalar, same_type, scalar, scalar_at, scalar_in, type_stands}
-use Rattle.bl_eval.specs.Values.{are_elements, by_test, fits_by, is_number_of, pass, struct_test, struct_zero, tests_after, value_fits, zero_by, zero_of, zeros_after}
+use Rattle.bl_eval.specs.Values.{
+  are_elements,
+  by_test,
+  fits_by,
+  is_number_of,
+  pass,
+  struct_test,
+  struct_zero,
+  tests_after,
+  value_fits,
+  zero_by,
+  zero_of,
+  zeros_after,
+}
 use Rattle.bl_eval.proofs.PassLemmas.{and_left, and_right, both, get_front, get_seam, get_take, take_less, all_replicate, pass_each}
 
 -- ---- types
@@ -98,9 +139,11 @@ pub fits_array : (tests : List Test) (ty : Ty) (n : ℕ) (element : Ty) (value :
     → fits_by tests ty value ≡ are_elements n (fits_by tests element) (out-Value value)
 fits_array tests ty n element value is = rw (rolled ty (Ty-F.Array n element) is, fold-roll-Ty) refl
 
-tests_start : (structs : List StructDef) (tests : List Test) (k : ℕ) (test : Test) → slice_get tests k ≡ Some test → slice_get (tests_after tests structs) k ≡ Some test
+tests_start : (structs : List StructDef) (tests : List Test) (k : ℕ) (test : Test) → slice_get tests k ≡ Some test →
+    slice_get (tests_after tests structs) k ≡ Some test
 tests_start [] tests k test there = there
-tests_start (def ∷ rest) tests k test there = tests_start rest (tests ++ struct_test tests def ∷ []) k test (get_front tests (struct_test tests def ∷ []) k test there)
+tests_start (def ∷ rest) tests k test there = tests_start rest (tests ++ struct_test tests def ∷ []) k test
+    (get_front tests (struct_test tests def ∷ []) k test there)
 
 tests_at : (structs : List StructDef) (tests : List Test) (j k : ℕ) (def : StructDef) → slice_get structs k ≡ Some def → j ≡ length tests + k
     → slice_get (tests_after tests structs) j ≡ Some (struct_test (tests_after tests (take k structs)) def)
@@ -155,7 +198,8 @@ agree_before structs s most k less =
     ∙ sym (test_is structs k found.0 found.1)
 
 -- a type that names the first structs alone has the same values, if only these are known
-pub fits_before : (structs : List StructDef) (s : ℕ) (ty : Ty) → s ≤ length structs → type_stands s ty ≡ true → fits_by (tests_after [] (take s structs)) ty ≡ value_fits structs ty
+pub fits_before : (structs : List StructDef) (s : ℕ) (ty : Ty) → s ≤ length structs → type_stands s ty ≡ true →
+    fits_by (tests_after [] (take s structs)) ty ≡ value_fits structs ty
 fits_before structs s ty most stands = fits_agreed (tests_after [] (take s structs)) (tests_after [] structs) s (agree_before structs s most) ty stands
 
 -- ---- structs that stand
@@ -166,13 +210,15 @@ fields_stand before def = list_all (λ field. type_stands before field.ty) def.f
 struct_fields : (before : ℕ) (def : StructDef) → struct_stands before def ≡ true → fields_stand before def ≡ true
 struct_fields before def stands = and_right _ (fields_stand before def) (and_right _ _ stands)
 
-pub structs_at : (structs : List StructDef) (before j k : ℕ) (def : StructDef) → structs_stand_from before structs ≡ true → slice_get structs k ≡ Some def → j ≡ before + k
+pub structs_at : (structs : List StructDef) (before j k : ℕ) (def : StructDef) → structs_stand_from before structs ≡ true →
+    slice_get structs k ≡ Some def → j ≡ before + k
     → fields_stand j def ≡ true
 structs_at [] before j k def stand there is = absurd (cc)
 structs_at (first ∷ rest) before j zero def stand there is =
     let here : before ≡ j = omega arith in
     subst (λ before. fields_stand before def ≡ true) here
-    (subst (λ def. fields_stand before def ≡ true) (same_Some first def there) (struct_fields before first (and_left (struct_stands before first) (structs_stand_from (before + 1) rest) stand)))
+    (subst (λ def. fields_stand before def ≡ true) (same_Some first def there)
+    (struct_fields before first (and_left (struct_stands before first) (structs_stand_from (before + 1) rest) stand)))
 structs_at (first ∷ rest) before j (suc k) def stand there is =
     let later : j ≡ (before + 1) + k = omega arith in
     structs_at rest (before + 1) j k def (and_right (struct_stands before first) (structs_stand_from (before + 1) rest) stand) there later
@@ -221,20 +267,25 @@ module _ (zeros : List Value) (tests : List Test) (n : ℕ) (all : Zeros zeros t
       (pass_each (λ (field : Field). fits_by tests field.ty) (λ (field : Field). zero_by zeros field.ty) (λ (field : Field). type_stands n field.ty)
       (λ (field : Field) stands. zero_by_fits field.ty stands) def.fields stand)
 
-pass_zeros : (tests : List Test) (zeros : List Value) (k : ℕ) → pass tests zeros ≡ true → k < length tests → by_test (slice_get tests k) (get_or zeros k (Parts [])) ≡ true
+pass_zeros : (tests : List Test) (zeros : List Value) (k : ℕ) → pass tests zeros ≡ true → k < length tests →
+    by_test (slice_get tests k) (get_or zeros k (Parts [])) ≡ true
 pass_zeros [] zeros k all within = absurd (omega arith)
 pass_zeros (test ∷ tests) [] k all within = absurd (cc)
 pass_zeros (test ∷ tests) (v ∷ zeros) zero all within = and_left (test v) (pass tests zeros) all
-pass_zeros (test ∷ tests) (v ∷ zeros) (suc k) all within = let less : k < length tests = omega arith in pass_zeros tests zeros k (and_right (test v) (pass tests zeros) all) less
+pass_zeros (test ∷ tests) (v ∷ zeros) (suc k) all within = let less : k < length tests = omega arith in
+    pass_zeros tests zeros k (and_right (test v) (pass tests zeros) all) less
 
-pass_push : (tests : List Test) (zeros : List Value) (test : Test) (v : Value) → pass tests zeros ≡ true → test v ≡ true → pass (tests ++ test ∷ []) (zeros ++ v ∷ []) ≡ true
+pass_push : (tests : List Test) (zeros : List Value) (test : Test) (v : Value) → pass tests zeros ≡ true → test v ≡ true →
+    pass (tests ++ test ∷ []) (zeros ++ v ∷ []) ≡ true
 pass_push [] [] test v all one = both (test v) true one refl
 pass_push [] (w ∷ zeros) test v all one = absurd (cc)
 pass_push (t ∷ tests) [] test v all one = absurd (cc)
 pass_push (t ∷ tests) (w ∷ zeros) test v all one =
-    both (t w) (pass (tests ++ test ∷ []) (zeros ++ v ∷ [])) (and_left (t w) (pass tests zeros) all) (pass_push tests zeros test v (and_right (t w) (pass tests zeros) all) one)
+    both (t w) (pass (tests ++ test ∷ []) (zeros ++ v ∷ [])) (and_left (t w) (pass tests zeros) all)
+    (pass_push tests zeros test v (and_right (t w) (pass tests zeros) all) one)
 
-zeros_pass : (structs : List StructDef) (zeros : List Value) (tests : List Test) (n : ℕ) → length tests ≡ n → pass tests zeros ≡ true → structs_stand_from n structs ≡ true
+zeros_pass : (structs : List StructDef) (zeros : List Value) (tests : List Test) (n : ℕ) → length tests ≡ n → pass tests zeros ≡ true →
+    structs_stand_from n structs ≡ true
     → pass (tests_after tests structs) (zeros_after zeros structs) ≡ true
 zeros_pass [] zeros tests n is all stand = all
 zeros_pass (def ∷ rest) zeros tests n is all stand =
@@ -251,9 +302,11 @@ tests_length (def ∷ rest) tests =
     omega (arith, tests_length rest (tests ++ struct_test tests def ∷ []), length-append tests (struct_test tests def ∷ []))
 
 -- the zero of a type is one of its values
-pub zero_fits : (structs : List StructDef) (ty : Ty) → structs_stand_from 0 structs ≡ true → type_stands (length structs) ty ≡ true → value_fits structs ty (zero_of structs ty) ≡ true
+pub zero_fits : (structs : List StructDef) (ty : Ty) → structs_stand_from 0 structs ≡ true → type_stands (length structs) ty ≡ true →
+    value_fits structs ty (zero_of structs ty) ≡ true
 zero_fits structs ty stand stands =
     let all : pass (tests_after [] structs) (zeros_after [] structs) ≡ true = zeros_pass structs [] [] 0 refl refl stand in
     let known : length (tests_after [] structs) ≡ length structs = omega (arith, tests_length structs []) in
-    let found : Zeros (zeros_after [] structs) (tests_after [] structs) (length structs) = λ k within. pass_zeros (tests_after [] structs) (zeros_after [] structs) k all (omega arith) in
+    let found : Zeros (zeros_after [] structs) (tests_after [] structs) (length structs) =
+    λ k within. pass_zeros (tests_after [] structs) (zeros_after [] structs) k all (omega arith) in
     zero_by_fits (zeros_after [] structs) (tests_after [] structs) (length structs) found ty stands

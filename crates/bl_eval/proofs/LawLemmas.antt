@@ -27,14 +27,17 @@ module _ (structs : List StructDef) (units : List UnitDef) (entry k : ℕ) (view
     of_type None is = if_some (λ value. IfSome {T = Ty} None (λ ty. Fits structs ty value)) (value_of site e view) (λ value _. tt)
     of_type (Some ty) is =
         if_map (DatumFits structs ty) (λ value. Fits structs ty value) plain (meaning_of (scope_of site) e view)
-        (expr_fits structs (take k units) stands.unit (callees_of structs (take k units)) (sound_at structs units entry k stands.unit keeps stands.is_there) view
+        (expr_fits structs (take k units) stands.unit (callees_of structs (take k units))
+        (sound_at structs units entry k stands.unit keeps stands.is_there) view
         stands.fitting.now stands.fitting.before e ty is)
         (λ datum one. plain_fits structs ty datum one)
 
-    pub value_typed : IfSome (value_in_unit structs units k e view) (λ value. IfSome (type_in_unit structs units k e) (λ ty. value_fits structs ty value ≡ true))
+    pub value_typed : IfSome (value_in_unit structs units k e view)
+        (λ value. IfSome (type_in_unit structs units k e) (λ ty. value_fits structs ty value ≡ true))
     value_typed =
         subst (λ (at : Option UnitDef). IfSome (option_and_then (λ site. value_of site e view) (option_map (site_of structs (take k units)) at))
-        (λ value. IfSome (option_and_then (λ site. type_of site e) (option_map (site_of structs (take k units)) at)) (λ ty. value_fits structs ty value ≡ true)))
+        (λ value. IfSome (option_and_then (λ site. type_of site e) (option_map (site_of structs (take k units)) at))
+        (λ ty. value_fits structs ty value ≡ true)))
         (sym stands.is_there) (of_type (type_of site e) refl)
 
   module _ (s : Stmt) (stands : StandsAct structs units k view s) where

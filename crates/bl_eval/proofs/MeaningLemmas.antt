@@ -1,5 +1,35 @@
 -- What the definitions come to at one expression, statement or call.
-use Rattle.std.proofs.Common.{◌≡◌, ℕ, suc, zero, ◌+◌, ◌≤◌, true, false, List, [], ◌∷◌, ◌++◌, length, map, take, arith, Option, Some, None, Result, Ok, Err, refl, sym, ap, ◌∙◌, subst, IfOk, length-append}
+use Rattle.std.proofs.Common.{
+  ◌≡◌,
+  ℕ,
+  suc,
+  zero,
+  ◌+◌,
+  ◌≤◌,
+  true,
+  false,
+  List,
+  [],
+  ◌∷◌,
+  ◌++◌,
+  length,
+  map,
+  take,
+  arith,
+  Option,
+  Some,
+  None,
+  Result,
+  Ok,
+  Err,
+  refl,
+  sym,
+  ap,
+  ◌∙◌,
+  subst,
+  IfOk,
+  length-append,
+}
 use Rattle.std.specs.Prelude.{option_and_then, option_map, slice_get, unwrap_or}
 use Rattle.bl_tree.specs.declared.tree.Arm.{Arm, fold_out-Arm, out-Arm}
 use Rattle.bl_tree.specs.declared.tree.Branch.{Branch, fold-Branch}
@@ -22,18 +52,63 @@ use Rattle.bl_eval.specs.declared.datum.Left.{Left}
 use Rattle.bl_eval.specs.declared.datum.Put.{Put}
 use Rattle.bl_eval.specs.declared.datum.Target.{Target}
 use Rattle.bl_eval.specs.Changes.{all_changed, choice_of, current_of, part_of_path, puts_of, targets_of, with_element_at}
-use Rattle.bl_eval.specs.Functions.{Choice, Does, Flow, arm_does, branch_does, call_of, callee_of, callees_after, callees_of, called, condition, does, frame_of, in_order, kind_does, left_by, looped, most_turns, put_all, put_back, stmt_does, truth}
-use Rattle.bl_eval.specs.Meaning.{Callee, Meaning, Position, Scope, Spot, expr_means, kind_means, part_means, path_means, positions_of, View, datum_of, level_datum, meaning_of, plain, read_at, reading, spot_of, values_of}
+use Rattle.bl_eval.specs.Functions.{
+  Choice,
+  Does,
+  Flow,
+  arm_does,
+  branch_does,
+  call_of,
+  callee_of,
+  callees_after,
+  callees_of,
+  called,
+  condition,
+  does,
+  frame_of,
+  in_order,
+  kind_does,
+  left_by,
+  looped,
+  most_turns,
+  put_all,
+  put_back,
+  stmt_does,
+  truth,
+}
+use Rattle.bl_eval.specs.Meaning.{
+  Callee,
+  Meaning,
+  Position,
+  Scope,
+  Spot,
+  expr_means,
+  kind_means,
+  part_means,
+  path_means,
+  positions_of,
+  View,
+  datum_of,
+  level_datum,
+  meaning_of,
+  plain,
+  read_at,
+  reading,
+  spot_of,
+  values_of,
+}
 use Rattle.bl_eval.specs.Values.{put_at}
 use Rattle.bl_eval.proofs.PartLemmas.{put_unwrapped}
 use Rattle.bl_eval.proofs.PassLemmas.{get_front, get_seam}
 
 -- ---- statements
 
-pub choice_out : (scope : Scope) (arm : Arm) → choice_of scope arm ≡ record { test = truth scope (out-Arm arm).test; body = in_order (map (does scope) (out-Arm arm).body) }
+pub choice_out : (scope : Scope) (arm : Arm) → choice_of scope arm
+    ≡ record { test = truth scope (out-Arm arm).test; body = in_order (map (does scope) (out-Arm arm).body) }
 choice_out scope arm = fold_out-Arm Does Choice Does Does (kind_does scope) (arm_does scope) branch_does stmt_does arm
 
-pub spot_out : (scope : Scope) (path : Path) → spot_of scope path ≡ record { root = (out-Path path).root; ty = (out-Path path).ty; positions = positions_of (map (part_of_path scope) (out-Path path).parts) }
+pub spot_out : (scope : Scope) (path : Path) → spot_of scope path
+    ≡ record { root = (out-Path path).root; ty = (out-Path path).ty; positions = positions_of (map (part_of_path scope) (out-Path path).parts) }
 spot_out scope path = fold_out-Path Meaning Position Meaning Spot (kind_means scope) part_means expr_means path_means path
 
 module _ (scope : Scope) where
@@ -75,9 +150,11 @@ callees_start : (structs : List StructDef) (units : List UnitDef) (callees : Lis
     → slice_get callees k ≡ Some callee → slice_get (callees_after structs callees units) k ≡ Some callee
 callees_start structs [] callees k callee there = there
 callees_start structs (unit ∷ rest) callees k callee there =
-    callees_start structs rest (callees ++ callee_of structs callees unit ∷ []) k callee (get_front callees (callee_of structs callees unit ∷ []) k callee there)
+    callees_start structs rest (callees ++ callee_of structs callees unit ∷ []) k callee
+    (get_front callees (callee_of structs callees unit ∷ []) k callee there)
 
-callee_after : (structs : List StructDef) (units : List UnitDef) (callees : List Callee) (j k : ℕ) (unit : UnitDef) → slice_get units k ≡ Some unit → j ≡ length callees + k
+callee_after : (structs : List StructDef) (units : List UnitDef) (callees : List Callee) (j k : ℕ) (unit : UnitDef) →
+    slice_get units k ≡ Some unit → j ≡ length callees + k
     → slice_get (callees_after structs callees units) j ≡ Some (callee_of structs (callees_after structs callees (take k units)) unit)
 callee_after structs [] callees j k unit there is = absurd (cc)
 callee_after structs (first ∷ rest) callees j zero unit there is =
@@ -93,7 +170,8 @@ pub callee_is : (structs : List StructDef) (units : List UnitDef) (k : ℕ) (uni
     → slice_get (callees_of structs units) k ≡ Some (callee_of structs (callees_of structs (take k units)) unit)
 callee_is structs units k unit there = callee_after structs units [] k k unit there (omega arith)
 
-callees_length : (structs : List StructDef) (units : List UnitDef) (callees : List Callee) → length (callees_after structs callees units) ≡ length callees + length units
+callees_length : (structs : List StructDef) (units : List UnitDef) (callees : List Callee) →
+    length (callees_after structs callees units) ≡ length callees + length units
 callees_length structs [] callees = omega arith
 callees_length structs (unit ∷ rest) callees =
     omega (arith, callees_length structs rest (callees ++ callee_of structs callees unit ∷ []), length-append callees (callee_of structs callees unit ∷ []))
@@ -114,7 +192,8 @@ callee_none structs units k none =
     get_past (callees_of structs units) k past
 
 -- the end of a function's body, as what the function leaves
-pub called_is : (structs : List StructDef) (earlier : List UnitDef) (f : ℕ) (unit : UnitDef) (arguments frame : List Value) (vars : List Var) (body : List Stmt) (flow : Option Flow)
+pub called_is : (structs : List StructDef) (earlier : List UnitDef) (f : ℕ) (unit : UnitDef) (arguments frame : List Value)
+    (vars : List Var) (body : List Stmt) (flow : Option Flow)
     → Some unit ≡ slice_get earlier f → vars ≡ unit.vars → body ≡ unit.body → frame ≡ frame_of structs unit arguments
     → flow ≡ in_order (map (does (record { structs = structs; vars = vars; callees = callees_of structs (take f earlier) })) body) frame
     → option_map (left_by unit) flow ≡ option_and_then (λ callee. callee arguments) (slice_get (callees_of structs earlier) f)
@@ -156,13 +235,15 @@ append_first (Some d) None ws = refl
 append_first (Some d) (Some vs) None = refl
 append_first (Some d) (Some vs) (Some ws) = refl
 
-pub values_append : (xs ys : List Meaning) (view : View) → values_of (xs ++ ys) view ≡ option_and_then (λ vs. option_map (λ ws. vs ++ ws) (values_of ys view)) (values_of xs view)
+pub values_append : (xs ys : List Meaning) (view : View) →
+    values_of (xs ++ ys) view ≡ option_and_then (λ vs. option_map (λ ws. vs ++ ws) (values_of ys view)) (values_of xs view)
 values_append [] ys view = behind_nothing (values_of ys view)
 values_append (e ∷ xs) ys view =
     ap (λ rest. option_and_then (λ datum. option_map (λ values. plain datum ∷ values) rest) (e view)) (values_append xs ys view)
     ∙ append_first (e view) (values_of xs view) (values_of ys view)
 
-current_first : (ty : Option ScalarType) (root : ℕ) (ks : List ℕ) (now : List Value) (read : Option Value) (ts : Option (List Target)) → read_at root now ks ≡ read
+current_first : (ty : Option ScalarType) (root : ℕ) (ks : List ℕ) (now : List Value) (read : Option Value) (ts : Option (List Target)) →
+    read_at root now ks ≡ read
     → option_and_then (λ datum. option_map (λ values. plain datum ∷ values) (option_and_then (λ ts. current_of ts now) ts)) (option_map (datum_of ty) read)
     ≡ option_and_then (λ ts. current_of ts now) (option_map (λ rest. record { root = root; positions = ks } ∷ rest) ts)
 current_first ty root ks now None None is = refl
@@ -194,7 +275,8 @@ abbrev AllIs : List Spot → View → Type 0
 AllIs spots view = (values : List Value) (now : List Value) (ts : List Target) → targets_of spots view ≡ Some ts
     → put_all spots values view now ≡ all_changed (puts_of ts values) now
 
-all_first : (spots : List Spot) (spot : Spot) (values : List Value) (view : View) (now : List Value) (ts : List Target) (ks : Option (List ℕ)) (rest : Option (List Target))
+all_first : (spots : List Spot) (spot : Spot) (values : List Value) (view : View) (now : List Value) (ts : List Target)
+    (ks : Option (List ℕ)) (rest : Option (List Target))
     → AllIs spots view → spot.positions view ≡ ks → targets_of spots view ≡ rest
     → option_and_then (λ ks. option_map (λ rest. record { root = spot.root; positions = ks } ∷ rest) rest) ks ≡ Some ts
     → put_all (spot ∷ spots) values view now ≡ all_changed (puts_of ts values) now
@@ -223,9 +305,11 @@ module _ (scope : Scope) (f : ℕ) (inputs : List Expr) (outputs : List Path) (v
       (values_of (map (meaning_of scope) inputs) view)
   arguments_are =
       values_append (map (meaning_of scope) inputs) (map reading (map (spot_of scope) outputs)) view
-      ∙ ap (λ ws. option_and_then (λ vs. option_map (λ ws. vs ++ ws) ws) (values_of (map (meaning_of scope) inputs) view)) (current_is (map (spot_of scope) outputs) view)
+      ∙ ap (λ ws. option_and_then (λ vs. option_map (λ ws. vs ++ ws) ws) (values_of (map (meaning_of scope) inputs) view))
+      (current_is (map (spot_of scope) outputs) view)
 
-  not_called : (callee : Option Callee) → arguments ≡ None → None ≡ option_and_then (called (map (meaning_of scope) inputs) (map (spot_of scope) outputs) view) callee
+  not_called : (callee : Option Callee) → arguments ≡ None →
+      None ≡ option_and_then (called (map (meaning_of scope) inputs) (map (spot_of scope) outputs) view) callee
   not_called None none = refl
   not_called (Some callee) none =
       sym (ap (option_and_then (λ values. option_map (λ left. put_all (map (spot_of scope) outputs) left.outputs view view.now) (callee values))) none)
@@ -238,23 +322,28 @@ module _ (scope : Scope) (f : ℕ) (inputs : List Expr) (outputs : List Path) (v
   no_targets none =
       not_called (slice_get scope.callees f)
       (arguments_are
-      ∙ ap (λ ts. option_and_then (λ vs. option_map (λ ws. vs ++ ws) (option_and_then (λ ts. current_of ts view.now) ts)) (values_of (map (meaning_of scope) inputs) view)) none
+      ∙ ap (λ ts. option_and_then (λ vs. option_map (λ ws. vs ++ ws) (option_and_then (λ ts. current_of ts view.now) ts))
+      (values_of (map (meaning_of scope) inputs) view)) none
       ∙ none_from (values_of (map (meaning_of scope) inputs) view))
 
   pub no_inputs : values_of (map (meaning_of scope) inputs) view ≡ None → None ≡ call_of scope f inputs outputs view
   no_inputs none =
       not_called (slice_get scope.callees f)
       (arguments_are
-      ∙ ap (option_and_then (λ vs. option_map (λ ws. vs ++ ws) (option_and_then (λ ts. current_of ts view.now) (targets_of (map (spot_of scope) outputs) view)))) none)
+      ∙ ap (option_and_then (λ vs. option_map (λ ws. vs ++ ws)
+      (option_and_then (λ ts. current_of ts view.now) (targets_of (map (spot_of scope) outputs) view)))) none)
 
-  arguments_with : (vs : List Value) (ts : List Target) → values_of (map (meaning_of scope) inputs) view ≡ Some vs → targets_of (map (spot_of scope) outputs) view ≡ Some ts
+  arguments_with : (vs : List Value) (ts : List Target) → values_of (map (meaning_of scope) inputs) view ≡ Some vs →
+      targets_of (map (spot_of scope) outputs) view ≡ Some ts
       → arguments ≡ option_map (λ ws. vs ++ ws) (current_of ts view.now)
   arguments_with vs ts is_vs is_ts =
       arguments_are
-      ∙ ap (option_and_then (λ vs. option_map (λ ws. vs ++ ws) (option_and_then (λ ts. current_of ts view.now) (targets_of (map (spot_of scope) outputs) view)))) is_vs
+      ∙ ap (option_and_then (λ vs. option_map (λ ws. vs ++ ws)
+      (option_and_then (λ ts. current_of ts view.now) (targets_of (map (spot_of scope) outputs) view)))) is_vs
       ∙ ap (λ ts. option_map (λ ws. vs ++ ws) (option_and_then (λ ts. current_of ts view.now) ts)) is_ts
 
-  pub no_current : (vs : List Value) (ts : List Target) → values_of (map (meaning_of scope) inputs) view ≡ Some vs → targets_of (map (spot_of scope) outputs) view ≡ Some ts
+  pub no_current : (vs : List Value) (ts : List Target) → values_of (map (meaning_of scope) inputs) view ≡ Some vs →
+      targets_of (map (spot_of scope) outputs) view ≡ Some ts
       → option_map (λ ws. vs ++ ws) (current_of ts view.now) ≡ None → None ≡ call_of scope f inputs outputs view
   no_current vs ts is_vs is_ts none = not_called (slice_get scope.callees f) (arguments_with vs ts is_vs is_ts ∙ none)
 

@@ -42,7 +42,8 @@ abbrev pub DatumFits : List StructDef → Ty → Datum → Type 0
 DatumFits structs ty (OfScalar s n) = (ty ≡ scalar s) × (in_range s n ≡ true)
 DatumFits structs ty (Whole value) = (scalar_in ty ≡ None) × Fits structs ty value
 
-number_fits : (structs : List StructDef) (ty : Ty) (s : ScalarType) (value : Value) → ty ≡ scalar s → value_fits structs ty value ≡ is_number_of s (out-Value value)
+number_fits : (structs : List StructDef) (ty : Ty) (s : ScalarType) (value : Value) → ty ≡ scalar s →
+    value_fits structs ty value ≡ is_number_of s (out-Value value)
 number_fits structs ty s value is = ap (λ ty. value_fits structs ty value) is ∙ fits_scalar (tests_after [] structs) s value
 
 pub plain_fits : (structs : List StructDef) (ty : Ty) (datum : Datum) → DatumFits structs ty datum → Fits structs ty (plain datum)
@@ -54,7 +55,8 @@ level_fits : (structs : List StructDef) (ty : Ty) (s : ScalarType) (value : Valu
 level_fits structs ty s value (Value-F.Number n) is fit = (is, fit)
 level_fits structs ty s value (Value-F.Parts all) is fit = absurd (cc)
 
-found_fits : (structs : List StructDef) (ty : Ty) (value : Value) (s : Option ScalarType) → scalar_in ty ≡ s → Fits structs ty value → DatumFits structs ty (datum_of s value)
+found_fits : (structs : List StructDef) (ty : Ty) (value : Value) (s : Option ScalarType) → scalar_in ty ≡ s → Fits structs ty value →
+    DatumFits structs ty (datum_of s value)
 found_fits structs ty value None is fit = (is, fit)
 found_fits structs ty value (Some s) is fit =
     level_fits structs ty s value (out-Value value) (scalar_is ty s is) (sym (number_fits structs ty s value (scalar_is ty s is)) ∙ fit)
@@ -86,16 +88,20 @@ one_by op a false is = tt
 one_by op a true is =
     let takes = and_left (takes_one op a.ty) (in_range a.ty a.n) is in
     let within = and_right (takes_one op a.ty) (in_range a.ty a.n) is in
-    IfSome_then (checked_one_of op a.ty a.n) (checked_one_of-in_range op a.ty a.n takes (in_range_holds a.ty a.n within)) (λ n h. in_range_passes (type_of_result op a.ty) n h)
+    IfSome_then (checked_one_of op a.ty a.n) (checked_one_of-in_range op a.ty a.n takes (in_range_holds a.ty a.n within))
+    (λ n h. in_range_passes (type_of_result op a.ty) n h)
 
 one_applied : (op : Op) (a : Operand) → IfSome (applied_one op a) (λ n. in_range (type_of_result op a.ty) n ≡ true)
 one_applied op a = one_by op a (takes_one op a.ty && in_range a.ty a.n) refl
 
-pub one_fits : (structs : List StructDef) (ty : Ty) (op : Op) (s : ScalarType) (a : Operand) → a.ty ≡ s → one_type op s ≡ Some ty → IfSome (one_datum op a) (DatumFits structs ty)
+pub one_fits : (structs : List StructDef) (ty : Ty) (op : Op) (s : ScalarType) (a : Operand) → a.ty ≡ s → one_type op s ≡ Some ty →
+    IfSome (one_datum op a) (DatumFits structs ty)
 one_fits structs ty op s a is typed =
     let found = where_holds (takes_one op s) (Some (scalar (type_of_result op s))) ty typed in
-    let same : ty ≡ scalar (type_of_result op a.ty) = sym (same_Some (scalar (type_of_result op s)) ty found.1) ∙ ap (λ s. scalar (type_of_result op s)) (sym is) in
-    if_map (λ n. in_range (type_of_result op a.ty) n ≡ true) (DatumFits structs ty) (OfScalar (type_of_result op a.ty)) (applied_one op a) (one_applied op a) (λ n within. (same, within))
+    let same : ty ≡ scalar (type_of_result op a.ty) = sym (same_Some (scalar (type_of_result op s)) ty found.1)
+    ∙ ap (λ s. scalar (type_of_result op s)) (sym is) in
+    if_map (λ n. in_range (type_of_result op a.ty) n ≡ true) (DatumFits structs ty) (OfScalar (type_of_result op a.ty)) (applied_one op a)
+    (one_applied op a) (λ n within. (same, within))
 
 two_by : (op : Op) (a : Operand) (n : ℤ) (holds : Bool) → (takes_two op a.ty && (in_range a.ty a.n && in_range a.ty n)) ≡ holds
     → IfSome (if holds then checked_of op a.ty a.n n else None) (λ n. in_range (type_of_result op a.ty) n ≡ true)
@@ -130,7 +136,8 @@ module _ (structs : List StructDef) (ty : Ty) (op : Op) (s t : ScalarType) (a : 
   by_right : (b : Operand) → IfSome (two_data op a b) (DatumFits structs ty)
   by_right b =
       let same : ty ≡ scalar (type_of_result op a.ty) = result_is ∙ ap (λ s. scalar (type_of_result op s)) (sym fit.0) in
-      if_map (λ n. in_range (type_of_result op a.ty) n ≡ true) (DatumFits structs ty) (OfScalar (type_of_result op a.ty)) (applied_two op a b.n) (two_applied op a b.n) (λ n within. (same, within))
+      if_map (λ n. in_range (type_of_result op a.ty) n ≡ true) (DatumFits structs ty) (OfScalar (type_of_result op a.ty))
+      (applied_two op a b.n) (two_applied op a b.n) (λ n within. (same, within))
 
   by_both : (b : Option Operand) → IfSome (option_and_then (two_data op a) b) (DatumFits structs ty)
   by_both None = tt
@@ -139,8 +146,10 @@ module _ (structs : List StructDef) (ty : Ty) (op : Op) (s t : ScalarType) (a : 
   by_left : (b : Option Operand) (holds : Bool) → decides op a.n ≡ holds
       → IfSome (if holds then Some (OfScalar a.ty a.n) else option_and_then (two_data op a) b) (DatumFits structs ty)
   by_left b false is = by_both b
-  by_left b true is =
-      (result_is ∙ ap scalar (decided op s a.n is (and_right (same_scalar s t) (takes_two op s) found.0) ∙ sym fit.0), subst (λ s. in_range s a.n ≡ true) (sym fit.0) fit.1)
+  by_left b true is = (
+    result_is ∙ ap scalar (decided op s a.n is (and_right (same_scalar s t) (takes_two op s) found.0) ∙ sym fit.0),
+    subst (λ s. in_range s a.n ≡ true) (sym fit.0) fit.1,
+  )
 
   pub two_fits : (b : Option Operand) → IfSome (two_datum op b a) (DatumFits structs ty)
   two_fits b = by_left b (decides op a.n) refl
@@ -150,7 +159,8 @@ cast_by : (structs : List StructDef) (ty : Ty) (target : ScalarType) (n : ℤ) (
 cast_by structs ty target n false is within = tt
 cast_by structs ty target n true is within = (is, within)
 
-pub cast_fits : (structs : List StructDef) (ty : Ty) (target s : ScalarType) (a : Operand) → cast_type target s ≡ Some ty → IfSome (cast_datum target a) (DatumFits structs ty)
+pub cast_fits : (structs : List StructDef) (ty : Ty) (target s : ScalarType) (a : Operand) → cast_type target s ≡ Some ty →
+    IfSome (cast_datum target a) (DatumFits structs ty)
 cast_fits structs ty target s a typed =
     let found = where_holds (is_whole target && is_whole s) (Some (scalar target)) ty typed in
     cast_by structs ty target a.n (in_range target a.n) (sym (same_Some (scalar target) ty found.1)) refl

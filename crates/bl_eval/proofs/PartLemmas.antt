@@ -1,5 +1,37 @@
 -- Going into a value part by part, and changing one there.
-use Rattle.std.proofs.Common.{◌≡◌, ℕ, suc, zero, ◌+◌, ◌-◌, ◌<◌, ◌≤◌, List, [], ◌∷◌, ◌++◌, length, get_or, take, drop, arith, refl, sym, ap, ◌∙◌, Option, Some, None, Bool, true, false, not, add-one, drop-cons, set-set}
+use Rattle.std.proofs.Common.{
+  ◌≡◌,
+  ℕ,
+  suc,
+  zero,
+  ◌+◌,
+  ◌-◌,
+  ◌<◌,
+  ◌≤◌,
+  List,
+  [],
+  ◌∷◌,
+  ◌++◌,
+  length,
+  get_or,
+  take,
+  drop,
+  arith,
+  refl,
+  sym,
+  ap,
+  ◌∙◌,
+  Option,
+  Some,
+  None,
+  Bool,
+  true,
+  false,
+  not,
+  add-one,
+  drop-cons,
+  set-set,
+}
 use Rattle.std.proofs.lemmas.List.{take_all}
 use Rattle.std.specs.Prelude.{is_some, option_and_then, option_map, slice_get, slice_set, unwrap_or}
 use Rattle.bl_tree.specs.declared.value.Value.{Value}
@@ -9,7 +41,8 @@ use Rattle.bl_eval.specs.declared.datum.Put.{Put}
 use Rattle.bl_eval.specs.Meaning.{read_at}
 use Rattle.bl_eval.specs.Values.{part_of, parts_in, put_at, value_at, with_value_at}
 
-pub value_step : (ps : List ℕ) (i : ℕ) (v w : Value) → i < length ps → part_of (get_or ps i 0) v ≡ Some w → value_at (drop i ps) v ≡ value_at (drop (i + 1) ps) w
+pub value_step : (ps : List ℕ) (i : ℕ) (v w : Value) → i < length ps → part_of (get_or ps i 0) v ≡ Some w →
+    value_at (drop i ps) v ≡ value_at (drop (i + 1) ps) w
 value_step ps i v w within is = rw (add-one, drop-cons ps i 0 within, is)
 
 pub value_stop : (ps : List ℕ) (i : ℕ) (v : Value) → i < length ps → part_of (get_or ps i 0) v ≡ None → value_at (drop i ps) v ≡ None
@@ -50,8 +83,10 @@ matches_map : (f : Value → Value) (found made : Option Value) → Matches foun
 matches_map f None made m = ap (option_map f) m
 matches_map f (Some found) made m = (f m.0, ap (option_map f) m.1)
 
-matches_element : (k : ℕ) (ps : List ℕ) (new : Value) (all : List Value) (inner : (v : Value) → Matches (value_at ps v) (with_value_at ps new v)) (found : Option Value)
-    → Matches (option_and_then (value_at ps) found) (option_and_then (λ old. option_map (λ part. Parts (slice_set all k part)) (with_value_at ps new old)) found)
+matches_element : (k : ℕ) (ps : List ℕ) (new : Value) (all : List Value)
+    (inner : (v : Value) → Matches (value_at ps v) (with_value_at ps new v)) (found : Option Value)
+    → Matches (option_and_then (value_at ps) found) (option_and_then
+    (λ old. option_map (λ part. Parts (slice_set all k part)) (with_value_at ps new old)) found)
 matches_element k ps new all inner None = refl
 matches_element k ps new all inner (Some old) = matches_map (λ part. Parts (slice_set all k part)) (value_at ps old) (with_value_at ps new old) (inner old)
 
@@ -67,7 +102,8 @@ matches (k ∷ ps) new v = matches_parts k ps new (matches ps new) (parts_in v)
 
 -- a change of a variable: none where nothing lies there, and else what `put` makes
 put_found : (root : ℕ) (ps : List ℕ) (new : Value) (now : List Value) (old : Value) (found : Option Value) (made : Option Value)
-    → Matches found made → slice_get now root ≡ Some old → option_map (λ value. slice_set now root value) made ≡ option_map (λ found. slice_set now root (unwrap_or made old)) found
+    → Matches found made → slice_get now root ≡ Some old →
+    option_map (λ value. slice_set now root value) made ≡ option_map (λ found. slice_set now root (unwrap_or made old)) found
 put_found root ps new now old None made m is = ap (option_map (λ value. slice_set now root value)) m
 put_found root ps new now old (Some found) made m is = rw m.1
 
@@ -77,7 +113,8 @@ put_at_root : (root : ℕ) (ps : List ℕ) (new : Value) (now : List Value) (at 
 put_at_root root ps new now None is = refl
 put_at_root root ps new now (Some old) is = put_found root ps new now old (value_at ps old) (with_value_at ps new old) (matches ps new old) is
 
-pub put_at_is : (root : ℕ) (ps : List ℕ) (new : Value) (now : List Value) → put_at root ps new now ≡ option_map (λ found. with_element_at root ps new now) (read_at root now ps)
+pub put_at_is : (root : ℕ) (ps : List ℕ) (new : Value) (now : List Value) →
+    put_at root ps new now ≡ option_map (λ found. with_element_at root ps new now) (read_at root now ps)
 put_at_is root ps new now = put_at_root root ps new now (slice_get now root) refl
 
 pub put_made : (all : List Value) (k : ℕ) (rest : List ℕ) (new old mid made : Value) → slice_get all k ≡ Some old → made ≡ replaced rest new old
@@ -106,7 +143,8 @@ single_none f None root ps qs new now none reads same is was =
     sym (put_at_is root ps new now ∙ ap (option_map (λ found. with_element_at root ps new now)) (sym (reads ∙ ap (read_at root now) same)))
 single_none f (Some a) root ps qs new now none reads same is was = absurd (cc)
 
-pub single_some : {A : Type 0} (f : A → Value) (o : Option A) (root : ℕ) (ps qs : List ℕ) (new : Value) (now : List Value) (none : Bool) (before made : List Put)
+pub single_some : {A : Type 0} (f : A → Value) (o : Option A) (root : ℕ) (ps qs : List ℕ) (new : Value) (now : List Value) (none : Bool)
+    (before made : List Put)
     → option_map f o ≡ read_at root now qs → qs ≡ ps → is_some o ≡ not none → none ≡ false → before ≡ []
     → made ≡ before ++ record { root = root; positions = ps; value = new } ∷ [] → Some (all_changed made now) ≡ put_at root ps new now
 single_some f None root ps qs new now none before made reads same is was is_before is_made = absurd (cc)
@@ -130,7 +168,8 @@ outside : (ps : List ℕ) (new old : Value) (found made : Option Value) → Matc
 outside ps new old None made m none = ap (λ made. unwrap_or made old) m
 outside ps new old (Some found) made m none = absurd (cc)
 
-element_outside : (root : ℕ) (ps : List ℕ) (new : Value) (now : List Value) (at : Option Value) → slice_get now root ≡ at → option_and_then (value_at ps) at ≡ None
+element_outside : (root : ℕ) (ps : List ℕ) (new : Value) (now : List Value) (at : Option Value) → slice_get now root ≡ at →
+    option_and_then (value_at ps) at ≡ None
     → unwrap_or (option_map (λ old. slice_set now root (replaced ps new old)) at) now ≡ now
 element_outside root ps new now None is none = refl
 element_outside root ps new now (Some old) is none =

@@ -1,5 +1,31 @@
 -- Lists of values against lists of what they are tested by, one for one.
-use Rattle.std.proofs.Common.{◌≡◌, ℕ, suc, zero, ◌<◌, Bool, true, false, ◌&&◌, List, [], ◌∷◌, ◌++◌, length, map, take, drop, replicate, arith, Option, Some, refl, sym, ap, ◌∙◌}
+use Rattle.std.proofs.Common.{
+  ◌≡◌,
+  ℕ,
+  suc,
+  zero,
+  ◌<◌,
+  Bool,
+  true,
+  false,
+  ◌&&◌,
+  List,
+  [],
+  ◌∷◌,
+  ◌++◌,
+  length,
+  map,
+  take,
+  drop,
+  replicate,
+  arith,
+  Option,
+  Some,
+  refl,
+  sym,
+  ap,
+  ◌∙◌,
+}
 use Rattle.std.proofs.lemmas.Option.{same_Some}
 use Rattle.std.specs.Prelude.{slice_get, slice_set}
 use Rattle.std.specs.List.{list_all}
@@ -50,14 +76,16 @@ abbrev pub Found : {X : Type 0} → (X → Value → Bool) → X → Option Valu
 Found test x found = (value : Value) × (found ≡ Some value) × (test x value ≡ true)
 
 module _ {X : Type 0} (test : X → Value → Bool) where
-  pub pass_at : (xs : List X) (values : List Value) (k : ℕ) (x : X) → pass (map test xs) values ≡ true → slice_get xs k ≡ Some x → Found test x (slice_get values k)
+  pub pass_at : (xs : List X) (values : List Value) (k : ℕ) (x : X) → pass (map test xs) values ≡ true → slice_get xs k ≡ Some x →
+      Found test x (slice_get values k)
   pass_at [] values k x all there = absurd (cc)
   pass_at (y ∷ xs) [] k x all there = absurd (cc)
   pass_at (y ∷ xs) (v ∷ values) zero x all there =
       (v, refl, ap (λ x. test x v) (sym (same_Some y x there)) ∙ and_left (test y v) (pass (map test xs) values) all)
   pass_at (y ∷ xs) (v ∷ values) (suc k) x all there = pass_at xs values k x (and_right (test y v) (pass (map test xs) values) all) there
 
-  pub pass_set : (xs : List X) (values : List Value) (k : ℕ) (x : X) (new : Value) → pass (map test xs) values ≡ true → slice_get xs k ≡ Some x → test x new ≡ true
+  pub pass_set : (xs : List X) (values : List Value) (k : ℕ) (x : X) (new : Value) → pass (map test xs) values ≡ true →
+      slice_get xs k ≡ Some x → test x new ≡ true
       → pass (map test xs) (slice_set values k new) ≡ true
   pass_set [] values k x new all there one = absurd (cc)
   pass_set (y ∷ xs) [] k x new all there one = absurd (cc)
@@ -112,7 +140,8 @@ module _ {X : Type 0} (test : X → Bool) where
   all_set [] k x all one = refl
   all_set (y ∷ xs) zero x all one = both (test x) (list_all test xs) one (and_right (test y) (list_all test xs) all)
   all_set (y ∷ xs) (suc k) x all one =
-      both (test y) (list_all test (slice_set xs k x)) (and_left (test y) (list_all test xs) all) (all_set xs k x (and_right (test y) (list_all test xs) all) one)
+      both (test y) (list_all test (slice_set xs k x)) (and_left (test y) (list_all test xs) all)
+      (all_set xs k x (and_right (test y) (list_all test xs) all) one)
 
   pub all_replicate : (n : ℕ) (x : X) → test x ≡ true → list_all test (replicate n x) ≡ true
   all_replicate zero x one = refl

@@ -18,10 +18,12 @@ given_at structs units vars k e view = meaning_of (record { structs = structs; v
 -- what is found in copies of the lists is found in the lists
 pub value_is : (structs found_structs : List StructDef) (units found_units all_units : List UnitDef) (unit : UnitDef) (vars : List Var) (k : ℕ) (e : Expr)
     (now before found_now found_before : List Value) (given : Option Datum) (result : Option Value)
-    → found_structs ≡ structs → found_units ≡ units → all_units ≡ units → vars ≡ unit.vars → found_now ≡ now → found_before ≡ before → Some unit ≡ slice_get all_units k
+    → found_structs ≡ structs → found_units ≡ units → all_units ≡ units → vars ≡ unit.vars → found_now ≡ now → found_before ≡ before →
+    Some unit ≡ slice_get all_units k
     → given ≡ given_at found_structs found_units vars k e (record { now = found_now; before = found_before }) → result ≡ option_map plain given
     → result ≡ value_in_unit structs units k e (record { now = now; before = before })
-value_is structs found_structs units found_units all_units unit vars k e now before found_now found_before given result is_structs is_units is_all is_vars is_now is_before there is_given is =
+value_is structs found_structs units found_units all_units unit vars k e now before found_now found_before given result is_structs is_units
+    is_all is_vars is_now is_before there is_given is =
     is ∙ ap (option_map plain)
     (is_given
     ∙ ap (λ structs. given_at structs found_units vars k e (record { now = found_now; before = found_before })) is_structs

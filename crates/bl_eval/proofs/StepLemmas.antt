@@ -1,5 +1,36 @@
 -- One step of each loop over expressions, paths and statements.
-use Rattle.std.proofs.Common.{◌≡◌, ℕ, suc, zero, ◌+◌, ◌-◌, ◌<◌, ◌≤◌, Bool, true, false, List, [], ◌∷◌, ◌++◌, length, get_or, map, drop, arith, Option, Some, None, refl, sym, ap, ◌∙◌, add-one, drop-cons, append_assoc}
+use Rattle.std.proofs.Common.{
+  ◌≡◌,
+  ℕ,
+  suc,
+  zero,
+  ◌+◌,
+  ◌-◌,
+  ◌<◌,
+  ◌≤◌,
+  Bool,
+  true,
+  false,
+  List,
+  [],
+  ◌∷◌,
+  ◌++◌,
+  length,
+  get_or,
+  map,
+  drop,
+  arith,
+  Option,
+  Some,
+  None,
+  refl,
+  sym,
+  ap,
+  ◌∙◌,
+  add-one,
+  drop-cons,
+  append_assoc,
+}
 use Rattle.std.specs.Prelude.{option_and_then, option_map, if◌then◌else◌}
 use Rattle.bl_tree.specs.declared.value.Value.{Value}
 use Rattle.bl_eval.specs.declared.datum.Datum.{Datum}
@@ -24,7 +55,8 @@ module _ {E : Type 0} (means : E → Meaning) (view : View) where
 
   pub values_step : (es : List E) (i : ℕ) (e : E) (datum : Datum) (made before : List Value) → i < length es → e ≡ get_or es i e → Some datum ≡ means e view
       → made ≡ before ++ plain datum ∷ []
-      → option_map (λ values. made ++ values) (values_of (map means (drop (i + 1) es)) view) ≡ option_map (λ values. before ++ values) (values_of (map means (drop i es)) view)
+      → option_map (λ values. made ++ values) (values_of (map means (drop (i + 1) es)) view)
+      ≡ option_map (λ values. before ++ values) (values_of (map means (drop i es)) view)
   values_step es i e datum made before within is gives is_made =
       let here : drop i es ≡ e ∷ drop (i + 1) es = rw (add-one) (drop-cons es i e within ∙ ap (λ x. x ∷ drop (suc i) es) (sym is)) in
       ap (λ made. option_map (λ values. made ++ values) (values_of (map means (drop (i + 1) es)) view)) is_made
@@ -44,7 +76,8 @@ module _ {P : Type 0} (means : P → Position) (view : View) where
 
   pub positions_step : (ps : List P) (i : ℕ) (p : P) (k : ℕ) (made before : List ℕ) → i < length ps → p ≡ get_or ps i p → means p view ≡ Some k
       → made ≡ before ++ k ∷ []
-      → option_map (λ ks. made ++ ks) (positions_of (map means (drop (i + 1) ps)) view) ≡ option_map (λ ks. before ++ ks) (positions_of (map means (drop i ps)) view)
+      → option_map (λ ks. made ++ ks) (positions_of (map means (drop (i + 1) ps)) view)
+      ≡ option_map (λ ks. before ++ ks) (positions_of (map means (drop i ps)) view)
   positions_step ps i p k made before within is gives is_made =
       let here : drop i ps ≡ p ∷ drop (i + 1) ps = rw (add-one) (drop-cons ps i p within ∙ ap (λ x. x ∷ drop (suc i) ps) (sym is)) in
       ap (λ made. option_map (λ ks. made ++ ks) (positions_of (map means (drop (i + 1) ps)) view)) is_made
@@ -69,9 +102,11 @@ module _ {P : Type 0} (leads : P → Spot) (view : View) where
   targets_none : (p : P) (rest : List P) → (leads p).positions view ≡ None → targets_of (map leads (p ∷ rest)) view ≡ None
   targets_none p rest is = rw is
 
-  pub targets_step : (ps : List P) (i : ℕ) (p : P) (root : ℕ) (ks : List ℕ) (made before : List Target) → i < length ps → p ≡ get_or ps i p → (leads p).root ≡ root
+  pub targets_step : (ps : List P) (i : ℕ) (p : P) (root : ℕ) (ks : List ℕ) (made before : List Target) → i < length ps →
+      p ≡ get_or ps i p → (leads p).root ≡ root
       → (leads p).positions view ≡ Some ks → made ≡ before ++ record { root = root; positions = ks } ∷ []
-      → option_map (λ rest. made ++ rest) (targets_of (map leads (drop (i + 1) ps)) view) ≡ option_map (λ rest. before ++ rest) (targets_of (map leads (drop i ps)) view)
+      → option_map (λ rest. made ++ rest) (targets_of (map leads (drop (i + 1) ps)) view)
+      ≡ option_map (λ rest. before ++ rest) (targets_of (map leads (drop i ps)) view)
   targets_step ps i p root ks made before within is is_root gives is_made =
       let here : drop i ps ≡ p ∷ drop (i + 1) ps = rw (add-one) (drop-cons ps i p within ∙ ap (λ x. x ∷ drop (suc i) ps) (sym is)) in
       let target : Target = record { root = (leads p).root; positions = ks } in
@@ -111,7 +146,8 @@ module _ (goes : List Value → Option Bool) (body : Does) (ends : List Value �
   abbrev turn : Does → Does
   turn again now =
       option_and_then (λ more.
-      if more then after (body now) (λ new. option_and_then (λ is_over. if is_over then Some (Flow.On new) else again new) (ends new)) else Some (Flow.On now)) (goes now)
+      if more then after (body now) (λ new. option_and_then (λ is_over. if is_over then Some (Flow.On new) else again new) (ends new)) else
+      Some (Flow.On now)) (goes now)
 
   turn_at : (n m : ℕ) (now : List Value) → n ≡ suc m → looped goes body ends n now ≡ turn (looped goes body ends m) now
   turn_at n m now is = ap (λ n. looped goes body ends n now) is
@@ -126,7 +162,8 @@ module _ (goes : List Value → Option Bool) (body : Does) (ends : List Value �
   unfolding most_turns
   turn_last counter now past = let none : 65536 - counter ≡ zero = omega arith in ap (λ n. looped goes body ends n now) none
 
-  pub turns_done : (counter : ℕ) (now : List Value) (target : Option Flow) (given : Option Bool) (result : Option Flow) → 65536 ≤ counter → looped goes body ends (most_turns - counter) now ≡ target
+  pub turns_done : (counter : ℕ) (now : List Value) (target : Option Flow) (given : Option Bool) (result : Option Flow) → 65536 ≤ counter →
+      looped goes body ends (most_turns - counter) now ≡ target
       → result ≡ option_and_then (λ more. if more then None else Some (Flow.On now)) given → given ≡ goes now → result ≡ target
   turns_done counter now target given result past inv is is_given =
       is ∙ ap (option_and_then (λ more. if more then None else Some (Flow.On now))) is_given ∙ sym (turn_last counter now past) ∙ inv
@@ -134,20 +171,24 @@ module _ (goes : List Value → Option Bool) (body : Does) (ends : List Value �
   -- how a turn goes, by its condition, its body and its end
   turn_over : (again : Does) (now : List Value) → goes now ≡ None → turn again now ≡ None
   turn_over again now none = ap (option_and_then (λ more.
-      if more then after (body now) (λ new. option_and_then (λ is_over. if is_over then Some (Flow.On new) else again new) (ends new)) else Some (Flow.On now))) none
+      if more then after (body now) (λ new. option_and_then (λ is_over. if is_over then Some (Flow.On new) else again new) (ends new)) else
+      Some (Flow.On now))) none
 
   turn_gone : (again : Does) (now : List Value) → goes now ≡ Some false → turn again now ≡ Some (Flow.On now)
   turn_gone again now ended_now = ap (option_and_then (λ more.
-      if more then after (body now) (λ new. option_and_then (λ is_over. if is_over then Some (Flow.On new) else again new) (ends new)) else Some (Flow.On now))) ended_now
+      if more then after (body now) (λ new. option_and_then (λ is_over. if is_over then Some (Flow.On new) else again new) (ends new)) else
+      Some (Flow.On now))) ended_now
 
   turn_begun : (again : Does) (now : List Value) (r : Option Flow) → goes now ≡ Some true → r ≡ body now
       → turn again now ≡ after r (λ new. option_and_then (λ is_over. if is_over then Some (Flow.On new) else again new) (ends new))
   turn_begun again now r begun is =
       ap (option_and_then (λ more.
-      if more then after (body now) (λ new. option_and_then (λ is_over. if is_over then Some (Flow.On new) else again new) (ends new)) else Some (Flow.On now))) begun
+      if more then after (body now) (λ new. option_and_then (λ is_over. if is_over then Some (Flow.On new) else again new) (ends new)) else
+      Some (Flow.On now))) begun
       ∙ ap (λ r. after r (λ new. option_and_then (λ is_over. if is_over then Some (Flow.On new) else again new) (ends new))) (sym is)
 
-  module _ (counter : ℕ) (now : List Value) (target : Option Flow) (within : counter < 65536) (inv : looped goes body ends (most_turns - counter) now ≡ target) where
+  module _ (counter : ℕ) (now : List Value) (target : Option Flow) (within : counter < 65536)
+      (inv : looped goes body ends (most_turns - counter) now ≡ target) where
     abbrev next : Does
     next = looped goes body ends (most_turns - (counter + 1))
 
@@ -165,28 +206,34 @@ module _ (goes : List Value → Option Bool) (body : Does) (ends : List Value �
     turns_left (Ending.Back datum) new begun is not_on = sym (turn_begun next now (Some (Flow.Back new datum)) begun is) ∙ start
     turns_left Ending.Trap new begun is not_on = sym (turn_begun next now None begun is) ∙ start
 
-    ended_turn : (flow : Ended) (new : List Value) (is_over : Option Bool) → goes now ≡ Some true → ended flow new ≡ body now → flow ≡ Ending.On → ends new ≡ is_over
+    ended_turn : (flow : Ended) (new : List Value) (is_over : Option Bool) → goes now ≡ Some true → ended flow new ≡ body now →
+        flow ≡ Ending.On → ends new ≡ is_over
         → option_and_then (λ is_over. if is_over then Some (Flow.On new) else next new) is_over ≡ target
     ended_turn flow new is_over begun is on is_done =
         ap (option_and_then (λ is_over. if is_over then Some (Flow.On new) else next new)) (sym is_done)
         ∙ sym (turn_begun next now (Some (Flow.On new)) begun (ap (λ flow. ended flow new) (sym on) ∙ is)) ∙ start
 
-    pub turns_end_trap : (flow : Ended) (new : List Value) → goes now ≡ Some true → ended flow new ≡ body now → flow ≡ Ending.On → ends new ≡ None → None ≡ target
+    pub turns_end_trap : (flow : Ended) (new : List Value) → goes now ≡ Some true → ended flow new ≡ body now → flow ≡ Ending.On →
+        ends new ≡ None → None ≡ target
     turns_end_trap flow new begun is on none = ended_turn flow new None begun is on none
 
-    pub turns_end : (flow : Ended) (new : List Value) → goes now ≡ Some true → ended flow new ≡ body now → flow ≡ Ending.On → ends new ≡ Some true → Some (Flow.On new) ≡ target
+    pub turns_end : (flow : Ended) (new : List Value) → goes now ≡ Some true → ended flow new ≡ body now → flow ≡ Ending.On →
+        ends new ≡ Some true → Some (Flow.On new) ≡ target
     turns_end flow new begun is on over = ended_turn flow new (Some true) begun is on over
 
-    pub turns_again : (flow : Ended) (new : List Value) → goes now ≡ Some true → ended flow new ≡ body now → flow ≡ Ending.On → ends new ≡ Some false → next new ≡ target
+    pub turns_again : (flow : Ended) (new : List Value) → goes now ≡ Some true → ended flow new ≡ body now → flow ≡ Ending.On →
+        ends new ≡ Some false → next new ≡ target
     turns_again flow new begun is on more = ended_turn flow new (Some false) begun is on more
 
 module _ {S : Type 0} (runs : S → Does) where
-  pub order_on : (body : List S) (i : ℕ) (s : S) (now new : List Value) (flow : Ended) → i < length body → s ≡ get_or body i s → flow ≡ Ending.On → ended flow new ≡ runs s now
+  pub order_on : (body : List S) (i : ℕ) (s : S) (now new : List Value) (flow : Ended) → i < length body → s ≡ get_or body i s →
+      flow ≡ Ending.On → ended flow new ≡ runs s now
       → in_order (map runs (drop (i + 1) body)) new ≡ in_order (map runs (drop i body)) now
   order_on body i s now new flow within is on gives =
       sym (order_step runs body i s now within is ∙ ap (λ r. after r (in_order (map runs (drop (i + 1) body)))) (sym gives ∙ ap (λ flow. ended flow new) on))
 
-module _ {S : Type 0} (offers : S → Choice) (other : Does) (arms : List S) (i : ℕ) (arm : S) (now : List Value) (within : i < length arms) (is : arm ≡ get_or arms i arm) where
+module _ {S : Type 0} (offers : S → Choice) (other : Does) (arms : List S) (i : ℕ) (arm : S) (now : List Value) (within : i < length arms)
+    (is : arm ≡ get_or arms i arm) where
   abbrev picked : Option Bool → Option Flow
   picked test = option_and_then (λ holds. if holds then (offers arm).body now else chosen (map offers (drop (i + 1) arms)) other now) test
 

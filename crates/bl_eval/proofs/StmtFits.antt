@@ -13,7 +13,21 @@ use Rattle.bl_tree.specs.declared.tree.Var.{Var}
 use Rattle.bl_tree.specs.declared.value.Value.{Value}
 use Rattle.bl_tree.specs.Reduce.{all_of}
 use Rattle.bl_tree.specs.Types.{scalar}
-use Rattle.bl_tree.specs.Typing.{Site, are_same, arm_fits, branch_fits, fits, is_inhabited, is_truth, kind_fits, return_fits, site_of, stmt_fits, type_of, type_of_path}
+use Rattle.bl_tree.specs.Typing.{
+  Site,
+  are_same,
+  arm_fits,
+  branch_fits,
+  fits,
+  is_inhabited,
+  is_truth,
+  kind_fits,
+  return_fits,
+  site_of,
+  stmt_fits,
+  type_of,
+  type_of_path,
+}
 use Rattle.bl_tree.proofs.StmtInduction.{Cases, Each, EachArm, induct}
 use Rattle.bl_eval.specs.Changes.{choice_of}
 use Rattle.bl_eval.specs.Functions.{Choice, Does, Flow, after, chosen, condition, declared, does, in_order, looped, most_turns, own, returned, scope_among}
@@ -37,7 +51,8 @@ module _ (structs : List StructDef) (vars : List Var) (result : Option ScalarTyp
   abbrev pub EndsFit : Does → Type 0
   EndsFit ends = (now : List Value) → AllFit structs vars now → IfSome (ends now) (FlowFits structs vars result)
 
-  pub after_fits : (first : Option Flow) (next : Does) → IfSome first (FlowFits structs vars result) → EndsFit next → IfSome (after first next) (FlowFits structs vars result)
+  pub after_fits : (first : Option Flow) (next : Does) → IfSome first (FlowFits structs vars result) → EndsFit next →
+      IfSome (after first next) (FlowFits structs vars result)
   after_fits None next one more = tt
   after_fits (Some (Flow.On now)) next one more = more now one
   after_fits (Some (Flow.Back now given)) next one more = one
@@ -48,10 +63,12 @@ module _ (structs : List StructDef) (vars : List Var) (result : Option ScalarTyp
   chosen_by (Some true) body rest now all one more = one now all
   chosen_by (Some false) body rest now all one more = more now all
 
-  pub choice_fits : (choice : Choice) (choices : List Choice) (other : Does) → EndsFit choice.body → EndsFit (chosen choices other) → EndsFit (chosen (choice ∷ choices) other)
+  pub choice_fits : (choice : Choice) (choices : List Choice) (other : Does) → EndsFit choice.body → EndsFit (chosen choices other) →
+      EndsFit (chosen (choice ∷ choices) other)
   choice_fits choice choices other one more now all = chosen_by (choice.test now) choice.body (chosen choices other) now all one more
 
-  last_fits : (more : Option Bool) (now : List Value) → AllFit structs vars now → IfSome (option_and_then (λ more. if more then None else Some (Flow.On now)) more) (FlowFits structs vars result)
+  last_fits : (more : Option Bool) (now : List Value) → AllFit structs vars now →
+      IfSome (option_and_then (λ more. if more then None else Some (Flow.On now)) more) (FlowFits structs vars result)
   last_fits None now all = tt
   last_fits (Some true) now all = tt
   last_fits (Some false) now all = all
@@ -64,10 +81,13 @@ module _ (structs : List StructDef) (vars : List Var) (result : Option ScalarTyp
     ended_by (Some false) again new all more = more new all
 
     turn_by : (more : Option Bool) (again : Does) (now : List Value) → AllFit structs vars now → EndsFit again
-        → IfSome (option_and_then (λ more. if more then after (body now) (λ new. option_and_then (λ is_over. if is_over then Some (Flow.On new) else again new) (ends new)) else Some (Flow.On now)) more) (FlowFits structs vars result)
+        → IfSome (option_and_then (λ more. if more then after (body now)
+        (λ new. option_and_then (λ is_over. if is_over then Some (Flow.On new) else again new) (ends new)) else Some (Flow.On now))
+        more) (FlowFits structs vars result)
     turn_by None again now all next = tt
     turn_by (Some true) again now all next =
-        after_fits (body now) (λ new. option_and_then (λ is_over. if is_over then Some (Flow.On new) else again new) (ends new)) (one now all) (λ new fit. ended_by (ends new) again new fit next)
+        after_fits (body now) (λ new. option_and_then (λ is_over. if is_over then Some (Flow.On new) else again new) (ends new))
+        (one now all) (λ new fit. ended_by (ends new) again new fit next)
     turn_by (Some false) again now all next = all
 
     pub looped_fits : (goes : List Value → Option Bool) (n : ℕ) → EndsFit (looped goes body ends n)
@@ -107,7 +127,8 @@ module _ (structs : List StructDef) (earlier : List UnitDef) (unit : UnitDef) (c
   abbrev OfArm : Arm → Type 0
   OfArm arm = Each S (out-Arm arm).body
 
-  arms_fit : (arms : List Arm) (other : Does) → EachArm S arms → all_of (map arm_fitted arms) ≡ true → Ends other → Ends (chosen (map (choice_of scope) arms) other)
+  arms_fit : (arms : List Arm) (other : Does) → EachArm S arms → all_of (map arm_fitted arms) ≡ true → Ends other →
+      Ends (chosen (map (choice_of scope) arms) other)
   arms_fit [] other each fitted last = last
   arms_fit (arm ∷ arms) other each fitted last =
       choice_fits structs unit.vars unit.result (choice_of scope arm) (map (choice_of scope) arms) other
@@ -131,31 +152,40 @@ module _ (structs : List StructDef) (earlier : List UnitDef) (unit : UnitDef) (c
   loop_fits : (goes ends : Option Expr) (body : List Stmt) → Each S body → all_of (map (fits site) body) ≡ true
       → Ends (looped (condition scope goes true) (in_order (map (does scope) body)) (condition scope ends false) most_turns)
   loop_fits goes ends body each fitted =
-      looped_fits structs unit.vars unit.result (in_order (map (does scope) body)) (condition scope ends false) (block_fits body each fitted) (condition scope goes true) most_turns
+      looped_fits structs unit.vars unit.result (in_order (map (does scope) body)) (condition scope ends false)
+      (block_fits body each fitted) (condition scope goes true) most_turns
 
   cases : Cases S
   cases = record {
     declare = λ place k initial fitted now all. rw (fold-roll-Stmt, fold-roll-StmtKind)
-        (on_fits (declared scope k initial (own now)) (declared_fits structs earlier unit callees sound (own now) all all k initial (rw (fold-roll-Stmt, fold-roll-StmtKind) at fitted)));
+        (on_fits (declared scope k initial (own now)) (declared_fits structs earlier unit callees sound (own now) all all k initial
+        (rw (fold-roll-Stmt, fold-roll-StmtKind) at fitted)));
     assign = λ place path e fitted now all. rw (fold-roll-Stmt, fold-roll-StmtKind)
-        (on_fits _ (assigned_fits structs earlier unit callees sound (own now) all all path e (and_right _ (are_same (type_of_path site path) (type_of site e)) (rw (fold-roll-Stmt, fold-roll-StmtKind) at fitted))));
+        (on_fits _ (assigned_fits structs earlier unit callees sound (own now) all all path e
+        (and_right _ (are_same (type_of_path site path) (type_of site e)) (rw (fold-roll-Stmt, fold-roll-StmtKind) at fitted))));
     call = λ place f inputs outputs fitted now all. rw (fold-roll-Stmt, fold-roll-StmtKind)
-        (on_fits _ (called_fits structs earlier unit callees sound (own now) all all f inputs outputs _ refl (rw (fold-roll-Stmt, fold-roll-StmtKind) at fitted)));
+        (on_fits _ (called_fits structs earlier unit callees sound (own now) all all f inputs outputs _ refl
+        (rw (fold-roll-Stmt, fold-roll-StmtKind) at fitted)));
     await = λ place e fitted now all. rw (fold-roll-Stmt, fold-roll-StmtKind) tt;
     run = λ place target a inputs outputs fitted now all. rw (fold-roll-Stmt, fold-roll-StmtKind) tt;
     branching = λ place arms other each others fitted now all.
-        let both = and_right (is_inhabited (map arm_fitted arms)) (all_of (map arm_fitted arms) && all_of (map (fits site) other)) (rw (fold-roll-Stmt, fold-roll-StmtKind) at fitted) in
+        let both = and_right (is_inhabited (map arm_fitted arms)) (all_of (map arm_fitted arms) && all_of (map (fits site) other))
+        (rw (fold-roll-Stmt, fold-roll-StmtKind) at fitted) in
         rw (fold-roll-Stmt, fold-roll-StmtKind)
         (arms_fit arms (in_order (map (does scope) other)) each (and_left (all_of (map arm_fitted arms)) (all_of (map (fits site) other)) both)
         (block_fits other others (and_right (all_of (map arm_fitted arms)) (all_of (map (fits site) other)) both)) now all);
     cobegin = λ place branches each fitted now all. rw (fold-roll-Stmt, fold-roll-StmtKind) tt;
     guarded = λ place guard e body each fitted now all. rw (fold-roll-Stmt, fold-roll-StmtKind) tt;
-    repeat = λ place body each fitted now all. rw (fold-roll-Stmt, fold-roll-StmtKind) (loop_fits None None body each (rw (fold-roll-Stmt, fold-roll-StmtKind) at fitted) now all);
+    repeat = λ place body each fitted now all. rw (fold-roll-Stmt, fold-roll-StmtKind)
+        (loop_fits None None body each (rw (fold-roll-Stmt, fold-roll-StmtKind) at fitted) now all);
     until = λ place body e each fitted now all. rw (fold-roll-Stmt, fold-roll-StmtKind)
-        (loop_fits None (Some e) body each (and_left (all_of (map (fits site) body)) (is_truth (type_of site e)) (rw (fold-roll-Stmt, fold-roll-StmtKind) at fitted)) now all);
+        (loop_fits None (Some e) body each (and_left (all_of (map (fits site) body)) (is_truth (type_of site e))
+        (rw (fold-roll-Stmt, fold-roll-StmtKind) at fitted)) now all);
     while = λ place e body each fitted now all. rw (fold-roll-Stmt, fold-roll-StmtKind)
-        (loop_fits (Some e) None body each (and_right (is_truth (type_of site e)) (all_of (map (fits site) body)) (rw (fold-roll-Stmt, fold-roll-StmtKind) at fitted)) now all);
-    returns = λ place e fitted now all. rw (fold-roll-Stmt, fold-roll-StmtKind) (return_by e unit.result now (rw (fold-roll-Stmt, fold-roll-StmtKind) at fitted) all);
+        (loop_fits (Some e) None body each (and_right (is_truth (type_of site e)) (all_of (map (fits site) body))
+        (rw (fold-roll-Stmt, fold-roll-StmtKind) at fitted)) now all);
+    returns = λ place e fitted now all. rw (fold-roll-Stmt, fold-roll-StmtKind)
+        (return_by e unit.result now (rw (fold-roll-Stmt, fold-roll-StmtKind) at fitted) all);
   }
 
   pub does_fits : (s : Stmt) → fits site s ≡ true → Ends (does scope s)

@@ -1,5 +1,29 @@
 -- Every unit of a typed program leaves values of its types, and what stands in it gives and keeps them.
-use Rattle.std.proofs.Common.{◌≡◌, ℕ, suc, zero, ◌+◌, length, Bool, true, ◌&&◌, List, [], ◌∷◌, ◌++◌, map, take, drop, Some, refl, sym, ap, ◌∙◌, subst, append_assoc}
+use Rattle.std.proofs.Common.{
+  ◌≡◌,
+  ℕ,
+  suc,
+  zero,
+  ◌+◌,
+  length,
+  Bool,
+  true,
+  ◌&&◌,
+  List,
+  [],
+  ◌∷◌,
+  ◌++◌,
+  map,
+  take,
+  drop,
+  Some,
+  refl,
+  sym,
+  ap,
+  ◌∙◌,
+  subst,
+  append_assoc,
+}
 use Rattle.std.proofs.lemmas.List.{append-nil, take-append-drop}
 use Rattle.std.proofs.lemmas.Option.{same_Some}
 use Rattle.std.specs.Prelude.{slice_get}
@@ -41,7 +65,8 @@ module _ (structs : List StructDef) (earlier : List UnitDef) (unit : UnitDef) (s
 
 -- ---- functions
 
-frame_fits : (structs : List StructDef) (unit : UnitDef) (arguments : List Value) → structs_stand_from 0 structs ≡ true → list_all (λ var. type_stands (length structs) var.ty) unit.vars ≡ true
+frame_fits : (structs : List StructDef) (unit : UnitDef) (arguments : List Value) → structs_stand_from 0 structs ≡ true →
+    list_all (λ var. type_stands (length structs) var.ty) unit.vars ≡ true
     → AllFit structs (parameters_of unit) arguments → AllFit structs unit.vars (frame_of structs unit arguments)
 frame_fits structs unit arguments structs_stand vars_stand given =
     let test : Var → Value → Bool = λ var. value_fits structs var.ty in
@@ -60,10 +85,12 @@ left_fits structs unit (Flow.Back now result) fit =
     let test : Var → Value → Bool = λ var. value_fits structs var.ty in
     (pass_take test unit.outputs (drop unit.inputs unit.vars) (drop unit.inputs now) (pass_drop test unit.inputs unit.vars now fit.0), fit.1)
 
-callee_fits : (structs : List StructDef) (earlier : List UnitDef) (unit : UnitDef) (callees : List Callee) → Sound structs earlier unit callees → unit_stands structs earlier unit ≡ true
+callee_fits : (structs : List StructDef) (earlier : List UnitDef) (unit : UnitDef) (callees : List Callee) →
+    Sound structs earlier unit callees → unit_stands structs earlier unit ≡ true
     → CalleeFits structs unit (callee_of structs callees unit)
 callee_fits structs earlier unit callees sound stands arguments given =
-    if_map (FlowFits structs unit.vars unit.result) (LeftFits structs unit) (left_by unit) (in_order (map (does (scope_among structs callees unit)) unit.body) (frame_of structs unit arguments))
+    if_map (FlowFits structs unit.vars unit.result) (LeftFits structs unit) (left_by unit)
+    (in_order (map (does (scope_among structs callees unit)) unit.body) (frame_of structs unit arguments))
     (block_fits structs earlier unit callees sound unit.body (λ k d within. does_fits structs earlier unit callees sound _)
     (all_listed (fits (site_of structs earlier unit)) unit.body (body_fits structs earlier unit stands)) (frame_of structs unit arguments)
     (frame_fits structs unit arguments sound.structs_stand sound.vars_stand given))
@@ -71,7 +98,8 @@ callee_fits structs earlier unit callees sound stands arguments given =
 
 -- ---- all units
 
-zip_push : (structs : List StructDef) (units : List UnitDef) (callees : List Callee) (unit : UnitDef) (callee : Callee) → AllZip (CalleeFits structs) units callees
+zip_push : (structs : List StructDef) (units : List UnitDef) (callees : List Callee) (unit : UnitDef) (callee : Callee) →
+    AllZip (CalleeFits structs) units callees
     → CalleeFits structs unit callee → AllZip (CalleeFits structs) (units ++ unit ∷ []) (callees ++ callee ∷ [])
 zip_push structs [] [] unit callee all one = (one, tt)
 zip_push structs [] (first ∷ callees) unit callee all one = absurd all
@@ -79,25 +107,37 @@ zip_push structs (first ∷ units) [] unit callee all one = absurd all
 zip_push structs (first ∷ units) (other ∷ callees) unit callee all one = (all.0, zip_push structs units callees unit callee all.1 one)
 
 callees_fit_after : (structs : List StructDef) (earlier : List UnitDef) (callees : List Callee) (rest : List UnitDef) → structs_stand_from 0 structs ≡ true
-    → AllZip (CalleeFits structs) earlier callees → units_stand_after structs earlier rest ≡ true → AllZip (CalleeFits structs) (earlier ++ rest) (callees_after structs callees rest)
+    → AllZip (CalleeFits structs) earlier callees → units_stand_after structs earlier rest ≡ true →
+    AllZip (CalleeFits structs) (earlier ++ rest) (callees_after structs callees rest)
 callees_fit_after structs earlier callees [] structs_stand all stand = subst (λ units. AllZip (CalleeFits structs) units callees) (sym (append-nil earlier)) all
 callees_fit_after structs earlier callees (unit ∷ rest) structs_stand all stand =
-    let here : unit_stands structs earlier unit ≡ true = and_left (unit_stands structs earlier unit) (units_stand_after structs (earlier ++ unit ∷ []) rest) stand in
-    let sound : Sound structs earlier unit callees = record { structs_stand = structs_stand; vars_stand = vars_stand structs earlier unit here; callees_fit = all } in
-    subst (λ units. AllZip (CalleeFits structs) units (callees_after structs (callees ++ callee_of structs callees unit ∷ []) rest)) (append_assoc earlier (unit ∷ []) rest)
+    let here : unit_stands structs earlier unit ≡ true =
+    and_left (unit_stands structs earlier unit) (units_stand_after structs (earlier ++ unit ∷ []) rest) stand in
+    let sound : Sound structs earlier unit callees = record {
+      structs_stand = structs_stand;
+      vars_stand =
+          vars_stand structs earlier unit here;
+      callees_fit = all;
+    } in
+    subst (λ units. AllZip (CalleeFits structs) units (callees_after structs (callees ++ callee_of structs callees unit ∷ []) rest))
+    (append_assoc earlier (unit ∷ []) rest)
     (callees_fit_after structs (earlier ++ unit ∷ []) (callees ++ callee_of structs callees unit ∷ []) rest structs_stand
     (zip_push structs earlier callees unit (callee_of structs callees unit) all (callee_fits structs earlier unit callees sound here))
     (and_right (unit_stands structs earlier unit) (units_stand_after structs (earlier ++ unit ∷ []) rest) stand))
 
-units_take : (structs : List StructDef) (earlier units : List UnitDef) (k : ℕ) → units_stand_after structs earlier units ≡ true → units_stand_after structs earlier (take k units) ≡ true
+units_take : (structs : List StructDef) (earlier units : List UnitDef) (k : ℕ) → units_stand_after structs earlier units ≡ true →
+    units_stand_after structs earlier (take k units) ≡ true
 units_take structs earlier units zero stand = refl
 units_take structs earlier [] (suc k) stand = refl
 units_take structs earlier (unit ∷ units) (suc k) stand =
-    let here : unit_stands structs earlier unit ≡ true = and_left (unit_stands structs earlier unit) (units_stand_after structs (earlier ++ unit ∷ []) units) stand in
+    let here : unit_stands structs earlier unit ≡ true =
+    and_left (unit_stands structs earlier unit) (units_stand_after structs (earlier ++ unit ∷ []) units) stand in
     ap (λ b. b && units_stand_after structs (earlier ++ unit ∷ []) (take k units)) here
-    ∙ units_take structs (earlier ++ unit ∷ []) units k (and_right (unit_stands structs earlier unit) (units_stand_after structs (earlier ++ unit ∷ []) units) stand)
+    ∙ units_take structs (earlier ++ unit ∷ []) units k
+    (and_right (unit_stands structs earlier unit) (units_stand_after structs (earlier ++ unit ∷ []) units) stand)
 
-unit_at : (structs : List StructDef) (earlier units : List UnitDef) (k : ℕ) (unit : UnitDef) → units_stand_after structs earlier units ≡ true → slice_get units k ≡ Some unit
+unit_at : (structs : List StructDef) (earlier units : List UnitDef) (k : ℕ) (unit : UnitDef) →
+    units_stand_after structs earlier units ≡ true → slice_get units k ≡ Some unit
     → unit_stands structs (earlier ++ take k units) unit ≡ true
 unit_at structs earlier [] k unit stand there = absurd (cc)
 unit_at structs earlier (first ∷ units) zero unit stand there =
@@ -106,7 +146,8 @@ unit_at structs earlier (first ∷ units) zero unit stand there =
     (and_left (unit_stands structs earlier first) (units_stand_after structs (earlier ++ first ∷ []) units) stand))
 unit_at structs earlier (first ∷ units) (suc k) unit stand there =
     subst (λ earlier. unit_stands structs earlier unit ≡ true) (append_assoc earlier (first ∷ []) (take k units))
-    (unit_at structs (earlier ++ first ∷ []) units k unit (and_right (unit_stands structs earlier first) (units_stand_after structs (earlier ++ first ∷ []) units) stand) there)
+    (unit_at structs (earlier ++ first ∷ []) units k unit
+    (and_right (unit_stands structs earlier first) (units_stand_after structs (earlier ++ first ∷ []) units) stand) there)
 
 -- what the statements of a unit of a typed program stand on
 pub sound_at : (structs : List StructDef) (units : List UnitDef) (entry k : ℕ) (unit : UnitDef) → Keeps structs units entry → slice_get units k ≡ Some unit

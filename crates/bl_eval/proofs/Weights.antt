@@ -10,7 +10,24 @@ use Rattle.bl_tree.specs.declared.tree.Path.{Path, out-Path}
 use Rattle.bl_tree.specs.declared.tree.Stmt.{Stmt, fold-Stmt, fold_out-Stmt, out-Stmt}
 use Rattle.bl_tree.specs.declared.tree.StmtKind.{StmtKind, fold-StmtKind, fold_out-StmtKind, map-StmtKind, out-StmtKind}
 use Rattle.bl_tree.specs.declared.tree.StmtKind.TheOpen.{StmtKind-F, Arm-F, Branch-F, Stmt-F}
-use Rattle.bl_tree.specs.declared.tree.StmtKind.TheVariants.{Declare, Assign, Call, If, Repeat, Until, While, Return, outs-Declare, outs-Assign, outs-Call, outs-If, outs-Repeat, outs-Until, outs-While, outs-Return}
+use Rattle.bl_tree.specs.declared.tree.StmtKind.TheVariants.{
+  Declare,
+  Assign,
+  Call,
+  If,
+  Repeat,
+  Until,
+  While,
+  Return,
+  outs-Declare,
+  outs-Assign,
+  outs-Call,
+  outs-If,
+  outs-Repeat,
+  outs-Until,
+  outs-While,
+  outs-Return,
+}
 use Rattle.bl_tree.specs.declared.tree.StructDef.{StructDef}
 use Rattle.bl_tree.specs.declared.tree.Ty.{size-Ty}
 use Rattle.bl_tree.specs.declared.tree.Unit.{Unit as UnitDef}
@@ -111,7 +128,8 @@ weight_declare k v e is = what_at k (StmtKind-F.Declare v e) (ap out-StmtKind is
 pub weight_assign : (k : StmtKind) (path : Path) (e : Expr) → k ≡ Assign path e → what_weight k ≡ 1 + max (path_depth path) (size-Expr e)
 weight_assign k path e is = what_at k (StmtKind-F.Assign path e) (ap out-StmtKind is ∙ outs-Assign path e)
 
-pub weight_call : (k : StmtKind) (f : ℕ) (inputs : List Expr) (outputs : List Path) → k ≡ Call f inputs outputs → what_weight k ≡ 1 + max (exprs_depth inputs) (paths_depth outputs)
+pub weight_call : (k : StmtKind) (f : ℕ) (inputs : List Expr) (outputs : List Path) → k ≡ Call f inputs outputs →
+    what_weight k ≡ 1 + max (exprs_depth inputs) (paths_depth outputs)
 weight_call k f inputs outputs is = what_at k (StmtKind-F.Call f inputs outputs) (ap out-StmtKind is ∙ outs-Call f inputs outputs)
 
 pub weight_if : (k : StmtKind) (arms : List Arm) (other : List Stmt) → k ≡ If arms other → what_weight k ≡ 1 + max (arms_weight arms) (block_weight other)

@@ -1,5 +1,29 @@
 -- The zeros of structs: each by those before it.
-use Rattle.std.proofs.Common.{◌≡◌, ℕ, suc, zero, ◌+◌, ◌<◌, ◌≤◌, List, [], ◌∷◌, ◌++◌, length, get_or, map, take, arith, refl, sym, ap, ◌∙◌, length-append, Some, None}
+use Rattle.std.proofs.Common.{
+  ◌≡◌,
+  ℕ,
+  suc,
+  zero,
+  ◌+◌,
+  ◌<◌,
+  ◌≤◌,
+  List,
+  [],
+  ◌∷◌,
+  ◌++◌,
+  length,
+  get_or,
+  map,
+  take,
+  arith,
+  refl,
+  sym,
+  ap,
+  ◌∙◌,
+  length-append,
+  Some,
+  None,
+}
 use Rattle.std.proofs.lemmas.List.{get_or_append_left}
 use Rattle.std.proofs.Math.Seq.{get_or-append_seam}
 use Rattle.std.specs.Prelude.{slice_get}
@@ -10,7 +34,8 @@ use Rattle.bl_tree.specs.declared.value.Value.TheVariants.{Parts}
 use Rattle.bl_eval.specs.Values.{struct_zero, zeros_after, zero_of}
 
 -- what is there before stays
-pub zeros_start : (structs : List StructDef) (zeros : List Value) (k : ℕ) (d : Value) → k < length zeros → get_or (zeros_after zeros structs) k d ≡ get_or zeros k d
+pub zeros_start : (structs : List StructDef) (zeros : List Value) (k : ℕ) (d : Value) → k < length zeros →
+    get_or (zeros_after zeros structs) k d ≡ get_or zeros k d
 zeros_start [] zeros k d within = refl
 zeros_start (def ∷ rest) zeros k d within =
     let more : k < length (zeros ++ struct_zero zeros def ∷ []) = omega (arith, length-append zeros (struct_zero zeros def ∷ [])) in
@@ -54,10 +79,12 @@ zero_past structs k d none =
     let outside : length (zeros_after [] structs) ≤ k = omega (arith, zeros_length structs [], past structs k none) in
     get_or_past (zeros_after [] structs) k d outside
 
-pub zero_none : (structs : List StructDef) (k : ℕ) (made : List Value) → None ≡ slice_get structs k → made ≡ [] → Parts made ≡ get_or (zeros_after [] structs) k (Parts [])
+pub zero_none : (structs : List StructDef) (k : ℕ) (made : List Value) → None ≡ slice_get structs k → made ≡ [] →
+    Parts made ≡ get_or (zeros_after [] structs) k (Parts [])
 zero_none structs k made none is = ap Parts is ∙ sym (zero_past structs k (Parts []) (sym none))
 
-pub zero_made : (structs : List StructDef) (k : ℕ) (def : StructDef) (fields : List Field) (made : List Value) → Some def ≡ slice_get structs k → fields ≡ def.fields
+pub zero_made : (structs : List StructDef) (k : ℕ) (def : StructDef) (fields : List Field) (made : List Value) →
+    Some def ≡ slice_get structs k → fields ≡ def.fields
     → made ≡ map (λ field. zero_of (take k structs) field.ty) fields → Parts made ≡ get_or (zeros_after [] structs) k (Parts [])
 zero_made structs k def fields made there is is_made =
     ap Parts (is_made ∙ ap (map (λ field. zero_of (take k structs) field.ty)) is) ∙ sym (zero_is structs k (Parts []) def (sym there))

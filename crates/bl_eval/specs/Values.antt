@@ -1,5 +1,33 @@
 -- Values of types: which a type has, which of them is zero, and the parts of a value.
-use Rattle.std.specs.Prelude.{ℕ, ℤ, pos, negsuc, Bool, true, false, ◌&&◌, nat_eq, nat_lt, ◌^◌, List, [], ◌∷◌, ◌++◌, map, length, replicate, slice_get, slice_set, slice_index_or, Option, Some, None, option_map, option_and_then, if◌then◌else◌}
+use Rattle.std.specs.Prelude.{
+  ℕ,
+  ℤ,
+  pos,
+  negsuc,
+  Bool,
+  true,
+  false,
+  ◌&&◌,
+  nat_eq,
+  nat_lt,
+  ◌^◌,
+  List,
+  [],
+  ◌∷◌,
+  ◌++◌,
+  map,
+  length,
+  replicate,
+  slice_get,
+  slice_set,
+  slice_index_or,
+  Option,
+  Some,
+  None,
+  option_map,
+  option_and_then,
+  if◌then◌else◌,
+}
 use Rattle.std.specs.List.{list_all}
 use Rattle.bl_tree.specs.declared.scalar.Scalar.{Scalar as ScalarType}
 use Rattle.bl_tree.specs.declared.tree.StructDef.{StructDef}
@@ -120,7 +148,8 @@ value_at (k ∷ rest) value = option_and_then (value_at rest) (part_of k value)
 abbrev pub with_value_at : List ℕ → Value → Value → Option Value
 with_value_at [] new value = Some new
 with_value_at (k ∷ rest) new value =
-    option_and_then (λ all. option_and_then (λ old. option_map (λ part. Parts (slice_set all k part)) (with_value_at rest new old)) (slice_get all k)) (parts_in value)
+    option_and_then (λ all. option_and_then (λ old. option_map (λ part. Parts (slice_set all k part)) (with_value_at rest new old))
+    (slice_get all k)) (parts_in value)
 
 -- the variables but for the new value at the positions in one of them
 abbrev pub put_at : ℕ → List ℕ → Value → List Value → Option (List Value)

@@ -1,3 +1,5 @@
+//! The value of a variable that no initial value is given.
+
 ghost use Rattle.std.specs.Prelude.{◌≡◌, [], IfOk, map, slice_index_or, replicate};
 ghost use Rattle.bl_eval.specs.Values.{zero_of, zeros_after};
 

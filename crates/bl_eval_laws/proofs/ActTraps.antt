@@ -13,7 +13,23 @@ use Rattle.bl_tree.specs.declared.tree.Var.{Var}
 use Rattle.bl_tree.specs.declared.value.Value.{Value}
 use Rattle.bl_tree.specs.Program.{parameters_of}
 use Rattle.bl_tree.specs.Types.{same_type, scalar_in}
-use Rattle.bl_tree.specs.Typing.{Site, are_same, arguments_fit, call_fits, declaration_fits, inputs_of, is_fixed, is_function, is_procedure, is_variable, outputs_of, site_of, type_of, type_of_path, types_match}
+use Rattle.bl_tree.specs.Typing.{
+  Site,
+  are_same,
+  arguments_fit,
+  call_fits,
+  declaration_fits,
+  inputs_of,
+  is_fixed,
+  is_function,
+  is_procedure,
+  is_variable,
+  outputs_of,
+  site_of,
+  type_of,
+  type_of_path,
+  types_match,
+}
 use Rattle.bl_eval.specs.declared.datum.Datum.{Datum}
 use Rattle.bl_eval.specs.declared.datum.Left.{Left}
 use Rattle.bl_eval.specs.Changes.{with_element_at}
@@ -30,7 +46,8 @@ use Rattle.bl_eval_laws.specs.Traps.{Home, says, scope_at, ExprTraps, PathTraps,
 use Rattle.bl_eval_laws.proofs.Nothing.{no_some, made_some, none_of_map, none_of_then}
 use Rattle.bl_eval_laws.proofs.ExprTraps.{Calls, called_at, expr_traps, path_lost, some_traps}
 
-module _ (structs : List StructDef) (home : Home) (sound : Sound structs home.earlier home.unit (callees_of structs home.earlier)) (calls : Calls structs home) (view : View)
+module _ (structs : List StructDef) (home : Home) (sound : Sound structs home.earlier home.unit (callees_of structs home.earlier))
+    (calls : Calls structs home) (view : View)
     (now_fits : values_fit structs home.unit.vars view.now ≡ true) (before_fits : values_fit structs home.unit.vars view.before ≡ true) where
   abbrev site : Site
   site = site_of structs home.earlier home.unit
@@ -46,10 +63,12 @@ module _ (structs : List StructDef) (home : Home) (sound : Sound structs home.ea
 
   -- ---- declarations
 
-  initial_traps : (s : Stmt) (k : ℕ) (initial : Option Expr) (var : Option Var) → says s ≡ StmtKind-F.Declare k initial → slice_get home.unit.vars k ≡ var → declaration_fits site initial var ≡ true
+  initial_traps : (s : Stmt) (k : ℕ) (initial : Option Expr) (var : Option Var) → says s ≡ StmtKind-F.Declare k initial →
+      slice_get home.unit.vars k ≡ var → declaration_fits site initial var ≡ true
       → initial_value scope k initial view ≡ None → ActTraps structs home view s
   initial_traps s k (Some e) (Some var) is there fitted none =
-      let found = same_found (Some var.ty) (type_of site e) (and_right (is_variable var.role || is_fixed var.role) (are_same (Some var.ty) (type_of site e)) fitted) in
+      let found = same_found (Some var.ty) (type_of site e)
+      (and_right (is_variable var.role || is_fixed var.role) (are_same (Some var.ty) (type_of site e)) fitted) in
       ActTraps.initial is (traps e found.0 found.2 (none_of_map plain (meaning_of scope e view) none))
   initial_traps s k (Some e) None is there fitted none = absurd (cc)
   initial_traps s k None (Some var) is there fitted none = no_some there (none_of_map (λ (var : Var). zero_of structs var.ty) (slice_get home.unit.vars k) none)
@@ -62,17 +81,21 @@ module _ (structs : List StructDef) (home : Home) (sound : Sound structs home.ea
   declared_var None None fitted = absurd (cc)
 
   -- a variable's whole value may always be set
-  set_whole : (k : ℕ) (var : Var) → slice_get home.unit.vars k ≡ Some var → (value : Option Value) → option_and_then (λ value. put_at k [] value view.now) value ≡ None → value ≡ None
+  set_whole : (k : ℕ) (var : Var) → slice_get home.unit.vars k ≡ Some var → (value : Option Value) →
+      option_and_then (λ value. put_at k [] value view.now) value ≡ None → value ≡ None
   set_whole k var there None none = refl
   set_whole k var there (Some value) none =
       let stored = pass_at (λ (var : Var). value_fits structs var.ty) home.unit.vars view.now k var now_fits there in
-      no_some stored.1 (none_of_map (λ found. with_element_at k [] value view.now) (slice_get view.now k) (whole (slice_get view.now k) (sym (put_at_is k [] value view.now) ∙ none)))
+      no_some stored.1 (none_of_map (λ found. with_element_at k [] value view.now) (slice_get view.now k)
+      (whole (slice_get view.now k) (sym (put_at_is k [] value view.now) ∙ none)))
     where
-      whole : (o : Option Value) → option_map (λ (found : Value). with_element_at k [] value view.now) (option_and_then (λ value. Some value) o) ≡ None → option_map (λ (found : Value). with_element_at k [] value view.now) o ≡ None
+      whole : (o : Option Value) → option_map (λ (found : Value). with_element_at k [] value view.now)
+          (option_and_then (λ value. Some value) o) ≡ None → option_map (λ (found : Value). with_element_at k [] value view.now) o ≡ None
       whole None none = refl
       whole (Some old) none = none
 
-  pub declared_traps : (s : Stmt) (k : ℕ) (initial : Option Expr) → says s ≡ StmtKind-F.Declare k initial → declaration_fits site initial (slice_get home.unit.vars k) ≡ true
+  pub declared_traps : (s : Stmt) (k : ℕ) (initial : Option Expr) → says s ≡ StmtKind-F.Declare k initial →
+      declaration_fits site initial (slice_get home.unit.vars k) ≡ true
       → declared scope k initial view ≡ None → ActTraps structs home view s
   declared_traps s k initial is fitted none =
       let found = declared_var initial (slice_get home.unit.vars k) fitted in
@@ -84,7 +107,8 @@ module _ (structs : List StructDef) (home : Home) (sound : Sound structs home.ea
   unread : (root : ℕ) (value : Value) (positions : Option (List ℕ)) → option_and_then (λ positions. put_at root positions value view.now) positions ≡ None
       → option_and_then (read_at root view.now) positions ≡ None
   unread root value None none = refl
-  unread root value (Some ps) none = none_of_map (λ found. with_element_at root ps value view.now) (read_at root view.now ps) (sym (put_at_is root ps value view.now) ∙ none)
+  unread root value (Some ps) none = none_of_map (λ found. with_element_at root ps value view.now) (read_at root view.now ps)
+      (sym (put_at_is root ps value view.now) ∙ none)
 
   by_value : (s : Stmt) (path : Path) (e : Expr) (ty : Ty) → says s ≡ StmtKind-F.Assign path e → type_of_path site path ≡ Some ty → type_of site e ≡ Some ty
       → (value : Option Value) → value_in scope e view ≡ value → assigned (spot_of scope path) value view ≡ None → ActTraps structs home view s
@@ -105,20 +129,24 @@ module _ (structs : List StructDef) (home : Home) (sound : Sound structs home.ea
   reading_all [] = refl
   reading_all (path ∷ paths) = ap (λ rest. reading (spot_of scope path) ∷ rest) (reading_all paths)
 
-  inputs_given : (inputs : List Expr) (vars : List Var) → types_match (map (type_of site) inputs) vars ≡ true → IfSome (values_of (map (meaning_of scope) inputs) view) (AllFit structs vars)
+  inputs_given : (inputs : List Expr) (vars : List Var) → types_match (map (type_of site) inputs) vars ≡ true →
+      IfSome (values_of (map (meaning_of scope) inputs) view) (AllFit structs vars)
   inputs_given inputs vars matched =
       match_fits structs view (meaning_of scope) (type_of site) inputs
-      (λ k d within ty typed. expr_fits structs home.earlier home.unit (callees_of structs home.earlier) sound view now_fits before_fits _ ty typed) vars matched
+      (λ k d within ty typed. expr_fits structs home.earlier home.unit
+      (callees_of structs home.earlier) sound view now_fits before_fits _ ty typed) vars matched
 
   outputs_given : (outputs : List Path) (vars : List Var) → types_match (map (type_of_path site) outputs) vars ≡ true
       → IfSome (values_of (map reading (map (spot_of scope) outputs)) view) (AllFit structs vars)
   outputs_given outputs vars matched =
       let each : All (λ path. GivesFit structs view (reading (spot_of scope path)) (type_of_path site path)) outputs =
-      λ k d within ty typed. reading_fits structs home.unit.vars view ty _ now_fits (spot_fits structs home.earlier home.unit (callees_of structs home.earlier) sound view now_fits before_fits _ ty typed) in
+      λ k d within ty typed. reading_fits structs home.unit.vars view ty _ now_fits
+      (spot_fits structs home.earlier home.unit (callees_of structs home.earlier) sound view now_fits before_fits _ ty typed) in
       subst (λ means. IfSome (values_of means view) (AllFit structs vars)) (reading_all outputs)
       (match_fits structs view (λ path. reading (spot_of scope path)) (type_of_path site) outputs each vars matched)
 
-  together : (means others : List Meaning) (xs ys : List Var) → IfSome (values_of means view) (AllFit structs xs) → IfSome (values_of others view) (AllFit structs ys)
+  together : (means others : List Meaning) (xs ys : List Var) → IfSome (values_of means view) (AllFit structs xs) →
+      IfSome (values_of others view) (AllFit structs ys)
       → IfSome (values_of (means ++ others) view) (AllFit structs (xs ++ ys))
   together means others xs ys one other =
       subst (λ given. IfSome given (AllFit structs (xs ++ ys))) (sym (values_append means others view))
@@ -128,20 +156,26 @@ module _ (structs : List StructDef) (home : Home) (sound : Sound structs home.ea
 
   by_datum : (path : Path) (paths : List Path) (datum : Option Datum) → (datum ≡ None → PathTraps structs home view path)
       → (values_of (map reading (map (spot_of scope) paths)) view ≡ None → SomePathTraps structs home view paths)
-      → option_and_then (λ datum. option_map (λ values. plain datum ∷ values) (values_of (map reading (map (spot_of scope) paths)) view)) datum ≡ None → SomePathTraps structs home view (path ∷ paths)
+      → option_and_then (λ datum. option_map (λ values. plain datum ∷ values) (values_of (map reading (map (spot_of scope) paths)) view))
+      datum ≡ None → SomePathTraps structs home view (path ∷ paths)
   by_datum path paths None inner more none = SomePathTraps.here_path (inner refl)
-  by_datum path paths (Some datum) inner more none = SomePathTraps.there_path (more (none_of_map _ (values_of (map reading (map (spot_of scope) paths)) view) none))
+  by_datum path paths (Some datum) inner more none =
+      SomePathTraps.there_path (more (none_of_map _ (values_of (map reading (map (spot_of scope) paths)) view) none))
 
-  by_type : (path : Path) (paths : List Path) (vars : List Var) (found : Option Ty) → type_of_path site path ≡ found → types_match (found ∷ map (type_of_path site) paths) vars ≡ true
-      → ((vars : List Var) → types_match (map (type_of_path site) paths) vars ≡ true → values_of (map reading (map (spot_of scope) paths)) view ≡ None → SomePathTraps structs home view paths)
+  by_type : (path : Path) (paths : List Path) (vars : List Var) (found : Option Ty) → type_of_path site path ≡ found →
+      types_match (found ∷ map (type_of_path site) paths) vars ≡ true
+      → ((vars : List Var) → types_match (map (type_of_path site) paths) vars ≡ true →
+      values_of (map reading (map (spot_of scope) paths)) view ≡ None → SomePathTraps structs home view paths)
       → values_of (map reading (map (spot_of scope) (path ∷ paths))) view ≡ None → SomePathTraps structs home view (path ∷ paths)
   by_type path paths [] None is matched more none = absurd (cc)
   by_type path paths [] (Some ty) is matched more none = absurd (cc)
   by_type path paths (var ∷ vars) None is matched more none = absurd (cc)
   by_type path paths (var ∷ vars) (Some ty) is matched more none =
-      by_datum path paths (reading (spot_of scope path) view) (lost path ty is) (more vars (and_right (same_type ty var.ty) (types_match (map (type_of_path site) paths) vars) matched)) none
+      by_datum path paths (reading (spot_of scope path) view) (lost path ty is)
+      (more vars (and_right (same_type ty var.ty) (types_match (map (type_of_path site) paths) vars) matched)) none
 
-  some_path : (paths : List Path) (vars : List Var) → types_match (map (type_of_path site) paths) vars ≡ true → values_of (map reading (map (spot_of scope) paths)) view ≡ None
+  some_path : (paths : List Path) (vars : List Var) → types_match (map (type_of_path site) paths) vars ≡ true →
+      values_of (map reading (map (spot_of scope) paths)) view ≡ None
       → SomePathTraps structs home view paths
   some_path [] vars matched none = made_some none
   some_path (path ∷ paths) vars matched none = by_type path paths vars (type_of_path site path) refl matched (some_path paths) none
@@ -153,32 +187,41 @@ module _ (structs : List StructDef) (home : Home) (sound : Sound structs home.ea
     abbrev outs : List Meaning
     outs = map reading (map (spot_of scope) outputs)
 
-    by_inputs : (callee : UnitDef) → types_match (map (type_of site) inputs) (inputs_of callee) ≡ true → types_match (map (type_of_path site) outputs) (outputs_of callee) ≡ true
-        → (given : Option (List Value)) → values_of ins view ≡ given → option_and_then (λ vs. option_map (λ ws. vs ++ ws) (values_of outs view)) given ≡ None → ActTraps structs home view s
+    by_inputs : (callee : UnitDef) → types_match (map (type_of site) inputs) (inputs_of callee) ≡ true →
+        types_match (map (type_of_path site) outputs) (outputs_of callee) ≡ true
+        → (given : Option (List Value)) → values_of ins view ≡ given →
+        option_and_then (λ vs. option_map (λ ws. vs ++ ws) (values_of outs view)) given ≡ None → ActTraps structs home view s
     by_inputs callee matched others None at none =
-        ActTraps.input is (some_traps structs home sound calls view now_fits before_fits inputs (inputs_of callee) matched (λ k d within ty typed. traps _ ty typed) at)
-    by_inputs callee matched others (Some vs) at none = ActTraps.output is (some_path outputs (outputs_of callee) others (none_of_map (λ ws. vs ++ ws) (values_of outs view) none))
+        ActTraps.input is (some_traps structs home sound calls view now_fits before_fits inputs (inputs_of callee) matched
+        (λ k d within ty typed. traps _ ty typed) at)
+    by_inputs callee matched others (Some vs) at none =
+        ActTraps.output is (some_path outputs (outputs_of callee) others (none_of_map (λ ws. vs ++ ws) (values_of outs view) none))
 
     by_arguments : (callee : UnitDef) → slice_get home.earlier f ≡ Some callee → is_function callee.kind ≡ true
         → types_match (map (type_of site) inputs) (inputs_of callee) ≡ true → types_match (map (type_of_path site) outputs) (outputs_of callee) ≡ true
         → (given : Option (List Value)) → values_of (ins ++ outs) view ≡ given → IfSome given (AllFit structs (parameters_of callee))
-        → option_and_then (λ values. option_map (λ (left : Left). put_all (map (spot_of scope) outputs) left.outputs view view.now) (called_at structs home f callee values)) given ≡ None
+        → option_and_then (λ values. option_map (λ (left : Left). put_all (map (spot_of scope) outputs) left.outputs view view.now)
+        (called_at structs home f callee values)) given ≡ None
         → ActTraps structs home view s
-    by_arguments callee there function matched others None at fit none = by_inputs callee matched others (values_of ins view) refl (sym (values_append ins outs view) ∙ at)
+    by_arguments callee there function matched others None at fit none =
+        by_inputs callee matched others (values_of ins view) refl (sym (values_append ins outs view) ∙ at)
     by_arguments callee there function matched others (Some values) at fit none =
         ActTraps.in_callee is at (calls.traps f callee values there function fit (none_of_map _ (called_at structs home f callee values) none))
 
-    pub called_traps : (callee : Option UnitDef) → slice_get home.earlier f ≡ callee → call_fits site inputs outputs callee ≡ true → call_of scope f inputs outputs view ≡ None
+    pub called_traps : (callee : Option UnitDef) → slice_get home.earlier f ≡ callee → call_fits site inputs outputs callee ≡ true →
+        call_of scope f inputs outputs view ≡ None
         → ActTraps structs home view s
     called_traps None there fitted none = absurd (cc)
     called_traps (Some callee) there fitted none =
-        let function : is_function callee.kind ≡ true = and_left (is_function callee.kind) (is_none callee.result) (and_left (is_procedure callee) (arguments_fit site inputs outputs callee) fitted) in
+        let function : is_function callee.kind ≡ true = and_left (is_function callee.kind) (is_none callee.result)
+        (and_left (is_procedure callee) (arguments_fit site inputs outputs callee) fitted) in
         let fitting : arguments_fit site inputs outputs callee ≡ true = and_right (is_procedure callee) (arguments_fit site inputs outputs callee) fitted in
         let matched : types_match (map (type_of site) inputs) (inputs_of callee) ≡ true = and_left _ _ fitting in
         let others : types_match (map (type_of_path site) outputs) (outputs_of callee) ≡ true = and_left _ _ (and_right _ _ fitting) in
         let same : inputs_of callee ++ outputs_of callee ≡ parameters_of callee = sym (take-add callee.inputs callee.outputs callee.vars) in
         by_arguments callee there function matched others (values_of (ins ++ outs) view) refl
         (subst (λ vars. IfSome (values_of (ins ++ outs) view) (AllFit structs vars)) same
-        (together ins outs (inputs_of callee) (outputs_of callee) (inputs_given inputs (inputs_of callee) matched) (outputs_given outputs (outputs_of callee) others)))
+        (together ins outs (inputs_of callee) (outputs_of callee) (inputs_given inputs (inputs_of callee) matched)
+        (outputs_given outputs (outputs_of callee) others)))
         (none_of_then (called ins (map (spot_of scope) outputs) view) (slice_get (callees_of structs home.earlier) f) (called_at structs home f callee)
         (callee_is structs home.earlier f callee there) none)

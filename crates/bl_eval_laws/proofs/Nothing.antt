@@ -54,7 +54,8 @@ one_fails op s x fit takes none =
     (rw (fit.0, takes, fit.1) refl)
     (none_of_map _ (applied_one op x) none)
 
-pub two_fails : (op : Op) (s : ScalarType) (x y : Operand) → OperandFits s x → OperandFits s y → takes_two op s ≡ true → two_data op x y ≡ None → checked_of op x.ty x.n y.n ≡ None
+pub two_fails : (op : Op) (s : ScalarType) (x y : Operand) → OperandFits s x → OperandFits s y → takes_two op s ≡ true →
+    two_data op x y ≡ None → checked_of op x.ty x.n y.n ≡ None
 two_fails op s x y fit other takes none =
     unchosen (takes_two op x.ty && (in_range x.ty x.n && in_range x.ty y.n)) (checked_of op x.ty x.n y.n)
     (rw (fit.0, takes, fit.1, other.1) refl)
@@ -75,4 +76,5 @@ what_is place layer = ap (λ e. out-ExprKind e.what) (out-roll-Expr (record { pl
 -- an expression is made of what it says
 pub made_of : (e : Expr) (layer : ExprKind-F ExprKind Part Expr Path) → what e ≡ layer → e ≡ expr (out-Expr e).place layer
 made_of e layer is =
-    sym (ap (λ (kind : ExprKind). roll-Expr (record { place = (out-Expr e).place; what = kind })) (ap roll-ExprKind (sym is) ∙ roll-out-ExprKind (out-Expr e).what) ∙ roll-out-Expr e)
+    sym (ap (λ (kind : ExprKind). roll-Expr (record { place = (out-Expr e).place; what = kind }))
+    (ap roll-ExprKind (sym is) ∙ roll-out-ExprKind (out-Expr e).what) ∙ roll-out-Expr e)

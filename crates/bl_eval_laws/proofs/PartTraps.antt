@@ -23,28 +23,35 @@ pub record PartIs (structs : List StructDef) (ty : Ty) (k : ℕ) (value : Value)
   pub is_there : part_of k value ≡ Some inner
   pub fits : Fits structs ty inner
 
-field_at : (tests : List Test) (fields : List Field) (k : ℕ) (field : Field) (level : Value-F Value) → are_fields (map (λ field. fits_by tests field.ty) fields) level ≡ true
-    → slice_get fields k ≡ Some field → (inner : Value) × (option_and_then (λ all. slice_get all k) (parts_at level) ≡ Some inner) × (fits_by tests field.ty inner ≡ true)
+field_at : (tests : List Test) (fields : List Field) (k : ℕ) (field : Field) (level : Value-F Value) →
+    are_fields (map (λ field. fits_by tests field.ty) fields) level ≡ true
+    → slice_get fields k ≡ Some field → (inner : Value) × (option_and_then (λ all. slice_get all k) (parts_at level) ≡ Some inner)
+    × (fits_by tests field.ty inner ≡ true)
 field_at tests fields k field (Value-F.Number n) fit there = absurd (cc)
-field_at tests fields k field (Value-F.Parts all) fit there = let found = pass_at (λ (field : Field). fits_by tests field.ty) fields all k field fit there in (found.0, found.1, found.2)
+field_at tests fields k field (Value-F.Parts all) fit there = let found =
+    pass_at (λ (field : Field). fits_by tests field.ty) fields all k field fit there in (found.0, found.1, found.2)
 
-element_fits : (n : ℕ) (test : Test) (k : ℕ) (inner : Value) (level : Value-F Value) → are_elements n test level ≡ true → option_and_then (λ all. slice_get all k) (parts_at level) ≡ Some inner → test inner ≡ true
+element_fits : (n : ℕ) (test : Test) (k : ℕ) (inner : Value) (level : Value-F Value) → are_elements n test level ≡ true →
+    option_and_then (λ all. slice_get all k) (parts_at level) ≡ Some inner → test inner ≡ true
 element_fits n test k inner (Value-F.Number m) fit there = absurd (cc)
 element_fits n test k inner (Value-F.Parts all) fit there = all_at test all k inner (and_right (nat_eq (length all) n) (list_all test all) fit) there
 
 module _ (structs : List StructDef) (stand : structs_stand_from 0 structs ≡ true) (a c : Ty) (k : ℕ) (value : Value) (fit : Fits structs a value) where
-  in_struct : (s : ℕ) (def : StructDef) (field : Field) → out-Ty a ≡ Ty-F.Struct s → slice_get structs s ≡ Some def → slice_get def.fields k ≡ Some field → field.ty ≡ c → PartIs structs c k value
+  in_struct : (s : ℕ) (def : StructDef) (field : Field) → out-Ty a ≡ Ty-F.Struct s → slice_get structs s ≡ Some def →
+      slice_get def.fields k ≡ Some field → field.ty ≡ c → PartIs structs c k value
   in_struct s def field is there has same =
       let tests : List Test = tests_after [] (take s structs) in
       let within : s < length structs = slice_get_within structs s def there in
-      let stands : type_stands s field.ty ≡ true = all_at (λ (field : Field). type_stands s field.ty) def.fields k field (structs_at structs 0 s s def stand there (omega arith)) has in
+      let stands : type_stands s field.ty ≡ true = all_at (λ (field : Field). type_stands s field.ty) def.fields k field
+      (structs_at structs 0 s s def stand there (omega arith)) has in
       let level : value_fits structs a value ≡ are_fields (map (λ field. fits_by tests field.ty) def.fields) (out-Value value) =
       fits_struct (tests_after [] structs) a s value is ∙ ap (λ test. by_test test value) (test_is structs s def there) in
       let found = field_at tests def.fields k field (out-Value value) (sym level ∙ fit) has in
       record {
         inner = found.0;
         is_there = found.1;
-        fits = subst (λ ty. Fits structs ty found.0) same (sym (ap (λ (test : Test). test found.0) (fits_before structs s field.ty (omega arith) stands)) ∙ found.2);
+        fits = subst (λ ty. Fits structs ty found.0) same (sym
+            (ap (λ (test : Test). test found.0) (fits_before structs s field.ty (omega arith) stands)) ∙ found.2);
       }
 
   by_field : (s : ℕ) (def : StructDef) (found : Option Field) → out-Ty a ≡ Ty-F.Struct s → slice_get structs s ≡ Some def → slice_get def.fields k ≡ found
@@ -81,7 +88,9 @@ module _ (structs : List StructDef) (stand : structs_stand_from 0 structs ≡ tr
 
 -- past the first position
 pub past : (k : ℕ) (value inner : Value) (rest : Option (List ℕ)) (first : Option ℕ) → first ≡ Some k → part_of k value ≡ Some inner
-    → option_and_then (λ ks. value_at ks value) (option_and_then (λ k. option_map (λ ks. k ∷ ks) rest) first) ≡ None → option_and_then (λ ks. value_at ks inner) rest ≡ None
+    → option_and_then (λ ks. value_at ks value) (option_and_then (λ k. option_map (λ ks. k ∷ ks) rest) first) ≡ None →
+    option_and_then (λ ks. value_at ks inner) rest ≡ None
 past k value inner None first is there none = refl
 past k value inner (Some ks) first is there none =
-    sym (ap (option_and_then (value_at ks)) there) ∙ (sym (ap (λ at. option_and_then (λ ks. value_at ks value) (option_and_then (λ k. option_map (λ ks. k ∷ ks) (Some ks)) at)) is) ∙ none)
+    sym (ap (option_and_then (value_at ks)) there) ∙ (sym
+    (ap (λ at. option_and_then (λ ks. value_at ks value) (option_and_then (λ k. option_map (λ ks. k ∷ ks) (Some ks)) at)) is) ∙ none)

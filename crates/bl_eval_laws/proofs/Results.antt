@@ -40,12 +40,14 @@ weaken_all sure other ends less h now = by_end (ends now) (h now)
 
 -- ---- one after another
 
-after_first : (sure : Bool) (first : Option Flow) (next : Does) (other : Bool) → IfSome first (Ends other) → ((now : List Value) → other ≡ false → IfSome (next now) (Ends sure)) → IfSome (after first next) (Ends sure)
+after_first : (sure : Bool) (first : Option Flow) (next : Does) (other : Bool) → IfSome first (Ends other) →
+    ((now : List Value) → other ≡ false → IfSome (next now) (Ends sure)) → IfSome (after first next) (Ends sure)
 after_first sure None next other h more = tt
 after_first sure (Some (Flow.On now)) next other h more = more now h
 after_first sure (Some (Flow.Back now given)) next other h more = h
 
-choice_by : (sure first rest : Bool) (holds : Option Bool) (body next : Does) (now : List Value) → (first ≡ false → sure ≡ false) → (rest ≡ false → sure ≡ false) → EndsSo first body → EndsSo rest next
+choice_by : (sure first rest : Bool) (holds : Option Bool) (body next : Does) (now : List Value) → (first ≡ false → sure ≡ false) →
+    (rest ≡ false → sure ≡ false) → EndsSo first body → EndsSo rest next
     → IfSome (option_and_then (λ holds. if holds then body now else next now) holds) (Ends sure)
 choice_by sure first rest None body next now less other one more = tt
 choice_by sure first rest (Some true) body next now less other one more = weaken_all first sure body less one now
@@ -70,16 +72,19 @@ module _ (goes ends : List Value → Option Bool) (body : Does) (sure : Bool) (o
   last_ends (Some true) now = tt
   last_ends (Some false) now = refl
 
-  over_ends : (is_over : Option Bool) (again : Does) (new : List Value) → EndsSo false again → IfSome (option_and_then (λ is_over. if is_over then Some (Flow.On new) else again new) is_over) (Ends false)
+  over_ends : (is_over : Option Bool) (again : Does) (new : List Value) → EndsSo false again →
+      IfSome (option_and_then (λ is_over. if is_over then Some (Flow.On new) else again new) is_over) (Ends false)
   over_ends None again new more = tt
   over_ends (Some true) again new more = refl
   over_ends (Some false) again new more = more new
 
   turn_ends : (more : Option Bool) (again : Does) (now : List Value) → EndsSo false again
-      → IfSome (option_and_then (λ more. if more then after (body now) (λ new. option_and_then (λ is_over. if is_over then Some (Flow.On new) else again new) (ends new)) else Some (Flow.On now)) more) (Ends false)
+      → IfSome (option_and_then (λ more. if more then after (body now)
+      (λ new. option_and_then (λ is_over. if is_over then Some (Flow.On new) else again new) (ends new)) else Some (Flow.On now)) more) (Ends false)
   turn_ends None again now next = tt
   turn_ends (Some true) again now next =
-      after_first false (body now) (λ new. option_and_then (λ is_over. if is_over then Some (Flow.On new) else again new) (ends new)) sure (one now) (λ new is. over_ends (ends new) again new next)
+      after_first false (body now) (λ new. option_and_then (λ is_over. if is_over then Some (Flow.On new) else again new) (ends new)) sure
+      (one now) (λ new is. over_ends (ends new) again new next)
   turn_ends (Some false) again now next = refl
 
   loop_ends : (n : ℕ) → EndsSo false (looped goes body ends n)
@@ -92,10 +97,12 @@ module _ (site : Site) (scope : Scope) (r : ScalarType) (gives : site.result ≡
   abbrev S : Stmt → Type 0
   S s = fits site s ≡ true → EndsSo (surely_returns s) (does scope s)
 
-  pub block_ends : (body : List Stmt) → Each S body → all_of (map (fits site) body) ≡ true → EndsSo (last_of (map surely_returns body)) (in_order (map (does scope) body))
+  pub block_ends : (body : List Stmt) → Each S body → all_of (map (fits site) body) ≡ true →
+      EndsSo (last_of (map surely_returns body)) (in_order (map (does scope) body))
   block_ends [] each fitted now = refl
   block_ends (s ∷ []) each fitted now =
-      after_first (surely_returns s) (does scope s now) (in_order []) (surely_returns s) (All-head S s [] each (and_left (fits site s) true fitted) now) (λ new is. is)
+      after_first (surely_returns s) (does scope s now) (in_order []) (surely_returns s)
+      (All-head S s [] each (and_left (fits site s) true fitted) now) (λ new is. is)
   block_ends (s ∷ t ∷ body) each fitted now =
       after_first (last_of (map surely_returns (t ∷ body))) (does scope s now) (in_order (map (does scope) (t ∷ body))) (surely_returns s)
       (All-head S s (t ∷ body) each (and_left (fits site s) (all_of (map (fits site) (t ∷ body))) fitted) now)
@@ -123,7 +130,8 @@ module _ (site : Site) (scope : Scope) (r : ScalarType) (gives : site.result ≡
   arms_end [] other last each fitted h now = h now
   arms_end (arm ∷ arms) other last each fitted h now =
       let rest : Bool = all_of (map arm_sure arms) in
-      choice_by ((arm_sure arm && rest) && last) (arm_sure arm) (rest && last) ((choice_of scope arm).test now) (choice_of scope arm).body (chosen (map (choice_of scope) arms) other) now
+      choice_by ((arm_sure arm && rest) && last) (arm_sure arm) (rest && last) ((choice_of scope arm).test now) (choice_of scope arm).body
+      (chosen (map (choice_of scope) arms) other) now
       (λ is. no_left (arm_sure arm && rest) last (no_left (arm_sure arm) rest is)) (no_middle (arm_sure arm) rest last)
       (arm_ends arm (All-head OfArm arm arms each) (and_left (arm_fitted arm) (all_of (map arm_fitted arms)) fitted))
       (arms_end arms other last (All-tail OfArm arm arms each) (and_right (arm_fitted arm) (all_of (map arm_fitted arms)) fitted) h)
@@ -132,7 +140,8 @@ module _ (site : Site) (scope : Scope) (r : ScalarType) (gives : site.result ≡
   on_ends None = tt
   on_ends (Some now) = refl
 
-  result_ends : (e : Option Expr) (result : Option ScalarType) (now : List Value) → result ≡ Some r → return_fits site e result ≡ true → IfSome (returned scope e now) (Ends true)
+  result_ends : (e : Option Expr) (result : Option ScalarType) (now : List Value) → result ≡ Some r → return_fits site e result ≡ true →
+      IfSome (returned scope e now) (Ends true)
   result_ends (Some e) result now is fitted = by_datum (meaning_of scope e (own now))
     where
       by_datum : (datum : Option Datum) → IfSome (option_map (λ datum. Flow.Back now (Some datum)) datum) (Ends true)
@@ -144,7 +153,8 @@ module _ (site : Site) (scope : Scope) (r : ScalarType) (gives : site.result ≡
   loop_so : (goes ends : Option Expr) (body : List Stmt) → Each S body → all_of (map (fits site) body) ≡ true
       → EndsSo false (looped (condition scope goes true) (in_order (map (does scope) body)) (condition scope ends false) most_turns)
   loop_so goes ends body each fitted =
-      loop_ends (condition scope goes true) (condition scope ends false) (in_order (map (does scope) body)) (last_of (map surely_returns body)) (block_ends body each fitted) most_turns
+      loop_ends (condition scope goes true) (condition scope ends false) (in_order (map (does scope) body))
+      (last_of (map surely_returns body)) (block_ends body each fitted) most_turns
 
   cases : Cases S
   cases = record {
@@ -154,18 +164,24 @@ module _ (site : Site) (scope : Scope) (r : ScalarType) (gives : site.result ≡
     await = λ place e fitted now. rw (fold-roll-Stmt, fold-roll-StmtKind) tt;
     run = λ place target a inputs outputs fitted now. rw (fold-roll-Stmt, fold-roll-StmtKind) tt;
     branching = λ place arms other each others fitted now.
-        let both = and_right (is_inhabited (map arm_fitted arms)) (all_of (map arm_fitted arms) && all_of (map (fits site) other)) (rw (fold-roll-Stmt, fold-roll-StmtKind) at fitted) in
+        let both = and_right (is_inhabited (map arm_fitted arms)) (all_of (map arm_fitted arms) && all_of (map (fits site) other))
+        (rw (fold-roll-Stmt, fold-roll-StmtKind) at fitted) in
         rw (fold-roll-Stmt, fold-roll-StmtKind, fold-roll-Stmt, fold-roll-StmtKind)
-        (arms_end arms (in_order (map (does scope) other)) (last_of (map surely_returns other)) each (and_left (all_of (map arm_fitted arms)) (all_of (map (fits site) other)) both)
+        (arms_end arms (in_order (map (does scope) other)) (last_of (map surely_returns other)) each
+        (and_left (all_of (map arm_fitted arms)) (all_of (map (fits site) other)) both)
         (block_ends other others (and_right (all_of (map arm_fitted arms)) (all_of (map (fits site) other)) both)) now);
     cobegin = λ place branches each fitted now. rw (fold-roll-Stmt, fold-roll-StmtKind) tt;
     guarded = λ place guard e body each fitted now. rw (fold-roll-Stmt, fold-roll-StmtKind) tt;
-    repeat = λ place body each fitted now. rw (fold-roll-Stmt, fold-roll-StmtKind, fold-roll-Stmt, fold-roll-StmtKind) (loop_so None None body each (rw (fold-roll-Stmt, fold-roll-StmtKind) at fitted) now);
+    repeat = λ place body each fitted now. rw (fold-roll-Stmt, fold-roll-StmtKind, fold-roll-Stmt, fold-roll-StmtKind)
+        (loop_so None None body each (rw (fold-roll-Stmt, fold-roll-StmtKind) at fitted) now);
     until = λ place body e each fitted now. rw (fold-roll-Stmt, fold-roll-StmtKind, fold-roll-Stmt, fold-roll-StmtKind)
-        (loop_so None (Some e) body each (and_left (all_of (map (fits site) body)) (is_truth (type_of site e)) (rw (fold-roll-Stmt, fold-roll-StmtKind) at fitted)) now);
+        (loop_so None (Some e) body each (and_left (all_of (map (fits site) body)) (is_truth (type_of site e))
+        (rw (fold-roll-Stmt, fold-roll-StmtKind) at fitted)) now);
     while = λ place e body each fitted now. rw (fold-roll-Stmt, fold-roll-StmtKind, fold-roll-Stmt, fold-roll-StmtKind)
-        (loop_so (Some e) None body each (and_right (is_truth (type_of site e)) (all_of (map (fits site) body)) (rw (fold-roll-Stmt, fold-roll-StmtKind) at fitted)) now);
-    returns = λ place e fitted now. rw (fold-roll-Stmt, fold-roll-StmtKind, fold-roll-Stmt, fold-roll-StmtKind) (result_ends e site.result now gives (rw (fold-roll-Stmt, fold-roll-StmtKind) at fitted));
+        (loop_so (Some e) None body each (and_right (is_truth (type_of site e)) (all_of (map (fits site) body))
+        (rw (fold-roll-Stmt, fold-roll-StmtKind) at fitted)) now);
+    returns = λ place e fitted now. rw (fold-roll-Stmt, fold-roll-StmtKind, fold-roll-Stmt, fold-roll-StmtKind)
+        (result_ends e site.result now gives (rw (fold-roll-Stmt, fold-roll-StmtKind) at fitted));
   }
 
   pub stmt_ends : (s : Stmt) → fits site s ≡ true → EndsSo (surely_returns s) (does scope s)

@@ -19,11 +19,48 @@ use Rattle.bl_tree.specs.Numbers.{is_one}
 use Rattle.bl_tree.specs.Reduce.{all_of}
 use Rattle.bl_tree.specs.Scalar.{is_bool}
 use Rattle.bl_tree.specs.Types.{scalar, scalar_in}
-use Rattle.bl_tree.specs.Typing.{Site, are_same, arguments_fit, run_fits, target_fits, arm_fits, branch_fits, fits, is_activity, is_function, is_inhabited, is_truth, kind_fits, return_fits, site_of, stmt_fits, type_of, type_of_path}
+use Rattle.bl_tree.specs.Typing.{
+  Site,
+  are_same,
+  arguments_fit,
+  run_fits,
+  target_fits,
+  arm_fits,
+  branch_fits,
+  fits,
+  is_activity,
+  is_function,
+  is_inhabited,
+  is_truth,
+  kind_fits,
+  return_fits,
+  site_of,
+  stmt_fits,
+  type_of,
+  type_of_path,
+}
 use Rattle.bl_tree.proofs.StmtInduction.{Cases, Each, EachArm, induct, stmt}
 use Rattle.bl_eval.specs.declared.datum.Operand.{Operand}
 use Rattle.bl_eval.specs.Changes.{choice_of}
-use Rattle.bl_eval.specs.Functions.{Choice, Does, Flow, after, assigned, call_of, callees_of, chosen, condition, declared, does, in_order, looped, most_turns, own, returned, truth}
+use Rattle.bl_eval.specs.Functions.{
+  Choice,
+  Does,
+  Flow,
+  after,
+  assigned,
+  call_of,
+  callees_of,
+  chosen,
+  condition,
+  declared,
+  does,
+  in_order,
+  looped,
+  most_turns,
+  own,
+  returned,
+  truth,
+}
 use Rattle.bl_eval.specs.Meaning.{Scope, meaning_of, operand, spot_of, value_in}
 use Rattle.bl_eval.proofs.ActFits.{AllFit, same_found}
 use Rattle.bl_eval.proofs.ExprFits.{Sound, expr_fits}
@@ -41,7 +78,8 @@ says_is place layer = ap (λ s. out-StmtKind s.what) (out-roll-Stmt (record { pl
 -- a statement is made of what it says
 pub made_of : (s : Stmt) (layer : StmtKind-F StmtKind Arm Branch Stmt) → says s ≡ layer → s ≡ stmt (out-Stmt s).place layer
 made_of s layer is =
-    sym (ap (λ (kind : StmtKind). roll-Stmt (record { place = (out-Stmt s).place; what = kind })) (ap roll-StmtKind (sym is) ∙ roll-out-StmtKind (out-Stmt s).what) ∙ roll-out-Stmt s)
+    sym (ap (λ (kind : StmtKind). roll-Stmt (record { place = (out-Stmt s).place; what = kind }))
+    (ap roll-StmtKind (sym is) ∙ roll-out-StmtKind (out-Stmt s).what) ∙ roll-out-Stmt s)
 
 -- the type of a condition
 truth_type : (typed : Option Ty) → is_truth typed ≡ true → (ty : Ty) × (s : ScalarType) × (typed ≡ Some ty) × (scalar_in ty ≡ Some s)
@@ -71,7 +109,8 @@ module _ (structs : List StructDef) (home : Home) (sound : Sound structs home.ea
       clash true is other = cc
       clash false is other = cc
 
-  traps : (now : List Value) → Fit now → (e : Expr) (ty : Ty) → type_of site e ≡ Some ty → meaning_of scope e (own now) ≡ None → ExprTraps structs home (own now) e
+  traps : (now : List Value) → Fit now → (e : Expr) (ty : Ty) → type_of site e ≡ Some ty → meaning_of scope e (own now) ≡ None →
+      ExprTraps structs home (own now) e
   traps now fit = expr_traps structs home sound calls (own now) fit fit
 
   -- ---- conditions
@@ -80,7 +119,8 @@ module _ (structs : List StructDef) (home : Home) (sound : Sound structs home.ea
   truth_traps now fit e typed none =
       let found = truth_type (type_of site e) typed in
       traps now fit e found.0 found.2
-      (numberless structs found.0 found.1 (meaning_of scope e (own now)) found.3 (expr_fits structs home.earlier home.unit (callees_of structs home.earlier) sound (own now) fit fit e found.0 found.2)
+      (numberless structs found.0 found.1 (meaning_of scope e (own now)) found.3
+      (expr_fits structs home.earlier home.unit (callees_of structs home.earlier) sound (own now) fit fit e found.0 found.2)
       (none_of_map (λ (a : Operand). is_one a.n) (operand (meaning_of scope e) (own now)) none))
 
   -- a condition of a loop, where there is one
@@ -96,23 +136,28 @@ module _ (structs : List StructDef) (home : Home) (sound : Sound structs home.ea
   goes_on : (ends : Option Flow) (new : List Value) → IfSome ends (FlowFits structs home.unit.vars home.unit.result) → ends ≡ Some (Flow.On new) → Fit new
   goes_on ends new fit is = subst (λ ends. IfSome ends (FlowFits structs home.unit.vars home.unit.result)) is fit
 
-  by_first : (s : Stmt) (body : List Stmt) (now : List Value) → IfSome (does scope s now) (FlowFits structs home.unit.vars home.unit.result) → (does scope s now ≡ None → StmtTraps structs home s now)
+  by_first : (s : Stmt) (body : List Stmt) (now : List Value) →
+      IfSome (does scope s now) (FlowFits structs home.unit.vars home.unit.result) → (does scope s now ≡ None → StmtTraps structs home s now)
       → ((new : List Value) → Fit new → in_order (map (does scope) body) new ≡ None → BlockTraps structs home body new)
       → (first : Option Flow) → does scope s now ≡ first → after first (in_order (map (does scope) body)) ≡ None → BlockTraps structs home (s ∷ body) now
   by_first s body now fit inner more None is none = BlockTraps.first (inner is)
   by_first s body now fit inner more (Some (Flow.On new)) is none = BlockTraps.later is (more new (goes_on (does scope s now) new fit is) none)
   by_first s body now fit inner more (Some (Flow.Back new given)) is none = made_some none
 
-  pub block_traps : (body : List Stmt) → Each S body → all_of (map (fits site) body) ≡ true → (now : List Value) → Fit now → in_order (map (does scope) body) now ≡ None → BlockTraps structs home body now
+  pub block_traps : (body : List Stmt) → Each S body → all_of (map (fits site) body) ≡ true → (now : List Value) → Fit now →
+      in_order (map (does scope) body) now ≡ None → BlockTraps structs home body now
   block_traps [] each fitted now fit none = made_some none
   block_traps (s ∷ body) each fitted now fit none =
       let here : fits site s ≡ true = and_left (fits site s) (all_of (map (fits site) body)) fitted in
-      by_first s body now (does_fits structs home.earlier home.unit (callees_of structs home.earlier) sound s here now fit) (All-head S s body each here now fit)
+      by_first s body now (does_fits structs home.earlier home.unit (callees_of structs home.earlier) sound s here now fit)
+      (All-head S s body each here now fit)
       (block_traps body (All-tail S s body each) (and_right (fits site s) (all_of (map (fits site) body)) fitted)) (does scope s now) refl none
 
-  body_ends : (body : List Stmt) → all_of (map (fits site) body) ≡ true → (now : List Value) → Fit now → IfSome (in_order (map (does scope) body) now) (FlowFits structs home.unit.vars home.unit.result)
+  body_ends : (body : List Stmt) → all_of (map (fits site) body) ≡ true → (now : List Value) → Fit now →
+      IfSome (in_order (map (does scope) body) now) (FlowFits structs home.unit.vars home.unit.result)
   body_ends body fitted now fit =
-      block_fits structs home.earlier home.unit (callees_of structs home.earlier) sound body (λ k d within. does_fits structs home.earlier home.unit (callees_of structs home.earlier) sound _) fitted now fit
+      block_fits structs home.earlier home.unit (callees_of structs home.earlier) sound body
+      (λ k d within. does_fits structs home.earlier home.unit (callees_of structs home.earlier) sound _) fitted now fit
 
   -- ---- arms
 
@@ -125,17 +170,20 @@ module _ (structs : List StructDef) (home : Home) (sound : Sound structs home.ea
   abbrev OfArm : Arm → Type 0
   OfArm arm = Each S (out-Arm arm).body
 
-  by_test : (arm : Arm) (arms : List Arm) (other : List Stmt) (now : List Value) → (truth scope (out-Arm arm).test now ≡ None → ExprTraps structs home (own now) (out-Arm arm).test)
+  by_test : (arm : Arm) (arms : List Arm) (other : List Stmt) (now : List Value) →
+      (truth scope (out-Arm arm).test now ≡ None → ExprTraps structs home (own now) (out-Arm arm).test)
       → (in_order (map (does scope) (out-Arm arm).body) now ≡ None → BlockTraps structs home (out-Arm arm).body now)
       → (chosen (map (choice_of scope) arms) (in_order (map (does scope) other)) now ≡ None → ArmsTrap structs home arms other now)
       → (holds : Option Bool) → truth scope (out-Arm arm).test now ≡ holds
-      → option_and_then (λ holds. if holds then in_order (map (does scope) (out-Arm arm).body) now else chosen (map (choice_of scope) arms) (in_order (map (does scope) other)) now) holds ≡ None
+      → option_and_then (λ holds. if holds then in_order (map (does scope) (out-Arm arm).body) now else chosen (map (choice_of scope) arms)
+      (in_order (map (does scope) other)) now) holds ≡ None
       → ArmsTrap structs home (arm ∷ arms) other now
   by_test arm arms other now inner body more None is none = ArmsTrap.testing (inner is)
   by_test arm arms other now inner body more (Some true) is none = ArmsTrap.taken is (body none)
   by_test arm arms other now inner body more (Some false) is none = ArmsTrap.passed is (more none)
 
-  arms_trap : (arms : List Arm) (other : List Stmt) → EachArm S arms → Each S other → all_of (map arm_fitted arms) ≡ true → all_of (map (fits site) other) ≡ true → (now : List Value) → Fit now
+  arms_trap : (arms : List Arm) (other : List Stmt) → EachArm S arms → Each S other → all_of (map arm_fitted arms) ≡ true →
+      all_of (map (fits site) other) ≡ true → (now : List Value) → Fit now
       → chosen (map (choice_of scope) arms) (in_order (map (does scope) other)) now ≡ None → ArmsTrap structs home arms other now
   arms_trap [] other each others fitted other_fitted now fit none = ArmsTrap.none_taken (block_traps other others other_fitted now fit none)
   arms_trap (arm ∷ arms) other each others fitted other_fitted now fit none =
@@ -146,24 +194,29 @@ module _ (structs : List StructDef) (home : Home) (sound : Sound structs home.ea
       (block_traps body (All-head OfArm arm arms each) (and_right (is_truth (type_of site test)) (all_of (map (fits site) body)) here) now fit)
       (arms_trap arms other (All-tail OfArm arm arms each) others (and_right (arm_fitted arm) (all_of (map arm_fitted arms)) fitted) other_fitted now fit)
       (truth scope test now) refl
-      (subst (λ (choice : Choice). option_and_then (λ holds. if holds then choice.body now else chosen (map (choice_of scope) arms) (in_order (map (does scope) other)) now) (choice.test now) ≡ None) (choice_out scope arm) none)
+      (subst (λ (choice : Choice). option_and_then (λ holds. if holds then choice.body now else chosen (map (choice_of scope) arms)
+      (in_order (map (does scope) other)) now) (choice.test now) ≡ None) (choice_out scope arm) none)
 
   -- ---- loops
 
-  before_traps : (goes ends : Option Expr) (body : List Stmt) (n : ℕ) (now : List Value) → Fit now → ConditionFits goes → condition scope goes true now ≡ None → LoopTraps structs home goes body ends n now
+  before_traps : (goes ends : Option Expr) (body : List Stmt) (n : ℕ) (now : List Value) → Fit now → ConditionFits goes →
+      condition scope goes true now ≡ None → LoopTraps structs home goes body ends n now
   before_traps None ends body n now fit typed none = made_some none
   before_traps (Some e) ends body n now fit typed none = LoopTraps.before (truth_traps now fit e typed none)
 
-  behind_traps : (goes ends : Option Expr) (body : List Stmt) (n : ℕ) (now new : List Value) → condition scope goes true now ≡ Some true → in_order (map (does scope) body) now ≡ Some (Flow.On new) → Fit new
+  behind_traps : (goes ends : Option Expr) (body : List Stmt) (n : ℕ) (now new : List Value) → condition scope goes true now ≡ Some true →
+      in_order (map (does scope) body) now ≡ Some (Flow.On new) → Fit new
       → ConditionFits ends → condition scope ends false new ≡ None → LoopTraps structs home goes body ends (suc n) now
   behind_traps goes None body n now new more done fit typed none = made_some none
   behind_traps goes (Some e) body n now new more done fit typed none = LoopTraps.behind more done (truth_traps new fit e typed none)
 
-  module _ (goes ends : Option Expr) (body : List Stmt) (goes_fit : ConditionFits goes) (ends_fit : ConditionFits ends) (each : Each S body) (fitted : all_of (map (fits site) body) ≡ true) where
+  module _ (goes ends : Option Expr) (body : List Stmt) (goes_fit : ConditionFits goes) (ends_fit : ConditionFits ends) (each : Each S body)
+      (fitted : all_of (map (fits site) body) ≡ true) where
     abbrev turned : ℕ → Does
     turned = looped (condition scope goes true) (in_order (map (does scope) body)) (condition scope ends false)
 
-    last_by : (now : List Value) → Fit now → (more : Option Bool) → condition scope goes true now ≡ more → option_and_then (λ more. if more then None else Some (Flow.On now)) more ≡ None
+    last_by : (now : List Value) → Fit now → (more : Option Bool) → condition scope goes true now ≡ more →
+        option_and_then (λ more. if more then None else Some (Flow.On now)) more ≡ None
         → LoopTraps structs home goes body ends 0 now
     last_by now fit None is none = before_traps goes ends body 0 now fit goes_fit is
     last_by now fit (Some true) is none = LoopTraps.spent is
@@ -176,9 +229,11 @@ module _ (structs : List StructDef) (home : Home) (sound : Sound structs home.ea
     over_by n now new more done fit again (Some true) is none = made_some none
     over_by n now new more done fit again (Some false) is none = LoopTraps.again more done is (again none)
 
-    done_by : (n : ℕ) (now : List Value) → Fit now → condition scope goes true now ≡ Some true → ((new : List Value) → Fit new → turned n new ≡ None → LoopTraps structs home goes body ends n new)
+    done_by : (n : ℕ) (now : List Value) → Fit now → condition scope goes true now ≡ Some true →
+        ((new : List Value) → Fit new → turned n new ≡ None → LoopTraps structs home goes body ends n new)
         → (done : Option Flow) → in_order (map (does scope) body) now ≡ done
-        → after done (λ new. option_and_then (λ is_over. if is_over then Some (Flow.On new) else turned n new) (condition scope ends false new)) ≡ None → LoopTraps structs home goes body ends (suc n) now
+        → after done (λ new. option_and_then (λ is_over. if is_over then Some (Flow.On new) else turned n new)
+        (condition scope ends false new)) ≡ None → LoopTraps structs home goes body ends (suc n) now
     done_by n now fit more again None is none = LoopTraps.turn more (block_traps body each fitted now fit is)
     done_by n now fit more again (Some (Flow.On new)) is none =
         let new_fit = goes_on (in_order (map (does scope) body) now) new (body_ends body fitted now fit) is in
@@ -187,7 +242,9 @@ module _ (structs : List StructDef) (home : Home) (sound : Sound structs home.ea
 
     turn_by : (n : ℕ) (now : List Value) → Fit now → ((new : List Value) → Fit new → turned n new ≡ None → LoopTraps structs home goes body ends n new)
         → (more : Option Bool) → condition scope goes true now ≡ more
-        → option_and_then (λ more. if more then after (in_order (map (does scope) body) now) (λ new. option_and_then (λ is_over. if is_over then Some (Flow.On new) else turned n new) (condition scope ends false new)) else Some (Flow.On now)) more ≡ None
+        → option_and_then (λ more. if more then after (in_order (map (does scope) body) now)
+        (λ new. option_and_then (λ is_over. if is_over then Some (Flow.On new) else turned n new) (condition scope ends false new)) else
+        Some (Flow.On now)) more ≡ None
         → LoopTraps structs home goes body ends (suc n) now
     turn_by n now fit again None is none = before_traps goes ends body (suc n) now fit goes_fit is
     turn_by n now fit again (Some true) is none = done_by n now fit is again (in_order (map (does scope) body) now) refl none
@@ -199,7 +256,8 @@ module _ (structs : List StructDef) (home : Home) (sound : Sound structs home.ea
 
   -- ---- statements
 
-  result_traps : (s : Stmt) (e : Option Expr) (result : Option ScalarType) (now : List Value) → says s ≡ StmtKind-F.Return e → return_fits site e result ≡ true → Fit now → returned scope e now ≡ None
+  result_traps : (s : Stmt) (e : Option Expr) (result : Option ScalarType) (now : List Value) → says s ≡ StmtKind-F.Return e →
+      return_fits site e result ≡ true → Fit now → returned scope e now ≡ None
       → StmtTraps structs home s now
   result_traps s (Some e) (Some r) now is fitted fit none =
       let found = same_found (Some (scalar r)) (type_of site e) fitted in
@@ -207,47 +265,61 @@ module _ (structs : List StructDef) (home : Home) (sound : Sound structs home.ea
   result_traps s (Some e) None now is fitted fit none = absurd (cc)
   result_traps s None result now is fitted fit none = made_some none
 
-  run_stands : (target : Option Path) (inputs : List Expr) (outputs : List Path) (callee : Option UnitDef) → run_fits site target inputs outputs callee ≡ true → is_activity home.unit.kind ≡ true
+  run_stands : (target : Option Path) (inputs : List Expr) (outputs : List Path) (callee : Option UnitDef) →
+      run_fits site target inputs outputs callee ≡ true → is_activity home.unit.kind ≡ true
   run_stands target inputs outputs None fitted = absurd (cc)
   run_stands target inputs outputs (Some callee) fitted =
       and_left (is_activity home.unit.kind) (is_activity callee.kind)
-      (and_left (is_activity home.unit.kind && is_activity callee.kind) (target_fits site callee.result target && arguments_fit site inputs outputs callee) fitted)
+      (and_left (is_activity home.unit.kind && is_activity callee.kind)
+      (target_fits site callee.result target && arguments_fit site inputs outputs callee) fitted)
 
   cases : Cases S
   cases = record {
     declare = λ place k initial fitted now fit none.
-        StmtTraps.act (declared_traps structs home sound calls (own now) fit fit _ k initial (says_is place (StmtKind-F.Declare k initial)) (rw (fold-roll-Stmt, fold-roll-StmtKind) at fitted)
+        StmtTraps.act (declared_traps structs home sound calls (own now) fit fit _ k initial (says_is place (StmtKind-F.Declare k initial))
+        (rw (fold-roll-Stmt, fold-roll-StmtKind) at fitted)
         (none_of_map Flow.On (declared scope k initial (own now)) (rw (fold-roll-Stmt, fold-roll-StmtKind) at none)));
     assign = λ place path e fitted now fit none.
         StmtTraps.act (assigned_traps structs home sound calls (own now) fit fit _ path e (says_is place (StmtKind-F.Assign path e))
         (and_right _ (are_same (type_of_path site path) (type_of site e)) (rw (fold-roll-Stmt, fold-roll-StmtKind) at fitted))
         (none_of_map Flow.On (assigned (spot_of scope path) (value_in scope e (own now)) (own now)) (rw (fold-roll-Stmt, fold-roll-StmtKind) at none)));
     call = λ place f inputs outputs fitted now fit none.
-        StmtTraps.act (called_traps structs home sound calls (own now) fit fit _ f inputs outputs (says_is place (StmtKind-F.Call f inputs outputs)) (slice_get home.earlier f) refl (rw (fold-roll-Stmt, fold-roll-StmtKind) at fitted)
+        StmtTraps.act (called_traps structs home sound calls (own now) fit fit _ f inputs outputs
+        (says_is place (StmtKind-F.Call f inputs outputs)) (slice_get home.earlier f) refl (rw (fold-roll-Stmt, fold-roll-StmtKind) at fitted)
         (none_of_map Flow.On (call_of scope f inputs outputs (own now)) (rw (fold-roll-Stmt, fold-roll-StmtKind) at none)));
     await = λ place e fitted now fit none. no_activity (and_left (is_activity home.unit.kind) _ (rw (fold-roll-Stmt, fold-roll-StmtKind) at fitted));
-    run = λ place target a inputs outputs fitted now fit none. no_activity (run_stands target inputs outputs (slice_get home.earlier a) (rw (fold-roll-Stmt, fold-roll-StmtKind) at fitted));
+    run = λ place target a inputs outputs fitted now fit none. no_activity
+        (run_stands target inputs outputs (slice_get home.earlier a) (rw (fold-roll-Stmt, fold-roll-StmtKind) at fitted));
     branching = λ place arms other each others fitted now fit none.
-        let both = and_right (is_inhabited (map arm_fitted arms)) (all_of (map arm_fitted arms) && all_of (map (fits site) other)) (rw (fold-roll-Stmt, fold-roll-StmtKind) at fitted) in
+        let both = and_right (is_inhabited (map arm_fitted arms)) (all_of (map arm_fitted arms) && all_of (map (fits site) other))
+        (rw (fold-roll-Stmt, fold-roll-StmtKind) at fitted) in
         StmtTraps.branching (says_is place (StmtKind-F.If arms other))
-        (arms_trap arms other each others (and_left (all_of (map arm_fitted arms)) (all_of (map (fits site) other)) both) (and_right (all_of (map arm_fitted arms)) (all_of (map (fits site) other)) both) now fit
+        (arms_trap arms other each others (and_left (all_of (map arm_fitted arms)) (all_of (map (fits site) other)) both)
+        (and_right (all_of (map arm_fitted arms)) (all_of (map (fits site) other)) both) now fit
         (rw (fold-roll-Stmt, fold-roll-StmtKind) at none));
-    cobegin = λ place branches each fitted now fit none. no_activity (and_left (is_activity home.unit.kind) _ (rw (fold-roll-Stmt, fold-roll-StmtKind) at fitted));
-    guarded = λ place guard e body each fitted now fit none. no_activity (and_left (is_activity home.unit.kind) _ (rw (fold-roll-Stmt, fold-roll-StmtKind) at fitted));
+    cobegin = λ place branches each fitted now fit none. no_activity
+        (and_left (is_activity home.unit.kind) _ (rw (fold-roll-Stmt, fold-roll-StmtKind) at fitted));
+    guarded = λ place guard e body each fitted now fit none. no_activity
+        (and_left (is_activity home.unit.kind) _ (rw (fold-roll-Stmt, fold-roll-StmtKind) at fitted));
     repeat = λ place body each fitted now fit none.
-        StmtTraps.repeat (says_is place (StmtKind-F.Repeat body)) (loop_traps None None body tt tt each (rw (fold-roll-Stmt, fold-roll-StmtKind) at fitted) most_turns now fit (rw (fold-roll-Stmt, fold-roll-StmtKind) at none));
+        StmtTraps.repeat (says_is place (StmtKind-F.Repeat body))
+        (loop_traps None None body tt tt each (rw (fold-roll-Stmt, fold-roll-StmtKind) at fitted) most_turns now fit
+        (rw (fold-roll-Stmt, fold-roll-StmtKind) at none));
     until = λ place body e each fitted now fit none.
         let parts = rw (fold-roll-Stmt, fold-roll-StmtKind) at fitted in
         StmtTraps.until (says_is place (StmtKind-F.Until body e))
-        (loop_traps None (Some e) body tt (and_right (all_of (map (fits site) body)) (is_truth (type_of site e)) parts) each (and_left (all_of (map (fits site) body)) (is_truth (type_of site e)) parts) most_turns now fit
+        (loop_traps None (Some e) body tt (and_right (all_of (map (fits site) body)) (is_truth (type_of site e)) parts) each
+        (and_left (all_of (map (fits site) body)) (is_truth (type_of site e)) parts) most_turns now fit
         (rw (fold-roll-Stmt, fold-roll-StmtKind) at none));
     while = λ place e body each fitted now fit none.
         let parts = rw (fold-roll-Stmt, fold-roll-StmtKind) at fitted in
         StmtTraps.while (says_is place (StmtKind-F.While e body))
-        (loop_traps (Some e) None body (and_left (is_truth (type_of site e)) (all_of (map (fits site) body)) parts) tt each (and_right (is_truth (type_of site e)) (all_of (map (fits site) body)) parts) most_turns now fit
+        (loop_traps (Some e) None body (and_left (is_truth (type_of site e)) (all_of (map (fits site) body)) parts) tt each
+        (and_right (is_truth (type_of site e)) (all_of (map (fits site) body)) parts) most_turns now fit
         (rw (fold-roll-Stmt, fold-roll-StmtKind) at none));
     returns = λ place e fitted now fit none.
-        result_traps _ e home.unit.result now (says_is place (StmtKind-F.Return e)) (rw (fold-roll-Stmt, fold-roll-StmtKind) at fitted) fit (rw (fold-roll-Stmt, fold-roll-StmtKind) at none);
+        result_traps _ e home.unit.result now (says_is place (StmtKind-F.Return e)) (rw (fold-roll-Stmt, fold-roll-StmtKind) at fitted) fit
+        (rw (fold-roll-Stmt, fold-roll-StmtKind) at none);
   }
 
   pub stmt_traps : (s : Stmt) → fits site s ≡ true → (now : List Value) → Fit now → does scope s now ≡ None → StmtTraps structs home s now

@@ -1,5 +1,37 @@
 -- In every unit of a typed program what has no value traps.
-use Rattle.std.proofs.Common.{◌≡◌, ℕ, suc, zero, ◌+◌, ◌<◌, ◌≤◌, length, Bool, true, false, not, ◌&&◌, ◌||◌, List, [], ◌∷◌, ◌++◌, map, take, arith, Option, Some, None, refl, sym, ap, ◌∙◌, subst, append_assoc, IfSome}
+use Rattle.std.proofs.Common.{
+  ◌≡◌,
+  ℕ,
+  suc,
+  zero,
+  ◌+◌,
+  ◌<◌,
+  ◌≤◌,
+  length,
+  Bool,
+  true,
+  false,
+  not,
+  ◌&&◌,
+  ◌||◌,
+  List,
+  [],
+  ◌∷◌,
+  ◌++◌,
+  map,
+  take,
+  arith,
+  Option,
+  Some,
+  None,
+  refl,
+  sym,
+  ap,
+  ◌∙◌,
+  subst,
+  append_assoc,
+  IfSome,
+}
 use Rattle.std.proofs.lemmas.List.{append-nil, length-take, take-append-drop}
 use Rattle.std.proofs.lemmas.Option.{same_Some, slice_get_within}
 use Rattle.std.specs.Prelude.{is_none, nat_eq, option_map, slice_get, if◌then◌else◌}
@@ -34,7 +66,8 @@ use Rattle.bl_eval_laws.proofs.StmtTraps.{block_traps, stmt_traps}
 
 -- ---- what a unit that stands keeps
 
-unit_at : (structs : List StructDef) (earlier units : List UnitDef) (k : ℕ) (unit : UnitDef) → units_stand_after structs earlier units ≡ true → slice_get units k ≡ Some unit
+unit_at : (structs : List StructDef) (earlier units : List UnitDef) (k : ℕ) (unit : UnitDef) →
+    units_stand_after structs earlier units ≡ true → slice_get units k ≡ Some unit
     → unit_stands structs (earlier ++ take k units) unit ≡ true
 unit_at structs earlier [] k unit stand there = absurd (cc)
 unit_at structs earlier (first ∷ units) zero unit stand there =
@@ -43,7 +76,8 @@ unit_at structs earlier (first ∷ units) zero unit stand there =
     (and_left (unit_stands structs earlier first) (units_stand_after structs (earlier ++ first ∷ []) units) stand))
 unit_at structs earlier (first ∷ units) (suc k) unit stand there =
     subst (λ earlier. unit_stands structs earlier unit ≡ true) (append_assoc earlier (first ∷ []) (take k units))
-    (unit_at structs (earlier ++ first ∷ []) units k unit (and_right (unit_stands structs earlier first) (units_stand_after structs (earlier ++ first ∷ []) units) stand) there)
+    (unit_at structs (earlier ++ first ∷ []) units k unit
+    (and_right (unit_stands structs earlier first) (units_stand_after structs (earlier ++ first ∷ []) units) stand) there)
 
 all_listed : (test : Stmt → Bool) (body : List Stmt) → list_all test body ≡ true → all_of (map test body) ≡ true
 all_listed test body all = listed test body ∙ all
@@ -62,9 +96,11 @@ module _ (structs : List StructDef) (earlier : List UnitDef) (unit : UnitDef) (s
       let fitted : Bool = list_all (fits (site_of structs earlier unit)) unit.body in
       let typed : Bool = list_all (λ var. type_stands (length structs) var.ty) unit.vars in
       let named : Bool = roles_stand unit && (list_all is_name (names_of unit.vars) && are_distinct (names_of (parameters_of unit))) in
-      and_left (unit_returns unit) (is_shallow unit.body && list_all is_apart unit.body) (and_right fitted last (and_right typed (fitted && last) (and_right named (typed && (fitted && last)) stands)))
+      and_left (unit_returns unit) (is_shallow unit.body && list_all is_apart unit.body)
+      (and_right fitted last (and_right typed (fitted && last) (and_right named (typed && (fitted && last)) stands)))
 
-surely : (unit : UnitDef) (s : ScalarType) → is_function unit.kind ≡ true → unit.result ≡ Some s → unit_returns unit ≡ true → last_of (map surely_returns unit.body) ≡ true
+surely : (unit : UnitDef) (s : ScalarType) → is_function unit.kind ≡ true → unit.result ≡ Some s → unit_returns unit ≡ true →
+    last_of (map surely_returns unit.body) ≡ true
 surely unit s function result all =
     by_kind (is_activity unit.kind) function all
   where
@@ -73,11 +109,13 @@ surely unit s function result all =
     by_result (Some t) true c is all = all
     by_result (Some t) false c is all = cc
 
-    by_kind : (activity : Bool) → not activity ≡ true → (if activity then activity_returns unit else function_returns unit) ≡ true → last_of (map surely_returns unit.body) ≡ true
+    by_kind : (activity : Bool) → not activity ≡ true → (if activity then activity_returns unit else function_returns unit) ≡ true →
+        last_of (map surely_returns unit.body) ≡ true
     by_kind true is all = cc
     by_kind false is all = by_result unit.result (nat_eq unit.outputs 0) (last_of (map surely_returns unit.body)) result all
 
-frame_fits : (structs : List StructDef) (unit : UnitDef) (arguments : List Value) → structs_stand_from 0 structs ≡ true → list_all (λ var. type_stands (length structs) var.ty) unit.vars ≡ true
+frame_fits : (structs : List StructDef) (unit : UnitDef) (arguments : List Value) → structs_stand_from 0 structs ≡ true →
+    list_all (λ var. type_stands (length structs) var.ty) unit.vars ≡ true
     → AllFit structs (parameters_of unit) arguments → AllFit structs unit.vars (frame_of structs unit arguments)
 frame_fits structs unit arguments structs_stand vars_stand given =
     let test : Var → Value → Bool = λ var. value_fits structs var.ty in
@@ -93,7 +131,8 @@ frame_fits structs unit arguments structs_stand vars_stand given =
 left_gives : (unit : UnitDef) (flow : Option Flow) (left : Left) → IfSome flow (Ends true) → option_map (left_by unit) flow ≡ Some left → left.result ≡ None → ⊥
 left_gives unit None left h is none = cc
 left_gives unit (Some (Flow.On now)) left h is none = cc
-left_gives unit (Some (Flow.Back now given)) left h is none = no_some h.1 (ap (λ (left : Left). left.result) (same_Some (left_by unit (Flow.Back now given)) left is) ∙ none)
+left_gives unit (Some (Flow.Back now given)) left h is none =
+    no_some h.1 (ap (λ (left : Left). left.result) (same_Some (left_by unit (Flow.Back now given)) left is) ∙ none)
 
 -- ---- calls
 
@@ -102,27 +141,34 @@ module _ (structs : List StructDef) (units : List UnitDef) (entry : ℕ) (keeps 
   stands_at k unit there = unit_at structs [] units k unit keeps.units_stand there
 
   -- a function at its own place in the program
-  module _ (f : ℕ) (callee : UnitDef) (there : slice_get units f ≡ Some callee) (function : is_function callee.kind ≡ true) (values : List Value) (fit : AllFit structs (parameters_of callee) values) where
+  module _ (f : ℕ) (callee : UnitDef) (there : slice_get units f ≡ Some callee) (function : is_function callee.kind ≡ true)
+      (values : List Value) (fit : AllFit structs (parameters_of callee) values) where
     abbrev sound : Sound structs (take f units) callee (callees_of structs (take f units))
     sound = sound_at structs units entry f callee keeps there
 
     frame : AllFit structs callee.vars (frame_of structs callee values)
     frame = frame_fits structs callee values sound.structs_stand sound.vars_stand fit
 
-    body_traps : Calls structs (home_at units f callee) → callee_of structs (callees_of structs (take f units)) callee values ≡ None → BlockTraps structs (home_at units f callee) callee.body (frame_of structs callee values)
+    body_traps : Calls structs (home_at units f callee) → callee_of structs (callees_of structs (take f units)) callee values ≡ None →
+        BlockTraps structs (home_at units f callee) callee.body (frame_of structs callee values)
     body_traps calls none =
-        block_traps structs (home_at units f callee) sound calls function callee.body (λ k d within. stmt_traps structs (home_at units f callee) sound calls function _)
+        block_traps structs (home_at units f callee) sound calls function callee.body
+        (λ k d within. stmt_traps structs (home_at units f callee) sound calls function _)
         (body_fits structs (take f units) callee (stands_at f callee there)) (frame_of structs callee values) frame
-        (none_of_map (left_by callee) (in_order (map (does (scope_among structs (callees_of structs (take f units)) callee)) callee.body) (frame_of structs callee values)) none)
+        (none_of_map (left_by callee) (in_order (map (does (scope_among structs (callees_of structs (take f units)) callee)) callee.body)
+        (frame_of structs callee values)) none)
 
-    body_gives : (s : ScalarType) → callee.result ≡ Some s → (left : Left) → callee_of structs (callees_of structs (take f units)) callee values ≡ Some left → left.result ≡ None → ⊥
+    body_gives : (s : ScalarType) → callee.result ≡ Some s → (left : Left) →
+        callee_of structs (callees_of structs (take f units)) callee values ≡ Some left → left.result ≡ None → ⊥
     body_gives s result left is none =
         let scope = scope_among structs (callees_of structs (take f units)) callee in
         let site = site_of structs (take f units) callee in
         let stands = stands_at f callee there in
         left_gives callee (in_order (map (does scope) callee.body) (frame_of structs callee values)) left
-        (subst (λ sure. IfSome (in_order (map (does scope) callee.body) (frame_of structs callee values)) (Ends sure)) (surely callee s function result (returns structs (take f units) callee stands))
-        (block_ends site scope s result callee.body (λ k d within. stmt_ends site scope s result _) (body_fits structs (take f units) callee stands) (frame_of structs callee values)))
+        (subst (λ sure. IfSome (in_order (map (does scope) callee.body) (frame_of structs callee values)) (Ends sure))
+        (surely callee s function result (returns structs (take f units) callee stands))
+        (block_ends site scope s result callee.body (λ k d within. stmt_ends site scope s result _)
+        (body_fits structs (take f units) callee stands) (frame_of structs callee values)))
         is none
 
   inside : (k f : ℕ) (callee : UnitDef) → slice_get (take k units) f ≡ Some callee → f < k
@@ -133,7 +179,8 @@ module _ (structs : List StructDef) (units : List UnitDef) (entry : ℕ) (keeps 
     traps = λ f callee values there function fit none.
         let before : f < k = inside k f callee there in
         CallTraps.in_body there
-        (subst (λ earlier. BlockTraps structs (record { earlier = earlier; unit = callee }) callee.body (frame_of structs callee values)) (sym (take_less units k f before))
+        (subst (λ earlier. BlockTraps structs (record { earlier = earlier; unit = callee }) callee.body (frame_of structs callee values))
+        (sym (take_less units k f before))
         (body_traps f callee (sym (get_take units k f before) ∙ there) function values fit (lower f callee before)
         (ap (λ earlier. callee_of structs (callees_of structs earlier) callee values) (sym (take_less units k f before)) ∙ none)));
     returns = λ f callee s values left there function result fit is none.

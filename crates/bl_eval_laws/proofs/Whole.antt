@@ -33,7 +33,8 @@ typed_at (Some ty) is = (ty, refl)
 module _ (structs : List StructDef) (units : List UnitDef) (entry k : ℕ) (view : View) (keeps : Keeps structs units entry) where
   -- ---- expressions
 
-  value_here : (e : Expr) (unit : UnitDef) → slice_get units k ≡ Some unit → value_in_unit structs units k e view ≡ option_map plain (meaning_of (scope_at structs (home_at units k unit)) e view)
+  value_here : (e : Expr) (unit : UnitDef) → slice_get units k ≡ Some unit →
+      value_in_unit structs units k e view ≡ option_map plain (meaning_of (scope_at structs (home_at units k unit)) e view)
   value_here e unit there = ap (λ (at : Option UnitDef). option_and_then (λ site. value_of site e view) (option_map (site_of structs (take k units)) at)) there
 
   pub value_traps : (e : Expr) → Stands structs units k view e → (value_in_unit structs units k e view ≡ None) ↔ ExprTrapsIn structs units k view e
@@ -41,16 +42,20 @@ module _ (structs : List StructDef) (units : List UnitDef) (entry k : ℕ) (view
     λ none. let found = typed_at (type_of (site_of structs (take k units) stands.unit) e) stands.typed in (
       stands.unit,
       stands.is_there,
-      expr_traps structs (home_at units k stands.unit) (sound_at structs units entry k stands.unit keeps stands.is_there) (calls_at structs units entry keeps k stands.unit) view stands.fitting.now stands.fitting.before
-          e found.0 found.1 (none_of_map plain (meaning_of (scope_at structs (home_at units k stands.unit)) e view) (sym (value_here e stands.unit stands.is_there) ∙ none)),
+      expr_traps structs (home_at units k stands.unit) (sound_at structs units entry k stands.unit keeps stands.is_there)
+          (calls_at structs units entry keeps k stands.unit) view stands.fitting.now stands.fitting.before
+          e found.0 found.1 (none_of_map plain (meaning_of (scope_at structs (home_at units k stands.unit)) e view)
+          (sym (value_here e stands.unit stands.is_there) ∙ none)),
     ),
     λ traps. value_here e traps.0 traps.1 ∙ ap (option_map plain) (expr_none structs traps.2),
   )
 
   -- ---- acts
 
-  outcome_here : (s : Stmt) (unit : UnitDef) → slice_get units k ≡ Some unit → outcome_in_unit structs units k s view ≡ acted (scope_at structs (home_at units k unit)) (says s) view
-  outcome_here s unit there = ap (λ (at : Option UnitDef). option_and_then (λ site. outcome_of site s view) (option_map (site_of structs (take k units)) at)) there
+  outcome_here : (s : Stmt) (unit : UnitDef) → slice_get units k ≡ Some unit →
+      outcome_in_unit structs units k s view ≡ acted (scope_at structs (home_at units k unit)) (says s) view
+  outcome_here s unit there = ap (λ (at : Option UnitDef). option_and_then (λ site. outcome_of site s view)
+      (option_map (site_of structs (take k units)) at)) there
 
   module _ (s : Stmt) (stands : StandsAct structs units k view s) where
     abbrev home : Home
@@ -62,15 +67,20 @@ module _ (structs : List StructDef) (units : List UnitDef) (entry k : ℕ) (view
     fitted_as : (layer : StmtKind-F StmtKind Arm Branch Stmt) → says s ≡ layer → fits site (stmt (out-Stmt s).place layer) ≡ true
     fitted_as layer is = subst (λ s. fits site s ≡ true) (made_of s layer is) stands.fitted
 
-    by_layer : (layer : StmtKind-F StmtKind Arm Branch Stmt) → says s ≡ layer → is_act layer ≡ true → acted (scope_at structs home) layer view ≡ None → ActTraps structs home view s
+    by_layer : (layer : StmtKind-F StmtKind Arm Branch Stmt) → says s ≡ layer → is_act layer ≡ true →
+        acted (scope_at structs home) layer view ≡ None → ActTraps structs home view s
     by_layer (StmtKind-F.Declare n e) is act none =
-        declared_traps structs home (sound_at structs units entry k stands.unit keeps stands.is_there) (calls_at structs units entry keeps k stands.unit) view stands.fitting.now stands.fitting.before s n e is
+        declared_traps structs home (sound_at structs units entry k stands.unit keeps stands.is_there)
+        (calls_at structs units entry keeps k stands.unit) view stands.fitting.now stands.fitting.before s n e is
         (rw (fold-roll-Stmt, fold-roll-StmtKind) at (fitted_as (StmtKind-F.Declare n e) is)) none
     by_layer (StmtKind-F.Assign path e) is act none =
-        assigned_traps structs home (sound_at structs units entry k stands.unit keeps stands.is_there) (calls_at structs units entry keeps k stands.unit) view stands.fitting.now stands.fitting.before s path e is
-        (and_right (is_assignable site path) (are_same (type_of_path site path) (type_of site e)) (rw (fold-roll-Stmt, fold-roll-StmtKind) at (fitted_as (StmtKind-F.Assign path e) is))) none
+        assigned_traps structs home (sound_at structs units entry k stands.unit keeps stands.is_there)
+        (calls_at structs units entry keeps k stands.unit) view stands.fitting.now stands.fitting.before s path e is
+        (and_right (is_assignable site path) (are_same (type_of_path site path) (type_of site e))
+        (rw (fold-roll-Stmt, fold-roll-StmtKind) at (fitted_as (StmtKind-F.Assign path e) is))) none
     by_layer (StmtKind-F.Call f inputs outputs) is act none =
-        called_traps structs home (sound_at structs units entry k stands.unit keeps stands.is_there) (calls_at structs units entry keeps k stands.unit) view stands.fitting.now stands.fitting.before s f inputs outputs is
+        called_traps structs home (sound_at structs units entry k stands.unit keeps stands.is_there)
+        (calls_at structs units entry keeps k stands.unit) view stands.fitting.now stands.fitting.before s f inputs outputs is
         (slice_get (take k units) f) refl (rw (fold-roll-Stmt, fold-roll-StmtKind) at (fitted_as (StmtKind-F.Call f inputs outputs) is)) none
     by_layer _ is act none = absurd (cc)
 

@@ -49,7 +49,8 @@ number_at structs home view e = operand (meaning_of (scope_at structs home) e) v
 
 -- the values of a call's inputs and those that its outputs have at the call
 abbrev pub arguments_at : List StructDef → Home → View → List Expr → List Path → Option (List Value)
-arguments_at structs home view inputs outputs = values_of (map (meaning_of (scope_at structs home)) inputs ++ map reading (map (spot_of (scope_at structs home)) outputs)) view
+arguments_at structs home view inputs outputs = values_of
+    (map (meaning_of (scope_at structs home)) inputs ++ map reading (map (spot_of (scope_at structs home)) outputs)) view
 
 -- the element that an index names
 abbrev pub element_at : ℤ → Value → Option Value
@@ -64,16 +65,21 @@ mutual
     two : {home : Home} {view : View} {e a b : Expr} {op : Op} {x y : Operand} → what e ≡ ExprKind-F.Two op a b → number_at structs home view a ≡ Some x
         → decides op x.n ≡ false → number_at structs home view b ≡ Some y → checked_of op x.ty x.n y.n ≡ None → ExprTraps structs home view e
     -- a cast of a number that the target does not have
-    cast : {home : Home} {view : View} {e a : Expr} {target : ScalarType} {x : Operand} → what e ≡ ExprKind-F.Cast target a → number_at structs home view a ≡ Some x
+    cast : {home : Home} {view : View} {e a : Expr} {target : ScalarType} {x : Operand} → what e ≡ ExprKind-F.Cast target a →
+        number_at structs home view a ≡ Some x
         → in_range target x.n ≡ false → ExprTraps structs home view e
     -- what stands in it traps; a right operand is looked at only where the left does not decide
     in_one : {home : Home} {view : View} {e a : Expr} {op : Op} → what e ≡ ExprKind-F.One op a → ExprTraps structs home view a → ExprTraps structs home view e
-    in_left : {home : Home} {view : View} {e a b : Expr} {op : Op} → what e ≡ ExprKind-F.Two op a b → ExprTraps structs home view a → ExprTraps structs home view e
+    in_left : {home : Home} {view : View} {e a b : Expr} {op : Op} → what e ≡ ExprKind-F.Two op a b → ExprTraps structs home view a →
+        ExprTraps structs home view e
     in_right : {home : Home} {view : View} {e a b : Expr} {op : Op} {x : Operand} → what e ≡ ExprKind-F.Two op a b → number_at structs home view a ≡ Some x
         → decides op x.n ≡ false → ExprTraps structs home view b → ExprTraps structs home view e
-    in_cast : {home : Home} {view : View} {e a : Expr} {target : ScalarType} → what e ≡ ExprKind-F.Cast target a → ExprTraps structs home view a → ExprTraps structs home view e
-    in_path : {home : Home} {view : View} {e : Expr} {path : Path} → what e ≡ ExprKind-F.Read path → PathTraps structs home view path → ExprTraps structs home view e
-    in_input : {home : Home} {view : View} {e : Expr} {f : ℕ} {inputs : List Expr} → what e ≡ ExprKind-F.Call f inputs → SomeTraps structs home view inputs → ExprTraps structs home view e
+    in_cast : {home : Home} {view : View} {e a : Expr} {target : ScalarType} → what e ≡ ExprKind-F.Cast target a →
+        ExprTraps structs home view a → ExprTraps structs home view e
+    in_path : {home : Home} {view : View} {e : Expr} {path : Path} → what e ≡ ExprKind-F.Read path → PathTraps structs home view path →
+        ExprTraps structs home view e
+    in_input : {home : Home} {view : View} {e : Expr} {f : ℕ} {inputs : List Expr} → what e ≡ ExprKind-F.Call f inputs →
+        SomeTraps structs home view inputs → ExprTraps structs home view e
     in_call : {home : Home} {view : View} {e : Expr} {f : ℕ} {inputs : List Expr} {values : List Value} → what e ≡ ExprKind-F.Call f inputs
         → values_of (map (meaning_of (scope_at structs home)) inputs) view ≡ Some values → CallTraps structs home f values → ExprTraps structs home view e
 
@@ -93,7 +99,8 @@ mutual
         → number_at structs home view e ≡ Some x → element_at x.n value ≡ None → PartsTrap structs home view (part ∷ parts) value
     in_index : {home : Home} {view : View} {part : Part} {parts : List Part} {value : Value} {e : Expr} → out-Part part ≡ Part-F.Index e
         → ExprTraps structs home view e → PartsTrap structs home view (part ∷ parts) value
-    further : {home : Home} {view : View} {part : Part} {parts : List Part} {value inner : Value} {k : ℕ} → part_of_path (scope_at structs home) part view ≡ Some k
+    further : {home : Home} {view : View} {part : Part} {parts : List Part} {value inner : Value} {k : ℕ} →
+        part_of_path (scope_at structs home) part view ≡ Some k
         → part_of k value ≡ Some inner → PartsTrap structs home view parts inner → PartsTrap structs home view (part ∷ parts) value
 
   -- the function at the position traps where it is called with these values
@@ -109,25 +116,32 @@ mutual
 
   -- an assignment, a declaration or a call traps: a value, a path, an input, an output or the function
   pub data ActTraps (structs : List StructDef) : Home → View → Stmt → Type 0 where
-    initial : {home : Home} {view : View} {s : Stmt} {k : ℕ} {e : Expr} → says s ≡ StmtKind-F.Declare k (Some e) → ExprTraps structs home view e → ActTraps structs home view s
-    set_value : {home : Home} {view : View} {s : Stmt} {path : Path} {e : Expr} → says s ≡ StmtKind-F.Assign path e → ExprTraps structs home view e → ActTraps structs home view s
-    set_target : {home : Home} {view : View} {s : Stmt} {path : Path} {e : Expr} → says s ≡ StmtKind-F.Assign path e → PathTraps structs home view path → ActTraps structs home view s
+    initial : {home : Home} {view : View} {s : Stmt} {k : ℕ} {e : Expr} → says s ≡ StmtKind-F.Declare k (Some e) →
+        ExprTraps structs home view e → ActTraps structs home view s
+    set_value : {home : Home} {view : View} {s : Stmt} {path : Path} {e : Expr} → says s ≡ StmtKind-F.Assign path e →
+        ExprTraps structs home view e → ActTraps structs home view s
+    set_target : {home : Home} {view : View} {s : Stmt} {path : Path} {e : Expr} → says s ≡ StmtKind-F.Assign path e →
+        PathTraps structs home view path → ActTraps structs home view s
     input : {home : Home} {view : View} {s : Stmt} {f : ℕ} {inputs : List Expr} {outputs : List Path} → says s ≡ StmtKind-F.Call f inputs outputs
         → SomeTraps structs home view inputs → ActTraps structs home view s
     output : {home : Home} {view : View} {s : Stmt} {f : ℕ} {inputs : List Expr} {outputs : List Path} → says s ≡ StmtKind-F.Call f inputs outputs
         → SomePathTraps structs home view outputs → ActTraps structs home view s
-    in_callee : {home : Home} {view : View} {s : Stmt} {f : ℕ} {inputs : List Expr} {outputs : List Path} {values : List Value} → says s ≡ StmtKind-F.Call f inputs outputs
+    in_callee : {home : Home} {view : View} {s : Stmt} {f : ℕ} {inputs : List Expr} {outputs : List Path} {values : List Value} →
+        says s ≡ StmtKind-F.Call f inputs outputs
         → arguments_at structs home view inputs outputs ≡ Some values → CallTraps structs home f values → ActTraps structs home view s
 
   -- one of the paths traps
   pub data SomePathTraps (structs : List StructDef) : Home → View → List Path → Type 0 where
-    here_path : {home : Home} {view : View} {path : Path} {paths : List Path} → PathTraps structs home view path → SomePathTraps structs home view (path ∷ paths)
-    there_path : {home : Home} {view : View} {path : Path} {paths : List Path} → SomePathTraps structs home view paths → SomePathTraps structs home view (path ∷ paths)
+    here_path : {home : Home} {view : View} {path : Path} {paths : List Path} → PathTraps structs home view path →
+        SomePathTraps structs home view (path ∷ paths)
+    there_path : {home : Home} {view : View} {path : Path} {paths : List Path} → SomePathTraps structs home view paths →
+        SomePathTraps structs home view (path ∷ paths)
 
   -- a statement of a function traps from these values of its variables
   pub data StmtTraps (structs : List StructDef) : Home → Stmt → List Value → Type 0 where
     act : {home : Home} {s : Stmt} {now : List Value} → ActTraps structs home (own now) s → StmtTraps structs home s now
-    result : {home : Home} {s : Stmt} {now : List Value} {e : Expr} → says s ≡ StmtKind-F.Return (Some e) → ExprTraps structs home (own now) e → StmtTraps structs home s now
+    result : {home : Home} {s : Stmt} {now : List Value} {e : Expr} → says s ≡ StmtKind-F.Return (Some e) →
+        ExprTraps structs home (own now) e → StmtTraps structs home s now
     branching : {home : Home} {s : Stmt} {now : List Value} {arms : List Arm} {other : List Stmt} → says s ≡ StmtKind-F.If arms other
         → ArmsTrap structs home arms other now → StmtTraps structs home s now
     repeat : {home : Home} {s : Stmt} {now : List Value} {body : List Stmt} → says s ≡ StmtKind-F.Repeat body
@@ -142,9 +156,11 @@ mutual
     none_taken : {home : Home} {others : List Stmt} {now : List Value} → BlockTraps structs home others now → ArmsTrap structs home [] others now
     testing : {home : Home} {arm : Arm} {arms : List Arm} {others : List Stmt} {now : List Value} → ExprTraps structs home (own now) (out-Arm arm).test
         → ArmsTrap structs home (arm ∷ arms) others now
-    taken : {home : Home} {arm : Arm} {arms : List Arm} {others : List Stmt} {now : List Value} → truth (scope_at structs home) (out-Arm arm).test now ≡ Some true
+    taken : {home : Home} {arm : Arm} {arms : List Arm} {others : List Stmt} {now : List Value} →
+        truth (scope_at structs home) (out-Arm arm).test now ≡ Some true
         → BlockTraps structs home (out-Arm arm).body now → ArmsTrap structs home (arm ∷ arms) others now
-    passed : {home : Home} {arm : Arm} {arms : List Arm} {others : List Stmt} {now : List Value} → truth (scope_at structs home) (out-Arm arm).test now ≡ Some false
+    passed : {home : Home} {arm : Arm} {arms : List Arm} {others : List Stmt} {now : List Value} →
+        truth (scope_at structs home) (out-Arm arm).test now ≡ Some false
         → ArmsTrap structs home arms others now → ArmsTrap structs home (arm ∷ arms) others now
 
   -- a loop of which so many turns may still begin traps: it goes on while the first condition is true, where there is one,
@@ -155,12 +171,15 @@ mutual
         → LoopTraps structs home goes body ends 0 now
     before : {home : Home} {e : Expr} {ends : Option Expr} {body : List Stmt} {turns : ℕ} {now : List Value} → ExprTraps structs home (own now) e
         → LoopTraps structs home (Some e) body ends turns now
-    turn : {home : Home} {goes ends : Option Expr} {body : List Stmt} {turns : ℕ} {now : List Value} → condition (scope_at structs home) goes true now ≡ Some true
+    turn : {home : Home} {goes ends : Option Expr} {body : List Stmt} {turns : ℕ} {now : List Value} →
+        condition (scope_at structs home) goes true now ≡ Some true
         → BlockTraps structs home body now → LoopTraps structs home goes body ends (suc turns) now
-    behind : {home : Home} {goes : Option Expr} {e : Expr} {body : List Stmt} {turns : ℕ} {now new : List Value} → condition (scope_at structs home) goes true now ≡ Some true
+    behind : {home : Home} {goes : Option Expr} {e : Expr} {body : List Stmt} {turns : ℕ} {now new : List Value} →
+        condition (scope_at structs home) goes true now ≡ Some true
         → in_order (map (does (scope_at structs home)) body) now ≡ Some (Flow.On new) → ExprTraps structs home (own new) e
         → LoopTraps structs home goes body (Some e) (suc turns) now
-    again : {home : Home} {goes ends : Option Expr} {body : List Stmt} {turns : ℕ} {now new : List Value} → condition (scope_at structs home) goes true now ≡ Some true
+    again : {home : Home} {goes ends : Option Expr} {body : List Stmt} {turns : ℕ} {now new : List Value} →
+        condition (scope_at structs home) goes true now ≡ Some true
         → in_order (map (does (scope_at structs home)) body) now ≡ Some (Flow.On new) → condition (scope_at structs home) ends false new ≡ Some false
         → LoopTraps structs home goes body ends turns new → LoopTraps structs home goes body ends (suc turns) now
 

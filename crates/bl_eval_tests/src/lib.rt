@@ -1,7 +1,9 @@
-//! Values and acts of a program that is read from a text (docs/LANGUAGE.md, "How a program runs"). There is nothing in this
-//! crate but its tests.
+//! Tests of `bl_eval`: values and acts of programs that are read from texts (docs/LANGUAGE.md, "How a program runs").
+//! There is nothing else here.
 #![tactic(auto)]
 
+#[cfg(test)]
+mod numbers;
 #[cfg(test)]
 mod program;
 #[cfg(test)]

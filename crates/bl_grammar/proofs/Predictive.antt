@@ -1,5 +1,32 @@
 -- One token decides: the theorems on grammars with right tables.
-use Rattle.std.proofs.Common.{◌≡◌, ℕ, zero, suc, ◌+◌, ◌<◌, ◌≤◌, Bool, true, false, cond, ◌&&◌, ◌||◌, ◌⊎◌, inl, inr, ⊎_elim, List, [], ◌∷◌, ◌++◌, length, refl, sym, subst, arith}
+use Rattle.std.proofs.Common.{
+  ◌≡◌,
+  ℕ,
+  zero,
+  suc,
+  ◌+◌,
+  ◌<◌,
+  ◌≤◌,
+  Bool,
+  true,
+  false,
+  cond,
+  ◌&&◌,
+  ◌||◌,
+  ◌⊎◌,
+  inl,
+  inr,
+  ⊎_elim,
+  List,
+  [],
+  ◌∷◌,
+  ◌++◌,
+  length,
+  refl,
+  sym,
+  subst,
+  arith,
+}
 use Rattle.std.specs.Prelude.{Option, Some, None}
 use Rattle.bl_grammar.specs.declared.symbol.Symbol.{Symbol}
 use Rattle.bl_grammar.specs.declared.symbol.Symbol.TheVariants.{Terminal, Nonterminal}
@@ -66,10 +93,12 @@ module _ {K P T : Type 0} (Produces : P → Option T → List (Symbol K P) → T
   expansion (part made inner r) = record { production = _; made = made; between = _; first = inner; rest = r }
 
   -- what stands for a production stands for its part
-  pub fold_in : {A : P} {symbols : List (Symbol K P)} {tokens left : List T} (production : List (Symbol K P)) → Produces A (next_of tokens) production → Spells (production ++ symbols) tokens left → Spells (Nonterminal A ∷ symbols) tokens left
+  pub fold_in : {A : P} {symbols : List (Symbol K P)} {tokens left : List T} (production : List (Symbol K P)) →
+      Produces A (next_of tokens) production → Spells (production ++ symbols) tokens left → Spells (Nonterminal A ∷ symbols) tokens left
   fold_in production made d = let h = split production d in part made h.first h.second
 
-  pub terminal_first : {class : K} {symbols : List (Symbol K P)} {token : T} {tokens left : List T} → Spells (Terminal class ∷ symbols) (token ∷ tokens) left → (matches class token ≡ true) × Spells symbols tokens left
+  pub terminal_first : {class : K} {symbols : List (Symbol K P)} {token : T} {tokens left : List T} →
+      Spells (Terminal class ∷ symbols) (token ∷ tokens) left → (matches class token ≡ true) × Spells symbols tokens left
   terminal_first (terminal m r) = (m, r)
 
   module _ (tables : Tables K P T) (right : IsPredictive Produces matches tables) where
@@ -83,9 +112,11 @@ module _ {K P T : Type 0} (Produces : P → Option T → List (Symbol K P) → T
     pub leads : {symbols : List (Symbol K P)} {tokens left : List T} → Spells symbols tokens left → Leads symbols (next_of tokens) (next_of left)
     leads done = refl
     leads (terminal m r) = (_, refl, m)
-    leads (part {A = A} {production = p} {symbols = ss} {tokens = ts} {between = bs} {left = ls} made inner r) = by_production p (right.headed made) (leads inner) (leads r)
+    leads (part {A = A} {production = p} {symbols = ss} {tokens = ts} {between = bs} {left = ls} made inner r) =
+        by_production p (right.headed made) (leads inner) (leads r)
       where
-        by_production : (p : List (Symbol K P)) → Predictive.IsHeaded Produces matches tables A (next_of ts) p → Leads p (next_of ts) (next_of bs) → Leads ss (next_of bs) (next_of ls) → Leads (Nonterminal A ∷ ss) (next_of ts) (next_of ls)
+        by_production : (p : List (Symbol K P)) → Predictive.IsHeaded Produces matches tables A (next_of ts) p →
+            Leads p (next_of ts) (next_of bs) → Leads ss (next_of bs) (next_of ls) → Leads (Nonterminal A ∷ ss) (next_of ts) (next_of ls)
         by_production [] headed here after = inr (headed, subst (λ n. Leads ss n (next_of ls)) (sym here) after)
         by_production (Terminal k ∷ q) headed here after = inl (here.0, here.1, headed here.0 here.1 here.2)
         by_production (Nonterminal B ∷ q) headed here after =
@@ -102,27 +133,36 @@ module _ {K P T : Type 0} (Produces : P → Option T → List (Symbol K P) → T
         l
 
     -- a production in place of its part keeps a stack good
-    good_append : (A : P) (ss : List (Symbol K P)) → Good (Nonterminal A ∷ ss) → (p : List (Symbol K P)) → Predictive.Follow Produces matches tables A p → Good (p ++ ss)
+    good_append : (A : P) (ss : List (Symbol K P)) → Good (Nonterminal A ∷ ss) → (p : List (Symbol K P)) →
+        Predictive.Follow Produces matches tables A p → Good (p ++ ss)
     good_append A ss good [] follow = good.1
     good_append A ss good (Terminal k ∷ q) follow = good_append A ss good q follow
     good_append A ss good (Nonterminal B ∷ q) follow =
         ((λ t l. ⊎_elim (λ heads. follow.0 t heads) (λ v. follow.1 v.0 t (good.0 t v.1)) (leads_append q ss t l)), good_append A ss good q follow.2)
 
-    pub good_expand : (A : P) (ss : List (Symbol K P)) (next : Option T) (p : List (Symbol K P)) → Good (Nonterminal A ∷ ss) → Produces A next p → Good (p ++ ss)
+    pub good_expand : (A : P) (ss : List (Symbol K P)) (next : Option T) (p : List (Symbol K P)) → Good (Nonterminal A ∷ ss) →
+        Produces A next p → Good (p ++ ss)
     good_expand A ss next p good made = good_append A ss good p (right.follow made)
 
     -- the production that a derivation uses is the one that the next token decides on
-    pub forced_pick : (A : P) (ss : List (Symbol K P)) (t : T) (end : Option T) → Good (Nonterminal A ∷ ss) → (p : List (Symbol K P)) → Produces A (Some t) p → Leads p (Some t) end → Leads ss end None → tables.pick A t ≡ Some p
+    pub forced_pick : (A : P) (ss : List (Symbol K P)) (t : T) (end : Option T) → Good (Nonterminal A ∷ ss) → (p : List (Symbol K P)) →
+        Produces A (Some t) p → Leads p (Some t) end → Leads ss end None → tables.pick A t ≡ Some p
     forced_pick A ss t end good p made = by_cases p (right.headed made) (right.forced made)
       where
-        by_cases : (p : List (Symbol K P)) → Predictive.IsHeaded Produces matches tables A (Some t) p → Predictive.IsForced Produces matches tables A t p → Leads p (Some t) end → Leads ss end None → tables.pick A t ≡ Some p
+        by_cases : (p : List (Symbol K P)) → Predictive.IsHeaded Produces matches tables A (Some t) p →
+            Predictive.IsForced Produces matches tables A t p → Leads p (Some t) end → Leads ss end None → tables.pick A t ≡ Some p
         by_cases [] headed forced here after = forced (good.0 t (subst (λ n. Leads ss n None) (sym here) after))
         by_cases (Terminal k ∷ q) headed forced here after = forced (subst (λ (x : T). matches k x ≡ true) (sym (same_some _ _ here.1)) here.2)
         by_cases (Nonterminal B ∷ q) headed forced here after =
             ⊎_elim (λ h. forced (subst (λ (x : T). tables.begins B x ≡ true) (sym (same_some _ _ h.1)) h.2)) (λ h. absurd (not_both _ h.0 headed.0)) here
 
-    pub step : (A : P) (ss : List (Symbol K P)) (t : T) (ts : List T) → Good (Nonterminal A ∷ ss) → Spells (Nonterminal A ∷ ss) (t ∷ ts) [] → (p : List (Symbol K P)) × (tables.pick A t ≡ Some p) × Spells (p ++ ss) (t ∷ ts) []
-    step A ss t ts good d = let e = expansion d in (e.production, forced_pick A ss t (next_of e.between) good e.production e.made (leads e.first) (leads e.rest), join e.first e.rest)
+    pub step : (A : P) (ss : List (Symbol K P)) (t : T) (ts : List T) → Good (Nonterminal A ∷ ss) →
+        Spells (Nonterminal A ∷ ss) (t ∷ ts) [] → (p : List (Symbol K P)) × (tables.pick A t ≡ Some p) × Spells (p ++ ss) (t ∷ ts) []
+    step A ss t ts good d = let e = expansion d in (
+      e.production,
+      forced_pick A ss t (next_of e.between) good e.production e.made (leads e.first) (leads e.rest),
+      join e.first e.rest,
+    )
 
     -- at the end of the tokens the parts that are left are absent
     vanish_of : (ss : List (Symbol K P)) → Leads ss None None → Predictive.vanish Produces matches tables ss ≡ true
@@ -155,7 +195,8 @@ module _ {K P T : Type 0} (Produces : P → Option T → List (Symbol K P) → T
     token_then : (k : K) (ss : List (Symbol K P)) (left : List T) → Completed ss left → Completed (Terminal k ∷ ss) left
     token_then k ss left rest = let s = right.samples k in record { tokens = tables.sample k ∷ rest.tokens; spells = terminal s.0 rest.spells; neutral = s.1 }
 
-    complete_lower : (n : ℕ) → ((A : P) → tables.height A < n → Completes A) → (ss : List (Symbol K P)) → Predictive.AreLower Produces matches tables n ss → (left : List T) → Predictive.IsNeutral Produces matches tables (next_of left) → Completed ss left
+    complete_lower : (n : ℕ) → ((A : P) → tables.height A < n → Completes A) → (ss : List (Symbol K P)) →
+        Predictive.AreLower Produces matches tables n ss → (left : List T) → Predictive.IsNeutral Produces matches tables (next_of left) → Completed ss left
     complete_lower n each [] lower left neutral = record { tokens = left; spells = done; neutral = neutral }
     complete_lower n each (Terminal k ∷ ss) lower left neutral = token_then k ss left (complete_lower n each ss lower left neutral)
     complete_lower n each (Nonterminal A ∷ ss) lower left neutral = one_then A ss left (each A lower.0) (complete_lower n each ss lower.1 left neutral)
@@ -182,7 +223,8 @@ module _ {K P T : Type 0} (Produces : P → Option T → List (Symbol K P) → T
         by_absent false most = omega (arith, most)
 
     -- a production in place of its part brings the next token nearer
-    pub descend : (A : P) (ss : List (Symbol K P)) (t : T) (p : List (Symbol K P)) → tables.pick A t ≡ Some p → Predictive.level Produces matches tables (p ++ ss) < Predictive.level Produces matches tables (Nonterminal A ∷ ss)
+    pub descend : (A : P) (ss : List (Symbol K P)) (t : T) (p : List (Symbol K P)) → tables.pick A t ≡ Some p →
+        Predictive.level Produces matches tables (p ++ ss) < Predictive.level Produces matches tables (Nonterminal A ∷ ss)
     descend A ss t p picked = by_cases p (right.descends A t p picked)
       where
         ranked : (0 < tables.rank A) × (0 < tables.limit) × (tables.rank A ≤ tables.limit)
@@ -192,7 +234,8 @@ module _ {K P T : Type 0} (Produces : P → Option T → List (Symbol K P) → T
         above true n absent not_absent = omega (arith, absent refl)
         above false n absent not_absent = not_absent refl
 
-        by_cases : (p : List (Symbol K P)) → Predictive.Descends Produces matches tables A p → Predictive.level Produces matches tables (p ++ ss) < Predictive.level Produces matches tables (Nonterminal A ∷ ss)
+        by_cases : (p : List (Symbol K P)) → Predictive.Descends Produces matches tables A p →
+            Predictive.level Produces matches tables (p ++ ss) < Predictive.level Produces matches tables (Nonterminal A ∷ ss)
         by_cases [] absent = rw absent (low ss ranked.1)
         by_cases (Terminal k ∷ q) _ = above (tables.absent A) 0 (λ _. ranked.1) (λ _. ranked.0)
         by_cases (Nonterminal B ∷ q) d = rw d.0 (above (tables.absent A) (tables.rank B) d.1 d.2)

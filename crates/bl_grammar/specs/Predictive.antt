@@ -43,7 +43,8 @@ module _ {K P T : Type 0}
   abbrev pub IsHeaded : P → Option T → List (Symbol K P) → Type 0
   IsHeaded A next [] = tables.absent A ≡ true
   IsHeaded A next (Terminal class ∷ rest) = (token : T) → next ≡ Some token → matches class token ≡ true → tables.begins A token ≡ true
-  IsHeaded A next (Nonterminal B ∷ rest) = (tables.absent B ≡ false) × ((token : T) → next ≡ Some token → tables.begins B token ≡ true → tables.begins A token ≡ true)
+  IsHeaded A next (Nonterminal B ∷ rest) = (tables.absent B ≡ false)
+      × ((token : T) → next ≡ Some token → tables.begins B token ≡ true → tables.begins A token ≡ true)
 
   -- the table `avoids` is right for a production: what can follow a part of it isn't avoided
   abbrev pub Follow : P → List (Symbol K P) → Type 0
@@ -64,7 +65,8 @@ module _ {K P T : Type 0}
   abbrev pub Descends : P → List (Symbol K P) → Type 0
   Descends A [] = tables.absent A ≡ true
   Descends A (Terminal class ∷ rest) = ⊤
-  Descends A (Nonterminal B ∷ rest) = (tables.absent B ≡ false) × (tables.absent A ≡ true → tables.rank B < tables.limit) × (tables.absent A ≡ false → tables.rank B < tables.rank A)
+  Descends A (Nonterminal B ∷ rest) = (tables.absent B ≡ false) × (tables.absent A ≡ true → tables.rank B < tables.limit)
+      × (tables.absent A ≡ false → tables.rank B < tables.rank A)
 
   -- the parts among the symbols have less height
   abbrev pub AreLower : ℕ → List (Symbol K P) → Type 0

@@ -1,3 +1,5 @@
+//! The symbols of a grammar.
+
 /// What stands on the right side of a production.
 #[derive(Clone, Copy, PartialEq, Eq, Debug)]
 pub enum Symbol<K, P> {

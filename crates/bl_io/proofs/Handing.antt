@@ -37,7 +37,9 @@ front_back n bytes rest fits =
     take-append-le n (take n bytes) rest (omega (arith, length-take-le n bytes fits)) ∙ take-take n n bytes (omega arith)
 
 -- a call moved the next n bytes of a name to the front of the room
-pub IsNext-moved : (left after : Option (List ℕ)) (room new : List ℕ) (n most : ℕ) → 0 < length room → 0 < most → Some n ≡ option_map (handed (length room) most) left → new ≡ take n (unwrap_or left []) ++ drop n room → after ≡ Some (drop n (unwrap_or left [])) → IsNext (unwrap_or left []) n new after
+pub IsNext-moved : (left after : Option (List ℕ)) (room new : List ℕ) (n most : ℕ) → 0 < length room → 0 < most →
+    Some n ≡ option_map (handed (length room) most) left → new ≡ take n (unwrap_or left []) ++ drop n room →
+    after ≡ Some (drop n (unwrap_or left [])) → IsNext (unwrap_or left []) n new after
 IsNext-moved None after room new n most some wide count moved rest = absurd (cc)
 IsNext-moved (Some bytes) after room new n most some wide count moved rest =
     let is : n ≡ handed (length room) most bytes = ap (λ o. unwrap_or o 0) count in
@@ -53,6 +55,8 @@ IsNext-told : (left after : Option (List ℕ)) (new : List ℕ) (n : ℕ) → Is
 IsNext-told None after new n next = tt
 IsNext-told (Some bytes) after new n next = next
 
-pub HandsOver-moved : (files later : LeftByName) (name room new : List ℕ) (n most : ℕ) → 0 < length room → 0 < most → Some n ≡ option_map (handed (length room) most) (map.get files name) → new ≡ take n (left_at files name) ++ drop n room → later ≡ map.insert files name (drop n (left_at files name)) → HandsOver (map.get files name) n new (map.get later name)
+pub HandsOver-moved : (files later : LeftByName) (name room new : List ℕ) (n most : ℕ) → 0 < length room → 0 < most →
+    Some n ≡ option_map (handed (length room) most) (map.get files name) → new ≡ take n (left_at files name) ++ drop n room →
+    later ≡ map.insert files name (drop n (left_at files name)) → HandsOver (map.get files name) n new (map.get later name)
 HandsOver-moved files later name room new n most some wide count moved rest =
     IsNext-told _ _ _ _ (IsNext-moved _ _ room _ _ most some wide count moved (rw rest (get-insert-same files name _)))

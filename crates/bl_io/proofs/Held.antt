@@ -15,7 +15,8 @@ Appends-trans (Some bytes) b c p q h k =
     rw append_assoc at more
 
 -- a front that was written, and the front of what follows it
-pub Appends-more : (a b c : Option (List ℕ)) (bytes : List ℕ) (i m n : ℕ) → Appends a (take i bytes) b → Appends b (take n (take m (drop i bytes))) c → n ≤ m → Appends a (take (i + n) bytes) c
+pub Appends-more : (a b c : Option (List ℕ)) (bytes : List ℕ) (i m n : ℕ) → Appends a (take i bytes) b →
+    Appends b (take n (take m (drop i bytes))) c → n ≤ m → Appends a (take (i + n) bytes) c
 Appends-more a b c bytes i m n h k within =
     let more : Appends b (take n (drop i bytes)) c = rw take-take at k in
     rw (take-add i n bytes) (Appends-trans a b c (take i bytes) (take n (drop i bytes)) h more)

@@ -1,5 +1,27 @@
 -- How what several calls say of the bytes left goes together.
-use Rattle.std.proofs.Common.{◌≡◌, ℕ, ◌+◌, ◌≤◌, List, [], ◌++◌, length, take, drop, Option, Some, None, IfSome, refl, sym, ◌∙◌, ap, arith, length-append, length-drop}
+use Rattle.std.proofs.Common.{
+  ◌≡◌,
+  ℕ,
+  ◌+◌,
+  ◌≤◌,
+  List,
+  [],
+  ◌++◌,
+  length,
+  take,
+  drop,
+  Option,
+  Some,
+  None,
+  IfSome,
+  refl,
+  sym,
+  ◌∙◌,
+  ap,
+  arith,
+  length-append,
+  length-drop,
+}
 use Rattle.std.proofs.Math.ListN.{drop_of_length-le}
 use Rattle.std.proofs.Math.Seq.{take-add}
 use Rattle.std.proofs.lemmas.List.{drop-drop, length-take-le, take_all}
@@ -33,7 +55,8 @@ pub HasRead-nothing : (before : Option (List ℕ)) → HasRead before [] before
 HasRead-nothing None = tt
 HasRead-nothing (Some bytes) = record { within = omega arith; front = refl; rest = refl }
 
-pub front_more : (bytes got room : List ℕ) (n : ℕ) (mid after : Option (List ℕ)) → IsFront bytes got mid → IsNext (drop (length got) bytes) n room after → n ≤ length room → IsFront bytes (got ++ take n room) after
+pub front_more : (bytes got room : List ℕ) (n : ℕ) (mid after : Option (List ℕ)) → IsFront bytes got mid →
+    IsNext (drop (length got) bytes) n room after → n ≤ length room → IsFront bytes (got ++ take n room) after
 front_more bytes got room n mid after so next fits =
     let len : length (got ++ take n room) ≡ length got + n = length-append got (take n room) ∙ ap (λ m. length got + m) (length-take-le n room fits) in
     record {
@@ -42,13 +65,15 @@ front_more bytes got room n mid after so next fits =
       rest = rw len (next.rest ∙ ap Some (drop-drop n (length got) bytes));
     }
 
-pub HasRead-more : (before mid after : Option (List ℕ)) (got room : List ℕ) (n : ℕ) → HasRead before got mid → HandsOver mid n room after → n ≤ length room → HasRead before (got ++ take n room) after
+pub HasRead-more : (before mid after : Option (List ℕ)) (got room : List ℕ) (n : ℕ) → HasRead before got mid → HandsOver mid n room after →
+    n ≤ length room → HasRead before (got ++ take n room) after
 HasRead-more None mid after got room n so next fits = tt
 HasRead-more (Some bytes) mid after got room n so next fits =
     let next_of : HandsOver (Some (drop (length got) bytes)) n room after = rw so.rest at next in
     front_more bytes got room n mid after so next_of fits
 
-pub GivesUpTo-at_end : (before mid after : Option (List ℕ)) (got room : List ℕ) (limit : ℕ) → HasRead before got mid → HandsOver mid 0 room after → length got ≤ limit → GivesUpTo limit before got after
+pub GivesUpTo-at_end : (before mid after : Option (List ℕ)) (got room : List ℕ) (limit : ℕ) → HasRead before got mid →
+    HandsOver mid 0 room after → length got ≤ limit → GivesUpTo limit before got after
 GivesUpTo-at_end None mid after got room limit so next within = tt
 GivesUpTo-at_end (Some bytes) mid after got room limit so next within =
     let last : HandsOver (Some (drop (length got) bytes)) 0 room after = rw so.rest at next in
@@ -58,12 +83,14 @@ GivesUpTo-at_end (Some bytes) mid after got room limit so next within =
       rest = last.rest ∙ ap Some (last.at_end refl ∙ sym (drop_of_length-le bytes (omega arith)));
     }
 
-pub GivesUpTo-full : (before mid : Option (List ℕ)) (got : List ℕ) (limit : ℕ) → HasRead before got mid → limit ≤ length got → length got ≤ limit → GivesUpTo limit before got mid
+pub GivesUpTo-full : (before mid : Option (List ℕ)) (got : List ℕ) (limit : ℕ) → HasRead before got mid → limit ≤ length got →
+    length got ≤ limit → GivesUpTo limit before got mid
 GivesUpTo-full None mid got limit so full within = tt
 GivesUpTo-full (Some bytes) mid got limit so full within =
     let same : length got ≡ limit = omega arith in
     record { front = rw (← same) so.front; rest = rw (← same) so.rest }
 
-pub StandsFurther-read : (before mid after : Option (List ℕ)) (got : List ℕ) (limit : ℕ) → HasRead before got mid → after ≡ mid → length got ≤ limit → StandsFurther limit before after
+pub StandsFurther-read : (before mid after : Option (List ℕ)) (got : List ℕ) (limit : ℕ) → HasRead before got mid → after ≡ mid →
+    length got ≤ limit → StandsFurther limit before after
 StandsFurther-read None mid after got limit so same within = tt
 StandsFurther-read (Some bytes) mid after got limit so same within = (length got, within, same ∙ so.rest)

@@ -18,7 +18,8 @@ named es = each (λ e. (string_bytes e.0, e.1)) es
 abbrev pub files_of : {Z : Type 0} → tree.BTreeMap (String Z) (List ℕ) → LeftByName
 files_of m = map.from_entries (named m.entries)
 
-find-named : {Z : Type 0} (q : List ℕ) (es : List (String Z × List ℕ)) → map.find (slice_cmp nat_cmp) q (named es) ≡ lookup (λ k. is_eq (slice_cmp nat_cmp q (string_bytes k))) es
+find-named : {Z : Type 0} (q : List ℕ) (es : List (String Z × List ℕ)) →
+    map.find (slice_cmp nat_cmp) q (named es) ≡ lookup (λ k. is_eq (slice_cmp nat_cmp q (string_bytes k))) es
 find-named q [] = refl
 find-named q (e ∷ es) = ap (cond (eq_by_cmp (slice_cmp nat_cmp) q (string_bytes e.0)) (Some e.1)) (find-named q es)
 
@@ -26,7 +27,8 @@ pub get-files_of : {Z : Type 0} (m : tree.BTreeMap (String Z) (List ℕ)) (q : L
 get-files_of m q = map.get-from_entries nat_list_cmp_total (named m.entries) q ∙ find-named q m.entries
 
 -- a change at one name is a change of the files at that name
-pub files_of-update : {Z : Type 0} (m n : tree.BTreeMap (String Z) (List ℕ)) (name bytes : List ℕ) → tree.UpdatesBy string_cmp (λ k. slice_cmp nat_cmp name (string_bytes k)) m n (Some bytes) → files_of n ≡ map.insert (files_of m) name bytes
+pub files_of-update : {Z : Type 0} (m n : tree.BTreeMap (String Z) (List ℕ)) (name bytes : List ℕ) →
+    tree.UpdatesBy string_cmp (λ k. slice_cmp nat_cmp name (string_bytes k)) m n (Some bytes) → files_of n ≡ map.insert (files_of m) name bytes
 files_of-update m n name bytes updates =
     map.same_map nat_list_cmp_total (map.slice_cmp-IsAntisymmetric map.nat_cmp-IsAntisymmetric) _ _ (λ q.
     get-files_of n q
@@ -36,5 +38,6 @@ files_of-update m n name bytes updates =
     ∙ sym (map.get-insert nat_list_cmp_total (files_of m) name bytes q))
 
 -- what a look-up by the bytes of a name found is what is left of that name
-pub get-seen : {Z : Type 0} (m : tree.BTreeMap (String Z) (List ℕ)) (files : LeftByName) (q : List ℕ) (found : Option (List ℕ)) → files_of m ≡ files → found ≡ tree.get_by_text m q → map.get files q ≡ found
+pub get-seen : {Z : Type 0} (m : tree.BTreeMap (String Z) (List ℕ)) (files : LeftByName) (q : List ℕ) (found : Option (List ℕ)) →
+    files_of m ≡ files → found ≡ tree.get_by_text m q → map.get files q ≡ found
 get-seen m files q found seen is = ap (λ f. map.get f q) (sym seen) ∙ get-files_of m q ∙ sym is

@@ -12,7 +12,8 @@ cond_or : (b a : Bool) → cond b true a ≡ (b || a)
 cond_or true a = refl
 cond_or false a = refl
 
-pub from_list-update : (s n : tree.BTreeSet ℕ) (k : ℕ) → tree.Updates nat_cmp s n k true → set.from_list {R = nat_cmp} n.keys ≡ set.insert (set.from_list s.keys) k
+pub from_list-update : (s n : tree.BTreeSet ℕ) (k : ℕ) → tree.Updates nat_cmp s n k true →
+    set.from_list {R = nat_cmp} n.keys ≡ set.insert (set.from_list s.keys) k
 from_list-update s n k updates =
     set.same_set nat_cmp_total set.nat_cmp-IsAntisymmetric _ _ (λ q.
     contains-keys n q ∙ updates.0 q ∙ cond_or (eq_by_cmp nat_cmp k q) (tree.contains nat_cmp s q)

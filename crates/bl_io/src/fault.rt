@@ -1,3 +1,5 @@
+//! Why a call of files or of a sink fails.
+
 // Why a call on a file or a sink gave nothing.
 use std::alloc::{AllocError, AllocFailed};
 use thiserror::Error;

@@ -1,3 +1,5 @@
+//! Files by name, read piece by piece.
+
 // Files that are read from their front, each by its name.
 ghost use Rattle.std.specs.Prelude.{◌≡◌, ℕ, ◌<◌, ◌≤◌, List, Option, length, IfOk, OnErr, IsErrOf};
 ghost use Rattle.bl_io.specs.Count.{Rose, NeverFell};

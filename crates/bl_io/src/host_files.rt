@@ -1,3 +1,5 @@
+//! The system's files.
+
 // The files of the system.
 ghost use Rattle.std.specs.Prelude.{◌≡◌, ℕ, ◌<◌, ◌≤◌, List, Option, None, length, IfOk, IfSome, OnOk, OnErr, IsErrOf};
 ghost use Rattle.bl_io.specs.Count.{Rose, NeverFell, count_up};

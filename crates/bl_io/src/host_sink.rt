@@ -1,3 +1,5 @@
+//! The system's streams.
+
 // A stream of the system.
 ghost use Rattle.std.specs.Prelude.{◌≡◌, ℕ, ◌<◌, ◌≤◌, List, Option, None, length, take, IfOk, IfSome, OnOk, OnErr, IsErrOf, IsOkUnless};
 ghost use Rattle.bl_io.specs.Count.{Rose, count_up};

@@ -1,5 +1,12 @@
-//! Named files and sinks of bytes: two traits, objects over memory that fail where they are told to,
-//! and objects over the files and streams of the system.
+//! Named files and sinks of bytes: the traits `Files` and `Sink`, objects over memory whose calls fail where they are
+//! told to (`MemFiles`, `MemSink`) or never (`SureFiles`, `SureSink`), and the files and streams of the system
+//! (`HostFiles`, `HostSink`).
+//!
+//! `next` hands over a front of the bytes that are left of a file (`specs/Left.antt`), and `write` appends a front of
+//! its piece (`specs/Held.antt`). Both answer Failed only where a count of faults rose (`specs/Count.antt`), and leave
+//! what was there. `read_up_to` and `write_all` say the same of whole texts. Of the objects over memory it is said
+//! which call fails and what each hands over (`specs/Memory.antt`). Of those of the system no byte is told: they
+//! promise their counts alone.
 #![tactic(auto)]
 
 mod fault;

@@ -1,3 +1,5 @@
+//! Files in memory, with calls that fail where a test wants it.
+
 // Files over memory whose calls fail where they are told to.
 ghost use Rattle.std.specs.Prelude.{◌≡◌, ◌<◌, ◌≤◌, ◌++◌, length, take, drop, OnOk, OnErr, IfOk, IsErrOf, ok_or};
 ghost use Rattle.std.specs.FinMap as map;

@@ -1,3 +1,5 @@
+//! A sink in memory, with calls that fail where a test wants it.
+
 // A sink over memory whose calls fail where they are told to.
 ghost use Rattle.std.specs.Prelude.{◌≡◌, ◌<◌, ◌≤◌, ◌↔◌, ◌++◌, Some, min, length, take, OnOk, OnErr, IfOk, IsErrOf, IsTrue};
 ghost use Rattle.bl_io.specs.Count.{Rose};

@@ -1,3 +1,5 @@
+//! Bytes written in pieces.
+
 // Whole files and whole texts, piece by piece.
 ghost use Rattle.std.specs.Prelude.{◌≡◌, ◌<◌, ◌≤◌, length, take, IfOk, OnOk, OnErr, IsErrOf};
 ghost use Rattle.bl_io.specs.Count.{Rose, NeverFell};

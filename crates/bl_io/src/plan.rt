@@ -1,3 +1,5 @@
+//! Which calls of an object in memory are to fail.
+
 // Which calls of an object over memory are to fail, and how many bytes a call may move.
 ghost use Rattle.std.specs.Prelude.{◌≡◌, ◌<◌, ◌≤◌, OnOk, OnErr};
 ghost use Rattle.bl_io.specs.Plan.{no_plan, with_failing, narrowed, fails_next, called, faulted};

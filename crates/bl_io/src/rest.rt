@@ -1,3 +1,5 @@
+//! What is left of a file in memory.
+
 // The bytes of one file over memory, from where it stands.
 ghost use Rattle.std.specs.Prelude.{◌≡◌, ◌++◌, min, length, take, drop};
 

@@ -1,3 +1,5 @@
+//! What takes bytes.
+
 // A place that takes bytes in order.
 ghost use Rattle.std.specs.Prelude.{◌≡◌, ℕ, ◌<◌, ◌≤◌, List, Option, length, take, IfOk, OnErr, IsErrOf};
 ghost use Rattle.bl_io.specs.Count.{Rose};

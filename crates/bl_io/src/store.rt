@@ -1,3 +1,5 @@
+//! What is left of each file in memory, by name.
+
 // Files over memory by name.
 ghost use Rattle.std.specs.Prelude.{◌≡◌, ◌++◌, length, take, drop, OnOk, OnErr, None, option_map, IfSome};
 ghost use Rattle.std.specs.FinMap as map;

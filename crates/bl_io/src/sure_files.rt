@@ -1,3 +1,5 @@
+//! Files in memory that never fail.
+
 // Files over memory that never fail.
 ghost use Rattle.std.specs.Prelude.{◌≡◌, ◌<◌, ◌≤◌, ◌++◌, Ok, Some, None, length, take, drop, OnOk, OnErr, IfOk, IsErrOf, IsSome};
 ghost use Rattle.std.specs.FinMap as map;

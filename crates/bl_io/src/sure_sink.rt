@@ -1,3 +1,5 @@
+//! A sink in memory that never fails.
+
 // A sink over memory that fails only for want of memory.
 ghost use Rattle.std.specs.Prelude.{◌≡◌, ◌<◌, ◌≤◌, ◌++◌, [], Some, length, take, OnOk, OnErr, IfOk, IsErrOf, IsOkUnless};
 ghost use Rattle.bl_io.specs.Count.{Rose};

@@ -1,3 +1,5 @@
+//! Objects in memory whose calls fail.
+
 // Each public call once, with ample memory.
 use super::*;
 use std::fs;

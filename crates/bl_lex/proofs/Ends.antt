@@ -10,11 +10,13 @@ module _ {X : Type 0} where
   snoc_parts [] [] x y e = (refl, cc)
   snoc_parts [] (b ∷ ys) x y e = let h : [] ≡ ys ++ y ∷ [] = cc in absurd (never_empty ys y [] h)
   snoc_parts (a ∷ xs) [] x y e = let h : [] ≡ xs ++ x ∷ [] = cc in absurd (never_empty xs x [] h)
-  snoc_parts (a ∷ xs) (b ∷ ys) x y e = let h : xs ++ x ∷ [] ≡ ys ++ y ∷ [] = cc in let more = snoc_parts xs ys x y h in let first : a ≡ b = cc in let rest : xs ≡ ys = more.0 in (cc, more.1)
+  snoc_parts (a ∷ xs) (b ∷ ys) x y e = let h : xs ++ x ∷ [] ≡ ys ++ y ∷ [] = cc in let more = snoc_parts xs ys x y h in
+      let first : a ≡ b = cc in let rest : xs ≡ ys = more.0 in (cc, more.1)
 
   -- an element of the longer list is the last one, or stands in the list before it
   abbrev pub Where : List X → X → List X → X → List X → Type 0
-  Where xs p before part after = ((after ≡ []) × (xs ≡ before) × (p ≡ part)) ⊎ ((rest : List X) × (after ≡ rest ++ p ∷ []) × (xs ≡ before ++ part ∷ rest))
+  Where xs p before part after = ((after ≡ []) × (xs ≡ before) × (p ≡ part))
+      ⊎ ((rest : List X) × (after ≡ rest ++ p ∷ []) × (xs ≡ before ++ part ∷ rest))
 
   pub where_in : (xs before : List X) (p part : X) (after : List X) → xs ++ p ∷ [] ≡ before ++ part ∷ after → Where xs p before part after
   where_in [] [] p part after e = inl (cc, refl, cc)

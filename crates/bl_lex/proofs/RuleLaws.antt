@@ -1,12 +1,47 @@
--- What covers a text is one list of parts; so the first rule that fails is one, at one place.
-use Rattle.std.proofs.Common.{◌≡◌, ◌≢◌, ℕ, zero, suc, ◌+◌, ◌-◌, ◌<◌, ◌≤◌, Bool, true, false, cond, not, List, [], ◌∷◌, ◌++◌, ◌⊎◌, inl, inr, ⊎_elim, length, get_or, refl, ap, sym, ◌∙◌, subst, arith, add-one}
+-- What covers a text is one list of parts; so each of the first three rules fails at one place, and first where it is found.
+use Rattle.std.proofs.Common.{
+  ◌≡◌,
+  ◌≢◌,
+  ℕ,
+  zero,
+  suc,
+  ◌+◌,
+  ◌-◌,
+  ◌<◌,
+  ◌≤◌,
+  Bool,
+  true,
+  false,
+  cond,
+  not,
+  List,
+  [],
+  ◌∷◌,
+  ◌++◌,
+  ◌⊎◌,
+  inl,
+  inr,
+  ⊎_elim,
+  length,
+  get_or,
+  refl,
+  ap,
+  sym,
+  ◌∙◌,
+  subst,
+  arith,
+  add-one,
+}
 use Rattle.std.proofs.Math.ListN.{get_or-eq_default}
 use Rattle.std.proofs.str.Laws.{order}
 use Rattle.std.specs.Prelude.{Option, Some, None, option_map, slice_range, All}
 use Rattle.std.specs.List.{cons_option}
 use Rattle.bl_tree.specs.declared.token.TokenKind.{TokenKind}
 use Rattle.bl_tree.specs.declared.place.Place.{Place}
+use Rattle.bl_tree.specs.declared.rule.Rule.{Rule}
+use Rattle.bl_tree.specs.declared.rule.Rule.TheVariants as rule
 use Rattle.bl_tree.specs.declared.token.Token.{Token}
+use Rattle.bl_tree.specs.Rules.{AreNoLater, number_of}
 use Rattle.bl_lex.specs.declared.piece.Form.{Form}
 use Rattle.bl_lex.specs.declared.piece.Form.TheVariants.{Outside}
 use Rattle.bl_lex.specs.Spelling.{is_word_byte}
@@ -14,9 +49,9 @@ use Rattle.bl_lex.specs.Spelling.IsNumber.{decimal}
 use Rattle.bl_lex.specs.Pieces.{WordIs, IsPiece, NoPieceAt, kind_of, is_between}
 use Rattle.bl_lex.specs.Pieces.WordIs.{keyword, name, number, outside, octal, fraction}
 use Rattle.bl_lex.specs.Tokens.{Part, place_of, IsLongest, Covers, line_at, tokens_of, without_between, Lexes}
-use Rattle.bl_lex.specs.Rules.{FailsSize, FailsLex, FailsProfile, IsStrayByte, IsUnclosedComment, IsMalformedNumber, IsFault, Fails, FailsFirst, IsNoLater, Passes}
+use Rattle.bl_lex.specs.Rules.{FailsSize, FailsLex, FailsProfile, IsStrayByte, IsUnclosedComment, IsMalformedNumber, IsFault, Fails, FailsFirst, Passes}
 use Rattle.bl_lex.specs.Rules.IsLeftOut.{outside as left_outside}
-use Rattle.bl_lex.specs.Walk.{NoneLeftOut, IsFirstLeftOut}
+use Rattle.bl_lex.specs.inner.Walk.{NoneLeftOut, IsFirstLeftOut}
 use Rattle.bl_lex.proofs.WordLaws.{keyword_begins, outside_begins}
 use Rattle.bl_lex.proofs.PieceLaws.{clash, one_word, one_form, of_slash, of_word, piece_forward, piece_inside}
 
@@ -34,10 +69,13 @@ one_longest text p q at a b =
     same_part p q at ends (one_form text p.start a.piece (subst (λ (e : ℕ). IsPiece text p.start e q.form) (sym ends) q_here))
 
 -- two covers from one place, to where nothing begins, are one
-one_cover : (text : List ℕ) (start : ℕ) (ps qs : List Part) (a b : ℕ) → Covers text start ps a → Covers text start qs b → NoPieceAt text a → NoPieceAt text b → (ps ≡ qs) × (a ≡ b)
+one_cover : (text : List ℕ) (start : ℕ) (ps qs : List Part) (a b : ℕ) → Covers text start ps a → Covers text start qs b →
+    NoPieceAt text a → NoPieceAt text b → (ps ≡ qs) × (a ≡ b)
 one_cover text start [] [] a b p q none_a none_b = (refl, sym p ∙ q)
-one_cover text start [] (q ∷ qs) a b p c none_a none_b = absurd (none_a q.end q.form (subst (λ (s : ℕ). IsPiece text s q.end q.form) (c.0 ∙ p) c.1.piece))
-one_cover text start (p ∷ ps) [] a b c q none_a none_b = absurd (none_b p.end p.form (subst (λ (s : ℕ). IsPiece text s p.end p.form) (c.0 ∙ q) c.1.piece))
+one_cover text start [] (q ∷ qs) a b p c none_a none_b =
+    absurd (none_a q.end q.form (subst (λ (s : ℕ). IsPiece text s q.end q.form) (c.0 ∙ p) c.1.piece))
+one_cover text start (p ∷ ps) [] a b c q none_a none_b =
+    absurd (none_b p.end p.form (subst (λ (s : ℕ). IsPiece text s p.end p.form) (c.0 ∙ q) c.1.piece))
 one_cover text start (p ∷ ps) (q ∷ qs) a b c d none_a none_b =
     let first = one_longest text p q (c.0 ∙ sym d.0) c.1 d.1 in
     let rest = one_cover text p.end ps qs a b c.2 (subst (λ (e : ℕ). Covers text e qs b) (ap (λ (r : Part). r.end) (sym first)) d.2) none_a none_b in
@@ -86,7 +124,9 @@ byte_inside : (text : List ℕ) (at byte : ℕ) → get_or text at 0 ≡ byte �
 byte_inside text at byte is some = ⊎_elim (λ less. less) (λ more. let past = get_or-eq_default text 0 more in absurd (omega arith)) (order at (length text))
 
 pub fault_inside : (text : List ℕ) (place : Place) → IsFault text place → place.start < length text
-fault_inside text place fault = ⊎_elim (λ stray. stray.inside) (⊎_elim (λ unclosed. byte_inside text place.start 47 unclosed.opens.0 (omega arith)) (λ bad. omega (arith, bad.whole_word.nonempty, bad.whole_word.inside))) fault
+fault_inside text place fault = ⊎_elim (λ stray. stray.inside)
+    (⊎_elim (λ unclosed. byte_inside text place.start 47 unclosed.opens.0 (omega arith))
+    (λ bad. omega (arith, bad.whole_word.nonempty, bad.whole_word.inside))) fault
 
 abbrev here : ℕ → ℕ → Place
 here start end = record { start = start; end = end }
@@ -96,55 +136,89 @@ slash_in_no_word b is = rw is refl
 
 module _ (text : List ℕ) (start : ℕ) where
   stray_end : (e f : ℕ) → IsStrayByte text (here start e) → IsFault text (here start f) → e ≡ f
-  stray_end e f a b = ⊎_elim (λ stray. a.one_byte ∙ sym stray.one_byte) (⊎_elim (λ unclosed. absurd (a.no_comment unclosed.opens)) (λ bad. absurd (clash _ (word_begins text (here start f) bad) a.no_word))) b
+  stray_end e f a b = ⊎_elim (λ stray. a.one_byte ∙ sym stray.one_byte)
+      (⊎_elim (λ unclosed. absurd (a.no_comment unclosed.opens)) (λ bad. absurd (clash _ (word_begins text (here start f) bad) a.no_word))) b
 
   unclosed_end : (e f : ℕ) → IsUnclosedComment text (here start e) → IsFault text (here start f) → e ≡ f
-  unclosed_end e f a b = ⊎_elim (λ stray. absurd (stray.no_comment a.opens)) (⊎_elim (λ unclosed. a.two_bytes ∙ sym unclosed.two_bytes) (λ bad. absurd (clash _ (word_begins text (here start f) bad) (slash_in_no_word _ a.opens.0)))) b
+  unclosed_end e f a b = ⊎_elim (λ stray. absurd (stray.no_comment a.opens))
+      (⊎_elim (λ unclosed. a.two_bytes ∙ sym unclosed.two_bytes)
+      (λ bad. absurd (clash _ (word_begins text (here start f) bad) (slash_in_no_word _ a.opens.0)))) b
 
   malformed_end : (e f : ℕ) → IsMalformedNumber text (here start e) → IsFault text (here start f) → e ≡ f
-  malformed_end e f a b = ⊎_elim (λ stray. absurd (clash _ (word_begins text (here start e) a) stray.no_word)) (⊎_elim (λ unclosed. absurd (clash _ (word_begins text (here start e) a) (slash_in_no_word _ unclosed.opens.0))) (λ bad. one_word text start e f a.whole_word bad.whole_word)) b
+  malformed_end e f a b = ⊎_elim (λ stray. absurd (clash _ (word_begins text (here start e) a) stray.no_word))
+      (⊎_elim (λ unclosed. absurd (clash _ (word_begins text (here start e) a) (slash_in_no_word _ unclosed.opens.0)))
+      (λ bad. one_word text start e f a.whole_word bad.whole_word)) b
 
 -- a fault ends at one place
 fault_end : (text : List ℕ) (p q : Place) → IsFault text p → IsFault text q → p.start ≡ q.start → p.end ≡ q.end
 fault_end text p q a b at =
     let b_here : IsFault text (here p.start q.end) = subst (λ (s : ℕ). IsFault text (here s q.end)) (sym at) b in
-    ⊎_elim (λ x. stray_end text p.start p.end q.end x b_here) (⊎_elim (λ x. unclosed_end text p.start p.end q.end x b_here) (λ x. malformed_end text p.start p.end q.end x b_here)) a
+    ⊎_elim (λ x. stray_end text p.start p.end q.end x b_here)
+    (⊎_elim (λ x. unclosed_end text p.start p.end q.end x b_here) (λ x. malformed_end text p.start p.end q.end x b_here)) a
 
 no_size : (text : List ℕ) → length text ≤ 1048576 → (place : Place) → ¬ FailsSize text place
 no_size text short place is = let long = is.too_long in omega arith
 
-same_place_no_later : (p q : Place) → p.start ≡ q.start → p.end ≡ q.end → IsNoLater p q
-same_place_no_later p q s e = inr (s, omega arith)
+-- one place is no later than itself
+no_later : (p q : Place) (further : List Place) → p.start ≡ q.start → p.end ≡ q.end → AreNoLater (p ∷ []) (q ∷ further)
+no_later p q further s e = inr ((λ i. record { start = s i; end = e i }), tt)
 
--- rule 2
+-- Size
 
-pub first_lex : (text : List ℕ) (parts : List Part) (place : Place) → length text ≤ 1048576 → Covers text 0 parts place.start → IsFault text place → FailsFirst text 2 place
+pub first_size : (text : List ℕ) (place : Place) → FailsSize text place → FailsFirst text rule.Size place []
+first_size text place fails = record { fails = (fails, refl); least_rule = least; least_places = places }
+  where
+    least : (other : Rule) (elsewhere : Place) (further : List Place) → Fails text other elsewhere further → 1 ≤ number_of other
+    least rule.Size elsewhere further f = omega arith
+    least rule.Lex elsewhere further f = omega arith
+    least rule.Profile elsewhere further f = omega arith
+    least _ elsewhere further f = absurd f
+
+    places : (elsewhere : Place) (further : List Place) → Fails text rule.Size elsewhere further → AreNoLater (place ∷ []) (elsewhere ∷ further)
+    places elsewhere further f = inr (fails.at ∙ sym f.0.at, tt)
+
+-- Lex
+
+pub first_lex : (text : List ℕ) (parts : List Part) (place : Place) → length text ≤ 1048576 → Covers text 0 parts place.start → IsFault text place
+    → FailsFirst text rule.Lex place []
 first_lex text parts place short covers fault = record {
-  fails = inr (inl (refl, record { parts = parts; covers = covers; fault = fault }));
-  least_rule = λ other elsewhere fails. ⊎_elim (λ f. absurd (no_size text short elsewhere f.1)) (⊎_elim (λ f. omega (arith, f.0)) (λ f. omega (arith, f.0))) fails;
-  least_place = λ elsewhere fails. ⊎_elim (λ f. absurd (omega (arith, f.0))) (⊎_elim
-      (λ f. let start = (one_cover text 0 parts f.1.parts place.start elsewhere.start covers f.1.covers (fault_begins_nothing text place fault) (fault_begins_nothing text elsewhere f.1.fault)).1 in
-      same_place_no_later place elsewhere start (fault_end text place elsewhere fault f.1.fault start))
-      (λ f. absurd (omega (arith, f.0)))) fails;
+  fails = (record { parts = parts; covers = covers; fault = fault }, refl);
+  least_rule = least;
+  least_places = places;
 }
+  where
+    least : (other : Rule) (elsewhere : Place) (further : List Place) → Fails text other elsewhere further → 2 ≤ number_of other
+    least rule.Size elsewhere further f = absurd (no_size text short elsewhere f.0)
+    least rule.Lex elsewhere further f = omega arith
+    least rule.Profile elsewhere further f = omega arith
+    least _ elsewhere further f = absurd f
 
--- a text that parts cover doesn't fail rule 2
+    places : (elsewhere : Place) (further : List Place) → Fails text rule.Lex elsewhere further → AreNoLater (place ∷ []) (elsewhere ∷ further)
+    places elsewhere further f =
+        let start = (one_cover text 0 parts f.0.parts place.start elsewhere.start covers f.0.covers
+        (fault_begins_nothing text place fault) (fault_begins_nothing text elsewhere f.0.fault)).1 in
+        no_later place elsewhere further start (fault_end text place elsewhere fault f.0.fault start)
+
+-- a text that parts cover doesn't fail rule Lex
 no_lex : (text : List ℕ) (parts : List Part) → Covers text 0 parts (length text) → (place : Place) → ¬ FailsLex text place
 no_lex text parts covers place fails =
-    let ends = (one_cover text 0 parts fails.parts (length text) place.start covers fails.covers (nothing_at_end text) (fault_begins_nothing text place fails.fault)).1 in
+    let ends = (one_cover text 0 parts fails.parts (length text) place.start covers fails.covers (nothing_at_end text)
+    (fault_begins_nothing text place fails.fault)).1 in
     let inside = fault_inside text place fails.fault in omega arith
 
--- rule 3
+-- Profile
 
 -- of two elements of a list, they are one, or one stands before the other
-which : {X : Type 0} (xs ys : List X) (x y : X) (us vs : List X) → xs ++ x ∷ us ≡ ys ++ y ∷ vs → ((xs ≡ ys) × (x ≡ y)) ⊎ (((rest : List X) × (xs ≡ ys ++ y ∷ rest)) ⊎ ((rest : List X) × (us ≡ rest ++ y ∷ vs)))
+which : {X : Type 0} (xs ys : List X) (x y : X) (us vs : List X) → xs ++ x ∷ us ≡ ys ++ y ∷ vs →
+    ((xs ≡ ys) × (x ≡ y)) ⊎ (((rest : List X) × (xs ≡ ys ++ y ∷ rest)) ⊎ ((rest : List X) × (us ≡ rest ++ y ∷ vs)))
 which [] [] x y us vs e = inl (refl, cc)
 which [] (b ∷ ys) x y us vs e = inr (inr (ys, cc))
 which (a ∷ xs) [] x y us vs e = inr (inl (xs, (let h : a ≡ y = cc in cc)))
 which (a ∷ xs) (b ∷ ys) x y us vs e =
     let first : a ≡ b = cc in
     let rest : xs ++ x ∷ us ≡ ys ++ y ∷ vs = cc in
-    ⊎_elim (λ s. inl ((λ i. first i ∷ s.0 i), s.1)) (⊎_elim (λ s. inr (inl (s.0, (λ i. first i ∷ s.1 i)))) (λ s. inr (inr s))) (which xs ys x y us vs rest)
+    ⊎_elim (λ s. inl ((λ i. first i ∷ s.0 i), s.1)) (⊎_elim (λ s. inr (inl (s.0, (λ i. first i ∷ s.1 i)))) (λ s. inr (inr s)))
+    (which xs ys x y us vs rest)
 
 -- the parts rise, from a place on
 Ascends : ℕ → List Part → Type 0
@@ -176,51 +250,76 @@ low_before low [] y vs a = a.0
 low_before low (x ∷ xs) y vs a = let h = low_before x.end xs y vs a.2 in omega (arith, a.0, a.1)
 
 -- of two parts that rise, the first begins first
-begins_first : (low : ℕ) (xs : List Part) (x : Part) (rest : List Part) (y : Part) (vs : List Part) → Ascends low (xs ++ x ∷ (rest ++ y ∷ vs)) → x.start < y.start
+begins_first : (low : ℕ) (xs : List Part) (x : Part) (rest : List Part) (y : Part) (vs : List Part) →
+    Ascends low (xs ++ x ∷ (rest ++ y ∷ vs)) → x.start < y.start
 unfolding Ascends
 begins_first low [] x rest y vs a = let h = low_before x.end rest y vs a.2 in omega (arith, a.1)
 begins_first low (z ∷ zs) x rest y vs a = begins_first z.end zs x rest y vs a.2
 
 module _ (text : List ℕ) (short : length text ≤ 1048576) (parts : List Part) (covers : Covers text 0 parts (length text)) where
-  -- the tokens that a failing place of rule 3 has are those of the parts
+  -- the tokens that a failing place of rule Profile has are those of the parts
   same_tokens : (place : Place) (fails : FailsProfile text place) → without_between parts ≡ fails.before ++ fails.part ∷ fails.after
-  same_tokens place fails = ap without_between (one_cover text 0 parts fails.parts (length text) (length text) covers fails.covers (nothing_at_end text) (nothing_at_end text)).0 ∙ fails.stands
+  same_tokens place fails = ap without_between (one_cover text 0 parts fails.parts (length text) (length text) covers fails.covers
+      (nothing_at_end text) (nothing_at_end text)).0 ∙ fails.stands
 
-  no_earlier : (place elsewhere : Place) → IsFirstLeftOut text (without_between parts) place → FailsProfile text elsewhere → IsNoLater place elsewhere
-  no_earlier place elsewhere first fails = ⊎_elim
-      (λ same. same_place_no_later place elsewhere
+  no_earlier : (place elsewhere : Place) (further : List Place) → IsFirstLeftOut text (without_between parts) place → FailsProfile text elsewhere
+      → AreNoLater (place ∷ []) (elsewhere ∷ further)
+  no_earlier place elsewhere further first fails = ⊎_elim
+      (λ same. no_later place elsewhere further
       (ap (λ (p : Place). p.start) first.at ∙ ap (λ (p : Part). p.start) same.1 ∙ sym (ap (λ (p : Place). p.start) fails.at))
       (ap (λ (p : Place). p.end) first.at ∙ ap (λ (p : Part). p.end) same.1 ∙ sym (ap (λ (p : Place). p.end) fails.at)))
       (⊎_elim
       (λ earlier. absurd (first.first fails.before fails.part earlier.0 earlier.1 fails.left_out))
       (λ later.
-      let stands : without_between parts ≡ first.before ++ first.part ∷ (later.0 ++ fails.part ∷ fails.after) = first.stands ∙ ap (λ l. first.before ++ first.part ∷ l) later.1 in
-      let less = begins_first 0 first.before first.part later.0 fails.part fails.after (subst (Ascends 0) stands (tokens_ascend 0 parts (covers_ascend text 0 parts (length text) covers))) in
+      let stands : without_between parts ≡ first.before ++ first.part ∷ (later.0 ++ fails.part ∷ fails.after) =
+      first.stands ∙ ap (λ l. first.before ++ first.part ∷ l) later.1 in
+      let less = begins_first 0 first.before first.part later.0 fails.part fails.after
+      (subst (Ascends 0) stands (tokens_ascend 0 parts (covers_ascend text 0 parts (length text) covers))) in
       let here = ap (λ (p : Place). p.start) first.at in
       let there = ap (λ (p : Place). p.start) fails.at in
-      inl (omega arith)))
+      inl (inl (omega arith))))
       (which first.before fails.before first.part fails.part first.after fails.after (sym first.stands ∙ same_tokens elsewhere fails))
 
-  pub first_profile : (place : Place) → IsFirstLeftOut text (without_between parts) place → FailsFirst text 3 place
+  pub first_profile : (place : Place) → IsFirstLeftOut text (without_between parts) place → FailsFirst text rule.Profile place []
   first_profile place first = record {
-    fails = inr (inr (refl, record { parts = parts; covers = covers; before = first.before; part = first.part; after = first.after; stands = first.stands; left_out = first.left_out; at = first.at }));
-    least_rule = λ other elsewhere fails. ⊎_elim (λ f. absurd (no_size text short elsewhere f.1)) (⊎_elim (λ f. absurd (no_lex text parts covers elsewhere f.1)) (λ f. omega (arith, f.0))) fails;
-    least_place = λ elsewhere fails. ⊎_elim (λ f. absurd (omega (arith, f.0))) (⊎_elim (λ f. absurd (omega (arith, f.0))) (λ f. no_earlier place elsewhere first f.1)) fails;
+    fails = (
+      record {
+        parts = parts;
+        covers = covers;
+        before = first.before;
+        part = first.part;
+        after = first.after;
+        stands = first.stands;
+        left_out = first.left_out;
+        at = first.at;
+      },
+      refl,
+    );
+    least_rule = least;
+    least_places = λ elsewhere further f. no_earlier place elsewhere further first f.0;
   }
+    where
+      least : (other : Rule) (elsewhere : Place) (further : List Place) → Fails text other elsewhere further → 3 ≤ number_of other
+      least rule.Size elsewhere further f = absurd (no_size text short elsewhere f.0)
+      least rule.Lex elsewhere further f = absurd (no_lex text parts covers elsewhere f.0)
+      least rule.Profile elsewhere further f = omega arith
+      least _ elsewhere further f = absurd f
 
   pub passes : NoneLeftOut text (without_between parts) → Passes text
-  passes none rule place fails = ⊎_elim
-      (λ f. no_size text short place f.1)
-      (⊎_elim (λ f. no_lex text parts covers place f.1) (λ f. none f.1.before f.1.part f.1.after (same_tokens place f.1) f.1.left_out))
-      fails
+  passes none rule.Size place also f = no_size text short place f.0
+  passes none rule.Lex place also f = no_lex text parts covers place f.0
+  passes none rule.Profile place also f = none f.0.before f.0.part f.0.after (same_tokens place f.0) f.0.left_out
+  passes none _ place also f = f
 
 -- a part that isn't white space or a comment stands among the tokens
-stands_in : (parts : List Part) (k : ℕ) (d : Part) → k < length parts → is_between (get_or parts k d).form ≡ false → (before : List Part) × ((after : List Part) × (without_between parts ≡ before ++ get_or parts k d ∷ after))
+stands_in : (parts : List Part) (k : ℕ) (d : Part) → k < length parts → is_between (get_or parts k d).form ≡ false →
+    (before : List Part) × ((after : List Part) × (without_between parts ≡ before ++ get_or parts k d ∷ after))
 stands_in [] k d inside token = absurd (omega arith)
 stands_in (p ∷ ps) zero d inside token = ([], (without_between ps, rw token refl))
 stands_in (p ∷ ps) (suc k) d inside token = by_form (not (is_between p.form)) (stands_in ps k d (omega arith) token)
   where
-    by_form : (b : Bool) → ((before : List Part) × ((after : List Part) × (without_between ps ≡ before ++ get_or ps k d ∷ after))) → (before : List Part) × ((after : List Part) × (cond b (p ∷ without_between ps) (without_between ps) ≡ before ++ get_or ps k d ∷ after))
+    by_form : (b : Bool) → ((before : List Part) × ((after : List Part) × (without_between ps ≡ before ++ get_or ps k d ∷ after))) →
+        (before : List Part) × ((after : List Part) × (cond b (p ∷ without_between ps) (without_between ps) ≡ before ++ get_or ps k d ∷ after))
     by_form true h = (p ∷ h.0, (h.1.0, ap (λ l. p ∷ l) h.1.1))
     by_form false h = h
 
@@ -228,18 +327,6 @@ pub each_has_a_kind : (text : List ℕ) (parts : List Part) → NoneLeftOut text
 each_has_a_kind text parts none k d inside is =
     let h = stands_in parts k d inside (ap is_between is) in
     none h.0 (get_or parts k d) h.1.0 h.1.1 (left_outside is)
-
-pub one_failure : (text : List ℕ) (rule other : ℕ) (place elsewhere : Place) → FailsFirst text rule place → FailsFirst text other elsewhere → (rule ≡ other) × (place ≡ elsewhere)
-one_failure text rule other place elsewhere a b =
-    let less = a.least_rule other elsewhere b.fails in
-    let more = b.least_rule rule place a.fails in
-    let rules : rule ≡ other = omega arith in
-    let before = a.least_place elsewhere (subst (λ (n : ℕ). Fails text n elsewhere) (sym rules) b.fails) in
-    let after = b.least_place place (subst (λ (n : ℕ). Fails text n place) rules a.fails) in
-    (rules, same_place place elsewhere before after)
-  where
-    same_place : (p q : Place) → IsNoLater p q → IsNoLater q p → p ≡ q
-    same_place p q before after = let start : p.start ≡ q.start = omega arith in let end : p.end ≡ q.end = omega arith in λ i. record { start = start i; end = end i }
 
 -- tokens that stand one after the other in a text of this length
 ArePlaced : ℕ → ℕ → List Token → Type 0
@@ -251,23 +338,28 @@ unfolding ArePlaced
 placed_from size low more [] less a = tt
 placed_from size low more (t ∷ ts) less a = (omega (arith, a.0), a.1, a.2, a.3)
 
-tokens_placed : (text : List ℕ) (start : ℕ) (parts : List Part) (end : ℕ) → Covers text start parts end → ArePlaced (length text) start (tokens_of text parts)
+tokens_placed : (text : List ℕ) (start : ℕ) (parts : List Part) (end : ℕ) → Covers text start parts end →
+    ArePlaced (length text) start (tokens_of text parts)
 unfolding ArePlaced
 tokens_placed text start [] end c = tt
 tokens_placed text start (p ∷ ps) end c = by_kind (kind_of p.form) (tokens_placed text p.end ps end c.2)
   where
     by_kind : (kind : Option TokenKind) → ArePlaced (length text) p.end (tokens_of text ps)
-        → ArePlaced (length text) start (cons_option (option_map (λ k. record { kind = k; place = place_of p; line = line_at text p.start }) kind) (tokens_of text ps))
+        → ArePlaced (length text) start (cons_option (option_map
+        (λ k. record { kind = k; place = place_of p; line = line_at text p.start }) kind) (tokens_of text ps))
     by_kind (Some kind) rest = (omega (arith, c.0), piece_forward text p.start c.1.piece, piece_inside text p.start c.1.piece, rest)
-    by_kind None rest = let forward = piece_forward text p.start c.1.piece in placed_from (length text) start p.end (tokens_of text ps) (omega (arith, c.0)) rest
+    by_kind None rest = let forward = piece_forward text p.start c.1.piece in
+        placed_from (length text) start p.end (tokens_of text ps) (omega (arith, c.0)) rest
 
-placed_at : (size low : ℕ) (ts : List Token) (k : ℕ) (d : Token) → ArePlaced size low ts → k < length ts → (low ≤ (get_or ts k d).place.start) × ((get_or ts k d).place.start < (get_or ts k d).place.end) × ((get_or ts k d).place.end ≤ size)
+placed_at : (size low : ℕ) (ts : List Token) (k : ℕ) (d : Token) → ArePlaced size low ts → k < length ts →
+    (low ≤ (get_or ts k d).place.start) × ((get_or ts k d).place.start < (get_or ts k d).place.end) × ((get_or ts k d).place.end ≤ size)
 unfolding ArePlaced
 placed_at size low [] k d a inside = absurd (omega arith)
 placed_at size low (t ∷ ts) zero d a inside = (a.0, a.1, a.2)
 placed_at size low (t ∷ ts) (suc k) d a inside = let h = placed_at size t.place.end ts k d a.3 (omega arith) in (omega (arith, h.0, a.0, a.1), h.1, h.2)
 
-placed_in_order : (size low : ℕ) (ts : List Token) (k : ℕ) (d : Token) → ArePlaced size low ts → suc k < length ts → (get_or ts k d).place.end ≤ (get_or ts (suc k) d).place.start
+placed_in_order : (size low : ℕ) (ts : List Token) (k : ℕ) (d : Token) → ArePlaced size low ts → suc k < length ts →
+    (get_or ts k d).place.end ≤ (get_or ts (suc k) d).place.start
 unfolding ArePlaced
 placed_in_order size low [] k d a inside = absurd (omega arith)
 placed_in_order size low (t ∷ ts) zero d a inside = (placed_at size t.place.end ts zero d a.3 (omega arith)).0
@@ -276,8 +368,10 @@ placed_in_order size low (t ∷ ts) (suc k) d a inside = placed_in_order size t.
 lexed_placed : (text : List ℕ) (tokens : List Token) → Lexes text tokens → ArePlaced (length text) 0 tokens
 lexed_placed text tokens is = rw is.are_tokens (tokens_placed text 0 is.parts (length text) is.covers)
 
-pub tokens_inside : (text : List ℕ) (tokens : List Token) → Lexes text tokens → (k : ℕ) (d : Token) → k < length tokens → ((get_or tokens k d).place.start < (get_or tokens k d).place.end) × ((get_or tokens k d).place.end ≤ length text)
+pub tokens_inside : (text : List ℕ) (tokens : List Token) → Lexes text tokens → (k : ℕ) (d : Token) → k < length tokens →
+    ((get_or tokens k d).place.start < (get_or tokens k d).place.end) × ((get_or tokens k d).place.end ≤ length text)
 tokens_inside text tokens is k d inside = let h = placed_at (length text) 0 tokens k d (lexed_placed text tokens is) inside in (h.1, h.2)
 
-pub tokens_in_order : (text : List ℕ) (tokens : List Token) → Lexes text tokens → (k : ℕ) (d : Token) → k + 1 < length tokens → (get_or tokens k d).place.end ≤ (get_or tokens (k + 1) d).place.start
+pub tokens_in_order : (text : List ℕ) (tokens : List Token) → Lexes text tokens → (k : ℕ) (d : Token) → k + 1 < length tokens →
+    (get_or tokens k d).place.end ≤ (get_or tokens (k + 1) d).place.start
 tokens_in_order text tokens is k d inside = rw add-one (placed_in_order (length text) 0 tokens k d (lexed_placed text tokens is) (omega arith))

@@ -20,7 +20,8 @@ all_begin_as_signs = refl
 
 -- the only bytes that are signs by themselves
 abbrev pub is_one_byte : ℕ → Bool
-is_one_byte a = a == 40 || a == 41 || a == 91 || a == 93 || a == 44 || a == 46 || a == 58 || a == 61 || a == 60 || a == 62 || a == 43 || a == 45 || a == 42 || a == 47 || a == 37 || a == 38 || a == 124 || a == 94 || a == 126 || a == 64 || a == 123 || a == 125
+is_one_byte a = a == 40 || a == 41 || a == 91 || a == 93 || a == 44 || a == 46 || a == 58 || a == 61 || a == 60 || a == 62
+    || a == 43 || a == 45 || a == 42 || a == 47 || a == 37 || a == 38 || a == 124 || a == 94 || a == 126 || a == 64 || a == 123 || a == 125
 
 -- the only pairs of bytes that are signs
 abbrev pub is_two_bytes : ℕ → ℕ → Bool

@@ -1,5 +1,31 @@
 -- One part more, in the walk over a text.
-use Rattle.std.proofs.Common.{◌≡◌, ◌≢◌, ℕ, ◌+◌, ◌-◌, ◌≤◌, Bool, true, false, List, [], ◌∷◌, ◌++◌, inl, inr, ⊎_elim, take, refl, ap, sym, ◌∙◌, subst, arith, append_assoc, take-add}
+use Rattle.std.proofs.Common.{
+  ◌≡◌,
+  ◌≢◌,
+  ℕ,
+  ◌+◌,
+  ◌-◌,
+  ◌≤◌,
+  Bool,
+  true,
+  false,
+  List,
+  [],
+  ◌∷◌,
+  ◌++◌,
+  inl,
+  inr,
+  ⊎_elim,
+  take,
+  refl,
+  ap,
+  sym,
+  ◌∙◌,
+  subst,
+  arith,
+  append_assoc,
+  take-add,
+}
 use Rattle.std.proofs.lemmas.List.{append-nil}
 use Rattle.std.proofs.lemmas.List.Sums.{sum_by-append}
 use Rattle.std.proofs.lemmas.List.Elements.{filter-append, filter_map-append}
@@ -16,7 +42,19 @@ use Rattle.bl_lex.specs.Pieces.{is_between, line_feed}
 use Rattle.bl_lex.specs.Tokens.{Part, place_of, IsLongest, Covers, line_at, token_of, tokens_of, without_between}
 use Rattle.bl_lex.specs.Rules.{IsLeftOut}
 use Rattle.bl_lex.specs.Rules.IsLeftOut.{outside, open_brace, close_brace, attribute}
-use Rattle.bl_lex.specs.Walk.{EndsAt, EndsAtBracket, IsBefore, NextBefore, IsLeftOutAfter, NoneLeftOut, IsFirstLeftOut, IsLeftOutPlace, IsScanned, earlier, token_with}
+use Rattle.bl_lex.specs.inner.Walk.{
+  EndsAt,
+  EndsAtBracket,
+  IsBefore,
+  NextBefore,
+  IsLeftOutAfter,
+  NoneLeftOut,
+  IsFirstLeftOut,
+  IsLeftOutPlace,
+  IsScanned,
+  earlier,
+  token_with,
+}
 use Rattle.bl_lex.proofs.Ends.{never_empty, snoc_parts, where_in}
 use Rattle.bl_lex.proofs.PieceLaws.{piece_forward}
 
@@ -28,7 +66,8 @@ last_at tokens part ends = let e = (snoc_parts tokens ends.front part ends.at en
 
 last_two : (tokens : List Part) (part : Part) → EndsAtBracket (tokens ++ part ∷ []) → EndsAt tokens × (part.form ≡ Token (Sign 2))
 last_two tokens part ends =
-    let e = snoc_parts tokens (ends.front ++ ends.at ∷ []) part ends.bracket (ends.stands ∙ sym (append_assoc ends.front (ends.at ∷ []) (ends.bracket ∷ []))) in
+    let e = snoc_parts tokens (ends.front ++ ends.at ∷ []) part ends.bracket
+    (ends.stands ∙ sym (append_assoc ends.front (ends.at ∷ []) (ends.bracket ∷ []))) in
     (record { front = ends.front; at = ends.at; stands = e.0; is_at = ends.is_at }, ap (λ (p : Part). p.form) e.1 ∙ ends.is_bracket)
 
 at_no_bracket : ◌≡◌ {A = Form} (Token (Sign 25)) (Token (Sign 2)) → ⊥
@@ -37,11 +76,20 @@ at_no_bracket e = let n : ◌≡◌ {A = ℕ} 25 2 = cc in omega arith
 -- tokens that end in `@` don't end in `@ [`
 not_both_ends : (tokens : List Part) → EndsAt tokens → EndsAtBracket tokens → ⊥
 not_both_ends tokens a b =
-    let e = last_two a.front a.at (record { front = b.front; at = b.at; bracket = b.bracket; stands = sym a.stands ∙ b.stands; is_at = b.is_at; is_bracket = b.is_bracket }) in
+    let e = last_two a.front a.at (record {
+      front = b.front;
+      at = b.at;
+      bracket = b.bracket;
+      stands =
+          sym a.stands ∙ b.stands;
+      is_at = b.is_at;
+      is_bracket = b.is_bracket;
+    }) in
     at_no_bracket (sym a.is_at ∙ e.1)
 
 -- `[` after no `@`
-pub next_bracket : (before : Before) (tokens : List Part) (part : Part) → part.form ≡ Token (Sign 2) → before ≢ At → IsBefore before tokens → IsBefore Other (tokens ++ without_between (part ∷ []))
+pub next_bracket : (before : Before) (tokens : List Part) (part : Part) → part.form ≡ Token (Sign 2) → before ≢ At →
+    IsBefore before tokens → IsBefore Other (tokens ++ without_between (part ∷ []))
 next_bracket before tokens part is no_at ends = let token : is_between part.form ≡ false = ap is_between is in rw token (
   λ a. at_no_bracket (sym (last_at tokens part a) ∙ is),
   λ b. no_at_before before no_at ends (last_two tokens part b).0,
@@ -59,25 +107,42 @@ bracket_before Other tokens is ends = absurd (is.1 ends)
 bracket_before At tokens is ends = absurd (not_both_ends tokens is ends)
 bracket_before AtBracket tokens is ends = refl
 
-left_out_after : (text : List ℕ) (before : Before) (tokens : List Part) (part : Part) → IsBefore before tokens → IsLeftOut text tokens part → IsLeftOutAfter before part.form (slice_range text part.start part.end)
+left_out_after : (text : List ℕ) (before : Before) (tokens : List Part) (part : Part) → IsBefore before tokens →
+    IsLeftOut text tokens part → IsLeftOutAfter before part.form (slice_range text part.start part.end)
 left_out_after text before tokens part ends (outside e) = inl e
 left_out_after text before tokens part ends (open_brace e) = inr (inl e)
 left_out_after text before tokens part ends (close_brace e) = inr (inr (inl e))
 left_out_after text before tokens part ends (attribute front at bracket stands is_at is_bracket is_name differs) =
-    inr (inr (inr (bracket_before before tokens ends (record { front = front; at = at; bracket = bracket; stands = stands; is_at = is_at; is_bracket = is_bracket }), is_name, differs)))
+    inr (inr (inr (
+      bracket_before before tokens ends (record {
+        front = front;
+        at = at;
+        bracket = bracket;
+        stands = stands;
+        is_at =
+            is_at;
+        is_bracket = is_bracket;
+      }),
+      is_name,
+      differs,
+    )))
 
-left_out_by : (text : List ℕ) (before : Before) (tokens : List Part) (part : Part) → IsBefore before tokens → IsLeftOutAfter before part.form (slice_range text part.start part.end) → IsLeftOut text tokens part
+left_out_by : (text : List ℕ) (before : Before) (tokens : List Part) (part : Part) → IsBefore before tokens →
+    IsLeftOutAfter before part.form (slice_range text part.start part.end) → IsLeftOut text tokens part
 left_out_by text before tokens part ends is = ⊎_elim (λ e. outside e) (⊎_elim (λ e. open_brace e) (⊎_elim (λ e. close_brace e)
-    (λ a. let b : EndsAtBracket tokens = subst (λ (x : Before). IsBefore x tokens) a.0 ends in attribute b.front b.at b.bracket b.stands b.is_at b.is_bracket a.1 a.2))) is
+    (λ a. let b : EndsAtBracket tokens = subst (λ (x : Before). IsBefore x tokens) a.0 ends in
+    attribute b.front b.at b.bracket b.stands b.is_at b.is_bracket a.1 a.2))) is
 
-none_push : (text : List ℕ) (tokens : List Part) (part : Part) → NoneLeftOut text tokens → ¬ IsLeftOut text tokens part → NoneLeftOut text (tokens ++ part ∷ [])
+none_push : (text : List ℕ) (tokens : List Part) (part : Part) → NoneLeftOut text tokens → ¬ IsLeftOut text tokens part →
+    NoneLeftOut text (tokens ++ part ∷ [])
 none_push text tokens part none kept before p after stands left_out =
     ⊎_elim
     (λ l. kept (subst (λ (q : Part). IsLeftOut text tokens q) (sym l.2) (subst (λ (ts : List Part). IsLeftOut text ts p) (sym l.1) left_out)))
     (λ r. none before p r.0 r.2 left_out)
     (where_in tokens before part p after stands)
 
-first_push : (text : List ℕ) (tokens : List Part) (part : Part) (place : Place) → IsFirstLeftOut text tokens place → IsFirstLeftOut text (tokens ++ part ∷ []) place
+first_push : (text : List ℕ) (tokens : List Part) (part : Part) (place : Place) → IsFirstLeftOut text tokens place →
+    IsFirstLeftOut text (tokens ++ part ∷ []) place
 first_push text tokens part place is = record {
   before = is.before;
   part = is.part;
@@ -89,7 +154,9 @@ first_push text tokens part place is = record {
 }
 
 -- one token more
-left_out_push : (text : List ℕ) (before : Before) (tokens : List Part) (part : Part) (found : Option Place) (left_out : Bool) → IsBefore before tokens → (IsTrue left_out ↔ IsLeftOutAfter before part.form (slice_range text part.start part.end)) → IsLeftOutPlace text tokens found → IsLeftOutPlace text (tokens ++ part ∷ []) (earlier found left_out (place_of part))
+left_out_push : (text : List ℕ) (before : Before) (tokens : List Part) (part : Part) (found : Option Place) (left_out : Bool) →
+    IsBefore before tokens → (IsTrue left_out ↔ IsLeftOutAfter before part.form (slice_range text part.start part.end)) →
+    IsLeftOutPlace text tokens found → IsLeftOutPlace text (tokens ++ part ∷ []) (earlier found left_out (place_of part))
 left_out_push text before tokens part (Some place) left_out ends is was = first_push text tokens part place was
 left_out_push text before tokens part None true ends is was = record {
   before = tokens;
@@ -100,7 +167,8 @@ left_out_push text before tokens part None true ends is was = record {
   at = refl;
   first = was;
 }
-left_out_push text before tokens part None false ends is was = none_push text tokens part was (λ l. let t : IsTrue false = is.1 (left_out_after text before tokens part ends l) in cc)
+left_out_push text before tokens part None false ends is was =
+    none_push text tokens part was (λ l. let t : IsTrue false = is.1 (left_out_after text before tokens part ends l) in cc)
 
 -- white space and comments are left in
 between_left_in : (before : Before) (form : Form) (bytes : List ℕ) → is_between form ≡ true → ¬ IsLeftOutAfter before form bytes
@@ -116,16 +184,24 @@ earlier_kept None true other not_out = absurd (not_out refl)
 earlier_kept None false other not_out = refl
 
 -- one part more
-pub left_out_next : (text : List ℕ) (before : Before) (tokens : List Part) (part : Part) (found : Option Place) (left_out : Bool) → IsBefore before tokens → (IsTrue left_out ↔ IsLeftOutAfter before part.form (slice_range text part.start part.end)) → IsLeftOutPlace text tokens found → IsLeftOutPlace text (tokens ++ without_between (part ∷ [])) (earlier found left_out (place_of part))
+pub left_out_next : (text : List ℕ) (before : Before) (tokens : List Part) (part : Part) (found : Option Place) (left_out : Bool) →
+    IsBefore before tokens → (IsTrue left_out ↔ IsLeftOutAfter before part.form (slice_range text part.start part.end)) →
+    IsLeftOutPlace text tokens found → IsLeftOutPlace text (tokens ++ without_between (part ∷ [])) (earlier found left_out (place_of part))
 left_out_next text before tokens part found left_out ends is was = by_form (is_between part.form) refl
   where
-    by_form : (b : Bool) → is_between part.form ≡ b → IsLeftOutPlace text (tokens ++ without_between (part ∷ [])) (earlier found left_out (place_of part))
-    by_form true between = rw (between, append-nil tokens, earlier_kept found left_out (place_of part) (λ t. between_left_in before part.form (slice_range text part.start part.end) between (is.0 t))) was
+    by_form : (b : Bool) → is_between part.form ≡ b → IsLeftOutPlace text (tokens ++ without_between (part ∷ []))
+        (earlier found left_out (place_of part))
+    by_form true between = rw (
+      between,
+      append-nil tokens,
+      earlier_kept found left_out (place_of part) (λ t. between_left_in before part.form (slice_range text part.start part.end) between (is.0 t)),
+    ) was
     by_form false token = rw token (left_out_push text before tokens part found left_out ends is was)
 
 -- the parts and what covers them
 
-pub Covers-push : (text : List ℕ) (start : ℕ) (parts : List Part) (middle : ℕ) (part : Part) → Covers text start parts middle → part.start ≡ middle → IsLongest text part → Covers text start (parts ++ part ∷ []) part.end
+pub Covers-push : (text : List ℕ) (start : ℕ) (parts : List Part) (middle : ℕ) (part : Part) → Covers text start parts middle →
+    part.start ≡ middle → IsLongest text part → Covers text start (parts ++ part ∷ []) part.end
 Covers-push text start [] middle part covers at longest = (at ∙ sym covers, longest, refl)
 Covers-push text start (p ∷ ps) middle part covers at longest = (covers.0, covers.1, Covers-push text p.end ps middle part covers.2 at longest)
 
@@ -133,17 +209,22 @@ list_of_option : {X : Type 0} (o : Option X) → cons_option o [] ≡ option_to_
 list_of_option None = refl
 list_of_option (Some x) = refl
 
-tokens-push : (text : List ℕ) (parts : List Part) (part : Part) → tokens_of text (parts ++ part ∷ []) ≡ tokens_of text parts ++ token_with part.form (place_of part) (line_at text part.start)
-tokens-push text parts part = filter_map-append (token_of text) parts (part ∷ []) ∙ ap (λ ts. tokens_of text parts ++ ts) (list_of_option (token_of text part))
+tokens-push : (text : List ℕ) (parts : List Part) (part : Part) →
+    tokens_of text (parts ++ part ∷ []) ≡ tokens_of text parts ++ token_with part.form (place_of part) (line_at text part.start)
+tokens-push text parts part = filter_map-append (token_of text) parts (part ∷ [])
+    ∙ ap (λ ts. tokens_of text parts ++ ts) (list_of_option (token_of text part))
 
-line-push : (text : List ℕ) (start end : ℕ) → start ≤ end → line_at text start + count_by (λ byte. byte == line_feed) (slice_range text start end) ≡ line_at text end
+line-push : (text : List ℕ) (start end : ℕ) → start ≤ end →
+    line_at text start + count_by (λ byte. byte == line_feed) (slice_range text start end) ≡ line_at text end
 line-push text start end forward =
     let whole : start + (end - start) ≡ end = omega arith in
     let count = λ (bytes : List ℕ). count_by (λ byte. byte == line_feed) bytes in
-    sym (sum_by-append _ (take start text) (slice_range text start end)) ∙ ap count (sym (take-add start (end - start) text)) ∙ ap (λ n. count (take n text)) whole
+    sym (sum_by-append _ (take start text) (slice_range text start end)) ∙ ap count (sym (take-add start (end - start) text))
+    ∙ ap (λ n. count (take n text)) whole
 
 -- nothing is scanned yet
-pub scanned_start : (text : List ℕ) (scan : Scan) → scan.tokens.items ≡ [] → scan.line ≡ 0 → scan.before ≡ Other → scan.left_out ≡ None → IsScanned text 0 scan
+pub scanned_start : (text : List ℕ) (scan : Scan) → scan.tokens.items ≡ [] → scan.line ≡ 0 → scan.before ≡ Other →
+    scan.left_out ≡ None → IsScanned text 0 scan
 scanned_start text scan tokens line before left_out = record {
   parts = [];
   covers = refl;
@@ -169,9 +250,13 @@ module _ (text : List ℕ) (start end : ℕ) (form : Form) (scan next : Scan) (l
   scanned_next is longest tokens line before out found = record {
     parts = is.parts ++ part ∷ [];
     covers = Covers-push text 0 is.parts start part is.covers refl longest;
-    tokens = tokens ∙ ap (λ ts. ts ++ token_with form (place_of part) scan.line) is.tokens ∙ ap (λ n. tokens_of text is.parts ++ token_with form (place_of part) n) is.line ∙ sym (tokens-push text is.parts part);
-    line = line ∙ ap (λ n. n + count_by (λ byte. byte == line_feed) (slice_range text start end)) is.line ∙ line-push text start end (let forward = piece_forward _ _ longest.piece in omega arith);
-    before = subst (λ (ts : List Part). IsBefore next.before ts) (sym (filter-append _ is.parts (part ∷ []))) (before (without_between is.parts) part refl is.before);
+    tokens = tokens ∙ ap (λ ts. ts ++ token_with form (place_of part) scan.line) is.tokens
+        ∙ ap (λ n. tokens_of text is.parts ++ token_with form (place_of part) n) is.line ∙ sym (tokens-push text is.parts part);
+    line = line ∙ ap (λ n. n + count_by (λ byte. byte == line_feed) (slice_range text start end)) is.line
+        ∙ line-push text start end (let forward = piece_forward _ _ longest.piece in omega arith);
+    before = subst (λ (ts : List Part). IsBefore next.before ts) (sym (filter-append _ is.parts (part ∷ [])))
+        (before (without_between is.parts) part refl is.before);
     left_out = let here = left_out_next text scan.before (without_between is.parts) part scan.left_out left_out is.before out is.left_out in
-        subst (λ (ts : List Part). IsLeftOutPlace text ts next.left_out) (sym (filter-append _ is.parts (part ∷ []))) (subst (λ (o : Option Place). IsLeftOutPlace text (without_between is.parts ++ without_between (part ∷ [])) o) (sym found) here);
+        subst (λ (ts : List Part). IsLeftOutPlace text ts next.left_out) (sym (filter-append _ is.parts (part ∷ [])))
+        (subst (λ (o : Option Place). IsLeftOutPlace text (without_between is.parts ++ without_between (part ∷ [])) o) (sym found) here);
   }

@@ -1,5 +1,30 @@
 -- A word is one thing: the lists of reserved words have each word once, and no word spells two numbers.
-use Rattle.std.proofs.Common.{◌≡◌, ℕ, zero, suc, ◌<◌, ◌≤◌, Bool, true, false, not, ◌&&◌, ◌||◌, List, [], ◌∷◌, ◌⊎◌, inl, inr, ⊎_elim, get_or, refl, ap, subst, arith}
+use Rattle.std.proofs.Common.{
+  ◌≡◌,
+  ℕ,
+  zero,
+  suc,
+  ◌<◌,
+  ◌≤◌,
+  Bool,
+  true,
+  false,
+  not,
+  ◌&&◌,
+  ◌||◌,
+  List,
+  [],
+  ◌∷◌,
+  ◌⊎◌,
+  inl,
+  inr,
+  ⊎_elim,
+  get_or,
+  refl,
+  ap,
+  subst,
+  arith,
+}
 use Rattle.std.proofs.lemmas.Bool.Decides.{nat_tests}
 use Rattle.std.proofs.lemmas.Slice.Eq.{bytes_eq-Decides}
 use Rattle.std.specs.Prelude.{slice_get, Some}
@@ -33,8 +58,12 @@ once : (xs : List (List ℕ)) (k j : ℕ) (w : List ℕ) → distinct xs ≡ tru
 unfolding distinct
 once [] k j w all a b = cc
 once (x ∷ xs) zero zero w all a b = refl
-once (x ∷ xs) zero (suc j) w all a b = let e : w ≡ x = cc in let absent = (both_true (list_any (bytes_eq x) xs) (distinct xs) all).0 in let present = subst (λ (v : List ℕ). list_any (bytes_eq v) xs ≡ true) e (found xs j w b) in cc
-once (x ∷ xs) (suc k) zero w all a b = let e : w ≡ x = cc in let absent = (both_true (list_any (bytes_eq x) xs) (distinct xs) all).0 in let present = subst (λ (v : List ℕ). list_any (bytes_eq v) xs ≡ true) e (found xs k w a) in cc
+once (x ∷ xs) zero (suc j) w all a b = let e : w ≡ x = cc in let absent =
+    (both_true (list_any (bytes_eq x) xs) (distinct xs) all).0 in let present =
+    subst (λ (v : List ℕ). list_any (bytes_eq v) xs ≡ true) e (found xs j w b) in cc
+once (x ∷ xs) (suc k) zero w all a b = let e : w ≡ x = cc in let absent =
+    (both_true (list_any (bytes_eq x) xs) (distinct xs) all).0 in let present =
+    subst (λ (v : List ℕ). list_any (bytes_eq v) xs ≡ true) e (found xs k w a) in cc
 once (x ∷ xs) (suc k) (suc j) w all a b = ap suc (once xs k j w (both_true (list_any (bytes_eq x) xs) (distinct xs) all).1 a b)
 
 keywords_distinct : distinct keywords ≡ true
@@ -111,17 +140,21 @@ not_marked mark digits e great is = let small = not_decimal-mark mark digits (su
 -- a word spells one number
 pub one_number : {w : List ℕ} {n m : ℕ} → IsNumber w n → IsNumber w m → n ≡ m
 one_number {w} a b = ⊎_elim
-    (λ d. ⊎_elim (λ e. cc) (⊎_elim (λ h. absurd (not_marked 120 h.0 h.1 (omega arith) d.0)) (λ h. absurd (not_marked 98 h.0 h.1 (omega arith) d.0))) (number_cases b))
+    (λ d. ⊎_elim (λ e. cc) (⊎_elim (λ h. absurd (not_marked 120 h.0 h.1 (omega arith) d.0))
+    (λ h. absurd (not_marked 98 h.0 h.1 (omega arith) d.0))) (number_cases b))
     (⊎_elim
-    (λ g. ⊎_elim (λ d. absurd (not_marked 120 g.0 g.1 (omega arith) d.0)) (⊎_elim (λ h. let e : g.0 ≡ h.0 = cc in cc) (λ h. absurd (two_marks g.1 h.1))) (number_cases b))
-    (λ g. ⊎_elim (λ d. absurd (not_marked 98 g.0 g.1 (omega arith) d.0)) (⊎_elim (λ h. absurd (two_marks h.1 g.1)) (λ h. let e : g.0 ≡ h.0 = cc in cc)) (number_cases b)))
+    (λ g. ⊎_elim (λ d. absurd (not_marked 120 g.0 g.1 (omega arith) d.0))
+    (⊎_elim (λ h. let e : g.0 ≡ h.0 = cc in cc) (λ h. absurd (two_marks g.1 h.1))) (number_cases b))
+    (λ g. ⊎_elim (λ d. absurd (not_marked 98 g.0 g.1 (omega arith) d.0))
+    (⊎_elim (λ h. absurd (two_marks h.1 g.1)) (λ h. let e : g.0 ≡ h.0 = cc in cc)) (number_cases b)))
     (number_cases a)
   where
     two_marks : {g h : List ℕ} → w ≡ 48 ∷ 120 ∷ g → w ≡ 48 ∷ 98 ∷ h → ⊥
     two_marks a b = let e : ◌≡◌ {A = ℕ} 120 98 = cc in omega arith
 
 pub number_not_octal : {w : List ℕ} {n : ℕ} → IsNumber w n → ¬ IsOctal w
-number_not_octal {w} a b = ⊎_elim (λ d. not_marked 111 b.0 b.1 (omega arith) d.0) (⊎_elim (λ h. two_marks 120 h.1 b.1 (inr (omega arith))) (λ h. two_marks 98 h.1 b.1 (inl (omega arith)))) (number_cases a)
+number_not_octal {w} a b = ⊎_elim (λ d. not_marked 111 b.0 b.1 (omega arith) d.0)
+    (⊎_elim (λ h. two_marks 120 h.1 b.1 (inr (omega arith))) (λ h. two_marks 98 h.1 b.1 (inl (omega arith)))) (number_cases a)
   where
     two_marks : (mark : ℕ) {g h : List ℕ} → w ≡ 48 ∷ mark ∷ g → w ≡ 48 ∷ 111 ∷ h → (mark < 111) ⊎ (111 < mark) → ⊥
     two_marks mark a b other = let e : ◌≡◌ {A = ℕ} mark 111 = cc in omega arith

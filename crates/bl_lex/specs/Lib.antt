@@ -2,5 +2,4 @@ pub mod Spelling
 pub mod Pieces
 pub mod Tokens
 pub mod Rules
-pub mod Steps
-pub mod Walk
+pub mod inner

@@ -1,5 +1,26 @@
 -- The pieces that a text is made of: white space, comments and tokens.
-use Rattle.std.specs.Prelude.{◌≡◌, ◌≢◌, ℕ, ◌+◌, ◌-◌, ◌^◌, ◌<◌, ◌≤◌, min, true, false, List, length, slice_index, slice_get, slice_range, Option, Some, None, Bool}
+use Rattle.std.specs.Prelude.{
+  ◌≡◌,
+  ◌≢◌,
+  ℕ,
+  ◌+◌,
+  ◌-◌,
+  ◌^◌,
+  ◌<◌,
+  ◌≤◌,
+  min,
+  true,
+  false,
+  List,
+  length,
+  slice_index,
+  slice_get,
+  slice_range,
+  Option,
+  Some,
+  None,
+  Bool,
+}
 use Rattle.std.specs.Char.{is_ascii_digit}
 use Rattle.bl_tree.specs.declared.token.TokenKind.{TokenKind}
 use Rattle.bl_tree.specs.declared.token.TokenKind.TheVariants.{Name, Number, Word, Sign}
@@ -62,9 +83,11 @@ pub record IsWord (text : List ℕ) (start end : ℕ) : Type 0 where
 -- what a word is that ends here: a keyword, a name, a number, or what the profile leaves out
 pub data WordIs (text : List ℕ) (end : ℕ) (word : List ℕ) : Form → Type 0 where
   keyword : {k : ℕ} → slice_get keywords k ≡ Some word → WordIs text end word (Token (Word k))
-  name : begins_with_digit word ≡ false → ((k : ℕ) → slice_get keywords k ≢ Some word) → ((k : ℕ) → slice_get words_outside k ≢ Some word) → WordIs text end word (Token Name)
+  name : begins_with_digit word ≡ false → ((k : ℕ) → slice_get keywords k ≢ Some word) →
+      ((k : ℕ) → slice_get words_outside k ≢ Some word) → WordIs text end word (Token Name)
   -- a greater number than 2^64 is kept as 2^64
-  number : {n kept : ℕ} → IsNumber word n → (IsDigits 10 word → ¬ FractionAt text end) → kept ≡ min n (2 ^ 64) → WordIs text end word (Token (Number kept))
+  number : {n kept : ℕ} → IsNumber word n → (IsDigits 10 word → ¬ FractionAt text end) → kept ≡ min n (2 ^ 64) →
+      WordIs text end word (Token (Number kept))
   outside : (k : ℕ) → slice_get words_outside k ≡ Some word → WordIs text end word Outside
   octal : IsOctal word → WordIs text end word Outside
   fraction : IsDigits 10 word → FractionAt text end → WordIs text end word Outside

@@ -1,9 +1,28 @@
--- How a text fails the rules Size, Lex and Profile, which are the rules 1 to 3, and at which place.
-use Rattle.std.specs.Prelude.{◌≡◌, ◌≢◌, ℕ, ◌+◌, ◌<◌, ◌≤◌, ◌⊎◌, true, false, List, [], ◌∷◌, ◌++◌, length, slice_index, slice_range, codes, ⊤}
+-- How a text fails the rules Size, Lex and Profile, and at which place.
+use Rattle.std.specs.Prelude.{
+  ◌≡◌,
+  ◌≢◌,
+  ℕ,
+  ◌+◌,
+  ◌<◌,
+  ◌≤◌,
+  ◌⊎◌,
+  true,
+  false,
+  List,
+  [],
+  ◌∷◌,
+  ◌++◌,
+  length,
+  slice_index,
+  slice_range,
+  codes,
+}
 use Rattle.bl_tree.specs.declared.place.Place.{Place}
-use Rattle.bl_tree.specs.declared.place.Refusal.{Refusal}
-use Rattle.bl_tree.specs.declared.place.Refusal.TheVariants.{Rule, NoMemory}
+use Rattle.bl_tree.specs.declared.rule.Rule.{Rule}
+use Rattle.bl_tree.specs.declared.rule.Rule.TheVariants as rule
 use Rattle.bl_tree.specs.declared.token.TokenKind.TheVariants.{Name, Sign}
+use Rattle.bl_tree.specs.Rules.{FailsFirst as FirstOf, Passes as NoneOf}
 use Rattle.bl_lex.specs.declared.piece.Form.TheVariants.{Token, Outside}
 use Rattle.bl_lex.specs.declared.sign.TheConstants.{OPEN_BRACKET, AT, OPEN_BRACE, CLOSE_BRACE}
 use Rattle.bl_lex.specs.Spelling.{is_word_byte, begins_with_digit, IsNumber, IsOctal}
@@ -52,8 +71,9 @@ pub data IsLeftOut (text : List ℕ) (before : List Part) (part : Part) : Type 0
   outside : part.form ≡ Outside → IsLeftOut text before part
   open_brace : part.form ≡ Token (Sign OPEN_BRACE) → IsLeftOut text before part
   close_brace : part.form ≡ Token (Sign CLOSE_BRACE) → IsLeftOut text before part
-  attribute : (front : List Part) (at bracket : Part) → before ≡ front ++ (at ∷ bracket ∷ []) → at.form ≡ Token (Sign AT) → bracket.form ≡ Token (Sign OPEN_BRACKET)
-      → part.form ≡ Token Name → slice_range text part.start part.end ≢ codes "EntryPoint" → IsLeftOut text before part
+  attribute : (front : List Part) (at bracket : Part) → before ≡ front ++ (at ∷ bracket ∷ []) → at.form ≡ Token (Sign AT)
+      → bracket.form ≡ Token (Sign OPEN_BRACKET) → part.form ≡ Token Name →
+      slice_range text part.start part.end ≢ codes "EntryPoint" → IsLeftOut text before part
 
 -- Profile: pieces cover the whole text, and the profile leaves out the token at this place
 pub record FailsProfile (text : List ℕ) (place : Place) : Type 0 where
@@ -66,25 +86,19 @@ pub record FailsProfile (text : List ℕ) (place : Place) : Type 0 where
   pub left_out : IsLeftOut text before part
   pub at : place ≡ place_of part
 
--- the rule of this number fails at this place
-abbrev pub Fails : List ℕ → ℕ → Place → Type 0
-Fails text number place = ((number ≡ 1) × FailsSize text place) ⊎ (((number ≡ 2) × FailsLex text place) ⊎ ((number ≡ 3) × FailsProfile text place))
+-- ---- the rules by name
 
--- a place is no later than another: by their starts, and then by their ends
-abbrev pub IsNoLater : Place → Place → Type 0
-IsNoLater one other = (one.start < other.start) ⊎ ((one.start ≡ other.start) × (one.end ≤ other.end))
+-- the rule fails at this place, and its line names no further one; the others aren't judged here
+abbrev pub Fails : List ℕ → Rule → Place → List Place → Type 0
+Fails text rule.Size place also = FailsSize text place × (also ≡ [])
+Fails text rule.Lex place also = FailsLex text place × (also ≡ [])
+Fails text rule.Profile place also = FailsProfile text place × (also ≡ [])
+Fails text _ place also = ⊥
 
--- the rule fails at the place, no lesser rule fails, and this rule fails at no earlier place
-pub record FailsFirst (text : List ℕ) (number : ℕ) (place : Place) : Type 0 where
-  pub fails : Fails text number place
-  pub least_rule : (other : ℕ) (elsewhere : Place) → Fails text other elsewhere → number ≤ other
-  pub least_place : (elsewhere : Place) → Fails text number elsewhere → IsNoLater place elsewhere
+-- it is the first of the three that fails
+abbrev pub FailsFirst : List ℕ → Rule → Place → List Place → Type 0
+FailsFirst text = FirstOf (Fails text)
 
--- none of the three rules fails
+-- none of the three fails
 abbrev pub Passes : List ℕ → Type 0
-Passes text = (number : ℕ) (place : Place) → ¬ Fails text number place
-
--- the refusal names the first rule that fails, with its place and no further one; want of memory has no cause in the text
-abbrev pub IsRefusalOf : List ℕ → Refusal → Type 0
-IsRefusalOf text (Rule number place also) = FailsFirst text number place × (also ≡ [])
-IsRefusalOf text NoMemory = ⊤
+Passes text = NoneOf (Fails text)

@@ -1,8 +1,9 @@
 //! Laws of tokens and of the rules on them, each the contract of a function that does nothing.
 
-ghost use Rattle.std.specs.Prelude.{◌≡◌, ℕ, ◌<◌, ◌≤◌, true, List, length, slice_range, All};
+ghost use Rattle.std.specs.Prelude.{◌≡◌, ℕ, ◌<◌, ◌≤◌, true, List, ◌∷◌, length, slice_range, All};
 ghost use Rattle.std.specs.List.{AllAdjacentBelow};
 ghost use Rattle.bl_tree.specs.declared.place.Place.{Place};
+ghost use Rattle.bl_tree.specs.declared.rule.Rule.{Rule};
 ghost use Rattle.bl_tree.specs.declared.token.Token.{Token};
 ghost use Rattle.bl_tree.specs.declared.token.TokenKind.{TokenKind};
 ghost use Rattle.bl_tree.specs.Words.{is_name};
@@ -28,9 +29,10 @@ pub fn names_are_names()
         → All (λ token. token.kind ≡ TokenKind.Name → is_name (slice_range text token.place.start token.place.end) ≡ true) tokens }
 {}
 
-/// A text fails first at one rule and one place, or at none.
+/// A text fails first by one rule and at one place, or by none.
 pub fn first_failure_is_one()
-    ensures one { (text : List ℕ) (number other : ℕ) (place elsewhere : Place)
-        → FailsFirst text number place → FailsFirst text other elsewhere → (number ≡ other) × (place ≡ elsewhere) }
-    ensures none { (text : List ℕ) (number : ℕ) (place : Place) → Passes text → ¬ FailsFirst text number place }
+    ensures one { (text : List ℕ) (rule other : Rule) (place elsewhere : Place) (also further : List Place)
+        → FailsFirst text rule place also → FailsFirst text other elsewhere further
+        → (rule ≡ other) × ((place ∷ also) ≡ (elsewhere ∷ further)) }
+    ensures none { (text : List ℕ) (rule : Rule) (place : Place) (also : List Place) → Passes text → ¬ FailsFirst text rule place also }
 {}

@@ -2,7 +2,7 @@
 
 ghost use Rattle.std.specs.Prelude.{◌≡◌, ◌^◌, ◌≤◌, ◌∷◌, min, MatchOption};
 ghost use Rattle.bl_lex.specs.Spelling.{IsDigits, digits_value};
-ghost use Rattle.bl_lex.specs.Steps.{IsNumeral, IsNoNumeral};
+ghost use Rattle.bl_lex.specs.inner.Steps.{IsNumeral, IsNoNumeral};
 
 /// What a greater number is kept as: no type's range has it.
 pub const GREATEST_KEPT: u128 = 1 << 64;

@@ -5,7 +5,7 @@ ghost use Rattle.bl_tree.specs.declared.place.Place.{Place};
 ghost use Rattle.bl_lex.specs.Spelling.{signs, is_blank, is_word_byte, begins_with_digit};
 ghost use Rattle.bl_lex.specs.Pieces.{slash, star, line_feed, OpensComment, ClosesComment, FractionAt, IsLineComment, IsBlockComment, IsWord, WordIs, IsSign};
 ghost use Rattle.bl_lex.specs.Rules.{IsStrayByte, IsUnclosedComment, IsMalformedNumber, IsFault};
-ghost use Rattle.bl_lex.specs.Steps.{IsNumeral, IsWordPiece, IsLongestSign, IsLongestAt};
+ghost use Rattle.bl_lex.specs.inner.Steps.{IsNumeral, IsWordPiece, IsLongestSign, IsLongestAt};
 
 use crate::number::{Numeral, numeral_of};
 use crate::reserved::{Meaning, meaning_of};

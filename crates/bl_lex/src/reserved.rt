@@ -1,7 +1,7 @@
 //! The words that aren't names.
 
 ghost use Rattle.std.specs.Prelude.{◌≢◌, All, MatchOption, length};
-ghost use Rattle.bl_lex.specs.Steps.{IsMeaningOf, IsUnreserved, AreReservedOf};
+ghost use Rattle.bl_lex.specs.inner.Steps.{IsMeaningOf, IsUnreserved, AreReservedOf};
 
 use crate::word;
 

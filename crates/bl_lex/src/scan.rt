@@ -4,14 +4,15 @@ ghost use Rattle.std.specs.Prelude.{◌≡◌, ℕ, ◌≤◌, ◌==◌, ◌↔�
 ghost use Rattle.bl_lex.specs.declared.sign.TheConstants.{OPEN_BRACKET};
 ghost use Rattle.bl_lex.specs.Pieces.{line_feed};
 ghost use Rattle.bl_lex.specs.Tokens.{Part, Lexes};
-ghost use Rattle.bl_lex.specs.Rules.{Passes, IsRefusalOf};
-ghost use Rattle.bl_lex.specs.Steps.{IsLongestAt};
-ghost use Rattle.bl_lex.specs.Walk.{IsBefore, IsLeftOutAfter, IsScanned, NextBefore, earlier, token_with};
+ghost use Rattle.bl_tree.specs.Rules.{IsCause};
+ghost use Rattle.bl_lex.specs.Rules.{Fails, Passes};
+ghost use Rattle.bl_lex.specs.inner.Steps.{IsLongestAt};
+ghost use Rattle.bl_lex.specs.inner.Walk.{IsBefore, IsLeftOutAfter, IsScanned, NextBefore, earlier, token_with};
 
 use crate::piece::{Form, Piece, piece_at, place_between};
 use crate::sign;
 use bl_tree::token::{Token, TokenKind};
-use bl_tree::{List, Place, Refusal};
+use bl_tree::{List, Place, Refusal, Rule};
 use std::alloc::{AllocError, Global};
 
 /// The most bytes that a text may have.
@@ -22,17 +23,17 @@ const MOST_BYTES: usize = 1_048_576;
 pub fn lex(alloc: Global, text: &[u8]) -> Result<Vec<Token>, Refusal>
     ensures tokens { IfOk result (λ tokens. Lexes text.now tokens.items) }
     ensures passes { OnOk result (Passes text.now) }
-    ensures refusal { IfErr result (IsRefusalOf text.now) }
+    ensures refusal { IfErr result (IsCause (Fails text.now)) }
 {
     if text.len() > MOST_BYTES {
-        return Err(failed(alloc, 1, place_between(MOST_BYTES, MOST_BYTES + 1)));
+        return Err(failed(alloc, Rule::Size, place_between(MOST_BYTES, MOST_BYTES + 1)));
     }
     let mut scan = Scan::new(alloc);
     let mut at: usize = 0;
     while at < text.len() {
         let piece = match piece_at(text, at) {
             Ok(piece) => piece,
-            Err(place) => return Err(failed(alloc, 2, place)),
+            Err(place) => return Err(failed(alloc, Rule::Lex, place)),
         };
         if scan.take(text, at, piece).is_err() {
             return Err(Refusal::NoMemory);
@@ -42,11 +43,11 @@ pub fn lex(alloc: Global, text: &[u8]) -> Result<Vec<Token>, Refusal>
     scan.finish(alloc)
 }
 
-fn failed(alloc: Global, number: u8, place: Place) -> Refusal
-    ensures { result ≡ Refusal.Rule number place [] }
+fn failed(alloc: Global, rule: Rule, place: Place) -> Refusal
+    ensures { result ≡ Refusal.Rule rule place [] }
 {
     Refusal::Rule {
-        number,
+        rule,
         place,
         also: List::new(alloc),
     }
@@ -101,10 +102,10 @@ impl Scan {
 
     fn finish(self, alloc: Global) -> Result<Vec<Token>, Refusal>
         ensures { (text : List ℕ) → length text ≤ 1048576 → IsScanned text (length text) self
-            → MatchResult result (λ tokens. Lexes text tokens.items × Passes text) (IsRefusalOf text) }
+            → MatchResult result (λ tokens. Lexes text tokens.items × Passes text) (IsCause (Fails text)) }
     {
         match self.left_out {
-            Some(place) => Err(failed(alloc, 3, place)),
+            Some(place) => Err(failed(alloc, Rule::Profile, place)),
             None => Ok(self.tokens),
         }
     }

@@ -1,5 +1,29 @@
 -- What is declared in an open scope has a lesser position than what is declared next.
-use Rattle.std.proofs.Common.{◌≡◌, ℕ, ◌<◌, ◌≤◌, true, false, cond, List, [], ◌∷◌, ◌++◌, inl, inr, ⊎_elim, ◌⊎◌, Option, Some, None, refl, ap, subst, ◌∙◌, arith}
+use Rattle.std.proofs.Common.{
+  ◌≡◌,
+  ℕ,
+  ◌<◌,
+  ◌≤◌,
+  true,
+  false,
+  cond,
+  List,
+  [],
+  ◌∷◌,
+  ◌++◌,
+  inl,
+  inr,
+  ⊎_elim,
+  ◌⊎◌,
+  Option,
+  Some,
+  None,
+  refl,
+  ap,
+  subst,
+  ◌∙◌,
+  arith,
+}
 use Rattle.std.specs.Prelude.{bytes_eq, ⊤}
 use Rattle.std.specs.Option.{option_or}
 use Rattle.bl_scopes.specs.declared.kind.Kind.{Kind}
@@ -68,7 +92,8 @@ Grown old new = (kind : Kind) → count_of old kind ≤ count_of new kind
 
 declaration_grown : (old new : Counts) (declaration : Declaration) → Grown old new → DeclarationBelow old declaration → DeclarationBelow new declaration
 declaration_grown old new declaration grown below =
-    ⊎_elim (λ is. inl is) (λ less. let le : count_of old declaration.kind ≤ count_of new declaration.kind = grown declaration.kind in inr (omega arith)) below
+    ⊎_elim (λ is. inl is) (λ less. let le : count_of old declaration.kind ≤ count_of new declaration.kind =
+    grown declaration.kind in inr (omega arith)) below
 
 pub scope_grown : (old new : Counts) (scope : Declared) → Grown old new → ScopeBelow old scope → ScopeBelow new scope
 scope_grown old new [] grown below = tt
@@ -85,7 +110,8 @@ below_append counts (entry ∷ first) second one two = (one.0, below_append coun
 pub declared_below : (counts : Counts) (earlier : Option Declaration) (scope : Declared) (name : Name) (kind : Kind) (position : ℕ) →
     ScopeBelow counts scope → DeclarationBelow counts (declaration_of name kind position) → ScopeBelow counts (declared earlier scope name kind position)
 declared_below counts (Some d) scope name kind position below one = below
-declared_below counts None scope name kind position below one = below_append counts scope ((name.text, declaration_of name kind position) ∷ []) below (one, tt)
+declared_below counts None scope name kind position below one =
+    below_append counts scope ((name.text, declaration_of name kind position) ∷ []) below (one, tt)
 
 pub declare_below : (scopes : Scopes) (name : Name) (kind : Kind) → Grown scopes.counts (counted scopes.counts kind) →
     DeclarationBelow (counted scopes.counts kind) (declaration_of name kind (count_of scopes.counts kind)) → Below scopes

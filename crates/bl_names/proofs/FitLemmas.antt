@@ -42,7 +42,8 @@ pub fits_behind : (scopes : Scopes) (first second : Marks) → Still first → F
 fits_behind scopes first second still fits = subst (λ s. Fits s second) (still scopes) (fits_second scopes first second fits)
 
 module _ (items : List RawItem) (passes : Passes items) where
-  stands_at : (before : Marks) (mark : Mark) (rest : Marks) → marks_of items ≡ before ++ (mark ∷ rest) → Stands (marks_of items) mark (after file_scope before)
+  stands_at : (before : Marks) (mark : Mark) (rest : Marks) → marks_of items ≡ before ++ (mark ∷ rest) →
+      Stands (marks_of items) mark (after file_scope before)
   stands_at before mark rest there = record { before = before; rest = rest; there = there; are_open = refl }
 
   use_fits : (before : Marks) (name : Name) (wanted : Wanted) (rest : Marks) → marks_of items ≡ before ++ (uses name wanted ∷ rest)

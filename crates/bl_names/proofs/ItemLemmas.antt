@@ -1,5 +1,24 @@
 -- What is made behind structs, units and the items of a program.
-use Rattle.std.proofs.Common.{◌≡◌, ℕ, ◌+◌, ◌<◌, List, [], ◌∷◌, ◌++◌, map, drop, length, get_or, refl, sym, ap, ◌∙◌, append-nil, append_assoc}
+use Rattle.std.proofs.Common.{
+  ◌≡◌,
+  ℕ,
+  ◌+◌,
+  ◌<◌,
+  List,
+  [],
+  ◌∷◌,
+  ◌++◌,
+  map,
+  drop,
+  length,
+  get_or,
+  refl,
+  sym,
+  ap,
+  ◌∙◌,
+  append-nil,
+  append_assoc,
+}
 use Rattle.std.specs.Prelude.{Option, Some, option_map}
 use Rattle.bl_tree.specs.declared.tree.Role.{Role}
 use Rattle.bl_tree.specs.declared.tree.Role.TheVariants as role
@@ -9,7 +28,23 @@ use Rattle.bl_named.specs.declared.item.NamedVar.{NamedVar}
 use Rattle.bl_named.specs.declared.stmt.NamedStmt.{NamedStmt}
 use Rattle.bl_named.specs.declared.types.NamedType.{NamedType}
 use Rattle.bl_scopes.specs.declared.kind.Kind.TheVariants as kind
-use Rattle.bl_scopes.specs.Marks.{closes, declares, field_mark, field_type_marks, in_scope, inside_unit, item_marks, kind_of_unit, marks_of, optional, param_marks, stmt_marks, struct_marks, type_marks, unit_marks}
+use Rattle.bl_scopes.specs.Marks.{
+  closes,
+  declares,
+  field_mark,
+  field_type_marks,
+  in_scope,
+  inside_unit,
+  item_marks,
+  kind_of_unit,
+  marks_of,
+  optional,
+  param_marks,
+  stmt_marks,
+  struct_marks,
+  type_marks,
+  unit_marks,
+}
 use Rattle.bl_scopes.specs.Scopes.{Scopes, after, enter, left}
 use Rattle.bl_raw.specs.declared.item.RawField.{RawField}
 use Rattle.bl_raw.specs.declared.item.RawItem.{RawItem}
@@ -21,7 +56,7 @@ use Rattle.bl_raw.specs.declared.stmt.RawStmt.{RawStmt}
 use Rattle.bl_names.specs.declared.state.State.{State}
 use Rattle.bl_names.specs.Named.{along, block_piece, inside_piece, named_var, opened, param_piece, params_piece, role_piece, unit_inside}
 use Rattle.bl_names.specs.Naming.{named_type}
-use Rattle.bl_names.specs.Past.{past, with_unit, with_variable}
+use Rattle.bl_names.specs.inner.Past.{past, with_unit, with_variable}
 use Rattle.bl_scopes.proofs.WalkLemmas.{next_of}
 use Rattle.bl_names.proofs.PastLemmas.{enter-behind, past-followed}
 use Rattle.bl_names.proofs.PieceLemmas.{block_marks, role_marks}
@@ -91,7 +126,8 @@ inside_made state two new def body name vars inputs outputs result made same par
       entry = def.entry;
       kind = def.kind;
       name = name_is i;
-      vars = (vars_are ∙ ap (λ s. s.vars) (inside_past state two new def body same params h) ∙ ap (λ l. l ++ (inside_piece def).vars state.scopes) none) i;
+      vars = (vars_are ∙ ap (λ s. s.vars) (inside_past state two new def body same params h)
+          ∙ ap (λ l. l ++ (inside_piece def).vars state.scopes) none) i;
       inputs = inputs_are i;
       outputs = outputs_are i;
       result = (result_is ∙ ap (λ s. option_map (named_type s.scopes) def.result) params) i;
@@ -124,10 +160,12 @@ unit_scopes scopes inner def is =
     ∙ ap (λ s. enter s (declares def.name (kind_of_unit def.kind))) (sym (after-append (opened scopes) (inside_unit def) (closes ∷ [])))
     ∙ sym (after-append scopes (in_scope (inside_unit def)) (declares def.name (kind_of_unit def.kind) ∷ []))
 
-pub unit_past : (state inner : State) (begun closed ended : Scopes) (units : List NamedUnit) (named : NamedUnit) (def : RawUnit) → begun ≡ opened state.scopes →
+pub unit_past : (state inner : State) (begun closed ended : Scopes) (units : List NamedUnit) (named : NamedUnit) (def : RawUnit) →
+    begun ≡ opened state.scopes →
     inner ≡ record (past (record state { scopes = begun }) (inside_piece def)) { vars = [] } → named ≡ unit_inside begun def
     → units ≡ inner.units ++ (named ∷ []) →
-    closed ≡ enter inner.scopes closes → ended ≡ enter closed (declares def.name (kind_of_unit def.kind)) → record inner { scopes = ended; units = units }
+    closed ≡ enter inner.scopes closes → ended ≡ enter closed (declares def.name (kind_of_unit def.kind)) →
+    record inner { scopes = ended; units = units }
     ≡ with_unit state def
 unit_past state inner begun closed ended units named def begun_is inner_is named_is units_are closed_is ended_is =
     let inside : inner ≡ record (past (record state { scopes = opened state.scopes }) (inside_piece def)) { vars = [] } =
@@ -141,7 +179,8 @@ unit_past state inner begun closed ended units named def begun_is inner_is named
 
 -- ---- items
 
-pub along-next : {A : Type 0} (gives : Scopes → RawItem → List A) (xs : List RawItem) (k : ℕ) (x : RawItem) (scopes new : Scopes) (old more found : List A)
+pub along-next : {A : Type 0} (gives : Scopes → RawItem → List A) (xs : List RawItem) (k : ℕ) (x : RawItem) (scopes new : Scopes)
+    (old more found : List A)
     → k < length xs → x ≡ get_or xs k x →
     new ≡ after scopes (item_marks x) → more ≡ old ++ gives scopes x → old ++ along gives scopes (drop k xs) ≡ found
     → more ++ along gives new (drop (k + 1) xs) ≡ found

@@ -23,12 +23,55 @@ use Rattle.bl_raw.specs.declared.stmt.RawPath.{RawPath}
 use Rattle.bl_raw.specs.declared.stmt.RawStmt.{RawStmt}
 use Rattle.bl_raw.specs.declared.stmt.RawStmtKind.{RawStmtKind, out-RawStmtKind}
 use Rattle.bl_raw.specs.declared.stmt.RawStmtKind.TheOpen.{RawStmtKind-F}
-use Rattle.bl_raw.specs.declared.stmt.RawStmtKind.TheVariants.{Assign, Await, Call, If, Let, Return, Run, Until, Var, When, While, outs-Assign, outs-Await, outs-Call, outs-If, outs-Let, outs-Return, outs-Run, outs-Until, outs-Var, outs-When, outs-While}
+use Rattle.bl_raw.specs.declared.stmt.RawStmtKind.TheVariants.{
+  Assign,
+  Await,
+  Call,
+  If,
+  Let,
+  Return,
+  Run,
+  Until,
+  Var,
+  When,
+  While,
+  outs-Assign,
+  outs-Await,
+  outs-Call,
+  outs-If,
+  outs-Let,
+  outs-Return,
+  outs-Run,
+  outs-Until,
+  outs-Var,
+  outs-When,
+  outs-While,
+}
 use Rattle.bl_raw.specs.declared.types.RawType.{RawType}
 use Rattle.bl_names.specs.declared.state.State.{State}
-use Rattle.bl_names.specs.Named.{Piece, arm_piece, arms_piece, block_piece, branch_piece, constant_piece, declaring, kind_piece, made_of_all, marks_of_all, named_constant, named_var, opened, own_scope, piece_of_arm, piece_of_kind, scoped, stmt_layer_piece, stmt_piece}
+use Rattle.bl_names.specs.Named.{
+  Piece,
+  arm_piece,
+  arms_piece,
+  block_piece,
+  branch_piece,
+  constant_piece,
+  declaring,
+  kind_piece,
+  made_of_all,
+  marks_of_all,
+  named_constant,
+  named_var,
+  opened,
+  own_scope,
+  piece_of_arm,
+  piece_of_kind,
+  scoped,
+  stmt_layer_piece,
+  stmt_piece,
+}
 use Rattle.bl_names.specs.Naming.{named_expr}
-use Rattle.bl_names.specs.Past.{past, with_constant, with_variable}
+use Rattle.bl_names.specs.inner.Past.{past, with_constant, with_variable}
 use Rattle.bl_names.proofs.PastLemmas.{enter-behind, past-before, past-behind, past-followed, past-plain}
 use Rattle.bl_names.proofs.PieceLemmas.{kind_at, parts}
 use Rattle.bl_names.proofs.StillLemmas.{Still, still_append, still_arguments, still_expr, still_optional, still_target, still_use, still_value}
@@ -68,7 +111,8 @@ constant_past state new constant h =
 
 -- ---- statements that declare nothing
 
-pub assign_past : (state : State) (kind : RawStmtKind) (target : RawTarget) (e : RawExpr) → kind ≡ Assign target e → state ≡ past state (piece_of_kind kind)
+pub assign_past : (state : State) (kind : RawStmtKind) (target : RawTarget) (e : RawExpr) → kind ≡ Assign target e →
+    state ≡ past state (piece_of_kind kind)
 assign_past state kind target e is =
     past-plain state (kind_piece (parts (RawStmtKind-F.Assign target e)))
     (still_append (target_marks target wanted.Variable) (expr_marks e) (still_target target wanted.Variable) (still_expr e)) refl refl
@@ -111,7 +155,8 @@ if_past state middle new kind arms seen other rest is same same_rest one two =
     ∙ past-followed state (arms_piece arms) (own_scope (block_piece other))
     ∙ ap (past state) (sym (kind_at kind (RawStmtKind-F.If arms other) (ap out-RawStmtKind is ∙ outs-If arms other)))
 
-pub when_past : (state new : State) (kind : RawStmtKind) (guard : Guard) (e : RawExpr) (body seen : List RawStmt) → kind ≡ When guard e body → seen ≡ body →
+pub when_past : (state new : State) (kind : RawStmtKind) (guard : Guard) (e : RawExpr) (body seen : List RawStmt) →
+    kind ≡ When guard e body → seen ≡ body →
     new ≡ past state (own_scope (block_piece seen)) → new ≡ past state (piece_of_kind kind)
 when_past state new kind guard e body seen is same h =
     h ∙ ap (λ body. past state (own_scope (block_piece body))) same
@@ -165,7 +210,8 @@ arm_past state new arm seen same h =
     ∙ ap (past state) (sym (arm_out arm))
 
 pub arm_made : (scopes : Scopes) (arm : RawArm) (seen : List RawStmt) (test : NamedExpr) (made : List NamedStmt) → seen ≡ (out-RawArm arm).body →
-    test ≡ named_expr scopes (out-RawArm arm).test → made ≡ (own_scope (block_piece seen)).made scopes → roll-NamedArm (record { test = test; body = made })
+    test ≡ named_expr scopes (out-RawArm arm).test → made ≡ (own_scope (block_piece seen)).made scopes →
+    roll-NamedArm (record { test = test; body = made })
     ≡ (piece_of_arm arm).made scopes
 arm_made scopes arm seen test made same test_is made_is =
     (λ i. roll-NamedArm (record { test = test_is i; body = made_is i }))

@@ -1,5 +1,24 @@
 -- What is made behind one part and then another.
-use Rattle.std.proofs.Common.{◌≡◌, ℕ, ◌+◌, ◌<◌, List, [], ◌∷◌, ◌++◌, map, drop, length, get_or, sym, ap, ◌∙◌, append_assoc, append-nil, arith}
+use Rattle.std.proofs.Common.{
+  ◌≡◌,
+  ℕ,
+  ◌+◌,
+  ◌<◌,
+  List,
+  [],
+  ◌∷◌,
+  ◌++◌,
+  map,
+  drop,
+  length,
+  get_or,
+  sym,
+  ap,
+  ◌∙◌,
+  append_assoc,
+  append-nil,
+  arith,
+}
 use Rattle.std.proofs.lemmas.List.{length-append}
 use Rattle.std.specs.Prelude.{Result, Ok, Err, OnOk}
 use Rattle.bl_named.specs.declared.stmt.NamedStmt.{NamedStmt}
@@ -10,7 +29,7 @@ use Rattle.bl_scopes.proofs.WalkLemmas.{next_of}
 use Rattle.bl_raw.specs.declared.name.Name.{Name}
 use Rattle.bl_names.specs.declared.state.State.{State}
 use Rattle.bl_names.specs.Named.{Piece, all, constants_of_all, followed, marks_of_all, none, opened, own_scope, scoped, vars_of_all}
-use Rattle.bl_names.specs.Past.{past}
+use Rattle.bl_names.specs.inner.Past.{past}
 use Rattle.bl_names.proofs.StillLemmas.{Still, after-append}
 
 -- counts behind one part and then another
@@ -29,7 +48,8 @@ sure P (Ok x) h = h
 sure P (Err e) h = tt
 
 -- one part and then another
-pub past-followed : {A B : Type 0} (state : State) (first : Piece A) (second : Piece B) → past (past state first) second ≡ past state (followed first second)
+pub past-followed : {A B : Type 0} (state : State) (first : Piece A) (second : Piece B) →
+    past (past state first) second ≡ past state (followed first second)
 past-followed state first second = λ i. record state {
   scopes = sym (after-append state.scopes first.marks second.marks) i;
   constants = append_assoc state.constants (first.constants state.scopes) (second.constants (after state.scopes first.marks)) i;
@@ -50,7 +70,8 @@ made-next piece xs rest x scopes made found is h =
     ∙ ap (λ l. made ++ (all (map piece l)).made scopes) (sym is) ∙ h
 
 -- a part that declares nothing
-pub past-plain : {A : Type 0} (state : State) (piece : Piece A) → Still piece.marks → piece.constants ≡ none → piece.vars ≡ none → state ≡ past state piece
+pub past-plain : {A : Type 0} (state : State) (piece : Piece A) → Still piece.marks → piece.constants ≡ none → piece.vars ≡ none →
+    state ≡ past state piece
 past-plain state piece still no_constants no_vars = λ i. record state {
   scopes = sym (still state.scopes) i;
   constants = (sym (append-nil state.constants) ∙ ap (λ gives. state.constants ++ gives state.scopes) (sym no_constants)) i;
@@ -71,7 +92,8 @@ pub past-behind : {A : Type 0} (state : State) (before : Marks) (body : List (Pi
     past state (own_scope (all body)) ≡ past state (scoped before (before ++ in_scope (marks_of_all body)) body made)
 past-behind state before body made still = λ i. record state {
   scopes =
-      sym (after-append state.scopes before (in_scope (marks_of_all body)) ∙ ap (λ scopes. after scopes (in_scope (marks_of_all body))) (still state.scopes)) i;
+      sym (after-append state.scopes before (in_scope (marks_of_all body))
+      ∙ ap (λ scopes. after scopes (in_scope (marks_of_all body))) (still state.scopes)) i;
   constants = state.constants ++ constants_of_all body (opened (sym (still state.scopes) i));
   vars = state.vars ++ vars_of_all body (opened (sym (still state.scopes) i));
 }
@@ -99,9 +121,11 @@ loop_past piece xs k x state new found within is step h =
     ap (λ s. past s (all (map piece (drop (k + 1) xs)))) step
     ∙ past-next piece (drop k xs) (drop (k + 1) xs) x state found (next_of xs k x within is) h
 
-pub loop_made : {X A : Type 0} (piece : X → Piece A) (xs : List X) (k : ℕ) (x : X) (state new : State) (one : A) (made pushed found : List A) → k < length xs
+pub loop_made : {X A : Type 0} (piece : X → Piece A) (xs : List X) (k : ℕ) (x : X) (state new : State) (one : A)
+    (made pushed found : List A) → k < length xs
     → x ≡ get_or xs k x →
-    new ≡ past state (piece x) → one ≡ (piece x).made state.scopes → pushed ≡ made ++ (one ∷ []) → made ++ (all (map piece (drop k xs))).made state.scopes
+    new ≡ past state (piece x) → one ≡ (piece x).made state.scopes → pushed ≡ made ++ (one ∷ []) →
+    made ++ (all (map piece (drop k xs))).made state.scopes
     ≡ found →
     pushed ++ (all (map piece (drop (k + 1) xs))).made new.scopes ≡ found
 loop_made piece xs k x state new one made pushed found within is step one_is pushed_is h =
@@ -109,7 +133,8 @@ loop_made piece xs k x state new one made pushed found within is step one_is pus
     ∙ made-next piece (drop k xs) (drop (k + 1) xs) x state.scopes made found (next_of xs k x within is) h
 
 pub closed_past : {A : Type 0} (state new : State) (begun ended : Scopes) (piece : Piece A) → begun ≡ enter state.scopes opens →
-    new ≡ past (record state { scopes = begun }) piece → ended ≡ enter new.scopes closes → record new { scopes = ended } ≡ past state (own_scope piece)
+    new ≡ past (record state { scopes = begun }) piece → ended ≡ enter new.scopes closes →
+    record new { scopes = ended } ≡ past state (own_scope piece)
 closed_past state new begun ended piece one two three =
     (λ i. record new { scopes = three i })
     ∙ (λ i. record (two i) { scopes = enter (two i).scopes closes })

@@ -9,7 +9,19 @@ use Rattle.bl_named.specs.declared.stmt.NamedArm.{NamedArm}
 use Rattle.bl_named.specs.declared.stmt.NamedBranch.{NamedBranch}
 use Rattle.bl_named.specs.declared.stmt.NamedStmt.{NamedStmt}
 use Rattle.bl_named.specs.declared.stmt.NamedStmtKind.{NamedStmtKind}
-use Rattle.bl_scopes.specs.Marks.{Marks, arm_layer_marks, branch_layer_marks, expr_marks, in_scope, marks_of_arm, marks_of_branch, param_marks, stmt_kind_marks, stmt_layer_marks, stmt_marks}
+use Rattle.bl_scopes.specs.Marks.{
+  Marks,
+  arm_layer_marks,
+  branch_layer_marks,
+  expr_marks,
+  in_scope,
+  marks_of_arm,
+  marks_of_branch,
+  param_marks,
+  stmt_kind_marks,
+  stmt_layer_marks,
+  stmt_marks,
+}
 use Rattle.bl_raw.specs.declared.expr.RawExpr.{RawExpr}
 use Rattle.bl_raw.specs.declared.item.RawParam.{RawParam}
 use Rattle.bl_raw.specs.declared.stmt.RawArm.{RawArm, fold-roll-RawArm, roll-RawArm}
@@ -17,7 +29,19 @@ use Rattle.bl_raw.specs.declared.stmt.RawBranch.{RawBranch, fold-roll-RawBranch,
 use Rattle.bl_raw.specs.declared.stmt.RawStmt.{RawStmt, fold-roll-RawStmt}
 use Rattle.bl_raw.specs.declared.stmt.RawStmtKind.{RawStmtKind, fold-RawStmtKind, fold-roll-RawStmtKind, fold_out-RawStmtKind, map-RawStmtKind, out-RawStmtKind}
 use Rattle.bl_raw.specs.declared.stmt.RawStmtKind.TheOpen.{RawStmtKind-F}
-use Rattle.bl_names.specs.Named.{Piece, arm_piece, branch_piece, kind_piece, marks_of_all, param_piece, piece_of_arm, piece_of_branch, piece_of_kind, stmt_layer_piece, stmt_piece}
+use Rattle.bl_names.specs.Named.{
+  Piece,
+  arm_piece,
+  branch_piece,
+  kind_piece,
+  marks_of_all,
+  param_piece,
+  piece_of_arm,
+  piece_of_branch,
+  piece_of_kind,
+  stmt_layer_piece,
+  stmt_piece,
+}
 use Rattle.bl_names.proofs.RawStmtInduction.{Cases, induct, stmt}
 
 abbrev pub parts : RawStmtKind-F RawStmtKind RawArm RawBranch RawStmt
@@ -100,7 +124,8 @@ marked = record {
   while = λ place e body each. same_marks place (RawStmtKind-F.While e body)
       (ap (λ marks. expr_marks e ++ in_scope marks) (all_marks stmt_piece stmt_marks body each));
   returns = λ place e. same_marks place (RawStmtKind-F.Return e) refl;
-  arm = λ test body each. rw (fold-roll-RawArm, fold-roll-RawArm) (ap (λ marks. expr_marks test ++ in_scope marks) (all_marks stmt_piece stmt_marks body each));
+  arm = λ test body each. rw (fold-roll-RawArm, fold-roll-RawArm)
+      (ap (λ marks. expr_marks test ++ in_scope marks) (all_marks stmt_piece stmt_marks body each));
   branch = λ weak body each. rw (fold-roll-RawBranch, fold-roll-RawBranch) (ap in_scope (all_marks stmt_piece stmt_marks body each));
 }
 

@@ -1,5 +1,29 @@
 -- The positions in types and expressions are in place, where every use fits.
-use Rattle.std.proofs.Common.{◌≡◌, ℕ, ◌<◌, Bool, true, ◌&&◌, nat_lt, List, [], ◌∷◌, ◌++◌, map, inl, inr, ⊎_elim, ◌⊎◌, Option, Some, None, refl, ap, subst, ◌∙◌}
+use Rattle.std.proofs.Common.{
+  ◌≡◌,
+  ℕ,
+  ◌<◌,
+  Bool,
+  true,
+  ◌&&◌,
+  nat_lt,
+  List,
+  [],
+  ◌∷◌,
+  ◌++◌,
+  map,
+  inl,
+  inr,
+  ⊎_elim,
+  ◌⊎◌,
+  Option,
+  Some,
+  None,
+  refl,
+  ap,
+  subst,
+  ◌∙◌,
+}
 use Rattle.std.specs.Prelude.{All, option_map}
 use Rattle.std.specs.List.{list_all}
 use Rattle.std.proofs.lemmas.Bool.{lt-ltb}
@@ -16,14 +40,43 @@ use Rattle.bl_named.specs.declared.expr.NamedTarget.{NamedTarget, fold-roll-Name
 use Rattle.bl_named.specs.declared.types.NamedType.{NamedType, fold_out-NamedType, map-NamedType, out-NamedType}
 use Rattle.bl_named.specs.declared.types.NamedType.TheOpen.{NamedType-F}
 use Rattle.bl_named.specs.declared.types.NamedType.TheVariants as type
-use Rattle.bl_named.specs.Placed.{Earlier, expr_layer_placed, expr_placed, holds_if, kind_placed, length_placed, part_placed, path_placed, root_placed, step_placed, target_layer_placed, target_placed, type_level_placed, type_placed}
+use Rattle.bl_named.specs.Placed.{
+  Earlier,
+  expr_layer_placed,
+  expr_placed,
+  holds_if,
+  kind_placed,
+  length_placed,
+  part_placed,
+  path_placed,
+  root_placed,
+  step_placed,
+  target_layer_placed,
+  target_placed,
+  type_level_placed,
+  type_placed,
+}
 use Rattle.bl_scopes.specs.declared.kind.Kind.{Kind}
 use Rattle.bl_scopes.specs.declared.kind.Kind.TheVariants as kinds
 use Rattle.bl_scopes.specs.declared.kind.Wanted.{Wanted}
 use Rattle.bl_scopes.specs.declared.kind.Wanted.TheVariants as wants
 use Rattle.bl_scopes.specs.declared.scopes.Counts.{Counts}
 use Rattle.bl_scopes.specs.Kinds.{suits}
-use Rattle.bl_scopes.specs.Marks.{Marks, expr_layer_marks, expr_marks, kind_marks, length_marks, marks_of_part, optional, part_marks, path_marks, target_layer_marks, target_marks, type_marks, uses}
+use Rattle.bl_scopes.specs.Marks.{
+  Marks,
+  expr_layer_marks,
+  expr_marks,
+  kind_marks,
+  length_marks,
+  marks_of_part,
+  optional,
+  part_marks,
+  path_marks,
+  target_layer_marks,
+  target_marks,
+  type_marks,
+  uses,
+}
 use Rattle.bl_scopes.specs.Scopes.{Scopes, count_of}
 use Rattle.bl_raw.specs.declared.expr.RawExpr.{RawExpr, fold-roll-RawExpr}
 use Rattle.bl_raw.specs.declared.expr.RawExprKind.{RawExprKind, fold-RawExprKind, fold-roll-RawExprKind, map-RawExprKind}
@@ -36,7 +89,23 @@ use Rattle.bl_raw.specs.declared.types.RawLength.{RawLength}
 use Rattle.bl_raw.specs.declared.types.RawLength.TheVariants as raw_length
 use Rattle.bl_raw.specs.declared.types.RawType.{RawType, fold-roll-RawType, ind-RawType, map-RawType, roll-RawType}
 use Rattle.bl_raw.specs.declared.types.RawType.TheOpen.{RawType-F}
-use Rattle.bl_names.specs.Naming.{named_expr, named_expr_layer, named_kind, named_length, named_part, named_path, named_root, named_step, named_target, named_target_layer, named_type, position, position_of, root_at, root_of}
+use Rattle.bl_names.specs.Naming.{
+  named_expr,
+  named_expr_layer,
+  named_kind,
+  named_length,
+  named_part,
+  named_path,
+  named_root,
+  named_step,
+  named_target,
+  named_target_layer,
+  named_type,
+  position,
+  position_of,
+  root_at,
+  root_of,
+}
 use Rattle.bl_names.proofs.BelowLemmas.{Below, DeclarationBelow, bound_below}
 use Rattle.bl_names.proofs.FitLemmas.{Fits, IsFit, fits_behind, fits_first}
 use Rattle.bl_names.proofs.RawExprInduction.{Cases, EachIndex, OfIndex, expr, induct, induct_target}
@@ -62,7 +131,8 @@ below_variable counts kinds.Function k suited below = absurd (cc)
 below_variable counts kinds.Activity k suited below = absurd (cc)
 below_variable counts kinds.Field k suited below = absurd (cc)
 
-below_struct : (counts : Counts) (kind : Kind) (k : ℕ) → suits wants.Type kind ≡ true → (kind ≡ kinds.Field) ⊎ (k < count_of counts kind) → k < counts.structs
+below_struct : (counts : Counts) (kind : Kind) (k : ℕ) → suits wants.Type kind ≡ true →
+    (kind ≡ kinds.Field) ⊎ (k < count_of counts kind) → k < counts.structs
 below_struct counts kinds.Struct k suited below = ⊎_elim (λ is. absurd (cc)) (λ less. less) below
 below_struct counts kinds.Constant k suited below = absurd (cc)
 below_struct counts kinds.Variable k suited below = absurd (cc)
@@ -150,7 +220,8 @@ module _ (scopes : Scopes) (counts : Counts) (below : Below scopes) where
       ∙ lt-ltb fit.declaration.position scopes.counts.units (below_unit scopes.counts fit.declaration.kind fit.declaration.position (inr fit.is_suited)
       (fit_below name wants.Activity fit))
 
-  pub target_root_placed : (name : Name) (wanted : Wanted) → IsRead wanted → IsFit there name wanted → root_placed (earlier scopes) (named_root scopes name)
+  pub target_root_placed : (name : Name) (wanted : Wanted) → IsRead wanted → IsFit there name wanted →
+      root_placed (earlier scopes) (named_root scopes name)
       ≡ true
   target_root_placed name wanted read fit =
       ap (λ found. root_placed (earlier scopes) (root_of found)) fit.is_bound
@@ -242,7 +313,8 @@ module _ (scopes : Scopes) (counts : Counts) (below : Below scopes) where
       ≡ roll-NamedExpr (record { place = place; what = named_kind scopes (named_parts layer) })
   named_at place layer = rw (fold-roll-RawExpr, fold-roll-RawExprKind) refl
 
-  placed_at : (place : Place) (kind : NamedExprKind) (layer : NamedExprKind-F NamedExprKind NamedPart NamedExpr NamedTarget) → out-NamedExprKind kind ≡ layer →
+  placed_at : (place : Place) (kind : NamedExprKind) (layer : NamedExprKind-F NamedExprKind NamedPart NamedExpr NamedTarget) →
+      out-NamedExprKind kind ≡ layer →
       expr_placed (earlier scopes) (roll-NamedExpr (record { place = place; what = kind })) ≡ kind_placed (earlier scopes) (placed_parts layer)
   placed_at place kind layer is =
       rw fold-roll-NamedExpr
@@ -335,7 +407,8 @@ module _ (scopes : Scopes) (counts : Counts) (below : Below scopes) where
   pub path_is : (path : RawPath) → Fits there (path_marks path) → path_placed (earlier scopes) (named_path scopes path) ≡ true
   path_is path fits = variable_placed path.root fits.0
 
-  pub exprs_are : (es : List RawExpr) → Fits there (joined (map expr_marks es)) → list_all (expr_placed (earlier scopes)) (map (named_expr scopes) es) ≡ true
+  pub exprs_are : (es : List RawExpr) → Fits there (joined (map expr_marks es)) →
+      list_all (expr_placed (earlier scopes)) (map (named_expr scopes) es) ≡ true
   exprs_are [] fits = refl
   exprs_are (e ∷ es) fits =
       both _ _ (expr_is e (fits_first there (expr_marks e) (joined (map expr_marks es)) fits))

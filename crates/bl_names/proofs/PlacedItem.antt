@@ -1,5 +1,34 @@
 -- The positions in structs, constants and units are in place, where every use fits.
-use Rattle.std.proofs.Common.{◌≡◌, ℕ, ◌+◌, ◌<◌, ◌≤◌, Bool, true, List, [], ◌∷◌, ◌++◌, map, length, take, drop, inr, Option, Some, None, refl, sym, ap, subst, ◌∙◌, append-nil, append_assoc, arith, suc}
+use Rattle.std.proofs.Common.{
+  ◌≡◌,
+  ℕ,
+  ◌+◌,
+  ◌<◌,
+  ◌≤◌,
+  Bool,
+  true,
+  List,
+  [],
+  ◌∷◌,
+  ◌++◌,
+  map,
+  length,
+  take,
+  drop,
+  inr,
+  Option,
+  Some,
+  None,
+  refl,
+  sym,
+  ap,
+  subst,
+  ◌∙◌,
+  append-nil,
+  append_assoc,
+  arith,
+  suc,
+}
 use Rattle.std.specs.Prelude.{option_and_then, option_map, if◌then◌else◌}
 use Rattle.std.specs.List.{list_all}
 use Rattle.std.proofs.Math.Seq.{drop-append_seam, take-append_seam}
@@ -17,10 +46,36 @@ use Rattle.bl_named.specs.declared.item.NamedUnit.{NamedUnit}
 use Rattle.bl_named.specs.declared.item.NamedVar.{NamedVar}
 use Rattle.bl_named.specs.declared.stmt.NamedStmt.{NamedStmt}
 use Rattle.bl_named.specs.declared.types.NamedType.{NamedType}
-use Rattle.bl_named.specs.Placed.{Earlier, behind_unit, head_placed, holds_if, in_turn, stmt_step, struct_placed, type_placed, unit_step, var_placed, with_parameters}
+use Rattle.bl_named.specs.Placed.{
+  Earlier,
+  behind_unit,
+  head_placed,
+  holds_if,
+  in_turn,
+  stmt_step,
+  struct_placed,
+  type_placed,
+  unit_step,
+  var_placed,
+  with_parameters,
+}
 use Rattle.bl_scopes.specs.declared.kind.Kind.TheVariants as kinds
 use Rattle.bl_scopes.specs.declared.scopes.Counts.{Counts}
-use Rattle.bl_scopes.specs.Marks.{Marks, closes, declares, field_mark, field_type_marks, in_scope, inside_unit, kind_of_unit, optional, param_marks, struct_marks, type_marks, unit_marks}
+use Rattle.bl_scopes.specs.Marks.{
+  Marks,
+  closes,
+  declares,
+  field_mark,
+  field_type_marks,
+  in_scope,
+  inside_unit,
+  kind_of_unit,
+  optional,
+  param_marks,
+  struct_marks,
+  type_marks,
+  unit_marks,
+}
 use Rattle.bl_scopes.specs.Scopes.{Scopes, after, count_of, counted, declaration_of, enter, found}
 use Rattle.bl_raw.specs.declared.item.RawField.{RawField}
 use Rattle.bl_raw.specs.declared.item.RawParam.{RawParam}
@@ -102,7 +157,8 @@ params_hold e role test passes (param ∷ params) scopes structs constants below
     let entered : enter scopes (declares param.name kinds.Variable) ≡ middle = enter-behind scopes (type_marks param.ty) param.name kinds.Variable
     (still_type param.ty) in
     let in_type = fits_first scopes (type_marks param.ty) (declares param.name kinds.Variable ∷ []) (fits_first scopes (param_marks param) rest fits) in
-    let later = params_hold e role test passes params middle (structs ∙ ap (λ s. s.counts.structs) entered) (constants ∙ ap (λ s. s.counts.constants) entered)
+    let later = params_hold e role test passes params middle (structs ∙ ap (λ s. s.counts.structs) entered)
+    (constants ∙ ap (λ s. s.counts.constants) entered)
     (subst Below entered (variable_below scopes param.name below)) (fits_second scopes (param_marks param) rest fits) in
     let whole = sym (after-append scopes (param_marks param) rest) in
     record {
@@ -238,7 +294,8 @@ unit_declared : (kind : UnitKind) (name : Name) (counts : Counts)
 unit_declared unit.Function name counts = inr (less_one counts.units (counts.units + 1) refl)
 unit_declared unit.Activity name counts = inr (less_one counts.units (counts.units + 1) refl)
 
-unit_grown : (old new : Counts) → new.structs ≡ old.structs → (m : ℕ) → new.constants ≡ old.constants + m → new.units ≡ old.units + 1 → old.variables ≡ 0
+unit_grown : (old new : Counts) → new.structs ≡ old.structs → (m : ℕ) → new.constants ≡ old.constants + m →
+    new.units ≡ old.units + 1 → old.variables ≡ 0
     → Grown old new
 unit_grown old new structs m constants units variables kinds.Struct = omega arith
 unit_grown old new structs m constants units variables kinds.Constant = omega arith

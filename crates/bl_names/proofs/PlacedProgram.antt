@@ -1,5 +1,25 @@
 -- The positions in a program are in place, where the rules on names hold.
-use Rattle.std.proofs.Common.{◌≡◌, ℕ, ◌+◌, List, [], ◌∷◌, ◌++◌, map, length, Option, Some, None, refl, sym, ap, subst, ◌∙◌, append-nil, arith}
+use Rattle.std.proofs.Common.{
+  ◌≡◌,
+  ℕ,
+  ◌+◌,
+  List,
+  [],
+  ◌∷◌,
+  ◌++◌,
+  map,
+  length,
+  Option,
+  Some,
+  None,
+  refl,
+  sym,
+  ap,
+  subst,
+  ◌∙◌,
+  append-nil,
+  arith,
+}
 use Rattle.std.specs.Prelude.{option_and_then, if◌then◌else◌}
 use Rattle.bl_named.specs.declared.item.Item.TheVariants as next
 use Rattle.bl_named.specs.declared.item.NamedConstant.{NamedConstant}
@@ -72,7 +92,8 @@ module _ (named : Named) where
       })
 
   unit_hold : (scopes : Scopes) (def : RawUnit) → Below scopes → scopes.counts.variables ≡ 0 → Fits scopes (unit_marks def) →
-      Within named.constants scopes.counts.constants (constants_in_unit scopes def) → Within named.units scopes.counts.units (named_unit scopes def ∷ []) →
+      Within named.constants scopes.counts.constants (constants_in_unit scopes def) →
+      Within named.units scopes.counts.units (named_unit scopes def ∷ []) →
       ItemsHold (item_step named next.Unit (earlier scopes)) scopes (after scopes (unit_marks def)) [] (constants_in_unit scopes def)
       (named_unit scopes def ∷ [])
   unit_hold scopes def below none fits constants units =

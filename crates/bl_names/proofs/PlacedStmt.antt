@@ -1,5 +1,28 @@
 -- The positions in statements are in place, where every use fits.
-use Rattle.std.proofs.Common.{◌≡◌, ℕ, ◌+◌, Bool, true, ◌&&◌, ◌||◌, List, [], ◌∷◌, ◌++◌, map, length, Option, Some, None, refl, sym, ap, subst, ◌∙◌, append_assoc}
+use Rattle.std.proofs.Common.{
+  ◌≡◌,
+  ℕ,
+  ◌+◌,
+  Bool,
+  true,
+  ◌&&◌,
+  ◌||◌,
+  List,
+  [],
+  ◌∷◌,
+  ◌++◌,
+  map,
+  length,
+  Option,
+  Some,
+  None,
+  refl,
+  sym,
+  ap,
+  subst,
+  ◌∙◌,
+  append_assoc,
+}
 use Rattle.std.specs.Prelude.{All, option_and_then, option_map, slice_get, if◌then◌else◌}
 use Rattle.std.specs.List.{list_all}
 use Rattle.std.proofs.lemmas.Bool.{eq-eqb}
@@ -20,7 +43,28 @@ use Rattle.bl_named.specs.declared.stmt.NamedStmt.{NamedStmt, fold-roll-NamedStm
 use Rattle.bl_named.specs.declared.stmt.NamedStmtKind.{NamedStmtKind, fold-NamedStmtKind, fold_out-NamedStmtKind, map-NamedStmtKind, out-NamedStmtKind}
 use Rattle.bl_named.specs.declared.stmt.NamedStmtKind.TheOpen.{NamedStmtKind-F}
 use Rattle.bl_named.specs.declared.stmt.NamedStmtKind.TheVariants as what
-use Rattle.bl_named.specs.Placed.{Earlier, Step, arm_step, branch_step, constant_placed, declares_none, expr_placed, holds_of, in_turn, path_placed, step_of_arm, step_of_branch, stmt_kind_step, stmt_layer_step, stmt_step, tested, type_placed, var_placed, with_constant, with_variable}
+use Rattle.bl_named.specs.Placed.{
+  Earlier,
+  Step,
+  arm_step,
+  branch_step,
+  constant_placed,
+  declares_none,
+  expr_placed,
+  holds_of,
+  in_turn,
+  path_placed,
+  step_of_arm,
+  step_of_branch,
+  stmt_kind_step,
+  stmt_layer_step,
+  stmt_step,
+  tested,
+  type_placed,
+  var_placed,
+  with_constant,
+  with_variable,
+}
 use Rattle.bl_scopes.specs.declared.kind.Kind.TheVariants as kind
 use Rattle.bl_scopes.specs.declared.kind.Wanted.TheVariants as wanted
 use Rattle.bl_scopes.specs.Marks.{Marks, argument_marks, closes, declares, expr_marks, in_scope, optional, path_marks, target_marks, type_marks, uses}
@@ -35,15 +79,56 @@ use Rattle.bl_raw.specs.declared.stmt.RawStmt.{RawStmt}
 use Rattle.bl_raw.specs.declared.stmt.RawStmtKind.{RawStmtKind}
 use Rattle.bl_raw.specs.declared.stmt.RawStmtKind.TheOpen.{RawStmtKind-F}
 use Rattle.bl_raw.specs.declared.types.RawType.{RawType}
-use Rattle.bl_names.specs.Named.{Piece, all, constant_piece, constants_of_all, kind_piece, made_of_all, marks_of_all, named_constant, named_var, opened, own_scope, piece_of_arm, piece_of_branch, stmt_piece, vars_of_all}
+use Rattle.bl_names.specs.Named.{
+  Piece,
+  all,
+  constant_piece,
+  constants_of_all,
+  kind_piece,
+  made_of_all,
+  marks_of_all,
+  named_constant,
+  named_var,
+  opened,
+  own_scope,
+  piece_of_arm,
+  piece_of_branch,
+  stmt_piece,
+  vars_of_all,
+}
 use Rattle.bl_names.specs.Naming.{named_expr, named_path, named_target, named_type, position}
 use Rattle.bl_names.proofs.BelowLemmas.{Below, OuterBelow, constant_below, variable_below}
 use Rattle.bl_names.proofs.FitLemmas.{Fits, fits_behind, fits_first, fits_second}
 use Rattle.bl_names.proofs.PastLemmas.{enter-behind, more, none_more}
 use Rattle.bl_names.proofs.PieceLemmas.{arm_is, branch_is, parts, stmt_is}
-use Rattle.bl_names.proofs.PlacedExpr.{activity_placed, both, earlier, expr_is, exprs_are, function_placed, optional_is, path_is, paths_are, target_is, type_is, variable_read}
+use Rattle.bl_names.proofs.PlacedExpr.{
+  activity_placed,
+  both,
+  earlier,
+  expr_is,
+  exprs_are,
+  function_placed,
+  optional_is,
+  path_is,
+  paths_are,
+  target_is,
+  type_is,
+  variable_read,
+}
 use Rattle.bl_names.proofs.RawStmtInduction.{Cases, induct, stmt}
-use Rattle.bl_names.proofs.StillLemmas.{Still, after-append, still_append, still_arguments, still_expr, still_exprs, still_optional, still_target, still_type, still_use, still_value}
+use Rattle.bl_names.proofs.StillLemmas.{
+  Still,
+  after-append,
+  still_append,
+  still_arguments,
+  still_expr,
+  still_exprs,
+  still_optional,
+  still_target,
+  still_type,
+  still_use,
+  still_value,
+}
 
 -- ---- parts of lists
 
@@ -170,7 +255,8 @@ module _ (all_vars : List NamedVar) (all_constants : List NamedConstant) where
   steps step made = in_turn (map step made)
 
   -- one part and then another
-  good_then : {A B : Type 0} (first : Piece A) (second : Piece B) (step : A → Step) (next : B → Step) (scopes : Scopes) → Good step first → Good next second →
+  good_then : {A B : Type 0} (first : Piece A) (second : Piece B) (step : A → Step) (next : B → Step) (scopes : Scopes) →
+      Good step first → Good next second →
       Below scopes → Fits scopes (first.marks ++ second.marks) →
       Within all_vars scopes.counts.variables (first.vars scopes ++ second.vars (after scopes first.marks)) →
       Within all_constants scopes.counts.constants (first.constants scopes ++ second.constants (after scopes first.marks)) →
@@ -200,8 +286,10 @@ module _ (all_vars : List NamedVar) (all_constants : List NamedConstant) where
       (good_all piece step xs (All-tail (λ x. Good step (piece x)) x xs each)) below fits vars constants
 
   -- in a scope of its own
-  good_own : {A : Type 0} (piece : Piece A) (step : A → Step) (scopes : Scopes) → Good step piece → Below scopes → Fits scopes (in_scope piece.marks) →
-      Within all_vars scopes.counts.variables (piece.vars (opened scopes)) → Within all_constants scopes.counts.constants (piece.constants (opened scopes)) →
+  good_own : {A : Type 0} (piece : Piece A) (step : A → Step) (scopes : Scopes) → Good step piece → Below scopes →
+      Fits scopes (in_scope piece.marks) →
+      Within all_vars scopes.counts.variables (piece.vars (opened scopes)) →
+      Within all_constants scopes.counts.constants (piece.constants (opened scopes)) →
       Holds (step (piece.made (opened scopes)) (earlier scopes)) scopes (after scopes (in_scope piece.marks)) (piece.vars (opened scopes))
       (piece.constants (opened scopes))
   good_own piece step scopes good below fits vars constants =
@@ -355,7 +443,8 @@ module _ (all_vars : List NamedVar) (all_constants : List NamedConstant) where
         locals = local;
       }))
 
-  pub constant_is : (scopes : Scopes) (constant : RawConstant) → Below scopes → Fits scopes (optional type_marks constant.ty ++ expr_marks constant.value) →
+  pub constant_is : (scopes : Scopes) (constant : RawConstant) → Below scopes →
+      Fits scopes (optional type_marks constant.ty ++ expr_marks constant.value) →
       Within all_constants scopes.counts.constants (named_constant scopes constant ∷ [])
       → holds_of (constant_placed (earlier scopes)) (slice_get all_constants scopes.counts.constants) ≡ true
   constant_is scopes constant below fits constants =

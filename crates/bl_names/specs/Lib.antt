@@ -1,4 +1,4 @@
 pub mod Named
 pub mod Naming
 pub mod Order
-pub mod Past
+pub mod inner

@@ -31,7 +31,22 @@ use Rattle.bl_named.specs.declared.stmt.NamedStmtKind.{NamedStmtKind}
 use Rattle.bl_named.specs.declared.stmt.NamedStmtKind.TheVariants as what
 use Rattle.bl_scopes.specs.declared.kind.Kind.TheVariants as kind
 use Rattle.bl_scopes.specs.declared.kind.Wanted.TheVariants as wanted
-use Rattle.bl_scopes.specs.Marks.{Marks, opens, uses, argument_marks, constant_marks, declared_after, expr_marks, in_scope, item_marks, optional, param_marks, path_marks, target_marks, type_marks}
+use Rattle.bl_scopes.specs.Marks.{
+  Marks,
+  opens,
+  uses,
+  argument_marks,
+  constant_marks,
+  declared_after,
+  expr_marks,
+  in_scope,
+  item_marks,
+  optional,
+  param_marks,
+  path_marks,
+  target_marks,
+  type_marks,
+}
 use Rattle.bl_names.specs.Naming.{named_expr, named_path, named_target, named_type, position}
 use Rattle.bl_names.specs.Order.{order_of}
 use Rattle.bl_scopes.specs.Scopes.{Scopes, after, enter, file_scope}
@@ -167,7 +182,8 @@ arm_piece arm =
     (λ scopes made. roll-NamedArm (record { test = named_expr scopes arm.test; body = made }))
 
 abbrev pub branch_piece : RawBranch-F (Piece NamedStmtKind) (Piece NamedArm) (Piece NamedBranch) (Piece NamedStmt) → Piece NamedBranch
-branch_piece branch = scoped [] (in_scope (marks_of_all branch.body)) branch.body (λ scopes made. roll-NamedBranch (record { weak = branch.weak; body = made }))
+branch_piece branch = scoped [] (in_scope (marks_of_all branch.body)) branch.body
+    (λ scopes made. roll-NamedBranch (record { weak = branch.weak; body = made }))
 
 abbrev pub stmt_layer_piece : RawStmt-F (Piece NamedStmtKind) (Piece NamedArm) (Piece NamedBranch) (Piece NamedStmt) → Piece NamedStmt
 stmt_layer_piece s = record {

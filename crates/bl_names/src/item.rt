@@ -6,7 +6,7 @@ ghost use Rattle.bl_scopes.specs.Marks.{item_marks, marks_of};
 ghost use Rattle.bl_scopes.specs.Scopes.{after};
 ghost use Rattle.bl_names.specs.Named.{along, constants_of, inside_piece, named_field, param_piece, role_piece, structs_of, unit_inside, units_of};
 ghost use Rattle.bl_names.specs.Order.{kind_of_item, order_of};
-ghost use Rattle.bl_names.specs.Past.{past, with_struct, with_unit};
+ghost use Rattle.bl_names.specs.inner.Past.{past, with_struct, with_unit};
 
 use crate::expr::{copy_of, optional_ty, ty};
 use crate::state::State;

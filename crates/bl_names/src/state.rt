@@ -3,7 +3,7 @@
 ghost use Rattle.std.specs.Prelude.{◌≡◌, ◌++◌, ◌∷◌, [], IfOk, OnOk};
 ghost use Rattle.bl_scopes.specs.Marks.{declares};
 ghost use Rattle.bl_scopes.specs.Scopes.{enter};
-ghost use Rattle.bl_names.specs.Past.{begun, with_constant, with_variable};
+ghost use Rattle.bl_names.specs.inner.Past.{begun, with_constant, with_variable};
 
 use bl_named::item::{NamedConstant, NamedStruct, NamedUnit, NamedVar};
 use bl_raw::name::Name;

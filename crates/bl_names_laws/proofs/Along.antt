@@ -18,7 +18,8 @@ use Rattle.bl_names.proofs.StillLemmas.{still_value}
 use Rattle.bl_names_laws.proofs.Tests.{both, first_holds, second_holds}
 
 -- two lists one after another
-pub all_append : {A : Type 0} (test : A → Bool) (xs ys : List A) → list_all test xs ≡ true → list_all test ys ≡ true → list_all test (xs ++ ys) ≡ true
+pub all_append : {A : Type 0} (test : A → Bool) (xs ys : List A) → list_all test xs ≡ true → list_all test ys ≡ true →
+    list_all test (xs ++ ys) ≡ true
 all_append test xs ys one two = list_all-append test xs ys ∙ both (list_all test xs) (list_all test ys) one two
 
 -- where what is known of the items from a place on stays known and shows that what the first gives passes a test, all that they give does

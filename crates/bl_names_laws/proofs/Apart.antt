@@ -1,6 +1,27 @@
 -- What is declared in a branch of a `cobegin` is named in no other: a branch begins with the scopes around the `cobegin`, and what
 -- it declares is counted from where the branch before it ended.
-use Rattle.std.proofs.Common.{◌≡◌, ℕ, ◌+◌, ◌<◌, ◌≤◌, Bool, true, false, ◌||◌, List, [], ◌∷◌, ◌++◌, map, refl, sym, ap, subst, ◌∙◌, arith}
+use Rattle.std.proofs.Common.{
+  ◌≡◌,
+  ℕ,
+  ◌+◌,
+  ◌<◌,
+  ◌≤◌,
+  Bool,
+  true,
+  false,
+  ◌||◌,
+  List,
+  [],
+  ◌∷◌,
+  ◌++◌,
+  map,
+  refl,
+  sym,
+  ap,
+  subst,
+  ◌∙◌,
+  arith,
+}
 use Rattle.std.specs.Prelude.{All, Option, Some, nat_le, nat_lt, option_map}
 use Rattle.std.specs.List.{list_all}
 use Rattle.std.proofs.lemmas.Bool.{le-leb, leb-true, lt-ltb, ltb-true}
@@ -20,7 +41,20 @@ use Rattle.bl_raw.specs.declared.stmt.RawStmtKind.TheOpen.{RawStmtKind-F}
 use Rattle.bl_raw.specs.declared.types.RawType.{RawType}
 use Rattle.bl_scopes.specs.declared.kind.Kind.TheVariants as kind
 use Rattle.bl_scopes.specs.declared.kind.Wanted.TheVariants as wanted
-use Rattle.bl_scopes.specs.Marks.{Marks, argument_marks, closes, constant_marks, declares, expr_marks, in_scope, optional, path_marks, target_marks, type_marks, uses}
+use Rattle.bl_scopes.specs.Marks.{
+  Marks,
+  argument_marks,
+  closes,
+  constant_marks,
+  declares,
+  expr_marks,
+  in_scope,
+  optional,
+  path_marks,
+  target_marks,
+  type_marks,
+  uses,
+}
 use Rattle.bl_scopes.specs.Scopes.{Scopes, after}
 use Rattle.bl_names.specs.Named.{Piece, all, kind_piece, made_of_all, marks_of_all, opened, own_scope, piece_of_arm, piece_of_branch, stmt_piece, vars_of_all}
 use Rattle.bl_names.specs.Naming.{named_expr, named_path, named_target, position}
@@ -29,8 +63,29 @@ use Rattle.bl_names.proofs.PastLemmas.{enter-behind}
 use Rattle.bl_names.proofs.PieceLemmas.{arm_is, branch_is, parts, stmt_is}
 use Rattle.bl_names.proofs.PlacedExpr.{variable_read}
 use Rattle.bl_names.proofs.RawStmtInduction.{Cases, induct, stmt}
-use Rattle.bl_names.proofs.StillLemmas.{Still, after-append, still_append, still_arguments, still_expr, still_optional, still_target, still_type, still_use, still_value}
-use Rattle.bl_names_laws.specs.Apart.{arm_naming, branch_naming, naming_of, naming_of_arm, naming_of_branch, optional_roots, roots_in, stmt_kind_naming, stmt_layer_naming}
+use Rattle.bl_names.proofs.StillLemmas.{
+  Still,
+  after-append,
+  still_append,
+  still_arguments,
+  still_expr,
+  still_optional,
+  still_target,
+  still_type,
+  still_use,
+  still_value,
+}
+use Rattle.bl_names_laws.specs.Apart.{
+  arm_naming,
+  branch_naming,
+  naming_of,
+  naming_of_arm,
+  naming_of_branch,
+  optional_roots,
+  roots_in,
+  stmt_kind_naming,
+  stmt_layer_naming,
+}
 use Rattle.bl_names_laws.proofs.Along.{all_append}
 use Rattle.bl_names_laws.proofs.ExprRoots.{arguments_only, expr_only, optional_only, taker_only, target_only}
 use Rattle.bl_names_laws.proofs.Foreign.{all_weaker, apart_from_all, begins_at, between, from, outside, pair, together_append}
@@ -134,7 +189,8 @@ holds_none test scopes only low roots named named_low = record {
 }
 
 -- a part that declares nothing
-holds_plain : (test : ℕ → Bool) (scopes : Scopes) (marks : Marks) (roots : Roots) → Still marks → Only test scopes → Low scopes → list_all test roots ≡ true
+holds_plain : (test : ℕ → Bool) (scopes : Scopes) (marks : Marks) (roots : Roots) → Still marks → Only test scopes → Low scopes →
+    list_all test roots ≡ true
     → list_all (below scopes.counts.variables) roots ≡ true →
     Holds test scopes (after scopes marks) (naming roots)
 holds_plain test scopes marks roots still only low named named_low =
@@ -246,7 +302,8 @@ good_until e body each test scopes up only low fits =
 
 -- ---- branches
 
-begins_earlier : (start m n : ℕ) → m ≤ n → (namings : List Naming) → list_all (begins_at start n) namings ≡ true → list_all (begins_at start m) namings ≡ true
+begins_earlier : (start m n : ℕ) → m ≤ n → (namings : List Naming) → list_all (begins_at start n) namings ≡ true →
+    list_all (begins_at start m) namings ≡ true
 begins_earlier start m n most [] all = refl
 begins_earlier start m n most (one ∷ namings) all =
     let here = first_holds (begins_at start n one) (list_all (begins_at start n) namings) all in
@@ -265,7 +322,8 @@ record Branches (start : ℕ) (scopes : Scopes) (namings : List Naming) : Type 0
 
 branches_apart : (start : ℕ) (branches : List RawBranch) → All BranchGood branches → (scopes : Scopes) → start ≤ scopes.counts.variables
     → Only (below start) scopes → Low scopes →
-    Fits scopes (marks_of_all (map piece_of_branch branches)) → Branches start scopes (map naming_of_branch (made_of_all (map piece_of_branch branches) scopes))
+    Fits scopes (marks_of_all (map piece_of_branch branches)) →
+    Branches start scopes (map naming_of_branch (made_of_all (map piece_of_branch branches) scopes))
 branches_apart start [] each scopes most only low fits = record { begin = refl; apart = refl }
 branches_apart start (branch ∷ branches) each scopes most only low fits =
     let n = scopes.counts.variables in
@@ -319,7 +377,8 @@ naming_in layer = stmt_kind_naming (named_parts Naming stmt_kind_naming arm_nami
 -- a statement whose kind becomes this
 stmt_good : (place : Place) (layer : RawLayer) (made : Scopes → NamedLayer)
     → ((scopes : Scopes) → out-NamedStmtKind ((kind_piece (parts layer)).made scopes) ≡ made scopes) →
-    ((test : ℕ → Bool) (scopes : Scopes) → UpFrom test scopes.counts.variables → Only test scopes → Low scopes → Fits scopes (kind_piece (parts layer)).marks →
+    ((test : ℕ → Bool) (scopes : Scopes) → UpFrom test scopes.counts.variables → Only test scopes → Low scopes →
+    Fits scopes (kind_piece (parts layer)).marks →
     Holds test scopes (after scopes (kind_piece (parts layer)).marks) (naming_in (made scopes))) → StmtGood (stmt place layer)
 stmt_good place layer made is gives =
     subst (Good naming_of) (sym (stmt_is place layer))

@@ -37,7 +37,8 @@ raw_step_at : (part : RawPart) (layer : RawPart-F RawExprKind RawPart RawExpr Ra
     raw_step part ≡ raw.part_depth (map-RawPart RawExprKind RawPart RawExpr RawTarget ℕ ℕ ℕ ℕ raw_kind raw_step raw.expr_depth raw.target_depth layer)
 raw_step_at part layer is =
     fold_out-RawPart ℕ ℕ ℕ ℕ raw.kind_depth raw.part_depth raw.expr_layer_depth raw.target_layer_depth part
-    ∙ ap (λ layer. raw.part_depth (map-RawPart RawExprKind RawPart RawExpr RawTarget ℕ ℕ ℕ ℕ raw_kind raw_step raw.expr_depth raw.target_depth layer)) is
+    ∙ ap (λ layer. raw.part_depth (map-RawPart RawExprKind RawPart RawExpr RawTarget ℕ ℕ ℕ ℕ raw_kind raw_step raw.expr_depth
+    raw.target_depth layer)) is
 
 raw_target_at : (place : Place) (root : Name) (steps : List RawPart)
     → raw.target_depth (roll-RawTarget (record { place = place; root = root; parts = steps })) ≡ greatest (map raw_step steps)

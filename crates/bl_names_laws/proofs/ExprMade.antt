@@ -83,7 +83,8 @@ module _ (X : Type 0) (of_kind : NamedExprKind-F X X X X → X) (of_part : Named
       fold_out-RawPart NamedExprKind NamedPart NamedExpr NamedTarget (named_kind scopes) named_part named_expr_layer (named_target_layer scopes) raw
       ∙ ap (λ layer. named_part (raw_part_layer layer)) is
 
-  pub field_made : (raw : RawPart) (name : Name) → out-RawPart raw ≡ RawPart-F.Field name → of_step (named_step scopes raw) ≡ of_part (NamedPart-F.Field name)
+  pub field_made : (raw : RawPart) (name : Name) → out-RawPart raw ≡ RawPart-F.Field name →
+      of_step (named_step scopes raw) ≡ of_part (NamedPart-F.Field name)
   field_made raw name is = ap of_step (step_at raw (RawPart-F.Field name) is) ∙ part_at (part.Field name) (NamedPart-F.Field name) (part.outs-Field name)
 
   pub index_made : (raw : RawPart) (e : RawExpr) → out-RawPart raw ≡ RawPart-F.Index e

@@ -21,14 +21,38 @@ use Rattle.bl_scopes.specs.declared.kind.Wanted.{Wanted}
 use Rattle.bl_scopes.specs.declared.kind.Wanted.TheVariants as wants
 use Rattle.bl_scopes.specs.declared.scopes.Counts.{Counts}
 use Rattle.bl_scopes.specs.Kinds.{suits}
-use Rattle.bl_scopes.specs.Marks.{Marks, argument_marks, expr_layer_marks, expr_marks, kind_marks, marks_of_part, optional, part_marks, path_marks, target_layer_marks, target_marks}
+use Rattle.bl_scopes.specs.Marks.{
+  Marks,
+  argument_marks,
+  expr_layer_marks,
+  expr_marks,
+  kind_marks,
+  marks_of_part,
+  optional,
+  part_marks,
+  path_marks,
+  target_layer_marks,
+  target_marks,
+}
 use Rattle.bl_scopes.specs.Scopes.{Scopes}
 use Rattle.bl_names.specs.Naming.{named_expr, named_path, named_root, named_step, named_target, position, position_of, root_at, root_of}
 use Rattle.bl_names.proofs.FitLemmas.{Fits, IsFit, fits_behind, fits_first}
 use Rattle.bl_names.proofs.PlacedExpr.{IsRead, value_read}
 use Rattle.bl_names.proofs.RawExprInduction.{Cases, EachIndex, OfIndex, expr, induct, induct_target}
 use Rattle.bl_names.proofs.StillLemmas.{Still, still_expr, still_exprs}
-use Rattle.bl_names_laws.specs.Apart.{argument_roots, kind_roots, optional_roots, part_roots, roots_in, roots_in_path, roots_in_step, roots_in_target, roots_of, taker_roots, target_layer_roots}
+use Rattle.bl_names_laws.specs.Apart.{
+  argument_roots,
+  kind_roots,
+  optional_roots,
+  part_roots,
+  roots_in,
+  roots_in_path,
+  roots_in_step,
+  roots_in_target,
+  roots_of,
+  taker_roots,
+  target_layer_roots,
+}
 use Rattle.bl_names_laws.proofs.Along.{all_append}
 use Rattle.bl_names_laws.proofs.ExprMade.{NamedLayer, RawLayer, expr_made, field_made, index_made, named_parts, target_made}
 use Rattle.bl_names_laws.proofs.Only.{DeclarationOnly, Only, bound_only}
@@ -82,7 +106,8 @@ module _ (test : ℕ → Bool) (scopes : Scopes) (counts : Counts) (only : Only 
   variable_only name fit =
       ap (λ found. test (position_of found)) fit.is_bound ∙ fit_only name wants.Variable fit (is_variable fit.declaration.kind fit.is_suited)
 
-  target_root_only : (name : Name) (wanted : Wanted) → IsRead wanted → IsFit there name wanted → list_all test (roots_of (named_root scopes name)) ≡ true
+  target_root_only : (name : Name) (wanted : Wanted) → IsRead wanted → IsFit there name wanted →
+      list_all test (roots_of (named_root scopes name)) ≡ true
   target_root_only name wanted read fit =
       ap (λ found. list_all test (roots_of (root_of found))) fit.is_bound
       ∙ root_only test fit.declaration.kind fit.declaration.position (read fit.declaration.kind fit.is_suited) (fit_only name wanted fit)

@@ -1,5 +1,26 @@
 -- Statements with positions in place of names have what the grammar wants, where they had it.
-use Rattle.std.proofs.Common.{◌≡◌, ℕ, ◌+◌, Bool, true, ◌&&◌, ◌||◌, List, [], ◌∷◌, ◌++◌, map, length, refl, sym, ap, subst, ◌∙◌, append-nil, arith}
+use Rattle.std.proofs.Common.{
+  ◌≡◌,
+  ℕ,
+  ◌+◌,
+  Bool,
+  true,
+  ◌&&◌,
+  ◌||◌,
+  List,
+  [],
+  ◌∷◌,
+  ◌++◌,
+  map,
+  length,
+  refl,
+  sym,
+  ap,
+  subst,
+  ◌∙◌,
+  append-nil,
+  arith,
+}
 use Rattle.std.specs.Prelude.{All, Option, Some, None, is_some, option_map, slice_get}
 use Rattle.std.specs.List.{list_all}
 use Rattle.std.proofs.lemmas.List.Elements.{All-head, All-tail}
@@ -23,16 +44,58 @@ use Rattle.bl_raw.specs.declared.stmt.RawBranch.{RawBranch}
 use Rattle.bl_raw.specs.declared.stmt.RawStmt.{RawStmt}
 use Rattle.bl_raw.specs.declared.stmt.RawStmtKind.TheOpen.{RawStmtKind-F}
 use Rattle.bl_raw.specs.declared.types.RawType.{RawType}
-use Rattle.bl_raw.specs.Names.{arm_stands, branch_stands, expr_named, is_filled as has_member, item_stands, named, optional, param_named, stmt_kind_stands, stmt_layer_stands, stmt_stands, type_named, unit_stands}
+use Rattle.bl_raw.specs.Names.{
+  arm_stands,
+  branch_stands,
+  expr_named,
+  is_filled as has_member,
+  item_stands,
+  named,
+  optional,
+  param_named,
+  stmt_kind_stands,
+  stmt_layer_stands,
+  stmt_stands,
+  type_named,
+  unit_stands,
+}
 use Rattle.bl_scopes.specs.Marks.{expr_marks, item_marks, type_marks}
 use Rattle.bl_scopes.specs.Scopes.{Scopes, after, file_scope}
-use Rattle.bl_names.specs.Named.{Piece, block_piece, kind_piece, made_of_all, marks_of_all, named_program, named_unit, named_var, opened, param_piece, params_piece, piece_of_arm, piece_of_branch, role_piece, stmt_piece, units_of, vars_of_all}
+use Rattle.bl_names.specs.Named.{
+  Piece,
+  block_piece,
+  kind_piece,
+  made_of_all,
+  marks_of_all,
+  named_program,
+  named_unit,
+  named_var,
+  opened,
+  param_piece,
+  params_piece,
+  piece_of_arm,
+  piece_of_branch,
+  role_piece,
+  stmt_piece,
+  units_of,
+  vars_of_all,
+}
 use Rattle.bl_names.specs.Naming.{named_expr, named_path, named_target, position}
 use Rattle.bl_names.proofs.PieceLemmas.{arm_is, branch_is, parts, stmt_is}
 use Rattle.bl_names.proofs.PlacedStmt.{Within, within_first, within_one, within_second}
 use Rattle.bl_names.proofs.RawStmtInduction.{Cases, induct, stmt}
 use Rattle.bl_names.proofs.StillLemmas.{still_expr, still_type}
-use Rattle.bl_names_laws.specs.Filled.{arm_filled, arm_is_filled, branch_filled, branch_is_filled, declaration_filled, is_filled, is_told, kind_filled, layer_filled}
+use Rattle.bl_names_laws.specs.Filled.{
+  arm_filled,
+  arm_is_filled,
+  branch_filled,
+  branch_is_filled,
+  declaration_filled,
+  is_filled,
+  is_told,
+  kind_filled,
+  layer_filled,
+}
 use Rattle.bl_names_laws.specs.Keeps.{body_filled}
 use Rattle.bl_names_laws.proofs.Along.{along_under, none_counted}
 use Rattle.bl_names_laws.proofs.Made.{NamedLayer, RawLayer, named_arm_at, named_at, named_branch_at, named_parts, raw_arm_at, raw_at, raw_branch_at, raw_parts}
@@ -46,7 +109,8 @@ told scopes name ty (Some e) stands = refl
 told scopes name (Some ty) None stands = refl
 told scopes name None None stands = stands
 
-inhabited : {X A : Type 0} (filled : A → Bool) (stands : X → Bool) (piece : X → Piece A) (xs : List X) (scopes : Scopes) → has_member (map stands xs) ≡ true →
+inhabited : {X A : Type 0} (filled : A → Bool) (stands : X → Bool) (piece : X → Piece A) (xs : List X) (scopes : Scopes) →
+    has_member (map stands xs) ≡ true →
     is_inhabited (map filled (made_of_all (map piece xs) scopes)) ≡ true
 inhabited filled stands piece [] scopes has = has
 inhabited filled stands piece (x ∷ xs) scopes has = refl
@@ -54,7 +118,8 @@ inhabited filled stands piece (x ∷ xs) scopes has = refl
 module _ (all_vars : List NamedVar) where
   -- a part becomes what has what the grammar wants, where this is true
   abbrev Good : {A : Type 0} → (A → Bool) → Bool → Piece A → Type 0
-  Good filled stands piece = stands ≡ true → (scopes : Scopes) → Within all_vars scopes.counts.variables (piece.vars scopes) → filled (piece.made scopes) ≡ true
+  Good filled stands piece = stands ≡ true → (scopes : Scopes) → Within all_vars scopes.counts.variables (piece.vars scopes) →
+      filled (piece.made scopes) ≡ true
 
   abbrev StmtGood : RawStmt → Type 0
   StmtGood s = Good (is_filled all_vars) (stmt_stands s) (stmt_piece s)
@@ -115,7 +180,8 @@ module _ (all_vars : List NamedVar) where
       ∙ gives (sym (raw_at Bool stmt_kind_stands arm_stands branch_stands stmt_layer_stands place layer) ∙ stands) scopes
       (subst (λ piece. Within all_vars scopes.counts.variables (piece.vars scopes)) (stmt_is place layer) within)
 
-  declared : (scopes : Scopes) (var : NamedVar) (has_value : Bool) → Within all_vars scopes.counts.variables (var ∷ []) → is_told var has_value ≡ true →
+  declared : (scopes : Scopes) (var : NamedVar) (has_value : Bool) → Within all_vars scopes.counts.variables (var ∷ []) →
+      is_told var has_value ≡ true →
       declaration_filled (slice_get all_vars scopes.counts.variables) has_value ≡ true
   declared scopes var has_value within is = ap (λ found. declaration_filled found has_value) (within_one all_vars scopes.counts.variables var [] within) ∙ is
 
@@ -249,12 +315,14 @@ Known scopes items = (scopes.counts.variables ≡ 0) × (list_all item_stands it
 known_next : (scopes : Scopes) (one : RawItem) (items : List RawItem) → Known scopes (one ∷ items) → Known (after scopes (item_marks one)) items
 known_next scopes one items known = (none_counted one scopes known.0, second_holds (item_stands one) (list_all item_stands items) known.1)
 
-item_filled : (scopes : Scopes) (one : RawItem) → scopes.counts.variables ≡ 0 → item_stands one ≡ true → list_all body_filled (units_of scopes one) ≡ true
+item_filled : (scopes : Scopes) (one : RawItem) → scopes.counts.variables ≡ 0 → item_stands one ≡ true →
+    list_all body_filled (units_of scopes one) ≡ true
 item_filled scopes (item.Struct def) none stands = refl
 item_filled scopes (item.Constant constant) none stands = refl
 item_filled scopes (item.Unit def) none stands = both (body_filled (named_unit scopes def)) true (unit_filled scopes def none stands) refl
 
-pub units_are_filled : (items : List RawItem) (bytes : ℕ) → list_all item_stands items ≡ true → list_all body_filled (named_program items bytes).units ≡ true
+pub units_are_filled : (items : List RawItem) (bytes : ℕ) → list_all item_stands items ≡ true →
+    list_all body_filled (named_program items bytes).units ≡ true
 units_are_filled items bytes stand = along_under Known units_of body_filled known_next
     (λ scopes one items known. item_filled scopes one known.0 (first_holds (item_stands one) (list_all item_stands items) known.1)) file_scope items
     (refl, stand)

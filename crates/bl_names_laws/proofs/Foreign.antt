@@ -1,5 +1,31 @@
 -- Lists of variables that have none in common, and branches that keep apart.
-use Rattle.std.proofs.Common.{◌≡◌, ℕ, ◌<◌, ◌≤◌, Bool, true, false, not, ◌&&◌, ◌||◌, List, [], ◌∷◌, ◌++◌, map, refl, sym, ap, subst, ◌∙◌, append_assoc, ◌⊎◌, inl, inr, arith}
+use Rattle.std.proofs.Common.{
+  ◌≡◌,
+  ℕ,
+  ◌<◌,
+  ◌≤◌,
+  Bool,
+  true,
+  false,
+  not,
+  ◌&&◌,
+  ◌||◌,
+  List,
+  [],
+  ◌∷◌,
+  ◌++◌,
+  map,
+  refl,
+  sym,
+  ap,
+  subst,
+  ◌∙◌,
+  append_assoc,
+  ◌⊎◌,
+  inl,
+  inr,
+  arith,
+}
 use Rattle.std.specs.Prelude.{nat_eq, nat_le, nat_lt}
 use Rattle.std.specs.List.{list_all, list_any}
 use Rattle.std.proofs.lemmas.Bool.{eqb-true, leb-true, ltb-true}
@@ -24,7 +50,8 @@ module _ (one other : ℕ → Bool) (never : (k : ℕ) → one k ≡ true → ot
   not_among k (n ∷ named) is all =
       λ i. not_same k n is (first_holds (other n) (list_all other named) all) i || not_among k named is (second_holds (other n) (list_all other named) all) i
 
-  none_among : (declared named : Roots) → list_all one declared ≡ true → list_all other named ≡ true → list_any (λ k. list_any (nat_eq k) named) declared
+  none_among : (declared named : Roots) → list_all one declared ≡ true → list_all other named ≡ true →
+      list_any (λ k. list_any (nat_eq k) named) declared
       ≡ false
   none_among [] named all are = refl
   none_among (k ∷ declared) named all are =
@@ -114,7 +141,8 @@ together_append xs ys = λ i. record {
 
 -- ---- weaker tests
 
-pub all_weaker : (test other : ℕ → Bool) → ((k : ℕ) → test k ≡ true → other k ≡ true) → (ks : Roots) → list_all test ks ≡ true → list_all other ks ≡ true
+pub all_weaker : (test other : ℕ → Bool) → ((k : ℕ) → test k ≡ true → other k ≡ true) → (ks : Roots) → list_all test ks ≡ true →
+    list_all other ks ≡ true
 all_weaker test other weaker [] all = refl
 all_weaker test other weaker (k ∷ ks) all =
     both (other k) (list_all other ks) (weaker k (first_holds (test k) (list_all test ks) all))

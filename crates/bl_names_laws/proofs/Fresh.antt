@@ -1,5 +1,27 @@
 -- Where rule Duplicate holds, each name is declared where its scope does not have it yet.
-use Rattle.std.proofs.Common.{◌≡◌, ℕ, Bool, true, false, cond, not, ◌||◌, List, [], ◌∷◌, ◌++◌, inl, Some, None, refl, sym, ap, subst, ◌∙◌, append_assoc}
+use Rattle.std.proofs.Common.{
+  ◌≡◌,
+  ℕ,
+  Bool,
+  true,
+  false,
+  cond,
+  not,
+  ◌||◌,
+  List,
+  [],
+  ◌∷◌,
+  ◌++◌,
+  inl,
+  Some,
+  None,
+  refl,
+  sym,
+  ap,
+  subst,
+  ◌∙◌,
+  append_assoc,
+}
 use Rattle.std.specs.Prelude.{bytes_eq, is_none, ⊤}
 use Rattle.std.specs.List.{list_all}
 use Rattle.std.proofs.lemmas.Bool.{not-true}
@@ -133,7 +155,8 @@ module _ (text : List ℕ) (entry : Declaration) where
       ] none
 
   -- the shorter scope does not have it either, and it is not the last
-  unseen_before : (scope : Declared) (name : List ℕ) → unseen (longer scope) name ≡ true → (unseen scope name ≡ true) × (bytes_eq text name ≡ false)
+  unseen_before : (scope : Declared) (name : List ℕ) → unseen (longer scope) name ≡ true →
+      (unseen scope name ≡ true) × (bytes_eq text name ≡ false)
   unseen_before [] name none = (refl, other_way name text (last_differs name none))
   unseen_before (first ∷ scope) name none =
       elim (bytes_eq name first.0) as (λ same. is_none (cond same (Some first.1) (found (longer scope) name)) ≡ true →

@@ -20,10 +20,43 @@ use Rattle.bl_raw.specs.declared.stmt.RawArm.{RawArm, fold-RawArm}
 use Rattle.bl_raw.specs.declared.stmt.RawBranch.{RawBranch, fold-RawBranch}
 use Rattle.bl_raw.specs.declared.stmt.RawStmt.{RawStmt}
 use Rattle.bl_raw.specs.declared.stmt.RawStmtKind.TheOpen.{RawStmtKind-F}
-use Rattle.bl_raw.specs.Names.{arm_stands, branch_stands, expr_named, field_named, is_filled, item_stands, named, optional, param_named, stmt_kind_stands, stmt_layer_stands, stmt_stands, type_named, unit_stands}
+use Rattle.bl_raw.specs.Names.{
+  arm_stands,
+  branch_stands,
+  expr_named,
+  field_named,
+  is_filled,
+  item_stands,
+  named,
+  optional,
+  param_named,
+  stmt_kind_stands,
+  stmt_layer_stands,
+  stmt_stands,
+  type_named,
+  unit_stands,
+}
 use Rattle.bl_scopes.specs.Marks.{expr_marks, param_marks}
 use Rattle.bl_scopes.specs.Scopes.{Scopes, after, file_scope}
-use Rattle.bl_names.specs.Named.{Piece, block_piece, kind_piece, marks_of_all, named_field, named_program, named_struct, named_unit, opened, params_piece, piece_of_arm, piece_of_branch, role_piece, stmt_piece, structs_of, units_of, vars_of_all}
+use Rattle.bl_names.specs.Named.{
+  Piece,
+  block_piece,
+  kind_piece,
+  marks_of_all,
+  named_field,
+  named_program,
+  named_struct,
+  named_unit,
+  opened,
+  params_piece,
+  piece_of_arm,
+  piece_of_branch,
+  role_piece,
+  stmt_piece,
+  structs_of,
+  units_of,
+  vars_of_all,
+}
 use Rattle.bl_names.proofs.PieceLemmas.{arm_is, branch_is, parts, stmt_is}
 use Rattle.bl_names.proofs.RawStmtInduction.{Cases, induct, stmt}
 use Rattle.bl_names_laws.specs.Keeps.{all_names, fields_named, has_name, variables_named}
@@ -110,7 +143,8 @@ cases = record {
       (opened scopes);
 }
 
-locals_named : (body : List RawStmt) → list_all stmt_stands body ≡ true → (scopes : Scopes) → list_all has_name ((block_piece body).vars scopes) ≡ true
+locals_named : (body : List RawStmt) → list_all stmt_stands body ≡ true → (scopes : Scopes) →
+    list_all has_name ((block_piece body).vars scopes) ≡ true
 locals_named [] hold scopes = refl
 locals_named (s ∷ body) hold scopes =
     all_append has_name ((stmt_piece s).vars scopes) ((block_piece body).vars (after scopes (stmt_piece s).marks))
@@ -147,7 +181,8 @@ item_named scopes (item.Struct def) stands = refl
 item_named scopes (item.Constant constant) stands = refl
 item_named scopes (item.Unit def) stands = both (variables_named (named_unit scopes def)) true (unit_named scopes def stands) refl
 
-pub variables_are_named : (items : List RawItem) (bytes : ℕ) → list_all item_stands items ≡ true → list_all variables_named (named_program items bytes).units
+pub variables_are_named : (items : List RawItem) (bytes : ℕ) → list_all item_stands items ≡ true →
+    list_all variables_named (named_program items bytes).units
     ≡ true
 variables_are_named items bytes = along_holds item_stands units_of variables_named item_named file_scope items
 
@@ -170,7 +205,8 @@ struct_is scopes (item.Struct def) stands =
 struct_is scopes (item.Constant constant) stands = refl
 struct_is scopes (item.Unit def) stands = refl
 
-pub fields_are_named : (items : List RawItem) (bytes : ℕ) → list_all item_stands items ≡ true → list_all fields_named (named_program items bytes).structs ≡ true
+pub fields_are_named : (items : List RawItem) (bytes : ℕ) → list_all item_stands items ≡ true →
+    list_all fields_named (named_program items bytes).structs ≡ true
 fields_are_named items bytes = along_holds item_stands structs_of fields_named struct_is file_scope items
 
 abbrev struct_has_name : NamedStruct → Bool
@@ -192,7 +228,8 @@ unit_name scopes (item.Unit def) stands =
     (first_holds (named def.name && (list_all param_named def.inputs && list_all param_named def.outputs))
     (optional type_named def.result && list_all stmt_stands def.body) stands)
 
-pub names_are : (items : List RawItem) (bytes : ℕ) → list_all item_stands items ≡ true → list_all is_name (all_names (named_program items bytes)) ≡ true
+pub names_are : (items : List RawItem) (bytes : ℕ) → list_all item_stands items ≡ true →
+    list_all is_name (all_names (named_program items bytes)) ≡ true
 names_are items bytes stand =
     let named = named_program items bytes in
     all_append is_name (map (λ def. def.name.text) named.structs) (map (λ unit. unit.name.text) named.units)

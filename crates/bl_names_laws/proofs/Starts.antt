@@ -11,7 +11,19 @@ use Rattle.bl_named.specs.declared.expr.NamedTarget.{NamedTarget}
 use Rattle.bl_named.specs.declared.stmt.NamedStmtKind.{out-NamedStmtKind}
 use Rattle.bl_named.specs.declared.stmt.NamedStmtKind.TheOpen.{NamedStmtKind-F}
 use Rattle.bl_named.specs.declared.stmt.NamedStmtKind.TheVariants as what
-use Rattle.bl_named.specs.Starts.{Starts, all_starts, arm_starts, branch_starts, start_of, starts_of, starts_of_arm, starts_of_branch, stmt_kind_starts, stmt_layer_starts, unit_starts}
+use Rattle.bl_named.specs.Starts.{
+  Starts,
+  all_starts,
+  arm_starts,
+  branch_starts,
+  start_of,
+  starts_of,
+  starts_of_arm,
+  starts_of_branch,
+  stmt_kind_starts,
+  stmt_layer_starts,
+  unit_starts,
+}
 use Rattle.bl_raw.specs.declared.expr.RawExpr.{RawExpr, fold_out-RawExpr, out-RawExpr}
 use Rattle.bl_raw.specs.declared.expr.RawExprKind.{RawExprKind, fold-RawExprKind}
 use Rattle.bl_raw.specs.declared.item.RawItem.{RawItem}
@@ -23,7 +35,20 @@ use Rattle.bl_raw.specs.declared.stmt.RawStmtKind.TheOpen.{RawStmtKind-F}
 use Rattle.bl_raw.specs.Starts as raw
 use Rattle.bl_scopes.specs.Marks.{expr_marks, item_marks}
 use Rattle.bl_scopes.specs.Scopes.{Scopes, after, file_scope}
-use Rattle.bl_names.specs.Named.{Piece, along, kind_piece, made_of_all, marks_of_all, named_program, opened, params_piece, piece_of_arm, piece_of_branch, stmt_piece, units_of}
+use Rattle.bl_names.specs.Named.{
+  Piece,
+  along,
+  kind_piece,
+  made_of_all,
+  marks_of_all,
+  named_program,
+  opened,
+  params_piece,
+  piece_of_arm,
+  piece_of_branch,
+  stmt_piece,
+  units_of,
+}
 use Rattle.bl_names.specs.Naming.{named_expr, named_expr_layer, named_kind, named_part, named_path, named_target, named_target_layer, position}
 use Rattle.bl_names.proofs.PieceLemmas.{arm_is, branch_is, parts, stmt_is}
 use Rattle.bl_names.proofs.RawStmtInduction.{Cases, induct, stmt}
@@ -60,7 +85,8 @@ ArmSame arm = Same starts_of_arm (arm_before arm) (piece_of_arm arm)
 abbrev BranchSame : RawBranch → Type 0
 BranchSame branch = Same starts_of_branch (branch_before branch) (piece_of_branch branch)
 
-same_all : {X A : Type 0} (starts : A → Starts) (before : X → Starts) (piece : X → Piece A) (xs : List X) → All (λ x. Same starts (before x) (piece x)) xs
+same_all : {X A : Type 0} (starts : A → Starts) (before : X → Starts) (piece : X → Piece A) (xs : List X) →
+    All (λ x. Same starts (before x) (piece x)) xs
     → (scopes : Scopes) → joined (map starts (made_of_all (map piece xs) scopes)) ≡ joined (map before xs)
 same_all starts before piece [] each scopes = refl
 same_all starts before piece (x ∷ xs) each scopes = λ i.
@@ -173,5 +199,6 @@ pub starts_are : (items : List RawItem) (bytes : ℕ) → all_starts (named_prog
 starts_are items bytes = units_same items file_scope
 
 -- so they begin one after another
-pub in_order : (items : List RawItem) (bytes : ℕ) → IsTrue (raw.ascends (raw.all_starts items)) → IsTrue (raw.ascends (all_starts (named_program items bytes)))
+pub in_order : (items : List RawItem) (bytes : ℕ) → IsTrue (raw.ascends (raw.all_starts items)) →
+    IsTrue (raw.ascends (all_starts (named_program items bytes)))
 in_order items bytes ordered = subst (λ starts. IsTrue (raw.ascends starts)) (sym (starts_are items bytes)) ordered

@@ -18,7 +18,20 @@ use Rattle.bl_raw.specs.declared.stmt.RawStmtKind.TheOpen.{RawStmtKind-F}
 use Rattle.bl_raw.specs.Depths as raw
 use Rattle.bl_scopes.specs.Marks.{expr_marks}
 use Rattle.bl_scopes.specs.Scopes.{Scopes, after, file_scope}
-use Rattle.bl_names.specs.Named.{Piece, kind_piece, made_of_all, marks_of_all, named_program, named_unit, opened, params_piece, piece_of_arm, piece_of_branch, stmt_piece, units_of}
+use Rattle.bl_names.specs.Named.{
+  Piece,
+  kind_piece,
+  made_of_all,
+  marks_of_all,
+  named_program,
+  named_unit,
+  opened,
+  params_piece,
+  piece_of_arm,
+  piece_of_branch,
+  stmt_piece,
+  units_of,
+}
 use Rattle.bl_names.specs.Naming.{named_expr, named_path, named_target, position}
 use Rattle.bl_names.proofs.PieceLemmas.{arm_is, branch_is, parts, stmt_is}
 use Rattle.bl_names.proofs.RawStmtInduction.{Cases, induct, stmt}
@@ -84,7 +97,8 @@ ArmGood arm = Good depth_of_arm (arm_before arm) (piece_of_arm arm)
 abbrev BranchGood : RawBranch → Type 0
 BranchGood branch = Good depth_of_branch (branch_before branch) (piece_of_branch branch)
 
-good_all : {X A : Type 0} (depth : A → Depth) (before : X → Depth) (piece : X → Piece A) (xs : List X) → All (λ x. Good depth (before x) (piece x)) xs →
+good_all : {X A : Type 0} (depth : A → Depth) (before : X → Depth) (piece : X → Piece A) (xs : List X) →
+    All (λ x. Good depth (before x) (piece x)) xs →
     (scopes : Scopes) → AtMost (of_all (map depth (made_of_all (map piece xs) scopes))) (of_all (map before xs))
 good_all depth before piece [] each scopes = record { blocks = nothing_most 0; exprs = nothing_most 0 }
 good_all depth before piece (x ∷ xs) each scopes =
@@ -208,6 +222,7 @@ item_shallow scopes (item.Constant constant) shallow = refl
 item_shallow scopes (item.Unit def) shallow =
     both (body_shallow (named_unit scopes def)) true (shallow_body def.body (after (opened scopes) (params_piece def).marks) shallow) refl
 
-pub units_are_shallow : (items : List RawItem) (bytes : ℕ) → list_all raw.item_shallow items ≡ true → list_all body_shallow (named_program items bytes).units
+pub units_are_shallow : (items : List RawItem) (bytes : ℕ) → list_all raw.item_shallow items ≡ true →
+    list_all body_shallow (named_program items bytes).units
     ≡ true
 units_are_shallow items bytes = along_holds raw.item_shallow units_of body_shallow item_shallow file_scope items

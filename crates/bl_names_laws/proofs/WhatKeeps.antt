@@ -16,7 +16,8 @@ use Rattle.bl_names_laws.proofs.StmtDepth.{units_are_shallow}
 use Rattle.bl_names_laws.proofs.Tests.{both, first_holds, second_holds}
 
 -- two tests that hold of all hold of all together
-all_both : {A : Type 0} (one other : A → Bool) (xs : List A) → list_all one xs ≡ true → list_all other xs ≡ true → list_all (λ x. one x && other x) xs ≡ true
+all_both : {A : Type 0} (one other : A → Bool) (xs : List A) → list_all one xs ≡ true → list_all other xs ≡ true →
+    list_all (λ x. one x && other x) xs ≡ true
 all_both one other [] first second = refl
 all_both one other (x ∷ xs) first second =
     both (one x && other x) (list_all (λ x. one x && other x) xs)
@@ -31,7 +32,8 @@ what_keeps items bytes keeps passes =
       names = names_are items bytes keeps.stand;
       distinct = names_differ items bytes passes;
       structs = all_both fields_named fields_differ named.structs (fields_are_named items bytes keeps.stand) (all_fields_differ items bytes passes);
-      units = all_both (λ unit. variables_named unit && parameters_differ unit) (λ unit. body_filled unit && (body_shallow unit && body_apart unit)) named.units
+      units = all_both (λ unit. variables_named unit && parameters_differ unit)
+          (λ unit. body_filled unit && (body_shallow unit && body_apart unit)) named.units
           (all_both variables_named parameters_differ named.units (variables_are_named items bytes keeps.stand) (all_parameters_differ items bytes passes))
           (all_both body_filled (λ unit. body_shallow unit && body_apart unit) named.units (units_are_filled items bytes keeps.stand)
           (all_both body_shallow body_apart named.units (units_are_shallow items bytes keeps.shallow) (units_are_apart items bytes passes)));

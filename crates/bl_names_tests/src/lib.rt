@@ -1,4 +1,4 @@
-//! The positions that stand for the names of a source text. There is nothing in this crate but its tests.
+//! Tests of `bl_names`: the positions that stand for the names of a source text. There is nothing else here.
 #![tactic(auto)]
 
 #[cfg(test)]

@@ -1,3 +1,5 @@
+//! Names, and the texts that they have.
+
 ghost use Rattle.std.specs.Prelude.{◌≡◌, ◌+◌, ◌<◌, [], ◌∷◌, Some, length, slice_range, IfOk, OnOk};
 ghost use Rattle.bl_tree.specs.declared.token.TokenKind.{TokenKind};
 ghost use Rattle.bl_syntax.specs.Grammar as grammar;

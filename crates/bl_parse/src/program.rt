@@ -1,6 +1,9 @@
+//! A whole text: judged by its nesting and its grammar, and read.
+
 ghost use Rattle.std.specs.Prelude.{◌<◌, ◌^◌, length, IfOk, IfErr, OnOk};
+ghost use Rattle.bl_tree.specs.Rules.{IsCause};
 ghost use Rattle.bl_lex.specs.Tokens.{Lexes};
-ghost use Rattle.bl_syntax.specs.Rules.{Passes, SpellsProgram, IsRefusalOf};
+ghost use Rattle.bl_syntax.specs.Rules.{Fails, Passes, SpellsProgram};
 ghost use Rattle.bl_parse.specs.Programs.{Spells};
 ghost use Rattle.bl_parse.specs.Reading.{NamesStand};
 
@@ -18,7 +21,7 @@ pub fn parse(alloc: Global, text: &[u8], tokens: &[Token]) -> Result<Raw, Refusa
     requires tokens { Lexes text.now tokens.now }
     ensures passes { OnOk result (Passes tokens.now) }
     ensures spells { IfOk result (Spells text.now tokens.now) }
-    ensures refusal { IfErr result (IsRefusalOf (length text.now) tokens.now) }
+    ensures refusal { IfErr result (IsCause (Fails (length text.now) tokens.now)) }
 {
     match check(alloc, text.len() as u32, tokens) {
         Ok(()) => match read(alloc, text, tokens) {

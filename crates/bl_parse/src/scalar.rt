@@ -1,3 +1,5 @@
+//! Types without parts, by their words.
+
 ghost use Rattle.std.specs.Prelude.{◌≡◌, false, IfSome, IsNone};
 ghost use Rattle.bl_syntax.specs.Grammar.{class_of};
 ghost use Rattle.bl_syntax.specs.Tables.{has};

@@ -1,3 +1,5 @@
+//! A text with its tokens, which are looked at by position.
+
 ghost use Rattle.std.specs.Prelude.{◌≡◌, ◌+◌, ◌<◌, ◌↔◌, Some, false, IsTrue, IsFalse, IsSome, IsNone, IfSome, length, slice_get};
 ghost use Rattle.bl_tree.specs.declared.token.TokenKind.{TokenKind};
 ghost use Rattle.bl_parse.specs.At.{kind_at, start_at, end_at, span, Takes};

@@ -1,3 +1,5 @@
+//! Types: scalar types, names of structs, and arrays.
+
 ghost use Rattle.std.specs.Prelude.{◌≡◌, ◌+◌, ◌<◌, [], ◌∷◌, length, IfOk, OnOk};
 ghost use Rattle.bl_lex.specs.declared.sign.TheConstants.{OPEN_BRACKET, CLOSE_BRACKET};
 ghost use Rattle.bl_syntax.specs.declared.grammar.Part.{Part};

@@ -1,3 +1,5 @@
+//! Rules Size to Syntax over whole texts: the first that fails, and its place.
+
 use bl_lex::lex;
 use bl_syntax::check;
 use bl_tree::Refusal;
@@ -18,7 +20,7 @@ fn broken(alloc: Global, text: &[u8]) -> Option<Broken> {
         Err(refusal) => refusal,
     };
     match refusal {
-        Refusal::Rule { number, place, .. } => Some((number, place.start, place.end)),
+        Refusal::Rule { rule, place, .. } => Some((rule.number(), place.start, place.end)),
         Refusal::NoMemory => None,
     }
 }

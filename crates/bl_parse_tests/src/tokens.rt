@@ -1,3 +1,5 @@
+//! Tokens, and rules Size, Lex and Profile over whole texts.
+
 use bl_lex::{lex, sign, word};
 use bl_tree::token::{Token, TokenKind};
 use bl_tree::{Place, Refusal};
@@ -8,7 +10,7 @@ type Broken = (u8, u32, u32);
 
 fn broken(outcome: &Result<Vec<Token>, Refusal>) -> Option<Broken> {
     match outcome {
-        Err(Refusal::Rule { number, place, .. }) => Some((*number, place.start, place.end)),
+        Err(Refusal::Rule { rule, place, .. }) => Some((rule.number(), place.start, place.end)),
         _ => None,
     }
 }

@@ -1,3 +1,5 @@
+//! Trees of whole texts, and texts at the limits of rule Depth.
+
 use bl_lex::lex;
 use bl_parse::parse;
 use bl_raw::Raw;
@@ -28,7 +30,7 @@ const PASSES: Broken = (0, 0, 0);
 fn broken(alloc: Global, text: &[u8]) -> Option<Broken> {
     match tree(alloc, text) {
         Ok(_) => Some(PASSES),
-        Err(Refusal::Rule { number, place, .. }) => Some((number, place.start, place.end)),
+        Err(Refusal::Rule { rule, place, .. }) => Some((rule.number(), place.start, place.end)),
         Err(Refusal::NoMemory) => None,
     }
 }

@@ -1,5 +1,27 @@
 -- What a tree may still write, as a list of static paths, is what the definition tests.
-use Rattle.std.proofs.Common.{◌≡◌, ℕ, suc, Bool, true, false, ◌&&◌, ◌||◌, List, [], ◌∷◌, ◌++◌, map, refl, sym, ap, ◌∙◌, subst, append_assoc, append-nil, if◌then◌else◌}
+use Rattle.std.proofs.Common.{
+  ◌≡◌,
+  ℕ,
+  suc,
+  Bool,
+  true,
+  false,
+  ◌&&◌,
+  ◌||◌,
+  List,
+  [],
+  ◌∷◌,
+  ◌++◌,
+  map,
+  refl,
+  sym,
+  ap,
+  ◌∙◌,
+  subst,
+  append_assoc,
+  append-nil,
+  if◌then◌else◌,
+}
 use Rattle.std.specs.Prelude.{Result, IfOk, OnOk}
 use Rattle.std.proofs.Math.Bool.{and_assoc, or_assoc}
 use Rattle.bl_tree.specs.declared.tree.Stmt.{Stmt}
@@ -9,7 +31,22 @@ use Rattle.bl_effects.proofs.GatherLemmas.{on_ok}
 use Rattle.bl_effects.proofs.InstantLemmas.{surface_agrees}
 use Rattle.bl_ctree.specs.Control.{Control, Branches, Nil, Wait, Test, Idle, Do, Turn, Seq, Par, Guard, Run, no_branch, branch, Phase, Check, Body, is_settled}
 use Rattle.bl_ctree.specs.Instances.{Setting}
-use Rattle.bl_ctree.specs.Pending.{anew, any_writes, is_reset, item_may_end, item_surface, items_may_end, items_surface, lie_over, may_end, may_write, outputs_of_kind, run_may_end, run_writes, target_of_kind}
+use Rattle.bl_ctree.specs.Pending.{
+  anew,
+  any_writes,
+  is_reset,
+  item_may_end,
+  item_surface,
+  items_may_end,
+  items_surface,
+  lie_over,
+  may_end,
+  may_write,
+  outputs_of_kind,
+  run_may_end,
+  run_writes,
+  target_of_kind,
+}
 use Rattle.bl_ctree.specs.Positions.{Item, Begin, Again, Located, Position, items_from, kind_of}
 use Rattle.bl_ctree.specs.Store.{Location, home, overlap}
 use Rattle.bl_pending.specs.Writes.{all_write_paths, anew_paths, item_paths, items_paths, run_paths, surface_paths, write_paths}
@@ -83,12 +120,14 @@ block_ends position k (s ∷ body) after =
     ∙ ap (λ b. (surface_of s).instant && b) (block_ends position (suc k) body after)
     ∙ sym (and_assoc (surface_of s).instant (block_instant (map surface_of body)) (items_may_end after))
 
-regroup : (a b : Bool) (ws rest after : List Static) → ws ++ (if a then rest ++ (if b then after else []) else []) ≡ (ws ++ (if a then rest else [])) ++ (if a && b then after else [])
+regroup : (a b : Bool) (ws rest after : List Static) →
+    ws ++ (if a then rest ++ (if b then after else []) else []) ≡ (ws ++ (if a then rest else [])) ++ (if a && b then after else [])
 regroup true b ws rest after = sym (append_assoc ws rest (if b then after else []))
 regroup false b ws rest after = sym (append-nil (ws ++ []))
 
 block_writes : (position : Position) (k : ℕ) (body : List Stmt) (after : List Item)
-    → items_paths (items_from position k body ++ after) ≡ block_surface (map surface_of body) ++ (if block_instant (map surface_of body) then items_paths after else [])
+    → items_paths (items_from position k body ++ after) ≡ block_surface (map surface_of body)
+    ++ (if block_instant (map surface_of body) then items_paths after else [])
 block_writes position k [] after = refl
 block_writes position k (s ∷ body) after =
     ap (λ b. (surface_of s).writes ++ (if b then items_paths (items_from position (suc k) body ++ after) else [])) (sym (surface_agrees s))
@@ -96,11 +135,13 @@ block_writes position k (s ∷ body) after =
     ∙ regroup (surface_of s).instant (block_instant (map surface_of body)) ((surface_of s).writes) (block_surface (map surface_of body)) (items_paths after)
 
 -- what is told of the statements that are left of a block, and then of what follows the block, is told of the items
-module _ (position : Position) (k : ℕ) (left made : List Stmt) (same : made ≡ left) (after : List Item) (ends : Bool) (told : ends ≡ block_instant (map surface_of made)) where
+module _ (position : Position) (k : ℕ) (left made : List Stmt) (same : made ≡ left) (after : List Item) (ends : Bool)
+    (told : ends ≡ block_instant (map surface_of made)) where
   whole_ends : items_may_end (items_from position k left ++ after) ≡ (ends && items_may_end after)
   whole_ends = block_ends position k left after ∙ ap (λ b. b && items_may_end after) (sym (told ∙ ap (λ body. block_instant (map surface_of body)) same))
 
-  pub goes_on_ends : {E : Type 0} (r : Result Bool E) → ends ≡ true → IfOk r (λ all. all ≡ items_may_end after) → IfOk r (λ all. all ≡ items_may_end (items_from position k left ++ after))
+  pub goes_on_ends : {E : Type 0} (r : Result Bool E) → ends ≡ true → IfOk r (λ all. all ≡ items_may_end after) →
+      IfOk r (λ all. all ≡ items_may_end (items_from position k left ++ after))
   goes_on_ends r passes rest = subst (λ whole. IfOk r (λ all. all ≡ whole)) (sym (whole_ends ∙ ap (λ b. b && items_may_end after) passes)) rest
 
   pub stops_ends : ends ≡ false → false ≡ items_may_end (items_from position k left ++ after)
@@ -109,10 +150,12 @@ module _ (position : Position) (k : ℕ) (left made : List Stmt) (same : made �
   whole_writes : items_paths (items_from position k left ++ after) ≡ block_surface (map surface_of made) ++ (if ends then items_paths after else [])
   whole_writes =
       block_writes position k left after
-      ∙ ap (λ b. block_surface (map surface_of left) ++ (if b then items_paths after else [])) (sym (told ∙ ap (λ body. block_instant (map surface_of body)) same))
+      ∙ ap (λ b. block_surface (map surface_of left) ++ (if b then items_paths after else []))
+      (sym (told ∙ ap (λ body. block_instant (map surface_of body)) same))
       ∙ ap (λ body. block_surface (map surface_of body) ++ (if ends then items_paths after else [])) (sym same)
 
-  pub goes_on_writes : {A E : Type 0} (r : Result A E) (before between found : List Static) → ends ≡ true → between ≡ before ++ block_surface (map surface_of made)
+  pub goes_on_writes : {A E : Type 0} (r : Result A E) (before between found : List Static) → ends ≡ true →
+      between ≡ before ++ block_surface (map surface_of made)
       → OnOk r (found ≡ between ++ items_paths after) → OnOk r (found ≡ before ++ items_paths (items_from position k left ++ after))
   goes_on_writes r before between found passes first rest =
       on_ok (found ≡ between ++ items_paths after) (found ≡ before ++ items_paths (items_from position k left ++ after)) r
@@ -120,7 +163,8 @@ module _ (position : Position) (k : ℕ) (left made : List Stmt) (same : made �
       ∙ sym (ap (λ ws. before ++ ws) (whole_writes ∙ ap (λ b. block_surface (map surface_of made) ++ (if b then items_paths after else [])) passes)))
       rest
 
-  pub stops_writes : (before between : List Static) → ends ≡ false → between ≡ before ++ block_surface (map surface_of made) → between ≡ before ++ items_paths (items_from position k left ++ after)
+  pub stops_writes : (before between : List Static) → ends ≡ false → between ≡ before ++ block_surface (map surface_of made) →
+      between ≡ before ++ items_paths (items_from position k left ++ after)
   stops_writes before between stops first =
       first ∙ ap (λ ws. before ++ ws) (sym (append-nil (block_surface (map surface_of made))))
       ∙ sym (ap (λ ws. before ++ ws) (whole_writes ∙ ap (λ b. block_surface (map surface_of made) ++ (if b then items_paths after else [])) stops))

@@ -1,3 +1,3 @@
 pub mod Laws
-pub mod Surfaces
 pub mod Writes
+pub mod inner

@@ -5,22 +5,12 @@ ghost use Rattle.bl_tree.specs.Reduce.{any_of, joined};
 ghost use Rattle.bl_tree.specs.Instant.{branches_instant};
 ghost use Rattle.bl_tree.specs.Static.{static_of, whole};
 ghost use Rattle.bl_effects.specs.Surface.{block_instant, block_surface, surface_of};
-ghost use Rattle.bl_pending.specs.Surfaces.{surface_of_arm, surface_of_branch};
+ghost use Rattle.bl_pending.specs.inner.Surfaces.{surface_of_arm, surface_of_branch};
 
-use bl_effects::static_of;
-use bl_tree::tree::{Arm, Branch, Path, Stmt, StmtKind};
+use bl_effects::mentions::{static_of, statics};
+use bl_tree::tree::{Arm, Branch, Stmt, StmtKind};
 use bl_tree::{List, NoMemory, Static};
 use std::alloc::Global;
-
-/// Appends the static paths of the outputs. Fails only for want of memory, as all that follows.
-pub fn statics(alloc: Global, outputs: &[Path], into: &mut List<Static>) -> Result<(), NoMemory>
-    ensures { OnOk result (into.new ≡ into.old ++ map static_of outputs.now) }
-{
-    for path in outputs {
-        into.push(static_of(alloc, path)?)?;
-    }
-    Ok(())
-}
 
 /// The whole variable.
 fn whole(alloc: Global, root: u32) -> Static
@@ -33,6 +23,7 @@ fn whole(alloc: Global, root: u32) -> Static
 }
 
 /// Appends what a statement that begins can write before it pauses; answers whether it may end in the tick in which it begins.
+/// Fails only for want of memory, as all that follows.
 #[cycle(surfaces)]
 pub fn statement(alloc: Global, s: &Stmt, into: &mut List<Static>) -> Result<bool, NoMemory>
     ensures ends { IfOk result (λ ends. ends ≡ (surface_of s.now).instant) }

@@ -10,10 +10,10 @@ ghost use Rattle.bl_ctree.specs.Pending.{guard_may_end, is_reset, items_may_end,
 ghost use Rattle.bl_ctree.specs.Positions.{stmt_kind};
 ghost use Rattle.bl_pending.specs.Writes.{all_write_paths, anew_paths, items_paths, run_paths, surface_paths, write_paths};
 
-use crate::surface::{arms, block, statement, statics};
+use crate::surface::{arms, block, statement};
 use bl_ctree::node::{Arms, At, Branch, Node, Phase, Rest, Then};
 use bl_ctree::settle::{has_strong, is_settled};
-use bl_effects::static_of;
+use bl_effects::mentions::{static_of, statics};
 use bl_tree::tree::{Guard, Path, Stmt, StmtKind};
 use bl_tree::{List, NoMemory, Static};
 use std::alloc::Global;

@@ -1,3 +1,5 @@
+//! Expressions as they are written.
+
 use crate::name::Name;
 use bl_tree::{Box, List, Op, Place, Scalar};
 

@@ -1,3 +1,5 @@
+//! What a file declares, as it is written.
+
 use crate::name::Name;
 use crate::stmt::{RawConstant, RawStmt};
 use crate::types::RawType;

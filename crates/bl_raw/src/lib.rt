@@ -1,4 +1,6 @@
 //! Source programs as they are written: trees whose names are texts with their places (docs/LANGUAGE.md, "Raw trees").
+//! There are types alone, and the definition of what such a tree keeps (`specs/Keeps.antt`, `Keeps`), which
+//! `bl_parse_laws` shows of each tree that a text spells.
 #![tactic(auto)]
 
 pub mod expr;

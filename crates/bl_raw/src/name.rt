@@ -1,3 +1,5 @@
+//! Names with their places.
+
 use bl_tree::{Place, Text};
 
 /// A name where it is declared or used.

@@ -1,3 +1,5 @@
+//! The whole of a source program as it is written.
+
 use crate::item::RawItem;
 use bl_tree::List;
 

@@ -1,3 +1,5 @@
+//! Statements as they are written.
+
 use crate::expr::{RawExpr, RawTarget};
 use crate::name::Name;
 use crate::types::RawType;

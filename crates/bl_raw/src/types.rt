@@ -1,3 +1,5 @@
+//! Types as they are written.
+
 use crate::name::Name;
 use bl_tree::{Box, Place, Scalar};
 

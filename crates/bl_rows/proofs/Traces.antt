@@ -1,17 +1,23 @@
 -- The numbers of a row from a column on.
-use Rattle.std.proofs.Common.{◌≡◌, ℕ, ◌+◌, ◌<◌, List, [], ◌∷◌, ◌++◌, length, get_or, drop, ap, refl, suc, ℤ, sym, ◌∙◌, arith, append_assoc, add-zero, append-nil, Some, ◌≤◌}
+use Rattle.std.proofs.Common.{◌≡◌, ℕ, ◌+◌, ◌<◌, Bool, true, false, ◌&&◌, List, [], ◌∷◌, ◌++◌, length, get_or, drop, ap, refl, suc, ℤ, sym, ◌∙◌, arith, append_assoc, add-zero, append-nil, Some, ◌≤◌}
 use Rattle.std.proofs.lemmas.List.{drop_all}
 use Rattle.std.specs.List.{slice_get}
 use Rattle.bl_tree.specs.declared.row.Column.{Column}
 use Rattle.bl_tree.specs.declared.scalar.Scalar.{Scalar}
-use Rattle.bl_rows.specs.Text.{RowFits, values_text, value_text, lines_from, line_text}
+use Rattle.bl_tree.specs.Ports.{row_fits}
+use Rattle.bl_tree.specs.Scalar.{in_range}
+use Rattle.bl_rows.specs.Text.{values_text, value_text, lines_from, line_text}
 use Rattle.bl_rows.proofs.Seq.{drop-at, drop-got}
 
-pub fits_length : (outs : List Column) (row : List ℤ) → RowFits outs row → length row ≡ length outs
+second_holds : (a b : Bool) → (a && b) ≡ true → b ≡ true
+second_holds true b h = h
+second_holds false b h = absurd (cc)
+
+pub fits_length : (outs : List Column) (row : List ℤ) → row_fits outs row ≡ true → length row ≡ length outs
 fits_length [] [] h = refl
-fits_length [] (z ∷ row) h = absurd h
-fits_length (c ∷ outs) [] h = absurd h
-fits_length (c ∷ outs) (z ∷ row) h = ap suc (fits_length outs row h.1)
+fits_length [] (z ∷ row) h = absurd (cc)
+fits_length (c ∷ outs) [] h = absurd (cc)
+fits_length (c ∷ outs) (z ∷ row) h = ap suc (fits_length outs row (second_holds (in_range c.ty z) (row_fits outs row) h))
 
 -- one number more is printed
 pub printed_more : (outs : List Column) (row : List ℤ) (k : ℕ) (c : Column) (z : ℤ) (printed comma now all : List ℕ) → k < length outs → c ≡ get_or outs k c → slice_get row k ≡ Some z

@@ -4,20 +4,12 @@ use Rattle.std.specs.Fmt.{signed_decimal}
 use Rattle.std.specs.Ordering.{int_eq}
 use Rattle.std.specs.Str.Parse.{true_text, false_text}
 use Rattle.bl_tree.specs.Reduce.{joined}
-use Rattle.bl_tree.specs.Scalar.{InRange}
 use Rattle.bl_tree.specs.declared.scalar.Scalar.{Scalar}
 use Rattle.bl_tree.specs.declared.scalar.Scalar.TheVariants.{Bool as OfBool}
 use Rattle.bl_tree.specs.declared.row.Column.{Column}
 use Rattle.bl_tree.specs.declared.row.Last.{Last}
 use Rattle.bl_tree.specs.declared.row.Last.TheVariants.{Open, Ended, Trap}
 use Rattle.bl_tree.specs.declared.row.Trace.{Trace}
-
--- a row has one number for each column, in the range of its type
-abbrev pub RowFits : List Column → List ℤ → Type 0
-RowFits [] [] = Unit {0}
-RowFits [] (z ∷ row) = ⊥
-RowFits (c ∷ columns) [] = ⊥
-RowFits (c ∷ columns) (z ∷ row) = InRange c.ty z × RowFits columns row
 
 -- a name behind a comma, 44
 abbrev pub name_text : Column → List ℕ

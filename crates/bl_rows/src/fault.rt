@@ -1,3 +1,5 @@
+//! Faults of row files.
+
 /// Why row bytes give no further row (docs/FORMATS.md, "Rows"). Lines are counted from 1.
 #[derive(Clone, Copy, PartialEq, Eq, Debug)]
 pub enum RowFault {

@@ -1,3 +1,5 @@
+//! Lines as records, each read alone.
+
 ghost use Rattle.std.specs.Prelude.{◌≡◌, ◌==◌, ◌||◌, ◌<◌, length, [], ◌∷◌, true, false, IfOk, OnOk, option_map};
 ghost use Rattle.csv.specs.Records.{fields_of};
 ghost use Rattle.csv.specs.Reading.{ReadRecord, Ready, default_config, error_kind, is_flexible, reader_config, reader_state, reader_trim, source_of, strip_bom, took_first};

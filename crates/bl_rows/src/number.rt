@@ -1,3 +1,5 @@
+//! Numbers and values as fields write them.
+
 ghost use Rattle.std.specs.Prelude.{◌≡◌, ◌≤◌, ◌^◌, IfSome, None, Some, unsigned_abs, true, false};
 ghost use Rattle.bl_rows.specs.Fields.{number_of, number_of_digits, value_of, is_number, truth_of, within};
 

@@ -1,3 +1,5 @@
+//! Records judged: the header, ticks and their values.
+
 ghost use Rattle.std.specs.Prelude.{◌≡◌, ◌+◌, ◌<◌, ◌^◌, length, ℕ, Some, drop, IfOk, List, option_map, get_or, []};
 ghost use Rattle.csv.specs.Records.{fields_of};
 ghost use Rattle.bl_rows.specs.Fields.{is_header, row_of, value_of, values_of, records_in};

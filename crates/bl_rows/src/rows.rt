@@ -1,3 +1,5 @@
+//! The reader of rows, fed with pieces of bytes.
+
 ghost use Rattle.std.specs.Prelude.{◌≡◌, ◌≢◌, ◌++◌, ◌+◌, ◌<◌, ◌≤◌, ◌^◌, [], true, false, Option, Some, None, List, ℕ, length, position, ◌==◌, ◌∷◌, MatchOption, Ok, Err, IfOk, IfErr, IfSome, OnOk, OnErr};
 ghost use Rattle.bl_rows.specs.Lines.{has_feed};
 ghost use Rattle.bl_rows.specs.Fields.{records_in};

@@ -1,5 +1,8 @@
-ghost use Rattle.std.specs.Prelude.{◌≡◌, ◌++◌, IfOk, OnOk};
-ghost use Rattle.bl_rows.specs.Text.{RowFits, header_text, line_text, value_text};
+//! Lines of traces.
+
+ghost use Rattle.std.specs.Prelude.{◌≡◌, true, ◌++◌, IfOk, OnOk};
+ghost use Rattle.bl_tree.specs.Ports.{row_fits};
+ghost use Rattle.bl_rows.specs.Text.{header_text, line_text, value_text};
 
 use bl_tree::row::{Column, Row};
 use bl_tree::{List, NoMemory, Scalar};
@@ -23,7 +26,7 @@ pub fn header(alloc: Global, outs: &List<Column>) -> Result<Vec<u8>, NoMemory>
 /// The line of a tick, with its line feed (docs/FORMATS.md, "Traces"). Fails only for want of memory.
 #[tactic(auto, unfolding(crate::specs::Text::line_text))]
 pub fn line(alloc: Global, tick: u32, outs: &List<Column>, row: &Row) -> Result<Vec<u8>, NoMemory>
-    requires { RowFits outs.now row.now }
+    requires { row_fits outs.now row.now ≡ true }
     ensures { IfOk result (λ text. text.items ≡ line_text tick outs.now row.now) }
 {
     let mut buffer = Buffer::new();

@@ -1,3 +1,5 @@
+//! What lines turn out to be.
+
 use crate::fault::RowFault;
 use bl_tree::row::Row;
 

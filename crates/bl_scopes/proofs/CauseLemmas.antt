@@ -1,5 +1,25 @@
 -- What fails at the marks of a program is what the rules on names say of it.
-use Rattle.std.proofs.Common.{◌≡◌, true, false, cond, List, ◌∷◌, ◌++◌, ◌⊎◌, inl, inr, ⊎_elim, Option, Some, None, refl, ap, sym, ◌∙◌, subst}
+use Rattle.std.proofs.Common.{
+  ◌≡◌,
+  true,
+  false,
+  cond,
+  List,
+  ◌∷◌,
+  ◌++◌,
+  ◌⊎◌,
+  inl,
+  inr,
+  ⊎_elim,
+  Option,
+  Some,
+  None,
+  refl,
+  ap,
+  sym,
+  ◌∙◌,
+  subst,
+}
 use Rattle.bl_tree.specs.declared.place.Place.{Place}
 use Rattle.bl_tree.specs.declared.rule.Failure.{Failure}
 use Rattle.bl_tree.specs.declared.rule.Further.TheVariants.{Nothing, One}
@@ -13,8 +33,8 @@ use Rattle.bl_raw.specs.declared.name.Name.{Name}
 use Rattle.bl_scopes.specs.declared.kind.Wanted.{Wanted}
 use Rattle.bl_scopes.specs.declared.scopes.Declaration.{Declaration}
 use Rattle.bl_scopes.specs.Cause.{IsCause}
-use Rattle.bl_scopes.specs.Failures.{declared_twice, failure, failure_at, misused}
-use Rattle.bl_scopes.specs.Judged.{first_failure}
+use Rattle.bl_scopes.specs.inner.Failures.{declared_twice, failure, failure_at, misused}
+use Rattle.bl_scopes.specs.inner.Judged.{first_failure}
 use Rattle.bl_scopes.specs.Kinds.{suits}
 use Rattle.bl_scopes.specs.Marks.{Mark, Marks, opens, closes, declares, uses, marks_of}
 use Rattle.bl_scopes.specs.Rules.{Fails, FailsDuplicate, FailsKind, FailsUnknown, Passes, Stands}
@@ -62,7 +82,8 @@ abbrev FailsAs : List RawItem → Failure → Type 0
 FailsAs items f = Fails items f.rule f.at (further_places f.further)
 
 module _ (items : List RawItem) where
-  stands_at : (before : Marks) (mark : Mark) (rest : Marks) → marks_of items ≡ before ++ (mark ∷ rest) → Stands (marks_of items) mark (after file_scope before)
+  stands_at : (before : Marks) (mark : Mark) (rest : Marks) → marks_of items ≡ before ++ (mark ∷ rest) →
+      Stands (marks_of items) mark (after file_scope before)
   stands_at before mark rest there = record { before = before; rest = rest; there = there; are_open = refl }
 
   fails_here : (before : Marks) (mark : Mark) (rest : Marks) (f : Failure) → marks_of items ≡ before ++ (mark ∷ rest)
@@ -130,7 +151,8 @@ module _ (items : List RawItem) where
 
   -- what is said of a mark that stands in the program is among its failures
   is_among : (f : Failure) (mark : Mark) (scopes : Scopes) → Stands (marks_of items) mark scopes → failure_at scopes mark ≡ Some f
-      → (of : Rule) (at : Place) (also : List Place) → of ≡ f.rule → at ≡ f.at → also ≡ further_places f.further → Among (failures items) of at also
+      → (of : Rule) (at : Place) (also : List Place) → of ≡ f.rule → at ≡ f.at → also ≡ further_places f.further →
+      Among (failures items) of at also
   is_among f mark scopes stands says of at also rule_is at_is also_is = record {
     failure = f;
     is_there = in_contains f (failures items)

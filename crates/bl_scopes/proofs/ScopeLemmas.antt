@@ -1,5 +1,25 @@
 -- Scopes as maps and as lists of maps.
-use Rattle.std.proofs.Common.{◌≡◌, ℕ, ◌+◌, ◌<◌, cond, List, [], ◌∷◌, ◌++◌, reverse, take, length, get_or, Some, None, refl, ap, ◌∙◌, add-one}
+use Rattle.std.proofs.Common.{
+  ◌≡◌,
+  ℕ,
+  ◌+◌,
+  ◌<◌,
+  cond,
+  List,
+  [],
+  ◌∷◌,
+  ◌++◌,
+  reverse,
+  take,
+  length,
+  get_or,
+  Some,
+  None,
+  refl,
+  ap,
+  ◌∙◌,
+  add-one,
+}
 use Rattle.std.specs.Prelude.{bytes_eq}
 use Rattle.std.specs.Borrow.{Bor}
 use Rattle.std.specs.Map.{lookup}
@@ -14,7 +34,8 @@ use Rattle.bl_scopes.specs.declared.scopes.Declaration.{Declaration}
 use Rattle.bl_scopes.specs.Scopes.{Declared, bound_around, declaration_of, found, named, with_name}
 
 -- a look-up in a map is one in the list of its names
-pub found_named : (asked : List ℕ) (entries : List (Bor (List ℕ) × Declaration)) → lookup (λ key. bytes_eq asked key.now) entries ≡ found (named entries) asked
+pub found_named : (asked : List ℕ) (entries : List (Bor (List ℕ) × Declaration)) →
+    lookup (λ key. bytes_eq asked key.now) entries ≡ found (named entries) asked
 found_named asked [] = refl
 found_named asked (entry ∷ entries) = ap (λ rest. cond (bytes_eq asked entry.0.now) (Some entry.1) rest) (found_named asked entries)
 
@@ -36,7 +57,8 @@ pub bound_below : (name : List ℕ) (outer : List Declared) (k : ℕ) (scope : D
 bound_below name outer k scope within is =
     rw (add-one, take-suc outer k scope within, reverse-append, ← is) refl
 
-pub added : {S : Type 0} (old new : IndexMap (Bor (List ℕ)) Declaration S) (key : Bor (List ℕ)) (name : Name) (kind : Kind) (position : ℕ) (scope : Declared)
+pub added : {S : Type 0} (old new : IndexMap (Bor (List ℕ)) Declaration S) (key : Bor (List ℕ)) (name : Name) (kind : Kind)
+    (position : ℕ) (scope : Declared)
     → key.now ≡ name.text → named old.entries ≡ scope → new.entries ≡ insert_entry (λ x y. bytes_eq x.now y.now) old.entries key
     (declaration_of name kind position)
     → found scope name.text ≡ None → named new.entries ≡ with_name scope name kind position

@@ -5,8 +5,8 @@ use Rattle.bl_tree.specs.Rules.{first_of}
 use Rattle.bl_tree.proofs.FirstLemmas.{In}
 use Rattle.bl_raw.specs.declared.item.RawItem.{RawItem}
 use Rattle.bl_scopes.specs.declared.judge.Judge.{Judge}
-use Rattle.bl_scopes.specs.Failures.{failure_at}
-use Rattle.bl_scopes.specs.Judged.{first_failure, fresh, judged, judged_by, kept}
+use Rattle.bl_scopes.specs.inner.Failures.{failure_at}
+use Rattle.bl_scopes.specs.inner.Judged.{first_failure, fresh, judged, judged_by, kept}
 use Rattle.bl_scopes.specs.Marks.{Mark, Marks, marks_of}
 use Rattle.bl_scopes.specs.Scopes.{Scopes, after, enter, file_scope}
 
@@ -43,7 +43,8 @@ pub record Happens (scopes : Scopes) (marks : Marks) (failure : Failure) : Type 
   pub there : marks ≡ before ++ (mark ∷ rest)
   pub says : failure_at (after scopes before) mark ≡ Some failure
 
-behind : (scopes : Scopes) (mark : Mark) (rest : Marks) (failure : Failure) → Happens (enter scopes mark) rest failure → Happens scopes (mark ∷ rest) failure
+behind : (scopes : Scopes) (mark : Mark) (rest : Marks) (failure : Failure) → Happens (enter scopes mark) rest failure →
+    Happens scopes (mark ∷ rest) failure
 behind scopes mark rest failure happens = record {
   before = mark ∷ happens.before;
   mark = happens.mark;

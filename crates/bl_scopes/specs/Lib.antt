@@ -1,7 +1,6 @@
 pub mod Cause
-pub mod Failures
-pub mod Judged
 pub mod Kinds
 pub mod Marks
 pub mod Rules
 pub mod Scopes
+pub mod inner

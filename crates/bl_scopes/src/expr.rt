@@ -3,7 +3,7 @@
 
 ghost use Rattle.std.specs.Prelude.{◌≡◌, map};
 ghost use Rattle.bl_tree.specs.Reduce.{joined};
-ghost use Rattle.bl_scopes.specs.Judged.{judged_by};
+ghost use Rattle.bl_scopes.specs.inner.Judged.{judged_by};
 ghost use Rattle.bl_scopes.specs.Marks.{expr_marks, length_marks, marks_of_part, optional, path_marks, target_marks, type_marks};
 
 use crate::judge::Judge;

@@ -3,7 +3,7 @@
 
 ghost use Rattle.std.specs.Prelude.{◌≡◌, OnOk, ◌++◌, ◌∷◌, [], map};
 ghost use Rattle.bl_tree.specs.Reduce.{joined};
-ghost use Rattle.bl_scopes.specs.Judged.{judged_by};
+ghost use Rattle.bl_scopes.specs.inner.Judged.{judged_by};
 ghost use Rattle.bl_scopes.specs.Marks.{field_mark, field_type_marks, in_scope, inside_unit, item_marks, marks_of, param_marks, struct_marks, unit_marks};
 
 use crate::expr::{optional_ty, ty};

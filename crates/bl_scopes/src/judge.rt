@@ -2,8 +2,8 @@
 
 ghost use Rattle.std.specs.Prelude.{◌≡◌, OnOk};
 ghost use Rattle.bl_tree.specs.Rules.{lesser};
-ghost use Rattle.bl_scopes.specs.Failures.{failure};
-ghost use Rattle.bl_scopes.specs.Judged.{fresh, judged};
+ghost use Rattle.bl_scopes.specs.inner.Failures.{failure};
+ghost use Rattle.bl_scopes.specs.inner.Judged.{fresh, judged};
 ghost use Rattle.bl_scopes.specs.Marks.{closes, declares, opens, uses};
 
 use crate::kind::{Kind, Wanted, suits};

@@ -1,5 +1,7 @@
-//! The names of source programs: what each scope declares and what each use stands for (docs/LANGUAGE.md, "Scopes", "Kinds"
-//! and "Rules").
+//! The rules Duplicate, Unknown and Kind (docs/LANGUAGE.md, "Scopes", "Kinds" and "Rules"), judged in one walk with a
+//! map for each open scope. `check` answers Ok exactly where none of the three fails. Else it names the first that
+//! fails, at its least places (`specs/Rules.antt`, `FailsFirst`); want of memory aside. A use is bound (`Binds`) to the
+//! declaration of its name that the innermost scope around it has, of those that are visible there.
 #![tactic(auto)]
 
 mod expr;

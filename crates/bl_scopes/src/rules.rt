@@ -2,7 +2,7 @@
 
 ghost use Rattle.std.specs.Prelude.{◌≡◌, IfErr, IfOk, OnOk};
 ghost use Rattle.bl_scopes.specs.Cause.{IsCause};
-ghost use Rattle.bl_scopes.specs.Judged.{first_failure};
+ghost use Rattle.bl_scopes.specs.inner.Judged.{first_failure};
 ghost use Rattle.bl_scopes.specs.Rules.{Passes};
 
 use crate::item::items;

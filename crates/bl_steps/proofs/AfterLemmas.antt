@@ -1,18 +1,90 @@
 -- The path of a point leads to what the tree becomes by it.
-use Rattle.std.proofs.Common.{◌≡◌, ℕ, zero, suc, ◌+◌, ◌-◌, ◌<◌, ◌≤◌, Bool, true, false, ◌&&◌, List, [], ◌∷◌, ◌++◌, map, take, drop, length, get_or, refl, sym, ap, ◌∙◌, subst, ⊎_elim, append_assoc, arith, if◌then◌else◌}
+use Rattle.std.proofs.Common.{
+  ◌≡◌,
+  ℕ,
+  zero,
+  suc,
+  ◌+◌,
+  ◌-◌,
+  ◌<◌,
+  ◌≤◌,
+  Bool,
+  true,
+  false,
+  ◌&&◌,
+  List,
+  [],
+  ◌∷◌,
+  ◌++◌,
+  map,
+  take,
+  drop,
+  length,
+  get_or,
+  refl,
+  sym,
+  ap,
+  ◌∙◌,
+  subst,
+  ⊎_elim,
+  append_assoc,
+  arith,
+  if◌then◌else◌,
+}
 use Rattle.std.proofs.Math.Seq.{take-length}
 use Rattle.std.proofs.lemmas.List.{length-drop}
 use Rattle.bl_tree.specs.declared.tree.StmtKind.TheOpen.{StmtKind-F}
 use Rattle.bl_ctree.proofs.Elements.{of-append, of-filter, of-map}
 use Rattle.bl_ctree.specs.Actions.{Silent}
-use Rattle.bl_ctree.specs.Control.{Control, Branches, Nil, Wait, Test, Idle, Do, Turn, Seq, Par, Guard, Run, no_branch, branch, Check, Body, are_done, are_settled, is_nil, seq}
+use Rattle.bl_ctree.specs.Control.{
+  Control,
+  Branches,
+  Nil,
+  Wait,
+  Test,
+  Idle,
+  Do,
+  Turn,
+  Seq,
+  Par,
+  Guard,
+  Run,
+  no_branch,
+  branch,
+  Check,
+  Body,
+  are_done,
+  are_settled,
+  is_nil,
+  seq,
+}
 use Rattle.bl_ctree.specs.Instances.{Setting}
 use Rattle.bl_ctree.specs.Nodes.{Seen, branch_seen, branches_of, control_of, node_control, seen_of}
 use Rattle.bl_ctree.specs.declared.node.Branch.{Branch, fold_out-Branch, out-Branch}
 use Rattle.bl_ctree.specs.Pending.{any_meets, meets}
-use Rattle.bl_ctree.specs.Points.{Among, here, there, Point, begins, branch_points, checks, copying, free_of, giving, in_first, in_later, joining, one_on, points, sure, tests, turns_on, within}
+use Rattle.bl_ctree.specs.Points.{
+  Among,
+  here,
+  there,
+  Point,
+  begins,
+  branch_points,
+  checks,
+  copying,
+  free_of,
+  giving,
+  in_first,
+  in_later,
+  joining,
+  one_on,
+  points,
+  sure,
+  tests,
+  turns_on,
+  within,
+}
 use Rattle.bl_ctree.specs.Positions.{Located, kind_of}
-use Rattle.bl_steps.specs.Spots.{after_by, after_in, first_after, moved}
+use Rattle.bl_steps.specs.inner.Spots.{after_by, after_in, first_after, moved}
 use Rattle.bl_steps.proofs.OwnLemmas.{Own, no_point, one_point, own_giving, own_is}
 
 abbrev pub Leads : Setting → ℕ → Control → Bool → Point Control → Type 0
@@ -38,7 +110,8 @@ in_later_leads : (w : Setting) (i : ℕ) (weak : Bool) (c : Control) (others : B
     → LeadsIn w i (branch weak c others) d (in_later (branch weak c) q)
 in_later_leads w i weak c others d q leads = record { k = suc leads.k; rest = leads.rest; path = ap one_on leads.path; after = ap (branch weak c) leads.after }
 
-par_leads : (w : Setting) (i : ℕ) (s : Located) (stood : Bool) (bs : Branches) (d : Bool) (q : Point Branches) → LeadsIn w i bs d q → Leads w i (Par s stood bs) d (within (Par s stood) q)
+par_leads : (w : Setting) (i : ℕ) (s : Located) (stood : Bool) (bs : Branches) (d : Bool) (q : Point Branches) →
+    LeadsIn w i bs d q → Leads w i (Par s stood bs) d (within (Par s stood) q)
 par_leads w i s stood bs d q leads = ap (Par s stood) leads.after ∙ sym (ap (λ path. after_by w i (Par s stood bs) path d) leads.path)
 
 join_leads : (w : Setting) (i : ℕ) (s : Located) (stood : Bool) (bs : Branches) (d : Bool) (b : Bool) (p : Point Control)
@@ -48,9 +121,11 @@ join_leads w i s stood bs d true p (there m) = elim m [ ]
 join_leads w i s stood bs d false p m = elim m [ ]
 
 -- where the body has ended, and where it has not
-ended : (all : List (Point Control)) → Own all → (inner : List (Point Control)) (around : Control → Control) (after : List ℕ → Bool → Control) (b : Bool)
+ended : (all : List (Point Control)) → Own all → (inner : List (Point Control)) (around : Control → Control)
+    (after : List ℕ → Bool → Control) (b : Bool)
     → ((d : Bool) → first_after all d ≡ Nil) → ((q : Point Control) → Among (Point Control) q inner → (d : Bool) → q.after d ≡ after q.path d)
-    → (p : Point Control) → Among (Point Control) p (if b then all else map (within around) inner) → (d : Bool) → p.after d ≡ (if b then Nil else around (after p.path d))
+    → (p : Point Control) → Among (Point Control) p (if b then all else map (within around) inner) → (d : Bool) →
+    p.after d ≡ (if b then Nil else around (after p.path d))
 ended all o inner around after true ends each p m d = only all o p m d ∙ ends d
 ended all o inner around after false ends each p m d =
     let image = of-map (within around) inner m in
@@ -83,7 +158,8 @@ mutual
   leads_on w i (Turn s) p m d = only (turns_on i s (kind_of s)) (own_is w i (Turn s)) p m d
   leads_on w i (Seq c rest) p m d =
       let image = of-map (within (λ c. seq c rest)) (points w i c) m in
-      subst (λ (p : Point Control). p.after d ≡ seq (after_by w i c p.path d) rest) image.is (ap (λ c. seq c rest) (leads_on w i c image.source image.among d))
+      subst (λ (p : Point Control). p.after d ≡ seq (after_by w i c p.path d) rest) image.is
+      (ap (λ c. seq c rest) (leads_on w i c image.source image.among d))
   leads_on w i (Par s stood branches) p m d =
       ⊎_elim (λ (own : Among (Point Control) p (joining i s branches)). join_leads w i s stood branches d (are_settled branches && are_done branches) p own)
       (λ (inner : Among (Point Control) p (map (within (Par s stood)) (branch_points w i branches))).
@@ -92,12 +168,15 @@ mutual
       (of-append (joining i s branches) m)
   leads_on w i (Guard s Check stood c) p m d = only (checks i s stood c (kind_of s)) (own_is w i (Guard s Check stood c)) p m d
   leads_on w i (Guard s Body stood c) p m d =
-      ended (sure i s Silent Nil) (one_point _ refl) (points w i c) (Guard s Body stood) (after_by w i c) (is_nil c) (λ d. refl) (λ q m d. leads_on w i c q m d) p m d
+      ended (sure i s Silent Nil) (one_point _ refl) (points w i c) (Guard s Body stood) (after_by w i c) (is_nil c) (λ d. refl)
+      (λ q m d. leads_on w i c q m d) p m d
   leads_on w i (Run s callee Check stood c) p m d = only (copying i s callee stood c (kind_of s)) (own_is w i (Run s callee Check stood c)) p m d
   leads_on w i (Run s callee Body stood c) p m d =
-      ended (giving i s callee (kind_of s)) (own_giving i s callee (kind_of s)) (points w callee c) (Run s callee Body stood) (after_by w callee c) (is_nil c) (giving_ends i s callee) (λ q m d. leads_on w callee c q m d) p m d
+      ended (giving i s callee (kind_of s)) (own_giving i s callee (kind_of s)) (points w callee c) (Run s callee Body stood)
+      (after_by w callee c) (is_nil c) (giving_ends i s callee) (λ q m d. leads_on w callee c q m d) p m d
 
-  leads_in : (w : Setting) (i : ℕ) (bs : Branches) (p : Point Branches) → Among (Point Branches) p (branch_points w i bs) → (d : Bool) → LeadsIn w i bs d p
+  leads_in : (w : Setting) (i : ℕ) (bs : Branches) (p : Point Branches) → Among (Point Branches) p (branch_points w i bs) →
+      (d : Bool) → LeadsIn w i bs d p
   leads_in w i no_branch p m d = elim m [ ]
   leads_in w i (branch weak c others) p m d =
       ⊎_elim
@@ -119,7 +198,8 @@ after_in_moved w i [] k path d = refl
 after_in_moved w i (b ∷ bs) zero path d = refl
 after_in_moved w i (b ∷ bs) (suc k) path d = ap (branch b.weak b.tree) (after_in_moved w i bs k path d)
 
-pub first_and_rest : (path : List ℕ) (k : ℕ) (rest : List ℕ) → 0 < length path → k ≡ get_or path 0 k → rest ≡ drop 1 path → path ≡ k ∷ rest
+pub first_and_rest : (path : List ℕ) (k : ℕ) (rest : List ℕ) → 0 < length path → k ≡ get_or path 0 k → rest ≡ drop 1 path →
+    path ≡ k ∷ rest
 first_and_rest [] k rest within is_k is_rest = absurd (omega arith)
 first_and_rest (j ∷ path) k rest within is_k is_rest = λ i. sym is_k i ∷ (sym is_rest ∙ refl) i
 
@@ -131,7 +211,8 @@ pub par_after : (w : Setting) (i : ℕ) (s : Located) (stood : Bool) (bs made : 
     → path ≡ k ∷ rest → made ≡ moved bs k (λ c. after_by w i c rest d)
     → Par s stood (branches_of made) ≡ after_by w i (Par s stood (branches_of bs)) path d
 par_after w i s stood bs made path k rest d is_path is_made =
-    ap (λ bs. Par s stood (branches_of bs)) is_made ∙ ap (Par s stood) (sym (after_in_moved w i bs k rest d)) ∙ sym (ap (λ path. after_by w i (Par s stood (branches_of bs)) path d) is_path)
+    ap (λ bs. Par s stood (branches_of bs)) is_made ∙ ap (Par s stood) (sym (after_in_moved w i bs k rest d))
+    ∙ sym (ap (λ path. after_by w i (Par s stood (branches_of bs)) path d) is_path)
 
 -- no branch has the number
 pub moved_none : {A : Type 0} (g : A → Seen) (xs : List A) (k : ℕ) (f : Control → Control) → length xs ≤ k → map g xs ≡ moved (map g xs) k f
@@ -140,11 +221,13 @@ moved_none g (x ∷ xs) zero f past = absurd (omega arith)
 moved_none g (x ∷ xs) (suc k) f past = ap (λ rest. g x ∷ rest) (moved_none g xs k f (omega arith))
 
 -- a branch with another tree
-pub moved_at : (xs : List Branch) (k : ℕ) (x : Branch) (f : Control → Control) (made : Control) → k < length xs → x ≡ get_or xs k x → made ≡ f (control_of (out-Branch x).tree)
+pub moved_at : (xs : List Branch) (k : ℕ) (x : Branch) (f : Control → Control) (made : Control) → k < length xs →
+    x ≡ get_or xs k x → made ≡ f (control_of (out-Branch x).tree)
     → moved (map seen_of xs) k (λ c. made) ≡ moved (map seen_of xs) k f
 moved_at [] k x f made within is same = refl
 moved_at (y ∷ xs) zero x f made within is same =
-    ap (λ c. record { weak = (seen_of y).weak; tree = c } ∷ map seen_of xs) (same ∙ ap f (sym (ap (λ b. b.tree) (seen_out x)) ∙ ap (λ b. (seen_of b).tree) is))
+    ap (λ c. record { weak = (seen_of y).weak; tree = c } ∷ map seen_of xs)
+    (same ∙ ap f (sym (ap (λ b. b.tree) (seen_out x)) ∙ ap (λ b. (seen_of b).tree) is))
 moved_at (y ∷ xs) (suc k) x f made within is same = ap (λ rest. seen_of y ∷ rest) (moved_at xs k x f made (omega arith) is same)
 
 -- the branches in front of one that gets another tree, that one, and those behind it
@@ -152,7 +235,8 @@ pub moved_one : (xs : List Branch) (k : ℕ) (x : Branch) (c : Control) → k < 
     → map seen_of (take k xs) ++ (record { weak = (out-Branch x).weak; tree = c } ∷ map seen_of (drop (suc k) xs)) ≡ moved (map seen_of xs) k (λ d. c)
 moved_one [] k x c within is = absurd (omega arith)
 moved_one (y ∷ xs) zero x c within is =
-    ap (λ (weak : Bool). record { weak = weak; tree = c } ∷ map seen_of (drop 1 (y ∷ xs))) (sym (ap (λ b. b.weak) (seen_out x)) ∙ ap (λ b. (seen_of b).weak) is)
+    ap (λ (weak : Bool). record { weak = weak; tree = c } ∷ map seen_of (drop 1 (y ∷ xs)))
+    (sym (ap (λ b. b.weak) (seen_out x)) ∙ ap (λ b. (seen_of b).weak) is)
     ∙ ap (λ rest. record { weak = (seen_of y).weak; tree = c } ∷ map seen_of rest) (drop_none xs)
   where
     drop_none : (ys : List Branch) → drop 1 (y ∷ ys) ≡ ys
@@ -166,7 +250,8 @@ rest_of k xs =
     ap (λ n. take n (drop (k + 1) xs)) (sym (length-drop (k + 1) xs)) ∙ take-length (drop (k + 1) xs) ∙ ap (λ n. drop n xs) next
 
 -- as the parts are appended one behind another
-pub parts_made : (xs : List Branch) (k : ℕ) (x : Branch) (c : Control) (none front made all : List Seen) → k < length xs → x ≡ get_or xs k x → none ≡ []
+pub parts_made : (xs : List Branch) (k : ℕ) (x : Branch) (c : Control) (none front made all : List Seen) → k < length xs →
+    x ≡ get_or xs k x → none ≡ []
     → front ≡ none ++ map seen_of (take k xs) → made ≡ front ++ record { weak = (out-Branch x).weak; tree = c } ∷ []
     → all ≡ made ++ map seen_of (take (length xs - (k + 1)) (drop (k + 1) xs)) → all ≡ moved (map seen_of xs) k (λ d. c)
 parts_made xs k x c none front made all within is is_none is_front is_made is_all =

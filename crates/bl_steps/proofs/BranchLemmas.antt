@@ -1,5 +1,37 @@
 -- The points of branches, one branch after another.
-use Rattle.std.proofs.Common.{◌≡◌, ℕ, zero, suc, ◌+◌, ◌<◌, ◌≤◌, Bool, true, false, not, ◌&&◌, ◌||◌, cond, List, [], ◌∷◌, ◌++◌, map, filter, take, drop, length, get_or, refl, sym, ap, ◌∙◌, arith, append_assoc, append-nil}
+use Rattle.std.proofs.Common.{
+  ◌≡◌,
+  ℕ,
+  zero,
+  suc,
+  ◌+◌,
+  ◌<◌,
+  ◌≤◌,
+  Bool,
+  true,
+  false,
+  not,
+  ◌&&◌,
+  ◌||◌,
+  cond,
+  List,
+  [],
+  ◌∷◌,
+  ◌++◌,
+  map,
+  filter,
+  take,
+  drop,
+  length,
+  get_or,
+  refl,
+  sym,
+  ap,
+  ◌∙◌,
+  arith,
+  append_assoc,
+  append-nil,
+}
 use Rattle.std.specs.List.{list_any}
 use Rattle.std.proofs.lemmas.List.Elements.{filter-append}
 use Rattle.std.proofs.lemmas.List.Folds.{list_any-append}
@@ -10,7 +42,7 @@ use Rattle.bl_ctree.specs.Nodes.{Seen, branches_of}
 use Rattle.bl_ctree.specs.Pending.{any_meets, any_writes, may_write, meets}
 use Rattle.bl_ctree.specs.Points.{Point, branch_points, free_of, in_first, in_later, one_on, points}
 use Rattle.bl_ctree.specs.Store.{Location}
-use Rattle.bl_steps.specs.Spots.{Spot, homes_seen, is_free_of, meets_one, spot_below, taken}
+use Rattle.bl_steps.specs.inner.Spots.{Spot, homes_seen, is_free_of, meets_one, spot_below, taken}
 use Rattle.bl_pending.proofs.WriteLemmas.{writes_over}
 
 -- ---- what meets what
@@ -50,7 +82,8 @@ or_false false = refl
 
 pub taken_one : (w : Setting) (i : ℕ) (b : Seen) (a : Action) → taken (homes_seen w i b ∷ []) (reads_of w a) ≡ meets w i b.tree a
 taken_one w i b a =
-    taken_others w i (b ∷ []) a ∙ any_same (any_writes w i (branches_of (b ∷ []))) (may_write w i b.tree) (reads_of w a) (λ at. or_false (may_write w i b.tree at))
+    taken_others w i (b ∷ []) a ∙ any_same (any_writes w i (branches_of (b ∷ []))) (may_write w i b.tree) (reads_of w a)
+    (λ at. or_false (may_write w i b.tree at))
 
 -- ---- lists
 
@@ -58,7 +91,8 @@ pub map-append : {A B : Type 0} (f : A → B) (xs ys : List A) → map f (xs ++ 
 map-append f [] ys = refl
 map-append f (x ∷ xs) ys = ap (λ rest. f x ∷ rest) (map-append f xs ys)
 
-module _ {A B C : Type 0} (g : A → B) (shown : B → C) (h : A → C) (t : A → Bool) (F G : C → Bool) (same : (p : A) → shown (g p) ≡ h p) (free : (p : A) → G (h p) ≡ (F (h p) && t p)) where
+module _ {A B C : Type 0} (g : A → B) (shown : B → C) (h : A → C) (t : A → Bool) (F G : C → Bool)
+    (same : (p : A) → shown (g p) ≡ h p) (free : (p : A) → G (h p) ≡ (F (h p) && t p)) where
   free_step : (p : A) (ps : List A) (b c : Bool) → t p ≡ b → F (h p) ≡ c → filter F (map shown (map g (filter t ps))) ≡ filter G (map h ps)
       → filter F (map shown (map g (cond b (p ∷ filter t ps) (filter t ps)))) ≡ cond (c && b) (h p ∷ filter G (map h ps)) (filter G (map h ps))
   free_step p ps true true is passes rest =
@@ -124,10 +158,12 @@ module _ (w : Setting) (i : ℕ) (path : List ℕ) where
   abbrev behind : List Seen → List (Point Branches)
   behind bs = branch_points w i (branches_of bs)
 
-  spot_first : (k : ℕ) (weak : Bool) (others : Branches) (p : Point Control) → spot_from w path k (in_first (λ c. branch weak c others) p) ≡ spot_below w (path ++ k ∷ []) p
+  spot_first : (k : ℕ) (weak : Bool) (others : Branches) (p : Point Control) →
+      spot_from w path k (in_first (λ c. branch weak c others) p) ≡ spot_below w (path ++ k ∷ []) p
   spot_first k weak others p =
       let same : k + 0 ≡ k = omega arith in
-      ap (λ j. record (spot_below w [] p) { path = path ++ j ∷ p.path }) same ∙ ap (λ all. record (spot_below w [] p) { path = all }) (sym (append_assoc path (k ∷ []) p.path))
+      ap (λ j. record (spot_below w [] p) { path = path ++ j ∷ p.path }) same
+      ∙ ap (λ all. record (spot_below w [] p) { path = all }) (sym (append_assoc path (k ∷ []) p.path))
 
   one_numbered : (k : ℕ) (ks : List ℕ) → numbered k (one_on ks) ≡ numbered (suc k) ks
   one_numbered k [] = refl
@@ -147,13 +183,15 @@ module _ (w : Setting) (i : ℕ) (path : List ℕ) where
       ap (filter (is_free front)) (map-append (spot_from w path k) firsts laters)
       ∙ filter-append (is_free front) (map (spot_from w path k) firsts) (map (spot_from w path k) laters)
       ∙ ap (λ xs. xs ++ filter (is_free front) (map (spot_from w path k) laters))
-      (kept_free (in_first (λ c. branch b.weak c (branches_of bs))) (spot_from w path k) (spot_below w (path ++ k ∷ [])) (λ p. not (any_meets w i (branches_of bs) p.action))
+      (kept_free (in_first (λ c. branch b.weak c (branches_of bs))) (spot_from w path k) (spot_below w (path ++ k ∷ []))
+      (λ p. not (any_meets w i (branches_of bs) p.action))
       (is_free front) (λ s. is_free front s && is_free (map (homes_seen w i) bs) s) (spot_first k b.weak (branches_of bs))
       (λ p. ap (λ t. is_free front (spot_below w [] p) && not t) (taken_others w i bs p.action)) (points w i b.tree))
       ∙ ap (λ ys. filter (λ s. is_free front s && is_free (map (homes_seen w i) bs) s) (map (spot_below w (path ++ k ∷ [])) (points w i b.tree)) ++ ys)
       (kept_free (in_later (branch b.weak b.tree)) (spot_from w path k) (spot_from w path (suc k)) (λ p. not (meets w i b.tree p.action))
       (is_free front) (is_free (front ++ homes_seen w i b ∷ [])) (spot_later k b.weak b.tree)
-      (λ p. ap not (taken-append front (homes_seen w i b ∷ []) (reads_of w p.action)) ∙ not_or (taken front (reads_of w p.action)) (taken (homes_seen w i b ∷ []) (reads_of w p.action))
+      (λ p. ap not (taken-append front (homes_seen w i b ∷ []) (reads_of w p.action))
+      ∙ not_or (taken front (reads_of w p.action)) (taken (homes_seen w i b ∷ []) (reads_of w p.action))
       ∙ ap (λ t. is_free front (spot_below w [] p) && not t) (taken_one w i b p.action)) (behind bs))
 
   none_taken : (reads : List Location) → taken [] reads ≡ false
@@ -170,7 +208,8 @@ module _ (w : Setting) (i : ℕ) (path : List ℕ) where
   start_list : (ps : List (Point Branches)) → filter (is_free []) (map (spot_from w path 0) ps) ≡ map (spot_below w path) ps
   start_list [] = refl
   start_list (p ∷ ps) =
-      ap (λ b. cond (not b) (spot_from w path 0 p ∷ filter (is_free []) (map (spot_from w path 0) ps)) (filter (is_free []) (map (spot_from w path 0) ps))) (none_taken (spot_from w path 0 p).reads)
+      ap (λ b. cond (not b) (spot_from w path 0 p ∷ filter (is_free []) (map (spot_from w path 0) ps))
+      (filter (is_free []) (map (spot_from w path 0) ps))) (none_taken (spot_from w path 0 p).reads)
       ∙ (λ i. spot_at_start p i ∷ start_list ps i)
 
   -- before the first branch
@@ -178,19 +217,23 @@ module _ (w : Setting) (i : ℕ) (path : List ℕ) where
   branches_start bs = start_list (behind bs)
 
   -- one more branch
-  pub branches_step : (all : List Seen) (ps : List (List Location)) (k : ℕ) (b : Seen) → ps ≡ map (homes_seen w i) all → drop k all ≡ b ∷ drop (suc k) all
+  pub branches_step : (all : List Seen) (ps : List (List Location)) (k : ℕ) (b : Seen) → ps ≡ map (homes_seen w i) all →
+      drop k all ≡ b ∷ drop (suc k) all
       → filter (is_free (take k ps)) (map (spot_from w path k) (behind (drop k all)))
       ≡ filter (is_free_of ps k) (map (spot_below w (path ++ k ∷ [])) (points w i b.tree))
       ++ filter (is_free (take (suc k) ps)) (map (spot_from w path (suc k)) (behind (drop (suc k) all)))
   branches_step all ps k b is here =
       let rest = drop (suc k) all in
-      let ahead : drop k ps ≡ homes_seen w i b ∷ map (homes_seen w i) rest = ap (drop k) is ∙ drop_map (homes_seen w i) k all ∙ ap (map (homes_seen w i)) here in
-      let later : drop (k + 1) ps ≡ map (homes_seen w i) rest = (let more : k + 1 ≡ suc k = omega arith in ap (λ n. drop n ps) more) ∙ ap (drop (suc k)) is ∙ drop_map (homes_seen w i) (suc k) all in
+      let ahead : drop k ps ≡ homes_seen w i b ∷ map (homes_seen w i) rest =
+      ap (drop k) is ∙ drop_map (homes_seen w i) k all ∙ ap (map (homes_seen w i)) here in
+      let later : drop (k + 1) ps ≡ map (homes_seen w i) rest =
+      (let more : k + 1 ≡ suc k = omega arith in ap (λ n. drop n ps) more) ∙ ap (drop (suc k)) is ∙ drop_map (homes_seen w i) (suc k) all in
       ap (λ all. filter (is_free (take k ps)) (map (spot_from w path k) (behind all))) here
       ∙ one_branch (take k ps) k b rest
       ∙ ap (λ others. filter (λ s. is_free (take k ps) s && is_free others s) (map (spot_below w (path ++ k ∷ [])) (points w i b.tree))
       ++ filter (is_free (take k ps ++ homes_seen w i b ∷ [])) (map (spot_from w path (suc k)) (behind rest))) (sym later)
-      ∙ ap (λ front. filter (is_free_of ps k) (map (spot_below w (path ++ k ∷ [])) (points w i b.tree)) ++ filter (is_free front) (map (spot_from w path (suc k)) (behind rest)))
+      ∙ ap (λ front. filter (is_free_of ps k) (map (spot_below w (path ++ k ∷ [])) (points w i b.tree))
+      ++ filter (is_free front) (map (spot_from w path (suc k)) (behind rest)))
       (sym (take_more k ps (homes_seen w i b) (map (homes_seen w i) rest) ahead))
 
   -- before the loop over the branches
@@ -207,7 +250,8 @@ module _ (w : Setting) (i : ℕ) (path : List ℕ) where
 
   -- one step of that loop
   pub loop_goes_on : (all : List Seen) (ps : List (List Location)) (k next : ℕ) (b : Seen) (done made start found : List Spot) (inside : List ℕ)
-      → next ≡ suc k → ps ≡ map (homes_seen w i) all → drop k all ≡ b ∷ drop (suc k) all → inside ≡ path ++ k ∷ [] → found ≡ map (spot_below w inside) (points w i b.tree)
+      → next ≡ suc k → ps ≡ map (homes_seen w i) all → drop k all ≡ b ∷ drop (suc k) all → inside ≡ path ++ k ∷ [] →
+      found ≡ map (spot_below w inside) (points w i b.tree)
       → made ≡ done ++ filter (is_free_of ps k) found
       → done ++ filter (is_free (take k ps)) (map (spot_from w path k) (behind (drop k all))) ≡ start
       → made ++ filter (is_free (take next ps)) (map (spot_from w path next) (behind (drop next all))) ≡ start
@@ -216,7 +260,8 @@ module _ (w : Setting) (i : ℕ) (path : List ℕ) where
       ap (λ n. made ++ filter (is_free (take n ps)) (map (spot_from w path n) (behind (drop n all)))) is_next
       ∙ ap (λ made. made ++ later) is_made
       ∙ append_assoc done (filter (is_free_of ps k) found) later
-      ∙ ap (λ found. done ++ (filter (is_free_of ps k) found ++ later)) (is_found ∙ ap (λ inside. map (spot_below w inside) (points w i b.tree)) is_inside)
+      ∙ ap (λ found. done ++ (filter (is_free_of ps k) found ++ later))
+      (is_found ∙ ap (λ inside. map (spot_below w inside) (points w i b.tree)) is_inside)
       ∙ ap (λ spots. done ++ spots) (sym (branches_step all ps k b is here))
       ∙ before
 
@@ -227,7 +272,8 @@ module _ (w : Setting) (i : ℕ) (path : List ℕ) where
       sym (ap (λ rest. done ++ filter (is_free (take k ps)) (map (spot_from w path k) (behind rest))) (none_left all k past) ∙ append-nil done) ∙ before
 
 -- the branch with number k
-pub branch_here : {A : Type 0} (f : A → Seen) (xs : List A) (k : ℕ) (x : A) → k < length xs → x ≡ get_or xs k x → drop k (map f xs) ≡ f x ∷ drop (suc k) (map f xs)
+pub branch_here : {A : Type 0} (f : A → Seen) (xs : List A) (k : ℕ) (x : A) → k < length xs → x ≡ get_or xs k x →
+    drop k (map f xs) ≡ f x ∷ drop (suc k) (map f xs)
 branch_here f [] k x within is = absurd (omega arith)
 branch_here f (y ∷ xs) zero x within is = ap (λ z. f z ∷ map f xs) (sym is) ∙ ap (λ rest. f x ∷ rest) (sym (drop_all (map f xs)))
 branch_here f (y ∷ xs) (suc k) x within is = branch_here f xs k x (omega arith) is

@@ -20,7 +20,8 @@ control_of_seq inner rest = search (rules, the_lemmas)
 control_of_par : (s : At) (stood : Bool) (all : List BranchNode) → control_of (ParNode s stood all) ≡ Par (located s) stood (branches_of (map seen_of all))
 control_of_par s stood all = search (rules, the_lemmas)
 
-control_of_guard : (s : At) (phase : PhaseNode) (stood : Bool) (inner : Node) → control_of (GuardNode s phase stood inner) ≡ Guard (located s) (phase_of phase) stood (control_of inner)
+control_of_guard : (s : At) (phase : PhaseNode) (stood : Bool) (inner : Node) →
+    control_of (GuardNode s phase stood inner) ≡ Guard (located s) (phase_of phase) stood (control_of inner)
 control_of_guard s phase stood inner = search (rules, the_lemmas)
 
 control_of_run : (s : At) (callee : ℕ) (phase : PhaseNode) (stood : Bool) (inner : Node)
@@ -28,7 +29,8 @@ control_of_run : (s : At) (callee : ℕ) (phase : PhaseNode) (stood : Bool) (inn
 control_of_run s callee phase stood inner = search (rules, the_lemmas)
 
 -- a `cobegin` made anew with these branches
-pub par_made : (s made : At) (stood : Bool) (all : List BranchNode) → located made ≡ located s → control_of (ParNode made stood all) ≡ Par (located s) stood (branches_of (map seen_of all))
+pub par_made : (s made : At) (stood : Bool) (all : List BranchNode) → located made ≡ located s →
+    control_of (ParNode made stood all) ≡ Par (located s) stood (branches_of (map seen_of all))
 par_made s made stood all same = control_of_par made stood all ∙ ap (λ at. Par at stood (branches_of (map seen_of all))) same
 
 -- ---- a node, by its parts
@@ -36,13 +38,17 @@ par_made s made stood all same = control_of_par made stood all ∙ ap (λ at. Pa
 pub seq_is : (node inner : Node) (rest : Rest) → node ≡ SeqNode inner rest → control_of node ≡ Seq (control_of inner) (items_of rest)
 seq_is node inner rest is = ap control_of is ∙ control_of_seq inner rest
 
-pub par_is : (node : Node) (s : At) (stood : Bool) (all : List BranchNode) → node ≡ ParNode s stood all → control_of node ≡ Par (located s) stood (branches_of (map seen_of all))
+pub par_is : (node : Node) (s : At) (stood : Bool) (all : List BranchNode) → node ≡ ParNode s stood all →
+    control_of node ≡ Par (located s) stood (branches_of (map seen_of all))
 par_is node s stood all is = ap control_of is ∙ control_of_par s stood all
 
 pub guard_is : (node : Node) (s : At) (phase : PhaseNode) (stood : Bool) (inner : Node) → node ≡ GuardNode s phase stood inner → phase ≡ AtBody
     → control_of node ≡ Guard (located s) Body stood (control_of inner)
-guard_is node s phase stood inner is body = ap control_of is ∙ control_of_guard s phase stood inner ∙ ap (λ phase. Guard (located s) (phase_of phase) stood (control_of inner)) body
+guard_is node s phase stood inner is body = ap control_of is ∙ control_of_guard s phase stood inner
+    ∙ ap (λ phase. Guard (located s) (phase_of phase) stood (control_of inner)) body
 
-pub run_is : (node : Node) (s : At) (callee : ℕ) (phase : PhaseNode) (stood : Bool) (inner : Node) → node ≡ RunNode s callee phase stood inner → phase ≡ AtBody
+pub run_is : (node : Node) (s : At) (callee : ℕ) (phase : PhaseNode) (stood : Bool) (inner : Node) →
+    node ≡ RunNode s callee phase stood inner → phase ≡ AtBody
     → control_of node ≡ Run (located s) callee Body stood (control_of inner)
-run_is node s callee phase stood inner is body = ap control_of is ∙ control_of_run s callee phase stood inner ∙ ap (λ phase. Run (located s) callee (phase_of phase) stood (control_of inner)) body
+run_is node s callee phase stood inner is body = ap control_of is ∙ control_of_run s callee phase stood inner
+    ∙ ap (λ phase. Run (located s) callee (phase_of phase) stood (control_of inner)) body

@@ -1,5 +1,36 @@
 -- No action takes a variable from an instance, so the store has a value for each output throughout.
-use Rattle.std.proofs.Common.{◌≡◌, ℕ, zero, suc, ◌+◌, ◌-◌, ◌≤◌, ℤ, Bool, true, false, List, [], ◌∷◌, ◌++◌, length, map, min, take, drop, Option, Some, None, refl, sym, ap, ◌∙◌, subst, arith, ◌&&◌}
+use Rattle.std.proofs.Common.{
+  ◌≡◌,
+  ℕ,
+  zero,
+  suc,
+  ◌+◌,
+  ◌-◌,
+  ◌≤◌,
+  ℤ,
+  Bool,
+  true,
+  false,
+  List,
+  [],
+  ◌∷◌,
+  ◌++◌,
+  length,
+  map,
+  min,
+  take,
+  drop,
+  Option,
+  Some,
+  None,
+  refl,
+  sym,
+  ap,
+  ◌∙◌,
+  subst,
+  arith,
+  ◌&&◌,
+}
 use Rattle.std.specs.Prelude.{nat_le, option_and_then, option_map, slice_get, slice_set, unwrap_or}
 use Rattle.std.proofs.lemmas.Bool.{leb-true}
 use Rattle.std.proofs.lemmas.List.{length-append, length-drop, length-map, length-take}
@@ -19,7 +50,27 @@ use Rattle.bl_ctree.specs.Actions.{acted_kind, given_to, outcome_there, result_a
 use Rattle.bl_ctree.specs.declared.instance.Instance.{Instance}
 use Rattle.bl_ctree.specs.Instances.{Setting, expanded, instances_below, instances_of, runs_of, setting_of, unit_at, unit_of}
 use Rattle.bl_ctree.specs.Positions.{stmt_kind}
-use Rattle.bl_ctree.specs.Store.{Frame, Location, Store, aged, first_frame, first_store, frame_at_first, home, number_or_zero, outputs_of_frame, put, put_path, put_written, remember, with_frame, with_inputs, with_now, woken_store, zeros}
+use Rattle.bl_ctree.specs.Store.{
+  Frame,
+  Location,
+  Store,
+  aged,
+  first_frame,
+  first_store,
+  frame_at_first,
+  home,
+  number_or_zero,
+  outputs_of_frame,
+  put,
+  put_path,
+  put_written,
+  remember,
+  with_frame,
+  with_inputs,
+  with_now,
+  woken_store,
+  zeros,
+}
 use Rattle.bl_tree.specs.declared.static_path.Static.{Static}
 use Rattle.bl_tree.specs.Effects.{writes}
 use Rattle.bl_store.specs.declared.perform.Deed.{Deed}
@@ -58,19 +109,22 @@ grows_on a b = record { at = λ i. covers_on (a.at i) (b.at i) }
 
 -- ---- one frame changes
 
-set_covers : (store : Store) (i : ℕ) (f g : Frame) → slice_get store i ≡ Some f → length f.now ≤ length g.now → (j : ℕ) → Covers (slice_get store j) (slice_get (slice_set store i g) j)
+set_covers : (store : Store) (i : ℕ) (f g : Frame) → slice_get store i ≡ Some f → length f.now ≤ length g.now → (j : ℕ) →
+    Covers (slice_get store j) (slice_get (slice_set store i g) j)
 set_covers [] i f g is more j = absurd cc
 set_covers (h ∷ store) zero f g is more zero = let same : h ≡ f = cc in subst (λ (h : Frame). Covers (Some h) (Some g)) (sym same) (no_fewer more)
 set_covers (h ∷ store) zero f g is more (suc j) = covers_same (slice_get store j)
 set_covers (h ∷ store) (suc i) f g is more zero = covers_same (Some h)
 set_covers (h ∷ store) (suc i) f g is more (suc j) = set_covers store i f g is more j
 
-frame_grows : (store : Store) (i : ℕ) (change : Frame → Frame) → ((f : Frame) → length f.now ≤ length (change f).now) → (found : Option Frame) → slice_get store i ≡ found
+frame_grows : (store : Store) (i : ℕ) (change : Frame → Frame) → ((f : Frame) → length f.now ≤ length (change f).now) →
+    (found : Option Frame) → slice_get store i ≡ found
     → Grows store (unwrap_or (option_map (λ frame. slice_set store i (change frame)) found) store)
 frame_grows store i change more None is = grows_same store
 frame_grows store i change more (Some f) is = record { at = set_covers store i f (change f) is (more f) }
 
-changed_grows : (i : ℕ) (change : Frame → Frame) (store : Store) → ((f : Frame) → length f.now ≤ length (change f).now) → Grows store (with_frame i change store)
+changed_grows : (i : ℕ) (change : Frame → Frame) (store : Store) → ((f : Frame) → length f.now ≤ length (change f).now) →
+    Grows store (with_frame i change store)
 changed_grows i change store more = frame_grows store i change more (slice_get store i) refl
 
 -- ---- a value is put
@@ -95,7 +149,10 @@ put_grows_at : (store : Store) (at : Location) (value : Value) (f : Frame) (made
     → Grows store (unwrap_or (option_map (λ now. slice_set store at.instance (record f { now = now })) made) store)
 put_grows_at store at value f None is same = grows_same store
 put_grows_at store at value f (Some now) is same =
-    record { at = set_covers store at.instance f (record f { now = now }) is (subst (λ (n : ℕ). length f.now ≤ n) (sym (same now refl)) (le_refl (length f.now))) }
+    record {
+      at = set_covers store at.instance f (record f { now = now }) is
+          (subst (λ (n : ℕ). length f.now ≤ n) (sym (same now refl)) (le_refl (length f.now)));
+    }
 
 put_grows_in : (store : Store) (at : Location) (value : Value) (found : Option Frame) → slice_get store at.instance ≡ found
     → Grows store (unwrap_or (option_and_then (with_now store at value) found) store)
@@ -119,7 +176,8 @@ written_grows w i values (path ∷ rest) store =
 
 -- ---- actions
 
-some_grows : {X : Type 0} (store new : Store) (f : X → Store) (found : Option X) → ((x : X) → Grows store (f x)) → option_map f found ≡ Some new → Grows store new
+some_grows : {X : Type 0} (store new : Store) (f : X → Store) (found : Option X) → ((x : X) → Grows store (f x)) →
+    option_map f found ≡ Some new → Grows store new
 some_grows store new f None each is = absurd cc
 some_grows store new f (Some x) each is = let same : f x ≡ new = cc in subst (λ (new : Store). Grows store new) same (each x)
 
@@ -131,17 +189,22 @@ given_grows w i (Some path) (Some value) store = put_grows (home w _) value stor
 inputs_grow : (inputs : List Value) (f : Frame) → length f.now ≤ length (with_inputs inputs f).now
 inputs_grow inputs f = omega (arith, length-append inputs (drop (length inputs) f.now), length-drop (length inputs) f.now)
 
-puts_grow : (w : Setting) (i : ℕ) (s : Stmt) (store new : Store) → option_map (λ values. put_written w i values (writes s) store) (outcome_there w store i s) ≡ Some new → Grows store new
+puts_grow : (w : Setting) (i : ℕ) (s : Stmt) (store new : Store) →
+    option_map (λ values. put_written w i values (writes s) store) (outcome_there w store i s) ≡ Some new → Grows store new
 puts_grow w i s store new is =
-    some_grows store new (λ values. put_written w i values (writes s) store) (outcome_there w store i s) (λ values. written_grows w i values (writes s) store) is
+    some_grows store new (λ values. put_written w i values (writes s) store) (outcome_there w store i s)
+    (λ values. written_grows w i values (writes s) store) is
 
-acted_grows : (w : Setting) (i : ℕ) (s : Stmt) (k : StmtKind-F StmtKind Arm Branch Stmt) (store new : Store) → acted_kind w i s k store ≡ Some new → Grows store new
+acted_grows : (w : Setting) (i : ℕ) (s : Stmt) (k : StmtKind-F StmtKind Arm Branch Stmt) (store new : Store) →
+    acted_kind w i s k store ≡ Some new → Grows store new
 acted_grows w i s (StmtKind-F.Return None) store new is = let same : store ≡ new = cc in subst (λ (new : Store). Grows store new) same (grows_same store)
 acted_grows w i s (StmtKind-F.Return (Some e)) store new is =
-    some_grows store new (λ value. with_frame i (with_result value) store) (value_there w store i e) (λ value. changed_grows i (with_result value) store (λ f. le_refl (length f.now))) is
+    some_grows store new (λ value. with_frame i (with_result value) store) (value_there w store i e)
+    (λ value. changed_grows i (with_result value) store (λ f. le_refl (length f.now))) is
 acted_grows w i s (StmtKind-F.Declare k initial) store new is =
     some_grows store new (λ values. with_frame i (remember k) (put_written w i values (writes s) store)) (outcome_there w store i s)
-    (λ values. grows_on (written_grows w i values (writes s) store) (changed_grows i (remember k) (put_written w i values (writes s) store) (λ f. le_refl (length f.now)))) is
+    (λ values. grows_on (written_grows w i values (writes s) store)
+    (changed_grows i (remember k) (put_written w i values (writes s) store) (λ f. le_refl (length f.now)))) is
 acted_grows w i s (StmtKind-F.Assign path e) store new is = puts_grow w i s store new is
 acted_grows w i s (StmtKind-F.Call f inputs outputs) store new is = puts_grow w i s store new is
 acted_grows w i s (StmtKind-F.Await e) store new is = puts_grow w i s store new is
@@ -158,7 +221,8 @@ pub deed_grows : (w : Setting) (i : ℕ) (deed : Deed) (store new : Store) → d
 deed_grows w i Silent store new is = let same : store ≡ new = cc in subst (λ (new : Store). Grows store new) same (grows_same store)
 deed_grows w i (Acts s) store new is = acted_grows w i s.now (stmt_kind s.now) store new is
 deed_grows w i (Copies callee inputs) store new is =
-    some_grows store new (λ values. with_frame callee (with_inputs values) store) (values_there w store i inputs.now) (λ values. changed_grows callee (with_inputs values) store (inputs_grow values)) is
+    some_grows store new (λ values. with_frame callee (with_inputs values) store) (values_there w store i inputs.now)
+    (λ values. changed_grows callee (with_inputs values) store (inputs_grow values)) is
 deed_grows w i (Gives callee target) store new is =
     let same : given_to w i target.now (result_at store callee) store ≡ new = cc in
     subst (λ (new : Store). Grows store new) same (given_grows w i target.now (result_at store callee) store)
@@ -168,7 +232,10 @@ aged_covers None = no_frame
 aged_covers (Some f) = no_fewer (le_refl (length f.now))
 
 aged_grow : (store : Store) → Grows store (map aged store)
-aged_grow store = record { at = λ i. subst (λ (g : Option Frame). Covers (slice_get store i) g) (sym (slice_get-map aged store i)) (aged_covers (slice_get store i)) }
+aged_grow store = record {
+  at = λ i. subst (λ (g : Option Frame). Covers (slice_get store i) g) (sym (slice_get-map aged store i))
+      (aged_covers (slice_get store i));
+}
 
 pub woken_grows : (row : List ℤ) (store : Store) → Grows store (woken_store row store)
 woken_grows row store = grows_on (aged_grow store) (changed_grows 0 (with_inputs (map Number row)) (map aged store) (inputs_grow (map Number row)))
@@ -189,7 +256,8 @@ row_keeps None c has = has
 row_keeps (Some unit) no_frame has = has
 row_keeps (Some unit) (no_fewer {f} {g} more) has =
     row_length unit g ∙ length-take unit.outputs (drop unit.inputs g.now)
-    ∙ enough unit.outputs unit.inputs (length f.now) (length g.now) (length (drop unit.inputs f.now)) (length (drop unit.inputs g.now)) more (length-drop unit.inputs f.now) (length-drop unit.inputs g.now)
+    ∙ enough unit.outputs unit.inputs (length f.now) (length g.now) (length (drop unit.inputs f.now))
+    (length (drop unit.inputs g.now)) more (length-drop unit.inputs f.now) (length-drop unit.inputs g.now)
     (sym (length-take unit.outputs (drop unit.inputs f.now)) ∙ sym (row_length unit f) ∙ has)
   where
     enough : (o i a b m n : ℕ) → a ≤ b → m ≡ a - i → n ≡ b - i → min o m ≡ o → min o n ≡ o
@@ -210,17 +278,21 @@ and_right true b both = both
 and_right false b both = absurd cc
 
 -- a unit's parameters are among its variables
-room_of : (structs : List StructDef) (earlier : List UnitDef) (unit : UnitDef) → unit_stands structs earlier unit ≡ true → unit.inputs + unit.outputs ≤ length unit.vars
+room_of : (structs : List StructDef) (earlier : List UnitDef) (unit : UnitDef) → unit_stands structs earlier unit ≡ true →
+    unit.inputs + unit.outputs ≤ length unit.vars
 room_of structs earlier unit stands =
-    leb-true (unit.inputs + unit.outputs) (length unit.vars) (and_left (nat_le (unit.inputs + unit.outputs) (length unit.vars)) _ (and_left (roles_stand unit) _ (and_left (roles_stand unit && _) _ stands)))
+    leb-true (unit.inputs + unit.outputs) (length unit.vars)
+    (and_left (nat_le (unit.inputs + unit.outputs) (length unit.vars)) _ (and_left (roles_stand unit) _ (and_left (roles_stand unit && _) _ stands)))
 
-room_at : (structs : List StructDef) (earlier units : List UnitDef) (k : ℕ) (unit : UnitDef) → units_stand_after structs earlier units ≡ true → slice_get units k ≡ Some unit
+room_at : (structs : List StructDef) (earlier units : List UnitDef) (k : ℕ) (unit : UnitDef) →
+    units_stand_after structs earlier units ≡ true → slice_get units k ≡ Some unit
     → unit.inputs + unit.outputs ≤ length unit.vars
 room_at structs earlier [] k unit stands is = absurd cc
 room_at structs earlier (u ∷ units) zero unit stands is =
     let same : u ≡ unit = cc in
     subst (λ (u : UnitDef). u.inputs + u.outputs ≤ length u.vars) same (room_of structs earlier u (and_left (unit_stands structs earlier u) _ stands))
-room_at structs earlier (u ∷ units) (suc k) unit stands is = room_at structs (earlier ++ u ∷ []) units k unit (and_right (unit_stands structs earlier u) _ stands) is
+room_at structs earlier (u ∷ units) (suc k) unit stands is =
+    room_at structs (earlier ++ u ∷ []) units k unit (and_right (unit_stands structs earlier u) _ stands) is
 
 module _ (w : Setting) (stands : units_stand_after w.structs [] w.units ≡ true) where
   unit_row : (k : ℕ) (unit : Option UnitDef) → slice_get w.units k ≡ unit
@@ -234,7 +306,8 @@ module _ (w : Setting) (stands : units_stand_after w.structs [] w.units ≡ true
       enough : (o i v n m : ℕ) → i + o ≤ v → n ≡ v → m ≡ n - i → min o m ≡ o
       enough o i v n m room is_n is_m = omega arith
 
-  first_row : (instance : Option Instance) → length (row (option_and_then (unit_of w) instance) (option_map (frame_at_first w) instance)) ≡ count (option_and_then (unit_of w) instance)
+  first_row : (instance : Option Instance) → length (row (option_and_then (unit_of w) instance)
+      (option_map (frame_at_first w) instance)) ≡ count (option_and_then (unit_of w) instance)
   first_row None = refl
   first_row (Some instance) = unit_row instance.unit (slice_get w.units instance.unit) refl
 
@@ -244,14 +317,17 @@ module _ (w : Setting) (stands : units_stand_after w.structs [] w.units ≡ true
 
 -- ---- the entry
 
-entry_unit : (structs : List StructDef) (units : List UnitDef) (entry : ℕ) (all : List Instance) (below : UnitDef → List Instance) (unit : Option UnitDef) → slice_get units entry ≡ unit
+entry_unit : (structs : List StructDef) (units : List UnitDef) (entry : ℕ) (all : List Instance) (below : UnitDef → List Instance)
+    (unit : Option UnitDef) → slice_get units entry ≡ unit
     → all ≡ unwrap_or (option_map (λ unit. record { unit = entry; depth = 0; origin = None } ∷ below unit) unit) []
     → unit_at (record { structs = structs; units = units; instances = all }) 0 ≡ unit
 entry_unit structs units entry all below None is is_all = ap (λ all. unit_at (record { structs = structs; units = units; instances = all }) 0) is_all
-entry_unit structs units entry all below (Some unit) is is_all = ap (λ all. unit_at (record { structs = structs; units = units; instances = all }) 0) is_all ∙ is
+entry_unit structs units entry all below (Some unit) is is_all =
+    ap (λ all. unit_at (record { structs = structs; units = units; instances = all }) 0) is_all ∙ is
 
 -- instance 0 is of the entry's unit
-pub entry_first : (structs : List StructDef) (units : List UnitDef) (entry : ℕ) → count_of_outputs (setting_of structs units entry) ≡ outputs_of_unit (slice_get units entry)
+pub entry_first : (structs : List StructDef) (units : List UnitDef) (entry : ℕ) →
+    count_of_outputs (setting_of structs units entry) ≡ outputs_of_unit (slice_get units entry)
 entry_first structs units entry =
     ap (λ unit. outputs_of_unit unit)
     (entry_unit structs units entry (instances_of units entry) (λ unit. instances_below (expanded units entry) 1 (runs_of unit)) (slice_get units entry) refl

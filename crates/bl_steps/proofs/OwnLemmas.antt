@@ -1,5 +1,27 @@
 -- The point of a node itself, and those inside it.
-use Rattle.std.proofs.Common.{◌≡◌, ℕ, Bool, true, false, ◌&&◌, List, [], ◌∷◌, ◌++◌, map, Option, Some, None, refl, sym, ap, ◌∙◌, append_assoc, append-nil, if◌then◌else◌}
+use Rattle.std.proofs.Common.{
+  ◌≡◌,
+  ℕ,
+  Bool,
+  true,
+  false,
+  ◌&&◌,
+  List,
+  [],
+  ◌∷◌,
+  ◌++◌,
+  map,
+  Option,
+  Some,
+  None,
+  refl,
+  sym,
+  ap,
+  ◌∙◌,
+  append_assoc,
+  append-nil,
+  if◌then◌else◌,
+}
 use Rattle.std.specs.Prelude.{option_and_then, option_map, OnOk, Result, Ok, Err}
 use Rattle.bl_tree.specs.declared.tree.Arm.{Arm}
 use Rattle.bl_tree.specs.declared.tree.Branch.{Branch}
@@ -14,7 +36,7 @@ use Rattle.bl_ctree.specs.Instances.{Setting, callee_of, unit_at}
 use Rattle.bl_ctree.specs.Points.{Point, begins, branch_points, checks, copying, giving, joining, or_nothing, points, run_begins, sure, tests, turns_on, within}
 use Rattle.bl_ctree.specs.Positions.{Located, kind_of, place_of}
 use Rattle.bl_ctree.specs.Store.{homes}
-use Rattle.bl_steps.specs.Spots.{Spot, Told, effect_paths, own, spot_below, spot_told, told_point}
+use Rattle.bl_steps.specs.inner.Spots.{Spot, Told, effect_paths, own, spot_below, spot_told, told_point}
 
 -- no point, or one to which no branch leads
 pub data Own : List (Point Control) → Type 0 where
@@ -91,7 +113,8 @@ own_checks i s stood c (StmtKind-F.Repeat body) = no_point
 own_checks i s stood c (StmtKind-F.Await e) = no_point
 own_checks i s stood c (StmtKind-F.While e body) = no_point
 
-own_copying : (i : ℕ) (s : Located) (callee : ℕ) (stood : Bool) (c : Control) (k : StmtKind-F StmtKind Arm Branch Stmt) → Own (copying i s callee stood c k)
+own_copying : (i : ℕ) (s : Located) (callee : ℕ) (stood : Bool) (c : Control) (k : StmtKind-F StmtKind Arm Branch Stmt) →
+    Own (copying i s callee stood c k)
 own_copying i s callee stood c (StmtKind-F.Run target a inputs outputs) = one_point _ refl
 own_copying i s callee stood c (StmtKind-F.Declare k initial) = no_point
 own_copying i s callee stood c (StmtKind-F.Assign path e) = no_point
@@ -158,13 +181,15 @@ told_one w path p e = λ i. record {
   path = (ap (λ rest. path ++ rest) e ∙ append-nil path) i;
 }
 
-pub told_own : (w : Setting) (path : List ℕ) (all : List (Point Control)) → Own all → map (spot_below w path) all ≡ map (spot_told w path) (map told_point all)
+pub told_own : (w : Setting) (path : List ℕ) (all : List (Point Control)) → Own all →
+    map (spot_below w path) all ≡ map (spot_told w path) (map told_point all)
 told_own w path all no_point = refl
 told_own w path all (one_point p e) = ap (λ spot. spot ∷ []) (told_one w path p e)
 
 -- ---- inside a node
 
-map_within : {A B : Type 0} (w : Setting) (path : List ℕ) (around : A → B) (all : List (Point A)) → map (spot_below w path) (map (within around) all) ≡ map (spot_below w path) all
+map_within : {A B : Type 0} (w : Setting) (path : List ℕ) (around : A → B) (all : List (Point A)) →
+    map (spot_below w path) (map (within around) all) ≡ map (spot_below w path) all
 map_within w path around [] = refl
 map_within w path around (p ∷ all) = ap (λ rest. spot_below w path p ∷ rest) (map_within w path around all)
 
@@ -185,12 +210,14 @@ nil_has_none w i (Guard s phase stood c) e = absurd cc
 nil_has_none w i (Run s callee phase stood c) e = absurd cc
 
 -- the end of a body, where it has ended, and else the points in it
-ended_or : (w : Setting) (path : List ℕ) (i : ℕ) (c : Control) (around : Control → Control) (ends : List (Point Control)) (b : Bool) → is_nil c ≡ b → Own ends
+ended_or : (w : Setting) (path : List ℕ) (i : ℕ) (c : Control) (around : Control → Control) (ends : List (Point Control))
+    (b : Bool) → is_nil c ≡ b → Own ends
     → map (spot_below w path) (if b then ends else map (within around) (points w i c))
     ≡ map (spot_told w path) (map told_point (if b then ends else [])) ++ map (spot_below w path) (points w i c)
 ended_or w path i c around ends true e o =
     told_own w path ends o
-    ∙ sym (ap (λ rest. map (spot_told w path) (map told_point ends) ++ map (spot_below w path) rest) (nil_has_none w i c e) ∙ append-nil (map (spot_told w path) (map told_point ends)))
+    ∙ sym (ap (λ rest. map (spot_told w path) (map told_point ends) ++ map (spot_below w path) rest) (nil_has_none w i c e)
+    ∙ append-nil (map (spot_told w path) (map told_point ends)))
 ended_or w path i c around ends false e o = map_within w path around (points w i c)
 
 module _ (w : Setting) (path : List ℕ) (i : ℕ) where
@@ -198,19 +225,23 @@ module _ (w : Setting) (path : List ℕ) (i : ℕ) where
   seq_points c rest = map_within w path (λ c. seq c rest) (points w i c)
 
   pub guard_inside : (s : Located) (stood : Bool) (c : Control)
-      → map (spot_below w path) (points w i (Guard s Body stood c)) ≡ map (spot_told w path) (map told_point (own w i (Guard s Body stood c))) ++ map (spot_below w path) (points w i c)
+      → map (spot_below w path) (points w i (Guard s Body stood c))
+      ≡ map (spot_told w path) (map told_point (own w i (Guard s Body stood c))) ++ map (spot_below w path) (points w i c)
   guard_inside s stood c = ended_or w path i c (Guard s Body stood) (sure i s Silent Nil) (is_nil c) refl (one_point _ refl)
 
   pub run_inside : (s : Located) (callee : ℕ) (stood : Bool) (c : Control)
-      → map (spot_below w path) (points w i (Run s callee Body stood c)) ≡ map (spot_told w path) (map told_point (own w i (Run s callee Body stood c))) ++ map (spot_below w path) (points w callee c)
-  run_inside s callee stood c = ended_or w path callee c (Run s callee Body stood) (giving i s callee (kind_of s)) (is_nil c) refl (own_giving i s callee (kind_of s))
+      → map (spot_below w path) (points w i (Run s callee Body stood c))
+      ≡ map (spot_told w path) (map told_point (own w i (Run s callee Body stood c))) ++ map (spot_below w path) (points w callee c)
+  run_inside s callee stood c = ended_or w path callee c (Run s callee Body stood) (giving i s callee (kind_of s)) (is_nil c) refl
+      (own_giving i s callee (kind_of s))
 
   pub par_inside : (s : Located) (stood : Bool) (branches : Branches)
       → map (spot_below w path) (points w i (Par s stood branches))
       ≡ map (spot_told w path) (map told_point (own w i (Par s stood branches))) ++ map (spot_below w path) (branch_points w i branches)
   par_inside s stood branches =
       map-append (spot_below w path) (joining i s branches) (map (within (Par s stood)) (branch_points w i branches))
-      ∙ ap (λ xs. xs ++ map (spot_below w path) (map (within (Par s stood)) (branch_points w i branches))) (told_own w path (joining i s branches) (own_is w i (Par s stood branches)))
+      ∙ ap (λ xs. xs ++ map (spot_below w path) (map (within (Par s stood)) (branch_points w i branches)))
+      (told_own w path (joining i s branches) (own_is w i (Par s stood branches)))
       ∙ ap (λ ys. map (spot_told w path) (map told_point (joining i s branches)) ++ ys) (map_within w path (Par s stood) (branch_points w i branches))
 
 -- ---- as the code lists them

@@ -1,5 +1,27 @@
 -- The n-th point, as it is told, leads where the n-th of the points does.
-use Rattle.std.proofs.Common.{◌≡◌, ℕ, zero, suc, ◌<◌, true, List, [], ◌∷◌, map, length, get_or, Option, Some, None, refl, sym, ap, ◌∙◌, subst, arith}
+use Rattle.std.proofs.Common.{
+  ◌≡◌,
+  ℕ,
+  zero,
+  suc,
+  ◌<◌,
+  true,
+  List,
+  [],
+  ◌∷◌,
+  map,
+  length,
+  get_or,
+  Option,
+  Some,
+  None,
+  refl,
+  sym,
+  ap,
+  ◌∙◌,
+  subst,
+  arith,
+}
 use Rattle.std.specs.Prelude.{option_and_then, option_map, slice_get, Result, Ok, Err, IfOk}
 use Rattle.bl_tree.specs.declared.memory.NoMemory.{NoMemory}
 use Rattle.bl_eval.specs.declared.values.Did.{Did}
@@ -14,7 +36,7 @@ use Rattle.bl_ctree.specs.Points.{Among, here, there, Point, points}
 use Rattle.bl_steps.specs.declared.point.Point.{Point as PointNode}
 use Rattle.bl_steps.specs.declared.action.Action.{Action}
 use Rattle.bl_steps.specs.Running.{Acted, State, acted_at, action_at, action_of, stepped, stepped_by}
-use Rattle.bl_steps.specs.Spots.{Spot, after_by, effect_in, spot_below, spot_of}
+use Rattle.bl_steps.specs.inner.Spots.{Spot, after_by, effect_in, spot_below, spot_of}
 use Rattle.bl_steps.proofs.AfterLemmas.{leads_on}
 
 pub record Nth (w : Setting) (c : Control) (all : List (Point Control)) (n : ℕ) (spot : Spot) : Type 0 where
@@ -23,7 +45,8 @@ pub record Nth (w : Setting) (c : Control) (all : List (Point Control)) (n : ℕ
   pub among : Among (Point Control) point all
   pub told : spot ≡ spot_below w [] point
 
-later : {w : Setting} {c : Control} {p : Point Control} {all : List (Point Control)} {n : ℕ} {spot : Spot} → Nth w c all n spot → Nth w c (p ∷ all) (suc n) spot
+later : {w : Setting} {c : Control} {p : Point Control} {all : List (Point Control)} {n : ℕ} {spot : Spot} → Nth w c all n spot →
+    Nth w c (p ∷ all) (suc n) spot
 later nth = record { point = nth.point; there_is = nth.there_is; among = there nth.among; told = nth.told }
 
 pub nth_of : (w : Setting) (c : Control) (found : List PointNode) (all : List (Point Control)) (n : ℕ) (p : PointNode)
@@ -73,14 +96,16 @@ told_all w [] = refl
 told_all w (p ∷ all) = ap (λ rest. action_of p ∷ rest) (told_all w all)
 
 -- the actions as they are told
-pub told_actions : (w : Setting) (found : List PointNode) (all : List (Point Control)) (r : Result (List Action) NoMemory) → map spot_of found ≡ map (spot_below w []) all
+pub told_actions : (w : Setting) (found : List PointNode) (all : List (Point Control)) (r : Result (List Action) NoMemory) →
+    map spot_of found ≡ map (spot_below w []) all
     → IfOk r (λ actions. actions ≡ map action_at (map spot_of found)) → IfOk r (λ actions. actions ≡ map action_of all)
 told_actions w found all (Ok actions) same told = told ∙ ap (map action_at) same ∙ told_all w all
 told_actions w found all (Err e) same told = told
 
 -- ---- an action that tests nothing
 
-done_map : {X : Type 0} (f : X → Store) (found : Option X) → ◌≡◌ {A = Option Performed} (option_map (λ x. done (f x)) found) (option_map done (option_map f found))
+done_map : {X : Type 0} (f : X → Store) (found : Option X) →
+    ◌≡◌ {A = Option Performed} (option_map (λ x. done (f x)) found) (option_map done (option_map f found))
 done_map f None = refl
 done_map f (Some x) = refl
 

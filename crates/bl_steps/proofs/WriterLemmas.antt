@@ -1,5 +1,42 @@
 -- What is noted of branches tells what those beside one of them may still write.
-use Rattle.std.proofs.Common.{◌≡◌, ◌≢◌, ℕ, zero, suc, ◌+◌, ◌<◌, ◌≤◌, Bool, true, false, not, cond, ◌&&◌, ◌||◌, List, [], ◌∷◌, ◌++◌, map, filter, take, drop, length, Some, None, refl, sym, ap, ◌∙◌, arith, append_assoc, append-nil, nat_cmp, nat_eq, eq-eqb}
+use Rattle.std.proofs.Common.{
+  ◌≡◌,
+  ◌≢◌,
+  ℕ,
+  zero,
+  suc,
+  ◌+◌,
+  ◌<◌,
+  ◌≤◌,
+  Bool,
+  true,
+  false,
+  not,
+  cond,
+  ◌&&◌,
+  ◌||◌,
+  List,
+  [],
+  ◌∷◌,
+  ◌++◌,
+  map,
+  filter,
+  take,
+  drop,
+  length,
+  Some,
+  None,
+  refl,
+  sym,
+  ap,
+  ◌∙◌,
+  arith,
+  append_assoc,
+  append-nil,
+  nat_cmp,
+  nat_eq,
+  eq-eqb,
+}
 use Rattle.std.specs.Prelude.{unwrap_or}
 use Rattle.std.specs.BTreeMap.{is_at}
 use Rattle.std.specs.Cmp.{unsigned_tied}
@@ -15,8 +52,22 @@ use Rattle.bl_store.specs.declared.home.Home.{Home}
 use Rattle.bl_store.specs.Seen.{location_of}
 use Rattle.bl_store.proofs.KeyLemmas.{both_equal, both_true, nat_same}
 use Rattle.bl_steps.specs.declared.writers.Write.{Write as WriteNode}
-use Rattle.bl_steps.specs.Spots.{Spot, homes_seen, is_free_of, meets_one, taken}
-use Rattle.bl_steps.specs.Writers.{Write, all_writes, is_beside, is_free, is_met, kept, key_at, key_cmp, of_variable, same_variable, write_of, writes_by, writes_from}
+use Rattle.bl_steps.specs.inner.Spots.{Spot, homes_seen, is_free_of, meets_one, taken}
+use Rattle.bl_steps.specs.inner.Writers.{
+  Write,
+  all_writes,
+  is_beside,
+  is_free,
+  is_met,
+  kept,
+  key_at,
+  key_cmp,
+  of_variable,
+  same_variable,
+  write_of,
+  writes_by,
+  writes_from,
+}
 use Rattle.bl_steps.proofs.BranchLemmas.{any_or, any_same, drop_all, map-append, none_left, not_or}
 
 -- ---- as it is kept
@@ -33,16 +84,20 @@ Entries = List ((ℕ × ℕ) × List WriteNode)
 kept_same : (entries : Entries) (home at : Location) → same_variable home at ≡ true → kept entries home ≡ kept entries at
 kept_same entries home at is =
     let both = both_true (nat_eq home.instance at.instance) (nat_eq home.path.root at.path.root) is in
-    λ i. map write_of (unwrap_or (lookup (is_at (key_cmp (nat_same home.instance at.instance both.0 i, nat_same home.path.root at.path.root both.1 i))) entries) [])
+    λ i. map write_of (unwrap_or (lookup (is_at (key_cmp
+    (nat_same home.instance at.instance both.0 i, nat_same home.path.root at.path.root both.1 i))) entries) [])
 
 -- one more home
 pub noted_one : (old between new : Entries) (k : ℕ) (home : Home) (writes : List WriteNode) (at : Location)
-    → lookup (is_at (key_cmp (key_at at))) between ≡ cond (is_at (key_cmp (key_at (location_of home))) (key_at at)) None (lookup (is_at (key_cmp (key_at at))) old)
-    → lookup (is_at (key_cmp (key_at at))) new ≡ cond (is_at (key_cmp (key_at (location_of home))) (key_at at)) (Some writes) (lookup (is_at (key_cmp (key_at at))) between)
+    → lookup (is_at (key_cmp (key_at at))) between ≡ cond (is_at (key_cmp (key_at (location_of home))) (key_at at)) None
+    (lookup (is_at (key_cmp (key_at at))) old)
+    → lookup (is_at (key_cmp (key_at at))) new ≡ cond (is_at (key_cmp (key_at (location_of home))) (key_at at)) (Some writes)
+    (lookup (is_at (key_cmp (key_at at))) between)
     → writes ≡ unwrap_or (lookup (is_at (key_cmp (key_at (location_of home)))) old) [] ++ record { branch = k; home = home } ∷ []
     → kept new at ≡ kept old at ++ of_variable at (writes_by k (location_of home ∷ []))
 noted_one old between new k home writes at is_between is_new is_writes =
-    ap (λ found. map write_of (unwrap_or found [])) (is_new ∙ ap (λ found. cond (is_at (key_cmp (key_at (location_of home))) (key_at at)) (Some writes) found) is_between)
+    ap (λ found. map write_of (unwrap_or found [])) (is_new
+    ∙ ap (λ found. cond (is_at (key_cmp (key_at (location_of home))) (key_at at)) (Some writes) found) is_between)
     ∙ ap (λ b. map write_of (unwrap_or (cond b (Some writes) (cond b None (lookup (is_at (key_cmp (key_at at))) old))) [])) (same_key (location_of home) at)
     ∙ by (same_variable (location_of home) at) refl
   where
@@ -50,7 +105,8 @@ noted_one old between new k home writes at is_between is_new is_writes =
     one = record { branch = k; home = location_of home }
 
     by : (b : Bool) → same_variable (location_of home) at ≡ b
-        → map write_of (unwrap_or (cond b (Some writes) (cond b None (lookup (is_at (key_cmp (key_at at))) old))) []) ≡ kept old at ++ cond b (one ∷ []) []
+        → map write_of (unwrap_or (cond b (Some writes) (cond b None (lookup (is_at (key_cmp (key_at at))) old))) []) ≡ kept old at
+        ++ cond b (one ∷ []) []
     by true same =
         ap (map write_of) is_writes
         ∙ map-append write_of (unwrap_or (lookup (is_at (key_cmp (key_at (location_of home)))) old) []) (record { branch = k; home = home } ∷ [])
@@ -77,11 +133,13 @@ noted_more at k done home old between new is_between is_new =
     ∙ ap (λ xs. old ++ of_variable at (writes_by k xs)) (sym (map-append location_of done (home ∷ [])))
 
 -- before the loop over the branches
-pub branches_start : (at : Location) (w : Setting) (i : ℕ) (all : List Seen) → of_variable at (writes_from 0 (map (homes_seen w i) (drop 0 all))) ≡ of_variable at (all_writes (map (homes_seen w i) all))
+pub branches_start : (at : Location) (w : Setting) (i : ℕ) (all : List Seen) →
+    of_variable at (writes_from 0 (map (homes_seen w i) (drop 0 all))) ≡ of_variable at (all_writes (map (homes_seen w i) all))
 branches_start at w i all = ap (λ all. of_variable at (writes_from 0 (map (homes_seen w i) all))) (drop_all all)
 
 -- one more branch
-pub branch_noted : (at : Location) (w : Setting) (i : ℕ) (all : List Seen) (k next : ℕ) (b : Seen) (old new whole : List Write) → next ≡ suc k → drop k all ≡ b ∷ drop (suc k) all
+pub branch_noted : (at : Location) (w : Setting) (i : ℕ) (all : List Seen) (k next : ℕ) (b : Seen) (old new whole : List Write) →
+    next ≡ suc k → drop k all ≡ b ∷ drop (suc k) all
     → new ≡ old ++ of_variable at (writes_by k (homes_seen w i b))
     → old ++ of_variable at (writes_from k (map (homes_seen w i) (drop k all))) ≡ whole
     → new ++ of_variable at (writes_from next (map (homes_seen w i) (drop next all))) ≡ whole
@@ -141,14 +199,16 @@ all_near k at [] = refl
 all_near k at (write ∷ writes) = by (same_variable write.home at) refl (all_near k at writes)
   where
     by : (b : Bool) → same_variable write.home at ≡ b → list_any (is_beside k at) (of_variable at writes) ≡ list_any (is_beside k at) writes
-        → list_any (is_beside k at) (cond b (write ∷ of_variable at writes) (of_variable at writes)) ≡ (is_beside k at write || list_any (is_beside k at) writes)
+        → list_any (is_beside k at) (cond b (write ∷ of_variable at writes) (of_variable at writes))
+        ≡ (is_beside k at write || list_any (is_beside k at) writes)
     by true same rest = ap (λ b. is_beside k at write || b) rest
     by false same rest =
         rest
         ∙ sym (ap (λ b. (not (nat_eq write.branch k) && b) || list_any (is_beside k at) writes) (apart write.home at same (overlap at write.home) refl)
         ∙ ap (λ b. b || list_any (is_beside k at) writes) (and_false (not (nat_eq write.branch k))))
 
-any_by : (k j : ℕ) (at : Location) (homes : List Location) → list_any (is_beside k at) (writes_by j homes) ≡ (not (nat_eq j k) && list_any (overlap at) homes)
+any_by : (k j : ℕ) (at : Location) (homes : List Location) →
+    list_any (is_beside k at) (writes_by j homes) ≡ (not (nat_eq j k) && list_any (overlap at) homes)
 any_by k j at [] = sym (and_false (not (nat_eq j k)))
 any_by k j at (home ∷ homes) =
     ap (λ b. (not (nat_eq j k) && overlap at home) || b) (any_by k j at homes) ∙ and_or (not (nat_eq j k)) (overlap at home) (list_any (overlap at) homes)
@@ -161,7 +221,8 @@ any_other k j at homes rest other =
     ∙ ap (λ b. b || list_any (is_beside k at) rest) (any_by k j at homes ∙ ap (λ b. not b && list_any (overlap at) homes) (unequal j k other))
 
 -- the branch itself, and those behind it
-any_self : (k j : ℕ) (at : Location) (homes : List Location) (rest : List Write) → j ≡ k → list_any (is_beside k at) (writes_by j homes ++ rest) ≡ list_any (is_beside k at) rest
+any_self : (k j : ℕ) (at : Location) (homes : List Location) (rest : List Write) → j ≡ k →
+    list_any (is_beside k at) (writes_by j homes ++ rest) ≡ list_any (is_beside k at) rest
 any_self k j at homes rest same =
     list_any-append (is_beside k at) (writes_by j homes) rest
     ∙ ap (λ b. b || list_any (is_beside k at) rest) (any_by k j at homes ∙ ap (λ b. not b && list_any (overlap at) homes) (eq-eqb j k same))
@@ -198,10 +259,12 @@ met_beside entries all k at is =
     ∙ met_from k 0 at all ∙ ap (λ n. meets_one (take k all) at || meets_one (drop n all) at) next
 
 -- a point is free by what is kept where it is free by what the branches may write
-free_same : (entries : Entries) (all : List (List Location)) (k : ℕ) (spot : Spot) → ((at : Location) → kept entries at ≡ of_variable at (all_writes all))
+free_same : (entries : Entries) (all : List (List Location)) (k : ℕ) (spot : Spot) →
+    ((at : Location) → kept entries at ≡ of_variable at (all_writes all))
     → is_free entries k spot ≡ is_free_of all k spot
 free_same entries all k spot is =
-    ap not (any_same (is_met entries k) (λ at. meets_one (take k all) at || meets_one (drop (k + 1) all) at) spot.reads (λ at. met_beside entries all k at (is at))
+    ap not (any_same (is_met entries k) (λ at. meets_one (take k all) at || meets_one (drop (k + 1) all) at) spot.reads
+    (λ at. met_beside entries all k at (is at))
     ∙ any_or (meets_one (take k all)) (meets_one (drop (k + 1) all)) spot.reads)
     ∙ not_or (taken (take k all) spot.reads) (taken (drop (k + 1) all) spot.reads)
 
@@ -210,6 +273,7 @@ filter_same f g [] same = refl
 filter_same f g (x ∷ xs) same = λ i. cond (same x i) (x ∷ filter_same f g xs same i) (filter_same f g xs same i)
 
 -- the free points
-pub all_free : (entries : Entries) (all : List (List Location)) (k : ℕ) (spots : List Spot) → ((at : Location) → kept entries at ≡ of_variable at (all_writes all))
+pub all_free : (entries : Entries) (all : List (List Location)) (k : ℕ) (spots : List Spot) →
+    ((at : Location) → kept entries at ≡ of_variable at (all_writes all))
     → filter (is_free entries k) spots ≡ filter (is_free_of all k) spots
 all_free entries all k spots is = filter_same (is_free entries k) (is_free_of all k) spots (λ spot. free_same entries all k spot is)

@@ -1,4 +1,3 @@
 pub mod Outputs
 pub mod Running
-pub mod Spots
-pub mod Writers
+pub mod inner

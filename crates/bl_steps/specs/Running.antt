@@ -13,7 +13,7 @@ use Rattle.bl_ctree.specs.Store.{Store}
 use Rattle.bl_store.specs.Seen.{setting_in, store_of}
 use Rattle.bl_steps.specs.declared.action.Action.{Action}
 use Rattle.bl_steps.specs.declared.tree.Tree.{Tree}
-use Rattle.bl_steps.specs.Spots.{Spot, after_by}
+use Rattle.bl_steps.specs.inner.Spots.{Spot, after_by}
 
 -- a control tree and a store
 pub record State : Type 0 where
@@ -47,7 +47,8 @@ Acted outcome old new (Err e) = new ≡ old
 
 -- the state after an effect in an instance, at the point to which these branches lead
 abbrev pub acted_at : Setting → State → ℕ → Effect → List ℕ → Option State
-acted_at w s i effect path = option_map (λ done. record { control = after_by w 0 s.control path done.answer; store = done.store }) (effect_on w i effect s.store)
+acted_at w s i effect path = option_map (λ done. record { control = after_by w 0 s.control path done.answer; store = done.store })
+    (effect_on w i effect s.store)
 
 -- the action of which this is told
 abbrev pub action_at : Spot → Action

@@ -7,7 +7,7 @@ ghost use Rattle.bl_ctree.specs.Points.{begins, checks, copying, guard_strikes, 
 ghost use Rattle.bl_ctree.specs.Positions.{items_from, kind_of};
 ghost use Rattle.bl_ctree.specs.Steps.{arm_items};
 ghost use Rattle.bl_store.specs.Seen.{setting_in};
-ghost use Rattle.bl_steps.specs.Spots.{chosen, first_after, run_begun, seen_begun};
+ghost use Rattle.bl_steps.specs.inner.Spots.{chosen, first_after, run_begun, seen_begun};
 
 use bl_ctree::copying::{at, inside, position, tree};
 use bl_ctree::node::{Arms, At, Branch, Node, Phase, Rest, Then};

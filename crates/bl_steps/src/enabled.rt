@@ -3,8 +3,8 @@
 ghost use Rattle.std.specs.Prelude.{◌≡◌, ◌++◌, map, filter, OnOk};
 ghost use Rattle.std.specs.List.{list_any};
 ghost use Rattle.bl_store.specs.Seen.{location_of};
-ghost use Rattle.bl_steps.specs.Spots.{spot_of};
-ghost use Rattle.bl_steps.specs.Writers.{is_beside, is_free, write_of};
+ghost use Rattle.bl_steps.specs.inner.Spots.{spot_of};
+ghost use Rattle.bl_steps.specs.inner.Writers.{is_beside, is_free, write_of};
 
 use crate::point::Point;
 use crate::writers::{Write, Writers};

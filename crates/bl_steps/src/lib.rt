@@ -1,5 +1,8 @@
-//! Programs that run by the parallel meaning: a tree that is woken, asked for the points that may act, and stepped
-//! (docs/LANGUAGE.md, "Control trees").
+//! Programs that run by the parallel meaning: a `Tree` is started, woken with a row, asked for the points that may act,
+//! and stepped (docs/LANGUAGE.md, "Control trees"). `actions` lists exactly these points, from left to right in source
+//! order (`Points.antt` of `bl_ctree`, `points`). `act` leaves exactly the tree and the store that the chosen one is to
+//! leave (`specs/Running.antt`, `stepped`); where its action traps, and after want of memory, all is as it was
+//! (`Acted`). `settled`, `ended` and `outs` tell how the tick stands. No command runs it yet.
 #![tactic(auto)]
 
 mod action;

@@ -10,15 +10,15 @@ ghost use Rattle.bl_ctree.specs.Points.{begins, checks, copying, giving, joining
 ghost use Rattle.bl_ctree.specs.Positions.{kind_of};
 ghost use Rattle.bl_store.specs.Deeds.{effect_of};
 ghost use Rattle.bl_store.specs.Seen.{setting_in};
-ghost use Rattle.bl_steps.specs.Spots.{own, spot_of, spot_told, told_all, told_point, told_run, telling};
+ghost use Rattle.bl_steps.specs.inner.Spots.{own, spot_of, spot_told, told_all, told_point, told_run, telling};
 
 use bl_ctree::copying::position;
 use bl_ctree::node::{At, Branch, Node, Phase};
 use bl_ctree::settle::{are_done, are_settled, is_nil};
-use bl_pending::mentions::{arguments, expr, exprs, indices, optional};
+use bl_effects::mentions::{arguments, expr, exprs, indices, optional};
+use bl_effects::sets::set_of;
 use bl_store::callee::begun_by;
 use bl_store::home::append_homes;
-use bl_store::writing::set_of;
 use bl_store::{Deed, Home, Setting};
 use bl_tree::tree::{Expr, Stmt, StmtKind};
 use bl_tree::{List, NoMemory, Place, Static};

@@ -39,7 +39,7 @@ impl<'a> Tree<'a> {
     ghost use Rattle.bl_store.specs.Deeds.{effect_of};
     ghost use Rattle.bl_steps.specs.Outputs.{count_of_outputs, outputs_of_unit};
     ghost use Rattle.bl_steps.specs.Running.{Acted, acted_at, action_of, setting, state, stepped};
-    ghost use Rattle.bl_steps.specs.Spots.{spot_below, spot_of};
+    ghost use Rattle.bl_steps.specs.inner.Spots.{spot_below, spot_of};
 
     /// The program before its first tick. Fails only for want of memory, as all that follows.
     pub fn start(alloc: Global, program: &'a Program) -> Result<Tree<'a>, NoMemory>

@@ -1,5 +1,5 @@
-//! Small programs run by the parallel meaning, whose actions are taken in several orders (docs/LANGUAGE.md, "Control trees").
-//! There is nothing in this crate but its tests.
+//! Tests of `bl_steps`: small programs run by the parallel meaning, whose actions are taken in several orders
+//! (docs/LANGUAGE.md, "Control trees"). There is nothing else here.
 #![tactic(auto)]
 
 #[cfg(test)]

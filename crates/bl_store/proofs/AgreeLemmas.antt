@@ -1,5 +1,25 @@
 -- Values that agree at some variables.
-use Rattle.std.proofs.Common.{◌≡◌, ℕ, zero, suc, ◌+◌, List, [], ◌∷◌, ◌++◌, length, map, Some, pos, refl, sym, ap, ◌∙◌, arith, length-set}
+use Rattle.std.proofs.Common.{
+  ◌≡◌,
+  ℕ,
+  zero,
+  suc,
+  ◌+◌,
+  List,
+  [],
+  ◌∷◌,
+  ◌++◌,
+  length,
+  map,
+  Some,
+  pos,
+  refl,
+  sym,
+  ap,
+  ◌∙◌,
+  arith,
+  length-set,
+}
 use Rattle.std.proofs.lemmas.List.FromFn.{length-map-range_with_len}
 use Rattle.std.specs.Prelude.{slice_get, slice_set}
 use Rattle.std.specs.List.{range_with_len}
@@ -16,7 +36,8 @@ agree_second [] rest xs ys same = same
 agree_second (k ∷ ks) rest xs ys same = agree_second ks rest xs ys same.1
 
 -- a value that is set in both
-pub set_both : (xs ys : List Value) (j k : ℕ) (value : Value) → slice_get xs j ≡ slice_get ys j → slice_get xs k ≡ slice_get ys k → slice_get (slice_set xs j value) k ≡ slice_get (slice_set ys j value) k
+pub set_both : (xs ys : List Value) (j k : ℕ) (value : Value) → slice_get xs j ≡ slice_get ys j → slice_get xs k ≡ slice_get ys k →
+    slice_get (slice_set xs j value) k ≡ slice_get (slice_set ys j value) k
 set_both [] [] j k value at same = refl
 set_both [] (y ∷ ys) zero k value at same = absurd cc
 set_both [] (y ∷ ys) (suc j) zero value at same = absurd cc
@@ -32,14 +53,16 @@ set_both (x ∷ xs) (y ∷ ys) (suc j) (suc k) value at same = set_both xs ys j 
 -- ---- values that are filled in
 
 -- a value of the other list is set
-given_here : (xs ys : List Value) (k : ℕ) (value : Value) → length xs ≡ length ys → ((y : Value) → slice_get ys k ≡ Some y → value ≡ y) → slice_get (slice_set xs k value) k ≡ slice_get ys k
+given_here : (xs ys : List Value) (k : ℕ) (value : Value) → length xs ≡ length ys →
+    ((y : Value) → slice_get ys k ≡ Some y → value ≡ y) → slice_get (slice_set xs k value) k ≡ slice_get ys k
 given_here [] [] k value long is = refl
 given_here [] (y ∷ ys) k value long is = absurd (omega arith)
 given_here (x ∷ xs) [] k value long is = absurd (omega arith)
 given_here (x ∷ xs) (y ∷ ys) zero value long is = ap Some (is y refl)
 given_here (x ∷ xs) (y ∷ ys) (suc k) value long is = given_here xs ys k value (omega arith) is
 
-given_elsewhere : (xs ys : List Value) (j k : ℕ) (value : Value) → length xs ≡ length ys → ((y : Value) → slice_get ys j ≡ Some y → value ≡ y) → slice_get xs k ≡ slice_get ys k
+given_elsewhere : (xs ys : List Value) (j k : ℕ) (value : Value) → length xs ≡ length ys →
+    ((y : Value) → slice_get ys j ≡ Some y → value ≡ y) → slice_get xs k ≡ slice_get ys k
     → slice_get (slice_set xs j value) k ≡ slice_get ys k
 given_elsewhere [] [] j k value long is same = refl
 given_elsewhere [] (y ∷ ys) j k value long is same = absurd (omega arith)
@@ -49,10 +72,12 @@ given_elsewhere (x ∷ xs) (y ∷ ys) zero (suc k) value long is same = same
 given_elsewhere (x ∷ xs) (y ∷ ys) (suc j) zero value long is same = same
 given_elsewhere (x ∷ xs) (y ∷ ys) (suc j) (suc k) value long is same = given_elsewhere xs ys j k value (omega arith) is same
 
-listed : (value : ℕ → Value) (first count k : ℕ) (y : Value) → slice_get (map value (range_with_len first count)) k ≡ Some y → value (first + k) ≡ y
+listed : (value : ℕ → Value) (first count k : ℕ) (y : Value) → slice_get (map value (range_with_len first count)) k ≡ Some y →
+    value (first + k) ≡ y
 listed value first zero k y is = absurd cc
 listed value first (suc count) zero y is = (let same : first + 0 ≡ first = omega arith in ap value same) ∙ (let e : value first ≡ y = cc in e)
-listed value first (suc count) (suc k) y is = (let same : first + suc k ≡ (first + 1) + k = omega arith in ap value same) ∙ listed value (first + 1) count k y is
+listed value first (suc count) (suc k) y is = (let same : first + suc k ≡ (first + 1) + k = omega arith in ap value same)
+    ∙ listed value (first + 1) count k y is
 
 module _ (value : ℕ → Value) (count : ℕ) where
   abbrev all : List Value
@@ -61,7 +86,8 @@ module _ (value : ℕ → Value) (count : ℕ) where
   is_listed : (k : ℕ) (y : Value) → slice_get all k ≡ Some y → value k ≡ y
   is_listed k y is = (let same : k ≡ 0 + k = omega arith in ap value same) ∙ listed value 0 count k y is
 
-  kept : (ks : List ℕ) (made : List Value) (k : ℕ) → length made ≡ length all → slice_get made k ≡ slice_get all k → slice_get (filled value ks made) k ≡ slice_get all k
+  kept : (ks : List ℕ) (made : List Value) (k : ℕ) → length made ≡ length all → slice_get made k ≡ slice_get all k →
+      slice_get (filled value ks made) k ≡ slice_get all k
   kept [] made k long same = same
   kept (j ∷ ks) made k long same =
       kept ks (slice_set made j (value j)) k (length-set made j (value j) ∙ long) (given_elsewhere made all j k (value j) long (is_listed j) same)

@@ -21,7 +21,8 @@ same_key caller place o =
     ∙ (λ i. nat_eq o.caller caller && (unsigned_tied o.place.start place.start i && unsigned_tied o.place.end place.end i))
 
 -- where it does, it is the `run` statement at the origin's place in its caller
-begun_same : (entries : List ((ℕ × (ℕ × ℕ)) × ℕ)) (caller : ℕ) (place : Place) (o : Origin) → begins_at caller place (Some o) ≡ true → begun entries caller place ≡ begun entries o.caller o.place
+begun_same : (entries : List ((ℕ × (ℕ × ℕ)) × ℕ)) (caller : ℕ) (place : Place) (o : Origin) →
+    begins_at caller place (Some o) ≡ true → begun entries caller place ≡ begun entries o.caller o.place
 begun_same entries caller place o is =
     let both = both_true (nat_eq o.caller caller) (same_place o.place place) is in
     sym (ap (λ caller. begun entries caller o.place) (nat_same o.caller caller both.0) ∙ ap (begun entries caller) (same_place_is o.place place both.1))
@@ -33,22 +34,26 @@ kept_all (Some n) b k there = refl
 kept_all None true k there = let none : false ≡ true = there refl in absurd cc
 kept_all None false k there = refl
 
-kept_more : (found after : Option ℕ) (b : Bool) (k : ℕ) → (b ≡ true → is_some found ≡ false) → after ≡ cond b (Some k) found → after ≡ option_or found (cond b (Some k) None)
+kept_more : (found after : Option ℕ) (b : Bool) (k : ℕ) → (b ≡ true → is_some found ≡ false) → after ≡ cond b (Some k) found →
+    after ≡ option_or found (cond b (Some k) None)
 kept_more (Some n) after true k absent is = let some : true ≡ false = absent refl in absurd cc
 kept_more None after true k absent is = is
 kept_more (Some n) after false k absent is = is
 kept_more None after false k absent is = is
 
 -- where one is kept for its `run` statement nothing changes
-pub begun_before : (entries : List ((ℕ × (ℕ × ℕ)) × ℕ)) (o : Origin) (k : ℕ) → is_some (begun entries o.caller o.place) ≡ true → (caller : ℕ) (place : Place)
+pub begun_before : (entries : List ((ℕ × (ℕ × ℕ)) × ℕ)) (o : Origin) (k : ℕ) → is_some (begun entries o.caller o.place) ≡ true →
+    (caller : ℕ) (place : Place)
     → begun entries caller place ≡ option_or (begun entries caller place) (cond (begins_at caller place (Some o)) (Some k) None)
 begun_before entries o k there caller place =
     kept_all (begun entries caller place) (begins_at caller place (Some o)) k (λ is. ap is_some (begun_same entries caller place o is) ∙ there)
 
 -- and else it is kept
-pub begun_more : (old new : List ((ℕ × (ℕ × ℕ)) × ℕ)) (o : Origin) (k : ℕ) → is_some (begun old o.caller o.place) ≡ false → (caller : ℕ) (place : Place)
+pub begun_more : (old new : List ((ℕ × (ℕ × ℕ)) × ℕ)) (o : Origin) (k : ℕ) → is_some (begun old o.caller o.place) ≡ false →
+    (caller : ℕ) (place : Place)
     → begun new caller place ≡ cond (is_at (key_cmp (key_at o.caller o.place)) (key_at caller place)) (Some k) (begun old caller place)
     → begun new caller place ≡ option_or (begun old caller place) (cond (begins_at caller place (Some o)) (Some k) None)
 begun_more old new o k absent caller place is =
-    kept_more (begun old caller place) (begun new caller place) (begins_at caller place (Some o)) k (λ b. ap is_some (begun_same old caller place o b) ∙ absent)
+    kept_more (begun old caller place) (begun new caller place) (begins_at caller place (Some o)) k
+    (λ b. ap is_some (begun_same old caller place o b) ∙ absent)
     (is ∙ ap (λ b. cond b (Some k) (begun old caller place)) (same_key caller place o))

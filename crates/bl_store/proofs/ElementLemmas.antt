@@ -1,5 +1,30 @@
 -- Elements one after another.
-use Rattle.std.proofs.Common.{◌≡◌, ℕ, zero, suc, ◌+◌, ◌<◌, List, [], ◌∷◌, ◌++◌, length, map, take, drop, get_or, Some, refl, sym, ap, ◌∙◌, subst, arith, add-one, append_assoc}
+use Rattle.std.proofs.Common.{
+  ◌≡◌,
+  ℕ,
+  zero,
+  suc,
+  ◌+◌,
+  ◌<◌,
+  List,
+  [],
+  ◌∷◌,
+  ◌++◌,
+  length,
+  map,
+  take,
+  drop,
+  get_or,
+  Some,
+  refl,
+  sym,
+  ap,
+  ◌∙◌,
+  subst,
+  arith,
+  add-one,
+  append_assoc,
+}
 use Rattle.std.specs.Prelude.{All, slice_get}
 use Rattle.std.proofs.Math.Seq.{drop-cons}
 
@@ -9,13 +34,15 @@ next_of xs k x within is = rw add-one (drop-cons xs k x within ∙ ap (λ y. y �
 pub take_next : {A : Type 0} (k : ℕ) (xs : List A) (x : A) → slice_get xs k ≡ Some x → take (k + 1) xs ≡ take k xs ++ x ∷ []
 take_next k [] x is = absurd cc
 take_next zero (y ∷ xs) x is = let same : y ≡ x = cc in ap (λ z. z ∷ []) same
-take_next (suc k) (y ∷ xs) x is = (let more : suc k + 1 ≡ suc (k + 1) = omega arith in ap (λ n. take n (y ∷ xs)) more) ∙ ap (λ rest. y ∷ rest) (take_next k xs x is)
+take_next (suc k) (y ∷ xs) x is = (let more : suc k + 1 ≡ suc (k + 1) = omega arith in ap (λ n. take n (y ∷ xs)) more)
+    ∙ ap (λ rest. y ∷ rest) (take_next k xs x is)
 
 pub map-append : {A B : Type 0} (f : A → B) (xs ys : List A) → map f (xs ++ ys) ≡ map f xs ++ map f ys
 map-append f [] ys = refl
 map-append f (x ∷ xs) ys = ap (λ rest. f x ∷ rest) (map-append f xs ys)
 
-pub one_more : {A B : Type 0} (f : A → B) (k : ℕ) (xs : List A) (x : A) (made more : List B) → made ≡ map f (take k xs) → slice_get xs k ≡ Some x → more ≡ made ++ f x ∷ []
+pub one_more : {A B : Type 0} (f : A → B) (k : ℕ) (xs : List A) (x : A) (made more : List B) → made ≡ map f (take k xs) →
+    slice_get xs k ≡ Some x → more ≡ made ++ f x ∷ []
     → more ≡ map f (take (k + 1) xs)
 one_more f k xs x made more is here is_more =
     is_more ∙ ap (λ made. made ++ f x ∷ []) is ∙ sym (ap (map f) (take_next k xs x here) ∙ map-append f (take k xs) (x ∷ []))
@@ -25,6 +52,8 @@ pub all_others : {A : Type 0} (P : A → Type 0) (xs rest : List A) (x : A) → 
 all_others P xs rest x is all k d below = subst (All P) is all (suc k) d (omega arith)
 
 -- one more element of a list, mapped
-pub mapped_more : {A B : Type 0} (f : A → B) (first made more : List B) (xs : List A) (x : A) (y : B) → made ≡ first ++ map f xs → y ≡ f x → more ≡ made ++ y ∷ [] → more ≡ first ++ map f (xs ++ x ∷ [])
+pub mapped_more : {A B : Type 0} (f : A → B) (first made more : List B) (xs : List A) (x : A) (y : B) → made ≡ first ++ map f xs →
+    y ≡ f x → more ≡ made ++ y ∷ [] → more ≡ first ++ map f (xs ++ x ∷ [])
 mapped_more f first made more xs x y is given is_more =
-    is_more ∙ ap (λ made. made ++ y ∷ []) is ∙ append_assoc first (map f xs) (y ∷ []) ∙ ap (λ y. first ++ (map f xs ++ y ∷ [])) given ∙ ap (λ ys. first ++ ys) (sym (map-append f xs (x ∷ [])))
+    is_more ∙ ap (λ made. made ++ y ∷ []) is ∙ append_assoc first (map f xs) (y ∷ [])
+    ∙ ap (λ y. first ++ (map f xs ++ y ∷ [])) given ∙ ap (λ ys. first ++ ys) (sym (map-append f xs (x ∷ [])))

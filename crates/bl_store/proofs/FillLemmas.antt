@@ -1,5 +1,27 @@
 -- New elements take the places of the first of a list.
-use Rattle.std.proofs.Common.{◌≡◌, ℕ, zero, suc, ◌+◌, ◌<◌, ◌≤◌, List, [], ◌∷◌, ◌++◌, length, take, drop, get_or, Some, refl, sym, ap, ◌∙◌, arith}
+use Rattle.std.proofs.Common.{
+  ◌≡◌,
+  ℕ,
+  zero,
+  suc,
+  ◌+◌,
+  ◌<◌,
+  ◌≤◌,
+  List,
+  [],
+  ◌∷◌,
+  ◌++◌,
+  length,
+  take,
+  drop,
+  get_or,
+  Some,
+  refl,
+  sym,
+  ap,
+  ◌∙◌,
+  arith,
+}
 use Rattle.std.specs.Prelude.{slice_get, slice_set}
 use Rattle.std.proofs.lemmas.Option.{get_or_from_slice_get}
 use Rattle.bl_tree.specs.declared.value.Value.{Value}
@@ -29,7 +51,8 @@ drop_once (x ∷ xs) zero = refl
 drop_once (x ∷ xs) (suc k) = drop_once xs k
 
 -- one more input is in its place
-pub fill_next : (inputs left values before after : List Value) (k : ℕ) (v : Value) → before ≡ take k inputs ++ drop k values → drop k left ≡ drop k inputs → k < length inputs → length inputs < length values
+pub fill_next : (inputs left values before after : List Value) (k : ℕ) (v : Value) → before ≡ take k inputs ++ drop k values →
+    drop k left ≡ drop k inputs → k < length inputs → length inputs < length values
     → slice_get left k ≡ Some v → after ≡ slice_set before k v → after ≡ take (k + 1) inputs ++ drop (k + 1) values
 fill_next inputs left values before after k v is same within fits was is_after =
     let here : slice_get inputs k ≡ Some v = sym (get_drop inputs k) ∙ ap (λ xs. slice_get xs 0) (sym same) ∙ get_drop left k ∙ was in
@@ -38,10 +61,12 @@ fill_next inputs left values before after k v is same within fits was is_after =
     is_after ∙ ap (λ xs. slice_set xs k v) is ∙ fill_step inputs values k v v within fits' (sym (get_or_from_slice_get inputs k v v here))
     ∙ ap (λ n. take n inputs ++ drop n values) (sym more)
 
-pub fill_left : (inputs left after : List Value) (k : ℕ) (y : Value) → drop k left ≡ drop k inputs → after ≡ slice_set left k y → drop (k + 1) after ≡ drop (k + 1) inputs
+pub fill_left : (inputs left after : List Value) (k : ℕ) (y : Value) → drop k left ≡ drop k inputs → after ≡ slice_set left k y →
+    drop (k + 1) after ≡ drop (k + 1) inputs
 fill_left inputs left after k y same is =
     let more : k + 1 ≡ suc k = omega arith in
-    ap (λ n. drop n after) more ∙ ap (drop (suc k)) is ∙ drop_set left k y ∙ drop_once left k ∙ ap (drop 1) same ∙ sym (drop_once inputs k) ∙ ap (λ n. drop n inputs) (sym more)
+    ap (λ n. drop n after) more ∙ ap (drop (suc k)) is ∙ drop_set left k y ∙ drop_once left k ∙ ap (drop 1) same
+    ∙ sym (drop_once inputs k) ∙ ap (λ n. drop n inputs) (sym more)
 
 pub fill_long : {A : Type 0} (left after : List A) (k n : ℕ) (y : A) → length left ≡ n → after ≡ slice_set left k y → length after ≡ n
 fill_long left after k n y long is = ap length is ∙ length_set left k y ∙ long

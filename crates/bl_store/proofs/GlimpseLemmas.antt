@@ -1,5 +1,31 @@
 -- What is seen of the variables that an expression or an act names is all that it needs.
-use Rattle.std.proofs.Common.{◌≡◌, ℕ, Bool, true, false, List, [], ◌∷◌, ◌++◌, ◌+◌, ◌<◌, zero, suc, arith, get_or, length, map, Option, Some, None, refl, sym, ap, ◌∙◌, subst}
+use Rattle.std.proofs.Common.{
+  ◌≡◌,
+  ℕ,
+  Bool,
+  true,
+  false,
+  List,
+  [],
+  ◌∷◌,
+  ◌++◌,
+  ◌+◌,
+  ◌<◌,
+  zero,
+  suc,
+  arith,
+  get_or,
+  length,
+  map,
+  Option,
+  Some,
+  None,
+  refl,
+  sym,
+  ap,
+  ◌∙◌,
+  subst,
+}
 use Rattle.std.specs.Prelude.{option_and_then, option_map, slice_get, unwrap_or, if◌then◌else◌}
 use Rattle.bl_tree.specs.declared.tree.Expr.{Expr}
 use Rattle.bl_tree.specs.declared.tree.Path.{Path, fold_out-Path, out-Path}
@@ -40,18 +66,21 @@ asked_same w store i asked = (
 
 -- ---- expressions
 
-value_at_site : (e : Expr) (a b : View) (site : Option Site) → Same (roots_in e) a b → option_and_then (λ site. value_of site e a) site ≡ option_and_then (λ site. value_of site e b) site
+value_at_site : (e : Expr) (a b : View) (site : Option Site) → Same (roots_in e) a b →
+    option_and_then (λ site. value_of site e a) site ≡ option_and_then (λ site. value_of site e b) site
 value_at_site e a b None same = refl
 value_at_site e a b (Some site) same = ap (option_map plain) (expr_same (scope_of site) a b e same)
 
 module _ (w : Setting) (store : Store) (i : ℕ) where
   value_at_instance : (e : Expr) (a b : View) (found : Option Instance) → Same (roots_in e) a b
-      → option_and_then (λ (instance : Instance). value_in_unit w.structs w.units instance.unit e a) found ≡ option_and_then (λ (instance : Instance). value_in_unit w.structs w.units instance.unit e b) found
+      → option_and_then (λ (instance : Instance). value_in_unit w.structs w.units instance.unit e a) found
+      ≡ option_and_then (λ (instance : Instance). value_in_unit w.structs w.units instance.unit e b) found
   value_at_instance e a b None same = refl
   value_at_instance e a b (Some instance) same = value_at_site e a b (site_at w.structs w.units instance.unit) same
 
   -- an expression that names no others than what is asked for
-  pub value_glimpsed : (asked : List ℕ) (e : Expr) → Same (roots_in e) (asked_at asked w store i) (view_at w store i) → value_by w (glimpse asked w store i) e ≡ value_there w store i e
+  pub value_glimpsed : (asked : List ℕ) (e : Expr) → Same (roots_in e) (asked_at asked w store i) (view_at w store i) →
+      value_by w (glimpse asked w store i) e ≡ value_there w store i e
   value_glimpsed asked e same =
       and_then_map (λ (s : Sight). value_in_unit w.structs w.units s.unit e s.view) _ (slice_get w.instances i)
       ∙ value_at_instance e (asked_at asked w store i) (view_at w store i) (slice_get w.instances i) same
@@ -59,14 +88,17 @@ module _ (w : Setting) (store : Store) (i : ℕ) where
   pub value_alone : (e : Expr) → value_by w (glimpse (roots_in e) w store i) e ≡ value_there w store i e
   value_alone e = value_glimpsed (roots_in e) e (asked_same w store i (roots_in e))
 
-  same_at : (inputs : List Expr) (k : ℕ) (e : Expr) (a b : View) → k < length inputs → e ≡ get_or inputs k e → Same (joined (map roots_in inputs)) a b → Same (roots_in e) a b
+  same_at : (inputs : List Expr) (k : ℕ) (e : Expr) (a b : View) → k < length inputs → e ≡ get_or inputs k e →
+      Same (joined (map roots_in inputs)) a b → Same (roots_in e) a b
   same_at [] k e a b within is same = absurd (omega arith)
   same_at (first ∷ inputs) zero e a b within is same =
       subst (λ e. Same (roots_in e) a b) (sym is) (same_first (roots_in first) (joined (map roots_in inputs)) a b same)
-  same_at (first ∷ inputs) (suc k) e a b within is same = same_at inputs k e a b (omega arith) is (same_second (roots_in first) (joined (map roots_in inputs)) a b same)
+  same_at (first ∷ inputs) (suc k) e a b within is same =
+      same_at inputs k e a b (omega arith) is (same_second (roots_in first) (joined (map roots_in inputs)) a b same)
 
   -- one of many
-  pub value_among_all : (inputs : List Expr) (k : ℕ) (e : Expr) → k < length inputs → e ≡ get_or inputs k e → value_by w (glimpse (joined (map roots_in inputs)) w store i) e ≡ value_there w store i e
+  pub value_among_all : (inputs : List Expr) (k : ℕ) (e : Expr) → k < length inputs → e ≡ get_or inputs k e →
+      value_by w (glimpse (joined (map roots_in inputs)) w store i) e ≡ value_there w store i e
   value_among_all inputs k e within is =
       let asked = joined (map roots_in inputs) in
       value_glimpsed asked e (same_at inputs k e (asked_at asked w store i) (view_at w store i) within is (asked_same w store i asked))
@@ -82,7 +114,9 @@ written_same : (w : Setting) (i : ℕ) (paths : List Static) (store : Store) (xs
     → put_written w i xs paths store ≡ put_written w i ys paths store
 written_same w i [] store xs ys same = refl
 written_same w i (path ∷ rest) store xs ys same =
-    ap (λ (found : Option Value). put_written w i xs rest (unwrap_or (option_map (λ value. put (home w (record { instance = i; path = path })) value store) (option_and_then (value_at path.fields) found)) store)) same.0
+    ap (λ (found : Option Value). put_written w i xs rest
+    (unwrap_or (option_map (λ value. put (home w (record { instance = i; path = path })) value store)
+    (option_and_then (value_at path.fields) found)) store)) same.0
     ∙ written_same w i rest (put_path w i ys path store) xs ys same.1
 
 module _ (w : Setting) (i : ℕ) (s : Stmt) (store : Store) (X : Type 0) where
@@ -96,11 +130,13 @@ module _ (w : Setting) (i : ℕ) (s : Stmt) (store : Store) (X : Type 0) where
   whole_view = view_at w store i
 
   outcome_at_site : (shown : List Value → X) (hangs : (xs ys : List Value) → Follows part whole_view xs ys → shown xs ≡ shown ys) (site : Option Site)
-      → option_map shown (option_and_then (λ site. outcome_of site s part) site) ≡ option_map shown (option_and_then (λ site. outcome_of site s whole_view) site)
+      → option_map shown (option_and_then (λ site. outcome_of site s part) site)
+      ≡ option_map shown (option_and_then (λ site. outcome_of site s whole_view) site)
   outcome_at_site shown hangs None = refl
   outcome_at_site shown hangs (Some site) = acted_same (scope_of site) part whole_view X shown hangs (stmt_kind s) (asked_same w store i asked)
 
-  outcome_at_instance : (shown : List Value → X) (hangs : (xs ys : List Value) → Follows part whole_view xs ys → shown xs ≡ shown ys) (found : Option Instance)
+  outcome_at_instance : (shown : List Value → X) (hangs : (xs ys : List Value) → Follows part whole_view xs ys →
+      shown xs ≡ shown ys) (found : Option Instance)
       → option_map shown (option_and_then (λ (instance : Instance). outcome_in_unit w.structs w.units instance.unit s part) found)
       ≡ option_map shown (option_and_then (λ (instance : Instance). outcome_in_unit w.structs w.units instance.unit s whole_view) found)
   outcome_at_instance shown hangs None = refl
@@ -113,9 +149,11 @@ module _ (w : Setting) (i : ℕ) (s : Stmt) (store : Store) (X : Type 0) where
       ∙ outcome_at_instance shown hangs (slice_get w.instances i)
 
 -- what is made of the store after an act, from what the act left of the variables that it names
-pub written_glimpsed : (w : Setting) (i : ℕ) (s : Stmt) (paths : List Static) (store : Store) (next : Store → Store) (left : Option (List Value)) → Covers (roots_of_act (stmt_kind s)) paths
+pub written_glimpsed : (w : Setting) (i : ℕ) (s : Stmt) (paths : List Static) (store : Store) (next : Store → Store)
+    (left : Option (List Value)) → Covers (roots_of_act (stmt_kind s)) paths
     → left ≡ outcome_by w (glimpse (roots_of_act (stmt_kind s)) w store i) s
-    → option_map (λ values. next (put_written w i values paths store)) (outcome_there w store i s) ≡ option_map (λ values. next (put_written w i values paths store)) left
+    → option_map (λ values. next (put_written w i values paths store)) (outcome_there w store i s)
+    ≡ option_map (λ values. next (put_written w i values paths store)) left
 written_glimpsed w i s paths store next left covers is =
     let asked = roots_of_act (stmt_kind s) in
     let part = asked_at asked w store i in
@@ -131,9 +169,11 @@ root_out : (path : Path) → roots_in_path path ≡ (out-Path path).root ∷ joi
 root_out path = fold_out-Path Roots Roots Roots Roots kind_roots part_roots expr_layer_roots path_layer_roots path
 
 static_root : (path : Path) → (static_of path).root ≡ (out-Path path).root
-static_root path = ap (λ (reach : Reach). reach.static.root) (fold_out-Path (List Static) Step (List Static) Reach kind_mentions part_step expr_mentions path_reach path)
+static_root path = ap (λ (reach : Reach). reach.static.root)
+    (fold_out-Path (List Static) Step (List Static) Reach kind_mentions part_step expr_mentions path_reach path)
 
-root_agrees : (path : Path) (xs ys : List Value) → Agree (roots_in_path path) xs ys → slice_get xs (static_of path).root ≡ slice_get ys (static_of path).root
+root_agrees : (path : Path) (xs ys : List Value) → Agree (roots_in_path path) xs ys →
+    slice_get xs (static_of path).root ≡ slice_get ys (static_of path).root
 root_agrees path xs ys same =
     subst (λ (k : ℕ). slice_get xs k ≡ slice_get ys k) (sym (static_root path)) (subst (λ (ks : List ℕ). Agree ks xs ys) (root_out path) same).0
 
@@ -143,35 +183,43 @@ covers_variable k initial xs ys same = (same.0, tt)
 pub covers_target : (path : Path) (e : Expr) → Covers (roots_in_path path ++ roots_in e) (static_of path ∷ [])
 covers_target path e xs ys same = (root_agrees path xs ys (agree_first (roots_in_path path) (roots_in e) xs ys same), tt)
 
-outputs_agree : (outputs : List Path) (xs ys : List Value) → Agree (joined (map roots_in_path outputs)) xs ys → Agree (map (λ (path : Static). path.root) (map static_of outputs)) xs ys
+outputs_agree : (outputs : List Path) (xs ys : List Value) → Agree (joined (map roots_in_path outputs)) xs ys →
+    Agree (map (λ (path : Static). path.root) (map static_of outputs)) xs ys
 outputs_agree [] xs ys same = tt
 outputs_agree (path ∷ outputs) xs ys same = (
   root_agrees path xs ys (agree_first (roots_in_path path) (joined (map roots_in_path outputs)) xs ys same),
   outputs_agree outputs xs ys (agree_second (roots_in_path path) (joined (map roots_in_path outputs)) xs ys same),
 )
 
-by_tests : (path first : Static) (paths behind_first : List Static) (xs ys : List Value) (before behind : Bool) → Agree (map (λ (path : Static). path.root) (path ∷ first ∷ paths)) xs ys
+by_tests : (path first : Static) (paths behind_first : List Static) (xs ys : List Value) (before behind : Bool) →
+    Agree (map (λ (path : Static). path.root) (path ∷ first ∷ paths)) xs ys
     → Agree (map (λ (path : Static). path.root) (first ∷ behind_first)) xs ys
-    → Agree (map (λ (path : Static). path.root) (if before then path ∷ first ∷ paths else (if behind then first ∷ behind_first else first ∷ paths))) xs ys
+    → Agree (map (λ (path : Static). path.root) (if before then path ∷ first
+    ∷ paths else (if behind then first ∷ behind_first else first ∷ paths))) xs ys
 by_tests path first paths behind_first xs ys true behind all moved = all
 by_tests path first paths behind_first xs ys false true all moved = moved
 by_tests path first paths behind_first xs ys false false all moved = all.1
 
-placed_agree : (path : Static) (paths : List Static) (xs ys : List Value) → slice_get xs path.root ≡ slice_get ys path.root → Agree (map (λ (path : Static). path.root) paths) xs ys
+placed_agree : (path : Static) (paths : List Static) (xs ys : List Value) → slice_get xs path.root ≡ slice_get ys path.root →
+    Agree (map (λ (path : Static). path.root) paths) xs ys
     → Agree (map (λ (path : Static). path.root) (placed path paths)) xs ys
 placed_agree path [] xs ys one same = (one, tt)
 placed_agree path (first ∷ paths) xs ys one same =
-    by_tests path first paths (placed path paths) xs ys (precedes path first) (precedes first path) (one, same) (same.0, placed_agree path paths xs ys one same.1)
+    by_tests path first paths (placed path paths) xs ys (precedes path first) (precedes first path) (one, same)
+    (same.0, placed_agree path paths xs ys one same.1)
 
-set_agrees : (paths : List Static) (xs ys : List Value) → Agree (map (λ (path : Static). path.root) paths) xs ys → Agree (map (λ (path : Static). path.root) (set_of paths)) xs ys
+set_agrees : (paths : List Static) (xs ys : List Value) → Agree (map (λ (path : Static). path.root) paths) xs ys →
+    Agree (map (λ (path : Static). path.root) (set_of paths)) xs ys
 set_agrees [] xs ys same = tt
 set_agrees (path ∷ paths) xs ys same = placed_agree path (set_of paths) xs ys same.0 (set_agrees paths xs ys same.1)
 
 outputs_covered : (inputs : List Expr) (outputs : List Path) → Covers (argument_roots inputs outputs) (set_of (map static_of outputs))
 outputs_covered inputs outputs xs ys same =
-    set_agrees (map static_of outputs) xs ys (outputs_agree outputs xs ys (agree_second (joined (map roots_in inputs)) (joined (map roots_in_path outputs)) xs ys same))
+    set_agrees (map static_of outputs) xs ys (outputs_agree outputs xs ys
+    (agree_second (joined (map roots_in inputs)) (joined (map roots_in_path outputs)) xs ys same))
 
-pub covers_outputs : (kind : StmtKind-F StmtKind Arm Branch Stmt) (f : ℕ) (inputs : List Expr) (outputs : List Path) (paths : List Static) → kind ≡ StmtKind-F.Call f inputs outputs
+pub covers_outputs : (kind : StmtKind-F StmtKind Arm Branch Stmt) (f : ℕ) (inputs : List Expr) (outputs : List Path)
+    (paths : List Static) → kind ≡ StmtKind-F.Call f inputs outputs
     → paths ≡ set_of (map static_of outputs) → Covers (roots_of_act kind) paths
 covers_outputs kind f inputs outputs paths is same xs ys agree =
     subst (λ (paths : List Static). Agree (map (λ (path : Static). path.root) paths) xs ys) (sym same)

@@ -1,5 +1,26 @@
 -- The way to a home, and fronts of lists of fields.
-use Rattle.std.proofs.Common.{◌≡◌, ℕ, zero, suc, ◌+◌, ◌-◌, ◌<◌, ◌≤◌, false, List, [], ◌∷◌, length, drop, Some, None, refl, ap, ◌∙◌, arith}
+use Rattle.std.proofs.Common.{
+  ◌≡◌,
+  ℕ,
+  zero,
+  suc,
+  ◌+◌,
+  ◌-◌,
+  ◌<◌,
+  ◌≤◌,
+  false,
+  List,
+  [],
+  ◌∷◌,
+  length,
+  drop,
+  Some,
+  None,
+  refl,
+  ap,
+  ◌∙◌,
+  arith,
+}
 use Rattle.std.specs.Prelude.{option_map, unwrap_or}
 use Rattle.bl_tree.specs.Static.{is_front}
 use Rattle.bl_ctree.specs.Instances.{Setting}
@@ -9,7 +30,8 @@ pub within_none : (w : Setting) (n : ℕ) (at : Location) → led w at ≡ None 
 within_none w zero at none = refl
 within_none w (suc n) at none = ap (λ next. unwrap_or (option_map (home_within w n) next) at) none
 
-pub within_next : (w : Setting) (d k : ℕ) (at next : Location) → k < d → led w at ≡ Some next → home_within w (d - k) at ≡ home_within w (d - (k + 1)) next
+pub within_next : (w : Setting) (d k : ℕ) (at next : Location) → k < d → led w at ≡ Some next →
+    home_within w (d - k) at ≡ home_within w (d - (k + 1)) next
 within_next w d k at next below is =
     let more : d - k ≡ suc (d - (k + 1)) = omega arith in
     ap (λ n. home_within w n at) more ∙ ap (λ found. unwrap_or (option_map (home_within w (d - (k + 1))) found) at) is

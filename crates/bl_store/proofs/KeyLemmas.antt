@@ -1,12 +1,32 @@
 -- Keys of maps and sets that tie.
-use Rattle.std.proofs.Common.{◌≡◌, ℕ, Bool, true, false, ◌&&◌, refl, sym, ◌∙◌, subst, nat_cmp, nat_eq, is_eq, Ordering, Less, Equal, Greater, eqb→eq, T}
+use Rattle.std.proofs.Common.{
+  ◌≡◌,
+  ℕ,
+  Bool,
+  true,
+  false,
+  ◌&&◌,
+  refl,
+  sym,
+  ◌∙◌,
+  subst,
+  nat_cmp,
+  nat_eq,
+  is_eq,
+  Ordering,
+  Less,
+  Equal,
+  Greater,
+  eqb→eq,
+  T,
+}
 use Rattle.std.specs.BTreeMap.{is_at}
 use Rattle.std.specs.Cmp.{unsigned_tied}
 use Rattle.std.specs.Ordering.{ordering_then}
 use Rattle.bl_tree.specs.declared.place.Place.{Place}
 use Rattle.bl_effects.specs.Entries.{key_of}
 use Rattle.bl_tree.specs.Rules.{same_place}
-use Rattle.bl_store.specs.Expansion.{place_cmp}
+use Rattle.bl_store.specs.inner.Expansion.{place_cmp}
 
 pub both_equal : (r s : Ordering) → is_eq (ordering_then r s) ≡ (is_eq r && is_eq s)
 both_equal Less s = refl

@@ -1,5 +1,32 @@
 -- The row of the entry's outputs, number by number.
-use Rattle.std.proofs.Common.{◌≡◌, ℕ, zero, suc, ◌+◌, ◌<◌, ◌≤◌, ℤ, pos, List, [], ◌∷◌, ◌++◌, length, map, take, drop, Option, Some, None, refl, sym, ap, ◌∙◌, arith, append-nil}
+use Rattle.std.proofs.Common.{
+  ◌≡◌,
+  ℕ,
+  zero,
+  suc,
+  ◌+◌,
+  ◌<◌,
+  ◌≤◌,
+  ℤ,
+  pos,
+  List,
+  [],
+  ◌∷◌,
+  ◌++◌,
+  length,
+  map,
+  take,
+  drop,
+  Option,
+  Some,
+  None,
+  refl,
+  sym,
+  ap,
+  ◌∙◌,
+  arith,
+  append-nil,
+}
 use Rattle.std.specs.Prelude.{option_and_then, option_map, slice_get, slice_set, unwrap_or}
 use Rattle.std.proofs.lemmas.Option.{get_or_from_slice_get, slice_get-map}
 use Rattle.bl_tree.specs.declared.tree.Unit.{Unit as UnitDef}
@@ -51,7 +78,8 @@ output_is (Some unit) (Some frame) k below =
     ∙ ap (λ found. Some (shown found)) (get_take unit.outputs (drop unit.inputs frame.now) k within ∙ get_drop unit.inputs frame.now k)
 
 -- one more number is in its place
-pub row_next : (row first before after : List ℤ) (k : ℕ) (n : ℤ) → before ≡ take k row ++ drop k first → length first ≡ length row → k < length first
+pub row_next : (row first before after : List ℤ) (k : ℕ) (n : ℤ) → before ≡ take k row ++ drop k first → length first ≡ length row →
+    k < length first
     → slice_get row k ≡ Some n → after ≡ slice_set before k n → after ≡ take (k + 1) row ++ drop (k + 1) first
 row_next row first before after k n is long within here is_after =
     let below : k < length row = omega arith in
@@ -60,7 +88,8 @@ row_next row first before after k n is long within here is_after =
     is_after ∙ ap (λ xs. slice_set xs k n) is ∙ fill_step row first k n n below fits (sym (get_or_from_slice_get row k n n here))
     ∙ ap (λ m. take m row ++ drop m first) (sym more)
 
-pub row_full : (row first made : List ℤ) (k : ℕ) → made ≡ take k row ++ drop k first → length first ≡ length row → length row ≤ k → made ≡ row
+pub row_full : (row first made : List ℤ) (k : ℕ) → made ≡ take k row ++ drop k first → length first ≡ length row → length row ≤ k →
+    made ≡ row
 row_full row first made k is long over =
     let past : length first ≤ k = omega arith in
     is ∙ ap (λ xs. xs ++ drop k first) (take_all row k over) ∙ ap (λ xs. row ++ xs) (drop_all first k past) ∙ append-nil row

@@ -53,16 +53,20 @@ changed_other i j f xs other = other_at i j f xs (slice_get xs j) other
 
 -- ---- frames
 
-pub at_frame : (frames : List FrameNode) (i : ℕ) (f made : FrameNode) (change : Frame → Frame) → slice_get frames i ≡ Some f → frame_of made ≡ change (frame_of f)
+pub at_frame : (frames : List FrameNode) (i : ℕ) (f made : FrameNode) (change : Frame → Frame) → slice_get frames i ≡ Some f →
+    frame_of made ≡ change (frame_of f)
     → store_of (slice_set frames i made) ≡ with_frame i change (store_of frames)
 at_frame frames i f made change is gives =
     map-set frame_of frames i made
     ∙ ap (slice_set (store_of frames) i) gives
-    ∙ sym (ap (λ found. unwrap_or (option_map (λ frame. slice_set (store_of frames) i (change frame)) found) (store_of frames)) (slice_get-map frame_of frames i ∙ ap (option_map frame_of) is))
+    ∙ sym (ap (λ found. unwrap_or (option_map (λ frame. slice_set (store_of frames) i (change frame)) found) (store_of frames))
+    (slice_get-map frame_of frames i ∙ ap (option_map frame_of) is))
 
-pub past_frames : (frames : List FrameNode) (i : ℕ) (change : Frame → Frame) → length frames ≤ i → store_of frames ≡ with_frame i change (store_of frames)
+pub past_frames : (frames : List FrameNode) (i : ℕ) (change : Frame → Frame) → length frames ≤ i →
+    store_of frames ≡ with_frame i change (store_of frames)
 past_frames frames i change past =
-    sym (ap (λ found. unwrap_or (option_map (λ frame. slice_set (store_of frames) i (change frame)) found) (store_of frames)) (slice_get-map frame_of frames i ∙ ap (option_map frame_of) (slice_get_past frames i past)))
+    sym (ap (λ found. unwrap_or (option_map (λ frame. slice_set (store_of frames) i (change frame)) found) (store_of frames))
+    (slice_get-map frame_of frames i ∙ ap (option_map frame_of) (slice_get_past frames i past)))
 
 -- ---- a value put at a home
 
@@ -70,12 +74,14 @@ abbrev pub put_in : Location → Value → Frame → Frame
 put_in at value frame = record frame { now = with_element_at at.path.root at.path.fields value frame.now }
 
 put_some : (at : Location) (value : Value) (store : Store) (frame : Frame) (made : Option (List Value)) → slice_get store at.instance ≡ Some frame
-    → unwrap_or (option_map (λ now. slice_set store at.instance (record frame { now = now })) made) store ≡ slice_set store at.instance (record frame { now = unwrap_or made frame.now })
+    → unwrap_or (option_map (λ now. slice_set store at.instance (record frame { now = now })) made) store
+    ≡ slice_set store at.instance (record frame { now = unwrap_or made frame.now })
 put_some at value store frame None is = sym (set_own store at.instance frame is)
 put_some at value store frame (Some now) is = refl
 
 put_at_found : (at : Location) (value : Value) (store : Store) (found : Option Frame) → slice_get store at.instance ≡ found
-    → unwrap_or (option_and_then (with_now store at value) found) store ≡ unwrap_or (option_map (λ frame. slice_set store at.instance (put_in at value frame)) found) store
+    → unwrap_or (option_and_then (with_now store at value) found) store
+    ≡ unwrap_or (option_map (λ frame. slice_set store at.instance (put_in at value frame)) found) store
 put_at_found at value store None is = refl
 put_at_found at value store (Some frame) is =
     put_some at value store frame (put_at at.path.root at.path.fields value frame.now) is
@@ -97,7 +103,8 @@ put_now at value k (Some frame) is =
     ap (λ root. slice_get (with_element_at root at.path.fields value frame.now) k) is
     ∙ changed_same k (replaced at.path.fields value) frame.now
 
-put_now_other : (at : Location) (value : Value) (k : ℕ) (found : Option Frame) → k ≢ at.path.root → now_of k (option_map (put_in at value) found) ≡ now_of k found
+put_now_other : (at : Location) (value : Value) (k : ℕ) (found : Option Frame) → k ≢ at.path.root →
+    now_of k (option_map (put_in at value) found) ≡ now_of k found
 put_now_other at value k None other = refl
 put_now_other at value k (Some frame) other = changed_other k at.path.root (replaced at.path.fields value) frame.now other
 
@@ -111,13 +118,15 @@ put_there at value store i k same root =
     ∙ put_now at value k (slice_get store i) root
 
 -- a variable of another instance
-pub put_elsewhere : (at : Location) (value : Value) (store : Store) (i k : ℕ) → i ≢ at.instance → now_there (put at value store) i k ≡ now_there store i k
+pub put_elsewhere : (at : Location) (value : Value) (store : Store) (i k : ℕ) → i ≢ at.instance →
+    now_there (put at value store) i k ≡ now_there store i k
 put_elsewhere at value store i k other =
     ap (λ store. now_there store i k) (put_changes at value store)
     ∙ ap (now_of k) (changed_other i at.instance (put_in at value) store other)
 
 -- another variable of the instance
-pub put_beside : (at : Location) (value : Value) (store : Store) (i k : ℕ) → at.instance ≡ i → k ≢ at.path.root → now_there (put at value store) i k ≡ now_there store i k
+pub put_beside : (at : Location) (value : Value) (store : Store) (i k : ℕ) → at.instance ≡ i → k ≢ at.path.root →
+    now_there (put at value store) i k ≡ now_there store i k
 put_beside at value store i k same other =
     ap (λ store. now_there store i k) (put_changes at value store)
     ∙ ap (λ j. now_there (with_frame j (put_in at value) store) i k) same
@@ -132,7 +141,8 @@ remember_some : (i k : ℕ) (store : Store) (frame : Frame) (now : Option Value)
 remember_some i k store frame None is = set_own store i frame is
 remember_some i k store frame (Some value) is = refl
 
-before_at : (i k : ℕ) (value : Value) (store : Store) (frame : Frame) → slice_get store i ≡ Some frame → slice_set store i (with_before k value frame) ≡ with_frame i (with_before k value) store
+before_at : (i k : ℕ) (value : Value) (store : Store) (frame : Frame) → slice_get store i ≡ Some frame →
+    slice_set store i (with_before k value frame) ≡ with_frame i (with_before k value) store
 before_at i k value store frame is = sym (ap (λ found. unwrap_or (option_map (λ frame. slice_set store i (with_before k value frame)) found) store) is)
 
 before_all : (i k : ℕ) (store : Store) (frame : Frame) (now : Option Value) → slice_get store i ≡ Some frame

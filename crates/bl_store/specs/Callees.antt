@@ -21,4 +21,5 @@ begun entries caller place = lookup (is_at (key_cmp (key_at caller place))) entr
 
 -- for each `run` statement it is the first of the instances that it begins
 abbrev pub Finds : List ((ℕ × (ℕ × ℕ)) × ℕ) → List Instance → Type 0
-Finds entries instances = (caller : ℕ) (place : Place) → begun entries caller place ≡ position (λ instance. begins_at caller place instance.origin) instances
+Finds entries instances = (caller : ℕ) (place : Place) →
+    begun entries caller place ≡ position (λ instance. begins_at caller place instance.origin) instances

@@ -46,7 +46,8 @@ called c = record { instance = c.instance; unit = c.unit.now }
 
 -- the instance that the `run` statement at the place begins, with its unit
 abbrev pub called_at : Setting → ℕ → Place → Option Called
-called_at w caller place = option_and_then (λ callee. option_map (λ unit. record { instance = callee; unit = unit }) (unit_at w callee)) (callee_of w caller place)
+called_at w caller place = option_and_then (λ callee. option_map (λ unit. record { instance = callee; unit = unit })
+    (unit_at w callee)) (callee_of w caller place)
 
 -- ---- what the statements of an instance see
 

@@ -4,7 +4,7 @@ ghost use Rattle.std.specs.Prelude.{◌≡◌, ◌<◌, ◌≤◌, ◌+◌, ◌^
 ghost use Rattle.std.specs.List.{list_any};
 ghost use Rattle.bl_ctree.specs.Instances.{called_from, expanded, instances_below, instances_of, one_a_place, origin_under, runs_of, setting_of};
 ghost use Rattle.bl_tree.specs.Rules.{same_place};
-ghost use Rattle.bl_store.specs.Expansion.{Sees, Shifts, has_place, starts_at};
+ghost use Rattle.bl_store.specs.inner.Expansion.{Sees, Shifts, has_place, starts_at};
 ghost use Rattle.bl_store.specs.Seen.{setting_in};
 
 use crate::index::Callees;

@@ -1,5 +1,9 @@
-//! The store of a program that runs: its instances, the values of their variables, and what one action makes of them
-//! (docs/LANGUAGE.md, "How a program runs").
+//! The store of a program that runs: its instances, the values of their variables now and before, and what one action
+//! makes of them (docs/LANGUAGE.md, "Control trees"). `instances_of` gives exactly the instances to which a program
+//! expands (`Instances.antt` of `bl_ctree`). `asks` tells whether a condition is true, and `carry_out` makes of the
+//! store what any other action makes of it (`specs/Deeds.antt`, `deed_on`); after a trap or want of memory the store is
+//! as it was (`Carried`). `specs/Seen.antt` (`store_of`) says what the store of the code shows. An expression or act
+//! hangs on the variables that it names alone (`specs/Agree.antt`), so only these are copied.
 #![tactic(auto)]
 
 pub mod callee;

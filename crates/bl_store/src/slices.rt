@@ -1,3 +1,5 @@
+//! Elements of lists by their positions.
+
 ghost use Rattle.std.specs.Prelude.{◌≡◌, option_map, slice_get};
 
 /// The element at the position, where there is one.

@@ -1,7 +1,6 @@
 //! What acts write, and changes of one instance's values.
 
 ghost use Rattle.std.specs.Prelude.{◌≡◌, ◌++◌, ◌<◌, Some, pos, drop, length, IfOk, OnOk, slice_get, slice_set};
-ghost use Rattle.bl_tree.specs.Static.{set_of};
 ghost use Rattle.bl_ctree.specs.Actions.{with_result};
 ghost use Rattle.bl_ctree.specs.Store.{Store, put_path, put_written, with_frame, with_inputs};
 ghost use Rattle.bl_store.specs.Own.{with_before};
@@ -69,16 +68,6 @@ pub fn put_all(frames: &mut Vec<Frame>, puts: List<Put>)
         let Put { at, value } = each;
         put(frames, &at, value);
     }
-}
-
-/// The paths in ascending order, each once.
-pub fn set_of(paths: List<Static>) -> List<Static>
-    ensures { result ≡ set_of paths }
-{
-    let mut paths = paths.into_vec();
-    paths.sort_unstable();
-    paths.dedup();
-    List::from_vec(paths)
 }
 
 /// Takes a value out of a list.

@@ -1,26 +1,23 @@
 -- Rows that are read fit, and there are no more of them than lines.
 use Rattle.std.proofs.Common.{◌≡◌, ℕ, ◌+◌, ◌<◌, ◌≤◌, ℤ, pos, Bool, true, false, ◌&&◌, List, [], ◌∷◌, ◌++◌, length, Option, Some, None, refl, ap, subst, arith}
 use Rattle.std.specs.Prelude.{nat_le, nat_lt, if◌then◌else◌}
+use Rattle.std.specs.List.{list_all}
 use Rattle.std.specs.Str.{bytes_eq}
 use Rattle.std.specs.Str.Parse.{true_text, false_text}
 use Rattle.std.proofs.lemmas.Bool.Decides.{nat_tests}
-use Rattle.bl_tree.specs.Scalar.{InRange, in_range}
+use Rattle.bl_tree.specs.Scalar.{in_range}
+use Rattle.bl_tree.specs.Ports.{RowsFit, row_fits}
 use Rattle.bl_tree.specs.declared.row.Column.{Column}
 use Rattle.bl_tree.specs.declared.scalar.Scalar.{Scalar}
 use Rattle.bl_tree.specs.declared.scalar.Scalar.TheVariants.{Bool as OfBool, Int, Nat, Bits}
-use Rattle.bl_tree.proofs.NumberLemmas.{in_range_holds, in_range_passes}
-use Rattle.bl_cmeaning_laws.specs.Fitting.{in_ranges}
-use Rattle.bl_crun.specs.Running.{types_of}
 use Rattle.bl_rows.specs.Fields.{both, is_header, is_number, number_of, records_in, row_of, value_of, values_of, within}
 use Rattle.bl_rows.specs.Lines.{lines_of, whole_lines}
 use Rattle.bl_rows.specs.Reading.{Scan, after, at_start, bad_or, begun, judged, judged_record, led_by_line, line_number, longest_line, numbers_or_bad, over_limit, rows_in, rows_of, scan, verdict}
-use Rattle.bl_rows.specs.Text.{RowFits}
 use Rattle.bl_rows.specs.declared.fault.RowFault.{RowFault}
 use Rattle.bl_rows.specs.declared.fault.RowFault.TheVariants.{BadHeader, BadRow, LongLine}
 use Rattle.bl_rows.specs.declared.verdict.Place.{Place}
 use Rattle.bl_rows.specs.declared.verdict.Verdict.{Verdict}
 use Rattle.bl_rows.specs.declared.verdict.Verdict.TheVariants.{Passed, Header, Numbers, Bad}
-use Rattle.bl_stream.specs.Streams.{AllFit}
 
 -- ---- numbers of fields
 
@@ -28,91 +25,108 @@ if-some : {A : Type 0} (b : Bool) (x y : A) → (if b then Some x else None) ≡
 if-some true x y e = (refl, cc)
 if-some false x y e = absurd (cc)
 
-within-fits : (t : Scalar) (o : Option ℤ) (z : ℤ) → within t o ≡ Some z → InRange t z
+within-fits : (t : Scalar) (o : Option ℤ) (z : ℤ) → within t o ≡ Some z → in_range t z ≡ true
 within-fits t None z e = absurd (cc)
 within-fits t (Some x) z e =
     let p = if-some (in_range t x) x z e in
-    subst (InRange t) p.1 (in_range_holds t x p.0)
+    subst (λ n. in_range t n ≡ true) p.1 p.0
 
-truth-fits : (a b : Bool) (z : ℤ) → (if a then Some (pos 1) else if b then Some (pos 0) else None) ≡ Some z → InRange OfBool z
-truth-fits true b z e = let is : pos 1 ≡ z = cc in subst (InRange OfBool) is (in_range_holds OfBool (pos 1) refl)
-truth-fits false true z e = let is : pos 0 ≡ z = cc in subst (InRange OfBool) is (in_range_holds OfBool (pos 0) refl)
+truth-fits : (a b : Bool) (z : ℤ) → (if a then Some (pos 1) else if b then Some (pos 0) else None) ≡ Some z → in_range OfBool z ≡ true
+truth-fits true b z e = let is : pos 1 ≡ z = cc in subst (λ n. in_range OfBool n ≡ true) is refl
+truth-fits false true z e = let is : pos 0 ≡ z = cc in subst (λ n. in_range OfBool n ≡ true) is refl
 truth-fits false false z e = absurd (cc)
 
-value-fits : (t : Scalar) (field : List ℕ) (z : ℤ) → value_of t field ≡ Some z → InRange t z
+value-fits : (t : Scalar) (field : List ℕ) (z : ℤ) → value_of t field ≡ Some z → in_range t z ≡ true
 value-fits OfBool field z e = truth-fits (bytes_eq field true_text) (bytes_eq field false_text) z e
 value-fits (Int w) field z e = within-fits (Int w) (number_of field) z e
 value-fits (Nat w) field z e = within-fits (Nat w) (number_of field) z e
 value-fits (Bits w) field z e = within-fits (Bits w) (number_of field) z e
 
+-- ---- tests
+
+pub and-both : (a b : Bool) → a ≡ true → b ≡ true → (a && b) ≡ true
+and-both true b h k = k
+and-both false b h k = absurd (cc)
+
+pub and-left : (a b : Bool) → (a && b) ≡ true → a ≡ true
+and-left true b h = refl
+and-left false b h = absurd (cc)
+
+pub and-right : (a b : Bool) → (a && b) ≡ true → b ≡ true
+and-right true b h = h
+and-right false b h = absurd (cc)
+
 -- ---- rows
 
+abbrev Fits : List Column → List ℤ → Type 0
+Fits columns row = row_fits columns row ≡ true
+
 both-fits : (c : Column) (columns : List Column) (a : Option ℤ) (b : Option (List ℤ)) (row : List ℤ) → both a b ≡ Some row →
-    ((z : ℤ) → a ≡ Some z → InRange c.ty z) → ((zs : List ℤ) → b ≡ Some zs → RowFits columns zs) → RowFits (c ∷ columns) row
+    ((z : ℤ) → a ≡ Some z → in_range c.ty z ≡ true) → ((zs : List ℤ) → b ≡ Some zs → Fits columns zs) → Fits (c ∷ columns) row
 both-fits c columns None b row e first later = absurd (cc)
 both-fits c columns (Some z) None row e first later = absurd (cc)
 both-fits c columns (Some z) (Some zs) row e first later =
     let is : z ∷ zs ≡ row = cc in
-    subst (RowFits (c ∷ columns)) is (first z refl, later zs refl)
+    subst (Fits (c ∷ columns)) is (and-both (in_range c.ty z) (row_fits columns zs) (first z refl) (later zs refl))
 
-values-fit : (columns : List Column) (fields : List (List ℕ)) (row : List ℤ) → values_of columns fields ≡ Some row → RowFits columns row
-values-fit [] [] row e = let is : [] ≡ row = cc in subst (RowFits []) is tt
+values-fit : (columns : List Column) (fields : List (List ℕ)) (row : List ℤ) → values_of columns fields ≡ Some row → Fits columns row
+values-fit [] [] row e = let is : [] ≡ row = cc in subst (Fits []) is refl
 values-fit [] (f ∷ fields) row e = absurd (cc)
 values-fit (c ∷ columns) [] row e = absurd (cc)
 values-fit (c ∷ columns) (f ∷ fields) row e =
     both-fits c columns (value_of c.ty f) (values_of columns fields) row e (value-fits c.ty f) (values-fit columns fields)
 
-numbered-fits : (columns : List Column) (b : Bool) (values : Option (List ℤ)) (row : List ℤ) → ((zs : List ℤ) → values ≡ Some zs → RowFits columns zs) → (if b then values else None) ≡ Some row → RowFits columns row
+numbered-fits : (columns : List Column) (b : Bool) (values : Option (List ℤ)) (row : List ℤ) → ((zs : List ℤ) → values ≡ Some zs → Fits columns zs) → (if b then values else None) ≡ Some row → Fits columns row
 numbered-fits columns true values row fit e = fit row e
 numbered-fits columns false values row fit e = absurd (cc)
 
-row-fits : (columns : List Column) (n : ℕ) (fields : List (List ℕ)) (row : List ℤ) → row_of columns n fields ≡ Some row → RowFits columns row
+row-fits : (columns : List Column) (n : ℕ) (fields : List (List ℕ)) (row : List ℤ) → row_of columns n fields ≡ Some row → Fits columns row
 row-fits columns n [] row e = absurd (cc)
 row-fits columns n (tick ∷ fields) row e = numbered-fits columns (is_number n (number_of tick)) (values_of columns fields) row (values-fit columns fields) e
 
-judged-row : (columns : List Column) (line : ℕ) (o : Option (List ℤ)) (row : List ℤ) → ((zs : List ℤ) → o ≡ Some zs → RowFits columns zs) → numbers_or_bad line o ≡ Numbers row → RowFits columns row
+judged-row : (columns : List Column) (line : ℕ) (o : Option (List ℤ)) (row : List ℤ) → ((zs : List ℤ) → o ≡ Some zs → Fits columns zs) → numbers_or_bad line o ≡ Numbers row → Fits columns row
 judged-row columns line None row fit e = absurd (cc)
-judged-row columns line (Some zs) row fit e = let is : zs ≡ row = cc in subst (RowFits columns) is (fit zs refl)
+judged-row columns line (Some zs) row fit e = let is : zs ≡ row = cc in subst (Fits columns) is (fit zs refl)
 
-header-fits : (columns : List Column) (line : ℕ) (b : Bool) (row : List ℤ) → (if b then Header else Bad (BadHeader line)) ≡ Numbers row → RowFits columns row
+header-fits : (columns : List Column) (line : ℕ) (b : Bool) (row : List ℤ) → (if b then Header else Bad (BadHeader line)) ≡ Numbers row → Fits columns row
 header-fits columns line true row e = absurd (cc)
 header-fits columns line false row e = absurd (cc)
 
-record-fits : (columns : List Column) (ticks : Option ℕ) (line : ℕ) (fields : List (List ℕ)) (row : List ℤ) → judged_record columns ticks line fields ≡ Numbers row → RowFits columns row
+record-fits : (columns : List Column) (ticks : Option ℕ) (line : ℕ) (fields : List (List ℕ)) (row : List ℤ) → judged_record columns ticks line fields ≡ Numbers row → Fits columns row
 record-fits columns None line fields row e = header-fits columns line (is_header columns fields) row e
 record-fits columns (Some t) line fields row e = judged-row columns line (row_of columns (t + 1) fields) row (row-fits columns (t + 1) fields) e
 
-judged-fits : (columns : List Column) (at : Place) (records : List (List (List ℕ))) (row : List ℤ) → judged columns at records ≡ Numbers row → RowFits columns row
+judged-fits : (columns : List Column) (at : Place) (records : List (List (List ℕ))) (row : List ℤ) → judged columns at records ≡ Numbers row → Fits columns row
 judged-fits columns at [] row e = absurd (cc)
 judged-fits columns at (fields ∷ []) row e = record-fits columns at.ticks (line_number at) fields row e
 judged-fits columns at (fields ∷ more ∷ others) row e = absurd (cc)
 
-good-fits : (columns : List Column) (fault : Option RowFault) (found : Verdict) (row : List ℤ) → (found ≡ Numbers row → RowFits columns row) → bad_or fault found ≡ Numbers row → RowFits columns row
+good-fits : (columns : List Column) (fault : Option RowFault) (found : Verdict) (row : List ℤ) → (found ≡ Numbers row → Fits columns row) → bad_or fault found ≡ Numbers row → Fits columns row
 good-fits columns (Some fault) found row fit e = absurd (cc)
 good-fits columns None found row fit e = fit e
 
-verdict-fits : (columns : List Column) (at : Place) (line : List ℕ) (row : List ℤ) → verdict columns at line ≡ Numbers row → RowFits columns row
+verdict-fits : (columns : List Column) (at : Place) (line : List ℕ) (row : List ℤ) → verdict columns at line ≡ Numbers row → Fits columns row
 unfolding verdict
 verdict-fits columns at line row e = good-fits columns (over_limit at (length line)) (judged columns at (records_in line)) row (judged-fits columns at (records_in line) row) e
 
 -- ---- lines
 
-led-fits : (columns : List Column) (at : Place) (v : Verdict) (s : Scan) → ((row : List ℤ) → v ≡ Numbers row → RowFits columns row) → AllFit columns s.rows → AllFit columns (led_by_line at v s).rows
+led-fits : (columns : List Column) (at : Place) (v : Verdict) (s : Scan) → ((row : List ℤ) → v ≡ Numbers row → Fits columns row) → RowsFit columns s.rows → RowsFit columns (led_by_line at v s).rows
 led-fits columns at Passed s first later = later
 led-fits columns at Header s first later = later
-led-fits columns at (Numbers row) s first later = (first row refl, later)
-led-fits columns at (Bad fault) s first later = tt
+led-fits columns at (Numbers row) s first later = and-both (row_fits columns row) (list_all (row_fits columns) s.rows) (first row refl) later
+led-fits columns at (Bad fault) s first later = refl
 
-pub scan-fits : (columns : List Column) (at : Place) (lines : List (List ℕ)) → AllFit columns (scan columns at lines).rows
-scan-fits columns at [] = tt
+pub scan-fits : (columns : List Column) (at : Place) (lines : List (List ℕ)) → RowsFit columns (scan columns at lines).rows
+scan-fits columns at [] = refl
 scan-fits columns at (line ∷ lines) =
     led-fits columns at (verdict columns at line) (scan columns (after at (verdict columns at line)) lines) (verdict-fits columns at line) (scan-fits columns (after at (verdict columns at line)) lines)
 
-pub told-fits : (bytes : List ℕ) (columns : List Column) → AllFit columns (rows_of bytes columns).rows
+pub told-fits : (bytes : List ℕ) (columns : List Column) → RowsFit columns (rows_of bytes columns).rows
 unfolding rows_of
 told-fits bytes columns = scan-fits columns at_start (lines_of bytes)
 
-pub lines-fit : (bytes : List ℕ) (columns : List Column) → AllFit columns (rows_in (begun columns) bytes)
+pub lines-fit : (bytes : List ℕ) (columns : List Column) → RowsFit columns (rows_in (begun columns) bytes)
 unfolding rows_in
 lines-fit bytes columns = scan-fits columns at_start (whole_lines bytes)
 
@@ -145,38 +159,14 @@ told-few bytes columns = let h = scan-few columns at_start (lines_of bytes) (ome
 
 -- ---- parts of rows
 
-pub fit-later : (columns : List Column) (a b : List (List ℤ)) → AllFit columns (a ++ b) → AllFit columns b
+pub fit-later : (columns : List Column) (a b : List (List ℤ)) → RowsFit columns (a ++ b) → RowsFit columns b
 fit-later columns [] b fit = fit
-fit-later columns (row ∷ a) b fit = fit-later columns a b fit.1
+fit-later columns (row ∷ a) b fit = fit-later columns a b (and-right (row_fits columns row) (list_all (row_fits columns) (a ++ b)) fit)
 
--- ---- rows that fit, as tests
+-- ---- lengths
 
-and-both : (a b : Bool) → a ≡ true → b ≡ true → (a && b) ≡ true
-and-both true b h k = k
-and-both false b h k = absurd (cc)
-
-and-left : (a b : Bool) → (a && b) ≡ true → a ≡ true
-and-left true b h = refl
-and-left false b h = absurd (cc)
-
-and-right : (a b : Bool) → (a && b) ≡ true → b ≡ true
-and-right true b h = h
-and-right false b h = absurd (cc)
-
-pub fits-pass : (columns : List Column) (row : List ℤ) → RowFits columns row → in_ranges (types_of columns) row ≡ true
-fits-pass [] [] fit = refl
-fits-pass [] (z ∷ row) fit = absurd fit
-fits-pass (c ∷ columns) [] fit = absurd fit
-fits-pass (c ∷ columns) (z ∷ row) fit = and-both _ _ (in_range_passes c.ty z fit.0) (fits-pass columns row fit.1)
-
-pub fits-hold : (columns : List Column) (row : List ℤ) → in_ranges (types_of columns) row ≡ true → RowFits columns row
-fits-hold [] [] pass = tt
-fits-hold [] (z ∷ row) pass = absurd (cc)
-fits-hold (c ∷ columns) [] pass = absurd (cc)
-fits-hold (c ∷ columns) (z ∷ row) pass = (in_range_holds c.ty z (and-left (in_range c.ty z) _ pass), fits-hold columns row (and-right (in_range c.ty z) _ pass))
-
-pub fits-long : (columns : List Column) (row : List ℤ) → RowFits columns row → length row ≡ length columns
+pub fits-long : (columns : List Column) (row : List ℤ) → Fits columns row → length row ≡ length columns
 fits-long [] [] fit = refl
-fits-long [] (z ∷ row) fit = absurd fit
-fits-long (c ∷ columns) [] fit = absurd fit
-fits-long (c ∷ columns) (z ∷ row) fit = let h = fits-long columns row fit.1 in omega arith
+fits-long [] (z ∷ row) fit = absurd (cc)
+fits-long (c ∷ columns) [] fit = absurd (cc)
+fits-long (c ∷ columns) (z ∷ row) fit = let h = fits-long columns row (and-right (in_range c.ty z) (row_fits columns row) fit) in omega arith

@@ -2,6 +2,7 @@
 use Rattle.std.proofs.Common.{◌≡◌, ℕ, ◌+◌, ◌≤◌, ◌⊎◌, ℤ, true, false, List, [], ◌++◌, length, Option, Some, None, IfSome, refl, ap, sym, subst, ◌∙◌, arith, append_assoc, append-nil, length-append}
 use Rattle.bl_tree.specs.declared.row.Last.{Last}
 use Rattle.bl_tree.specs.declared.row.Last.TheVariants.{Open, Ended, Trap}
+use Rattle.bl_tree.specs.Ports.{RowsFit}
 use Rattle.bl_cmeaning.specs.Cells.{inputs_of, outputs_of}
 use Rattle.bl_crun.specs.Running.{Running, loaded}
 use Rattle.bl_io.specs.Held.{Appends}
@@ -11,7 +12,7 @@ use Rattle.bl_rows.specs.Text.{text_of}
 use Rattle.bl_rows.specs.declared.fault.RowFault.{RowFault}
 use Rattle.bl_stream.specs.Courses.{after_rows, text_from, trace_from}
 use Rattle.bl_stream.specs.Going.{Ends, Leaves, Stands, left_of, reach}
-use Rattle.bl_stream.specs.Streams.{AllFit, AppendsFront, course_of, finish_of, trace_so_far}
+use Rattle.bl_stream.specs.Streams.{AppendsFront, course_of, finish_of, trace_so_far}
 use Rattle.bl_stream.specs.declared.finish.Finish.{Finish}
 use Rattle.bl_stream.specs.declared.finish.Finish.TheVariants as finish
 use Rattle.bl_stream.specs.declared.left.Left.TheVariants as left
@@ -126,8 +127,8 @@ piece-further read piece before now p s r stands last fault found state is =
 
 -- what is asked for before the rows of a piece run
 pub piece-fit : (read piece : List ℕ) (before now : Option (List ℕ)) (p : Pace) (s : Reading) (r : Running) → Stands r.parts read before p r now → (rows : List (List ℤ)) → rows ≡ rows_in p.reader piece →
-    ((rest : List ℕ) → rows_after p.reader (piece ++ rest) ≡ led_by_rows (rows_in p.reader piece) (rows_after s rest)) → AllFit (inputs_of r.parts) rows
-piece-fit read piece before now p s r stands rows are cuts = subst (AllFit (inputs_of r.parts)) (sym are) (piece-fits (inputs_of r.parts) read piece p.reader s stands.fed cuts)
+    ((rest : List ℕ) → rows_after p.reader (piece ++ rest) ≡ led_by_rows (rows_in p.reader piece) (rows_after s rest)) → RowsFit (inputs_of r.parts) rows
+piece-fit read piece before now p s r stands rows are cuts = subst (RowsFit (inputs_of r.parts)) (sym are) (piece-fits (inputs_of r.parts) read piece p.reader s stands.fed cuts)
 
 pub piece-few-left : (read piece : List ℕ) (before now : Option (List ℕ)) (p : Pace) (s : Reading) (r : Running) → Stands r.parts read before p r now → (rows : List (List ℤ)) → rows ≡ rows_in p.reader piece →
     ((rest : List ℕ) → rows_after p.reader (piece ++ rest) ≡ led_by_rows (rows_in p.reader piece) (rows_after s rest)) → p.ticks.done + length rows ≤ 1000000
@@ -140,8 +141,8 @@ piece-few-left read piece before now p s r stands rows are cuts =
 -- ---- the end of the file
 
 -- what is asked for before the last row runs
-pub last-fit : (read : List ℕ) (before now : Option (List ℕ)) (p : Pace) (r : Running) → Stands r.parts read before p r now → (rows : List (List ℤ)) → rows ≡ (rows_after p.reader []).rows → AllFit (inputs_of r.parts) rows
-last-fit read before now p r stands rows are = subst (AllFit (inputs_of r.parts)) (sym are) (end-fits (inputs_of r.parts) read p.reader stands.fed)
+pub last-fit : (read : List ℕ) (before now : Option (List ℕ)) (p : Pace) (r : Running) → Stands r.parts read before p r now → (rows : List (List ℤ)) → rows ≡ (rows_after p.reader []).rows → RowsFit (inputs_of r.parts) rows
+last-fit read before now p r stands rows are = subst (RowsFit (inputs_of r.parts)) (sym are) (end-fits (inputs_of r.parts) read p.reader stands.fed)
 
 pub last-few-left : (read : List ℕ) (before now : Option (List ℕ)) (p : Pace) (r : Running) → Stands r.parts read before p r now → (rows : List (List ℤ)) → rows ≡ (rows_after p.reader []).rows → p.ticks.done + length rows ≤ 1000000
 last-few-left read before now p r stands rows are =

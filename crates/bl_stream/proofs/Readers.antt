@@ -1,11 +1,12 @@
 -- A reader from piece to piece.
 use Rattle.std.proofs.Common.{◌≡◌, ℕ, ◌+◌, ◌≤◌, ℤ, false, List, [], ◌∷◌, ◌++◌, length, Some, None, refl, ap, sym, subst, ◌∙◌, arith, append_assoc, append-nil, length-append}
+use Rattle.std.specs.List.{list_all}
 use Rattle.bl_tree.specs.declared.row.Column.{Column}
 use Rattle.bl_rows.specs.Reading.{Reading, Told, begun, fault_in, led_by_rows, rows_after, rows_in, rows_of}
 use Rattle.bl_rows.specs.declared.fault.RowFault.{RowFault}
 use Rattle.bl_stream.specs.Going.{HasFed}
-use Rattle.bl_stream.specs.Streams.{AllFit}
-use Rattle.bl_stream.proofs.Fits.{fit-later, told-few, told-fits}
+use Rattle.bl_tree.specs.Ports.{RowsFit, row_fits}
+use Rattle.bl_stream.proofs.Fits.{and-both, and-left, and-right, fit-later, told-few, told-fits}
 
 pub none-in : (ins : List Column) → rows_in (begun ins) [] ≡ []
 unfolding rows_in
@@ -50,8 +51,8 @@ fed-more ins read piece s s2 fed good cuts joins running = record {
 -- ---- rows that a piece makes whole, or that the file's end does
 
 -- rows of a whole file, of which the first ones came before
-pub later-fit : (ins : List Column) (bytes : List ℕ) (first later : List (List ℤ)) → (rows_of bytes ins).rows ≡ first ++ later → AllFit ins later
-later-fit ins bytes first later is = fit-later ins first later (subst (AllFit ins) is (told-fits bytes ins))
+pub later-fit : (ins : List Column) (bytes : List ℕ) (first later : List (List ℤ)) → (rows_of bytes ins).rows ≡ first ++ later → RowsFit ins later
+later-fit ins bytes first later is = fit-later ins first later (subst (RowsFit ins) is (told-fits bytes ins))
 
 pub later-few : (ins : List Column) (bytes : List ℕ) (first later : List (List ℤ)) → (rows_of bytes ins).rows ≡ first ++ later → length first + length later ≤ 1000000
 later-few ins bytes first later is =
@@ -65,11 +66,14 @@ pub piece-later : (ins : List Column) (read piece : List ℕ) (s s2 : Reading) �
 piece-later ins read piece s s2 fed cuts =
     ap (λ (t : Told). t.rows) (told-more ins read piece [] s s2 fed cuts) ∙ append_assoc (rows_in (begun ins) read) (rows_in s piece) (rows_after s2 []).rows
 
-pub fit-first : (ins : List Column) (a b : List (List ℤ)) → AllFit ins (a ++ b) → AllFit ins a
-fit-first ins [] b fit = tt
-fit-first ins (row ∷ a) b fit = (fit.0, fit-first ins a b fit.1)
+pub fit-first : (ins : List Column) (a b : List (List ℤ)) → RowsFit ins (a ++ b) → RowsFit ins a
+fit-first ins [] b fit = refl
+fit-first ins (row ∷ a) b fit =
+    let first = and-left (row_fits ins row) (list_all (row_fits ins) (a ++ b)) fit in
+    let rest = fit-first ins a b (and-right (row_fits ins row) (list_all (row_fits ins) (a ++ b)) fit) in
+    and-both (row_fits ins row) (list_all (row_fits ins) a) first rest
 
-pub piece-fits : (ins : List Column) (read piece : List ℕ) (s s2 : Reading) → HasFed ins read s → ((rest : List ℕ) → rows_after s (piece ++ rest) ≡ led_by_rows (rows_in s piece) (rows_after s2 rest)) → AllFit ins (rows_in s piece)
+pub piece-fits : (ins : List Column) (read piece : List ℕ) (s s2 : Reading) → HasFed ins read s → ((rest : List ℕ) → rows_after s (piece ++ rest) ≡ led_by_rows (rows_in s piece) (rows_after s2 rest)) → RowsFit ins (rows_in s piece)
 piece-fits ins read piece s s2 fed cuts =
     fit-first ins (rows_in s piece) (rows_after s2 []).rows (later-fit ins ((read ++ piece) ++ []) (rows_in (begun ins) read) (rows_in s piece ++ (rows_after s2 []).rows) (piece-later ins read piece s s2 fed (cuts [])))
 
@@ -84,7 +88,7 @@ piece-few ins read piece s s2 fed cuts =
 pub end-told : (ins : List Column) (read : List ℕ) (s : Reading) → HasFed ins read s → rows_of read ins ≡ led_by_rows (rows_in (begun ins) read) (rows_after s [])
 end-told ins read s fed = ap (λ bytes. rows_of bytes ins) (sym (append-nil read)) ∙ fed.told []
 
-pub end-fits : (ins : List Column) (read : List ℕ) (s : Reading) → HasFed ins read s → AllFit ins (rows_after s []).rows
+pub end-fits : (ins : List Column) (read : List ℕ) (s : Reading) → HasFed ins read s → RowsFit ins (rows_after s []).rows
 end-fits ins read s fed = later-fit ins read (rows_in (begun ins) read) (rows_after s []).rows (ap (λ (t : Told). t.rows) (end-told ins read s fed))
 
 pub end-few : (ins : List Column) (read : List ℕ) (s : Reading) → HasFed ins read s → length (rows_in (begun ins) read) + length (rows_after s []).rows ≤ 1000000

@@ -1,10 +1,11 @@
 -- The loop over the ticks of rows.
-use Rattle.std.proofs.Common.{◌≡◌, ℕ, suc, ◌+◌, ◌<◌, ℤ, List, ◌∷◌, ◌++◌, length, drop, get_or, ap, sym, subst, ◌∙◌, add-one, drop-cons}
+use Rattle.std.proofs.Common.{◌≡◌, ℕ, suc, ◌+◌, ◌<◌, ℤ, true, List, ◌∷◌, ◌++◌, length, drop, get_or, ap, sym, subst, ◌∙◌, add-one, drop-cons}
+use Rattle.std.specs.List.{list_all}
 use Rattle.bl_tree.specs.declared.row.Column.{Column}
 use Rattle.bl_crun.specs.Running.{Running}
-use Rattle.bl_rows.specs.Text.{RowFits}
 use Rattle.bl_stream.specs.Courses.{after_rows, text_from, trace_from}
-use Rattle.bl_stream.specs.Streams.{AllFit}
+use Rattle.bl_tree.specs.Ports.{RowsFit, row_fits}
+use Rattle.bl_stream.proofs.Fits.{and-left, and-right}
 
 -- what is left over some rows gives what is asked for over all
 pub record Onward (outs : List Column) (r : Running) (rows : List (List ℤ)) (done : ℕ) (said : List ℕ) (r2 : Running) (rows2 : List (List ℤ)) (done2 : ℕ) (said2 : List ℕ) : Type 0 where
@@ -16,5 +17,9 @@ pub record Onward (outs : List Column) (r : Running) (rows : List (List ℤ)) (d
 pub next-row : {A : Type 0} (rows : List A) (k : ℕ) (row : A) → k < length rows → row ≡ get_or rows k row → drop k rows ≡ row ∷ drop (k + 1) rows
 next-row rows k row low is = rw add-one (drop-cons rows k row low ∙ ap (λ x. x ∷ drop (suc k) rows) (sym is))
 
-pub next-fits : (columns : List Column) (rows : List (List ℤ)) (k : ℕ) (row : List ℤ) → drop k rows ≡ row ∷ drop (k + 1) rows → AllFit columns (drop k rows) → RowFits columns row × AllFit columns (drop (k + 1) rows)
-next-fits columns rows k row is fit = subst (AllFit columns) is fit
+pub next-fits : (columns : List Column) (rows : List (List ℤ)) (k : ℕ) (row : List ℤ) → drop k rows ≡ row ∷ drop (k + 1) rows → RowsFit columns (drop k rows)
+    → (row_fits columns row ≡ true) × RowsFit columns (drop (k + 1) rows)
+next-fits columns rows k row is fit =
+    let both : RowsFit columns (row ∷ drop (k + 1) rows) = subst (RowsFit columns) is fit in
+    let rest = list_all (row_fits columns) (drop (k + 1) rows) in
+    (and-left (row_fits columns row) rest both, and-right (row_fits columns row) rest both)

@@ -1,11 +1,11 @@
 -- The trace over rows, in two parts.
-use Rattle.std.proofs.Common.{◌≡◌, ℕ, suc, ℤ, List, [], ◌∷◌, ◌++◌, length, Option, Some, None, refl, ap, sym, ◌∙◌}
+use Rattle.std.proofs.Common.{◌≡◌, ℕ, suc, ℤ, Bool, true, false, List, [], ◌∷◌, ◌++◌, length, refl, ap, sym, ◌∙◌}
 use Rattle.bl_tree.specs.declared.row.Last.{Last}
 use Rattle.bl_tree.specs.declared.row.Last.TheVariants.{Open, Ended, Trap}
 use Rattle.bl_tree.specs.declared.row.Trace.{Trace}
 use Rattle.bl_cmeaning.specs.Parts.{Parts}
-use Rattle.bl_cmeaning.specs.Trace.{Reply, row, ended, trapped, c_trace_from, tick_c, trace_after, trace_then, traced}
-use Rattle.bl_crun.specs.Running.{Running, after_tick, answer_of, cells_from, outputs_after, outputs_from, reply_at, reply_from, unless_trapped}
+use Rattle.bl_cmeaning.specs.Trace.{Reply, row, ended, trapped, c_trace_from, cells_if, tick_c, trace_after, trace_then, traced}
+use Rattle.bl_crun.specs.Running.{Running, after_tick, answer_of, outputs_after, reply_at, tick_if, unless_trapped}
 use Rattle.bl_crun.specs.declared.tick.Tick.{Tick}
 use Rattle.bl_crun.specs.declared.tick.Tick.TheVariants as tick
 use Rattle.bl_stream.specs.Courses.{after_rows, trace_from}
@@ -25,22 +25,23 @@ answered row outputs before rest = refl
 answered ended outputs before rest = refl
 answered trapped outputs before rest = refl
 
-first-after : (file : Parts) (state : Option (List ℤ)) (ins before : List ℤ) (rows : List (List ℤ)) →
-    trace_after file state (ins ∷ rows) ≡ traced_by (answer_of (reply_from file ins state)) (unless_trapped (answer_of (reply_from file ins state)) (outputs_from file ins state before) before) (trace_after file (cells_from file ins state) rows)
-first-after file None ins before rows = refl
-first-after file (Some cells) ins before rows = answered (tick_c file cells ins).reply (tick_c file cells ins).outputs before (c_trace_from file rows (tick_c file cells ins).cells)
+first-after : (file : Parts) (ready : Bool) (cells ins before : List ℤ) (rows : List (List ℤ)) →
+    let t = tick_if ready file cells ins in
+    trace_after file (cells_if ready cells) (ins ∷ rows) ≡ traced_by (answer_of t.reply) (unless_trapped (answer_of t.reply) t.outputs before) (trace_after file (cells_if ready t.cells) rows)
+first-after file false cells ins before rows = refl
+first-after file true cells ins before rows = answered (tick_c file cells ins).reply (tick_c file cells ins).outputs before (c_trace_from file rows (tick_c file cells ins).cells)
 
 -- the first tick of a trace
 pub trace-first : (r : Running) (ins before : List ℤ) (rows : List (List ℤ)) →
     trace_from r (ins ∷ rows) ≡ traced_by (answer_of (reply_at r ins)) (outputs_after r ins before) (trace_from (after_tick r ins) rows)
-trace-first r ins before rows = first-after r.parts r.state ins before rows
+trace-first r ins before rows = first-after r.parts r.ready r.cells ins before rows
 
-none-after : (file : Parts) (state : Option (List ℤ)) → trace_after file state [] ≡ none_yet
-none-after file None = refl
-none-after file (Some cells) = refl
+none-after : (file : Parts) (ready : Bool) (cells : List ℤ) → trace_after file (cells_if ready cells) [] ≡ none_yet
+none-after file false cells = refl
+none-after file true cells = refl
 
 pub trace-none : (r : Running) → trace_from r [] ≡ none_yet
-trace-none r = none-after r.parts r.state
+trace-none r = none-after r.parts r.ready r.cells
 
 -- ---- two parts
 

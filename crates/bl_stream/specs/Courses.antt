@@ -3,12 +3,12 @@ use Rattle.std.specs.Prelude.{ℕ, ℤ, List, [], ◌∷◌, ◌++◌}
 use Rattle.bl_tree.specs.declared.row.Column.{Column}
 use Rattle.bl_tree.specs.declared.row.Trace.{Trace}
 use Rattle.bl_cmeaning.specs.Trace.{trace_after}
-use Rattle.bl_crun.specs.Running.{Running, after_tick}
+use Rattle.bl_crun.specs.Running.{Running, after_tick, state_in}
 use Rattle.bl_rows.specs.Text.{last_text, lines_from}
 
 -- the trace over rows that come next
 abbrev pub trace_from : Running → List (List ℤ) → Trace
-trace_from r rows = trace_after r.parts r.state rows
+trace_from r rows = trace_after r.parts (state_in r) rows
 
 -- a runner after the ticks of rows
 abbrev pub after_rows : Running → List (List ℤ) → Running

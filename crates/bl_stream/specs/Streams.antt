@@ -1,5 +1,5 @@
 -- What a run over a file of rows leaves, and how it ends.
-use Rattle.std.specs.Prelude.{◌≡◌, ◌⊎◌, ℕ, ◌≤◌, ℤ, List, [], ◌∷◌, ◌++◌, length, take, Option, Some, None, IfSome, ⊤}
+use Rattle.std.specs.Prelude.{◌≡◌, ◌⊎◌, ℕ, ◌≤◌, ℤ, List, ◌++◌, length, take, Option, Some, None, IfSome}
 use Rattle.bl_tree.specs.declared.row.Column.{Column}
 use Rattle.bl_tree.specs.declared.row.Last.{Last}
 use Rattle.bl_tree.specs.declared.row.Last.TheVariants.{Open, Ended, Trap}
@@ -9,7 +9,7 @@ use Rattle.bl_cmeaning.specs.Parts.{Parts}
 use Rattle.bl_cmeaning.specs.Trace.{c_trace}
 use Rattle.bl_io.specs.Held.{Appends}
 use Rattle.bl_rows.specs.Reading.{begun, fault_in, rows_in, rows_of}
-use Rattle.bl_rows.specs.Text.{RowFits, text_of}
+use Rattle.bl_rows.specs.Text.{text_of}
 use Rattle.bl_rows.specs.declared.fault.RowFault.{RowFault}
 use Rattle.bl_rows.specs.declared.fault.RowFault.TheVariants as fault
 use Rattle.bl_stream.specs.declared.finish.Finish.{Finish}
@@ -24,11 +24,6 @@ pub record Course : Type 0 where
 -- that of a C file
 abbrev pub course_of : Parts → Course
 course_of file = record { ins = inputs_of file; outs = outputs_of file; trace = c_trace file }
-
--- each row has a number for each column, in the range of its type
-abbrev pub AllFit : List Column → List (List ℤ) → Type 0
-AllFit columns [] = ⊤
-AllFit columns (row ∷ rows) = RowFits columns row × AllFit columns rows
 
 -- the trace over the rows of a whole file, up to its first bad line
 abbrev pub trace_over : Course → List ℕ → Trace

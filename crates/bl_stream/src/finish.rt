@@ -1,3 +1,5 @@
+//! Ends of runs over files of rows.
+
 /// How a run over a file of rows ended (docs/FORMATS.md, "Notes").
 #[derive(Clone, Copy, PartialEq, Eq, Debug)]
 pub enum Finish {

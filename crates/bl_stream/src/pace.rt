@@ -1,3 +1,5 @@
+//! What goes on from piece to piece.
+
 use bl_rows::Rows;
 use bl_tree::Row;
 

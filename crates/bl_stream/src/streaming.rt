@@ -1,3 +1,5 @@
+//! A run over a file of rows, from its first piece to its end.
+
 ghost use Rattle.std.specs.Prelude.{◌≡◌, ◌⊎◌, ◌≤◌, [], length, IfErr, IfOk, IsErrOf, List, ℕ};
 ghost use Rattle.bl_cmeaning.specs.Cells.{inputs_of, outputs_of};
 ghost use Rattle.bl_crun.specs.Cause.{Runs};

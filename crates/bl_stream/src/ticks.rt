@@ -1,11 +1,11 @@
 //! Ticks, and the lines that they leave.
 
 ghost use Rattle.std.specs.Prelude.{◌≡◌, ◌++◌, ◌+◌, ◌<◌, ◌≤◌, [], ◌∷◌, length, true, IfOk, OnOk};
+ghost use Rattle.bl_tree.specs.Ports.{RowsFit, row_fits};
 ghost use Rattle.bl_cmeaning.specs.Cells.{inputs_of, outputs_of};
-ghost use Rattle.bl_crun.specs.Running.{after_tick, row_fits};
-ghost use Rattle.bl_rows.specs.Text.{RowFits, line_text};
+ghost use Rattle.bl_crun.specs.Running.{after_tick};
+ghost use Rattle.bl_rows.specs.Text.{line_text};
 ghost use Rattle.bl_stream.specs.Courses.{after_rows, text_from, trace_from};
-ghost use Rattle.bl_stream.specs.Streams.{AllFit};
 
 use crate::pace::Ticks;
 use bl_crun::{Runner, Tick};
@@ -21,7 +21,7 @@ pub fn run(
     ticks: &mut Ticks,
     text: &mut Vec<u8>,
 ) -> Result<Last, NoMemory>
-    requires fit { AllFit (inputs_of runner.old.parts) rows.now }
+    requires fit { RowsFit (inputs_of runner.old.parts) rows.now }
     requires live { runner.old.live ≡ true }
     requires long { length ticks.old.outputs ≡ length (outputs_of runner.old.parts) }
     requires few { ticks.old.done + length rows.now ≤ 1000000 }
@@ -49,7 +49,7 @@ fn tick(
     ticks: &mut Ticks,
     text: &mut Vec<u8>,
 ) -> Result<Last, NoMemory>
-    requires fits { row_fits runner.old.parts ins.now ≡ true }
+    requires fits { row_fits (inputs_of runner.old.parts) ins.now ≡ true }
     requires live { runner.old.live ≡ true }
     requires long { length ticks.old.outputs ≡ length (outputs_of runner.old.parts) }
     requires few { ticks.old.done < 1000000 }
@@ -85,7 +85,7 @@ fn append_line(
     ticks: &Ticks,
     text: &mut Vec<u8>,
 ) -> Result<(), NoMemory>
-    requires fits { RowFits outs.now ticks.now.outputs }
+    requires fits { row_fits outs.now ticks.now.outputs ≡ true }
     ensures { OnOk result (text.new.items ≡ text.old.items ++ line_text ticks.now.done outs.now ticks.now.outputs) }
 {
     let written = line(alloc, ticks.done, outs, &ticks.outputs)?;

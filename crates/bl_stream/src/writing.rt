@@ -1,11 +1,12 @@
 //! Rows run, and their lines written.
 
 ghost use Rattle.std.specs.Prelude.{◌≡◌, ◌⊎◌, ◌+◌, ◌≤◌, length, true, IfErr, IfOk, IsErrOf, OnErr, OnOk};
+ghost use Rattle.bl_tree.specs.Ports.{RowsFit};
 ghost use Rattle.bl_cmeaning.specs.Cells.{inputs_of, outputs_of};
 ghost use Rattle.bl_io.specs.Count.{Rose};
 ghost use Rattle.bl_io.specs.Held.{Appends};
 ghost use Rattle.bl_stream.specs.Courses.{after_rows, text_from, trace_from};
-ghost use Rattle.bl_stream.specs.Streams.{AllFit, AppendsFront};
+ghost use Rattle.bl_stream.specs.Streams.{AppendsFront};
 
 use crate::finish::Finish;
 use crate::pace::Ticks;
@@ -23,7 +24,7 @@ pub fn run_and_write<O: Sink>(
     ticks: &mut Ticks,
     out: &mut O,
 ) -> Result<Last, Finish>
-    requires fit { AllFit (inputs_of runner.old.parts) rows.now }
+    requires fit { RowsFit (inputs_of runner.old.parts) rows.now }
     requires live { runner.old.live ≡ true }
     requires long { length ticks.old.outputs ≡ length (outputs_of runner.old.parts) }
     requires few { ticks.old.done + length rows.now ≤ 1000000 }

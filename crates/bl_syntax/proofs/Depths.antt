@@ -1,5 +1,34 @@
 -- How deep tokens are with one more, and where none is too deep.
-use Rattle.std.proofs.Common.{◌≡◌, ℕ, ◌+◌, ◌<◌, ◌≤◌, List, [], ◌∷◌, ◌++◌, length, take, refl, ap, sym, ◌∙◌, subst, arith, ◌⊎◌, inl, inr, ⊎_elim, length-append, take_all, suc, drop, get_or, add-one, drop-cons}
+use Rattle.std.proofs.Common.{
+  ◌≡◌,
+  ℕ,
+  ◌+◌,
+  ◌<◌,
+  ◌≤◌,
+  List,
+  [],
+  ◌∷◌,
+  ◌++◌,
+  length,
+  take,
+  refl,
+  ap,
+  sym,
+  ◌∙◌,
+  subst,
+  arith,
+  ◌⊎◌,
+  inl,
+  inr,
+  ⊎_elim,
+  length-append,
+  take_all,
+  suc,
+  drop,
+  get_or,
+  add-one,
+  drop-cons,
+}
 use Rattle.std.proofs.lemmas.List.{take-append-le, take-append-drop}
 use Rattle.std.proofs.Math.Seq.{take-suc}
 use Rattle.std.specs.Prelude.{Option, Some, None}
@@ -16,7 +45,8 @@ pub last_next : (before : Option TokenKind) (front : List Token) (t : Token) →
 last_next before [] t = refl
 last_next before (x ∷ front) t = last_next (Some x.kind) front t
 
-pub run_next : (run : ℕ) (before : Option TokenKind) (front : List Token) (t : Token) → run_after run before (front ++ t ∷ []) ≡ run_with (run_after run before front) (last_kind before front) t.kind
+pub run_next : (run : ℕ) (before : Option TokenKind) (front : List Token) (t : Token) →
+    run_after run before (front ++ t ∷ []) ≡ run_with (run_after run before front) (last_kind before front) t.kind
 run_next run before [] t = refl
 run_next run before (x ∷ front) t = run_next (run_with run before x.kind) (Some x.kind) front t
 
@@ -41,8 +71,10 @@ pub passes_none : PassesDepth []
 passes_none n deep = not_too_deep [] (omega arith) (omega arith) (subst IsTooDeep (take_none n) deep)
 
 module _ (tokens : List Token) (i : ℕ) (d : Token) (inside : i < length tokens) (blocks run blocks_now run_now : ℕ) (before : Option TokenKind)
-    (is_blocks : blocks ≡ open_after 0 (take i tokens)) (is_run : run ≡ run_after 0 None (take i tokens)) (is_before : before ≡ last_kind None (take i tokens))
-    (now : blocks_now ≡ blocks_after blocks (get_or tokens i d).kind) (run_is : run_now ≡ run_with run before (get_or tokens i d).kind) (passes : PassesDepth (take i tokens)) where
+    (is_blocks : blocks ≡ open_after 0 (take i tokens)) (is_run : run ≡ run_after 0 None (take i tokens))
+    (is_before : before ≡ last_kind None (take i tokens))
+    (now : blocks_now ≡ blocks_after blocks (get_or tokens i d).kind)
+    (run_is : run_now ≡ run_with run before (get_or tokens i d).kind) (passes : PassesDepth (take i tokens)) where
   one_more : take i tokens ++ get_or tokens i d ∷ [] ≡ take (i + 1) tokens
   one_more = sym (take-suc tokens i d inside) ∙ ap (λ n. take n tokens) (sym (add-one i))
 
@@ -50,7 +82,8 @@ module _ (tokens : List Token) (i : ℕ) (d : Token) (inside : i < length tokens
   blocks_with = now ∙ ap (λ n. blocks_after n (get_or tokens i d).kind) is_blocks ∙ sym (open_next 0 (take i tokens) (get_or tokens i d))
 
   run_more : run_now ≡ run_after 0 None (take i tokens ++ get_or tokens i d ∷ [])
-  run_more = run_is ∙ ap (λ n. run_with n before (get_or tokens i d).kind) is_run ∙ ap (λ b. run_with (run_after 0 None (take i tokens)) b (get_or tokens i d).kind) is_before
+  run_more = run_is ∙ ap (λ n. run_with n before (get_or tokens i d).kind) is_run
+      ∙ ap (λ b. run_with (run_after 0 None (take i tokens)) b (get_or tokens i d).kind) is_before
       ∙ sym (run_next 0 None (take i tokens) (get_or tokens i d))
 
   pub blocks_next : blocks_now ≡ open_after 0 (take (i + 1) tokens)
@@ -64,7 +97,8 @@ module _ (tokens : List Token) (i : ℕ) (d : Token) (inside : i < length tokens
 
   pub passes_then : blocks_now ≤ 100 → run_now ≤ 200 → PassesDepth (take (i + 1) tokens)
   passes_then few short = subst PassesDepth one_more
-      (passes_next (take i tokens) (get_or tokens i d) passes (not_too_deep (take i tokens ++ get_or tokens i d ∷ []) (subst (λ n. n ≤ 100) blocks_with few) (subst (λ n. n ≤ 200) run_more short)))
+      (passes_next (take i tokens) (get_or tokens i d) passes
+      (not_too_deep (take i tokens ++ get_or tokens i d ∷ []) (subst (λ n. n ≤ 100) blocks_with few) (subst (λ n. n ≤ 200) run_more short)))
 
   pub fails_here : (100 < blocks_now) ⊎ (200 < run_now) → FailsDepth tokens (get_or tokens i d).place
   fails_here deep = record {

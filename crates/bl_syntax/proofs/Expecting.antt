@@ -24,8 +24,15 @@ expects_program tokens spells = record { good = start.good; spells = spells }
 pub expects_production : (part : Part) (rest : List Piece) (next : View) (tokens : List View) → Expects (Nonterminal part ∷ rest) (next ∷ tokens)
     → (production : List Piece) × (pick part next ≡ Some production) × Expects (production ++ rest) (next ∷ tokens)
 expects_production part rest next tokens expects =
-    let h = step Produces matches tables predictive part rest next tokens expects.good expects.spells in
-    (h.0, h.1, record { good = good_expand Produces matches tables predictive part rest (Some next) h.0 expects.good (predictive.picked part next h.0 h.1); spells = h.2 })
+    let h = step Produces matches tables predictive part rest next tokens expects.good expects.spells in (
+      h.0,
+      h.1,
+      record {
+        good = good_expand Produces matches tables predictive part rest (Some next) h.0 expects.good
+            (predictive.picked part next h.0 h.1);
+        spells = h.2;
+      },
+    )
 
 -- at the end a part is absent
 pub expects_absent : (part : Part) (rest : List Piece) → Expects (Nonterminal part ∷ rest) [] → (absent part ≡ true) × Expects rest []

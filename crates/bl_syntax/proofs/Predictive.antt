@@ -1,5 +1,30 @@
 -- The grammar is one that the next token decides.
-use Rattle.std.proofs.Common.{◌≡◌, ℕ, ◌<◌, ◌≤◌, Bool, true, false, not, cond, ◌&&◌, ◌||◌, ◌⊎◌, inl, inr, ⊎_elim, List, [], ◌∷◌, refl, ap, sym, ◌∙◌, subst, arith}
+use Rattle.std.proofs.Common.{
+  ◌≡◌,
+  ℕ,
+  ◌<◌,
+  ◌≤◌,
+  Bool,
+  true,
+  false,
+  not,
+  cond,
+  ◌&&◌,
+  ◌||◌,
+  ◌⊎◌,
+  inl,
+  inr,
+  ⊎_elim,
+  List,
+  [],
+  ◌∷◌,
+  refl,
+  ap,
+  sym,
+  ◌∙◌,
+  subst,
+  arith,
+}
 use Rattle.std.specs.Prelude.{Option, Some, None, nat_lt}
 use Rattle.std.proofs.lemmas.Bool.{ltb-true, eq-eqb}
 use Rattle.bl_grammar.specs.declared.symbol.Symbol.TheVariants.{Terminal, Nonterminal}
@@ -40,9 +65,11 @@ headed_of A next (Nonterminal B ∷ q) made = (
 heads_has : (q : List Piece) (v : View) → Predictive.heads Produces matches tables q v ≡ true → has (heads_of q) v.class ≡ true
 heads_has [] v is = is
 heads_has (Terminal k ∷ q) v is = or_left _ _ is
-heads_has (Nonterminal B ∷ q) v is = has_append (starts B) (cond (absent B) (heads_of q) []) v.class ∙ by_start (has (starts B) v.class) (permits B v) (absent B) is (heads_has q v)
+heads_has (Nonterminal B ∷ q) v is = has_append (starts B) (cond (absent B) (heads_of q) []) v.class
+    ∙ by_start (has (starts B) v.class) (permits B v) (absent B) is (heads_has q v)
   where
-    by_start : (on may gone : Bool) → (may && on) || (gone && Predictive.heads Produces matches tables q v) ≡ true → (Predictive.heads Produces matches tables q v ≡ true → has (heads_of q) v.class ≡ true)
+    by_start : (on may gone : Bool) → (may && on) || (gone && Predictive.heads Produces matches tables q v) ≡ true →
+        (Predictive.heads Produces matches tables q v ≡ true → has (heads_of q) v.class ≡ true)
         → on || has (cond gone (heads_of q) []) v.class ≡ true
     by_start true may gone is rest = refl
     by_start false true true is rest = rest is
@@ -55,8 +82,10 @@ vanish_same [] = refl
 vanish_same (Terminal k ∷ q) = refl
 vanish_same (Nonterminal B ∷ q) = ap (λ b. absent B && b) (vanish_same q)
 
-within_of : (B : Part) (outer : List Class) (q : List Piece) → not (may_vanish q) || are_within (avoided B) outer ≡ true → Predictive.vanish Produces matches tables q ≡ true → (v : View) → has outer v.class ≡ false → has (avoided B) v.class ≡ false
-within_of B outer q is vanish v none = not_true _ (λ on. not_both _ (all_has (has outer) (avoided B) v.class (inner (may_vanish q) (sym (vanish_same q) ∙ vanish) is) on) none)
+within_of : (B : Part) (outer : List Class) (q : List Piece) → not (may_vanish q) || are_within (avoided B) outer ≡ true →
+    Predictive.vanish Produces matches tables q ≡ true → (v : View) → has outer v.class ≡ false → has (avoided B) v.class ≡ false
+within_of B outer q is vanish v none = not_true _ (λ on. not_both _
+    (all_has (has outer) (avoided B) v.class (inner (may_vanish q) (sym (vanish_same q) ∙ vanish) is) on) none)
   where
     inner : (b : Bool) → b ≡ true → not b || are_within (avoided B) outer ≡ true → are_within (avoided B) outer ≡ true
     inner true e is = is
@@ -77,7 +106,8 @@ forced_of A v [] made = λ none. empty_pick A v made.1 (absent_of A made.0) none
 forced_of A v (Terminal k ∷ q) made = λ m. pick_of A v (Terminal k) q made (or_left _ _ m)
 forced_of A v (Nonterminal B ∷ q) made = λ b. pick_of A v (Nonterminal B) q made (and_right (permits B v) _ b)
 
-some_or_absent : (may : Bool) (o : Option (List Piece)) (p : List Piece) → or_absent may o ≡ Some p → (o ≡ Some p) ⊎ ((may ≡ true) × (o ≡ None) × (p ≡ []))
+some_or_absent : (may : Bool) (o : Option (List Piece)) (p : List Piece) → or_absent may o ≡ Some p →
+    (o ≡ Some p) ⊎ ((may ≡ true) × (o ≡ None) × (p ≡ []))
 some_or_absent may (Some q) p is = inl is
 some_or_absent true None p is = inr (refl, refl, sym (same_some _ _ is))
 some_or_absent false None p is = absurd (no_some p is)
@@ -91,7 +121,8 @@ unfolding pick choices
 picked_among A v p is = ⊎_elim (λ h. chosen_among (productions A) v.class p (some_cond (permits A v) _ p h).1)
     (λ h. subst (λ (r : List Piece). IsAmong r (productions A)) (sym h.2) (of_absent A h.0)) (some_or_absent (absent A) _ p is)
 
-after_return_is : (v : View) → pick AfterReturn v ≡ or_absent true (cond (not v.fresh) (cond (begins_expression v.class) (Some (the Expr ∷ [])) None) None)
+after_return_is : (v : View) → pick AfterReturn v ≡ or_absent true
+    (cond (not v.fresh) (cond (begins_expression v.class) (Some (the Expr ∷ [])) None) None)
 unfolding pick absent choices starts
 after_return_is v = refl
 
@@ -100,7 +131,8 @@ gives : Bool → Bool → List Piece → Bool
 gives fresh begun [] = not (not fresh && begun)
 gives fresh begun (x ∷ q) = not fresh && begun
 
-after_return_gives : (fresh begun : Bool) (p : List Piece) → or_absent true (cond (not fresh) (cond begun (Some (the Expr ∷ [])) None) None) ≡ Some p → gives fresh begun p ≡ true
+after_return_gives : (fresh begun : Bool) (p : List Piece) →
+    or_absent true (cond (not fresh) (cond begun (Some (the Expr ∷ [])) None) None) ≡ Some p → gives fresh begun p ≡ true
 unfolding gives
 after_return_gives true begun p is = subst (λ (r : List Piece). gives true begun r ≡ true) (same_some _ _ is) refl
 after_return_gives false true p is = subst (λ (r : List Piece). gives false true r ≡ true) (same_some _ _ is) refl
@@ -116,7 +148,8 @@ picked_stands AfterReturn v p is = gives_is v p (after_return_gives v.fresh (beg
 picked_stands Program v p is = refl
 picked_stands _ v p is = refl
 
-descends_of : (A : Part) (v : View) (p : List Piece) → IsAmong p (productions A) → is_headed (absent A) (depth A) p ≡ true → Predictive.Descends Produces matches tables A p
+descends_of : (A : Part) (v : View) (p : List Piece) → IsAmong p (productions A) → is_headed (absent A) (depth A) p ≡ true →
+    Predictive.Descends Produces matches tables A p
 descends_of A v [] among head = absent_of A among
 descends_of A v (Terminal k ∷ q) among head = tt
 descends_of A v (Nonterminal B ∷ q) among head = (
@@ -138,11 +171,13 @@ at_end AfterReturn = refl
 at_end Program = refl
 at_end _ = refl
 
-lower_among : (high : ℕ) (ps : List (List Piece)) → has_lower high ps ≡ true → IsAmong (lower_of high ps) ps × (are_lower high (lower_of high ps) ≡ true)
+lower_among : (high : ℕ) (ps : List (List Piece)) → has_lower high ps ≡ true →
+    IsAmong (lower_of high ps) ps × (are_lower high (lower_of high ps) ≡ true)
 lower_among high [] is = absurd (not_both false is refl)
 lower_among high (p ∷ ps) is = by_here (are_lower high p) refl is (lower_among high ps)
   where
-    by_here : (b : Bool) → are_lower high p ≡ b → b || has_lower high ps ≡ true → (has_lower high ps ≡ true → IsAmong (lower_of high ps) ps × (are_lower high (lower_of high ps) ≡ true))
+    by_here : (b : Bool) → are_lower high p ≡ b → b || has_lower high ps ≡ true →
+        (has_lower high ps ≡ true → IsAmong (lower_of high ps) ps × (are_lower high (lower_of high ps) ≡ true))
         → IsAmong (cond b p (lower_of high ps)) (p ∷ ps) × (are_lower high (cond b p (lower_of high ps)) ≡ true)
     by_here true e is rest = (here, e)
     by_here false e is rest = let h = rest is in (later h.0, h.1)
@@ -152,7 +187,8 @@ lower_of_part high [] is = tt
 lower_of_part high (Terminal k ∷ q) is = lower_of_part high q is
 lower_of_part high (Nonterminal B ∷ q) is = (ltb-true _ _ (and_left _ _ is), lower_of_part high q (and_right (nat_lt (height B) high) _ is))
 
-easy_stands : (A : Part) (next : Option View) → Predictive.IsNeutral Produces matches tables next → may_stand A next (lower_of (height A) (productions A)) ≡ true
+easy_stands : (A : Part) (next : Option View) → Predictive.IsNeutral Produces matches tables next →
+    may_stand A next (lower_of (height A) (productions A)) ≡ true
 unfolding height
 easy_stands AfterReturn None neutral = refl
 easy_stands AfterReturn (Some v) neutral = rw neutral refl
@@ -177,7 +213,8 @@ predictive = record {
   follow = λ {A} {next} {production} made. follow_of A production (all_among (follows (avoided A)) (productions A) production (followed A) made.0);
   forced = λ made. forced_of _ _ _ made;
   picked = λ A v p is. (picked_among A v p is, picked_stands A v p is);
-  descends = λ A v p is. let among = picked_among A v p is in descends_of A v p among (all_among (is_headed (absent A) (depth A)) (productions A) p (headed A) among);
+  descends = λ A v p is. let among = picked_among A v p is in
+      descends_of A v p among (all_among (is_headed (absent A) (depth A)) (productions A) p (headed A) among);
   ranked = ranked_of;
   ends = λ A may. (of_absent A may, at_end A);
   easy = λ A next neutral. ((lower_among (height A) (productions A) (lower A)).0, easy_stands A next neutral);

@@ -1,5 +1,39 @@
 -- What the stack says of the tokens that were read.
-use Rattle.std.proofs.Common.{◌≡◌, ℕ, suc, ◌+◌, ◌<◌, ◌≤◌, Bool, true, false, not, ◌&&◌, ◌==◌, List, [], ◌∷◌, ◌++◌, length, get_or, take, take_all, drop, add-one, drop-cons, reverse, refl, ap, sym, ◌∙◌, subst, arith, append_assoc, inl, inr}
+use Rattle.std.proofs.Common.{
+  ◌≡◌,
+  ℕ,
+  suc,
+  ◌+◌,
+  ◌<◌,
+  ◌≤◌,
+  Bool,
+  true,
+  false,
+  not,
+  ◌&&◌,
+  ◌==◌,
+  List,
+  [],
+  ◌∷◌,
+  ◌++◌,
+  length,
+  get_or,
+  take,
+  take_all,
+  drop,
+  add-one,
+  drop-cons,
+  reverse,
+  refl,
+  ap,
+  sym,
+  ◌∙◌,
+  subst,
+  arith,
+  append_assoc,
+  inl,
+  inr,
+}
 use Rattle.std.specs.Prelude.{Option, Some, None, MatchOption}
 use Rattle.std.proofs.lemmas.List.{reverse-append, take-append-drop}
 use Rattle.std.proofs.Math.Seq.{take-suc}
@@ -36,14 +70,17 @@ start = RunLaws.starts Produces matches tables predictive Program
 pub opened : (next : View) (stack : List Piece) → IsGood stack → Expands next stack stack
 opened next stack good = RunLaws.opened Produces matches tables predictive next stack good
 
-pub expand : (next : View) (stack rest production : List Piece) (part : Part) → Expands next stack (Nonterminal part ∷ rest) → pick part next ≡ Some production → Expands next stack (production ++ rest)
+pub expand : (next : View) (stack rest production : List Piece) (part : Part) → Expands next stack (Nonterminal part ∷ rest) →
+    pick part next ≡ Some production → Expands next stack (production ++ rest)
 expand next stack rest production part now picked = RunLaws.expand Produces matches tables predictive next stack part rest production now picked
 
-pub terminal_answer : (next : View) (stack rest : List Piece) (class : Class) (taken : Bool) → Expands next stack (Terminal class ∷ rest) → taken ≡ same_class class next.class → Answers next stack taken rest
+pub terminal_answer : (next : View) (stack rest : List Piece) (class : Class) (taken : Bool) →
+    Expands next stack (Terminal class ∷ rest) → taken ≡ same_class class next.class → Answers next stack taken rest
 terminal_answer next stack rest class true now is = RunLaws.take Produces matches tables predictive next stack class rest now (sym is)
 terminal_answer next stack rest class false now is = RunLaws.refuse_other Produces matches tables predictive next stack class rest now (sym is)
 
-pub none_picked : (next : View) (stack rest : List Piece) (part : Part) → Expands next stack (Nonterminal part ∷ rest) → pick part next ≡ None → Answers next stack false rest
+pub none_picked : (next : View) (stack rest : List Piece) (part : Part) → Expands next stack (Nonterminal part ∷ rest) →
+    pick part next ≡ None → Answers next stack false rest
 none_picked next stack rest part now none = RunLaws.refuse_unpicked Produces matches tables predictive next stack part rest now none
 
 pub none_left : (next : View) (stack rest : List Piece) → Expands next stack [] → Answers next stack false rest
@@ -52,7 +89,8 @@ none_left next stack rest now = RunLaws.refuse_more Produces matches tables pred
 -- what was on top of a stack whose list ends with it
 module _ (next : View) (stack xs ys : List Piece) (s : Piece) (now : Expands next stack (reverse xs)) (top : xs ≡ ys ++ s ∷ []) where
   opened_at : (symbol : Piece) → s ≡ symbol → Expands next stack (symbol ∷ reverse ys)
-  opened_at symbol is = subst (λ (x : Piece). Expands next stack (x ∷ reverse ys)) is (subst (λ (zs : List Piece). Expands next stack zs) (popped xs ys s top) now)
+  opened_at symbol is = subst (λ (x : Piece). Expands next stack (x ∷ reverse ys)) is
+      (subst (λ (zs : List Piece). Expands next stack zs) (popped xs ys s top) now)
 
   pub at_terminal : (class : Class) (taken : Bool) → s ≡ Terminal class → taken ≡ same_class class next.class → Answers next stack taken (reverse ys)
   at_terminal class taken is same = terminal_answer next stack (reverse ys) class taken (opened_at (Terminal class) is) same
@@ -60,9 +98,11 @@ module _ (next : View) (stack xs ys : List Piece) (s : Piece) (now : Expands nex
   pub at_none : (part : Part) → s ≡ Nonterminal part → None ≡ pick part next → Answers next stack false (reverse ys)
   at_none part is none = none_picked next stack (reverse ys) part (opened_at (Nonterminal part) is) (sym none)
 
-  module _ (part : Part) (is : s ≡ Nonterminal part) (production : List Piece) (picked : Some production ≡ pick part next) (news : List Piece) (pushed : news ≡ production ++ reverse ys) where
+  module _ (part : Part) (is : s ≡ Nonterminal part) (production : List Piece) (picked : Some production ≡ pick part next)
+      (news : List Piece) (pushed : news ≡ production ++ reverse ys) where
     pub at_part : Expands next stack news
-    at_part = subst (λ (zs : List Piece). Expands next stack zs) (sym pushed) (expand next stack (reverse ys) production part (opened_at (Nonterminal part) is) (sym picked))
+    at_part = subst (λ (zs : List Piece). Expands next stack zs) (sym pushed)
+        (expand next stack (reverse ys) production part (opened_at (Nonterminal part) is) (sym picked))
 
     pub nearer : level news < level (reverse xs)
     nearer = rw (pushed, popped xs ys s top, is) (descend Produces matches tables predictive part (reverse ys) next production (sym picked))
@@ -97,7 +137,8 @@ record Tokens (before : Option ℕ) (ws : List View) : Type 0 where
   more : List Token
   seen : views_after before more ≡ ws
 
-one_token : (before : Option ℕ) (w : View) (ws : List View) (line : ℕ) → is_fresh before line ≡ w.fresh → Tokens (Some line) ws → Tokens before (w ∷ ws)
+one_token : (before : Option ℕ) (w : View) (ws : List View) (line : ℕ) → is_fresh before line ≡ w.fresh → Tokens (Some line) ws →
+    Tokens before (w ∷ ws)
 unfolding token_at
 one_token before w ws line fresh rest = record {
   more = token_at w.class line ∷ rest.more;
@@ -129,7 +170,8 @@ begins_program front stack stands =
     (t.more, subst IsProgram (ap (λ ws. views front ++ ws) (sym t.seen) ∙ sym (views_append None front t.more)) (stands.back h.tokens h.spells))
 
 -- with a token that the stack refuses it doesn't
-begins_none : (front : List Token) (t : Token) (stack rest : List Piece) → Stands (views front) stack → Answers (view_of (last_line None front) t) stack false rest → ¬ BeginsProgram (front ++ t ∷ [])
+begins_none : (front : List Token) (t : Token) (stack rest : List Piece) → Stands (views front) stack →
+    Answers (view_of (last_line None front) t) stack false rest → ¬ BeginsProgram (front ++ t ∷ [])
 begins_none front t stack rest stands refuses b =
     let seen : views (front ++ t ∷ [] ++ b.0) ≡ views front ++ (view_of (last_line None front) t ∷ views_after (Some t.line) b.0) =
     ap views (append_assoc front (t ∷ []) b.0) ∙ views_append None front (t ∷ b.0) in
@@ -139,9 +181,11 @@ one_more : (tokens : List Token) (i : ℕ) (d : Token) → i < length tokens →
 one_more tokens i d inside = sym (take-suc tokens i d inside) ∙ ap (λ n. take n tokens) (sym (add-one i))
 
 pub line_after : (tokens : List Token) (i : ℕ) (d : Token) → i < length tokens → Some (get_or tokens i d).line ≡ last_line None (take (i + 1) tokens)
-line_after tokens i d inside = sym (line_next None (take i tokens) (get_or tokens i d)) ∙ ap (λ (ts : List Token). last_line None ts) (one_more tokens i d inside)
+line_after tokens i d inside = sym (line_next None (take i tokens) (get_or tokens i d))
+    ∙ ap (λ (ts : List Token). last_line None ts) (one_more tokens i d inside)
 
-module _ (tokens : List Token) (i : ℕ) (d : Token) (inside : i < length tokens) (line : Option ℕ) (on : line ≡ last_line None (take i tokens)) (view : View) (is : view ≡ view_of line (get_or tokens i d))
+module _ (tokens : List Token) (i : ℕ) (d : Token) (inside : i < length tokens) (line : Option ℕ)
+    (on : line ≡ last_line None (take i tokens)) (view : View) (is : view ≡ view_of line (get_or tokens i d))
     (stack rest : List Piece) (stands : Stands (views (take i tokens)) stack) where
   seen_so : view ≡ view_of (last_line None (take i tokens)) (get_or tokens i d)
   seen_so = is ∙ ap (λ l. view_of l (get_or tokens i d)) on
@@ -160,7 +204,8 @@ module _ (tokens : List Token) (i : ℕ) (d : Token) (inside : i < length tokens
   read_one : Answers view stack true rest → Stands (views (take (i + 1) tokens)) rest
   read_one takes = subst (λ (ts : List Token). Stands (views ts) rest) (one_more tokens i d inside)
       (subst (λ (vs : List View). Stands vs rest) (sym (views_append None (take i tokens) (get_or tokens i d ∷ [])))
-      (RunLaws.next Produces matches tables predictive Program (views (take i tokens)) (view_of (last_line None (take i tokens)) (get_or tokens i d)) stack rest stands (subst (λ (v : View). Answers v stack true rest) seen_so takes)))
+      (RunLaws.next Produces matches tables predictive Program (views (take i tokens))
+      (view_of (last_line None (take i tokens)) (get_or tokens i d)) stack rest stands (subst (λ (v : View). Answers v stack true rest) seen_so takes)))
 
   pub fault_here : (size : ℕ) (taken : Bool) → Answers view stack taken rest → taken ≡ false → FailsSyntax size tokens (get_or tokens i d).place
   fault_here size taken answers is_no = inl (fault_at_token (subst (λ (b : Bool). Answers view stack b rest) is_no answers))
@@ -199,7 +244,8 @@ all_reverse (x ∷ xs) =
     ap (list_all may_vanish) (reverse-append (x ∷ []) xs) ∙ all_append (reverse xs) (x ∷ []) ∙ and_comm (list_all may_vanish (reverse xs)) _
     ∙ ap (λ b. b && list_all may_vanish (reverse xs)) (and_true (may_vanish x)) ∙ ap (λ b. may_vanish x && b) (all_reverse xs)
 
-pub fault_at_the_end : (tokens : List Token) (items : List Piece) (size : ℕ) → Stands (views tokens) (reverse items) → MatchOption (fault_at_end (list_all may_vanish items) size) (SpellsProgram tokens) (FailsSyntax size tokens)
+pub fault_at_the_end : (tokens : List Token) (items : List Piece) (size : ℕ) → Stands (views tokens) (reverse items) →
+    MatchOption (fault_at_end (list_all may_vanish items) size) (SpellsProgram tokens) (FailsSyntax size tokens)
 fault_at_the_end tokens items size stands = by_end (list_all may_vanish items) (vanish_all (reverse items) ∙ all_reverse items)
   where
     by_end : (b : Bool) → vanish (reverse items) ≡ b → MatchOption (fault_at_end b size) (SpellsProgram tokens) (FailsSyntax size tokens)
@@ -210,7 +256,8 @@ fault_at_the_end tokens items size stands = by_end (list_all may_vanish items) (
       at = refl;
     })
 
-pub whole : (tokens : List Token) (i : ℕ) (items : List Piece) (size : ℕ) (found : Option Place) → length tokens ≤ i → Stands (views (take i tokens)) (reverse items) → found ≡ fault_at_end (list_all may_vanish items) size
+pub whole : (tokens : List Token) (i : ℕ) (items : List Piece) (size : ℕ) (found : Option Place) → length tokens ≤ i →
+    Stands (views (take i tokens)) (reverse items) → found ≡ fault_at_end (list_all may_vanish items) size
     → MatchOption found (SpellsProgram tokens) (FailsSyntax size tokens)
 whole tokens i items size found long stands is =
     rw is (fault_at_the_end tokens items size (subst (λ (ts : List Token). Stands (views ts) (reverse items)) (take_all i tokens long) stands))

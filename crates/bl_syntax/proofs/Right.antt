@@ -72,25 +72,30 @@ is_empty [] e = absurd (not_both false e refl)
 is_empty ([] ∷ ps) e = here
 is_empty ((x ∷ q) ∷ ps) e = later (is_empty ps e)
 
-pub on_choice : (ps : List (List Piece)) (x : Piece) (q : List Piece) (c : Class) → IsAmong (x ∷ q) ps → has (firsts starts (x ∷ q)) c ≡ true → has (all_on (choices_of ps)) c ≡ true
+pub on_choice : (ps : List (List Piece)) (x : Piece) (q : List Piece) (c : Class) → IsAmong (x ∷ q) ps →
+    has (firsts starts (x ∷ q)) c ≡ true → has (all_on (choices_of ps)) c ≡ true
 on_choice [] x q c among is = elim among [ ]
 on_choice (_ ∷ ps) x q c here is = has_append _ _ c ∙ or_left _ _ is
 on_choice ([] ∷ ps) x q c (later among) is = on_choice ps x q c among is
-on_choice ((y ∷ r) ∷ ps) x q c (later among) is = has_append (firsts starts (y ∷ r)) _ c ∙ or_right (has (firsts starts (y ∷ r)) c) _ (on_choice ps x q c among is)
+on_choice ((y ∷ r) ∷ ps) x q c (later among) is = has_append (firsts starts (y ∷ r)) _ c
+    ∙ or_right (has (firsts starts (y ∷ r)) c) _ (on_choice ps x q c among is)
 
-pub chosen_choice : (ps : List (List Piece)) (x : Piece) (q : List Piece) (c : Class) → are_separate (choices_of ps) ≡ true → IsAmong (x ∷ q) ps → has (firsts starts (x ∷ q)) c ≡ true → chosen (choices_of ps) c ≡ Some (x ∷ q)
+pub chosen_choice : (ps : List (List Piece)) (x : Piece) (q : List Piece) (c : Class) → are_separate (choices_of ps) ≡ true →
+    IsAmong (x ∷ q) ps → has (firsts starts (x ∷ q)) c ≡ true → chosen (choices_of ps) c ≡ Some (x ∷ q)
 chosen_choice [] x q c apart_all among is = elim among [ ]
 chosen_choice (_ ∷ ps) x q c apart_all here is = rw is refl
 chosen_choice ([] ∷ ps) x q c apart_all (later among) is = chosen_choice ps x q c apart_all among is
 chosen_choice ((y ∷ r) ∷ ps) x q c apart_all (later among) is =
-    let other : has (firsts starts (y ∷ r)) c ≡ false = not_true _ (λ on. not_both _ (on_choice ps x q c among is) (apart _ (all_on (choices_of ps)) c (and_left _ _ apart_all) on)) in
+    let other : has (firsts starts (y ∷ r)) c ≡ false =
+    not_true _ (λ on. not_both _ (on_choice ps x q c among is) (apart _ (all_on (choices_of ps)) c (and_left _ _ apart_all) on)) in
     rw other (chosen_choice ps x q c (and_right (are_apart (firsts starts (y ∷ r)) (all_on (choices_of ps))) _ apart_all) among is)
 
 pub chosen_none : (cs : List Choice) (c : Class) → has (all_on cs) c ≡ false → chosen cs c ≡ None
 chosen_none [] c none = refl
 chosen_none (x ∷ cs) c none = by_here (has x.on c) (has (all_on cs) c) refl (sym (has_append x.on (all_on cs) c) ∙ none) (chosen_none cs c)
   where
-    by_here : (a b : Bool) → has (all_on cs) c ≡ b → a || b ≡ false → (has (all_on cs) c ≡ false → chosen cs c ≡ None) → cond a (Some x.production) (chosen cs c) ≡ None
+    by_here : (a b : Bool) → has (all_on cs) c ≡ b → a || b ≡ false → (has (all_on cs) c ≡ false → chosen cs c ≡ None) →
+        cond a (Some x.production) (chosen cs c) ≡ None
     by_here true b eb none rest = absurd (not_both true refl none)
     by_here false b eb none rest = rest (eb ∙ none)
 
@@ -99,7 +104,8 @@ chosen_among [] c p is = absurd (no_some p is)
 chosen_among ([] ∷ ps) c p is = later (chosen_among ps c p is)
 chosen_among ((x ∷ q) ∷ ps) c p is = by_here (has (firsts starts (x ∷ q)) c) is (chosen_among ps c p)
   where
-    by_here : (b : Bool) → cond b (Some (x ∷ q)) (chosen (choices_of ps) c) ≡ Some p → (chosen (choices_of ps) c ≡ Some p → IsAmong p ps) → IsAmong p ((x ∷ q) ∷ ps)
+    by_here : (b : Bool) → cond b (Some (x ∷ q)) (chosen (choices_of ps) c) ≡ Some p →
+        (chosen (choices_of ps) c ≡ Some p → IsAmong p ps) → IsAmong p ((x ∷ q) ∷ ps)
     by_here true is rest = subst (λ (r : List Piece). IsAmong r ((x ∷ q) ∷ ps)) (same_some _ _ is) here
     by_here false is rest = later (rest is)
 
@@ -118,25 +124,33 @@ permits_of AfterReturn v x q may = and_left _ _ may
 permits_of Program v x q may = refl
 permits_of _ v x q may = refl
 
-pub chosen_of : (A : Part) (x : Piece) (q : List Piece) (c : Class) → IsAmong (x ∷ q) (productions A) → has (firsts starts (x ∷ q)) c ≡ true → chosen (choices A) c ≡ Some (x ∷ q)
+pub chosen_of : (A : Part) (x : Piece) (q : List Piece) (c : Class) → IsAmong (x ∷ q) (productions A) →
+    has (firsts starts (x ∷ q)) c ≡ true → chosen (choices A) c ≡ Some (x ∷ q)
 unfolding choices
 chosen_of A x q c among is = chosen_choice (productions A) x q c (separate A) among is
 
-pub begun_of : (A : Part) (x : Piece) (q : List Piece) (c : Class) → IsAmong (x ∷ q) (productions A) → has (firsts starts (x ∷ q)) c ≡ true → has (starts A) c ≡ true
+pub begun_of : (A : Part) (x : Piece) (q : List Piece) (c : Class) → IsAmong (x ∷ q) (productions A) →
+    has (firsts starts (x ∷ q)) c ≡ true → has (starts A) c ≡ true
 unfolding choices
 begun_of A x q c among is = subst (λ (cs : List Class). has cs c ≡ true) (starts_are A) (on_choice (productions A) x q c among is)
 
-pub pick_of : (A : Part) (v : View) (x : Piece) (q : List Piece) → Produces A (Some v) (x ∷ q) → has (firsts starts (x ∷ q)) v.class ≡ true → pick A v ≡ Some (x ∷ q)
+pub pick_of : (A : Part) (v : View) (x : Piece) (q : List Piece) → Produces A (Some v) (x ∷ q) →
+    has (firsts starts (x ∷ q)) v.class ≡ true → pick A v ≡ Some (x ∷ q)
 unfolding pick
 pick_of A v x q made is = rw (permits_of A v x q made.1, chosen_of A x q v.class made.0 is) refl
 
-pub begins_of : (A : Part) (v : View) (x : Piece) (q : List Piece) → Produces A (Some v) (x ∷ q) → has (firsts starts (x ∷ q)) v.class ≡ true → begins A v ≡ true
+pub begins_of : (A : Part) (v : View) (x : Piece) (q : List Piece) → Produces A (Some v) (x ∷ q) →
+    has (firsts starts (x ∷ q)) v.class ≡ true → begins A v ≡ true
 begins_of A v x q made is = and_both _ _ (permits_of A v x q made.1) (begun_of A x q v.class made.0 is)
 
 -- a class that begins nothing of the part decides on none of its productions
 pub unpicked : (A : Part) (v : View) → absent A ≡ true → has (starts A) v.class ≡ false → pick A v ≡ Some []
 unfolding pick
-unpicked A v may none = rw (chosen_none (choices A) v.class (subst (λ (cs : List Class). has cs v.class ≡ false) (sym (starts_are A)) none), may) (either (permits A v))
+unpicked A v may none = rw (
+  chosen_none (choices A) v.class
+      (subst (λ (cs : List Class). has cs v.class ≡ false) (sym (starts_are A)) none),
+  may,
+) (either (permits A v))
   where
     either : (b : Bool) → or_absent true (cond b None None) ≡ Some []
     either true = refl
@@ -149,17 +163,21 @@ after_return_starts = refl
 
 pub bare_pick : (v : View) → not (continues (Some v)) ≡ true → pick AfterReturn v ≡ Some []
 unfolding pick absent
-bare_pick v bare = by_line v.fresh (has (starts AfterReturn) v.class) refl (subst (λ (cs : List Class). not (not v.fresh && has cs v.class) ≡ true) (sym after_return_starts) bare)
+bare_pick v bare = by_line v.fresh (has (starts AfterReturn) v.class) refl
+    (subst (λ (cs : List Class). not (not v.fresh && has cs v.class) ≡ true) (sym after_return_starts) bare)
   where
-    by_line : (fresh on : Bool) → has (starts AfterReturn) v.class ≡ on → not (not fresh && on) ≡ true → or_absent true (cond (not fresh) (chosen (choices AfterReturn) v.class) None) ≡ Some []
+    by_line : (fresh on : Bool) → has (starts AfterReturn) v.class ≡ on → not (not fresh && on) ≡ true →
+        or_absent true (cond (not fresh) (chosen (choices AfterReturn) v.class) None) ≡ Some []
     by_line true on e bare = refl
     by_line false true e bare = absurd (not_both false bare refl)
-    by_line false false e bare = rw (chosen_none (choices AfterReturn) v.class (subst (λ (cs : List Class). has cs v.class ≡ false) (sym (starts_are AfterReturn)) e)) refl
+    by_line false false e bare = rw (chosen_none (choices AfterReturn) v.class
+        (subst (λ (cs : List Class). has cs v.class ≡ false) (sym (starts_are AfterReturn)) e)) refl
 
 pub own_apart : (A : Part) → is_bare A ≡ false → absent A ≡ true → are_within (starts A) (avoided A) ≡ true
 own_apart A other may = by_absent (is_bare A) (absent A) other may (own_avoided A)
   where
-    by_absent : (bare may : Bool) → bare ≡ false → may ≡ true → bare || (not may || are_within (starts A) (avoided A)) ≡ true → are_within (starts A) (avoided A) ≡ true
+    by_absent : (bare may : Bool) → bare ≡ false → may ≡ true → bare || (not may || are_within (starts A) (avoided A)) ≡ true →
+        are_within (starts A) (avoided A) ≡ true
     by_absent true may eb em own = absurd (not_both true refl eb)
     by_absent false true eb em own = own
     by_absent false false eb em own = absurd (not_both false em refl)

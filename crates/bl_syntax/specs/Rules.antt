@@ -1,9 +1,10 @@
--- How tokens fail the rules Depth and Syntax, which are the rules 4 and 5, and at which place.
-use Rattle.std.specs.Prelude.{◌≡◌, ℕ, ◌⊎◌, List, [], ◌∷◌, ◌++◌, take, ⊤}
+-- How tokens fail the rules Depth and Syntax, and at which place.
+use Rattle.std.specs.Prelude.{◌≡◌, ℕ, ◌⊎◌, List, [], ◌∷◌, ◌++◌, take}
 use Rattle.bl_tree.specs.declared.place.Place.{Place}
-use Rattle.bl_tree.specs.declared.place.Refusal.{Refusal}
-use Rattle.bl_tree.specs.declared.place.Refusal.TheVariants.{Rule, NoMemory}
+use Rattle.bl_tree.specs.declared.rule.Rule.{Rule}
+use Rattle.bl_tree.specs.declared.rule.Rule.TheVariants as rule
 use Rattle.bl_tree.specs.declared.token.Token.{Token}
+use Rattle.bl_tree.specs.Rules.{FailsFirst as FirstOf}
 use Rattle.bl_syntax.specs.Grammar.{views, IsProgram}
 use Rattle.bl_syntax.specs.Depth.{IsTooDeep}
 
@@ -49,16 +50,19 @@ pub record FailsAtEnd (size : ℕ) (tokens : List Token) (place : Place) : Type 
 abbrev pub FailsSyntax : ℕ → List Token → Place → Type 0
 FailsSyntax size tokens place = FailsAtToken tokens place ⊎ FailsAtEnd size tokens place
 
--- the rule fails at the place, and no lesser rule fails
-abbrev pub FailsFirst : ℕ → List Token → ℕ → Place → Type 0
-FailsFirst size tokens number place = ((number ≡ 4) × FailsDepth tokens place) ⊎ ((number ≡ 5) × PassesDepth tokens × FailsSyntax size tokens place)
+-- ---- the rules by name
 
--- neither rule fails
+-- the rule fails at this place, and its line names no further one; the others aren't judged here
+abbrev pub Fails : ℕ → List Token → Rule → Place → List Place → Type 0
+Fails size tokens rule.Depth place also = FailsDepth tokens place × (also ≡ [])
+Fails size tokens rule.Syntax place also = FailsSyntax size tokens place × (also ≡ [])
+Fails size tokens _ place also = ⊥
+
+-- it is the first of the two that fails
+abbrev pub FailsFirst : ℕ → List Token → Rule → Place → List Place → Type 0
+FailsFirst size tokens = FirstOf (Fails size tokens)
+
+-- the tokens are nowhere too deep and spell a program; so neither fails
 pub record Passes (tokens : List Token) : Type 0 where
   pub depth : PassesDepth tokens
   pub syntax : SpellsProgram tokens
-
--- the refusal names the first rule that fails, with its place and no further one; want of memory has no cause in the tokens
-abbrev pub IsRefusalOf : ℕ → List Token → Refusal → Type 0
-IsRefusalOf size tokens (Rule number place also) = FailsFirst size tokens number place × (also ≡ [])
-IsRefusalOf size tokens NoMemory = ⊤

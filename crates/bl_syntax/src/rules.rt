@@ -2,38 +2,39 @@
 
 ghost use Rattle.std.specs.Prelude.{◌≡◌, ℕ, List, [], ◌∷◌, ◌++◌, take, length, OnOk, IfErr, IfOk, MatchOption, option_map, Option};
 ghost use Rattle.std.specs.List.{list_all};
+ghost use Rattle.bl_tree.specs.Rules.{IsCause};
 ghost use Rattle.bl_syntax.specs.Grammar.{class_of, view_of};
 ghost use Rattle.bl_syntax.specs.Stack.{may_vanish, fault_at_end};
-ghost use Rattle.bl_syntax.specs.Rules.{Passes, SpellsProgram, FailsSyntax, IsRefusalOf};
+ghost use Rattle.bl_syntax.specs.Rules.{Passes, SpellsProgram, Fails, FailsSyntax};
 
 use crate::depth::too_deep;
 use crate::grammar::{Class, View};
 use crate::stack::Stack;
 use bl_tree::token::{Token, TokenKind};
-use bl_tree::{List, NoMemory, Place, Refusal};
+use bl_tree::{List, NoMemory, Place, Refusal, Rule};
 use std::alloc::Global;
 
 /// Whether the tokens of a text of so many bytes nest no deeper than allowed and spell a program (docs/LANGUAGE.md,
 /// "Rules": Depth and Syntax).
 pub fn check(alloc: Global, text_length: u32, tokens: &[Token]) -> Result<(), Refusal>
     ensures passes { OnOk result (Passes tokens.now) }
-    ensures refusal { IfErr result (IsRefusalOf text_length tokens.now) }
+    ensures refusal { IfErr result (IsCause (Fails text_length tokens.now)) }
 {
     if let Some(place) = too_deep(tokens) {
-        return Err(failed(alloc, 4, place));
+        return Err(failed(alloc, Rule::Depth, place));
     }
     match first_fault(alloc, text_length, tokens) {
-        Ok(Some(place)) => Err(failed(alloc, 5, place)),
+        Ok(Some(place)) => Err(failed(alloc, Rule::Syntax, place)),
         Ok(None) => Ok(()),
         Err(NoMemory) => Err(Refusal::NoMemory),
     }
 }
 
-fn failed(alloc: Global, number: u8, place: Place) -> Refusal
-    ensures { result ≡ Refusal.Rule number place [] }
+fn failed(alloc: Global, rule: Rule, place: Place) -> Refusal
+    ensures { result ≡ Refusal.Rule rule place [] }
 {
     Refusal::Rule {
-        number,
+        rule,
         place,
         also: List::new(alloc),
     }

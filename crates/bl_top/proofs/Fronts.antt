@@ -1,22 +1,24 @@
 -- A source is read one byte past the longest that is accepted: what is judged of that front holds of the whole.
-use Rattle.std.proofs.Common.{◌≡◌, ℕ, ◌<◌, Bool, true, false, List, take, length, refl, sym, ap, subst, ◌∙◌, inl, inr, arith}
+use Rattle.std.proofs.Common.{◌≡◌, ℕ, ◌<◌, ◌≤◌, Bool, true, false, List, [], ◌∷◌, take, length, refl, sym, ap, subst, ◌∙◌, inl, inr, arith}
 use Rattle.std.specs.Prelude.{◌⊎◌, Option, Some, None}
 use Rattle.bl_io.specs.Left.{GivesUpTo}
-use Rattle.bl_lex.specs.Rules.{FailsFirst, FailsSize, Passes, IsRefusalOf as IsLexRefusalOf}
+use Rattle.bl_lex.specs.Rules.{Fails, FailsFirst, FailsSize, Passes}
 use Rattle.bl_lex.specs.Tokens.{Lexes}
-use Rattle.bl_conflict.specs.Cause.{IsCause as IsUnitsCause}
 use Rattle.bl_early.specs.Form.{is_early}
-use Rattle.bl_effects.specs.Rules.{Passes as UnitsPass}
+use Rattle.bl_effects.specs.Rules.{Fails as UnitsFail, Passes as UnitsPass}
 use Rattle.bl_scopes.specs.Rules.{Passes as NamesPass}
 use Rattle.bl_parse.specs.Programs.{Spells}
 use Rattle.bl_program.specs.Cause.{IsCause as IsTypingCause}
 use Rattle.bl_program.specs.Programs.{IsProgramOf, named_of, typed_of}
-use Rattle.bl_syntax.specs.Rules.{IsRefusalOf as IsSyntaxRefusalOf, Passes as SyntaxPasses}
+use Rattle.bl_syntax.specs.Rules.{Fails as SyntaxFails, Passes as SyntaxPasses}
 use Rattle.bl_tree.specs.declared.program.Program.{Program}
 use Rattle.bl_tree.specs.declared.token.Token.{Token}
 use Rattle.bl_tree.specs.declared.place.Place.{Place}
-use Rattle.bl_tree.specs.declared.place.Refusal.{Refusal}
-use Rattle.bl_tree.specs.declared.place.Refusal.TheVariants.{Rule, NoMemory}
+use Rattle.bl_tree.specs.declared.rule.Refusal.{Refusal}
+use Rattle.bl_tree.specs.declared.rule.Refusal.TheVariants as refusal
+use Rattle.bl_tree.specs.declared.rule.Rule.{Rule}
+use Rattle.bl_tree.specs.declared.rule.Rule.TheVariants as rule
+use Rattle.bl_tree.specs.Rules.{AreNoLater, IsCause, number_of}
 use Rattle.bl_types.specs.Rules.{Passes as TypesPass}
 use Rattle.bl_top.specs.Calls.{Count, HasRisen}
 use Rattle.bl_top.specs.Notes.{chosen_line, line_in}
@@ -40,10 +42,14 @@ front_or_long whole got front = elim (whole_or_long source_limit whole got front
 
 -- ---- what is accepted
 
+-- the place of the first byte beyond the longest text that is accepted
+abbrev first_beyond : Place
+first_beyond = record { start = 1_048_576; end = 1_048_577 }
+
 whole_of_passing : (whole got : List ℕ) → got ≡ take source_limit whole → Passes got → whole ≡ got
 whole_of_passing whole got front passes = elim (front_or_long whole got front) [
   | inl same ↦ same
-  | inr long ↦ absurd (passes 1 (record { start = 1_048_576; end = 1_048_577 }) (inl (refl, record { too_long = long.0; at = refl })))
+  | inr long ↦ absurd (passes rule.Size first_beyond [] (record { too_long = long.0; at = refl }, refl))
 ]
 
 tree_of : (before : Option (List ℕ)) (got : List ℕ) (after : Option (List ℕ)) (raw : Raw) → GivesUpTo source_limit before got after → HasTree got raw → IsTreeOf before raw
@@ -91,67 +97,77 @@ text_of_source left program text built is =
 -- ---- what is refused
 
 -- Size is the first rule that fails for a text that is too long
-size_first : (whole : List ℕ) (place : Place) → FailsSize whole place → FailsFirst whole 1 place
+size_first : (whole : List ℕ) (place : Place) → FailsSize whole place → FailsFirst whole rule.Size place []
 size_first whole place fails = record {
-  fails = inl (refl, fails);
-  least_rule = λ other elsewhere failing. elim failing [ inl one ↦ omega (arith, one.0) | inr more ↦ elim more [ inl two ↦ omega (arith, two.0) | inr three ↦ omega (arith, three.0) ] ];
-  least_place = λ elsewhere failing. elim failing [
-    | inl one ↦ inr (ap (λ (p : Place). p.start) (fails.at ∙ sym one.1.at), omega (arith, ap (λ (p : Place). p.end) (fails.at ∙ sym one.1.at)))
-    | inr more ↦ elim more [ inl two ↦ absurd (omega (arith, two.0)) | inr three ↦ absurd (omega (arith, three.0)) ]
-  ];
+  fails = (fails, refl);
+  least_rule = least;
+  least_places = λ elsewhere further f. inr (fails.at ∙ sym f.0.at, tt);
 }
+  where
+    least : (other : Rule) (elsewhere : Place) (further : List Place) → Fails whole other elsewhere further → 1 ≤ number_of other
+    least rule.Size elsewhere further f = omega arith
+    least rule.Lex elsewhere further f = omega arith
+    least rule.Profile elsewhere further f = omega arith
+    least _ elsewhere further f = absurd f
 
 -- what fails first for a front that was cut is Size
-first_of_long : (whole got : List ℕ) (number : ℕ) (place : Place) → 1_048_576 < length got → 1_048_576 < length whole → FailsFirst got number place → FailsFirst whole number place
-first_of_long whole got number place got_long whole_long first =
-    let least = first.least_rule 1 (record { start = 1_048_576; end = 1_048_577 }) (inl (refl, record { too_long = got_long; at = refl })) in
-    elim first.fails [
-      | inl one ↦ rw one.0 (size_first whole place (record { too_long = whole_long; at = one.1.at }))
-      | inr more ↦ elim more [ inl two ↦ absurd (omega (arith, least, two.0)) | inr three ↦ absurd (omega (arith, least, three.0)) ]
-    ]
+module _ (whole got : List ℕ) (got_long : 1_048_576 < length got) (whole_long : 1_048_576 < length whole) where
+  not_first : (rule : Rule) (place : Place) (also : List Place) → 1 < number_of rule → ¬ FailsFirst got rule place also
+  not_first rule place also more first =
+      let least = first.least_rule rule.Size first_beyond [] (record { too_long = got_long; at = refl }, refl) in omega arith
 
-refused_whole : (whole got : List ℕ) → got ≡ take source_limit whole → (number : ℕ) (place : Place) (also : List Place) → RefusedBy got number place also → RefusedBy whole number place also
-refused_whole whole got front _ _ _ (syntax tokens number place passes lexes first) =
-    rw (whole_of_passing whole got front passes) (syntax tokens number place passes lexes first)
-refused_whole whole got front _ _ _ (tree raw number place also passes parses first) =
-    rw (whole_of_passing whole got front passes) (tree raw number place also passes parses first)
-refused_whole whole got front _ _ _ (lexer number place first) = elim (front_or_long whole got front) [
-  | inl same ↦ rw same (lexer number place first)
-  | inr long ↦ lexer number place (first_of_long whole got number place long.0 long.1 first)
+  first_of_long : (rule : Rule) (place : Place) (also : List Place) → FailsFirst got rule place also → FailsFirst whole rule place also
+  first_of_long rule.Size place also first =
+      subst (λ l. FailsFirst whole rule.Size place l) (sym first.fails.1) (size_first whole place (record { too_long = whole_long; at = first.fails.0.at }))
+  first_of_long rule.Lex place also first = absurd (not_first rule.Lex place also (omega arith) first)
+  first_of_long rule.Profile place also first = absurd (not_first rule.Profile place also (omega arith) first)
+  first_of_long _ place also first = absurd first.fails
+
+refused_whole : (whole got : List ℕ) → got ≡ take source_limit whole → (rule : Rule) (place : Place) (also : List Place)
+    → RefusedBy got rule place also → RefusedBy whole rule place also
+refused_whole whole got front _ _ _ (syntax tokens rule place also passes lexes first) =
+    rw (whole_of_passing whole got front passes) (syntax tokens rule place also passes lexes first)
+refused_whole whole got front _ _ _ (tree raw rule place also passes parses first) =
+    rw (whole_of_passing whole got front passes) (tree raw rule place also passes parses first)
+refused_whole whole got front _ _ _ (lexer rule place also first) = elim (front_or_long whole got front) [
+  | inl same ↦ rw same (lexer rule place also first)
+  | inr long ↦ lexer rule place also (first_of_long whole got long.0 long.1 rule place also first)
 ]
 
-pub refused_text : (before : Option (List ℕ)) (got : List ℕ) (after : Option (List ℕ)) (number : ℕ) (place : Place) (also : List Place) (line : List ℕ) →
-    GivesUpTo source_limit before got after → RefusedBy got number place also → line ≡ refusal_line number place also → RefusedText before line
-refused_text None got after number place also line read by told =
-    record { text = got; of_source = tt; number = number; place = place; also = also; by = by; told = told }
-refused_text (Some whole) got after number place also line read by told =
-    record { text = whole; of_source = refl; number = number; place = place; also = also; by = refused_whole whole got read.front number place also by; told = told }
+pub refused_text : (before : Option (List ℕ)) (got : List ℕ) (after : Option (List ℕ)) (rule : Rule) (place : Place) (also : List Place) (line : List ℕ) →
+    GivesUpTo source_limit before got after → RefusedBy got rule place also → line ≡ refusal_line rule place also → RefusedText before line
+refused_text None got after rule place also line read by told =
+    record { text = got; of_source = tt; rule = rule; place = place; also = also; by = by; told = told }
+refused_text (Some whole) got after rule place also line read by told =
+    record { text = whole; of_source = refl; rule = rule; place = place; also = also; by = refused_whole whole got read.front rule place also by; told = told }
 
 -- the refusal of the lexer is one of the text
-pub lexed_refusal : (text : List ℕ) (refusal : Refusal) → IsLexRefusalOf text refusal → IsRefusalOf text refusal
-lexed_refusal text (Rule number place also) is = rw is.1 (lexer number place is.0)
-lexed_refusal text NoMemory is = tt
+pub lexed_refusal : (text : List ℕ) (told : Refusal) → IsCause (Fails text) told → IsRefusalOf text told
+lexed_refusal text (refusal.Rule rule place also) is = lexer rule place also is
+lexed_refusal text refusal.NoMemory is = tt
 
 -- and so is that of the grammar, of tokens of the text
-pub parsed_refusal : (text : List ℕ) (tokens : List Token) (refusal : Refusal) → Passes text → Lexes text tokens → IsSyntaxRefusalOf (length text) tokens refusal → IsRefusalOf text refusal
-parsed_refusal text tokens (Rule number place also) passes lexes is = rw is.1 (syntax tokens number place passes lexes is.0)
-parsed_refusal text tokens NoMemory passes lexes is = tt
+pub parsed_refusal : (text : List ℕ) (tokens : List Token) (told : Refusal) → Passes text → Lexes text tokens
+    → IsCause (SyntaxFails (length text) tokens) told → IsRefusalOf text told
+parsed_refusal text tokens (refusal.Rule rule place also) passes lexes is = syntax tokens rule place also passes lexes is
+parsed_refusal text tokens refusal.NoMemory passes lexes is = tt
 
 -- and that of its tree
-pub tree_refusal : (text : List ℕ) (raw : Raw) (refusal : Refusal) → Passes text → Parses text raw → IsTreeRefusalOf raw refusal → IsRefusalOf text refusal
-tree_refusal text raw (Rule number place also) passes parses first = tree raw number place also passes parses first
-tree_refusal text raw NoMemory passes parses first = tt
+pub tree_refusal : (text : List ℕ) (raw : Raw) (told : Refusal) → Passes text → Parses text raw → IsTreeRefusalOf raw told → IsRefusalOf text told
+tree_refusal text raw (refusal.Rule rule place also) passes parses first = tree raw rule place also passes parses first
+tree_refusal text raw refusal.NoMemory passes parses first = tt
 
 -- the tree has no typed program
-pub typing_refusal : (raw : Raw) (refusal : Refusal) → IsTypingCause raw refusal → IsTreeRefusalOf raw refusal
-typing_refusal raw (Rule number place also) first = typing number place also first
-typing_refusal raw NoMemory first = tt
+pub typing_refusal : (raw : Raw) (told : Refusal) → IsTypingCause raw told → IsTreeRefusalOf raw told
+typing_refusal raw (refusal.Rule rule place also) first = typing rule place also first
+typing_refusal raw refusal.NoMemory first = tt
 
 -- or its units fail
-pub units_refusal : (raw : Raw) (program : Program) (refusal : Refusal) → IsProgramOf raw program → NamesPass raw.items → TypesPass (named_of raw) → IsUnitsCause program.units refusal → IsTreeRefusalOf raw refusal
-units_refusal raw program (Rule number place also) is names types first =
-    failing_units number place also names types (subst (λ us. IsUnitsCause us (Rule number place also)) is.units first)
-units_refusal raw program NoMemory is names types first = tt
+pub units_refusal : (raw : Raw) (program : Program) (told : Refusal) → IsProgramOf raw program → NamesPass raw.items → TypesPass (named_of raw)
+    → IsCause (UnitsFail program.units) told → IsTreeRefusalOf raw told
+units_refusal raw program (refusal.Rule rule place also) is names types first =
+    failing_units rule place also names types (subst (λ us. IsCause (UnitsFail us) (refusal.Rule rule place also)) is.units first)
+units_refusal raw program refusal.NoMemory is names types first = tt
 
 pub units_pass : (raw : Raw) (program : Program) → IsProgramOf raw program → UnitsPass program.units → UnitsPass (typed_of raw).units
 units_pass raw program is passes = subst UnitsPass is.units passes
@@ -170,13 +186,13 @@ tree_parsed text tokens raw lexes nests spells = record { tokens = tokens; lexes
 pub stops_short : (before : Option (List ℕ)) (file : Count) (ended : Status) (own : List ℕ) → ended ≡ status.NoMemory → Stops before file ended (chosen_line ended own)
 stops_short before file ended own none = rw none no_memory
 
-pub stops_refused : (before : Option (List ℕ)) (got : List ℕ) (after : Option (List ℕ)) (file : Count) (refusal : Refusal) (outcome : Outcome) →
-    GivesUpTo source_limit before got after → IsRefusalOf got refusal → IsRefusedBy refusal outcome → Stops before file outcome.status (line_in outcome)
-stops_refused before got after file (Rule number place also) outcome read is by = elim by [
-  | inl told ↦ rw told.0 (stopped (refused_text before got after number place also outcome.line.items read is told.1))
+pub stops_refused : (before : Option (List ℕ)) (got : List ℕ) (after : Option (List ℕ)) (file : Count) (told : Refusal) (outcome : Outcome) →
+    GivesUpTo source_limit before got after → IsRefusalOf got told → IsRefusedBy told outcome → Stops before file outcome.status (line_in outcome)
+stops_refused before got after file (refusal.Rule rule place also) outcome read is by = elim by [
+  | inl told ↦ rw told.0 (stopped (refused_text before got after rule place also outcome.line.items read is told.1))
   | inr none ↦ stops_short before file outcome.status outcome.line.items none
 ]
-stops_refused before got after file NoMemory outcome read is none = stops_short before file outcome.status outcome.line.items none
+stops_refused before got after file refusal.NoMemory outcome read is none = stops_short before file outcome.status outcome.line.items none
 
 pub stops_unread : (before : Option (List ℕ)) (file : Count) (ended : Status) (own : List ℕ) → ended ≡ status.ReadFault → HasRisen file → Stops before file ended (chosen_line ended own)
 stops_unread before file ended own e risen = rw e (unread risen)

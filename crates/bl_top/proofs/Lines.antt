@@ -1,8 +1,7 @@
 -- What `notes` hold after the line of a status was to be written.
-use Rattle.std.proofs.Common.{◌≡◌, ◌≢◌, ℕ, ◌+◌, ◌-◌, List, [], ◌∷◌, refl, sym, subst, ap, ◌∙◌, append-nil, Bool, true, false, length, map, drop, get_or, arith}
-use Rattle.std.proofs.lemmas.List.{drop-map, get_or-drop}
+use Rattle.std.proofs.Common.{◌≡◌, ℕ, List, [], ◌∷◌, refl, sym, subst, ap, ◌∙◌, append-nil, Bool, true, false, length, arith}
 use Rattle.std.proofs.lemmas.Bool.Decides.{nat_tests}
-use Rattle.std.specs.Prelude.{Option, Some, None, ◌==◌, slice_index_or}
+use Rattle.std.specs.Prelude.{Option, Some, None, ◌==◌}
 use Rattle.bl_io.specs.Held.{Appends, AppendsPart}
 use Rattle.bl_top.specs.Calls.{Count, HasRisen}
 use Rattle.bl_top.specs.Notes.{Written, whole, fault, want, chosen_line, has_line}
@@ -40,10 +39,3 @@ has_line_from_test status.Usage own line b is e f = refl
 has_line_from_test status.ReadFault own line b is e f = refl
 has_line_from_test status.NoMemory own line b is e f = refl
 has_line_from_test status.Unbuilt own line b is e f = refl
-
--- a place that counts down while a list is left behind stays at one item
-one_on : (ys : List (List ℕ)) (k left : ℕ) → left ≢ 0 → slice_index_or (drop (k + 1) ys) (left - 1) [] ≡ slice_index_or (drop k ys) left []
-one_on ys k left h = get_or-drop (k + 1) ys (left - 1) [] ∙ ap (λ i. get_or ys i []) (omega (arith, h)) ∙ sym (get_or-drop k ys left [])
-
-pub index_on : {A : Type 0} (f : A → List ℕ) (xs : List A) (k left : ℕ) → left ≢ 0 → slice_index_or (map f (drop (k + 1) xs)) (left - 1) [] ≡ slice_index_or (map f (drop k xs)) left []
-index_on f xs k left h = rw (sym (drop-map f (k + 1) xs), sym (drop-map f k xs)) (one_on (map f xs) k left h)

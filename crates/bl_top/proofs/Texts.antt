@@ -4,7 +4,6 @@ use Rattle.std.proofs.lemmas.List.{length-take-le}
 use Rattle.std.proofs.lemmas.List.Elements.{All-cons, All-nil}
 use Rattle.std.proofs.lemmas.Bool.Decides.{nat_tests}
 use Rattle.std.specs.Prelude.{◌↔◌, ◌≤◌, Option, Some, None, unwrap_or, nat_eq, slice_get}
-use Rattle.std.specs.List.{list_all}
 use Rattle.bl_cmeaning.specs.Parts.{parts_of}
 use Rattle.bl_cmeaning.specs.Sizes.{cells_needed}
 use Rattle.bl_cmeaning.specs.Trace.{c_trace}
@@ -18,10 +17,10 @@ use Rattle.bl_early.specs.Form.{Step, is_early, is_early_unit, steps_suit, unit_
 use Rattle.bl_early.specs.Run.{trace_of}
 use Rattle.bl_early_laws.specs.Written.{RowsSuit, WrittenColumns, WrittenIsSmall, WrittenTrace, WrittenWellFormed, written}
 use Rattle.bl_early_laws.specs.Laws.{Early, EarlyIsBounded, EarlyIsNeverStuck, OneTrace as EarlyHasOneTrace}
-use Rattle.bl_early_laws.specs.Rows.{numbers_fit, row_fits}
 use Rattle.bl_tree.specs.declared.tree.StructDef.{StructDef}
 use Rattle.bl_tree.specs.declared.tree.Unit.{Unit as UnitDef}
 use Rattle.bl_tree.specs.declared.tree.Var.{Var}
+use Rattle.bl_tree.specs.Ports.{RowsFit, columns_of, input_columns, row_fits}
 use Rattle.bl_tree.specs.Program.{Keeps, is_entry}
 use Rattle.bl_tree.specs.Typing.{inputs_of}
 use Rattle.bl_top.specs.Sources.{IsFileOfParts}
@@ -55,13 +54,13 @@ inputs_within unit e =
 
 -- ---- rows
 
-row_long : (vars : List Var) (row : List ℤ) → numbers_fit vars row ≡ true → length row ≡ length vars
+row_long : (vars : List Var) (row : List ℤ) → row_fits (columns_of vars) row ≡ true → length row ≡ length vars
 row_long [] [] e = refl
 row_long [] (n ∷ row) e = absurd cc
 row_long (var ∷ vars) [] e = absurd cc
 row_long (var ∷ vars) (n ∷ row) e = ap (λ k. suc k) (row_long vars row (right_holds _ _ e))
 
-rows_long : (unit : UnitDef) → length (inputs_of unit) ≡ unit.inputs → (rows : List (List ℤ)) → list_all (row_fits unit) rows ≡ true → RowsSuit unit rows
+rows_long : (unit : UnitDef) → length (inputs_of unit) ≡ unit.inputs → (rows : List (List ℤ)) → RowsFit (input_columns unit) rows → RowsSuit unit rows
 rows_long unit same [] e = All-nil (λ row. length row ≡ unit.inputs)
 rows_long unit same (row ∷ rows) e =
     All-cons (λ r. length r ≡ unit.inputs) row rows (row_long (inputs_of unit) row (left_holds _ _ e) ∙ same) (rows_long unit same rows (right_holds _ _ e))

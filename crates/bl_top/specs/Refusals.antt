@@ -1,5 +1,5 @@
 -- Which rule refuses a source text, and the line that tells it.
-use Rattle.std.specs.Prelude.{◌≡◌, ℕ, List, [], ◌∷◌, ◌++◌, map, length, codes, decimal, slice_index_or, Option, ⊤}
+use Rattle.std.specs.Prelude.{◌≡◌, ℕ, List, [], ◌∷◌, ◌++◌, map, length, codes, decimal, Option, ⊤}
 use Rattle.bl_effects.specs.Rules.{FailsFirst as UnitsFailFirst}
 use Rattle.bl_lex.specs.Rules.{FailsFirst, Passes}
 use Rattle.bl_lex.specs.Tokens.{Lexes}
@@ -10,9 +10,11 @@ use Rattle.bl_raw.specs.declared.raw.Raw.{Raw}
 use Rattle.bl_syntax.specs.Rules.{FailsFirst as SyntaxFailsFirst}
 use Rattle.bl_tree.specs.declared.token.Token.{Token}
 use Rattle.bl_tree.specs.declared.place.Place.{Place}
-use Rattle.bl_tree.specs.declared.place.Refusal.{Refusal}
-use Rattle.bl_tree.specs.declared.place.Refusal.TheVariants.{Rule, NoMemory}
+use Rattle.bl_tree.specs.declared.rule.Refusal.{Refusal}
+use Rattle.bl_tree.specs.declared.rule.Refusal.TheVariants as refusal
+use Rattle.bl_tree.specs.declared.rule.Rule.{Rule}
 use Rattle.bl_tree.specs.Reduce.{joined}
+use Rattle.bl_tree.specs.Rules.{name_of, number_of}
 use Rattle.bl_types.specs.Rules.{Passes as TypesPass}
 use Rattle.bl_top.specs.Calls.{Count, HasRisen}
 use Rattle.bl_top.specs.Notes.{IsTold, line_of}
@@ -23,58 +25,45 @@ use Rattle.bl_top.specs.declared.status.Status.TheVariants as status
 
 -- ---- the line
 
--- the names of the rules by their numbers; no rule has the number 0
-abbrev pub rule_names : List (List ℕ)
-rule_names =
-    [] ∷ codes "Size" ∷ codes "Lex" ∷ codes "Profile" ∷ codes "Depth" ∷
-    codes "Syntax" ∷ codes "Duplicate" ∷ codes "Unknown" ∷ codes "Kind" ∷ codes "Type" ∷
-    codes "Literal" ∷ codes "Immutable" ∷ codes "Constant" ∷ codes "Arity" ∷ codes "Prev" ∷
-    codes "Return" ∷ codes "Where" ∷ codes "Entry" ∷ codes "Pause" ∷ codes "Conflict" ∷
-    codes "Alias" ∷ codes "Instant" ∷ codes "Twice" ∷ codes "Cycle" ∷ codes "Frames" ∷ codes "Cells" ∷ []
-
--- the name of a rule
-abbrev pub rule_name : ℕ → List ℕ
-rule_name number = slice_index_or rule_names number []
-
 -- a place behind a space, 32: its two offsets with a minus, 45, between them
 abbrev pub place_text : Place → List ℕ
 place_text place = 32 ∷ (decimal place.start ++ (45 ∷ decimal place.end))
 
 -- the line of a rule that fails, with its line feed: the rule's number and name, its place, and each further place
-unfoldable pub refusal_line : ℕ → Place → List Place → List ℕ
-refusal_line number place also =
-    codes "rule " ++ (decimal number ++ (32 ∷ (rule_name number ++ (place_text place ++ (joined (map place_text also) ++ (10 ∷ []))))))
+unfoldable pub refusal_line : Rule → Place → List Place → List ℕ
+refusal_line rule place also =
+    codes "rule " ++ (decimal (number_of rule) ++ (32 ∷ (name_of rule ++ (place_text place ++ (joined (map place_text also) ++ (10 ∷ []))))))
 
 -- ---- the first rule that fails
 
 -- the first of the rules on names, types and units that fails for a tree, with its place and its further places
-pub data RefusedTree (raw : Raw) : ℕ → Place → List Place → Type 0 where
+pub data RefusedTree (raw : Raw) : Rule → Place → List Place → Type 0 where
   -- the tree has no typed program: one of the rules Duplicate to Entry
-  typing : (number : ℕ) (place : Place) (also : List Place) → TypingFailsFirst raw number place also → RefusedTree raw number place also
+  typing : (rule : Rule) (place : Place) (also : List Place) → TypingFailsFirst raw rule place also → RefusedTree raw rule place also
   -- none of these, and one of Pause, Conflict, Alias and Instant
-  units : (number : ℕ) (place : Place) (also : List Place) → NamesPass raw.items → TypesPass (named_of raw) →
-      UnitsFailFirst (typed_of raw).units number place also → RefusedTree raw number place also
+  units : (rule : Rule) (place : Place) (also : List Place) → NamesPass raw.items → TypesPass (named_of raw) →
+      UnitsFailFirst (typed_of raw).units rule place also → RefusedTree raw rule place also
 
 -- the refusal names the first of these; want of memory has no cause in the tree
 abbrev pub IsTreeRefusalOf : Raw → Refusal → Type 0
-IsTreeRefusalOf raw (Rule number place also) = RefusedTree raw number place also
-IsTreeRefusalOf raw NoMemory = ⊤
+IsTreeRefusalOf raw (refusal.Rule rule place also) = RefusedTree raw rule place also
+IsTreeRefusalOf raw refusal.NoMemory = ⊤
 
 -- the first of the rules decided so far that fails for a text, with its place and its further places
-pub data RefusedBy (text : List ℕ) : ℕ → Place → List Place → Type 0 where
+pub data RefusedBy (text : List ℕ) : Rule → Place → List Place → Type 0 where
   -- one of Size, Lex and Profile
-  lexer : (number : ℕ) (place : Place) → FailsFirst text number place → RefusedBy text number place []
+  lexer : (rule : Rule) (place : Place) (also : List Place) → FailsFirst text rule place also → RefusedBy text rule place also
   -- none of these, and one of Depth and Syntax
-  syntax : (tokens : List Token) (number : ℕ) (place : Place) → Passes text → Lexes text tokens →
-      SyntaxFailsFirst (length text) tokens number place → RefusedBy text number place []
+  syntax : (tokens : List Token) (rule : Rule) (place : Place) (also : List Place) → Passes text → Lexes text tokens →
+      SyntaxFailsFirst (length text) tokens rule place also → RefusedBy text rule place also
   -- none of these, and one of those on names, types and units
-  tree : (raw : Raw) (number : ℕ) (place : Place) (also : List Place) → Passes text → Parses text raw →
-      RefusedTree raw number place also → RefusedBy text number place also
+  tree : (raw : Raw) (rule : Rule) (place : Place) (also : List Place) → Passes text → Parses text raw →
+      RefusedTree raw rule place also → RefusedBy text rule place also
 
 -- the refusal names the first rule that fails; want of memory has no cause in the text
 abbrev pub IsRefusalOf : List ℕ → Refusal → Type 0
-IsRefusalOf text (Rule number place also) = RefusedBy text number place also
-IsRefusalOf text NoMemory = ⊤
+IsRefusalOf text (refusal.Rule rule place also) = RefusedBy text rule place also
+IsRefusalOf text refusal.NoMemory = ⊤
 
 -- ---- the source of a job
 
@@ -82,11 +71,11 @@ IsRefusalOf text NoMemory = ⊤
 pub record RefusedText (left : Option (List ℕ)) (line : List ℕ) : Type 0 where
   pub text : List ℕ
   pub of_source : IsSource left text
-  pub number : ℕ
+  pub rule : Rule
   pub place : Place
   pub also : List Place
-  pub by : RefusedBy text number place also
-  pub told : line ≡ refusal_line number place also
+  pub by : RefusedBy text rule place also
+  pub told : line ≡ refusal_line rule place also
 
 -- why a job stops at its source, with the status and the line
 pub data Stops (left : Option (List ℕ)) (file : Count) : Status → List ℕ → Type 0 where
@@ -98,5 +87,5 @@ pub data Stops (left : Option (List ℕ)) (file : Count) : Status → List ℕ �
 
 -- how a job ends whose source gets this refusal
 abbrev pub IsRefusedBy : Refusal → Outcome → Type 0
-IsRefusedBy (Rule number place also) outcome = IsTold status.Refused (refusal_line number place also) outcome
-IsRefusedBy NoMemory outcome = outcome.status ≡ status.NoMemory
+IsRefusedBy (refusal.Rule rule place also) outcome = IsTold status.Refused (refusal_line rule place also) outcome
+IsRefusedBy refusal.NoMemory outcome = outcome.status ≡ status.NoMemory

@@ -1,3 +1,5 @@
+//! The one call: the job that words ask for, done.
+
 ghost use Rattle.std.specs.Prelude.{◌≤◌, map, string_bytes};
 ghost use Rattle.bl_io.specs.Count.{NeverFell};
 ghost use Rattle.bl_top.specs.Answers.{Answered, Answers};

@@ -1,3 +1,5 @@
+//! The C file that is written for a program.
+
 ghost use Rattle.std.specs.Prelude.{◌≡◌, true, IfOk};
 ghost use Rattle.bl_early.specs.Form.{is_early};
 ghost use Rattle.bl_top.specs.Sources.{IsFileOfParts};

@@ -1,4 +1,9 @@
-//! The one call that the program makes: it does the job that the words ask for.
+//! The one call that the program makes. `blechc` ends with the status of the job that its words ask for, and the line
+//! of that status grew on `notes` (`specs/Answers.antt`, `Answered`). Each way in which a job ends comes with its whole
+//! cause and with what grew on `out`: `specs/Build.antt`, `specs/Run.antt` and `specs/Exec.antt`, a file for each
+//! command. At a source that isn't accepted nothing grew on `out`, and a refusal names the first rule that fails for
+//! its bytes (`specs/Refusals.antt`, `Stops`). What `build` writes has the one trace of the source's program
+//! (`specs/Traces.antt`, `OneTrace`). docs/THEOREM.md leads through it.
 #![tactic(auto)]
 
 mod build;

@@ -1,3 +1,5 @@
+//! Ends of jobs, before their lines are written.
+
 ghost use Rattle.std.specs.Prelude.{◌≡◌, IfOk};
 ghost use Rattle.bl_top.specs.Notes.{IsTold, numbered_line};
 

@@ -94,11 +94,7 @@ fn refused(alloc: Global, refusal: &Refusal) -> Outcome
     ensures { IsRefusedBy refusal.now result }
 {
     match refusal {
-        Refusal::Rule {
-            number,
-            place,
-            also,
-        } => match line(alloc, *number, *place, also) {
+        Refusal::Rule { rule, place, also } => match line(alloc, *rule, *place, also) {
             Ok(line) => Outcome {
                 status: Status::Refused,
                 line,

@@ -1,3 +1,5 @@
+//! Statuses of calls.
+
 ghost use Rattle.std.specs.Prelude.{◌≡◌};
 ghost use Rattle.bl_top.specs.Notes.{code_of};
 

@@ -1,5 +1,5 @@
-//! Source and C texts, and what the program answers to each (docs/LANGUAGE.md, "Rules" and "What is built";
-//! docs/FORMATS.md). There is nothing in this crate but its tests.
+//! Tests of `bl_top`: source and C texts, and what the program answers to each (docs/LANGUAGE.md, "Rules" and "What is
+//! built"; docs/FORMATS.md). There is nothing else here.
 #![tactic(auto)]
 
 #[cfg(test)]

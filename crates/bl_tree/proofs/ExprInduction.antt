@@ -35,7 +35,8 @@ pub record Cases (P : Expr → Type 0) (Q : Path → Type 0) : Type 0 where
   pub two : (place : Place) (op : Op) (a b : Expr) → P a → P b → P (expr place (ExprKind-F.Two op a b))
   pub cast : (place : Place) (s : Scalar) (a : Expr) → P a → P (expr place (ExprKind-F.Cast s a))
   pub call : (place : Place) (f : ℕ) (inputs : List Expr) → All P inputs → P (expr place (ExprKind-F.Call f inputs))
-  pub path : (place : Place) (root : ℕ) (parts : List Part) (ty : Ty) → EachIndex P parts → Q (roll-Path (record { place = place; root = root; parts = parts; ty = ty }))
+  pub path : (place : Place) (root : ℕ) (parts : List Part) (ty : Ty) → EachIndex P parts →
+      Q (roll-Path (record { place = place; root = root; parts = parts; ty = ty }))
 
 module _ (P : Expr → Type 0) (Q : Path → Type 0) (cases : Cases P Q) where
   abbrev OfKind : ExprKind → Type 0

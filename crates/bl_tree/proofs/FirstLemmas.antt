@@ -1,5 +1,33 @@
 -- The first of several failures is one of them, and comes no later than each; so it is the first rule that fails.
-use Rattle.std.proofs.Common.{◌≡◌, ℕ, ◌<◌, zero, suc, Bool, true, false, ◌&&◌, ◌||◌, cond, List, [], ◌∷◌, ◌⊎◌, inl, inr, ⊎_elim, Option, Some, None, refl, sym, ap, ◌∙◌, subst, arith}
+use Rattle.std.proofs.Common.{
+  ◌≡◌,
+  ℕ,
+  ◌<◌,
+  zero,
+  suc,
+  Bool,
+  true,
+  false,
+  ◌&&◌,
+  ◌||◌,
+  cond,
+  List,
+  [],
+  ◌∷◌,
+  ◌⊎◌,
+  inl,
+  inr,
+  ⊎_elim,
+  Option,
+  Some,
+  None,
+  refl,
+  sym,
+  ap,
+  ◌∙◌,
+  subst,
+  arith,
+}
 use Rattle.std.specs.Prelude.{Contains, nat_eq, nat_lt, slice_get}
 use Rattle.std.proofs.lemmas.Bool.Decides.{nat_tests}
 use Rattle.bl_tree.specs.declared.place.Place.{Place}
@@ -8,7 +36,23 @@ use Rattle.bl_tree.specs.declared.rule.Refusal.{Refusal}
 use Rattle.bl_tree.specs.declared.rule.Refusal.TheVariants as refusal
 use Rattle.bl_tree.specs.declared.rule.Rule.{Rule}
 use Rattle.bl_tree.specs.declared.rule.Rule.TheVariants as rule
-use Rattle.bl_tree.specs.Rules.{Among, AreNoLater, FailsFirst, IsBefore, IsCause, Passes, Refuses, come_before, comes_before, first_of, further_places, is_before, number_of, places_of, same_place}
+use Rattle.bl_tree.specs.Rules.{
+  Among,
+  AreNoLater,
+  FailsFirst,
+  IsBefore,
+  IsCause,
+  Passes,
+  Refuses,
+  come_before,
+  comes_before,
+  first_of,
+  further_places,
+  is_before,
+  number_of,
+  places_of,
+  same_place,
+}
 
 -- ---- rules by number
 
@@ -226,7 +270,8 @@ from_first first [] found is =
     let same : found ≡ first = cc in
     record { which = inl same; no_later = subst (λ x. NoLater x first) (sym same) (same_no_later first); earliest = λ y none. absurd none }
 from_first first (x ∷ xs) found is =
-    elim (comes_before x first) as (λ test. comes_before x first ≡ test → first_of (cond test (Some x) (Some first)) xs ≡ Some found → FromFirst first (x ∷ xs) found) [
+    elim (comes_before x first) as (λ test. comes_before x first ≡ test → first_of (cond test (Some x) (Some first)) xs ≡ Some found →
+    FromFirst first (x ∷ xs) found) [
       | true ↦ λ before h.
           let rest = from_first x xs found h in
           record {

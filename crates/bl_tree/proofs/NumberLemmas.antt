@@ -1,5 +1,41 @@
 -- What holds of the ranges and the arithmetic of the types without parts.
-use Rattle.std.proofs.Common.{◌≡◌, ℕ, ◌-◌, ◌/◌, ◌^◌, ◌<◌, ◌≤◌, ℤ, pos, negsuc, ◌-ℤ◌, ◌*ℤ◌, neg_ℤ, Bool, true, false, IsTrue, refl, ap, arith, to_z, of_z, unsigned_abs, bit_and, bit_or, bit_xor, Option, Some, IfSome, nat_lt, lit<, zero, suc, FitsSigned, int_div}
+use Rattle.std.proofs.Common.{
+  ◌≡◌,
+  ℕ,
+  ◌-◌,
+  ◌/◌,
+  ◌^◌,
+  ◌<◌,
+  ◌≤◌,
+  ℤ,
+  pos,
+  negsuc,
+  ◌-ℤ◌,
+  ◌*ℤ◌,
+  neg_ℤ,
+  Bool,
+  true,
+  false,
+  IsTrue,
+  refl,
+  ap,
+  arith,
+  to_z,
+  of_z,
+  unsigned_abs,
+  bit_and,
+  bit_or,
+  bit_xor,
+  Option,
+  Some,
+  IfSome,
+  nat_lt,
+  lit<,
+  zero,
+  suc,
+  FitsSigned,
+  int_div,
+}
 use Rattle.std.proofs.Math.Nat.{div-le_self, mod-eq_of_lt}
 use Rattle.std.proofs.lemmas.Int.{ints, to_z_pos, fits_signed_mul, fits_signed_from_abs}
 use Rattle.std.proofs.lemmas.Nat.{and_le_l, div-add-mod', or_lt, xor_lt, shr_le, pow_pos}
@@ -9,9 +45,45 @@ use Rattle.bl_tree.specs.declared.scalar.Width.TheVariants.{W8, W16, W32, W64}
 use Rattle.bl_tree.specs.declared.scalar.Scalar.{Scalar}
 use Rattle.bl_tree.specs.declared.scalar.Scalar.TheVariants.{Bool as OfBool, Int, Nat, Bits}
 use Rattle.bl_tree.specs.declared.scalar.Op.{Op}
-use Rattle.bl_tree.specs.declared.scalar.Op.TheVariants.{Add, Sub, Mul, Div, Rem, Minus, BitAnd, BitOr, BitXor, BitNot, Shl, Shr, Eq, Ne, Lt, Le, Gt, Ge, And, Or, Not}
+use Rattle.bl_tree.specs.declared.scalar.Op.TheVariants.{
+  Add,
+  Sub,
+  Mul,
+  Div,
+  Rem,
+  Minus,
+  BitAnd,
+  BitOr,
+  BitXor,
+  BitNot,
+  Shl,
+  Shr,
+  Eq,
+  Ne,
+  Lt,
+  Le,
+  Gt,
+  Ge,
+  And,
+  Or,
+  Not,
+}
 use Rattle.bl_tree.specs.Scalar.{bits_of, width_of, in_range, is_bits, InRange}
-use Rattle.bl_tree.specs.Numbers.{fitted, WrapsTo, divided_by, number_of, checked_of, checked_one_of, TakesTwo, TakesOne, type_of_result, left_digits, right_digits, shifted_left, shifted_right}
+use Rattle.bl_tree.specs.Numbers.{
+  fitted,
+  WrapsTo,
+  divided_by,
+  number_of,
+  checked_of,
+  checked_one_of,
+  TakesTwo,
+  TakesOne,
+  type_of_result,
+  left_digits,
+  right_digits,
+  shifted_left,
+  shifted_right,
+}
 
 -- a number below 2 to the width is one of the bits type
 pub in_bits : (w : Width) (r : ℕ) → r < 2 ^ bits_of w → InRange (Bits w) (pos r)
@@ -71,7 +143,8 @@ wide_digits W16 n h = to_z_pos w128 n (omega arith)
 wide_digits W32 n h = to_z_pos w128 n (omega arith)
 wide_digits W64 n h = to_z_pos w128 n (omega arith)
 
-pub either_is : (t : Scalar) (a b : ℤ) → IsTrue (is_bits t) → InRange t a → InRange t b → to_z w128 (bit_or (of_z w128 a) (of_z w128 b)) ≡ pos (bit_or (unsigned_abs a) (unsigned_abs b))
+pub either_is : (t : Scalar) (a b : ℤ) → IsTrue (is_bits t) → InRange t a → InRange t b →
+    to_z w128 (bit_or (of_z w128 a) (of_z w128 b)) ≡ pos (bit_or (unsigned_abs a) (unsigned_abs b))
 either_is (Bits w) (pos n) (pos m) _ h k = wide_digits w _ (or_lt _ n m (bits_small w _ h) (bits_small w _ k))
 either_is (Bits w) (pos n) (negsuc m) _ h k = bits_not_negative w m k
 either_is (Bits w) (negsuc n) b _ h k = bits_not_negative w n h
@@ -135,7 +208,8 @@ quotient_fits t a d h = fits_signed_from_abs w128 (int_div a d) (omega (arith, q
 -- ---- a result is a number of its type
 
 -- what a rule on binary digits gives for two numbers of a bits type is one too, where the rule keeps to the width
-digits-in_range : (f : ℕ → ℕ → ℕ → ℕ) → ((k n m : ℕ) → n < 2 ^ k → m < 2 ^ k → f k n m < 2 ^ k) → (t : Scalar) (a b : ℤ) → IsTrue (is_bits t) → InRange t a → InRange t b → InRange t (pos (f (width_of t) (unsigned_abs a) (unsigned_abs b)))
+digits-in_range : (f : ℕ → ℕ → ℕ → ℕ) → ((k n m : ℕ) → n < 2 ^ k → m < 2 ^ k → f k n m < 2 ^ k) → (t : Scalar) (a b : ℤ) →
+    IsTrue (is_bits t) → InRange t a → InRange t b → InRange t (pos (f (width_of t) (unsigned_abs a) (unsigned_abs b)))
 digits-in_range f keeps (Bits w) (pos n) (pos m) _ h k = in_bits w _ (keeps (bits_of w) n m (bits_small w n h) (bits_small w m k))
 digits-in_range f keeps (Bits w) (pos n) (negsuc m) _ h k = bits_not_negative w m k
 digits-in_range f keeps (Bits w) (negsuc n) b _ h k = bits_not_negative w n h
@@ -170,7 +244,8 @@ divided_by-in_range t (pos (suc n)) r h = h
 divided_by-in_range t (negsuc n) r h = h
 
 -- what an operator gives is a number of its result's type
-pub checked_of-in_range : (op : Op) (t : Scalar) (a b : ℤ) → TakesTwo op t → InRange t a → InRange t b → IfSome (checked_of op t a b) (InRange (type_of_result op t))
+pub checked_of-in_range : (op : Op) (t : Scalar) (a b : ℤ) → TakesTwo op t → InRange t a → InRange t b →
+    IfSome (checked_of op t a b) (InRange (type_of_result op t))
 checked_of-in_range Add t a b takes h k = fitted-in_range t _
 checked_of-in_range Sub t a b takes h k = fitted-in_range t _
 checked_of-in_range Mul t a b takes h k = fitted-in_range t _

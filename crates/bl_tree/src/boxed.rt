@@ -1,3 +1,5 @@
+//! Owned values that contracts see as the values themselves.
+
 ghost use Rattle.std.specs.Prelude.{◌≡◌, IfOk};
 
 use std::alloc::{AllocError, Global};

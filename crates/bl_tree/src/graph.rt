@@ -1,3 +1,5 @@
+//! Tick graphs by the places of their nodes.
+
 ghost use Rattle.bl_tree.specs.Graph.{JoinsNodes};
 
 use crate::List;

@@ -1,5 +1,13 @@
-//! What every other crate speaks of: whole-number types and their arithmetic, rows and traces, and the trees
-//! of source programs and C texts. Contracts see all of it as plain data.
+//! What every other crate speaks of, as plain data to contracts: scalar types and their operators, places, the rules by
+//! name, tokens, static paths, typed programs, tick graphs, C trees, values, rows and traces, and the containers
+//! `List`, `Box` and `Text`.
+//!
+//! `checked` and `checked_one` give the exact number, modulo the width for bits, and None exactly where an operator
+//! traps (`specs/Numbers.antt`, `checked_of`). A `Program` keeps `Keeps` (`specs/Program.antt`): names, types
+//! (`specs/Typing.antt`), roles, returns and depths stand, branches keep apart, and statements of one place have the
+//! same effects. What a statement reads and writes and whether it may end in the tick in which it begins are defined
+//! here too (`specs/Effects.antt`, `specs/Instant.antt`), and so are the first of several failures (`specs/Rules.antt`)
+//! and the columns of a unit (`specs/Ports.antt`).
 #![tactic(auto)]
 
 mod boxed;

@@ -1,3 +1,5 @@
+//! Lists that contracts see as their elements.
+
 ghost use Rattle.std.specs.Prelude.{◌≡◌, [], ◌∷◌, ◌++◌, ◌<◌, length, slice_set, IsTrue, ◌↔◌, OnOk, OnErr};
 
 use std::alloc::{AllocError, Global};

@@ -1,3 +1,5 @@
+//! Want of memory.
+
 use std::alloc::AllocError;
 
 /// Memory was refused. It is a call's one answer that nothing but the machine decides.

@@ -1,3 +1,5 @@
+//! Places of a source text.
+
 ghost use Rattle.std.specs.Prelude.{◌≡◌};
 ghost use Rattle.bl_tree.specs.Rules.{is_before};
 

@@ -1,3 +1,5 @@
+//! Typed programs, with what they keep.
+
 ghost use Rattle.bl_tree.specs.Program.{Keeps};
 
 use crate::List;

@@ -1,3 +1,5 @@
+//! Rows of numbers, and traces.
+
 ghost use Rattle.std.specs.Prelude.{◌≡◌, pos, ◌<◌, length, slice_get, slice_set, IfOk, replicate};
 
 use crate::scalar::Scalar;

@@ -1,3 +1,5 @@
+//! Scalar types, their ranges, and the operators on them.
+
 ghost use Rattle.std.specs.Prelude.{◌≡◌, ◌^◌, ◌<◌, ◌↔◌, ◌≤ℤ◌, pos, IsTrue};
 ghost use Rattle.bl_tree.specs.Scalar.{bits_of, width_of, low_of, high_of, InRange, is_whole};
 ghost use Rattle.bl_tree.specs.Numbers.{takes_two, takes_one, type_of_result};

@@ -1,3 +1,5 @@
+//! Texts that contracts see as their bytes.
+
 ghost use Rattle.std.specs.Prelude.{◌≡◌, string_bytes, IfOk};
 
 use arrayvec::ArrayString;

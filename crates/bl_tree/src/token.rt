@@ -1,3 +1,5 @@
+//! Tokens of a source text.
+
 use crate::place::Place;
 
 /// A piece of a source text that means something (docs/LANGUAGE.md, "Tokens").

@@ -14,7 +14,8 @@ module _ (named : Named) where
   pub passes : (notes : Notes) → notes ≡ noted (record { first = None }) (failures_of named) → notes.first ≡ None → Passes named
   passes notes is none = none_passes (failures_of named) (sym (ap (λ n. n.first) is) ∙ none)
 
-  pub cause : (notes : Notes) (first : Failure) (refusal : Refusal) → notes ≡ noted (record { first = None }) (failures_of named) → notes.first ≡ Some first
+  pub cause : (notes : Notes) (first : Failure) (refusal : Refusal) → notes ≡ noted (record { first = None }) (failures_of named) →
+      notes.first ≡ Some first
       → Refuses first refusal → IsCause named refusal
   cause notes first refusal is kept refuses =
       is_cause (Fails named) first refusal (first_fails (failures_of named) first (sym (ap (λ n. n.first) is) ∙ kept)) refuses

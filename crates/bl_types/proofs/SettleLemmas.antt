@@ -21,20 +21,20 @@ abbrev settled_of_path : ScalarType → Path → Unit {0}
 settled_of_path s = fold-Path (Place → Settled) (Unit {0}) Settled (Unit {0}) (settled_kind s) settled_part settled_layer settled_path
 
 abbrev parts : ScalarType → ExprKind-F ExprKind Part Expr Path → ExprKind-F (Place → Settled) (Unit {0}) Settled (Unit {0})
-parts s = map-ExprKind ExprKind Part Expr Path (Place → Settled) (Unit {0}) Settled (Unit {0}) (settled_of_kind s) (settled_of_part s) (settled s)
-    (settled_of_path s)
+parts s = map-ExprKind ExprKind Part Expr Path (Place → Settled) (Unit {0}) Settled (Unit {0}) (settled_of_kind s)
+    (settled_of_part s) (settled s) (settled_of_path s)
 
 settled_at : (s : ScalarType) (e : Expr) (layer : ExprKind-F ExprKind Part Expr Path) → out-ExprKind (out-Expr e).what ≡ layer →
     settled s e ≡ settled_kind s (parts s layer) (out-Expr e).place
 settled_at s e layer is =
     fold_out-Expr (Place → Settled) (Unit {0}) Settled (Unit {0}) (settled_kind s) settled_part settled_layer settled_path e
-    ∙ ap (λ f. f (out-Expr e).place) (fold_out-ExprKind (Place → Settled) (Unit {0}) Settled (Unit {0}) (settled_kind s) settled_part settled_layer settled_path
-    (out-Expr e).what)
+    ∙ ap (λ f. f (out-Expr e).place) (fold_out-ExprKind (Place → Settled) (Unit {0}) Settled (Unit {0})
+    (settled_kind s) settled_part settled_layer settled_path (out-Expr e).what)
     ∙ ap (λ layer. settled_kind s (parts s layer) (out-Expr e).place) is
 
 -- what fails in a form with one operand
-pub one_settled : (s : ScalarType) (e : Expr) (op : Op) (a given : Expr) (made : Option Expr) → (out-Expr e).what ≡ One op a → given ≡ a →
-    made ≡ (settled s given).made
+pub one_settled : (s : ScalarType) (e : Expr) (op : Op) (a given : Expr) (made : Option Expr) → (out-Expr e).what ≡ One op a →
+    given ≡ a → made ≡ (settled s given).made
     → (settled s e).failures ≡ (settled s given).failures ++ (one_made s (out-Expr e).place op made).failures
 one_settled s e op a given made is same is_made =
     ap (λ r. r.failures) (settled_at s e (ExprKind-F.One op a) (ap out-ExprKind is ∙ outs-One op a))
@@ -42,8 +42,8 @@ one_settled s e op a given made is same is_made =
     ∙ ap (λ m. (settled s given).failures ++ (one_made s (out-Expr e).place op m).failures) (sym is_made)
 
 -- what fails in a form with two operands
-pub two_settled : (s : ScalarType) (e : Expr) (op : Op) (a b given other : Expr) (made made_other : Option Expr) → (out-Expr e).what ≡ Two op a b → given ≡ a →
-    other ≡ b
+pub two_settled : (s : ScalarType) (e : Expr) (op : Op) (a b given other : Expr) (made made_other : Option Expr) →
+    (out-Expr e).what ≡ Two op a b → given ≡ a → other ≡ b
     → made ≡ (settled s given).made → made_other ≡ (settled s other).made
     → (settled s e).failures ≡ ((settled s given).failures ++ (settled s other).failures) ++ (two_made s (out-Expr e).place op made made_other).failures
 two_settled s e op a b given other made made_other is same same_other is_made is_other =

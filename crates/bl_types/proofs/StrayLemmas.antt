@@ -15,36 +15,37 @@ use Rattle.bl_named.specs.declared.stmt.NamedStmtKind.TheVariants.{If, outs-If}
 use Rattle.bl_types.specs.Returns.{arm_layer_strays, branch_layer_strays, kind_strays, layer_strays, strays_in, strays_in_arm, strays_in_branch}
 
 abbrev strays_of_kind : NamedStmtKind → Place → List Failure
-strays_of_kind = fold-NamedStmtKind (Place → List Failure) (List Failure) (List Failure) (List Failure) kind_strays arm_layer_strays branch_layer_strays
-    layer_strays
+strays_of_kind = fold-NamedStmtKind (Place → List Failure) (List Failure) (List Failure)
+    (List Failure) kind_strays arm_layer_strays branch_layer_strays layer_strays
 
 abbrev parts : NamedStmtKind-F NamedStmtKind NamedArm NamedBranch NamedStmt →
     NamedStmtKind-F (Place → List Failure) (List Failure) (List Failure) (List Failure)
-parts = map-NamedStmtKind NamedStmtKind NamedArm NamedBranch NamedStmt (Place → List Failure) (List Failure) (List Failure) (List Failure) strays_of_kind
-    strays_in_arm strays_in_branch strays_in
+parts = map-NamedStmtKind NamedStmtKind NamedArm NamedBranch NamedStmt (Place → List Failure) (List Failure) (List Failure)
+    (List Failure) strays_of_kind strays_in_arm strays_in_branch strays_in
 
-strays_at : (s : NamedStmt) (layer : NamedStmtKind-F NamedStmtKind NamedArm NamedBranch NamedStmt) → out-NamedStmtKind (out-NamedStmt s).what ≡ layer →
-    strays_in s ≡ kind_strays (parts layer) (out-NamedStmt s).place
+strays_at : (s : NamedStmt) (layer : NamedStmtKind-F NamedStmtKind NamedArm NamedBranch NamedStmt) →
+    out-NamedStmtKind (out-NamedStmt s).what ≡ layer → strays_in s ≡ kind_strays (parts layer) (out-NamedStmt s).place
 strays_at s layer is =
     fold_out-NamedStmt (Place → List Failure) (List Failure) (List Failure) (List Failure) kind_strays arm_layer_strays branch_layer_strays layer_strays s
-    ∙ ap (λ f. f (out-NamedStmt s).place) (fold_out-NamedStmtKind (Place → List Failure) (List Failure) (List Failure) (List Failure) kind_strays
-    arm_layer_strays branch_layer_strays layer_strays (out-NamedStmt s).what)
+    ∙ ap (λ f. f (out-NamedStmt s).place) (fold_out-NamedStmtKind (Place → List Failure) (List Failure) (List Failure)
+    (List Failure) kind_strays arm_layer_strays branch_layer_strays layer_strays (out-NamedStmt s).what)
     ∙ ap (λ layer. kind_strays (parts layer) (out-NamedStmt s).place) is
 
 -- the arms, and what is done where no test is true
-pub if_strays : (s : NamedStmt) (arms made : List NamedArm) (other rest : List NamedStmt) → (out-NamedStmt s).what ≡ If arms other → made ≡ arms → rest ≡ other
+pub if_strays : (s : NamedStmt) (arms made : List NamedArm) (other rest : List NamedStmt) → (out-NamedStmt s).what ≡ If arms other →
+    made ≡ arms → rest ≡ other
     → strays_in s ≡ joined (map strays_in_arm made) ++ joined (map strays_in rest)
 if_strays s arms made other rest is same same_rest =
     strays_at s (NamedStmtKind-F.If arms other) (ap out-NamedStmtKind is ∙ outs-If arms other)
     ∙ (λ i. joined (map strays_in_arm (sym same i)) ++ joined (map strays_in (sym same_rest i)))
 
 pub arm_strays : (arm : NamedArm) → strays_in_arm arm ≡ joined (map strays_in (out-NamedArm arm).body)
-arm_strays arm = fold_out-NamedArm (Place → List Failure) (List Failure) (List Failure) (List Failure) kind_strays arm_layer_strays branch_layer_strays
-    layer_strays arm
+arm_strays arm = fold_out-NamedArm (Place → List Failure) (List Failure) (List Failure)
+    (List Failure) kind_strays arm_layer_strays branch_layer_strays layer_strays arm
 
 pub branch_strays : (branch : NamedBranch) → strays_in_branch branch ≡ joined (map strays_in (out-NamedBranch branch).body)
-branch_strays branch = fold_out-NamedBranch (Place → List Failure) (List Failure) (List Failure) (List Failure) kind_strays arm_layer_strays branch_layer_strays
-    layer_strays branch
+branch_strays branch = fold_out-NamedBranch (Place → List Failure) (List Failure) (List Failure)
+    (List Failure) kind_strays arm_layer_strays branch_layer_strays layer_strays branch
 
 less_next : (n m : ℕ) → nat_lt (suc n) (suc m) ≡ nat_lt n m
 less_next n m =

@@ -20,8 +20,30 @@ use Rattle.bl_named.specs.declared.stmt.NamedStmtKind.TheOpen.{NamedStmtKind-F}
 use Rattle.bl_named.specs.declared.stmt.NamedStmtKind.TheVariants.{If, Until, When, While, outs-If, outs-Until, outs-When, outs-While}
 use Rattle.bl_types.specs.declared.environment.Environment.{Environment}
 use Rattle.bl_types.specs.declared.environment.State.{State}
-use Rattle.bl_types.specs.States.{passed}
-use Rattle.bl_types.specs.Statements.{Block, Walk, Walked, arm_of, arm_walked, branch_walked, choice, condition, in_order, kind_walked, misplaced, stmt_made, under, until, walked, walked_arm, walked_block, walked_branch, walked_kind, walked_layer, walked_stmt}
+use Rattle.bl_types.specs.inner.States.{passed}
+use Rattle.bl_types.specs.Statements.{
+  Block,
+  Walk,
+  Walked,
+  arm_of,
+  arm_walked,
+  branch_walked,
+  choice,
+  condition,
+  in_order,
+  kind_walked,
+  misplaced,
+  stmt_made,
+  under,
+  until,
+  walked,
+  walked_arm,
+  walked_block,
+  walked_branch,
+  walked_kind,
+  walked_layer,
+  walked_stmt,
+}
 use Rattle.bl_types.proofs.GatherLemmas.{kept_one}
 use Rattle.bl_types.proofs.StateLemmas.{passed-passed}
 
@@ -37,8 +59,8 @@ module _ {X A : Type 0} (walk : X → Walk A) (all rest : List X) (x : X) (old m
       (in_order (map walk rest) (walk x old.env).env).failures
       ∙ sym (ap (λ l. passed old (in_order (map walk l) old.env).env (in_order (map walk l) old.env).failures) is) ∙ h
 
-  pub made_part : (made grown found : List A) (given : Option A) → given ≡ (walk x old.env).made → grown ≡ made ++ cons_option given [] →
-      made ++ (in_order (map walk all) old.env).made ≡ found
+  pub made_part : (made grown found : List A) (given : Option A) → given ≡ (walk x old.env).made →
+      grown ≡ made ++ cons_option given [] → made ++ (in_order (map walk all) old.env).made ≡ found
       → grown ++ (in_order (map walk rest) middle.env).made ≡ found
   made_part made grown found given same push h =
       ap (λ state. grown ++ (in_order (map walk rest) state.env).made) one
@@ -54,8 +76,8 @@ module _ (constants : List NamedConstant) (vars : List NamedVar) where
 
   abbrev parts : NamedStmtKind-F NamedStmtKind NamedArm NamedBranch NamedStmt → NamedStmtKind-F (Place → Walk StmtKind) (Walk Arm) (Walk Branch) (Walk Stmt)
   parts =
-      map-NamedStmtKind NamedStmtKind NamedArm NamedBranch NamedStmt (Place → Walk StmtKind) (Walk Arm) (Walk Branch) (Walk Stmt) kind_of
-      (arm_walked constants vars) (branch_walked constants vars)
+      map-NamedStmtKind NamedStmtKind NamedArm NamedBranch NamedStmt (Place → Walk StmtKind) (Walk Arm) (Walk Branch)
+      (Walk Stmt) kind_of (arm_walked constants vars) (branch_walked constants vars)
       (walked_stmt constants vars)
 
   kind_is : (s : NamedStmt) (layer : NamedStmtKind-F NamedStmtKind NamedArm NamedBranch NamedStmt) (env : Environment) →
@@ -63,21 +85,21 @@ module _ (constants : List NamedConstant) (vars : List NamedVar) where
       → kind_walked constants vars s env ≡ walked_kind constants vars (parts layer) (out-NamedStmt s).place env
   kind_is s layer env is =
       ap (λ f. f (out-NamedStmt s).place env)
-      (fold_out-NamedStmtKind (Place → Walk StmtKind) (Walk Arm) (Walk Branch) (Walk Stmt) (walked_kind constants vars) walked_arm walked_branch walked_layer
-      (out-NamedStmt s).what)
+      (fold_out-NamedStmtKind (Place → Walk StmtKind) (Walk Arm) (Walk Branch) (Walk Stmt)
+      (walked_kind constants vars) walked_arm walked_branch walked_layer (out-NamedStmt s).what)
       ∙ ap (λ layer. walked_kind constants vars (parts layer) (out-NamedStmt s).place env) is
 
   pub stmt_is : (s : NamedStmt) (env : Environment)
       → walked_stmt constants vars s env ≡ walked (kind_walked constants vars s env).env
       (option_map (stmt_made (out-NamedStmt s).place) (kind_walked constants vars s env).made) (kind_walked constants vars s env).failures
-  stmt_is s env = ap (λ f. f env) (fold_out-NamedStmt (Place → Walk StmtKind) (Walk Arm) (Walk Branch) (Walk Stmt) (walked_kind constants vars) walked_arm
-      walked_branch walked_layer s)
+  stmt_is s env = ap (λ f. f env) (fold_out-NamedStmt (Place → Walk StmtKind) (Walk Arm) (Walk Branch) (Walk Stmt)
+      (walked_kind constants vars) walked_arm walked_branch walked_layer s)
 
   pub arm_is : (arm : NamedArm) (body : List NamedStmt) (env : Environment) → body ≡ (out-NamedArm arm).body
       → arm_walked constants vars arm env ≡ under [] (condition env (out-NamedArm arm).test) (walked_block constants vars body env) arm_of
   arm_is arm body env same =
-      ap (λ f. f env) (fold_out-NamedArm (Place → Walk StmtKind) (Walk Arm) (Walk Branch) (Walk Stmt) (walked_kind constants vars) walked_arm walked_branch
-      walked_layer arm)
+      ap (λ f. f env) (fold_out-NamedArm (Place → Walk StmtKind) (Walk Arm) (Walk Branch) (Walk Stmt)
+      (walked_kind constants vars) walked_arm walked_branch walked_layer arm)
       ∙ ap (λ body. under [] (condition env (out-NamedArm arm).test) (walked_block constants vars body env) arm_of) (sym same)
 
   abbrev of_branch : NamedBranch → Block Stmt → Walked Branch
@@ -86,24 +108,24 @@ module _ (constants : List NamedConstant) (vars : List NamedVar) where
   pub branch_is : (branch : NamedBranch) (body : List NamedStmt) (env : Environment) → body ≡ (out-NamedBranch branch).body
       → branch_walked constants vars branch env ≡ of_branch branch (walked_block constants vars body env)
   branch_is branch body env same =
-      ap (λ f. f env) (fold_out-NamedBranch (Place → Walk StmtKind) (Walk Arm) (Walk Branch) (Walk Stmt) (walked_kind constants vars) walked_arm walked_branch
-      walked_layer branch)
+      ap (λ f. f env) (fold_out-NamedBranch (Place → Walk StmtKind) (Walk Arm) (Walk Branch) (Walk Stmt)
+      (walked_kind constants vars) walked_arm walked_branch walked_layer branch)
       ∙ ap (λ body. of_branch branch (walked_block constants vars body env)) (sym same)
 
   abbrev of_choice : List NamedArm → List NamedStmt → Environment → Walked StmtKind
   of_choice arms other env = choice (in_order (map (arm_walked constants vars) arms) env)
       (walked_block constants vars other (in_order (map (arm_walked constants vars) arms) env).env)
 
-  pub if_is : (s : NamedStmt) (arms made : List NamedArm) (other rest : List NamedStmt) (env : Environment) → (out-NamedStmt s).what ≡ If arms other →
-      made ≡ arms → rest ≡ other
+  pub if_is : (s : NamedStmt) (arms made : List NamedArm) (other rest : List NamedStmt) (env : Environment) →
+      (out-NamedStmt s).what ≡ If arms other → made ≡ arms → rest ≡ other
       → kind_walked constants vars s env ≡ of_choice made rest env
   if_is s arms made other rest env is same same_rest =
       kind_is s (NamedStmtKind-F.If arms other) env (ap out-NamedStmtKind is ∙ outs-If arms other) ∙ (λ i. of_choice (sym same i) (sym same_rest i) env)
 
-  pub when_is : (s : NamedStmt) (guard : Guard) (e : NamedExpr) (body made : List NamedStmt) (env : Environment) → (out-NamedStmt s).what ≡ When guard e body →
-      made ≡ body
-      → kind_walked constants vars s env ≡ under (misplaced env.kind (out-NamedStmt s).place) (condition env e) (walked_block constants vars made env)
-      (what.When guard)
+  pub when_is : (s : NamedStmt) (guard : Guard) (e : NamedExpr) (body made : List NamedStmt) (env : Environment) →
+      (out-NamedStmt s).what ≡ When guard e body → made ≡ body
+      → kind_walked constants vars s env ≡ under (misplaced env.kind (out-NamedStmt s).place) (condition env e)
+      (walked_block constants vars made env) (what.When guard)
   when_is s guard e body made env is same =
       kind_is s (NamedStmtKind-F.When guard e body) env (ap out-NamedStmtKind is ∙ outs-When guard e body)
       ∙ ap (λ body. under (misplaced env.kind (out-NamedStmt s).place) (condition env e) (walked_block constants vars body env) (what.When guard)) (sym same)

@@ -1,5 +1,21 @@
 -- What declarations give: initial values, constants, structs and parameters.
-use Rattle.std.specs.Prelude.{Bool, true, false, is_some, List, [], ◌∷◌, ◌++◌, map, Option, Some, None, option_map, option_and_then, if◌then◌else◌}
+use Rattle.std.specs.Prelude.{
+  Bool,
+  true,
+  false,
+  is_some,
+  List,
+  [],
+  ◌∷◌,
+  ◌++◌,
+  map,
+  Option,
+  Some,
+  None,
+  option_map,
+  option_and_then,
+  if◌then◌else◌,
+}
 use Rattle.bl_tree.specs.declared.place.Place.{Place}
 use Rattle.bl_tree.specs.declared.rule.Failure.{Failure}
 use Rattle.bl_tree.specs.declared.rule.Rule.TheVariants as rule
@@ -54,8 +70,7 @@ typed_initial ty earlier value = record { valued = record { ty = Some ty; value 
 abbrev pub closed_initial : List Failure → Formed → Initial
 closed_initial earlier formed = record {
   valued = record { ty = type_of_form formed.form; value = expr_of_form formed.form };
-  failures =
-      earlier ++ formed.failures;
+  failures = earlier ++ formed.failures;
 }
 
 -- what is declared has the type that is written, and without one that of its value

@@ -9,4 +9,4 @@ pub mod Returns
 pub mod Units
 pub mod Programs
 pub mod Rules
-pub mod States
+pub mod inner

@@ -63,11 +63,12 @@ abbrev pub strays_in : NamedStmt → List Failure
 strays_in = fold-NamedStmt (Place → List Failure) (List Failure) (List Failure) (List Failure) kind_strays arm_layer_strays branch_layer_strays layer_strays
 
 abbrev pub strays_in_arm : NamedArm → List Failure
-strays_in_arm = fold-NamedArm (Place → List Failure) (List Failure) (List Failure) (List Failure) kind_strays arm_layer_strays branch_layer_strays layer_strays
+strays_in_arm = fold-NamedArm (Place → List Failure) (List Failure) (List Failure)
+    (List Failure) kind_strays arm_layer_strays branch_layer_strays layer_strays
 
 abbrev pub strays_in_branch : NamedBranch → List Failure
-strays_in_branch = fold-NamedBranch (Place → List Failure) (List Failure) (List Failure) (List Failure) kind_strays arm_layer_strays branch_layer_strays
-    layer_strays
+strays_in_branch = fold-NamedBranch (Place → List Failure) (List Failure) (List Failure)
+    (List Failure) kind_strays arm_layer_strays branch_layer_strays layer_strays
 
 abbrev pub is_return_kind : {A B C D : Type 0} → NamedStmtKind-F A B C D → Bool
 is_return_kind (NamedStmtKind-F.Return e) = true

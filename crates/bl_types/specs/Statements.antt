@@ -1,5 +1,26 @@
 -- Statements with their types, and what fails in them.
-use Rattle.std.specs.Prelude.{ℕ, Bool, ◌&&◌, nat_eq, is_none, is_some, List, [], ◌∷◌, ◌++◌, map, length, slice_get, filter_map, Option, Some, None, option_map, option_and_then, if◌then◌else◌}
+use Rattle.std.specs.Prelude.{
+  ℕ,
+  Bool,
+  ◌&&◌,
+  nat_eq,
+  is_none,
+  is_some,
+  List,
+  [],
+  ◌∷◌,
+  ◌++◌,
+  map,
+  length,
+  slice_get,
+  filter_map,
+  Option,
+  Some,
+  None,
+  option_map,
+  option_and_then,
+  if◌then◌else◌,
+}
 use Rattle.bl_tree.specs.declared.place.Place.{Place}
 use Rattle.bl_tree.specs.declared.rule.Failure.{Failure}
 use Rattle.bl_tree.specs.declared.rule.Further.TheVariants.{One}
@@ -37,7 +58,25 @@ use Rattle.bl_types.specs.declared.environment.Variable.{Variable}
 use Rattle.bl_types.specs.declared.form.Found.{Found}
 use Rattle.bl_types.specs.declared.form.Found.TheVariants as found
 use Rattle.bl_types.specs.Declarations.{Declaring, Initial, after_constant, after_variable, initial, unchanged, with_variable}
-use Rattle.bl_types.specs.Expressions.{Led, Targeted, all_failures, all_made, but_first, first_type, fitted, in_context, judged, miscounted, params_of, path_found, stepped, targeted, to_field, type_of_variable, with_made}
+use Rattle.bl_types.specs.Expressions.{
+  Led,
+  Targeted,
+  all_failures,
+  all_made,
+  but_first,
+  first_type,
+  fitted,
+  in_context,
+  judged,
+  miscounted,
+  params_of,
+  path_found,
+  stepped,
+  targeted,
+  to_field,
+  type_of_variable,
+  with_made,
+}
 use Rattle.bl_types.specs.Failures.{fails_at, unless}
 use Rattle.bl_types.specs.Settled.{Settled}
 
@@ -101,8 +140,8 @@ pub record Lent : Type 0 where
   pub failures : List Failure
 
 abbrev pub lent_as : Option Ty → Place → Found → Lent
-lent_as (Some wanted) at (found.Place path) = if same_type wanted (out-Path path).ty then record { made = Some path; failures = [] } else record
-    { made = None; failures = fails_at rule.Type at }
+lent_as (Some wanted) at (found.Place path) = if same_type wanted
+    (out-Path path).ty then record { made = Some path; failures = [] } else record { made = None; failures = fails_at rule.Type at }
 lent_as None at (found.Place path) = record { made = Some path; failures = [] }
 lent_as wanted at _ = record { made = None; failures = [] }
 
@@ -251,8 +290,8 @@ choice arms other = walked other.env (Some (what.If arms.made other.made)) (arms
 abbrev pub Walk : Type 0 → Type 0
 Walk A = Environment → Walked A
 
-abbrev pub walked_kind : List NamedConstant → List NamedVar → NamedStmtKind-F (Place → Walk StmtKind) (Walk Arm) (Walk Branch) (Walk Stmt) → Place →
-    Walk StmtKind
+abbrev pub walked_kind : List NamedConstant → List NamedVar →
+    NamedStmtKind-F (Place → Walk StmtKind) (Walk Arm) (Walk Branch) (Walk Stmt) → Place → Walk StmtKind
 walked_kind constants vars (NamedStmtKind-F.Declare k e) at env = declare k (slice_get vars k) e env
 walked_kind constants vars (NamedStmtKind-F.Const k) at env = constant_walked (after_optional_constant (slice_get constants k) env)
 walked_kind constants vars (NamedStmtKind-F.Assign target e) at env = assign target (targeted env target) e env
@@ -289,8 +328,8 @@ walked_layer s env = let kind : Walked StmtKind = s.what s.place env in walked k
 
 -- a statement, where these are the constants of the program and the variables of its unit
 abbrev pub walked_stmt : List NamedConstant → List NamedVar → NamedStmt → Walk Stmt
-walked_stmt constants vars = fold-NamedStmt (Place → Walk StmtKind) (Walk Arm) (Walk Branch) (Walk Stmt) (walked_kind constants vars) walked_arm walked_branch
-    walked_layer
+walked_stmt constants vars = fold-NamedStmt (Place → Walk StmtKind) (Walk Arm) (Walk Branch) (Walk Stmt)
+    (walked_kind constants vars) walked_arm walked_branch walked_layer
 
 -- what a statement is made of, in its place
 abbrev pub kind_walked : List NamedConstant → List NamedVar → NamedStmt → Walk StmtKind
@@ -299,12 +338,12 @@ kind_walked constants vars s =
     (out-NamedStmt s).what (out-NamedStmt s).place
 
 abbrev pub arm_walked : List NamedConstant → List NamedVar → NamedArm → Walk Arm
-arm_walked constants vars = fold-NamedArm (Place → Walk StmtKind) (Walk Arm) (Walk Branch) (Walk Stmt) (walked_kind constants vars) walked_arm walked_branch
-    walked_layer
+arm_walked constants vars = fold-NamedArm (Place → Walk StmtKind) (Walk Arm) (Walk Branch) (Walk Stmt)
+    (walked_kind constants vars) walked_arm walked_branch walked_layer
 
 abbrev pub branch_walked : List NamedConstant → List NamedVar → NamedBranch → Walk Branch
-branch_walked constants vars = fold-NamedBranch (Place → Walk StmtKind) (Walk Arm) (Walk Branch) (Walk Stmt) (walked_kind constants vars) walked_arm
-    walked_branch walked_layer
+branch_walked constants vars = fold-NamedBranch (Place → Walk StmtKind) (Walk Arm) (Walk Branch) (Walk Stmt)
+    (walked_kind constants vars) walked_arm walked_branch walked_layer
 
 -- the statements of a block
 abbrev pub walked_block : List NamedConstant → List NamedVar → List NamedStmt → Environment → Block Stmt

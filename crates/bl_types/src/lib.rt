@@ -1,4 +1,9 @@
-//! The types of source programs (docs/LANGUAGE.md, "Types" and "Rules").
+//! The rules Type, Literal, Immutable, Constant, Arity, Prev, Return, Where and Entry, and the typed tree
+//! (docs/LANGUAGE.md, "Types" and "Rules"), in one walk over the named tree. `judge` answers Ok exactly where none of
+//! the nine fails, for every named tree. Else it names the first that fails, at its least places (`specs/Rules.antt`,
+//! `FailsFirst`); want of memory aside. All failures of a tree are listed by `failures_of`, and the Ok is
+//! `typed_program` (`specs/Programs.antt`). An open expression takes the type that is wanted of it
+//! (`specs/Settled.antt`), and a constant becomes a literal (`specs/Folded.antt`).
 #![tactic(auto)]
 
 mod call;

@@ -5,7 +5,7 @@ ghost use Rattle.std.specs.Prelude.{◌≡◌, IfErr, IfOk, OnOk, option_map};
 ghost use Rattle.bl_types.specs.Declarations.{after_constant, after_struct};
 ghost use Rattle.bl_types.specs.Programs.{after_item, after_items, after_next, after_program, failures_of, start, typed_program};
 ghost use Rattle.bl_types.specs.Rules.{IsCause, Passes};
-ghost use Rattle.bl_types.specs.States.{after, passed};
+ghost use Rattle.bl_types.specs.inner.States.{after, passed};
 ghost use Rattle.bl_types.specs.Units.{after_unit};
 
 use crate::declare::{constant, structure};

@@ -4,7 +4,7 @@
 ghost use Rattle.std.specs.Prelude.{◌≡◌, ◌++◌, IfOk, OnOk, Some, map, option_map};
 ghost use Rattle.bl_tree.specs.declared.tree.StmtKind.TheVariants.{Await, Return, Until, When, While};
 ghost use Rattle.bl_types.specs.Expressions.{targeted};
-ghost use Rattle.bl_types.specs.States.{passed};
+ghost use Rattle.bl_types.specs.inner.States.{passed};
 ghost use Rattle.bl_types.specs.Statements.{arm_of, arm_walked, assign, branch_walked, condition, declare, in_order, kind_walked, misplaced, returned, stmt_made, walked_block, walked_stmt};
 
 use crate::call::{call, changes, placed, run};

@@ -1,10 +1,8 @@
-//! Where no rule on types fails, what is made of a named tree fits (docs/LANGUAGE.md, "Types").
-//!
-//! What is made of a named tree is nested no deeper than it, and keeps branches apart as it does (docs/LANGUAGE.md, "Programs").
-//!
-//! What naming a program gives for its types to be judged (docs/LANGUAGE.md, "Named trees").
-//!
-//! What typed programs keep in which no rule fails (docs/LANGUAGE.md, "Programs").
+//! Laws of what is typed. None of these functions does anything: the contract is the law. `kept`: where a raw tree
+//! keeps `Keeps` of `bl_raw` and none of the rules 6 to 17 fails, its structs and units with their types, and its
+//! entry, keep what each `Program` keeps (`Keeps` of `bl_tree`). It is put together from three others. `fits`: what is
+//! made of a named tree in which no rule on types fails fits its site (`specs/Fitting.antt`). `named`: naming gives
+//! what `fits` asks of names. `shapes`: what is made of a tree is nested no deeper, and keeps branches apart.
 #![tactic(auto)]
 
 pub mod fits;

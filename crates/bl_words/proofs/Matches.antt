@@ -11,7 +11,8 @@ use Rattle.clap.specs.declared.parser.matches.ArgMatches.TheViews.{out-ArgMatche
 use Rattle.clap.specs.declared.parser.matches.SubCommand.{SubCommand}
 use Rattle.bl_words.specs.CommandLine.{named_read}
 
-parts_join : {Z : Type 0} (o : Option (Box SubCommand Z)) (name : Text) (rows : List Row) → Some name ≡ option_map (λ b. (out-SubCommand (box_value b)).name.now) o
+parts_join : {Z : Type 0} (o : Option (Box SubCommand Z)) (name : Text) (rows : List Row) →
+    Some name ≡ option_map (λ b. (out-SubCommand (box_value b)).name.now) o
     → Some rows ≡ option_map (λ p. p.1) (subcommand_rows o) → subcommand_rows o ≡ Some (name, rows)
 parts_join None name rows e f = cc
 parts_join (Some b) name rows e f =
@@ -20,7 +21,8 @@ parts_join (Some b) name rows e f =
     ap₂ (λ (x : Text) (y : List Row). Some (x, y)) (sym a) (sym p)
 
 -- the name and the rows of a subcommand are those that its two parts give
-pub command_is : (matches : ArgMatches) (name : Text) (rows : List Row) → Some name ≡ subcommand_name_of matches → Some rows ≡ option_map (λ p. p.1) (subcommand_rows_of matches)
+pub command_is : (matches : ArgMatches) (name : Text) (rows : List Row) → Some name ≡ subcommand_name_of matches →
+    Some rows ≡ option_map (λ p. p.1) (subcommand_rows_of matches)
     → subcommand_rows_of matches ≡ Some (name, rows)
 command_is matches name rows = parts_join (out-ArgMatches matches).subcommand name rows
 
@@ -33,5 +35,6 @@ differs label name other = go (bytes_eq label name) refl
     go false e = refl
 
 -- no job is read of a command with a name that is none of these
-pub unnamed_read : (name : Text) (first second : Option Text) → (name ≡ codes "build" → ⊥) → (name ≡ codes "run" → ⊥) → (name ≡ codes "exec" → ⊥) → named_read name first second ≡ None
+pub unnamed_read : (name : Text) (first second : Option Text) → (name ≡ codes "build" → ⊥) → (name ≡ codes "run" → ⊥) →
+    (name ≡ codes "exec" → ⊥) → named_read name first second ≡ None
 unnamed_read name first second build run exec = rw (differs (codes "build") name build, differs (codes "run") name run, differs (codes "exec") name exec) refl

@@ -49,7 +49,8 @@ TakesAs command job values = ((level_fault command [] nothing_held values false 
     ⊎ ((level_fault command [] nothing_held values false [] ≡ [] → ⊥) × (job ≡ None))
 
 -- words whose first names that command are read as it takes the others
-module _ (name : Text) (command : Shape) (named : find (answers_to name) commands ≡ Some (name, [])) (is : find (λ c. answers_to name (label_of c)) program.subs ≡ Some command)
+module _ (name : Text) (command : Shape) (named : find (answers_to name) commands ≡ Some (name, []))
+    (is : find (λ c. answers_to name (label_of c)) program.subs ≡ Some command)
     (own : bytes_eq name (codes "help") ≡ false) where
   pub command_faults : (values : List Text) → fault_of command_line (name ∷ values) ≡ level_fault command [] nothing_held values false []
   command_faults values = fault_below program.top program.subs name [] command values named is own

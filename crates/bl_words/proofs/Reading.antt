@@ -17,7 +17,8 @@ use Rattle.bl_words.proofs.Program.{ReadsAs, commands, name_refused, others_plai
 use Rattle.bl_words.proofs.Values.{one, one_taken, two, two_taken}
 
 -- the words whose first is this name, and else those of the other commands
-trying : (label name : Text) (values : List Text) (job others : Option JobSpec) → ReadsAs job (label ∷ values) → (bytes_eq label name ≡ false → ReadsAs others (name ∷ values))
+trying : (label name : Text) (values : List Text) (job others : Option JobSpec) → ReadsAs job (label ∷ values) →
+    (bytes_eq label name ≡ false → ReadsAs others (name ∷ values))
     → ReadsAs (if bytes_eq label name then job else others) (name ∷ values)
 trying label name values job others same other = go (bytes_eq label name) refl
   where
@@ -26,15 +27,22 @@ trying label name values job others same other = go (bytes_eq label name) refl
     go false e = rw e (other e)
 
 -- a command with one value, and one with two
-one_reads : (label : Text) (job : Word → JobSpec) (read : (first second : Option Text) → named_read label first second ≡ one_read job first) (named : find (answers_to label) commands ≡ Some (label, []))
-    (is : find (λ c. answers_to label (label_of c)) program.subs ≡ Some (one label)) (own : bytes_eq label (codes "help") ≡ false) (values : List Text) → list_all is_plain_word values ≡ true
+one_reads : (label : Text) (job : Word → JobSpec) (read : (first second : Option Text) → named_read label first second ≡ one_read job first)
+    (named : find (answers_to label) commands ≡ Some (label, []))
+    (is : find (λ c. answers_to label (label_of c)) program.subs ≡ Some (one label)) (own : bytes_eq label (codes "help") ≡ false)
+    (values : List Text) → list_all is_plain_word values ≡ true
     → ReadsAs (of_one job values) (label ∷ values)
-one_reads label job read named is own values plain = takes_reads label (one label) named is own (of_one job values) values (one_taken label job read values plain)
+one_reads label job read named is own values plain =
+    takes_reads label (one label) named is own (of_one job values) values (one_taken label job read values plain)
 
-two_reads : (label : Text) (job : Word → Word → JobSpec) (read : (first second : Option Text) → named_read label first second ≡ two_read job first second) (named : find (answers_to label) commands ≡ Some (label, []))
-    (is : find (λ c. answers_to label (label_of c)) program.subs ≡ Some (two label)) (own : bytes_eq label (codes "help") ≡ false) (values : List Text) → list_all is_plain_word values ≡ true
+two_reads : (label : Text) (job : Word → Word → JobSpec)
+    (read : (first second : Option Text) → named_read label first second ≡ two_read job first second)
+    (named : find (answers_to label) commands ≡ Some (label, []))
+    (is : find (λ c. answers_to label (label_of c)) program.subs ≡ Some (two label)) (own : bytes_eq label (codes "help") ≡ false)
+    (values : List Text) → list_all is_plain_word values ≡ true
     → ReadsAs (of_two job values) (label ∷ values)
-two_reads label job read named is own values plain = takes_reads label (two label) named is own (of_two job values) values (two_taken label job read values plain)
+two_reads label job read named is own values plain =
+    takes_reads label (two label) named is own (of_two job values) values (two_taken label job read values plain)
 
 command_reads : (name : Text) (values : List Text) → list_all is_plain_word (name ∷ values) ≡ true → ReadsAs (command_job name values) (name ∷ values)
 command_reads name values plain =
@@ -50,7 +58,8 @@ reads [] plain = inr (λ none. cc, refl)
 reads (name ∷ values) plain = rw plain (command_reads name values plain)
 
 -- where the parse has a result, it is the job
-pub result_is : (words : List Text) → list_all is_plain_word words ≡ true → fault_of command_line words ≡ [] → job_read (subcommand_of command_line words) ≡ job_of words
+pub result_is : (words : List Text) → list_all is_plain_word words ≡ true → fault_of command_line words ≡ [] →
+    job_read (subcommand_of command_line words) ≡ job_of words
 result_is words plain taken = go (reads words plain)
   where
     go : ReadsAs (job_of words) words → job_read (subcommand_of command_line words) ≡ job_of words
@@ -58,7 +67,8 @@ result_is words plain taken = go (reads words plain)
     go (inr h) = absurd (h.0 taken)
 
 -- where it refuses the words, there is no job
-pub refusal_is : (words : List Text) (error : Error) → list_all is_plain_word words ≡ true → HasKind (fault_of command_line words) error → (kind_of error ≡ OutOfMemory → ⊥) → None ≡ job_of words
+pub refusal_is : (words : List Text) (error : Error) → list_all is_plain_word words ≡ true → HasKind (fault_of command_line words) error →
+    (kind_of error ≡ OutOfMemory → ⊥) → None ≡ job_of words
 refusal_is words error plain kinds memory = go (reads words plain) kinds
   where
     go : ReadsAs (job_of words) words → HasKind (fault_of command_line words) error → None ≡ job_of words

@@ -23,7 +23,8 @@ one_fine : (name : Text) (byte : ℕ) (rest : Text) → (byte == 45) ≡ false �
 unfolding clap_on_literals
 one_fine name byte rest plain = rw (plain, plain) refl
 
-one_value : (name : Text) (byte : ℕ) (rest : Text) → (byte == 45) ≡ false → first_of (codes "first") (rows_at (one name) ((byte ∷ rest) ∷ [])).1 ≡ Some (byte ∷ rest)
+one_value : (name : Text) (byte : ℕ) (rest : Text) → (byte == 45) ≡ false →
+    first_of (codes "first") (rows_at (one name) ((byte ∷ rest) ∷ [])).1 ≡ Some (byte ∷ rest)
 unfolding clap_on_literals
 one_value name byte rest plain = rw (plain, plain) refl
 
@@ -40,7 +41,11 @@ module _ (name : Text) (job : Word → JobSpec) (read : (first second : Option T
   one_taken ((byte ∷ rest) ∷ []) plain =
       let first = no_hyphen byte rest [] plain in
       let rows = (rows_at (one name) ((byte ∷ rest) ∷ [])).1 in
-      inl (one_fine name byte rest first, read (first_of (codes "first") rows) (first_of (codes "second") rows) ∙ ap (one_read job) (one_value name byte rest first))
+      inl (
+        one_fine name byte rest first,
+        read (first_of (codes "first") rows) (first_of (codes "second") rows)
+            ∙ ap (one_read job) (one_value name byte rest first),
+      )
   one_taken ((byte ∷ rest) ∷ ([] ∷ more)) plain = absurd (true≢false (sym (others_plain (byte ∷ rest) ([] ∷ more) plain)))
   one_taken ((byte ∷ rest) ∷ ((next ∷ others) ∷ more)) plain =
       let first = no_hyphen byte rest ((next ∷ others) ∷ more) plain in
@@ -50,7 +55,8 @@ module _ (name : Text) (job : Word → JobSpec) (read : (first second : Option T
 
 -- ---- two values
 
-two_missing : (name : Text) (byte : ℕ) (rest : Text) → (byte == 45) ≡ false → level_fault (two name) [] nothing_held ((byte ∷ rest) ∷ []) false [] ≡ MissingRequiredArgument ∷ []
+two_missing : (name : Text) (byte : ℕ) (rest : Text) → (byte == 45) ≡ false →
+    level_fault (two name) [] nothing_held ((byte ∷ rest) ∷ []) false [] ≡ MissingRequiredArgument ∷ []
 unfolding clap_on_literals
 two_missing name byte rest plain = rw (plain, plain) refl
 
@@ -69,16 +75,22 @@ two_second : (name : Text) (byte : ℕ) (rest : Text) (next : ℕ) (others : Tex
 unfolding clap_on_literals
 two_second name byte rest next others first second = rw (first, first, second, second) refl
 
-two_too_many : (name : Text) (byte : ℕ) (rest : Text) (next : ℕ) (others : Text) (last : ℕ) (end : Text) (more : List Text) → (byte == 45) ≡ false → (next == 45) ≡ false
+two_too_many : (name : Text) (byte : ℕ) (rest : Text) (next : ℕ) (others : Text) (last : ℕ) (end : Text) (more : List Text) →
+    (byte == 45) ≡ false → (next == 45) ≡ false
     → (last == 45) ≡ false → level_fault (two name) [] nothing_held ((byte ∷ rest) ∷ ((next ∷ others) ∷ ((last ∷ end) ∷ more))) false [] ≡ UnknownArgument ∷ []
 unfolding clap_on_literals
 two_too_many name byte rest next others last end more first second third = rw (first, first, second, second, third, third) refl
 
 module _ (name : Text) (job : Word → Word → JobSpec) (read : (first second : Option Text) → named_read name first second ≡ two_read job first second) where
   two_taken_more : (byte : ℕ) (rest : Text) (next : ℕ) (others : Text) (more : List Text) → (byte == 45) ≡ false → (next == 45) ≡ false
-      → list_all is_plain_word more ≡ true → TakesAs (two name) (of_two job ((byte ∷ rest) ∷ ((next ∷ others) ∷ more))) ((byte ∷ rest) ∷ ((next ∷ others) ∷ more))
+      → list_all is_plain_word more ≡ true → TakesAs (two name) (of_two job ((byte ∷ rest) ∷ ((next ∷ others) ∷ more)))
+      ((byte ∷ rest) ∷ ((next ∷ others) ∷ more))
   two_taken_more byte rest next others [] first second plain =
-      inl (two_fine name byte rest next others first second, read _ _ ∙ ap₂ (two_read job) (two_first name byte rest next others first second) (two_second name byte rest next others first second))
+      inl (
+        two_fine name byte rest next others first second,
+        read _ _
+            ∙ ap₂ (two_read job) (two_first name byte rest next others first second) (two_second name byte rest next others first second),
+      )
   two_taken_more byte rest next others ([] ∷ more) first second plain = absurd (true≢false (sym plain))
   two_taken_more byte rest next others ((last ∷ end) ∷ more) first second plain =
       let refused = two_too_many name byte rest next others last end more first second (no_hyphen last end more plain) in

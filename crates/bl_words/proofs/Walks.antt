@@ -11,7 +11,8 @@ use Rattle.clap.proofs.FaultLemmas.{stopped_fault}
 use Rattle.clap.proofs.WalkLemmas.{walk_stopped}
 
 -- a word that names no command is a value
-value_met : (rules : List Rule) (names : Names) (position byte : ℕ) (rest : Text) (h : Held) → (byte == 45) ≡ false → find (answers_to (byte ∷ rest)) names ≡ None
+value_met : (rules : List Rule) (names : Names) (position byte : ℕ) (rest : Text) (h : Held) → (byte == 45) ≡ false →
+    find (answers_to (byte ∷ rest)) names ≡ None
     → word_met rules names false idle position (byte ∷ rest) h ≡ (h, value)
 value_met rules names position byte rest h plain none = rw (none, plain, plain) refl
 
@@ -34,7 +35,8 @@ bare s subs = record {
 
 -- a first word that names no subcommand is refused
 pub unknown_refused : (s : Shape) (subs : List Shape) (byte : ℕ) (rest : Text) (values : List Text) → (byte == 45) ≡ false
-    → find (answers_to (byte ∷ rest)) (names_of (bare s subs)) ≡ None → built_fault (bare s subs) nothing_held ((byte ∷ rest) ∷ values) ≡ UnknownArgument ∷ InvalidSubcommand ∷ []
+    → find (answers_to (byte ∷ rest)) (names_of (bare s subs)) ≡ None →
+    built_fault (bare s subs) nothing_held ((byte ∷ rest) ∷ values) ≡ UnknownArgument ∷ InvalidSubcommand ∷ []
 unfolding walk_fault
 unknown_refused s subs byte rest values plain none =
     let met = value_met [] (names_of (bare s subs)) 1 byte rest nothing_held plain none in
@@ -54,9 +56,11 @@ first_enters names name aliases named = rw named refl
 pub walk_enters : (names : Names) (name : Text) (aliases values : List Text) → find (answers_to name) names ≡ Some (name, aliases)
     → ◌≡◌ {A = Walk} (walk [] names nothing_held (name ∷ values)) (record (walk_from nothing_held) { stopped = Some (name, values) })
 walk_enters names name aliases values named =
-    ap (λ (w : Walk). fold (walked [] names) w values) (first_enters names name aliases named) ∙ sym (walk_stopped [] names (walk_from nothing_held) name [] values)
+    ap (λ (w : Walk). fold (walked [] names) w values) (first_enters names name aliases named)
+    ∙ sym (walk_stopped [] names (walk_from nothing_held) name [] values)
 
-enters_faultless : (s : Shape) (subs : List Shape) (name : Text) (aliases values : List Text) → find (answers_to name) (names_of (bare s subs)) ≡ Some (name, aliases)
+enters_faultless : (s : Shape) (subs : List Shape) (name : Text) (aliases values : List Text) →
+    find (answers_to name) (names_of (bare s subs)) ≡ Some (name, aliases)
     → bytes_eq name (codes "help") ≡ false → walk_fault (bare s subs).top (names_of (bare s subs)) (walk_from nothing_held) (name ∷ values) ≡ []
 unfolding walk_fault
 enters_faultless s subs name aliases values named own =
@@ -68,7 +72,8 @@ enters_faultless s subs name aliases values named own =
 
 -- the words fail as the subcommand that the first of them names fails at the others
 pub fault_below : (s : Shape) (subs : List Shape) (name : Text) (aliases : List Text) (command : Shape) (values : List Text)
-    → find (answers_to name) (names_of (bare s subs)) ≡ Some (name, aliases) → find (λ c. answers_to name (label_of c)) subs ≡ Some command → bytes_eq name (codes "help") ≡ false
+    → find (answers_to name) (names_of (bare s subs)) ≡ Some (name, aliases) →
+    find (λ c. answers_to name (label_of c)) subs ≡ Some command → bytes_eq name (codes "help") ≡ false
     → built_fault (bare s subs) nothing_held (name ∷ values) ≡ level_fault command [] nothing_held values false []
 unfolding defaults_fault
 fault_below s subs name aliases command values named is own =

@@ -1,4 +1,6 @@
-//! What the words of the command line ask for.
+//! What the words of the command line ask for. `job_of` gives, for all words, exactly the job of the definition
+//! `job_of` (`specs/Jobs.antt`), and `usage` gives its line (`specs/Usage.antt`); want of memory aside. The words are
+//! read with clap, by the rules of `specs/CommandLine.antt`.
 #![tactic(auto)]
 
 ghost use Rattle.std.specs.Prelude.{◌≡◌};
@@ -6,8 +8,6 @@ ghost use Rattle.bl_words.specs.Usage.{usage_line};
 
 mod command_line;
 mod job;
-#[cfg(test)]
-mod tests;
 
 pub use job::{Job, NoMemory, files_have_plain_names, job_of};
 

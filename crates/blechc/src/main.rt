@@ -1,4 +1,6 @@
-//! `blechc`: compiles the whole-number profile of Blech to sequential C.
+//! `blechc`: compiles the whole-number profile of Blech to sequential C. `main` hands the words, the files and the
+//! streams of the system to `blechc` of `bl_top`, and ends with the number of the status. It has no contract of its
+//! own.
 #![tactic(auto)]
 
 use bl_io::{HostFiles, HostSink, write_all};

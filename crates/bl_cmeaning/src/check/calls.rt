@@ -4,15 +4,10 @@
 ghost use Rattle.std.specs.Prelude.{◌≡◌, map};
 ghost use Rattle.bl_tree.specs.Reduce.{joined};
 ghost use Rattle.bl_cmeaning.specs.Calls.{calls_in, calls_in_arg, calls_in_block, calls_in_call, calls_in_place, calls_in_step, calls_in_stmt, most};
-ghost use Rattle.bl_cmeaning.specs.Maps.{text_at};
-ghost use Rattle.bl_cmeaning.specs.Tables.{entry_or};
+ghost use Rattle.bl_cmeaning.specs.inner.Maps.{text_at};
 
-use crate::check::names::find;
+use crate::maps::{Numbers, number_of};
 use bl_tree::c::{CArg, CCall, CExpr, CExprKind, CPlace, CStep, CStmt, CStmtKind};
-use std::collections::HashMap;
-
-/// A number for each function that is known; 0 stands for the others.
-pub type Numbers<'a> = HashMap<&'a str, u64>;
 
 #[cycle(calling)]
 fn most_in_expr(numbers: &Numbers<'_>, expr: &CExpr) -> u64
@@ -84,12 +79,6 @@ fn most_in_arg(numbers: &Numbers<'_>, arg: &CArg) -> u64
         CArg::Value(value) => most_in_expr(numbers, value),
         CArg::Address(place) => most_in_place(numbers, place),
     }
-}
-
-pub fn number_of(numbers: &Numbers<'_>, name: &str) -> u64
-    ensures { result ≡ entry_or 0 (text_at numbers.now) name.now }
-{
-    find(numbers, name).unwrap_or(0)
 }
 
 #[cycle(calling_statements)]

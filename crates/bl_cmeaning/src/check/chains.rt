@@ -2,15 +2,15 @@
 
 ghost use Rattle.std.specs.Prelude.{◌≡◌, IfOk, length, map};
 ghost use Rattle.bl_tree.specs.Reduce.{total};
-ghost use Rattle.bl_cmeaning.specs.Loops.{counters_in_block};
-ghost use Rattle.bl_cmeaning.specs.Maps.{text_at};
+ghost use Rattle.bl_cmeaning.specs.Loops.{turns_in_block};
+ghost use Rattle.bl_cmeaning.specs.inner.Maps.{text_at};
 ghost use Rattle.bl_cmeaning.specs.Saturated.{saturated};
 ghost use Rattle.bl_cmeaning.specs.Sizes.{chain_cells, deepest_chain as deepest_chain_of, own_cells, size_of_param, size_of_type};
 
-use crate::check::calls::{Numbers, most_in_block};
-use crate::check::loops::add_counters;
-use crate::check::names::add;
-use crate::check::sizes::type_size;
+use crate::check::calls::most_in_block;
+use crate::check::loops::add_turns;
+use crate::maps::{Numbers, add};
+use crate::sizes::type_size;
 use bl_tree::NoMemory;
 use bl_tree::c::{CFunc, CLocal, CParam, CStmt};
 use std::alloc::Global;
@@ -49,11 +49,11 @@ fn locals_size(sizes: &Numbers<'_>, locals: &[CLocal]) -> u64
 
 /// How many loops stand in a block; each has a counter.
 fn count_loops(alloc: Global, block: &[CStmt]) -> Result<u64, NoMemory>
-    ensures { IfOk result (λ count. count ≡ length (counters_in_block block.now)) }
+    ensures { IfOk result (λ count. count ≡ length (turns_in_block block.now)) }
 {
-    let mut counters = Vec::new(alloc);
-    add_counters(&mut counters, block)?;
-    Ok(counters.len() as u64)
+    let mut turns = Vec::new(alloc);
+    add_turns(&mut turns, block)?;
+    Ok(turns.len() as u64)
 }
 
 /// The cells of a function's own parameters and locals.

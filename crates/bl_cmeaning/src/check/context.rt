@@ -1,12 +1,14 @@
+//! What is known of a file where an expression or statement stands.
+
 ghost use Rattle.std.specs.Prelude.{◌≡◌, is_some, map, option_map, slice_get, length};
 ghost use Rattle.bl_cmeaning.specs.Builtin.{builtin_params, builtin_result, in_c as c_spelled, widest as widest_of};
-ghost use Rattle.bl_cmeaning.specs.Checked.{context_of, param_of, signature_for, type_of};
+ghost use Rattle.bl_cmeaning.specs.inner.Checked.{context_of, param_of, signature_for, type_of};
 ghost use Rattle.bl_cmeaning.specs.Faults.{by_value, member_of, signature_in, signature_of};
 
-use crate::Builtin;
-use crate::check::names::find;
-use crate::check::prelude::Builtins;
 use crate::check::types::Ty;
+use crate::maps::find;
+use crate::prelude::Builtins;
+use bl_ctext::Builtin;
 use bl_tree::c::{CFunc, CMember, CType};
 use bl_tree::{Scalar, Width};
 use std::collections::HashMap;

@@ -1,15 +1,14 @@
 //! The structs of a file by name, and where one of them fails first.
 
 ghost use Rattle.std.specs.Prelude.{◌≡◌, IfOk, List, map, OnOk, option_map, ℕ};
-ghost use Rattle.bl_cmeaning.specs.Checked.{members_in_map, structs_of};
+ghost use Rattle.bl_cmeaning.specs.inner.Checked.{members_in_map, structs_of};
 ghost use Rattle.bl_cmeaning.specs.Faults.{first_place, member_table, struct_faults_after, struct_table};
 ghost use Rattle.bl_cmeaning.specs.Tables.{no_entries, table_of, with_entry};
 
-use crate::check::calls::Numbers;
 use crate::check::context::{Members, Structs};
 use crate::check::first::earlier;
-use crate::check::names::{add, has};
 use crate::check::structs::{judge_struct, struct_depth};
+use crate::maps::{Numbers, add, has};
 use bl_tree::c::{CMember, CStruct};
 use bl_tree::{NoMemory, Place};
 use std::alloc::Global;

@@ -3,13 +3,16 @@
 
 ghost use Rattle.std.specs.Prelude.{◌≡◌, ◌&&◌, ◌||◌, is_some, map, not, option_and_then, option_map};
 ghost use Rattle.bl_tree.specs.Reduce.{any_of, joined};
-ghost use Rattle.bl_cmeaning.specs.Checked.{context_of, fits_nth, is_handed, judged_args, signature_for, type_of, wants_up_to};
-ghost use Rattle.bl_cmeaning.specs.Faults.{agree as agree_c, bool_type, earlier_of, first_place, fit_args, if_typed, is_void, judge_into, judge_member, judge_root, judge_steps as spec_steps, judged_arg, judged_call, judged_expr, judged_index, judged_place, judged_step, known_result, operand_type, result_type, takes as takes_c, unless as fails_unless, void_as_statement};
+ghost use Rattle.bl_cmeaning.specs.inner.Checked.{context_of, fits_nth, is_handed, judged_args, signature_for, type_of, wants_up_to};
+ghost use Rattle.bl_cmeaning.specs.Faults.{agree as agree_c, bool_type, earlier_of, first_place, fit_args, if_typed, is_void, judge_into};
+ghost use Rattle.bl_cmeaning.specs.Faults.{judge_member, judge_root, judge_steps as spec_steps, judged_arg, judged_call, judged_expr, judged_index};
+ghost use Rattle.bl_cmeaning.specs.Faults.{judged_place, judged_step, known_result, operand_type, result_type, takes as takes_c};
+ghost use Rattle.bl_cmeaning.specs.Faults.{unless as fails_unless, void_as_statement};
 
 use crate::check::context::{Callee, Context};
 use crate::check::first::{both, earlier, either, unless};
-use crate::check::names::find;
 use crate::check::types::{Ty, agree, fits_param, indexes, takes};
+use crate::maps::find;
 use bl_tree::c::{CArg, CCall, CExpr, CExprKind, CIndex, CMember, CPlace, CStep};
 use bl_tree::{Op, Place, Scalar};
 
@@ -112,7 +115,8 @@ fn result_of<'a>(call: JudgedCall, at: Place) -> Judged<'a>
 /// An operand after `!`.
 fn negated<'a>(operand: &Judged<'a>, at: Place) -> Judged<'a>
     ensures ty { option_map type_of result.ty ≡ Some bool_type }
-    ensures first { result.first ≡ earlier_of operand.now.first (first_place (fails_unless (agree_c (option_map type_of operand.now.ty) (Some bool_type)) operand_type at)) }
+    ensures first { result.first ≡ earlier_of operand.now.first
+        (first_place (fails_unless (agree_c (option_map type_of operand.now.ty) (Some bool_type)) operand_type at)) }
 {
     let bool_ty = Some(Ty::Scalar(Scalar::Bool));
     Judged {
@@ -135,7 +139,8 @@ fn takes_typed(op: Op, ty: Option<Ty<'_>>) -> bool
 fn compared<'a>(op: Op, left: &Judged<'a>, right: &Judged<'a>, at: Place) -> Judged<'a>
     ensures ty { option_map type_of result.ty ≡ Some bool_type }
     ensures first { result.first ≡ earlier_of left.now.first (earlier_of right.now.first (first_place (fails_unless
-        (if_typed (option_map type_of left.now.ty) (takes_c op) && if_typed (option_map type_of right.now.ty) (takes_c op) && agree_c (option_map type_of left.now.ty) (option_map type_of right.now.ty))
+        (if_typed (option_map type_of left.now.ty) (takes_c op) && if_typed (option_map type_of right.now.ty) (takes_c op)
+        && agree_c (option_map type_of left.now.ty) (option_map type_of right.now.ty))
         operand_type at))) }
 {
     let fit = takes_typed(op, left.ty) && takes_typed(op, right.ty) && agree(left.ty, right.ty);
@@ -226,7 +231,8 @@ fn stepped<'a>(
     index: Option<JudgedIndex>,
     at: Place,
 ) -> Judged<'a>
-    ensures ty { option_map type_of result.ty ≡ (judge_into (context_of context.now) name.now (option_map (λ i. i.length) index) at (option_map type_of from.entry)).ty }
+    ensures ty { option_map type_of result.ty ≡
+        (judge_into (context_of context.now) name.now (option_map (λ i. i.length) index) at (option_map type_of from.entry)).ty }
     ensures first { result.first ≡ earlier_of (option_and_then (λ i. i.first) index)
         (first_place (judge_into (context_of context.now) name.now (option_map (λ i. i.length) index) at (option_map type_of from.entry)).faults) }
 {

@@ -1,3 +1,5 @@
+//! Tests without branches, and the first of places.
+
 ghost use Rattle.std.specs.Prelude.{◌≡◌, ◌&&◌, ◌||◌};
 ghost use Rattle.bl_cmeaning.specs.Faults.{Clause, earlier_of, first_place, unless as fails_unless};
 

@@ -1,23 +1,26 @@
 //! Functions: where one of them fails first.
 
 ghost use Rattle.std.specs.Prelude.{◌≡◌, ◌++◌, false, if◌then◌else◌, IfOk, is_none, map, not};
-ghost use Rattle.bl_cmeaning.specs.Checked.{functions_of, structs_of};
-ghost use Rattle.bl_cmeaning.specs.Faults.{all_distinct, block_faults, context_in, depth_of_function, faults_in_function, faults_in_head, faults_in_stmt, first_place, function_faults_after, keeps_all as keeps_everything, names_table, repeated, variable_names};
-ghost use Rattle.bl_cmeaning.specs.Loops.{counters_in_block};
-ghost use Rattle.bl_cmeaning.specs.Maps.{bytes_of, text_at};
+ghost use Rattle.bl_cmeaning.specs.inner.Checked.{functions_of, structs_of};
+ghost use Rattle.bl_cmeaning.specs.Faults.{all_distinct, block_faults, context_in, depth_of_function, faults_in_function, faults_in_head};
+ghost use Rattle.bl_cmeaning.specs.Faults.{faults_in_stmt, first_place, function_faults_after, keeps_all as keeps_everything, names_table, repeated};
+ghost use Rattle.bl_cmeaning.specs.Faults.{variable_names};
+ghost use Rattle.bl_cmeaning.specs.Loops.{turns_in_block};
+ghost use Rattle.bl_cmeaning.specs.inner.Maps.{bytes_of, text_at};
 ghost use Rattle.bl_cmeaning.specs.Tables.{no_entries};
 
-use crate::check::calls::{Numbers, most_in_block};
+use crate::check::calls::most_in_block;
 use crate::check::context::{Context, Structs};
 use crate::check::first::{both, earlier, either, unless};
-use crate::check::loops::add_counters;
-use crate::check::names::{add, differ, first_repeated, has};
-use crate::check::prelude::Builtins;
+use crate::check::loops::add_turns;
+use crate::check::names::{differ, first_repeated};
 use crate::check::stmt::{block_returns, judge_block};
 use crate::check::structs::one_longer;
 use crate::check::variables::{
     as_keys, locals_are_declared, names_of, params_are_declared, params_are_scalar, variables_in,
 };
+use crate::maps::{Numbers, add, has};
+use crate::prelude::Builtins;
 use bl_tree::c::CFunc;
 use bl_tree::{NoMemory, Place};
 use std::alloc::Global;
@@ -63,7 +66,8 @@ fn gives_nothing(of: &CFunc) -> bool
 /// Where a function fails before its statements; `apart` says whether its variables' names differ.
 fn judge_head(known: &Known<'_, '_>, of: &CFunc, apart: bool, last: bool) -> Option<Place>
     requires { apart ≡ all_distinct no_entries (variable_names of.now) }
-    ensures { result ≡ first_place (faults_in_head (structs_of known.now.structs.now) (functions_of known.now.functions.now) (text_at known.now.depths.now) last of.now) }
+    ensures { result ≡ first_place
+        (faults_in_head (structs_of known.now.structs.now) (functions_of known.now.functions.now) (text_at known.now.depths.now) last of.now) }
 {
     let at = of.place;
     let new = !has(known.functions, &of.name);
@@ -92,13 +96,13 @@ fn judge_body<'a>(
     names: &[&'a str],
 ) -> Result<Option<Place>, NoMemory>
     requires { bytes_of names.now ≡ variable_names of.now }
-    ensures { IfOk result (λ first. first ≡ first_place (repeated (names_table (variable_names of.now)) (counters_in_block of.now.body)
+    ensures { IfOk result (λ first. first ≡ first_place (repeated (names_table (variable_names of.now)) (turns_in_block of.now.body)
         ++ block_faults (map faults_in_stmt of.now.body) (context_in (structs_of known.now.structs.now) (functions_of known.now.functions.now) of.now) false)) }
 {
-    let mut counters = Vec::new(alloc);
-    add_counters(&mut counters, &of.body)?;
+    let mut turns = Vec::new(alloc);
+    add_turns(&mut turns, &of.body)?;
     let mut keys = as_keys(alloc, names)?;
-    let repeated = first_repeated(&mut keys, &counters)?;
+    let repeated = first_repeated(&mut keys, &turns)?;
     let variables = variables_in(alloc, of)?;
     let context = Context {
         builtins: known.builtins,
@@ -118,7 +122,8 @@ fn judge_function<'a>(
     of: &'a CFunc,
     last: bool,
 ) -> Result<Option<Place>, NoMemory>
-    ensures { IfOk result (λ first. first ≡ first_place (faults_in_function (structs_of known.now.structs.now) (functions_of known.now.functions.now) (text_at known.now.depths.now) last of.now)) }
+    ensures { IfOk result (λ first. first ≡ first_place
+        (faults_in_function (structs_of known.now.structs.now) (functions_of known.now.functions.now) (text_at known.now.depths.now) last of.now)) }
 {
     let names = names_of(alloc, of)?;
     let apart = differ(alloc, &names)?;

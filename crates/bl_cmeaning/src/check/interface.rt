@@ -4,7 +4,9 @@
 ghost use Rattle.std.specs.Prelude.{◌≡◌, ◌∷◌};
 ghost use Rattle.bl_tree.specs.declared.scalar.Scalar.TheVariants.{Nat};
 ghost use Rattle.bl_tree.specs.declared.scalar.Width.TheVariants.{W32};
-ghost use Rattle.bl_cmeaning.specs.Faults.{faults_of_two, first_place, gives as gives_c, init_faults, init_params as init_c_params, interface_faults, last_place as last_c_place, last_two as last_two_of, place_of_two as place_of_two_c, points_to as points_to_c, tick_faults, tick_params as tick_c_params};
+ghost use Rattle.bl_cmeaning.specs.Faults.{faults_of_two, first_place, gives as gives_c, init_faults, init_params as init_c_params, interface_faults};
+ghost use Rattle.bl_cmeaning.specs.Faults.{last_place as last_c_place, last_two as last_two_of, place_of_two as place_of_two_c};
+ghost use Rattle.bl_cmeaning.specs.Faults.{points_to as points_to_c, tick_faults, tick_params as tick_c_params};
 
 use crate::check::first::{both, earlier, unless};
 use crate::check::types::{Ty, same_type};

@@ -3,8 +3,10 @@
 
 ghost use Rattle.std.specs.Prelude.{◌≡◌, ◌++◌, ◌&&◌, is_some, map, not};
 ghost use Rattle.bl_tree.specs.declared.c.CType.TheVariants.{Struct as OfStruct};
-ghost use Rattle.bl_cmeaning.specs.Checked.{context_of};
-ghost use Rattle.bl_cmeaning.specs.Faults.{agree as agree_c, assigned_type, block_faults, changes_nothing, declared_before, judged_expr, judged_place, unless as fails_unless, condition_faults, faults_in_stmt, first_place, last_returns, return_faults, surely_returns as returns_surely};
+ghost use Rattle.bl_cmeaning.specs.inner.Checked.{context_of};
+ghost use Rattle.bl_cmeaning.specs.Faults.{agree as agree_c, assigned_type, block_faults, changes_nothing, declared_before, judged_expr};
+ghost use Rattle.bl_cmeaning.specs.Faults.{judged_place, unless as fails_unless, condition_faults, faults_in_stmt, first_place, last_returns};
+ghost use Rattle.bl_cmeaning.specs.Faults.{return_faults, surely_returns as returns_surely};
 
 use crate::check::context::Context;
 use crate::check::expr::{judge_call, judge_expr, judge_place};
@@ -61,7 +63,8 @@ fn judge_set<'a>(
 ) -> Option<Place>
     ensures { let p = judged_place place.now (context_of context.now) at in
         let e = judged_expr value.now (context_of context.now) in
-        result ≡ first_place (p.faults ++ (e.faults ++ (fails_unless (agree_c p.ty e.ty) assigned_type at ++ fails_unless (not (context.now.keeps && p.through)) changes_nothing at))) }
+        result ≡ first_place (p.faults ++ (e.faults ++ (fails_unless (agree_c p.ty e.ty) assigned_type at
+        ++ fails_unless (not (context.now.keeps && p.through)) changes_nothing at))) }
 {
     let place = judge_place(context, place, at);
     let value = judge_expr(context, value);
@@ -78,7 +81,8 @@ fn judge_clear<'a>(
 ) -> Option<Place>
     ensures { let p = judged_place place.now (context_of context.now) at in
         result ≡ first_place (p.faults ++ (fails_unless (is_some ((context_of context.now).structs name.now)) declared_before at
-        ++ (fails_unless (agree_c p.ty (Some (OfStruct name.now))) assigned_type at ++ fails_unless (not (context.now.keeps && p.through)) changes_nothing at))) }
+        ++ (fails_unless (agree_c p.ty (Some (OfStruct name.now))) assigned_type at
+        ++ fails_unless (not (context.now.keeps && p.through)) changes_nothing at))) }
 {
     let place = judge_place(context, place, at);
     let handed = both(context.keeps, place.through);

@@ -4,15 +4,17 @@
 ghost use Rattle.std.specs.Prelude.{◌≡◌, ◌+◌, IfOk, is_some, map};
 ghost use Rattle.std.specs.List.{list_all};
 ghost use Rattle.bl_tree.specs.Reduce.{greatest};
-ghost use Rattle.bl_cmeaning.specs.Checked.{structs_of};
-ghost use Rattle.bl_cmeaning.specs.Faults.{are_ports as are_c_ports, depth_of_struct, depth_of_type, faults_in_struct, first_place, interface_fits as c_interface_fits, is_declared as is_c_declared, is_pad as is_c_pad, is_port as is_c_port, limited as limited_length};
-ghost use Rattle.bl_cmeaning.specs.Maps.{bytes_of, text_at};
+ghost use Rattle.bl_cmeaning.specs.inner.Checked.{structs_of};
+ghost use Rattle.bl_cmeaning.specs.Faults.{are_ports as are_c_ports, depth_of_struct, depth_of_type, faults_in_struct, first_place};
+ghost use Rattle.bl_cmeaning.specs.Faults.{interface_fits as c_interface_fits, is_declared as is_c_declared, is_pad as is_c_pad};
+ghost use Rattle.bl_cmeaning.specs.Faults.{is_port as is_c_port, limited as limited_length};
+ghost use Rattle.bl_cmeaning.specs.inner.Maps.{bytes_of, text_at};
 
-use crate::check::calls::{Numbers, number_of};
 use crate::check::context::Structs;
 use crate::check::first::{both, earlier, unless};
-use crate::check::names::{add_name, differ, has};
+use crate::check::names::{add_name, differ};
 use crate::check::types::{Ty, is_scalar, same_type};
+use crate::maps::{Numbers, has, number_of};
 use bl_tree::c::{CMember, CStruct, CType};
 use bl_tree::{NoMemory, Place, Scalar, Width};
 use std::alloc::Global;

@@ -1,6 +1,9 @@
+//! The types of expressions, and which of them agree.
+
 ghost use Rattle.std.specs.Prelude.{◌≡◌, option_map};
-ghost use Rattle.bl_cmeaning.specs.Checked.{type_of};
-ghost use Rattle.bl_cmeaning.specs.Faults.{same_type as same_c_type, agree as agree_c, is_scalar as is_c_scalar, is_number as is_c_number, indexes as c_indexes, takes as c_takes, fits_param as fits_c_param, bool_type};
+ghost use Rattle.bl_cmeaning.specs.inner.Checked.{type_of};
+ghost use Rattle.bl_cmeaning.specs.Faults.{same_type as same_c_type, agree as agree_c, is_scalar as is_c_scalar, is_number as is_c_number};
+ghost use Rattle.bl_cmeaning.specs.Faults.{indexes as c_indexes, takes as c_takes, fits_param as fits_c_param, bool_type};
 
 use bl_tree::c::CType;
 use bl_tree::{Op, Scalar, Width};

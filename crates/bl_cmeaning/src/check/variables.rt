@@ -4,16 +4,18 @@
 ghost use Rattle.std.specs.Prelude.{◌≡◌, ◌&&◌, ◌||◌, ◌++◌, IfOk, List, map, OnOk, ℕ};
 ghost use Rattle.std.specs.List.{list_all};
 ghost use Rattle.std.specs.Option.{option_or};
-ghost use Rattle.bl_cmeaning.specs.Checked.{structs_of, variables_in_map};
-ghost use Rattle.bl_cmeaning.specs.Faults.{is_declared as is_c_declared, is_scalar as is_c_scalar, local_variable, names_table, param_variable, variable_names, variables_of};
-ghost use Rattle.bl_cmeaning.specs.Maps.{bytes_of, text_at};
+ghost use Rattle.bl_cmeaning.specs.inner.Checked.{structs_of, variables_in_map};
+ghost use Rattle.bl_cmeaning.specs.Faults.{is_declared as is_c_declared, is_scalar as is_c_scalar, local_variable, names_table, param_variable};
+ghost use Rattle.bl_cmeaning.specs.Faults.{variable_names, variables_of};
+ghost use Rattle.bl_cmeaning.specs.inner.Maps.{bytes_of, text_at};
 ghost use Rattle.bl_cmeaning.specs.Tables.{found, table_of};
 
 use crate::check::context::{Structs, Variable};
 use crate::check::first::{both, either};
-use crate::check::names::{add, add_name};
+use crate::check::names::add_name;
 use crate::check::structs::is_declared;
 use crate::check::types::{Ty, is_scalar};
+use crate::maps::add;
 use bl_tree::NoMemory;
 use bl_tree::c::{CFunc, CLocal, CParam};
 use std::alloc::Global;
@@ -51,7 +53,8 @@ pub fn names_of<'a>(alloc: Global, of: &'a CFunc) -> Result<Vec<&'a str>, NoMemo
 }
 
 fn add_params<'a>(variables: &mut Variables<'a>, params: &'a [CParam]) -> Result<(), NoMemory>
-    ensures { OnOk result ((asked : List ℕ) → variables_in_map variables.new asked ≡ option_or (variables_in_map variables.old asked) (found asked (map param_variable params.now))) }
+    ensures { OnOk result ((asked : List ℕ) →
+        variables_in_map variables.new asked ≡ option_or (variables_in_map variables.old asked) (found asked (map param_variable params.now))) }
 {
     for param in params {
         let variable = Variable {
@@ -64,7 +67,8 @@ fn add_params<'a>(variables: &mut Variables<'a>, params: &'a [CParam]) -> Result
 }
 
 fn add_locals<'a>(variables: &mut Variables<'a>, locals: &'a [CLocal]) -> Result<(), NoMemory>
-    ensures { OnOk result ((asked : List ℕ) → variables_in_map variables.new asked ≡ option_or (variables_in_map variables.old asked) (found asked (map local_variable locals.now))) }
+    ensures { OnOk result ((asked : List ℕ) →
+        variables_in_map variables.new asked ≡ option_or (variables_in_map variables.old asked) (found asked (map local_variable locals.now))) }
 {
     for local in locals {
         let variable = Variable {

@@ -6,7 +6,7 @@ ghost use Rattle.bl_tree.specs.Reduce.{all_of};
 ghost use Rattle.bl_ctext.specs.Names.{is_name, is_callee};
 ghost use Rattle.bl_ctext.specs.Spelling.{with_commas, operator_sign, expr_tokens, step_tokens, arg_tokens};
 ghost use Rattle.bl_ctext.specs.Spellable.{has_any, is_c_operator, spells_expr, spells_step, spells_arg};
-ghost use Rattle.bl_cparse.specs.Partial.{called_front, use_tokens, place_front, held_tokens, on_stack, partial_tokens, spells_called, spells_use, spells_root, spells_held, spells_partial, work_left};
+ghost use Rattle.bl_cparse.specs.inner.Partial.{called_front, use_tokens, place_front, held_tokens, on_stack, partial_tokens, spells_called, spells_use, spells_root, spells_held, spells_partial, work_left};
 ghost use Rattle.bl_ctext.specs.Token.{Token};
 ghost use Rattle.bl_csyntax.specs.declared.grammar.Part.{Part};
 ghost use Rattle.bl_csyntax.specs.Pieces.{first_of};
@@ -15,7 +15,7 @@ ghost use Rattle.bl_csyntax.specs.Grammar.{Wanted};
 ghost use Rattle.bl_csyntax.specs.Tables.{has};
 ghost use Rattle.bl_csyntax.specs.Expects.{Expects};
 ghost use Rattle.bl_cparse.specs.Reading.{sign, name_of, prelude_function, elements, part, literal_starts, Follows, WantsMemory};
-ghost use Rattle.bl_cparse.specs.Awaiting.{use_wanted, held_wanted, behind, partial_wanted, is_whole_next, GoesOn, Stays, Awaits};
+ghost use Rattle.bl_cparse.specs.inner.Awaiting.{use_wanted, held_wanted, behind, partial_wanted, is_whole_next, GoesOn, Stays, Awaits};
 
 use crate::parser::{literal, name, place};
 use crate::reader::Reader;

@@ -15,7 +15,7 @@ ghost use Rattle.bl_csyntax.specs.Grammar.{Wanted};
 ghost use Rattle.bl_csyntax.specs.Tables.{has};
 ghost use Rattle.bl_csyntax.specs.Expects.{Expects};
 ghost use Rattle.bl_csyntax.specs.Follow.{constant_starts};
-ghost use Rattle.bl_cparse.specs.Parts.{MaybeKind};
+ghost use Rattle.bl_cparse.specs.inner.Parts.{MaybeKind};
 ghost use Rattle.bl_cparse.specs.Reading.{sign, part, scalar_type, operator, signed_starts, unsigned_starts, least_starts, literal_starts, by_width, exactly_one, Follows, WantsMemory};
 
 use crate::make;

@@ -6,7 +6,7 @@ ghost use Rattle.bl_tree.specs.Reduce.{all_of, joined};
 ghost use Rattle.bl_ctext.specs.Names.{is_name, is_callee, is_turn_name};
 ghost use Rattle.bl_ctext.specs.Spelling.{expr_tokens, place_tokens, root_tokens, ccall_tokens, stmt_tokens, stmt_kind_tokens, condition_tokens, turn_declared, turn_counted};
 ghost use Rattle.bl_ctext.specs.Spellable.{spells_expr, spells_place, spells_stmt, spells_stmt_kind, has_any};
-ghost use Rattle.bl_cparse.specs.Nest.{opened_tokens, frame_tokens, spells_frame, nest_tokens, spells_nest};
+ghost use Rattle.bl_cparse.specs.inner.Nest.{opened_tokens, frame_tokens, spells_frame, nest_tokens, spells_nest};
 ghost use Rattle.bl_csyntax.specs.declared.grammar.Part.{Part};
 ghost use Rattle.bl_csyntax.specs.Pieces.{first_of};
 ghost use Rattle.bl_csyntax.specs.Classes.{Class, matches};
@@ -14,7 +14,7 @@ ghost use Rattle.bl_csyntax.specs.Grammar.{Wanted};
 ghost use Rattle.bl_csyntax.specs.Tables.{has};
 ghost use Rattle.bl_csyntax.specs.Expects.{Expects};
 ghost use Rattle.bl_cparse.specs.Reading.{sign, name_of, part, turn_wanted, other_starts, Follows, WantsMemory};
-ghost use Rattle.bl_cparse.specs.Awaiting.{frame_wanted, outside, nest_wanted, Nests, NestStays};
+ghost use Rattle.bl_cparse.specs.inner.Awaiting.{frame_wanted, outside, nest_wanted, Nests, NestStays};
 
 use crate::make_stmt;
 use crate::parser::{expr, name, place};

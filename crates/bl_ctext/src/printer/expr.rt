@@ -2,7 +2,8 @@
 
 ghost use Rattle.std.specs.Prelude.{◌≡◌, [], ◌∷◌, ◌++◌, codes, IsTrue, OnOk};
 ghost use Rattle.bl_ctext.specs.Names.{is_name};
-ghost use Rattle.bl_ctext.specs.Spelling.{comma_before, operator_sign, root_tokens, index_front, expr_tokens, kind_tokens, place_tokens, step_tokens, index_tokens, ccall_tokens, arg_tokens};
+ghost use Rattle.bl_ctext.specs.Spelling.{comma_before, operator_sign, root_tokens, index_front, expr_tokens, kind_tokens, place_tokens, step_tokens};
+ghost use Rattle.bl_ctext.specs.Spelling.{index_tokens, ccall_tokens, arg_tokens};
 ghost use Rattle.bl_ctext.specs.Spellable.{is_c_operator, spells_expr, spells_place, spells_step, spells_index, spells_call, spells_arg};
 
 use crate::printer::{literal, name};

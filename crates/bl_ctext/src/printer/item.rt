@@ -2,8 +2,10 @@
 
 ghost use Rattle.std.specs.Prelude.{◌≡◌, [], ◌∷◌, ◌++◌, map, codes, IsTrue, OnOk};
 ghost use Rattle.bl_tree.specs.Reduce.{all_of, joined};
-ghost use Rattle.bl_ctext.specs.Spelling.{with_commas, scalar_word, type_tokens, length_tokens, member_tokens, struct_tokens, param_tokens, zero_tokens, local_tokens, returned_tokens, func_front, func_rest, func_tokens};
-ghost use Rattle.bl_ctext.specs.Spellable.{is_c_scalar, spells_type, spells_length, spells_member, spells_struct, spells_param, spells_local, spells_returned, spells_func};
+ghost use Rattle.bl_ctext.specs.Spelling.{with_commas, scalar_word, type_tokens, length_tokens, member_tokens, struct_tokens, param_tokens};
+ghost use Rattle.bl_ctext.specs.Spelling.{zero_tokens, local_tokens, returned_tokens, func_front, func_rest, func_tokens};
+ghost use Rattle.bl_ctext.specs.Spellable.{is_c_scalar, spells_type, spells_length, spells_member, spells_struct, spells_param, spells_local};
+ghost use Rattle.bl_ctext.specs.Spellable.{spells_returned, spells_func};
 
 use crate::printer::{expr, literal, name, stmt};
 use crate::writer::Writer;

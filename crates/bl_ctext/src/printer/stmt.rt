@@ -3,7 +3,8 @@
 ghost use Rattle.std.specs.Prelude.{◌≡◌, [], ◌∷◌, ◌++◌, map, codes, IsTrue, OnOk};
 ghost use Rattle.bl_tree.specs.Reduce.{all_of, joined};
 ghost use Rattle.bl_ctext.specs.Names.{is_struct_name, is_turn_name};
-ghost use Rattle.bl_ctext.specs.Spelling.{expr_tokens, place_tokens, stmt_tokens, braced, condition_tokens, result_tokens, zeros_tokens, turn_declared, turn_counted};
+ghost use Rattle.bl_ctext.specs.Spelling.{expr_tokens, place_tokens, stmt_tokens, braced, condition_tokens, result_tokens, zeros_tokens};
+ghost use Rattle.bl_ctext.specs.Spelling.{turn_declared, turn_counted};
 ghost use Rattle.bl_ctext.specs.Spellable.{spells_expr, spells_place, spells_stmt, spells_result};
 
 use crate::printer::{expr, name};

@@ -1,3 +1,5 @@
+//! The function of the activity.
+
 ghost use Rattle.std.specs.Prelude.{◌≡◌, ◌≤◌, [], ◌∷◌, IsTrue, IfOk, length};
 ghost use Rattle.std.specs.List.{list_all};
 ghost use Rattle.bl_early.specs.Built.{is_step, steps_at};

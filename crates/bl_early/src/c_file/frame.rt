@@ -1,7 +1,8 @@
 //! The structs of a file, and the two functions that the environment calls.
 
 ghost use Rattle.std.specs.Prelude.{◌≡◌, ◌≤◌, ◌++◌, IfOk, length};
-ghost use Rattle.bl_early.specs.Emitted.{c_column, c_frame, c_init, c_row, c_state, c_structs, c_tick, c_tick_args, c_tick_params, ins_of, outs_of};
+ghost use Rattle.bl_tree.specs.Typing.{inputs_of};
+ghost use Rattle.bl_early.specs.Emitted.{c_column, c_frame, c_init, c_row, c_state, c_structs, c_tick, c_tick_args, c_tick_params, outs_of};
 
 use super::parts::{
     NOWHERE, UINT32, call, calling, count, member, named, outer_function, pointer, prefixed,
@@ -28,7 +29,7 @@ pub fn structs(alloc: Global, unit: &Unit) -> Result<List<CStruct>, NoMemory>
 
 fn ins(unit: &Unit) -> &[Var]
     requires { unit.now.inputs ≤ length unit.now.vars }
-    ensures { result.now ≡ ins_of unit.now }
+    ensures { result.now ≡ inputs_of unit.now }
 {
     &unit.vars[..unit.inputs as usize]
 }

@@ -1,3 +1,5 @@
+//! Operators on binary digits.
+
 ghost use Rattle.std.specs.Prelude.{◌≡◌, ◌-◌, ◌^◌, ◌-ℤ◌, pos, IsTrue, unsigned_abs, bit_and, bit_or, bit_xor};
 ghost use Rattle.bl_tree.specs.Scalar.{InRange, is_bits, width_of};
 ghost use Rattle.bl_tree.specs.Numbers.{shifted_left, shifted_right};

@@ -1,3 +1,5 @@
+//! Exact results as numbers of their type.
+
 ghost use Rattle.std.specs.Prelude.{◌≡◌, pos};
 ghost use Rattle.bl_tree.specs.Numbers.{fitted};
 

@@ -1,3 +1,5 @@
+//! Quotients and remainders.
+
 ghost use Rattle.std.specs.Prelude.{◌≡◌, int_div, int_rem};
 ghost use Rattle.bl_tree.specs.Scalar.{InRange};
 ghost use Rattle.bl_tree.specs.Numbers.{fitted, divided_by};

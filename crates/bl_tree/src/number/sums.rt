@@ -1,3 +1,5 @@
+//! Sums, differences and products.
+
 ghost use Rattle.std.specs.Prelude.{◌≡◌, ◌+ℤ◌, ◌-ℤ◌, ◌*ℤ◌, neg_ℤ};
 ghost use Rattle.bl_tree.specs.Scalar.{InRange};
 ghost use Rattle.bl_tree.specs.Numbers.{fitted};

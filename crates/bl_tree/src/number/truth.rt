@@ -1,3 +1,5 @@
+//! Truth as a number.
+
 ghost use Rattle.std.specs.Prelude.{◌≡◌};
 ghost use Rattle.bl_tree.specs.Numbers.{number_of};
 

@@ -1,6 +1,6 @@
 use Rattle.std.proofs.Common.{◌≡◌, ◌+◌, ◌++◌, ℕ, List, None, ap, codes, drop, length, option_map, rules, sym, ◌∙◌}
 use Rattle.bl_tree.specs.declared.text.Text.{Text}
-use Rattle.bl_cmeaning.specs.Maps.{text_at}
+use Rattle.bl_cmeaning.specs.inner.Maps.{text_at}
 use Rattle.bl_cmeaning.specs.Sizes.{sizes}
 use Rattle.bl_cmeaning.specs.Tables.{with_entry}
 use Rattle.bl_cmeaning.proofs.ArgLemmas.{next_of}
@@ -42,26 +42,32 @@ loop-of-preserved c =
     ∙ ap (λ n. let e : Entry = record { entry = length c.loop-of.code.items; frame = n } in e) (c.in_ok-frame.ensures ∙ c.frame_size.ensures) in
     let next = next_of c.args.funcs.now c.loop-of.of-index f c.loop-of-test.true c.of-item.is in
     let part-is = c.deref.ensures.value ∙ c.finish.ensures ∙ c.in_ok-front.ensures in
-    let added = made-with entry_for (text_at c.loop-of.known) (text_at c.add.new.map) f.name value (λ asked. c.in_ok-add.ensures asked ∙ ap (λ n. with_entry (text_at c.loop-of.known) n value asked) c.as_str.ensures) in (
+    let added = made-with entry_for (text_at c.loop-of.known) (text_at c.add.new.map) f.name value
+    (λ asked. c.in_ok-add.ensures asked ∙ ap (λ n. with_entry (text_at c.loop-of.known) n value asked) c.as_str.ensures) in (
       ap (λ xs. xs ++ functions_code known laid (length xs) more rest) c.in_ok-append.ensures
-          ∙ function-next known laid code part (entries_in c.loop-of.known) more (entry_for value) f (drop c.loop-of.of-index c.args.funcs.now) rest _ next part-is entry added c.loop-of.invariant.0,
+          ∙ function-next known laid code part (entries_in c.loop-of.known) more (entry_for value) f (drop c.loop-of.of-index c.args.funcs.now) rest _ next
+          part-is entry added c.loop-of.invariant.0,
       ap (λ xs. entries_from known laid (length xs) more rest) c.in_ok-append.ensures
-          ∙ entries-next known laid code part (entries_in c.loop-of.known) more (entry_for value) f (drop c.loop-of.of-index c.args.funcs.now) rest _ next part-is entry added c.loop-of.invariant.1,
+          ∙ entries-next known laid code part (entries_in c.loop-of.known) more (entry_for value) f (drop c.loop-of.of-index c.args.funcs.now) rest _ next
+          part-is entry added c.loop-of.invariant.1,
     )
 
 pub returns-clause-code : goal.returns-clause-code
 returns-clause-code c =
-    functions-done (sizes_in c.in_ok-sizes.sizes) (structs_in c.in_ok-laid.laid) (length c.loop-of.code.items) c.loop-of.of-index (entries_in c.loop-of.known) c.loop-of.code.items c.args.funcs.now
+    functions-done (sizes_in c.in_ok-sizes.sizes) (structs_in c.in_ok-laid.laid) (length c.loop-of.code.items) c.loop-of.of-index (entries_in c.loop-of.known)
+    c.loop-of.code.items c.args.funcs.now
     (code_of_file c.args.structs.now c.args.funcs.now) c.loop-of-test.false c.loop-of.invariant.0
 
 pub returns-clause-init : goal.returns-clause-init
 returns-clause-init c =
     ap (option_map entry_for) c.find-init.ensures
-    ∙ entries-done (sizes_in c.in_ok-sizes.sizes) (structs_in c.in_ok-laid.laid) (length c.loop-of.code.items) c.loop-of.of-index (entries_in c.loop-of.known) c.args.funcs.now
+    ∙ entries-done (sizes_in c.in_ok-sizes.sizes) (structs_in c.in_ok-laid.laid) (length c.loop-of.code.items) c.loop-of.of-index (entries_in c.loop-of.known)
+    c.args.funcs.now
     (entry_in_file c.args.structs.now c.args.funcs.now) c.loop-of-test.false c.loop-of.invariant.1 (codes "bl_init")
 
 pub returns-clause-tick : goal.returns-clause-tick
 returns-clause-tick c =
     ap (option_map entry_for) c.find-tick.ensures
-    ∙ entries-done (sizes_in c.in_ok-sizes.sizes) (structs_in c.in_ok-laid.laid) (length c.loop-of.code.items) c.loop-of.of-index (entries_in c.loop-of.known) c.args.funcs.now
+    ∙ entries-done (sizes_in c.in_ok-sizes.sizes) (structs_in c.in_ok-laid.laid) (length c.loop-of.code.items) c.loop-of.of-index (entries_in c.loop-of.known)
+    c.args.funcs.now
     (entry_in_file c.args.structs.now c.args.funcs.now) c.loop-of-test.false c.loop-of.invariant.1 (codes "bl_tick")

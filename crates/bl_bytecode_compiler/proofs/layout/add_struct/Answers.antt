@@ -2,7 +2,7 @@ use Rattle.std.proofs.Common.{◌≡◌, ℕ, List, Bool, true, false, ap, sym, 
 use Rattle.std.specs.Prelude.{is_some, bytes_eq, Some}
 use Rattle.std.specs.Map.{update}
 use Rattle.std.proofs.lemmas.Map.Text.{hash_map_updates_str}
-use Rattle.bl_cmeaning.specs.Maps.{text_at}
+use Rattle.bl_cmeaning.specs.inner.Maps.{text_at}
 use Rattle.bl_cmeaning.specs.Tables.{table_of, with_entry}
 use Rattle.bl_cmeaning.proofs.MapLemmas.{inserted, same_table, struct_added}
 use Rattle.bl_cmeaning_laws.specs.Layout.{layout_of, members_laid}
@@ -21,4 +21,5 @@ returns-in-Ok c =
     let whole : members_in c.in_ok-laid.laid ≡ (layout_of (sizes_in c.args.sizes.now) c.args.of.now).1 =
     same_table (members_in c.in_ok-laid.laid) (layout_of (sizes_in c.args.sizes.now) c.args.of.now).1
     (λ asked. c.in_ok-laid.ensures asked ∙ ap (λ l. table_of (members_laid (sizes_in c.args.sizes.now) 0 l) asked) c.deref-2.ensures) in
-    struct_added members_in (text_at c.args.structs.now) (text_at c.insert.new.self) name c.in_ok-laid.laid (layout_of (sizes_in c.args.sizes.now) c.args.of.now).1 whole put
+    struct_added members_in (text_at c.args.structs.now) (text_at c.insert.new.self) name c.in_ok-laid.laid
+    (layout_of (sizes_in c.args.sizes.now) c.args.of.now).1 whole put

@@ -6,4 +6,7 @@ use Rattle.bl_bytecode_compiler.specs.Views.{sizes_in}
 use Rattle.bl_bytecode_compiler.proofs.layout.locals_size.Given as goal
 
 abbrev pub invariant-loop-local : goal.invariant-loop-local
-invariant-loop-local l = (l.size ≤ 4294967295) × (capped (l.size + total (map (λ x. size_of_type (sizes_in l.sizes) x.ty) (drop l.local-index l.locals))) ≡ capped (total (map (λ x. size_of_type (sizes_in l.sizes) x.ty) l.locals)))
+invariant-loop-local l =
+    (l.size ≤ 4294967295)
+    × (capped (l.size + total (map (λ x. size_of_type (sizes_in l.sizes) x.ty) (drop l.local-index l.locals)))
+    ≡ capped (total (map (λ x. size_of_type (sizes_in l.sizes) x.ty) l.locals)))

@@ -7,4 +7,5 @@ use Rattle.bl_bytecode_compiler.proofs.layout.members.Given as goal
 
 abbrev pub invariant-loop-member : goal.invariant-loop-member
 invariant-loop-member l = (asked : List ℕ) →
-    option_or (members_in l.laid asked) (found asked (members_laid (sizes_in l.sizes) l.at (drop l.member-index l.list))) ≡ found asked (members_laid (sizes_in l.sizes) 0 l.list)
+    option_or (members_in l.laid asked) (found asked (members_laid (sizes_in l.sizes) l.at (drop l.member-index l.list)))
+    ≡ found asked (members_laid (sizes_in l.sizes) 0 l.list)

@@ -6,4 +6,7 @@ use Rattle.bl_bytecode_compiler.specs.Views.{sizes_in}
 use Rattle.bl_bytecode_compiler.proofs.layout.params_size.Given as goal
 
 abbrev pub invariant-loop-param : goal.invariant-loop-param
-invariant-loop-param l = (l.size ≤ 4294967295) × (capped (l.size + total (map (size_of_param (sizes_in l.sizes)) (drop l.param-index l.params))) ≡ capped (total (map (size_of_param (sizes_in l.sizes)) l.params)))
+invariant-loop-param l =
+    (l.size ≤ 4294967295)
+    × (capped (l.size + total (map (size_of_param (sizes_in l.sizes)) (drop l.param-index l.params)))
+    ≡ capped (total (map (size_of_param (sizes_in l.sizes)) l.params)))

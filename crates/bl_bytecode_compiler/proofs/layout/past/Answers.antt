@@ -7,4 +7,5 @@ use Rattle.bl_bytecode_compiler.proofs.layout.past.Goals as goal
 
 pub returns : goal.returns
 returns c =
-    c.behind.ensures ∙ ap (λ n. capped (c.args.at + n)) c.member_size.ensures ∙ behind-saturated c.args.at (size_of_member (sizes_in c.args.sizes.now) c.args.member.now)
+    c.behind.ensures ∙ ap (λ n. capped (c.args.at + n)) c.member_size.ensures
+    ∙ behind-saturated c.args.at (size_of_member (sizes_in c.args.sizes.now) c.args.member.now)

@@ -7,4 +7,5 @@ use Rattle.bl_bytecode_compiler.proofs.layout.struct_layouts.Given as goal
 
 abbrev pub invariant-loop-of : goal.invariant-loop-of
 invariant-loop-of l = (asked : List ℕ) →
-    option_or (structs_in l.structs asked) (found asked (map (layout_of (sizes_in l.sizes)) (drop l.of-index l.list))) ≡ found asked (map (layout_of (sizes_in l.sizes)) l.list)
+    option_or (structs_in l.structs asked) (found asked (map (layout_of (sizes_in l.sizes)) (drop l.of-index l.list)))
+    ≡ found asked (map (layout_of (sizes_in l.sizes)) l.list)

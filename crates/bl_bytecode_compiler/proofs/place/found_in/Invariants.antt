@@ -1,8 +1,9 @@
 use Rattle.std.proofs.Common.{◌≡◌, ◌++◌, ℕ, drop, option_map}
 use Rattle.bl_bytecode_compiler.specs.Views.{ground_of}
-use Rattle.bl_bytecode_compiler.specs.Walks.{found_along, founds_of}
+use Rattle.bl_bytecode_compiler.specs.inner.Walks.{found_along, founds_of}
 use Rattle.bl_bytecode_compiler.proofs.place.found_in.Given as goal
 
 abbrev pub invariant-loop-step : goal.invariant-loop-step
 invariant-loop-step l =
-    founds_of l.found.items ++ found_along (ground_of l.here) (drop l.step-index l.steps) (option_map (λ t. t.now) l.ty) ≡ found_along (ground_of l.here) l.steps (option_map (λ t. t.now) l.from)
+    founds_of l.found.items ++ found_along (ground_of l.here) (drop l.step-index l.steps) (option_map (λ t. t.now) l.ty)
+    ≡ found_along (ground_of l.here) l.steps (option_map (λ t. t.now) l.from)

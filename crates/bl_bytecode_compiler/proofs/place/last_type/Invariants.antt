@@ -1,5 +1,5 @@
 use Rattle.std.proofs.Common.{◌≡◌, drop, option_map}
-use Rattle.bl_bytecode_compiler.specs.Walks.{founds_of, type_along}
+use Rattle.bl_bytecode_compiler.specs.inner.Walks.{founds_of, type_along}
 use Rattle.bl_bytecode_compiler.proofs.place.last_type.Given as goal
 
 abbrev pub invariant-loop-step : goal.invariant-loop-step

@@ -1,5 +1,5 @@
 use Rattle.std.proofs.Common.{◌≡◌, ℕ, drop}
-use Rattle.bl_bytecode_compiler.specs.Walks.{founds_of, passed_along}
+use Rattle.bl_bytecode_compiler.specs.inner.Walks.{founds_of, passed_along}
 use Rattle.bl_bytecode_compiler.proofs.place.passed.Given as goal
 
 abbrev pub invariant-loop-step : goal.invariant-loop-step

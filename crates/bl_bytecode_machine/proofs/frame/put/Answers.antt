@@ -10,7 +10,8 @@ loop-k-preserved c =
     let low : c.args.at ≤ c.loop-k.k = omega arith in
     let less : c.loop-k.k < c.args.at + length c.args.args.now = omega arith in
     let n : ℤ = get_or c.args.args.now (c.loop-k.k - c.args.at) (pos 0) in
-    ap (λ (x : ℤ). with_args (c.loop-k.k + 1) (drop (c.loop-k.k + 1 - c.args.at) c.args.args.now) (slice_set c.loop-k.cells c.loop-k.k x)) (to_z-of_z w128 n (search rules))
+    ap (λ (x : ℤ). with_args (c.loop-k.k + 1) (drop (c.loop-k.k + 1 - c.args.at) c.args.args.now) (slice_set c.loop-k.cells c.loop-k.k x))
+    (to_z-of_z w128 n (search rules))
     ∙ put-more c.args.at c.loop-k.k c.args.args.now c.loop-k.cells (with_args c.args.at c.args.args.now c.args.cells.now) low less c.loop-k.invariant
 
 pub returns : goal.returns

@@ -2,7 +2,7 @@ use Rattle.std.proofs.Common.{◌≡◌, ◌∙◌, ap, sym, arith, rules, List,
 use Rattle.std.specs.Int.{w128}
 use Rattle.std.proofs.lemmas.Int.{to_z-of_z}
 use Rattle.bl_cmeaning_laws.specs.Flat.{prelude_value}
-use Rattle.bl_bytecode_machine.proofs.Lists.{one-number, two-numbers}
+use Rattle.bl_bytecode_machine.proofs.Lists.{more-numbers, one-number, two-numbers}
 use Rattle.bl_bytecode_machine.proofs.prelude.value.Goals as goal
 
 pub returns-in-len1 : goal.returns-in-len1
@@ -21,3 +21,6 @@ returns-in-len2 c =
     ∙ (ap (λ (x : ℤ). prelude_value c.args.builtin (x ∷ to_z w128 (of_z w128 b) ∷ [])) (to_z-of_z w128 a (search rules))
     ∙ (ap (λ (x : ℤ). prelude_value c.args.builtin (a ∷ x ∷ [])) (to_z-of_z w128 b (search rules))
     ∙ ap (λ (xs : List ℤ). prelude_value c.args.builtin xs) (sym (two-numbers c.args.numbers.now l))))
+
+pub returns-in_default-2 : goal.returns-in_default-2
+returns-in_default-2 c = more-numbers c.args.builtin c.args.numbers.now (omega (arith, c.in_default.len_at_least))

@@ -1,5 +1,5 @@
 use Rattle.std.proofs.Common.{◌≡◌, ◌+◌, ◌*◌, ◌++◌, drop, take}
-use Rattle.bl_cmeaning.specs.Maps.{text_at}
+use Rattle.bl_cmeaning.specs.inner.Maps.{text_at}
 use Rattle.bl_cinterface.specs.Layout.{Laid, kinds_of_members}
 use Rattle.bl_cinterface.proofs.layout.+laying.Given as goal
 
@@ -20,5 +20,6 @@ decreases-add_type l = 5 * l.end + 1
 
 abbrev pub invariant-add_members-loop-member : goal.invariant-add_members-loop-member
 invariant-add_members-loop-member l =
-    (l.kinds.items ++ kinds_of_members (take l.end l.places.structs.now) (drop l.member-index l.members) ≡ l.initial.kinds.items ++ kinds_of_members (take l.end l.places.structs.now) l.members)
+    (l.kinds.items ++ kinds_of_members (take l.end l.places.structs.now) (drop l.member-index l.members) ≡ l.initial.kinds.items
+    ++ kinds_of_members (take l.end l.places.structs.now) l.members)
     × Laid l.places.structs.now (text_at l.spans) l.kinds.items

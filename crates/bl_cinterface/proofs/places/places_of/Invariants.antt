@@ -1,9 +1,10 @@
 use Rattle.std.proofs.Common.{◌≡◌, ℕ, ◌+◌, List, drop}
 use Rattle.std.specs.Prelude.{option_map}
 use Rattle.std.specs.Option.{option_or}
-use Rattle.bl_cmeaning.specs.Maps.{text_at}
+use Rattle.bl_cmeaning.specs.inner.Maps.{text_at}
 use Rattle.bl_cinterface.specs.Layout.{placed}
 use Rattle.bl_cinterface.proofs.places.places_of.Given as goal
 
 abbrev pub invariant-loop-k : goal.invariant-loop-k
-invariant-loop-k l = (name : List ℕ) → option_or (text_at l.places name) (option_map (λ j. l.k + j) (placed name (drop l.k l.structs))) ≡ placed name l.structs
+invariant-loop-k l = (name : List ℕ) → option_or (text_at l.places name)
+    (option_map (λ j. l.k + j) (placed name (drop l.k l.structs))) ≡ placed name l.structs

@@ -1,5 +1,5 @@
 use Rattle.std.proofs.Common.{◌≡◌, drop}
-use Rattle.bl_conflict.specs.Failures.{place_overlapping}
+use Rattle.bl_conflict.specs.inner.Failures.{place_overlapping}
 use Rattle.bl_conflict.proofs.alias.first_overlapping.Given as goal
 
 abbrev pub invariant-loop-other : goal.invariant-loop-other

@@ -1,7 +1,8 @@
-use Rattle.bl_conflict.proofs.FirstLemmas.{best-next, next_of}
-use Rattle.bl_conflict.specs.Failures.{clashes_of_unit, itself}
+use Rattle.bl_conflict.proofs.FirstLemmas.{first-next, next_of}
+use Rattle.bl_conflict.specs.inner.Failures.{clashes_of_unit}
 use Rattle.bl_conflict.proofs.conflict.first.Goals as goal
 
 pub loop-unit-preserved : goal.loop-unit-preserved
 loop-unit-preserved c =
-    rw c.in_ok-best.ensures (best-next itself clashes_of_unit _ _ c.unit-item.result c.loop-unit.best _ (next_of c.args.units.now c.loop-unit.unit-index c.unit-item.result c.loop-unit-test.true c.unit-item.is) c.loop-unit.invariant)
+    rw c.in_ok-best.ensures (first-next clashes_of_unit _ _ c.unit-item.result c.loop-unit.best _
+    (next_of c.args.units.now c.loop-unit.unit-index c.unit-item.result c.loop-unit-test.true c.unit-item.is) c.loop-unit.invariant)

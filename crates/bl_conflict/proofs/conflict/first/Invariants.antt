@@ -1,6 +1,7 @@
-use Rattle.std.proofs.Common.{◌≡◌, None, drop}
-use Rattle.bl_conflict.specs.Failures.{conflict_failures, itself, least_by}
+use Rattle.std.proofs.Common.{◌≡◌, drop}
+use Rattle.bl_tree.specs.Rules.{first_of}
+use Rattle.bl_conflict.specs.inner.Failures.{conflict_failures}
 use Rattle.bl_conflict.proofs.conflict.first.Given as goal
 
 abbrev pub invariant-loop-unit : goal.invariant-loop-unit
-invariant-loop-unit l = least_by itself l.best (conflict_failures (drop l.unit-index l.units)) ≡ least_by itself None (conflict_failures l.units)
+invariant-loop-unit l = first_of l.best (conflict_failures (drop l.unit-index l.units)) ≡ first_of l.initial.best (conflict_failures l.units)

@@ -1,6 +1,6 @@
 use Rattle.std.proofs.Common.{List, take}
 use Rattle.bl_effects.specs.declared.marked.Marked.{Marked}
-use Rattle.bl_conflict.specs.Roots.{Knows}
+use Rattle.bl_conflict.specs.inner.Roots.{Knows}
 use Rattle.bl_conflict.proofs.conflict.note.Given as goal
 
 abbrev pub invariant-loop-write : goal.invariant-loop-write

@@ -1,7 +1,8 @@
-use Rattle.bl_conflict.proofs.FirstLemmas.{best-next, next_of}
-use Rattle.bl_conflict.specs.Failures.{pause_of, single}
+use Rattle.bl_conflict.proofs.FirstLemmas.{first-next, next_of}
+use Rattle.bl_conflict.specs.inner.Failures.{pause_of}
 use Rattle.bl_conflict.proofs.pause.first.Goals as goal
 
 pub loop-unit-preserved : goal.loop-unit-preserved
 loop-unit-preserved c =
-    rw c.judge-best.ensures (best-next single pause_of _ _ c.unit-item.result c.loop-unit.best _ (next_of c.args.units.now c.loop-unit.unit-index c.unit-item.result c.loop-unit-test.true c.unit-item.is) c.loop-unit.invariant)
+    rw c.judge-best.ensures (first-next pause_of _ _ c.unit-item.result c.loop-unit.best _
+    (next_of c.args.units.now c.loop-unit.unit-index c.unit-item.result c.loop-unit-test.true c.unit-item.is) c.loop-unit.invariant)

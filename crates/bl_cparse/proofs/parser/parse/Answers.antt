@@ -10,13 +10,16 @@ pub behind_prelude-requires-clause-begins : goal.behind_prelude-requires-clause-
 behind_prelude-requires-clause-begins c = begins c.args.text.now c.starts_with.result c.starts_with.ensures.value c.if-not-starts_with.false
 
 pub returns-then-not-starts_with-clause-place : goal.returns-then-not-starts_with-clause-place
-returns-then-not-starts_with-clause-place c = λ rest is none. absurd (other_front c.args.text.now c.starts_with.result c.starts_with.ensures.value c.if-not-starts_with.true rest is)
+returns-then-not-starts_with-clause-place c = λ rest is none. absurd
+    (other_front c.args.text.now c.starts_with.result c.starts_with.ensures.value c.if-not-starts_with.true rest is)
 
 pub returns-in-Ok-clause-prelude : goal.returns-in-Ok-clause-prelude
-returns-in-Ok-clause-prelude c = λ other. absurd (other (drop (length PRELUDE.now) c.args.text.now) (begins c.args.text.now c.starts_with.result c.starts_with.ensures.value c.if-not-starts_with.false))
+returns-in-Ok-clause-prelude c = λ other. absurd (other (drop (length PRELUDE.now) c.args.text.now)
+    (begins c.args.text.now c.starts_with.result c.starts_with.ensures.value c.if-not-starts_with.false))
 
 pub returns-in-Err-clause-prelude : goal.returns-in-Err-clause-prelude
-returns-in-Err-clause-prelude c = λ other. absurd (other (drop (length PRELUDE.now) c.args.text.now) (begins c.args.text.now c.starts_with.result c.starts_with.ensures.value c.if-not-starts_with.false))
+returns-in-Err-clause-prelude c = λ other. absurd (other (drop (length PRELUDE.now) c.args.text.now)
+    (begins c.args.text.now c.starts_with.result c.starts_with.ensures.value c.if-not-starts_with.false))
 
 pub returns-in-Ok-clause-place : goal.returns-in-Ok-clause-place
 returns-in-Ok-clause-place c = λ rest is none. c.in-Ok.ensures.place none

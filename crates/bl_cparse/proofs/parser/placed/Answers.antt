@@ -3,7 +3,8 @@ use Rattle.bl_cparse.proofs.PlacedLemmas.{tokens_same, spellable_same, walked}
 use Rattle.bl_cparse.proofs.parser.placed.Goals as goal
 
 pub returns-clause-placed : goal.returns-clause-placed
-returns-clause-placed c = walked c.args.text.now c.structs.new.structs c.funcs.new.funcs c.new-spot.result _ _ c.new-spot.ensures c.structs.ensures.places c.funcs.ensures.places
+returns-clause-placed c = walked c.args.text.now c.structs.new.structs c.funcs.new.funcs c.new-spot.result _ _ c.new-spot.ensures
+    c.structs.ensures.places c.funcs.ensures.places
 
 pub returns-clause-tokens : goal.returns-clause-tokens
 returns-clause-tokens c = tokens_same c.args.structs c.structs.new.structs c.args.funcs c.funcs.new.funcs c.structs.ensures.tokens c.funcs.ensures.tokens

@@ -1,6 +1,5 @@
 use Rattle.std.specs.Prelude.{◌≡◌, drop}
-use Rattle.bl_cmeaning_laws.specs.Fitting.{in_ranges}
-use Rattle.bl_crun.specs.Running.{types_of}
+use Rattle.bl_tree.specs.Ports.{in_ranges, types_of}
 use Rattle.bl_crun.proofs.fits.fit_all.Given as goal
 
 abbrev pub invariant-loop-k : goal.invariant-loop-k

@@ -36,11 +36,14 @@ returns-clause-keeps c =
     c.in_ok-cells_of.ensures.kinds c.args.file.now.funcs ∙ ap (λ s. kinds_of (parts_from s c.args.file.now.funcs)) c.deref-3.ensures in
     record {
       runs = c.requires.runs;
-      code = c.in_ok-code.ensures.code ∙ ap (λ s. code_of_file s c.deref-2.result.now) c.deref.ensures ∙ ap (code_of_file c.args.file.now.structs) c.deref-2.ensures;
+      code = c.in_ok-code.ensures.code ∙ ap (λ s. code_of_file s c.deref-2.result.now) c.deref.ensures
+          ∙ ap (code_of_file c.args.file.now.structs) c.deref-2.ensures;
       init =
-          c.in_ok-code.ensures.init ∙ ap (λ s. entry_in_file s c.deref-2.result.now (codes "bl_init")) c.deref.ensures ∙ ap (λ f. entry_in_file c.args.file.now.structs f (codes "bl_init")) c.deref-2.ensures;
+          c.in_ok-code.ensures.init ∙ ap (λ s. entry_in_file s c.deref-2.result.now (codes "bl_init")) c.deref.ensures
+          ∙ ap (λ f. entry_in_file c.args.file.now.structs f (codes "bl_init")) c.deref-2.ensures;
       tick =
-          c.in_ok-code.ensures.tick ∙ ap (λ s. entry_in_file s c.deref-2.result.now (codes "bl_tick")) c.deref.ensures ∙ ap (λ f. entry_in_file c.args.file.now.structs f (codes "bl_tick")) c.deref-2.ensures;
+          c.in_ok-code.ensures.tick ∙ ap (λ s. entry_in_file s c.deref-2.result.now (codes "bl_tick")) c.deref.ensures
+          ∙ ap (λ f. entry_in_file c.args.file.now.structs f (codes "bl_tick")) c.deref-2.ensures;
       inputs = c.in_ok-inputs.ensures c.args.file.now.funcs ∙ ap (λ s. inputs_of (parts_from s c.args.file.now.funcs)) c.deref-4.ensures;
       outputs = c.in_ok-outputs.ensures c.args.file.now.funcs ∙ ap (λ s. outputs_of (parts_from s c.args.file.now.funcs)) c.deref-5.ensures;
       kinds = kinds;
@@ -49,5 +52,6 @@ returns-clause-keeps c =
       base = let l = c.len-base.ensures in let k = ap length kinds in let b = kinds-base (parts_of c.args.file.now) c.requires.runs in omega arith;
       numbers = let m = c.in_ok-machine.ensures.numbers in let n = c.len.ensures in omega arith;
       calls = let m = c.in_ok-machine.ensures.calls in let n = c.len-2.ensures in omega arith;
-      cells = zeros-keep (parts_of c.args.file.now) c.requires.runs c.in_ok-machine.machine.state.cells (c.in_ok-machine.ensures.cells ∙ ap (λ n. replicate n (pos 0)) c.requires.cells);
+      cells = zeros-keep (parts_of c.args.file.now) c.requires.runs c.in_ok-machine.machine.state.cells
+          (c.in_ok-machine.ensures.cells ∙ ap (λ n. replicate n (pos 0)) c.requires.cells);
     }

@@ -1,6 +1,6 @@
 use Rattle.std.proofs.Common.{◌≡◌, map, drop}
 use Rattle.bl_csyntax.specs.Tables.{chosen}
-use Rattle.bl_csyntax.specs.Rows.{choice_shown}
+use Rattle.bl_csyntax.specs.inner.Rows.{choice_shown}
 use Rattle.bl_csyntax.proofs.choice.chosen.Given as goal
 
 abbrev pub invariant-loop-choice : goal.invariant-loop-choice

@@ -9,4 +9,5 @@ returns-then-is_pair-clause-cut c =
 
 pub returns-else-is_pair-clause-cut : goal.returns-else-is_pair-clause-cut
 returns-else-is_pair-clause-cut c =
-    single_at c.args.text.now c.args.start c.requires.inside c.requires.no_blank (sym c.is_word_byte.ensures ∙ c.if-is_word_byte.false) (sym c.is_pair.ensures ∙ c.if-is_pair.false)
+    single_at c.args.text.now c.args.start c.requires.inside c.requires.no_blank
+    (sym c.is_word_byte.ensures ∙ c.if-is_word_byte.false) (sym c.is_pair.ensures ∙ c.if-is_pair.false)

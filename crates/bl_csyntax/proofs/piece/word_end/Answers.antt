@@ -3,7 +3,12 @@ use Rattle.bl_csyntax.proofs.PieceLemmas.{word_first, word_next, word_at}
 use Rattle.bl_csyntax.proofs.piece.word_end.Goals as goal
 
 pub loop-end-init : goal.loop-end-init
-loop-end-init c = record { beyond = omega arith; inside = omega (arith, c.requires.inside); word = word_first c.args.text.now c.args.start c.requires.inside c.requires.letter }
+loop-end-init c = record {
+  beyond = omega arith;
+  inside = omega (arith, c.requires.inside);
+  word =
+      word_first c.args.text.now c.args.start c.requires.inside c.requires.letter;
+}
 
 pub loop-end-preserved : goal.loop-end-preserved
 loop-end-preserved c = record {

@@ -7,7 +7,8 @@ use Rattle.bl_csyntax.proofs.rules.check.Given as goal
 
 abbrev pub invariant-loop-piece : goal.invariant-loop-piece
 invariant-loop-piece l = record {
-  read : (front : List Token) × (Stands front (reverse (map shown l.stack.wanted.items)) × (pieces (drop l.start l.text) ≡ front ++ left_of l.text l.piece.start l.piece.end));
+  read : (front : List Token) × (Stands front (reverse (map shown l.stack.wanted.items))
+      × (pieces (drop l.start l.text) ≡ front ++ left_of l.text l.piece.start l.piece.end));
   in_order : l.piece.start ≤ l.piece.end;
   inside : l.piece.end ≤ length l.text;
   at_end : l.piece.start ≡ l.piece.end → l.piece.end ≡ length l.text;

@@ -10,4 +10,5 @@ abbrev pub invariant-in_arms-loop-arm : goal.invariant-in_arms-loop-arm
 invariant-in_arms-loop-arm l = l.into ++ joined (map runs_in_arm (drop l.arm-index l.arms)) ≡ l.initial.into ++ joined (map runs_in_arm l.arms)
 
 abbrev pub invariant-in_branches-loop-branch : goal.invariant-in_branches-loop-branch
-invariant-in_branches-loop-branch l = l.into ++ joined (map runs_in_branch (drop l.branch-index l.branches)) ≡ l.initial.into ++ joined (map runs_in_branch l.branches)
+invariant-in_branches-loop-branch l = l.into ++ joined (map runs_in_branch (drop l.branch-index l.branches)) ≡ l.initial.into
+    ++ joined (map runs_in_branch l.branches)

@@ -1,6 +1,6 @@
 use Rattle.std.proofs.Common.{map, ap, ◌∙◌}
 use Rattle.bl_ctree.specs.Nodes.{seen_of}
-use Rattle.bl_ctree.specs.Wakings.{wake_seen}
+use Rattle.bl_ctree.specs.inner.Wakings.{wake_seen}
 use Rattle.bl_ctree.proofs.WakeLemmas.{par_woken}
 use Rattle.bl_ctree.proofs.waking.+waking.Goals as goal
 

@@ -7,4 +7,5 @@ abbrev pub invariant-exprs-loop-e : goal.invariant-exprs-loop-e
 invariant-exprs-loop-e l = l.into ++ joined (map mentions (drop l.e-index l.inputs)) ≡ l.initial.into ++ joined (map mentions l.inputs)
 
 abbrev pub invariant-indices-loop-part : goal.invariant-indices-loop-part
-invariant-indices-loop-part l = l.into ++ joined (map part_mentions (drop l.part-index l.part-items)) ≡ l.initial.into ++ joined (map part_mentions l.part-items)
+invariant-indices-loop-part l = l.into ++ joined (map part_mentions (drop l.part-index l.part-items)) ≡ l.initial.into
+    ++ joined (map part_mentions l.part-items)

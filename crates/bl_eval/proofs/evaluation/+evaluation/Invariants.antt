@@ -75,5 +75,7 @@ invariant-choice-loop-arm l =
 
 abbrev pub invariant-turns-loop : goal.invariant-turns-loop
 invariant-turns-loop l =
-    looped (condition (scope_in l.site) (option_map (λ e. e.now) l.goes) true) (in_order (map (does (scope_in l.site)) l.body)) (condition (scope_in l.site) (option_map (λ e. e.now) l.ends) false) (most_turns - l.counter) l.frame.items
-    ≡ looped (condition (scope_in l.site) (option_map (λ e. e.now) l.goes) true) (in_order (map (does (scope_in l.site)) l.body)) (condition (scope_in l.site) (option_map (λ e. e.now) l.ends) false) most_turns l.initial.frame.items
+    looped (condition (scope_in l.site) (option_map (λ e. e.now) l.goes) true) (in_order (map (does (scope_in l.site)) l.body))
+    (condition (scope_in l.site) (option_map (λ e. e.now) l.ends) false) (most_turns - l.counter) l.frame.items
+    ≡ looped (condition (scope_in l.site) (option_map (λ e. e.now) l.goes) true) (in_order (map (does (scope_in l.site)) l.body))
+    (condition (scope_in l.site) (option_map (λ e. e.now) l.ends) false) most_turns l.initial.frame.items

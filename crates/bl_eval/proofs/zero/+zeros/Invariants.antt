@@ -14,4 +14,5 @@ abbrev pub decreases-zero_value : goal.decreases-zero_value
 decreases-zero_value l = 3 * (structs_weight l.structs.now + size-Ty l.ty.now) + 2
 
 abbrev pub invariant-zero_fields-loop-field : goal.invariant-zero_fields-loop-field
-invariant-zero_fields-loop-field l = l.values ++ map (λ field. zero_of l.structs field.ty) (drop l.field-index l.fields) ≡ map (λ field. zero_of l.structs field.ty) l.fields
+invariant-zero_fields-loop-field l = l.values ++ map (λ field. zero_of l.structs field.ty) (drop l.field-index l.fields)
+    ≡ map (λ field. zero_of l.structs field.ty) l.fields

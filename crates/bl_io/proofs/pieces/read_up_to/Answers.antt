@@ -9,7 +9,8 @@ loop-room-preserved g c =
     let t = c.in_ok-extend_from_slice.ensures in
     let fits : c.in_ok-n.n ≤ length c.next.new.room = omega (arith, c.in_ok-n.ensures.bound) in
     record {
-      bound = rw (t.items, take-append-le, length-append, length-take-le) (omega (arith, c.in_ok-n.ensures.bound, length-take c.min-most.result c.loop-room.room));
+      bound = rw (t.items, take-append-le, length-append, length-take-le)
+          (omega (arith, c.in_ok-n.ensures.bound, length-take c.min-most.result c.loop-room.room));
       read = rw (t.items, take-append-le) (HasRead-more _ _ _ _ c.next.new.room _ c.loop-room.invariant.read c.in_ok-n.ensures.front fits);
       others = KeepsOthers-trans _ _ _ _ c.loop-room.invariant.others c.next.ensures.others;
       counts = λ name. omega (arith, c.loop-room.invariant.counts name, c.next.ensures.counts name);
@@ -18,5 +19,6 @@ loop-room-preserved g c =
 pub returns-clause-front : goal.returns-clause-front
 returns-clause-front g c = elim c.loop-room-test.branch [
   | else-loop-room-test w ↦ rw w.files-is (GivesUpTo-full _ _ _ _ c.loop-room.invariant.read (omega arith) (omega arith))
-  | then-loop-room-test+in_ok-n+then-n-eq0 w ↦ rw w.files-is (GivesUpTo-at_end _ _ _ _ w.next.new.room _ c.loop-room.invariant.read (rw w.if-n-eq0.true at w.in_ok-n.ensures.front) (omega arith))
+  | then-loop-room-test+in_ok-n+then-n-eq0 w ↦ rw w.files-is
+      (GivesUpTo-at_end _ _ _ _ w.next.new.room _ c.loop-room.invariant.read (rw w.if-n-eq0.true at w.in_ok-n.ensures.front) (omega arith))
 ]

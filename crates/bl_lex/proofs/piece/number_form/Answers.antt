@@ -7,7 +7,8 @@ pub returns-then-before_fraction : goal.returns-then-before_fraction
 returns-then-before_fraction c = λ text word end is before. let h = rw c.in-Decimal.is at is in fraction h.0 (before.0 (search rules))
 
 pub returns-else-before_fraction : goal.returns-else-before_fraction
-returns-else-before_fraction c = λ text word end is before. let h = rw c.in-Decimal.is at is in number (decimal h.0) (λ _ f. let t = before.1 f in search rules) h.1
+returns-else-before_fraction c = λ text word end is before. let h = rw c.in-Decimal.is at is in
+    number (decimal h.0) (λ _ f. let t = before.1 f in search rules) h.1
 
 pub returns-in-Prefixed : goal.returns-in-Prefixed
 returns-in-Prefixed c = λ text word end is before. let h = rw c.in-Prefixed.is at is in number h.1.1 (λ d. absurd (h.0 d)) h.1.2

@@ -3,7 +3,8 @@ use Rattle.bl_lex.proofs.Signs.{sign_ends, only_ends, at_most_one}
 use Rattle.bl_lex.proofs.piece.sign_at.Goals as goal
 
 pub returns-in_err-short_sign_at-in-None : goal.returns-in_err-short_sign_at-in-None
-returns-in_err-short_sign_at-in-None c = rw c.from_residual.ensures (λ end k is. only_ends _ _ end k c.in_err-short_sign_at-in-None.ensures c.in-None.ensures is)
+returns-in_err-short_sign_at-in-None c = rw c.from_residual.ensures
+    (λ end k is. only_ends _ _ end k c.in_err-short_sign_at-in-None.ensures c.in-None.ensures is)
 
 pub returns-in-Some : goal.returns-in-Some
 returns-in-Some c = record {

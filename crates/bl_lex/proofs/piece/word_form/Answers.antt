@@ -1,6 +1,6 @@
 use Rattle.std.proofs.Common.{subst}
 use Rattle.bl_lex.specs.Pieces.WordIs.{keyword, name, outside}
-use Rattle.bl_lex.specs.Steps.{IsMeaningOf}
+use Rattle.bl_lex.specs.inner.Steps.{IsMeaningOf}
 use Rattle.bl_lex.proofs.piece.word_form.Goals as goal
 
 pub returns-in-Some-Keyword : goal.returns-in-Some-Keyword

@@ -1,4 +1,4 @@
-use Rattle.std.proofs.Common.{◌≡◌, ℕ, false, refl, sym, subst}
+use Rattle.std.proofs.Common.{◌≡◌, ℕ, false, sym, subst}
 use Rattle.std.specs.Prelude.{Result, Ok, Err, OnOk, is_err}
 use Rattle.bl_lex.specs.Tokens.{Covers}
 use Rattle.bl_lex.proofs.RuleLaws.{first_lex}
@@ -21,4 +21,4 @@ pub returns-in-Err-clause-refusal : goal.returns-in-Err-clause-refusal
 returns-in-Err-clause-refusal c =
     let scanned = c.loop-at.invariant.scanned in
     let covers = subst (λ (at : ℕ). Covers c.args.text.now 0 scanned.parts at) (sym c.in-Err.ensures.0) scanned.covers in
-    rw c.failed-in-Err.ensures (first_lex c.args.text.now scanned.parts c.in-Err.place c.loop-at.invariant.short covers c.in-Err.ensures.1, refl)
+    rw c.failed-in-Err.ensures (first_lex c.args.text.now scanned.parts c.in-Err.place c.loop-at.invariant.short covers c.in-Err.ensures.1)

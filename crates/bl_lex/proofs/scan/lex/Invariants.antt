@@ -1,5 +1,5 @@
 use Rattle.std.proofs.Common.{length, ◌-◌, ◌≤◌}
-use Rattle.bl_lex.specs.Walk.{IsScanned}
+use Rattle.bl_lex.specs.inner.Walk.{IsScanned}
 use Rattle.bl_lex.proofs.scan.lex.Given as goal
 
 abbrev pub invariant-loop-at : goal.invariant-loop-at

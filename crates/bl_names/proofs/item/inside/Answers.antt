@@ -1,6 +1,6 @@
 use Rattle.std.proofs.Common.{◌≡◌, ◌∙◌, ap, length}
 use Rattle.bl_names.specs.Named.{inside_piece, params_piece}
-use Rattle.bl_names.specs.Past.{past}
+use Rattle.bl_names.specs.inner.Past.{past}
 use Rattle.bl_names.proofs.ItemLemmas.{inside_made, inside_past, params_past}
 use Rattle.bl_names.proofs.item.inside.Goals as goal
 

@@ -1,6 +1,6 @@
 use Rattle.std.proofs.Common.{◌≡◌, drop}
 use Rattle.bl_names.specs.Named.{role_piece}
-use Rattle.bl_names.specs.Past.{past}
+use Rattle.bl_names.specs.inner.Past.{past}
 use Rattle.bl_names.proofs.item.params.Given as goal
 
 abbrev pub invariant-loop-one : goal.invariant-loop-one

@@ -1,6 +1,6 @@
 use Rattle.std.proofs.Common.{◌≡◌, ◌++◌, drop}
 use Rattle.bl_names.specs.Named.{arms_piece, block_piece, branches_piece}
-use Rattle.bl_names.specs.Past.{past}
+use Rattle.bl_names.specs.inner.Past.{past}
 use Rattle.bl_names.proofs.stmt.+named_statements.Given as goal
 
 abbrev pub invariant-block-loop-s : goal.invariant-block-loop-s

@@ -1,6 +1,6 @@
 use Rattle.std.proofs.Common.{◌≡◌, ◌∙◌}
 use Rattle.bl_names.specs.Named.{constant_piece}
-use Rattle.bl_names.specs.Past.{past, with_constant}
+use Rattle.bl_names.specs.inner.Past.{past, with_constant}
 use Rattle.bl_names.proofs.KindLemmas.{constant_past}
 use Rattle.bl_scopes.proofs.WalkLemmas.{on_ok}
 use Rattle.bl_names.proofs.stmt.constant.Goals as goal

@@ -8,5 +8,6 @@ abbrev pub invariant-all_pending-loop-branch : goal.invariant-all_pending-loop-b
 invariant-all_pending-loop-branch l = record {
   strong : (l.strong && may_join true (branches_of (map seen_of (drop l.branch-index l.branches)))) ≡ may_join true (branches_of (map seen_of l.branches));
   some : (l.some || may_join false (branches_of (map seen_of (drop l.branch-index l.branches)))) ≡ may_join false (branches_of (map seen_of l.branches));
-  writes : l.into ++ all_write_paths (branches_of (map seen_of (drop l.branch-index l.branches))) ≡ l.initial.into ++ all_write_paths (branches_of (map seen_of l.branches));
+  writes : l.into ++ all_write_paths (branches_of (map seen_of (drop l.branch-index l.branches))) ≡ l.initial.into
+      ++ all_write_paths (branches_of (map seen_of l.branches));
 }

@@ -1,5 +1,5 @@
 use Rattle.std.proofs.Common.{◌≡◌, drop, map}
-use Rattle.bl_scopes.specs.Judged.{judged_by}
+use Rattle.bl_scopes.specs.inner.Judged.{judged_by}
 use Rattle.bl_scopes.specs.Marks.{field_mark}
 use Rattle.bl_scopes.proofs.item.field_names.Given as goal
 

@@ -1,6 +1,6 @@
 use Rattle.std.proofs.Common.{◌≡◌, drop, map}
 use Rattle.bl_tree.specs.Reduce.{joined}
-use Rattle.bl_scopes.specs.Judged.{judged_by}
+use Rattle.bl_scopes.specs.inner.Judged.{judged_by}
 use Rattle.bl_scopes.specs.Marks.{param_marks}
 use Rattle.bl_scopes.proofs.item.params.Given as goal
 

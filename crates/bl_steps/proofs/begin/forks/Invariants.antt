@@ -1,6 +1,6 @@
 use Rattle.std.proofs.Common.{◌≡◌, ◌++◌, map, drop}
 use Rattle.bl_ctree.specs.Nodes.{seen_of}
-use Rattle.bl_steps.specs.Spots.{seen_begun}
+use Rattle.bl_steps.specs.inner.Spots.{seen_begun}
 use Rattle.bl_steps.proofs.begin.forks.Given as goal
 
 abbrev pub invariant-loop-k : goal.invariant-loop-k

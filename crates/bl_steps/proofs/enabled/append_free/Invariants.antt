@@ -1,6 +1,6 @@
 use Rattle.std.proofs.Common.{◌≡◌, ◌++◌, map, filter}
-use Rattle.bl_steps.specs.Spots.{spot_of}
-use Rattle.bl_steps.specs.Writers.{is_free}
+use Rattle.bl_steps.specs.inner.Spots.{spot_of}
+use Rattle.bl_steps.specs.inner.Writers.{is_free}
 use Rattle.bl_steps.proofs.enabled.append_free.Given as goal
 
 abbrev pub invariant-loop-point : goal.invariant-loop-point

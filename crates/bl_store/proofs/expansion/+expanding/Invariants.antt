@@ -10,6 +10,7 @@ decreases-from_unit l = 2 * l.longest + 1
 
 abbrev pub invariant-from_unit-loop-run : goal.invariant-from_unit-loop-run
 invariant-from_unit-loop-run l = record {
-  below : l.all ++ instances_below (expanded l.units l.longest) (length l.all) (drop l.run-index l.run-items) ≡ record { unit = l.k; depth = 0; origin = None } ∷ instances_below (expanded l.units l.longest) 1 l.run-items;
+  below : l.all ++ instances_below (expanded l.units l.longest) (length l.all) (drop l.run-index l.run-items)
+      ≡ record { unit = l.k; depth = 0; origin = None } ∷ instances_below (expanded l.units l.longest) 1 l.run-items;
   some : 0 < length l.all;
 }

@@ -1,5 +1,5 @@
 use Rattle.std.proofs.Common.{◌++◌, ◌∷◌, [], false, true, ◌∙◌}
-use Rattle.bl_store.specs.Expansion.{has_place}
+use Rattle.bl_store.specs.inner.Expansion.{has_place}
 use Rattle.bl_store.proofs.PlaceLemmas.{seen_decides, sees_more, sees_still, was_new, was_there}
 use Rattle.bl_store.proofs.expansion.add.Goals as goal
 

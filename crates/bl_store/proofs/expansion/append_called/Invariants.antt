@@ -1,7 +1,7 @@
 use Rattle.std.proofs.Common.{◌≡◌, ◌<◌, ◌+◌, ◌^◌, ◌++◌, map}
 use Rattle.std.specs.Prelude.{All}
 use Rattle.bl_ctree.specs.Instances.{called_from}
-use Rattle.bl_store.specs.Expansion.{Shifts}
+use Rattle.bl_store.specs.inner.Expansion.{Shifts}
 use Rattle.bl_store.proofs.expansion.append_called.Given as goal
 
 abbrev pub invariant-loop-instance : goal.invariant-loop-instance

@@ -1,6 +1,6 @@
 use Rattle.std.proofs.Common.{◌≡◌}
 use Rattle.bl_ctree.specs.Instances.{one_a_place}
-use Rattle.bl_store.specs.Expansion.{Sees}
+use Rattle.bl_store.specs.inner.Expansion.{Sees}
 use Rattle.bl_store.proofs.expansion.one_a_place.Given as goal
 
 abbrev pub invariant-loop-run : goal.invariant-loop-run

@@ -4,7 +4,8 @@ use Rattle.bl_store.proofs.parts.part_at.Goals as goal
 
 pub loop-k-preserved : goal.loop-k-preserved
 loop-k-preserved c =
-    sym (value_step c.args.fields.now c.loop-k.k-index c.loop-k.found.now c.in_ok-found.found.now c.loop-k-test.true (sym c.in_ok-found.ensures)) ∙ c.loop-k.invariant
+    sym (value_step c.args.fields.now c.loop-k.k-index c.loop-k.found.now c.in_ok-found.found.now c.loop-k-test.true
+    (sym c.in_ok-found.ensures)) ∙ c.loop-k.invariant
 
 pub returns-in_err-found : goal.returns-in_err-found
 returns-in_err-found c =

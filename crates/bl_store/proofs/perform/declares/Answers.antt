@@ -19,8 +19,10 @@ returns-in_default c =
     let store = store_of c.args.frames.now.items in
     let s = c.args.s.now in (
       written_glimpsed w c.args.i s (whole c.args.k ∷ []) store (with_frame c.args.i (remember c.args.k)) c.in_ok-variables.field-0 c.requires
-          (c.in_ok-variables.ensures ∙ ap (λ frames. outcome_by w (glimpse (roots_of_act (stmt_kind s)) w (store_of frames) c.args.i) s) c.deref.ensures.value)
-          ∙ ap (option_map (λ (values : List Value). with_frame c.args.i (remember c.args.k) (put_written w c.args.i values (whole c.args.k ∷ []) store))) c.in_default.is,
+          (c.in_ok-variables.ensures ∙ ap (λ frames. outcome_by w
+          (glimpse (roots_of_act (stmt_kind s)) w (store_of frames) c.args.i) s) c.deref.ensures.value)
+          ∙ ap (option_map (λ (values : List Value). with_frame c.args.i (remember c.args.k)
+          (put_written w c.args.i values (whole c.args.k ∷ []) store))) c.in_default.is,
       refl,
     )
 
@@ -32,7 +34,8 @@ returns-in-None c =
     let none = ap (λ values. slice_get values c.args.k) (sym c.deref-2.ensures) ∙ sym c.in-None.ensures in
     written_glimpsed w c.args.i s (whole c.args.k ∷ []) store (with_frame c.args.i (remember c.args.k)) c.in_ok-variables.field-0 c.requires
     (c.in_ok-variables.ensures ∙ ap (λ frames. outcome_by w (glimpse (roots_of_act (stmt_kind s)) w (store_of frames) c.args.i) s) c.deref.ensures.value)
-    ∙ ap (option_map (λ (values : List Value). with_frame c.args.i (remember c.args.k) (put_written w c.args.i values (whole c.args.k ∷ []) store))) c.in-Some.is
+    ∙ ap (option_map (λ (values : List Value). with_frame c.args.i (remember c.args.k)
+    (put_written w c.args.i values (whole c.args.k ∷ []) store))) c.in-Some.is
     ∙ ap (λ store. Some (with_frame c.args.i (remember c.args.k) store)) (nothing_put w c.args.i c.args.k c.in-Some.variables store none)
     ∙ ap Some (remembered c.args.i c.args.k store store (store_of c.remember.new.frames.items) c.in_ok-before-in-None.before refl
     (c.in_ok-before-in-None.ensures ∙ ap (λ frames. now_there (store_of frames) c.args.i c.args.k) c.deref-in-None.ensures.value) c.remember.ensures)
@@ -43,11 +46,13 @@ returns c =
     let store = store_of c.args.frames.now.items in
     let s = c.args.s.now in
     let value = c.in_ok-value-in-Some-element.value in
-    let found = ap (λ (values : List Value). slice_get values c.args.k) (sym c.deref-2.ensures) ∙ sym c.in-Some-element.ensures ∙ ap Some (sym c.in_ok-value-in-Some-element.ensures) in
+    let found = ap (λ (values : List Value). slice_get values c.args.k) (sym c.deref-2.ensures) ∙ sym c.in-Some-element.ensures
+    ∙ ap Some (sym c.in_ok-value-in-Some-element.ensures) in
     let outcome =
     written_glimpsed w c.args.i s (whole c.args.k ∷ []) store (with_frame c.args.i (remember c.args.k)) c.in_ok-variables.field-0 c.requires
     (c.in_ok-variables.ensures ∙ ap (λ frames. outcome_by w (glimpse (roots_of_act (stmt_kind s)) w (store_of frames) c.args.i) s) c.deref.ensures.value)
-    ∙ ap (option_map (λ (values : List Value). with_frame c.args.i (remember c.args.k) (put_written w c.args.i values (whole c.args.k ∷ []) store))) c.in-Some.is
+    ∙ ap (option_map (λ (values : List Value). with_frame c.args.i (remember c.args.k)
+    (put_written w c.args.i values (whole c.args.k ∷ []) store))) c.in-Some.is
     ∙ ap (λ store. Some (with_frame c.args.i (remember c.args.k) store))
     (one_put w c.args.i c.args.k c.in-Some.variables value (location_of c.in_ok-at-in-Some-element.at) store found c.in_ok-at-in-Some-element.ensures) in
     subst (λ (outcome : Option Store). Carried outcome store (store_of c.declare.new.frames.items) c.declare.result) (sym outcome) c.declare.ensures

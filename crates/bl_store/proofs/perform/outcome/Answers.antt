@@ -10,5 +10,6 @@ returns c =
     let w = setting_in c.args.w.now in
     let store = store_of c.args.frames.now in
     subst (λ (values : Option (List Value)). IfOk c.outcome_seen.result (λ left. left ≡ values))
-    (ap (λ seen. outcome_by w seen c.args.s.now) (c.in_ok-seen.ensures ∙ ap (λ asked. glimpse asked w store c.args.i) (c.deref.ensures ∙ c.in_ok-asked.ensures)))
+    (ap (λ seen. outcome_by w seen c.args.s.now) (c.in_ok-seen.ensures
+    ∙ ap (λ asked. glimpse asked w store c.args.i) (c.deref.ensures ∙ c.in_ok-asked.ensures)))
     c.outcome_seen.ensures

@@ -12,5 +12,6 @@ returns c =
     let w = setting_in c.args.w.now in
     let store = store_of c.args.frames.now in
     subst (λ (value : Option Value). IfOk c.value_seen.result (λ got. got_value got ≡ value))
-    (ap (λ seen. value_by w seen c.args.e.now) (c.in_ok-seen.ensures ∙ ap (λ asked. glimpse asked w store c.args.i) (c.deref.ensures ∙ c.in_ok-asked.ensures)) ∙ value_alone w store c.args.i c.args.e.now)
+    (ap (λ seen. value_by w seen c.args.e.now) (c.in_ok-seen.ensures
+    ∙ ap (λ asked. glimpse asked w store c.args.i) (c.deref.ensures ∙ c.in_ok-asked.ensures)) ∙ value_alone w store c.args.i c.args.e.now)
     c.value_seen.ensures

@@ -16,7 +16,8 @@ returns-in_default c =
     let store = store_of c.args.frames.now.items in
     let s = c.args.s.now in (
       written_glimpsed w c.args.i s c.args.paths.now store (λ store. store) c.in_ok-variables.field-0 c.requires
-          (c.in_ok-variables.ensures ∙ ap (λ frames. outcome_by w (glimpse (roots_of_act (stmt_kind s)) w (store_of frames) c.args.i) s) c.deref.ensures.value)
+          (c.in_ok-variables.ensures ∙ ap (λ frames. outcome_by w
+          (glimpse (roots_of_act (stmt_kind s)) w (store_of frames) c.args.i) s) c.deref.ensures.value)
           ∙ ap (option_map (λ (values : List Value). put_written w c.args.i values c.args.paths.now store)) c.in_default.is,
       refl,
     )
@@ -29,4 +30,5 @@ returns c =
     written_glimpsed w c.args.i s c.args.paths.now store (λ store. store) c.in_ok-variables.field-0 c.requires
     (c.in_ok-variables.ensures ∙ ap (λ frames. outcome_by w (glimpse (roots_of_act (stmt_kind s)) w (store_of frames) c.args.i) s) c.deref.ensures.value)
     ∙ ap (option_map (λ (values : List Value). put_written w c.args.i values c.args.paths.now store)) c.in-Some.is
-    ∙ ap Some (sym (c.put_all.ensures ∙ c.in_ok-puts.ensures store ∙ ap (λ (values : List Value). put_written w c.args.i values c.args.paths.now store) c.deref-2.ensures))
+    ∙ ap Some (sym (c.put_all.ensures ∙ c.in_ok-puts.ensures store
+    ∙ ap (λ (values : List Value). put_written w c.args.i values c.args.paths.now store) c.deref-2.ensures))

@@ -22,6 +22,7 @@ loop-k-preserved c =
     ∙ ap Some (sym c.output_at.ensures) in
     let set = c.set.ensures ∙ ap (slice_set c.loop-k.into c.loop-k.k) (to_z-of_z w128 c.output_at.result (search rules)) in
     record {
-      row = row_next (outputs_row w store) c.args.into.now c.loop-k.into c.set.new.self c.loop-k.k c.output_at.result c.loop-k.invariant.row c.requires within here set;
+      row = row_next (outputs_row w store) c.args.into.now c.loop-k.into c.set.new.self c.loop-k.k c.output_at.result
+          c.loop-k.invariant.row c.requires within here set;
       long = fill_long c.loop-k.into c.set.new.self c.loop-k.k (length (outputs_row w store)) c.output_at.result c.loop-k.invariant.long set;
     }

@@ -11,5 +11,6 @@ returns-in_ok-push-in-Some c store =
     put_more (setting_in c.args.w.now) c.args.i c.args.variables.now c.args.path.now c.args.into.now c.push.new.self
     (record { at = c.in_ok-at-in-Some.at; value = c.in_ok-value-in-Some.value }) c.in-Some.value.now
     (ap (λ fields. option_and_then (value_at fields) (slice_get c.args.variables.now c.args.path.now.root)) (sym c.deref.ensures) ∙ sym c.in-Some.ensures)
-    (c.in_ok-at-in-Some.ensures ∙ ap (λ fields. home (setting_in c.args.w.now) (record { instance = c.args.i; path = record { root = c.args.path.now.root; fields = fields } })) c.deref-in-Some.ensures)
+    (c.in_ok-at-in-Some.ensures ∙ ap (λ fields. home (setting_in c.args.w.now)
+    (record { instance = c.args.i; path = record { root = c.args.path.now.root; fields = fields } })) c.deref-in-Some.ensures)
     c.in_ok-value-in-Some.ensures c.in_ok-push-in-Some.ensures.ok store

@@ -1,6 +1,6 @@
 use Rattle.std.proofs.Common.{◌≡◌, ◌+◌, true, length, drop}
 use Rattle.bl_cmeaning.specs.Cells.{inputs_of, outputs_of}
-use Rattle.bl_stream.specs.Streams.{AllFit}
+use Rattle.bl_tree.specs.Ports.{RowsFit}
 use Rattle.bl_stream.proofs.RowLoop.{Onward}
 use Rattle.bl_stream.proofs.ticks.run.Given as goal
 
@@ -10,7 +10,7 @@ invariant-rows l = record {
       Onward (outputs_of l.initial.runner.parts) l.initial.runner l.rows l.initial.ticks.done l.initial.text.items l.runner (drop l.row-index l.rows) l.ticks.done l.text.items;
   parts : l.runner.parts ≡ l.initial.runner.parts;
   live : l.runner.live ≡ true;
-  fit : AllFit (inputs_of l.initial.runner.parts) (drop l.row-index l.rows);
+  fit : RowsFit (inputs_of l.initial.runner.parts) (drop l.row-index l.rows);
   long : length l.ticks.outputs ≡ length (outputs_of l.initial.runner.parts);
   done : l.ticks.done ≡ l.initial.ticks.done + l.row-index;
 }

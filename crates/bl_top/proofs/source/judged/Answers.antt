@@ -1,6 +1,7 @@
 use Rattle.std.proofs.Common.{length, subst}
 use Rattle.bl_parse.specs.Programs.{Spells}
-use Rattle.bl_syntax.specs.Rules.{IsRefusalOf, Passes}
+use Rattle.bl_tree.specs.Rules.{IsCause}
+use Rattle.bl_syntax.specs.Rules.{Fails, Passes}
 use Rattle.bl_top.proofs.Fronts.{lexed_refusal, parsed_refusal, program_that_passes, tree_parsed, tree_refusal}
 use Rattle.bl_top.proofs.source.judged.Goals as goal
 
@@ -10,7 +11,7 @@ returns-in-Err-clause-refused c = lexed_refusal c.args.source.now c.in-Err.refus
 pub returns-in-Err-parse-clause-refused : goal.returns-in-Err-parse-clause-refused
 returns-in-Err-parse-clause-refused c =
     parsed_refusal c.args.source.now c.in-Ok.tokens.items c.in-Err-parse.refusal c.in-Ok.ensures.passes c.in-Ok.ensures.tokens
-    (subst (λ tokens. IsRefusalOf (length c.args.source.now) tokens c.in-Err-parse.refusal) c.deref.ensures.value c.in-Err-parse.ensures.refusal)
+    (subst (λ tokens. IsCause (Fails (length c.args.source.now) tokens) c.in-Err-parse.refusal) c.deref.ensures.value c.in-Err-parse.ensures.refusal)
 
 pub returns-in-Ok-judge_tree-clause-accepted : goal.returns-in-Ok-judge_tree-clause-accepted
 returns-in-Ok-judge_tree-clause-accepted c =

@@ -22,12 +22,12 @@ loop-path-preserved c =
     let made = sym (ap (λ l. c.loop-path.made ++ paths_made (all_lent env l c.loop-path.params.now)) step) ∙ c.loop-path.invariant.0 in
     let noted_all = sym (ap (λ l. noted c.loop-path.notes (paths_failures (all_lent env l c.loop-path.params.now))) step) ∙ c.loop-path.invariant.1 in (
       (λ i. c.keep.new.list ++ paths_made (all_lent env rest (c.but_first-params.ensures i)))
-          ∙ kept_one c.loop-path.made c.keep.new.list (paths_made (all_lent env rest (but_first c.loop-path.params.now))) _ c.in_ok-output.output
-          c.in_ok-keep.ensures
+          ∙ kept_one c.loop-path.made c.keep.new.list (paths_made (all_lent env rest (but_first c.loop-path.params.now))) _
+          c.in_ok-output.output c.in_ok-keep.ensures
           (ap (λ o. c.loop-path.made ++ cons_option o (paths_made (all_lent env rest (but_first c.loop-path.params.now))))
           (c.in_ok-output.ensures.made ∙ ap (λ l. l.made) same) ∙ made),
       (λ i. noted c.lent.new.notes (paths_failures (all_lent env rest (c.but_first-params.ensures i))))
-          ∙ next_noted c.loop-path.notes c.lent.new.notes _ one.failures given.failures (paths_failures (all_lent env rest (but_first c.loop-path.params.now)))
-          c.in_ok-output.ensures.notes
+          ∙ next_noted c.loop-path.notes c.lent.new.notes _ one.failures given.failures
+          (paths_failures (all_lent env rest (but_first c.loop-path.params.now))) c.in_ok-output.ensures.notes
           (ap (λ l. l.failures) same) noted_all,
     )

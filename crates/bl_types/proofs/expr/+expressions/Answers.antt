@@ -3,7 +3,25 @@ use Rattle.std.proofs.lemmas.List.{length-map}
 use Rattle.std.specs.Prelude.{option_and_then, option_map, slice_get}
 use Rattle.bl_tree.specs.declared.tree.Ty.{Ty}
 use Rattle.bl_named.specs.declared.expr.NamedExpr.{out-NamedExpr}
-use Rattle.bl_types.specs.Expressions.{all_failures, all_made, but_first, call_form, cast_formed, first_type, fitted, fitting, in_context, judged, misnamed, one_formed, params_of, step_of, stepped, to_element, two_formed}
+use Rattle.bl_types.specs.Expressions.{
+  all_failures,
+  all_made,
+  but_first,
+  call_form,
+  cast_formed,
+  first_type,
+  fitted,
+  fitting,
+  in_context,
+  judged,
+  misnamed,
+  one_formed,
+  params_of,
+  step_of,
+  stepped,
+  to_element,
+  two_formed,
+}
 use Rattle.bl_types.specs.Failures.{noted}
 use Rattle.bl_types.proofs.GatherLemmas.{made_none, made_one}
 use Rattle.bl_types.proofs.JudgedLemmas.{cast_judged, fitted-length, in_context_is, index_judged, next_of, one_judged, two_judged}
@@ -17,8 +35,8 @@ judge-returns-in_ok-a-in-One-clause-notes t c =
     let e = c.args.e.now in
     then_noted_ok c.of_one.result c.args.notes.now c.judge.new.notes c.of_one.new.notes (judged env c.deref.result.now).failures
     (one_formed (out-NamedExpr e).place c.in-One.op c.in_ok-a-in-One.a).failures (judged env e).failures c.in_ok-a-in-One.ensures.notes
-    (one_judged env e c.in-One.op c.in-One.a c.deref.result.now c.in_ok-a-in-One.a c.in-One.is c.deref.ensures c.in_ok-a-in-One.ensures.form)
-    c.of_one.ensures.notes
+    (one_judged env e c.in-One.op c.in-One.a c.deref.result.now c.in_ok-a-in-One.a c.in-One.is c.deref.ensures
+    c.in_ok-a-in-One.ensures.form) c.of_one.ensures.notes
 
 pub judge-returns-in_ok-a-in-Cast-clause-notes : goal.judge-returns-in_ok-a-in-Cast-clause-notes
 judge-returns-in_ok-a-in-Cast-clause-notes t c =
@@ -26,8 +44,8 @@ judge-returns-in_ok-a-in-Cast-clause-notes t c =
     let e = c.args.e.now in
     then_noted_ok c.of_cast.result c.args.notes.now c.judge-in-Cast.new.notes c.of_cast.new.notes (judged env c.deref-in-Cast.result.now).failures
     (cast_formed (out-NamedExpr e).place c.in-Cast.target c.in_ok-a-in-Cast.a).failures (judged env e).failures c.in_ok-a-in-Cast.ensures.notes
-    (cast_judged env e c.in-Cast.target c.in-Cast.a c.deref-in-Cast.result.now c.in_ok-a-in-Cast.a c.in-Cast.is c.deref-in-Cast.ensures
-    c.in_ok-a-in-Cast.ensures.form) c.of_cast.ensures.notes
+    (cast_judged env e c.in-Cast.target c.in-Cast.a c.deref-in-Cast.result.now c.in_ok-a-in-Cast.a c.in-Cast.is
+    c.deref-in-Cast.ensures c.in_ok-a-in-Cast.ensures.form) c.of_cast.ensures.notes
 
 pub judge-returns-in_ok-b-in-Two-clause-notes : goal.judge-returns-in_ok-b-in-Two-clause-notes
 judge-returns-in_ok-b-in-Two-clause-notes t c =
@@ -56,8 +74,8 @@ step-returns-in_ok-form-in-Index-clause-notes t c =
     let env = c.args.env.now in
     let e = c.in-Index.e in
     then_noted_ok c.to_element.result c.args.notes.now c.judge.new.notes c.to_element.new.notes (judged env e).failures
-    (to_element (out-NamedExpr e).place c.in_ok-form-in-Index.form c.args.ty).failures (step_of env c.args.part.now c.args.ty).failures
-    c.in_ok-form-in-Index.ensures.notes
+    (to_element (out-NamedExpr e).place c.in_ok-form-in-Index.form c.args.ty).failures
+    (step_of env c.args.part.now c.args.ty).failures c.in_ok-form-in-Index.ensures.notes
     (index_judged env c.args.part.now e c.args.ty c.in_ok-form-in-Index.form c.in-Index.is c.in_ok-form-in-Index.ensures.form) c.to_element.ensures.notes
 
 pub call-returns-clause-form : goal.call-returns-clause-form
@@ -106,8 +124,8 @@ arguments-loop-e-preserved t c =
                 (sym (c.in_ok-argument.ensures.made ∙ ap (λ s. s.made) same) ∙ w.in_default.is) w.made-is made
           ],
       (λ i. noted c.in_context.new.notes (all_failures (fitted rest (c.but_first-params.ensures i))))
-          ∙ next_noted c.loop-e.notes c.in_context.new.notes _ argument.failures given.failures (all_failures (fitted rest (but_first c.loop-e.params.now)))
-          c.in_ok-argument.ensures.notes
+          ∙ next_noted c.loop-e.notes c.in_context.new.notes _ argument.failures given.failures
+          (all_failures (fitted rest (but_first c.loop-e.params.now))) c.in_ok-argument.ensures.notes
           (ap (λ s. s.failures) same) noted_all,
     )
 
@@ -120,8 +138,8 @@ steps-loop-part-preserved t c =
     let first = step_of env part c.loop-part.ty in
     let made = sym (ap (λ l. c.loop-part.parts ++ (stepped (map (step_of env) l) c.loop-part.ty).parts) step) ∙ c.loop-part.invariant.1.0 in
     let noted_all = sym (ap (λ l. noted c.loop-part.notes (stepped (map (step_of env) l) c.loop-part.ty).failures) step) ∙ c.loop-part.invariant.1.1 in (
-      ap (λ ty. (stepped rest ty).ty) c.in_ok-next.ensures.ty ∙ sym (ap (λ l. (stepped (map (step_of env) l) c.loop-part.ty).ty) step)
-          ∙ c.loop-part.invariant.0,
+      ap (λ ty. (stepped rest ty).ty) c.in_ok-next.ensures.ty
+          ∙ sym (ap (λ l. (stepped (map (step_of env) l) c.loop-part.ty).ty) step) ∙ c.loop-part.invariant.0,
       (
         (λ i. c.match-made.parts ++ (stepped rest (c.in_ok-next.ensures.ty i)).parts)
             ∙ elim c.match-made.branch [
@@ -129,11 +147,11 @@ steps-loop-part-preserved t c =
                   made_one c.loop-part.parts c.match-made.parts (stepped rest first.ty).parts _ first.part w.in-Some.made
                   (sym c.in_ok-next.ensures.part ∙ w.in-Some.is) (w.parts-is ∙ w.in_ok-push.ensures.ok) made
               | steps-in_default w ↦
-                  made_none c.loop-part.parts c.match-made.parts (stepped rest first.ty).parts _ first.part (sym c.in_ok-next.ensures.part ∙ w.in_default.is)
-                  w.parts-is made
+                  made_none c.loop-part.parts c.match-made.parts (stepped rest first.ty).parts _ first.part
+                  (sym c.in_ok-next.ensures.part ∙ w.in_default.is) w.parts-is made
             ],
         (λ i. noted c.step.new.notes (stepped rest (c.in_ok-next.ensures.ty i)).failures)
-            ∙ next_noted c.loop-part.notes c.step.new.notes _ first.failures first.failures (stepped rest first.ty).failures c.in_ok-next.ensures.notes refl
-            noted_all,
+            ∙ next_noted c.loop-part.notes c.step.new.notes _ first.failures first.failures
+            (stepped rest first.ty).failures c.in_ok-next.ensures.notes refl noted_all,
       ),
     )

@@ -10,8 +10,8 @@ returns-clause-notes c =
     let first = beside c.args.op int32 c.args.a.now in
     let second = beside c.args.op int32 c.args.b.now in
     subst (λ ty. OnOk c.operands_made.result (c.operands_made.new.notes ≡ noted c.args.notes.now
-    (two_of c.args.at c.args.op (type_of_two c.args.op ty ty) (beside c.args.op ty c.args.a.now) (beside c.args.op ty c.args.b.now)).failures))
-    c.int32-int32.ensures
+    (two_of c.args.at c.args.op (type_of_two c.args.op ty ty) (beside c.args.op ty c.args.a.now)
+    (beside c.args.op ty c.args.b.now)).failures)) c.int32-int32.ensures
     (three_noted_ok c.operands_made.result c.args.notes.now c.beside.new.notes c.beside-2.new.notes c.operands_made.new.notes first.failures second.failures
     (operands_made c.args.at c.args.op (type_of_two c.args.op int32 int32) first.made second.made).failures
     (operands_made c.args.at c.args.op c.type_of_two.result c.in_ok-a.a c.in_ok-b.b).failures

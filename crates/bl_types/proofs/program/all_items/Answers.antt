@@ -1,6 +1,6 @@
 use Rattle.std.proofs.Common.{◌∙◌}
 use Rattle.bl_types.specs.Programs.{after_items}
-use Rattle.bl_types.specs.States.{after}
+use Rattle.bl_types.specs.inner.States.{after}
 use Rattle.bl_types.proofs.program.all_items.Goals as goal
 
 pub returns : goal.returns

@@ -1,6 +1,6 @@
 use Rattle.std.proofs.Common.{◌≡◌, drop}
 use Rattle.bl_types.specs.Programs.{after_items}
-use Rattle.bl_types.specs.States.{after}
+use Rattle.bl_types.specs.inner.States.{after}
 use Rattle.bl_types.proofs.program.items.Given as goal
 
 abbrev pub invariant-loop-one : goal.invariant-loop-one

@@ -3,7 +3,7 @@ use Rattle.bl_types.specs.declared.environment.State.{State}
 use Rattle.bl_types.specs.declared.failure.Notes.{Notes}
 use Rattle.bl_types.specs.Failures.{noted}
 use Rattle.bl_types.specs.Programs.{after_program, start, text_end}
-use Rattle.bl_types.specs.States.{passed}
+use Rattle.bl_types.specs.inner.States.{passed}
 use Rattle.bl_types.specs.Units.{entries}
 use Rattle.bl_types.proofs.StateLemmas.{passed-passed}
 use Rattle.bl_types.proofs.program.walk.Goals as goal

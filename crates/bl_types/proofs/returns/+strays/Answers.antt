@@ -9,11 +9,11 @@ use Rattle.bl_types.proofs.returns.+strays.Goals as goal
 
 pub strays_in-returns-in-If : goal.strays_in-returns-in-If
 strays_in-returns-in-If t c =
-    then_noted c.args.notes.now c.strays_in_arms.new.notes c.strays_in_block.new.notes (joined (map strays_in_arm c.deref.result.now))
-    (joined (map strays_in c.deref-in-If.result.now))
+    then_noted c.args.notes.now c.strays_in_arms.new.notes c.strays_in_block.new.notes
+    (joined (map strays_in_arm c.deref.result.now)) (joined (map strays_in c.deref-in-If.result.now))
     (strays_in c.args.s.now) c.strays_in_arms.ensures
-    (if_strays c.args.s.now c.in-If.all c.deref.result.now c.in-If.other c.deref-in-If.result.now c.in-If.is c.deref.ensures c.deref-in-If.ensures)
-    c.strays_in_block.ensures
+    (if_strays c.args.s.now c.in-If.all c.deref.result.now c.in-If.other c.deref-in-If.result.now c.in-If.is c.deref.ensures
+    c.deref-in-If.ensures) c.strays_in_block.ensures
 
 pub strays_in_arms-loop-arm-preserved : goal.strays_in_arms-loop-arm-preserved
 strays_in_arms-loop-arm-preserved t c =

@@ -21,7 +21,7 @@ returns-in_ok-b-in-Two-clause-notes t c =
     then_noted_ok c.two_made.result c.args.notes.now c.settle-in-Two-2.new.notes c.two_made.new.notes (first ++ second)
     (two_made c.args.s (out-Expr c.args.e.now).place c.in-Two.op c.in_ok-a-in-Two.a c.in_ok-b-in-Two.b).failures (settled c.args.s c.args.e.now).failures
     (c.in_ok-b-in-Two.ensures.notes ∙ ap (λ n. noted n second) c.in_ok-a-in-Two.ensures.notes ∙ sym (noted-append c.args.notes.now first second))
-    (two_settled c.args.s c.args.e.now c.in-Two.op c.in-Two.a c.in-Two.b c.deref-in-Two.result.now c.deref-in-Two-2.result.now c.in_ok-a-in-Two.a
-    c.in_ok-b-in-Two.b c.in-Two.is
+    (two_settled c.args.s c.args.e.now c.in-Two.op c.in-Two.a c.in-Two.b c.deref-in-Two.result.now c.deref-in-Two-2.result.now
+    c.in_ok-a-in-Two.a c.in_ok-b-in-Two.b c.in-Two.is
     c.deref-in-Two.ensures c.deref-in-Two-2.ensures c.in_ok-a-in-Two.ensures.made c.in_ok-b-in-Two.ensures.made)
     c.two_made.ensures.notes

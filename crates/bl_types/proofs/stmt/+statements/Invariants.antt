@@ -1,5 +1,5 @@
 use Rattle.std.proofs.Common.{◌≡◌, ◌++◌, drop, map}
-use Rattle.bl_types.specs.States.{passed}
+use Rattle.bl_types.specs.inner.States.{passed}
 use Rattle.bl_types.specs.Statements.{arm_walked, branch_walked, in_order, walked_stmt}
 use Rattle.bl_types.proofs.stmt.+statements.Given as goal
 

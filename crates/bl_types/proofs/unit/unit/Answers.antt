@@ -2,7 +2,7 @@ use Rattle.std.proofs.Common.{◌≡◌, ◌∙◌, ◌++◌, ap, append_assoc}
 use Rattle.bl_tree.specs.declared.tree.Stmt.{Stmt}
 use Rattle.bl_types.specs.declared.environment.State.{State}
 use Rattle.bl_types.specs.Returns.{return_failures}
-use Rattle.bl_types.specs.States.{passed}
+use Rattle.bl_types.specs.inner.States.{passed}
 use Rattle.bl_types.specs.Statements.{Block, walked_block}
 use Rattle.bl_types.specs.Units.{after_head, left}
 use Rattle.bl_types.proofs.NoteLemmas.{on_ok}
@@ -26,8 +26,8 @@ returns c =
     c.in_ok-body.ensures.state in
     on_ok (c.end.new.state ≡ passed c.block.new.state (left unit c.in_ok-body.body c.block.new.state.env) returned) _ c.end.result
     (λ h.
-    passed_then old c.block.new.state c.end.new.state inside.env (head.failures ++ inside.failures) (λ env. left unit c.in_ok-body.body env) (λ env. returned)
-    within h
+    passed_then old c.block.new.state c.end.new.state inside.env (head.failures ++ inside.failures)
+    (λ env. left unit c.in_ok-body.body env) (λ env. returned) within h
     ∙ ap (λ l. passed old (left unit c.in_ok-body.body inside.env) l) (append_assoc head.failures inside.failures returned)
     ∙ ap (λ b. passed old (left unit b inside.env) (head.failures ++ (inside.failures ++ returned))) made
     ∙ (λ i.

@@ -7,14 +7,16 @@ use Rattle.clap.specs.declared.builder.command.Command.TheViews.{out-Command}
 use Rattle.bl_words.specs.CommandLine.{with_own_words_only}
 use Rattle.bl_words.proofs.command_line.command_line.Goals as goal
 
-settings_are : (a b c d e f : Command) → out-Command a ≡ record (out-Command b) { subcommand_required = true } → out-Command b ≡ record (out-Command c) { disable_version_flag = true }
+settings_are : (a b c d e f : Command) → out-Command a ≡ record (out-Command b) { subcommand_required = true } →
+    out-Command b ≡ record (out-Command c) { disable_version_flag = true }
     → out-Command c ≡ record (out-Command d) { disable_help_subcommand = true } → out-Command d ≡ record (out-Command e) { disable_help_flag = true }
     → out-Command e ≡ record (out-Command f) { no_binary_name = true } → app_of a ≡ on_top with_own_words_only (app_of f)
 settings_are a b c d e f p q r s t = rw (p, q, r, s, t) refl
 
 pub returns : goal.returns
 returns c =
-    let settings = settings_are c.subcommand_required.result c.disable_version_flag.result c.disable_help_subcommand.result c.disable_help_flag.result c.no_binary_name.result c.new.result
+    let settings = settings_are c.subcommand_required.result c.disable_version_flag.result c.disable_help_subcommand.result
+    c.disable_help_flag.result c.no_binary_name.result c.new.result
     c.subcommand_required.ensures c.disable_version_flag.ensures c.disable_help_subcommand.ensures c.disable_help_flag.ensures c.no_binary_name.ensures in
     let top = settings ∙ ap (on_top with_own_words_only) c.new.ensures.app in
     let build = c.in_ok-one_command.ensures in

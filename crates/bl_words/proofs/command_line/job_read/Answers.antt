@@ -11,7 +11,8 @@ pub returns-in-build : goal.returns-in-build
 returns-in-build c =
     let found = found_of c.in_ok-name.values.now in
     let command = command_is c.args.matches.now c.in_ok-name.name.now (rows_of found) c.in_ok-name.ensures.name c.in_ok-name.ensures.rows in
-    c.build_read.ensures ∙ ap (one_read build) (first_value-rows found (codes "first")) ∙ sym (ap job_read command ∙ ap (λ name. job_read (Some (name, rows_of found))) c.in-build.is)
+    c.build_read.ensures ∙ ap (one_read build) (first_value-rows found (codes "first"))
+    ∙ sym (ap job_read command ∙ ap (λ name. job_read (Some (name, rows_of found))) c.in-build.is)
 
 pub returns-in-run : goal.returns-in-run
 returns-in-run c =
@@ -31,4 +32,5 @@ pub returns-in_default : goal.returns-in_default
 returns-in_default c =
     let rows = rows_of (found_of c.in_ok-name.values.now) in
     let command = command_is c.args.matches.now c.in_ok-name.name.now rows c.in_ok-name.ensures.name c.in_ok-name.ensures.rows in
-    sym (ap job_read command ∙ unnamed_read c.in_ok-name.name.now (first_of (codes "first") rows) (first_of (codes "second") rows) c.in_default.not-build c.in_default.not-run c.in_default.not-exec)
+    sym (ap job_read command ∙ unnamed_read c.in_ok-name.name.now (first_of (codes "first") rows)
+    (first_of (codes "second") rows) c.in_default.not-build c.in_default.not-run c.in_default.not-exec)

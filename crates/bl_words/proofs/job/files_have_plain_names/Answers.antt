@@ -8,12 +8,14 @@ use Rattle.bl_words.proofs.job.files_have_plain_names.Goals as goal
 abbrev HasPlainFiles : JobSpec → Type 0
 HasPlainFiles job = list_all is_plain_word (files_of job) ≡ true
 
-one_plain : (job : Word → JobSpec) → ((first : Word) → files_of (job first) ≡ first ∷ []) → (values : List Word) → list_all is_plain_word values ≡ true → IfSome (of_one job values) HasPlainFiles
+one_plain : (job : Word → JobSpec) → ((first : Word) → files_of (job first) ≡ first ∷ []) → (values : List Word) →
+    list_all is_plain_word values ≡ true → IfSome (of_one job values) HasPlainFiles
 one_plain job files [] plain = tt
 one_plain job files (first ∷ []) plain = rw (files first) plain
 one_plain job files (first ∷ second ∷ more) plain = tt
 
-two_plain : (job : Word → Word → JobSpec) → ((first second : Word) → files_of (job first second) ≡ first ∷ second ∷ []) → (values : List Word) → list_all is_plain_word values ≡ true
+two_plain : (job : Word → Word → JobSpec) → ((first second : Word) → files_of (job first second) ≡ first ∷ second ∷ []) →
+    (values : List Word) → list_all is_plain_word values ≡ true
     → IfSome (of_two job values) HasPlainFiles
 two_plain job files [] plain = tt
 two_plain job files (first ∷ []) plain = tt

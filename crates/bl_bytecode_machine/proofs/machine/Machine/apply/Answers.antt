@@ -11,11 +11,13 @@ returns-clause-value c =
     c.value-value.ensures
     ∙ (ap (λ (x : List ℤ). prelude_value c.args.builtin x) (tail-is c.max-first.result c.deref.result.now i.numbers.items c.deref.ensures.value)
     ∙ ap (λ (x : List ℤ). prelude_value c.args.builtin x)
-    (args-shown i.at i.base i.floor i.count i.cells.items i.numbers.items i.callers.items (vec_capacity i.numbers) (vec_capacity i.callers) c.args.self.now c.args.n c.max-first.result c.self.view_is c.self.invariant.within e))
+    (args-shown i.at i.base i.floor i.count i.cells.items i.numbers.items i.callers.items (vec_capacity i.numbers) (vec_capacity i.callers) c.args.self.now
+    c.args.n c.max-first.result c.self.view_is c.self.invariant.within e))
 
 pub returns-clause-after : goal.returns-clause-after
 returns-clause-after c =
     let i = c.self.inside in
     let e : c.max-first.result ≡ i.floor + (length i.numbers.items - i.floor - c.args.n) = omega arith in
-    take-shown i.at i.base i.floor i.count i.cells.items i.numbers.items c.truncate.new.self.items i.callers.items (vec_capacity i.numbers) (vec_capacity i.callers) (vec_capacity c.truncate.new.self) c.args.self.now c.args.n c.max-first.result
+    take-shown i.at i.base i.floor i.count i.cells.items i.numbers.items c.truncate.new.self.items i.callers.items (vec_capacity i.numbers)
+    (vec_capacity i.callers) (vec_capacity c.truncate.new.self) c.args.self.now c.args.n c.max-first.result
     c.self.view_is c.self.invariant.within e c.truncate.ensures.items c.truncate.ensures.capacity

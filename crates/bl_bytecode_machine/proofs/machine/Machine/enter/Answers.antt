@@ -9,7 +9,8 @@ pub push_reserved-requires : goal.push_reserved-requires
 push_reserved-requires c =
     let i = c.self.inside in
     let less : length i.callers.items < vec_capacity i.callers =
-    enter-room i.at i.base i.floor i.count i.cells.items i.numbers.items i.callers.items (vec_capacity i.numbers) (vec_capacity i.callers) c.args.self.now c.args.callee c.self.view_is c.requires.room in
+    enter-room i.at i.base i.floor i.count i.cells.items i.numbers.items i.callers.items (vec_capacity i.numbers) (vec_capacity i.callers) c.args.self.now
+    c.args.callee c.self.view_is c.requires.room in
     omega (arith, less)
 
 pub returns : goal.returns
@@ -20,7 +21,10 @@ returns c =
     let next : c.capped-base.result ≡ capped (i.base + c.args.callee.passed) = c.capped-base.ensures ∙ ap capped sum in
     let cells : c.begin.new.cells.items ≡ frame_begun c.args.callee.frame c.capped-base.result (drop c.max-first.result i.numbers.items) i.cells.items =
     c.begin.ensures
-    ∙ ap (λ (x : List ℤ). frame_begun c.args.callee.frame c.capped-base.result x i.cells.items) (tail-is c.max-first.result c.deref.result.now i.numbers.items c.deref.ensures.value) in
-    enter-shown i.at i.base i.floor i.count i.cells.items i.numbers.items i.callers.items (vec_capacity i.numbers) (vec_capacity i.callers) c.args.self.now c.args.callee c.max-first.result c.capped-base.result
+    ∙ ap (λ (x : List ℤ). frame_begun c.args.callee.frame c.capped-base.result x i.cells.items)
+    (tail-is c.max-first.result c.deref.result.now i.numbers.items c.deref.ensures.value) in
+    enter-shown i.at i.base i.floor i.count i.cells.items i.numbers.items i.callers.items (vec_capacity i.numbers) (vec_capacity i.callers) c.args.self.now
+    c.args.callee c.max-first.result c.capped-base.result
     c.begin.new.cells.items c.truncate.new.self.items c.push_reserved.new.self.items (vec_capacity c.truncate.new.self) (vec_capacity c.push_reserved.new.self)
-    c.self.view_is c.self.invariant.within e next cells c.truncate.ensures.items c.push_reserved.ensures.items c.truncate.ensures.capacity c.push_reserved.ensures.capacity
+    c.self.view_is c.self.invariant.within e next cells c.truncate.ensures.items c.push_reserved.ensures.items c.truncate.ensures.capacity
+    c.push_reserved.ensures.capacity

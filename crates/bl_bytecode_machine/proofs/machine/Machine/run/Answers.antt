@@ -8,24 +8,32 @@ use Rattle.bl_bytecode_machine.proofs.machine.Machine.run.Goals as goal
 
 pub step-requires : goal.step-requires
 step-requires g c =
-    step-room c.args.code.now g.steps (begun (record { entry = c.args.entry; frame = c.args.frame }) c.args.base c.args.args.now c.args.self.now.state.cells [] 0) c.args.self.now c.loop-answer.self c.loop-answer.invariant
+    step-room c.args.code.now g.steps
+    (begun (record { entry = c.args.entry; frame = c.args.frame }) c.args.base c.args.args.now c.args.self.now.state.cells [] 0) c.args.self.now
+    c.loop-answer.self c.loop-answer.invariant
 
 pub loop-answer-smaller : goal.loop-answer-smaller
 loop-answer-smaller g c =
-    goes-less c.args.code.now g.steps (begun (record { entry = c.args.entry; frame = c.args.frame }) c.args.base c.args.args.now c.args.self.now.state.cells [] 0) c.args.self.now c.loop-answer.self c.step.new.self
+    goes-less c.args.code.now g.steps
+    (begun (record { entry = c.args.entry; frame = c.args.frame }) c.args.base c.args.args.now c.args.self.now.state.cells [] 0) c.args.self.now
+    c.loop-answer.self c.step.new.self
     c.loop-answer.invariant c.in-Goes.ensures
 
 pub loop-answer-preserved : goal.loop-answer-preserved
 loop-answer-preserved g c =
-    goes-on c.args.code.now g.steps (begun (record { entry = c.args.entry; frame = c.args.frame }) c.args.base c.args.args.now c.args.self.now.state.cells [] 0) c.args.self.now c.loop-answer.self c.step.new.self
+    goes-on c.args.code.now g.steps
+    (begun (record { entry = c.args.entry; frame = c.args.frame }) c.args.base c.args.args.now c.args.self.now.state.cells [] 0) c.args.self.now
+    c.loop-answer.self c.step.new.self
     c.loop-answer.invariant c.in-Goes.ensures
 
 pub returns-in-Done : goal.returns-in-Done
 returns-in-Done g c =
-    ends c.args.code.now g.steps (begun (record { entry = c.args.entry; frame = c.args.frame }) c.args.base c.args.args.now c.args.self.now.state.cells [] 0) c.args.self.now c.loop-answer.self c.step.new.self
+    ends c.args.code.now g.steps (begun (record { entry = c.args.entry; frame = c.args.frame }) c.args.base c.args.args.now c.args.self.now.state.cells [] 0)
+    c.args.self.now c.loop-answer.self c.step.new.self
     (flow.Done c.in-Done.answer) _ c.loop-answer.invariant (ap Some (to_z-of_z w128 c.in-Done.answer (search rules))) c.in-Done.ensures
 
 pub returns-in-Trapped : goal.returns-in-Trapped
 returns-in-Trapped g c =
-    ends c.args.code.now g.steps (begun (record { entry = c.args.entry; frame = c.args.frame }) c.args.base c.args.args.now c.args.self.now.state.cells [] 0) c.args.self.now c.loop-answer.self c.step.new.self
+    ends c.args.code.now g.steps (begun (record { entry = c.args.entry; frame = c.args.frame }) c.args.base c.args.args.now c.args.self.now.state.cells [] 0)
+    c.args.self.now c.loop-answer.self c.step.new.self
     flow.Trapped None c.loop-answer.invariant refl c.in-Trapped.ensures

@@ -5,7 +5,8 @@ use Rattle.bl_bytecode_machine.proofs.Running.{Going, left}
 use Rattle.bl_bytecode_machine.proofs.machine.Machine.run.Given as goal
 
 abbrev pub invariant-loop-answer : goal.invariant-loop-answer
-invariant-loop-answer g l = Going l.code g.steps (begun (record { entry = l.fn.entry; frame = l.fn.frame }) l.fn.base l.fn.args l.fn.self.state.cells [] 0) l.fn.self l.self
+invariant-loop-answer g l =
+    Going l.code g.steps (begun (record { entry = l.fn.entry; frame = l.fn.frame }) l.fn.base l.fn.args l.fn.self.state.cells [] 0) l.fn.self l.self
 
 abbrev pub decreases-loop-answer : goal.decreases-loop-answer
 decreases-loop-answer g l = left l.code g.steps l.self.state

@@ -1,5 +1,5 @@
 use Rattle.std.proofs.Common.{drop}
-use Rattle.bl_cmeaning.specs.Maps.{text_at}
+use Rattle.bl_cmeaning.specs.inner.Maps.{text_at}
 use Rattle.bl_cmeaning.specs.Saturated.{saturated}
 use Rattle.bl_cmeaning.specs.Sizes.{deepest_chain}
 use Rattle.bl_cmeaning.proofs.SizeLemmas.{Deepest}

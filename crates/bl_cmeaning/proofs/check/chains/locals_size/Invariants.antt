@@ -1,6 +1,6 @@
 use Rattle.std.proofs.Common.{map}
 use Rattle.bl_tree.specs.Reduce.{total}
-use Rattle.bl_cmeaning.specs.Maps.{text_at}
+use Rattle.bl_cmeaning.specs.inner.Maps.{text_at}
 use Rattle.bl_cmeaning.specs.Saturated.{saturated}
 use Rattle.bl_cmeaning.specs.Sizes.{size_of_type}
 use Rattle.bl_cmeaning.proofs.SizeLemmas.{Summed}
@@ -8,4 +8,5 @@ use Rattle.bl_cmeaning.proofs.check.chains.locals_size.Given as goal
 
 abbrev pub invariant-loop-local : goal.invariant-loop-local
 invariant-loop-local l =
-    Summed (λ v. size_of_type (text_at l.sizes) v.ty) l.locals l.local-index l.size (saturated (total (map (λ v. size_of_type (text_at l.sizes) v.ty) l.locals)))
+    Summed (λ v. size_of_type (text_at l.sizes) v.ty) l.locals l.local-index l.size
+    (saturated (total (map (λ v. size_of_type (text_at l.sizes) v.ty) l.locals)))

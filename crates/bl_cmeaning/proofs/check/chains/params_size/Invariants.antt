@@ -1,6 +1,6 @@
 use Rattle.std.proofs.Common.{map}
 use Rattle.bl_tree.specs.Reduce.{total}
-use Rattle.bl_cmeaning.specs.Maps.{text_at}
+use Rattle.bl_cmeaning.specs.inner.Maps.{text_at}
 use Rattle.bl_cmeaning.specs.Saturated.{saturated}
 use Rattle.bl_cmeaning.specs.Sizes.{size_of_param}
 use Rattle.bl_cmeaning.proofs.SizeLemmas.{Summed}

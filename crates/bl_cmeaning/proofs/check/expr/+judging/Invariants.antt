@@ -1,6 +1,6 @@
 use Rattle.std.proofs.Common.{◌≡◌, ℕ, List, ◌+◌, drop, map, ◌&&◌, ◌||◌, option_map}
 use Rattle.bl_tree.specs.Reduce.{any_of, joined}
-use Rattle.bl_cmeaning.specs.Checked.{context_of, fit_from, is_handed, judged_args, signature_for, type_of}
+use Rattle.bl_cmeaning.specs.inner.Checked.{context_of, fit_from, is_handed, judged_args, signature_for, type_of}
 use Rattle.bl_cmeaning.specs.Faults.{earlier_of, first_place, fit_args, judge_steps, judged_step}
 use Rattle.bl_cmeaning.proofs.check.expr.+judging.Given as goal
 
@@ -8,7 +8,8 @@ abbrev pub invariant-judge_steps-loop-step : goal.invariant-judge_steps-loop-ste
 invariant-judge_steps-loop-step l =
     ((judge_steps (map judged_step (drop l.step-index l.steps)) (context_of l.context) l.at (option_map type_of l.ty)).ty
     ≡ (judge_steps (map judged_step l.steps) (context_of l.context) l.at (option_map type_of l.from)).ty)
-    × (earlier_of l.first (first_place (judge_steps (map judged_step (drop l.step-index l.steps)) (context_of l.context) l.at (option_map type_of l.ty)).faults)
+    × (earlier_of l.first (first_place (judge_steps (map judged_step (drop l.step-index l.steps)) (context_of l.context) l.at
+    (option_map type_of l.ty)).faults)
     ≡ first_place (judge_steps (map judged_step l.steps) (context_of l.context) l.at (option_map type_of l.from)).faults)
 
 abbrev pub invariant-judge_args-loop-k : goal.invariant-judge_args-loop-k

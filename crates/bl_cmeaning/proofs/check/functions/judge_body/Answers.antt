@@ -1,8 +1,9 @@
 use Rattle.std.proofs.Common.{◌≡◌, ◌∙◌, ◌++◌, Bool, false, ap, map}
-use Rattle.bl_cmeaning.specs.Checked.{functions_of, structs_of, variables_in_map}
-use Rattle.bl_cmeaning.specs.Faults.{Context, Variable, block_faults, context_in, faults_in_stmt, first_place, keeps_all, names_table, repeated, variable_names, variables_of}
-use Rattle.bl_cmeaning.specs.Loops.{counters_in_block}
-use Rattle.bl_cmeaning.specs.Maps.{named, text_at}
+use Rattle.bl_cmeaning.specs.inner.Checked.{functions_of, structs_of, variables_in_map}
+use Rattle.bl_cmeaning.specs.Faults.{Context, Variable, block_faults, context_in, faults_in_stmt, first_place, keeps_all, names_table, repeated}
+use Rattle.bl_cmeaning.specs.Faults.{variable_names, variables_of}
+use Rattle.bl_cmeaning.specs.Loops.{turns_in_block}
+use Rattle.bl_cmeaning.specs.inner.Maps.{named, text_at}
 use Rattle.bl_cmeaning.specs.Tables.{Table, table_of}
 use Rattle.bl_cmeaning.proofs.FirstLemmas.{first_place-append}
 use Rattle.bl_cmeaning.proofs.MapLemmas.{same_table}
@@ -12,13 +13,14 @@ pub returns : goal.returns
 returns c =
     let of = c.args.of.now in
     let table : text_at c.in_ok-keys.keys ≡ names_table (variable_names of) =
-    same_table (text_at c.in_ok-keys.keys) (names_table (variable_names of)) (λ asked. c.in_ok-keys.ensures asked ∙ ap (λ l. names_table l asked) c.requires) in
-    let counters : named c.deref-2.result.now ≡ counters_in_block of.body =
-    ap named c.deref-2.ensures.value ∙ c.in_ok-add_counters.ensures
-    ∙ ap (λ l. named l ++ counters_in_block c.deref.result.now) c.new-counters.ensures.items ∙ ap counters_in_block c.deref.ensures in
-    let again : c.in_ok-repeated.repeated ≡ first_place (repeated (names_table (variable_names of)) (counters_in_block of.body)) =
+    same_table (text_at c.in_ok-keys.keys) (names_table (variable_names of))
+    (λ asked. c.in_ok-keys.ensures asked ∙ ap (λ l. names_table l asked) c.requires) in
+    let turns : named c.deref-2.result.now ≡ turns_in_block of.body =
+    ap named c.deref-2.ensures.value ∙ c.in_ok-add_turns.ensures
+    ∙ ap (λ l. named l ++ turns_in_block c.deref.result.now) c.new-turns.ensures.items ∙ ap turns_in_block c.deref.ensures in
+    let again : c.in_ok-repeated.repeated ≡ first_place (repeated (names_table (variable_names of)) (turns_in_block of.body)) =
     c.in_ok-repeated.ensures ∙ ap (λ t. first_place (repeated t (named c.deref-2.result.now))) table
-    ∙ ap (λ l. first_place (repeated (names_table (variable_names of)) l)) counters in
+    ∙ ap (λ l. first_place (repeated (names_table (variable_names of)) l)) turns in
     let variables : variables_in_map c.in_ok-variables.variables ≡ table_of (variables_of of) =
     same_table (variables_in_map c.in_ok-variables.variables) (table_of (variables_of of)) c.in_ok-variables.ensures in
     let context : Table Variable → Bool → Context = λ v k. record {
@@ -30,7 +32,8 @@ returns c =
     } in
     let block : c.judge_block.result ≡ first_place (block_faults (map faults_in_stmt of.body) (context (table_of (variables_of of)) (keeps_all of)) false) =
     c.judge_block.ensures
-    ∙ ap (λ l. first_place (block_faults (map faults_in_stmt l) (context (variables_in_map c.in_ok-variables.variables) c.keeps_all.result) false)) c.deref-3.ensures
+    ∙ ap (λ l. first_place (block_faults (map faults_in_stmt l) (context (variables_in_map c.in_ok-variables.variables) c.keeps_all.result) false))
+    c.deref-3.ensures
     ∙ ap (λ v. first_place (block_faults (map faults_in_stmt of.body) (context v c.keeps_all.result) false)) variables
     ∙ ap (λ k. first_place (block_faults (map faults_in_stmt of.body) (context (table_of (variables_of of)) k) false)) c.keeps_all.ensures in
     rw (c.earlier.ensures, again, block) (simp first_place-append)

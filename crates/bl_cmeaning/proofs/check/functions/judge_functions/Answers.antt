@@ -1,7 +1,7 @@
 use Rattle.std.proofs.Common.{◌≡◌, ℕ, ◌+◌, ◌∷◌, List, drop, refl, ap, sym, ◌∙◌}
-use Rattle.bl_cmeaning.specs.Checked.{functions_of, structs_of}
+use Rattle.bl_cmeaning.specs.inner.Checked.{functions_of, structs_of}
 use Rattle.bl_cmeaning.specs.Faults.{depth_of_function, signature_in}
-use Rattle.bl_cmeaning.specs.Maps.{text_at}
+use Rattle.bl_cmeaning.specs.inner.Maps.{text_at}
 use Rattle.bl_cmeaning.specs.Tables.{with_entry}
 use Rattle.bl_cmeaning.proofs.ArgLemmas.{next_of}
 use Rattle.bl_cmeaning.proofs.DeclaredLemmas.{behind, function-next}
@@ -17,9 +17,12 @@ loop-k-preserved c =
     let deeper : (asked : List ℕ) → text_at c.add.new.map asked ≡ with_entry depths f.name (depth_of_function depths f) asked =
     λ asked. c.in_ok-add.ensures asked ∙ ap (λ n. with_entry depths n c.function_depth-depth.result asked) c.as_str.ensures
     ∙ ap (λ d. with_entry depths f.name d asked) c.function_depth-depth.ensures in
-    let more : (asked : List ℕ) → functions_of c.add-in-loop-k.new.map asked ≡ with_entry (functions_of c.loop-k.functions) f.name (signature_in f) asked =
-    λ asked. struct_added (λ g. signature_in g.now) (text_at c.loop-k.functions) (text_at c.add-in-loop-k.new.map) c.as_str-in-loop-k.result.now _ (signature_in f) refl c.in_ok-add-2.ensures asked
+    let more : (asked : List ℕ) → functions_of c.add-in-loop-k.new.map asked
+    ≡ with_entry (functions_of c.loop-k.functions) f.name (signature_in f) asked =
+    λ asked. struct_added (λ g. signature_in g.now) (text_at c.loop-k.functions) (text_at c.add-in-loop-k.new.map) c.as_str-in-loop-k.result.now _
+    (signature_in f) refl c.in_ok-add-2.ensures asked
     ∙ ap (λ n. with_entry (functions_of c.loop-k.functions) n (signature_in f) asked) c.as_str-in-loop-k.ensures in
     rw (c.earlier-first.ensures, c.in_ok-here.ensures)
-    (function-next (structs_of c.args.structs.now) (functions_of c.loop-k.functions) (functions_of c.add-in-loop-k.new.map) depths (text_at c.add.new.map) _ rest f _ c.loop-k.first _
+    (function-next (structs_of c.args.structs.now) (functions_of c.loop-k.functions) (functions_of c.add-in-loop-k.new.map) depths (text_at c.add.new.map) _
+    rest f _ c.loop-k.first _
     step (behind c.args.list.now c.loop-k.k c.loop-k-test.true) more deeper c.loop-k.invariant)

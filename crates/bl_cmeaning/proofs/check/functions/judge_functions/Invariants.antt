@@ -1,7 +1,7 @@
 use Rattle.std.proofs.Common.{◌≡◌, ℕ, drop}
-use Rattle.bl_cmeaning.specs.Checked.{functions_of, structs_of}
+use Rattle.bl_cmeaning.specs.inner.Checked.{functions_of, structs_of}
 use Rattle.bl_cmeaning.specs.Faults.{earlier_of, first_place, function_faults_after}
-use Rattle.bl_cmeaning.specs.Maps.{text_at}
+use Rattle.bl_cmeaning.specs.inner.Maps.{text_at}
 use Rattle.bl_cmeaning.specs.Tables.{no_entries}
 use Rattle.bl_cmeaning.proofs.check.functions.judge_functions.Given as goal
 

@@ -1,8 +1,8 @@
 use Rattle.std.proofs.Common.{◌≡◌, ◌∙◌, ap, sym}
 use Rattle.std.specs.Prelude.{is_some}
-use Rattle.bl_cmeaning.specs.Checked.{functions_of}
+use Rattle.bl_cmeaning.specs.inner.Checked.{functions_of}
 use Rattle.bl_cmeaning.specs.Faults.{declared_before, distinct_names, returns_result, scalar_parameter, short_chain, signature_in, static_functions}
-use Rattle.bl_cmeaning.specs.Maps.{text_at}
+use Rattle.bl_cmeaning.specs.inner.Maps.{text_at}
 use Rattle.bl_cmeaning.proofs.FirstLemmas.{first_place-append}
 use Rattle.bl_cmeaning.proofs.MapLemmas.{some_mapped}
 use Rattle.bl_cmeaning.proofs.check.functions.judge_head.Goals as goal
@@ -11,7 +11,8 @@ pub returns : goal.returns
 returns c =
     let functions = c.args.known.now.functions.now in
     let known : c.has-new.result ≡ is_some (functions_of functions c.args.of.now.name) =
-    c.has-new.ensures ∙ ap (λ n. is_some (text_at functions n)) c.deref.ensures ∙ sym (some_mapped (λ f. signature_in f.now) (text_at functions c.args.of.now.name)) in
+    c.has-new.ensures ∙ ap (λ n. is_some (text_at functions n)) c.deref.ensures
+    ∙ sym (some_mapped (λ f. signature_in f.now) (text_at functions c.args.of.now.name)) in
     rw (
       c.earlier-4.ensures,
       c.earlier-3.ensures,

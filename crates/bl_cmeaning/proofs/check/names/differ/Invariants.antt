@@ -1,6 +1,6 @@
 use Rattle.std.proofs.Common.{◌≡◌, ℕ, ◌&&◌, drop}
 use Rattle.bl_cmeaning.specs.Faults.{all_distinct}
-use Rattle.bl_cmeaning.specs.Maps.{bytes_of, text_at}
+use Rattle.bl_cmeaning.specs.inner.Maps.{bytes_of, text_at}
 use Rattle.bl_cmeaning.specs.Tables.{no_entries}
 use Rattle.bl_cmeaning.proofs.check.names.differ.Given as goal
 

@@ -2,7 +2,7 @@ use Rattle.std.proofs.Common.{◌≡◌, ◌+◌, ◌∷◌, rules, ap, subst, d
 use Rattle.bl_tree.specs.declared.c.CStmtKind.{the_lemmas}
 use Rattle.bl_cmeaning.proofs.FirstLemmas.{first_place-append, fault-next}
 use Rattle.bl_cmeaning.proofs.ArgLemmas.{next_of}
-use Rattle.bl_cmeaning.specs.Checked.{context_of}
+use Rattle.bl_cmeaning.specs.inner.Checked.{context_of}
 use Rattle.bl_cmeaning.specs.Faults.{block_faults, earlier_of, faults_in_stmt, first_place}
 use Rattle.bl_cmeaning.proofs.check.stmt.+statements.Goals as goal
 

@@ -5,4 +5,5 @@ use Rattle.bl_cmeaning.proofs.check.structs.all_are_ports.Goals as goal
 pub loop-member-preserved : goal.loop-member-preserved
 loop-member-preserved c =
     rw (c.both-ports.ensures, c.is_port.ensures)
-    (all-next (is_port c.args.prefix.now) c.args.members.now c.loop-member.member-index c.member-item.result c.loop-member.ports _ c.loop-member-test.true c.member-item.is c.loop-member.invariant)
+    (all-next (is_port c.args.prefix.now) c.args.members.now c.loop-member.member-index c.member-item.result c.loop-member.ports _ c.loop-member-test.true
+    c.member-item.is c.loop-member.invariant)

@@ -1,10 +1,12 @@
 use Rattle.std.proofs.Common.{◌≡◌, ℕ, ◌&&◌, ◌++◌, drop, map, max}
 use Rattle.std.specs.List.{list_all}
 use Rattle.bl_tree.specs.Reduce.{greatest}
-use Rattle.bl_cmeaning.specs.Checked.{structs_of}
+use Rattle.bl_cmeaning.specs.inner.Checked.{structs_of}
 use Rattle.bl_cmeaning.specs.Faults.{depth_of_type, is_declared, is_port}
-use Rattle.bl_cmeaning.specs.Maps.{bytes_of, text_at}
+use Rattle.bl_cmeaning.specs.inner.Maps.{bytes_of, text_at}
 use Rattle.bl_cmeaning.proofs.check.structs.greatest_depth.Given as goal
 
 abbrev pub invariant-loop-member : goal.invariant-loop-member
-invariant-loop-member l = max l.greatest (greatest (map (λ m. depth_of_type (text_at l.depths) m.ty) (drop l.member-index l.members))) ≡ greatest (map (λ m. depth_of_type (text_at l.depths) m.ty) l.members)
+invariant-loop-member l =
+    max l.greatest (greatest (map (λ m. depth_of_type (text_at l.depths) m.ty) (drop l.member-index l.members)))
+    ≡ greatest (map (λ m. depth_of_type (text_at l.depths) m.ty) l.members)

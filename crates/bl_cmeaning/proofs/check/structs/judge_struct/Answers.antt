@@ -1,6 +1,6 @@
 use Rattle.std.proofs.Common.{◌≡◌, ◌∙◌, ap, [], map}
 use Rattle.bl_cmeaning.specs.Faults.{all_distinct, distinct_names, declared_before, short_chain, interface_members}
-use Rattle.bl_cmeaning.specs.Maps.{bytes_of}
+use Rattle.bl_cmeaning.specs.inner.Maps.{bytes_of}
 use Rattle.bl_cmeaning.specs.Tables.{no_entries}
 use Rattle.bl_cmeaning.proofs.FirstLemmas.{first_place-append}
 use Rattle.bl_cmeaning.proofs.check.structs.judge_struct.Goals as goal

@@ -1,11 +1,12 @@
 use Rattle.std.proofs.Common.{◌≡◌, ℕ, List, ◌&&◌, ◌||◌, ◌++◌, drop, map}
 use Rattle.std.specs.List.{list_all}
 use Rattle.std.specs.Option.{option_or}
-use Rattle.bl_cmeaning.specs.Checked.{structs_of, variables_in_map}
+use Rattle.bl_cmeaning.specs.inner.Checked.{structs_of, variables_in_map}
 use Rattle.bl_cmeaning.specs.Faults.{is_declared, is_scalar, local_variable, names_table, param_variable}
-use Rattle.bl_cmeaning.specs.Maps.{bytes_of, text_at}
+use Rattle.bl_cmeaning.specs.inner.Maps.{bytes_of, text_at}
 use Rattle.bl_cmeaning.specs.Tables.{found}
 use Rattle.bl_cmeaning.proofs.check.variables.as_keys.Given as goal
 
 abbrev pub invariant-loop-name : goal.invariant-loop-name
-invariant-loop-name l = (asked : List ℕ) → option_or (text_at l.keys asked) (names_table (bytes_of (drop l.name-index l.names)) asked) ≡ names_table (bytes_of l.names) asked
+invariant-loop-name l =
+    (asked : List ℕ) → option_or (text_at l.keys asked) (names_table (bytes_of (drop l.name-index l.names)) asked) ≡ names_table (bytes_of l.names) asked

@@ -1,5 +1,5 @@
 use Rattle.std.proofs.Common.{◌||◌}
-use Rattle.bl_cmeaning.specs.Checked.{structs_of}
+use Rattle.bl_cmeaning.specs.inner.Checked.{structs_of}
 use Rattle.bl_cmeaning.specs.Faults.{is_declared, is_scalar}
 use Rattle.bl_cmeaning.proofs.NameLemmas.{all-next}
 use Rattle.bl_cmeaning.proofs.check.variables.params_are_scalar.Goals as goal
@@ -7,4 +7,5 @@ use Rattle.bl_cmeaning.proofs.check.variables.params_are_scalar.Goals as goal
 pub loop-param-preserved : goal.loop-param-preserved
 loop-param-preserved c =
     rw (c.both-scalar.ensures, c.either.ensures, c.is_scalar.ensures, c.of.ensures)
-    (all-next (λ p. p.pointer || is_scalar p.ty) c.args.params.now c.loop-param.param-index c.param-item.result c.loop-param.scalar _ c.loop-param-test.true c.param-item.is c.loop-param.invariant)
+    (all-next (λ p. p.pointer || is_scalar p.ty) c.args.params.now c.loop-param.param-index c.param-item.result c.loop-param.scalar _ c.loop-param-test.true
+    c.param-item.is c.loop-param.invariant)

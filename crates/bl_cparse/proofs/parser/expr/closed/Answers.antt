@@ -1,11 +1,11 @@
 use Rattle.std.proofs.Common.{◌∙◌, rules, subst, ◌++◌}
-use Rattle.bl_cparse.specs.Partial.{held_tokens, spells_held}
+use Rattle.bl_cparse.specs.inner.Partial.{held_tokens, spells_held}
 use Rattle.bl_cparse.proofs.NestLemmas.{all_but}
 use Rattle.bl_cparse.proofs.PartialLemmas.{taken_off}
 use Rattle.bl_csyntax.specs.Expects.{Expects}
 use Rattle.std.specs.Prelude.{List}
 use Rattle.bl_csyntax.specs.Grammar.{Wanted}
-use Rattle.bl_cparse.specs.Awaiting.{held_wanted}
+use Rattle.bl_cparse.specs.inner.Awaiting.{held_wanted}
 use Rattle.bl_cparse.proofs.AwaitLemmas.{unwound_off}
 use Rattle.bl_cparse.proofs.parser.expr.closed.Goals as goal
 
@@ -22,7 +22,10 @@ returns-clause-read c = (
 )
 
 pub returns-in_err-p-in-Some-clause-follows : goal.returns-in_err-p-in-Some-clause-follows
-returns-in_err-p-in-Some-clause-follows c = λ rest e. let o = subst (λ (w : List Wanted). Expects (w ++ rest) c.args.r.now) (unwound_off held_wanted c.pop.new.self.items c.args.outer.items c.in-Some.held c.in-Some.ensures.items) e in search rules
+returns-in_err-p-in-Some-clause-follows c = λ rest e. let o =
+    subst (λ (w : List Wanted). Expects (w ++ rest) c.args.r.now)
+    (unwound_off held_wanted c.pop.new.self.items c.args.outer.items c.in-Some.held c.in-Some.ensures.items) e in search rules
 
 pub returns-clause-follows : goal.returns-clause-follows
-returns-clause-follows c = λ rest e. let o = subst (λ (w : List Wanted). Expects (w ++ rest) c.args.r.now) (unwound_off held_wanted c.pop.new.self.items c.args.outer.items c.in-Some.held c.in-Some.ensures.items) e in search rules
+returns-clause-follows c = λ rest e. let o = subst (λ (w : List Wanted). Expects (w ++ rest) c.args.r.now)
+    (unwound_off held_wanted c.pop.new.self.items c.args.outer.items c.in-Some.held c.in-Some.ensures.items) e in search rules

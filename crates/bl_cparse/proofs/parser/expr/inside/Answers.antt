@@ -4,8 +4,8 @@ use Rattle.bl_csyntax.specs.declared.grammar.Part.TheVariants.{Expr}
 use Rattle.bl_csyntax.specs.Grammar.{Wanted}
 use Rattle.bl_csyntax.specs.Expects.{Expects}
 use Rattle.bl_cparse.specs.Reading.{part}
-use Rattle.bl_cparse.specs.Partial.{held_tokens, spells_held}
-use Rattle.bl_cparse.specs.Awaiting.{held_wanted}
+use Rattle.bl_cparse.specs.inner.Partial.{held_tokens, spells_held}
+use Rattle.bl_cparse.specs.inner.Awaiting.{held_wanted}
 use Rattle.bl_cparse.proofs.NestLemmas.{pushed, all_with}
 use Rattle.bl_cparse.proofs.AwaitLemmas.{unwound_one}
 use Rattle.bl_cparse.proofs.parser.expr.inside.Goals as goal
@@ -17,4 +17,5 @@ returns-in-Ok-clause-tokens c = (
 )
 
 pub returns-in-Ok-clause-awaits : goal.returns-in-Ok-clause-awaits
-returns-in-Ok-clause-awaits c = λ rest pieces e. subst (λ (w : List Wanted). Expects (part Expr c.args.room ∷ (w ++ rest)) pieces) (sym (unwound_one held_wanted c.args.outer.items c.push.new.self.items c.args.held c.in-Ok.ensures.items)) e
+returns-in-Ok-clause-awaits c = λ rest pieces e. subst (λ (w : List Wanted). Expects (part Expr c.args.room ∷ (w ++ rest)) pieces)
+    (sym (unwound_one held_wanted c.args.outer.items c.push.new.self.items c.args.held c.in-Ok.ensures.items)) e

@@ -8,5 +8,6 @@ use Rattle.bl_cparse.proofs.parser.expr.stepped.Goals as goal
 pub returns-clause-read : goal.returns-clause-read
 returns-clause-read c = (
   place_with step_tokens (root_tokens c.args.place.through c.args.place.name) c.args.place.steps c.push.new.list c.args.step c.in_ok-push.ensures.ok,
-  both _ _ (and-fst _ _ c.requires.place) (all_with spells_step c.args.place.steps c.push.new.list c.args.step c.in_ok-push.ensures.ok (and-snd _ _ c.requires.place) c.requires.step),
+  both _ _ (and-fst _ _ c.requires.place) (all_with spells_step c.args.place.steps c.push.new.list c.args.step
+      c.in_ok-push.ensures.ok (and-snd _ _ c.requires.place) c.requires.step),
 )

@@ -14,6 +14,7 @@ returns-clause-tokens c =
 
 pub returns-clause-spells : goal.returns-clause-spells
 returns-clause-spells c = (
-  both _ _ (and-fst _ _ c.requires.call) (all_with spells_arg c.args.call.args c.push.new.list c.args.arg c.in_ok-push.ensures.ok (and-snd _ _ c.requires.call) c.requires.arg),
+  both _ _ (and-fst _ _ c.requires.call) (all_with spells_arg c.args.call.args c.push.new.list c.args.arg c.in_ok-push.ensures.ok
+      (and-snd _ _ c.requires.call) c.requires.arg),
   ap has_any c.in_ok-push.ensures.ok ∙ any_more c.args.call.args c.args.arg,
 )

@@ -4,4 +4,5 @@ use Rattle.bl_cparse.proofs.WordLemmas.{scalar_stands}
 use Rattle.bl_cparse.proofs.parser.item.begins_local.Goals as goal
 
 pub returns-in-Some : goal.returns-in-Some
-returns-in-Some c = rw (scalar_stands (first_of c.args.r.now) c.in-Some.field-0 (sym c.piece.ensures ∙ c.in-Some.ensures.some.0) c.in-Some.ensures.some.1.0) refl
+returns-in-Some c = rw (scalar_stands (first_of c.args.r.now) c.in-Some.field-0
+    (sym c.piece.ensures ∙ c.in-Some.ensures.some.0) c.in-Some.ensures.some.1.0) refl

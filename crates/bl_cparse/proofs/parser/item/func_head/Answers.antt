@@ -6,10 +6,13 @@ pub returns-in_err-result-clause-follows : goal.returns-in_err-result-clause-fol
 returns-in_err-result-clause-follows c = λ room rest e. search rules
 
 pub returns-in_err-name-clause-follows : goal.returns-in_err-name-clause-follows
-returns-in_err-name-clause-follows c = λ room rest e. let o = func_opens (c.in_ok-result.ensures.follows room rest (c.fixed-fixed.ensures.follows room rest e)) in search rules
+returns-in_err-name-clause-follows c = λ room rest e. let o =
+    func_opens (c.in_ok-result.ensures.follows room rest (c.fixed-fixed.ensures.follows room rest e)) in search rules
 
 pub returns-in_err-take-clause-follows : goal.returns-in_err-take-clause-follows
-returns-in_err-take-clause-follows c = λ room rest e. let o = func_opens (c.in_ok-result.ensures.follows room rest (c.fixed-fixed.ensures.follows room rest e)) in search rules
+returns-in_err-take-clause-follows c = λ room rest e. let o =
+    func_opens (c.in_ok-result.ensures.follows room rest (c.fixed-fixed.ensures.follows room rest e)) in search rules
 
 pub returns-clause-follows : goal.returns-clause-follows
-returns-clause-follows c = λ room rest e. let o = func_opens (c.in_ok-result.ensures.follows room rest (c.fixed-fixed.ensures.follows room rest e)) in search rules
+returns-clause-follows c = λ room rest e. let o = func_opens
+    (c.in_ok-result.ensures.follows room rest (c.fixed-fixed.ensures.follows room rest e)) in search rules

@@ -11,7 +11,10 @@ loop-funcs-preserved c = record {
   read =
       rw c.in_ok-push-2.ensures.ok (
         joined_more func_tokens _ _ _ c.loop-funcs.funcs c.in_ok-func-2.field-0 c.loop-funcs.invariant.read.0 c.in_ok-func-2.ensures.read.0,
-        (any_more c.loop-funcs.funcs c.in_ok-func-2.field-0, all_more spells_func c.loop-funcs.funcs c.in_ok-func-2.field-0 c.loop-funcs.invariant.read.1.1 c.in_ok-func-2.ensures.read.1),
+        (
+          any_more c.loop-funcs.funcs c.in_ok-func-2.field-0,
+          all_more spells_func c.loop-funcs.funcs c.in_ok-func-2.field-0 c.loop-funcs.invariant.read.1.1 c.in_ok-func-2.ensures.read.1,
+        ),
       );
   follows = λ e. let o = funcs_more (some_left (c.is_at_end.ensures.no c.loop-funcs-test.true)) (c.loop-funcs.invariant.follows e) in search rules;
 }
@@ -20,4 +23,5 @@ pub loop-funcs-init : goal.loop-funcs-init
 loop-funcs-init c = record { read = search rules; follows = λ e. search rules }
 
 pub returns-in_err-func-2-clause-follows : goal.returns-in_err-func-2-clause-follows
-returns-in_err-func-2-clause-follows c = λ e. let o = funcs_more (some_left (c.is_at_end.ensures.no c.loop-funcs-test.true)) (c.loop-funcs.invariant.follows e) in search rules
+returns-in_err-func-2-clause-follows c = λ e. let o =
+    funcs_more (some_left (c.is_at_end.ensures.no c.loop-funcs-test.true)) (c.loop-funcs.invariant.follows e) in search rules

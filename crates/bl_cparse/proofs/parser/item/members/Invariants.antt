@@ -12,7 +12,8 @@ use Rattle.bl_cparse.proofs.parser.item.members.Given as goal
 abbrev pub invariant-loop-members : goal.invariant-loop-members
 invariant-loop-members l = record {
   read : (l.fn.r ≡ joined (map member_tokens l.members) ++ l.r) × (IsTrue (has_any l.members) × IsTrue (all_of (map spells_member l.members)));
-  follows : (room : ℕ) (rest : List Wanted) → Expects (part Member room ∷ part Members room ∷ sign (codes "}") ∷ rest) l.fn.r → Expects (part Members room ∷ sign (codes "}") ∷ rest) l.r;
+  follows : (room : ℕ) (rest : List Wanted) → Expects (part Member room ∷ part Members room ∷ sign (codes "}") ∷ rest) l.fn.r →
+      Expects (part Members room ∷ sign (codes "}") ∷ rest) l.r;
 }
 
 abbrev pub decreases-loop-members : goal.decreases-loop-members

@@ -12,7 +12,8 @@ use Rattle.bl_cparse.proofs.parser.item.params.Given as goal
 abbrev pub invariant-loop-params : goal.invariant-loop-params
 invariant-loop-params l = record {
   read : (l.fn.r ≡ with_commas (map param_tokens l.params) ++ l.r) × (IsTrue (has_any l.params) × IsTrue (all_of (map spells_param l.params)));
-  follows : (room : ℕ) (rest : List Wanted) → Expects (part Params room ∷ sign (codes ")") ∷ rest) l.fn.r → Expects (part ParamRest room ∷ sign (codes ")") ∷ rest) l.r;
+  follows : (room : ℕ) (rest : List Wanted) → Expects (part Params room ∷ sign (codes ")") ∷ rest) l.fn.r →
+      Expects (part ParamRest room ∷ sign (codes ")") ∷ rest) l.r;
 }
 
 abbrev pub decreases-loop-params : goal.decreases-loop-params

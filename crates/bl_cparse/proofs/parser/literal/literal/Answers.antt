@@ -23,7 +23,16 @@ pub returns-then-eat-2-clause-follows : goal.returns-then-eat-2-clause-follows
 returns-then-eat-2-clause-follows c = λ room rest e. false_passed (sym (c.eat.ensures.no c.if-eat.false) ∙ c.eat-2.ensures.yes c.if-eat-2.true) e
 
 pub returns-in-Some-clause-follows : goal.returns-in-Some-clause-follows
-returns-in-Some-clause-follows c = λ room rest e. least_passed c.in-Some.width (sym c.piece.ensures ∙ c.in-Some.ensures.some.0) (sym (c.eat.ensures.no c.if-eat.false) ∙ (sym (c.eat-2.ensures.no c.if-eat-2.false) ∙ c.skip.ensures.passed)) e
+returns-in-Some-clause-follows c = λ room rest e. least_passed c.in-Some.width (sym c.piece.ensures ∙ c.in-Some.ensures.some.0)
+    (sym (c.eat.ensures.no c.if-eat.false) ∙ (sym (c.eat-2.ensures.no c.if-eat-2.false) ∙ c.skip.ensures.passed)) e
 
 pub returns-clause-follows : goal.returns-clause-follows
-returns-clause-follows c = λ room rest e. let same : c.eat-2.new.self ≡ c.args.r.now = c.eat-2.ensures.no c.if-eat-2.false ∙ c.eat.ensures.no c.if-eat.false in widened {A = CExprKind} {E = CRefusal} (λ x. Expects rest c.bracketed_constant.new.r) WantsMemory c.bracketed_constant.result (λ k. no_literal (first_of c.args.r.now) (no_plain (first_of c.args.r.now) (sym c.eat.ensures.is ∙ c.if-eat.false) (ap (λ (ts : List Token). matches (exactly (codes "false")) (first_of ts)) (sym (c.eat.ensures.no c.if-eat.false)) ∙ (sym c.eat-2.ensures.is ∙ c.if-eat-2.false)) (ap (λ (ts : List Token). has least_starts (first_of ts)) (sym same) ∙ (rw c.piece.ensures at (c.in_default.ensures.none refl)))) (ap (λ (ts : List Token). has constant_starts (first_of ts)) (sym same) ∙ k)) (c.bracketed_constant.ensures.follows room rest (subst (λ (ts : List Token). Expects (part Simple room ∷ rest) ts) (sym same) e))
+returns-clause-follows c = λ room rest e. let same : c.eat-2.new.self ≡ c.args.r.now =
+    c.eat-2.ensures.no c.if-eat-2.false ∙ c.eat.ensures.no c.if-eat.false in
+    widened {A = CExprKind} {E = CRefusal} (λ x. Expects rest c.bracketed_constant.new.r) WantsMemory c.bracketed_constant.result
+    (λ k. no_literal (first_of c.args.r.now) (no_plain (first_of c.args.r.now) (sym c.eat.ensures.is ∙ c.if-eat.false)
+    (ap (λ (ts : List Token). matches (exactly (codes "false")) (first_of ts)) (sym (c.eat.ensures.no c.if-eat.false))
+    ∙ (sym c.eat-2.ensures.is ∙ c.if-eat-2.false)) (ap (λ (ts : List Token). has least_starts (first_of ts)) (sym same)
+    ∙ (rw c.piece.ensures at (c.in_default.ensures.none refl))))
+    (ap (λ (ts : List Token). has constant_starts (first_of ts)) (sym same) ∙ k))
+    (c.bracketed_constant.ensures.follows room rest (subst (λ (ts : List Token). Expects (part Simple room ∷ rest) ts) (sym same) e))

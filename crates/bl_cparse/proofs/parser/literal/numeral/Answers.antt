@@ -6,4 +6,6 @@ pub returns-in-Err-clause-none : goal.returns-in-Err-clause-none
 returns-in-Err-clause-none c = λ none of. not_true _ (λ m. not_parsed of c.args.text.now c.parse.result c.parse.ensures.value.0 c.in-Err.is m)
 
 pub returns-else-eq-clause-none : goal.returns-else-eq-clause-none
-returns-else-eq-clause-none c = λ none of. not_true _ (λ m. written of c.args.text.now c.format.result.now c.parse.result c.eq.result c.parse.ensures.value.0 c.in-Ok.is c.format.ensures.text c.eq.ensures c.if-eq.false m)
+returns-else-eq-clause-none c = λ none of. not_true _
+    (λ m. written of c.args.text.now c.format.result.now c.parse.result c.eq.result c.parse.ensures.value.0 c.in-Ok.is
+    c.format.ensures.text c.eq.ensures c.if-eq.false m)

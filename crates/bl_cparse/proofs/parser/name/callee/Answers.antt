@@ -5,4 +5,5 @@ use Rattle.bl_cparse.proofs.ReadLemmas.{next}
 use Rattle.bl_cparse.proofs.parser.name.callee.Goals as goal
 
 pub returns-else-is_callee-clause-follows : goal.returns-else-is_callee-clause-follows
-returns-else-is_callee-clause-follows c = λ rest e. absurd (not_both _ (callee_is _ (next e).matched) (rw c.piece.ensures at (sym c.is_callee.ensures ∙ c.if-is_callee.false)))
+returns-else-is_callee-clause-follows c = λ rest e. absurd
+    (not_both _ (callee_is _ (next e).matched) (rw c.piece.ensures at (sym c.is_callee.ensures ∙ c.if-is_callee.false)))

@@ -5,4 +5,5 @@ use Rattle.bl_cparse.proofs.ReadLemmas.{next}
 use Rattle.bl_cparse.proofs.parser.name.name.Goals as goal
 
 pub returns-else-is_name-clause-follows : goal.returns-else-is_name-clause-follows
-returns-else-is_name-clause-follows c = λ rest e. absurd (not_both _ (name_is _ (next e).matched) (rw c.piece.ensures at (sym c.is_name.ensures ∙ c.if-is_name.false)))
+returns-else-is_name-clause-follows c = λ rest e. absurd
+    (not_both _ (name_is _ (next e).matched) (rw c.piece.ensures at (sym c.is_name.ensures ∙ c.if-is_name.false)))

@@ -7,4 +7,5 @@ pub returns-then-is_struct_name-clause-follows : goal.returns-then-is_struct_nam
 returns-then-is_struct_name-clause-follows c = λ room rest e. let o = struct_name_stands e in c.copy.ensures.follows o.class rest o.expects
 
 pub returns-else-is_struct_name-clause-follows : goal.returns-else-is_struct_name-clause-follows
-returns-else-is_struct_name-clause-follows c = λ room rest e. absurd (not_both _ (struct_name_stands e).is (rw c.piece.ensures at (sym c.is_struct_name.ensures ∙ c.if-is_struct_name.false)))
+returns-else-is_struct_name-clause-follows c = λ room rest e. absurd
+    (not_both _ (struct_name_stands e).is (rw c.piece.ensures at (sym c.is_struct_name.ensures ∙ c.if-is_struct_name.false)))

@@ -9,7 +9,8 @@ pub loop-r-preserved : goal.loop-r-preserved
 loop-r-preserved c = record {
   read =
       rw c.in_ok-push-2.ensures.ok (
-        commas_more arg_tokens _ _ _ _ c.loop-r.args c.in_ok-next.next c.loop-r.invariant.read.1.0 c.loop-r.invariant.read.0 (c.eat.ensures.yes c.loop-r-test.true) c.in_ok-next.ensures.read.0,
+        commas_more arg_tokens _ _ _ _ c.loop-r.args c.in_ok-next.next c.loop-r.invariant.read.1.0 c.loop-r.invariant.read.0
+            (c.eat.ensures.yes c.loop-r-test.true) c.in_ok-next.ensures.read.0,
         (any_more c.loop-r.args c.in_ok-next.next, all_more spells_arg c.loop-r.args c.in_ok-next.next c.loop-r.invariant.read.1.1 c.in_ok-next.ensures.read.1),
       );
   follows = λ rest e. let o = arg_more (sym c.eat.ensures.is ∙ c.loop-r-test.true) (c.loop-r.invariant.follows rest e) in search rules;
@@ -25,7 +26,9 @@ pub returns-in_err-first-clause-follows : goal.returns-in_err-first-clause-follo
 returns-in_err-first-clause-follows c = λ rest e. let o = args_some (sym c.sees.ensures.is ∙ c.if-sees.false) e in search rules
 
 pub returns-in_err-next-clause-follows : goal.returns-in_err-next-clause-follows
-returns-in_err-next-clause-follows c = λ rest e. let o = arg_more (sym c.eat.ensures.is ∙ c.loop-r-test.true) (c.loop-r.invariant.follows rest e) in search rules
+returns-in_err-next-clause-follows c = λ rest e. let o =
+    arg_more (sym c.eat.ensures.is ∙ c.loop-r-test.true) (c.loop-r.invariant.follows rest e) in search rules
 
 pub returns-clause-follows : goal.returns-clause-follows
-returns-clause-follows c = λ rest e. rw (c.eat.ensures.no c.loop-r-test.false) (args_end (sym c.eat.ensures.is ∙ c.loop-r-test.false) (c.loop-r.invariant.follows rest e))
+returns-clause-follows c = λ rest e. rw (c.eat.ensures.no c.loop-r-test.false)
+    (args_end (sym c.eat.ensures.is ∙ c.loop-r-test.false) (c.loop-r.invariant.follows rest e))

@@ -12,7 +12,8 @@ use Rattle.bl_cparse.proofs.parser.place.arguments.Given as goal
 abbrev pub invariant-loop-r : goal.invariant-loop-r
 invariant-loop-r l = record {
   read : (l.fn.r ≡ with_commas (map arg_tokens l.args) ++ l.r) × (IsTrue (has_any l.args) × IsTrue (all_of (map spells_arg l.args)));
-  follows : (rest : List Wanted) → Expects (part Args l.room ∷ sign (codes ")") ∷ rest) l.fn.r → Expects (part ArgRest l.room ∷ sign (codes ")") ∷ rest) l.r;
+  follows : (rest : List Wanted) → Expects (part Args l.room ∷ sign (codes ")") ∷ rest) l.fn.r →
+      Expects (part ArgRest l.room ∷ sign (codes ")") ∷ rest) l.r;
 }
 
 abbrev pub decreases-loop-r : goal.decreases-loop-r

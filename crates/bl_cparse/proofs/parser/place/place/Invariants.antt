@@ -11,7 +11,8 @@ use Rattle.bl_cparse.proofs.parser.place.place.Given as goal
 abbrev pub invariant-loop-r : goal.invariant-loop-r
 invariant-loop-r l = record {
   read : (l.fn.r ≡ joined (map step_tokens l.steps) ++ l.r) × IsTrue (all_of (map spells_step l.steps));
-  follows : (tail : Part) → GoesOnAPlace tail → (rest : List Wanted) → Expects (part tail l.room ∷ rest) l.fn.r → Expects (part tail l.room ∷ rest) l.r;
+  follows : (tail : Part) → GoesOnAPlace tail → (rest : List Wanted) → Expects (part tail l.room ∷ rest) l.fn.r →
+      Expects (part tail l.room ∷ rest) l.r;
 }
 
 abbrev pub decreases-loop-r : goal.decreases-loop-r

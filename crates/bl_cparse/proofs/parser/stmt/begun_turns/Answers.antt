@@ -1,4 +1,5 @@
 use Rattle.bl_cparse.proofs.parser.stmt.begun_turns.Goals as goal
 
 pub returns-clause-follows : goal.returns-clause-follows
-returns-clause-follows c = λ rest e. c.take-4.ensures.follows _ (c.in_ok-take-3.ensures.follows _ (c.in_ok-take-2.ensures.follows _ (c.in_ok-take.ensures.follows _ e)))
+returns-clause-follows c = λ rest e. c.take-4.ensures.follows _
+    (c.in_ok-take-3.ensures.follows _ (c.in_ok-take-2.ensures.follows _ (c.in_ok-take.ensures.follows _ e)))

@@ -9,10 +9,15 @@ use Rattle.std.proofs.Common.{rules, subst, sym, ◌∙◌, ◌∷◌}
 use Rattle.bl_cparse.proofs.parser.stmt.bracketed.Goals as goal
 
 pub returns-then-eat-clause-follows : goal.returns-then-eat-clause-follows
-returns-then-eat-clause-follows c = λ enough rest e. let o = passed (c.eat.ensures.yes c.if-eat.true) (open_struct (sym c.eat.ensures.is ∙ c.if-eat.true) (c.in_ok-take.ensures.follows _ e)) in search rules
+returns-then-eat-clause-follows c = λ enough rest e. let o =
+    passed (c.eat.ensures.yes c.if-eat.true) (open_struct (sym c.eat.ensures.is ∙ c.if-eat.true) (c.in_ok-take.ensures.follows _ e)) in search rules
 
 pub returns-in_err-value-clause-follows : goal.returns-in_err-value-clause-follows
-returns-in_err-value-clause-follows c = λ enough rest e. let same = c.eat.ensures.no c.if-eat.false in let o = subst (λ (ts : List Token). Expects (part Inside c.args.room ∷ sign (codes ";") ∷ rest) ts) (sym same) (open_inside (sym c.eat.ensures.is ∙ c.if-eat.false) (c.in_ok-take.ensures.follows _ e)) in search rules
+returns-in_err-value-clause-follows c = λ enough rest e. let same = c.eat.ensures.no c.if-eat.false in let o =
+    subst (λ (ts : List Token). Expects (part Inside c.args.room ∷ sign (codes ";") ∷ rest) ts) (sym same)
+    (open_inside (sym c.eat.ensures.is ∙ c.if-eat.false) (c.in_ok-take.ensures.follows _ e)) in search rules
 
 pub returns-clause-follows : goal.returns-clause-follows
-returns-clause-follows c = λ enough rest e. let same = c.eat.ensures.no c.if-eat.false in let o = subst (λ (ts : List Token). Expects (part Inside c.args.room ∷ sign (codes ";") ∷ rest) ts) (sym same) (open_inside (sym c.eat.ensures.is ∙ c.if-eat.false) (c.in_ok-take.ensures.follows _ e)) in search rules
+returns-clause-follows c = λ enough rest e. let same = c.eat.ensures.no c.if-eat.false in let o =
+    subst (λ (ts : List Token). Expects (part Inside c.args.room ∷ sign (codes ";") ∷ rest) ts) (sym same)
+    (open_inside (sym c.eat.ensures.is ∙ c.if-eat.false) (c.in_ok-take.ensures.follows _ e)) in search rules

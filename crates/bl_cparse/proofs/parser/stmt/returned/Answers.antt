@@ -12,10 +12,16 @@ pub returns-then-eat-clause-follows : goal.returns-then-eat-clause-follows
 returns-then-eat-clause-follows c = λ rest e. passed (c.eat.ensures.yes c.if-eat.true) (result_none (sym c.eat.ensures.is ∙ c.if-eat.true) e)
 
 pub returns-in_err-value-clause-follows : goal.returns-in_err-value-clause-follows
-returns-in_err-value-clause-follows c = λ rest e. let same : c.eat.new.self ≡ c.args.r.now = c.eat.ensures.no c.if-eat.false in let o = subst (λ (ts : List Token). Expects (part Expr c.args.room ∷ sign (codes ";") ∷ rest) ts) (sym same) (result_value (sym c.eat.ensures.is ∙ c.if-eat.false) e) in search rules
+returns-in_err-value-clause-follows c = λ rest e. let same : c.eat.new.self ≡ c.args.r.now = c.eat.ensures.no c.if-eat.false in
+    let o = subst (λ (ts : List Token). Expects (part Expr c.args.room ∷ sign (codes ";") ∷ rest) ts) (sym same)
+    (result_value (sym c.eat.ensures.is ∙ c.if-eat.false) e) in search rules
 
 pub returns-in_err-take-clause-follows : goal.returns-in_err-take-clause-follows
-returns-in_err-take-clause-follows c = λ rest e. let same : c.eat.new.self ≡ c.args.r.now = c.eat.ensures.no c.if-eat.false in let o = subst (λ (ts : List Token). Expects (part Expr c.args.room ∷ sign (codes ";") ∷ rest) ts) (sym same) (result_value (sym c.eat.ensures.is ∙ c.if-eat.false) e) in search rules
+returns-in_err-take-clause-follows c = λ rest e. let same : c.eat.new.self ≡ c.args.r.now = c.eat.ensures.no c.if-eat.false in
+    let o = subst (λ (ts : List Token). Expects (part Expr c.args.room ∷ sign (codes ";") ∷ rest) ts) (sym same)
+    (result_value (sym c.eat.ensures.is ∙ c.if-eat.false) e) in search rules
 
 pub returns-clause-follows : goal.returns-clause-follows
-returns-clause-follows c = λ rest e. let same : c.eat.new.self ≡ c.args.r.now = c.eat.ensures.no c.if-eat.false in let o = subst (λ (ts : List Token). Expects (part Expr c.args.room ∷ sign (codes ";") ∷ rest) ts) (sym same) (result_value (sym c.eat.ensures.is ∙ c.if-eat.false) e) in search rules
+returns-clause-follows c = λ rest e. let same : c.eat.new.self ≡ c.args.r.now = c.eat.ensures.no c.if-eat.false in let o =
+    subst (λ (ts : List Token). Expects (part Expr c.args.room ∷ sign (codes ";") ∷ rest) ts) (sym same)
+    (result_value (sym c.eat.ensures.is ∙ c.if-eat.false) e) in search rules

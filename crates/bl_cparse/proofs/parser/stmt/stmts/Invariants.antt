@@ -2,9 +2,9 @@ use Rattle.std.proofs.Common.{◌≡◌, List, ◌∷◌, ◌++◌, codes, IsTru
 use Rattle.bl_csyntax.specs.declared.grammar.Part.TheVariants.{Stmts}
 use Rattle.bl_csyntax.specs.Grammar.{Wanted}
 use Rattle.bl_csyntax.specs.Expects.{Expects}
-use Rattle.bl_cparse.specs.Nest.{nest_tokens, spells_nest}
+use Rattle.bl_cparse.specs.inner.Nest.{nest_tokens, spells_nest}
 use Rattle.bl_cparse.specs.Reading.{sign, part}
-use Rattle.bl_cparse.specs.Awaiting.{nest_wanted}
+use Rattle.bl_cparse.specs.inner.Awaiting.{nest_wanted}
 use Rattle.bl_cparse.proofs.parser.stmt.stmts.Given as goal
 
 abbrev pub invariant-loop-r : goal.invariant-loop-r

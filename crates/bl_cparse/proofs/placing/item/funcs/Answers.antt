@@ -10,7 +10,9 @@ loop-k-preserved c =
     let within : c.loop-k.k < length c.loop-k.funcs = omega (arith, c.loop-k-test.true, c.len-k-end.ensures, c.loop-k.invariant.many) in
     record {
       places = turn_set func_walk c.loop-k.funcs c.loop-k.k c.func.new.func _ _ _ within c.loop-k.invariant.places c.func.ensures.places;
-      tokens = mapped_set func_tokens c.loop-k.funcs c.loop-k.k c.func.new.func c.get_mut.result.now c.get_mut.ensures.value c.func.ensures.tokens ∙ c.loop-k.invariant.tokens;
-      spells = mapped_set spells_func c.loop-k.funcs c.loop-k.k c.func.new.func c.get_mut.result.now c.get_mut.ensures.value c.func.ensures.spells ∙ c.loop-k.invariant.spells;
+      tokens = mapped_set func_tokens c.loop-k.funcs c.loop-k.k c.func.new.func c.get_mut.result.now c.get_mut.ensures.value
+          c.func.ensures.tokens ∙ c.loop-k.invariant.tokens;
+      spells = mapped_set spells_func c.loop-k.funcs c.loop-k.k c.func.new.func c.get_mut.result.now c.get_mut.ensures.value
+          c.func.ensures.spells ∙ c.loop-k.invariant.spells;
       many = length-set c.loop-k.funcs c.loop-k.k c.func.new.func ∙ c.loop-k.invariant.many;
     }

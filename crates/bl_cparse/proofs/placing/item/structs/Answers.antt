@@ -10,7 +10,9 @@ loop-k-preserved c =
     let within : c.loop-k.k < length c.loop-k.structs = omega (arith, c.loop-k-test.true, c.len-k-end.ensures, c.loop-k.invariant.many) in
     record {
       places = turn_set struct_walk c.loop-k.structs c.loop-k.k c.structure.new.structure _ _ _ within c.loop-k.invariant.places c.structure.ensures.places;
-      tokens = mapped_set struct_tokens c.loop-k.structs c.loop-k.k c.structure.new.structure c.get_mut.result.now c.get_mut.ensures.value c.structure.ensures.tokens ∙ c.loop-k.invariant.tokens;
-      spells = mapped_set spells_struct c.loop-k.structs c.loop-k.k c.structure.new.structure c.get_mut.result.now c.get_mut.ensures.value c.structure.ensures.spells ∙ c.loop-k.invariant.spells;
+      tokens = mapped_set struct_tokens c.loop-k.structs c.loop-k.k c.structure.new.structure c.get_mut.result.now
+          c.get_mut.ensures.value c.structure.ensures.tokens ∙ c.loop-k.invariant.tokens;
+      spells = mapped_set spells_struct c.loop-k.structs c.loop-k.k c.structure.new.structure c.get_mut.result.now
+          c.get_mut.ensures.value c.structure.ensures.spells ∙ c.loop-k.invariant.spells;
       many = length-set c.loop-k.structs c.loop-k.k c.structure.new.structure ∙ c.loop-k.invariant.many;
     }

@@ -13,10 +13,13 @@ stmts-loop-k-preserved t c =
     let within : c.loop-k.k < length c.loop-k.stmts = omega (arith, c.loop-k-test.true, c.len-k-end.ensures, c.loop-k.invariant.many) in
     record {
       places = turn_set stmt_walk c.loop-k.stmts c.loop-k.k c.stmt.new.stmt _ _ _ within c.loop-k.invariant.places c.stmt.ensures.places;
-      tokens = mapped_set stmt_tokens c.loop-k.stmts c.loop-k.k c.stmt.new.stmt c.get_mut.result.now c.get_mut.ensures.value c.stmt.ensures.tokens ∙ c.loop-k.invariant.tokens;
-      spells = mapped_set spells_stmt c.loop-k.stmts c.loop-k.k c.stmt.new.stmt c.get_mut.result.now c.get_mut.ensures.value c.stmt.ensures.spells ∙ c.loop-k.invariant.spells;
+      tokens = mapped_set stmt_tokens c.loop-k.stmts c.loop-k.k c.stmt.new.stmt c.get_mut.result.now c.get_mut.ensures.value
+          c.stmt.ensures.tokens ∙ c.loop-k.invariant.tokens;
+      spells = mapped_set spells_stmt c.loop-k.stmts c.loop-k.k c.stmt.new.stmt c.get_mut.result.now c.get_mut.ensures.value
+          c.stmt.ensures.spells ∙ c.loop-k.invariant.spells;
       many = length-set c.loop-k.stmts c.loop-k.k c.stmt.new.stmt ∙ c.loop-k.invariant.many;
-      rest = λ n d h. get_or-set_other c.loop-k.stmts c.loop-k.k n c.stmt.new.stmt d (λ (e : n ≡ c.loop-k.k). omega (arith, e, h)) ∙ c.loop-k.invariant.rest n d (omega (arith, h));
+      rest = λ n d h. get_or-set_other c.loop-k.stmts c.loop-k.k n c.stmt.new.stmt d (λ (e : n ≡ c.loop-k.k). omega (arith, e, h))
+          ∙ c.loop-k.invariant.rest n d (omega (arith, h));
     }
 
 pub kind-returns-in-Some-clause-places : goal.kind-returns-in-Some-clause-places
@@ -26,16 +29,21 @@ kind-returns-in-Some-clause-places t c =
 
 pub kind-returns-in-Some-clause-tokens : goal.kind-returns-in-Some-clause-tokens
 kind-returns-in-Some-clause-tokens t c =
-    branches_tokens c.in-If.test c.condition.new.test c.in-If.then_part c.inside.new.body c.in-Some.other c.inside-in-Some.new.body c.in-If.else_part c.args.what.now c.in-If.is (sym c.in-If.else_part-is ∙ c.in-Some.is)
-    (c.condition.ensures.tokens ∙ ap expr_tokens (c.deref_mut.ensures.value ∙ c.in-If.test-is)) (c.inside.ensures.tokens ∙ ap (map stmt_tokens) c.in-If.then_part-is)
+    branches_tokens c.in-If.test c.condition.new.test c.in-If.then_part c.inside.new.body c.in-Some.other c.inside-in-Some.new.body
+    c.in-If.else_part c.args.what.now c.in-If.is (sym c.in-If.else_part-is ∙ c.in-Some.is)
+    (c.condition.ensures.tokens ∙ ap expr_tokens (c.deref_mut.ensures.value ∙ c.in-If.test-is))
+    (c.inside.ensures.tokens ∙ ap (map stmt_tokens) c.in-If.then_part-is)
     (c.inside-in-Some.ensures.tokens ∙ ap (map stmt_tokens) c.in-Some.other-is)
 
 pub kind-returns-in-Some-clause-spells : goal.kind-returns-in-Some-clause-spells
 kind-returns-in-Some-clause-spells t c =
-    branches_spells c.in-If.test c.condition.new.test c.in-If.then_part c.inside.new.body c.in-Some.other c.inside-in-Some.new.body c.in-If.else_part c.args.what.now c.in-If.is (sym c.in-If.else_part-is ∙ c.in-Some.is)
-    (c.condition.ensures.spells ∙ ap spells_expr (c.deref_mut.ensures.value ∙ c.in-If.test-is)) (c.inside.ensures.spells ∙ ap (map spells_stmt) c.in-If.then_part-is)
+    branches_spells c.in-If.test c.condition.new.test c.in-If.then_part c.inside.new.body c.in-Some.other c.inside-in-Some.new.body
+    c.in-If.else_part c.args.what.now c.in-If.is (sym c.in-If.else_part-is ∙ c.in-Some.is)
+    (c.condition.ensures.spells ∙ ap spells_expr (c.deref_mut.ensures.value ∙ c.in-If.test-is))
+    (c.inside.ensures.spells ∙ ap (map spells_stmt) c.in-If.then_part-is)
     (c.inside-in-Some.ensures.spells ∙ ap (map spells_stmt) c.in-Some.other-is)
 
 pub kind-returns-in-Loop-clause-places : goal.kind-returns-in-Loop-clause-places
 kind-returns-in-Loop-clause-places t c =
-    turns_walk _ c.counted.new.test c.inside-in-Loop.new.body c.args.spot.now _ _ _ (c.counted.ensures.places []) c.inside-in-Loop.ensures.places c.pass-in-Loop.ensures
+    turns_walk _ c.counted.new.test c.inside-in-Loop.new.body c.args.spot.now _ _ _
+    (c.counted.ensures.places []) c.inside-in-Loop.ensures.places c.pass-in-Loop.ensures

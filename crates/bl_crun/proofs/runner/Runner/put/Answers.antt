@@ -9,12 +9,16 @@ use Rattle.bl_crun.proofs.runner.Runner.put.Goals as goal
 
 pub invariant_of-self : goal.invariant_of-self
 invariant_of-self c =
-    shown-keeps (parts_of c.self.inside.file) c.self.inside.prepared c.self.invariant c.self.inside.ready c.self.inside.live c.args.self.now c.args.k c.args.n c.set.new.self c.self.view_is c.requires.within c.requires.range
+    shown-keeps (parts_of c.self.inside.file) c.self.inside.prepared c.self.invariant c.self.inside.ready c.self.inside.live c.args.self.now c.self.view_is
+    c.args.k c.args.n c.set.new.self c.requires.within c.requires.range
     (c.set.ensures
-    ∙ ap (λ x. holding c.self.inside.prepared.machine (slice_set c.self.inside.prepared.machine.state.cells c.args.k x)) (to_z-of_z w128 c.args.n (search rules)))
+    ∙ ap (λ x. holding c.self.inside.prepared.machine (slice_set c.self.inside.prepared.machine.state.cells c.args.k x))
+    (to_z-of_z w128 c.args.n (search rules)))
 
 pub returns : goal.returns
 returns c =
-    shown-put (parts_of c.self.inside.file) c.self.inside.prepared c.self.invariant c.self.inside.ready c.self.inside.live c.args.self.now c.args.k c.args.n c.set.new.self c.self.view_is
+    shown-put (parts_of c.self.inside.file) c.self.inside.prepared c.self.invariant c.self.inside.ready c.self.inside.live c.args.self.now c.self.view_is
+    c.args.k c.args.n c.set.new.self
     (c.set.ensures
-    ∙ ap (λ x. holding c.self.inside.prepared.machine (slice_set c.self.inside.prepared.machine.state.cells c.args.k x)) (to_z-of_z w128 c.args.n (search rules)))
+    ∙ ap (λ x. holding c.self.inside.prepared.machine (slice_set c.self.inside.prepared.machine.state.cells c.args.k x))
+    (to_z-of_z w128 c.args.n (search rules)))

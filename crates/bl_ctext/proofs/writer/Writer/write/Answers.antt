@@ -4,7 +4,8 @@ use Rattle.bl_ctext.proofs.writer.Writer.write.Goals as goal
 
 -- what the second step wrote
 after : (c : goal.In_ok-extend_from_slice) → Grown c.self.inside.text.items c.args.text.now c.extend_from_slice.new.self.items
-after c = grown c.self.inside.text.items c.args.text.now c.part.new.text.items c.extend_from_slice.new.self.items c.self.invariant c.requires (search rules) (search rules)
+after c = grown c.self.inside.text.items c.args.text.now c.part.new.text.items c.extend_from_slice.new.self.items c.self.invariant c.requires (search rules)
+    (search rules)
 
 pub invariant_of-self-in_err-extend_from_slice : goal.invariant_of-self-in_err-extend_from_slice
 invariant_of-self-in_err-extend_from_slice c =

@@ -8,4 +8,5 @@ use Rattle.bl_effects.proofs.table.Effects.find.Goals as goal
 pub returns : goal.returns
 returns c =
     subst (λ table. option_map (λ sets. effect_at c.args.at sets.now) c.get.result ≡ found table c.args.at) c.self.view_is
-    (map_copied (effect_at c.args.at) c.get.result ∙ ap (option_map (effect_at c.args.at)) c.get.ensures.value ∙ sym (found_entry c.self.inside.by_place.entries c.args.at))
+    (map_copied (effect_at c.args.at) c.get.result ∙ ap (option_map (effect_at c.args.at)) c.get.ensures.value
+    ∙ sym (found_entry c.self.inside.by_place.entries c.args.at))

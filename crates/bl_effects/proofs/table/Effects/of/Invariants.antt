@@ -1,5 +1,5 @@
 use Rattle.std.proofs.Common.{[], take}
-use Rattle.bl_effects.specs.Gathered.{Records}
+use Rattle.bl_effects.specs.inner.Gathered.{Records}
 use Rattle.bl_tree.specs.Within.{StandsInUnits}
 use Rattle.bl_effects.proofs.table.Effects.of.Given as goal
 

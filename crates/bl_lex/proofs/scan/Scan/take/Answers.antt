@@ -1,12 +1,13 @@
 use Rattle.std.proofs.Common.{◌+◌, ◌++◌, arith, ap, ◌∙◌}
 use Rattle.bl_tree.specs.declared.place.Place.{Place}
-use Rattle.bl_lex.specs.Walk.{earlier, token_with}
+use Rattle.bl_lex.specs.inner.Walk.{earlier, token_with}
 use Rattle.bl_lex.proofs.PieceLaws.{piece_forward, piece_inside}
 use Rattle.bl_lex.proofs.WalkLaws.{scanned_next}
 use Rattle.bl_lex.proofs.scan.Scan.take.Goals as goal
 
 pub place_between-place-requires-clause-start_fits : goal.place_between-place-requires-clause-start_fits
-place_between-place-requires-clause-start_fits c = let a = piece_forward _ _ c.requires.longest.piece in let b = piece_inside _ _ c.requires.longest.piece in omega arith
+place_between-place-requires-clause-start_fits c = let a = piece_forward _ _ c.requires.longest.piece in let b =
+    piece_inside _ _ c.requires.longest.piece in omega arith
 
 pub place_between-place-requires-clause-end_fits : goal.place_between-place-requires-clause-end_fits
 place_between-place-requires-clause-end_fits c = let b = piece_inside _ _ c.requires.longest.piece in omega arith

@@ -23,13 +23,17 @@ returns-in-Trap-clause-step c =
     let w = setting c.args.self.now in
     let old = store_of c.args.self.now.frames.items in
     let new = store_of c.carry_out.new.frames.items in
-    let carried : Carried (deed_on w c.args.i c.args.deed old) old new (Ok Trap) = subst (λ (did : Did). Carried (deed_on w c.args.i c.args.deed old) old new (Ok did)) c.in-Trap.is c.in_ok-carry_out.ensures in
-    (deed_traps w (state c.args.self.now) c.args.i c.args.deed c.args.path.now carried.0, ap (λ store. record { control = control_of c.args.self.now.node; store = store }) carried.1)
+    let carried : Carried (deed_on w c.args.i c.args.deed old) old new (Ok Trap) =
+    subst (λ (did : Did). Carried (deed_on w c.args.i c.args.deed old) old new (Ok did)) c.in-Trap.is c.in_ok-carry_out.ensures in (
+      deed_traps w (state c.args.self.now) c.args.i c.args.deed c.args.path.now carried.0,
+      ap (λ store. record { control = control_of c.args.self.now.node; store = store }) carried.1,
+    )
 
 pub invariant_of-self-in-Done : goal.invariant_of-self-in-Done
 invariant_of-self-in-Done c =
     let w = setting_in c.args.self.now.setting in
     let old = store_of c.args.self.now.frames.items in
     let new = store_of c.carry_out.new.frames.items in
-    let carried : deed_on w c.args.i c.args.deed old ≡ Some new = subst (λ (did : Did). Carried (deed_on w c.args.i c.args.deed old) old new (Ok did)) c.in-Done.is c.in_ok-carry_out.ensures in
+    let carried : deed_on w c.args.i c.args.deed old ≡ Some new =
+    subst (λ (did : Did). Carried (deed_on w c.args.i c.args.deed old) old new (Ok did)) c.in-Done.is c.in_ok-carry_out.ensures in
     record { outputs = outputs_keep w old new (deed_grows w c.args.i c.args.deed old new carried) c.args.self.now.outputs }

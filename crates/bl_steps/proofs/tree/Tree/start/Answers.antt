@@ -14,5 +14,6 @@ invariant_of-result c =
     subst (λ (w : Setting). units_stand_after w.structs [] w.units ≡ true) (sym c.in_ok-setting.ensures) c.args.program.now.keeps.units_stand
     in
     record {
-      outputs = subst (λ (store : Store). HasOutputs w store) (sym (ap store_of c.into_vec-frames.ensures ∙ c.in_ok-first_frames.ensures)) (outputs_start w stands);
+      outputs = subst (λ (store : Store). HasOutputs w store)
+          (sym (ap store_of c.into_vec-frames.ensures ∙ c.in_ok-first_frames.ensures)) (outputs_start w stands);
     }

@@ -1,7 +1,7 @@
 use Rattle.std.proofs.Common.{◌≡◌, ◌++◌, map}
 use Rattle.bl_ctree.specs.Store.{Location}
 use Rattle.bl_store.specs.Seen.{location_of}
-use Rattle.bl_steps.specs.Writers.{kept, of_variable, writes_by}
+use Rattle.bl_steps.specs.inner.Writers.{kept, of_variable, writes_by}
 use Rattle.bl_steps.proofs.writers.Writers.note_all.Given as goal
 
 abbrev pub invariant-loop-home : goal.invariant-loop-home

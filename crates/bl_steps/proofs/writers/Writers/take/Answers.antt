@@ -1,7 +1,7 @@
 use Rattle.std.proofs.Common.{None, ap, cond, ◌∙◌}
 use Rattle.std.specs.BTreeMap.{is_at}
 use Rattle.std.specs.Map.{lookup}
-use Rattle.bl_steps.specs.Writers.{key_cmp}
+use Rattle.bl_steps.specs.inner.Writers.{key_cmp}
 use Rattle.bl_steps.proofs.writers.Writers.take.Goals as goal
 
 pub returns-clause-others : goal.returns-clause-others

@@ -6,4 +6,5 @@ use Rattle.bl_store.proofs.index.Callees.insert.Goals as goal
 
 pub returns : goal.returns
 returns c q =
-    c.in_default.ensures.updates.0 q ∙ ap (λ entries. cond (is_at (key_cmp c.args.key) q) (Some c.args.k) (lookup (is_at (key_cmp q)) entries)) c.self.view_is
+    c.in_default.ensures.updates.0 q ∙ ap (λ entries. cond (is_at (key_cmp c.args.key) q) (Some c.args.k)
+    (lookup (is_at (key_cmp q)) entries)) c.self.view_is

@@ -12,7 +12,9 @@ loop-k-preserved c caller place =
     let k = c.loop-k.k in
     let instance = c.index-instances-k.result in
     let within : k ≤ length xs = omega (arith, c.loop-k-test.true) in
-    position_more (λ instance. begins_at caller place instance.origin) xs instance k (begun c.loop-k.callees caller place) (begun c.add.new.self caller place) within
+    position_more (λ instance. begins_at caller place instance.origin) xs instance k (begun c.loop-k.callees caller place)
+    (begun c.add.new.self caller place) within
     (slice_get_read xs (length xs) k instance refl c.loop-k-test.true c.index-instances-k.is) (c.loop-k.invariant caller place)
     (c.in_ok-add.ensures caller place
-    ∙ ap (λ instance. option_or (begun c.loop-k.callees caller place) (cond (begins_at caller place instance.origin) (Some k) None)) (sym c.index-instances-k.is))
+    ∙ ap (λ instance. option_or (begun c.loop-k.callees caller place) (cond (begins_at caller place instance.origin) (Some k) None))
+    (sym c.index-instances-k.is))

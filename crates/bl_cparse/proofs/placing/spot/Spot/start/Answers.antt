@@ -5,4 +5,6 @@ use Rattle.bl_cparse.proofs.placing.spot.Spot.start.Goals as goal
 
 pub returns : goal.returns
 unfolding start_of
-returns c = starts c.self.inside.text.now c.self.inside.at c.next_piece.result.start c.self.invariant.0 (omega (arith, c.next_piece.ensures.in_order, c.next_piece.ensures.inside)) c.next_piece.ensures.starts c.next_piece.ensures.no_blank ∙ ap start_of c.self.view_is
+returns c = starts c.self.inside.text.now c.self.inside.at c.next_piece.result.start c.self.invariant.0
+    (omega (arith, c.next_piece.ensures.in_order, c.next_piece.ensures.inside)) c.next_piece.ensures.starts
+    c.next_piece.ensures.no_blank ∙ ap start_of c.self.view_is

@@ -1,9 +1,0 @@
-use Rattle.std.proofs.Common.{◌≡◌, ℕ, List, drop}
-use Rattle.std.specs.Option.{option_or}
-use Rattle.bl_cmeaning.specs.Maps.{named, text_at}
-use Rattle.bl_cmeaning.specs.Tables.{found}
-use Rattle.bl_cmeaning.proofs.check.names.fill.Given as goal
-
-abbrev pub invariant-loop-name : goal.invariant-loop-name
-invariant-loop-name g l = (asked : List ℕ) →
-    option_or (text_at l.map asked) (found asked (named (drop l.name-index l.entries))) ≡ option_or (text_at l.initial.map asked) (found asked (named l.entries))

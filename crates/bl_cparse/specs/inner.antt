@@ -1,0 +1,4 @@
+pub mod Awaiting
+pub mod Nest
+pub mod Partial
+pub mod Parts

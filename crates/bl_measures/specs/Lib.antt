@@ -1,0 +1,10 @@
+pub mod Calls
+pub mod InOrder
+pub mod Laws
+pub mod Runs
+pub mod Saturated
+pub mod Statements
+pub mod Tells
+pub mod Types
+pub mod Units
+pub mod Uses
