@@ -46,7 +46,8 @@ found_told : (units : List UnitKind) (scope : Declared) (name : List ℕ) (d : D
 found_told units [] name d told is = absurd (cc)
 found_told units (entry ∷ rest) name d told is =
     elim (bytes_eq name entry.0) as (λ test. cond test (Some entry.1) (found rest name) ≡ Some d → DeclarationTold units d) [
-      | true ↦ λ h. subst (DeclarationTold units) (same_Some entry.1 d h) (and_left (kind_told units entry.1.kind entry.1.position) (scope_told units rest) told)
+      | true ↦ λ h.
+          subst (DeclarationTold units) (same_Some entry.1 d h) (and_left (kind_told units entry.1.kind entry.1.position) (scope_told units rest) told)
       | false ↦ λ h. found_told units rest name d (and_right (kind_told units entry.1.kind entry.1.position) (scope_told units rest) told) h
     ] is
 
