@@ -291,10 +291,8 @@ pub fn run(
     env: &Environment,
     notes: &mut Notes,
 ) -> Result<Option<StmtKind>, NoMemory>
-    ensures made { IfOk result (λ made. made ≡ (run_walked at a (run_target env.now (slice_get env.now.units a) place.now)
-        (arguments env.now name a inputs.now outputs.now) env.now).made) }
-    ensures notes { OnOk result (notes.new ≡ noted notes.old (run_walked at a (run_target env.now (slice_get env.now.units a) place.now)
-        (arguments env.now name a inputs.now outputs.now) env.now).failures) }
+    ensures made { IfOk result (λ made. made ≡ (run_walked at a (run_target env.now (slice_get env.now.units a) place.now) (arguments env.now name a inputs.now outputs.now) env.now).made) }
+    ensures notes { OnOk result (notes.new ≡ noted notes.old (run_walked at a (run_target env.now (slice_get env.now.units a) place.now) (arguments env.now name a inputs.now outputs.now) env.now).failures) }
 {
     placed(at, env.kind, notes);
     let target = run_target(alloc, place, element(&env.units, a as usize), env, notes)?;

@@ -103,8 +103,7 @@ fn declared(
     state: &mut State,
 ) -> Result<Option<StmtKind>, NoMemory>
     ensures made { IfOk result (λ made. made ≡ (declare k (Some var.now) e.now state.old.env).made) }
-    ensures state { OnOk result (state.new ≡ passed state.old (declare k (Some var.now) e.now state.old.env).env
-        (declare k (Some var.now) e.now state.old.env).failures) }
+    ensures state { OnOk result (state.new ≡ passed state.old (declare k (Some var.now) e.now state.old.env).env (declare k (Some var.now) e.now state.old.env).failures) }
 {
     match e {
         Some(e) => {
@@ -129,8 +128,7 @@ fn assign(
     state: &mut State,
 ) -> Result<Option<StmtKind>, NoMemory>
     ensures made { IfOk result (λ made. made ≡ (assign place.now (targeted state.old.env place.now) e.now state.old.env).made) }
-    ensures state { OnOk result (state.new ≡ passed state.old (assign place.now (targeted state.old.env place.now) e.now state.old.env).env
-        (assign place.now (targeted state.old.env place.now) e.now state.old.env).failures) }
+    ensures state { OnOk result (state.new ≡ passed state.old (assign place.now (targeted state.old.env place.now) e.now state.old.env).env (assign place.now (targeted state.old.env place.now) e.now state.old.env).failures) }
 {
     let found = target(alloc, place, &state.env, &mut state.notes)?;
     let made = match found {
@@ -213,8 +211,7 @@ fn kind(
     state: &mut State,
 ) -> Result<Option<StmtKind>, NoMemory>
     ensures made { IfOk result (λ made. made ≡ (kind_walked source.entry.constants.now source.entry.vars.now s.now state.old.env).made) }
-    ensures state { OnOk result (state.new ≡ passed state.old (kind_walked source.entry.constants.now source.entry.vars.now s.now state.old.env).env
-        (kind_walked source.entry.constants.now source.entry.vars.now s.now state.old.env).failures) }
+    ensures state { OnOk result (state.new ≡ passed state.old (kind_walked source.entry.constants.now source.entry.vars.now s.now state.old.env).env (kind_walked source.entry.constants.now source.entry.vars.now s.now state.old.env).failures) }
 {
     match &s.what {
         NamedStmtKind::Declare(k, e) => match element(source.vars, *k as usize) {
@@ -304,8 +301,7 @@ fn statement(
     state: &mut State,
 ) -> Result<Option<Stmt>, NoMemory>
     ensures made { IfOk result (λ made. made ≡ (walked_stmt source.entry.constants.now source.entry.vars.now s.now state.old.env).made) }
-    ensures state { OnOk result (state.new ≡ passed state.old (walked_stmt source.entry.constants.now source.entry.vars.now s.now state.old.env).env
-        (walked_stmt source.entry.constants.now source.entry.vars.now s.now state.old.env).failures) }
+    ensures state { OnOk result (state.new ≡ passed state.old (walked_stmt source.entry.constants.now source.entry.vars.now s.now state.old.env).env (walked_stmt source.entry.constants.now source.entry.vars.now s.now state.old.env).failures) }
 {
     let what = kind(alloc, s, source, state)?;
     Ok(stmt_made(s.place, what))
@@ -319,8 +315,7 @@ pub fn block(
     state: &mut State,
 ) -> Result<List<Stmt>, NoMemory>
     ensures made { IfOk result (λ made. made ≡ (walked_block source.entry.constants.now source.entry.vars.now body.now state.old.env).made) }
-    ensures state { OnOk result (state.new ≡ passed state.old (walked_block source.entry.constants.now source.entry.vars.now body.now state.old.env).env
-        (walked_block source.entry.constants.now source.entry.vars.now body.now state.old.env).failures) }
+    ensures state { OnOk result (state.new ≡ passed state.old (walked_block source.entry.constants.now source.entry.vars.now body.now state.old.env).env (walked_block source.entry.constants.now source.entry.vars.now body.now state.old.env).failures) }
 {
     let mut made = List::new(alloc);
     for s in body {
@@ -347,8 +342,7 @@ fn arm(
     state: &mut State,
 ) -> Result<Option<Arm>, NoMemory>
     ensures made { IfOk result (λ made. made ≡ (arm_walked source.entry.constants.now source.entry.vars.now arm.now state.old.env).made) }
-    ensures state { OnOk result (state.new ≡ passed state.old (arm_walked source.entry.constants.now source.entry.vars.now arm.now state.old.env).env
-        (arm_walked source.entry.constants.now source.entry.vars.now arm.now state.old.env).failures) }
+    ensures state { OnOk result (state.new ≡ passed state.old (arm_walked source.entry.constants.now source.entry.vars.now arm.now state.old.env).env (arm_walked source.entry.constants.now source.entry.vars.now arm.now state.old.env).failures) }
 {
     let test = condition(alloc, &arm.test, state)?;
     let body = block(alloc, &arm.body, source, state)?;
@@ -363,9 +357,7 @@ fn arms(
     state: &mut State,
 ) -> Result<List<Arm>, NoMemory>
     ensures made { IfOk result (λ made. made ≡ (in_order (map (arm_walked source.entry.constants.now source.entry.vars.now) all.now) state.old.env).made) }
-    ensures state { OnOk result (state.new ≡ passed state.old
-        (in_order (map (arm_walked source.entry.constants.now source.entry.vars.now) all.now) state.old.env).env
-        (in_order (map (arm_walked source.entry.constants.now source.entry.vars.now) all.now) state.old.env).failures) }
+    ensures state { OnOk result (state.new ≡ passed state.old (in_order (map (arm_walked source.entry.constants.now source.entry.vars.now) all.now) state.old.env).env (in_order (map (arm_walked source.entry.constants.now source.entry.vars.now) all.now) state.old.env).failures) }
 {
     let mut made = List::new(alloc);
     for one in all {
@@ -383,8 +375,7 @@ fn branch(
     state: &mut State,
 ) -> Result<Option<Branch>, NoMemory>
     ensures made { IfOk result (λ made. made ≡ (branch_walked source.entry.constants.now source.entry.vars.now branch.now state.old.env).made) }
-    ensures state { OnOk result (state.new ≡ passed state.old (branch_walked source.entry.constants.now source.entry.vars.now branch.now state.old.env).env
-        (branch_walked source.entry.constants.now source.entry.vars.now branch.now state.old.env).failures) }
+    ensures state { OnOk result (state.new ≡ passed state.old (branch_walked source.entry.constants.now source.entry.vars.now branch.now state.old.env).env (branch_walked source.entry.constants.now source.entry.vars.now branch.now state.old.env).failures) }
 {
     let body = block(alloc, &branch.body, source, state)?;
     Ok(Some(Branch {
@@ -401,9 +392,7 @@ fn branches(
     state: &mut State,
 ) -> Result<List<Branch>, NoMemory>
     ensures made { IfOk result (λ made. made ≡ (in_order (map (branch_walked source.entry.constants.now source.entry.vars.now) all.now) state.old.env).made) }
-    ensures state { OnOk result (state.new ≡ passed state.old
-        (in_order (map (branch_walked source.entry.constants.now source.entry.vars.now) all.now) state.old.env).env
-        (in_order (map (branch_walked source.entry.constants.now source.entry.vars.now) all.now) state.old.env).failures) }
+    ensures state { OnOk result (state.new ≡ passed state.old (in_order (map (branch_walked source.entry.constants.now source.entry.vars.now) all.now) state.old.env).env (in_order (map (branch_walked source.entry.constants.now source.entry.vars.now) all.now) state.old.env).failures) }
 {
     let mut made = List::new(alloc);
     for one in all {
