@@ -1,5 +1,38 @@
 -- What a program of the form keeps: its names, and that its steps name its parameters alone.
-use Rattle.std.proofs.Common.{◌≡◌, ℕ, suc, zero, ◌+◌, ◌≤◌, ℤ, pos, negsuc, Bool, true, false, ◌&&◌, List, [], ◌∷◌, ◌++◌, length, take, map, get_or, refl, sym, ap, ap₂, ◌∙◌, subst, arith, Option, Some, None, if◌then◌else◌}
+use Rattle.std.proofs.Common.{
+  ◌≡◌,
+  ℕ,
+  suc,
+  zero,
+  ◌+◌,
+  ◌≤◌,
+  ℤ,
+  pos,
+  negsuc,
+  Bool,
+  true,
+  false,
+  ◌&&◌,
+  List,
+  [],
+  ◌∷◌,
+  ◌++◌,
+  length,
+  take,
+  map,
+  get_or,
+  refl,
+  sym,
+  ap,
+  ap₂,
+  ◌∙◌,
+  subst,
+  arith,
+  Option,
+  Some,
+  None,
+  if◌then◌else◌,
+}
 use Rattle.std.specs.Prelude.{nat_lt, nat_le, nat_eq, int_le, is_some, slice_get, unwrap_or, option_map, option_and_then}
 use Rattle.std.specs.List.{list_all, list_any}
 use Rattle.std.proofs.lemmas.Bool.Decides.{nat_tests}
@@ -28,12 +61,58 @@ use Rattle.bl_tree.specs.Program as program
 use Rattle.bl_tree.specs.Reduce.{all_of}
 use Rattle.bl_tree.specs.Scalar.{in_range}
 use Rattle.bl_tree.specs.Types.{scalar_in, type_stands}
-use Rattle.bl_tree.specs.Typing.{Site, site_of, type_of, type_of_path, kind_type, part_type, expr_type, path_type, literal_type, are_same, is_truth, is_activity, is_assignable, kind_fits, arm_fits, branch_fits, stmt_fits, fits, two_type}
+use Rattle.bl_tree.specs.Typing.{
+  Site,
+  site_of,
+  type_of,
+  type_of_path,
+  kind_type,
+  part_type,
+  expr_type,
+  path_type,
+  literal_type,
+  are_same,
+  is_truth,
+  is_activity,
+  is_assignable,
+  kind_fits,
+  arm_fits,
+  branch_fits,
+  stmt_fits,
+  fits,
+  two_type,
+}
 use Rattle.bl_tree.specs.Words as words
 use Rattle.bl_ctext.specs.inner.Prefixes.{is_source_name}
 use Rattle.bl_ctext.specs.Spellable.{is_literal, is_spellable}
 use Rattle.bl_ctext.proofs.Bytes.{and-fst, and-snd}
-use Rattle.bl_early.specs.Form.{Item, Number, Of, Source, Just, Sum, Step, Set, Pause, is_early, is_early_unit, is_early_type, item_in, item_of, source_in, source_of, step_in, step_of, steps_of, steps_suit, alone, loop_of, repeated, unit_steps, is_pause}
+use Rattle.bl_early.specs.Form.{
+  Item,
+  Number,
+  Of,
+  Source,
+  Just,
+  Sum,
+  Step,
+  Set,
+  Pause,
+  is_early,
+  is_early_unit,
+  is_early_type,
+  item_in,
+  item_of,
+  source_in,
+  source_of,
+  step_in,
+  step_of,
+  steps_of,
+  steps_suit,
+  alone,
+  loop_of,
+  repeated,
+  unit_steps,
+  is_pause,
+}
 use Rattle.bl_early.specs.Built.{item_within, source_within, step_within, passes, is_step, is_any_step, steps_at, loop_steps}
 use Rattle.bl_early.specs.Emitted.{c_structs, c_funcs}
 use Rattle.bl_early.proofs.Spelled.{is_named_var, is_typed_var, file-spelled}
@@ -56,12 +135,14 @@ literal-stands (Bits w) n r e h = cc
 literal-stands OfBool (negsuc n) r e h = cc
 literal-stands (Int W32) (negsuc n) r e h = cc
 
-within-list : {A : Type 0} (xs : List A) (k : ℕ) (f : A → Option Ty) (t : Ty) → option_and_then f (slice_get xs k) ≡ Some t → nat_lt k (length xs) ≡ true
+within-list : {A : Type 0} (xs : List A) (k : ℕ) (f : A → Option Ty) (t : Ty) → option_and_then f (slice_get xs k) ≡ Some t →
+    nat_lt k (length xs) ≡ true
 within-list [] k f t h = cc
 within-list (x ∷ xs) zero f t h = grind (arith, nat_tests)
 within-list (x ∷ xs) (suc k) f t h = let rest : nat_lt k (length xs) ≡ true = within-list xs k f t h in grind (arith, nat_tests)
 
-within-list-bool : {A : Type 0} (xs : List A) (k : ℕ) (f : A → Option A) → is_some (option_and_then f (slice_get xs k)) ≡ true → nat_lt k (length xs) ≡ true
+within-list-bool : {A : Type 0} (xs : List A) (k : ℕ) (f : A → Option A) → is_some (option_and_then f (slice_get xs k)) ≡ true →
+    nat_lt k (length xs) ≡ true
 within-list-bool [] k f h = cc
 within-list-bool (x ∷ xs) zero f h = grind (arith, nat_tests)
 within-list-bool (x ∷ xs) (suc k) f h = let rest : nat_lt k (length xs) ≡ true = within-list-bool xs k f h in grind (arith, nat_tests)
@@ -92,11 +173,13 @@ module _ (site : Site) where
       let some = then-some _ _ t (sym out ∙ h) in
       within-list site.vars (out-Path path).root _ some.0 some.1
 
-  item-of-path : (path : Path) (root : ℕ) (parts : List Part) (item : Item) → nat_lt root (length site.vars) ≡ true → option_map Of (alone root parts) ≡ Some item → item_within (length site.vars) item ≡ true
+  item-of-path : (path : Path) (root : ℕ) (parts : List Part) (item : Item) → nat_lt root (length site.vars) ≡ true →
+      option_map Of (alone root parts) ≡ Some item → item_within (length site.vars) item ≡ true
   item-of-path path root [] item within h = subst (λ i. item_within (length site.vars) i ≡ true) (some-inj (Of root) item h) within
   item-of-path path root (part ∷ parts) item within h = none-some item h
 
-  chosen-literal : (early : Bool) (n : ℤ) (s : Scalar) (item : Item) → (early ≡ true → is_literal s n ≡ true) → (if early then Some (Number n s) else None) ≡ Some item → item_within (length site.vars) item ≡ true
+  chosen-literal : (early : Bool) (n : ℤ) (s : Scalar) (item : Item) → (early ≡ true → is_literal s n ≡ true) →
+      (if early then Some (Number n s) else None) ≡ Some item → item_within (length site.vars) item ≡ true
   chosen-literal true n s item stands h = subst (λ i. item_within (length site.vars) i ≡ true) (some-inj (Number n s) item h) (stands refl)
   chosen-literal false n s item stands h = none-some item h
 
@@ -112,10 +195,12 @@ module _ (site : Site) where
       fold_out-ExprKind (Option Ty) (Ty → Option Ty) (Option Ty) (Option Ty) (kind_type site) (part_type site) expr_type (path_type site) what
       ∙ ap (λ layer. kind_type site (done layer)) is
 
-  item-layer : (what : ExprKind) (layer : ExprKind-F ExprKind Part Expr Path) (t : Ty) (item : Item) → out-ExprKind what ≡ layer → kind what ≡ Some t → item_in layer ≡ Some item → item_within (length site.vars) item ≡ true
+  item-layer : (what : ExprKind) (layer : ExprKind-F ExprKind Part Expr Path) (t : Ty) (item : Item) → out-ExprKind what ≡ layer →
+      kind what ≡ Some t → item_in layer ≡ Some item → item_within (length site.vars) item ≡ true
   item-layer what (ExprKind-F.Literal n s) t item is typed h =
       let ranged : in_range s n ≡ true = literal-typed s (in_range s n) t (sym (kind-out what (ExprKind-F.Literal n s) is) ∙ typed) in
-      chosen-literal (is_early_type s && int_le (pos 0) n) n s item (λ early. literal-stands s n ranged (and-fst _ _ early) (and-snd (is_early_type s) _ early)) h
+      chosen-literal (is_early_type s && int_le (pos 0) n) n s item
+      (λ early. literal-stands s n ranged (and-fst _ _ early) (and-snd (is_early_type s) _ early)) h
   item-layer what (ExprKind-F.Read path) t item is typed h =
       item-of-path path (out-Path path).root (out-Path path).parts item (path-within path t (sym (kind-out what (ExprKind-F.Read path) is) ∙ typed)) h
   item-layer what (ExprKind-F.Prev k) t item is typed h = none-some item h
@@ -130,32 +215,38 @@ module _ (site : Site) where
   -- ---- sources
 
   sum-items : (first second : Option Item) (source : Source) → option_and_then (λ a. option_map (Sum a) second) first ≡ Some source →
-      ((item : Item) → first ≡ Some item → item_within (length site.vars) item ≡ true) → ((item : Item) → second ≡ Some item → item_within (length site.vars) item ≡ true) → source_within (length site.vars) source ≡ true
+      ((item : Item) → first ≡ Some item → item_within (length site.vars) item ≡ true) →
+      ((item : Item) → second ≡ Some item → item_within (length site.vars) item ≡ true) → source_within (length site.vars) source ≡ true
   sum-items (Some a) (Some b) source h left right =
       subst (λ s. source_within (length site.vars) s ≡ true) (some-inj (Sum a b) source h) (both _ _ (left a refl) (right b refl))
   sum-items (Some a) None source h left right = none-some source h
   sum-items None second source h left right = none-some source h
 
-  just-item : (o : Option Item) (source : Source) → option_map Just o ≡ Some source → ((item : Item) → o ≡ Some item → item_within (length site.vars) item ≡ true) → source_within (length site.vars) source ≡ true
+  just-item : (o : Option Item) (source : Source) → option_map Just o ≡ Some source →
+      ((item : Item) → o ≡ Some item → item_within (length site.vars) item ≡ true) → source_within (length site.vars) source ≡ true
   just-item (Some item) source h within = subst (λ s. source_within (length site.vars) s ≡ true) (some-inj (Just item) source h) (within item refl)
   just-item None source h within = none-some source h
 
-  two-typed : (f : Scalar → Scalar → Option Ty) (a b : Option Ty) (t : Ty) → option_and_then (λ s. option_and_then (f s) (option_and_then scalar_in b)) (option_and_then scalar_in a) ≡ Some t →
+  two-typed : (f : Scalar → Scalar → Option Ty) (a b : Option Ty) (t : Ty) →
+      option_and_then (λ s. option_and_then (f s) (option_and_then scalar_in b)) (option_and_then scalar_in a) ≡ Some t →
       ((u : Ty) × (a ≡ Some u)) × ((u : Ty) × (b ≡ Some u))
   two-typed f a b t h =
       let first = then-some _ _ t h in
       let one = then-some scalar_in a first.0 first.1 in
-      let second = then-some (f first.0) (option_and_then scalar_in b) t (ap (λ o. option_and_then (λ s. option_and_then (f s) (option_and_then scalar_in b)) o) (sym first.1) ∙ h) in
+      let second = then-some (f first.0) (option_and_then scalar_in b) t
+      (ap (λ o. option_and_then (λ s. option_and_then (f s) (option_and_then scalar_in b)) o) (sym first.1) ∙ h) in
       let other = then-some scalar_in b second.0 second.1 in
       (one, other)
 
-  source-layer : (what : ExprKind) (layer : ExprKind-F ExprKind Part Expr Path) (t : Ty) (source : Source) → out-ExprKind what ≡ layer → kind what ≡ Some t → source_in layer ≡ Some source → source_within (length site.vars) source ≡ true
+  source-layer : (what : ExprKind) (layer : ExprKind-F ExprKind Part Expr Path) (t : Ty) (source : Source) →
+      out-ExprKind what ≡ layer → kind what ≡ Some t → source_in layer ≡ Some source → source_within (length site.vars) source ≡ true
   source-layer what (ExprKind-F.Two Add a b) t source is typed h =
       let types = two-typed (two_type Add) (type_of site a) (type_of site b) t (sym (kind-out what (ExprKind-F.Two Add a b) is) ∙ typed) in
       sum-items (item_of a) (item_of b) source h (item-within a types.0.0 types.0.1) (item-within b types.1.0 types.1.1)
   source-layer what layer t source is typed h = just-item (item_in layer) source h (λ item. item-layer what layer t item is typed)
 
-  source-within : (e : Expr) (t : Ty) → type_of site e ≡ Some t → (source : Source) → source_of e ≡ Some source → source_within (length site.vars) source ≡ true
+  source-within : (e : Expr) (t : Ty) → type_of site e ≡ Some t → (source : Source) → source_of e ≡ Some source →
+      source_within (length site.vars) source ≡ true
   source-within e t typed source h = source-layer (out-Expr e).what (out-ExprKind (out-Expr e).what) t source refl (sym (type-out e) ∙ typed) h
 
   -- ---- steps
@@ -175,7 +266,8 @@ module _ (site : Site) where
   abbrev judged : StmtKind-F StmtKind Arm Branch Stmt → StmtKind-F Bool Bool Bool Bool
   judged = map-StmtKind StmtKind Arm Branch Stmt Bool Bool Bool Bool fits_kind arms_fit branches_fit (fits site)
 
-  kind_fits-out : (what : StmtKind) (layer : StmtKind-F StmtKind Arm Branch Stmt) → out-StmtKind what ≡ layer → fits_kind what ≡ kind_fits site (judged layer)
+  kind_fits-out : (what : StmtKind) (layer : StmtKind-F StmtKind Arm Branch Stmt) → out-StmtKind what ≡ layer →
+      fits_kind what ≡ kind_fits site (judged layer)
   kind_fits-out what layer is =
       fold_out-StmtKind Bool Bool Bool Bool (kind_fits site) (arm_fits site) branch_fits stmt_fits what ∙ ap (λ layer. kind_fits site (judged layer)) is
 
@@ -188,21 +280,26 @@ module _ (site : Site) where
   same-some (Some a) None h = cc
   same-some None b h = cc
 
-  set-step : (root : ℕ) (parts : List Part) (source : Option Source) → nat_lt root (length site.vars) ≡ true → ((s : Source) → source ≡ Some s → source_within (length site.vars) s ≡ true) → (step : Step) →
+  set-step : (root : ℕ) (parts : List Part) (source : Option Source) → nat_lt root (length site.vars) ≡ true →
+      ((s : Source) → source ≡ Some s → source_within (length site.vars) s ≡ true) → (step : Step) →
       option_and_then (λ k. option_map (Set k) source) (alone root parts) ≡ Some step → step_within (length site.vars) step ≡ true
-  set-step root [] (Some s) within stands step h = subst (λ s. step_within (length site.vars) s ≡ true) (some-inj (Set root s) step h) (both _ _ within (stands s refl))
+  set-step root [] (Some s) within stands step h = subst (λ s. step_within (length site.vars) s ≡ true)
+      (some-inj (Set root s) step h) (both _ _ within (stands s refl))
   set-step root [] None within stands step h = none-some step h
   set-step root (part ∷ parts) source within stands step h = none-some step h
 
-  pause-step : (item : Option Item) → ((i : Item) → item ≡ Some i → item_within (length site.vars) i ≡ true) → (step : Step) → option_map Pause item ≡ Some step → step_within (length site.vars) step ≡ true
+  pause-step : (item : Option Item) → ((i : Item) → item ≡ Some i → item_within (length site.vars) i ≡ true) → (step : Step) →
+      option_map Pause item ≡ Some step → step_within (length site.vars) step ≡ true
   pause-step (Some i) stands step h = subst (λ s. step_within (length site.vars) s ≡ true) (some-inj (Pause i) step h) (stands i refl)
   pause-step None stands step h = none-some step h
 
-  step-layer : (what : StmtKind) (layer : StmtKind-F StmtKind Arm Branch Stmt) → out-StmtKind what ≡ layer → fits_kind what ≡ true → (step : Step) → step_in layer ≡ Some step → step_within (length site.vars) step ≡ true
+  step-layer : (what : StmtKind) (layer : StmtKind-F StmtKind Arm Branch Stmt) → out-StmtKind what ≡ layer → fits_kind what ≡ true →
+      (step : Step) → step_in layer ≡ Some step → step_within (length site.vars) step ≡ true
   step-layer what (StmtKind-F.Assign path e) is fit step h =
       let all = sym (kind_fits-out what (StmtKind-F.Assign path e) is) ∙ fit in
       let typed = same-some (type_of_path site path) (type_of site e) (and-snd (is_assignable site path) _ all) in
-      set-step (out-Path path).root (out-Path path).parts (source_of e) (within-list-bool site.vars (out-Path path).root _ (and-fst (is_assignable site path) _ all)) (source-within e typed.0 typed.1) step h
+      set-step (out-Path path).root (out-Path path).parts (source_of e)
+      (within-list-bool site.vars (out-Path path).root _ (and-fst (is_assignable site path) _ all)) (source-within e typed.0 typed.1) step h
   step-layer what (StmtKind-F.Await e) is fit step h =
       let all = sym (kind_fits-out what (StmtKind-F.Await e) is) ∙ fit in
       let typed = truth-some (type_of site e) (and-snd (is_activity site.kind) _ all) in
@@ -218,26 +315,30 @@ module _ (site : Site) where
   step-layer what (StmtKind-F.While e body) is fit step h = none-some step h
   step-layer what (StmtKind-F.Return e) is fit step h = none-some step h
 
-  passes-all : (o : Option Step) → is_some o ≡ true → ((step : Step) → o ≡ Some step → step_within (length site.vars) step ≡ true) → passes (step_within (length site.vars)) o ≡ true
+  passes-all : (o : Option Step) → is_some o ≡ true → ((step : Step) → o ≡ Some step → step_within (length site.vars) step ≡ true) →
+      passes (step_within (length site.vars)) o ≡ true
   passes-all (Some step) h stands = stands step refl
   passes-all None h stands = cc
 
   statement-stands : (s : Stmt) → fits site s ≡ true → is_some (step_of s) ≡ true → is_step (length site.vars) s ≡ true
   statement-stands s fit some = passes-all (step_of s) some (step-layer (out-Stmt s).what (out-StmtKind (out-Stmt s).what) refl (sym (fits-out s) ∙ fit))
 
-  first-some : (s : Stmt) (rest : List Stmt) (one : Option Step) (others : Option (List Step)) → is_some (option_and_then (λ step. option_map (λ steps. step ∷ steps) others) one) ≡ true → (is_some one ≡ true) × (is_some others ≡ true)
+  first-some : (s : Stmt) (rest : List Stmt) (one : Option Step) (others : Option (List Step)) →
+      is_some (option_and_then (λ step. option_map (λ steps. step ∷ steps) others) one) ≡ true → (is_some one ≡ true) × (is_some others ≡ true)
   first-some s rest (Some one) (Some others) h = (refl, refl)
   first-some s rest (Some one) None h = cc
   first-some s rest None others h = cc
 
-  pub body-stands : (body : List Stmt) → all_of (map (fits site) body) ≡ true → is_some (steps_of body) ≡ true → list_all (is_step (length site.vars)) body ≡ true
+  pub body-stands : (body : List Stmt) → all_of (map (fits site) body) ≡ true → is_some (steps_of body) ≡ true →
+      list_all (is_step (length site.vars)) body ≡ true
   body-stands [] fit some = refl
   body-stands (s ∷ body) fit some =
       let both_some = first-some s body (step_of s) (steps_of body) some in
       both _ _ (statement-stands s (and-fst (fits site s) _ fit) both_some.0) (body-stands body (and-snd (fits site s) _ fit) both_some.1)
 
   -- the statements of the loop
-  pub loop-stands : (what : StmtKind) (layer : StmtKind-F StmtKind Arm Branch Stmt) → out-StmtKind what ≡ layer → fits_kind what ≡ true → (body : List Stmt) → repeated layer ≡ Some body → all_of (map (fits site) body) ≡ true
+  pub loop-stands : (what : StmtKind) (layer : StmtKind-F StmtKind Arm Branch Stmt) → out-StmtKind what ≡ layer →
+      fits_kind what ≡ true → (body : List Stmt) → repeated layer ≡ Some body → all_of (map (fits site) body) ≡ true
   loop-stands what (StmtKind-F.Repeat inner) is fit body h =
       subst (λ b. all_of (map (fits site) b) ≡ true) (some-inj inner body h) (sym (kind_fits-out what (StmtKind-F.Repeat inner) is) ∙ fit)
   loop-stands what (StmtKind-F.Assign path e) is fit body h = none-some body h
@@ -252,9 +353,11 @@ module _ (site : Site) where
   loop-stands what (StmtKind-F.While e inner) is fit body h = none-some body h
   loop-stands what (StmtKind-F.Return e) is fit body h = none-some body h
 
-  pub unit-loop : (all : List Stmt) → list_all (fits site) all ≡ true → (body : List Stmt) → loop_of all ≡ Some body → all_of (map (fits site) body) ≡ true
+  pub unit-loop : (all : List Stmt) → list_all (fits site) all ≡ true → (body : List Stmt) → loop_of all ≡ Some body →
+      all_of (map (fits site) body) ≡ true
   unit-loop [] fit body h = none-some body h
-  unit-loop (s ∷ []) fit body h = loop-stands (out-Stmt s).what (out-StmtKind (out-Stmt s).what) refl (sym (fits-out s) ∙ and-fst (fits site s) true fit) body h
+  unit-loop (s ∷ []) fit body h = loop-stands (out-Stmt s).what (out-StmtKind (out-Stmt s).what) refl
+      (sym (fits-out s) ∙ and-fst (fits site s) true fit) body h
   unit-loop (s ∷ t ∷ rest) fit body h = none-some body h
 
 -- ---- a unit of the form
@@ -297,7 +400,8 @@ within-one count None h = cc
 pub steps-within : (count : ℕ) (body : List Stmt) → list_all (is_step count) body ≡ true → list_all (step_within count) (steps_at body) ≡ true
 steps-within count [] h = refl
 steps-within count (s ∷ body) h =
-    both _ _ (within-one count (step_of s) (and-fst (is_step count s) (list_all (is_step count) body) h)) (steps-within count body (and-snd (is_step count s) (list_all (is_step count) body) h))
+    both _ _ (within-one count (step_of s) (and-fst (is_step count s) (list_all (is_step count) body) h))
+    (steps-within count body (and-snd (is_step count s) (list_all (is_step count) body) h))
 
 module _ (structs : List StructDef) (unit : UnitDef) (entry : ℕ) (keeps : program.Keeps structs (unit ∷ []) entry) where
   unit-fits : program.unit_stands structs [] unit ≡ true
@@ -308,13 +412,15 @@ module _ (structs : List StructDef) (unit : UnitDef) (entry : ℕ) (keeps : prog
 
   distinct-kept : length unit.vars ≡ unit.inputs + unit.outputs → words.are_distinct (program.names_of unit.vars) ≡ true
   distinct-kept h =
-      let some : words.are_distinct (program.names_of (take (unit.inputs + unit.outputs) unit.vars)) ≡ true = and-snd _ _ (and-snd (program.roles_stand unit) _ (and-fst _ _ unit-fits)) in
+      let some : words.are_distinct (program.names_of (take (unit.inputs + unit.outputs) unit.vars)) ≡ true =
+      and-snd _ _ (and-snd (program.roles_stand unit) _ (and-fst _ _ unit-fits)) in
       subst (λ vars. words.are_distinct (program.names_of vars) ≡ true) (take-all (unit.inputs + unit.outputs) unit.vars h) some
 
   body-fits : list_all (fits (site_of structs [] unit)) unit.body ≡ true
   body-fits = and-fst _ _ (and-snd (list_all (λ var. type_stands (length structs) var.ty) unit.vars) _ (and-snd _ _ unit-fits))
 
-  with-body : (body : List Stmt) → loop_of unit.body ≡ Some body → is_early_unit unit ≡ true → steps_suit (steps_of body) ≡ true → length unit.vars ≡ unit.inputs + unit.outputs → list_all is_typed_var unit.vars ≡ true →
+  with-body : (body : List Stmt) → loop_of unit.body ≡ Some body → is_early_unit unit ≡ true → steps_suit (steps_of body) ≡ true →
+      length unit.vars ≡ unit.inputs + unit.outputs → list_all is_typed_var unit.vars ≡ true →
       list_all words.is_name (unit.name ∷ []) ≡ true → Stands unit
   with-body body loop early suit count typed named =
       let some : list_all is_any_step body ≡ true = suited-all body suit in
@@ -326,13 +432,15 @@ module _ (structs : List StructDef) (unit : UnitDef) (entry : ℕ) (keeps : prog
         typed = typed;
         distinct = distinct-kept count;
         inputs = omega arith;
-        all = body-stands (site_of structs [] unit) body (unit-loop (site_of structs [] unit) unit.body body-fits body loop) (ap is_some (steps-some body some));
+        all = body-stands (site_of structs [] unit) body (unit-loop (site_of structs [] unit) unit.body body-fits body loop)
+            (ap is_some (steps-some body some));
         few = suited-few body suit;
         steps = ap (λ o. unwrap_or (option_and_then steps_of o) []) loop ∙ ap (λ o. unwrap_or o []) (steps-some body some);
         pause = suited-pause body suit;
       }
 
-  found-body : (o : Option (List Stmt)) → loop_of unit.body ≡ o → steps_suit (option_and_then steps_of o) ≡ true → is_early_unit unit ≡ true → length unit.vars ≡ unit.inputs + unit.outputs → list_all is_typed_var unit.vars ≡ true →
+  found-body : (o : Option (List Stmt)) → loop_of unit.body ≡ o → steps_suit (option_and_then steps_of o) ≡ true →
+      is_early_unit unit ≡ true → length unit.vars ≡ unit.inputs + unit.outputs → list_all is_typed_var unit.vars ≡ true →
       list_all words.is_name (unit.name ∷ []) ≡ true → Stands unit
   found-body (Some body) loop suit early count typed named = with-body body loop early suit count typed named
   found-body None loop suit early count typed named = cc
@@ -344,16 +452,19 @@ behind-structs (name ∷ structs) units h = behind-structs structs units (and-sn
 same-count : (a b : ℕ) → nat_eq a b ≡ true → a ≡ b
 same-count a b h = grind (arith, nat_tests)
 
-pub unit-stands : (structs : List StructDef) (unit : UnitDef) (entry : ℕ) → program.Keeps structs (unit ∷ []) entry → is_early_unit unit ≡ true → Stands unit
+pub unit-stands : (structs : List StructDef) (unit : UnitDef) (entry : ℕ) → program.Keeps structs (unit ∷ []) entry →
+    is_early_unit unit ≡ true → Stands unit
 unit-stands structs unit entry keeps early =
     let sizes : (nat_eq (length unit.vars) (unit.inputs + unit.outputs) && nat_le (length unit.vars) 1000) ≡ true = and-fst _ _ early in
-    let others : (list_all is_typed_var unit.vars && steps_suit (unit_steps unit)) ≡ true = and-snd (nat_eq (length unit.vars) (unit.inputs + unit.outputs) && nat_le (length unit.vars) 1000) _ early in
+    let others : (list_all is_typed_var unit.vars && steps_suit (unit_steps unit)) ≡ true =
+    and-snd (nat_eq (length unit.vars) (unit.inputs + unit.outputs) && nat_le (length unit.vars) 1000) _ early in
     found-body structs unit entry keeps (loop_of unit.body) refl (and-snd (list_all is_typed_var unit.vars) _ others) early
     (same-count (length unit.vars) (unit.inputs + unit.outputs) (and-fst _ _ sizes)) (and-fst _ _ others)
     (behind-structs (map (λ def. def.name) structs) (unit.name ∷ []) keeps.named)
 
 -- the one unit of a program of the form
-pub the-unit : (structs : List StructDef) (units : List UnitDef) (entry : ℕ) (d : UnitDef) → program.Keeps structs units entry → is_early structs units ≡ true → d ≡ get_or units 0 d → (units ≡ d ∷ []) × Stands d
+pub the-unit : (structs : List StructDef) (units : List UnitDef) (entry : ℕ) (d : UnitDef) → program.Keeps structs units entry →
+    is_early structs units ≡ true → d ≡ get_or units 0 d → (units ≡ d ∷ []) × Stands d
 the-unit [] [] entry d keeps early is = cc
 the-unit [] (unit ∷ v ∷ rest) entry d keeps early is = cc
 the-unit (s ∷ structs) [] entry d keeps early is = cc
@@ -374,10 +485,12 @@ looped unit body stands h =
 pub has-loop : (unit : UnitDef) → Stands unit → loop_of unit.body ≡ None → ⊥
 has-loop unit stands h = let clash : Some stands.body ≡ None = sym stands.loop ∙ h in cc
 
-pub file-spelled-of : (unit : UnitDef) (body : List Stmt) → Stands unit → Looped unit body → is_spellable (c_structs unit) (c_funcs unit (steps_at body)) ≡ true
+pub file-spelled-of : (unit : UnitDef) (body : List Stmt) → Stands unit → Looped unit body →
+    is_spellable (c_structs unit) (c_funcs unit (steps_at body)) ≡ true
 file-spelled-of unit body stands facts =
     let few : length (steps_at body) ≤ 1000 = subst (λ n. n ≤ 1000) (sym (same-length body)) facts.few in
     file-spelled unit stands.named stands.vars_named (steps_at body) stands.typed few (steps-within (length unit.vars) body facts.all)
 
-pub same-spelled : (structs s : List CStruct) (funcs f : List CFunc) → structs ≡ s → funcs ≡ f → is_spellable s f ≡ true → is_spellable structs funcs ≡ true
+pub same-spelled : (structs s : List CStruct) (funcs f : List CFunc) → structs ≡ s → funcs ≡ f → is_spellable s f ≡ true →
+    is_spellable structs funcs ≡ true
 same-spelled structs s funcs f h i k = ap₂ is_spellable h i ∙ k

@@ -1,5 +1,27 @@
 -- Statements, and the steps for which they stand.
-use Rattle.std.proofs.Common.{◌≡◌, suc, ◌≤◌, Bool, true, false, ◌&&◌, ◌||◌, List, [], ◌∷◌, length, Option, Some, None, refl, sym, ap, ap₂, ◌∙◌, arith}
+use Rattle.std.proofs.Common.{
+  ◌≡◌,
+  suc,
+  ◌≤◌,
+  Bool,
+  true,
+  false,
+  ◌&&◌,
+  ◌||◌,
+  List,
+  [],
+  ◌∷◌,
+  length,
+  Option,
+  Some,
+  None,
+  refl,
+  sym,
+  ap,
+  ap₂,
+  ◌∙◌,
+  arith,
+}
 use Rattle.std.specs.Prelude.{nat_le, is_some, unwrap_or, option_map, option_and_then}
 use Rattle.std.specs.List.{list_all, list_any}
 use Rattle.std.proofs.lemmas.Bool.Decides.{nat_tests}
@@ -16,7 +38,8 @@ both-some None rest steps h i = cc
 pub steps-some : (body : List Stmt) → list_all is_any_step body ≡ true → steps_of body ≡ Some (steps_at body)
 steps-some [] h = refl
 steps-some (s ∷ body) h =
-    both-some (step_of s) (steps_of body) (steps_at body) (and-fst (is_any_step s) (list_all is_any_step body) h) (steps-some body (and-snd (is_any_step s) (list_all is_any_step body) h))
+    both-some (step_of s) (steps_of body) (steps_at body) (and-fst (is_any_step s) (list_all is_any_step body) h)
+    (steps-some body (and-snd (is_any_step s) (list_all is_any_step body) h))
 
 none-of : (one : Option Step) (rest : Option (List Step)) (all : Bool) → (is_some one && all) ≡ false → (all ≡ false → rest ≡ None) →
     option_and_then (λ step. option_map (λ steps. step ∷ steps) rest) one ≡ None
@@ -34,13 +57,15 @@ is-pause None h = cc
 any-pause : (body : List Stmt) → list_all is_any_step body ≡ true → list_any is_pause (steps_at body) ≡ list_any has_pause body
 any-pause [] h = refl
 any-pause (s ∷ body) h =
-    ap₂ (λ a b. a || b) (is-pause (step_of s) (and-fst (is_any_step s) (list_all is_any_step body) h)) (any-pause body (and-snd (is_any_step s) (list_all is_any_step body) h))
+    ap₂ (λ a b. a || b) (is-pause (step_of s) (and-fst (is_any_step s) (list_all is_any_step body) h))
+    (any-pause body (and-snd (is_any_step s) (list_all is_any_step body) h))
 
 pub same-length : (body : List Stmt) → length (steps_at body) ≡ length body
 same-length [] = refl
 same-length (s ∷ body) = ap (λ n. suc n) (same-length body)
 
-suits-if : (body : List Stmt) (all : Bool) → list_all is_any_step body ≡ all → steps_suit (steps_of body) ≡ (all && (list_any has_pause body && nat_le (length body) 1000))
+suits-if : (body : List Stmt) (all : Bool) → list_all is_any_step body ≡ all →
+    steps_suit (steps_of body) ≡ (all && (list_any has_pause body && nat_le (length body) 1000))
 suits-if body true h =
     ap steps_suit (steps-some body h) ∙ ap₂ (λ a n. a && nat_le n 1000) (any-pause body h) (same-length body)
 suits-if body false h = ap steps_suit (steps-none body h)

@@ -1,5 +1,25 @@
 -- The C file that is written for an activity of the form (docs/C_SUBSET.md, "What `blechc` writes"). Nothing in it has a place in a text.
-use Rattle.std.specs.Prelude.{ℕ, ◌+◌, ℤ, pos, true, false, List, [], ◌∷◌, ◌++◌, map, take, drop, slice_index_or, unwrap_or, Option, Some, None, codes}
+use Rattle.std.specs.Prelude.{
+  ℕ,
+  ◌+◌,
+  ℤ,
+  pos,
+  true,
+  false,
+  List,
+  [],
+  ◌∷◌,
+  ◌++◌,
+  map,
+  take,
+  drop,
+  slice_index_or,
+  unwrap_or,
+  Option,
+  Some,
+  None,
+  codes,
+}
 use Rattle.bl_tree.specs.declared.text.Text.{Text}
 use Rattle.bl_tree.specs.declared.place.Place.{Place}
 use Rattle.bl_tree.specs.declared.scalar.Op.TheVariants.{Eq}

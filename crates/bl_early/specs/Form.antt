@@ -1,5 +1,28 @@
 -- The form of programs that is built today: one activity that loops, and in its loop sets outputs and awaits conditions.
-use Rattle.std.specs.Prelude.{ℕ, ◌+◌, ℤ, pos, Bool, true, false, ◌&&◌, ◌||◌, nat_eq, nat_le, int_le, List, [], ◌∷◌, length, Option, Some, None, option_map, option_and_then, if◌then◌else◌}
+use Rattle.std.specs.Prelude.{
+  ℕ,
+  ◌+◌,
+  ℤ,
+  pos,
+  Bool,
+  true,
+  false,
+  ◌&&◌,
+  ◌||◌,
+  nat_eq,
+  nat_le,
+  int_le,
+  List,
+  [],
+  ◌∷◌,
+  length,
+  Option,
+  Some,
+  None,
+  option_map,
+  option_and_then,
+  if◌then◌else◌,
+}
 use Rattle.std.specs.List.{list_all, list_any}
 use Rattle.bl_tree.specs.declared.scalar.Op.TheVariants.{Add}
 use Rattle.bl_tree.specs.declared.scalar.Scalar.{Scalar as ScalarType}

@@ -1,6 +1,23 @@
 -- How a loop of steps runs over rows of inputs. What the parallel meaning allows for a program of the form, and what the C
 -- text does that is written for it, are both shown to be this.
-use Rattle.std.specs.Prelude.{ℕ, ℤ, pos, ◌+ℤ◌, List, [], ◌∷◌, ◌++◌, map, drop, slice_index_or, slice_set, Option, Some, None, if◌then◌else◌}
+use Rattle.std.specs.Prelude.{
+  ℕ,
+  ℤ,
+  pos,
+  ◌+ℤ◌,
+  List,
+  [],
+  ◌∷◌,
+  ◌++◌,
+  map,
+  drop,
+  slice_index_or,
+  slice_set,
+  Option,
+  Some,
+  None,
+  if◌then◌else◌,
+}
 use Rattle.bl_tree.specs.declared.row.Last.TheVariants.{Open, Trap}
 use Rattle.bl_tree.specs.declared.row.Trace.{Trace}
 use Rattle.bl_tree.specs.declared.tree.Unit.{Unit as UnitDef}

@@ -59,7 +59,8 @@ PortsHave context (port ∷ ports) (var ∷ vars) = IsPlace context port true (O
 PortsHave context [] (var ∷ vars) = ⊥
 PortsHave context (port ∷ ports) [] = ⊥
 
-pub ports-append : (context : Context) (ps qs : List CPlace) (vs ws : List Var) → PortsHave context ps vs → PortsHave context qs ws → PortsHave context (ps ++ qs) (vs ++ ws)
+pub ports-append : (context : Context) (ps qs : List CPlace) (vs ws : List Var) → PortsHave context ps vs →
+    PortsHave context qs ws → PortsHave context (ps ++ qs) (vs ++ ws)
 ports-append context [] qs [] ws h i = i
 ports-append context [] qs (v ∷ vs) ws h i = absurd h
 ports-append context (p ∷ ps) qs [] ws h i = absurd h
@@ -70,8 +71,10 @@ none-some a h = cc
 
 -- ---- the statements
 
-module _ (context : Context) (keeps : context.keeps ≡ false) (now : IsPlace context c_now false counting) (counter : IsPlace context c_counter true counting) where
-  port-place : (ports : List CPlace) (vars : List Var) (k : ℕ) (s : Scalar) → PortsHave context ports vars → HasType vars k s → IsPlace context (c_port ports k) true (OfScalar s)
+module _ (context : Context) (keeps : context.keeps ≡ false) (now : IsPlace context c_now false counting)
+    (counter : IsPlace context c_counter true counting) where
+  port-place : (ports : List CPlace) (vars : List Var) (k : ℕ) (s : Scalar) → PortsHave context ports vars → HasType vars k s →
+      IsPlace context (c_port ports k) true (OfScalar s)
   port-place [] [] zero s h has = none-some s has
   port-place [] [] (suc k) s h has = none-some s has
   port-place [] (v ∷ vars) k s h has = absurd h
@@ -96,7 +99,8 @@ module _ (context : Context) (keeps : context.keeps ≡ false) (now : IsPlace co
     stretch-fine : (number : ℕ) (steps : List Step) → Each (StepHas vars) steps → Each (Fine context) (c_stretch ports number steps)
     stretch-fine number [] h = (set-fine context c_now (c_count 0) false counting keeps refl now (count-judged 0), tt)
     stretch-fine number (Set k source ∷ rest) h = (
-      set-fine context (c_port ports k) (c_source ports source) true (OfScalar h.0.0) keeps (same-self h.0.0) (port-place ports vars k h.0.0 have h.0.1.0) (source-judged source h.0.0 h.0.1.1),
+      set-fine context (c_port ports k) (c_source ports source) true (OfScalar h.0.0) keeps (same-self h.0.0)
+          (port-place ports vars k h.0.0 have h.0.1.0) (source-judged source h.0.0 h.0.1.1),
       stretch-fine number rest h.1,
     )
     stretch-fine number (Pause item ∷ rest) h = (set-fine context c_counter (c_count number) true counting keeps refl counter (count-judged number), tt)
@@ -110,7 +114,11 @@ module _ (context : Context) (keeps : context.keeps ≡ false) (now : IsPlace co
     resumed-fine number [] h = tt
     resumed-fine number (Set k source ∷ rest) h = resumed-fine number rest h.1
     resumed-fine number (Pause item ∷ rest) h = (
-      numbered-fine number _ (when-fine context (c_item ports item) (c_stretch ports (number + 1) rest) (item-judged item OfBool h.0) (stretch-fine (number + 1) rest h.1), tt),
+      numbered-fine number _ (
+        when-fine context (c_item ports item) (c_stretch ports (number + 1) rest)
+            (item-judged item OfBool h.0) (stretch-fine (number + 1) rest h.1),
+        tt,
+      ),
       resumed-fine (number + 1) rest h.1,
     )
 

@@ -1,5 +1,26 @@
 -- What the acts and tests of a program of one unit do to its store.
-use Rattle.std.proofs.Common.{◌≡◌, ℕ, ℤ, pos, Bool, true, List, [], ◌∷◌, map, length, Option, Some, None, refl, sym, ap, subst, ◌∙◌, IfSome}
+use Rattle.std.proofs.Common.{
+  ◌≡◌,
+  ℕ,
+  ℤ,
+  pos,
+  Bool,
+  true,
+  List,
+  [],
+  ◌∷◌,
+  map,
+  length,
+  Option,
+  Some,
+  None,
+  refl,
+  sym,
+  ap,
+  subst,
+  ◌∙◌,
+  IfSome,
+}
 use Rattle.std.proofs.lemmas.Option.{same_Some}
 use Rattle.std.specs.Prelude.{option_and_then, option_map, slice_get, slice_index_or, slice_set, unwrap_or}
 use Rattle.std.specs.List.{list_all, range_with_len}
@@ -57,7 +78,8 @@ pub record Held (unit : UnitDef) (store : Store) (now : Numbers) : Type 0 where
 -- a statement by its kind
 pub stmt_whole : (s : Stmt) (layer : StmtKind-F StmtKind Arm Branch Stmt) → stmt_kind s ≡ layer → stmt (out-Stmt s).place layer ≡ s
 stmt_whole s layer is =
-    ap (stmt (out-Stmt s).place) (sym is) ∙ ap (λ (what : StmtKind). roll-Stmt (record { place = (out-Stmt s).place; what = what })) (roll-out-StmtKind (out-Stmt s).what) ∙ roll-out-Stmt s
+    ap (stmt (out-Stmt s).place) (sym is) ∙ ap (λ (what : StmtKind). roll-Stmt (record { place = (out-Stmt s).place; what = what }))
+    (roll-out-StmtKind (out-Stmt s).what) ∙ roll-out-Stmt s
 
 -- ---- the statements of steps
 
@@ -78,7 +100,8 @@ pub record IsPause (s : Stmt) (item : Item) : Type 0 where
 set_same : (k m : ℕ) (source other : Source) → Set k source ≡ Set m other → (k ≡ m) × (source ≡ other)
 set_same k m source other is = (cc, cc)
 
-set_kind : (layer : StmtKind-F StmtKind Arm Branch Stmt) (s : Stmt) (k : ℕ) (source : Source) → stmt_kind s ≡ layer → step_in layer ≡ Some (Set k source) → IsSet s k source
+set_kind : (layer : StmtKind-F StmtKind Arm Branch Stmt) (s : Stmt) (k : ℕ) (source : Source) → stmt_kind s ≡ layer →
+    step_in layer ≡ Some (Set k source) → IsSet s k source
 set_kind (StmtKind-F.Assign path e) s k source kind is =
     let found = option_found (variable_of path) (source_of e) is in
     record { path = path; e = e; kind = kind; is_variable = found.0; is_source = found.1 }
@@ -87,7 +110,8 @@ set_kind (StmtKind-F.Assign path e) s k source kind is =
     source_found m None is = absurd cc
     source_found m (Some other) is = let same = set_same m k other source (same_Some (Set m other) (Set k source) is) in (same.0, ap Some same.1)
 
-    option_found : (v : Option ℕ) (o : Option Source) → option_and_then (λ k. option_map (Set k) o) v ≡ Some (Set k source) → (v ≡ Some k) × (o ≡ Some source)
+    option_found : (v : Option ℕ) (o : Option Source) → option_and_then (λ k. option_map (Set k) o) v ≡ Some (Set k source) →
+        (v ≡ Some k) × (o ≡ Some source)
     option_found None o is = absurd cc
     option_found (Some m) o is = let found = source_found m o is in (ap Some found.0, found.1)
 set_kind (StmtKind-F.Await e) s k source kind is = absurd (no_set (item_of e) is)
@@ -100,7 +124,8 @@ set_kind _ s k source kind is = absurd cc
 pub is_set : (s : Stmt) (k : ℕ) (source : Source) → step_of s ≡ Some (Set k source) → IsSet s k source
 is_set s k source is = set_kind (stmt_kind s) s k source refl is
 
-pause_kind : (layer : StmtKind-F StmtKind Arm Branch Stmt) (s : Stmt) (item : Item) → stmt_kind s ≡ layer → step_in layer ≡ Some (Pause item) → IsPause s item
+pause_kind : (layer : StmtKind-F StmtKind Arm Branch Stmt) (s : Stmt) (item : Item) → stmt_kind s ≡ layer →
+    step_in layer ≡ Some (Pause item) → IsPause s item
 pause_kind (StmtKind-F.Assign path e) s item kind is = absurd (no_pause (variable_of path) (source_of e) is)
   where
     no_pause : (v : Option ℕ) (o : Option Source) → option_and_then (λ k. option_map (Set k) o) v ≡ Some (Pause item) → ⊥
@@ -164,15 +189,18 @@ module _ (unit : UnitDef) where
 
     writes_is : (s : Stmt) (k : ℕ) (source : Source) (p : IsSet s k source) → writes s ≡ whole k ∷ []
     writes_is s k source p =
-        let by_path : writes (stmt (out-Stmt s).place (StmtKind-F.Assign p.path p.e)) ≡ static_of p.path ∷ [] = rw (fold-roll-Stmt, fold-roll-StmtKind) refl in
+        let by_path : writes (stmt (out-Stmt s).place (StmtKind-F.Assign p.path p.e)) ≡ static_of p.path ∷ [] =
+        rw (fold-roll-Stmt, fold-roll-StmtKind) refl in
         let reach : reach_of (path_to (out-Path p.path).place k (out-Path p.path).ty) ≡ record { static = whole k; indices = [] } = rw fold-roll-Path refl in
         ap writes (sym (stmt_whole s (StmtKind-F.Assign p.path p.e) p.kind)) ∙ by_path
         ∙ ap (λ path. static_of path ∷ []) (sym (variable_whole p.path k p.is_variable)) ∙ ap (λ (reach : Reach). reach.static ∷ []) reach
 
-    assign_typed : (s : Stmt) (path : Path) (e : Expr) → stmt_kind s ≡ StmtKind-F.Assign path e → fits site s ≡ true → (ty : Ty) × (type_of_path site path ≡ Some ty) × (type_of site e ≡ Some ty)
+    assign_typed : (s : Stmt) (path : Path) (e : Expr) → stmt_kind s ≡ StmtKind-F.Assign path e → fits site s ≡ true →
+        (ty : Ty) × (type_of_path site path ≡ Some ty) × (type_of site e ≡ Some ty)
     assign_typed s path e kind fit =
         let fit' = subst (λ s. fits site s ≡ true) (sym (stmt_whole s (StmtKind-F.Assign path e) kind)) fit in
-        same_found (type_of_path site path) (type_of site e) (and_right (is_assignable site path) (are_same (type_of_path site path) (type_of site e)) (rw (fold-roll-Stmt, fold-roll-StmtKind) at fit'))
+        same_found (type_of_path site path) (type_of site e)
+        (and_right (is_assignable site path) (are_same (type_of_path site path) (type_of site e)) (rw (fold-roll-Stmt, fold-roll-StmtKind) at fit'))
 
     abbrev set_outcome : Numbers → ℕ → Option ℤ → Option (List Value)
     set_outcome now k o = option_map (λ n. values (slice_set now k n)) o
@@ -180,10 +208,12 @@ module _ (unit : UnitDef) where
     put_number : (now : Numbers) (k : ℕ) (n : ℤ) → AllFit [] unit.vars (values now) → (var : Var) → slice_get unit.vars k ≡ Some var →
         put_at k [] (Number n) (values now) ≡ Some (values (slice_set now k n))
     put_number now k n fit var there =
-        ap (λ found. option_and_then (λ old. option_map (λ value. slice_set (values now) k value) (Some (Number n))) found) (number_there unit.vars now k var fit there)
+        ap (λ found. option_and_then (λ old. option_map (λ value. slice_set (values now) k value) (Some (Number n))) found)
+        (number_there unit.vars now k var fit there)
         ∙ ap Some (values_set now k n)
 
-    assigned_is : (now before : Numbers) (k : ℕ) (o : Option ℤ) (place : Place) (written ty : Ty) → AllFit [] unit.vars (values now) → AllFit [] unit.vars (values before) →
+    assigned_is : (now before : Numbers) (k : ℕ) (o : Option ℤ) (place : Place) (written ty : Ty) →
+        AllFit [] unit.vars (values now) → AllFit [] unit.vars (values before) →
         type_of_path site (path_to place k written) ≡ Some ty →
         assigned (spot_of scope (path_to place k written)) (option_map Number o) (record { now = values now; before = values before }) ≡ set_outcome now k o
     assigned_is now before k None place written ty now_fits before_fits typed = refl
@@ -191,19 +221,22 @@ module _ (unit : UnitDef) where
         let v = known unit sound vars_early now (values before) now_fits before_fits place k written ty typed in
         rw fold-roll-Path (put_number now k n now_fits v.var v.is_there)
 
-    acted_is : (s : Stmt) (k : ℕ) (source : Source) (now before : Numbers) (p : IsSet s k source) → fits site s ≡ true → AllFit [] unit.vars (values now) → AllFit [] unit.vars (values before) →
+    acted_is : (s : Stmt) (k : ℕ) (source : Source) (now before : Numbers) (p : IsSet s k source) → fits site s ≡ true →
+        AllFit [] unit.vars (values now) → AllFit [] unit.vars (values before) →
         acted scope (stmt_kind s) (record { now = values now; before = values before }) ≡ set_outcome now k (source_value now source)
     acted_is s k source now before p fit now_fits before_fits =
         let typed = assign_typed s p.path p.e p.kind fit in
         let view : View = record { now = values now; before = values before } in
         let whole = variable_whole p.path k p.is_variable in
         ap (λ kind. acted scope kind view) p.kind
-        ∙ ap (λ value. assigned (spot_of scope p.path) value view) (source_shows unit sound vars_early now (values before) now_fits before_fits p.e source typed.0 p.is_source typed.2)
+        ∙ ap (λ value. assigned (spot_of scope p.path) value view)
+        (source_shows unit sound vars_early now (values before) now_fits before_fits p.e source typed.0 p.is_source typed.2)
         ∙ ap (λ path. assigned (spot_of scope path) (option_map Number (source_value now source)) view) (sym whole)
         ∙ assigned_is now before k (source_value now source) (out-Path p.path).place (out-Path p.path).ty typed.0 now_fits before_fits
         (subst (λ path. type_of_path site path ≡ Some typed.0) (sym whole) typed.1)
 
-    outcome_is : (s : Stmt) (k : ℕ) (source : Source) (now : Numbers) (store : Store) (p : IsSet s k source) → fits site s ≡ true → (held : Held unit store now) →
+    outcome_is : (s : Stmt) (k : ℕ) (source : Source) (now : Numbers) (store : Store) (p : IsSet s k source) → fits site s ≡ true →
+        (held : Held unit store now) →
         outcome_there (alone unit) store 0 s ≡ set_outcome now k (source_value now source)
     outcome_is s k source now store p fit held =
         ap (λ store. outcome_there (alone unit) store 0 s) held.is_store
@@ -213,12 +246,15 @@ module _ (unit : UnitDef) where
     abbrev after_set : Numbers → Numbers → Option Value → ℕ → ℤ → Store
     after_set now before result k n = frame (slice_set now k n) before result ∷ []
 
-    written_store : (now before : Numbers) (result : Option Value) (k : ℕ) (n : ℤ) (var : Var) → AllFit [] unit.vars (values now) → slice_get unit.vars k ≡ Some var →
+    written_store : (now before : Numbers) (result : Option Value) (k : ℕ) (n : ℤ) (var : Var) → AllFit [] unit.vars (values now) →
+        slice_get unit.vars k ≡ Some var →
         put_written (alone unit) 0 (values (slice_set now k n)) (whole k ∷ []) (frame now before result ∷ []) ≡ after_set now before result k n
     written_store now before result k n var fit there =
-        ap (λ found. unwrap_or (option_map (λ value. put (whole_of 0 k) value (frame now before result ∷ [])) (option_and_then (value_at []) found)) (frame now before result ∷ []))
+        ap (λ found. unwrap_or (option_map (λ value. put (whole_of 0 k) value (frame now before result ∷ []))
+        (option_and_then (value_at []) found)) (frame now before result ∷ []))
         (set_there now k n (Number (slice_index_or now k (pos 0))) (number_there unit.vars now k var fit there))
-        ∙ ap (λ found. unwrap_or (option_map (λ all. slice_set (frame now before result ∷ []) 0 (record { now = all; before = values before; result = result })) found) (frame now before result ∷ []))
+        ∙ ap (λ found. unwrap_or (option_map (λ all. slice_set (frame now before result ∷ []) 0
+        (record { now = all; before = values before; result = result })) found) (frame now before result ∷ []))
         (put_number now k n fit var there)
 
     performed_is : (s : Located) (k : ℕ) (source : Source) (now : Numbers) (store : Store) (p : IsSet s.stmt k source) →
@@ -226,10 +262,12 @@ module _ (unit : UnitDef) where
         ≡ option_map done (option_map (λ all. put_written (alone unit) 0 all (whole k ∷ []) store) (outcome_there (alone unit) store 0 s.stmt))
     performed_is s k source now store p =
         ap (λ kind. option_map done (acted_kind (alone unit) 0 s.stmt kind store)) p.kind
-        ∙ ap (λ paths. option_map done (option_map (λ all. put_written (alone unit) 0 all paths store) (outcome_there (alone unit) store 0 s.stmt))) (writes_is s.stmt k source p)
+        ∙ ap (λ paths. option_map done (option_map (λ all. put_written (alone unit) 0 all paths store)
+        (outcome_there (alone unit) store 0 s.stmt))) (writes_is s.stmt k source p)
 
     -- a sum that traps
-    pub set_traps : (s : Located) (k : ℕ) (source : Source) (now : Numbers) (store : Store) (p : IsSet s.stmt k source) → fits site s.stmt ≡ true → Held unit store now →
+    pub set_traps : (s : Located) (k : ℕ) (source : Source) (now : Numbers) (store : Store) (p : IsSet s.stmt k source) →
+        fits site s.stmt ≡ true → Held unit store now →
         source_value now source ≡ None → perform (alone unit) (action 0 s (Acts s.stmt)) store ≡ None
     set_traps s k source now store p fit held none =
         performed_is s k source now store p
@@ -242,13 +280,15 @@ module _ (unit : UnitDef) where
       pub performs : perform (alone unit) (action 0 s (Acts s.stmt)) store ≡ Some (record { answer = true; store = after })
       pub held : Held unit after now
 
-    still_fits : (s : Stmt) (k : ℕ) (source : Source) (now before : Numbers) (n : ℤ) (p : IsSet s k source) → fits site s ≡ true → AllFit [] unit.vars (values now) → AllFit [] unit.vars (values before) →
+    still_fits : (s : Stmt) (k : ℕ) (source : Source) (now before : Numbers) (n : ℤ) (p : IsSet s k source) → fits site s ≡ true →
+        AllFit [] unit.vars (values now) → AllFit [] unit.vars (values before) →
         source_value now source ≡ Some n → AllFit [] unit.vars (values (slice_set now k n))
     still_fits s k source now before n p fit now_fits before_fits some =
         subst (λ found. IfSome found (AllFit [] unit.vars)) (acted_is s k source now before p fit now_fits before_fits ∙ ap (set_outcome now k) some)
         (act_fits [] [] unit (callees_of [] []) sound (record { now = values now; before = values before }) now_fits before_fits s fit)
 
-    pub set_writes : (s : Located) (k : ℕ) (source : Source) (now : Numbers) (store : Store) (n : ℤ) (p : IsSet s.stmt k source) → fits site s.stmt ≡ true → Held unit store now →
+    pub set_writes : (s : Located) (k : ℕ) (source : Source) (now : Numbers) (store : Store) (n : ℤ) (p : IsSet s.stmt k source) →
+        fits site s.stmt ≡ true → Held unit store now →
         source_value now source ≡ Some n → Written s store (slice_set now k n)
     set_writes s k source now store n p fit held some =
         let typed = assign_typed s.stmt p.path p.e p.kind fit in

@@ -1,5 +1,27 @@
 -- How many steps a tick of a loop has at most, and that none is stuck, whatever the store is.
-use Rattle.std.proofs.Common.{◌≡◌, ℕ, suc, ◌+◌, ◌≤◌, ℤ, Bool, true, false, ◌||◌, List, [], ◌∷◌, ◌++◌, length, map, Some, refl, sym, subst, arith}
+use Rattle.std.proofs.Common.{
+  ◌≡◌,
+  ℕ,
+  suc,
+  ◌+◌,
+  ◌≤◌,
+  ℤ,
+  Bool,
+  true,
+  false,
+  ◌||◌,
+  List,
+  [],
+  ◌∷◌,
+  ◌++◌,
+  length,
+  map,
+  Some,
+  refl,
+  sym,
+  subst,
+  arith,
+}
 use Rattle.std.specs.Prelude.{if◌then◌else◌}
 use Rattle.std.specs.List.{list_any}
 use Rattle.bl_tree.specs.declared.tree.Stmt.{Stmt}
@@ -22,12 +44,14 @@ use Rattle.bl_early_laws.proofs.OneThreaded.{Only, may_move, repeat_only, wait_i
 use Rattle.bl_early_laws.proofs.Simulation.{tree_is}
 use Rattle.bl_early_laws.proofs.Ticks.{Follow, at_loop, at_step, block_follows, do_first, pause_only, set_only, some_follow, woken_only}
 
-module _ (w : Setting) (site : Site) (loop : Located) (body : List Stmt) (steps : List Step) (loop_kind : kind_of loop ≡ StmtKind-F.Repeat body) (body_steps : steps_of body ≡ Some steps)
+module _ (w : Setting) (site : Site) (loop : Located) (body : List Stmt) (steps : List Step)
+    (loop_kind : kind_of loop ≡ StmtKind-F.Repeat body) (body_steps : steps_of body ≡ Some steps)
     (body_fits : all_of (map (fits site) body) ≡ true) (some_pause : list_any is_pause steps ≡ true) where
   -- the trees between ticks
   pub data Waiting : Control → Type 0 where
     not_begun : Waiting (Idle (Begin loop ∷ []))
-    at_pause : {s : Located} {item : Item} {items : List Following} {rest : List Step} → step_of s.stmt ≡ Some (Pause item) → Follow site loop items rest →
+    at_pause : {s : Located} {item : Item} {items : List Following} {rest : List Step} → step_of s.stmt ≡ Some (Pause item) →
+        Follow site loop items rest →
         length rest ≤ length steps → Waiting (Seq (Wait s) items)
 
   -- the trees inside a tick, with how many steps there can still be in it
@@ -38,9 +62,11 @@ module _ (w : Setting) (site : Site) (loop : Located) (body : List Stmt) (steps 
     -- in a turn that can end without a pause: the next one pauses
     before_turn : {items : List Following} {rest : List Step} → c ≡ do_all items → Follow site loop items rest →
         length rest ≤ length steps → length rest + suc (length steps) ≤ n → Inside n c
-    woken_there : {s : Located} {item : Item} {items : List Following} {rest : List Step} → c ≡ Seq (Test s) items → step_of s.stmt ≡ Some (Pause item) → Follow site loop items rest →
+    woken_there : {s : Located} {item : Item} {items : List Following} {rest : List Step} → c ≡ Seq (Test s) items →
+        step_of s.stmt ≡ Some (Pause item) → Follow site loop items rest →
         length rest ≤ length steps → suc (length rest + suc (length steps)) ≤ n → Inside n c
-    paused_there : {s : Located} {item : Item} {items : List Following} {rest : List Step} → c ≡ Seq (Wait s) items → step_of s.stmt ≡ Some (Pause item) → Follow site loop items rest →
+    paused_there : {s : Located} {item : Item} {items : List Following} {rest : List Step} → c ≡ Seq (Wait s) items →
+        step_of s.stmt ≡ Some (Pause item) → Follow site loop items rest →
         length rest ≤ length steps → Inside n c
 
   -- what can follow
@@ -49,7 +75,8 @@ module _ (w : Setting) (site : Site) (loop : Located) (body : List Stmt) (steps 
     one_more : (a : Action) (after : Bool → Control) → Only w c a after → (m : ℕ) → suc m ≤ n → ((d : Bool) → Inside m (after d)) → Next n c
 
   -- the next step of a turn, where what is left of the turn is inside
-  next_step : (n m : ℕ) (s : Located) (st : Step) (items : List Following) (rest : List Step) → step_of s.stmt ≡ Some st → Follow site loop items rest → length (st ∷ rest) ≤ length steps → suc m ≤ n →
+  next_step : (n m : ℕ) (s : Located) (st : Step) (items : List Following) (rest : List Step) → step_of s.stmt ≡ Some st →
+      Follow site loop items rest → length (st ∷ rest) ≤ length steps → suc m ≤ n →
       (is_pause st ≡ false → Inside m (do_all items)) → Next n (Seq (Do s) items)
   next_step n m s (Set k source) items rest is more short less inside =
       one_more (action 0 s (Acts s.stmt)) (λ d. do_all items) (set_only w s items k source (is_set s.stmt k source is)) m less (λ d. inside refl)
@@ -66,23 +93,28 @@ module _ (w : Setting) (site : Site) (loop : Located) (body : List Stmt) (steps 
   false_or true b isnt some = absurd cc
   false_or false b isnt some = some
 
-  next_in_turn : {items : List Following} {rest : List Step} (n : ℕ) → Follow site loop items rest → list_any is_pause rest ≡ true → length rest ≤ length steps → length rest ≤ n → Next n (do_all items)
+  next_in_turn : {items : List Following} {rest : List Step} (n : ℕ) → Follow site loop items rest → list_any is_pause rest ≡ true →
+      length rest ≤ length steps → length rest ≤ n → Next n (do_all items)
   next_in_turn n at_loop some short enough = absurd cc
   next_in_turn n (at_step {s} {step = st} {items} {rest} is fit more) some short enough =
       subst (Next n) (sym (do_first s items (some_follow more)))
-      (next_step n (length rest) s st items rest is more short enough (λ isnt. in_turn refl more (false_or (is_pause st) (list_any is_pause rest) isnt some) (omega arith) (omega arith)))
+      (next_step n (length rest) s st items rest is more short enough
+      (λ isnt. in_turn refl more (false_or (is_pause st) (list_any is_pause rest) isnt some) (omega arith) (omega arith)))
 
-  next_before_turn : {items : List Following} {rest : List Step} (n : ℕ) → Follow site loop items rest → length rest ≤ length steps → length rest + suc (length steps) ≤ n → Next n (do_all items)
+  next_before_turn : {items : List Following} {rest : List Step} (n : ℕ) → Follow site loop items rest →
+      length rest ≤ length steps → length rest + suc (length steps) ≤ n → Next n (do_all items)
   next_before_turn n at_loop short enough = next_again n (omega arith)
   next_before_turn n (at_step {s} {step = st} {items} {rest} is fit more) short enough =
       subst (Next n) (sym (do_first s items (some_follow more)))
       (next_step n (length rest + suc (length steps)) s st items rest is more short (omega arith) (λ isnt. before_turn refl more (omega arith) (omega arith)))
 
-  next_test : (n : ℕ) (s : Located) (item : Item) (items : List Following) (rest : List Step) → step_of s.stmt ≡ Some (Pause item) → Follow site loop items rest →
+  next_test : (n : ℕ) (s : Located) (item : Item) (items : List Following) (rest : List Step) → step_of s.stmt ≡ Some (Pause item) →
+      Follow site loop items rest →
       length rest ≤ length steps → suc (length rest + suc (length steps)) ≤ n → Next n (Seq (Test s) items)
   next_test n s item items rest is more short enough =
       let p = is_pause_of s.stmt item is in
-      one_more (action 0 s (Asks p.e)) (λ d. seq (if d then Nil else Wait s) items) (woken_only w s items item p) (length rest + suc (length steps)) enough after
+      one_more (action 0 s (Asks p.e)) (λ d. seq (if d then Nil else Wait s) items) (woken_only w s items item p)
+      (length rest + suc (length steps)) enough after
     where
       after : (d : Bool) → Inside (length rest + suc (length steps)) (seq (if d then Nil else Wait s) items)
       after true = before_turn refl more short (omega arith)
@@ -102,10 +134,12 @@ module _ (w : Setting) (site : Site) (loop : Located) (body : List Stmt) (steps 
 
   move_inside : {n : ℕ} {c : Control} {d : Bool} {a : Action} {c' : Control} → Next n c → Moves w 0 c d a c' → Left n c'
   move_inside {d = d} {a} {c'} (nothing still settled waiting) move = absurd (still d a c' move)
-  move_inside {d = d} {a} {c'} (one_more b after one m less inside) move = record { count = m; fewer = less; inside = subst (Inside m) (one.only d a c' move).1 (inside d) }
+  move_inside {d = d} {a} {c'} (one_more b after one m less inside) move =
+      record { count = m; fewer = less; inside = subst (Inside m) (one.only d a c' move).1 (inside d) }
 
   -- a list of steps is no longer
-  bounded : {c : Control} {store : Store} {actions : List Action} {end : End} → Steps w c store actions end → (n : ℕ) → Inside n c → length actions ≤ n
+  bounded : {c : Control} {store : Store} {actions : List Action} {end : End} → Steps w c store actions end → (n : ℕ) → Inside n c →
+      length actions ≤ n
   bounded none n inside = omega arith
   bounded (traps t) n inside = let left = move_inside (next inside) t.moves in omega (arith, left.fewer)
   bounded (step s more) n inside = let left = move_inside (next inside) s.moves in omega (arith, left.fewer, bounded more left.count left.inside)
@@ -147,7 +181,8 @@ module _ (w : Setting) (site : Site) (loop : Located) (body : List Stmt) (steps 
     reached_waits (after_tick {c' = c'} {store'} before tick paused) =
         let found = leads_inside tick.maximal.steps most (woken_inside (reached_waits before)) c' store' refl in waits (next found.inside) tick.maximal.over
 
-    pub ticks_bounded : (rows : List (List ℤ)) (row : List ℤ) (actions : List Action) (end : End) → ReachesInside w rows row actions end → length actions ≤ most
+    pub ticks_bounded : (rows : List (List ℤ)) (row : List ℤ) (actions : List Action) (end : End) →
+        ReachesInside w rows row actions end → length actions ≤ most
     ticks_bounded rows row actions end inside = bounded inside.steps most (woken_inside (reached_waits inside.before))
 
     pub never_stuck : (rows : List (List ℤ)) (row : List ℤ) (actions : List Action) (c : Control) (store : Store) →

@@ -13,15 +13,68 @@ use Rattle.bl_cmeaning.specs.Parts.{Parts, parts_from}
 use Rattle.bl_cmeaning.specs.Memory.{member, state_object, input_object, output_object, Memory, scalar, set_at, without_frame, cleared}
 use Rattle.bl_cmeaning.specs.Tables.{Table, no_entries, table_of, with_entry}
 use Rattle.bl_cmeaning.specs.Cells.{numbers_of}
-use Rattle.bl_cmeaning.specs.Meaning.{Passed, by_address, Called, Meaning, Scope, Outcome, End, goes_on, given, after, each_of, following, later_call, called_as, call_outcome, called, result_at, runs_c, block_c, function_c}
+use Rattle.bl_cmeaning.specs.Meaning.{
+  Passed,
+  by_address,
+  Called,
+  Meaning,
+  Scope,
+  Outcome,
+  End,
+  goes_on,
+  given,
+  after,
+  each_of,
+  following,
+  later_call,
+  called_as,
+  call_outcome,
+  called,
+  result_at,
+  runs_c,
+  block_c,
+  function_c,
+}
 use Rattle.bl_cmeaning.specs.Builtin.{builtin_of}
 use Rattle.bl_cmeaning.specs.Trace.{object, entered}
 use Rattle.bl_early.specs.Form.{Item, Step}
 use Rattle.bl_early.specs.Run.{Numbers, Reached, Traps, Pauses, Passes}
-use Rattle.bl_early.specs.Emitted.{c_step, c_target, c_through, c_count, c_call, c_calling, c_returning, c_tick_args, c_tick, c_init, c_activity, c_funcs, c_structs, c_tick_body, c_ports, activity_name, input_name, output_name, outs_of}
+use Rattle.bl_early.specs.Emitted.{
+  c_step,
+  c_target,
+  c_through,
+  c_count,
+  c_call,
+  c_calling,
+  c_returning,
+  c_tick_args,
+  c_tick,
+  c_init,
+  c_activity,
+  c_funcs,
+  c_structs,
+  c_tick_body,
+  c_ports,
+  activity_name,
+  input_name,
+  output_name,
+  outs_of,
+}
 use Rattle.bl_early.specs.Built.{step_within}
 use Rattle.bl_early_laws.proofs.Cells.{Each, each-append, each-map, number_at, Same, same-numbers, Own, Clear, AllApart}
-use Rattle.bl_early_laws.proofs.WrittenValues.{passes, pointer-place, through-place, two-place, literal-value, address-arg, three-args, call-does, set-runs, calling-runs, returning-runs}
+use Rattle.bl_early_laws.proofs.WrittenValues.{
+  passes,
+  pointer-place,
+  through-place,
+  two-place,
+  literal-value,
+  address-arg,
+  three-args,
+  call-does,
+  set-runs,
+  calling-runs,
+  returning-runs,
+}
 use Rattle.bl_early_laws.proofs.Stretches.{counter, current, activity_scope, Leads, Shows, At}
 use Rattle.bl_early_laws.proofs.WrittenTicks.{Ticked}
 use Rattle.bl_early_laws.proofs.Slots.{port_cell, in_cells, out_cells, slots_of}
@@ -31,7 +84,8 @@ abbrev pub tick_scope : Table Meaning → Scope
 tick_scope known = record {
   known = known;
   depth = 0;
-  pointers = table_of ((codes "s", record { root = state_object; parts = [] }) ∷ (codes "i", record { root = input_object; parts = [] }) ∷ (codes "o", record { root = output_object; parts = [] }) ∷ []);
+  pointers = table_of ((codes "s", record { root = state_object; parts = [] })
+      ∷ (codes "i", record { root = input_object; parts = [] }) ∷ (codes "o", record { root = output_object; parts = [] }) ∷ []);
 }
 
 abbrev pub init_scope : Table Meaning → Scope
@@ -40,7 +94,8 @@ init_scope known = record { known = known; depth = 0; pointers = table_of ((code
 -- the places that the activity is given
 abbrev pub handed : List Passed
 handed =
-    by_address (record { root = state_object; parts = member (codes "m_0") ∷ [] }) ∷ by_address (record { root = input_object; parts = [] }) ∷ by_address (record { root = output_object; parts = [] }) ∷ []
+    by_address (record { root = state_object; parts = member (codes "m_0") ∷ [] })
+    ∷ by_address (record { root = input_object; parts = [] }) ∷ by_address (record { root = output_object; parts = [] }) ∷ []
 
 module _ (unit : UnitDef) (steps : List Step) where
   abbrev pub activity : Meaning
@@ -62,10 +117,13 @@ module _ (unit : UnitDef) (steps : List Step) where
   args-pass : (m : Memory) → each_of (map passes c_tick_args) (tick_scope known) m ≡ given (Some handed)
   args-pass m =
       three-args (tick_scope known) m (Address (c_through (codes "s") (codes "m_0"))) (Address (c_target (codes "i") [])) (Address (c_target (codes "o") []))
-      (by_address (record { root = state_object; parts = member (codes "m_0") ∷ [] })) (by_address (record { root = input_object; parts = [] })) (by_address (record { root = output_object; parts = [] }))
-      (address-arg (tick_scope known) m (c_through (codes "s") (codes "m_0")) (record { root = state_object; parts = member (codes "m_0") ∷ [] }) (through-place (tick_scope known) m (codes "s") (codes "m_0")))
+      (by_address (record { root = state_object; parts = member (codes "m_0") ∷ [] }))
+      (by_address (record { root = input_object; parts = [] })) (by_address (record { root = output_object; parts = [] }))
+      (address-arg (tick_scope known) m (c_through (codes "s") (codes "m_0"))
+      (record { root = state_object; parts = member (codes "m_0") ∷ [] }) (through-place (tick_scope known) m (codes "s") (codes "m_0")))
       (address-arg (tick_scope known) m (c_target (codes "i") []) (record { root = input_object; parts = [] }) (pointer-place (tick_scope known) m (codes "i")))
-      (address-arg (tick_scope known) m (c_target (codes "o") []) (record { root = output_object; parts = [] }) (pointer-place (tick_scope known) m (codes "o")))
+      (address-arg (tick_scope known) m (c_target (codes "o") []) (record { root = output_object; parts = [] })
+      (pointer-place (tick_scope known) m (codes "o")))
 
   -- what the activity's body does in a tick
   abbrev pub body_outcome : Memory → Outcome
@@ -78,7 +136,8 @@ module _ (unit : UnitDef) (steps : List Step) where
   activity-called : (m : Memory) → called (tick_scope known) (activity_name unit) handed m ≡ as_called (body_outcome m)
   activity-called m = ap₂ (λ b f. called_as b f 1 handed m) not-builtin activity-known
 
-  call-runs : (m : Memory) → runs_c (c_calling (c_call (activity_name unit) c_tick_args)) (tick_scope known) m ≡ call_outcome (later_call 0 (as_called (body_outcome m)))
+  call-runs : (m : Memory) → runs_c (c_calling (c_call (activity_name unit) c_tick_args)) (tick_scope known) m
+      ≡ call_outcome (later_call 0 (as_called (body_outcome m)))
   call-runs m =
       calling-runs (tick_scope known) m (c_call (activity_name unit) c_tick_args) (later_call 0 (as_called (body_outcome m)))
       (call-does (tick_scope known) m (activity_name unit) c_tick_args handed (args-pass m) ∙ ap (later_call 0) (activity-called m))
@@ -112,21 +171,26 @@ module _ (unit : UnitDef) (steps : List Step) where
   pub slots-same : (m n : Memory) → m input_object ≡ n input_object → m output_object ≡ n output_object → Same m n (slots_of unit)
   slots-same m n i o =
       each-append (λ cell. number_at m cell ≡ number_at n cell) (in_cells unit) (out_cells unit)
-      (each-map (λ cell. number_at m cell ≡ number_at n cell) (port_cell input_object input_name) (λ v. ap (λ f. f (member (input_name v) ∷ [])) i) (inputs_of unit))
-      (each-map (λ cell. number_at m cell ≡ number_at n cell) (port_cell output_object output_name) (λ v. ap (λ f. f (member (output_name v) ∷ [])) o) (outs_of unit))
+      (each-map (λ cell. number_at m cell ≡ number_at n cell) (port_cell input_object input_name)
+      (λ v. ap (λ f. f (member (input_name v) ∷ [])) i) (inputs_of unit))
+      (each-map (λ cell. number_at m cell ≡ number_at n cell) (port_cell output_object output_name)
+      (λ v. ap (λ f. f (member (output_name v) ∷ [])) o) (outs_of unit))
 
   -- what the call comes to, where the body has ended so
   abbrev finished : ℕ → Memory → End → Called
   finished n m e = answer_of (following (call_outcome (later_call 0 (as_called (record { memory = m; end = e; count = n })))) rest_of)
 
-  returns-zero : (n : ℕ) (m : Memory) (item : Item) (rest : List Step) (now : Numbers) → Rested item rest now (without_frame 0 (without_frame 1 m)) → TickEnds (Pauses item rest now) (finished n m goes_on)
+  returns-zero : (n : ℕ) (m : Memory) (item : Item) (rest : List Step) (now : Numbers) →
+      Rested item rest now (without_frame 0 (without_frame 1 m)) → TickEnds (Pauses item rest now) (finished n m goes_on)
   returns-zero n m item rest now rested =
       subst (λ o. TickEnds (Pauses item rest now) (answer_of (after (1 + (0 + n)) (following o (λ y. block_c [] (tick_scope known) y)))))
-      (sym (returning-runs (tick_scope known) (without_frame 1 m) (c_count 0) (scalar (pos 0)) (literal-value (tick_scope known) (without_frame 1 m) (Nat W32) (pos 0))))
+      (sym (returning-runs (tick_scope known) (without_frame 1 m) (c_count 0) (scalar (pos 0))
+      (literal-value (tick_scope known) (without_frame 1 m) (Nat W32) (pos 0))))
       (refl, rested)
 
   module _ (leads : Leads (activity_scope no_entries) (c_ports unit) (slots_of unit))
-      (apart : AllApart (slots_of unit)) (own : Each Own (slots_of unit)) (clear_counter : Clear counter (slots_of unit)) (clear_current : Clear current (slots_of unit))
+      (apart : AllApart (slots_of unit)) (own : Each Own (slots_of unit)) (clear_counter : Clear counter (slots_of unit))
+      (clear_current : Clear current (slots_of unit))
       (within : list_all (step_within (length (slots_of unit))) steps ≡ true) where
     abbrev Done : Reached → Memory → End → Type 0
     Done = Ticked no_entries (c_ports unit) (slots_of unit) leads apart own clear_counter clear_current steps within
@@ -140,7 +204,8 @@ module _ (unit : UnitDef) (steps : List Step) where
           number = waiting.number;
           at = waiting.at;
           counted = waiting.view.counted;
-          numbers = same-numbers (without_frame 0 (without_frame 1 m)) m (slots_of unit) (slots-same (without_frame 0 (without_frame 1 m)) m refl refl) ∙ waiting.view.numbers;
+          numbers = same-numbers (without_frame 0 (without_frame 1 m)) m (slots_of unit)
+              (slots-same (without_frame 0 (without_frame 1 m)) m refl refl) ∙ waiting.view.numbers;
         }))
     ends (Passes now) n m e h = tt
 
@@ -155,7 +220,8 @@ module _ (unit : UnitDef) (steps : List Step) where
   abbrev pub file : Parts
   file = parts_from (c_structs unit) (c_funcs unit steps)
 
-  pub tick-entered : (m : Memory) → entered file (codes "bl_tick") (object state_object ∷ object input_object ∷ object output_object ∷ []) m ≡ tick_called m
+  pub tick-entered : (m : Memory) → entered file (codes "bl_tick")
+      (object state_object ∷ object input_object ∷ object output_object ∷ []) m ≡ tick_called m
   unfolding entered
   tick-entered m = refl
 
@@ -167,5 +233,7 @@ module _ (unit : UnitDef) (steps : List Step) where
   unfolding entered
   init-entered =
       ap (λ o. answer_of (following o (λ m. block_c [] (init_scope first_known) m)))
-      (set-runs (init_scope first_known) (without_frame 0 cleared) (c_target (codes "s") (c_step (codes "m_0") ∷ c_step (codes "c0") ∷ [])) (c_count 0) counter.location (scalar (pos 0))
-      (two-place (init_scope first_known) (without_frame 0 cleared) (codes "s") (codes "m_0") (codes "c0")) (literal-value (init_scope first_known) (without_frame 0 cleared) (Nat W32) (pos 0)))
+      (set-runs (init_scope first_known) (without_frame 0 cleared)
+      (c_target (codes "s") (c_step (codes "m_0") ∷ c_step (codes "c0") ∷ [])) (c_count 0) counter.location (scalar (pos 0))
+      (two-place (init_scope first_known) (without_frame 0 cleared) (codes "s") (codes "m_0") (codes "c0"))
+      (literal-value (init_scope first_known) (without_frame 0 cleared) (Nat W32) (pos 0)))

@@ -1,5 +1,33 @@
 -- Reading cells after setting one of them.
-use Rattle.std.proofs.Common.{◌≡◌, ℕ, suc, zero, ◌<◌, ℤ, pos, Bool, true, false, ◌&&◌, List, [], ◌∷◌, ◌++◌, map, length, get_or, set, Option, Some, None, refl, ap, ap₂, ◌∙◌, arith}
+use Rattle.std.proofs.Common.{
+  ◌≡◌,
+  ℕ,
+  suc,
+  zero,
+  ◌<◌,
+  ℤ,
+  pos,
+  Bool,
+  true,
+  false,
+  ◌&&◌,
+  List,
+  [],
+  ◌∷◌,
+  ◌++◌,
+  map,
+  length,
+  get_or,
+  set,
+  Option,
+  Some,
+  None,
+  refl,
+  ap,
+  ap₂,
+  ◌∙◌,
+  arith,
+}
 use Rattle.std.specs.Prelude.{is_some, if◌then◌else◌}
 use Rattle.bl_cmeaning.specs.Memory.{Part, CValue, Memory, same_root, scalar, number_in, left_after, number_or, with_part, value_at, set_at}
 use Rattle.bl_cmeaning.specs.Cells.{Cell, memory_of, numbers_of}
@@ -57,11 +85,13 @@ kept-in : (left : Option (List Part)) (v : CValue) (old : ℤ) → is_some left 
 kept-in None v old h = refl
 kept-in (Some rest) v old h = cc
 
-kept : (same : Bool) (parts way : List Part) (v whole : CValue) → (same && is_some (left_after parts way)) ≡ false → (if same then with_part whole parts v else whole) way ≡ whole way
+kept : (same : Bool) (parts way : List Part) (v whole : CValue) → (same && is_some (left_after parts way)) ≡ false →
+    (if same then with_part whole parts v else whole) way ≡ whole way
 kept false parts way v whole h = refl
 kept true parts way v whole h = kept-in (left_after parts way) v (whole way) h
 
-changed : (same : Bool) (parts way : List Part) (v whole : CValue) → same ≡ true → left_after parts way ≡ Some [] → (if same then with_part whole parts v else whole) way ≡ number_in v
+changed : (same : Bool) (parts way : List Part) (v whole : CValue) → same ≡ true → left_after parts way ≡ Some [] →
+    (if same then with_part whole parts v else whole) way ≡ number_in v
 changed true parts way v whole h i = ap (λ left. number_or left v (whole way)) i
 changed false parts way v whole h i = cc
 
@@ -97,7 +127,8 @@ set-one (c ∷ cells) (suc k) d m v within apart own =
     let clear : Apart c (get_or cells k d) = each-get (Apart c) cells k d inner apart.0 in
     ap₂ (λ n ns. n ∷ ns) (set-other (get_or cells k d) c m v clear.back) (set-one cells k d m v inner apart.1 own.1)
 
-pub get-one : (cells : List Cell) (k : ℕ) (d : Cell) (m : Memory) → k < length cells → number_at m (get_or cells k d) ≡ get_or (numbers_of cells m) k (pos 0)
+pub get-one : (cells : List Cell) (k : ℕ) (d : Cell) (m : Memory) → k < length cells →
+    number_at m (get_or cells k d) ≡ get_or (numbers_of cells m) k (pos 0)
 get-one [] k d m within = absurd (omega arith)
 get-one (c ∷ cells) zero d m within = refl
 get-one (c ∷ cells) (suc k) d m within = get-one cells k d m (omega arith)

@@ -28,12 +28,15 @@ stands-formed unit entry keeps stands =
     let site : Site = site_of [] [] unit in
     record {
       none = subst (λ steps. faults_in (parts_from (c_structs unit) (c_funcs unit steps)) ≡ []) (sym stands.steps)
-          (file-faultless unit (steps_at stands.body) stands.vars_named (distinct-take unit.inputs unit.vars stands.distinct) (distinct-drop unit.inputs unit.vars stands.distinct)
-          (steps-typed site stands.typed (length unit.vars) stands.body (unit-loop site unit.body (body-fits unit entry keeps) stands.body stands.loop) stands.all));
+          (file-faultless unit (steps_at stands.body) stands.vars_named (distinct-take unit.inputs unit.vars stands.distinct)
+          (distinct-drop unit.inputs unit.vars stands.distinct)
+          (steps-typed site stands.typed (length unit.vars) stands.body
+          (unit-loop site unit.body (body-fits unit entry keeps) stands.body stands.loop) stands.all));
     }
 
 -- the file of a program of the form is well formed
-pub law : (structs : List StructDef) (units : List UnitDef) (entry : ℕ) → program.Keeps structs units entry → is_early structs units ≡ true → WrittenWellFormed units
+pub law : (structs : List StructDef) (units : List UnitDef) (entry : ℕ) → program.Keeps structs units entry →
+    is_early structs units ≡ true → WrittenWellFormed units
 law structs [] entry keeps early = tt
 law structs (unit ∷ v ∷ rest) entry keeps early = tt
 law [] (unit ∷ []) entry keeps early = stands-formed unit entry keeps (unit-stands [] unit entry keeps early)

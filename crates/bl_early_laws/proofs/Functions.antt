@@ -1,5 +1,31 @@
 -- Nothing fails in the functions of the written file.
-use Rattle.std.proofs.Common.{◌≡◌, ℕ, suc, ◌≤◌, pos, Bool, true, false, ◌&&◌, ◌||◌, List, [], ◌∷◌, ◌++◌, map, Option, Some, None, refl, ap, ap₂, subst, arith, codes, take-append-drop}
+use Rattle.std.proofs.Common.{
+  ◌≡◌,
+  ℕ,
+  suc,
+  ◌≤◌,
+  pos,
+  Bool,
+  true,
+  false,
+  ◌&&◌,
+  ◌||◌,
+  List,
+  [],
+  ◌∷◌,
+  ◌++◌,
+  map,
+  Option,
+  Some,
+  None,
+  refl,
+  ap,
+  ap₂,
+  subst,
+  arith,
+  codes,
+  take-append-drop,
+}
 use Rattle.std.specs.Prelude.{is_none, is_some, nat_le, not, if◌then◌else◌}
 use Rattle.std.specs.Option.{option_or}
 use Rattle.std.specs.List.{list_all}
@@ -21,15 +47,105 @@ use Rattle.bl_cmeaning.specs.Calls.{calls_in_block, most}
 use Rattle.bl_cmeaning.specs.Loops.{counters_in_block}
 use Rattle.bl_cmeaning.specs.Parts.{parts_from}
 use Rattle.bl_cmeaning.specs.Tables.{Table, found, no_entries, with_entry, entry_or}
-use Rattle.bl_cmeaning.specs.Faults.{unless, distinct_names, declared_before, scalar_parameter, static_functions, short_chain, returns_result, Signature, signature_as, Context, all_distinct, is_declared, is_scalar, depth_of_function, member_table, signature_in, signature_of, context_in, variable_names, names_table, repeated, last_returns, surely_returns, block_faults, faults_in_stmt, faults_in_head, faults_in_function, function_faults_after, struct_table, faults_in, judged_step}
+use Rattle.bl_cmeaning.specs.Faults.{
+  unless,
+  distinct_names,
+  declared_before,
+  scalar_parameter,
+  static_functions,
+  short_chain,
+  returns_result,
+  Signature,
+  signature_as,
+  Context,
+  all_distinct,
+  is_declared,
+  is_scalar,
+  depth_of_function,
+  member_table,
+  signature_in,
+  signature_of,
+  context_in,
+  variable_names,
+  names_table,
+  repeated,
+  last_returns,
+  surely_returns,
+  block_faults,
+  faults_in_stmt,
+  faults_in_head,
+  faults_in_function,
+  function_faults_after,
+  struct_table,
+  faults_in,
+  judged_step,
+}
 use Rattle.bl_early.specs.Form.{Step}
-use Rattle.bl_early.specs.Emitted.{c_activity, c_call, c_column, c_count, c_counter, c_frame, c_funcs, c_init, c_now, c_ports, c_row, c_state, c_step, c_structs, c_target, c_through, c_tick, c_tick_args, activity_name, frame_name, input_name, output_name, outs_of}
+use Rattle.bl_early.specs.Emitted.{
+  c_activity,
+  c_call,
+  c_column,
+  c_count,
+  c_counter,
+  c_frame,
+  c_funcs,
+  c_init,
+  c_now,
+  c_ports,
+  c_row,
+  c_state,
+  c_step,
+  c_structs,
+  c_target,
+  c_through,
+  c_tick,
+  c_tick_args,
+  activity_name,
+  frame_name,
+  input_name,
+  output_name,
+  outs_of,
+}
 use Rattle.bl_early.proofs.Spelled.{is_named_var}
 use Rattle.bl_early_laws.proofs.Activity.{StepHas, PortsHave, type_of_var, ports-append, body-fine}
 use Rattle.bl_early_laws.proofs.Cells.{Each}
-use Rattle.bl_early_laws.proofs.Judged.{IsPlace, Fine, JudgedWell, counting, pointing, passed, literal-judged, through-judged, target-judged, variable-judged, step-judged, steps-judged, address-judged, call-judged, set-fine, calling-fine, returning-fine, returning-returns, block-faultless, block-counterless}
+use Rattle.bl_early_laws.proofs.Judged.{
+  IsPlace,
+  Fine,
+  JudgedWell,
+  counting,
+  pointing,
+  passed,
+  literal-judged,
+  through-judged,
+  target-judged,
+  variable-judged,
+  step-judged,
+  steps-judged,
+  address-judged,
+  call-judged,
+  set-fine,
+  calling-fine,
+  returning-fine,
+  returning-returns,
+  block-faultless,
+  block-counterless,
+}
 use Rattle.bl_early_laws.proofs.Slots.{same-name, names_of}
-use Rattle.bl_early_laws.proofs.Structs.{none-both, no-fault, Bounded, none-bounded, with-bounded, greatest-bounded, limited-bounded, is-short, row-found, input-differ, output-differ, four-faultless}
+use Rattle.bl_early_laws.proofs.Structs.{
+  none-both,
+  no-fault,
+  Bounded,
+  none-bounded,
+  with-bounded,
+  greatest-bounded,
+  limited-bounded,
+  is-short,
+  row-found,
+  input-differ,
+  output-differ,
+  four-faultless,
+}
 
 -- ---- one function
 
@@ -63,36 +179,48 @@ record Heads (structs : Table (Table CMember)) (functions : Table Signature) (la
   static : (if last then not f.fixed else f.fixed) ≡ true
   returns : (is_none f.result || last_returns (map surely_returns f.body)) ≡ true
 
-function-faultless : (structs : Table (Table CMember)) (functions : Table Signature) (depths : Table ℕ) (n : ℕ) (last : Bool) (f : CFunc) → Bounded depths n → suc n ≤ 300 → Heads structs functions last f →
+function-faultless : (structs : Table (Table CMember)) (functions : Table Signature) (depths : Table ℕ) (n : ℕ) (last : Bool)
+    (f : CFunc) → Bounded depths n → suc n ≤ 300 → Heads structs functions last f →
     Each (Fine (context_in structs functions f)) f.body → faults_in_function structs functions depths last f ≡ []
 function-faultless structs functions depths n last f bounded few heads fine =
     none-both (faults_in_head structs functions depths last f) _
-    (seven (is_none (functions f.name)) (all_distinct no_entries (variable_names f)) (list_all (λ (p : CParam). is_declared structs p.ty) f.params && list_all (λ (l : CLocal). is_declared structs l.ty) f.locals)
-    (list_all (λ (p : CParam). p.pointer || is_scalar p.ty) f.params) (if last then not f.fixed else f.fixed) (nat_le (depth_of_function depths f) 300) (is_none f.result || last_returns (map surely_returns f.body)) f.place
-    heads.new heads.distinct heads.declared heads.scalars heads.static (is-short (depth_of_function depths f) (suc n) (function-bounded depths n bounded f) few) heads.returns)
-    (none-both (repeated (names_table (variable_names f)) (counters_in_block f.body)) (block_faults (map faults_in_stmt f.body) (context_in structs functions f) false)
+    (seven (is_none (functions f.name)) (all_distinct no_entries (variable_names f))
+    (list_all (λ (p : CParam). is_declared structs p.ty) f.params && list_all (λ (l : CLocal). is_declared structs l.ty) f.locals)
+    (list_all (λ (p : CParam). p.pointer || is_scalar p.ty) f.params) (if last then not f.fixed else f.fixed)
+    (nat_le (depth_of_function depths f) 300) (is_none f.result || last_returns (map surely_returns f.body)) f.place
+    heads.new heads.distinct heads.declared heads.scalars heads.static
+    (is-short (depth_of_function depths f) (suc n) (function-bounded depths n bounded f) few) heads.returns)
+    (none-both (repeated (names_table (variable_names f)) (counters_in_block f.body))
+    (block_faults (map faults_in_stmt f.body) (context_in structs functions f) false)
     (ap (repeated (names_table (variable_names f))) (block-counterless (context_in structs functions f) f.body fine))
     (block-faultless (context_in structs functions f) f.body fine))
 
 -- ---- the parameters of the activity
 
-columns-have : (context : Context) (pointer struct : Text) (members : Table CMember) (name : Var → Text) → context.variables pointer ≡ Some (pointing struct) → context.structs struct ≡ Some members → (vars : List Var) →
+columns-have : (context : Context) (pointer struct : Text) (members : Table CMember) (name : Var → Text) →
+    context.variables pointer ≡ Some (pointing struct) → context.structs struct ≡ Some members → (vars : List Var) →
     Each (λ (v : Var). members (name v) ≡ Some (c_column name v)) vars → PortsHave context (map (λ (v : Var). c_through pointer (name v)) vars) vars
 columns-have context pointer struct members name h i [] each = tt
-columns-have context pointer struct members name h i (v ∷ vars) each =
-    (through-judged context pointer struct (name v) members (OfScalar (type_of_var v)) h i each.0, columns-have context pointer struct members name h i vars each.1)
+columns-have context pointer struct members name h i (v ∷ vars) each = (
+  through-judged context pointer struct (name v) members (OfScalar (type_of_var v)) h i each.0,
+  columns-have context pointer struct members name h i vars each.1,
+)
 
 found-first : {A : Type 0} (name : Text) (a : A) (rest : List (Text × A)) → found name ((name, a) ∷ rest) ≡ Some a
 found-first name a rest = ap (λ (b : Bool). if b then Some a else found name rest) (same-name name)
 
-module _ (unit : UnitDef) (steps : List Step) (named : list_all is_named_var unit.vars ≡ true) (ins : are_distinct (names_of (inputs_of unit)) ≡ true) (outs : are_distinct (names_of (outs_of unit)) ≡ true) (typed : Each (StepHas unit.vars) steps) where
+module _ (unit : UnitDef) (steps : List Step) (named : list_all is_named_var unit.vars ≡ true)
+    (ins : are_distinct (names_of (inputs_of unit)) ≡ true) (outs : are_distinct (names_of (outs_of unit)) ≡ true)
+    (typed : Each (StepHas unit.vars) steps) where
   abbrev structs : Table (Table CMember)
   structs = struct_table (c_structs unit)
 
   frame-known : structs (frame_name unit) ≡ Some (member_table (c_frame unit))
   frame-known =
       found-first (frame_name unit) (member_table (c_frame unit))
-      ((codes "bl_state", member_table (c_state unit)) ∷ (codes "bl_in", member_table (c_row (codes "bl_in") input_name (inputs_of unit))) ∷ (codes "bl_out", member_table (c_row (codes "bl_out") output_name (outs_of unit))) ∷ [])
+      ((codes "bl_state", member_table (c_state unit)) ∷
+      (codes "bl_in", member_table (c_row (codes "bl_in") input_name (inputs_of unit)))
+      ∷ (codes "bl_out", member_table (c_row (codes "bl_out") output_name (outs_of unit))) ∷ [])
 
   -- ---- the activity
 
@@ -105,10 +233,13 @@ module _ (unit : UnitDef) (steps : List Step) (named : list_all is_named_var uni
   ports-have : PortsHave activity_context (c_ports unit) unit.vars
   ports-have =
       subst (PortsHave activity_context (c_ports unit)) (take-append-drop unit.inputs unit.vars)
-      (ports-append activity_context (map (λ (v : Var). c_through (codes "p_i") (input_name v)) (inputs_of unit)) (map (λ (v : Var). c_through (codes "p_o") (output_name v)) (outs_of unit)) (inputs_of unit) (outs_of unit)
-      (columns-have activity_context (codes "p_i") (codes "bl_in") (member_table (c_row (codes "bl_in") input_name (inputs_of unit))) input_name refl refl (inputs_of unit)
+      (ports-append activity_context (map (λ (v : Var). c_through (codes "p_i") (input_name v)) (inputs_of unit))
+      (map (λ (v : Var). c_through (codes "p_o") (output_name v)) (outs_of unit)) (inputs_of unit) (outs_of unit)
+      (columns-have activity_context (codes "p_i") (codes "bl_in")
+      (member_table (c_row (codes "bl_in") input_name (inputs_of unit))) input_name refl refl (inputs_of unit)
       (row-found input_name input-differ (codes "bl_in") (λ v. refl) (inputs_of unit) ins))
-      (columns-have activity_context (codes "p_o") (codes "bl_out") (member_table (c_row (codes "bl_out") output_name (outs_of unit))) output_name refl refl (outs_of unit)
+      (columns-have activity_context (codes "p_o") (codes "bl_out")
+      (member_table (c_row (codes "bl_out") output_name (outs_of unit))) output_name refl refl (outs_of unit)
       (row-found output_name output-differ (codes "bl_out") (λ v. refl) (outs_of unit) outs)))
 
   now-judged : IsPlace activity_context c_now false counting
@@ -142,7 +273,8 @@ module _ (unit : UnitDef) (steps : List Step) (named : list_all is_named_var uni
   first_depths = with_depth no_entries activity
 
   first-bounded : Bounded first_depths 1
-  first-bounded = with-bounded no_entries 0 (depth_of_function no_entries activity) (activity_name unit) none-bounded (function-bounded no_entries 0 none-bounded activity)
+  first-bounded = with-bounded no_entries 0 (depth_of_function no_entries activity) (activity_name unit) none-bounded
+      (function-bounded no_entries 0 none-bounded activity)
 
   abbrev init_context : Context
   init_context = context_in structs first_functions c_init
@@ -150,20 +282,23 @@ module _ (unit : UnitDef) (steps : List Step) (named : list_all is_named_var uni
   begun-judged : IsPlace init_context (c_target (codes "s") (c_step (codes "m_0") ∷ c_step (codes "c0") ∷ [])) true counting
   begun-judged =
       target-judged init_context (codes "s") (codes "bl_state") (c_step (codes "m_0") ∷ c_step (codes "c0") ∷ []) counting refl
-      (steps-judged init_context (judged_step (c_step (codes "m_0"))) (judged_step (c_step (codes "c0")) ∷ []) (Some (OfStruct (codes "bl_state"))) (OfStruct (frame_name unit)) counting
+      (steps-judged init_context (judged_step (c_step (codes "m_0"))) (judged_step (c_step (codes "c0")) ∷ [])
+      (Some (OfStruct (codes "bl_state"))) (OfStruct (frame_name unit)) counting
       (step-judged init_context (codes "m_0") (codes "bl_state") (member_table (c_state unit)) (OfStruct (frame_name unit)) refl refl)
       (steps-judged init_context (judged_step (c_step (codes "c0"))) [] (Some (OfStruct (frame_name unit))) counting counting
       (step-judged init_context (codes "c0") (frame_name unit) (member_table (c_frame unit)) counting frame-known refl) refl))
 
   init-fine : Each (Fine init_context) c_init.body
   init-fine = (
-    set-fine init_context (c_target (codes "s") (c_step (codes "m_0") ∷ c_step (codes "c0") ∷ [])) (c_count 0) true counting refl refl begun-judged (literal-judged init_context (Nat W32) (pos 0)),
+    set-fine init_context (c_target (codes "s") (c_step (codes "m_0") ∷ c_step (codes "c0") ∷ []))
+        (c_count 0) true counting refl refl begun-judged (literal-judged init_context (Nat W32) (pos 0)),
     tt,
   )
 
   init-faultless : faults_in_function structs first_functions first_depths true c_init ≡ []
   init-faultless =
-      function-faultless structs first_functions first_depths 1 true c_init first-bounded (omega arith) (record { new = refl; distinct = refl; declared = refl; scalars = refl; static = refl; returns = refl })
+      function-faultless structs first_functions first_depths 1 true c_init first-bounded (omega arith)
+      (record { new = refl; distinct = refl; declared = refl; scalars = refl; static = refl; returns = refl })
       init-fine
 
   -- ---- bl_tick
@@ -178,7 +313,8 @@ module _ (unit : UnitDef) (steps : List Step) (named : list_all is_named_var uni
   second_depths = with_depth first_depths c_init
 
   second-bounded : Bounded second_depths 2
-  second-bounded = with-bounded first_depths 1 (depth_of_function first_depths c_init) (codes "bl_init") first-bounded (function-bounded first_depths 1 first-bounded c_init)
+  second-bounded = with-bounded first_depths 1 (depth_of_function first_depths c_init) (codes "bl_init") first-bounded
+      (function-bounded first_depths 1 first-bounded c_init)
 
   abbrev tick_context : Context
   tick_context = context_in structs second_functions tick
@@ -196,12 +332,16 @@ module _ (unit : UnitDef) (steps : List Step) (named : list_all is_named_var uni
   called-judged : JudgedWell tick_context (c_call (activity_name unit) c_tick_args) (signature_in activity)
   called-judged =
       call-judged tick_context (activity_name unit) c_tick_args (signature_in activity)
-      (passed true true (OfStruct (frame_name unit)) ∷ passed true true (OfStruct (codes "bl_in")) ∷ passed true true (OfStruct (codes "bl_out")) ∷ []) refl signature-known
+      (passed true true (OfStruct (frame_name unit)) ∷ passed true true (OfStruct (codes "bl_in"))
+      ∷ passed true true (OfStruct (codes "bl_out")) ∷ []) refl signature-known
       (ap₂ (λ a rest. a ∷ rest)
-      (address-judged tick_context (c_through (codes "s") (codes "m_0")) (OfStruct (frame_name unit)) (through-judged tick_context (codes "s") (codes "bl_state") (codes "m_0") (member_table (c_state unit)) (OfStruct (frame_name unit)) refl refl refl))
+      (address-judged tick_context (c_through (codes "s") (codes "m_0")) (OfStruct (frame_name unit))
+      (through-judged tick_context (codes "s") (codes "bl_state") (codes "m_0") (member_table (c_state unit)) (OfStruct (frame_name unit)) refl refl refl))
       (ap₂ (λ a b. a ∷ b ∷ [])
-      (address-judged tick_context (c_target (codes "i") []) (OfStruct (codes "bl_in")) (target-judged tick_context (codes "i") (codes "bl_in") [] (OfStruct (codes "bl_in")) refl refl))
-      (address-judged tick_context (c_target (codes "o") []) (OfStruct (codes "bl_out")) (target-judged tick_context (codes "o") (codes "bl_out") [] (OfStruct (codes "bl_out")) refl refl))))
+      (address-judged tick_context (c_target (codes "i") []) (OfStruct (codes "bl_in"))
+      (target-judged tick_context (codes "i") (codes "bl_in") [] (OfStruct (codes "bl_in")) refl refl))
+      (address-judged tick_context (c_target (codes "o") []) (OfStruct (codes "bl_out"))
+      (target-judged tick_context (codes "o") (codes "bl_out") [] (OfStruct (codes "bl_out")) refl refl))))
       refl
       (ap (λ (b : Bool). b && true) (same-name (frame_name unit)))
 
@@ -221,8 +361,10 @@ module _ (unit : UnitDef) (steps : List Step) (named : list_all is_named_var uni
 
   functions-faultless : function_faults_after structs no_entries no_entries (c_funcs unit steps) ≡ []
   functions-faultless =
-      none-both (faults_in_function structs no_entries no_entries false activity) (function_faults_after structs first_functions first_depths (c_init ∷ tick ∷ [])) activity-faultless
-      (none-both (faults_in_function structs first_functions first_depths true c_init) (function_faults_after structs second_functions second_depths (tick ∷ [])) init-faultless
+      none-both (faults_in_function structs no_entries no_entries false activity)
+      (function_faults_after structs first_functions first_depths (c_init ∷ tick ∷ [])) activity-faultless
+      (none-both (faults_in_function structs first_functions first_depths true c_init)
+      (function_faults_after structs second_functions second_depths (tick ∷ [])) init-faultless
       (none-both (faults_in_function structs second_functions second_depths true tick) [] tick-faultless refl))
 
   pub file-faultless : faults_in (parts_from (c_structs unit) (c_funcs unit steps)) ≡ []

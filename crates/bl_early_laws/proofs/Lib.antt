@@ -23,3 +23,4 @@ pub mod WrittenTicks
 pub mod WrittenTraces
 pub mod Typed
 pub mod WrittenValues
+pub mod Machines

@@ -1,5 +1,29 @@
 -- The numbers of variables as their values.
-use Rattle.std.proofs.Common.{◌≡◌, ℕ, zero, suc, ◌+◌, ℤ, pos, Bool, true, List, [], ◌∷◌, ◌++◌, length, map, take, drop, Some, refl, sym, ap, ◌∙◌, arith}
+use Rattle.std.proofs.Common.{
+  ◌≡◌,
+  ℕ,
+  zero,
+  suc,
+  ◌+◌,
+  ℤ,
+  pos,
+  Bool,
+  true,
+  List,
+  [],
+  ◌∷◌,
+  ◌++◌,
+  length,
+  map,
+  take,
+  drop,
+  Some,
+  refl,
+  sym,
+  ap,
+  ◌∙◌,
+  arith,
+}
 use Rattle.std.proofs.lemmas.Option.{same_Some}
 use Rattle.std.specs.Prelude.{option_and_then, slice_get, slice_index_or, slice_set, unwrap_or}
 use Rattle.std.specs.List.{range_with_len}
@@ -63,9 +87,11 @@ pub number_there : (vars : List Var) (now : List ℤ) (k : ℕ) (var : Var) → 
 number_there [] now k var fit there = absurd cc
 number_there (v ∷ vars) [] k var fit there = absurd cc
 number_there (v ∷ vars) (n ∷ now) zero var fit there = refl
-number_there (v ∷ vars) (n ∷ now) (suc k) var fit there = number_there vars now k var (and_right (value_fits [] v.ty (Number n)) (values_fit [] vars (values now)) fit) there
+number_there (v ∷ vars) (n ∷ now) (suc k) var fit there =
+    number_there vars now k var (and_right (value_fits [] v.ty (Number n)) (values_fit [] vars (values now)) fit) there
 
-pub set_there : (now : List ℤ) (k : ℕ) (n : ℤ) (old : Value) → slice_get (values now) k ≡ Some old → slice_get (values (slice_set now k n)) k ≡ Some (Number n)
+pub set_there : (now : List ℤ) (k : ℕ) (n : ℤ) (old : Value) → slice_get (values now) k ≡ Some old →
+    slice_get (values (slice_set now k n)) k ≡ Some (Number n)
 set_there [] k n old there = absurd cc
 set_there (m ∷ now) zero n old there = refl
 set_there (m ∷ now) (suc k) n old there = set_there now k n old there
@@ -76,11 +102,13 @@ abbrev pub read_from : List Value → ℕ → Value
 read_from all k = unwrap_or (option_and_then (value_at []) (slice_get all k)) (Parts [])
 
 -- the values from number a on, where one value more stands before them
-read_step : (v : Value) (all : List Value) (a b n : ℕ) → b ≡ suc a → map (read_from (v ∷ all)) (range_with_len b n) ≡ map (read_from all) (range_with_len a n)
+read_step : (v : Value) (all : List Value) (a b n : ℕ) → b ≡ suc a →
+    map (read_from (v ∷ all)) (range_with_len b n) ≡ map (read_from all) (range_with_len a n)
 read_step v all a b zero is = refl
 read_step v all a b (suc n) is =
     let further : b + 1 ≡ suc (a + 1) = omega arith in
-    ap (λ rest. read_from (v ∷ all) b ∷ rest) (read_step v all (a + 1) (b + 1) n further) ∙ ap (λ b. read_from (v ∷ all) b ∷ map (read_from all) (range_with_len (a + 1) n)) is
+    ap (λ rest. read_from (v ∷ all) b ∷ rest) (read_step v all (a + 1) (b + 1) n further)
+    ∙ ap (λ b. read_from (v ∷ all) b ∷ map (read_from all) (range_with_len (a + 1) n)) is
 
 pub read_all : (all : List Value) → map (read_from all) (range_with_len 0 (length all)) ≡ all
 read_all [] = refl

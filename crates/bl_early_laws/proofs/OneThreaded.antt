@@ -11,7 +11,26 @@ use Rattle.bl_ctree.specs.Control.{Control, Do, Nil, Seq, Test, Wait, do_all, se
 use Rattle.bl_ctree.specs.Instances.{Setting}
 use Rattle.bl_ctree.specs.Laws.{can_answer}
 use Rattle.bl_ctree.specs.Positions.{Begin, Item, Located, is_act, kind_of}
-use Rattle.bl_ctree.specs.Steps.{IsStill, Moves, acts, enters, forks, goes_on, guards, in_seq, passes_arm, pauses, repeats, repeats_until, runs, skips, takes_arm, takes_else, turn_items, waits}
+use Rattle.bl_ctree.specs.Steps.{
+  IsStill,
+  Moves,
+  acts,
+  enters,
+  forks,
+  goes_on,
+  guards,
+  in_seq,
+  passes_arm,
+  pauses,
+  repeats,
+  repeats_until,
+  runs,
+  skips,
+  takes_arm,
+  takes_else,
+  turn_items,
+  waits,
+}
 use Rattle.bl_ctree.specs.Store.{Store}
 use Rattle.bl_ctree.specs.Ticks.{End, IsOver, Maximal, Rests, Steps, Trapped, none, step, traps}
 
@@ -41,7 +60,8 @@ may_move {a = a} {after} o still = still true a (after true) (o.moves true (can_
 no_wait : {w : Setting} {i : ℕ} {s : Located} {d : Bool} {a : Action} {c' : Control} → Moves w i (Wait s) d a c' → ⊥
 no_wait move = elim move [ ]
 
-no_wait_inside : {w : Setting} {i : ℕ} {s : Located} {rest : List Item} {d : Bool} {a : Action} {c' : Control} → Moves w i (Seq (Wait s) rest) d a c' → ⊥
+no_wait_inside : {w : Setting} {i : ℕ} {s : Located} {rest : List Item} {d : Bool} {a : Action} {c' : Control} →
+    Moves w i (Seq (Wait s) rest) d a c' → ⊥
 no_wait_inside (in_seq move) = no_wait move
 
 -- nothing at a pause
@@ -53,7 +73,8 @@ inside_seq : {w : Setting} {i : ℕ} {c : Control} {rest : List Item} {d : Bool}
 inside_seq {rest = rest} only (in_seq {c' = c'} move) = let found = only c' move in (found.0, ap (λ c. seq c rest) found.1)
 
 -- in a sequence its first tree
-pub only_in_seq : {w : Setting} {c : Control} {a : Action} {after : Bool → Control} (rest : List Item) → Only w c a after → Only w (Seq c rest) a (λ d. seq (after d) rest)
+pub only_in_seq : {w : Setting} {c : Control} {a : Action} {after : Bool → Control} (rest : List Item) → Only w c a after →
+    Only w (Seq c rest) a (λ d. seq (after d) rest)
 only_in_seq rest o = record { moves = λ d can. in_seq (o.moves d can); only = λ d b c' move. inside_seq (o.only d b) move }
 
 of_assign : {w : Setting} {i : ℕ} {s : Located} {d : Bool} {b : Action} {c' : Control} (path : Path) (e : Expr) → kind_of s ≡ StmtKind-F.Assign path e →
@@ -72,7 +93,8 @@ of_assign path e kind (forks is) = absurd cc
 of_assign path e kind (guards is) = absurd cc
 
 -- an assignment acts
-pub assign_only : (w : Setting) (s : Located) (path : Path) (e : Expr) → kind_of s ≡ StmtKind-F.Assign path e → Only w (Do s) (action 0 s (Acts s.stmt)) (λ d. Nil)
+pub assign_only : (w : Setting) (s : Located) (path : Path) (e : Expr) → kind_of s ≡ StmtKind-F.Assign path e →
+    Only w (Do s) (action 0 s (Acts s.stmt)) (λ d. Nil)
 assign_only w s path e kind = record { moves = move; only = λ d b c' move. of_assign path e kind move }
   where
     move : (d : Bool) → d ≡ true → Moves w 0 (Do s) d (action 0 s (Acts s.stmt)) Nil
@@ -114,7 +136,8 @@ of_test {i = i} {s} e kind (goes_on {e = f} is) = (ap (λ e. action i s (Asks e)
 of_test {i = i} {s} e kind (waits {e = f} is) = (ap (λ e. action i s (Asks e)) (await_same e f s kind is), refl)
 
 -- one that was woken tests its condition
-pub test_only : (w : Setting) (s : Located) (e : Expr) → kind_of s ≡ StmtKind-F.Await e → Only w (Test s) (action 0 s (Asks e)) (λ d. if d then Nil else Wait s)
+pub test_only : (w : Setting) (s : Located) (e : Expr) → kind_of s ≡ StmtKind-F.Await e →
+    Only w (Test s) (action 0 s (Asks e)) (λ d. if d then Nil else Wait s)
 test_only w s e kind = record { moves = move; only = λ d b c' move. of_test e kind move }
   where
     move : (d : Bool) → true ≡ true → Moves w 0 (Test s) d (action 0 s (Asks e)) (if d then Nil else Wait s)
@@ -143,7 +166,8 @@ of_repeat body kind (forks is) = absurd cc
 of_repeat body kind (guards is) = absurd cc
 
 -- a `repeat` without a test begins a turn
-pub repeat_only : (w : Setting) (s : Located) (body : List Stmt) → kind_of s ≡ StmtKind-F.Repeat body → Only w (Do s) (action 0 s Silent) (λ d. do_all (turn_items s body (Begin s)))
+pub repeat_only : (w : Setting) (s : Located) (body : List Stmt) → kind_of s ≡ StmtKind-F.Repeat body →
+    Only w (Do s) (action 0 s Silent) (λ d. do_all (turn_items s body (Begin s)))
 repeat_only w s body kind = record { moves = move; only = λ d b c' move. of_repeat body kind move }
   where
     move : (d : Bool) → d ≡ true → Moves w 0 (Do s) d (action 0 s Silent) (do_all (turn_items s body (Begin s)))
@@ -169,18 +193,22 @@ abbrev given : Bool → Store → Option Performed
 given d store = Some (record { answer = d; store = store })
 
 performed_answer : {d e : Bool} {store other : Store} → given d store ≡ given e other → d ≡ e
-performed_answer {d} {e} {store} {other} is = ap (λ (p : Performed). p.answer) (same_Some (record { answer = d; store = store }) (record { answer = e; store = other }) is)
+performed_answer {d} {e} {store} {other} is = ap (λ (p : Performed). p.answer)
+    (same_Some (record { answer = d; store = store }) (record { answer = e; store = other }) is)
 
 performed_store : {d e : Bool} {store other : Store} → given d store ≡ given e other → store ≡ other
-performed_store {d} {e} {store} {other} is = ap (λ (p : Performed). p.store) (same_Some (record { answer = d; store = store }) (record { answer = e; store = other }) is)
+performed_store {d} {e} {store} {other} is = ap (λ (p : Performed). p.store)
+    (same_Some (record { answer = d; store = store }) (record { answer = e; store = other }) is)
 
 not_given : {d : Bool} {store : Store} {found : Option Performed} → found ≡ given d store → found ≡ None → ⊥
 not_given is fails = cc
 
 -- the one action leads on
-module _ (w : Setting) (c : Control) (store : Store) (a : Action) (next : Bool → Control) (one : Only w c a next) (d : Bool) (after : Store) (can : can_answer a.effect d ≡ true)
+module _ (w : Setting) (c : Control) (store : Store) (a : Action) (next : Bool → Control) (one : Only w c a next) (d : Bool)
+    (after : Store) (can : can_answer a.effect d ≡ true)
     (does : perform w a store ≡ given d after) where
-  step_only : {end : End} → Leads w (next d) after end → {others : List Action} {other : End} {c' : Control} {store' : Store} → c ≡ c' → store ≡ store' →
+  step_only : {end : End} → Leads w (next d) after end → {others : List Action} {other : End} {c' : Control} {store' : Store} →
+      c ≡ c' → store ≡ store' →
       Steps w c' store' others other → IsOver w other → other ≡ end
   step_only l is_tree is_store (none {c = c'}) over = absurd (over d a (next d) (subst (λ c. Moves w 0 c d a (next d)) is_tree (one.moves d can)))
   step_only l is_tree is_store (traps {a = b} t) over =
@@ -204,8 +232,10 @@ module _ (w : Setting) (c : Control) (store : Store) (a : Action) (next : Bool �
 
 -- the one action traps
 module _ (w : Setting) (c : Control) (store : Store) (a : Action) (next : Bool → Control) (one : Only w c a next) (fails : perform w a store ≡ None) where
-  trap_only : {others : List Action} {other : End} {c' : Control} {store' : Store} → c ≡ c' → store ≡ store' → Steps w c' store' others other → IsOver w other → other ≡ Trapped
-  trap_only is_tree is_store none over = absurd (over true a (next true) (subst (λ c. Moves w 0 c true a (next true)) is_tree (one.moves true (can_true a.effect))))
+  trap_only : {others : List Action} {other : End} {c' : Control} {store' : Store} → c ≡ c' → store ≡ store' →
+      Steps w c' store' others other → IsOver w other → other ≡ Trapped
+  trap_only is_tree is_store none over = absurd (over true a (next true)
+      (subst (λ c. Moves w 0 c true a (next true)) is_tree (one.moves true (can_true a.effect))))
   trap_only is_tree is_store (traps t) over = refl
   trap_only is_tree is_store (step {a = b} {c' = c'} {store' = store'} s more) over =
       let q = one.only s.answer b c' (subst (λ c. Moves w 0 c s.answer b c') (sym is_tree) s.moves) in

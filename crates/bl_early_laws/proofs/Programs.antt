@@ -1,5 +1,28 @@
 -- Programs of the early form: their one instance, their loop, and their laws.
-use Rattle.std.proofs.Common.{◌≡◌, ℕ, zero, suc, ◌+◌, ◌≤◌, ℤ, true, List, [], ◌∷◌, ◌++◌, length, map, Some, None, refl, sym, ap, subst, ◌∙◌, arith}
+use Rattle.std.proofs.Common.{
+  ◌≡◌,
+  ℕ,
+  zero,
+  suc,
+  ◌+◌,
+  ◌≤◌,
+  ℤ,
+  true,
+  List,
+  [],
+  ◌∷◌,
+  ◌++◌,
+  length,
+  map,
+  Some,
+  None,
+  refl,
+  sym,
+  ap,
+  subst,
+  ◌∙◌,
+  arith,
+}
 use Rattle.std.proofs.lemmas.Bool.{eqb-true}
 use Rattle.std.proofs.lemmas.Option.{same_Some}
 use Rattle.std.specs.Prelude.{◌↔◌, nat_le, option_map}
@@ -55,7 +78,8 @@ step_runs place (StmtKind-F.Assign path e) step is = rw (fold-roll-Stmt, fold-ro
 step_runs place (StmtKind-F.Await e) step is = rw (fold-roll-Stmt, fold-roll-StmtKind) refl
 step_runs place _ step is = absurd cc
 
-step_counts : (place : Place) (layer : StmtKind-F StmtKind Arm Branch Stmt) (step : Step) → step_in layer ≡ Some step → statements_in (stmt place layer) ≡ 1
+step_counts : (place : Place) (layer : StmtKind-F StmtKind Arm Branch Stmt) (step : Step) → step_in layer ≡ Some step →
+    statements_in (stmt place layer) ≡ 1
 step_counts place (StmtKind-F.Assign path e) step is = rw (fold-roll-Stmt, fold-roll-StmtKind) refl
 step_counts place (StmtKind-F.Await e) step is = rw (fold-roll-Stmt, fold-roll-StmtKind) refl
 step_counts place _ step is = absurd cc
@@ -120,7 +144,8 @@ module _ (unit : UnitDef) (steps : List Step) (early : Early [] (unit ∷ []) 0 
 
   statements_are : statements_of unit ≡ suc (length steps)
   statements_are =
-      let count : statements_in loop.stmt ≡ 1 + total (map statements_in loop.body) = ap statements_in (sym whole_is) ∙ (rw (fold-roll-Stmt, fold-roll-StmtKind) refl) in
+      let count : statements_in loop.stmt ≡ 1 + total (map statements_in loop.body) =
+      ap statements_in (sym whole_is) ∙ (rw (fold-roll-Stmt, fold-roll-StmtKind) refl) in
       let inner : total (map statements_in loop.body) ≡ length steps = block_counts loop.body steps loop.are_steps in
       let all : statements_of unit ≡ statements_in loop.stmt + 0 = ap (λ body. total (map statements_in body)) loop.is_body in
       omega arith
@@ -141,7 +166,8 @@ module _ (unit : UnitDef) (steps : List Step) (early : Early [] (unit ∷ []) 0 
   fits_are : all_of (map (fits (site_of [] [] unit)) loop.body) ≡ true
   fits_are =
       let all : list_all (fits (site_of [] [] unit)) unit.body ≡ true = and_left _ _ (and_right _ _ (and_right _ _ stands)) in
-      let here : list_all (fits (site_of [] [] unit)) (loop.stmt ∷ []) ≡ true = subst (λ body. list_all (fits (site_of [] [] unit)) body ≡ true) loop.is_body all in
+      let here : list_all (fits (site_of [] [] unit)) (loop.stmt ∷ []) ≡ true =
+      subst (λ body. list_all (fits (site_of [] [] unit)) body ≡ true) loop.is_body all in
       let one : fits (site_of [] [] unit) loop.stmt ≡ true = and_left (fits (site_of [] [] unit) loop.stmt) true here in
       let whole = subst (λ s. fits (site_of [] [] unit) s ≡ true) (sym whole_is) one in
       rw (fold-roll-Stmt, fold-roll-StmtKind) at whole
@@ -165,7 +191,8 @@ module _ (unit : UnitDef) (steps : List Step) (early : Early [] (unit ∷ []) 0 
 
   -- ---- the laws
 
-  trace_is : (rows : List (List ℤ)) (shows : Shown) → RowsFit (input_columns unit) rows → Means [] (unit ∷ []) 0 rows shows ↔ (shows ≡ shown (trace_of unit steps rows))
+  trace_is : (rows : List (List ℤ)) (shows : Shown) → RowsFit (input_columns unit) rows →
+      Means [] (unit ∷ []) 0 rows shows ↔ (shows ≡ shown (trace_of unit steps rows))
   trace_is rows shows fit =
       subst (λ w. Allows w rows (Idle (entry_items w)) (first_store w) shows ↔ (shows ≡ shown (trace_of unit steps rows))) (sym setting_is)
       (subst (λ items. Allows (alone unit) rows (Idle items) (first_store (alone unit)) shows ↔ (shows ≡ shown (trace_of unit steps rows))) (sym begins)
@@ -173,20 +200,24 @@ module _ (unit : UnitDef) (steps : List Step) (early : Early [] (unit ∷ []) 0 
 
   bounded_is : Bounded [] (unit ∷ []) 0
   bounded_is =
-      subst (λ w. (rows : List (List ℤ)) (row : List ℤ) (actions : List Action) (end : End) → ReachesInside w rows row actions end → length actions ≤ total (map (instance_steps w) w.instances)) (sym setting_is)
-      (λ rows row actions end inside. few (ticks_bounded (alone unit) (site_of [] [] unit) located loop.body steps loop.kind loop.are_steps fits_are some_pause begins rows row actions end inside))
+      subst (λ w. (rows : List (List ℤ)) (row : List ℤ) (actions : List Action) (end : End) → ReachesInside w rows row actions end →
+      length actions ≤ total (map (instance_steps w) w.instances)) (sym setting_is)
+      (λ rows row actions end inside. few (ticks_bounded (alone unit)
+      (site_of [] [] unit) located loop.body steps loop.kind loop.are_steps fits_are some_pause begins rows row actions end inside))
     where
       few : {n : ℕ} → n ≤ suc (length steps + suc (length steps)) → n ≤ total (map (instance_steps (alone unit)) (alone unit).instances)
       few less = omega (arith, statements_are)
 
   stuck_is : NeverStuck [] (unit ∷ []) 0
   stuck_is =
-      subst (λ w. (rows : List (List ℤ)) (row : List ℤ) (actions : List Action) (c : Control) (store : Store) → ReachesInside w rows row actions (Rests c store) → IsStill w c → is_settled c ≡ true)
+      subst (λ w. (rows : List (List ℤ)) (row : List ℤ) (actions : List Action) (c : Control) (store : Store) →
+      ReachesInside w rows row actions (Rests c store) → IsStill w c → is_settled c ≡ true)
       (sym setting_is) (never_stuck (alone unit) (site_of [] [] unit) located loop.body steps loop.kind loop.are_steps fits_are some_pause begins)
 
 -- ---- every program of the form is of one unit
 
-module _ (unit : UnitDef) (steps : List Step) (P : List StructDef → List UnitDef → ℕ → Type 0) (have : Early [] (unit ∷ []) 0 unit steps → P [] (unit ∷ []) 0) where
+module _ (unit : UnitDef) (steps : List Step) (P : List StructDef → List UnitDef → ℕ → Type 0)
+    (have : Early [] (unit ∷ []) 0 unit steps → P [] (unit ∷ []) 0) where
   of_early : (structs : List StructDef) (units : List UnitDef) (entry : ℕ) → Early structs units entry unit steps → P structs units entry
   of_early (def ∷ structs) units entry early = absurd (let form = early.form in cc)
   of_early [] [] entry early = absurd (let form = early.form in cc)
@@ -197,7 +228,8 @@ module _ (unit : UnitDef) (steps : List Step) (P : List StructDef → List UnitD
 
 pub early_one_trace : OneTrace
 early_one_trace structs units entry unit steps rows shows early fit =
-    of_early unit steps (λ structs units entry. RowsFit (input_columns unit) rows → Means structs units entry rows shows ↔ (shows ≡ shown (trace_of unit steps rows)))
+    of_early unit steps (λ structs units entry. RowsFit (input_columns unit) rows →
+    Means structs units entry rows shows ↔ (shows ≡ shown (trace_of unit steps rows)))
     (λ early. trace_is unit steps early (unit_loop unit steps early.is_loop) rows shows) structs units entry early fit
 
 pub early_bounded : EarlyIsBounded

@@ -1,5 +1,29 @@
 -- The cells of the written file, and the places of its parameters.
-use Rattle.std.proofs.Common.{◌≡◌, ℕ, suc, zero, Bool, true, false, ◌&&◌, ◌||◌, List, [], ◌∷◌, ◌++◌, map, take, drop, Some, None, refl, ap, ap₂, ◌∙◌, codes}
+use Rattle.std.proofs.Common.{
+  ◌≡◌,
+  ℕ,
+  suc,
+  zero,
+  Bool,
+  true,
+  false,
+  ◌&&◌,
+  ◌||◌,
+  List,
+  [],
+  ◌∷◌,
+  ◌++◌,
+  map,
+  take,
+  drop,
+  Some,
+  None,
+  refl,
+  ap,
+  ap₂,
+  ◌∙◌,
+  codes,
+}
 use Rattle.std.specs.Prelude.{bytes_eq, flat_map, is_some, not, unwrap_or, if◌then◌else◌}
 use Rattle.std.specs.Option.{option_or}
 use Rattle.std.specs.List.{list_any}
@@ -46,7 +70,8 @@ slots_of unit = in_cells unit ++ out_cells unit
 abbrev pub all_cells : UnitDef → List Cell
 all_cells unit = counter ∷ ((pad input_object ∷ in_cells unit) ++ (pad output_object ∷ out_cells unit))
 
-columns-cells : (known : Table (List Inner)) (root : Root) (name : Var → Text) (vars : List Var) → cells_at root (flat_map (inner_of_member known) (map (c_column name) vars)) ≡ map (port_cell root name) vars
+columns-cells : (known : Table (List Inner)) (root : Root) (name : Var → Text) (vars : List Var) →
+    cells_at root (flat_map (inner_of_member known) (map (c_column name) vars)) ≡ map (port_cell root name) vars
 columns-cells known root name [] = refl
 columns-cells known root name (var ∷ vars) = ap (λ rest. port_cell root name var ∷ rest) (columns-cells known root name vars)
 
@@ -55,7 +80,8 @@ same-name name = nat_list_eq_equiv.refl name
 
 state-cells : (unit : UnitDef) → cells_at state_object (inner_of (c_structs unit) (codes "bl_state")) ≡ counter ∷ []
 state-cells unit =
-    ap (λ b. cells_at state_object (map (inside (member (codes "m_0") ∷ [])) (unwrap_or (option_or None (if b then Some (record { parts = member (codes "c0") ∷ []; kind = Nat W32 } ∷ []) else None)) []) ++ []))
+    ap (λ b. cells_at state_object (map (inside (member (codes "m_0") ∷ []))
+    (unwrap_or (option_or None (if b then Some (record { parts = member (codes "c0") ∷ []; kind = Nat W32 } ∷ []) else None)) []) ++ []))
     (same-name (frame_name unit))
 
 -- the scalars of the structs before the inputs, and before the outputs
@@ -66,7 +92,8 @@ abbrev known_second : UnitDef → Table (List Inner)
 known_second unit = with_entry (known_first unit) (codes "bl_state") (flat_map (inner_of_member (known_first unit)) (c_state unit).members)
 
 abbrev known_third : UnitDef → Table (List Inner)
-known_third unit = with_entry (known_second unit) (codes "bl_in") (flat_map (inner_of_member (known_second unit)) (c_row (codes "bl_in") input_name (inputs_of unit)).members)
+known_third unit = with_entry (known_second unit) (codes "bl_in")
+    (flat_map (inner_of_member (known_second unit)) (c_row (codes "bl_in") input_name (inputs_of unit)).members)
 
 in-cells : (unit : UnitDef) → cells_at input_object (inner_of (c_structs unit) (codes "bl_in")) ≡ pad input_object ∷ in_cells unit
 in-cells unit = ap (λ rest. pad input_object ∷ rest) (columns-cells (known_second unit) input_object input_name (inputs_of unit))
@@ -111,8 +138,10 @@ pub not-false : (a : Bool) → not a ≡ true → a ≡ false
 not-false false h = refl
 not-false true h = cc
 
-module _ (root : Root) (name : Var → Text) (hit : (v w : Var) → bytes_eq v.name w.name ≡ false → hits (port_cell root name v) (port_cell root name w) ≡ false) where
-  clear-of : (v : Var) (vars : List Var) → list_any (bytes_eq v.name) (names_of vars) ≡ false → Clear (port_cell root name v) (map (port_cell root name) vars)
+module _ (root : Root) (name : Var → Text) (hit : (v w : Var) → bytes_eq v.name w.name ≡ false →
+    hits (port_cell root name v) (port_cell root name w) ≡ false) where
+  clear-of : (v : Var) (vars : List Var) → list_any (bytes_eq v.name) (names_of vars) ≡ false →
+      Clear (port_cell root name v) (map (port_cell root name) vars)
   clear-of v [] h = tt
   clear-of v (w ∷ vars) h =
       let other : bytes_eq v.name w.name ≡ false = or-left (bytes_eq v.name w.name) (list_any (bytes_eq v.name) (names_of vars)) h in (
@@ -144,7 +173,8 @@ distinct-take zero vars h = refl
 distinct-take (suc n) [] h = refl
 distinct-take (suc n) (v ∷ vars) h =
     ap₂ (λ a b. not a && b)
-    (any-take (bytes_eq v.name) n vars (not-false (is_among v.name (names_of vars)) (and-fst (not (is_among v.name (names_of vars))) (are_distinct (names_of vars)) h)))
+    (any-take (bytes_eq v.name) n vars (not-false (is_among v.name (names_of vars))
+    (and-fst (not (is_among v.name (names_of vars))) (are_distinct (names_of vars)) h)))
     (distinct-take n vars (and-snd (not (is_among v.name (names_of vars))) (are_distinct (names_of vars)) h))
 
 pub distinct-drop : (n : ℕ) (vars : List Var) → are_distinct (names_of vars) ≡ true → are_distinct (names_of (drop n vars)) ≡ true
@@ -167,19 +197,41 @@ module _ (unit : UnitDef) (distinct : are_distinct (names_of unit.vars) ≡ true
   pub slots-apart : AllApart (slots_of unit)
   slots-apart = apart-append (in_cells unit) (out_cells unit) ins-apart outs-apart (across (inputs_of unit) (outs_of unit))
 
-  pad-across : (ins outs : List Var) → Each (λ x. Clear x (pad output_object ∷ map (port_cell output_object output_name) outs)) (pad input_object ∷ map (port_cell input_object input_name) ins)
+  pad-across : (ins outs : List Var) → Each (λ x. Clear x (pad output_object ∷ map (port_cell output_object output_name) outs))
+      (pad input_object ∷ map (port_cell input_object input_name) ins)
   pad-across ins outs = (
-    (record { there = refl; back = refl }, each-map (Apart (pad input_object)) (port_cell output_object output_name) (λ w. record { there = refl; back = refl }) outs),
+    (
+      record { there = refl; back = refl },
+      each-map (Apart (pad input_object)) (port_cell output_object output_name)
+          (λ w. record { there = refl; back = refl }) outs,
+    ),
     each-map (λ x. Clear x (pad output_object ∷ map (port_cell output_object output_name) outs)) (port_cell input_object input_name)
-        (λ v. (record { there = refl; back = refl }, each-map (Apart (port_cell input_object input_name v)) (port_cell output_object output_name) (λ w. record { there = refl; back = refl }) outs)) ins,
+        (λ v. (
+          record { there = refl; back = refl },
+          each-map (Apart (port_cell input_object input_name v))
+              (port_cell output_object output_name) (λ w. record { there = refl; back = refl }) outs,
+        )) ins,
   )
 
   pub all-apart : AllApart (all_cells unit)
   all-apart =
-      let first : Clear counter (pad input_object ∷ in_cells unit) = (record { there = refl; back = refl }, each-map (Apart counter) (port_cell input_object input_name) (λ v. record { there = refl; back = refl }) (inputs_of unit)) in
-      let second : Clear counter (pad output_object ∷ out_cells unit) = (record { there = refl; back = refl }, each-map (Apart counter) (port_cell output_object output_name) (λ v. record { there = refl; back = refl }) (outs_of unit)) in
-      let ins : AllApart (pad input_object ∷ in_cells unit) = (each-map (Apart (pad input_object)) (port_cell input_object input_name) (λ v. record { there = refl; back = refl }) (inputs_of unit), ins-apart) in
-      let outs : AllApart (pad output_object ∷ out_cells unit) = (each-map (Apart (pad output_object)) (port_cell output_object output_name) (λ v. record { there = refl; back = refl }) (outs_of unit), outs-apart) in (
+      let first : Clear counter (pad input_object ∷ in_cells unit) = (
+        record { there = refl; back = refl },
+        each-map (Apart counter) (port_cell input_object input_name)
+            (λ v. record { there = refl; back = refl }) (inputs_of unit),
+      ) in
+      let second : Clear counter (pad output_object ∷ out_cells unit) = (
+        record { there = refl; back = refl },
+        each-map (Apart counter) (port_cell output_object output_name)
+            (λ v. record { there = refl; back = refl }) (outs_of unit),
+      ) in
+      let ins : AllApart (pad input_object ∷ in_cells unit) =
+      (each-map (Apart (pad input_object)) (port_cell input_object input_name) (λ v. record { there = refl; back = refl }) (inputs_of unit), ins-apart) in
+      let outs : AllApart (pad output_object ∷ out_cells unit) = (
+        each-map (Apart (pad output_object)) (port_cell output_object output_name) (λ v. record { there = refl; back = refl })
+            (outs_of unit),
+        outs-apart,
+      ) in (
         each-append (Apart counter) (pad input_object ∷ in_cells unit) (pad output_object ∷ out_cells unit) first second,
         apart-append (pad input_object ∷ in_cells unit) (pad output_object ∷ out_cells unit) ins outs (pad-across (inputs_of unit) (outs_of unit)),
       )
@@ -204,7 +256,8 @@ slots-own unit = each-append Own (in_cells unit) (out_cells unit) (ins-own unit)
 pub all-own : (unit : UnitDef) → Each Own (all_cells unit)
 all-own unit = (
   record { root = refl; whole = refl },
-  each-append Own (pad input_object ∷ in_cells unit) (pad output_object ∷ out_cells unit) (record { root = refl; whole = refl }, ins-own unit) (record { root = refl; whole = refl }, outs-own unit),
+  each-append Own (pad input_object ∷ in_cells unit) (pad output_object ∷ out_cells unit)
+      (record { root = refl; whole = refl }, ins-own unit) (record { root = refl; whole = refl }, outs-own unit),
 )
 
 pub counter-clear : (unit : UnitDef) → Clear counter (slots_of unit)
@@ -227,15 +280,18 @@ leads-append scope [] qs (x ∷ xs) ys h i = absurd h
 leads-append scope (p ∷ ps) qs [] ys h i = absurd h
 leads-append scope (p ∷ ps) qs (x ∷ xs) ys h i = (h.0, leads-append scope ps qs xs ys h.1 i)
 
-ins-lead : (known : Table Meaning) (vars : List Var) → Leads (activity_scope known) (map (λ var. c_through (codes "p_i") (input_name var)) vars) (map (port_cell input_object input_name) vars)
+ins-lead : (known : Table Meaning) (vars : List Var) →
+    Leads (activity_scope known) (map (λ var. c_through (codes "p_i") (input_name var)) vars) (map (port_cell input_object input_name) vars)
 ins-lead known [] = tt
 ins-lead known (v ∷ vars) = ((λ m. through-place (activity_scope known) m (codes "p_i") (input_name v)), ins-lead known vars)
 
-outs-lead : (known : Table Meaning) (vars : List Var) → Leads (activity_scope known) (map (λ var. c_through (codes "p_o") (output_name var)) vars) (map (port_cell output_object output_name) vars)
+outs-lead : (known : Table Meaning) (vars : List Var) →
+    Leads (activity_scope known) (map (λ var. c_through (codes "p_o") (output_name var)) vars) (map (port_cell output_object output_name) vars)
 outs-lead known [] = tt
 outs-lead known (v ∷ vars) = ((λ m. through-place (activity_scope known) m (codes "p_o") (output_name v)), outs-lead known vars)
 
 pub ports-lead : (known : Table Meaning) (unit : UnitDef) → Leads (activity_scope known) (c_ports unit) (slots_of unit)
 ports-lead known unit =
-    leads-append (activity_scope known) (map (λ var. c_through (codes "p_i") (input_name var)) (inputs_of unit)) (map (λ var. c_through (codes "p_o") (output_name var)) (outs_of unit)) (in_cells unit) (out_cells unit)
+    leads-append (activity_scope known) (map (λ var. c_through (codes "p_i") (input_name var)) (inputs_of unit))
+    (map (λ var. c_through (codes "p_o") (output_name var)) (outs_of unit)) (in_cells unit) (out_cells unit)
     (ins-lead known (inputs_of unit)) (outs-lead known (outs_of unit))

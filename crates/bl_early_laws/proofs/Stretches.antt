@@ -1,5 +1,40 @@
 -- The stretches of the written text run as the steps do.
-use Rattle.std.proofs.Common.{◌≡◌, ℕ, suc, zero, ◌+◌, ◌<◌, ◌≤◌, ℤ, pos, ◌+ℤ◌, Bool, true, false, ◌⊎◌, inl, inr, List, [], ◌∷◌, length, get_or, set, Option, Some, None, refl, sym, ap, ap₂, ◌∙◌, subst, arith, codes, ◌≢◌}
+use Rattle.std.proofs.Common.{
+  ◌≡◌,
+  ℕ,
+  suc,
+  zero,
+  ◌+◌,
+  ◌<◌,
+  ◌≤◌,
+  ℤ,
+  pos,
+  ◌+ℤ◌,
+  Bool,
+  true,
+  false,
+  ◌⊎◌,
+  inl,
+  inr,
+  List,
+  [],
+  ◌∷◌,
+  length,
+  get_or,
+  set,
+  Option,
+  Some,
+  None,
+  refl,
+  sym,
+  ap,
+  ap₂,
+  ◌∙◌,
+  subst,
+  arith,
+  codes,
+  ◌≢◌,
+}
 use Rattle.std.specs.Prelude.{option_map, nat_lt}
 use Rattle.std.specs.List.{list_all}
 use Rattle.std.specs.Ordering.{int_eq}
@@ -34,7 +69,8 @@ abbrev pub activity_scope : Table Meaning → Scope
 activity_scope known = record {
   known = known;
   depth = 1;
-  pointers = table_of ((codes "p_f", record { root = state_object; parts = member (codes "m_0") ∷ [] }) ∷ (codes "p_i", record { root = input_object; parts = [] }) ∷ (codes "p_o", record { root = output_object; parts = [] }) ∷ []);
+  pointers = table_of ((codes "p_f", record { root = state_object; parts = member (codes "m_0") ∷ [] })
+      ∷ (codes "p_i", record { root = input_object; parts = [] }) ∷ (codes "p_o", record { root = output_object; parts = [] }) ∷ []);
 }
 
 -- the counter, the local and the parameters have these numbers
@@ -50,7 +86,8 @@ Leads scope (p ∷ ports) (c ∷ slots) = ((m : Memory) → location_c p scope m
 Leads scope [] (c ∷ slots) = ⊥
 Leads scope (p ∷ ports) [] = ⊥
 
-lead-get : (scope : Scope) (ports : List CPlace) (slots : List Cell) (k : ℕ) (d : CPlace) (e : Cell) (m : Memory) → Leads scope ports slots → k < length slots →
+lead-get : (scope : Scope) (ports : List CPlace) (slots : List Cell) (k : ℕ) (d : CPlace) (e : Cell) (m : Memory) →
+    Leads scope ports slots → k < length slots →
     location_c (get_or ports k d) scope m ≡ given (Some (get_or slots k e).location)
 lead-get scope [] [] k d e m leads within = absurd (omega arith)
 lead-get scope [] (c ∷ slots) k d e m leads within = absurd leads
@@ -63,10 +100,12 @@ abbrev pub Shows : (Memory → End → Type 0) → Outcome → Type 0
 Shows P o = P o.memory o.end
 
 -- a statement that has gone on, or trapped, and what follows it
-pub then-on : (P : Memory → End → Type 0) (o : Outcome) (m : Memory) (n : ℕ) (rest : Memory → Outcome) → o ≡ record { memory = m; end = goes_on; count = n } → Shows P (rest m) → Shows P (following o rest)
+pub then-on : (P : Memory → End → Type 0) (o : Outcome) (m : Memory) (n : ℕ) (rest : Memory → Outcome) →
+    o ≡ record { memory = m; end = goes_on; count = n } → Shows P (rest m) → Shows P (following o rest)
 then-on P o m n rest h i = subst (λ x. Shows P (following x rest)) (sym h) i
 
-pub then-traps : (P : Memory → End → Type 0) (o : Outcome) (m : Memory) (n : ℕ) (rest : Memory → Outcome) → o ≡ record { memory = m; end = traps; count = n } → P m traps → Shows P (following o rest)
+pub then-traps : (P : Memory → End → Type 0) (o : Outcome) (m : Memory) (n : ℕ) (rest : Memory → Outcome) →
+    o ≡ record { memory = m; end = traps; count = n } → P m traps → Shows P (following o rest)
 then-traps P o m n rest h i = subst (λ x. Shows P (following x rest)) (sym h) i
 
 -- the test of a number
@@ -122,7 +161,8 @@ FirstAt num steps Traps = Unit {0}
 FirstAt num steps (Pauses item rest now) = At num steps num item rest
 FirstAt num steps (Passes now) = Unit {0}
 
-first-with : (num j : ℕ) (source : Source) (steps : List Step) (f : ℤ → Reached) (o : Option ℤ) → ((n : ℤ) → FirstAt num steps (f n)) → FirstAt num (Set j source ∷ steps) (reached_with f o)
+first-with : (num j : ℕ) (source : Source) (steps : List Step) (f : ℤ → Reached) (o : Option ℤ) →
+    ((n : ℤ) → FirstAt num steps (f n)) → FirstAt num (Set j source ∷ steps) (reached_with f o)
 first-with num j source steps f None h = tt
 first-with num j source steps f (Some n) h = same-first (f n) (h n)
   where
@@ -133,7 +173,8 @@ first-with num j source steps f (Some n) h = same-first (f n) (h n)
 
 pub first-at : (num : ℕ) (steps : List Step) (now : Numbers) → FirstAt num steps (taken steps now)
 first-at num [] now = tt
-first-at num (Set j source ∷ steps) now = first-with num j source steps (λ n. taken steps (set now j n)) (source_value now source) (λ n. first-at num steps (set now j n))
+first-at num (Set j source ∷ steps) now = first-with num j source steps (λ n. taken steps (set now j n)) (source_value now source)
+    (λ n. first-at num steps (set now j n))
 first-at num (Pause item ∷ steps) now = inl (record { number = refl; same = refl; behind = refl })
 
 module _ (known : Table Meaning) (ports : List CPlace) (slots : List Cell) (leads : Leads (activity_scope known) ports slots)
@@ -151,14 +192,16 @@ module _ (known : Table Meaning) (ports : List CPlace) (slots : List Cell) (lead
     numbers = set-one slots k counter m v within apart own ∙ ap (λ ns. set ns k (number_in v)) view.numbers;
   }
 
-  pub set-counter : (m : Memory) (c l n : ℕ) (now : Numbers) (v : CValue) → number_in v ≡ pos n → View slots m c l now → View slots (set_at m counter.location v) n l now
+  pub set-counter : (m : Memory) (c l n : ℕ) (now : Numbers) (v : CValue) → number_in v ≡ pos n → View slots m c l now →
+      View slots (set_at m counter.location v) n l now
   set-counter m c l n now v is view = record {
     counted = set-own counter m v (record { root = refl; whole = refl }) ∙ is;
     local = set-other counter current m v refl ∙ view.local;
     numbers = set-others counter slots m v clear_counter ∙ view.numbers;
   }
 
-  pub set-current : (m : Memory) (c l n : ℕ) (now : Numbers) (v : CValue) → number_in v ≡ pos n → View slots m c l now → View slots (set_at m current.location v) c n now
+  pub set-current : (m : Memory) (c l n : ℕ) (now : Numbers) (v : CValue) → number_in v ≡ pos n → View slots m c l now →
+      View slots (set_at m current.location v) c n now
   set-current m c l n now v is view = record {
     counted = set-other current counter m v refl ∙ view.counted;
     local = set-own current m v (record { root = refl; whole = refl }) ∙ is;
@@ -172,7 +215,8 @@ module _ (known : Table Meaning) (ports : List CPlace) (slots : List Cell) (lead
     pub gives : value_c e scope m ≡ given (Some v)
     pub is : number_in v ≡ n
 
-  pub item-valued : (item : Item) (m : Memory) (c l : ℕ) (now : Numbers) → item_within (length slots) item ≡ true → View slots m c l now → Valued (c_item ports item) m (item_value now item)
+  pub item-valued : (item : Item) (m : Memory) (c l : ℕ) (now : Numbers) → item_within (length slots) item ≡ true →
+      View slots m c l now → Valued (c_item ports item) m (item_value now item)
   item-valued (Number n ty) m c l now within view = record { v = scalar n; gives = literal-value scope m ty n; is = refl }
   item-valued (Of k) m c l now within view =
       let less : k < length slots = grind (arith, nat_tests) in
@@ -187,7 +231,8 @@ module _ (known : Table Meaning) (ports : List CPlace) (slots : List Cell) (lead
     pub gives : value_c e scope m ≡ given answer
     pub is : option_map number_in answer ≡ o
 
-  pub source-sourced : (source : Source) (m : Memory) (c l : ℕ) (now : Numbers) → source_within (length slots) source ≡ true → View slots m c l now → Sourced (c_source ports source) m (source_value now source)
+  pub source-sourced : (source : Source) (m : Memory) (c l : ℕ) (now : Numbers) → source_within (length slots) source ≡ true →
+      View slots m c l now → Sourced (c_source ports source) m (source_value now source)
   source-sourced (Just item) m c l now within view =
       let one = item-valued item m c l now within view in
       record { answer = Some one.v; gives = one.gives; is = ap Some one.is }
@@ -215,7 +260,8 @@ module _ (known : Table Meaning) (ports : List CPlace) (slots : List Cell) (lead
   counter-place m = through-place scope m (codes "p_f") (codes "c0")
 
   -- a variable was set, or the sum trapped
-  stretch-set : (num k : ℕ) (source : Source) (rest : List Step) (m : Memory) (c l : ℕ) (now : Numbers) (answer : Option CValue) → k < length slots → View slots m c l now →
+  stretch-set : (num k : ℕ) (source : Source) (rest : List Step) (m : Memory) (c l : ℕ) (now : Numbers) (answer : Option CValue) →
+      k < length slots → View slots m c l now →
       value_c (c_source ports source) scope m ≡ given answer → option_map number_in answer ≡ source_value now source →
       ((n : Memory) (next : Numbers) → View slots n c l next → Shows (Stretched num c l (taken rest next)) (block_c (c_stretch ports num rest) scope n)) →
       Shows (Stretched num c l (taken (Set k source ∷ rest) now)) (block_c (c_stretch ports num (Set k source ∷ rest)) scope m)
@@ -223,30 +269,37 @@ module _ (known : Table Meaning) (ports : List CPlace) (slots : List Cell) (lead
       let place = lead-get scope ports slots k c_now counter m leads within in
       subst (λ r. Shows (Stretched num c l r) (block_c (c_stretch ports num (Set k source ∷ rest)) scope m))
       (sym (none-source (λ n. taken rest (set now k n)) (source_value now source) (sym is)))
-      (then-traps (Stretched num c l Traps) (runs_c (c_set (c_port ports k) (c_source ports source)) scope m) m 1 (λ n. block_c (c_stretch ports num rest) scope n)
+      (then-traps (Stretched num c l Traps) (runs_c (c_set (c_port ports k) (c_source ports source)) scope m) m 1
+      (λ n. block_c (c_stretch ports num rest) scope n)
       (set-traps scope m (c_port ports k) (c_source ports source) (get_or slots k counter).location place gives) refl)
   stretch-set num k source rest m c l now (Some v) within view gives is further =
       let place = lead-get scope ports slots k c_now counter m leads within in
       let after_set : Memory = set_at m (get_or slots k counter).location v in
       subst (λ r. Shows (Stretched num c l r) (block_c (c_stretch ports num (Set k source ∷ rest)) scope m))
       (sym (some-source (λ n. taken rest (set now k n)) (source_value now source) (number_in v) (sym is)))
-      (then-on (Stretched num c l (taken rest (set now k (number_in v)))) (runs_c (c_set (c_port ports k) (c_source ports source)) scope m) after_set 1 (λ n. block_c (c_stretch ports num rest) scope n)
+      (then-on (Stretched num c l (taken rest (set now k (number_in v))))
+      (runs_c (c_set (c_port ports k) (c_source ports source)) scope m) after_set 1 (λ n. block_c (c_stretch ports num rest) scope n)
       (set-runs scope m (c_port ports k) (c_source ports source) (get_or slots k counter).location v place gives)
       (further after_set (set now k (number_in v)) (set-slot m c l now k v within view)))
 
-  pub stretch-runs : (num : ℕ) (steps : List Step) (m : Memory) (c l : ℕ) (now : Numbers) → list_all (step_within (length slots)) steps ≡ true → View slots m c l now →
+  pub stretch-runs : (num : ℕ) (steps : List Step) (m : Memory) (c l : ℕ) (now : Numbers) →
+      list_all (step_within (length slots)) steps ≡ true → View slots m c l now →
       Shows (Stretched num c l (taken steps now)) (block_c (c_stretch ports num steps) scope m)
   stretch-runs num [] m c l now within view =
-      then-on (Stretched num c l (Passes now)) (runs_c (c_set c_now (c_count 0)) scope m) (set_at m current.location (scalar (pos 0))) 1 (λ n. block_c [] scope n)
+      then-on (Stretched num c l (Passes now)) (runs_c (c_set c_now (c_count 0)) scope m)
+      (set_at m current.location (scalar (pos 0))) 1 (λ n. block_c [] scope n)
       (set-runs scope m c_now (c_count 0) current.location (scalar (pos 0)) (current-place m) (literal-value scope m (Nat W32) (pos 0)))
       (refl, set-current m c l 0 now (scalar (pos 0)) refl view)
   stretch-runs num (Pause item ∷ rest) m c l now within view =
-      then-on (Stretched num c l (Pauses item rest now)) (runs_c (c_set c_counter (c_count num)) scope m) (set_at m counter.location (scalar (pos num))) 1 (λ n. block_c [] scope n)
+      then-on (Stretched num c l (Pauses item rest now)) (runs_c (c_set c_counter (c_count num)) scope m)
+      (set_at m counter.location (scalar (pos num))) 1 (λ n. block_c [] scope n)
       (set-runs scope m c_counter (c_count num) counter.location (scalar (pos num)) (counter-place m) (literal-value scope m (Nat W32) (pos num)))
       (refl, set-counter m c l num now (scalar (pos num)) refl view)
   stretch-runs num (Set k source ∷ rest) m c l now within view =
-      let one : step_within (length slots) (Set k source) ≡ true = and-fst (step_within (length slots) (Set k source)) (list_all (step_within (length slots)) rest) within in
-      let others : list_all (step_within (length slots)) rest ≡ true = and-snd (step_within (length slots) (Set k source)) (list_all (step_within (length slots)) rest) within in
+      let one : step_within (length slots) (Set k source) ≡ true =
+      and-fst (step_within (length slots) (Set k source)) (list_all (step_within (length slots)) rest) within in
+      let others : list_all (step_within (length slots)) rest ≡ true =
+      and-snd (step_within (length slots) (Set k source)) (list_all (step_within (length slots)) rest) within in
       let test : nat_lt k (length slots) ≡ true = and-fst (nat_lt k (length slots)) (source_within (length slots) source) one in
       let less : k < length slots = grind (arith, nat_tests) in
       let sourced = source-sourced source m c l now (and-snd (nat_lt k (length slots)) (source_within (length slots) source) one) view in

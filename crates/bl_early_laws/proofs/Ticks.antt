@@ -1,5 +1,27 @@
 -- The ticks of a loop of steps: where the one maximal list of steps leads.
-use Rattle.std.proofs.Common.{◌≡◌, ◌≢◌, ℕ, suc, ℤ, Bool, true, false, List, [], ◌∷◌, ◌++◌, map, Option, Some, None, refl, sym, ap, subst, ◌∙◌}
+use Rattle.std.proofs.Common.{
+  ◌≡◌,
+  ◌≢◌,
+  ℕ,
+  suc,
+  ℤ,
+  Bool,
+  true,
+  false,
+  List,
+  [],
+  ◌∷◌,
+  ◌++◌,
+  map,
+  Option,
+  Some,
+  None,
+  refl,
+  sym,
+  ap,
+  subst,
+  ◌∙◌,
+}
 use Rattle.std.proofs.lemmas.Option.{same_Some}
 use Rattle.std.specs.Prelude.{option_map, slice_set, if◌then◌else◌}
 use Rattle.std.specs.List.{list_all, list_any}
@@ -23,9 +45,36 @@ use Rattle.bl_ctree.specs.Store.{Store}
 use Rattle.bl_ctree.specs.Ticks.{End, Rests, Trapped}
 use Rattle.bl_ctree.proofs.ItemLemmas.{followed_some}
 use Rattle.bl_early.specs.Form.{Item, Source, Step, Set, Pause, has_early_type, is_pause, step_of, steps_of}
-use Rattle.bl_early.specs.Run.{Begins, Numbers, Passes, Pauses, Reached, Standing, Traps, Waits, item_value, reached_with, repeated, source_value, taken, ticked}
+use Rattle.bl_early.specs.Run.{
+  Begins,
+  Numbers,
+  Passes,
+  Pauses,
+  Reached,
+  Standing,
+  Traps,
+  Waits,
+  item_value,
+  reached_with,
+  repeated,
+  source_value,
+  taken,
+  ticked,
+}
 use Rattle.bl_early_laws.proofs.Acts.{Held, IsPause, IsSet, alone, asks, is_pause_of, is_set, set_traps, set_writes}
-use Rattle.bl_early_laws.proofs.OneThreaded.{Leads, Only, assign_only, await_only, only_in_seq, repeat_only, step_leads, still_leads, test_only, trap_leads, wait_is_still}
+use Rattle.bl_early_laws.proofs.OneThreaded.{
+  Leads,
+  Only,
+  assign_only,
+  await_only,
+  only_in_seq,
+  repeat_only,
+  step_leads,
+  still_leads,
+  test_only,
+  trap_leads,
+  wait_is_still,
+}
 use Rattle.bl_early_laws.proofs.Values.{map_found}
 
 -- the items of what is left of a turn of the loop stand for these steps, and the loop follows them
@@ -39,7 +88,8 @@ some_follow at_loop = refl
 some_follow (at_step is fit more) = refl
 
 -- the statements of a block stand for their steps
-pub block_follows : (site : Site) (loop : Located) (position : Position) (k : ℕ) (body : List Stmt) (steps : List Step) → steps_of body ≡ Some steps → all_of (map (fits site) body) ≡ true →
+pub block_follows : (site : Site) (loop : Located) (position : Position) (k : ℕ) (body : List Stmt) (steps : List Step) →
+    steps_of body ≡ Some steps → all_of (map (fits site) body) ≡ true →
     Follow site loop (items_from position k body ++ Begin loop ∷ []) steps
 block_follows site loop position k [] steps is fit = subst (Follow site loop (Begin loop ∷ [])) (same_Some [] steps is) at_loop
 block_follows site loop position k (s ∷ body) steps is fit =
@@ -87,24 +137,30 @@ module _ (unit : UnitDef) (sound : Sound [] [] unit (callees_of [] [])) (vars_ea
         Follow site loop items rest → Held unit store' now → Comes c store (Pauses item rest now)
     comes_past : {now : Numbers} {store' : Store} → Before c store (Do loop) store' → Held unit store' now → Comes c store (Passes now)
 
-  comes_before : {c after : Control} {store store' : Store} {reached : Reached} → Before c store after store' → Comes after store' reached → Comes c store reached
+  comes_before : {c after : Control} {store store' : Store} {reached : Reached} → Before c store after store' →
+      Comes after store' reached → Comes c store reached
   comes_before first (comes_to_trap l) = comes_to_trap (first Trapped l)
-  comes_before first (comes_to_pause {s} {items = items} {store' = store'} l is fit more held) = comes_to_pause (first (Rests (Seq (Wait s) items) store') l) is fit more held
+  comes_before first (comes_to_pause {s} {items = items} {store' = store'} l is fit more held) =
+      comes_to_pause (first (Rests (Seq (Wait s) items) store') l) is fit more held
   comes_before first (comes_past onward held) = comes_past (λ end l. first end (onward end l)) held
 
   -- at a pause
-  waits_there : (s : Located) (item : Item) (items : List Following) (rest : List Step) (now : Numbers) (store : Store) → step_of s.stmt ≡ Some (Pause item) → fits site s.stmt ≡ true →
+  waits_there : (s : Located) (item : Item) (items : List Following) (rest : List Step) (now : Numbers) (store : Store) →
+      step_of s.stmt ≡ Some (Pause item) → fits site s.stmt ≡ true →
       Follow site loop items rest → Held unit store now → Comes (Seq (Wait s) items) store (Pauses item rest now)
-  waits_there s item items rest now store is fit more held = comes_to_pause (still_leads (alone unit) (Seq (Wait s) items) store (wait_is_still (alone unit) s items)) is fit more held
+  waits_there s item items rest now store is fit more held =
+      comes_to_pause (still_leads (alone unit) (Seq (Wait s) items) store (wait_is_still (alone unit) s items)) is fit more held
 
-  pause_comes : (s : Located) (item : Item) (items : List Following) (rest : List Step) (now : Numbers) (store : Store) → step_of s.stmt ≡ Some (Pause item) → fits site s.stmt ≡ true →
+  pause_comes : (s : Located) (item : Item) (items : List Following) (rest : List Step) (now : Numbers) (store : Store) →
+      step_of s.stmt ≡ Some (Pause item) → fits site s.stmt ≡ true →
       Follow site loop items rest → Held unit store now → Comes (Seq (Do s) items) store (Pauses item rest now)
   pause_comes s item items rest now store is fit more held =
       comes_before (step_leads (alone unit) (Seq (Do s) items) store (action 0 s Silent) (λ d. Seq (Wait s) items)
       (pause_only (alone unit) s items item (is_pause_of s.stmt item is) (some_follow more)) true store refl refl)
       (waits_there s item items rest now store is fit more held)
 
-  set_comes : (s : Located) (k : ℕ) (source : Source) (items : List Following) (rest : List Step) (now : Numbers) (store : Store) → step_of s.stmt ≡ Some (Set k source) → fits site s.stmt ≡ true →
+  set_comes : (s : Located) (k : ℕ) (source : Source) (items : List Following) (rest : List Step) (now : Numbers) (store : Store) →
+      step_of s.stmt ≡ Some (Set k source) → fits site s.stmt ≡ true →
       Held unit store now → ((now : Numbers) (store : Store) → Held unit store now → Comes (do_all items) store (taken rest now)) →
       (value : Option ℤ) → source_value now source ≡ value → Comes (Seq (Do s) items) store (reached_with (λ n. taken rest (slice_set now k n)) value)
   set_comes s k source items rest now store is fit held further None none =
@@ -119,7 +175,8 @@ module _ (unit : UnitDef) (sound : Sound [] [] unit (callees_of [] [])) (vars_ea
       (further (slice_set now k n) done.after done.held)
 
   -- the rest of a turn
-  rest_comes : {items : List Following} {rest : List Step} → Follow site loop items rest → (now : Numbers) (store : Store) → Held unit store now → Comes (do_all items) store (taken rest now)
+  rest_comes : {items : List Following} {rest : List Step} → Follow site loop items rest → (now : Numbers) (store : Store) →
+      Held unit store now → Comes (do_all items) store (taken rest now)
   rest_comes at_loop now store held = comes_past (λ end l. l) held
   rest_comes (at_step {s} {step = Set k source} {items} {rest} is fit more) now store held =
       subst (λ c. Comes c store (taken (Set k source ∷ rest) now)) (sym (do_first s items (some_follow more)))
@@ -145,25 +202,31 @@ module _ (unit : UnitDef) (sound : Sound [] [] unit (callees_of [] [])) (vars_ea
   -- the tree between ticks is the one of this standing
   pub data Stands : Control → Standing → Type 0 where
     not_begun : Stands (Idle (Begin loop ∷ [])) Begins
-    at_pause : {s : Located} {item : Item} {items : List Following} {rest : List Step} → step_of s.stmt ≡ Some (Pause item) → fits site s.stmt ≡ true →
+    at_pause : {s : Located} {item : Item} {items : List Following} {rest : List Step} → step_of s.stmt ≡ Some (Pause item) →
+        fits site s.stmt ≡ true →
         Follow site loop items rest → Stands (Seq (Wait s) items) (Waits item rest)
 
-  test_comes : (s : Located) (item : Item) (items : List Following) (rest : List Step) (now : Numbers) (store : Store) → step_of s.stmt ≡ Some (Pause item) → fits site s.stmt ≡ true →
+  test_comes : (s : Located) (item : Item) (items : List Following) (rest : List Step) (now : Numbers) (store : Store) →
+      step_of s.stmt ≡ Some (Pause item) → fits site s.stmt ≡ true →
       Follow site loop items rest → Held unit store now → (holds : Bool) → is_one (item_value now item) ≡ holds →
       Comes (Seq (Test s) items) store (if holds then repeated steps (taken rest now) else Pauses item rest now)
   test_comes s item items rest now store is fit more held true holds =
       let p = is_pause_of s.stmt item is in
       comes_before (step_leads (alone unit) (Seq (Test s) items) store (action 0 s (Asks p.e)) (λ d. seq (if d then Nil else Wait s) items)
-      (woken_only (alone unit) s items item p) true store refl (asks unit sound vars_early s item now store p fit held ∙ ap (λ d. Some (record { answer = d; store = store })) holds))
+      (woken_only (alone unit) s items item p) true store refl
+      (asks unit sound vars_early s item now store p fit held ∙ ap (λ d. Some (record { answer = d; store = store })) holds))
       (again_comes (rest_comes more now store held))
   test_comes s item items rest now store is fit more held false fails =
       let p = is_pause_of s.stmt item is in
       comes_before (step_leads (alone unit) (Seq (Test s) items) store (action 0 s (Asks p.e)) (λ d. seq (if d then Nil else Wait s) items)
-      (woken_only (alone unit) s items item p) false store refl (asks unit sound vars_early s item now store p fit held ∙ ap (λ d. Some (record { answer = d; store = store })) fails))
-      (subst (λ c. Comes c store (Pauses item rest now)) (sym (followed_some (Wait s) items (some_follow more))) (waits_there s item items rest now store is fit more held))
+      (woken_only (alone unit) s items item p) false store refl
+      (asks unit sound vars_early s item now store p fit held ∙ ap (λ d. Some (record { answer = d; store = store })) fails))
+      (subst (λ c. Comes c store (Pauses item rest now)) (sym (followed_some (Wait s) items (some_follow more)))
+      (waits_there s item items rest now store is fit more held))
 
   -- the tick of a standing, once the store is woken
-  pub tick_comes : {c : Control} {standing : Standing} → Stands c standing → (now : Numbers) (store : Store) → Held unit store now → Comes (woken c) store (ticked steps standing now)
+  pub tick_comes : {c : Control} {standing : Standing} → Stands c standing → (now : Numbers) (store : Store) → Held unit store now →
+      Comes (woken c) store (ticked steps standing now)
   tick_comes not_begun now store held = again_comes (turn_comes now store held)
   tick_comes (at_pause {s} {item} {items} {rest} is fit more) now store held =
       subst (λ c. Comes c store (ticked steps (Waits item rest) now)) (sym (followed_some (Test s) items (some_follow more)))
@@ -171,7 +234,8 @@ module _ (unit : UnitDef) (sound : Sound [] [] unit (callees_of [] [])) (vars_ea
 
 -- ---- a loop with a pause doesn't pass in a tick
 
-further_past : (further : ℤ → Reached) (now : Numbers) → ((n : ℤ) → further n ≢ Passes now) → (value : Option ℤ) → reached_with further value ≢ Passes now
+further_past : (further : ℤ → Reached) (now : Numbers) → ((n : ℤ) → further n ≢ Passes now) → (value : Option ℤ) →
+    reached_with further value ≢ Passes now
 further_past further now never None is = cc
 further_past further now never (Some n) is = never n is
 
@@ -186,7 +250,8 @@ again_past steps Traps past some is = cc
 again_past steps (Pauses item rest now) past some is = cc
 again_past steps (Passes now) past some is = taken_past steps now past some is
 
-pub tick_past : (steps : List Step) (standing : Standing) (now past : Numbers) → list_any is_pause steps ≡ true → ticked steps standing now ≢ Passes past
+pub tick_past : (steps : List Step) (standing : Standing) (now past : Numbers) → list_any is_pause steps ≡ true →
+    ticked steps standing now ≢ Passes past
 tick_past steps Begins now past some is = again_past steps (taken steps now) past some is
 tick_past steps (Waits item rest) now past some is = by_test (is_one (item_value now item)) is
   where

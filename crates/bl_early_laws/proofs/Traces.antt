@@ -20,7 +20,7 @@ use Rattle.bl_ctree.specs.Store.{Store, first_store, woken_store}
 use Rattle.bl_ctree.specs.Ticks.{End, Rests, Trapped}
 use Rattle.bl_early.specs.Form.{Step, has_early_type, is_pause, steps_of}
 use Rattle.bl_early.specs.Run.{Begins, Numbers, Passes, Pauses, Reached, Standing, Traps, Waits, loop_trace, ticked, trace_of, traced, with_row}
-use Rattle.bl_early_laws.specs.Machine.{Follows, Matches, both_pause, both_trap, Reaction, fails, machine_trace, pauses, reacted}
+use Rattle.bl_early_laws.proofs.Machines.{Follows, Matches, both_pause, both_trap, Reaction, fails, machine_trace, pauses, reacted}
 use Rattle.bl_early.proofs.Spelled.{list_all-take}
 use Rattle.bl_early_laws.proofs.Columns.{is_early_var}
 use Rattle.bl_early_laws.proofs.Acts.{Held, alone}
@@ -43,21 +43,27 @@ reaction inputs (Pauses item rest now) = pauses (drop inputs now) (record { stan
 abbrev pub react : ℕ → List Step → List ℤ → State → Reaction State
 react inputs steps row m = reaction inputs (ticked steps m.standing (with_row inputs row m.numbers))
 
-traced_is : (inputs : ℕ) (steps : List Step) (rows : List (List ℤ)) → ((standing : Standing) (now : Numbers) → machine_trace (react inputs steps) rows (record { standing = standing; numbers = now }) ≡ loop_trace inputs steps rows standing now) →
+traced_is : (inputs : ℕ) (steps : List Step) (rows : List (List ℤ)) →
+    ((standing : Standing) (now : Numbers) → machine_trace (react inputs steps) rows (record { standing = standing; numbers = now })
+    ≡ loop_trace inputs steps rows standing now) →
     (reached : Reached) → reacted (machine_trace (react inputs steps) rows) (reaction inputs reached) ≡ traced inputs (loop_trace inputs steps rows) reached
 traced_is inputs steps rows same Traps = refl
 traced_is inputs steps rows same (Passes now) = refl
-traced_is inputs steps rows same (Pauses item rest now) = ap (λ (t : Trace). record { rows = drop inputs now ∷ t.rows; last = t.last }) (same (Waits item rest) now)
+traced_is inputs steps rows same (Pauses item rest now) =
+    ap (λ (t : Trace). record { rows = drop inputs now ∷ t.rows; last = t.last }) (same (Waits item rest) now)
 
 -- its trace is the one of the loop
 machine_is : (inputs : ℕ) (steps : List Step) (rows : List (List ℤ)) (standing : Standing) (now : Numbers) →
     machine_trace (react inputs steps) rows (record { standing = standing; numbers = now }) ≡ loop_trace inputs steps rows standing now
 machine_is inputs steps [] standing now = refl
-machine_is inputs steps (row ∷ rows) standing now = traced_is inputs steps rows (machine_is inputs steps rows) (ticked steps standing (with_row inputs row now))
+machine_is inputs steps (row ∷ rows) standing now =
+    traced_is inputs steps rows (machine_is inputs steps rows) (ticked steps standing (with_row inputs row now))
 
-module _ (unit : UnitDef) (sound : Sound [] [] unit (callees_of [] [])) (vars_early : list_all (λ (var : Var). has_early_type (scalar_in var.ty)) unit.vars ≡ true)
+module _ (unit : UnitDef) (sound : Sound [] [] unit (callees_of [] []))
+    (vars_early : list_all (λ (var : Var). has_early_type (scalar_in var.ty)) unit.vars ≡ true)
     (loop : Located) (body : List Stmt) (steps : List Step) (loop_kind : kind_of loop ≡ StmtKind-F.Repeat body) (body_steps : steps_of body ≡ Some steps)
-    (body_fits : all_of (map (fits (site_of [] [] unit)) body) ≡ true) (some_pause : list_any is_pause steps ≡ true) (as_many_vars : length unit.vars ≡ unit.inputs + unit.outputs) where
+    (body_fits : all_of (map (fits (site_of [] [] unit)) body) ≡ true) (some_pause : list_any is_pause steps ≡ true)
+    (as_many_vars : length unit.vars ≡ unit.inputs + unit.outputs) where
   -- the tree and the store between ticks are those of this state
   record Related (c : Control) (store : Store) (m : State) : Type 0 where
     stands : Stands unit sound vars_early loop body steps loop_kind body_steps body_fits c m.standing
@@ -76,7 +82,8 @@ module _ (unit : UnitDef) (sound : Sound [] [] unit (callees_of [] [])) (vars_ea
     end = Rests (Seq (Wait s) items) store';
     leads = l;
     matches =
-        subst (λ row. Matches (alone unit) State Related (Rests (Seq (Wait s) items) store') (pauses row (record { standing = Waits item rest; numbers = now })))
+        subst (λ row. Matches (alone unit) State Related (Rests (Seq (Wait s) items) store')
+        (pauses row (record { standing = Waits item rest; numbers = now })))
         (shows_outputs unit sound vars_early as_many_vars store' now held)
         (both_pause refl (record { stands = at_pause is fit more; held = held }));
   }
@@ -88,7 +95,8 @@ module _ (unit : UnitDef) (sound : Sound [] [] unit (callees_of [] [])) (vars_ea
   tick_ends : (row : List ℤ) (c : Control) (store : Store) (m : State) → Related c store m → row_fits (input_columns unit) row ≡ true →
       Ending (woken c) (woken_store row store) (ticked steps m.standing (with_row unit.inputs row m.numbers))
   tick_ends row c store m related fit =
-      ending (tick_comes unit sound vars_early loop body steps loop_kind body_steps body_fits related.stands (with_row unit.inputs row m.numbers) (woken_store row store)
+      ending (tick_comes unit sound vars_early loop body steps loop_kind body_steps body_fits related.stands
+      (with_row unit.inputs row m.numbers) (woken_store row store)
       (woken_held unit sound vars_early as_many_vars row store m.numbers (numbers_values (inputs_of unit) row inputs_early fit) related.held))
       (λ now. tick_past steps m.standing (with_row unit.inputs row m.numbers) now some_pause)
 
@@ -107,5 +115,6 @@ module _ (unit : UnitDef) (sound : Sound [] [] unit (callees_of [] [])) (vars_ea
       let at_first : State = record { standing = Begins; numbers = map (λ var. pos 0) unit.vars } in
       subst (λ trace. Allows (alone unit) rows (Idle (Begin loop ∷ [])) (first_store (alone unit)) shows ↔ (shows ≡ shown trace))
       (machine_is unit.inputs steps rows Begins (map (λ var. pos 0) unit.vars))
-      (one_trace (alone unit) State (react unit.inputs steps) (row_fits (input_columns unit)) Related follows rows (Idle (Begin loop ∷ [])) (first_store (alone unit)) at_first
+      (one_trace (alone unit) State (react unit.inputs steps) (row_fits (input_columns unit)) Related follows rows
+      (Idle (Begin loop ∷ [])) (first_store (alone unit)) at_first
       (record { stands = not_begun; held = first_held unit sound vars_early }) fit shows)

@@ -1,5 +1,29 @@
 -- The steps of a program of the form have types.
-use Rattle.std.proofs.Common.{◌≡◌, ℕ, suc, zero, pos, Bool, true, false, ◌&&◌, List, [], ◌∷◌, map, refl, sym, ap, ap₂, ◌∙◌, subst, Option, Some, None, if◌then◌else◌}
+use Rattle.std.proofs.Common.{
+  ◌≡◌,
+  ℕ,
+  suc,
+  zero,
+  pos,
+  Bool,
+  true,
+  false,
+  ◌&&◌,
+  List,
+  [],
+  ◌∷◌,
+  map,
+  refl,
+  sym,
+  ap,
+  ap₂,
+  ◌∙◌,
+  subst,
+  Option,
+  Some,
+  None,
+  if◌then◌else◌,
+}
 use Rattle.std.specs.Prelude.{int_le, is_some, slice_get, unwrap_or, option_map, option_and_then}
 use Rattle.std.specs.List.{list_all}
 use Rattle.bl_tree.specs.declared.scalar.Op.TheVariants.{Add}
@@ -23,9 +47,48 @@ use Rattle.bl_tree.specs.declared.tree.Var.{Var}
 use Rattle.bl_tree.specs.Reduce.{all_of}
 use Rattle.bl_tree.specs.Scalar.{in_range, is_bool}
 use Rattle.bl_tree.specs.Types.{scalar, scalar_at, scalar_in, same_scalar, same_type}
-use Rattle.bl_tree.specs.Typing.{Site, type_of, type_of_path, kind_type, part_type, expr_type, path_type, after_parts, where_same, are_same, is_truth, is_activity, is_assignable, kind_fits, arm_fits, branch_fits, stmt_fits, fits, two_type}
+use Rattle.bl_tree.specs.Typing.{
+  Site,
+  type_of,
+  type_of_path,
+  kind_type,
+  part_type,
+  expr_type,
+  path_type,
+  after_parts,
+  where_same,
+  are_same,
+  is_truth,
+  is_activity,
+  is_assignable,
+  kind_fits,
+  arm_fits,
+  branch_fits,
+  stmt_fits,
+  fits,
+  two_type,
+}
 use Rattle.bl_ctext.proofs.Bytes.{and-fst, and-snd}
-use Rattle.bl_early.specs.Form.{Item, Number, Of, Source, Just, Sum, Step, Set, Pause, is_early_type, has_early_type, item_in, item_of, source_in, source_of, step_in, step_of, alone}
+use Rattle.bl_early.specs.Form.{
+  Item,
+  Number,
+  Of,
+  Source,
+  Just,
+  Sum,
+  Step,
+  Set,
+  Pause,
+  is_early_type,
+  has_early_type,
+  item_in,
+  item_of,
+  source_in,
+  source_of,
+  step_in,
+  step_of,
+  alone,
+}
 use Rattle.bl_early.specs.Built.{step_within, passes, is_step, steps_at}
 use Rattle.bl_early.proofs.Spelled.{is_typed_var}
 use Rattle.bl_early_laws.proofs.Cells.{Each}
@@ -134,17 +197,20 @@ record SumOf (a b : Option Ty) (t : Ty) : Type 0 where
   right_is : scalar_in second ≡ Some right
   gives : two_type Add left right ≡ Some t
 
-sum-right : (first second : Ty) (left : Scalar) (o : Option Scalar) (t : Ty) → scalar_in first ≡ Some left → scalar_in second ≡ o → option_and_then (two_type Add left) o ≡ Some t → SumOf (Some first) (Some second) t
+sum-right : (first second : Ty) (left : Scalar) (o : Option Scalar) (t : Ty) → scalar_in first ≡ Some left → scalar_in second ≡ o →
+    option_and_then (two_type Add left) o ≡ Some t → SumOf (Some first) (Some second) t
 sum-right first second left (Some right) t l r h =
     record { first = first; second = second; left = left; right = right; first_is = refl; second_is = refl; left_is = l; right_is = r; gives = h }
 sum-right first second left None t l r h = none-some t h
 
-sum-left : (first : Ty) (o : Option Scalar) (b : Option Ty) (t : Ty) → scalar_in first ≡ o → option_and_then (λ s. option_and_then (two_type Add s) (option_and_then scalar_in b)) o ≡ Some t → SumOf (Some first) b t
+sum-left : (first : Ty) (o : Option Scalar) (b : Option Ty) (t : Ty) → scalar_in first ≡ o →
+    option_and_then (λ s. option_and_then (two_type Add s) (option_and_then scalar_in b)) o ≡ Some t → SumOf (Some first) b t
 sum-left first (Some left) (Some second) t l h = sum-right first second left (scalar_in second) t l refl h
 sum-left first (Some left) None t l h = none-some t h
 sum-left first None b t l h = none-some t h
 
-sum-of : (a b : Option Ty) (t : Ty) → option_and_then (λ s. option_and_then (two_type Add s) (option_and_then scalar_in b)) (option_and_then scalar_in a) ≡ Some t → SumOf a b t
+sum-of : (a b : Option Ty) (t : Ty) → option_and_then (λ s. option_and_then (two_type Add s) (option_and_then scalar_in b))
+    (option_and_then scalar_in a) ≡ Some t → SumOf a b t
 sum-of (Some first) b t h = sum-left first (scalar_in first) b t refl h
 sum-of None b t h = none-some t h
 
@@ -185,16 +251,19 @@ module _ (site : Site) (typed : list_all is_typed_var site.vars ≡ true) where
         early = found.early;
       }
 
-  var-typed : (k : ℕ) (written t : Ty) (o : Option Var) → slice_get site.vars k ≡ o → option_and_then (where_same written) (option_and_then (λ (var : Var). Some var.ty) o) ≡ Some t → VarTyped k t
+  var-typed : (k : ℕ) (written t : Ty) (o : Option Var) → slice_get site.vars k ≡ o →
+      option_and_then (where_same written) (option_and_then (λ (var : Var). Some var.ty) o) ≡ Some t → VarTyped k t
   var-typed k written t (Some var) at h = var-known k written t var at h
   var-typed k written t None at h = none-some t h
 
   root-typed : (root : ℕ) (parts : List Part) (written t : Ty) (k : ℕ) → alone root parts ≡ Some k →
-      option_and_then (where_same written) (option_and_then (λ (var : Var). after_parts (map part_typed parts) var.ty) (slice_get site.vars root)) ≡ Some t → VarTyped k t
+      option_and_then (where_same written) (option_and_then (λ (var : Var). after_parts (map part_typed parts) var.ty)
+      (slice_get site.vars root)) ≡ Some t → VarTyped k t
   root-typed root [] written t k is h = subst (λ k. VarTyped k t) (some-inj root k is) (var-typed root written t (slice_get site.vars root) refl h)
   root-typed root (part ∷ parts) written t k is h = none-some k is
 
-  path-typed : (path : Path) (t : Ty) (k : ℕ) → alone (out-Path path).root (out-Path path).parts ≡ Some k → type_of_path site path ≡ Some t → VarTyped k t
+  path-typed : (path : Path) (t : Ty) (k : ℕ) → alone (out-Path path).root (out-Path path).parts ≡ Some k →
+      type_of_path site path ≡ Some t → VarTyped k t
   path-typed path t k is h =
       let out = fold_out-Path (Option Ty) (Ty → Option Ty) (Option Ty) (Option Ty) (kind_type site) (part_type site) expr_type (path_type site) path in
       root-typed (out-Path path).root (out-Path path).parts (out-Path path).ty t k is (sym out ∙ h)
@@ -207,13 +276,15 @@ module _ (site : Site) (typed : list_all is_typed_var site.vars ≡ true) where
     has : ItemHas site.vars item s
     early : is_early_type s ≡ true
 
-  of-path : (path : Path) (t : Ty) (item : Item) (o : Option ℕ) → alone (out-Path path).root (out-Path path).parts ≡ o → type_of_path site path ≡ Some t → option_map Of o ≡ Some item → ItemTyped item t
+  of-path : (path : Path) (t : Ty) (item : Item) (o : Option ℕ) → alone (out-Path path).root (out-Path path).parts ≡ o →
+      type_of_path site path ≡ Some t → option_map Of o ≡ Some item → ItemTyped item t
   of-path path t item (Some k) is typed h =
       let found : VarTyped k t = path-typed path t k is typed in
       subst (λ i. ItemTyped i t) (some-inj (Of k) item h) (record { s = found.s; is = found.is; has = found.has; early = found.early })
   of-path path t item None is typed h = none-some item h
 
-  item-layer : (what : ExprKind) (layer : ExprKind-F ExprKind Part Expr Path) (t : Ty) (item : Item) → out-ExprKind what ≡ layer → kind what ≡ Some t → item_in layer ≡ Some item → ItemTyped item t
+  item-layer : (what : ExprKind) (layer : ExprKind-F ExprKind Part Expr Path) (t : Ty) (item : Item) → out-ExprKind what ≡ layer →
+      kind what ≡ Some t → item_in layer ≡ Some item → ItemTyped item t
   item-layer what (ExprKind-F.Literal n s) t item is typed h =
       let same : scalar s ≡ t = (chosen-is (in_range s n) (scalar s) t (sym (kind-out what (ExprKind-F.Literal n s) is) ∙ typed)).1 in
       let taken = chosen-is (is_early_type s && int_le (pos 0) n) (Number n s) item h in
@@ -240,7 +311,8 @@ module _ (site : Site) (typed : list_all is_typed_var site.vars ≡ true) where
   item-as : (item : Item) (t : Ty) (s u : Scalar) → (found : ItemTyped item t) → scalar_in t ≡ Some s → u ≡ s → ItemHas site.vars item u
   item-as item t s u found is same = subst (ItemHas site.vars item) (some-inj found.s s (sym found.is ∙ is) ∙ sym same) found.has
 
-  sum-typed : (a b : Expr) (t : Ty) (first second : Option Item) (source : Source) → item_of a ≡ first → item_of b ≡ second → SumOf (type_of site a) (type_of site b) t →
+  sum-typed : (a b : Expr) (t : Ty) (first second : Option Item) (source : Source) → item_of a ≡ first → item_of b ≡ second →
+      SumOf (type_of site a) (type_of site b) t →
       option_and_then (λ x. option_map (Sum x) second) first ≡ Some source → SourceTyped source t
   sum-typed a b t (Some x) (Some y) source is also sum h =
       let one : ItemTyped x sum.first = item-typed a sum.first sum.first_is x is in
@@ -251,20 +323,27 @@ module _ (site : Site) (typed : list_all is_typed_var site.vars ≡ true) where
       (record {
         s = Int W32;
         is = ap scalar_in (sym both.gives) ∙ scalar-in (Int W32);
-        has = (item-as x sum.first sum.left (Int W32) one sum.left_is both.first, item-as y sum.second sum.right (Int W32) other sum.right_is both.second, refl);
+        has = (
+          item-as x sum.first sum.left (Int W32) one sum.left_is both.first,
+          item-as y sum.second sum.right (Int W32) other sum.right_is both.second,
+          refl,
+        );
       })
   sum-typed a b t (Some x) None source is also sum h = none-some source h
   sum-typed a b t None second source is also sum h = none-some source h
 
-  just-typed : (o : Option Item) (t : Ty) (source : Source) → option_map Just o ≡ Some source → ((item : Item) → o ≡ Some item → ItemTyped item t) → SourceTyped source t
+  just-typed : (o : Option Item) (t : Ty) (source : Source) → option_map Just o ≡ Some source →
+      ((item : Item) → o ≡ Some item → ItemTyped item t) → SourceTyped source t
   just-typed (Some item) t source h stands =
       let found : ItemTyped item t = stands item refl in
       subst (λ s. SourceTyped s t) (some-inj (Just item) source h) (record { s = found.s; is = found.is; has = found.has })
   just-typed None t source h stands = none-some source h
 
-  source-layer : (what : ExprKind) (layer : ExprKind-F ExprKind Part Expr Path) (t : Ty) (source : Source) → out-ExprKind what ≡ layer → kind what ≡ Some t → source_in layer ≡ Some source → SourceTyped source t
+  source-layer : (what : ExprKind) (layer : ExprKind-F ExprKind Part Expr Path) (t : Ty) (source : Source) →
+      out-ExprKind what ≡ layer → kind what ≡ Some t → source_in layer ≡ Some source → SourceTyped source t
   source-layer what (ExprKind-F.Two Add a b) t source is typed h =
-      sum-typed a b t (item_of a) (item_of b) source refl refl (sum-of (type_of site a) (type_of site b) t (sym (kind-out what (ExprKind-F.Two Add a b) is) ∙ typed)) h
+      sum-typed a b t (item_of a) (item_of b) source refl refl
+      (sum-of (type_of site a) (type_of site b) t (sym (kind-out what (ExprKind-F.Two Add a b) is) ∙ typed)) h
   source-layer what layer t source is typed h = just-typed (item_in layer) t source h (λ item. item-layer what layer t item is typed)
 
   source-typed : (e : Expr) (t : Ty) → type_of site e ≡ Some t → (source : Source) → source_of e ≡ Some source → SourceTyped source t
@@ -287,7 +366,8 @@ module _ (site : Site) (typed : list_all is_typed_var site.vars ≡ true) where
   abbrev judged : StmtKind-F StmtKind Arm Branch Stmt → StmtKind-F Bool Bool Bool Bool
   judged = map-StmtKind StmtKind Arm Branch Stmt Bool Bool Bool Bool fits_kind arms_fit branches_fit (fits site)
 
-  kind_fits-out : (what : StmtKind) (layer : StmtKind-F StmtKind Arm Branch Stmt) → out-StmtKind what ≡ layer → fits_kind what ≡ kind_fits site (judged layer)
+  kind_fits-out : (what : StmtKind) (layer : StmtKind-F StmtKind Arm Branch Stmt) → out-StmtKind what ≡ layer →
+      fits_kind what ≡ kind_fits site (judged layer)
   kind_fits-out what layer is =
       fold_out-StmtKind Bool Bool Bool Bool (kind_fits site) (arm_fits site) branch_fits stmt_fits what ∙ ap (λ layer. kind_fits site (judged layer)) is
 
@@ -303,7 +383,8 @@ module _ (site : Site) (typed : list_all is_typed_var site.vars ≡ true) where
   both-typed (Some a) None h = cc
   both-typed None b h = cc
 
-  set-typed : (path : Path) (e : Expr) (k : Option ℕ) (source : Option Source) (step : Step) → alone (out-Path path).root (out-Path path).parts ≡ k → source_of e ≡ source → BothTyped (type_of_path site path) (type_of site e) →
+  set-typed : (path : Path) (e : Expr) (k : Option ℕ) (source : Option Source) (step : Step) →
+      alone (out-Path path).root (out-Path path).parts ≡ k → source_of e ≡ source → BothTyped (type_of_path site path) (type_of site e) →
       option_and_then (λ k. option_map (Set k) source) k ≡ Some step → StepHas site.vars step
   set-typed path e (Some k) (Some source) step at is types h =
       let target : VarTyped k types.first = path-typed path types.first k at types.first_is in
@@ -313,21 +394,26 @@ module _ (site : Site) (typed : list_all is_typed_var site.vars ≡ true) where
   set-typed path e (Some k) None step at is types h = none-some step h
   set-typed path e None source step at is types h = none-some step h
 
-  pause-typed : (item : Option Item) (step : Step) → ((i : Item) → item ≡ Some i → ItemHas site.vars i OfBool) → option_map Pause item ≡ Some step → StepHas site.vars step
+  pause-typed : (item : Option Item) (step : Step) → ((i : Item) → item ≡ Some i → ItemHas site.vars i OfBool) →
+      option_map Pause item ≡ Some step → StepHas site.vars step
   pause-typed (Some i) step stands h = subst (StepHas site.vars) (some-inj (Pause i) step h) (stands i refl)
   pause-typed None step stands h = none-some step h
 
-  truth-item : (e : Expr) (o : Option Ty) → type_of site e ≡ o → is_truth o ≡ true → (item : Item) → item_of e ≡ Some item → ItemHas site.vars item OfBool
+  truth-item : (e : Expr) (o : Option Ty) → type_of site e ≡ o → is_truth o ≡ true → (item : Item) → item_of e ≡ Some item →
+      ItemHas site.vars item OfBool
   truth-item e (Some t) is truth item h =
       let found : ItemTyped item t = item-typed e t is item h in
-      let tested : is_some (if is_bool found.s then Some found.s else None) ≡ true = sym (ap (λ o. is_some (option_and_then (λ s. if is_bool s then Some s else None) o)) found.is) ∙ truth in
+      let tested : is_some (if is_bool found.s then Some found.s else None) ≡ true =
+      sym (ap (λ o. is_some (option_and_then (λ s. if is_bool s then Some s else None) o)) found.is) ∙ truth in
       subst (ItemHas site.vars item) (sym (truth-bool found.s tested)) found.has
   truth-item e None is truth item h = cc
 
-  step-layer : (what : StmtKind) (layer : StmtKind-F StmtKind Arm Branch Stmt) → out-StmtKind what ≡ layer → fits_kind what ≡ true → (step : Step) → step_in layer ≡ Some step → StepHas site.vars step
+  step-layer : (what : StmtKind) (layer : StmtKind-F StmtKind Arm Branch Stmt) → out-StmtKind what ≡ layer → fits_kind what ≡ true →
+      (step : Step) → step_in layer ≡ Some step → StepHas site.vars step
   step-layer what (StmtKind-F.Assign path e) is fit step h =
       let all = sym (kind_fits-out what (StmtKind-F.Assign path e) is) ∙ fit in
-      set-typed path e (alone (out-Path path).root (out-Path path).parts) (source_of e) step refl refl (both-typed (type_of_path site path) (type_of site e) (and-snd (is_assignable site path) _ all)) h
+      set-typed path e (alone (out-Path path).root (out-Path path).parts) (source_of e) step refl refl
+      (both-typed (type_of_path site path) (type_of site e) (and-snd (is_assignable site path) _ all)) h
   step-layer what (StmtKind-F.Await e) is fit step h =
       let all = sym (kind_fits-out what (StmtKind-F.Await e) is) ∙ fit in
       pause-typed (item_of e) step (truth-item e (type_of site e) refl (and-snd (is_activity site.kind) _ all)) h
@@ -342,11 +428,13 @@ module _ (site : Site) (typed : list_all is_typed_var site.vars ≡ true) where
   step-layer what (StmtKind-F.While e body) is fit step h = none-some step h
   step-layer what (StmtKind-F.Return e) is fit step h = none-some step h
 
-  step-at : (count : ℕ) (o : Option Step) → passes (step_within count) o ≡ true → ((step : Step) → o ≡ Some step → StepHas site.vars step) → StepHas site.vars (unwrap_or o (Pause (Of 0)))
+  step-at : (count : ℕ) (o : Option Step) → passes (step_within count) o ≡ true →
+      ((step : Step) → o ≡ Some step → StepHas site.vars step) → StepHas site.vars (unwrap_or o (Pause (Of 0)))
   step-at count (Some step) h stands = stands step refl
   step-at count None h stands = cc
 
-  pub steps-typed : (count : ℕ) (body : List Stmt) → all_of (map (fits site) body) ≡ true → list_all (is_step count) body ≡ true → Each (StepHas site.vars) (steps_at body)
+  pub steps-typed : (count : ℕ) (body : List Stmt) → all_of (map (fits site) body) ≡ true → list_all (is_step count) body ≡ true →
+      Each (StepHas site.vars) (steps_at body)
   steps-typed count [] fit all = tt
   steps-typed count (s ∷ body) fit all = (
     step-at count (step_of s) (and-fst (is_step count s) (list_all (is_step count) body) all)

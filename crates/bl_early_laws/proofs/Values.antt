@@ -1,5 +1,25 @@
 -- The values of items and of what is set.
-use Rattle.std.proofs.Common.{◌≡◌, ℕ, ℤ, pos, ◌+ℤ◌, true, ◌&&◌, List, [], ◌∷◌, Option, Some, None, refl, sym, ap, subst, ◌∙◌, IfSome}
+use Rattle.std.proofs.Common.{
+  ◌≡◌,
+  ℕ,
+  ℤ,
+  pos,
+  ◌+ℤ◌,
+  true,
+  ◌&&◌,
+  List,
+  [],
+  ◌∷◌,
+  Option,
+  Some,
+  None,
+  refl,
+  sym,
+  ap,
+  subst,
+  ◌∙◌,
+  IfSome,
+}
 use Rattle.std.proofs.lemmas.Option.{same_Some}
 use Rattle.std.specs.Prelude.{option_and_then, option_map, slice_get, int_le, if◌then◌else◌}
 use Rattle.std.specs.List.{list_all}
@@ -31,7 +51,24 @@ use Rattle.bl_eval.proofs.ExprFits.{Sound, expr_fits}
 use Rattle.bl_eval.proofs.FitLemmas.{same_scalar_is}
 use Rattle.bl_eval.proofs.OperatorFits.{DatumFits, scalar_alone, some_found, where_holds}
 use Rattle.bl_eval.proofs.PassLemmas.{all_at, and_left, and_right}
-use Rattle.bl_early.specs.Form.{Item, Number as Written, Of, Source, Just, Sum, alone, has_early_type, int32, is_early_type, item_in, item_of, source_in, source_of, sum_of, variable_of}
+use Rattle.bl_early.specs.Form.{
+  Item,
+  Number as Written,
+  Of,
+  Source,
+  Just,
+  Sum,
+  alone,
+  has_early_type,
+  int32,
+  is_early_type,
+  item_in,
+  item_of,
+  source_in,
+  source_of,
+  sum_of,
+  variable_of,
+}
 use Rattle.bl_early.specs.Run.{Numbers, item_value, source_value}
 use Rattle.bl_early_laws.proofs.Numbers.{number_same, number_there, values}
 
@@ -41,7 +78,8 @@ map_found f (Some x) y is = (x, refl, same_Some (f x) y is)
 
 -- an expression by its kind
 expr_whole : (e : Expr) → expr (out-Expr e).place (out-ExprKind (out-Expr e).what) ≡ e
-expr_whole e = ap (λ (what : ExprKind). roll-Expr (record { place = (out-Expr e).place; what = what })) (roll-out-ExprKind (out-Expr e).what) ∙ roll-out-Expr e
+expr_whole e = ap (λ (what : ExprKind). roll-Expr (record { place = (out-Expr e).place; what = what }))
+    (roll-out-ExprKind (out-Expr e).what) ∙ roll-out-Expr e
 
 -- a path without parts
 abbrev pub path_to : Place → ℕ → Ty → Path
@@ -88,7 +126,8 @@ pub record Shows (now : Numbers) (item : Item) (datum : Option Datum) : Type 0 w
   pub is : plain it ≡ Number (item_value now item)
 
 module _ (unit : UnitDef) (sound : Sound [] [] unit (callees_of [] [])) (vars_early : list_all (λ var. has_early_type (scalar_in var.ty)) unit.vars ≡ true)
-    (now : Numbers) (before : List Value) (now_fits : values_fit [] unit.vars (values now) ≡ true) (before_fits : values_fit [] unit.vars before ≡ true) where
+    (now : Numbers) (before : List Value) (now_fits : values_fit [] unit.vars (values now) ≡ true)
+    (before_fits : values_fit [] unit.vars before ≡ true) where
   abbrev site : Site
   site = site_of [] [] unit
 
@@ -118,13 +157,15 @@ module _ (unit : UnitDef) (sound : Sound [] [] unit (callees_of [] [])) (vars_ea
       rw fold-roll-Path
       (record {
         it = datum_of (scalar_in written) (Number (item_value now (Of k)));
-        is_there = ap (λ found. option_map (datum_of (scalar_in written)) (option_and_then (value_at []) found)) (number_there unit.vars now k v.var now_fits v.is_there);
+        is_there = ap (λ found. option_map (datum_of (scalar_in written)) (option_and_then (value_at []) found))
+            (number_there unit.vars now k v.var now_fits v.is_there);
         is = plain_number (scalar_in written) (item_value now (Of k));
       })
 
   -- ---- items
 
-  item_shows_kind : (place : Place) (kind : ExprKind-F ExprKind Part Expr Path) (item : Item) (ty : Ty) → item_in kind ≡ Some item → type_of site (expr place kind) ≡ Some ty →
+  item_shows_kind : (place : Place) (kind : ExprKind-F ExprKind Part Expr Path) (item : Item) (ty : Ty) → item_in kind ≡ Some item →
+      type_of site (expr place kind) ≡ Some ty →
       Shows now item (meaning_of scope (expr place kind) view)
   item_shows_kind place (ExprKind-F.Literal n s) item ty is typed =
       let found = where_holds (is_early_type s && int_le (pos 0) n) (Some (Written n s)) item is in
@@ -146,7 +187,8 @@ module _ (unit : UnitDef) (sound : Sound [] [] unit (callees_of [] [])) (vars_ea
       subst (λ e. Shows now item (meaning_of scope e view)) (expr_whole e)
       (item_shows_kind (out-Expr e).place (out-ExprKind (out-Expr e).what) item ty is (subst (λ e. type_of site e ≡ Some ty) (sym (expr_whole e)) typed))
 
-  item_early_kind : (place : Place) (kind : ExprKind-F ExprKind Part Expr Path) (item : Item) (ty : Ty) (s : ScalarType) → item_in kind ≡ Some item → type_of site (expr place kind) ≡ Some ty → scalar_in ty ≡ Some s →
+  item_early_kind : (place : Place) (kind : ExprKind-F ExprKind Part Expr Path) (item : Item) (ty : Ty) (s : ScalarType) →
+      item_in kind ≡ Some item → type_of site (expr place kind) ≡ Some ty → scalar_in ty ≡ Some s →
       is_early_type s ≡ true
   item_early_kind place (ExprKind-F.Literal n t) item ty s is typed scalar_is =
       let found = where_holds (is_early_type t && int_le (pos 0) n) (Some (Written n t)) item is in
@@ -158,16 +200,20 @@ module _ (unit : UnitDef) (sound : Sound [] [] unit (callees_of [] [])) (vars_ea
       let whole = variable_whole path found.0 found.1 in
       let typed' = rw (fold-roll-Expr, fold-roll-ExprKind) at typed in
       let v = known (out-Path path).place found.0 (out-Path path).ty ty (subst (λ path. type_of_path site path ≡ Some ty) (sym whole) typed') in
-      early_scalar (scalar_in v.var.ty) s (all_at (λ (var : Var). has_early_type (scalar_in var.ty)) unit.vars found.0 v.var vars_early v.is_there) (ap scalar_in v.is ∙ scalar_is)
+      early_scalar (scalar_in v.var.ty) s (all_at (λ (var : Var). has_early_type (scalar_in var.ty)) unit.vars found.0 v.var
+      vars_early v.is_there) (ap scalar_in v.is ∙ scalar_is)
   item_early_kind place _ item ty s is typed scalar_is = absurd cc
 
-  item_early : (e : Expr) (item : Item) (ty : Ty) (s : ScalarType) → item_of e ≡ Some item → type_of site e ≡ Some ty → scalar_in ty ≡ Some s → is_early_type s ≡ true
+  item_early : (e : Expr) (item : Item) (ty : Ty) (s : ScalarType) → item_of e ≡ Some item → type_of site e ≡ Some ty →
+      scalar_in ty ≡ Some s → is_early_type s ≡ true
   item_early e item ty s is typed scalar_is =
-      item_early_kind (out-Expr e).place (out-ExprKind (out-Expr e).what) item ty s is (subst (λ e. type_of site e ≡ Some ty) (sym (expr_whole e)) typed) scalar_is
+      item_early_kind (out-Expr e).place (out-ExprKind (out-Expr e).what) item ty s is
+      (subst (λ e. type_of site e ≡ Some ty) (sym (expr_whole e)) typed) scalar_is
 
   -- ---- operands
 
-  operand_datum : (item : Item) (ty : Ty) (s : ScalarType) (datum : Datum) → scalar_in ty ≡ Some s → DatumFits [] ty datum → plain datum ≡ Number (item_value now item) →
+  operand_datum : (item : Item) (ty : Ty) (s : ScalarType) (datum : Datum) → scalar_in ty ≡ Some s → DatumFits [] ty datum →
+      plain datum ≡ Number (item_value now item) →
       (operand_in datum ≡ Some (record { ty = s; n = item_value now item })) × (in_range s (item_value now item) ≡ true)
   operand_datum item ty s (OfScalar t n) scalar_is fit is =
       let same : t ≡ s = same_Some t s (sym (scalar_alone t) ∙ ap scalar_in (sym fit.0) ∙ scalar_is) in
@@ -189,17 +235,21 @@ module _ (unit : UnitDef) (sound : Sound [] [] unit (callees_of [] [])) (vars_ea
   -- ---- what is set
 
   sum_shows : (left right : Expr) (source : Source) (ty : Ty) → sum_of left right ≡ Some source →
-      option_and_then (λ s. option_and_then (two_type Add s) (option_and_then scalar_in (type_of site right))) (option_and_then scalar_in (type_of site left)) ≡ Some ty →
-      option_map plain (option_and_then (two_datum Add (operand (meaning_of scope right) view)) (operand (meaning_of scope left) view)) ≡ option_map Number (source_value now source)
+      option_and_then (λ s. option_and_then (two_type Add s) (option_and_then scalar_in (type_of site right)))
+      (option_and_then scalar_in (type_of site left)) ≡ Some ty →
+      option_map plain (option_and_then (two_datum Add (operand (meaning_of scope right) view))
+      (operand (meaning_of scope left) view)) ≡ option_map Number (source_value now source)
   sum_shows left right source ty is typed =
       let first = some_found (λ first. option_map (Sum first) (item_of right)) (item_of left) source is in
       let second = map_found (Sum first.0) (item_of right) source first.2 in
-      let left_type = some_found (λ s. option_and_then (two_type Add s) (option_and_then scalar_in (type_of site right))) (option_and_then scalar_in (type_of site left)) ty typed in
+      let left_type = some_found (λ s. option_and_then (two_type Add s) (option_and_then scalar_in (type_of site right)))
+      (option_and_then scalar_in (type_of site left)) ty typed in
       let right_type = some_found (two_type Add left_type.0) (option_and_then scalar_in (type_of site right)) ty left_type.2 in
       let holds = where_holds (same_scalar left_type.0 right_type.0 && takes_two Add left_type.0) _ ty right_type.2 in
       let left_found = some_found scalar_in (type_of site left) left_type.0 left_type.1 in
       let right_found = some_found scalar_in (type_of site right) right_type.0 right_type.1 in
-      let same : left_type.0 ≡ right_type.0 = same_scalar_is left_type.0 right_type.0 (and_left (same_scalar left_type.0 right_type.0) (takes_two Add left_type.0) holds.0) in
+      let same : left_type.0 ≡ right_type.0 = same_scalar_is left_type.0 right_type.0
+      (and_left (same_scalar left_type.0 right_type.0) (takes_two Add left_type.0) holds.0) in
       let whole : is_whole left_type.0 ≡ true = and_right (same_scalar left_type.0 right_type.0) (takes_two Add left_type.0) holds.0 in
       let number : left_type.0 ≡ int32 = early_whole left_type.0 (item_early left first.0 left_found.0 left_type.0 first.1 left_found.1 left_found.2) whole in
       summed first.0 second.0 source second.2
@@ -209,30 +259,36 @@ module _ (unit : UnitDef) (sound : Sound [] [] unit (callees_of [] [])) (vars_ea
       summed : (a b : Item) (source : Source) → Sum a b ≡ source →
           (operand (meaning_of scope left) view ≡ Some (record { ty = int32; n = item_value now a })) × (in_range int32 (item_value now a) ≡ true) →
           (operand (meaning_of scope right) view ≡ Some (record { ty = int32; n = item_value now b })) × (in_range int32 (item_value now b) ≡ true) →
-          option_map plain (option_and_then (two_datum Add (operand (meaning_of scope right) view)) (operand (meaning_of scope left) view)) ≡ option_map Number (source_value now source)
+          option_map plain (option_and_then (two_datum Add (operand (meaning_of scope right) view))
+          (operand (meaning_of scope left) view)) ≡ option_map Number (source_value now source)
       summed a b source is one other =
           ap (λ found. option_map plain (option_and_then (two_datum Add (operand (meaning_of scope right) view)) found)) one.0
           ∙ ap (λ found. option_map plain (two_datum Add found (record { ty = int32; n = item_value now a }))) other.0
-          ∙ ap (λ holds. option_map plain (option_map (OfScalar int32) (if holds && in_range int32 (item_value now b) then fitted int32 (item_value now a +ℤ item_value now b) else None))) one.1
-          ∙ ap (λ holds. option_map plain (option_map (OfScalar int32) (if holds then fitted int32 (item_value now a +ℤ item_value now b) else None))) other.1
+          ∙ ap (λ holds. option_map plain (option_map (OfScalar int32)
+          (if holds && in_range int32 (item_value now b) then fitted int32 (item_value now a +ℤ item_value now b) else None))) one.1
+          ∙ ap (λ holds. option_map plain (option_map (OfScalar int32)
+          (if holds then fitted int32 (item_value now a +ℤ item_value now b) else None))) other.1
           ∙ plain_sum int32 (fitted int32 (item_value now a +ℤ item_value now b))
           ∙ ap (λ source. option_map Number (source_value now source)) is
 
-  just_shows : (place : Place) (kind : ExprKind-F ExprKind Part Expr Path) (source : Source) (ty : Ty) → option_map Just (item_in kind) ≡ Some source → type_of site (expr place kind) ≡ Some ty →
+  just_shows : (place : Place) (kind : ExprKind-F ExprKind Part Expr Path) (source : Source) (ty : Ty) →
+      option_map Just (item_in kind) ≡ Some source → type_of site (expr place kind) ≡ Some ty →
       value_in scope (expr place kind) view ≡ option_map Number (source_value now source)
   just_shows place kind source ty is typed =
       let found = map_found Just (item_in kind) source is in
       let shows = item_shows_kind place kind found.0 ty found.1 typed in
       ap (option_map plain) shows.is_there ∙ ap Some shows.is ∙ ap (λ source. option_map Number (source_value now source)) found.2
 
-  source_shows_kind : (place : Place) (kind : ExprKind-F ExprKind Part Expr Path) (source : Source) (ty : Ty) → source_in kind ≡ Some source → type_of site (expr place kind) ≡ Some ty →
+  source_shows_kind : (place : Place) (kind : ExprKind-F ExprKind Part Expr Path) (source : Source) (ty : Ty) →
+      source_in kind ≡ Some source → type_of site (expr place kind) ≡ Some ty →
       value_in scope (expr place kind) view ≡ option_map Number (source_value now source)
   source_shows_kind place (ExprKind-F.Two Add left right) source ty is typed =
       rw (fold-roll-Expr, fold-roll-ExprKind) (sum_shows left right source ty is (rw (fold-roll-Expr, fold-roll-ExprKind) at typed))
   source_shows_kind place kind source ty is typed = just_shows place kind source ty is typed
 
   -- what is set has its number, or traps
-  pub source_shows : (e : Expr) (source : Source) (ty : Ty) → source_of e ≡ Some source → type_of site e ≡ Some ty → value_in scope e view ≡ option_map Number (source_value now source)
+  pub source_shows : (e : Expr) (source : Source) (ty : Ty) → source_of e ≡ Some source → type_of site e ≡ Some ty →
+      value_in scope e view ≡ option_map Number (source_value now source)
   source_shows e source ty is typed =
       subst (λ e. value_in scope e view ≡ option_map Number (source_value now source)) (expr_whole e)
       (source_shows_kind (out-Expr e).place (out-ExprKind (out-Expr e).what) source ty is (subst (λ e. type_of site e ≡ Some ty) (sym (expr_whole e)) typed))

@@ -1,5 +1,30 @@
 -- The store of a program of one unit at its beginning, as a tick begins, and what it shows.
-use Rattle.std.proofs.Common.{◌≡◌, ◌+◌, ◌≤◌, ℤ, pos, Bool, true, List, [], ◌∷◌, ◌++◌, length, map, take, drop, Option, Some, None, refl, sym, ap, subst, ◌∙◌, arith}
+use Rattle.std.proofs.Common.{
+  ◌≡◌,
+  ◌+◌,
+  ◌≤◌,
+  ℤ,
+  pos,
+  Bool,
+  true,
+  List,
+  [],
+  ◌∷◌,
+  ◌++◌,
+  length,
+  map,
+  take,
+  drop,
+  Option,
+  Some,
+  None,
+  refl,
+  sym,
+  ap,
+  subst,
+  ◌∙◌,
+  arith,
+}
 use Rattle.std.proofs.lemmas.List.{length-drop, length-take, take-append-drop, take_all}
 use Rattle.std.specs.List.{list_all}
 use Rattle.std.specs.Prelude.{unwrap_or}
@@ -35,10 +60,12 @@ zero_number : (ty : Ty) (s : Option ScalarType) → scalar_in ty ≡ s → has_e
 zero_number ty None is early = absurd cc
 zero_number ty (Some s) is early = ap (zero_of []) (scalar_is ty s is) ∙ (rw fold-roll-Ty refl)
 
-zeros_are : (vars : List Var) → list_all (λ (var : Var). has_early_type (scalar_in var.ty)) vars ≡ true → zeros [] vars ≡ values (map (λ var. pos 0) vars)
+zeros_are : (vars : List Var) → list_all (λ (var : Var). has_early_type (scalar_in var.ty)) vars ≡ true →
+    zeros [] vars ≡ values (map (λ var. pos 0) vars)
 zeros_are [] early = refl
 zeros_are (var ∷ vars) early =
-    let first = zero_number var.ty (scalar_in var.ty) refl (and_left (has_early_type (scalar_in var.ty)) (list_all (λ (var : Var). has_early_type (scalar_in var.ty)) vars) early) in
+    let first = zero_number var.ty (scalar_in var.ty) refl
+    (and_left (has_early_type (scalar_in var.ty)) (list_all (λ (var : Var). has_early_type (scalar_in var.ty)) vars) early) in
     let rest = zeros_are vars (and_right (has_early_type (scalar_in var.ty)) (list_all (λ (var : Var). has_early_type (scalar_in var.ty)) vars) early) in
     ap (λ v. v ∷ zeros [] vars) first ∙ ap (λ all. Number (pos 0) ∷ all) rest
 
@@ -71,7 +98,8 @@ numbers_values (var ∷ vars) (n ∷ row) early fit =
     (and_left range (row_fits (columns_of vars) row) fit))
     (numbers_values vars row (and_right (is_early_var var) (list_all is_early_var vars) early) (and_right range (row_fits (columns_of vars) row) fit))
 
-module _ (unit : UnitDef) (sound : Sound [] [] unit (callees_of [] [])) (vars_early : list_all (λ (var : Var). has_early_type (scalar_in var.ty)) unit.vars ≡ true) where
+module _ (unit : UnitDef) (sound : Sound [] [] unit (callees_of [] []))
+    (vars_early : list_all (λ (var : Var). has_early_type (scalar_in var.ty)) unit.vars ≡ true) where
   -- every number is 0 at first
   pub first_held : Held unit (first_store (alone unit)) (map (λ var. pos 0) unit.vars)
   first_held =
@@ -93,12 +121,14 @@ module _ (unit : UnitDef) (sound : Sound [] [] unit (callees_of [] [])) (vars_ea
         let test : Var → Value → Bool = λ var. value_fits [] var.ty in
         omega (arith, values_length row, as_many test (inputs_of unit) (values row) fit, length-take unit.inputs unit.vars)
 
-    woken_values : (row now : Numbers) → AllFit [] (inputs_of unit) (values row) → values row ++ drop (length (values row)) (values now) ≡ values (with_row unit.inputs row now)
+    woken_values : (row now : Numbers) → AllFit [] (inputs_of unit) (values row) →
+        values row ++ drop (length (values row)) (values now) ≡ values (with_row unit.inputs row now)
     woken_values row now fit =
         ap (λ n. values row ++ drop n (values now)) (values_length row ∙ row_length row fit)
         ∙ ap (λ rest. values row ++ rest) (sym (values_drop unit.inputs now)) ∙ sym (values_append row (drop unit.inputs now))
 
-    woken_fits : (row now : Numbers) → AllFit [] (inputs_of unit) (values row) → AllFit [] unit.vars (values now) → AllFit [] unit.vars (values (with_row unit.inputs row now))
+    woken_fits : (row now : Numbers) → AllFit [] (inputs_of unit) (values row) → AllFit [] unit.vars (values now) →
+        AllFit [] unit.vars (values (with_row unit.inputs row now))
     woken_fits row now fit held =
         let test : Var → Value → Bool = λ var. value_fits [] var.ty in
         subst (λ all. AllFit [] unit.vars all) (sym (values_append row (drop unit.inputs now)))
@@ -107,7 +137,8 @@ module _ (unit : UnitDef) (sound : Sound [] [] unit (callees_of [] [])) (vars_ea
         (subst (AllFit [] (drop unit.inputs unit.vars)) (sym (values_drop unit.inputs now)) (pass_drop test unit.inputs unit.vars (values now) held))))
 
     -- a tick begins with the row's numbers as inputs
-    pub woken_held : (row : List ℤ) (store : Store) (now : Numbers) → AllFit [] (inputs_of unit) (values row) → Held unit store now → Held unit (woken_store row store) (with_row unit.inputs row now)
+    pub woken_held : (row : List ℤ) (store : Store) (now : Numbers) → AllFit [] (inputs_of unit) (values row) →
+        Held unit store now → Held unit (woken_store row store) (with_row unit.inputs row now)
     woken_held row store now fit held = record {
       before = now;
       result = held.result;

@@ -1,5 +1,37 @@
 -- The written file has the trace of its loop of steps.
-use Rattle.std.proofs.Common.{◌≡◌, ℕ, suc, zero, ◌≤◌, ℤ, pos, Bool, true, false, List, [], ◌∷◌, ◌++◌, map, length, take, drop, Option, Some, None, refl, sym, ap, ap₂, ◌∙◌, subst, arith, codes, take-append-drop, true≢false}
+use Rattle.std.proofs.Common.{
+  ◌≡◌,
+  ℕ,
+  suc,
+  zero,
+  ◌≤◌,
+  ℤ,
+  pos,
+  Bool,
+  true,
+  false,
+  List,
+  [],
+  ◌∷◌,
+  ◌++◌,
+  map,
+  length,
+  take,
+  drop,
+  Option,
+  Some,
+  None,
+  refl,
+  sym,
+  ap,
+  ap₂,
+  ◌∙◌,
+  subst,
+  arith,
+  codes,
+  take-append-drop,
+  true≢false,
+}
 use Rattle.std.specs.Prelude.{All, is_some, slice_set, if◌then◌else◌}
 use Rattle.std.specs.List.{list_all, list_any}
 use Rattle.std.proofs.lemmas.List.Elements.{All-head, All-tail}
@@ -18,7 +50,26 @@ use Rattle.bl_cmeaning.specs.Cells.{Cell, cells_of, memory_of, numbers_of, ports
 use Rattle.bl_cmeaning.specs.Meaning.{Called, Outcome}
 use Rattle.bl_cmeaning.specs.Trace.{Tick, tick_c, tick_of, start_c, started, cells_if, reply_of, c_trace, c_trace_from, trace_after, traced as c_traced}
 use Rattle.bl_early.specs.Form.{Item, Step, Set, Pause, is_pause, is_early}
-use Rattle.bl_early.specs.Run.{Numbers, item_value, source_value, Reached, Traps, Pauses, Passes, reached_with, taken, repeated, Standing, Begins, Waits, ticked, with_row, loop_trace, trace_of, traced as run_traced}
+use Rattle.bl_early.specs.Run.{
+  Numbers,
+  item_value,
+  source_value,
+  Reached,
+  Traps,
+  Pauses,
+  Passes,
+  reached_with,
+  taken,
+  repeated,
+  Standing,
+  Begins,
+  Waits,
+  ticked,
+  with_row,
+  loop_trace,
+  trace_of,
+  traced as run_traced,
+}
 use Rattle.bl_early.specs.Built.{step_within, steps_at}
 use Rattle.bl_early.specs.Emitted.{c_column, c_funcs, c_ports, input_name, output_name, outs_of}
 use Rattle.bl_early.proofs.Known.{Stands, unit-stands, steps-within}
@@ -26,7 +77,25 @@ use Rattle.bl_early_laws.specs.Written.{HasTrace, WrittenTrace}
 use Rattle.bl_early_laws.proofs.Cells.{Each, each-right, number_at, hits, Own, set-other, set-own, Clear, AllApart, same-numbers, restored}
 use Rattle.bl_early_laws.proofs.Stretches.{counter, View, Shows, At}
 use Rattle.bl_early_laws.proofs.WrittenTicks.{Ticked, first-tick, next-tick}
-use Rattle.bl_early_laws.proofs.Slots.{port_cell, pad, in_cells, out_cells, slots_of, all_cells, cells-are, ins-apart, slots-apart, all-apart, ins-own, slots-own, all-own, counter-clear, current-clear, ports-lead, names_of}
+use Rattle.bl_early_laws.proofs.Slots.{
+  port_cell,
+  pad,
+  in_cells,
+  out_cells,
+  slots_of,
+  all_cells,
+  cells-are,
+  ins-apart,
+  slots-apart,
+  all-apart,
+  ins-own,
+  slots-own,
+  all-own,
+  counter-clear,
+  current-clear,
+  ports-lead,
+  names_of,
+}
 use Rattle.bl_early_laws.proofs.Calls.{tick_called, TickEnds, body_outcome, slots-same, tick-ends, file, tick-entered, begun, init-entered}
 
 -- ---- the loop always comes to a pause
@@ -50,11 +119,13 @@ no-pass-again steps h Traps = tt
 no-pass-again steps h (Pauses item rest now) = tt
 no-pass-again steps h (Passes now) = h now
 
-no-pass-woken : (steps : List Step) → ((now : Numbers) → NoPass (taken steps now)) → (b : Bool) (item : Item) (rest : List Step) (now : Numbers) → NoPass (if b then repeated steps (taken rest now) else Pauses item rest now)
+no-pass-woken : (steps : List Step) → ((now : Numbers) → NoPass (taken steps now)) →
+    (b : Bool) (item : Item) (rest : List Step) (now : Numbers) → NoPass (if b then repeated steps (taken rest now) else Pauses item rest now)
 no-pass-woken steps h true item rest now = no-pass-again steps h (taken rest now)
 no-pass-woken steps h false item rest now = tt
 
-no-pass-tick : (steps : List Step) → ((now : Numbers) → NoPass (taken steps now)) → (standing : Standing) (now : Numbers) → NoPass (ticked steps standing now)
+no-pass-tick : (steps : List Step) → ((now : Numbers) → NoPass (taken steps now)) → (standing : Standing) (now : Numbers) →
+    NoPass (ticked steps standing now)
 no-pass-tick steps h Begins now = no-pass-again steps h (taken steps now)
 no-pass-tick steps h (Waits item rest) now = no-pass-woken steps h (is_one (item_value now item)) item rest now
 
@@ -92,7 +163,8 @@ in_cell = port_cell input_object input_name
 abbrev out_cell : Var → Cell
 out_cell = port_cell output_object output_name
 
-inputs-keep : (vars : List Var) (row : List ℤ) (m : Memory) (cell : Cell) → Each (λ w. hits (in_cell w) cell ≡ false) vars → number_at (with_inputs (map (c_column input_name) vars) row m) cell ≡ number_at m cell
+inputs-keep : (vars : List Var) (row : List ℤ) (m : Memory) (cell : Cell) → Each (λ w. hits (in_cell w) cell ≡ false) vars →
+    number_at (with_inputs (map (c_column input_name) vars) row m) cell ≡ number_at m cell
 inputs-keep [] row m cell h = refl
 inputs-keep (v ∷ vars) [] m cell h = refl
 inputs-keep (v ∷ vars) (n ∷ row) m cell h =
@@ -131,7 +203,8 @@ outputs-are : (vars : List Var) (m : Memory) → outputs_in (map (c_column outpu
 outputs-are [] m = refl
 outputs-are (v ∷ vars) m = ap (λ rest. number_at m (out_cell v) ∷ rest) (outputs-are vars m)
 
-zero-numbers : (f : Var → Cell) (m : Memory) → ((v : Var) → number_at m (f v) ≡ pos 0) → (vars : List Var) → numbers_of (map f vars) m ≡ map (λ var. pos 0) vars
+zero-numbers : (f : Var → Cell) (m : Memory) → ((v : Var) → number_at m (f v) ≡ pos 0) → (vars : List Var) →
+    numbers_of (map f vars) m ≡ map (λ var. pos 0) vars
 zero-numbers f m h [] = refl
 zero-numbers f m h (v ∷ vars) = ap₂ (λ x xs. x ∷ xs) (h v) (zero-numbers f m h vars)
 
@@ -163,21 +236,25 @@ module _ (unit : UnitDef) (steps : List Step) (inputs : unit.inputs ≤ length u
   abbrev columns_set : List ℤ → Memory → Memory
   columns_set row m = with_inputs (map (c_column input_name) (inputs_of unit)) row m
 
-  tick-is : (cells row : List ℤ) → tick_c the_file cells row ≡ tick_of the_file (tick_called unit steps (columns_set row (memory_of (all_cells unit) cells)))
+  tick-is : (cells row : List ℤ) → tick_c the_file cells row
+      ≡ tick_of the_file (tick_called unit steps (columns_set row (memory_of (all_cells unit) cells)))
   unfolding tick_c
   tick-is cells row =
       ap (tick_of the_file) (tick-entered unit steps (columns_set row (memory_of (cells_of the_file) cells)))
       ∙ ap (λ cs. tick_of the_file (tick_called unit steps (columns_set row (memory_of cs cells)))) (cells-are unit (c_funcs unit steps))
 
   -- the memory in which a tick begins
-  view-of : (m : Memory) (number : ℕ) (row : List ℤ) (now : Numbers) → length row ≡ unit.inputs → number_at m counter ≡ pos number → numbers_of (slots_of unit) m ≡ now →
-      View (slots_of unit) (without_frame 1 (without_frame 0 (columns_set row (memory_of (all_cells unit) (numbers_of (all_cells unit) m))))) number 0 (with_row unit.inputs row now)
+  view-of : (m : Memory) (number : ℕ) (row : List ℤ) (now : Numbers) → length row ≡ unit.inputs → number_at m counter ≡ pos number →
+      numbers_of (slots_of unit) m ≡ now →
+      View (slots_of unit) (without_frame 1 (without_frame 0
+      (columns_set row (memory_of (all_cells unit) (numbers_of (all_cells unit) m))))) number 0 (with_row unit.inputs row now)
   view-of m number row now long counted numbers =
       let made : Memory = memory_of (all_cells unit) (numbers_of (all_cells unit) m) in
       let set : Memory = columns_set row made in
       let same = restored (all_cells unit) m (all-apart unit distinct) (all-own unit) in
       let outs : numbers_of (out_cells unit) made ≡ numbers_of (out_cells unit) m =
-      same-numbers made m (out_cells unit) (each-right (λ cell. number_at made cell ≡ number_at m cell) (pad input_object ∷ in_cells unit) (pad output_object ∷ out_cells unit) same.1).1 in
+      same-numbers made m (out_cells unit) (each-right (λ cell. number_at made cell ≡ number_at m cell)
+      (pad input_object ∷ in_cells unit) (pad output_object ∷ out_cells unit) same.1).1 in
       let many : length (inputs_of unit) ≡ unit.inputs = take-length unit.inputs unit.vars inputs in
       let behind : drop unit.inputs now ≡ numbers_of (out_cells unit) m =
       ap (drop unit.inputs) (sym numbers ∙ numbers-append (in_cells unit) (out_cells unit) m)
@@ -186,37 +263,47 @@ module _ (unit : UnitDef) (steps : List Step) (inputs : unit.inputs ≤ length u
         counted = ap (λ f. f (member (codes "m_0") ∷ member (codes "c0") ∷ [])) (state-kept (inputs_of unit) row made) ∙ same.0 ∙ counted;
         local = refl;
         numbers =
-            same-numbers (without_frame 1 (without_frame 0 set)) set (slots_of unit) (slots-same unit steps (without_frame 1 (without_frame 0 set)) set refl refl)
+            same-numbers (without_frame 1 (without_frame 0 set)) set (slots_of unit)
+            (slots-same unit steps (without_frame 1 (without_frame 0 set)) set refl refl)
             ∙ numbers-append (in_cells unit) (out_cells unit) set
             ∙ ap₂ (λ xs ys. xs ++ ys) (inputs-set (inputs_of unit) row made (ins-apart unit distinct) (ins-own unit) (long ∙ sym many))
             (outs-same (outs_of unit) set made (output-kept (inputs_of unit) row made) ∙ outs ∙ sym behind);
       }
 
   abbrev Done : Reached → Outcome → Type 0
-  Done reached o = Shows (Ticked no_entries (c_ports unit) (slots_of unit) (ports-lead no_entries unit) (slots-apart unit distinct) (slots-own unit) (counter-clear unit) (current-clear unit) steps within reached) o
+  Done reached o = Shows (Ticked no_entries (c_ports unit) (slots_of unit) (ports-lead no_entries unit) (slots-apart unit distinct)
+      (slots-own unit) (counter-clear unit) (current-clear unit) steps within reached) o
 
-  tick-done : (standing : Standing) (number : ℕ) (m : Memory) (now : Numbers) → StandsAt standing number → View (slots_of unit) (without_frame 1 m) number 0 now → Done (ticked steps standing now) (body_outcome unit steps m)
+  tick-done : (standing : Standing) (number : ℕ) (m : Memory) (now : Numbers) → StandsAt standing number →
+      View (slots_of unit) (without_frame 1 m) number 0 now → Done (ticked steps standing now) (body_outcome unit steps m)
   tick-done Begins number m now stands view =
       let seen : View (slots_of unit) (without_frame 1 m) 0 0 now = subst (λ n. View (slots_of unit) (without_frame 1 m) n 0 now) stands view in
       subst (λ r. Done r (body_outcome unit steps m)) (same-again steps (taken steps now) (no-pass steps pausing now))
-      (first-tick no_entries (c_ports unit) (slots_of unit) (ports-lead no_entries unit) (slots-apart unit distinct) (slots-own unit) (counter-clear unit) (current-clear unit) steps within (without_frame 1 m) 0 now seen)
+      (first-tick no_entries (c_ports unit) (slots_of unit) (ports-lead no_entries unit) (slots-apart unit distinct)
+      (slots-own unit) (counter-clear unit) (current-clear unit) steps within (without_frame 1 m) 0 now seen)
   tick-done (Waits item rest) number m now stands view =
-      next-tick no_entries (c_ports unit) (slots_of unit) (ports-lead no_entries unit) (slots-apart unit distinct) (slots-own unit) (counter-clear unit) (current-clear unit) steps within (without_frame 1 m) number 0 item rest now stands view
+      next-tick no_entries (c_ports unit) (slots_of unit) (ports-lead no_entries unit) (slots-apart unit distinct) (slots-own unit)
+      (counter-clear unit) (current-clear unit) steps within (without_frame 1 m) number 0 item rest now stands view
 
   abbrev Goes : List (List ℤ) → Type 0
-  Goes rows = (standing : Standing) (now : Numbers) (cells : List ℤ) → Related standing now cells → c_trace_from the_file rows cells ≡ loop_trace unit.inputs steps rows standing now
+  Goes rows = (standing : Standing) (now : Numbers) (cells : List ℤ) → Related standing now cells →
+      c_trace_from the_file rows cells ≡ loop_trace unit.inputs steps rows standing now
 
   -- the outputs of a row
-  row-is : (m : Memory) (now : Numbers) → numbers_of (slots_of unit) m ≡ now → outputs_in (map (c_column output_name) (outs_of unit)) m ≡ drop unit.inputs now
+  row-is : (m : Memory) (now : Numbers) → numbers_of (slots_of unit) m ≡ now →
+      outputs_in (map (c_column output_name) (outs_of unit)) m ≡ drop unit.inputs now
   row-is m now numbers =
       outputs-are (outs_of unit) m
-      ∙ sym (drop-exact unit.inputs (numbers_of (in_cells unit) m) (numbers_of (out_cells unit) m) (length-numbers in_cell (inputs_of unit) m ∙ take-length unit.inputs unit.vars inputs))
+      ∙ sym (drop-exact unit.inputs (numbers_of (in_cells unit) m) (numbers_of (out_cells unit) m)
+      (length-numbers in_cell (inputs_of unit) m ∙ take-length unit.inputs unit.vars inputs))
       ∙ ap (drop unit.inputs) (sym (numbers-append (in_cells unit) (out_cells unit) m) ∙ numbers)
 
   after-tick : (reached : Reached) (called : Called) (rows : List (List ℤ)) → TickEnds unit steps reached called → NoPass reached → Goes rows →
-      c_traced (reply_of called.result) (outputs_in (ports_of (codes "bl_out") the_file) called.memory) (c_trace_from the_file rows (numbers_of (cells_of the_file) called.memory)) ≡ run_traced unit.inputs (loop_trace unit.inputs steps rows) reached
+      c_traced (reply_of called.result) (outputs_in (ports_of (codes "bl_out") the_file) called.memory)
+      (c_trace_from the_file rows (numbers_of (cells_of the_file) called.memory)) ≡ run_traced unit.inputs (loop_trace unit.inputs steps rows) reached
   after-tick Traps called rows h clear further =
-      ap (λ r. c_traced (reply_of r) (outputs_in (ports_of (codes "bl_out") the_file) called.memory) (c_trace_from the_file rows (numbers_of (cells_of the_file) called.memory))) h
+      ap (λ r. c_traced (reply_of r) (outputs_in (ports_of (codes "bl_out") the_file) called.memory)
+      (c_trace_from the_file rows (numbers_of (cells_of the_file) called.memory))) h
   after-tick (Pauses item rest now) called rows h clear further =
       let rested = h.1 in
       let related : Related (Waits item rest) now (numbers_of (cells_of the_file) called.memory) = record {
@@ -227,8 +314,10 @@ module _ (unit : UnitDef) (steps : List Step) (inputs : unit.inputs ≤ length u
         numbers = rested.numbers;
         stands = rested.at;
       } in
-      ap (λ r. c_traced (reply_of r) (outputs_in (ports_of (codes "bl_out") the_file) called.memory) (c_trace_from the_file rows (numbers_of (cells_of the_file) called.memory))) h.0
-      ∙ ap₂ (λ (o : List ℤ) (t : Trace). record { rows = o ∷ t.rows; last = t.last }) (row-is called.memory now rested.numbers) (further (Waits item rest) now (numbers_of (cells_of the_file) called.memory) related)
+      ap (λ r. c_traced (reply_of r) (outputs_in (ports_of (codes "bl_out") the_file) called.memory)
+      (c_trace_from the_file rows (numbers_of (cells_of the_file) called.memory))) h.0
+      ∙ ap₂ (λ (o : List ℤ) (t : Trace). record { rows = o ∷ t.rows; last = t.last }) (row-is called.memory now rested.numbers)
+      (further (Waits item rest) now (numbers_of (cells_of the_file) called.memory) related)
   after-tick (Passes now) called rows h clear further = absurd clear
 
   traces : (rows : List (List ℤ)) → Each (λ row. length row ≡ unit.inputs) rows → Goes rows
@@ -236,11 +325,13 @@ module _ (unit : UnitDef) (steps : List Step) (inputs : unit.inputs ≤ length u
   traces (row ∷ rows) suit standing now cells related =
       let began : Memory = columns_set row (memory_of (all_cells unit) cells) in
       let view : View (slots_of unit) (without_frame 1 (without_frame 0 began)) related.number 0 (with_row unit.inputs row now) =
-      subst (λ cs. View (slots_of unit) (without_frame 1 (without_frame 0 (columns_set row (memory_of (all_cells unit) cs)))) related.number 0 (with_row unit.inputs row now)) (sym related.are)
+      subst (λ cs. View (slots_of unit) (without_frame 1 (without_frame 0 (columns_set row (memory_of (all_cells unit) cs))))
+      related.number 0 (with_row unit.inputs row now)) (sym related.are)
       (view-of related.memory related.number row now suit.0 related.counted related.numbers) in
       ap (λ (t : Tick). c_traced t.reply t.outputs (c_trace_from the_file rows t.cells)) (tick-is cells row)
       ∙ after-tick (ticked steps standing (with_row unit.inputs row now)) (tick_called unit steps began) rows
-      (tick-ends unit steps (ports-lead no_entries unit) (slots-apart unit distinct) (slots-own unit) (counter-clear unit) (current-clear unit) within (ticked steps standing (with_row unit.inputs row now)) began
+      (tick-ends unit steps (ports-lead no_entries unit) (slots-apart unit distinct) (slots-own unit) (counter-clear unit)
+      (current-clear unit) within (ticked steps standing (with_row unit.inputs row now)) began
       (tick-done standing related.number (without_frame 0 began) (with_row unit.inputs row now) related.stands view))
       (no-pass-tick steps (no-pass steps pausing) standing (with_row unit.inputs row now))
       (traces rows suit.1)
@@ -257,7 +348,8 @@ module _ (unit : UnitDef) (steps : List Step) (inputs : unit.inputs ≤ length u
     counted = refl;
     numbers =
         numbers-append (in_cells unit) (out_cells unit) (begun unit steps)
-        ∙ ap₂ (λ xs ys. xs ++ ys) (zero-numbers in_cell (begun unit steps) (λ v. refl) (inputs_of unit)) (zero-numbers out_cell (begun unit steps) (λ v. refl) (outs_of unit))
+        ∙ ap₂ (λ xs ys. xs ++ ys) (zero-numbers in_cell (begun unit steps) (λ v. refl) (inputs_of unit))
+        (zero-numbers out_cell (begun unit steps) (λ v. refl) (outs_of unit))
         ∙ zeros-append (inputs_of unit) (outs_of unit)
         ∙ ap (map (λ var. pos 0)) (take-append-drop unit.inputs unit.vars);
     stands = refl;
@@ -294,7 +386,8 @@ stands-traced unit stands rows suit =
     (trace-is unit (steps_at stands.body) stands.inputs stands.distinct within stands.pause rows (all-each unit.inputs rows suit))
 
 -- the file of a program of the form has the trace of its loop of steps
-pub law : (structs : List StructDef) (units : List UnitDef) (entry : ℕ) → program.Keeps structs units entry → is_early structs units ≡ true → WrittenTrace units
+pub law : (structs : List StructDef) (units : List UnitDef) (entry : ℕ) → program.Keeps structs units entry →
+    is_early structs units ≡ true → WrittenTrace units
 law structs [] entry keeps early = tt
 law structs (unit ∷ v ∷ rest) entry keeps early = tt
 law [] (unit ∷ []) entry keeps early = stands-traced unit (unit-stands [] unit entry keeps early)

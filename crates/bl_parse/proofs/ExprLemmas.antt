@@ -44,7 +44,8 @@ le_same a = omega arith
 -- a minus before an operand is the sign
 pub minus_sign : {tokens : List Token} {from to : ℕ} → SpellsPrefix tokens Op.Minus from to → Takes tokens (Sign MINUS) from to
 minus_sign at = minus_kind at.kind at.token at.is where
-  minus_kind : {tokens : List Token} {from to : ℕ} (kind : TokenKind) → Takes tokens kind from to → IsPrefix kind Op.Minus → Takes tokens (Sign MINUS) from to
+  minus_kind : {tokens : List Token} {from to : ℕ} (kind : TokenKind) → Takes tokens kind from to → IsPrefix kind Op.Minus →
+      Takes tokens (Sign MINUS) from to
   minus_kind kind token (IsPrefix.negation) = token
 
 pub second_next : (a : ℕ) → a + 2 ≡ (a + 1) + 1

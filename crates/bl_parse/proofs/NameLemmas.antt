@@ -15,7 +15,7 @@ use Rattle.bl_syntax.specs.Follow.{avoided}
 use Rattle.bl_syntax.specs.Stack.{IsGood}
 use Rattle.bl_syntax.specs.Expects.{Expects}
 use Rattle.bl_syntax.proofs.Expecting.{expects_production, expects_absent}
-use Rattle.bl_parse.specs.Reading.{left, next_among, NoneNext, Turns}
+use Rattle.bl_parse.specs.inner.Reading.{left, next_among, NoneNext, Turns}
 use Rattle.bl_parse.proofs.ReadLemmas.{picks, pick_is, stands_at}
 
 fewer : (a b c : Bool) → a || (b || (c || false)) ≡ false → a || (b || false) ≡ false
@@ -28,7 +28,8 @@ unfolding avoided
 good_accesses rest good = (λ token leads. fewer _ _ _ (good.0 token leads), good.1)
 
 -- the production of either part by the same test
-by_test : (on : Bool) (p : List Piece) → or_absent true (cond on (Some (the Access ∷ the Accesses ∷ [])) None) ≡ Some p → (next : Option View) → Produces Accesses next p
+by_test : (on : Bool) (p : List Piece) → or_absent true (cond on (Some (the Access ∷ the Accesses ∷ [])) None) ≡ Some p →
+    (next : Option View) → Produces Accesses next p
 by_test true p e next = subst (Produces Accesses next) (same e) (here, refl)
   where
     same : Some (the Access ∷ the Accesses ∷ []) ≡ Some p → (the Access ∷ the Accesses ∷ []) ≡ p
@@ -38,19 +39,31 @@ by_test false p e next = subst (Produces Accesses next) (same e) (later here, re
     same : ◌≡◌ {A = Option (List Piece)} (Some []) (Some p) → ◌≡◌ {A = List Piece} [] p
     same e = cc
 
-not_called : (a b : Bool) (q p : List Piece) → a ≡ false → or_absent true (cond a (Some q) (cond b (Some p) None)) ≡ or_absent true (cond b (Some p) None)
+not_called : (a b : Bool) (q p : List Piece) → a ≡ false →
+    or_absent true (cond a (Some q) (cond b (Some p) None)) ≡ or_absent true (cond b (Some p) None)
 not_called a b q p off = rw off refl
 
-name_picks : (c : Class) → has (Mark OPEN_PAREN ∷ []) c ≡ false → picks NameUse c ≡ or_absent true (cond (has (Mark DOT ∷ Mark OPEN_BRACKET ∷ []) c) (Some (the Access ∷ the Accesses ∷ [])) None)
+name_picks : (c : Class) → has (Mark OPEN_PAREN ∷ []) c ≡ false →
+    picks NameUse c ≡ or_absent true (cond (has (Mark DOT ∷ Mark OPEN_BRACKET ∷ []) c) (Some (the Access ∷ the Accesses ∷ [])) None)
 name_picks c off = not_called _ _ _ _ off
 
-over : (ts : List View) (rest : List Piece) → ((v : View) (vs : List View) → ts ≡ v ∷ vs → has (Mark OPEN_PAREN ∷ []) v.class ≡ false) → Expects (the NameUse ∷ rest) ts → Expects (the Accesses ∷ rest) ts
-over [] rest off e = record { good = good_accesses rest e.good; spells = fold_in Produces matches [] (later here, refl) (expects_absent NameUse rest e).1.spells }
+over : (ts : List View) (rest : List Piece) → ((v : View) (vs : List View) → ts ≡ v ∷ vs →
+    has (Mark OPEN_PAREN ∷ []) v.class ≡ false) → Expects (the NameUse ∷ rest) ts → Expects (the Accesses ∷ rest) ts
+over [] rest off e = record {
+  good = good_accesses rest e.good;
+  spells =
+      fold_in Produces matches [] (later here, refl) (expects_absent NameUse rest e).1.spells;
+}
 over (v ∷ vs) rest off e =
     let h = expects_production NameUse rest v vs e in
-    record { good = good_accesses rest e.good; spells = fold_in Produces matches h.0 (by_test _ h.0 (sym (name_picks v.class (off v vs refl)) ∙ (sym (pick_is NameUse v refl) ∙ h.1)) (Some v)) h.2.spells }
+    record {
+      good = good_accesses rest e.good;
+      spells =
+          fold_in Produces matches h.0 (by_test _ h.0 (sym (name_picks v.class (off v vs refl)) ∙ (sym (pick_is NameUse v refl) ∙ h.1)) (Some v)) h.2.spells;
+    }
 
-off_view : (tokens : List Token) (k : ℕ) → NoneNext (Mark OPEN_PAREN ∷ []) tokens k → (v : View) (vs : List View) → left tokens k ≡ v ∷ vs → has (Mark OPEN_PAREN ∷ []) v.class ≡ false
+off_view : (tokens : List Token) (k : ℕ) → NoneNext (Mark OPEN_PAREN ∷ []) tokens k → (v : View) (vs : List View) →
+    left tokens k ≡ v ∷ vs → has (Mark OPEN_PAREN ∷ []) v.class ≡ false
 off_view tokens k off v vs is = by_token (slice_get tokens k) refl
   where
     by_token : (found : Option Token) → slice_get tokens k ≡ found → has (Mark OPEN_PAREN ∷ []) v.class ≡ false
@@ -66,5 +79,9 @@ off_view tokens k off v vs is = by_token (slice_get tokens k) refl
         class_same e = cc
 
 -- the use of a name, where no `(` stands, is fields and indices
-pub as_accesses : {tokens : List Token} {k : ℕ} {b : List Piece} → NoneNext (Mark OPEN_PAREN ∷ []) tokens k → Turns (the NameUse ∷ b) tokens k (the Accesses ∷ b) k
-as_accesses {tokens} {k} {b} off = record { goes = λ rest e. record { within = e.within; expects = over (left tokens k) (b ++ rest) (off_view tokens k off) e.expects } }
+pub as_accesses : {tokens : List Token} {k : ℕ} {b : List Piece} → NoneNext (Mark OPEN_PAREN ∷ []) tokens k →
+    Turns (the NameUse ∷ b) tokens k (the Accesses ∷ b) k
+as_accesses {tokens} {k} {b} off = record {
+  goes =
+      λ rest e. record { within = e.within; expects = over (left tokens k) (b ++ rest) (off_view tokens k off) e.expects };
+}

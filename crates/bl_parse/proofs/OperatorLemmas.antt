@@ -1,5 +1,29 @@
 -- Chains of operators: what goes on with an expression whose operators bind as tightly as a level.
-use Rattle.std.proofs.Common.{◌≡◌, ℕ, zero, suc, ◌+◌, ◌<◌, ◌≤◌, min, Bool, true, false, cond, ◌||◌, List, [], ◌∷◌, ◌++◌, refl, ap, sym, ◌∙◌, subst, arith}
+use Rattle.std.proofs.Common.{
+  ◌≡◌,
+  ℕ,
+  zero,
+  suc,
+  ◌+◌,
+  ◌<◌,
+  ◌≤◌,
+  min,
+  Bool,
+  true,
+  false,
+  cond,
+  ◌||◌,
+  List,
+  [],
+  ◌∷◌,
+  ◌++◌,
+  refl,
+  ap,
+  sym,
+  ◌∙◌,
+  subst,
+  arith,
+}
 use Rattle.std.specs.Prelude.{Some, nat_le, nat_lt, nat_eq}
 use Rattle.std.proofs.lemmas.Bool.{le-leb, leb-true, eqb-true, eqb-false, eq-eqb, ltb-true, ltb-false}
 use Rattle.std.proofs.Math.Nat.{min-le_left, min-le_right, le-min}
@@ -9,17 +33,54 @@ use Rattle.bl_tree.specs.declared.token.TokenKind.{TokenKind}
 use Rattle.bl_tree.specs.declared.token.TokenKind.TheVariants.{Name, Number, Word, Sign}
 use Rattle.bl_grammar.specs.declared.symbol.Symbol.TheVariants.{Terminal}
 use Rattle.bl_lex.specs.declared.word.TheConstants.{OR, AND}
-use Rattle.bl_lex.specs.declared.sign.TheConstants.{EQUAL, NOT_EQUAL, LESS, LESS_OR_EQUAL, GREATER, GREATER_OR_EQUAL, BAR, CARET, AMPERSAND, SHIFT_LEFT, SHIFT_RIGHT, PLUS, MINUS, STAR, SLASH, PERCENT}
+use Rattle.bl_lex.specs.declared.sign.TheConstants.{
+  EQUAL,
+  NOT_EQUAL,
+  LESS,
+  LESS_OR_EQUAL,
+  GREATER,
+  GREATER_OR_EQUAL,
+  BAR,
+  CARET,
+  AMPERSAND,
+  SHIFT_LEFT,
+  SHIFT_RIGHT,
+  PLUS,
+  MINUS,
+  STAR,
+  SLASH,
+  PERCENT,
+}
 use Rattle.bl_syntax.specs.declared.grammar.Class.{Class}
 use Rattle.bl_syntax.specs.declared.grammar.Class.TheVariants.{Keyword, Mark}
 use Rattle.bl_syntax.specs.declared.grammar.Part.{Part}
-use Rattle.bl_syntax.specs.declared.grammar.Part.TheVariants.{Expr, And, Comparison, BitOr, BitXor, BitAnd, Shift, Sum, Product, Cast, ExprRest, AndRest, ComparisonRest, BitOrRest, BitXorRest, BitAndRest, ShiftRest, SumRest, ProductRest}
+use Rattle.bl_syntax.specs.declared.grammar.Part.TheVariants.{
+  Expr,
+  And,
+  Comparison,
+  BitOr,
+  BitXor,
+  BitAnd,
+  Shift,
+  Sum,
+  Product,
+  Cast,
+  ExprRest,
+  AndRest,
+  ComparisonRest,
+  BitOrRest,
+  BitXorRest,
+  BitAndRest,
+  ShiftRest,
+  SumRest,
+  ProductRest,
+}
 use Rattle.bl_syntax.specs.Grammar.{Piece, the, class_of, same_class, productions}
 use Rattle.bl_syntax.specs.Tables.{has, has_empty, starts_within}
 use Rattle.bl_syntax.proofs.Right.{same_is}
 use Rattle.bl_parse.specs.At.{kind_at}
 use Rattle.bl_parse.specs.Operators.{IsOperator, SpellsInfix, NoInfix, left_level, operator_classes}
-use Rattle.bl_parse.specs.Reading.{next_among, operand, NoneNext, Turns}
+use Rattle.bl_parse.specs.inner.Reading.{next_among, operand, NoneNext, Turns}
 use Rattle.bl_parse.proofs.ReadLemmas.{class_word, class_sign, then, stay, opened, opened_one, omit}
 use Rattle.bl_parse.proofs.PartLemmas.{kind_among}
 
@@ -64,7 +125,8 @@ room (suc b) (suc zero) h = (omega arith, omega arith)
 room (suc zero) (suc (suc m)) h = absurd (omega (arith, h))
 room (suc (suc zero)) (suc (suc m)) h = absurd (omega (arith, h))
 room (suc (suc (suc b))) (suc (suc zero)) h = (omega arith, omega arith)
-room (suc (suc (suc b))) (suc (suc (suc m))) h = let a = min-le_left 9 (b + 4) in let c = min-le_right 9 (b + 4) in let p = plain m in (omega (arith, h, c, p), omega (arith, h, a))
+room (suc (suc (suc b))) (suc (suc (suc m))) h = let a = min-le_left 9 (b + 4) in let c = min-le_right 9 (b + 4) in let p =
+    plain m in (omega (arith, h, c, p), omega (arith, h, a))
 
 fits : (b own : ℕ) → left_level own ≤ b → own ≤ 8 → own < below b
 fits zero zero l e = omega arith
@@ -82,7 +144,8 @@ fits (suc (suc zero)) (suc (suc (suc n))) l e = let p = plain n in absurd (omega
 fits (suc (suc (suc b))) zero l e = let h : 1 ≤ min 9 (b + 4) = le-min (omega arith) (omega arith) in omega (arith, h)
 fits (suc (suc (suc b))) (suc zero) l e = let h : 2 ≤ min 9 (b + 4) = le-min (omega arith) (omega arith) in omega (arith, h)
 fits (suc (suc (suc b))) (suc (suc zero)) l e = let h : 3 ≤ min 9 (b + 4) = le-min (omega arith) (omega arith) in omega (arith, h)
-fits (suc (suc (suc b))) (suc (suc (suc n))) l e = let p = plain n in let h : n + 4 ≤ min 9 (b + 4) = le-min (omega (arith, e)) (omega (arith, l, p)) in omega (arith, h)
+fits (suc (suc (suc b))) (suc (suc (suc n))) l e = let p = plain n in let h : n + 4 ≤ min 9 (b + 4) =
+    le-min (omega (arith, e)) (omega (arith, l, p)) in omega (arith, h)
 
 -- ---- which operators go on with a level
 
@@ -90,7 +153,12 @@ level_of : TokenKind → ℕ
 level_of Name = 99
 level_of (Number n) = 99
 level_of (Word w) = cond (nat_eq w OR) 0 (cond (nat_eq w AND) 1 99)
-level_of (Sign s) = (cond (nat_eq s EQUAL) 2 (cond (nat_eq s NOT_EQUAL) 2 (cond (nat_eq s LESS) 2 (cond (nat_eq s LESS_OR_EQUAL) 2 (cond (nat_eq s GREATER) 2 (cond (nat_eq s GREATER_OR_EQUAL) 2 (cond (nat_eq s BAR) 3 (cond (nat_eq s CARET) 4 (cond (nat_eq s AMPERSAND) 5 (cond (nat_eq s SHIFT_LEFT) 6 (cond (nat_eq s SHIFT_RIGHT) 6 (cond (nat_eq s PLUS) 7 (cond (nat_eq s MINUS) 7 (cond (nat_eq s STAR) 8 (cond (nat_eq s SLASH) 8 (cond (nat_eq s PERCENT) 8 99))))))))))))))))
+level_of (Sign s) = (cond (nat_eq s EQUAL) 2 (cond (nat_eq s NOT_EQUAL) 2
+    (cond (nat_eq s LESS) 2 (cond (nat_eq s LESS_OR_EQUAL) 2
+    (cond (nat_eq s GREATER) 2 (cond (nat_eq s GREATER_OR_EQUAL) 2
+    (cond (nat_eq s BAR) 3 (cond (nat_eq s CARET) 4 (cond (nat_eq s AMPERSAND) 5
+    (cond (nat_eq s SHIFT_LEFT) 6 (cond (nat_eq s SHIFT_RIGHT) 6
+    (cond (nat_eq s PLUS) 7 (cond (nat_eq s MINUS) 7 (cond (nat_eq s STAR) 8 (cond (nat_eq s SLASH) 8 (cond (nat_eq s PERCENT) 8 99))))))))))))))))
 
 same_level : {kind : TokenKind} {own : ℕ} {op : Op} → IsOperator kind own op → level_of kind ≡ own
 unfolding level_of
@@ -131,15 +199,57 @@ abbrev pub Found : ℕ → TokenKind → Type 0
 Found m kind = (op : Op) × IsOperator kind m op
 
 operator_of : (m : ℕ) (kind : TokenKind) → m ≤ 8 → has (starts_within 20 (rest_of m)) (class_of kind) ≡ true → Found m kind
-operator_of zero kind le on = one_of (Keyword OR) ([]) (λ e. (Op.Or, subst (λ kind. IsOperator kind 0 Op.Or) (sym (class_word kind OR e)) IsOperator.either)) of_none on
-operator_of (suc zero) kind le on = one_of (Keyword AND) ([]) (λ e. (Op.And, subst (λ kind. IsOperator kind 1 Op.And) (sym (class_word kind AND e)) IsOperator.both)) of_none on
-operator_of (suc (suc zero)) kind le on = one_of (Mark EQUAL) ((Mark NOT_EQUAL) ∷ (Mark LESS) ∷ (Mark LESS_OR_EQUAL) ∷ (Mark GREATER) ∷ (Mark GREATER_OR_EQUAL) ∷ []) (λ e. (Op.Eq, subst (λ kind. IsOperator kind 2 Op.Eq) (sym (class_sign kind EQUAL e)) IsOperator.equal)) (one_of (Mark NOT_EQUAL) ((Mark LESS) ∷ (Mark LESS_OR_EQUAL) ∷ (Mark GREATER) ∷ (Mark GREATER_OR_EQUAL) ∷ []) (λ e. (Op.Ne, subst (λ kind. IsOperator kind 2 Op.Ne) (sym (class_sign kind NOT_EQUAL e)) IsOperator.differs)) (one_of (Mark LESS) ((Mark LESS_OR_EQUAL) ∷ (Mark GREATER) ∷ (Mark GREATER_OR_EQUAL) ∷ []) (λ e. (Op.Lt, subst (λ kind. IsOperator kind 2 Op.Lt) (sym (class_sign kind LESS e)) IsOperator.less)) (one_of (Mark LESS_OR_EQUAL) ((Mark GREATER) ∷ (Mark GREATER_OR_EQUAL) ∷ []) (λ e. (Op.Le, subst (λ kind. IsOperator kind 2 Op.Le) (sym (class_sign kind LESS_OR_EQUAL e)) IsOperator.at_most)) (one_of (Mark GREATER) ((Mark GREATER_OR_EQUAL) ∷ []) (λ e. (Op.Gt, subst (λ kind. IsOperator kind 2 Op.Gt) (sym (class_sign kind GREATER e)) IsOperator.greater)) (one_of (Mark GREATER_OR_EQUAL) ([]) (λ e. (Op.Ge, subst (λ kind. IsOperator kind 2 Op.Ge) (sym (class_sign kind GREATER_OR_EQUAL e)) IsOperator.at_least)) of_none))))) on
-operator_of (suc (suc (suc zero))) kind le on = one_of (Mark BAR) ([]) (λ e. (Op.BitOr, subst (λ kind. IsOperator kind 3 Op.BitOr) (sym (class_sign kind BAR e)) IsOperator.bits_or)) of_none on
-operator_of (suc (suc (suc (suc zero)))) kind le on = one_of (Mark CARET) ([]) (λ e. (Op.BitXor, subst (λ kind. IsOperator kind 4 Op.BitXor) (sym (class_sign kind CARET e)) IsOperator.bits_xor)) of_none on
-operator_of (suc (suc (suc (suc (suc zero))))) kind le on = one_of (Mark AMPERSAND) ([]) (λ e. (Op.BitAnd, subst (λ kind. IsOperator kind 5 Op.BitAnd) (sym (class_sign kind AMPERSAND e)) IsOperator.bits_and)) of_none on
-operator_of (suc (suc (suc (suc (suc (suc zero)))))) kind le on = one_of (Mark SHIFT_LEFT) ((Mark SHIFT_RIGHT) ∷ []) (λ e. (Op.Shl, subst (λ kind. IsOperator kind 6 Op.Shl) (sym (class_sign kind SHIFT_LEFT e)) IsOperator.shift_left)) (one_of (Mark SHIFT_RIGHT) ([]) (λ e. (Op.Shr, subst (λ kind. IsOperator kind 6 Op.Shr) (sym (class_sign kind SHIFT_RIGHT e)) IsOperator.shift_right)) of_none) on
-operator_of (suc (suc (suc (suc (suc (suc (suc zero))))))) kind le on = one_of (Mark PLUS) ((Mark MINUS) ∷ []) (λ e. (Op.Add, subst (λ kind. IsOperator kind 7 Op.Add) (sym (class_sign kind PLUS e)) IsOperator.plus)) (one_of (Mark MINUS) ([]) (λ e. (Op.Sub, subst (λ kind. IsOperator kind 7 Op.Sub) (sym (class_sign kind MINUS e)) IsOperator.minus)) of_none) on
-operator_of (suc (suc (suc (suc (suc (suc (suc (suc zero)))))))) kind le on = one_of (Mark STAR) ((Mark SLASH) ∷ (Mark PERCENT) ∷ []) (λ e. (Op.Mul, subst (λ kind. IsOperator kind 8 Op.Mul) (sym (class_sign kind STAR e)) IsOperator.times)) (one_of (Mark SLASH) ((Mark PERCENT) ∷ []) (λ e. (Op.Div, subst (λ kind. IsOperator kind 8 Op.Div) (sym (class_sign kind SLASH e)) IsOperator.divided)) (one_of (Mark PERCENT) ([]) (λ e. (Op.Rem, subst (λ kind. IsOperator kind 8 Op.Rem) (sym (class_sign kind PERCENT e)) IsOperator.remainder)) of_none)) on
+operator_of zero kind le on = one_of (Keyword OR) ([])
+    (λ e. (Op.Or, subst (λ kind. IsOperator kind 0 Op.Or) (sym (class_word kind OR e)) IsOperator.either)) of_none on
+operator_of (suc zero) kind le on = one_of (Keyword AND) ([])
+    (λ e. (Op.And, subst (λ kind. IsOperator kind 1 Op.And) (sym (class_word kind AND e)) IsOperator.both)) of_none on
+operator_of (suc (suc zero)) kind le on = one_of (Mark EQUAL)
+    ((Mark NOT_EQUAL) ∷ (Mark LESS) ∷ (Mark LESS_OR_EQUAL) ∷ (Mark GREATER) ∷ (Mark GREATER_OR_EQUAL) ∷ [])
+    (λ e. (Op.Eq, subst (λ kind. IsOperator kind 2 Op.Eq) (sym (class_sign kind EQUAL e)) IsOperator.equal))
+    (one_of (Mark NOT_EQUAL) ((Mark LESS) ∷ (Mark LESS_OR_EQUAL) ∷ (Mark GREATER) ∷ (Mark GREATER_OR_EQUAL) ∷ [])
+    (λ e. (Op.Ne, subst (λ kind. IsOperator kind 2 Op.Ne) (sym (class_sign kind NOT_EQUAL e)) IsOperator.differs))
+    (one_of (Mark LESS) ((Mark LESS_OR_EQUAL) ∷ (Mark GREATER) ∷ (Mark GREATER_OR_EQUAL) ∷ [])
+    (λ e. (Op.Lt, subst (λ kind. IsOperator kind 2 Op.Lt) (sym (class_sign kind LESS e)) IsOperator.less))
+    (one_of (Mark LESS_OR_EQUAL) ((Mark GREATER) ∷ (Mark GREATER_OR_EQUAL) ∷ [])
+    (λ e. (Op.Le, subst (λ kind. IsOperator kind 2 Op.Le) (sym (class_sign kind LESS_OR_EQUAL e)) IsOperator.at_most))
+    (one_of (Mark GREATER) ((Mark GREATER_OR_EQUAL) ∷ [])
+    (λ e. (Op.Gt, subst (λ kind. IsOperator kind 2 Op.Gt) (sym (class_sign kind GREATER e)) IsOperator.greater))
+    (one_of (Mark GREATER_OR_EQUAL) ([]) (λ e. (
+      Op.Ge,
+      subst (λ kind. IsOperator kind 2 Op.Ge) (sym (class_sign kind GREATER_OR_EQUAL e)) IsOperator.at_least,
+    )) of_none))))) on
+operator_of (suc (suc (suc zero))) kind le on = one_of (Mark BAR) ([])
+    (λ e. (Op.BitOr, subst (λ kind. IsOperator kind 3 Op.BitOr) (sym (class_sign kind BAR e)) IsOperator.bits_or)) of_none on
+operator_of (suc (suc (suc (suc zero)))) kind le on =
+    one_of (Mark CARET) ([]) (λ e. (Op.BitXor, subst (λ kind. IsOperator kind 4 Op.BitXor) (sym (class_sign kind CARET e)) IsOperator.bits_xor)) of_none on
+operator_of (suc (suc (suc (suc (suc zero))))) kind le on =
+    one_of (Mark AMPERSAND) ([]) (λ e. (
+      Op.BitAnd,
+      subst (λ kind. IsOperator kind 5 Op.BitAnd)
+          (sym (class_sign kind AMPERSAND e)) IsOperator.bits_and,
+    )) of_none on
+operator_of (suc (suc (suc (suc (suc (suc zero)))))) kind le on =
+    one_of (Mark SHIFT_LEFT) ((Mark SHIFT_RIGHT) ∷ [])
+    (λ e. (Op.Shl, subst (λ kind. IsOperator kind 6 Op.Shl) (sym (class_sign kind SHIFT_LEFT e)) IsOperator.shift_left))
+    (one_of (Mark SHIFT_RIGHT) ([]) (λ e. (
+      Op.Shr,
+      subst (λ kind. IsOperator kind 6 Op.Shr)
+          (sym (class_sign kind SHIFT_RIGHT e)) IsOperator.shift_right,
+    )) of_none) on
+operator_of (suc (suc (suc (suc (suc (suc (suc zero))))))) kind le on =
+    one_of (Mark PLUS) ((Mark MINUS) ∷ []) (λ e. (
+      Op.Add,
+      subst (λ kind. IsOperator kind 7 Op.Add) (sym (class_sign kind PLUS e)) IsOperator.plus,
+    ))
+    (one_of (Mark MINUS) ([]) (λ e. (Op.Sub, subst (λ kind. IsOperator kind 7 Op.Sub) (sym (class_sign kind MINUS e)) IsOperator.minus)) of_none) on
+operator_of (suc (suc (suc (suc (suc (suc (suc (suc zero)))))))) kind le on =
+    one_of (Mark STAR) ((Mark SLASH) ∷ (Mark PERCENT) ∷ [])
+    (λ e. (Op.Mul, subst (λ kind. IsOperator kind 8 Op.Mul) (sym (class_sign kind STAR e)) IsOperator.times))
+    (one_of (Mark SLASH) ((Mark PERCENT) ∷ []) (λ e. (
+      Op.Div,
+      subst (λ kind. IsOperator kind 8 Op.Div) (sym (class_sign kind SLASH e)) IsOperator.divided,
+    ))
+    (one_of (Mark PERCENT) ([]) (λ e. (Op.Rem, subst (λ kind. IsOperator kind 8 Op.Rem) (sym (class_sign kind PERCENT e)) IsOperator.remainder)) of_none)) on
 operator_of (suc (suc (suc (suc (suc (suc (suc (suc (suc n))))))))) kind le on = absurd (omega (arith, le))
 
 rests_empty : (m : ℕ) → has_empty (productions (rest_of m)) ≡ true
@@ -203,7 +313,8 @@ module _ {tokens : List Token} {k : ℕ} where
   operands (suc (suc (suc (suc (suc (suc (suc (suc (suc (suc n)))))))))) le = absurd (omega (arith, le))
 
   -- no operator of the level stands next
-  lacks : (m : ℕ) → m ≤ 8 → ((kind : TokenKind) (op : Op) → kind_at tokens k ≡ Some kind → IsOperator kind m op → ⊥) → NoneNext (starts_within 20 (rest_of m)) tokens k
+  lacks : (m : ℕ) → m ≤ 8 → ((kind : TokenKind) (op : Op) → kind_at tokens k ≡ Some kind → IsOperator kind m op → ⊥) →
+      NoneNext (starts_within 20 (rest_of m)) tokens k
   lacks m le none = record {
     off = not_true _ (λ on. let h = kind_among (starts_within 20 (rest_of m)) (kind_at tokens k) on in
         let f = operator_of m h.0 le h.2 in none h.0 f.0 h.1 f.1);
@@ -211,38 +322,69 @@ module _ {tokens : List Token} {k : ℕ} where
 
   steps : (level own : ℕ) {kind : TokenKind} {op : Op} → kind_at tokens k ≡ Some kind → IsOperator kind own op → level ≤ own
       → Turns (the (rest_of own) ∷ tails own level) tokens k (Terminal (class_of kind) ∷ the (operand (own + 1)) ∷ tails (below own) level) k
-  steps level own is IsOperator.either le = subst (λ t. Turns (the ExprRest ∷ tails 0 level) tokens k (Terminal (Keyword OR) ∷ the And ∷ t) k) (sym (tails_step 0 level le)) (opened (Terminal (Keyword OR) ∷ the And ∷ the ExprRest ∷ []) (λ v. refl) is refl)
-  steps level own is IsOperator.both le = subst (λ t. Turns (the AndRest ∷ tails 1 level) tokens k (Terminal (Keyword AND) ∷ the Comparison ∷ t) k) (sym (tails_step 1 level le)) (opened (Terminal (Keyword AND) ∷ the Comparison ∷ the AndRest ∷ []) (λ v. refl) is refl)
+  steps level own is IsOperator.either le = subst (λ t. Turns (the ExprRest ∷ tails 0 level) tokens k
+      (Terminal (Keyword OR) ∷ the And ∷ t) k) (sym (tails_step 0 level le))
+      (opened (Terminal (Keyword OR) ∷ the And ∷ the ExprRest ∷ []) (λ v. refl) is refl)
+  steps level own is IsOperator.both le = subst (λ t. Turns (the AndRest ∷ tails 1 level) tokens k
+      (Terminal (Keyword AND) ∷ the Comparison ∷ t) k) (sym (tails_step 1 level le))
+      (opened (Terminal (Keyword AND) ∷ the Comparison ∷ the AndRest ∷ []) (λ v. refl) is refl)
   steps level own is IsOperator.equal le = opened (Terminal (Mark EQUAL) ∷ the BitOr ∷ []) (λ v. refl) is refl
   steps level own is IsOperator.differs le = opened (Terminal (Mark NOT_EQUAL) ∷ the BitOr ∷ []) (λ v. refl) is refl
   steps level own is IsOperator.less le = opened (Terminal (Mark LESS) ∷ the BitOr ∷ []) (λ v. refl) is refl
   steps level own is IsOperator.at_most le = opened (Terminal (Mark LESS_OR_EQUAL) ∷ the BitOr ∷ []) (λ v. refl) is refl
   steps level own is IsOperator.greater le = opened (Terminal (Mark GREATER) ∷ the BitOr ∷ []) (λ v. refl) is refl
   steps level own is IsOperator.at_least le = opened (Terminal (Mark GREATER_OR_EQUAL) ∷ the BitOr ∷ []) (λ v. refl) is refl
-  steps level own is IsOperator.bits_or le = subst (λ t. Turns (the BitOrRest ∷ tails 3 level) tokens k (Terminal (Mark BAR) ∷ the BitXor ∷ t) k) (sym (tails_step 3 level le)) (opened (Terminal (Mark BAR) ∷ the BitXor ∷ the BitOrRest ∷ []) (λ v. refl) is refl)
-  steps level own is IsOperator.bits_xor le = subst (λ t. Turns (the BitXorRest ∷ tails 4 level) tokens k (Terminal (Mark CARET) ∷ the BitAnd ∷ t) k) (sym (tails_step 4 level le)) (opened (Terminal (Mark CARET) ∷ the BitAnd ∷ the BitXorRest ∷ []) (λ v. refl) is refl)
-  steps level own is IsOperator.bits_and le = subst (λ t. Turns (the BitAndRest ∷ tails 5 level) tokens k (Terminal (Mark AMPERSAND) ∷ the Shift ∷ t) k) (sym (tails_step 5 level le)) (opened (Terminal (Mark AMPERSAND) ∷ the Shift ∷ the BitAndRest ∷ []) (λ v. refl) is refl)
-  steps level own is IsOperator.shift_left le = subst (λ t. Turns (the ShiftRest ∷ tails 6 level) tokens k (Terminal (Mark SHIFT_LEFT) ∷ the Sum ∷ t) k) (sym (tails_step 6 level le)) (opened (Terminal (Mark SHIFT_LEFT) ∷ the Sum ∷ the ShiftRest ∷ []) (λ v. refl) is refl)
-  steps level own is IsOperator.shift_right le = subst (λ t. Turns (the ShiftRest ∷ tails 6 level) tokens k (Terminal (Mark SHIFT_RIGHT) ∷ the Sum ∷ t) k) (sym (tails_step 6 level le)) (opened (Terminal (Mark SHIFT_RIGHT) ∷ the Sum ∷ the ShiftRest ∷ []) (λ v. refl) is refl)
-  steps level own is IsOperator.plus le = subst (λ t. Turns (the SumRest ∷ tails 7 level) tokens k (Terminal (Mark PLUS) ∷ the Product ∷ t) k) (sym (tails_step 7 level le)) (opened (Terminal (Mark PLUS) ∷ the Product ∷ the SumRest ∷ []) (λ v. refl) is refl)
-  steps level own is IsOperator.minus le = subst (λ t. Turns (the SumRest ∷ tails 7 level) tokens k (Terminal (Mark MINUS) ∷ the Product ∷ t) k) (sym (tails_step 7 level le)) (opened (Terminal (Mark MINUS) ∷ the Product ∷ the SumRest ∷ []) (λ v. refl) is refl)
-  steps level own is IsOperator.times le = subst (λ t. Turns (the ProductRest ∷ tails 8 level) tokens k (Terminal (Mark STAR) ∷ the Cast ∷ t) k) (sym (tails_step 8 level le)) (opened (Terminal (Mark STAR) ∷ the Cast ∷ the ProductRest ∷ []) (λ v. refl) is refl)
-  steps level own is IsOperator.divided le = subst (λ t. Turns (the ProductRest ∷ tails 8 level) tokens k (Terminal (Mark SLASH) ∷ the Cast ∷ t) k) (sym (tails_step 8 level le)) (opened (Terminal (Mark SLASH) ∷ the Cast ∷ the ProductRest ∷ []) (λ v. refl) is refl)
-  steps level own is IsOperator.remainder le = subst (λ t. Turns (the ProductRest ∷ tails 8 level) tokens k (Terminal (Mark PERCENT) ∷ the Cast ∷ t) k) (sym (tails_step 8 level le)) (opened (Terminal (Mark PERCENT) ∷ the Cast ∷ the ProductRest ∷ []) (λ v. refl) is refl)
+  steps level own is IsOperator.bits_or le = subst (λ t. Turns (the BitOrRest ∷ tails 3 level) tokens k
+      (Terminal (Mark BAR) ∷ the BitXor ∷ t) k) (sym (tails_step 3 level le))
+      (opened (Terminal (Mark BAR) ∷ the BitXor ∷ the BitOrRest ∷ []) (λ v. refl) is refl)
+  steps level own is IsOperator.bits_xor le = subst (λ t. Turns (the BitXorRest ∷ tails 4 level) tokens k
+      (Terminal (Mark CARET) ∷ the BitAnd ∷ t) k) (sym (tails_step 4 level le))
+      (opened (Terminal (Mark CARET) ∷ the BitAnd ∷ the BitXorRest ∷ []) (λ v. refl) is refl)
+  steps level own is IsOperator.bits_and le = subst (λ t. Turns (the BitAndRest ∷ tails 5 level) tokens k
+      (Terminal (Mark AMPERSAND) ∷ the Shift ∷ t) k) (sym (tails_step 5 level le))
+      (opened (Terminal (Mark AMPERSAND) ∷ the Shift ∷ the BitAndRest ∷ []) (λ v. refl) is refl)
+  steps level own is IsOperator.shift_left le = subst (λ t. Turns (the ShiftRest ∷ tails 6 level) tokens k
+      (Terminal (Mark SHIFT_LEFT) ∷ the Sum ∷ t) k) (sym (tails_step 6 level le))
+      (opened (Terminal (Mark SHIFT_LEFT) ∷ the Sum ∷ the ShiftRest ∷ []) (λ v. refl) is refl)
+  steps level own is IsOperator.shift_right le = subst (λ t. Turns (the ShiftRest ∷ tails 6 level) tokens k
+      (Terminal (Mark SHIFT_RIGHT) ∷ the Sum ∷ t) k) (sym (tails_step 6 level le))
+      (opened (Terminal (Mark SHIFT_RIGHT) ∷ the Sum ∷ the ShiftRest ∷ []) (λ v. refl) is refl)
+  steps level own is IsOperator.plus le = subst (λ t. Turns (the SumRest ∷ tails 7 level) tokens k
+      (Terminal (Mark PLUS) ∷ the Product ∷ t) k) (sym (tails_step 7 level le))
+      (opened (Terminal (Mark PLUS) ∷ the Product ∷ the SumRest ∷ []) (λ v. refl) is refl)
+  steps level own is IsOperator.minus le = subst (λ t. Turns (the SumRest ∷ tails 7 level) tokens k
+      (Terminal (Mark MINUS) ∷ the Product ∷ t) k) (sym (tails_step 7 level le))
+      (opened (Terminal (Mark MINUS) ∷ the Product ∷ the SumRest ∷ []) (λ v. refl) is refl)
+  steps level own is IsOperator.times le = subst (λ t. Turns (the ProductRest ∷ tails 8 level) tokens k
+      (Terminal (Mark STAR) ∷ the Cast ∷ t) k) (sym (tails_step 8 level le))
+      (opened (Terminal (Mark STAR) ∷ the Cast ∷ the ProductRest ∷ []) (λ v. refl) is refl)
+  steps level own is IsOperator.divided le = subst (λ t. Turns (the ProductRest ∷ tails 8 level) tokens k
+      (Terminal (Mark SLASH) ∷ the Cast ∷ t) k) (sym (tails_step 8 level le))
+      (opened (Terminal (Mark SLASH) ∷ the Cast ∷ the ProductRest ∷ []) (λ v. refl) is refl)
+  steps level own is IsOperator.remainder le = subst (λ t. Turns (the ProductRest ∷ tails 8 level) tokens k
+      (Terminal (Mark PERCENT) ∷ the Cast ∷ t) k) (sym (tails_step 8 level le))
+      (opened (Terminal (Mark PERCENT) ∷ the Cast ∷ the ProductRest ∷ []) (λ v. refl) is refl)
 
-  down : (level own n : ℕ) {kind : TokenKind} {op : Op} → kind_at tokens k ≡ Some kind → IsOperator kind own op → level ≤ own → own < n → n ≤ 9
+  down : (level own n : ℕ) {kind : TokenKind} {op : Op} → kind_at tokens k ≡ Some kind → IsOperator kind own op → level ≤ own →
+      own < n → n ≤ 9
       → Turns (tails n level) tokens k (Terminal (class_of kind) ∷ the (operand (own + 1)) ∷ tails (below own) level) k
   down level own zero is op le inside high = absurd (omega (arith, inside))
-  down level own (suc m) {kind} {op = o} is op le inside high = subst (λ t. Turns t tokens k (Terminal (class_of kind) ∷ the (operand (own + 1)) ∷ tails (below own) level) k) (sym (tails_step m level (omega (arith, le, inside))))
+  down level own (suc m) {kind} {op = o} is op le inside high =
+      subst (λ t. Turns t tokens k (Terminal (class_of kind) ∷ the (operand (own + 1)) ∷ tails (below own) level) k)
+      (sym (tails_step m level (omega (arith, le, inside))))
       (by_level (nat_eq own m) refl (λ less. down level own m is op le less (omega (arith, high))))
     where
-      by_level : (b : Bool) → nat_eq own m ≡ b → (own < m → Turns (tails m level) tokens k (Terminal (class_of kind) ∷ the (operand (own + 1)) ∷ tails (below own) level) k) → Turns (the (rest_of m) ∷ tails m level) tokens k (Terminal (class_of kind) ∷ the (operand (own + 1)) ∷ tails (below own) level) k
-      by_level true e deeper = subst (λ n. Turns (the (rest_of n) ∷ tails n level) tokens k (Terminal (class_of kind) ∷ the (operand (own + 1)) ∷ tails (below own) level) k) (eqb-true own m e) (steps level own is op le)
+      by_level : (b : Bool) → nat_eq own m ≡ b → (own < m →
+          Turns (tails m level) tokens k (Terminal (class_of kind) ∷ the (operand (own + 1)) ∷ tails (below own) level) k) →
+          Turns (the (rest_of m) ∷ tails m level) tokens k (Terminal (class_of kind) ∷ the (operand (own + 1)) ∷ tails (below own) level) k
+      by_level true e deeper = subst (λ n. Turns (the (rest_of n) ∷ tails n level) tokens k
+          (Terminal (class_of kind) ∷ the (operand (own + 1)) ∷ tails (below own) level) k) (eqb-true own m e) (steps level own is op le)
       by_level false e deeper = then (omit (rests_empty m) (lacks m (omega (arith, high)) (λ other p at found. differs m other p at found e)))
           (deeper (smaller own m inside e))
         where
           differs : (m : ℕ) (other : TokenKind) (p : Op) → kind_at tokens k ≡ Some other → IsOperator other m p → nat_eq own m ≡ false → ⊥
-          differs m other p at found e = no_truth (sym (ap (nat_eq own) (same (sym is ∙ at) (same_level op) (same_level found)) ∙ eq-eqb own own refl) ∙ e)
+          differs m other p at found e = no_truth (sym (ap (nat_eq own) (same (sym is ∙ at) (same_level op) (same_level found))
+              ∙ eq-eqb own own refl) ∙ e)
             where
               same : Some kind ≡ Some other → level_of kind ≡ own → level_of other ≡ m → m ≡ own
               same s a b = cc
@@ -272,9 +414,12 @@ module _ {tokens : List Token} {k : ℕ} where
   ends level bound zero le none = stay
   ends level bound (suc m) le none = by_level (nat_le level m) refl (ends level bound m (omega (arith, le)) none)
     where
-      by_level : (b : Bool) → nat_le level m ≡ b → Turns (tails m level) tokens k [] k → Turns (cond b (the (rest_of m) ∷ tails m level) []) tokens k [] k
+      by_level : (b : Bool) → nat_le level m ≡ b → Turns (tails m level) tokens k [] k →
+          Turns (cond b (the (rest_of m) ∷ tails m level) []) tokens k [] k
       by_level false e deeper = stay
-      by_level true e deeper = let r = room bound m (omega (arith, le)) in then (omit (rests_empty m) (lacks m r.1 (λ kind op at is. none m op (record { kind = kind; token = record { stands = at; next = refl }; is = is }) (leb-true level m e) r.0)))
+      by_level true e deeper = let r = room bound m (omega (arith, le)) in
+          then (omit (rests_empty m) (lacks m r.1 (λ kind op at is. none m op
+          (record { kind = kind; token = record { stands = at; next = refl }; is = is }) (leb-true level m e) r.0)))
           deeper
 
   -- no operator goes on
@@ -282,7 +427,8 @@ module _ {tokens : List Token} {k : ℕ} where
   no_operator {level} {bound} none = ends level bound (below bound) (omega arith) none
 
 -- at a position there is one operator
-pub infix_one : {tokens : List Token} {own other k to end : ℕ} {op p : Op} → SpellsInfix tokens own op k to → SpellsInfix tokens other p k end → own ≡ other
+pub infix_one : {tokens : List Token} {own other k to end : ℕ} {op p : Op} → SpellsInfix tokens own op k to →
+    SpellsInfix tokens other p k end → own ≡ other
 infix_one a b = same_kind (sym a.token.stands ∙ b.token.stands) (same_level a.is) (same_level b.is)
   where
     same_kind : {kind more : TokenKind} {m n : ℕ} → Some kind ≡ Some more → level_of kind ≡ m → level_of more ≡ n → m ≡ n
@@ -309,7 +455,8 @@ is_counted IsOperator.divided = refl
 is_counted IsOperator.remainder = refl
 
 pub no_infix : (tokens : List Token) (k level bound : ℕ) → next_among operator_classes (kind_at tokens k) ≡ false → NoInfix tokens level bound k
-no_infix tokens k level bound off = λ own op is le fit. no_truth (sym (is_counted is.is) ∙ subst (λ o. next_among operator_classes o ≡ false) is.token.stands off)
+no_infix tokens k level bound off = λ own op is le fit. no_truth
+    (sym (is_counted is.is) ∙ subst (λ o. next_among operator_classes o ≡ false) is.token.stands off)
   where
     no_truth : true ≡ false → ⊥
     no_truth e = cc

@@ -1,5 +1,27 @@
 -- Which production of a part is left, where others are ruled out.
-use Rattle.std.proofs.Common.{◌≡◌, ℕ, Bool, true, false, cond, ◌||◌, ◌&&◌, ◌≤◌, ◌⊎◌, inl, inr, ⊎_elim, List, [], ◌∷◌, refl, ap, sym, ◌∙◌, subst}
+use Rattle.std.proofs.Common.{
+  ◌≡◌,
+  ℕ,
+  Bool,
+  true,
+  false,
+  cond,
+  ◌||◌,
+  ◌&&◌,
+  ◌≤◌,
+  ◌⊎◌,
+  inl,
+  inr,
+  ⊎_elim,
+  List,
+  [],
+  ◌∷◌,
+  refl,
+  ap,
+  sym,
+  ◌∙◌,
+  subst,
+}
 use Rattle.std.specs.Prelude.{Option, Some, None, IsNone, nat_eq, nat_le}
 use Rattle.bl_tree.specs.declared.scalar.Scalar.{Scalar as ScalarType}
 use Rattle.bl_tree.specs.declared.token.Token.{Token}
@@ -11,7 +33,28 @@ use Rattle.bl_lex.specs.declared.sign.TheConstants.{OPEN_BRACKET, CLOSE_BRACKET,
 use Rattle.bl_syntax.specs.declared.grammar.Class.{Class}
 use Rattle.bl_syntax.specs.declared.grammar.Class.TheVariants.{AnyNumber, Keyword, Mark}
 use Rattle.bl_syntax.specs.declared.grammar.Part.{Part}
-use Rattle.bl_syntax.specs.declared.grammar.Part.TheVariants.{Item, Unit, PlainUnit, UnitTail, Scalar, Guard, RunTail, RunTarget, CallTail, PathRest, Unary, Primary, Access, AssignTail, VarTail, Expr, AfterName, Length, Block, Stmt}
+use Rattle.bl_syntax.specs.declared.grammar.Part.TheVariants.{
+  Item,
+  Unit,
+  PlainUnit,
+  UnitTail,
+  Scalar,
+  Guard,
+  RunTail,
+  RunTarget,
+  CallTail,
+  PathRest,
+  Unary,
+  Primary,
+  Access,
+  AssignTail,
+  VarTail,
+  Expr,
+  AfterName,
+  Length,
+  Block,
+  Stmt,
+}
 use Rattle.bl_syntax.specs.Grammar.{Piece, the, name, word, sign, class_of, same_class, productions}
 use Rattle.bl_syntax.specs.Follow.{statement_starts}
 use Rattle.bl_syntax.specs.declared.grammar.View.{View}
@@ -24,15 +67,17 @@ use Rattle.bl_parse.specs.Operators.{IsScalar, IsPrefix, SpellsPrefix, scalar_cl
 use Rattle.bl_parse.specs.Expressions.{is_number, IsTruth}
 use Rattle.bl_tree.specs.declared.scalar.Op.{Op}
 use Rattle.bl_parse.proofs.ExprLemmas.{minus_sign}
-use Rattle.bl_parse.specs.Reading.{next_among, NoneNext, accessing, IsPathTail, IsPlaceTail, Turns}
+use Rattle.bl_parse.specs.inner.Reading.{next_among, NoneNext, accessing, IsPathTail, IsPlaceTail, Turns}
 use Rattle.bl_parse.proofs.ReadLemmas.{picks, chosen_is, opened}
 
 -- what the next token isn't, of its kind
-pub off_at : {tokens : List Token} {k : ℕ} {classes : List Class} → NoneNext classes tokens k → (kind : TokenKind) → kind_at tokens k ≡ Some kind → has classes (class_of kind) ≡ false
+pub off_at : {tokens : List Token} {k : ℕ} {classes : List Class} → NoneNext classes tokens k → (kind : TokenKind) →
+    kind_at tokens k ≡ Some kind → has classes (class_of kind) ≡ false
 off_at {classes = classes} off kind is = subst (λ o. next_among classes o ≡ false) is off.off
 
 -- where a token of another class stands next
-pub next_other : {tokens : List Token} {k : ℕ} {classes : List Class} {kind : TokenKind} → kind_at tokens k ≡ Some kind → has classes (class_of kind) ≡ false → NoneNext classes tokens k
+pub next_other : {tokens : List Token} {k : ℕ} {classes : List Class} {kind : TokenKind} → kind_at tokens k ≡ Some kind →
+    has classes (class_of kind) ≡ false → NoneNext classes tokens k
 next_other {classes = classes} is off = record { off = subst (λ o. next_among classes o ≡ false) (sym is) off }
 
 abbrev pub Left : Part → Class → List Piece → Type 0
@@ -41,10 +86,12 @@ Left part c p = (on : Bool) × (picks part c ≡ or_absent false (cond on (Some 
 second : (a b : Bool) (p q : List Piece) → a ≡ false → or_absent false (cond a (Some p) (cond b (Some q) None)) ≡ or_absent false (cond b (Some q) None)
 second a b p q off = rw off refl
 
-third : (a b c : Bool) (p q r : List Piece) → a ≡ false → b ≡ false → or_absent false (cond a (Some p) (cond b (Some q) (cond c (Some r) None))) ≡ or_absent false (cond c (Some r) None)
+third : (a b c : Bool) (p q r : List Piece) → a ≡ false → b ≡ false →
+    or_absent false (cond a (Some p) (cond b (Some q) (cond c (Some r) None))) ≡ or_absent false (cond c (Some r) None)
 third a b c p q r ea eb = rw (ea, eb) refl
 
-fourth : (a b c d : Bool) (p q r s : List Piece) → a ≡ false → b ≡ false → c ≡ false → or_absent false (cond a (Some p) (cond b (Some q) (cond c (Some r) (cond d (Some s) None)))) ≡ or_absent false (cond d (Some s) None)
+fourth : (a b c d : Bool) (p q r s : List Piece) → a ≡ false → b ≡ false → c ≡ false →
+    or_absent false (cond a (Some p) (cond b (Some q) (cond c (Some r) (cond d (Some s) None)))) ≡ or_absent false (cond d (Some s) None)
 fourth a b c d p q r s ea eb ec = rw (ea, eb, ec) refl
 
 pub run_target : (c : Class) → has (Mark OPEN_PAREN ∷ []) c ≡ false → Left RunTail c (the RunTarget ∷ [])
@@ -71,7 +118,8 @@ var_value c off = (_, second _ _ _ _ off)
 pub access_index : (c : Class) → has (Mark DOT ∷ []) c ≡ false → Left Access c (sign OPEN_BRACKET ∷ the Expr ∷ sign CLOSE_BRACKET ∷ [])
 access_index c off = (_, second _ _ _ _ off)
 
-pub unary_primary : (c : Class) → has (Mark MINUS ∷ []) c ≡ false → has (Mark TILDE ∷ []) c ≡ false → has (Keyword NOT ∷ []) c ≡ false → Left Unary c (the Primary ∷ [])
+pub unary_primary : (c : Class) → has (Mark MINUS ∷ []) c ≡ false → has (Mark TILDE ∷ []) c ≡ false →
+    has (Keyword NOT ∷ []) c ≡ false → Left Unary c (the Primary ∷ [])
 unary_primary c a b d = (_, fourth _ _ _ _ _ _ _ _ a b d)
 
 pub scalar_never : (c : Class) → has scalar_classes c ≡ false → picks Scalar c ≡ None
@@ -123,10 +171,12 @@ off_word w k none = by_test (nat_eq w k) refl
     by_test true e = absurd (none (sym (eqb-true w k e)))
     by_test false e = refl
 
-middle : (a b c : Bool) (p q r : List Piece) → a ≡ false → c ≡ false → or_absent false (cond a (Some p) (cond b (Some q) (cond c (Some r) None))) ≡ or_absent false (cond b (Some q) None)
+middle : (a b c : Bool) (p q r : List Piece) → a ≡ false → c ≡ false →
+    or_absent false (cond a (Some p) (cond b (Some q) (cond c (Some r) None))) ≡ or_absent false (cond b (Some q) None)
 middle a b c p q r ea ec = rw (ea, ec) refl
 
-pub primary_false : (k : ℕ) → (k ≡ PREV → ⊥) → (k ≡ TRUE → ⊥) → picks Primary (Keyword k) ≡ or_absent false (cond (nat_eq FALSE k || false) (Some (word FALSE ∷ [])) None)
+pub primary_false : (k : ℕ) → (k ≡ PREV → ⊥) → (k ≡ TRUE → ⊥) →
+    picks Primary (Keyword k) ≡ or_absent false (cond (nat_eq FALSE k || false) (Some (word FALSE ∷ [])) None)
 primary_false k np nt = middle (nat_eq TRUE k || false) (nat_eq FALSE k || false) (nat_eq PREV k || false) _ _ _ (off_word TRUE k nt) (off_word PREV k np)
 
 pub none_is : {A : Type 0} {o : Option A} → o ≡ None → IsNone o
@@ -157,7 +207,8 @@ prefix_picks IsPrefix.denial = refl
 access_is : (c : Class) → has accessing c ≡ true → (c ≡ Mark DOT) ⊎ (c ≡ Mark OPEN_BRACKET)
 access_is c on = by_dot (same_class (Mark DOT) c) refl on
   where
-    by_dot : (b : Bool) → same_class (Mark DOT) c ≡ b → b || (same_class (Mark OPEN_BRACKET) c || false) ≡ true → (c ≡ Mark DOT) ⊎ (c ≡ Mark OPEN_BRACKET)
+    by_dot : (b : Bool) → same_class (Mark DOT) c ≡ b → b || (same_class (Mark OPEN_BRACKET) c || false) ≡ true →
+        (c ≡ Mark DOT) ⊎ (c ≡ Mark OPEN_BRACKET)
     by_dot true e on = inl (sym (same_is _ _ e))
     by_dot false e on = inr (sym (same_is _ _ (or_right (same_class (Mark OPEN_BRACKET) c) on)))
       where
@@ -188,7 +239,8 @@ block_picks c on = held _ _ on
     held b p on = rw on refl
 
 -- the kind of a token that is among some classes
-pub kind_among : (classes : List Class) (o : Option TokenKind) → next_among classes o ≡ true → (kind : TokenKind) × (o ≡ Some kind) × (has classes (class_of kind) ≡ true)
+pub kind_among : (classes : List Class) (o : Option TokenKind) → next_among classes o ≡ true →
+    (kind : TokenKind) × (o ≡ Some kind) × (has classes (class_of kind) ≡ true)
 kind_among classes None on = absurd (no_truth on)
   where
     no_truth : false ≡ true → ⊥
@@ -197,20 +249,26 @@ kind_among classes (Some kind) on = (kind, refl, on)
 
 module _ {tokens : List Token} {k : ℕ} where
   -- a field goes on with a path
-  pub dotted : (part : Part) → IsPathTail part → {b : List Piece} → kind_at tokens k ≡ Some (Sign DOT) → Turns (the part ∷ b) tokens k (sign DOT ∷ name ∷ the part ∷ b) k
+  pub dotted : (part : Part) → IsPathTail part → {b : List Piece} → kind_at tokens k ≡ Some (Sign DOT) →
+      Turns (the part ∷ b) tokens k (sign DOT ∷ name ∷ the part ∷ b) k
   dotted part IsPathTail.path is = opened (sign DOT ∷ name ∷ the PathRest ∷ []) (λ v. refl) is refl
   dotted part IsPathTail.target is = opened (sign DOT ∷ name ∷ the RunTarget ∷ []) (λ v. refl) is refl
 
   -- a field or an index goes on with a place
-  pub accessed : (part : Part) → IsPlaceTail part → {b : List Piece} → next_among accessing (kind_at tokens k) ≡ true → Turns (the part ∷ b) tokens k (the Access ∷ the part ∷ b) k
-  accessed part is on = let h = kind_among accessing (kind_at tokens k) on in opened (the Access ∷ the part ∷ []) (permitted part is) h.1 (picks_access part is (class_of h.0) h.2)
+  pub accessed : (part : Part) → IsPlaceTail part → {b : List Piece} → next_among accessing (kind_at tokens k) ≡ true →
+      Turns (the part ∷ b) tokens k (the Access ∷ the part ∷ b) k
+  accessed part is on = let h = kind_among accessing (kind_at tokens k) on in
+      opened (the Access ∷ the part ∷ []) (permitted part is) h.1 (picks_access part is (class_of h.0) h.2)
 
   -- a block goes on with a statement
-  pub block_opens : {b : List Piece} → next_among statement_starts (kind_at tokens k) ≡ true → Turns (the Block ∷ b) tokens k (the Stmt ∷ the Block ∷ b) k
-  block_opens on = let h = kind_among statement_starts (kind_at tokens k) on in opened (the Stmt ∷ the Block ∷ []) (λ v. refl) h.1 (block_picks (class_of h.0) h.2)
+  pub block_opens : {b : List Piece} → next_among statement_starts (kind_at tokens k) ≡ true →
+      Turns (the Block ∷ b) tokens k (the Stmt ∷ the Block ∷ b) k
+  block_opens on = let h = kind_among statement_starts (kind_at tokens k) on in
+      opened (the Stmt ∷ the Block ∷ []) (λ v. refl) h.1 (block_picks (class_of h.0) h.2)
 
   -- an operator before an operand
-  pub prefixed : {op : Op} {to : ℕ} {b : List Piece} (is : SpellsPrefix tokens op k to) → Turns (the Unary ∷ b) tokens k (Terminal (class_of is.kind) ∷ the Unary ∷ b) k
+  pub prefixed : {op : Op} {to : ℕ} {b : List Piece} (is : SpellsPrefix tokens op k to) →
+      Turns (the Unary ∷ b) tokens k (Terminal (class_of is.kind) ∷ the Unary ∷ b) k
   prefixed is = opened (Terminal (class_of is.kind) ∷ the Unary ∷ []) (λ v. refl) is.token.stands (prefix_picks is.is)
 
   pub minus_is : {to : ℕ} → SpellsPrefix tokens Op.Minus k to → kind_at tokens k ≡ Some (Sign MINUS)

@@ -1,5 +1,30 @@
 -- How a reader knows what stands next.
-use Rattle.std.proofs.Common.{◌≡◌, ℕ, zero, suc, ◌+◌, ◌<◌, ◌≤◌, Bool, true, false, cond, ◌||◌, List, [], ◌∷◌, ◌++◌, drop, length, refl, ap, sym, ◌∙◌, subst, arith}
+use Rattle.std.proofs.Common.{
+  ◌≡◌,
+  ℕ,
+  zero,
+  suc,
+  ◌+◌,
+  ◌<◌,
+  ◌≤◌,
+  Bool,
+  true,
+  false,
+  cond,
+  ◌||◌,
+  List,
+  [],
+  ◌∷◌,
+  ◌++◌,
+  drop,
+  length,
+  refl,
+  ap,
+  sym,
+  ◌∙◌,
+  subst,
+  arith,
+}
 use Rattle.std.specs.Prelude.{Option, Some, None, slice_get, option_map}
 use Rattle.std.proofs.lemmas.Bool.{eq-eqb}
 use Rattle.std.proofs.lemmas.Option.{slice_get_within}
@@ -18,7 +43,7 @@ use Rattle.bl_syntax.specs.Expects.{Expects, StandsNext}
 use Rattle.bl_syntax.proofs.Right.{same_is, unpicked}
 use Rattle.bl_syntax.proofs.Expecting.{expects_production, expects_absent, expects_token, expects_nothing}
 use Rattle.bl_parse.specs.At.{kind_at}
-use Rattle.bl_parse.specs.Reading.{left, next_among, Here, NotNext, NoneNext, Awaits, Turns}
+use Rattle.bl_parse.specs.inner.Reading.{left, next_among, Here, NotNext, NoneNext, Awaits, Turns}
 
 -- ---- positions
 
@@ -30,7 +55,8 @@ drop_next (suc k) (x ∷ xs) e = drop_next k xs e
 
 -- what a position has, in the tokens and in what the grammar sees of them
 pub record Stands (found : Option Token) (views : List View) : Type 0 where
-  pub some : (token : Token) → found ≡ Some token → (view : View) × (after : List View) × (views ≡ view ∷ after) × (view.class ≡ class_of token.kind)
+  pub some : (token : Token) → found ≡ Some token → (view : View) × (after : List View) × (views ≡ view ∷ after)
+      × (view.class ≡ class_of token.kind)
   pub none : found ≡ None → views ≡ []
 
 stands_after : (before : Option ℕ) (tokens : List Token) (k : ℕ) → Stands (slice_get tokens k) (drop k (views_after before tokens))
@@ -122,7 +148,8 @@ not_same : (b : Bool) → (b ≡ true → ⊥) → b || false ≡ false
 not_same true none = absurd (none refl)
 not_same false none = refl
 
-unpicked_here : (part : Part) (view : View) → has_empty (productions part) ≡ true → has (starts_within 20 part) view.class ≡ false → pick part view ≡ Some []
+unpicked_here : (part : Part) (view : View) → has_empty (productions part) ≡ true → has (starts_within 20 part) view.class ≡ false →
+    pick part view ≡ Some []
 unfolding absent starts
 unpicked_here part view may off = unpicked part view may off
 
@@ -162,7 +189,8 @@ module _ (tokens : List Token) (k : ℕ) where
   decided : {part : Part} {rest : List Piece} → Expects (the part ∷ rest) (left tokens k) → ((view : View) → permits part view ≡ true)
       → (goal : Type 0)
       → (kind_at tokens k ≡ None → has_empty (productions part) ≡ true → Expects rest (left tokens k) → goal)
-      → ((kind : TokenKind) (p : List Piece) → kind_at tokens k ≡ Some kind → picks part (class_of kind) ≡ Some p → Expects (p ++ rest) (left tokens k) → goal)
+      → ((kind : TokenKind) (p : List Piece) → kind_at tokens k ≡ Some kind → picks part (class_of kind) ≡ Some p →
+      Expects (p ++ rest) (left tokens k) → goal)
       → goal
   unfolding absent
   decided {part} {rest} e may goal at_end at_token = by_token (slice_get tokens k) refl
@@ -189,8 +217,10 @@ module _ (tokens : List Token) (k : ℕ) where
       same_production other q at on = same_some (sym on ∙ (ap (λ o. picks_at part o) (sym at ∙ is) ∙ picked))
 
   -- the same where one production is left
-  opens_last : {part : Part} (p : List Piece) {rest : List Piece} {kind : TokenKind} (b : Bool) → ((view : View) → permits part view ≡ true) → kind_at tokens k ≡ Some kind
-      → picks part (class_of kind) ≡ or_absent false (cond b (Some p) None) → Expects (the part ∷ rest) (left tokens k) → Expects (p ++ rest) (left tokens k)
+  opens_last : {part : Part} (p : List Piece) {rest : List Piece} {kind : TokenKind} (b : Bool) →
+      ((view : View) → permits part view ≡ true) → kind_at tokens k ≡ Some kind
+      → picks part (class_of kind) ≡ or_absent false (cond b (Some p) None) → Expects (the part ∷ rest) (left tokens k) →
+      Expects (p ++ rest) (left tokens k)
   opens_last {part} p {rest} {kind} b may is picked e = by_rest b picked
     where
       by_rest : (b : Bool) → picks part (class_of kind) ≡ or_absent false (cond b (Some p) None) → Expects (p ++ rest) (left tokens k)
@@ -212,11 +242,13 @@ module _ (tokens : List Token) (k : ℕ) where
       by_token (Some token) is =
           let s = stands_at.some token is in
           let h = expects_production part rest s.0 s.1 (subst (Expects (the part ∷ rest)) s.2 e) in
-          subst (λ r. Expects (r ++ rest) (left tokens k)) (same_some (sym h.1 ∙ unpicked_here part s.0 may_end (subst (λ c. has (starts_within 20 part) c ≡ false) (sym s.3) (among (Some token) is))))
+          subst (λ r. Expects (r ++ rest) (left tokens k)) (same_some
+          (sym h.1 ∙ unpicked_here part s.0 may_end (subst (λ c. has (starts_within 20 part) c ≡ false) (sym s.3) (among (Some token) is))))
           (subst (Expects (h.0 ++ rest)) (sym s.2) h.2)
 
   -- the kind of the next token
-  kind_next : {class : Class} {rest : List Piece} → Expects (Terminal class ∷ rest) (left tokens k) → (kind : TokenKind) × (kind_at tokens k ≡ Some kind) × (class ≡ class_of kind)
+  kind_next : {class : Class} {rest : List Piece} → Expects (Terminal class ∷ rest) (left tokens k) →
+      (kind : TokenKind) × (kind_at tokens k ≡ Some kind) × (class ≡ class_of kind)
   kind_next {class} {rest} e = by_token (slice_get tokens k) refl
     where
       next : StandsNext class rest (left tokens k)
@@ -307,22 +339,40 @@ module _ {tokens : List Token} {k : ℕ} where
   stay = record { goes = λ rest e. e }
 
   -- the production that the next token decides on is expected
-  pub opened : {part : Part} {b : List Piece} (p : List Piece) {kind : TokenKind} → ((view : View) → permits part view ≡ true) → kind_at tokens k ≡ Some kind
+  pub opened : {part : Part} {b : List Piece} (p : List Piece) {kind : TokenKind} → ((view : View) → permits part view ≡ true) →
+      kind_at tokens k ≡ Some kind
       → picks part (class_of kind) ≡ Some p → Turns (the part ∷ b) tokens k (p ++ b) k
-  opened {b = b} p may is picked = record { goes = λ rest e. record { within = e.within; expects = subst (λ s. Expects s (left tokens k)) (sym (append_assoc p b rest)) (opens tokens k may is picked e.expects) } }
+  opened {b = b} p may is picked = record {
+    goes = λ rest e.
+        record { within = e.within; expects = subst (λ s. Expects s (left tokens k)) (sym (append_assoc p b rest)) (opens tokens k may is picked e.expects) };
+  }
 
   -- the same where one production is left
-  pub opened_last : {part : Part} {b : List Piece} (p : List Piece) (on : Bool) {kind : TokenKind} → ((view : View) → permits part view ≡ true) → kind_at tokens k ≡ Some kind
+  pub opened_last : {part : Part} {b : List Piece} (p : List Piece) (on : Bool) {kind : TokenKind} →
+      ((view : View) → permits part view ≡ true) → kind_at tokens k ≡ Some kind
       → picks part (class_of kind) ≡ or_absent false (cond on (Some p) None) → Turns (the part ∷ b) tokens k (p ++ b) k
-  opened_last {b = b} p on may is picked = record { goes = λ rest e. record { within = e.within; expects = subst (λ s. Expects s (left tokens k)) (sym (append_assoc p b rest)) (opens_last tokens k p on may is picked e.expects) } }
+  opened_last {b = b} p on may is picked = record {
+    goes =
+        λ rest e. record {
+          within = e.within;
+          expects = subst (λ s. Expects s (left tokens k)) (sym (append_assoc p b rest))
+              (opens_last tokens k p on may is picked e.expects);
+        };
+  }
 
   -- one production is left, whatever the token
-  pub opened_rest : {part : Part} {b : List Piece} (p : List Piece) → ((view : View) → permits part view ≡ true) → has_empty (productions part) ≡ false
-      → ((kind : TokenKind) → kind_at tokens k ≡ Some kind → (on : Bool) × (picks part (class_of kind) ≡ or_absent false (cond on (Some p) None))) → Turns (the part ∷ b) tokens k (p ++ b) k
-  opened_rest {part} {b} p may never each = record { goes = λ rest e. record { within = e.within; expects = subst (λ s. Expects s (left tokens k)) (sym (append_assoc p b rest)) (opens_one rest e.expects) } }
+  pub opened_rest : {part : Part} {b : List Piece} (p : List Piece) → ((view : View) → permits part view ≡ true) →
+      has_empty (productions part) ≡ false
+      → ((kind : TokenKind) → kind_at tokens k ≡ Some kind →
+      (on : Bool) × (picks part (class_of kind) ≡ or_absent false (cond on (Some p) None))) → Turns (the part ∷ b) tokens k (p ++ b) k
+  opened_rest {part} {b} p may never each = record {
+    goes =
+        λ rest e. record { within = e.within; expects = subst (λ s. Expects s (left tokens k)) (sym (append_assoc p b rest)) (opens_one rest e.expects) };
+  }
     where
       opens_one : (rest : List Piece) → Expects (the part ∷ b ++ rest) (left tokens k) → Expects (p ++ (b ++ rest)) (left tokens k)
-      opens_one rest e = decided tokens k e may (Expects (p ++ (b ++ rest)) (left tokens k)) (λ none may_end expects. absurd (no_truth (sym may_end ∙ never)))
+      opens_one rest e = decided tokens k e may (Expects (p ++ (b ++ rest)) (left tokens k))
+          (λ none may_end expects. absurd (no_truth (sym may_end ∙ never)))
           (λ kind q at on expects. opens_last tokens k p (each kind at).0 may at (each kind at).1 e)
 
   -- a part has one production
@@ -331,11 +381,14 @@ module _ {tokens : List Token} {k : ℕ} where
   opened_one p may never each = opened_rest p may never (λ kind is. each (class_of kind))
 
   -- a part that isn't absent doesn't begin at the end
-  pub never_ends : {part : Part} {b : List Piece} → ((view : View) → permits part view ≡ true) → has_empty (productions part) ≡ false → Awaits (the part ∷ b) tokens k → kind_at tokens k ≡ None → ⊥
-  never_ends may never a is = decided tokens k a.here.expects may ⊥ (λ none may_end expects. no_truth (sym may_end ∙ never)) (λ kind q at on expects. no_some (sym is ∙ at))
+  pub never_ends : {part : Part} {b : List Piece} → ((view : View) → permits part view ≡ true) →
+      has_empty (productions part) ≡ false → Awaits (the part ∷ b) tokens k → kind_at tokens k ≡ None → ⊥
+  never_ends may never a is = decided tokens k a.here.expects may ⊥ (λ none may_end expects. no_truth (sym may_end ∙ never))
+      (λ kind q at on expects. no_some (sym is ∙ at))
 
   -- nor at a token that decides on no production
-  pub never : {part : Part} {b : List Piece} {kind : TokenKind} → ((view : View) → permits part view ≡ true) → kind_at tokens k ≡ Some kind → picks part (class_of kind) ≡ None → Awaits (the part ∷ b) tokens k → ⊥
+  pub never : {part : Part} {b : List Piece} {kind : TokenKind} → ((view : View) → permits part view ≡ true) →
+      kind_at tokens k ≡ Some kind → picks part (class_of kind) ≡ None → Awaits (the part ∷ b) tokens k → ⊥
   never {part} may is picked a = decided tokens k a.here.expects may ⊥ (λ none may_end expects. no_some (sym none ∙ is))
       (λ kind q at on expects. no_some (sym picked ∙ (ap (λ o. picks_at part o) (sym is ∙ at) ∙ on)))
 
@@ -345,19 +398,32 @@ module _ {tokens : List Token} {k : ℕ} where
   omit {b = b} may off = record { goes = λ rest e. record { within = e.within; expects = omits tokens k may off.off e.expects } }
 
   -- a part that may be absent isn't, where what follows it doesn't stand next
-  pub filled : {part : Part} {class : Class} {b : List Piece} (p : List Piece) → ((view : View) → permits part view ≡ true) → ((c : Class) → (on : Bool) × (picks part c ≡ or_absent true (cond on (Some p) None)))
+  pub filled : {part : Part} {class : Class} {b : List Piece} (p : List Piece) → ((view : View) → permits part view ≡ true) →
+      ((c : Class) → (on : Bool) × (picks part c ≡ or_absent true (cond on (Some p) None)))
       → NoneNext (class ∷ []) tokens k → Turns (the part ∷ Terminal class ∷ b) tokens k (p ++ Terminal class ∷ b) k
-  filled {part} {class} {b} p may each off = record { goes = λ rest e. record { within = e.within; expects = subst (λ s. Expects s (left tokens k)) (sym (append_assoc p (Terminal class ∷ b) rest)) (fills rest e.expects) } }
+  filled {part} {class} {b} p may each off = record {
+    goes =
+        λ rest e. record {
+          within = e.within;
+          expects = subst (λ s. Expects s (left tokens k))
+              (sym (append_assoc p (Terminal class ∷ b) rest)) (fills rest e.expects);
+        };
+  }
     where
       stuck : (rest : List Piece) → Expects (Terminal class ∷ b ++ rest) (left tokens k) → ⊥
-      stuck rest e = let h = kind_next tokens k e in no_truth (sym (subst (λ c. has (c ∷ []) (class_of h.0) ≡ true) (sym h.2) (own_class (class_of h.0))) ∙ subst (λ o. next_among (class ∷ []) o ≡ false) h.1 off.off)
+      stuck rest e = let h = kind_next tokens k e in no_truth
+          (sym (subst (λ c. has (c ∷ []) (class_of h.0) ≡ true) (sym h.2) (own_class (class_of h.0)))
+          ∙ subst (λ o. next_among (class ∷ []) o ≡ false) h.1 off.off)
 
-      by_test : (rest : List Piece) (on : Bool) (q : List Piece) → or_absent true (cond on (Some p) None) ≡ Some q → Expects (q ++ (Terminal class ∷ b ++ rest)) (left tokens k) → Expects (p ++ (Terminal class ∷ b ++ rest)) (left tokens k)
+      by_test : (rest : List Piece) (on : Bool) (q : List Piece) → or_absent true (cond on (Some p) None) ≡ Some q →
+          Expects (q ++ (Terminal class ∷ b ++ rest)) (left tokens k) → Expects (p ++ (Terminal class ∷ b ++ rest)) (left tokens k)
       by_test rest true q is e = subst (λ s. Expects (s ++ (Terminal class ∷ b ++ rest)) (left tokens k)) (sym (same_some is)) e
       by_test rest false q is e = absurd (stuck rest (subst (λ s. Expects (s ++ (Terminal class ∷ b ++ rest)) (left tokens k)) (sym (same_some is)) e))
 
-      fills : (rest : List Piece) → Expects (the part ∷ (Terminal class ∷ b ++ rest)) (left tokens k) → Expects (p ++ (Terminal class ∷ b ++ rest)) (left tokens k)
-      fills rest e = decided tokens k e may (Expects (p ++ (Terminal class ∷ b ++ rest)) (left tokens k)) (λ none may_end expects. absurd (stuck rest expects))
+      fills : (rest : List Piece) → Expects (the part ∷ (Terminal class ∷ b ++ rest)) (left tokens k) →
+          Expects (p ++ (Terminal class ∷ b ++ rest)) (left tokens k)
+      fills rest e = decided tokens k e may (Expects (p ++ (Terminal class ∷ b ++ rest)) (left tokens k))
+          (λ none may_end expects. absurd (stuck rest expects))
           (λ kind q at on expects. by_test rest (each (class_of kind)).0 q (sym (each (class_of kind)).1 ∙ on) expects)
 
   -- at a token, a program goes on with an item
@@ -369,6 +435,8 @@ module _ {tokens : List Token} {k : ℕ} where
         (λ kind q at on e. by_test (has (starts_within 20 Item) (class_of kind)) q on e);
   }
     where
-      by_test : (on : Bool) (q : List Piece) → or_absent true (cond on (Some (the Item ∷ the Program ∷ [])) None) ≡ Some q → Expects (q ++ []) (left tokens k) → Expects (the Item ∷ the Program ∷ []) (left tokens k)
+      by_test : (on : Bool) (q : List Piece) → or_absent true (cond on (Some (the Item ∷ the Program ∷ [])) None) ≡ Some q →
+          Expects (q ++ []) (left tokens k) → Expects (the Item ∷ the Program ∷ []) (left tokens k)
       by_test true q e expects = subst (λ q. Expects (q ++ []) (left tokens k)) (sym (same_some e)) expects
-      by_test false q e expects = absurd (some_left tokens k inside (expects_nothing (left tokens k) (subst (λ q. Expects (q ++ []) (left tokens k)) (sym (same_some e)) expects)))
+      by_test false q e expects = absurd (some_left tokens k inside
+          (expects_nothing (left tokens k) (subst (λ q. Expects (q ++ []) (left tokens k)) (sym (same_some e)) expects)))

@@ -16,7 +16,7 @@ use Rattle.bl_syntax.proofs.Right.{chosen_none}
 use Rattle.bl_raw.specs.declared.stmt.RawStmt.{RawStmt, roll-RawStmt}
 use Rattle.bl_raw.specs.declared.stmt.RawStmtKind.{RawStmtKind}
 use Rattle.bl_parse.specs.At.{kind_at}
-use Rattle.bl_parse.specs.Reading.{Awaits}
+use Rattle.bl_parse.specs.inner.Reading.{Awaits}
 use Rattle.bl_parse.proofs.ReadLemmas.{picks, chosen_is, never}
 
 abbrev stmt : Place → RawStmtKind → RawStmt
@@ -29,7 +29,8 @@ stmt_never : (c : Class) → has statement_starts c ≡ false → picks Stmt c �
 unfolding starts
 stmt_never c off = ap (or_absent false) (sym (chosen_is (productions Stmt) c) ∙ chosen_none (choices_of (productions Stmt)) c off)
 
-all_off : (a b c d e f g h i j l : Bool) → a ≡ false → b ≡ false → c ≡ false → d ≡ false → e ≡ false → f ≡ false → g ≡ false → h ≡ false → i ≡ false
+all_off : (a b c d e f g h i j l : Bool) → a ≡ false → b ≡ false → c ≡ false → d ≡ false → e ≡ false → f ≡ false → g ≡ false →
+    h ≡ false → i ≡ false
     → j ≡ false → l ≡ false → a || (b || (c || (false || (d || (e || (f || (g || (h || (i || (j || (l || false))))))))))) ≡ false
 all_off a b c d e f g h i j l ea eb ec ed ee ef eg eh ei ej el = rw (ea, eb, ec, ed, ee, ef, eg, eh, ei, ej, el) refl
 
@@ -42,11 +43,13 @@ no_eq a w none = by_test (nat_eq a w) refl
 
 -- where a statement begins with a keyword that is none of the others, it is `return`
 pub return_left : {tokens : List Token} {k : ℕ} {b : List Piece} (w : ℕ) → kind_at tokens k ≡ Some (Word w) → Awaits (the Stmt ∷ b) tokens k
-    → (w ≡ VAR → ⊥) → (w ≡ LET → ⊥) → (w ≡ CONST → ⊥) → (w ≡ AWAIT → ⊥) → (w ≡ RUN → ⊥) → (w ≡ COBEGIN → ⊥) → (w ≡ WHEN → ⊥)
+    → (w ≡ VAR → ⊥) → (w ≡ LET → ⊥) → (w ≡ CONST → ⊥) → (w ≡ AWAIT → ⊥) → (w ≡ RUN → ⊥) → (w ≡ COBEGIN → ⊥) →
+    (w ≡ WHEN → ⊥)
     → (w ≡ REPEAT → ⊥) → (w ≡ WHILE → ⊥) → (w ≡ IF → ⊥) → kind_at tokens k ≡ Some (Word RETURN)
 return_left {tokens} {k} w is awaits na nb nc nd ne nf ng nh ni nj = by_test (nat_eq RETURN w) refl
   where
     by_test : (b : Bool) → nat_eq RETURN w ≡ b → kind_at tokens k ≡ Some (Word RETURN)
     by_test true e = is ∙ ap (λ n. Some (Word n)) (sym (eqb-true RETURN w e))
-    by_test false e = absurd (never (λ v. refl) is (stmt_never (Keyword w) (all_off _ _ _ _ _ _ _ _ _ _ _ (no_eq VAR w na) (no_eq LET w nb) (no_eq CONST w nc) (no_eq AWAIT w nd)
+    by_test false e = absurd (never (λ v. refl) is (stmt_never (Keyword w)
+        (all_off _ _ _ _ _ _ _ _ _ _ _ (no_eq VAR w na) (no_eq LET w nb) (no_eq CONST w nc) (no_eq AWAIT w nd)
         (no_eq RUN w ne) (no_eq COBEGIN w nf) (no_eq WHEN w ng) (no_eq REPEAT w nh) (no_eq WHILE w ni) (no_eq IF w nj) e)) awaits)

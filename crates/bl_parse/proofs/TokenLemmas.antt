@@ -1,5 +1,29 @@
 -- Which token a kind is, from the tests that code makes of it, and what was read of a name.
-use Rattle.std.proofs.Common.{◌≡◌, ℕ, ◌<◌, Bool, true, false, not, ◌&&◌, ◌||◌, ◌⊎◌, inl, inr, ⊎_elim, List, [], ◌∷◌, slice_range, refl, ap, sym, ◌∙◌, arith, lit≤}
+use Rattle.std.proofs.Common.{
+  ◌≡◌,
+  ℕ,
+  ◌<◌,
+  Bool,
+  true,
+  false,
+  not,
+  ◌&&◌,
+  ◌||◌,
+  ◌⊎◌,
+  inl,
+  inr,
+  ⊎_elim,
+  List,
+  [],
+  ◌∷◌,
+  slice_range,
+  refl,
+  ap,
+  sym,
+  ◌∙◌,
+  arith,
+  lit≤,
+}
 use Rattle.std.specs.Prelude.{nat_le}
 use Rattle.std.specs.List.{list_all}
 use Rattle.std.specs.Char.{is_ascii_digit}
@@ -22,7 +46,8 @@ pub word_is : {kind : TokenKind} {k n m : ℕ} → kind ≡ Word k → m ≡ k �
 word_is is same test = is ∙ ap Word (sym same ∙ test)
 
 -- what was read of a name is the name at the token
-pub name_spelled : (text : List ℕ) (tokens : List Token) (k : ℕ) {bytes : List ℕ} {start end : ℕ} → bytes ≡ slice_range text (start_at tokens k) (end_at tokens k)
+pub name_spelled : (text : List ℕ) (tokens : List Token) (k : ℕ) {bytes : List ℕ} {start end : ℕ} →
+    bytes ≡ slice_range text (start_at tokens k) (end_at tokens k)
     → start ≡ start_at tokens k → end ≡ end_at tokens k
     → let read : Name = record { text = bytes; place = record { start = start; end = end } } in read ≡ name_at text tokens k
 name_spelled text tokens k spelled start end = cc
@@ -42,7 +67,8 @@ in_range : (low high c : ℕ) → is_in_range low high c ≡ true → high < 128
 in_range low high c e small = let le = leb-true c high (both (nat_le low c) (nat_le c high) e).1 in omega (arith, le, small)
 
 word_byte_ascii : (b : ℕ) → is_word_byte b ≡ true → b < 128
-word_byte_ascii b e = ⊎_elim (λ h. ⊎_elim (λ g. ⊎_elim (λ d. in_range 48 57 b d (lit≤ tt)) (λ d. in_range 65 90 b d (lit≤ tt)) (either _ _ g)) (λ g. in_range 97 122 b g (lit≤ tt)) (either _ _ h))
+word_byte_ascii b e = ⊎_elim (λ h. ⊎_elim (λ g. ⊎_elim (λ d. in_range 48 57 b d (lit≤ tt)) (λ d. in_range 65 90 b d (lit≤ tt))
+    (either _ _ g)) (λ g. in_range 97 122 b g (lit≤ tt)) (either _ _ h))
     (λ h. let is : b ≡ 95 = eqb-true b 95 h in omega (arith, is)) (either _ _ e)
 
 word_ascii : (w : List ℕ) → list_all is_word_byte w ≡ true → IsAscii w
@@ -54,5 +80,6 @@ pub name_is_utf8 : (w : List ℕ) → is_name w ≡ true → IsUtf8 w
 name_is_utf8 [] e = IsUtf8-from_ascii [] IsAscii-nil
 name_is_utf8 (b ∷ bs) e = IsUtf8-from_ascii (b ∷ bs) (word_ascii (b ∷ bs) (both (not (is_ascii_digit b)) _ (both (is_plain_word (b ∷ bs)) _ e).0).1)
 
-pub named_there : (text : List ℕ) {a b s e : ℕ} → a ≡ s → b ≡ e → is_name (slice_range text s e) ≡ true → is_name (slice_range text a b) ≡ true
+pub named_there : (text : List ℕ) {a b s e : ℕ} → a ≡ s → b ≡ e → is_name (slice_range text s e) ≡ true →
+    is_name (slice_range text a b) ≡ true
 named_there text ea eb h = rw (ea, eb) h

@@ -110,6 +110,7 @@ mutual
 
   -- one expression or more, with commas between them
   pub data SpellsExprs (text : List ℕ) (tokens : List Token) : List RawExpr → ℕ → ℕ → Type 0 where
-    first_expr : {all : List RawExpr} {e : RawExpr} {from to : ℕ} → SpellsExpr text tokens 0 e from to → all ≡ e ∷ [] → SpellsExprs text tokens all from to
+    first_expr : {all : List RawExpr} {e : RawExpr} {from to : ℕ} → SpellsExpr text tokens 0 e from to → all ≡ e ∷ [] →
+        SpellsExprs text tokens all from to
     more_exprs : {all es : List RawExpr} {e : RawExpr} {from m n to : ℕ} → SpellsExprs text tokens es from m → Takes tokens (Sign COMMA) m n
         → SpellsExpr text tokens 0 e n to → all ≡ es ++ e ∷ [] → SpellsExprs text tokens all from to

@@ -7,11 +7,50 @@ use Rattle.bl_tree.specs.declared.scalar.Width.TheVariants.{W8, W16, W32, W64}
 use Rattle.bl_tree.specs.declared.token.Token.{Token}
 use Rattle.bl_tree.specs.declared.token.TokenKind.{TokenKind}
 use Rattle.bl_tree.specs.declared.token.TokenKind.TheVariants.{Name, Number, Word, Sign}
-use Rattle.bl_lex.specs.declared.sign.TheConstants.{EQUAL, NOT_EQUAL, LESS, LESS_OR_EQUAL, GREATER, GREATER_OR_EQUAL, PLUS, MINUS, STAR, SLASH, PERCENT, AMPERSAND, BAR, CARET, TILDE, SHIFT_LEFT, SHIFT_RIGHT, OPEN_PAREN}
+use Rattle.bl_lex.specs.declared.sign.TheConstants.{
+  EQUAL,
+  NOT_EQUAL,
+  LESS,
+  LESS_OR_EQUAL,
+  GREATER,
+  GREATER_OR_EQUAL,
+  PLUS,
+  MINUS,
+  STAR,
+  SLASH,
+  PERCENT,
+  AMPERSAND,
+  BAR,
+  CARET,
+  TILDE,
+  SHIFT_LEFT,
+  SHIFT_RIGHT,
+  OPEN_PAREN,
+}
 use Rattle.bl_syntax.specs.declared.grammar.Class.{Class}
 use Rattle.bl_syntax.specs.declared.grammar.Class.TheVariants.{Keyword, Mark}
 use Rattle.bl_parse.specs.At.{Takes}
-use Rattle.bl_lex.specs.declared.word.TheConstants.{AND, OR, NOT, TRUE, FALSE, PREV, BOOL, INT8, INT16, INT32, INT64, NAT8, NAT16, NAT32, NAT64, BITS8, BITS16, BITS32, BITS64}
+use Rattle.bl_lex.specs.declared.word.TheConstants.{
+  AND,
+  OR,
+  NOT,
+  TRUE,
+  FALSE,
+  PREV,
+  BOOL,
+  INT8,
+  INT16,
+  INT32,
+  INT64,
+  NAT8,
+  NAT16,
+  NAT32,
+  NAT64,
+  BITS8,
+  BITS16,
+  BITS32,
+  BITS64,
+}
 
 -- the level of a comparison
 abbrev pub comparing : ℕ
@@ -100,14 +139,16 @@ begins_expr (Word k) = nat_eq k NOT || (nat_eq k TRUE || (nat_eq k FALSE || nat_
 -- the words of the types without parts, as the grammar sees them
 abbrev pub scalar_classes : List Class
 scalar_classes =
-    Keyword BOOL ∷ Keyword INT8 ∷ Keyword INT16 ∷ Keyword INT32 ∷ Keyword INT64 ∷ Keyword NAT8 ∷ Keyword NAT16 ∷ Keyword NAT32 ∷ Keyword NAT64 ∷
+    Keyword BOOL ∷ Keyword INT8 ∷ Keyword INT16 ∷ Keyword INT32 ∷ Keyword INT64 ∷ Keyword NAT8 ∷ Keyword NAT16 ∷ Keyword NAT32
+    ∷ Keyword NAT64 ∷
     Keyword BITS8 ∷ Keyword BITS16 ∷ Keyword BITS32 ∷ Keyword BITS64 ∷ []
 
 -- the operators with two operands, as the grammar sees them
 abbrev pub operator_classes : List Class
 operator_classes =
     Keyword OR ∷ Keyword AND ∷ Mark EQUAL ∷ Mark NOT_EQUAL ∷ Mark LESS ∷ Mark LESS_OR_EQUAL ∷ Mark GREATER ∷ Mark GREATER_OR_EQUAL ∷
-    Mark BAR ∷ Mark CARET ∷ Mark AMPERSAND ∷ Mark SHIFT_LEFT ∷ Mark SHIFT_RIGHT ∷ Mark PLUS ∷ Mark MINUS ∷ Mark STAR ∷ Mark SLASH ∷ Mark PERCENT ∷ []
+    Mark BAR ∷ Mark CARET ∷ Mark AMPERSAND ∷ Mark SHIFT_LEFT ∷ Mark SHIFT_RIGHT ∷ Mark PLUS ∷ Mark MINUS ∷ Mark STAR ∷ Mark SLASH
+    ∷ Mark PERCENT ∷ []
 
 -- no operator stands at the position that binds as tightly as the level and takes a left operand of the bound
 abbrev pub NoInfix : List Token → ℕ → ℕ → ℕ → Type 0

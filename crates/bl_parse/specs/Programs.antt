@@ -119,10 +119,12 @@ pub record SpellsUnit (text : List ℕ) (tokens : List Token) (unit : RawUnit) (
 
 -- what the file declares: a struct, a constant or a unit
 pub data SpellsItem (text : List ℕ) (tokens : List Token) : RawItem → ℕ → ℕ → Type 0 where
-  structure : {item : RawItem} {def : RawStruct} {from to : ℕ} → SpellsStruct text tokens def from to → item ≡ RawItem.Struct def → SpellsItem text tokens item from to
+  structure : {item : RawItem} {def : RawStruct} {from to : ℕ} → SpellsStruct text tokens def from to → item ≡ RawItem.Struct def →
+      SpellsItem text tokens item from to
   constant : {item : RawItem} {constant : RawConstant} {from to : ℕ} → SpellsConstant text tokens constant from to → item ≡ RawItem.Constant constant
       → SpellsItem text tokens item from to
-  unit : {item : RawItem} {unit : RawUnit} {from to : ℕ} → SpellsUnit text tokens unit from to → item ≡ RawItem.Unit unit → SpellsItem text tokens item from to
+  unit : {item : RawItem} {unit : RawUnit} {from to : ℕ} → SpellsUnit text tokens unit from to → item ≡ RawItem.Unit unit →
+      SpellsItem text tokens item from to
 
 -- items, as many as there are
 pub data SpellsItems (text : List ℕ) (tokens : List Token) : List RawItem → ℕ → ℕ → Type 0 where

@@ -1,11 +1,50 @@
 -- How tokens spell a statement.
-use Rattle.std.specs.Prelude.{◌≡◌, ℕ, ◌+◌, List, [], ◌∷◌, ◌++◌, Bool, true, false, ◌&&◌, ◌||◌, nat_eq, slice_get, Option, Some, None}
+use Rattle.std.specs.Prelude.{
+  ◌≡◌,
+  ℕ,
+  ◌+◌,
+  List,
+  [],
+  ◌∷◌,
+  ◌++◌,
+  Bool,
+  true,
+  false,
+  ◌&&◌,
+  ◌||◌,
+  nat_eq,
+  slice_get,
+  Option,
+  Some,
+  None,
+}
 use Rattle.bl_tree.specs.declared.token.Token.{Token}
 use Rattle.bl_tree.specs.declared.token.TokenKind.{TokenKind}
 use Rattle.bl_tree.specs.declared.token.TokenKind.TheVariants.{Name as NameToken, Word, Sign}
 use Rattle.bl_tree.specs.declared.tree.Guard.{Guard}
 use Rattle.bl_lex.specs.declared.sign.TheConstants.{OPEN_PAREN, CLOSE_PAREN, COMMA, DOT, COLON, ASSIGN}
-use Rattle.bl_lex.specs.declared.word.TheConstants.{VAR, LET, CONST, AWAIT, RUN, COBEGIN, WEAK, WITH, WHEN, ABORT, RESET, REPEAT, UNTIL, WHILE, IF, THEN, ELSEIF, ELSE, END, RETURN}
+use Rattle.bl_lex.specs.declared.word.TheConstants.{
+  VAR,
+  LET,
+  CONST,
+  AWAIT,
+  RUN,
+  COBEGIN,
+  WEAK,
+  WITH,
+  WHEN,
+  ABORT,
+  RESET,
+  REPEAT,
+  UNTIL,
+  WHILE,
+  IF,
+  THEN,
+  ELSEIF,
+  ELSE,
+  END,
+  RETURN,
+}
 use Rattle.bl_raw.specs.declared.expr.RawExpr.{RawExpr}
 use Rattle.bl_raw.specs.declared.expr.RawTarget.{RawTarget}
 use Rattle.bl_raw.specs.declared.name.Name.{Name}
@@ -73,7 +112,8 @@ pub record SpellsPath (text : List ℕ) (tokens : List Token) (path : RawPath) (
 
 -- one path or more, with commas between them
 pub data SpellsPaths (text : List ℕ) (tokens : List Token) : List RawPath → ℕ → ℕ → Type 0 where
-  first : {all : List RawPath} {path : RawPath} {from to : ℕ} → SpellsPath text tokens path from to → all ≡ path ∷ [] → SpellsPaths text tokens all from to
+  first : {all : List RawPath} {path : RawPath} {from to : ℕ} → SpellsPath text tokens path from to → all ≡ path ∷ [] →
+      SpellsPaths text tokens all from to
   more : {all paths : List RawPath} {path : RawPath} {from m n to : ℕ} → SpellsPaths text tokens paths from m → Takes tokens (Sign COMMA) m n
       → SpellsPath text tokens path n to → all ≡ paths ++ path ∷ [] → SpellsPaths text tokens all from to
 
@@ -211,14 +251,16 @@ mutual
 
   -- the arm of `if`, and those of `elseif`, as many as there are
   pub data SpellsArms (text : List ℕ) (tokens : List Token) : List RawArm → ℕ → ℕ → Type 0 where
-    first_arm : {arms : List RawArm} {arm : RawArm} {from to : ℕ} → SpellsArm text tokens IF arm from to → arms ≡ arm ∷ [] → SpellsArms text tokens arms from to
+    first_arm : {arms : List RawArm} {arm : RawArm} {from to : ℕ} → SpellsArm text tokens IF arm from to → arms ≡ arm ∷ [] →
+        SpellsArms text tokens arms from to
     more_arms : {all arms : List RawArm} {arm : RawArm} {from m to : ℕ} → SpellsArms text tokens arms from m → SpellsArm text tokens ELSEIF arm m to
         → all ≡ arms ++ arm ∷ [] → SpellsArms text tokens all from to
 
   -- nothing, which is no statement, or `else` and a block
   pub data SpellsElse (text : List ℕ) (tokens : List Token) : List RawStmt → ℕ → ℕ → Type 0 where
     no_else : {other : List RawStmt} {from to : ℕ} → other ≡ [] → to ≡ from → SpellsElse text tokens other from to
-    with_else : {other : List RawStmt} {from m to : ℕ} → Takes tokens (Word ELSE) from m → SpellsBlock text tokens other m to → SpellsElse text tokens other from to
+    with_else : {other : List RawStmt} {from m to : ℕ} → Takes tokens (Word ELSE) from m → SpellsBlock text tokens other m to →
+        SpellsElse text tokens other from to
 
   -- maybe `weak`, and a block
   pub data SpellsBranch (text : List ℕ) (tokens : List Token) : RawBranch → ℕ → ℕ → Type 0 where

@@ -12,7 +12,7 @@ ghost use Rattle.bl_lex.specs.declared.sign.TheConstants.{OPEN_PAREN, CLOSE_PARE
 ghost use Rattle.bl_parse.specs.At.{kind_at, span, SpellsName, Takes};
 ghost use Rattle.bl_parse.specs.Expressions.{expr, is_number, IsTruth, SpellsExpr, SpellsTarget, SpellsPart, SpellsParts, SpellsInputs, SpellsExprs, SpellsNone};
 ghost use Rattle.bl_parse.specs.Operators.{left_level, operator_classes, NoInfix, SpellsInfix, SpellsPrefix};
-ghost use Rattle.bl_parse.specs.Reading.{accessing, next_among, just, operand, Awaits, AwaitsTail, KeepsTail, NoneNext, Turns};
+ghost use Rattle.bl_parse.specs.inner.Reading.{accessing, next_among, just, operand, Awaits, AwaitsTail, KeepsTail, NoneNext, Turns};
 
 use crate::name::name;
 use crate::operator::{Infix, infix_of};

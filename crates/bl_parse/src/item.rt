@@ -5,7 +5,7 @@ ghost use Rattle.bl_syntax.specs.declared.grammar.Part.{Part};
 ghost use Rattle.bl_syntax.specs.Grammar.{the, views};
 ghost use Rattle.bl_syntax.specs.Grammar as grammar;
 ghost use Rattle.bl_syntax.specs.Expects.{Expects};
-ghost use Rattle.bl_parse.specs.Reading.{just, Awaits, Turns};
+ghost use Rattle.bl_parse.specs.inner.Reading.{just, Awaits, Turns};
 ghost use Rattle.bl_parse.specs.Programs.{SpellsItems, SpellsItem, SpellsStruct, SpellsFieldList, SpellsField, SpellsUnit, SpellsMark, SpellsUnitKind, SpellsParams, SpellsParamList, SpellsParam, SpellsOutputParams, SpellsResult};
 
 use crate::name::name;

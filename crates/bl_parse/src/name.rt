@@ -4,7 +4,7 @@ ghost use Rattle.std.specs.Prelude.{◌≡◌, ◌+◌, ◌<◌, [], ◌∷◌, 
 ghost use Rattle.bl_tree.specs.declared.token.TokenKind.{TokenKind};
 ghost use Rattle.bl_syntax.specs.Grammar as grammar;
 ghost use Rattle.bl_parse.specs.At.{kind_at, start_at, end_at, SpellsName};
-ghost use Rattle.bl_parse.specs.Reading.{Turns};
+ghost use Rattle.bl_parse.specs.inner.Reading.{Turns};
 
 use crate::source::Source;
 use bl_raw::name::Name;

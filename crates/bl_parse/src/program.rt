@@ -5,7 +5,7 @@ ghost use Rattle.bl_tree.specs.Rules.{IsCause};
 ghost use Rattle.bl_lex.specs.Tokens.{Lexes};
 ghost use Rattle.bl_syntax.specs.Rules.{Fails, Passes, SpellsProgram};
 ghost use Rattle.bl_parse.specs.Programs.{Spells};
-ghost use Rattle.bl_parse.specs.Reading.{NamesStand};
+ghost use Rattle.bl_parse.specs.inner.Reading.{NamesStand};
 
 use crate::item::items;
 use crate::source::Source;

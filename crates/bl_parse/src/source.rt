@@ -4,7 +4,7 @@ ghost use Rattle.std.specs.Prelude.{◌≡◌, ◌+◌, ◌<◌, ◌↔◌, Some
 ghost use Rattle.bl_tree.specs.declared.token.TokenKind.{TokenKind};
 ghost use Rattle.bl_parse.specs.At.{kind_at, start_at, end_at, span, Takes};
 ghost use Rattle.bl_parse.specs.Expressions.{is_number};
-ghost use Rattle.bl_parse.specs.Reading.{NamesStand, NotNext};
+ghost use Rattle.bl_parse.specs.inner.Reading.{NamesStand, NotNext};
 
 use bl_tree::Place;
 use bl_tree::token::{Token, TokenKind};

@@ -7,7 +7,7 @@ ghost use Rattle.bl_syntax.specs.declared.grammar.Part.{Part};
 ghost use Rattle.bl_syntax.specs.Grammar.{the};
 ghost use Rattle.bl_syntax.specs.Grammar as grammar;
 ghost use Rattle.bl_parse.specs.At.{kind_at};
-ghost use Rattle.bl_parse.specs.Reading.{just, Awaits, Turns};
+ghost use Rattle.bl_parse.specs.inner.Reading.{just, Awaits, Turns};
 ghost use Rattle.bl_parse.specs.Statements.{SpellsBlock, SpellsStmt, SpellsKind, SpellsBranches, SpellsBranch, SpellsWeak, SpellsGuard, SpellsArms, SpellsArm, SpellsElse, begins_stmt, goes_on, leads_stmt, takes_value};
 
 use crate::expr::{read_expr, read_inputs, target_of};

@@ -5,7 +5,7 @@ ghost use Rattle.bl_lex.specs.declared.sign.TheConstants.{OPEN_BRACKET, CLOSE_BR
 ghost use Rattle.bl_syntax.specs.declared.grammar.Part.{Part};
 ghost use Rattle.bl_syntax.specs.Grammar.{the};
 ghost use Rattle.bl_syntax.specs.Grammar as grammar;
-ghost use Rattle.bl_parse.specs.Reading.{just, Awaits, Turns};
+ghost use Rattle.bl_parse.specs.inner.Reading.{just, Awaits, Turns};
 ghost use Rattle.bl_parse.specs.Operators.{SpellsScalar};
 ghost use Rattle.bl_parse.specs.Types.{SpellsLength, SpellsType};
 

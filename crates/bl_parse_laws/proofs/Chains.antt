@@ -10,18 +10,46 @@ use Rattle.bl_tree.specs.declared.token.Token.{Token}
 use Rattle.bl_tree.specs.declared.token.TokenKind.{TokenKind}
 use Rattle.bl_tree.specs.declared.token.TokenKind.TheVariants.{Word, Sign}
 use Rattle.bl_lex.specs.declared.word.TheConstants.{OR, AS, INT8, INT16, INT32, INT64, NAT8, NAT16, NAT32, NAT64, BITS8, BITS16, BITS32, BITS64}
-use Rattle.bl_lex.specs.declared.sign.TheConstants.{EQUAL, NOT_EQUAL, LESS, LESS_OR_EQUAL, GREATER, GREATER_OR_EQUAL, BAR, CARET, AMPERSAND, SHIFT_LEFT, SHIFT_RIGHT, PLUS, MINUS, STAR, SLASH}
+use Rattle.bl_lex.specs.declared.sign.TheConstants.{
+  EQUAL,
+  NOT_EQUAL,
+  LESS,
+  LESS_OR_EQUAL,
+  GREATER,
+  GREATER_OR_EQUAL,
+  BAR,
+  CARET,
+  AMPERSAND,
+  SHIFT_LEFT,
+  SHIFT_RIGHT,
+  PLUS,
+  MINUS,
+  STAR,
+  SLASH,
+}
 use Rattle.bl_syntax.specs.declared.grammar.Class.{Class}
 use Rattle.bl_syntax.specs.declared.grammar.Class.TheVariants.{Keyword}
 use Rattle.bl_syntax.specs.Grammar.{class_of, same_class}
 use Rattle.bl_syntax.specs.Tables.{has}
-use Rattle.bl_syntax.specs.Follow.{after_expression, after_both, after_comparison, after_bits, after_xor, after_and, after_shift, after_sum, after_product, after_cast, after_unary}
+use Rattle.bl_syntax.specs.Follow.{
+  after_expression,
+  after_both,
+  after_comparison,
+  after_bits,
+  after_xor,
+  after_and,
+  after_shift,
+  after_sum,
+  after_product,
+  after_cast,
+  after_unary,
+}
 use Rattle.bl_raw.specs.declared.expr.RawExpr.{RawExpr}
 use Rattle.bl_raw.specs.declared.expr.RawExprKind as kind
 use Rattle.bl_parse.specs.At.{span, Takes}
 use Rattle.bl_parse.specs.Expressions.{expr, SpellsExpr}
 use Rattle.bl_parse.specs.Operators.{IsOperator, IsScalar, SpellsInfix, SpellsScalar, left_level}
-use Rattle.bl_parse.specs.Reading.{NoneNext}
+use Rattle.bl_parse.specs.inner.Reading.{NoneNext}
 use Rattle.bl_parse_laws.proofs.Levels.{room_left}
 use Rattle.bl_parse_laws.proofs.Only.{One, meets, same_kind, next_same, clash, token_none, stops, fewer}
 
@@ -52,7 +80,8 @@ looser_stop (suc (suc (suc (suc (suc (suc (suc (suc zero)))))))) le s = fewer af
 looser_stop (suc (suc (suc (suc (suc (suc (suc (suc (suc zero))))))))) le s = fewer after_unary after_cast refl s
 looser_stop (suc (suc (suc (suc (suc (suc (suc (suc (suc (suc n)))))))))) le s = absurd (omega (arith, le))
 
-op_stop : {tokens : List Token} {kind : TokenKind} {level m n : ℕ} {op : Op} → IsOperator kind level op → Takes tokens kind m n → NoneNext (after (level + 1)) tokens m
+op_stop : {tokens : List Token} {kind : TokenKind} {level m n : ℕ} {op : Op} → IsOperator kind level op → Takes tokens kind m n →
+    NoneNext (after (level + 1)) tokens m
 op_stop IsOperator.either t = stops t refl
 op_stop IsOperator.both t = stops t refl
 op_stop IsOperator.equal t = stops t refl
@@ -72,7 +101,8 @@ op_stop IsOperator.times t = stops t refl
 op_stop IsOperator.divided t = stops t refl
 op_stop IsOperator.remainder t = stops t refl
 
-op_clash : {P : Type 0} {tokens : List Token} {kind : TokenKind} {level k m n : ℕ} {op : Op} → IsOperator kind level op → Takes tokens kind m n → k ≡ m → NoneNext (after level) tokens k → P
+op_clash : {P : Type 0} {tokens : List Token} {kind : TokenKind} {level k m n : ℕ} {op : Op} → IsOperator kind level op →
+    Takes tokens kind m n → k ≡ m → NoneNext (after level) tokens k → P
 op_clash IsOperator.either t e s = token_none t e refl s
 op_clash IsOperator.both t e s = token_none t e refl s
 op_clash IsOperator.equal t e s = token_none t e refl s
@@ -134,7 +164,13 @@ left_fits IsOperator.remainder = omega arith
 
 op_of : TokenKind → Op
 op_of (Word w) = cond (nat_eq w OR) Op.Or Op.And
-op_of (Sign s) = cond (nat_eq s EQUAL) Op.Eq (cond (nat_eq s NOT_EQUAL) Op.Ne (cond (nat_eq s LESS) Op.Lt (cond (nat_eq s LESS_OR_EQUAL) Op.Le (cond (nat_eq s GREATER) Op.Gt (cond (nat_eq s GREATER_OR_EQUAL) Op.Ge (cond (nat_eq s BAR) Op.BitOr (cond (nat_eq s CARET) Op.BitXor (cond (nat_eq s AMPERSAND) Op.BitAnd (cond (nat_eq s SHIFT_LEFT) Op.Shl (cond (nat_eq s SHIFT_RIGHT) Op.Shr (cond (nat_eq s PLUS) Op.Add (cond (nat_eq s MINUS) Op.Sub (cond (nat_eq s STAR) Op.Mul (cond (nat_eq s SLASH) Op.Div (Op.Rem)))))))))))))))
+op_of (Sign s) = cond (nat_eq s EQUAL) Op.Eq (cond (nat_eq s NOT_EQUAL) Op.Ne
+    (cond (nat_eq s LESS) Op.Lt (cond (nat_eq s LESS_OR_EQUAL) Op.Le
+    (cond (nat_eq s GREATER) Op.Gt (cond (nat_eq s GREATER_OR_EQUAL) Op.Ge
+    (cond (nat_eq s BAR) Op.BitOr (cond (nat_eq s CARET) Op.BitXor
+    (cond (nat_eq s AMPERSAND) Op.BitAnd (cond (nat_eq s SHIFT_LEFT) Op.Shl
+    (cond (nat_eq s SHIFT_RIGHT) Op.Shr (cond (nat_eq s PLUS) Op.Add
+    (cond (nat_eq s MINUS) Op.Sub (cond (nat_eq s STAR) Op.Mul (cond (nat_eq s SLASH) Op.Div (Op.Rem)))))))))))))))
 op_of _ = Op.Rem
 
 same_as : {kind : TokenKind} {level : ℕ} {op : Op} → IsOperator kind level op → op_of kind ≡ op
@@ -159,7 +195,12 @@ same_as IsOperator.divided = refl
 same_as IsOperator.remainder = refl
 
 scalar_of : TokenKind → ScalarType
-scalar_of (Word w) = cond (nat_eq w INT8) (Int W8) (cond (nat_eq w INT16) (Int W16) (cond (nat_eq w INT32) (Int W32) (cond (nat_eq w INT64) (Int W64) (cond (nat_eq w NAT8) (Nat W8) (cond (nat_eq w NAT16) (Nat W16) (cond (nat_eq w NAT32) (Nat W32) (cond (nat_eq w NAT64) (Nat W64) (cond (nat_eq w BITS8) (Bits W8) (cond (nat_eq w BITS16) (Bits W16) (cond (nat_eq w BITS32) (Bits W32) (cond (nat_eq w BITS64) (Bits W64) (OfBool))))))))))))
+scalar_of (Word w) = cond (nat_eq w INT8) (Int W8)
+    (cond (nat_eq w INT16) (Int W16) (cond (nat_eq w INT32) (Int W32)
+    (cond (nat_eq w INT64) (Int W64) (cond (nat_eq w NAT8) (Nat W8)
+    (cond (nat_eq w NAT16) (Nat W16) (cond (nat_eq w NAT32) (Nat W32)
+    (cond (nat_eq w NAT64) (Nat W64) (cond (nat_eq w BITS8) (Bits W8)
+    (cond (nat_eq w BITS16) (Bits W16) (cond (nat_eq w BITS32) (Bits W32) (cond (nat_eq w BITS64) (Bits W64) (OfBool))))))))))))
 scalar_of _ = OfBool
 
 scalar_as : {kind : TokenKind} {s : ScalarType} → IsScalar kind s → scalar_of kind ≡ s
@@ -178,7 +219,8 @@ scalar_as IsScalar.bits16 = refl
 scalar_as IsScalar.bits32 = refl
 scalar_as IsScalar.bits64 = refl
 
-pub same_scalar : {tokens : List Token} {s r : ScalarType} {a b c d : ℕ} → SpellsScalar tokens s a b → a ≡ c → SpellsScalar tokens r c d → (s ≡ r) × (b ≡ d)
+pub same_scalar : {tokens : List Token} {s r : ScalarType} {a b c d : ℕ} → SpellsScalar tokens s a b → a ≡ c →
+    SpellsScalar tokens r c d → (s ≡ r) × (b ≡ d)
 same_scalar h e g = (sym (scalar_as h.is) ∙ (ap scalar_of (same_kind h.token e g.token) ∙ scalar_as g.is), next_same e h.token g.token)
 
 -- ---- chains from the left
@@ -191,10 +233,13 @@ pub data Tail (text : List ℕ) (tokens : List Token) (level start : ℕ) : RawE
   cast : {acc e all : RawExpr} {s : ScalarType} {from n m to : ℕ} → level ≡ 9 → Takes tokens (Word AS) from n → SpellsScalar tokens s n m
       → all ≡ expr (span tokens start m) (kind.Cast s acc) → Tail text tokens level start all m e to → Tail text tokens level start acc from e to
 
-moved : {text : List ℕ} {tokens : List Token} {level start : ℕ} {e w f : RawExpr} {to m end : ℕ} → e ≡ w → to ≡ m → Tail text tokens level start w m f end → Tail text tokens level start e to f end
-moved {text} {tokens} {level} {start} {e} {w} {f} {to} {m} {end} same at t = subst (λ x. Tail text tokens level start x to f end) (sym same) (subst (λ k. Tail text tokens level start w k f end) (sym at) t)
+moved : {text : List ℕ} {tokens : List Token} {level start : ℕ} {e w f : RawExpr} {to m end : ℕ} → e ≡ w → to ≡ m →
+    Tail text tokens level start w m f end → Tail text tokens level start e to f end
+moved {text} {tokens} {level} {start} {e} {w} {f} {to} {m} {end} same at t =
+    subst (λ x. Tail text tokens level start x to f end) (sym same) (subst (λ k. Tail text tokens level start w k f end) (sym at) t)
 
-chain : {text : List ℕ} {tokens : List Token} {level start : ℕ} {acc a e : RawExpr} {from m to : ℕ} → Tail text tokens level start acc from a m → Tail text tokens level start a m e to → Tail text tokens level start acc from e to
+chain : {text : List ℕ} {tokens : List Token} {level start : ℕ} {acc a e : RawExpr} {from m to : ℕ} →
+    Tail text tokens level start acc from a m → Tail text tokens level start a m e to → Tail text tokens level start acc from e to
 chain (Tail.ended f g) t = moved f g t
 chain (Tail.operated op b is r) t = Tail.operated op b is (chain r t)
 chain (Tail.cast nine t s is r) u = Tail.cast nine t s is (chain r u)
@@ -206,14 +251,17 @@ record Heads (text : List ℕ) (tokens : List Token) (level : ℕ) (e : RawExpr)
   head : SpellsExpr text tokens (level + 1) h from m
   tail : Tail text tokens level from h m e to
 
-alone : {text : List ℕ} {tokens : List Token} {level : ℕ} {e : RawExpr} {from to : ℕ} → SpellsExpr text tokens (level + 1) e from to → Heads text tokens level e from to
+alone : {text : List ℕ} {tokens : List Token} {level : ℕ} {e : RawExpr} {from to : ℕ} →
+    SpellsExpr text tokens (level + 1) e from to → Heads text tokens level e from to
 alone h = record { h = _; m = _; head = h; tail = Tail.ended refl refl }
 
 tenth : (level : ℕ) → level ≤ 9 → level + 1 ≤ 10
 tenth level le = omega (arith, le)
 
-two_flat : {text : List ℕ} {tokens : List Token} {lower own : ℕ} {e a b : RawExpr} {op : Op} {from m n to : ℕ} (level : ℕ) → level ≤ lower → lower ≤ own
-    → SpellsExpr text tokens (left_level own) a from m → SpellsInfix tokens own op m n → SpellsExpr text tokens (own + 1) b n to → e ≡ expr (span tokens from to) (kind.Two op a b)
+two_flat : {text : List ℕ} {tokens : List Token} {lower own : ℕ} {e a b : RawExpr} {op : Op} {from m n to : ℕ} (level : ℕ) →
+    level ≤ lower → lower ≤ own
+    → SpellsExpr text tokens (left_level own) a from m → SpellsInfix tokens own op m n → SpellsExpr text tokens (own + 1) b n to →
+    e ≡ expr (span tokens from to) (kind.Two op a b)
     → (level ≤ left_level own → Heads text tokens level a from m) → Heads text tokens level e from to
 two_flat {text} {tokens} {lower} {own} {e} {a} {b} {op} {from} {m} {n} {to} level low le left op_at right is deeper = by_less (nat_lt level own) refl
   where
@@ -244,7 +292,8 @@ cast_flat {text} {tokens} {e} {a} {s} {from} {m} {n} {to} level le left t scalar
         let d = deeper le in
         record { h = d.h; m = d.m; head = d.head; tail = chain d.tail (Tail.cast (omega (arith, l, le)) t scalar is (Tail.ended refl refl)) }
 
-flat : {text : List ℕ} {tokens : List Token} (level : ℕ) {lower : ℕ} {e : RawExpr} {from to : ℕ} → SpellsExpr text tokens lower e from to → level ≤ lower → level ≤ 9 → Heads text tokens level e from to
+flat : {text : List ℕ} {tokens : List Token} (level : ℕ) {lower : ℕ} {e : RawExpr} {from to : ℕ} →
+    SpellsExpr text tokens lower e from to → level ≤ lower → level ≤ 9 → Heads text tokens level e from to
 flat level (SpellsExpr.two le a op b is) low nine = two_flat level low le a op b is (λ fit. flat level a fit nine)
 flat level (SpellsExpr.cast le a t s is) low nine = cast_flat level nine a t s is (λ fit. flat level a fit nine)
 flat level (SpellsExpr.negative le minus n is) low nine = alone (SpellsExpr.negative (tenth level nine) minus n is)
@@ -267,25 +316,31 @@ record Grows (text : List ℕ) (tokens : List Token) (level : ℕ) (e : RawExpr)
 abbrev pub OneExpr : List ℕ → List Token → ℕ → RawExpr → ℕ → ℕ → Type 0
 OneExpr text tokens level e from to = One (SpellsExpr text tokens level) (after level) tokens e from to
 
-tail_stop : {text : List ℕ} {tokens : List Token} (level : ℕ) {start : ℕ} {h f : RawExpr} {m end : ℕ} → level ≤ 9 → Tail text tokens level start h m f end → NoneNext (after level) tokens end
+tail_stop : {text : List ℕ} {tokens : List Token} (level : ℕ) {start : ℕ} {h f : RawExpr} {m end : ℕ} → level ≤ 9 →
+    Tail text tokens level start h m f end → NoneNext (after level) tokens end
     → NoneNext (after (level + 1)) tokens m
 tail_stop {tokens = tokens} level nine (Tail.ended e g) s = looser_stop level nine (subst (λ k. NoneNext (after level) tokens k) (sym g) s)
 tail_stop level nine (Tail.operated op b is r) s = op_stop op.is op.token
 tail_stop {tokens = tokens} level {m = m} nine (Tail.cast l t sc is r) s = subst (λ k. NoneNext (after (k + 1)) tokens m) (sym l) (stops t refl)
 
-one_down : {text : List ℕ} {tokens : List Token} {e : RawExpr} {from to : ℕ} (level : ℕ) → level ≤ 9 → OneExpr text tokens (level + 1) e from to → Grows text tokens level e from to
+one_down : {text : List ℕ} {tokens : List Token} {e : RawExpr} {from to : ℕ} (level : ℕ) → level ≤ 9 →
+    OneExpr text tokens (level + 1) e from to → Grows text tokens level e from to
 one_down level nine one = record { goes = λ stop h m f end q t s. let r = one.only h m q stop (tail_stop level nine t s) in moved r.0 r.1 t }
 
-two_same : (tokens : List Token) (start : ℕ) (a : RawExpr) {to m : ℕ} {o p : Op} {b c e w : RawExpr} → o ≡ p → b ≡ c → to ≡ m → e ≡ expr (span tokens start to) (kind.Two o a b)
+two_same : (tokens : List Token) (start : ℕ) (a : RawExpr) {to m : ℕ} {o p : Op} {b c e w : RawExpr} → o ≡ p → b ≡ c → to ≡ m →
+    e ≡ expr (span tokens start to) (kind.Two o a b)
     → w ≡ expr (span tokens start m) (kind.Two p a c) → e ≡ w
 two_same tokens start a {to} {m} {o} {p} {b} {c} eo eb et is other = is ∙ (ap (λ k. expr (span tokens start k) (kind.Two o a b)) et
     ∙ (ap (λ x. expr (span tokens start m) (kind.Two x a b)) eo ∙ (ap (λ x. expr (span tokens start m) (kind.Two p a x)) eb ∙ sym other)))
 
-cast_same : (tokens : List Token) (start : ℕ) (a : RawExpr) {to m : ℕ} {s r : ScalarType} {e w : RawExpr} → s ≡ r → to ≡ m → e ≡ expr (span tokens start to) (kind.Cast s a)
+cast_same : (tokens : List Token) (start : ℕ) (a : RawExpr) {to m : ℕ} {s r : ScalarType} {e w : RawExpr} → s ≡ r → to ≡ m →
+    e ≡ expr (span tokens start to) (kind.Cast s a)
     → w ≡ expr (span tokens start m) (kind.Cast r a) → e ≡ w
-cast_same tokens start a {to} {m} {s} {r} es et is other = is ∙ (ap (λ k. expr (span tokens start k) (kind.Cast s a)) et ∙ (ap (λ x. expr (span tokens start m) (kind.Cast x a)) es ∙ sym other))
+cast_same tokens start a {to} {m} {s} {r} es et is other =
+    is ∙ (ap (λ k. expr (span tokens start k) (kind.Cast s a)) et ∙ (ap (λ x. expr (span tokens start m) (kind.Cast x a)) es ∙ sym other))
 
-stepped : {text : List ℕ} {tokens : List Token} {level : ℕ} {start : ℕ} {e a b f : RawExpr} {op : Op} {m n to end : ℕ} → SpellsInfix tokens level op m n → OneExpr text tokens (level + 1) b n to
+stepped : {text : List ℕ} {tokens : List Token} {level : ℕ} {start : ℕ} {e a b f : RawExpr} {op : Op} {m n to end : ℕ} →
+    SpellsInfix tokens level op m n → OneExpr text tokens (level + 1) b n to
     → e ≡ expr (span tokens start to) (kind.Two op a b) → level ≤ 9 → NoneNext (after (level + 1)) tokens to
     → Tail text tokens level start a m f end → NoneNext (after level) tokens end → Tail text tokens level start e to f end
 stepped op one is nine stop (Tail.ended e g) s = op_clash op.is op.token (sym g) s
@@ -295,38 +350,52 @@ stepped {tokens = tokens} {level = level} {start = start} {a = a} op one is nine
     moved (two_same tokens start a o x.0 x.1 is also) x.1 r
 stepped op one is nine stop (Tail.cast l t sc also r) s = clash op.token refl t (not_cast op.is)
 
-cast_stepped : {text : List ℕ} {tokens : List Token} {start : ℕ} {e a f : RawExpr} {s : ScalarType} {m n to end : ℕ} → Takes tokens (Word AS) m n → SpellsScalar tokens s n to
-    → e ≡ expr (span tokens start to) (kind.Cast s a) → Tail text tokens 9 start a m f end → NoneNext (after 9) tokens end → Tail text tokens 9 start e to f end
+cast_stepped : {text : List ℕ} {tokens : List Token} {start : ℕ} {e a f : RawExpr} {s : ScalarType} {m n to end : ℕ} →
+    Takes tokens (Word AS) m n → SpellsScalar tokens s n to
+    → e ≡ expr (span tokens start to) (kind.Cast s a) → Tail text tokens 9 start a m f end → NoneNext (after 9) tokens end →
+    Tail text tokens 9 start e to f end
 cast_stepped t sc is (Tail.ended e g) s = token_none t (sym g) refl s
 cast_stepped t sc is (Tail.operated op right also r) s = clash op.token refl t (not_cast op.is)
-cast_stepped {tokens = tokens} {start = start} {a = a} t sc is (Tail.cast l u other also r) s = let x = same_scalar sc (next_same refl t u) other in moved (cast_same tokens start a x.0 x.1 is also) x.1 r
+cast_stepped {tokens = tokens} {start = start} {a = a} t sc is (Tail.cast l u other also r) s = let x =
+    same_scalar sc (next_same refl t u) other in moved (cast_same tokens start a x.0 x.1 is also) x.1 r
 
-done_at : {text : List ℕ} {tokens : List Token} {level start : ℕ} {e f : RawExpr} {to end : ℕ} → Tail text tokens level start e to f end → NoneNext (after level) tokens to → (e ≡ f) × (to ≡ end)
+done_at : {text : List ℕ} {tokens : List Token} {level start : ℕ} {e f : RawExpr} {to end : ℕ} →
+    Tail text tokens level start e to f end → NoneNext (after level) tokens to → (e ≡ f) × (to ≡ end)
 done_at (Tail.ended e g) s = (e, g)
 done_at (Tail.operated op b is r) s = op_clash op.is op.token refl s
 done_at (Tail.cast l t sc is r) s = token_none t refl (subst (λ k. has (after k) (Keyword AS) ≡ true) (sym l) refl) s
 
-finish : {text : List ℕ} {tokens : List Token} {e : RawExpr} {from to : ℕ} (level : ℕ) → level ≤ 9 → Grows text tokens level e from to → OneExpr text tokens level e from to
-finish level nine o = record { only = λ f end q s r. let d = flat level q (omega arith) nine in done_at (o.goes (looser_stop level nine s) d.h d.m f end d.head d.tail r) s }
+finish : {text : List ℕ} {tokens : List Token} {e : RawExpr} {from to : ℕ} (level : ℕ) → level ≤ 9 →
+    Grows text tokens level e from to → OneExpr text tokens level e from to
+finish level nine o = record {
+  only = λ f end q s r. let d = flat level q (omega arith) nine in
+      done_at (o.goes (looser_stop level nine s) d.h d.m f end d.head d.tail r) s;
+}
 
 -- what is known of an expression of a level
 pub record Closed (text : List ℕ) (tokens : List Token) (level : ℕ) (e : RawExpr) (from to : ℕ) : Type 0 where
   pub one : OneExpr text tokens level e from to
   grows : level ≤ 9 → Grows text tokens level e from to
 
-closed : {text : List ℕ} {tokens : List Token} {e : RawExpr} {from to : ℕ} (level : ℕ) → level ≤ 9 → Grows text tokens level e from to → Closed text tokens level e from to
+closed : {text : List ℕ} {tokens : List Token} {e : RawExpr} {from to : ℕ} (level : ℕ) → level ≤ 9 →
+    Grows text tokens level e from to → Closed text tokens level e from to
 closed level nine g = record { one = finish level nine g; grows = λ le. g }
 
-down_by : {text : List ℕ} {tokens : List Token} {e : RawExpr} {from to : ℕ} (n level own : ℕ) → own ≡ n + level → own ≤ 10 → Closed text tokens own e from to → Closed text tokens level e from to
-down_by {text} {tokens} {e} {from} {to} zero level own is le o = let same : own ≡ level = omega (arith, is) in subst (λ k. Closed text tokens k e from to) same o
+down_by : {text : List ℕ} {tokens : List Token} {e : RawExpr} {from to : ℕ} (n level own : ℕ) → own ≡ n + level → own ≤ 10 →
+    Closed text tokens own e from to → Closed text tokens level e from to
+down_by {text} {tokens} {e} {from} {to} zero level own is le o = let same : own ≡ level = omega (arith, is) in
+    subst (λ k. Closed text tokens k e from to) same o
 down_by {text} {tokens} {e} {from} {to} (suc n) level own is le o =
     let same : own ≡ n + level + 1 = omega (arith, is) in
-    down_by n level (n + level) refl (omega (arith, is, le)) (closed (n + level) (omega (arith, is, le)) (one_down (n + level) (omega (arith, is, le)) (subst (λ k. Closed text tokens k e from to) same o).one))
+    down_by n level (n + level) refl (omega (arith, is, le))
+    (closed (n + level) (omega (arith, is, le)) (one_down (n + level) (omega (arith, is, le)) (subst (λ k. Closed text tokens k e from to) same o).one))
 
-pub lower_closed : {text : List ℕ} {tokens : List Token} {e : RawExpr} {level own from to : ℕ} → level ≤ own → own ≤ 10 → Closed text tokens own e from to → Closed text tokens level e from to
+pub lower_closed : {text : List ℕ} {tokens : List Token} {e : RawExpr} {level own from to : ℕ} → level ≤ own → own ≤ 10 →
+    Closed text tokens own e from to → Closed text tokens level e from to
 lower_closed {level = level} {own = own} le room o = down_by (own - level) level own (omega (arith, le)) room o
 
-left_grows : {text : List ℕ} {tokens : List Token} {a : RawExpr} {kind : TokenKind} {own from to : ℕ} {op : Op} → IsOperator kind own op → Closed text tokens (left_level own) a from to → Grows text tokens own a from to
+left_grows : {text : List ℕ} {tokens : List Token} {a : RawExpr} {kind : TokenKind} {own from to : ℕ} {op : Op} →
+    IsOperator kind own op → Closed text tokens (left_level own) a from to → Grows text tokens own a from to
 left_grows IsOperator.either c = c.grows (omega arith)
 left_grows IsOperator.both c = c.grows (omega arith)
 left_grows IsOperator.equal c = one_down 2 (omega arith) c.one
@@ -346,23 +415,30 @@ left_grows IsOperator.times c = c.grows (omega arith)
 left_grows IsOperator.divided c = c.grows (omega arith)
 left_grows IsOperator.remainder c = c.grows (omega arith)
 
-step : {text : List ℕ} {tokens : List Token} {level : ℕ} {e a b : RawExpr} {op : Op} {from m n to : ℕ} → SpellsInfix tokens level op m n → level ≤ 9 → Grows text tokens level a from m
+step : {text : List ℕ} {tokens : List Token} {level : ℕ} {e a b : RawExpr} {op : Op} {from m n to : ℕ} →
+    SpellsInfix tokens level op m n → level ≤ 9 → Grows text tokens level a from m
     → OneExpr text tokens (level + 1) b n to → e ≡ expr (span tokens from to) (kind.Two op a b) → Grows text tokens level e from to
 step op nine g one is = record { goes = λ stop h k f end q t s. stepped op one is nine stop (g.goes (op_stop op.is op.token) h k f end q t s) s }
 
-cast_step : {text : List ℕ} {tokens : List Token} {e a : RawExpr} {s : ScalarType} {from m n to : ℕ} → Takes tokens (Word AS) m n → SpellsScalar tokens s n to → Grows text tokens 9 a from m
+cast_step : {text : List ℕ} {tokens : List Token} {e a : RawExpr} {s : ScalarType} {from m n to : ℕ} → Takes tokens (Word AS) m n →
+    SpellsScalar tokens s n to → Grows text tokens 9 a from m
     → e ≡ expr (span tokens from to) (kind.Cast s a) → Grows text tokens 9 e from to
 cast_step t sc g is = record { goes = λ stop h k f end q tail s. cast_stepped t sc is (g.goes (stops t refl) h k f end q tail s) s }
 
-pub two_closed : {text : List ℕ} {tokens : List Token} {level own : ℕ} {e a b : RawExpr} {op : Op} {from m n to : ℕ} → level ≤ own → SpellsInfix tokens own op m n
-    → (left_level own ≤ 10 → Closed text tokens (left_level own) a from m) → (own + 1 ≤ 10 → Closed text tokens (own + 1) b n to) → e ≡ expr (span tokens from to) (kind.Two op a b)
+pub two_closed : {text : List ℕ} {tokens : List Token} {level own : ℕ} {e a b : RawExpr} {op : Op} {from m n to : ℕ} → level ≤ own →
+    SpellsInfix tokens own op m n
+    → (left_level own ≤ 10 → Closed text tokens (left_level own) a from m) → (own + 1 ≤ 10 → Closed text tokens (own + 1) b n to) →
+    e ≡ expr (span tokens from to) (kind.Two op a b)
     → Closed text tokens level e from to
 two_closed {own = own} le op left right is = let r = room_left op.is in let r8 = r.1 in
-    lower_closed le (omega (arith, r8)) (closed own (omega (arith, r8)) (step op (omega (arith, r8)) (left_grows op.is (left r.0)) (right (omega (arith, r8))).one is))
+    lower_closed le (omega (arith, r8)) (closed own (omega (arith, r8))
+    (step op (omega (arith, r8)) (left_grows op.is (left r.0)) (right (omega (arith, r8))).one is))
 
-pub cast_closed : {text : List ℕ} {tokens : List Token} {level : ℕ} {e a : RawExpr} {s : ScalarType} {from m n to : ℕ} → level ≤ 9 → Takes tokens (Word AS) m n → SpellsScalar tokens s n to
+pub cast_closed : {text : List ℕ} {tokens : List Token} {level : ℕ} {e a : RawExpr} {s : ScalarType} {from m n to : ℕ} → level ≤ 9 →
+    Takes tokens (Word AS) m n → SpellsScalar tokens s n to
     → (9 ≤ 10 → Closed text tokens 9 a from m) → e ≡ expr (span tokens from to) (kind.Cast s a) → Closed text tokens level e from to
 cast_closed le t sc left is = lower_closed le (omega arith) (closed 9 (omega arith) (cast_step t sc ((left (omega arith)).grows (omega arith)) is))
 
-pub unary_closed : {text : List ℕ} {tokens : List Token} {level : ℕ} {e : RawExpr} {from to : ℕ} → level ≤ 10 → OneExpr text tokens 10 e from to → Closed text tokens level e from to
+pub unary_closed : {text : List ℕ} {tokens : List Token} {level : ℕ} {e : RawExpr} {from to : ℕ} → level ≤ 10 →
+    OneExpr text tokens 10 e from to → Closed text tokens level e from to
 unary_closed le one = lower_closed le (omega arith) (record { one = one; grows = λ nine. absurd (omega (arith, nine)) })

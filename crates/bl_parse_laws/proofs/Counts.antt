@@ -1,12 +1,53 @@
 -- How the counts of rule Depth go on from token to token.
-use Rattle.std.proofs.Common.{◌≡◌, ℕ, zero, suc, ◌+◌, ◌-◌, ◌<◌, ◌≤◌, Bool, true, false, cond, not, ◌&&◌, ◌||◌, List, [], ◌∷◌, ◌++◌, take, refl, ap, sym, ◌∙◌, arith, ◌⊎◌, inl, inr}
+use Rattle.std.proofs.Common.{
+  ◌≡◌,
+  ℕ,
+  zero,
+  suc,
+  ◌+◌,
+  ◌-◌,
+  ◌<◌,
+  ◌≤◌,
+  Bool,
+  true,
+  false,
+  cond,
+  not,
+  ◌&&◌,
+  ◌||◌,
+  List,
+  [],
+  ◌∷◌,
+  ◌++◌,
+  take,
+  refl,
+  ap,
+  sym,
+  ◌∙◌,
+  arith,
+  ◌⊎◌,
+  inl,
+  inr,
+}
 use Rattle.std.specs.Prelude.{Option, Some, None, slice_get, option_map, nat_eq}
 use Rattle.bl_tree.specs.declared.token.Token.{Token}
 use Rattle.bl_tree.specs.declared.token.TokenKind.{TokenKind}
 use Rattle.bl_tree.specs.declared.token.TokenKind.TheVariants.{Name, Number, Word, Sign}
 use Rattle.bl_lex.specs.declared.sign.TheConstants.{ASSIGN, AT}
 use Rattle.bl_lex.specs.declared.word.TheConstants.{END}
-use Rattle.bl_syntax.specs.Depth.{is_one_of, opening_words, blocks_after, is_counted, is_last, is_inner_word, begins_run, run_with, open_after, run_after, last_kind}
+use Rattle.bl_syntax.specs.Depth.{
+  is_one_of,
+  opening_words,
+  blocks_after,
+  is_counted,
+  is_last,
+  is_inner_word,
+  begins_run,
+  run_with,
+  open_after,
+  run_after,
+  last_kind,
+}
 use Rattle.bl_syntax.specs.Rules.{PassesDepth}
 use Rattle.bl_syntax.proofs.Depths.{open_next, last_next, run_next}
 use Rattle.bl_parse.specs.At.{Takes}
@@ -49,12 +90,14 @@ front {tokens} {from = from} t = let o = token_at tokens from t.stands in
       front_is = ap (λ k. take k tokens) (position t.next) ∙ take_more tokens from o.0 o.1;
     }
 
-open_step : {tokens : List Token} {kind : TokenKind} {from to : ℕ} → Takes tokens kind from to → open_at tokens to ≡ blocks_after (open_at tokens from) kind
+open_step : {tokens : List Token} {kind : TokenKind} {from to : ℕ} → Takes tokens kind from to →
+    open_at tokens to ≡ blocks_after (open_at tokens from) kind
 unfolding open_at
 open_step {tokens} {from = from} t = let f = front t in
     ap (open_after 0) f.front_is ∙ (open_next 0 (take from tokens) f.one ∙ ap (blocks_after (open_at tokens from)) f.kind_is)
 
-run_step : {tokens : List Token} {kind : TokenKind} {from to : ℕ} → Takes tokens kind from to → run_at tokens to ≡ run_with (run_at tokens from) (before_at tokens from) kind
+run_step : {tokens : List Token} {kind : TokenKind} {from to : ℕ} → Takes tokens kind from to →
+    run_at tokens to ≡ run_with (run_at tokens from) (before_at tokens from) kind
 unfolding run_at before_at
 run_step {tokens} {from = from} t = let f = front t in
     ap (run_after 0 None) f.front_is ∙ (run_next 0 None (take from tokens) f.one ∙ ap (run_with (run_at tokens from) (before_at tokens from)) f.kind_is)
@@ -87,7 +130,8 @@ levels n (Word k) level = by_tests (is_one_of opening_words k) (nat_eq k END) le
     by_tests false true level = cc
     by_tests true ends level = cc
 
-pub level : {tokens : List Token} {kind : TokenKind} {from to : ℕ} → Takes tokens kind from to → is_level kind ≡ true → open_at tokens to ≡ open_at tokens from
+pub level : {tokens : List Token} {kind : TokenKind} {from to : ℕ} → Takes tokens kind from to → is_level kind ≡ true →
+    open_at tokens to ≡ open_at tokens from
 level {tokens} {kind} {from} t is = open_step t ∙ levels (open_at tokens from) kind is
 
 opened : (n : ℕ) (kind : TokenKind) → is_opening kind ≡ true → blocks_after n kind ≡ n + 1
@@ -96,7 +140,8 @@ opened n (Number v) is = cc
 opened n (Sign k) is = cc
 opened n (Word k) is = rw is refl
 
-pub opens : {tokens : List Token} {kind : TokenKind} {from to : ℕ} → Takes tokens kind from to → is_opening kind ≡ true → open_at tokens to ≡ open_at tokens from + 1
+pub opens : {tokens : List Token} {kind : TokenKind} {from to : ℕ} → Takes tokens kind from to → is_opening kind ≡ true →
+    open_at tokens to ≡ open_at tokens from + 1
 opens {tokens} {kind} {from} t is = open_step t ∙ opened (open_at tokens from) kind is
 
 pub closes : {tokens : List Token} {from to : ℕ} → Takes tokens (Word END) from to → open_at tokens to ≡ open_at tokens from - 1
@@ -124,14 +169,19 @@ inner (Some p) (Word k) is = rw is refl
 inner None (Sign k) is = opposite _ is
 inner (Some p) (Sign k) is = opposite _ is
 
-run_of : (run : ℕ) (before : Option TokenKind) (kind : TokenKind) (starts counted : Bool) → begins_run before kind ≡ starts → is_counted kind ≡ counted → run_with run before kind ≡ cond starts 0 (cond counted (run + 1) run)
+run_of : (run : ℕ) (before : Option TokenKind) (kind : TokenKind) (starts counted : Bool) → begins_run before kind ≡ starts →
+    is_counted kind ≡ counted → run_with run before kind ≡ cond starts 0 (cond counted (run + 1) run)
 run_of run before kind starts counted is also = rw (is, also) refl
 
-pub counts : {tokens : List Token} {kind : TokenKind} {from to : ℕ} → Takes tokens kind from to → is_inner kind ≡ true → is_counted kind ≡ true → run_at tokens to ≡ run_at tokens from + 1
-counts {tokens} {kind} {from} t is also = run_step t ∙ run_of (run_at tokens from) (before_at tokens from) kind false true (inner (before_at tokens from) kind is) also
+pub counts : {tokens : List Token} {kind : TokenKind} {from to : ℕ} → Takes tokens kind from to → is_inner kind ≡ true →
+    is_counted kind ≡ true → run_at tokens to ≡ run_at tokens from + 1
+counts {tokens} {kind} {from} t is also = run_step t
+    ∙ run_of (run_at tokens from) (before_at tokens from) kind false true (inner (before_at tokens from) kind is) also
 
-pub keeps : {tokens : List Token} {kind : TokenKind} {from to : ℕ} → Takes tokens kind from to → is_inner kind ≡ true → is_counted kind ≡ false → run_at tokens to ≡ run_at tokens from
-keeps {tokens} {kind} {from} t is also = run_step t ∙ run_of (run_at tokens from) (before_at tokens from) kind false false (inner (before_at tokens from) kind is) also
+pub keeps : {tokens : List Token} {kind : TokenKind} {from to : ℕ} → Takes tokens kind from to → is_inner kind ≡ true →
+    is_counted kind ≡ false → run_at tokens to ≡ run_at tokens from
+keeps {tokens} {kind} {from} t is also = run_step t
+    ∙ run_of (run_at tokens from) (before_at tokens from) kind false false (inner (before_at tokens from) kind is) also
 
 -- what the run has, at least, at a position and behind a name there
 pub record Base (tokens : List Token) (from base : ℕ) : Type 0 where
@@ -142,10 +192,12 @@ pub from_nothing : {tokens : List Token} {from : ℕ} → Base tokens from 0
 from_nothing = record { low = omega arith; named = λ to t. omega arith }
 
 -- a name begins no run behind a token that no expression ends with
-pub behind : {tokens : List Token} {kind : TokenKind} {before from : ℕ} → Takes tokens kind before from → is_last kind ≡ false → Base tokens from (run_at tokens from)
+pub behind : {tokens : List Token} {kind : TokenKind} {before from : ℕ} → Takes tokens kind before from → is_last kind ≡ false →
+    Base tokens from (run_at tokens from)
 behind {tokens} {kind} {from = from} t is = record {
   low = omega arith;
-  named = λ to name. let same = run_step name ∙ run_of (run_at tokens from) (before_at tokens from) Name false false (ap (λ b. begins_run b Name) (before_step t) ∙ is) refl in
+  named = λ to name. let same = run_step name ∙ run_of (run_at tokens from) (before_at tokens from) Name false false
+      (ap (λ b. begins_run b Name) (before_step t) ∙ is) refl in
       omega (arith, same);
 }
 

@@ -38,7 +38,8 @@ pub record Reached (tokens : List Token) (from to : ℕ) : Type 0 where
 
 used : {tokens : List Token} {from to : ℕ} → Chain (the Access ∷ []) tokens from to → Spans (the NameUse ∷ []) tokens from to
 used (Chain.over is) = empty NameUse (later (later here)) (λ n. refl) is
-used (Chain.more a c) = made NameUse (later here) (λ n. refl) (then a (repeated (the Access ∷ []) Accesses here (λ n. refl) c (empty Accesses (later here) (λ n. refl) refl)))
+used (Chain.more a c) = made NameUse (later here) (λ n. refl)
+    (then a (repeated (the Access ∷ []) Accesses here (λ n. refl) c (empty Accesses (later here) (λ n. refl) refl)))
 
 read_of : {tokens : List Token} {from to : ℕ} → Reached tokens from to → Spans (the Primary ∷ []) tokens from to
 read_of r = made Primary (later (later (later (later here)))) (λ n. refl) (then r.root (used r.parts))
@@ -48,7 +49,8 @@ abbrev pub Exprs : List Token → ℕ → ℕ → Type 0
 Exprs tokens from to = Listed (the Expr ∷ []) (sign COMMA ∷ the Expr ∷ []) tokens from to
 
 input_list : {tokens : List Token} {from to : ℕ} → Exprs tokens from to → Spans (the InputList ∷ []) tokens from to
-input_list l = made InputList here (λ n. refl) (then l.head (repeated (sign COMMA ∷ the Expr ∷ []) InputRest here (λ n. refl) l.rest (empty InputRest (later here) (λ n. refl) refl)))
+input_list l = made InputList here (λ n. refl) (then l.head
+    (repeated (sign COMMA ∷ the Expr ∷ []) InputRest here (λ n. refl) l.rest (empty InputRest (later here) (λ n. refl) refl)))
 
 at_zero : {tokens : List Token} {from to : ℕ} → (0 ≤ 10 → Open tokens 0 from to) → Spans (the Expr ∷ []) tokens from to
 at_zero o = whole 0 (o (omega arith))
@@ -62,16 +64,20 @@ module _ {text : List ℕ} {tokens : List Token} where
     open_expr (SpellsExpr.two le a op b is) room = two_open le op (open_expr a) (open_expr b)
     open_expr (SpellsExpr.cast le a t s is) room = cast_open le t s (open_expr a)
     open_expr (SpellsExpr.negative le minus n is) room =
-        unary_open le (made Unary here (λ n. refl) (then (token minus) (made Unary (later (later (later here))) (λ n. refl) (made Primary here (λ n. refl) (token n)))))
-    open_expr (SpellsExpr.one le op no_number a is) room = unary_open le (made Unary (among_prefix op.is) (λ n. refl) (then (token op.token) (at_ten (open_expr a))))
+        unary_open le (made Unary here (λ n. refl) (then (token minus)
+        (made Unary (later (later (later here))) (λ n. refl) (made Primary here (λ n. refl) (token n)))))
+    open_expr (SpellsExpr.one le op no_number a is) room =
+        unary_open le (made Unary (among_prefix op.is) (λ n. refl) (then (token op.token) (at_ten (open_expr a))))
     open_expr (SpellsExpr.number n is) room = primary_open room (made Primary here (λ n. refl) (token n))
     open_expr (SpellsExpr.truth t is) room = primary_open room (made Primary (among_truth t.is) (λ n. refl) (token t.token))
     open_expr (SpellsExpr.before word n is) room = primary_open room (made Primary (later (later (later here))) (λ n. refl) (then (token word) (a_name n)))
     open_expr (SpellsExpr.read place is) room = primary_open room (read_of (target place))
     open_expr (SpellsExpr.call n inputs none is) room =
-        primary_open room (made Primary (later (later (later (later here)))) (λ n. refl) (then (a_name n) (made NameUse here (λ n. refl) (then (inputs_of inputs) (no_outputs none)))))
+        primary_open room (made Primary (later (later (later (later here)))) (λ n. refl)
+        (then (a_name n) (made NameUse here (λ n. refl) (then (inputs_of inputs) (no_outputs none)))))
     open_expr (SpellsExpr.parentheses opens e closes) room =
-        primary_open room (made Primary (later (later (later (later (later here))))) (λ n. refl) (then (token opens) (then (at_zero (open_expr e)) (token closes))))
+        primary_open room (made Primary (later (later (later (later (later here))))) (λ n. refl)
+        (then (token opens) (then (at_zero (open_expr e)) (token closes))))
 
     pub target : {place : RawTarget} {from to : ℕ} → SpellsTarget text tokens place from to → Reached tokens from to
     target (SpellsTarget.parted n parts is) = record { m = _; root = a_name n; parts = parts_of parts }
@@ -85,7 +91,8 @@ module _ {text : List ℕ} {tokens : List Token} where
     parts_of (SpellsParts.more_parts parts part is) = add (parts_of parts) (access part)
 
     pub inputs_of : {inputs : List RawExpr} {from to : ℕ} → SpellsInputs text tokens inputs from to → Spans (the Inputs ∷ []) tokens from to
-    inputs_of (SpellsInputs.no_inputs opens closes is) = made Inputs here (λ n. refl) (then (token opens) (then (empty InputList (later here) (λ n. refl) refl) (token closes)))
+    inputs_of (SpellsInputs.no_inputs opens closes is) =
+        made Inputs here (λ n. refl) (then (token opens) (then (empty InputList (later here) (λ n. refl) refl) (token closes)))
     inputs_of (SpellsInputs.some_inputs opens es closes) = made Inputs here (λ n. refl) (then (token opens) (then (input_list (exprs_of es)) (token closes)))
 
     exprs_of : {all : List RawExpr} {from to : ℕ} → SpellsExprs text tokens all from to → Exprs tokens from to

@@ -20,7 +20,22 @@ use Rattle.bl_raw.specs.declared.stmt.RawPath.{RawPath}
 use Rattle.bl_raw.specs.declared.stmt.RawStmt.{RawStmt, fold-roll-RawStmt, roll-RawStmt}
 use Rattle.bl_raw.specs.declared.stmt.RawStmtKind.{RawStmtKind, fold-RawStmtKind, fold-roll-RawStmtKind}
 use Rattle.bl_raw.specs.declared.stmt.RawStmtKind as kind
-use Rattle.bl_raw.specs.declared.stmt.RawStmtKind.TheVariants.{rolls-Var, rolls-Let, rolls-Const, rolls-Assign, rolls-Call, rolls-Await, rolls-Run, rolls-If, rolls-Cobegin, rolls-When, rolls-Repeat, rolls-Until, rolls-While, rolls-Return}
+use Rattle.bl_raw.specs.declared.stmt.RawStmtKind.TheVariants.{
+  rolls-Var,
+  rolls-Let,
+  rolls-Const,
+  rolls-Assign,
+  rolls-Call,
+  rolls-Await,
+  rolls-Run,
+  rolls-If,
+  rolls-Cobegin,
+  rolls-When,
+  rolls-Repeat,
+  rolls-Until,
+  rolls-While,
+  rolls-Return,
+}
 use Rattle.bl_raw.specs.declared.types.RawType.{RawType}
 use Rattle.bl_raw.specs.Starts.{Starts, start_of, stmt_kind_starts, arm_starts, branch_starts, stmt_layer_starts, starts_of, item_starts, all_starts, ascends}
 use Rattle.bl_parse.specs.At.{span, start_at}
@@ -109,8 +124,10 @@ record Begins (tokens : List Token) (e : RawExpr) (from to : ℕ) : Type 0 where
   pub within : at ≤ to
   pub is : start_of e ≡ start_at tokens at
 
-at_first : {tokens : List Token} {e : RawExpr} {what : RawExprKind} {from to : ℕ} → from ≤ to → e ≡ expr (span tokens from to) what → Begins tokens e from to
-at_first {tokens} {what = what} {from = from} {to = to} moves is = record { at = from; behind = omega arith; within = moves; is = ap start_of is ∙ expr_is (span tokens from to) what }
+at_first : {tokens : List Token} {e : RawExpr} {what : RawExprKind} {from to : ℕ} → from ≤ to →
+    e ≡ expr (span tokens from to) what → Begins tokens e from to
+at_first {tokens} {what = what} {from = from} {to = to} moves is =
+    record { at = from; behind = omega arith; within = moves; is = ap start_of is ∙ expr_is (span tokens from to) what }
 
 module _ {text : List ℕ} {tokens : List Token} where
   begins : {level : ℕ} {e : RawExpr} {from to : ℕ} → SpellsExpr text tokens level e from to → Begins tokens e from to
@@ -133,25 +150,34 @@ module _ {text : List ℕ} {tokens : List Token} where
     statement (SpellsStmt.placed what is) = same (ap starts_of is ∙ stmt_is _ _) (Rising.next (omega arith) refl (says what))
 
     says : {what : RawStmtKind} {from to : ℕ} → SpellsKind text tokens what from to → Rising tokens (kind_starts what) (from + 1) to
-    says (SpellsKind.typed w n t e is) = nothing (ap kind_starts is ∙ var_is _ _ _) (omega (arith, w.next, n.token.next, (level.typing t).moves, (level.initial e).moves))
+    says (SpellsKind.typed w n t e is) = nothing (ap kind_starts is ∙ var_is _ _ _)
+        (omega (arith, w.next, n.token.next, (level.typing t).moves, (level.initial e).moves))
     says (SpellsKind.inferred w n e is) = nothing (ap kind_starts is ∙ var_is _ _ _) (omega (arith, w.next, n.token.next, (level.value e).moves))
-    says (SpellsKind.fixed w n t e is) = nothing (ap kind_starts is ∙ let_is _ _ _) (omega (arith, w.next, n.token.next, (level.maybe_typing t).moves, (level.value e).moves))
-    says (SpellsKind.constant c is) = nothing (ap kind_starts is ∙ constant_is _) (omega (arith, c.word.next, c.name.token.next, (level.maybe_typing c.typing).moves, (level.value c.value).moves))
-    says (SpellsKind.assign to e is) = nothing (ap kind_starts is ∙ assign_is _ _) (omega (arith, (level.target to).moves, e.sign.next, (level.expression e.expr).moves))
-    says (SpellsKind.call n given taken is) = nothing (ap kind_starts is ∙ call_is _ _ _) (omega (arith, n.token.next, (level.inputs given).moves, (level.outputs taken).moves))
+    says (SpellsKind.fixed w n t e is) = nothing (ap kind_starts is ∙ let_is _ _ _)
+        (omega (arith, w.next, n.token.next, (level.maybe_typing t).moves, (level.value e).moves))
+    says (SpellsKind.constant c is) = nothing (ap kind_starts is ∙ constant_is _)
+        (omega (arith, c.word.next, c.name.token.next, (level.maybe_typing c.typing).moves, (level.value c.value).moves))
+    says (SpellsKind.assign to e is) = nothing (ap kind_starts is ∙ assign_is _ _)
+        (omega (arith, (level.target to).moves, e.sign.next, (level.expression e.expr).moves))
+    says (SpellsKind.call n given taken is) = nothing (ap kind_starts is ∙ call_is _ _ _)
+        (omega (arith, n.token.next, (level.inputs given).moves, (level.outputs taken).moves))
     says (SpellsKind.await w e is) = nothing (ap kind_starts is ∙ await_is _) (omega (arith, w.next, (level.expression e).moves))
-    says (SpellsKind.run w to n given taken is) = nothing (ap kind_starts is ∙ run_is _ _ _ _) (omega (arith, w.next, (level.receiver to).moves, n.token.next, (level.inputs given).moves, (level.outputs taken).moves))
-    says (SpellsKind.cobegin w branches ends is) = same (ap kind_starts is ∙ cobegin_is _) (earlier (omega (arith, w.next)) (later (omega (arith, ends.next)) (each_branch branches).rising))
+    says (SpellsKind.run w to n given taken is) = nothing (ap kind_starts is ∙ run_is _ _ _ _)
+        (omega (arith, w.next, (level.receiver to).moves, n.token.next, (level.inputs given).moves, (level.outputs taken).moves))
+    says (SpellsKind.cobegin w branches ends is) = same (ap kind_starts is ∙ cobegin_is _)
+        (earlier (omega (arith, w.next)) (later (omega (arith, ends.next)) (each_branch branches).rising))
     says (SpellsKind.guarded w e guard body ends is) = same (ap kind_starts is ∙ when_is _ _ _)
         (earlier (omega (arith, w.next, (level.expression e).moves, guard.token.next)) (later (omega (arith, ends.next)) (block body).rising))
-    says (SpellsKind.repeat w body ends is) = same (ap kind_starts is ∙ repeat_is _) (earlier (omega (arith, w.next)) (later (omega (arith, ends.next)) (block body).rising))
+    says (SpellsKind.repeat w body ends is) = same (ap kind_starts is ∙ repeat_is _)
+        (earlier (omega (arith, w.next)) (later (omega (arith, ends.next)) (block body).rising))
     says (SpellsKind.until w body u e ends is) = let b = begins e in
         same (ap kind_starts is ∙ until_is _ _) (earlier (omega (arith, w.next)) (join (block body).rising
         (Rising.next (omega (arith, u.next, b.behind)) b.is (Rising.over (omega (arith, b.within, ends.next))))))
     says (SpellsKind.while w e r body ends is) = let b = begins e in
         same (ap kind_starts is ∙ while_is _ _) (Rising.next (omega (arith, w.next, b.behind)) b.is
         (earlier (omega (arith, b.within, r.next)) (later (omega (arith, ends.next)) (block body).rising)))
-    says (SpellsKind.branching arms other ends is) = same (ap kind_starts is ∙ if_is _ _) (later (omega (arith, ends.next)) (join (each_arm arms).rising (otherwise other).rising))
+    says (SpellsKind.branching arms other ends is) = same (ap kind_starts is ∙ if_is _ _)
+        (later (omega (arith, ends.next)) (join (each_arm arms).rising (otherwise other).rising))
     says (SpellsKind.returns w none is) = nothing (ap kind_starts is ∙ return_is _) (omega (arith, w.next))
     says (SpellsKind.returns_value w on e is) = nothing (ap kind_starts is ∙ return_is _) (omega (arith, w.next, (level.expression e).moves))
 
@@ -161,7 +187,8 @@ module _ {text : List ℕ} {tokens : List Token} where
 
     -- an arm begins with a keyword
     arm : {head : ℕ} {one : RawArm} {from to : ℕ} → SpellsArm text tokens head one from to → Rising tokens (one_arm_starts one) (from + 1) to
-    arm (SpellsArm.headed w e t body is) = same (ap one_arm_starts is ∙ arm_is _ _) (earlier (omega (arith, w.next, (level.expression e).moves, t.next)) (block body).rising)
+    arm (SpellsArm.headed w e t body is) = same (ap one_arm_starts is ∙ arm_is _ _)
+        (earlier (omega (arith, w.next, (level.expression e).moves, t.next)) (block body).rising)
 
     each_arm : {arms : List RawArm} {from to : ℕ} → SpellsArms text tokens arms from to → Rise one_arm_starts tokens arms (from + 1) to
     each_arm (SpellsArms.first_arm one is) = one_rises one_arm_starts _ (arm one) is
@@ -176,12 +203,21 @@ module _ {text : List ℕ} {tokens : List Token} where
 
     each_branch : {branches : List RawBranch} {from to : ℕ} → SpellsBranches text tokens branches from to → Rise one_branch_starts tokens branches from to
     each_branch (SpellsBranches.first_branch one is) = one_rises one_branch_starts _ (branch one) is
-    each_branch (SpellsBranches.more_branches branches w one is) = more_rise one_branch_starts _ (each_branch branches) (earlier (omega (arith, w.next)) (branch one)) is
+    each_branch (SpellsBranches.more_branches branches w one is) =
+        more_rise one_branch_starts _ (each_branch branches) (earlier (omega (arith, w.next)) (branch one)) is
 
   -- ---- items
 
   unit : {one : RawUnit} {from to : ℕ} → SpellsUnit text tokens one from to → Rising tokens (joined (map starts_of one.body)) from to
-  unit h = earlier (omega (arith, (level.mark h.mark).moves, h.kind.token.next, h.name.token.next, (level.params h.inputs).moves, (level.output_params h.outputs).moves, (level.result h.result).moves))
+  unit h = earlier (omega (
+    arith,
+    (level.mark h.mark).moves,
+    h.kind.token.next,
+    h.name.token.next,
+    (level.params h.inputs).moves,
+    (level.output_params h.outputs).moves,
+    (level.result h.result).moves,
+  ))
       (later (omega (arith, h.end.next)) (block h.body).rising)
 
   item : {one : RawItem} {from to : ℕ} → SpellsItem text tokens one from to → Rising tokens (item_starts one) from to
@@ -193,5 +229,6 @@ module _ {text : List ℕ} {tokens : List Token} where
   items (SpellsItems.none none is) = none_rise item_starts none (omega (arith, is))
   items (SpellsItems.more others one is) = more_rise item_starts _ (items others) (item one) is
 
-pub starts_ascend : (text : List ℕ) (tokens : List Token) (raw : Raw) → Lexes text tokens → Spells text tokens raw → ascends (all_starts raw.items) ≡ true
+pub starts_ascend : (text : List ℕ) (tokens : List Token) (raw : Raw) → Lexes text tokens → Spells text tokens raw →
+    ascends (all_starts raw.items) ≡ true
 starts_ascend text tokens raw lexes h = rising_ascends text tokens lexes (items h.items).rising (omega arith)

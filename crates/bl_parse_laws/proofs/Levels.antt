@@ -7,7 +7,30 @@ use Rattle.bl_tree.specs.declared.token.TokenKind.{TokenKind}
 use Rattle.bl_tree.specs.declared.token.TokenKind.TheVariants.{Word}
 use Rattle.bl_lex.specs.declared.word.TheConstants.{AS}
 use Rattle.bl_syntax.specs.declared.grammar.Part.{Part}
-use Rattle.bl_syntax.specs.declared.grammar.Part.TheVariants.{Expr, ExprRest, And, AndRest, Comparison, ComparisonRest, BitOr, BitOrRest, BitXor, BitXorRest, BitAnd, BitAndRest, Shift, ShiftRest, Sum, SumRest, Product, ProductRest, Cast, CastRest, Unary, Primary}
+use Rattle.bl_syntax.specs.declared.grammar.Part.TheVariants.{
+  Expr,
+  ExprRest,
+  And,
+  AndRest,
+  Comparison,
+  ComparisonRest,
+  BitOr,
+  BitOrRest,
+  BitXor,
+  BitXorRest,
+  BitAnd,
+  BitAndRest,
+  Shift,
+  ShiftRest,
+  Sum,
+  SumRest,
+  Product,
+  ProductRest,
+  Cast,
+  CastRest,
+  Unary,
+  Primary,
+}
 use Rattle.bl_syntax.specs.Grammar.{Piece, the}
 use Rattle.bl_syntax.specs.Grammar.IsAmong.{here, later}
 use Rattle.bl_parse.specs.At.{Takes}
@@ -65,10 +88,14 @@ whole level o = o.goes _ (ended level)
 
 -- ---- looser levels
 
-one_down : (level : ℕ) {tokens : List Token} {from to : ℕ} → level ≤ 9 → Spans (the (tight (suc level)) ∷ []) tokens from to → Open tokens level from to
+one_down : (level : ℕ) {tokens : List Token} {from to : ℕ} → level ≤ 9 → Spans (the (tight (suc level)) ∷ []) tokens from to →
+    Open tokens level from to
 one_down zero le s = record { goes = λ end rest. made Expr here (λ n. refl) (then s rest) }
 one_down (suc zero) le s = record { goes = λ end rest. made And here (λ n. refl) (then s rest) }
-one_down (suc (suc zero)) le s = record { goes = λ end rest. then (made Comparison here (λ n. refl) (then s (empty ComparisonRest (later (later (later (later (later (later here)))))) (λ n. refl) refl))) rest }
+one_down (suc (suc zero)) le s = record {
+  goes = λ end rest. then
+      (made Comparison here (λ n. refl) (then s (empty ComparisonRest (later (later (later (later (later (later here)))))) (λ n. refl) refl))) rest;
+}
 one_down (suc (suc (suc zero))) le s = record { goes = λ end rest. made BitOr here (λ n. refl) (then s rest) }
 one_down (suc (suc (suc (suc zero)))) le s = record { goes = λ end rest. made BitXor here (λ n. refl) (then s rest) }
 one_down (suc (suc (suc (suc (suc zero))))) le s = record { goes = λ end rest. made BitAnd here (λ n. refl) (then s rest) }
@@ -78,11 +105,13 @@ one_down (suc (suc (suc (suc (suc (suc (suc (suc zero)))))))) le s = record { go
 one_down (suc (suc (suc (suc (suc (suc (suc (suc (suc zero))))))))) le s = record { goes = λ end rest. made Cast here (λ n. refl) (then s rest) }
 one_down (suc (suc (suc (suc (suc (suc (suc (suc (suc (suc n)))))))))) le s = absurd (omega (arith, le))
 
-down_by : (n level own : ℕ) {tokens : List Token} {from to : ℕ} → own ≡ n + level → own ≤ 10 → Open tokens own from to → Open tokens level from to
+down_by : (n level own : ℕ) {tokens : List Token} {from to : ℕ} → own ≡ n + level → own ≤ 10 → Open tokens own from to →
+    Open tokens level from to
 down_by zero level own {tokens} {from} {to} is le o = let e : own ≡ level = omega (arith, is) in subst (λ k. Open tokens k from to) e o
 down_by (suc n) level own {tokens} {from} {to} is le o =
     let e : own ≡ suc (n + level) = omega (arith, is) in
-    down_by n level (n + level) refl (omega (arith, is, le)) (one_down (n + level) (omega (arith, is, le)) (whole (suc (n + level)) (subst (λ k. Open tokens k from to) e o)))
+    down_by n level (n + level) refl (omega (arith, is, le))
+    (one_down (n + level) (omega (arith, is, le)) (whole (suc (n + level)) (subst (λ k. Open tokens k from to) e o)))
 
 pub lower : {level own : ℕ} {tokens : List Token} {from to : ℕ} → level ≤ own → own ≤ 10 → Open tokens own from to → Open tokens level from to
 lower {level} {own} le room o = down_by (own - level) level own (omega (arith, le)) room o
@@ -113,12 +142,33 @@ chained : {kind : TokenKind} {own : ℕ} {op : Op} {tokens : List Token} {from m
     → Open tokens (left_level own) from m → Spans (the (tight (own + 1)) ∷ []) tokens n to → Open tokens own from to
 chained IsOperator.either t a b = record { goes = λ end rest. a.goes end (made ExprRest here (λ n. refl) (then (token t) (then b rest))) }
 chained IsOperator.both t a b = record { goes = λ end rest. a.goes end (made AndRest here (λ n. refl) (then (token t) (then b rest))) }
-chained IsOperator.equal t a b = record { goes = λ end rest. then (made Comparison here (λ n. refl) (then (whole 3 a) (made ComparisonRest here (λ n. refl) (then (token t) b)))) rest }
-chained IsOperator.differs t a b = record { goes = λ end rest. then (made Comparison here (λ n. refl) (then (whole 3 a) (made ComparisonRest (later here) (λ n. refl) (then (token t) b)))) rest }
-chained IsOperator.less t a b = record { goes = λ end rest. then (made Comparison here (λ n. refl) (then (whole 3 a) (made ComparisonRest (later (later here)) (λ n. refl) (then (token t) b)))) rest }
-chained IsOperator.at_most t a b = record { goes = λ end rest. then (made Comparison here (λ n. refl) (then (whole 3 a) (made ComparisonRest (later (later (later here))) (λ n. refl) (then (token t) b)))) rest }
-chained IsOperator.greater t a b = record { goes = λ end rest. then (made Comparison here (λ n. refl) (then (whole 3 a) (made ComparisonRest (later (later (later (later here)))) (λ n. refl) (then (token t) b)))) rest }
-chained IsOperator.at_least t a b = record { goes = λ end rest. then (made Comparison here (λ n. refl) (then (whole 3 a) (made ComparisonRest (later (later (later (later (later here))))) (λ n. refl) (then (token t) b)))) rest }
+chained IsOperator.equal t a b = record {
+  goes = λ end rest. then
+      (made Comparison here (λ n. refl) (then (whole 3 a) (made ComparisonRest here (λ n. refl) (then (token t) b)))) rest;
+}
+chained IsOperator.differs t a b = record {
+  goes =
+      λ end rest. then (made Comparison here (λ n. refl) (then (whole 3 a) (made ComparisonRest (later here) (λ n. refl) (then (token t) b)))) rest;
+}
+chained IsOperator.less t a b = record {
+  goes = λ end rest. then
+      (made Comparison here (λ n. refl) (then (whole 3 a) (made ComparisonRest (later (later here)) (λ n. refl) (then (token t) b)))) rest;
+}
+chained IsOperator.at_most t a b = record {
+  goes =
+      λ end rest. then (made Comparison here (λ n. refl)
+      (then (whole 3 a) (made ComparisonRest (later (later (later here))) (λ n. refl) (then (token t) b)))) rest;
+}
+chained IsOperator.greater t a b = record {
+  goes =
+      λ end rest. then (made Comparison here (λ n. refl)
+      (then (whole 3 a) (made ComparisonRest (later (later (later (later here)))) (λ n. refl) (then (token t) b)))) rest;
+}
+chained IsOperator.at_least t a b = record {
+  goes =
+      λ end rest. then (made Comparison here (λ n. refl)
+      (then (whole 3 a) (made ComparisonRest (later (later (later (later (later here))))) (λ n. refl) (then (token t) b)))) rest;
+}
 chained IsOperator.bits_or t a b = record { goes = λ end rest. a.goes end (made BitOrRest here (λ n. refl) (then (token t) (then b rest))) }
 chained IsOperator.bits_xor t a b = record { goes = λ end rest. a.goes end (made BitXorRest here (λ n. refl) (then (token t) (then b rest))) }
 chained IsOperator.bits_and t a b = record { goes = λ end rest. a.goes end (made BitAndRest here (λ n. refl) (then (token t) (then b rest))) }
@@ -128,7 +178,10 @@ chained IsOperator.plus t a b = record { goes = λ end rest. a.goes end (made Su
 chained IsOperator.minus t a b = record { goes = λ end rest. a.goes end (made SumRest (later here) (λ n. refl) (then (token t) (then b rest))) }
 chained IsOperator.times t a b = record { goes = λ end rest. a.goes end (made ProductRest here (λ n. refl) (then (token t) (then b rest))) }
 chained IsOperator.divided t a b = record { goes = λ end rest. a.goes end (made ProductRest (later here) (λ n. refl) (then (token t) (then b rest))) }
-chained IsOperator.remainder t a b = record { goes = λ end rest. a.goes end (made ProductRest (later (later here)) (λ n. refl) (then (token t) (then b rest))) }
+chained IsOperator.remainder t a b = record {
+  goes =
+      λ end rest. a.goes end (made ProductRest (later (later here)) (λ n. refl) (then (token t) (then b rest)));
+}
 
 -- operand, operator, operand
 pub two_open : {level own : ℕ} {op : Op} {tokens : List Token} {from m n to : ℕ} → level ≤ own → SpellsInfix tokens own op m n
@@ -137,7 +190,8 @@ two_open {own = own} le op a b = let r = room_left op.is in let r8 = r.1 in
     lower le (omega (arith, r8)) (chained op.is op.token (a r.0) (whole (own + 1) (b (omega (arith, r8)))))
 
 -- operand, `as`, type
-pub cast_open : {level : ℕ} {s : ScalarType} {tokens : List Token} {from m n to : ℕ} → level ≤ 9 → Takes tokens (Word AS) m n → SpellsScalar tokens s n to
+pub cast_open : {level : ℕ} {s : ScalarType} {tokens : List Token} {from m n to : ℕ} → level ≤ 9 → Takes tokens (Word AS) m n →
+    SpellsScalar tokens s n to
     → (9 ≤ 10 → Open tokens 9 from m) → Open tokens level from to
 cast_open {tokens = tokens} {from} {to = to} le t s a = lower le (omega arith) casted
   where
@@ -148,5 +202,6 @@ cast_open {tokens = tokens} {from} {to = to} le t s a = lower le (omega arith) c
 pub unary_open : {level : ℕ} {tokens : List Token} {from to : ℕ} → level ≤ 10 → Spans (the Unary ∷ []) tokens from to → Open tokens level from to
 unary_open {tokens = tokens} {from} {to} room s = lower room (omega arith) (record { goes = λ end rest. then s rest })
 
-pub primary_open : {level : ℕ} {tokens : List Token} {from to : ℕ} → level ≤ 10 → Spans (the Primary ∷ []) tokens from to → Open tokens level from to
+pub primary_open : {level : ℕ} {tokens : List Token} {from to : ℕ} → level ≤ 10 → Spans (the Primary ∷ []) tokens from to →
+    Open tokens level from to
 primary_open room s = unary_open room (made Unary (later (later (later here))) (λ n. refl) s)

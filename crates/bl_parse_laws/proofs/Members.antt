@@ -11,5 +11,6 @@ greatest_more [] n = omega arith
 greatest_more (m ∷ ns) n = let rest = greatest_more ns n in omega (arith, rest)
 
 -- the greatest number that a member has
-pub greatest_of_more : {A : Type 0} (f : A → ℕ) {all : List A} (xs : List A) (x : A) → all ≡ xs ++ x ∷ [] → greatest (map f all) ≡ max (greatest (map f xs)) (f x)
+pub greatest_of_more : {A : Type 0} (f : A → ℕ) {all : List A} (xs : List A) (x : A) → all ≡ xs ++ x ∷ [] →
+    greatest (map f all) ≡ max (greatest (map f xs)) (f x)
 greatest_of_more f xs x is = ap (λ ys. greatest (map f ys)) is ∙ (ap greatest (mapped_more f xs x) ∙ greatest_more (map f xs) (f x))

@@ -10,7 +10,7 @@ use Rattle.bl_syntax.proofs.Checks.{are_apart, are_within}
 use Rattle.bl_syntax.proofs.Right.{all_has, apart}
 use Rattle.bl_raw.specs.declared.name.Name.{Name}
 use Rattle.bl_parse.specs.At.{kind_at, Takes, SpellsName}
-use Rattle.bl_parse.specs.Reading.{next_among, NoneNext}
+use Rattle.bl_parse.specs.inner.Reading.{next_among, NoneNext}
 use Rattle.bl_parse_laws.proofs.Spans.{same_self}
 
 no_truth : true ≡ false → ⊥
@@ -30,8 +30,10 @@ there {tokens} e t = ap (kind_at tokens) e ∙ t.stands
 pub same_kind : {tokens : List Token} {a b : TokenKind} {k j m n : ℕ} → Takes tokens a k m → k ≡ j → Takes tokens b j n → a ≡ b
 same_kind t e u = some_same (sym t.stands ∙ there e u)
 
-pub clash : {P : Type 0} {tokens : List Token} {a b : TokenKind} {k j m n : ℕ} → Takes tokens a k m → k ≡ j → Takes tokens b j n → same_class (class_of a) (class_of b) ≡ false → P
-clash {a = a} t e u differ = absurd (no_truth (sym (same_self (class_of a)) ∙ (ap (λ kind. same_class (class_of a) (class_of kind)) (same_kind t e u) ∙ differ)))
+pub clash : {P : Type 0} {tokens : List Token} {a b : TokenKind} {k j m n : ℕ} → Takes tokens a k m → k ≡ j → Takes tokens b j n →
+    same_class (class_of a) (class_of b) ≡ false → P
+clash {a = a} t e u differ = absurd (no_truth (sym (same_self (class_of a))
+    ∙ (ap (λ kind. same_class (class_of a) (class_of kind)) (same_kind t e u) ∙ differ)))
 
 pub next_same : {tokens : List Token} {kind other : TokenKind} {a b c d : ℕ} → a ≡ c → Takes tokens kind a b → Takes tokens other c d → b ≡ d
 next_same e t u = t.next ∙ (ap (λ n. n + 1) e ∙ sym u.next)
@@ -40,10 +42,12 @@ next_same e t u = t.next ∙ (ap (λ n. n + 1) e ∙ sym u.next)
 pub among_none : {P : Type 0} {tokens : List Token} {k : ℕ} {classes : List Class} → Begun classes tokens k → NoneNext classes tokens k → P
 among_none h none = absurd (no_truth (sym h.on ∙ none.off))
 
-pub token_none : {P : Type 0} {tokens : List Token} {kind : TokenKind} {k j m : ℕ} {classes : List Class} → Takes tokens kind j m → k ≡ j → has classes (class_of kind) ≡ true → NoneNext classes tokens k → P
+pub token_none : {P : Type 0} {tokens : List Token} {kind : TokenKind} {k j m : ℕ} {classes : List Class} → Takes tokens kind j m →
+    k ≡ j → has classes (class_of kind) ≡ true → NoneNext classes tokens k → P
 token_none {classes = classes} t e on none = absurd (no_truth (sym on ∙ (ap (next_among classes) (sym (there e t)) ∙ none.off)))
 
-pub stops : {tokens : List Token} {kind : TokenKind} {k m : ℕ} {classes : List Class} → Takes tokens kind k m → has classes (class_of kind) ≡ false → NoneNext classes tokens k
+pub stops : {tokens : List Token} {kind : TokenKind} {k m : ℕ} {classes : List Class} → Takes tokens kind k m →
+    has classes (class_of kind) ≡ false → NoneNext classes tokens k
 stops {classes = classes} t off = record { off = ap (next_among classes) t.stands ∙ off }
 
 pub fewer : {tokens : List Token} {k : ℕ} (small big : List Class) → are_within small big ≡ true → NoneNext big tokens k → NoneNext small tokens k
@@ -57,7 +61,8 @@ fewer {tokens} {k} small big within none = record { off = by_kind (kind_at token
         by_test true e = sym (all_has (has big) small (class_of kind) within e) ∙ off
         by_test false e = refl
 
-pub begun_stops : {tokens : List Token} {k : ℕ} (begins stop : List Class) → are_apart begins stop ≡ true → Begun begins tokens k → NoneNext stop tokens k
+pub begun_stops : {tokens : List Token} {k : ℕ} (begins stop : List Class) → are_apart begins stop ≡ true → Begun begins tokens k →
+    NoneNext stop tokens k
 begun_stops {tokens} {k} begins stop off h = record { off = by_kind (kind_at tokens k) h.on }
   where
     by_kind : (o : Option TokenKind) → next_among begins o ≡ true → next_among stop o ≡ false
@@ -84,15 +89,18 @@ anywhere {tokens} {k} = record { off = by_kind (kind_at tokens k) }
 pub record One {A : Type 0} (Q : A → ℕ → ℕ → Type 0) (off : List Class) (tokens : List Token) (x : A) (from to : ℕ) : Type 0 where
   pub only : (y : A) (end : ℕ) → Q y from end → NoneNext off tokens to → NoneNext off tokens end → (x ≡ y) × (to ≡ end)
 
-pub meets : {A : Type 0} {Q : A → ℕ → ℕ → Type 0} {off : List Class} {tokens : List Token} {x y : A} {a b c d : ℕ} → One Q off tokens x a b → a ≡ c → Q y c d
+pub meets : {A : Type 0} {Q : A → ℕ → ℕ → Type 0} {off : List Class} {tokens : List Token} {x y : A} {a b c d : ℕ} →
+    One Q off tokens x a b → a ≡ c → Q y c d
     → NoneNext off tokens b → NoneNext off tokens d → (x ≡ y) × (b ≡ d)
 meets {Q = Q} {y = y} {d = d} one e q s r = one.only y d (subst (λ k. Q y k d) (sym e) q) s r
 
 -- the same of what ends by itself
-pub meets_free : {A : Type 0} {Q : A → ℕ → ℕ → Type 0} {tokens : List Token} {x y : A} {a b c d : ℕ} → One Q [] tokens x a b → a ≡ c → Q y c d → (x ≡ y) × (b ≡ d)
+pub meets_free : {A : Type 0} {Q : A → ℕ → ℕ → Type 0} {tokens : List Token} {x y : A} {a b c d : ℕ} → One Q [] tokens x a b →
+    a ≡ c → Q y c d → (x ≡ y) × (b ≡ d)
 meets_free one e q = meets one e q anywhere anywhere
 
-pub one_name : {text : List ℕ} {tokens : List Token} {n : Name} {from to : ℕ} → SpellsName text tokens n from to → One (SpellsName text tokens) [] tokens n from to
+pub one_name : {text : List ℕ} {tokens : List Token} {n : Name} {from to : ℕ} → SpellsName text tokens n from to →
+    One (SpellsName text tokens) [] tokens n from to
 one_name n = record { only = λ m end h s r. (n.is ∙ sym h.is, n.token.next ∙ sym h.token.next) }
 
 -- ---- rows
@@ -102,7 +110,8 @@ pub data Row {A : Type 0} (P : A → ℕ → ℕ → Type 0) : List A → ℕ �
   over : {xs : List A} {from to : ℕ} → xs ≡ [] → to ≡ from → Row P xs from to
   more : {all xs : List A} {x : A} {from m to : ℕ} → P x from m → Row P xs m to → all ≡ x ∷ xs → Row P all from to
 
-pub add_row : {A : Type 0} {P : A → ℕ → ℕ → Type 0} {all xs : List A} {x : A} {from m to : ℕ} → Row P xs from m → P x m to → all ≡ xs ++ x ∷ [] → Row P all from to
+pub add_row : {A : Type 0} {P : A → ℕ → ℕ → Type 0} {all xs : List A} {x : A} {from m to : ℕ} → Row P xs from m → P x m to →
+    all ≡ xs ++ x ∷ [] → Row P all from to
 add_row {P = P} {x = x} {to = to} (Row.over none is) p e = Row.more (subst (λ k. P x k to) is p) (Row.over refl refl) (e ∙ ap (λ xs. xs ++ x ∷ []) none)
 add_row {x = x} (Row.more h rest is) p e = Row.more h (add_row rest p refl) (e ∙ ap (λ xs. xs ++ x ∷ []) is)
 
@@ -129,11 +138,14 @@ module _ {A : Type 0} (Q : A → ℕ → ℕ → Type 0) (on off all : List Clas
   cons_same : {x y : A} {xs ys all others : List A} → x ≡ y → xs ≡ ys → all ≡ x ∷ xs → others ≡ y ∷ ys → all ≡ others
   cons_same e f g h = cc
 
-  pub rows_same : {xs : List A} {from to : ℕ} → Row (Elem Q on off tokens) xs from to → (ys : List A) (start end : ℕ) → from ≡ start → Row Q ys start end
+  pub rows_same : {xs : List A} {from to : ℕ} → Row (Elem Q on off tokens) xs from to → (ys : List A) (start end : ℕ) →
+      from ≡ start → Row Q ys start end
       → NoneNext all tokens to → NoneNext all tokens end → (xs ≡ ys) × (to ≡ end)
   rows_same (Row.over none is) ys start end e (Row.over no_ys at) s r = (none ∙ sym no_ys, is ∙ (e ∙ sym at))
-  rows_same (Row.over none is) ys start end e (Row.more h rest f) s r = among_none (begun_within on all on_all (each _ _ _ h)) (subst (λ k. NoneNext all tokens k) (is ∙ e) s)
-  rows_same (Row.more h rest f) ys start end e (Row.over no_ys at) s r = among_none (begun_within on all on_all h.begins) (subst (λ k. NoneNext all tokens k) (at ∙ sym e) r)
+  rows_same (Row.over none is) ys start end e (Row.more h rest f) s r =
+      among_none (begun_within on all on_all (each _ _ _ h)) (subst (λ k. NoneNext all tokens k) (is ∙ e) s)
+  rows_same (Row.more h rest f) ys start end e (Row.over no_ys at) s r =
+      among_none (begun_within on all on_all h.begins) (subst (λ k. NoneNext all tokens k) (at ∙ sym e) r)
   rows_same (Row.more h rest f) ys start end e (Row.more g others i) s r =
       let m = meets h.one e g (follows rest s) (follows_plain others r) in
       let t = rows_same rest _ _ end m.1 others s r in
@@ -151,14 +163,26 @@ pub record Lined {A : Type 0} (P L : A → ℕ → ℕ → Type 0) (all : List A
   pub rest : Row L xs m to
   pub is : all ≡ x ∷ xs
 
-pub line_one : {A : Type 0} {P L : A → ℕ → ℕ → Type 0} {all : List A} {x : A} {from to : ℕ} → P x from to → all ≡ x ∷ [] → Lined P L all from to
+pub line_one : {A : Type 0} {P L : A → ℕ → ℕ → Type 0} {all : List A} {x : A} {from to : ℕ} → P x from to → all ≡ x ∷ [] →
+    Lined P L all from to
 line_one p e = record { x = _; xs = []; m = _; head = p; rest = Row.over refl refl; is = e }
 
-pub line_more : {A : Type 0} {P L : A → ℕ → ℕ → Type 0} {all xs : List A} {x : A} {from m to : ℕ} → Lined P L xs from m → L x m to → all ≡ xs ++ x ∷ [] → Lined P L all from to
-line_more {x = x} l p e = record { x = l.x; xs = l.xs ++ x ∷ []; m = l.m; head = l.head; rest = add_row l.rest p refl; is = e ∙ ap (λ xs. xs ++ x ∷ []) l.is }
+pub line_more : {A : Type 0} {P L : A → ℕ → ℕ → Type 0} {all xs : List A} {x : A} {from m to : ℕ} → Lined P L xs from m → L x m to →
+    all ≡ xs ++ x ∷ [] → Lined P L all from to
+line_more {x = x} l p e = record {
+  x = l.x;
+  xs = l.xs ++ x ∷ [];
+  m = l.m;
+  head = l.head;
+  rest = add_row l.rest p refl;
+  is =
+      e ∙ ap (λ xs. xs ++ x ∷ []) l.is;
+}
 
-pub lines_same : {A : Type 0} (F Q : A → ℕ → ℕ → Type 0) (on off all : List Class) (tokens : List Token) → Begin Q on tokens → are_apart on off ≡ true → are_within off all ≡ true → are_within on all ≡ true
-    → {xs ys : List A} {from start to end : ℕ} → Lined (One F off tokens) (Elem Q on off tokens) xs from to → from ≡ start → Lined F Q ys start end → NoneNext all tokens to → NoneNext all tokens end → (xs ≡ ys) × (to ≡ end)
+pub lines_same : {A : Type 0} (F Q : A → ℕ → ℕ → Type 0) (on off all : List Class) (tokens : List Token) → Begin Q on tokens →
+    are_apart on off ≡ true → are_within off all ≡ true → are_within on all ≡ true
+    → {xs ys : List A} {from start to end : ℕ} → Lined (One F off tokens) (Elem Q on off tokens) xs from to → from ≡ start →
+    Lined F Q ys start end → NoneNext all tokens to → NoneNext all tokens end → (xs ≡ ys) × (to ≡ end)
 lines_same F Q on off all tokens each a b c {end = end} l e k s r =
     let m = meets l.head e k.head (follows Q on off all tokens each a b c l.rest s) (follows_plain Q on off all tokens each a b c k.rest r) in
     let t = rows_same Q on off all tokens each a b c l.rest _ _ end m.1 k.rest s r in
@@ -180,5 +204,6 @@ linked {sep = sep} {tokens = tokens} t one = record {
   one = record { only = λ y end q s r. meets one (next_same refl t q.by) q.elem s r };
 }
 
-pub linked_begin : {A : Type 0} (sep : TokenKind) (tokens : List Token) (Q : A → ℕ → ℕ → Type 0) → Begin (Linked sep tokens Q) (class_of sep ∷ []) tokens
+pub linked_begin : {A : Type 0} (sep : TokenKind) (tokens : List Token) (Q : A → ℕ → ℕ → Type 0) →
+    Begin (Linked sep tokens Q) (class_of sep ∷ []) tokens
 linked_begin sep tokens Q y a b q = begun q.by

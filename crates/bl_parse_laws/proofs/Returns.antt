@@ -1,5 +1,25 @@
 -- What a `return` has after it.
-use Rattle.std.proofs.Common.{◌≡◌, ℕ, zero, suc, ◌+◌, Bool, true, false, not, ◌&&◌, ◌||◌, List, [], ◌∷◌, drop, refl, ap, sym, ◌∙◌}
+use Rattle.std.proofs.Common.{
+  ◌≡◌,
+  ℕ,
+  zero,
+  suc,
+  ◌+◌,
+  Bool,
+  true,
+  false,
+  not,
+  ◌&&◌,
+  ◌||◌,
+  List,
+  [],
+  ◌∷◌,
+  drop,
+  refl,
+  ap,
+  sym,
+  ◌∙◌,
+}
 use Rattle.std.specs.Prelude.{Some, None, slice_get, nat_eq}
 use Rattle.std.proofs.lemmas.Bool.{eq-eqb, eqb-true}
 use Rattle.bl_tree.specs.declared.token.Token.{Token}
@@ -14,7 +34,7 @@ use Rattle.bl_syntax.specs.Grammar.{the, class_of, views_after, begins_expressio
 use Rattle.bl_syntax.specs.Grammar.IsAmong.{here, later}
 use Rattle.bl_parse.specs.At.{kind_at, Takes}
 use Rattle.bl_parse.specs.Operators.{begins_expr}
-use Rattle.bl_parse.specs.Reading.{left}
+use Rattle.bl_parse.specs.inner.Reading.{left}
 use Rattle.bl_parse.specs.Statements.{goes_on, takes_value}
 use Rattle.bl_parse.proofs.ReturnLemmas.{token_at}
 use Rattle.bl_parse_laws.proofs.Spans.{Spans, behind, position}
@@ -64,7 +84,8 @@ goes_alike one [] = refl
 goes_alike one (x ∷ xs) = same_line (nat_eq one.line x.line) (begins_is x.kind)
 
 -- an expression continues a `return` exactly where the tree has one
-continues_is : (tokens : List Token) (k : ℕ) (kind : TokenKind) {to : ℕ} → kind_at tokens k ≡ Some kind → to ≡ k + 1 → continues (next_of (left tokens to)) ≡ takes_value tokens k
+continues_is : (tokens : List Token) (k : ℕ) (kind : TokenKind) {to : ℕ} → kind_at tokens k ≡ Some kind → to ≡ k + 1 →
+    continues (next_of (left tokens to)) ≡ takes_value tokens k
 continues_is tokens k kind {to} is next = let t = token_at tokens k is in by_token t.0 t.1
   where
     by_token : (one : Token) → slice_get tokens k ≡ Some one → continues (next_of (left tokens to)) ≡ takes_value tokens k
@@ -73,8 +94,10 @@ continues_is tokens k kind {to} is next = let t = token_at tokens k is in by_tok
         ∙ (goes_alike one (drop (suc k) tokens) ∙ (ap (goes_on (Some one)) (sym (get_head (suc k) tokens))
         ∙ (ap (λ o. goes_on o (slice_get tokens (suc k))) (sym at) ∙ ap (λ n. goes_on (slice_get tokens k) (slice_get tokens n)) (sym (position refl))))))
 
-pub bare : {tokens : List Token} {from to : ℕ} → Takes tokens (Word RETURN) from to → takes_value tokens from ≡ false → Spans (the AfterReturn ∷ []) tokens to to
+pub bare : {tokens : List Token} {from to : ℕ} → Takes tokens (Word RETURN) from to → takes_value tokens from ≡ false →
+    Spans (the AfterReturn ∷ []) tokens to to
 bare {tokens} {from} t none = record { goes = part (later here, ap not (continues_is tokens from (Word RETURN) t.stands t.next ∙ none)) done done }
 
-pub valued : {tokens : List Token} {from m to : ℕ} → Takes tokens (Word RETURN) from m → takes_value tokens from ≡ true → Spans (the Expr ∷ []) tokens m to → Spans (the AfterReturn ∷ []) tokens m to
+pub valued : {tokens : List Token} {from m to : ℕ} → Takes tokens (Word RETURN) from m → takes_value tokens from ≡ true →
+    Spans (the Expr ∷ []) tokens m to → Spans (the AfterReturn ∷ []) tokens m to
 valued {tokens} {from} t on s = record { goes = part (here, continues_is tokens from (Word RETURN) t.stands t.next ∙ on) s.goes done }

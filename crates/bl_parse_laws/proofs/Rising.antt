@@ -1,5 +1,30 @@
 -- Where tokens begin that stand one after another.
-use Rattle.std.proofs.Common.{◌≡◌, ℕ, zero, suc, ◌+◌, ◌<◌, ◌≤◌, true, List, [], ◌∷◌, ◌++◌, map, length, get_or, ◌-◌, refl, ap, sym, ◌∙◌, subst, arith, append_assoc, append-nil}
+use Rattle.std.proofs.Common.{
+  ◌≡◌,
+  ℕ,
+  zero,
+  suc,
+  ◌+◌,
+  ◌<◌,
+  ◌≤◌,
+  true,
+  List,
+  [],
+  ◌∷◌,
+  ◌++◌,
+  map,
+  length,
+  get_or,
+  ◌-◌,
+  refl,
+  ap,
+  sym,
+  ◌∙◌,
+  subst,
+  arith,
+  append_assoc,
+  append-nil,
+}
 use Rattle.std.specs.Prelude.{nat_lt}
 use Rattle.std.specs.List.{list_all}
 use Rattle.std.proofs.lemmas.Bool.{lt-ltb}
@@ -15,7 +40,8 @@ use Rattle.bl_parse_laws.proofs.Members.{mapped_more}
 -- numbers at which tokens begin that stand one after another, from a position on and before another
 pub data Rising (tokens : List Token) : List ℕ → ℕ → ℕ → Type 0 where
   over : {from to : ℕ} → from ≤ to → Rising tokens [] from to
-  next : {rest : List ℕ} {n from at to : ℕ} → from ≤ at → n ≡ start_at tokens at → Rising tokens rest (at + 1) to → Rising tokens (n ∷ rest) from to
+  next : {rest : List ℕ} {n from at to : ℕ} → from ≤ at → n ≡ start_at tokens at → Rising tokens rest (at + 1) to →
+      Rising tokens (n ∷ rest) from to
 
 pub earlier : {tokens : List Token} {starts : List ℕ} {from at to : ℕ} → from ≤ at → Rising tokens starts at to → Rising tokens starts from to
 earlier le (Rising.over end) = Rising.over (omega arith)
@@ -29,7 +55,8 @@ pub later : {tokens : List Token} {starts : List ℕ} {from at to : ℕ} → at 
 later le (Rising.over end) = Rising.over (omega arith)
 later le (Rising.next front is rest) = Rising.next front is (later le rest)
 
-pub join : {tokens : List Token} {xs ys : List ℕ} {from at to : ℕ} → Rising tokens xs from at → Rising tokens ys at to → Rising tokens (xs ++ ys) from to
+pub join : {tokens : List Token} {xs ys : List ℕ} {from at to : ℕ} → Rising tokens xs from at → Rising tokens ys at to →
+    Rising tokens (xs ++ ys) from to
 join (Rising.over end) h = earlier end h
 join (Rising.next front is rest) h = Rising.next front is (join rest h)
 
@@ -43,15 +70,19 @@ joined_more (ys ∷ xss) xs = ap (λ zs. ys ++ zs) (joined_more xss xs) ∙ sym 
 pub record Rise {A : Type 0} (f : A → List ℕ) (tokens : List Token) (xs : List A) (from to : ℕ) : Type 0 where
   pub rising : Rising tokens (joined (map f xs)) from to
 
-pub none_rise : {A : Type 0} (f : A → List ℕ) {tokens : List Token} {all : List A} {from to : ℕ} → all ≡ [] → from ≤ to → Rise f tokens all from to
+pub none_rise : {A : Type 0} (f : A → List ℕ) {tokens : List Token} {all : List A} {from to : ℕ} → all ≡ [] → from ≤ to →
+    Rise f tokens all from to
 none_rise f {tokens} {from = from} {to = to} is le = record { rising = subst (λ xs. Rising tokens (joined (map f xs)) from to) (sym is) (Rising.over le) }
 
-pub more_rise : {A : Type 0} (f : A → List ℕ) {tokens : List Token} {all xs : List A} (x : A) {from at to : ℕ} → Rise f tokens xs from at → Rising tokens (f x) at to → all ≡ xs ++ x ∷ [] → Rise f tokens all from to
+pub more_rise : {A : Type 0} (f : A → List ℕ) {tokens : List Token} {all xs : List A} (x : A) {from at to : ℕ} →
+    Rise f tokens xs from at → Rising tokens (f x) at to → all ≡ xs ++ x ∷ [] → Rise f tokens all from to
 more_rise f {tokens} {xs = xs} x {from = from} {to = to} h k is = record {
-  rising = subst (λ ys. Rising tokens ys from to) (sym (ap (λ ys. joined (map f ys)) is ∙ (ap joined (mapped_more f xs x) ∙ joined_more (map f xs) (f x)))) (join h.rising k);
+  rising = subst (λ ys. Rising tokens ys from to) (sym
+      (ap (λ ys. joined (map f ys)) is ∙ (ap joined (mapped_more f xs x) ∙ joined_more (map f xs) (f x)))) (join h.rising k);
 }
 
-pub one_rises : {A : Type 0} (f : A → List ℕ) {tokens : List Token} {all : List A} (x : A) {from to : ℕ} → Rising tokens (f x) from to → all ≡ x ∷ [] → Rise f tokens all from to
+pub one_rises : {A : Type 0} (f : A → List ℕ) {tokens : List Token} {all : List A} (x : A) {from to : ℕ} →
+    Rising tokens (f x) from to → all ≡ x ∷ [] → Rise f tokens all from to
 one_rises f {tokens} x h is = more_rise f {xs = []} x (none_rise f refl (omega arith)) h is
 
 -- ---- tokens of a text
@@ -92,7 +123,8 @@ module _ (text : List ℕ) (tokens : List Token) (lexes : Lexes text tokens) whe
           by_distance : (n : ℕ) → at ≡ k + n + 1 → start_at tokens k < start_at tokens at
           by_distance n far = subst (λ m. start_at tokens k < start_at tokens m) (sym far) (climbs_on d k n (omega arith))
 
-  above : (n k : ℕ) {starts : List ℕ} {from to : ℕ} → n ≡ start_at tokens k → k < from → Rising tokens starts from to → to ≤ length tokens → list_all (nat_lt n) starts ≡ true
+  above : (n k : ℕ) {starts : List ℕ} {from to : ℕ} → n ≡ start_at tokens k → k < from → Rising tokens starts from to →
+      to ≤ length tokens → list_all (nat_lt n) starts ≡ true
   above n k is le (Rising.over end) inside = refl
   above n k is le (Rising.next {n = m} {at = at} front start rest) inside =
       let later_one = climbs k at (omega arith) (omega (arith, ends rest)) in

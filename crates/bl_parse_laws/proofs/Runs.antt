@@ -135,7 +135,8 @@ none (SpellsNone.empty opens closes) = omega (arith, counts opens refl refl, kee
 
 module _ {text : List ℕ} {tokens : List Token} where
   mutual
-    pub expression : {level : ℕ} {e : RawExpr} {from to base : ℕ} → SpellsExpr text tokens level e from to → Base tokens from base → base + expr_depth e ≤ run_at tokens to
+    pub expression : {level : ℕ} {e : RawExpr} {from to base : ℕ} → SpellsExpr text tokens level e from to → Base tokens from base →
+        base + expr_depth e ≤ run_at tokens to
     expression (SpellsExpr.two le a op b is) h =
         let o = infix_counted op.is in
         omega (arith, made is (two_is _ _ _), expression a h, counts op.token o.inside o.counted, expression b (behind op.token o.opens))
@@ -151,25 +152,38 @@ module _ {text : List ℕ} {tokens : List Token} where
     expression (SpellsExpr.before word n is) h = omega (arith, made is (before_is _), h.low, keeps word refl refl, (behind word refl).named _ n.token)
     expression (SpellsExpr.read from is) h = omega (arith, made is (read_is _), place from h)
     expression (SpellsExpr.call n given after is) h = omega (arith, made is (call_is _ _), h.named _ n.token, inputs given, none after)
-    expression (SpellsExpr.parentheses opens e closes) h = omega (arith, h.low, counts opens refl refl, expression e (behind opens refl), keeps closes refl refl)
+    expression (SpellsExpr.parentheses opens e closes) h =
+        omega (arith, h.low, counts opens refl refl, expression e (behind opens refl), keeps closes refl refl)
 
-    pub place : {t : RawTarget} {from to base : ℕ} → SpellsTarget text tokens t from to → Base tokens from base → base + target_depth t ≤ run_at tokens to
+    pub place : {t : RawTarget} {from to base : ℕ} → SpellsTarget text tokens t from to → Base tokens from base →
+        base + target_depth t ≤ run_at tokens to
     place (SpellsTarget.parted n behind is) h = omega (arith, ap target_depth is ∙ target_is _ _ _, h.named _ n.token, parts behind)
 
     part : {one : RawPart} {from to : ℕ} → SpellsPart text tokens one from to → run_at tokens from + step_depth one ≤ run_at tokens to
     part (SpellsPart.field dot n is) = omega (arith, ap step_depth is ∙ field_is _, keeps dot refl refl, (behind dot refl).named _ n.token)
-    part (SpellsPart.index opens e closes is) = omega (arith, ap step_depth is ∙ index_is _, counts opens refl refl, expression e (behind opens refl), keeps closes refl refl)
+    part (SpellsPart.index opens e closes is) = omega (
+      arith,
+      ap step_depth is ∙ index_is _,
+      counts opens refl refl,
+      expression e (behind opens refl),
+      keeps closes refl refl,
+    )
 
-    parts : {all : List RawPart} {from to : ℕ} → SpellsParts text tokens all from to → run_at tokens from + greatest (map step_depth all) ≤ run_at tokens to
+    parts : {all : List RawPart} {from to : ℕ} → SpellsParts text tokens all from to →
+        run_at tokens from + greatest (map step_depth all) ≤ run_at tokens to
     parts (SpellsParts.no_parts none is) = omega (arith, ap (λ xs. greatest (map step_depth xs)) none, ap (run_at tokens) is)
-    parts (SpellsParts.more_parts {parts = front} {part = last} others one is) = omega (arith, greatest_of_more step_depth front last is, parts others, part one)
+    parts (SpellsParts.more_parts {parts = front} {part = last} others one is) =
+        omega (arith, greatest_of_more step_depth front last is, parts others, part one)
 
     -- the opening parenthesis counts
-    pub inputs : {all : List RawExpr} {from to : ℕ} → SpellsInputs text tokens all from to → run_at tokens from + (1 + greatest (map expr_depth all)) ≤ run_at tokens to
-    inputs (SpellsInputs.no_inputs opens closes none) = omega (arith, ap (λ xs. greatest (map expr_depth xs)) none, counts opens refl refl, keeps closes refl refl)
+    pub inputs : {all : List RawExpr} {from to : ℕ} → SpellsInputs text tokens all from to →
+        run_at tokens from + (1 + greatest (map expr_depth all)) ≤ run_at tokens to
+    inputs (SpellsInputs.no_inputs opens closes none) =
+        omega (arith, ap (λ xs. greatest (map expr_depth xs)) none, counts opens refl refl, keeps closes refl refl)
     inputs (SpellsInputs.some_inputs opens es closes) = omega (arith, counts opens refl refl, expressions es (behind opens refl), keeps closes refl refl)
 
-    expressions : {all : List RawExpr} {from to base : ℕ} → SpellsExprs text tokens all from to → Base tokens from base → base + greatest (map expr_depth all) ≤ run_at tokens to
+    expressions : {all : List RawExpr} {from to base : ℕ} → SpellsExprs text tokens all from to → Base tokens from base →
+        base + greatest (map expr_depth all) ≤ run_at tokens to
     expressions (SpellsExprs.first_expr e is) h = omega (arith, ap (λ xs. greatest (map expr_depth xs)) is, expression e h)
     expressions (SpellsExprs.more_exprs {es = front} {e = last} es comma e is) h =
         omega (arith, greatest_of_more expr_depth front last is, expressions es h, keeps comma refl refl, expression e (behind comma refl))

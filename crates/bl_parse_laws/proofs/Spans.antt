@@ -12,7 +12,7 @@ use Rattle.bl_syntax.specs.declared.grammar.Part.{Part}
 use Rattle.bl_syntax.specs.declared.grammar.View.{View}
 use Rattle.bl_syntax.specs.Grammar.{Piece, the, class_of, view_of, views_after, same_class, productions, may_stand, IsAmong, Derives}
 use Rattle.bl_parse.specs.At.{Takes}
-use Rattle.bl_parse.specs.Reading.{left}
+use Rattle.bl_parse.specs.inner.Reading.{left}
 use Rattle.bl_parse.proofs.ReturnLemmas.{token_at}
 
 -- the pieces, one after the other, stand for the tokens from a position up to another
@@ -52,9 +52,11 @@ same_self (Keyword k) = eq-eqb k k refl
 same_self (Mark k) = eq-eqb k k refl
 
 one_token : (class : Class) {vs ws : List View} (view : View) → vs ≡ view ∷ ws → view.class ≡ class → Derives (Terminal class ∷ []) vs ws
-one_token class {vs} {ws} view is same = subst (λ (us : List View). Derives (Terminal class ∷ []) us ws) (sym is) (terminal (subst (λ (c : Class). same_class class c ≡ true) (sym same) (same_self class)) done)
+one_token class {vs} {ws} view is same = subst (λ (us : List View). Derives (Terminal class ∷ []) us ws) (sym is)
+    (terminal (subst (λ (c : Class). same_class class c ≡ true) (sym same) (same_self class)) done)
 
-view_there : (tokens : List Token) (k : ℕ) (one : Token) {to : ℕ} → slice_get tokens k ≡ Some one → to ≡ k + 1 → (line : Option ℕ) × (left tokens k ≡ view_of line one ∷ left tokens to)
+view_there : (tokens : List Token) (k : ℕ) (one : Token) {to : ℕ} → slice_get tokens k ≡ Some one → to ≡ k + 1 →
+    (line : Option ℕ) × (left tokens k ≡ view_of line one ∷ left tokens to)
 view_there tokens k one at next = let s = seen_at None tokens k one at in
     (s.0, s.1 ∙ ap (λ vs. view_of s.0 one ∷ vs) (sym (ap (left tokens) (position next) ∙ behind None tokens k one at)))
 
@@ -70,18 +72,22 @@ nothing = record { goes = done }
 pub stay : {tokens : List Token} {from to : ℕ} → to ≡ from → Spans [] tokens from to
 stay {tokens} {from} is = subst (λ k. Spans [] tokens from k) (sym is) nothing
 
-pub then : {x : Piece} {ys : List Piece} {tokens : List Token} {from m to : ℕ} → Spans (x ∷ []) tokens from m → Spans ys tokens m to → Spans (x ∷ ys) tokens from to
+pub then : {x : Piece} {ys : List Piece} {tokens : List Token} {from m to : ℕ} → Spans (x ∷ []) tokens from m →
+    Spans ys tokens m to → Spans (x ∷ ys) tokens from to
 then a b = record { goes = append a.goes b.goes }
 
-pub join : (xs : List Piece) {ys : List Piece} {tokens : List Token} {from m to : ℕ} → Spans xs tokens from m → Spans ys tokens m to → Spans (xs ++ ys) tokens from to
+pub join : (xs : List Piece) {ys : List Piece} {tokens : List Token} {from m to : ℕ} → Spans xs tokens from m →
+    Spans ys tokens m to → Spans (xs ++ ys) tokens from to
 join xs a b = record { goes = append a.goes b.goes }
 
 -- what a production stands for is the part
-pub made : {production : List Piece} {tokens : List Token} {from to : ℕ} (A : Part) → IsAmong production (productions A) → ((next : Option View) → may_stand A next production ≡ true)
+pub made : {production : List Piece} {tokens : List Token} {from to : ℕ} (A : Part) → IsAmong production (productions A) →
+    ((next : Option View) → may_stand A next production ≡ true)
     → Spans production tokens from to → Spans (the A ∷ []) tokens from to
 made A among may s = record { goes = part (among, may _) s.goes done }
 
-pub empty : {tokens : List Token} {from to : ℕ} (A : Part) → IsAmong [] (productions A) → ((next : Option View) → may_stand A next [] ≡ true) → to ≡ from → Spans (the A ∷ []) tokens from to
+pub empty : {tokens : List Token} {from to : ℕ} (A : Part) → IsAmong [] (productions A) →
+    ((next : Option View) → may_stand A next [] ≡ true) → to ≡ from → Spans (the A ∷ []) tokens from to
 empty A among may is = made A among may (stay is)
 
 pub from_there : {pieces : List Piece} {tokens : List Token} {from m to : ℕ} → m ≡ from → Spans pieces tokens m to → Spans pieces tokens from to
@@ -99,7 +105,8 @@ add (Chain.over is) s = Chain.more (from_there is s) (Chain.over refl)
 add (Chain.more a c) s = Chain.more a (add c s)
 
 -- a chain, and the part behind it that repeats its link
-pub repeated : {tokens : List Token} (link : List Piece) (A : Part) → IsAmong (link ++ the A ∷ []) (productions A) → ((next : Option View) → may_stand A next (link ++ the A ∷ []) ≡ true)
+pub repeated : {tokens : List Token} (link : List Piece) (A : Part) → IsAmong (link ++ the A ∷ []) (productions A) →
+    ((next : Option View) → may_stand A next (link ++ the A ∷ []) ≡ true)
     → {from m to : ℕ} → Chain link tokens from m → Spans (the A ∷ []) tokens m to → Spans (the A ∷ []) tokens from to
 repeated link A among may (Chain.over is) s = from_there is s
 repeated link A among may (Chain.more a c) s = made A among may (join link a (repeated link A among may c s))
@@ -113,7 +120,8 @@ pub record Listed (first link : List Piece) (tokens : List Token) (from to : ℕ
 pub listed_one : {first link : List Piece} {tokens : List Token} {from to : ℕ} → Spans first tokens from to → Listed first link tokens from to
 listed_one s = record { m = _; head = s; rest = Chain.over refl }
 
-pub listed_more : {first link : List Piece} {tokens : List Token} {from m to : ℕ} → Listed first link tokens from m → Spans link tokens m to → Listed first link tokens from to
+pub listed_more : {first link : List Piece} {tokens : List Token} {from m to : ℕ} → Listed first link tokens from m →
+    Spans link tokens m to → Listed first link tokens from to
 listed_more l s = record { m = l.m; head = l.head; rest = add l.rest s }
 
 -- ---- the whole

@@ -23,12 +23,74 @@ use Rattle.bl_raw.specs.declared.stmt.RawPath.{RawPath}
 use Rattle.bl_raw.specs.declared.stmt.RawStmt.{RawStmt, fold-roll-RawStmt, roll-RawStmt}
 use Rattle.bl_raw.specs.declared.stmt.RawStmtKind.{RawStmtKind, fold-RawStmtKind, fold-roll-RawStmtKind}
 use Rattle.bl_raw.specs.declared.stmt.RawStmtKind as kind
-use Rattle.bl_raw.specs.declared.stmt.RawStmtKind.TheVariants.{rolls-Var, rolls-Let, rolls-Const, rolls-Assign, rolls-Call, rolls-Await, rolls-Run, rolls-If, rolls-Cobegin, rolls-When, rolls-Repeat, rolls-Until, rolls-While, rolls-Return}
+use Rattle.bl_raw.specs.declared.stmt.RawStmtKind.TheVariants.{
+  rolls-Var,
+  rolls-Let,
+  rolls-Const,
+  rolls-Assign,
+  rolls-Call,
+  rolls-Await,
+  rolls-Run,
+  rolls-If,
+  rolls-Cobegin,
+  rolls-When,
+  rolls-Repeat,
+  rolls-Until,
+  rolls-While,
+  rolls-Return,
+}
 use Rattle.bl_raw.specs.declared.types.RawType.{RawType}
-use Rattle.bl_raw.specs.Names.{named, optional, is_filled, type_named, expr_named, target_named, path_named, constant_named, arguments_named, stmt_kind_stands, arm_stands, branch_stands, stmt_layer_stands, stmt_stands, field_named, struct_stands, param_named, item_stands}
-use Rattle.bl_parse.specs.Programs.{SpellsField, SpellsFieldList, SpellsStruct, SpellsParam, SpellsParamList, SpellsParams, SpellsOutputParams, SpellsResult, SpellsUnit, SpellsItem, SpellsItems, Spells}
-use Rattle.bl_parse.specs.Reading.{NamesStand}
-use Rattle.bl_parse.specs.Statements.{SpellsTyping, SpellsMaybeTyping, SpellsValue, SpellsInitial, SpellsConstant, SpellsReceiver, SpellsStmt, SpellsKind, SpellsBlock, SpellsArm, SpellsArms, SpellsElse, SpellsBranch, SpellsBranches}
+use Rattle.bl_raw.specs.Names.{
+  named,
+  optional,
+  is_filled,
+  type_named,
+  expr_named,
+  target_named,
+  path_named,
+  constant_named,
+  arguments_named,
+  stmt_kind_stands,
+  arm_stands,
+  branch_stands,
+  stmt_layer_stands,
+  stmt_stands,
+  field_named,
+  struct_stands,
+  param_named,
+  item_stands,
+}
+use Rattle.bl_parse.specs.Programs.{
+  SpellsField,
+  SpellsFieldList,
+  SpellsStruct,
+  SpellsParam,
+  SpellsParamList,
+  SpellsParams,
+  SpellsOutputParams,
+  SpellsResult,
+  SpellsUnit,
+  SpellsItem,
+  SpellsItems,
+  Spells,
+}
+use Rattle.bl_parse.specs.inner.Reading.{NamesStand}
+use Rattle.bl_parse.specs.Statements.{
+  SpellsTyping,
+  SpellsMaybeTyping,
+  SpellsValue,
+  SpellsInitial,
+  SpellsConstant,
+  SpellsReceiver,
+  SpellsStmt,
+  SpellsKind,
+  SpellsBlock,
+  SpellsArm,
+  SpellsArms,
+  SpellsElse,
+  SpellsBranch,
+  SpellsBranches,
+}
 use Rattle.bl_parse.proofs.LexLemmas.{names_stand}
 use Rattle.bl_parse_laws.proofs.Tests.{Each, Filled, both, one_holds, none_hold, more_hold, listed, one_fills, more_fill, answers}
 use Rattle.bl_parse_laws.proofs.Names.{name, ty, expression, place, inputs, path, outputs}
@@ -75,7 +137,8 @@ if_is : (arms : List RawArm) (other : List RawStmt)
     → kind_stands (kind.If arms other) ≡ (is_filled (map one_arm_stands arms) && (all_of (map one_arm_stands arms) && all_of (map stmt_stands other)))
 if_is arms other = ap kind_stands (sym (rolls-If arms other)) ∙ rw fold-roll-RawStmtKind refl
 
-cobegin_is : (branches : List RawBranch) → kind_stands (kind.Cobegin branches) ≡ (is_filled (map one_branch_stands branches) && all_of (map one_branch_stands branches))
+cobegin_is : (branches : List RawBranch) → kind_stands (kind.Cobegin branches)
+    ≡ (is_filled (map one_branch_stands branches) && all_of (map one_branch_stands branches))
 cobegin_is branches = ap kind_stands (sym (rolls-Cobegin branches)) ∙ rw fold-roll-RawStmtKind refl
 
 when_is : (guard : Guard) (e : RawExpr) (body : List RawStmt) → kind_stands (kind.When guard e body) ≡ (expr_named e && all_of (map stmt_stands body))
@@ -93,7 +156,8 @@ while_is e body = ap kind_stands (sym (rolls-While e body)) ∙ rw fold-roll-Raw
 return_is : (e : Option RawExpr) → kind_stands (kind.Return e) ≡ optional expr_named e
 return_is e = ap kind_stands (sym (rolls-Return e)) ∙ rw fold-roll-RawStmtKind refl
 
-arm_is : (e : RawExpr) (body : List RawStmt) → one_arm_stands (roll-RawArm (record { test = e; body = body })) ≡ (expr_named e && all_of (map stmt_stands body))
+arm_is : (e : RawExpr) (body : List RawStmt) → one_arm_stands (roll-RawArm (record { test = e; body = body }))
+    ≡ (expr_named e && all_of (map stmt_stands body))
 arm_is e body = rw fold-roll-RawArm refl
 
 branch_is : (weak : Bool) (body : List RawStmt) → one_branch_stands (roll-RawBranch (record { weak = weak; body = body })) ≡ all_of (map stmt_stands body)
@@ -140,12 +204,14 @@ module _ (text : List ℕ) (tokens : List Token) (stand : NamesStand text tokens
     says (SpellsKind.await w e is) = ap kind_stands is ∙ (await_is _ ∙ expression text tokens stand e)
     says (SpellsKind.run w to n given taken is) = ap kind_stands is ∙ (run_is _ _ _ _ ∙ both (receiver to) (both (name text tokens stand n)
         (both (listed expr_named (inputs text tokens stand given)) (listed path_named (outputs text tokens stand taken)))))
-    says (SpellsKind.cobegin w branches ends is) = ap kind_stands is ∙ (cobegin_is _ ∙ both (answers one_branch_stands (some_branch branches)) (each_branch branches).hold)
+    says (SpellsKind.cobegin w branches ends is) = ap kind_stands is
+        ∙ (cobegin_is _ ∙ both (answers one_branch_stands (some_branch branches)) (each_branch branches).hold)
     says (SpellsKind.guarded w e guard body ends is) = ap kind_stands is ∙ (when_is _ _ _ ∙ both (expression text tokens stand e) (block body).hold)
     says (SpellsKind.repeat w body ends is) = ap kind_stands is ∙ (repeat_is _ ∙ (block body).hold)
     says (SpellsKind.until w body u e ends is) = ap kind_stands is ∙ (until_is _ _ ∙ both (block body).hold (expression text tokens stand e))
     says (SpellsKind.while w e r body ends is) = ap kind_stands is ∙ (while_is _ _ ∙ both (expression text tokens stand e) (block body).hold)
-    says (SpellsKind.branching arms other ends is) = ap kind_stands is ∙ (if_is _ _ ∙ both (answers one_arm_stands (some_arm arms)) (both (each_arm arms).hold (otherwise other).hold))
+    says (SpellsKind.branching arms other ends is) = ap kind_stands is
+        ∙ (if_is _ _ ∙ both (answers one_arm_stands (some_arm arms)) (both (each_arm arms).hold (otherwise other).hold))
     says (SpellsKind.returns w none is) = ap kind_stands is ∙ return_is _
     says (SpellsKind.returns_value w on e is) = ap kind_stands is ∙ (return_is _ ∙ expression text tokens stand e)
 
@@ -228,5 +294,6 @@ module _ (text : List ℕ) (tokens : List Token) (stand : NamesStand text tokens
   items (SpellsItems.none none is) = none_hold item_stands none
   items (SpellsItems.more others one is) = more_hold item_stands _ (items others) (item one) is
 
-pub what_stands : (text : List ℕ) (tokens : List Token) (raw : Raw) → Lexes text tokens → Spells text tokens raw → list_all item_stands raw.items ≡ true
+pub what_stands : (text : List ℕ) (tokens : List Token) (raw : Raw) → Lexes text tokens → Spells text tokens raw →
+    list_all item_stands raw.items ≡ true
 what_stands text tokens raw lexes h = listed item_stands (items text tokens (names_stand text tokens lexes) h.items)

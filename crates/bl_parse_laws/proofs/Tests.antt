@@ -20,7 +20,8 @@ pub record Each {A : Type 0} (test : A → Bool) (xs : List A) : Type 0 where
   pub hold : all_of (map test xs) ≡ true
 
 -- one more member
-more_in : {A : Type 0} (test : A → Bool) (xs : List A) (x : A) → all_of (map test xs) ≡ true → test x ≡ true → all_of (map test (xs ++ x ∷ [])) ≡ true
+more_in : {A : Type 0} (test : A → Bool) (xs : List A) (x : A) → all_of (map test xs) ≡ true → test x ≡ true →
+    all_of (map test (xs ++ x ∷ [])) ≡ true
 more_in test [] x h k = both k refl
 more_in test (y ∷ ys) x h k = both (first_holds (test y) _ h) (more_in test ys x (second_holds (test y) _ h) k)
 

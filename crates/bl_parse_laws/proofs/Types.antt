@@ -36,11 +36,14 @@ among_scalar IsScalar.bits64 = later (later (later (later (later (later (later (
 pub scalar : {tokens : List Token} {s : ScalarType} {from to : ℕ} → SpellsScalar tokens s from to → Spans (the Scalar ∷ []) tokens from to
 scalar h = made Scalar (among_scalar h.is) (λ n. refl) (token h.token)
 
-a_length : {text : List ℕ} {tokens : List Token} {length : RawLength} {from to : ℕ} → SpellsLength text tokens length from to → Spans (the Length ∷ []) tokens from to
+a_length : {text : List ℕ} {tokens : List Token} {length : RawLength} {from to : ℕ} → SpellsLength text tokens length from to →
+    Spans (the Length ∷ []) tokens from to
 a_length (SpellsLength.number t is) = made Length here (λ n. refl) (token t)
 a_length (SpellsLength.constant n is) = made Length (later here) (λ n. refl) (a_name n)
 
-pub a_type : {text : List ℕ} {tokens : List Token} {ty : RawType} {from to : ℕ} → SpellsType text tokens ty from to → Spans (the Ty ∷ []) tokens from to
+pub a_type : {text : List ℕ} {tokens : List Token} {ty : RawType} {from to : ℕ} → SpellsType text tokens ty from to →
+    Spans (the Ty ∷ []) tokens from to
 a_type (SpellsType.scalar s is) = made Ty here (λ n. refl) (scalar s)
 a_type (SpellsType.named n is) = made Ty (later here) (λ n. refl) (a_name n)
-a_type (SpellsType.array opens length closes element is) = made Ty (later (later here)) (λ n. refl) (then (token opens) (then (a_length length) (then (token closes) (a_type element))))
+a_type (SpellsType.array opens length closes element is) =
+    made Ty (later (later here)) (λ n. refl) (then (token opens) (then (a_length length) (then (token closes) (a_type element))))

@@ -14,7 +14,8 @@ pub names_cause : (raw : Raw) (told : Refusal) → IsNamesCause raw.items told �
 names_cause raw (refusal.Rule rule place also) first = names rule place also first
 names_cause raw refusal.NoMemory first = tt
 
-pub types_cause : (raw : Raw) (named : Named) (told : Refusal) → named ≡ named_of raw → NamesPass raw.items → IsTypesCause named told → IsCause raw told
+pub types_cause : (raw : Raw) (named : Named) (told : Refusal) → named ≡ named_of raw → NamesPass raw.items →
+    IsTypesCause named told → IsCause raw told
 types_cause raw named (refusal.Rule rule place also) same passes first =
     types rule place also passes (subst (λ n. IsTypesCause n (refusal.Rule rule place also)) same first)
 types_cause raw named refusal.NoMemory same passes first = tt

@@ -1,5 +1,43 @@
 -- Bytes cut at line feeds, and their parts.
-use Rattle.std.proofs.Common.{◌≡◌, ℕ, suc, ◌+◌, ◌<◌, ◌≤◌, List, [], ◌∷◌, ◌++◌, length, refl, ap, sym, subst, ◌∙◌, Bool, true, false, ◌||◌, ◌==◌, append_assoc, arith, rules, Option, Some, None, get_or, take, drop, position, add-one, not, cond, nat_lt, length-take, eqb-true}
+use Rattle.std.proofs.Common.{
+  ◌≡◌,
+  ℕ,
+  suc,
+  ◌+◌,
+  ◌<◌,
+  ◌≤◌,
+  List,
+  [],
+  ◌∷◌,
+  ◌++◌,
+  length,
+  refl,
+  ap,
+  sym,
+  subst,
+  ◌∙◌,
+  Bool,
+  true,
+  false,
+  ◌||◌,
+  ◌==◌,
+  append_assoc,
+  arith,
+  rules,
+  Option,
+  Some,
+  None,
+  get_or,
+  take,
+  drop,
+  position,
+  add-one,
+  not,
+  cond,
+  nat_lt,
+  length-take,
+  eqb-true,
+}
 use Rattle.std.proofs.lemmas.List.Quantifiers.{position-Some}
 use Rattle.std.proofs.lemmas.List.{get_or-take}
 use Rattle.std.proofs.lemmas.Bool.Decides.{nat_tests}
@@ -45,7 +83,8 @@ cut_append [] rest = refl
 cut_append (b ∷ x) rest = by_byte (b == 10) refl (cut_append x rest)
   where
     by_byte : (t : Bool) → (b == 10) ≡ t → cut (x ++ rest) ≡ after_piece (cut x) rest → cut (b ∷ (x ++ rest)) ≡ after_piece (cut (b ∷ x)) rest
-    by_byte true h e = cut_feed b (x ++ rest) h ∙ (ap (λ (c : Cut). let r : Cut = record { whole = [] ∷ c.whole; rest = c.rest } in r) e ∙ ap (λ (c : Cut). after_piece c rest) (sym (cut_feed b x h)))
+    by_byte true h e = cut_feed b (x ++ rest) h ∙ (ap (λ (c : Cut). let r : Cut = record { whole = [] ∷ c.whole; rest = c.rest } in
+        r) e ∙ ap (λ (c : Cut). after_piece c rest) (sym (cut_feed b x h)))
     by_byte false h e = cut_other b (x ++ rest) h ∙ (ap (λ (c : Cut). led_by b c.whole c.rest) e
         ∙ (led_append b (whole_lines x) (unfinished x) rest h ∙ ap (λ (c : Cut). after_piece c rest) (sym (cut_other b x h))))
 

@@ -1,5 +1,35 @@
 -- What a reader tells does not depend on where the bytes are cut.
-use Rattle.std.proofs.Common.{◌≡◌, ◌≢◌, Result, Ok, Err, OnOk, OnErr, ℕ, ◌≤◌, List, [], ◌∷◌, ◌++◌, length, refl, ap, sym, ◌∙◌, subst, false, Option, Some, None, ℤ, append_assoc, append-nil, arith, length-append, ◌==◌}
+use Rattle.std.proofs.Common.{
+  ◌≡◌,
+  ◌≢◌,
+  Result,
+  Ok,
+  Err,
+  OnOk,
+  OnErr,
+  ℕ,
+  ◌≤◌,
+  List,
+  [],
+  ◌∷◌,
+  ◌++◌,
+  length,
+  refl,
+  ap,
+  sym,
+  ◌∙◌,
+  subst,
+  false,
+  Option,
+  Some,
+  None,
+  ℤ,
+  append_assoc,
+  append-nil,
+  arith,
+  length-append,
+  ◌==◌,
+}
 use Rattle.std.proofs.lemmas.Bool.Decides.{nat_tests}
 use Rattle.bl_tree.specs.declared.row.Column.{Column}
 use Rattle.bl_rows.specs.declared.fault.RowFault.{RowFault}
@@ -8,8 +38,31 @@ use Rattle.bl_rows.specs.declared.verdict.Verdict.{Verdict}
 use Rattle.bl_rows.specs.declared.verdict.Verdict.TheVariants.{Passed, Header, Numbers, Bad}
 use Rattle.bl_rows.specs.declared.verdict.Place.{Place}
 use Rattle.bl_rows.specs.Lines.{Cut, cut, led_by, whole_lines, unfinished, last_line, lines_of, has_feed}
-use Rattle.bl_rows.specs.Reading.{Reading, Scan, scan, scanned, verdict, over_limit, overrun, after, led_by_line, Told, told, first_of, fault_in, rows_in, read_on, rows_after, led_by_rows, unless_stopped, fault_at_end, Front, Unrefused, answer_of}
-use Rattle.bl_rows.specs.Steps.{fault_of, rows_by, with_rows}
+use Rattle.bl_rows.specs.Reading.{
+  Reading,
+  Scan,
+  scan,
+  scanned,
+  verdict,
+  over_limit,
+  overrun,
+  after,
+  led_by_line,
+  Told,
+  told,
+  first_of,
+  fault_in,
+  rows_in,
+  read_on,
+  rows_after,
+  led_by_rows,
+  unless_stopped,
+  fault_at_end,
+  Front,
+  Unrefused,
+  answer_of,
+}
+use Rattle.bl_rows.specs.inner.Steps.{fault_of, rows_by, with_rows}
 use Rattle.bl_rows.proofs.Scans.{ok_by, rows_of_scan}
 use Rattle.bl_rows.proofs.Cuts.{cut_none, cut_append, cut_other, lines_append, unfinished_feedless, or_false}
 use Rattle.bl_rows.proofs.Verdicts.{past_limit}
@@ -28,7 +81,8 @@ led_then columns at (Numbers row) None s b e = rw e refl
 led_then columns at (Numbers row) (Some fault) s b e = rw e refl
 led_then columns at (Bad fault) o s b e = refl
 
-scan_append : (columns : List Column) (at : Place) (a b : List (List ℕ)) → scan columns at (a ++ b) ≡ then_by columns (scan columns at a).fault (scan columns at a) b
+scan_append : (columns : List Column) (at : Place) (a b : List (List ℕ)) →
+    scan columns at (a ++ b) ≡ then_by columns (scan columns at a).fault (scan columns at a) b
 unfolding then_by
 scan_append columns at [] b = refl
 scan_append columns at (line ∷ a) b =
@@ -62,13 +116,15 @@ record Begins (start : List ℕ) (lines : List (List ℕ)) : Type 0 where
   pub others : List (List ℕ)
   pub is : lines ≡ (start ++ more) ∷ others
 
-begins_by : (b : ℕ) (u : List ℕ) (w : List (List ℕ)) (r : List ℕ) → Begins (b ∷ u) ((led_all (b ∷ u) w r).whole ++ last_line (led_all (b ∷ u) w r).rest)
+begins_by : (b : ℕ) (u : List ℕ) (w : List (List ℕ)) (r : List ℕ) →
+    Begins (b ∷ u) ((led_all (b ∷ u) w r).whole ++ last_line (led_all (b ∷ u) w r).rest)
 unfolding led_all
 begins_by b u [] r = record { more = r; others = []; is = refl }
 begins_by b u (l ∷ w) r = record { more = l; others = w ++ last_line r; is = refl }
 
 begins : (b : ℕ) (u rest : List ℕ) → has_feed (b ∷ u) ≡ false → Begins (b ∷ u) (lines_of ((b ∷ u) ++ rest))
-begins b u rest h = subst (λ (c : Cut). Begins (b ∷ u) (c.whole ++ last_line c.rest)) (sym (cut_led (b ∷ u) rest h)) (begins_by b u (whole_lines rest) (unfinished rest))
+begins b u rest h = subst (λ (c : Cut). Begins (b ∷ u) (c.whole ++ last_line c.rest)) (sym (cut_led (b ∷ u) rest h))
+    (begins_by b u (whole_lines rest) (unfinished rest))
 
 -- a line past a limit stays past it
 over_grows : (at : Place) (n m : ℕ) (fault : RowFault) → n ≤ m → over_limit at n ≡ Some fault → over_limit at m ≡ Some fault
@@ -79,14 +135,16 @@ overrun_stops : (columns : List Column) (at : Place) (u rest : List ℕ) (fault 
 overrun_stops columns at [] rest fault h e = cc
 overrun_stops columns at (b ∷ u) rest fault h e =
     let start = begins b u rest h in
-    let long : over_limit at (length ((b ∷ u) ++ start.more)) ≡ Some fault = over_grows at (length (b ∷ u)) _ fault (omega (arith, length-append (b ∷ u) start.more)) e in
+    let long : over_limit at (length ((b ∷ u) ++ start.more)) ≡ Some fault =
+    over_grows at (length (b ∷ u)) _ fault (omega (arith, length-append (b ∷ u) start.more)) e in
     rw (start.is, past_limit columns at ((b ∷ u) ++ start.more) fault long) refl
 
 told_rows : (rows : List (List ℤ)) (s : Scan) → told (with_rows rows s) ≡ led_by_rows rows (told s)
 told_rows rows s = refl
 
 -- a scan that stopped, or goes on with what is unfinished
-by_scan : (columns : List Column) (s : Scan) (u rest : List ℕ) (o p stop : Option RowFault) (later : Told) → has_feed u ≡ false → s.fault ≡ o → overrun s.at u ≡ p → stop ≡ first_of s.fault (overrun s.at u)
+by_scan : (columns : List Column) (s : Scan) (u rest : List ℕ) (o p stop : Option RowFault) (later : Told) → has_feed u ≡ false →
+    s.fault ≡ o → overrun s.at u ≡ p → stop ≡ first_of s.fault (overrun s.at u)
     → (stop ≡ None → later ≡ told (scan columns s.at (lines_of (u ++ rest))))
     → told (then_by columns s.fault s (lines_of (u ++ rest))) ≡ led_by_rows s.rows (unless_stopped stop later)
 unfolding then_by
@@ -95,24 +153,29 @@ by_scan columns s u rest None (Some fault) stop later h e g k f = rw (k, e, g, o
 by_scan columns s u rest None None stop later h e g k f = let none : stop ≡ None = k ∙ rw (e, g) refl in rw (e, none, f none) refl
 
 -- with no fault before a piece
-after_piece : (before now : Reading) (piece rest : List ℕ) → before.stop ≡ None → now.stop ≡ fault_in before piece → (now.stop ≡ None → now ≡ read_on before piece)
+after_piece : (before now : Reading) (piece rest : List ℕ) → before.stop ≡ None → now.stop ≡ fault_in before piece →
+    (now.stop ≡ None → now ≡ read_on before piece)
     → rows_after before (piece ++ rest) ≡ led_by_rows (rows_in before piece) (rows_after now rest)
 unfolding rows_after rows_in fault_in read_on
 after_piece before now piece rest running stop state =
     let x = before.line ++ piece in
     let s = scanned before piece in
     let fault : now.stop ≡ first_of s.fault (overrun s.at (unfinished x)) = stop ∙ rw running refl in
-    let lines : scan before.columns before.at (lines_of (before.line ++ (piece ++ rest))) ≡ then_by before.columns s.fault s (lines_of (unfinished x ++ rest)) =
+    let lines : scan before.columns before.at (lines_of (before.line ++ (piece ++ rest)))
+    ≡ then_by before.columns s.fault s (lines_of (unfinished x ++ rest)) =
     ap (λ l. scan before.columns before.at (lines_of l)) (sym (append_assoc before.line piece rest))
-    ∙ (ap (λ l. scan before.columns before.at l) (lines_append x rest) ∙ scan_append before.columns before.at (whole_lines x) (lines_of (unfinished x ++ rest))) in
-    rw running (ap told lines ∙ by_scan before.columns s (unfinished x) rest s.fault (overrun s.at (unfinished x)) now.stop _ (unfinished_feedless x) refl refl fault
+    ∙ (ap (λ l. scan before.columns before.at l) (lines_append x rest)
+    ∙ scan_append before.columns before.at (whole_lines x) (lines_of (unfinished x ++ rest))) in
+    rw running (ap told lines ∙ by_scan before.columns s (unfinished x) rest s.fault (overrun s.at (unfinished x)) now.stop _
+    (unfinished_feedless x) refl refl fault
     (λ e. ap (λ (r : Reading). told (scan r.columns r.at (lines_of (r.line ++ rest)))) (state e)))
 
 -- the bytes that end
 pub rows_at_end : (s : Reading) → s.stop ≡ None → has_feed s.line ≡ false → rows_after s [] ≡ told (scan s.columns s.at (last_line s.line))
 unfolding rows_after
 rows_at_end s running h =
-    let lines : lines_of (s.line ++ []) ≡ last_line s.line = ap lines_of (append-nil s.line) ∙ ap (λ (c : Cut). c.whole ++ last_line c.rest) (cut_none s.line h) in
+    let lines : lines_of (s.line ++ []) ≡ last_line s.line =
+    ap lines_of (append-nil s.line) ∙ ap (λ (c : Cut). c.whole ++ last_line c.rest) (cut_none s.line h) in
     rw (running, lines) refl
 
 -- bytes that end after a line feed
@@ -120,7 +183,8 @@ pub ended_clean : (s : Reading) → s.stop ≡ None → s.line ≡ [] → rows_a
 ended_clean s running empty = rows_at_end s running (rw empty refl) ∙ ap (λ l. told (scan s.columns s.at (last_line l))) empty
 
 -- a last line that has bytes
-led_last : (at : Place) (v : Verdict) → told (led_by_line at v (record { rows = []; at = after at v; fault = None })) ≡ record { rows = rows_by v; fault = fault_at_end (after at v) (fault_of v) }
+led_last : (at : Place) (v : Verdict) → told (led_by_line at v (record { rows = []; at = after at v; fault = None }))
+    ≡ record { rows = rows_by v; fault = fault_at_end (after at v) (fault_of v) }
 led_last at Passed = refl
 led_last at Header = refl
 led_last at (Numbers row) = refl
@@ -132,14 +196,24 @@ last_scan columns at [] h = absurd (h refl)
 last_scan columns at (b ∷ line) h = led_last at (verdict columns at (b ∷ line))
 
 ended_told : (s : Reading) → s.stop ≡ None → has_feed s.line ≡ false → s.line ≢ [] → rows_after s []
-    ≡ record { rows = rows_by (verdict s.columns s.at (s.line ++ [])); fault = fault_at_end (after s.at (verdict s.columns s.at (s.line ++ []))) (fault_of (verdict s.columns s.at (s.line ++ []))) }
+    ≡ record {
+      rows = rows_by (verdict s.columns s.at (s.line ++ []));
+      fault =
+          fault_at_end (after s.at (verdict s.columns s.at (s.line ++ []))) (fault_of (verdict s.columns s.at (s.line ++ [])));
+    }
 ended_told s running h some = rows_at_end s running h ∙ (last_scan s.columns s.at s.line some
-    ∙ ap (λ l. let t : Told = record { rows = rows_by (verdict s.columns s.at l); fault = fault_at_end (after s.at (verdict s.columns s.at l)) (fault_of (verdict s.columns s.at l)) } in t) (sym (append-nil s.line)))
+    ∙ ap (λ l. let t : Told = record {
+      rows = rows_by (verdict s.columns s.at l);
+      fault =
+          fault_at_end (after s.at (verdict s.columns s.at l)) (fault_of (verdict s.columns s.at l));
+    } in t) (sym (append-nil s.line)))
 
-pub ended_rows : (s : Reading) (was now : List (List ℤ)) → s.stop ≡ None → has_feed s.line ≡ false → s.line ≢ [] → now ≡ was ++ rows_by (verdict s.columns s.at (s.line ++ [])) → now ≡ was ++ (rows_after s []).rows
+pub ended_rows : (s : Reading) (was now : List (List ℤ)) → s.stop ≡ None → has_feed s.line ≡ false → s.line ≢ [] →
+    now ≡ was ++ rows_by (verdict s.columns s.at (s.line ++ [])) → now ≡ was ++ (rows_after s []).rows
 ended_rows s was now running h some e = e ∙ ap (λ r. was ++ r) (sym (ap (λ (t : Told). t.rows) (ended_told s running h some)))
 
-pub ended_fault : (s : Reading) (stop : Option RowFault) (at : Place) → s.stop ≡ None → has_feed s.line ≡ false → s.line ≢ [] → stop ≡ fault_of (verdict s.columns s.at (s.line ++ []))
+pub ended_fault : (s : Reading) (stop : Option RowFault) (at : Place) → s.stop ≡ None → has_feed s.line ≡ false → s.line ≢ [] →
+    stop ≡ fault_of (verdict s.columns s.at (s.line ++ []))
     → at ≡ after s.at (verdict s.columns s.at (s.line ++ [])) → fault_at_end at stop ≡ (rows_after s []).fault
 ended_fault s stop at running h some e g = rw (e, g) (sym (ap (λ (t : Told). t.fault) (ended_told s running h some)))
 
@@ -150,7 +224,8 @@ all_handed was now rows e = record { handed = rows; left = []; grown = e; front 
 pub none_handed : (was now rows : List (List ℤ)) → now ≡ was → Front was now rows
 none_handed was now rows e = record { handed = []; left = rows; grown = e ∙ sym (append-nil was); front = refl }
 
-pub handed_by : {T E : Type 0} (r : Result T E) (was now rows : List (List ℤ)) → OnOk r (now ≡ was ++ rows) → OnErr r (now ≡ was) → Front was now rows
+pub handed_by : {T E : Type 0} (r : Result T E) (was now rows : List (List ℤ)) → OnOk r (now ≡ was ++ rows) → OnErr r (now ≡ was) →
+    Front was now rows
 handed_by (Ok x) was now rows h g = all_handed was now rows h
 handed_by (Err e) was now rows h g = none_handed was now rows g
 
@@ -171,11 +246,13 @@ pub stopped_rows : (s : Reading) (piece : List ℕ) (fault : RowFault) → s.sto
 unfolding rows_in
 stopped_rows s piece fault e = rw e refl
 
-pub stopped_told : (s : Reading) (bytes : List ℕ) (fault : RowFault) → s.stop ≡ Some fault → rows_after s bytes ≡ record { rows = []; fault = Some fault }
+pub stopped_told : (s : Reading) (bytes : List ℕ) (fault : RowFault) → s.stop ≡ Some fault →
+    rows_after s bytes ≡ record { rows = []; fault = Some fault }
 unfolding rows_after
 stopped_told s bytes fault e = rw e refl
 
-pub stopped_cut : (s : Reading) (piece rest : List ℕ) (fault : RowFault) → s.stop ≡ Some fault → rows_after s (piece ++ rest) ≡ led_by_rows (rows_in s piece) (rows_after s rest)
+pub stopped_cut : (s : Reading) (piece rest : List ℕ) (fault : RowFault) → s.stop ≡ Some fault →
+    rows_after s (piece ++ rest) ≡ led_by_rows (rows_in s piece) (rows_after s rest)
 stopped_cut s piece rest fault e = rw (stopped_told s (piece ++ rest) fault e, stopped_rows s piece fault e, stopped_told s rest fault e) refl
 
 -- what feed says of any cut
@@ -204,33 +281,43 @@ joined_scan before now piece more clean state =
     ∙ (ap (λ (c : Cut). scan before.columns before.at c.whole) (cut_append x more)
     ∙ (scan_append before.columns before.at (whole_lines x) (whole_lines (unfinished x ++ more)) ∙ rw (clean, state) refl))
 
-joined_rest : (before now : Reading) (piece more : List ℕ) → now ≡ read_on before piece → unfinished (before.line ++ (piece ++ more)) ≡ unfinished (now.line ++ more)
+joined_rest : (before now : Reading) (piece more : List ℕ) → now ≡ read_on before piece →
+    unfinished (before.line ++ (piece ++ more)) ≡ unfinished (now.line ++ more)
 unfolding read_on
 joined_rest before now piece more state =
-    ap (λ l. unfinished l) (sym (append_assoc before.line piece more)) ∙ (ap (λ (c : Cut). c.rest) (cut_append (before.line ++ piece) more) ∙ rw state refl)
+    ap (λ l. unfinished l) (sym (append_assoc before.line piece more))
+    ∙ (ap (λ (c : Cut). c.rest) (cut_append (before.line ++ piece) more) ∙ rw state refl)
 
-fault_by_scan : (s : Reading) (piece : List ℕ) → s.stop ≡ None → fault_in s piece ≡ first_of (scanned s piece).fault (overrun (scanned s piece).at (unfinished (s.line ++ piece)))
+fault_by_scan : (s : Reading) (piece : List ℕ) → s.stop ≡ None →
+    fault_in s piece ≡ first_of (scanned s piece).fault (overrun (scanned s piece).at (unfinished (s.line ++ piece)))
 unfolding fault_in
 fault_by_scan s piece running = rw running refl
 
-pieces_join : (before now : Reading) (piece more : List ℕ) → before.stop ≡ None → now.stop ≡ None → fault_in before piece ≡ None → now ≡ read_on before piece → Joins before now piece more
+pieces_join : (before now : Reading) (piece more : List ℕ) → before.stop ≡ None → now.stop ≡ None → fault_in before piece ≡ None →
+    now ≡ read_on before piece → Joins before now piece more
 pieces_join before now piece more running still clean state =
     let first = no_fault (scanned before piece).fault _ (sym (fault_by_scan before piece running) ∙ clean) in
     let scans = joined_scan before now piece more first.0 state in
     record {
       rows = rows_of_scan before (piece ++ more) running ∙ (ap (λ (c : Scan). c.rows) scans
-          ∙ (ap (λ r. r ++ (scanned now more).rows) (sym (rows_of_scan before piece running)) ∙ ap (λ r. rows_in before piece ++ r) (sym (rows_of_scan now more still))));
-      fault = fault_by_scan before (piece ++ more) running ∙ (ap (λ (c : Scan). first_of c.fault (overrun c.at (unfinished (before.line ++ (piece ++ more))))) scans
-          ∙ (ap (λ u. first_of (scanned now more).fault (overrun (scanned now more).at u)) (joined_rest before now piece more state) ∙ sym (fault_by_scan now more still)));
+          ∙ (ap (λ r. r ++ (scanned now more).rows) (sym (rows_of_scan before piece running))
+          ∙ ap (λ r. rows_in before piece ++ r) (sym (rows_of_scan now more still))));
+      fault = fault_by_scan before (piece ++ more) running
+          ∙ (ap (λ (c : Scan). first_of c.fault (overrun c.at (unfinished (before.line ++ (piece ++ more))))) scans
+          ∙ (ap (λ u. first_of (scanned now more).fault (overrun (scanned now more).at u)) (joined_rest before now piece more state)
+          ∙ sym (fault_by_scan now more still)));
     }
 
 pub answered_joins : {E : Type 0} (taken : Result Unit E) (before mid now : Reading) (piece : List ℕ) (r : Result Unit RowFault) → before.stop ≡ None
     → OnOk taken ((r ≡ answer_of mid.stop) × (now ≡ mid)) → OnErr taken ((r ≡ Err NoMemory) × (now ≡ record mid { stop = Some NoMemory }))
     → OnOk taken (mid.stop ≡ fault_in before piece) → OnOk taken (mid.stop ≡ None → mid ≡ read_on before piece)
-    → OnOk r ((more : List ℕ) → (rows_in before (piece ++ more) ≡ rows_in before piece ++ rows_in now more) × (fault_in before (piece ++ more) ≡ fault_in now more))
+    → OnOk r ((more : List ℕ) → (rows_in before (piece ++ more) ≡ rows_in before piece ++ rows_in now more)
+    × (fault_in before (piece ++ more) ≡ fault_in now more))
 answered_joins (Ok x) before mid now piece r running ok err stop state = by_stop mid.stop refl
   where
-    by_stop : (o : Option RowFault) → mid.stop ≡ o → OnOk r ((more : List ℕ) → (rows_in before (piece ++ more) ≡ rows_in before piece ++ rows_in now more) × (fault_in before (piece ++ more) ≡ fault_in now more))
+    by_stop : (o : Option RowFault) → mid.stop ≡ o → OnOk r
+        ((more : List ℕ) → (rows_in before (piece ++ more) ≡ rows_in before piece ++ rows_in now more)
+        × (fault_in before (piece ++ more) ≡ fault_in now more))
     by_stop None e = ok_by r (λ more. let j = pieces_join before mid piece more running e (sym stop ∙ e) (state e) in rw ok.1 (j.rows, j.fault))
     by_stop (Some fault) e = rw (ok.0, e) tt
 answered_joins (Err x) before mid now piece r running ok err stop state = rw err.0 tt

@@ -1,5 +1,40 @@
 -- How csv reads a line without quotes and line ends: its fields lie between commas.
-use Rattle.std.proofs.Common.{◌≡◌, ◌≢◌, ℕ, zero, suc, ◌+◌, ◌-◌, ◌<◌, ◌≤◌, List, [], ◌∷◌, ◌++◌, length, take, drop, get_or, refl, ap, sym, ◌∙◌, Some, Bool, true, false, ◌==◌, ◌||◌, arith, add-one, drop-cons, length-drop, ◌⊎◌, inl, inr}
+use Rattle.std.proofs.Common.{
+  ◌≡◌,
+  ◌≢◌,
+  ℕ,
+  zero,
+  suc,
+  ◌+◌,
+  ◌-◌,
+  ◌<◌,
+  ◌≤◌,
+  List,
+  [],
+  ◌∷◌,
+  ◌++◌,
+  length,
+  take,
+  drop,
+  get_or,
+  refl,
+  ap,
+  sym,
+  ◌∙◌,
+  Some,
+  Bool,
+  true,
+  false,
+  ◌==◌,
+  ◌||◌,
+  arith,
+  add-one,
+  drop-cons,
+  length-drop,
+  ◌⊎◌,
+  inl,
+  inr,
+}
 use Rattle.std.proofs.lemmas.Bool.Decides.{eqb_tells}
 use Rattle.std.proofs.lemmas.List.{get_or-drop, drop_all}
 use Rattle.std.proofs.Math.Seq.{take-suc}
@@ -48,7 +83,8 @@ comma st.InComment fields field rest h = absurd h
 comma st.AfterCr fields field rest h = absurd h
 
 -- any other plain byte joins it
-other : (s : State) (b : ℕ) (fields : List (List ℕ)) (field rest : List ℕ) → IsPlain s → (b == 34) ≡ false → (b == 13) ≡ false → (b == 10) ≡ false → (b == 44) ≡ false
+other : (s : State) (b : ℕ) (fields : List (List ℕ)) (field rest : List ℕ) → IsPlain s → (b == 34) ≡ false → (b == 13) ≡ false →
+    (b == 10) ≡ false → (b == 44) ≡ false
     → next_record default_config s fields field (b ∷ rest) ≡ next_record default_config st.InField fields (field ++ b ∷ []) rest
 unfolding next_record
 other st.StartRecord b fields field rest h q r f c = rw (r, f, q, c) refl
@@ -70,12 +106,21 @@ pub record Split (line : List ℕ) (start i : ℕ) (fields : List (List ℕ)) (h
   pub same : next_record default_config state fields (take (i - start) (drop start line)) (drop i line) ≡ next_record default_config st.StartRecord [] [] line
 
 pub split_start : (line : List ℕ) (fields : List (List ℕ)) (held : List ℕ) → fields ≡ [] → held ≡ [] → Split line 0 0 fields held
-split_start line fields held e h = record { within = omega arith; state = st.StartRecord; plain = tt; begun = λ g. absurd (omega arith); none = h; same = rw e refl }
+split_start line fields held e h = record {
+  within = omega arith;
+  state = st.StartRecord;
+  plain = tt;
+  begun =
+      λ g. absurd (omega arith);
+  none = h;
+  same = rw e refl;
+}
 
 none_taken : (n : ℕ) (xs : List ℕ) → take (n - n) xs ≡ []
 none_taken n xs = let e : n - n ≡ 0 = omega arith in rw e refl
 
-pub split_comma : (line : List ℕ) (start i : ℕ) (fields fields2 : List (List ℕ)) (held held2 : List ℕ) → Split line start i fields held → i < length line → get_or line i 0 ≡ 44
+pub split_comma : (line : List ℕ) (start i : ℕ) (fields fields2 : List (List ℕ)) (held held2 : List ℕ) →
+    Split line start i fields held → i < length line → get_or line i 0 ≡ 44
     → fields2 ≡ fields ++ (held ++ take (i - start) (drop start line)) ∷ [] → held2 ≡ [] → Split line (i + 1) (i + 1) fields2 held2
 split_comma line start i fields fields2 held held2 s inside byte pushed none = record {
   within = omega arith;
@@ -91,7 +136,8 @@ split_comma line start i fields fields2 held held2 s inside byte pushed none = r
 }
 
 -- one byte more is in the field at hand
-field_more : (line : List ℕ) (start i : ℕ) → start ≤ i → i < length line → take (i + 1 - start) (drop start line) ≡ take (i - start) (drop start line) ++ get_or line i 0 ∷ []
+field_more : (line : List ℕ) (start i : ℕ) → start ≤ i → i < length line →
+    take (i + 1 - start) (drop start line) ≡ take (i - start) (drop start line) ++ get_or line i 0 ∷ []
 field_more line start i h g =
     let n : i + 1 - start ≡ suc (i - start) = omega arith in
     let place : start + (i - start) ≡ i = omega arith in
@@ -99,7 +145,8 @@ field_more line start i h g =
     rw n (take-suc (drop start line) (i - start) 0 (omega (arith, length-drop start line)) ∙ rw byte refl)
 
 split_other : (line : List ℕ) (start i : ℕ) (fields : List (List ℕ)) (held : List ℕ) → Split line start i fields held → i < length line
-    → (get_or line i 0 == 34) ≡ false → (get_or line i 0 == 13) ≡ false → (get_or line i 0 == 10) ≡ false → (get_or line i 0 == 44) ≡ false → Split line start (i + 1) fields held
+    → (get_or line i 0 == 34) ≡ false → (get_or line i 0 == 13) ≡ false → (get_or line i 0 == 10) ≡ false →
+    (get_or line i 0 == 44) ≡ false → Split line start (i + 1) fields held
 split_other line start i fields held s inside q r f c = record {
   within = omega (arith, s.within);
   state = st.InField;
@@ -108,12 +155,14 @@ split_other line start i fields held s inside q r f c = record {
   none = s.none;
   same =
       let rest : drop i line ≡ get_or line i 0 ∷ drop (i + 1) line = rw (add-one, drop-cons line i 0 inside) refl in
-      rw (field_more line start i s.within inside) (sym (other s.state (get_or line i 0) fields (take (i - start) (drop start line)) (drop (i + 1) line) s.plain q r f c)
+      rw (field_more line start i s.within inside) (sym (other s.state (get_or line i 0) fields (take (i - start) (drop start line))
+      (drop (i + 1) line) s.plain q r f c)
       ∙ (ap (λ t. next_record default_config s.state fields (take (i - start) (drop start line)) t) (sym rest) ∙ s.same));
 }
 
 -- the end of a line ends its last field
-at_end : (s : State) (fields : List (List ℕ)) (field : List ℕ) → HasBegun s → next_record default_config s fields field [] ≡ Some (fields ++ field ∷ [], st.StartRecord, [])
+at_end : (s : State) (fields : List (List ℕ)) (field : List ℕ) → HasBegun s →
+    next_record default_config s fields field [] ≡ Some (fields ++ field ∷ [], st.StartRecord, [])
 unfolding next_record
 at_end st.StartRecord fields field h = absurd h
 at_end st.StartField fields field h = refl
@@ -136,7 +185,8 @@ unmarked (a ∷ []) h = refl
 unmarked (a ∷ b ∷ []) h = refl
 unmarked (a ∷ b ∷ c ∷ rest) h = rw h refl
 
-pub split_end : (line : List ℕ) (start i : ℕ) (fields fields2 : List (List ℕ)) (held : List ℕ) → Split line start i fields held → 0 < length line → (get_or line 0 0 == 239) ≡ false → i ≡ length line
+pub split_end : (line : List ℕ) (start i : ℕ) (fields fields2 : List (List ℕ)) (held : List ℕ) → Split line start i fields held →
+    0 < length line → (get_or line 0 0 == 239) ≡ false → i ≡ length line
     → fields2 ≡ fields ++ (held ++ take (length line - start) (drop start line)) ∷ [] → records_in line ≡ fields2 ∷ []
 unfolding records_in
 split_end line start i fields fields2 held s some mark all pushed =
@@ -164,12 +214,15 @@ differs a b h = by_test (eqb_tells a b)
     by_test (inr p) = p.0
 
 -- the same under the names that a join gives
-pub split_same : (line : List ℕ) (i start start2 : ℕ) (row row2 : Row) → start2 ≡ start → row2 ≡ row → Split line start i (fields_of row) (partial_of row) → Split line start2 i (fields_of row2) (partial_of row2)
+pub split_same : (line : List ℕ) (i start start2 : ℕ) (row row2 : Row) → start2 ≡ start → row2 ≡ row →
+    Split line start i (fields_of row) (partial_of row) → Split line start2 i (fields_of row2) (partial_of row2)
 split_same line i start start2 row row2 e g s = rw (e, g) s
 
 -- a byte that is not special, and no comma
-pub split_plain : (line : List ℕ) (start i : ℕ) (fields : List (List ℕ)) (held : List ℕ) (special : Bool) → Split line start i fields held → i < length line
-    → special ≡ ((get_or line i 0 == 34) || ((get_or line i 0 == 13) || (get_or line i 0 == 10))) → special ≡ false → (get_or line i 0 == 44) ≡ false → Split line start (i + 1) fields held
+pub split_plain : (line : List ℕ) (start i : ℕ) (fields : List (List ℕ)) (held : List ℕ) (special : Bool) →
+    Split line start i fields held → i < length line
+    → special ≡ ((get_or line i 0 == 34) || ((get_or line i 0 == 13) || (get_or line i 0 == 10))) → special ≡ false →
+    (get_or line i 0 == 44) ≡ false → Split line start (i + 1) fields held
 split_plain line start i fields held special s inside e h c =
     let p = or_false (get_or line i 0 == 34) _ (sym e ∙ h) in
     let q = or_false (get_or line i 0 == 13) _ p.1 in

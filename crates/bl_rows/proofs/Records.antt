@@ -1,11 +1,42 @@
 -- The fields of a record from a column on.
-use Rattle.std.proofs.Common.{◌≡◌, ◌≢◌, ℕ, zero, suc, ◌+◌, ◌<◌, List, [], ◌∷◌, ◌++◌, length, get_or, drop, ap, refl, sym, ◌∙◌, Option, Some, None, option_map, ℤ, arith, Bool, true, false, ◌&&◌, if◌then◌else◌, codes}
+use Rattle.std.proofs.Common.{
+  ◌≡◌,
+  ◌≢◌,
+  ℕ,
+  zero,
+  suc,
+  ◌+◌,
+  ◌<◌,
+  List,
+  [],
+  ◌∷◌,
+  ◌++◌,
+  length,
+  get_or,
+  drop,
+  ap,
+  refl,
+  sym,
+  ◌∙◌,
+  Option,
+  Some,
+  None,
+  option_map,
+  ℤ,
+  arith,
+  Bool,
+  true,
+  false,
+  ◌&&◌,
+  if◌then◌else◌,
+  codes,
+}
 use Rattle.std.specs.List.{slice_get}
 use Rattle.std.specs.Str.{bytes_eq}
 use Rattle.csv.specs.Records.{field_at}
 use Rattle.bl_tree.specs.declared.row.Column.{Column}
 use Rattle.bl_rows.specs.Fields.{both, value_of, values_of, is_header, are_names, row_of, is_number, number_of}
-use Rattle.bl_rows.specs.Found.{is_word, starts_with_tick}
+use Rattle.bl_rows.specs.inner.Found.{is_word, starts_with_tick}
 use Rattle.bl_rows.proofs.Seq.{drop-at, drop-got}
 
 -- csv's place is std's
@@ -34,7 +65,8 @@ names_length (c ∷ columns) (f ∷ fields) e = ap suc (names_length columns fie
 -- a record with another number of fields is no header
 pub header_length : (columns : List Column) (fields : List (List ℕ)) → length fields ≢ length columns + 1 → false ≡ is_header columns fields
 header_length columns [] h = refl
-header_length columns (word ∷ names) h = unnamed (bytes_eq word (codes "tick")) (are_names columns names) (λ e. h (let q = names_length columns names e in omega arith))
+header_length columns (word ∷ names) h = unnamed (bytes_eq word (codes "tick")) (are_names columns names)
+    (λ e. h (let q = names_length columns names e in omega arith))
   where
     unnamed : (a b : Bool) → b ≢ true → false ≡ (a && b)
     unnamed true true h = absurd (h refl)
@@ -52,16 +84,20 @@ names_at : (columns : List Column) (fields : List (List ℕ)) (k j : ℕ) (c : C
 names_at columns fields k j c h e = rw (drop-at columns k c h e) (names_by (drop (k + 1) columns) fields j c (slice_get fields j) refl)
 
 -- as the loop over the columns says it, where the field at hand isn't, or is, the name
-pub names_differ : (columns list : List Column) (fields : List (List ℕ)) (k : ℕ) (c : Column) (word name : List ℕ) (same all : Bool) → list ≡ columns → k < length columns → c ≡ get_or list k c
-    → word ≡ name → name ≡ (get_or list k c).name → same ≡ is_word word (slice_get fields (k + 1)) → all ≡ are_names (drop k columns) (drop (k + 1) fields) → same ≡ false → false ≡ all
+pub names_differ : (columns list : List Column) (fields : List (List ℕ)) (k : ℕ) (c : Column) (word name : List ℕ)
+    (same all : Bool) → list ≡ columns → k < length columns → c ≡ get_or list k c
+    → word ≡ name → name ≡ (get_or list k c).name → same ≡ is_word word (slice_get fields (k + 1)) →
+    all ≡ are_names (drop k columns) (drop (k + 1) fields) → same ≡ false → false ≡ all
 names_differ columns list fields k c word name same all e h place e2 e3 tested so_far fails =
     let here : c ≡ get_or columns k c = rw e at place in
     let name_is : word ≡ c.name = e2 ∙ (e3 ∙ ap (λ (x : Column). x.name) (sym place)) in
     let failed : is_word c.name (slice_get fields (k + 1)) ≡ false = rw name_is at (sym tested ∙ fails) in
     sym (so_far ∙ (names_at columns fields k (k + 1) c h here ∙ rw failed refl))
 
-pub names_agree : (columns list : List Column) (fields : List (List ℕ)) (k : ℕ) (c : Column) (word name : List ℕ) (same all : Bool) → list ≡ columns → k < length columns → c ≡ get_or list k c
-    → word ≡ name → name ≡ (get_or list k c).name → same ≡ is_word word (slice_get fields (k + 1)) → all ≡ are_names (drop k columns) (drop (k + 1) fields) → same ≡ true
+pub names_agree : (columns list : List Column) (fields : List (List ℕ)) (k : ℕ) (c : Column) (word name : List ℕ)
+    (same all : Bool) → list ≡ columns → k < length columns → c ≡ get_or list k c
+    → word ≡ name → name ≡ (get_or list k c).name → same ≡ is_word word (slice_get fields (k + 1)) →
+    all ≡ are_names (drop k columns) (drop (k + 1) fields) → same ≡ true
     → all ≡ are_names (drop (k + 1) columns) (drop (k + 1 + 1) fields)
 names_agree columns list fields k c word name same all e h place e2 e3 tested so_far holds =
     let here : c ≡ get_or columns k c = rw e at place in
@@ -70,11 +106,13 @@ names_agree columns list fields k c word name same all e h place e2 e3 tested so
     so_far ∙ (names_at columns fields k (k + 1) c h here ∙ rw passed refl)
 
 -- `tick` and then names
-pub header_by : (columns : List Column) (fields : List (List ℕ)) → is_word (codes "tick") (slice_get fields 0) ≡ true → is_header columns fields ≡ are_names columns (drop 1 fields)
+pub header_by : (columns : List Column) (fields : List (List ℕ)) → is_word (codes "tick") (slice_get fields 0) ≡ true →
+    is_header columns fields ≡ are_names columns (drop 1 fields)
 header_by columns [] e = cc
 header_by columns (word ∷ names) e = rw e refl
 
-pub not_header : (columns : List Column) (fields : List (List ℕ)) → is_word (codes "tick") (slice_get fields 0) ≡ false → false ≡ is_header columns fields
+pub not_header : (columns : List Column) (fields : List (List ℕ)) → is_word (codes "tick") (slice_get fields 0) ≡ false →
+    false ≡ is_header columns fields
 not_header columns [] e = refl
 not_header columns (word ∷ names) e = rw e refl
 
@@ -97,7 +135,8 @@ row_length columns n (tick ∷ fields) h = if_none (is_number n (number_of tick)
     if_none true o e = sym e
     if_none false o e = refl
 
-pub row_by : (columns : List Column) (n : ℕ) (fields : List (List ℕ)) → starts_with_tick n fields ≡ true → row_of columns n fields ≡ values_of columns (drop 1 fields)
+pub row_by : (columns : List Column) (n : ℕ) (fields : List (List ℕ)) → starts_with_tick n fields ≡ true →
+    row_of columns n fields ≡ values_of columns (drop 1 fields)
 row_by columns n [] e = cc
 row_by columns n (tick ∷ fields) e = rw e refl
 

@@ -1,5 +1,33 @@
 -- The numbers of a row from a column on.
-use Rattle.std.proofs.Common.{◌≡◌, ℕ, ◌+◌, ◌<◌, Bool, true, false, ◌&&◌, List, [], ◌∷◌, ◌++◌, length, get_or, drop, ap, refl, suc, ℤ, sym, ◌∙◌, arith, append_assoc, add-zero, append-nil, Some, ◌≤◌}
+use Rattle.std.proofs.Common.{
+  ◌≡◌,
+  ℕ,
+  ◌+◌,
+  ◌<◌,
+  Bool,
+  true,
+  false,
+  ◌&&◌,
+  List,
+  [],
+  ◌∷◌,
+  ◌++◌,
+  length,
+  get_or,
+  drop,
+  ap,
+  refl,
+  suc,
+  ℤ,
+  sym,
+  ◌∙◌,
+  arith,
+  append_assoc,
+  add-zero,
+  append-nil,
+  Some,
+  ◌≤◌,
+}
 use Rattle.std.proofs.lemmas.List.{drop_all}
 use Rattle.std.specs.List.{slice_get}
 use Rattle.bl_tree.specs.declared.row.Column.{Column}
@@ -20,7 +48,8 @@ fits_length (c ∷ outs) [] h = absurd (cc)
 fits_length (c ∷ outs) (z ∷ row) h = ap suc (fits_length outs row (second_holds (in_range c.ty z) (row_fits outs row) h))
 
 -- one number more is printed
-pub printed_more : (outs : List Column) (row : List ℤ) (k : ℕ) (c : Column) (z : ℤ) (printed comma now all : List ℕ) → k < length outs → c ≡ get_or outs k c → slice_get row k ≡ Some z
+pub printed_more : (outs : List Column) (row : List ℤ) (k : ℕ) (c : Column) (z : ℤ) (printed comma now all : List ℕ) →
+    k < length outs → c ≡ get_or outs k c → slice_get row k ≡ Some z
     → printed ++ values_text (drop k outs) (drop k row) ≡ all
     → comma ≡ printed ++ (44 ∷ []) → (t : Scalar) (x : ℤ) → t ≡ c.ty → x ≡ z → now ≡ comma ++ value_text t x
     → now ++ values_text (drop (k + 1) outs) (drop (k + 1) row) ≡ all
@@ -39,13 +68,15 @@ printed_all outs row k h = rw (drop_all k row h) (none_left (drop k outs))
     none_left (c ∷ outs) = refl
 
 -- a line feed after all that was to be printed
-pub line_ended : (printed rest now d v : List ℕ) → rest ≡ [] → printed ++ rest ≡ d ++ v → now ≡ printed ++ (10 ∷ []) → now ≡ d ++ (v ++ (10 ∷ []))
+pub line_ended : (printed rest now d v : List ℕ) → rest ≡ [] → printed ++ rest ≡ d ++ v → now ≡ printed ++ (10 ∷ []) →
+    now ≡ d ++ (v ++ (10 ∷ []))
 line_ended printed rest now d v none all e =
     let whole : printed ≡ d ++ v = sym (append-nil printed) ∙ (rw none at all) in
     e ∙ rw whole (simp append_assoc)
 
 -- the lines of more rows come after those of the first
-pub lines_append : (tick : ℕ) (outs : List Column) (rows more : List (List ℤ)) → lines_from tick outs (rows ++ more) ≡ lines_from tick outs rows ++ lines_from (tick + length rows) outs more
+pub lines_append : (tick : ℕ) (outs : List Column) (rows more : List (List ℤ)) →
+    lines_from tick outs (rows ++ more) ≡ lines_from tick outs rows ++ lines_from (tick + length rows) outs more
 lines_append tick outs [] more = rw add-zero refl
 lines_append tick outs (row ∷ rows) more =
     let place : tick + 1 + length rows ≡ tick + length (row ∷ rows) = omega arith in

@@ -6,7 +6,7 @@ ghost use Rattle.csv.specs.Reading.{ReadRecord, Ready, default_config, error_kin
 ghost use Rattle.csv.specs.declared.parser.State.TheVariants as st;
 ghost use Rattle.csv.specs.declared.reader.Trim.TheVariants as trim;
 ghost use Rattle.bl_rows.specs.Fields.{records_in};
-ghost use Rattle.bl_rows.specs.Found.{Finds, IsMemory};
+ghost use Rattle.bl_rows.specs.inner.Found.{Finds, IsMemory};
 
 use bl_tree::NoMemory;
 use csv::{ByteRecord, Error, ErrorKind, Reader, ReaderBuilder};

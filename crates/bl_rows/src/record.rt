@@ -4,7 +4,7 @@ ghost use Rattle.std.specs.Prelude.{◌≡◌, ◌+◌, ◌<◌, ◌^◌, length
 ghost use Rattle.csv.specs.Records.{fields_of};
 ghost use Rattle.bl_rows.specs.Fields.{is_header, row_of, value_of, values_of, records_in};
 ghost use Rattle.std.specs.List.{slice_get};
-ghost use Rattle.bl_rows.specs.Found.{is_word, starts_with_tick};
+ghost use Rattle.bl_rows.specs.inner.Found.{is_word, starts_with_tick};
 ghost use Rattle.bl_rows.specs.Reading as spec;
 
 use crate::fault::RowFault;

@@ -4,7 +4,7 @@ ghost use Rattle.std.specs.Prelude.{◌≡◌, ◌≢◌, ◌++◌, ◌+◌, ◌
 ghost use Rattle.bl_rows.specs.Lines.{has_feed};
 ghost use Rattle.bl_rows.specs.Fields.{records_in};
 ghost use Rattle.bl_rows.specs.Reading.{begun, read_on, rows_in, rows_after, rows_of, fault_in, answer_of, overrun, over_limit as past_limit_at, Unrefused, Front, led_by_rows, judged, after, fault_at_end, next_tick as tick_after, verdict as verdict_on};
-ghost use Rattle.bl_rows.specs.Steps.{fault_of, rows_by};
+ghost use Rattle.bl_rows.specs.inner.Steps.{fault_of, rows_by};
 
 use crate::fault::RowFault;
 use crate::record::{judge, over_limit};

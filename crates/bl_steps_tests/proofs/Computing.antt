@@ -32,14 +32,16 @@ same_scalars s t = ap (λ same. same (scalar t)) (fold-roll-Ty (Ty → Bool) sam
 
 -- the type of a field, which a fold gives as a function of the struct's type
 pub field_types : (site : Site) (k : ℕ) (ty : Ty)
-    → fold-Part (Option Ty) (Ty → Option Ty) (Option Ty) (Option Ty) (kind_type site) (part_type site) expr_type (path_type site) (roll-Part (Part-F.Field k)) ty ≡ field_in site.structs k (out-Ty ty)
+    → fold-Part (Option Ty) (Ty → Option Ty) (Option Ty) (Option Ty) (kind_type site) (part_type site) expr_type (path_type site)
+    (roll-Part (Part-F.Field k)) ty ≡ field_in site.structs k (out-Ty ty)
 field_types site k ty = rw fold-roll-Part refl
 
 abbrev run_parts : StmtKind-F StmtKind Arm Branch Stmt → StmtKind-F (Place → List Run) (List Run) (List Run) (List Run)
 run_parts = map-StmtKind StmtKind Arm Branch Stmt (Place → List Run) (List Run) (List Run) (List Run)
     (fold-StmtKind (Place → List Run) (List Run) (List Run) (List Run) kind_runs arm_runs branch_runs stmt_layer_runs) runs_in_arm runs_in_branch runs_in
 
-pub runs_made : (place : Place) (layer : StmtKind-F StmtKind Arm Branch Stmt) → runs_in (roll-Stmt (record { place = place; what = roll-StmtKind layer })) ≡ kind_runs (run_parts layer) place
+pub runs_made : (place : Place) (layer : StmtKind-F StmtKind Arm Branch Stmt) →
+    runs_in (roll-Stmt (record { place = place; what = roll-StmtKind layer })) ≡ kind_runs (run_parts layer) place
 runs_made place layer = rw (fold-roll-Stmt, fold-roll-StmtKind) refl
 
 apart_by : (body : List Stmt) → list_all is_apart body ≡ (together (map naming_of body)).apart
@@ -53,11 +55,28 @@ both {a} {b} is also = ap (λ a. a && b) is ∙ also
 pub unit_by : (structs : List StructDef) (earlier : List UnitDef) (unit : UnitDef)
     → (roles_stand unit && (list_all is_name (names_of unit.vars) && are_distinct (names_of (parameters_of unit)))) ≡ true
     → list_all (λ var. type_stands (length structs) var.ty) unit.vars ≡ true → list_all (fits (site_of structs earlier unit)) unit.body ≡ true
-    → unit_returns unit ≡ true → is_shallow unit.body ≡ true → (together (map naming_of unit.body)).apart ≡ true → unit_stands structs earlier unit ≡ true
+    → unit_returns unit ≡ true → is_shallow unit.body ≡ true → (together (map naming_of unit.body)).apart ≡ true →
+    unit_stands structs earlier unit ≡ true
 unit_by structs earlier unit heads types fitting returning shallow keeping =
     both heads (both types (both fitting (both returning (both shallow (apart_by unit.body ∙ keeping)))))
 
 -- folds at made trees, step by step
-pub ruleset folds = (fold-roll-Stmt, fold-roll-StmtKind, fold-roll-Branch, fold-roll-Arm, fold-roll-Expr, fold-roll-ExprKind, field_types, fold-roll-Part, fold-roll-Path, out-roll-Path, out-roll-Stmt, out-roll-StmtKind, fold-roll-Ty, out-roll-Ty, same_scalars)
+pub ruleset folds = (
+  fold-roll-Stmt,
+  fold-roll-StmtKind,
+  fold-roll-Branch,
+  fold-roll-Arm,
+  fold-roll-Expr,
+  fold-roll-ExprKind,
+  field_types,
+  fold-roll-Part,
+  fold-roll-Path,
+  out-roll-Path,
+  out-roll-Stmt,
+  out-roll-StmtKind,
+  fold-roll-Ty,
+  out-roll-Ty,
+  same_scalars,
+)
 
 pub ruleset runs = (runs_made, fold-roll-Branch, fold-roll-Arm)

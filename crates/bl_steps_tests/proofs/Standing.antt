@@ -5,7 +5,32 @@ use Rattle.bl_tree.specs.declared.scalar.Scalar.{Scalar as ScalarType}
 use Rattle.bl_tree.specs.declared.scalar.Scalar.TheVariants.{Int, Bits}
 use Rattle.bl_tree.specs.declared.scalar.Width.TheVariants.{W8}
 use Rattle.bl_steps_tests.specs.Stands.{Stands}
-use Rattle.bl_steps_tests.specs.Units.{aborted, adder, begun_anew, by_fields, caller, choosing, dividing_twice, doubler, doubling, dropping, ending, giver, growing, joining, looking_first, looking_last, nested, pair, stopping, summing, taking, to_and_fro, turning, twice}
+use Rattle.bl_steps_tests.specs.Units.{
+  aborted,
+  adder,
+  begun_anew,
+  by_fields,
+  caller,
+  choosing,
+  dividing_twice,
+  doubler,
+  doubling,
+  dropping,
+  ending,
+  giver,
+  growing,
+  joining,
+  looking_first,
+  looking_last,
+  nested,
+  pair,
+  stopping,
+  summing,
+  taking,
+  to_and_fro,
+  turning,
+  twice,
+}
 use Rattle.bl_steps_tests.proofs.Computing.{both, folds, runs, unit_by}
 
 abbrev byte : ScalarType
@@ -32,7 +57,9 @@ called_stands = record {
     named = refl;
     distinct = refl;
     structs_stand = refl;
-    units_stand = both (unit_by [] [] giver refl (simp folds) (simp folds) (simp folds) (simp folds) (simp folds)) (both (unit_by [] (giver ∷ []) adder refl (simp folds) (simp folds) (simp folds) (simp folds) (simp folds)) (both (unit_by [] (giver ∷ adder ∷ []) caller refl (simp folds) (simp folds) (simp folds) (simp folds) (simp folds)) refl));
+    units_stand = both (unit_by [] [] giver refl (simp folds) (simp folds) (simp folds) (simp folds) (simp folds))
+        (both (unit_by [] (giver ∷ []) adder refl (simp folds) (simp folds) (simp folds) (simp folds) (simp folds))
+        (both (unit_by [] (giver ∷ adder ∷ []) caller refl (simp folds) (simp folds) (simp folds) (simp folds) (simp folds)) refl));
     entry_stands = simp folds;
   };
   few = simp runs (omega arith);
@@ -152,7 +179,8 @@ taking_stands = record {
     named = refl;
     distinct = refl;
     structs_stand = refl;
-    units_stand = both (unit_by [] [] doubler refl (simp folds) (simp folds) (simp folds) (simp folds) (simp folds)) (both (unit_by [] (doubler ∷ []) taking refl (simp folds) (simp folds) (simp folds) (simp folds) (simp folds)) refl);
+    units_stand = both (unit_by [] [] doubler refl (simp folds) (simp folds) (simp folds) (simp folds) (simp folds))
+        (both (unit_by [] (doubler ∷ []) taking refl (simp folds) (simp folds) (simp folds) (simp folds) (simp folds)) refl);
     entry_stands = simp folds;
   };
   few = simp runs (omega arith);
@@ -200,7 +228,8 @@ stopping_stands = record {
     named = refl;
     distinct = refl;
     structs_stand = refl;
-    units_stand = both (unit_by [] [] summing refl (simp folds) (simp folds) (simp folds) (simp folds) (simp folds)) (both (unit_by [] (summing ∷ []) stopping refl (simp folds) (simp folds) (simp folds) (simp folds) (simp folds)) refl);
+    units_stand = both (unit_by [] [] summing refl (simp folds) (simp folds) (simp folds) (simp folds) (simp folds))
+        (both (unit_by [] (summing ∷ []) stopping refl (simp folds) (simp folds) (simp folds) (simp folds) (simp folds)) refl);
     entry_stands = simp folds;
   };
   few = simp runs (omega arith);
@@ -212,7 +241,8 @@ doubling_stands = record {
     named = refl;
     distinct = refl;
     structs_stand = refl;
-    units_stand = both (unit_by [] [] twice refl (simp folds) (simp folds) refl (simp folds) (simp folds)) (both (unit_by [] (twice ∷ []) doubling refl (simp folds) (simp folds) (simp folds) (simp folds) (simp folds)) refl);
+    units_stand = both (unit_by [] [] twice refl (simp folds) (simp folds) refl (simp folds) (simp folds))
+        (both (unit_by [] (twice ∷ []) doubling refl (simp folds) (simp folds) (simp folds) (simp folds) (simp folds)) refl);
     entry_stands = simp folds;
   };
   few = simp runs (omega arith);

@@ -11,7 +11,38 @@ use Rattle.bl_tree.specs.declared.tree.Role.TheVariants.{Input, Output, Variable
 use Rattle.bl_tree.specs.declared.tree.Stmt.{Stmt}
 use Rattle.bl_tree.specs.declared.tree.StructDef.{StructDef}
 use Rattle.bl_tree.specs.declared.tree.Unit.{Unit as UnitDef}
-use Rattle.bl_steps_tests.specs.Made.{activity, apart, arm, assign, branch, call, choose, declare, field, field_of, function, give, literal, look, path, pause, prev, read, repeat, run, set, struct, struct_at, two, until, var, var_of, wait, when, while}
+use Rattle.bl_steps_tests.specs.Made.{
+  activity,
+  apart,
+  arm,
+  assign,
+  branch,
+  call,
+  choose,
+  declare,
+  field,
+  field_of,
+  function,
+  give,
+  literal,
+  look,
+  path,
+  pause,
+  prev,
+  read,
+  repeat,
+  run,
+  set,
+  struct,
+  struct_at,
+  two,
+  until,
+  var,
+  var_of,
+  wait,
+  when,
+  while,
+}
 
 abbrev pub int : ScalarType
 int = Int W32
@@ -30,7 +61,8 @@ abbrev pub to : Branch
 to = branch false (repeat 6 (set 7 3 int (two Mul (read 2 int) (number (pos 2))) ∷ pause 8 ∷ []) ∷ [])
 
 abbrev pub to_and_fro : UnitDef
-to_and_fro = activity (77 ∷ []) (var (97 ∷ []) int Input ∷ var (98 ∷ []) int Output ∷ var (99 ∷ []) int Variable ∷ var (100 ∷ []) int Variable ∷ []) 1 1 None
+to_and_fro = activity (77 ∷ []) (var (97 ∷ []) int Input ∷ var (98 ∷ []) int Output ∷ var (99 ∷ []) int Variable
+    ∷ var (100 ∷ []) int Variable ∷ []) 1 1 None
     (declare 9 2 None ∷ declare 10 3 None ∷ apart 1 fro to ∷ [])
 
 abbrev pub giver : UnitDef
@@ -50,7 +82,8 @@ caller = activity (77 ∷ []) (var (97 ∷ []) int Input ∷ var (98 ∷ []) int
 
 -- with this as the turn of its loop
 abbrev pub looking : List Stmt → UnitDef
-looking turn = activity (77 ∷ []) (var (97 ∷ []) int Output ∷ var (98 ∷ []) int Variable ∷ []) 0 1 None (declare 1 1 (Some (number (pos 5))) ∷ repeat 2 turn ∷ [])
+looking turn = activity (77 ∷ []) (var (97 ∷ []) int Output ∷ var (98 ∷ []) int Variable ∷ []) 0 1 None
+    (declare 1 1 (Some (number (pos 5))) ∷ repeat 2 turn ∷ [])
 
 abbrev pub looks : Stmt
 looks = set 3 0 int (prev 1)
@@ -106,13 +139,15 @@ abbrev pub doubler : UnitDef
 doubler = activity (68 ∷ []) (var (97 ∷ []) int Input ∷ []) 1 0 (Some int) (pause 20 ∷ give 21 (two Mul (read 0 int) (number (pos 2))) ∷ [])
 
 abbrev pub taking : UnitDef
-taking = activity (77 ∷ []) (var (97 ∷ []) int Input ∷ var (98 ∷ []) int Output ∷ []) 1 1 None (repeat 1 (run 2 (Some (path 1 int)) 0 (read 0 int ∷ []) [] ∷ []) ∷ [])
+taking = activity (77 ∷ []) (var (97 ∷ []) int Input ∷ var (98 ∷ []) int Output ∷ []) 1 1 None
+    (repeat 1 (run 2 (Some (path 1 int)) 0 (read 0 int ∷ []) [] ∷ []) ∷ [])
 
 abbrev pub choosing : UnitDef
 choosing = activity (77 ∷ []) (var (97 ∷ []) int Input ∷ var (98 ∷ []) int Output ∷ []) 1 1 None
     (repeat 1
     (choose 2
-    (arm (two Gt (read 0 int) (number (pos 0))) (set 3 1 int (number (pos 1)) ∷ []) ∷ arm (two Lt (read 0 int) (number (pos 0))) (set 4 1 int (number (pos 2)) ∷ []) ∷ [])
+    (arm (two Gt (read 0 int) (number (pos 0))) (set 3 1 int (number (pos 1)) ∷ [])
+    ∷ arm (two Lt (read 0 int) (number (pos 0))) (set 4 1 int (number (pos 2)) ∷ []) ∷ [])
     (set 5 1 int (number (pos 3)) ∷ [])
     ∷ pause 6 ∷ [])
     ∷ [])

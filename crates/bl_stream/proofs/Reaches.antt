@@ -1,17 +1,60 @@
 -- How far a reader has come: each byte of a good piece moves it on.
-use Rattle.std.proofs.Common.{◌≡◌, ℕ, ◌+◌, ◌*◌, ◌<◌, ◌≤◌, Bool, true, false, List, [], ◌∷◌, ◌++◌, length, Option, Some, None, refl, ap, sym, subst, ◌∙◌, arith, length-append}
+use Rattle.std.proofs.Common.{
+  ◌≡◌,
+  ℕ,
+  ◌+◌,
+  ◌*◌,
+  ◌<◌,
+  ◌≤◌,
+  Bool,
+  true,
+  false,
+  List,
+  [],
+  ◌∷◌,
+  ◌++◌,
+  length,
+  Option,
+  Some,
+  None,
+  refl,
+  ap,
+  sym,
+  subst,
+  ◌∙◌,
+  arith,
+  length-append,
+}
 use Rattle.std.specs.Prelude.{nat_le, nat_lt, if◌then◌else◌, ◌==◌}
 use Rattle.std.proofs.lemmas.Bool.Decides.{nat_tests}
 use Rattle.bl_tree.specs.declared.row.Column.{Column}
 use Rattle.bl_rows.specs.Fields.{records_in}
 use Rattle.bl_rows.specs.Lines.{Cut, cut, led_by, unfinished, whole_lines}
-use Rattle.bl_rows.specs.Reading.{Reading, Scan, after, bad_or, fault_in, fault_of_scan, first_of, judged, led_by_line, line_number, most_lines, over_limit, overrun, read_on, scan, scanned, verdict}
+use Rattle.bl_rows.specs.Reading.{
+  Reading,
+  Scan,
+  after,
+  bad_or,
+  fault_in,
+  fault_of_scan,
+  first_of,
+  judged,
+  led_by_line,
+  line_number,
+  most_lines,
+  over_limit,
+  overrun,
+  read_on,
+  scan,
+  scanned,
+  verdict,
+}
 use Rattle.bl_rows.specs.declared.fault.RowFault.{RowFault}
 use Rattle.bl_rows.specs.declared.fault.RowFault.TheVariants.{BadRow, LongLine}
 use Rattle.bl_rows.specs.declared.verdict.Place.{Place}
 use Rattle.bl_rows.specs.declared.verdict.Verdict.{Verdict}
 use Rattle.bl_rows.specs.declared.verdict.Verdict.TheVariants.{Passed, Header, Numbers, Bad}
-use Rattle.bl_stream.specs.Going.{reach}
+use Rattle.bl_stream.specs.inner.Going.{reach}
 use Rattle.bl_stream.proofs.Fits.{lines-left}
 
 -- ---- bytes of lines, each with its line feed
@@ -29,7 +72,8 @@ led-size b [] rest = omega arith
 led-size b (line ∷ lines) rest = omega arith
 
 cut-choice : (c : Bool) (b : ℕ) (bytes : List ℕ) → size_of (cut bytes) ≡ length bytes →
-    size_of (if c then record { whole = [] ∷ (cut bytes).whole; rest = (cut bytes).rest } else led_by b (cut bytes).whole (cut bytes).rest) ≡ length (b ∷ bytes)
+    size_of (if c then record { whole = [] ∷ (cut bytes).whole; rest = (cut bytes).rest } else led_by b (cut bytes).whole
+    (cut bytes).rest) ≡ length (b ∷ bytes)
 cut-choice true b bytes same = omega arith
 cut-choice false b bytes same = let e = led-size b (cut bytes).whole (cut bytes).rest in omega arith
 
@@ -39,9 +83,11 @@ cut-size (b ∷ bytes) = cut-choice (b == 10) b bytes (cut-size bytes)
 
 -- ---- good lines
 
-short-bad : (at : Place) (line : List ℕ) (found : Verdict) (a b : Bool) → nat_le most_lines at.lines ≡ a → nat_lt 65536 (length line) ≡ b → ((f : RowFault) → bad_or (over_limit at (length line)) found ≡ Bad f → ⊥) → length line ≤ 65536
+short-bad : (at : Place) (line : List ℕ) (found : Verdict) (a b : Bool) → nat_le most_lines at.lines ≡ a →
+    nat_lt 65536 (length line) ≡ b → ((f : RowFault) → bad_or (over_limit at (length line)) found ≡ Bad f → ⊥) → length line ≤ 65536
 short-bad at line found true b e k good =
-    absurd (good (BadRow (line_number at)) (ap (λ c. bad_or (if c then Some (BadRow (line_number at)) else if nat_lt 65536 (length line) then Some (LongLine (line_number at)) else None) found) e))
+    absurd (good (BadRow (line_number at)) (ap (λ c. bad_or
+    (if c then Some (BadRow (line_number at)) else if nat_lt 65536 (length line) then Some (LongLine (line_number at)) else None) found) e))
 short-bad at line found false true e k good =
     absurd (good (LongLine (line_number at))
     (ap (λ c. bad_or (if c then Some (BadRow (line_number at)) else if nat_lt 65536 (length line) then Some (LongLine (line_number at)) else None) found) e
@@ -50,14 +96,16 @@ short-bad at line found false false e k good = grind (arith, nat_tests)
 
 short-line : (columns : List Column) (at : Place) (line : List ℕ) → ((f : RowFault) → verdict columns at line ≡ Bad f → ⊥) → length line ≤ 65536
 unfolding verdict
-short-line columns at line good = short-bad at line (judged columns at (records_in line)) (nat_le most_lines at.lines) (nat_lt 65536 (length line)) refl refl good
+short-line columns at line good = short-bad at line (judged columns at (records_in line)) (nat_le most_lines at.lines)
+    (nat_lt 65536 (length line)) refl refl good
 
 -- so many lines more, and no byte too many
 record Comes (at : Place) (bytes : ℕ) (later : Place) : Type 0 where
   pub on : bytes + at.lines * 65537 ≤ later.lines * 65537
   pub low : later.lines ≤ 1000000
 
-led-comes : (at : Place) (v : Verdict) (s : Scan) (size bytes : ℕ) → (led_by_line at v s).fault ≡ None → (((f : RowFault) → v ≡ Bad f → ⊥) → (size ≤ 65536) × (at.lines < 1000000)) →
+led-comes : (at : Place) (v : Verdict) (s : Scan) (size bytes : ℕ) → (led_by_line at v s).fault ≡ None →
+    (((f : RowFault) → v ≡ Bad f → ⊥) → (size ≤ 65536) × (at.lines < 1000000)) →
     ((after at v).lines ≤ 1000000 → s.fault ≡ None → Comes (after at v) bytes s.at) → Comes at (size + 1 + bytes) (led_by_line at v s).at
 led-comes at Passed s size bytes none fits later =
     let f = fits (λ x e. cc) in
@@ -79,10 +127,12 @@ led-comes at (Numbers row) s size bytes none fits later =
     record { on = omega arith; low = l.low }
 led-comes at (Bad fault) s size bytes none fits later = absurd (cc)
 
-scan-comes : (columns : List Column) (at : Place) (lines : List (List ℕ)) → at.lines ≤ 1000000 → (scan columns at lines).fault ≡ None → Comes at (bytes_in lines) (scan columns at lines).at
+scan-comes : (columns : List Column) (at : Place) (lines : List (List ℕ)) → at.lines ≤ 1000000 →
+    (scan columns at lines).fault ≡ None → Comes at (bytes_in lines) (scan columns at lines).at
 scan-comes columns at [] low none = record { on = omega arith; low = low }
 scan-comes columns at (line ∷ lines) low none =
-    led-comes at (verdict columns at line) (scan columns (after at (verdict columns at line)) lines) (length line) (bytes_in lines) none (λ good. (short-line columns at line good, lines-left columns at line good))
+    led-comes at (verdict columns at line) (scan columns (after at (verdict columns at line)) lines) (length line)
+    (bytes_in lines) none (λ good. (short-line columns at line good, lines-left columns at line good))
     (scan-comes columns (after at (verdict columns at line)) lines)
 
 -- ---- pieces
@@ -97,14 +147,17 @@ scanned-good s piece good =
     let later = (first-none s.stop (fault_of_scan (scanned s piece) (unfinished (s.line ++ piece))) good).1 in
     (first-none (scanned s piece).fault (overrun (scanned s piece).at (unfinished (s.line ++ piece))) later).0
 
-piece-comes : (s : Reading) (piece : List ℕ) → s.at.lines ≤ 1000000 → fault_in s piece ≡ None → Comes s.at (bytes_in (whole_lines (s.line ++ piece))) (scanned s piece).at
+piece-comes : (s : Reading) (piece : List ℕ) → s.at.lines ≤ 1000000 → fault_in s piece ≡ None →
+    Comes s.at (bytes_in (whole_lines (s.line ++ piece))) (scanned s piece).at
 piece-comes s piece low good = scan-comes s.columns s.at (whole_lines (s.line ++ piece)) low (scanned-good s piece good)
 
-pub reads-low : (s s2 : Reading) (piece : List ℕ) → s.at.lines ≤ 1000000 → fault_in s piece ≡ None → s2 ≡ read_on s piece → s2.at.lines ≤ 1000000
+pub reads-low : (s s2 : Reading) (piece : List ℕ) → s.at.lines ≤ 1000000 → fault_in s piece ≡ None → s2 ≡ read_on s piece →
+    s2.at.lines ≤ 1000000
 unfolding read_on
 reads-low s s2 piece low good is = subst (λ (r : Reading). r.at.lines ≤ 1000000) (sym is) (piece-comes s piece low good).low
 
-pub reads-on : (s s2 : Reading) (piece : List ℕ) → s.at.lines ≤ 1000000 → fault_in s piece ≡ None → s2 ≡ read_on s piece → reach s + length piece ≤ reach s2
+pub reads-on : (s s2 : Reading) (piece : List ℕ) → s.at.lines ≤ 1000000 → fault_in s piece ≡ None → s2 ≡ read_on s piece →
+    reach s + length piece ≤ reach s2
 unfolding read_on
 reads-on s s2 piece low good is =
     let on = (piece-comes s piece low good).on in

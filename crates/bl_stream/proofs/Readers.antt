@@ -1,10 +1,33 @@
 -- A reader from piece to piece.
-use Rattle.std.proofs.Common.{◌≡◌, ℕ, ◌+◌, ◌≤◌, ℤ, false, List, [], ◌∷◌, ◌++◌, length, Some, None, refl, ap, sym, subst, ◌∙◌, arith, append_assoc, append-nil, length-append}
+use Rattle.std.proofs.Common.{
+  ◌≡◌,
+  ℕ,
+  ◌+◌,
+  ◌≤◌,
+  ℤ,
+  false,
+  List,
+  [],
+  ◌∷◌,
+  ◌++◌,
+  length,
+  Some,
+  None,
+  refl,
+  ap,
+  sym,
+  subst,
+  ◌∙◌,
+  arith,
+  append_assoc,
+  append-nil,
+  length-append,
+}
 use Rattle.std.specs.List.{list_all}
 use Rattle.bl_tree.specs.declared.row.Column.{Column}
 use Rattle.bl_rows.specs.Reading.{Reading, Told, begun, fault_in, led_by_rows, rows_after, rows_in, rows_of}
 use Rattle.bl_rows.specs.declared.fault.RowFault.{RowFault}
-use Rattle.bl_stream.specs.Going.{HasFed}
+use Rattle.bl_stream.specs.inner.Going.{HasFed}
 use Rattle.bl_tree.specs.Ports.{RowsFit, row_fits}
 use Rattle.bl_stream.proofs.Fits.{and-both, and-left, and-right, fit-later, told-few, told-fits}
 
@@ -27,11 +50,13 @@ fed-first ins s is tells = record {
 }
 
 -- what a file tells whose next bytes are a piece
-pub told-more : (ins : List Column) (read piece rest : List ℕ) (s s2 : Reading) → HasFed ins read s → rows_after s (piece ++ rest) ≡ led_by_rows (rows_in s piece) (rows_after s2 rest) →
+pub told-more : (ins : List Column) (read piece rest : List ℕ) (s s2 : Reading) → HasFed ins read s →
+    rows_after s (piece ++ rest) ≡ led_by_rows (rows_in s piece) (rows_after s2 rest) →
     rows_of ((read ++ piece) ++ rest) ins ≡ led_by_rows (rows_in (begun ins) read ++ rows_in s piece) (rows_after s2 rest)
 told-more ins read piece rest s s2 fed cuts =
     ap (λ bytes. rows_of bytes ins) (append_assoc read piece rest) ∙ fed.told (piece ++ rest) ∙ ap (led_by_rows (rows_in (begun ins) read)) cuts
-    ∙ ap (λ rows. record { rows = rows; fault = (rows_after s2 rest).fault }) (sym (append_assoc (rows_in (begun ins) read) (rows_in s piece) (rows_after s2 rest).rows))
+    ∙ ap (λ rows. record { rows = rows; fault = (rows_after s2 rest).fault })
+    (sym (append_assoc (rows_in (begun ins) read) (rows_in s piece) (rows_after s2 rest).rows))
 
 -- a piece without a fault
 pub fed-more : (ins : List Column) (read piece : List ℕ) (s s2 : Reading) → HasFed ins read s → fault_in s piece ≡ None →
@@ -54,14 +79,16 @@ fed-more ins read piece s s2 fed good cuts joins running = record {
 pub later-fit : (ins : List Column) (bytes : List ℕ) (first later : List (List ℤ)) → (rows_of bytes ins).rows ≡ first ++ later → RowsFit ins later
 later-fit ins bytes first later is = fit-later ins first later (subst (RowsFit ins) is (told-fits bytes ins))
 
-pub later-few : (ins : List Column) (bytes : List ℕ) (first later : List (List ℤ)) → (rows_of bytes ins).rows ≡ first ++ later → length first + length later ≤ 1000000
+pub later-few : (ins : List Column) (bytes : List ℕ) (first later : List (List ℤ)) → (rows_of bytes ins).rows ≡ first ++ later →
+    length first + length later ≤ 1000000
 later-few ins bytes first later is =
     let few = told-few bytes ins in
     let long = ap length is ∙ length-append first later in
     omega arith
 
 -- those of a piece are among the file's, and so are the ones before it
-pub piece-later : (ins : List Column) (read piece : List ℕ) (s s2 : Reading) → HasFed ins read s → rows_after s (piece ++ []) ≡ led_by_rows (rows_in s piece) (rows_after s2 []) →
+pub piece-later : (ins : List Column) (read piece : List ℕ) (s s2 : Reading) → HasFed ins read s →
+    rows_after s (piece ++ []) ≡ led_by_rows (rows_in s piece) (rows_after s2 []) →
     (rows_of ((read ++ piece) ++ []) ins).rows ≡ rows_in (begun ins) read ++ (rows_in s piece ++ (rows_after s2 []).rows)
 piece-later ins read piece s s2 fed cuts =
     ap (λ (t : Told). t.rows) (told-more ins read piece [] s s2 fed cuts) ∙ append_assoc (rows_in (begun ins) read) (rows_in s piece) (rows_after s2 []).rows
@@ -73,28 +100,36 @@ fit-first ins (row ∷ a) b fit =
     let rest = fit-first ins a b (and-right (row_fits ins row) (list_all (row_fits ins) (a ++ b)) fit) in
     and-both (row_fits ins row) (list_all (row_fits ins) a) first rest
 
-pub piece-fits : (ins : List Column) (read piece : List ℕ) (s s2 : Reading) → HasFed ins read s → ((rest : List ℕ) → rows_after s (piece ++ rest) ≡ led_by_rows (rows_in s piece) (rows_after s2 rest)) → RowsFit ins (rows_in s piece)
+pub piece-fits : (ins : List Column) (read piece : List ℕ) (s s2 : Reading) → HasFed ins read s →
+    ((rest : List ℕ) → rows_after s (piece ++ rest) ≡ led_by_rows (rows_in s piece) (rows_after s2 rest)) → RowsFit ins (rows_in s piece)
 piece-fits ins read piece s s2 fed cuts =
-    fit-first ins (rows_in s piece) (rows_after s2 []).rows (later-fit ins ((read ++ piece) ++ []) (rows_in (begun ins) read) (rows_in s piece ++ (rows_after s2 []).rows) (piece-later ins read piece s s2 fed (cuts [])))
+    fit-first ins (rows_in s piece) (rows_after s2 []).rows
+    (later-fit ins ((read ++ piece) ++ []) (rows_in (begun ins) read) (rows_in s piece ++ (rows_after s2 []).rows)
+    (piece-later ins read piece s s2 fed (cuts [])))
 
-pub piece-few : (ins : List Column) (read piece : List ℕ) (s s2 : Reading) → HasFed ins read s → ((rest : List ℕ) → rows_after s (piece ++ rest) ≡ led_by_rows (rows_in s piece) (rows_after s2 rest)) →
+pub piece-few : (ins : List Column) (read piece : List ℕ) (s s2 : Reading) → HasFed ins read s →
+    ((rest : List ℕ) → rows_after s (piece ++ rest) ≡ led_by_rows (rows_in s piece) (rows_after s2 rest)) →
     length (rows_in (begun ins) read) + length (rows_in s piece) ≤ 1000000
 piece-few ins read piece s s2 fed cuts =
-    let few = later-few ins ((read ++ piece) ++ []) (rows_in (begun ins) read) (rows_in s piece ++ (rows_after s2 []).rows) (piece-later ins read piece s s2 fed (cuts [])) in
+    let few = later-few ins ((read ++ piece) ++ []) (rows_in (begun ins) read) (rows_in s piece ++ (rows_after s2 []).rows)
+    (piece-later ins read piece s s2 fed (cuts [])) in
     let long = length-append (rows_in s piece) (rows_after s2 []).rows in
     omega arith
 
 -- those of the end
-pub end-told : (ins : List Column) (read : List ℕ) (s : Reading) → HasFed ins read s → rows_of read ins ≡ led_by_rows (rows_in (begun ins) read) (rows_after s [])
+pub end-told : (ins : List Column) (read : List ℕ) (s : Reading) → HasFed ins read s →
+    rows_of read ins ≡ led_by_rows (rows_in (begun ins) read) (rows_after s [])
 end-told ins read s fed = ap (λ bytes. rows_of bytes ins) (sym (append-nil read)) ∙ fed.told []
 
 pub end-fits : (ins : List Column) (read : List ℕ) (s : Reading) → HasFed ins read s → RowsFit ins (rows_after s []).rows
 end-fits ins read s fed = later-fit ins read (rows_in (begun ins) read) (rows_after s []).rows (ap (λ (t : Told). t.rows) (end-told ins read s fed))
 
-pub end-few : (ins : List Column) (read : List ℕ) (s : Reading) → HasFed ins read s → length (rows_in (begun ins) read) + length (rows_after s []).rows ≤ 1000000
+pub end-few : (ins : List Column) (read : List ℕ) (s : Reading) → HasFed ins read s →
+    length (rows_in (begun ins) read) + length (rows_after s []).rows ≤ 1000000
 end-few ins read s fed = later-few ins read (rows_in (begun ins) read) (rows_after s []).rows (ap (λ (t : Told). t.rows) (end-told ins read s fed))
 
 -- a reader that has stopped
-pub stopped-told : (s : Reading) (rest : List ℕ) (fault : RowFault) → s.stop ≡ Some fault → rows_after s rest ≡ record { rows = []; fault = Some fault }
+pub stopped-told : (s : Reading) (rest : List ℕ) (fault : RowFault) → s.stop ≡ Some fault →
+    rows_after s rest ≡ record { rows = []; fault = Some fault }
 unfolding rows_after
 stopped-told s rest fault is = rw is refl

@@ -8,7 +8,7 @@ use Rattle.bl_cmeaning.specs.Trace.{Reply, row, ended, trapped, c_trace_from, ce
 use Rattle.bl_crun.specs.Running.{Running, after_tick, answer_of, outputs_after, reply_at, tick_if, unless_trapped}
 use Rattle.bl_crun.specs.declared.tick.Tick.{Tick}
 use Rattle.bl_crun.specs.declared.tick.Tick.TheVariants as tick
-use Rattle.bl_stream.specs.Courses.{after_rows, trace_from}
+use Rattle.bl_stream.specs.inner.Courses.{after_rows, trace_from}
 
 -- the trace that begins with a tick that was answered so
 abbrev pub traced_by : Tick → List ℤ → Trace → Trace
@@ -20,16 +20,19 @@ traced_by tick.Trap outputs rest = record { rows = []; last = Trap }
 abbrev pub none_yet : Trace
 none_yet = record { rows = []; last = Open }
 
-answered : (reply : Reply) (outputs before : List ℤ) (rest : Trace) → traced reply outputs rest ≡ traced_by (answer_of reply) (unless_trapped (answer_of reply) outputs before) rest
+answered : (reply : Reply) (outputs before : List ℤ) (rest : Trace) →
+    traced reply outputs rest ≡ traced_by (answer_of reply) (unless_trapped (answer_of reply) outputs before) rest
 answered row outputs before rest = refl
 answered ended outputs before rest = refl
 answered trapped outputs before rest = refl
 
 first-after : (file : Parts) (ready : Bool) (cells ins before : List ℤ) (rows : List (List ℤ)) →
     let t = tick_if ready file cells ins in
-    trace_after file (cells_if ready cells) (ins ∷ rows) ≡ traced_by (answer_of t.reply) (unless_trapped (answer_of t.reply) t.outputs before) (trace_after file (cells_if ready t.cells) rows)
+    trace_after file (cells_if ready cells) (ins ∷ rows)
+    ≡ traced_by (answer_of t.reply) (unless_trapped (answer_of t.reply) t.outputs before) (trace_after file (cells_if ready t.cells) rows)
 first-after file false cells ins before rows = refl
-first-after file true cells ins before rows = answered (tick_c file cells ins).reply (tick_c file cells ins).outputs before (c_trace_from file rows (tick_c file cells ins).cells)
+first-after file true cells ins before rows = answered (tick_c file cells ins).reply (tick_c file cells ins).outputs before
+    (c_trace_from file rows (tick_c file cells ins).cells)
 
 -- the first tick of a trace
 pub trace-first : (r : Running) (ins before : List ℤ) (rows : List (List ℤ)) →
@@ -45,41 +48,48 @@ trace-none r = none-after r.parts r.ready r.cells
 
 -- ---- two parts
 
-then-first : (answer : Tick) (outputs : List ℤ) (first whole later : Trace) → (traced_by answer outputs first).last ≡ Open → (first.last ≡ Open → whole ≡ trace_then first later) →
+then-first : (answer : Tick) (outputs : List ℤ) (first whole later : Trace) → (traced_by answer outputs first).last ≡ Open →
+    (first.last ≡ Open → whole ≡ trace_then first later) →
     traced_by answer outputs whole ≡ trace_then (traced_by answer outputs first) later
 then-first tick.Row outputs first whole later running on = ap (traced_by tick.Row outputs) (on running)
 then-first tick.Ended outputs first whole later running on = cc
 then-first tick.Trap outputs first whole later running on = cc
 
 -- rows that leave the run open, and those after them
-pub trace-on : (r : Running) (first rest : List (List ℤ)) → (trace_from r first).last ≡ Open → trace_from r (first ++ rest) ≡ trace_then (trace_from r first) (trace_from (after_rows r first) rest)
+pub trace-on : (r : Running) (first rest : List (List ℤ)) → (trace_from r first).last ≡ Open →
+    trace_from r (first ++ rest) ≡ trace_then (trace_from r first) (trace_from (after_rows r first) rest)
 trace-on r [] rest running = ap (λ t. trace_then t (trace_from r rest)) (sym (trace-none r))
 trace-on r (ins ∷ first) rest running =
     let answer : Tick = answer_of (reply_at r ins) in
     let outputs : List ℤ = outputs_after r ins [] in
     let is = trace-first r ins [] first in
     trace-first r ins [] (first ++ rest)
-    ∙ then-first answer outputs (trace_from (after_tick r ins) first) (trace_from (after_tick r ins) (first ++ rest)) (trace_from (after_rows (after_tick r ins) first) rest) (ap (λ (t : Trace). t.last) (sym is) ∙ running) (trace-on (after_tick r ins) first rest)
+    ∙ then-first answer outputs (trace_from (after_tick r ins) first) (trace_from (after_tick r ins) (first ++ rest))
+    (trace_from (after_rows (after_tick r ins) first) rest) (ap (λ (t : Trace). t.last) (sym is) ∙ running) (trace-on (after_tick r ins) first rest)
     ∙ ap (λ t. trace_then t (trace_from (after_rows (after_tick r ins) first) rest)) (sym is)
 
-closed-first : (answer : Tick) (outputs : List ℤ) (first whole : Trace) → ((traced_by answer outputs first).last ≡ Open → ⊥) → ((first.last ≡ Open → ⊥) → whole ≡ first) →
+closed-first : (answer : Tick) (outputs : List ℤ) (first whole : Trace) → ((traced_by answer outputs first).last ≡ Open → ⊥) →
+    ((first.last ≡ Open → ⊥) → whole ≡ first) →
     traced_by answer outputs whole ≡ traced_by answer outputs first
 closed-first tick.Row outputs first whole closed same = ap (traced_by tick.Row outputs) (same closed)
 closed-first tick.Ended outputs first whole closed same = refl
 closed-first tick.Trap outputs first whole closed same = refl
 
 -- rows that end the run or trap, and those after them
-pub trace-closed : (r : Running) (first rest : List (List ℤ)) → ((trace_from r first).last ≡ Open → ⊥) → trace_from r (first ++ rest) ≡ trace_from r first
+pub trace-closed : (r : Running) (first rest : List (List ℤ)) → ((trace_from r first).last ≡ Open → ⊥) →
+    trace_from r (first ++ rest) ≡ trace_from r first
 trace-closed r [] rest closed = absurd (closed (ap (λ (t : Trace). t.last) (trace-none r)))
 trace-closed r (ins ∷ first) rest closed =
     let answer : Tick = answer_of (reply_at r ins) in
     let outputs : List ℤ = outputs_after r ins [] in
     let is = trace-first r ins [] first in
     trace-first r ins [] (first ++ rest)
-    ∙ closed-first answer outputs (trace_from (after_tick r ins) first) (trace_from (after_tick r ins) (first ++ rest)) (λ e. closed (ap (λ (t : Trace). t.last) is ∙ e)) (trace-closed (after_tick r ins) first rest)
+    ∙ closed-first answer outputs (trace_from (after_tick r ins) first) (trace_from (after_tick r ins) (first ++ rest))
+    (λ e. closed (ap (λ (t : Trace). t.last) is ∙ e)) (trace-closed (after_tick r ins) first rest)
     ∙ sym is
 
-long-first : (answer : Tick) (outputs : List ℤ) (first : Trace) (n : ℕ) → (traced_by answer outputs first).last ≡ Open → (first.last ≡ Open → length first.rows ≡ n) → length (traced_by answer outputs first).rows ≡ suc n
+long-first : (answer : Tick) (outputs : List ℤ) (first : Trace) (n : ℕ) → (traced_by answer outputs first).last ≡ Open →
+    (first.last ≡ Open → length first.rows ≡ n) → length (traced_by answer outputs first).rows ≡ suc n
 long-first tick.Row outputs first n running long = ap suc (long running)
 long-first tick.Ended outputs first n running long = cc
 long-first tick.Trap outputs first n running long = cc
@@ -92,7 +102,8 @@ trace-long r (ins ∷ rows) running =
     let outputs : List ℤ = outputs_after r ins [] in
     let is = trace-first r ins [] rows in
     ap (λ (t : Trace). length t.rows) is
-    ∙ long-first answer outputs (trace_from (after_tick r ins) rows) (length rows) (ap (λ (t : Trace). t.last) (sym is) ∙ running) (trace-long (after_tick r ins) rows)
+    ∙ long-first answer outputs (trace_from (after_tick r ins) rows) (length rows) (ap (λ (t : Trace). t.last) (sym is) ∙ running)
+    (trace-long (after_tick r ins) rows)
 
 -- ---- the runner after rows
 

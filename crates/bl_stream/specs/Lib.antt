@@ -1,3 +1,2 @@
-pub mod Courses
-pub mod Going
 pub mod Streams
+pub mod inner

@@ -1,7 +1,7 @@
 //! Whether a run goes on behind a piece of the file.
 
 ghost use Rattle.std.specs.Prelude.{◌≡◌};
-ghost use Rattle.bl_stream.specs.Going.{left_of};
+ghost use Rattle.bl_stream.specs.inner.Going.{left_of};
 ghost use Rattle.bl_stream.specs.Streams.{finish_of, while_open};
 
 use crate::finish::Finish;

@@ -3,7 +3,7 @@
 ghost use Rattle.std.specs.Prelude.{◌≡◌, ◌+◌, ◌++◌, ◌<◌, ◌≤◌, ℕ, [], List, Option, length};
 ghost use Rattle.bl_io.specs.Count.{NeverFell, Rose};
 ghost use Rattle.bl_io.specs.Left.{KeepsOthers};
-ghost use Rattle.bl_stream.specs.Going.{Ends, Going, GoesOrEnds, Leaves, Stands, reach};
+ghost use Rattle.bl_stream.specs.inner.Going.{Ends, Going, GoesOrEnds, Leaves, Stands, reach};
 ghost use Rattle.bl_stream.specs.Streams.{Streamed, course_of};
 
 use crate::feeding::{feed, finish};

@@ -7,7 +7,7 @@ ghost use Rattle.bl_crun.specs.Running.{loaded};
 ghost use Rattle.bl_io.specs.Count.{NeverFell, Rose};
 ghost use Rattle.bl_io.specs.Left.{KeepsOthers};
 ghost use Rattle.bl_rows.specs.Reading.{begun};
-ghost use Rattle.bl_stream.specs.Going.{Ends, HasFed, Stands};
+ghost use Rattle.bl_stream.specs.inner.Going.{Ends, HasFed, Stands};
 ghost use Rattle.bl_stream.specs.Streams.{Streamed, course_of};
 
 use crate::finish::Finish;

@@ -5,7 +5,7 @@ ghost use Rattle.bl_tree.specs.Ports.{RowsFit, row_fits};
 ghost use Rattle.bl_cmeaning.specs.Cells.{inputs_of, outputs_of};
 ghost use Rattle.bl_crun.specs.Running.{after_tick};
 ghost use Rattle.bl_rows.specs.Text.{line_text};
-ghost use Rattle.bl_stream.specs.Courses.{after_rows, text_from, trace_from};
+ghost use Rattle.bl_stream.specs.inner.Courses.{after_rows, text_from, trace_from};
 
 use crate::pace::Ticks;
 use bl_crun::{Runner, Tick};

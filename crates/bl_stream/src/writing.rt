@@ -5,7 +5,7 @@ ghost use Rattle.bl_tree.specs.Ports.{RowsFit};
 ghost use Rattle.bl_cmeaning.specs.Cells.{inputs_of, outputs_of};
 ghost use Rattle.bl_io.specs.Count.{Rose};
 ghost use Rattle.bl_io.specs.Held.{Appends};
-ghost use Rattle.bl_stream.specs.Courses.{after_rows, text_from, trace_from};
+ghost use Rattle.bl_stream.specs.inner.Courses.{after_rows, text_from, trace_from};
 ghost use Rattle.bl_stream.specs.Streams.{AppendsFront};
 
 use crate::finish::Finish;

@@ -30,7 +30,8 @@ columns_fit columns wanted rows same fit = subst (λ cs. RowsFit cs rows) same f
 
 -- ---- a program's file as a course
 
-pub course_of_parts : (structs : List StructDef) (units : List UnitDef) (entry : ℕ) (file : CFile) (ready : Parts) → ready ≡ parts_of file → IsFileOfParts structs units entry file →
+pub course_of_parts : (structs : List StructDef) (units : List UnitDef) (entry : ℕ) (file : CFile) (ready : Parts) →
+    ready ≡ parts_of file → IsFileOfParts structs units entry file →
     ((bytes : List ℕ) (columns : List Column) → RowsFit columns (rows_of bytes columns).rows) →
     ((bytes : List ℕ) (columns : List Column) → RowsFit columns (rows_in (begun columns) bytes)) → HasCourse structs units entry (course_of ready)
 course_of_parts structs units entry file ready same is fit so_far = subst (λ p. HasCourse structs units entry (course_of p)) (sym same) (record {
@@ -49,18 +50,22 @@ course_of_parts structs units entry file ready same is fit so_far = subst (λ p.
 })
 
 -- the course of the program of a tree
-course_of_tree : (course : Course) (structs structs' : List StructDef) (units units' : List UnitDef) (entry entry' : ℕ) → structs ≡ structs' → units ≡ units' → entry ≡ entry' →
+course_of_tree : (course : Course) (structs structs' : List StructDef) (units units' : List UnitDef) (entry entry' : ℕ) →
+    structs ≡ structs' → units ≡ units' → entry ≡ entry' →
     HasCourse structs units entry course → HasCourse structs' units' entry' course
 course_of_tree course structs structs' units units' entry entry' s u e has =
-    subst (λ n. HasCourse structs' units' n course) e (subst (λ us. HasCourse structs' us entry course) u (subst (λ ss. HasCourse ss units entry course) s has))
+    subst (λ n. HasCourse structs' units' n course) e (subst (λ us. HasCourse structs' us entry course) u
+    (subst (λ ss. HasCourse ss units entry course) s has))
 
-pub runs_as : (left : Option (List ℕ)) (program : Program) (course : Course) → IsBuilt left program → HasCourse program.structs program.units program.entry course → RunsAs left course
+pub runs_as : (left : Option (List ℕ)) (program : Program) (course : Course) → IsBuilt left program →
+    HasCourse program.structs program.units program.entry course → RunsAs left course
 runs_as left program course built has =
     let made = built.has in
     record {
       raw = made.raw;
       tree = tree_built left program built;
-      has = course_of_tree course program.structs (typed_of made.raw).structs program.units (typed_of made.raw).units program.entry (typed_of made.raw).entry made.is.structs made.is.units made.is.entry has;
+      has = course_of_tree course program.structs (typed_of made.raw).structs program.units (typed_of made.raw).units program.entry
+          (typed_of made.raw).entry made.is.structs made.is.units made.is.entry has;
     }
 
 -- ---- it is loaded, unless memory is wanting
@@ -75,7 +80,8 @@ faultless file at formed is = not_both (first_fault file) at (ap first_place for
 not_large : (cells : ℕ) → 1000000 < cells → cells ≤ 1000000 → ⊥
 not_large cells large small = omega (arith, large, small)
 
-pub wants_memory : (file : CFile) (structs : List StructDef) (units : List UnitDef) (entry : ℕ) (fault : LoadFault) → IsFileOfParts structs units entry file → IsCause (parts_of file) fault →
+pub wants_memory : (file : CFile) (structs : List StructDef) (units : List UnitDef) (entry : ℕ) (fault : LoadFault) →
+    IsFileOfParts structs units entry file → IsCause (parts_of file) fault →
     fault ≡ load.NoMemory
 wants_memory file structs units entry (load.IllFormed at) is cause = absurd (faultless (parts_of file) at is.one_trace.well_formed cause)
 wants_memory file structs units entry (load.TooLarge cells) is cause = absurd (not_large (cells_needed (parts_of file)) cause.large is.one_trace.small)

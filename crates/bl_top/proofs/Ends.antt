@@ -27,23 +27,28 @@ use Rattle.bl_words.specs.Jobs.{JobSpec, Word, build, exec, run}
 -- ---- `build`
 
 -- what was written is the result, or a front of it
-pub wrote_all : (IsResult : List ℕ → Type 0) (out : Count) (before after : Option (List ℕ)) (ended : Status) (text piece : List ℕ) → ended ≡ status.Ok → piece ≡ text → IsResult text → Appends before piece after →
+pub wrote_all : (IsResult : List ℕ → Type 0) (out : Count) (before after : Option (List ℕ)) (ended : Status) (text piece : List ℕ) →
+    ended ≡ status.Ok → piece ≡ text → IsResult text → Appends before piece after →
     Writes IsResult out before after ended
 wrote_all IsResult out before after ended text piece e same is grew = rw e (whole text is (subst (λ t. Appends before t after) same grew))
 
-pub wrote_part : (IsResult : List ℕ → Type 0) (out : Count) (before after : Option (List ℕ)) (ended : Status) (text piece : List ℕ) → ended ≡ status.WriteFault → piece ≡ text → IsResult text → AppendsPart before piece after →
+pub wrote_part : (IsResult : List ℕ → Type 0) (out : Count) (before after : Option (List ℕ)) (ended : Status)
+    (text piece : List ℕ) → ended ≡ status.WriteFault → piece ≡ text → IsResult text → AppendsPart before piece after →
     HasRisen out → Writes IsResult out before after ended
 wrote_part IsResult out before after ended text piece e same is grew risen = rw e (fault text is (subst (λ t. AppendsPart before t after) same grew) risen)
 
-pub wrote_less : (IsResult : List ℕ → Type 0) (out : Count) (before after : Option (List ℕ)) (ended : Status) (text piece : List ℕ) → ended ≡ status.NoMemory → piece ≡ text → IsResult text → AppendsPart before piece after →
+pub wrote_less : (IsResult : List ℕ → Type 0) (out : Count) (before after : Option (List ℕ)) (ended : Status)
+    (text piece : List ℕ) → ended ≡ status.NoMemory → piece ≡ text → IsResult text → AppendsPart before piece after →
     Writes IsResult out before after ended
 wrote_less IsResult out before after ended text piece e same is grew = rw e (want text is (subst (λ t. AppendsPart before t after) same grew))
 
-pub wrote_nothing : (IsResult : List ℕ → Type 0) (out : Count) (held : Option (List ℕ)) (ended : Status) → ended ≡ status.NoMemory → Writes IsResult out held held ended
+pub wrote_nothing : (IsResult : List ℕ → Type 0) (out : Count) (held : Option (List ℕ)) (ended : Status) → ended ≡ status.NoMemory →
+    Writes IsResult out held held ended
 wrote_nothing IsResult out held ended e = rw e (nothing (kept_same held))
 
 -- what is a result in one sense is one in another
-writes_as : (P Q : List ℕ → Type 0) (out : Count) (before after : Option (List ℕ)) (ended : Status) → ((text : List ℕ) → P text → Q text) → Writes P out before after ended → Writes Q out before after ended
+writes_as : (P Q : List ℕ → Type 0) (out : Count) (before after : Option (List ℕ)) (ended : Status) →
+    ((text : List ℕ) → P text → Q text) → Writes P out before after ended → Writes Q out before after ended
 writes_as P Q out before after _ turned (whole text is grew) = whole text (turned text is) grew
 writes_as P Q out before after _ turned (fault text is grew risen) = fault text (turned text is) grew risen
 writes_as P Q out before after _ turned (want text is grew) = want text (turned text is) grew
@@ -55,34 +60,43 @@ build_written c source program ended line built writes told =
     rw told (written (writes_as (IsTextOfParts program.structs program.units program.entry) (IsTextOf (c.left source)) c.out c.before c.after ended
     (λ text is. text_of_source (c.left source) program text built is) writes))
 
-pub build_stopped : (c : Call) (source : Word) (ended : Status) (line : List ℕ) → Stops (c.left source) (c.file source) ended line → IsKept c.before c.after → BuildEnds c source ended line
+pub build_stopped : (c : Call) (source : Word) (ended : Status) (line : List ℕ) → Stops (c.left source) (c.file source) ended line →
+    IsKept c.before c.after → BuildEnds c source ended line
 build_stopped c source ended line stops kept = stopped stops kept
 
 -- ---- `run`
 
-pub run_ran : (c : Call) (source rows : Word) (program : Program) (course : Course) (between : Word → Option (List ℕ)) (second : ℕ) (ended : Status) (line : List ℕ) → IsBuilt (c.left source) program →
+pub run_ran : (c : Call) (source rows : Word) (program : Program) (course : Course) (between : Word → Option (List ℕ)) (second : ℕ)
+    (ended : Status) (line : List ℕ) → IsBuilt (c.left source) program →
     HasCourse program.structs program.units program.entry course → LeftBehind source_limit source c.left between → (c.file rows).before ≤ second →
-    Streams course (between rows) (record { before = second; after = (c.file rows).after }) c.out c.before c.after ended line → RunEnds c source rows ended line
+    Streams course (between rows) (record { before = second; after = (c.file rows).after }) c.out c.before c.after ended line →
+    RunEnds c source rows ended line
 run_ran c source rows program course between second ended line built has behind below streams =
     ran course (runs_as (c.left source) program course built has) between behind
     (streams_from course (between rows) (c.file rows).before second (c.file rows).after c.out c.before c.after ended line below streams)
 
-pub run_stops : (c : Call) (source rows : Word) (ended : Status) (line : List ℕ) → Stops (c.left source) (c.file source) ended line → IsKept c.before c.after → RunEnds c source rows ended line
+pub run_stops : (c : Call) (source rows : Word) (ended : Status) (line : List ℕ) →
+    Stops (c.left source) (c.file source) ended line → IsKept c.before c.after → RunEnds c source rows ended line
 run_stops c source rows ended line stops kept = run_stopped stops kept
 
 -- ---- the job
 
-pub answers_build : (c : Call) (job : Option JobSpec) (source : Word) (ended : Status) (line : List ℕ) → job ≡ Some (build source) → BuildEnds c source ended line → Answers c job ended line
+pub answers_build : (c : Call) (job : Option JobSpec) (source : Word) (ended : Status) (line : List ℕ) → job ≡ Some (build source) →
+    BuildEnds c source ended line → Answers c job ended line
 answers_build c job source ended line asked ends = rw asked (builds ends)
 
-pub answers_run : (c : Call) (job : Option JobSpec) (source rows : Word) (ended : Status) (line : List ℕ) → job ≡ Some (run source rows) → RunEnds c source rows ended line → Answers c job ended line
+pub answers_run : (c : Call) (job : Option JobSpec) (source rows : Word) (ended : Status) (line : List ℕ) →
+    job ≡ Some (run source rows) → RunEnds c source rows ended line → Answers c job ended line
 answers_run c job source rows ended line asked ends = rw asked (runs ends)
 
-pub answers_exec : (c : Call) (job : Option JobSpec) (text rows : Word) (ended : Status) (line : List ℕ) → job ≡ Some (exec text rows) → ExecEnds c text rows ended line → Answers c job ended line
+pub answers_exec : (c : Call) (job : Option JobSpec) (text rows : Word) (ended : Status) (line : List ℕ) →
+    job ≡ Some (exec text rows) → ExecEnds c text rows ended line → Answers c job ended line
 answers_exec c job text rows ended line asked ends = rw asked (execs ends)
 
-pub answers_none : (c : Call) (job : Option JobSpec) (ended : Status) (own : List ℕ) → job ≡ None → ended ≡ status.Usage → IsKept c.before c.after → Answers c job ended (chosen_line ended own)
+pub answers_none : (c : Call) (job : Option JobSpec) (ended : Status) (own : List ℕ) → job ≡ None → ended ≡ status.Usage →
+    IsKept c.before c.after → Answers c job ended (chosen_line ended own)
 answers_none c job ended own none e kept = rw (none, e) (no_job kept)
 
-pub answers_short : (c : Call) (job : Option JobSpec) (ended : Status) (own : List ℕ) → ended ≡ status.NoMemory → IsKept c.before c.after → Answers c job ended (chosen_line ended own)
+pub answers_short : (c : Call) (job : Option JobSpec) (ended : Status) (own : List ℕ) → ended ≡ status.NoMemory →
+    IsKept c.before c.after → Answers c job ended (chosen_line ended own)
 answers_short c job ended own e kept = rw e (short kept)

@@ -1,5 +1,26 @@
 -- A source is read one byte past the longest that is accepted: what is judged of that front holds of the whole.
-use Rattle.std.proofs.Common.{◌≡◌, ℕ, ◌<◌, ◌≤◌, Bool, true, false, List, [], ◌∷◌, take, length, refl, sym, ap, subst, ◌∙◌, inl, inr, arith}
+use Rattle.std.proofs.Common.{
+  ◌≡◌,
+  ℕ,
+  ◌<◌,
+  ◌≤◌,
+  Bool,
+  true,
+  false,
+  List,
+  [],
+  ◌∷◌,
+  take,
+  length,
+  refl,
+  sym,
+  ap,
+  subst,
+  ◌∙◌,
+  inl,
+  inr,
+  arith,
+}
 use Rattle.std.specs.Prelude.{◌⊎◌, Option, Some, None}
 use Rattle.bl_io.specs.Left.{GivesUpTo}
 use Rattle.bl_lex.specs.Rules.{Fails, FailsFirst, FailsSize, Passes}
@@ -27,7 +48,24 @@ use Rattle.bl_top.specs.declared.outcome.Outcome.{Outcome}
 use Rattle.bl_top.specs.declared.status.Status.{Status}
 use Rattle.bl_top.specs.declared.status.Status.TheVariants as status
 use Rattle.bl_top.proofs.Cuts.{whole_or_long}
-use Rattle.bl_top.specs.Refusals.{IsRefusalOf, IsRefusedBy, IsTreeRefusalOf, RefusedBy, RefusedText, Stops, lexer, refusal_line, refused as stopped, short as no_memory, syntax, tree, typing, unbuilt as unformed, units as failing_units, unread}
+use Rattle.bl_top.specs.Refusals.{
+  IsRefusalOf,
+  IsRefusedBy,
+  IsTreeRefusalOf,
+  RefusedBy,
+  RefusedText,
+  Stops,
+  lexer,
+  refusal_line,
+  refused as stopped,
+  short as no_memory,
+  syntax,
+  tree,
+  typing,
+  unbuilt as unformed,
+  units as failing_units,
+  unread,
+}
 use Rattle.bl_top.specs.Sources.{HasProgram, HasTree, IsBuilt, IsOfNoForm, IsTextOf, IsTextOfParts, IsTreeOf, Parses}
 use Rattle.bl_raw.specs.declared.raw.Raw.{Raw}
 use Rattle.bl_tree.specs.declared.tree.StructDef.{StructDef}
@@ -52,12 +90,14 @@ whole_of_passing whole got front passes = elim (front_or_long whole got front) [
   | inr long ↦ absurd (passes rule.Size first_beyond [] (record { too_long = long.0; at = refl }, refl))
 ]
 
-tree_of : (before : Option (List ℕ)) (got : List ℕ) (after : Option (List ℕ)) (raw : Raw) → GivesUpTo source_limit before got after → HasTree got raw → IsTreeOf before raw
+tree_of : (before : Option (List ℕ)) (got : List ℕ) (after : Option (List ℕ)) (raw : Raw) →
+    GivesUpTo source_limit before got after → HasTree got raw → IsTreeOf before raw
 tree_of None got after raw read has = record { source = got; of_source = tt; has = has }
 tree_of (Some whole) got after raw read has = record { source = got; of_source = whole_of_passing whole got read.front has.passes; has = has }
 
 -- the program of a front is that of the whole
-pub is_built : (before : Option (List ℕ)) (got : List ℕ) (after : Option (List ℕ)) (program : Program) → GivesUpTo source_limit before got after → HasProgram got program →
+pub is_built : (before : Option (List ℕ)) (got : List ℕ) (after : Option (List ℕ)) (program : Program) →
+    GivesUpTo source_limit before got after → HasProgram got program →
     is_early program.structs program.units ≡ true → IsBuilt before program
 is_built None got after program read made form = record { source = got; of_source = tt; has = made; form = form }
 is_built (Some whole) got after program read made form =
@@ -67,10 +107,12 @@ pub tree_built : (left : Option (List ℕ)) (program : Program) (built : IsBuilt
 tree_built left program built = record { source = built.source; of_source = built.of_source; has = built.has.has }
 
 -- the form of a program is that of its structs and units
-form_of : (b : Bool) (structs structs' : List StructDef) (units units' : List UnitDef) → structs ≡ structs' → units ≡ units' → is_early structs units ≡ b → is_early structs' units' ≡ b
+form_of : (b : Bool) (structs structs' : List StructDef) (units units' : List UnitDef) → structs ≡ structs' → units ≡ units' →
+    is_early structs units ≡ b → is_early structs' units' ≡ b
 form_of b structs structs' units units' s u form = subst (λ us. is_early structs' us ≡ b) u (subst (λ ss. is_early ss units ≡ b) s form)
 
-pub unbuilt_text : (before : Option (List ℕ)) (got : List ℕ) (after : Option (List ℕ)) (program : Program) → GivesUpTo source_limit before got after → HasProgram got program →
+pub unbuilt_text : (before : Option (List ℕ)) (got : List ℕ) (after : Option (List ℕ)) (program : Program) →
+    GivesUpTo source_limit before got after → HasProgram got program →
     is_early program.structs program.units ≡ false → IsOfNoForm before
 unbuilt_text before got after program read made none = record {
   raw = made.raw;
@@ -79,19 +121,23 @@ unbuilt_text before got after program read made none = record {
 }
 
 -- what is written for the program is written for the tree
-text_of_tree : (text : List ℕ) (structs structs' : List StructDef) (units units' : List UnitDef) (entry entry' : ℕ) → structs ≡ structs' → units ≡ units' → entry ≡ entry' →
+text_of_tree : (text : List ℕ) (structs structs' : List StructDef) (units units' : List UnitDef) (entry entry' : ℕ) →
+    structs ≡ structs' → units ≡ units' → entry ≡ entry' →
     IsTextOfParts structs units entry text → IsTextOfParts structs' units' entry' text
 text_of_tree text structs structs' units units' entry entry' s u e is =
-    subst (λ n. IsTextOfParts structs' units' n text) e (subst (λ us. IsTextOfParts structs' us entry text) u (subst (λ ss. IsTextOfParts ss units entry text) s is))
+    subst (λ n. IsTextOfParts structs' units' n text) e
+    (subst (λ us. IsTextOfParts structs' us entry text) u (subst (λ ss. IsTextOfParts ss units entry text) s is))
 
 -- and so for the source
-pub text_of_source : (left : Option (List ℕ)) (program : Program) (text : List ℕ) → IsBuilt left program → IsTextOfParts program.structs program.units program.entry text → IsTextOf left text
+pub text_of_source : (left : Option (List ℕ)) (program : Program) (text : List ℕ) → IsBuilt left program →
+    IsTextOfParts program.structs program.units program.entry text → IsTextOf left text
 text_of_source left program text built is =
     let made = built.has in
     record {
       raw = made.raw;
       tree = tree_built left program built;
-      is = text_of_tree text program.structs (typed_of made.raw).structs program.units (typed_of made.raw).units program.entry (typed_of made.raw).entry made.is.structs made.is.units made.is.entry is;
+      is = text_of_tree text program.structs (typed_of made.raw).structs program.units (typed_of made.raw).units program.entry
+          (typed_of made.raw).entry made.is.structs made.is.units made.is.entry is;
     }
 
 -- ---- what is refused
@@ -134,7 +180,8 @@ refused_whole whole got front _ _ _ (lexer rule place also first) = elim (front_
   | inr long ↦ lexer rule place also (first_of_long whole got long.0 long.1 rule place also first)
 ]
 
-pub refused_text : (before : Option (List ℕ)) (got : List ℕ) (after : Option (List ℕ)) (rule : Rule) (place : Place) (also : List Place) (line : List ℕ) →
+pub refused_text : (before : Option (List ℕ)) (got : List ℕ) (after : Option (List ℕ)) (rule : Rule) (place : Place)
+    (also : List Place) (line : List ℕ) →
     GivesUpTo source_limit before got after → RefusedBy got rule place also → line ≡ refusal_line rule place also → RefusedText before line
 refused_text None got after rule place also line read by told =
     record { text = got; of_source = tt; rule = rule; place = place; also = also; by = by; told = told }
@@ -173,17 +220,20 @@ pub units_pass : (raw : Raw) (program : Program) → IsProgramOf raw program →
 units_pass raw program is passes = subst UnitsPass is.units passes
 
 -- what passed all rules has its program
-pub program_that_passes : (text : List ℕ) (raw : Raw) (program : Program) → Passes text → Parses text raw → NamesPass raw.items → TypesPass (named_of raw) → UnitsPass (typed_of raw).units →
+pub program_that_passes : (text : List ℕ) (raw : Raw) (program : Program) → Passes text → Parses text raw → NamesPass raw.items →
+    TypesPass (named_of raw) → UnitsPass (typed_of raw).units →
     IsProgramOf raw program → HasProgram text program
 program_that_passes text raw program passes parses names types units is =
     record { raw = raw; has = record { passes = passes; parses = parses; names = names; types = types; units = units }; is = is }
 
-pub tree_parsed : (text : List ℕ) (tokens : List Token) (raw : Raw) → Lexes text tokens → SyntaxPasses tokens → Spells text tokens raw → Parses text raw
+pub tree_parsed : (text : List ℕ) (tokens : List Token) (raw : Raw) → Lexes text tokens → SyntaxPasses tokens →
+    Spells text tokens raw → Parses text raw
 tree_parsed text tokens raw lexes nests spells = record { tokens = tokens; lexes = lexes; passes = nests; spells = spells }
 
 -- ---- ends of a job at its source
 
-pub stops_short : (before : Option (List ℕ)) (file : Count) (ended : Status) (own : List ℕ) → ended ≡ status.NoMemory → Stops before file ended (chosen_line ended own)
+pub stops_short : (before : Option (List ℕ)) (file : Count) (ended : Status) (own : List ℕ) → ended ≡ status.NoMemory →
+    Stops before file ended (chosen_line ended own)
 stops_short before file ended own none = rw none no_memory
 
 pub stops_refused : (before : Option (List ℕ)) (got : List ℕ) (after : Option (List ℕ)) (file : Count) (told : Refusal) (outcome : Outcome) →
@@ -194,9 +244,12 @@ stops_refused before got after file (refusal.Rule rule place also) outcome read 
 ]
 stops_refused before got after file refusal.NoMemory outcome read is none = stops_short before file outcome.status outcome.line.items none
 
-pub stops_unread : (before : Option (List ℕ)) (file : Count) (ended : Status) (own : List ℕ) → ended ≡ status.ReadFault → HasRisen file → Stops before file ended (chosen_line ended own)
+pub stops_unread : (before : Option (List ℕ)) (file : Count) (ended : Status) (own : List ℕ) → ended ≡ status.ReadFault →
+    HasRisen file → Stops before file ended (chosen_line ended own)
 stops_unread before file ended own e risen = rw e (unread risen)
 
-pub stops_unbuilt : (before : Option (List ℕ)) (got : List ℕ) (after : Option (List ℕ)) (file : Count) (program : Program) (ended : Status) (own : List ℕ) →
-    GivesUpTo source_limit before got after → HasProgram got program → is_early program.structs program.units ≡ false → ended ≡ status.Unbuilt → Stops before file ended (chosen_line ended own)
+pub stops_unbuilt : (before : Option (List ℕ)) (got : List ℕ) (after : Option (List ℕ)) (file : Count) (program : Program)
+    (ended : Status) (own : List ℕ) →
+    GivesUpTo source_limit before got after → HasProgram got program → is_early program.structs program.units ≡ false →
+    ended ≡ status.Unbuilt → Stops before file ended (chosen_line ended own)
 stops_unbuilt before got after file program ended own read made none e = rw e (unformed (unbuilt_text before got after program read made none))

@@ -12,13 +12,18 @@ pub appends_nothing : (held : Option (List ℕ)) (line : List ℕ) → line ≡ 
 appends_nothing None line e = tt
 appends_nothing (Some bytes) line e = rw e (ap Some (sym (append-nil bytes)))
 
-pub written_whole : (notes : Count) (before after : Option (List ℕ)) (ended : Status) (own line : List ℕ) → line ≡ chosen_line ended own → Appends before line after → Written notes before (chosen_line ended own) after ended ended
+pub written_whole : (notes : Count) (before after : Option (List ℕ)) (ended : Status) (own line : List ℕ) →
+    line ≡ chosen_line ended own → Appends before line after → Written notes before (chosen_line ended own) after ended ended
 written_whole notes before after ended own line e grew = whole (subst (λ l. Appends before l after) e grew)
 
-pub written_fault : (notes : Count) (before after : Option (List ℕ)) (meant : Status) (own line : List ℕ) → line ≡ chosen_line meant own → has_line meant ≡ true → AppendsPart before line after → HasRisen notes → Written notes before (chosen_line meant own) after meant status.WriteFault
+pub written_fault : (notes : Count) (before after : Option (List ℕ)) (meant : Status) (own line : List ℕ) →
+    line ≡ chosen_line meant own → has_line meant ≡ true → AppendsPart before line after → HasRisen notes →
+    Written notes before (chosen_line meant own) after meant status.WriteFault
 written_fault notes before after meant own line e has grew risen = fault has (subst (λ l. AppendsPart before l after) e grew) risen
 
-pub written_want : (notes : Count) (before after : Option (List ℕ)) (meant : Status) (own line : List ℕ) → line ≡ chosen_line meant own → has_line meant ≡ true → AppendsPart before line after → Written notes before (chosen_line meant own) after meant status.NoMemory
+pub written_want : (notes : Count) (before after : Option (List ℕ)) (meant : Status) (own line : List ℕ) →
+    line ≡ chosen_line meant own → has_line meant ≡ true → AppendsPart before line after →
+    Written notes before (chosen_line meant own) after meant status.NoMemory
 written_want notes before after meant own line e has grew = want has (subst (λ l. AppendsPart before l after) e grew)
 
 -- what a test of a text's length says of the text
@@ -27,7 +32,8 @@ is_empty_from_test [] b e t = refl
 is_empty_from_test (byte ∷ line) b e t = let h : (length (byte ∷ line) == 0) ≡ true = sym e ∙ t in absurd (grind (arith, nat_tests))
 
 -- a status whose line is not empty has one
-pub has_line_from_test : (ended : Status) (own line : List ℕ) (b : Bool) → line ≡ chosen_line ended own → b ≡ (length line == 0) → b ≡ false → has_line ended ≡ true
+pub has_line_from_test : (ended : Status) (own line : List ℕ) (b : Bool) → line ≡ chosen_line ended own → b ≡ (length line == 0) →
+    b ≡ false → has_line ended ≡ true
 has_line_from_test status.Ok own line b is e f = let e' = subst (λ l. b ≡ (length l == 0)) is e in cc
 has_line_from_test status.WriteFault own line b is e f = let e' = subst (λ l. b ≡ (length l == 0)) is e in cc
 has_line_from_test status.Trapped own line b is e f = let e' = subst (λ l. b ≡ (length l == 0)) is e in cc

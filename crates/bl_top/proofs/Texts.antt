@@ -1,5 +1,26 @@
 -- The C file of a program of the form has the one trace of the program.
-use Rattle.std.proofs.Common.{◌≡◌, ℕ, zero, suc, ◌+◌, ℤ, List, [], ◌∷◌, Bool, true, false, ◌&&◌, refl, sym, ◌∙◌, ap, subst, length, arith}
+use Rattle.std.proofs.Common.{
+  ◌≡◌,
+  ℕ,
+  zero,
+  suc,
+  ◌+◌,
+  ℤ,
+  List,
+  [],
+  ◌∷◌,
+  Bool,
+  true,
+  false,
+  ◌&&◌,
+  refl,
+  sym,
+  ◌∙◌,
+  ap,
+  subst,
+  length,
+  arith,
+}
 use Rattle.std.proofs.lemmas.List.{length-take-le}
 use Rattle.std.proofs.lemmas.List.Elements.{All-cons, All-nil}
 use Rattle.std.proofs.lemmas.Bool.Decides.{nat_tests}
@@ -60,24 +81,29 @@ row_long [] (n ∷ row) e = absurd cc
 row_long (var ∷ vars) [] e = absurd cc
 row_long (var ∷ vars) (n ∷ row) e = ap (λ k. suc k) (row_long vars row (right_holds _ _ e))
 
-rows_long : (unit : UnitDef) → length (inputs_of unit) ≡ unit.inputs → (rows : List (List ℤ)) → RowsFit (input_columns unit) rows → RowsSuit unit rows
+rows_long : (unit : UnitDef) → length (inputs_of unit) ≡ unit.inputs → (rows : List (List ℤ)) → RowsFit (input_columns unit) rows →
+    RowsSuit unit rows
 rows_long unit same [] e = All-nil (λ row. length row ≡ unit.inputs)
 rows_long unit same (row ∷ rows) e =
-    All-cons (λ r. length r ≡ unit.inputs) row rows (row_long (inputs_of unit) row (left_holds _ _ e) ∙ same) (rows_long unit same rows (right_holds _ _ e))
+    All-cons (λ r. length r ≡ unit.inputs) row rows (row_long (inputs_of unit) row (left_holds _ _ e) ∙ same)
+    (rows_long unit same rows (right_holds _ _ e))
 
 -- ---- the one trace
 
-by_trace : (unit : UnitDef) (entry : ℕ) (rows : List (List ℤ)) (shows : Shown) (file : CFile) → c_trace (parts_of file) rows ≡ trace_of unit (loop_steps unit) rows →
+by_trace : (unit : UnitDef) (entry : ℕ) (rows : List (List ℤ)) (shows : Shown) (file : CFile) →
+    c_trace (parts_of file) rows ≡ trace_of unit (loop_steps unit) rows →
     Means [] (unit ∷ []) entry rows shows ↔ (shows ≡ shown (trace_of unit (loop_steps unit) rows)) →
     Means [] (unit ∷ []) entry rows shows ↔ (shows ≡ shown (c_trace (parts_of file) rows))
 by_trace unit entry rows shows file same law = rw same law
 
-file_is : (unit : UnitDef) (file : CFile) → file.structs ≡ c_structs_of (unit ∷ []) → file.funcs ≡ c_funcs_of (unit ∷ []) → parts_of file ≡ written unit
+file_is : (unit : UnitDef) (file : CFile) → file.structs ≡ c_structs_of (unit ∷ []) → file.funcs ≡ c_funcs_of (unit ∷ []) →
+    parts_of file ≡ written unit
 file_is unit file structs funcs = rw (structs, funcs) refl
 
 one_trace : (unit : UnitDef) (entry : ℕ) (file : CFile) → Early [] (unit ∷ []) entry unit (loop_steps unit) →
     file.structs ≡ c_structs_of (unit ∷ []) → file.funcs ≡ c_funcs_of (unit ∷ []) →
-    EarlyHasOneTrace → EarlyIsBounded → EarlyIsNeverStuck → WrittenTrace (unit ∷ []) → WrittenColumns (unit ∷ []) → WrittenWellFormed (unit ∷ []) → WrittenIsSmall (unit ∷ []) → OneTrace [] (unit ∷ []) entry unit file
+    EarlyHasOneTrace → EarlyIsBounded → EarlyIsNeverStuck → WrittenTrace (unit ∷ []) → WrittenColumns (unit ∷ []) →
+    WrittenWellFormed (unit ∷ []) → WrittenIsSmall (unit ∷ []) → OneTrace [] (unit ∷ []) entry unit file
 one_trace unit entry file early structs funcs one bounded stuck has columns formed small = record {
   well_formed = subst WellFormed (sym (file_is unit file structs funcs)) formed;
   small = subst (λ parts. cells_needed parts ≤ 1000000) (sym (file_is unit file structs funcs)) small;
@@ -95,13 +121,16 @@ entry_there : (unit : UnitDef) (entry : ℕ) → is_entry (slice_get (unit ∷ [
 entry_there unit zero e = refl
 entry_there unit (suc k) e = absurd cc
 
-early_of : (unit : UnitDef) (entry : ℕ) → Keeps [] (unit ∷ []) entry → is_early_unit unit ≡ true → Early [] (unit ∷ []) entry unit (loop_steps unit)
+early_of : (unit : UnitDef) (entry : ℕ) → Keeps [] (unit ∷ []) entry → is_early_unit unit ≡ true →
+    Early [] (unit ∷ []) entry unit (loop_steps unit)
 early_of unit entry keeps form =
     record { keeps = keeps; form = form; is_entry = entry_there unit entry keeps.entry_stands; is_loop = steps_there unit form }
 
-pub file_of_parts : (file : CFile) (structs : List StructDef) (units : List UnitDef) (entry : ℕ) → Keeps structs units entry → is_early structs units ≡ true →
+pub file_of_parts : (file : CFile) (structs : List StructDef) (units : List UnitDef) (entry : ℕ) → Keeps structs units entry →
+    is_early structs units ≡ true →
     file.structs ≡ c_structs_of units → file.funcs ≡ c_funcs_of units →
-    EarlyHasOneTrace → EarlyIsBounded → EarlyIsNeverStuck → WrittenTrace units → WrittenColumns units → WrittenWellFormed units → WrittenIsSmall units → IsFileOfParts structs units entry file
+    EarlyHasOneTrace → EarlyIsBounded → EarlyIsNeverStuck → WrittenTrace units → WrittenColumns units → WrittenWellFormed units →
+    WrittenIsSmall units → IsFileOfParts structs units entry file
 file_of_parts file (def ∷ structs) units entry keeps form s f one bounded stuck has columns formed small = absurd cc
 file_of_parts file [] [] entry keeps form s f one bounded stuck has columns formed small = absurd cc
 file_of_parts file [] (unit ∷ other ∷ rest) entry keeps form s f one bounded stuck has columns formed small = absurd cc

@@ -21,4 +21,5 @@ pub data Writes (IsResult : List ℕ → Type 0) (out : Count) (before after : O
 -- the status and the line with which the C text of a source is built
 pub data BuildEnds (c : Call) (source : Word) : Status → List ℕ → Type 0 where
   written : {ended : Status} → Writes (IsTextOf (c.left source)) c.out c.before c.after ended → BuildEnds c source ended (line_of ended)
-  stopped : {ended : Status} {line : List ℕ} → Stops (c.left source) (c.file source) ended line → IsKept c.before c.after → BuildEnds c source ended line
+  stopped : {ended : Status} {line : List ℕ} → Stops (c.left source) (c.file source) ended line → IsKept c.before c.after →
+      BuildEnds c source ended line

@@ -24,7 +24,8 @@ note_of (finish.BadRows line) = bad_rows_line line
 note_of ended = line_of (status_of ended)
 
 -- the status and the line with which a course ends over the rows that are left of a file, and what of its trace grew on `out`
-pub record Streams (course : Course) (left : Option (List ℕ)) (rows out : Count) (before after : Option (List ℕ)) (ended : Status) (line : List ℕ) : Type 0 where
+pub record Streams (course : Course) (left : Option (List ℕ)) (rows out : Count) (before after : Option (List ℕ)) (ended : Status)
+    (line : List ℕ) : Type 0 where
   pub how : Finish
   pub is : ended ≡ status_of how
   pub told : line ≡ note_of how

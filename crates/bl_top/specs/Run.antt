@@ -16,4 +16,5 @@ pub data RunEnds (c : Call) (source rows : Word) : Status → List ℕ → Type 
   ran : {ended : Status} {line : List ℕ} (course : Course) → RunsAs (c.left source) course →
       (between : Word → Option (List ℕ)) → LeftBehind source_limit source c.left between →
       Streams course (between rows) (c.file rows) c.out c.before c.after ended line → RunEnds c source rows ended line
-  stopped : {ended : Status} {line : List ℕ} → Stops (c.left source) (c.file source) ended line → IsKept c.before c.after → RunEnds c source rows ended line
+  stopped : {ended : Status} {line : List ℕ} → Stops (c.left source) (c.file source) ended line → IsKept c.before c.after →
+      RunEnds c source rows ended line

@@ -1,5 +1,26 @@
 -- Conditions, and the arguments of calls and runs.
-use Rattle.std.proofs.Common.{◌≡◌, ℕ, suc, ◌+◌, List, [], ◌∷◌, ◌++◌, map, length, drop, Option, Some, None, refl, ap, sym, subst, ◌∙◌, arith}
+use Rattle.std.proofs.Common.{
+  ◌≡◌,
+  ℕ,
+  suc,
+  ◌+◌,
+  List,
+  [],
+  ◌∷◌,
+  ◌++◌,
+  map,
+  length,
+  drop,
+  Option,
+  Some,
+  None,
+  refl,
+  ap,
+  sym,
+  subst,
+  ◌∙◌,
+  arith,
+}
 use Rattle.std.specs.Prelude.{if◌then◌else◌, false, All, Bool, true, ◌&&◌, nat_eq, slice_get}
 use Rattle.std.specs.List.{list_all}
 use Rattle.std.proofs.lemmas.Bool.{eqb-true}
@@ -62,7 +83,8 @@ pub record Complete (site : Site) (arguments : Arguments) (callee : UnitDef) : T
   pub fit : arguments_fit site arguments.inputs arguments.outputs callee ≡ true
 
 module _ (env : Environment) (site : Site) (within : Within env site) where
-  pub condition_fits : (e : NamedExpr) → expr_placed (known_in env) e ≡ true → calls_functions env.units e ≡ true → (condition env e).failures ≡ [] →
+  pub condition_fits : (e : NamedExpr) → expr_placed (known_in env) e ≡ true → calls_functions env.units e ≡ true →
+      (condition env e).failures ≡ [] →
       IsMade site (scalar OfBool) (condition env e).made
   condition_fits e placed calls = wanted_fits env site within e placed calls (scalar OfBool)
 
@@ -113,7 +135,8 @@ module _ (env : Environment) (site : Site) (within : Within env site) where
       (all_lent env outputs (outputs_of unit)) (Some unit) =
       ap (λ (callee : Option UnitDef). arguments_from at (fitted (map (judged env) inputs) (params_of callee)) (all_lent env outputs (outputs_wanted callee))
       callee) there in
-      let has : has_parameters unit ≡ true = all_at has_parameters site.earlier f unit within.heads (ap (λ units. slice_get units f) (sym within.units) ∙ there)
+      let has : has_parameters unit ≡ true = all_at has_parameters site.earlier f unit within.heads
+      (ap (λ units. slice_get units f) (sym within.units) ∙ there)
       in
       subst (λ (arguments : Arguments). Complete site arguments unit) (sym is)
       (record { fit = arguments_by at inputs outputs unit has placed paths calls (ap (λ (arguments : Arguments). arguments.failures) (sym is) ∙ none) })

@@ -31,21 +31,64 @@ use Rattle.bl_named.specs.declared.stmt.NamedStmtKind.TheOpen.{NamedStmtKind-F}
 use Rattle.bl_named.specs.Placed.{Earlier, Step, expr_placed, in_turn, step_of_arm, step_of_branch, stmt_step, tested}
 use Rattle.bl_types.specs.declared.environment.Environment.{Environment}
 use Rattle.bl_types.specs.Settled.{Settled}
-use Rattle.bl_types.specs.Statements.{Block, Walk, Walked, arm_of, arm_walked, branch_walked, condition, in_order, misplaced, stmt_made, under, walked, walked_arm, walked_block, walked_branch, walked_stmt}
+use Rattle.bl_types.specs.Statements.{
+  Block,
+  Walk,
+  Walked,
+  arm_of,
+  arm_walked,
+  branch_walked,
+  condition,
+  in_order,
+  misplaced,
+  stmt_made,
+  under,
+  walked,
+  walked_arm,
+  walked_block,
+  walked_branch,
+  walked_stmt,
+}
 use Rattle.bl_types_laws.specs.Fitting.{IsMade}
-use Rattle.bl_types_laws.specs.Standing.{Around, BlockPassed, Known, Passed, VariablesThere, arm_named, branch_named, kind_named, named_arm, named_branch, stmt_layer_named, stmt_named}
+use Rattle.bl_types_laws.specs.Standing.{
+  Around,
+  BlockPassed,
+  Known,
+  Passed,
+  VariablesThere,
+  arm_named,
+  branch_named,
+  kind_named,
+  named_arm,
+  named_branch,
+  stmt_layer_named,
+  stmt_named,
+}
 use Rattle.bl_types_laws.specs.Within.{calls_functions, known_in}
 use Rattle.bl_types_laws.proofs.Arguments.{condition_fits}
 use Rattle.bl_types_laws.proofs.Declared.{constant_walk_fits, declare_fits}
 use Rattle.bl_types_laws.proofs.Forms.{map_found, nil_left, nil_right}
 use Rattle.bl_types_laws.proofs.MorePlaced.{placed_still}
 use Rattle.bl_types_laws.proofs.NamedStmtInduction.{Cases, induct, induct_arm, stmt}
-use Rattle.bl_types_laws.proofs.Statements.{arm_is, assign_fits, await_fits, call_fit, fits_is, good_arm, good_branch, own_kind, return_walk_fits, run_fit, truth_made}
+use Rattle.bl_types_laws.proofs.Statements.{
+  arm_is,
+  assign_fits,
+  await_fits,
+  call_fit,
+  fits_is,
+  good_arm,
+  good_branch,
+  own_kind,
+  return_walk_fits,
+  run_fit,
+  truth_made,
+}
 use Rattle.bl_types_laws.proofs.StmtLayers.{Layer, step_by, step_is, walked_by, walked_is}
 use Rattle.bl_types_laws.proofs.Walks.{own_calls, WalkFits, block_fits, grown_around, grown_further, grown_there, not_must, within_of}
 
 -- what holds of each that passes a test, where all pass
-each_walk : {X : Type 0} (named : X → Bool) (W : X → Type 0) (xs : List X) → All (λ x. named x ≡ true → W x) xs → all_of (map named xs) ≡ true → All W xs
+each_walk : {X : Type 0} (named : X → Bool) (W : X → Type 0) (xs : List X) → All (λ x. named x ≡ true → W x) xs →
+    all_of (map named xs) ≡ true → All W xs
 each_walk named W [] each all = All-nil W
 each_walk named W (x ∷ xs) each all =
     All-cons W x xs (All-head (λ x. named x ≡ true → W x) x xs each (and_left (named x) (all_of (map named xs)) all))
@@ -61,7 +104,8 @@ inhabited_mapped f [] = refl
 inhabited_mapped f (x ∷ xs) = refl
 
 -- what must be made, as what may be
-may_be_made : {A : Type 0} (site : Site) (good : A → Bool) (env : Environment) (counts : Earlier) (after : Walked A) → Passed true site good env counts after →
+may_be_made : {A : Type 0} (site : Site) (good : A → Bool) (env : Environment) (counts : Earlier) (after : Walked A) →
+    Passed true site good env counts after →
     Passed false site good env counts after
 may_be_made site good env counts after passed = record {
   grown = passed.grown;
@@ -88,15 +132,18 @@ module _ (constants : List NamedConstant) (vars : List NamedVar) (site : Site) w
   P s = stmt_named constants vars site.earlier s ≡ true → WalkFits false site (fits site) (walked_stmt constants vars s) (stmt_step vars constants s)
 
   abbrev Q : NamedArm → Type 0
-  Q arm = named_arm constants vars site.earlier arm ≡ true → WalkFits true site (good_arm site) (arm_walked constants vars arm) (step_of_arm vars constants arm)
+  Q arm = named_arm constants vars site.earlier arm ≡ true →
+      WalkFits true site (good_arm site) (arm_walked constants vars arm) (step_of_arm vars constants arm)
 
   abbrev R : NamedBranch → Type 0
   R branch = named_branch constants vars site.earlier branch ≡ true → WalkFits true site (good_branch site) (branch_walked constants vars branch)
       (step_of_branch vars constants branch)
 
-  body_fits : (body : List NamedStmt) → All P body → all_of (map (stmt_named constants vars site.earlier) body) ≡ true → (env : Environment) → Around env site →
+  body_fits : (body : List NamedStmt) → All P body → all_of (map (stmt_named constants vars site.earlier) body) ≡ true →
+      (env : Environment) → Around env site →
       Known env → (counts : Earlier) →
-      in_turn (map (stmt_step vars constants) body) (known_in env) ≡ Some counts → (in_order (map (walked_stmt constants vars) body) env).failures ≡ [] →
+      in_turn (map (stmt_step vars constants) body) (known_in env) ≡ Some counts →
+      (in_order (map (walked_stmt constants vars) body) env).failures ≡ [] →
       BlockPassed site (fits site) false env counts (in_order (map (walked_stmt constants vars) body) env)
   body_fits body each named =
       block_fits false site (fits site) (walked_stmt constants vars) (stmt_step vars constants) body
@@ -104,11 +151,13 @@ module _ (constants : List NamedConstant) (vars : List NamedVar) (site : Site) w
       body each named)
 
   -- a condition and a block behind it
-  under_passed : {A : Type 0} (good : A → Bool) (earlier : List Failure) (e : NamedExpr) (body : List NamedStmt) (make : Expr → List Stmt → A) → All P body →
+  under_passed : {A : Type 0} (good : A → Bool) (earlier : List Failure) (e : NamedExpr) (body : List NamedStmt)
+      (make : Expr → List Stmt → A) → All P body →
       all_of (map (stmt_named constants vars site.earlier) body) ≡ true →
       calls_functions site.earlier e ≡ true → (env : Environment) → Around env site → Known env → (counts : Earlier) →
       tested e (map (stmt_step vars constants) body) (known_in env) ≡ Some counts →
-      ((test : Expr) (body : List Stmt) → is_truth (type_of site test) ≡ true → all_of (map (fits site) body) ≡ true → good (make test body) ≡ true) →
+      ((test : Expr) (body : List Stmt) → is_truth (type_of site test) ≡ true → all_of (map (fits site) body) ≡ true →
+      good (make test body) ≡ true) →
       (earlier ++ ((condition env e).failures ++ (in_order (map (walked_stmt constants vars) body) env).failures)) ≡ [] →
       Passed true site good env counts (under earlier (condition env e) (in_order (map (walked_stmt constants vars) body) env) make)
   under_passed good earlier e body make each named calls env around known counts step fit none =
@@ -380,9 +429,11 @@ module _ (constants : List NamedConstant) (vars : List NamedVar) (site : Site) w
       (arm_fits_there arm (and_left (named_arm constants vars site.earlier arm) (all_of (map (named_arm constants vars site.earlier) rest)) named))
       (each_arm rest (and_right (named_arm constants vars site.earlier arm) (all_of (map (named_arm constants vars site.earlier) rest)) named))
 
-  pub arms_fit : (arms : List NamedArm) → all_of (map (named_arm constants vars site.earlier) arms) ≡ true → (env : Environment) → Around env site → Known env →
+  pub arms_fit : (arms : List NamedArm) → all_of (map (named_arm constants vars site.earlier) arms) ≡ true → (env : Environment) →
+      Around env site → Known env →
       (counts : Earlier) →
-      in_turn (map (step_of_arm vars constants) arms) (known_in env) ≡ Some counts → (in_order (map (arm_walked constants vars) arms) env).failures ≡ [] →
+      in_turn (map (step_of_arm vars constants) arms) (known_in env) ≡ Some counts →
+      (in_order (map (arm_walked constants vars) arms) env).failures ≡ [] →
       BlockPassed site (good_arm site) (true && is_inhabited arms) env counts (in_order (map (arm_walked constants vars) arms) env)
   arms_fit arms named = block_fits true site (good_arm site) (arm_walked constants vars) (step_of_arm vars constants) arms (each_arm arms named)
 
@@ -391,7 +442,8 @@ module _ (constants : List NamedConstant) (vars : List NamedVar) (site : Site) w
   each_fits (s ∷ rest) = All-cons P s rest (statement_fits s) (each_fits rest)
 
   -- and so do the statements of a block
-  pub statements_fit : (body : List NamedStmt) → list_all (stmt_named constants vars site.earlier) body ≡ true → (env : Environment) → Around env site →
+  pub statements_fit : (body : List NamedStmt) → list_all (stmt_named constants vars site.earlier) body ≡ true →
+      (env : Environment) → Around env site →
       Known env → (counts : Earlier) →
       in_turn (map (stmt_step vars constants) body) (known_in env) ≡ Some counts → (walked_block constants vars body env).failures ≡ [] →
       BlockPassed site (fits site) false env counts (walked_block constants vars body env)

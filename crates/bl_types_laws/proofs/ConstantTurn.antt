@@ -52,7 +52,8 @@ module _ (named : Named) (suits : Suits named) where
         suits.constants scopes.counts.constants new_constant
         (ends_next named.constants scopes.counts.constants (new_constant ∷ along constants_of behind_constant items) at.constants) env.units (earlier scopes)
         count
-        (at.kinds ∙ ap (map (λ (unit : NamedUnit). unit.kind)) (sym (ends_take named.units scopes.counts.units (along units_of behind_constant items) at.units))
+        (at.kinds ∙ ap (map (λ (unit : NamedUnit). unit.kind))
+        (sym (ends_take named.units scopes.counts.units (along units_of behind_constant items) at.units))
         ∙ ap (λ n. map (λ (unit : NamedUnit). unit.kind) (take n named.units)) count)
         (and_right (holds_if (type_placed (earlier scopes)) new_constant.ty) (expr_placed (earlier scopes) new_constant.value) placed_earlier)
 

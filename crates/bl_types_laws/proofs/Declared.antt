@@ -15,7 +15,17 @@ use Rattle.bl_eval.proofs.PassLemmas.{and_left, and_right, both, get_seam}
 use Rattle.bl_named.specs.declared.expr.NamedExpr.{NamedExpr}
 use Rattle.bl_named.specs.declared.item.NamedConstant.{NamedConstant}
 use Rattle.bl_named.specs.declared.item.NamedVar.{NamedVar}
-use Rattle.bl_named.specs.Placed.{Earlier, constant_placed, expr_placed, holds_if, holds_of, type_placed, var_placed, with_constant as constant_counted, with_variable as variable_counted}
+use Rattle.bl_named.specs.Placed.{
+  Earlier,
+  constant_placed,
+  expr_placed,
+  holds_if,
+  holds_of,
+  type_placed,
+  var_placed,
+  with_constant as constant_counted,
+  with_variable as variable_counted,
+}
 use Rattle.bl_types.specs.declared.environment.Constant.{Constant}
 use Rattle.bl_types.specs.declared.environment.Environment.{Environment}
 use Rattle.bl_types.specs.declared.environment.Variable.{Variable}
@@ -32,7 +42,8 @@ use Rattle.bl_named.specs.declared.types.NamedType.{NamedType}
 use Rattle.bl_types_laws.proofs.Walks.{WalkFits, grown_there, not_must, site_in, within_in, within_of}
 
 -- what holds of each before and of one more
-push_each : {A : Type 0} (P : A → Type 0) (xs : List A) (x : A) → ((k : ℕ) (y : A) → slice_get xs k ≡ Some y → P y) → P x → (k : ℕ) (y : A) →
+push_each : {A : Type 0} (P : A → Type 0) (xs : List A) (x : A) → ((k : ℕ) (y : A) → slice_get xs k ≡ Some y → P y) → P x →
+    (k : ℕ) (y : A) →
     slice_get (xs ++ x ∷ []) k ≡ Some y → P y
 push_each P [] x each one zero y is = subst P (same_Some x y is) one
 push_each P [] x each one (suc k) y is = absurd (cc)
@@ -126,7 +137,8 @@ module _ (site : Site) (good : StmtKind → Bool) where
   -- a declaration with a value
   with_value : (k : ℕ) (var : NamedVar) (e : NamedExpr) → ((it : Expr) → declaration_fits site (Some it) (var_at site k) ≡ true →
       good (what.Declare k (Some it)) ≡ true) →
-      (is_variable var.role || is_fixed var.role) ≡ true → calls_functions site.earlier e ≡ true → (env : Environment) → Around env site → Known env →
+      (is_variable var.role || is_fixed var.role) ≡ true → calls_functions site.earlier e ≡ true → (env : Environment) →
+      Around env site → Known env →
       k ≡ length env.vars → expr_placed (known_in env) e ≡ true →
       (counts : Earlier) → Some (variable_counted (known_in env)) ≡ Some counts → (initial env var.ty e).failures ≡ [] →
       Passed false site good env counts (declared_with var k (initial env var.ty e) env)

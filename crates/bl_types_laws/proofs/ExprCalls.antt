@@ -179,7 +179,8 @@ module _ (units : List UnitDef) (scopes : Scopes) (counts : Counts) (told : Told
         (λ fits. both _ _ (is_a (fits_first there (expr_marks a) (expr_marks b) fits))
         (is_b (fits_behind there (expr_marks a) (expr_marks b) (still_expr a) fits)));
     cast = λ place s a is. kind_is place (RawExprKind-F.Cast s a) (NamedExprKind-F.Cast s (named_expr scopes a)) (what.outs-Cast s (named_expr scopes a)) is;
-    call = λ place f inputs all. kind_is place (RawExprKind-F.Call f inputs) (NamedExprKind-F.Call f.place (position scopes f) (map (named_expr scopes) inputs))
+    call = λ place f inputs all. kind_is place (RawExprKind-F.Call f inputs)
+        (NamedExprKind-F.Call f.place (position scopes f) (map (named_expr scopes) inputs))
         (what.outs-Call f.place (position scopes f) (map (named_expr scopes) inputs))
         (λ fits. both _ _ (function_is f fits.0) (all_are expr_marks (calls_functions units) (named_expr scopes) inputs still_expr all fits.1));
     target = target_case;
@@ -188,7 +189,8 @@ module _ (units : List UnitDef) (scopes : Scopes) (counts : Counts) (told : Told
   pub expr_is : (e : RawExpr) → Fits there (expr_marks e) → calls_functions units (named_expr scopes e) ≡ true
   expr_is = induct ExprCalls TargetCalls cases
 
-  pub target_is : (target : RawTarget) (wanted : Wanted) → Fits there (target_marks target wanted) → target_calls units (named_target scopes target) ≡ true
+  pub target_is : (target : RawTarget) (wanted : Wanted) → Fits there (target_marks target wanted) →
+      target_calls units (named_target scopes target) ≡ true
   target_is = induct_target ExprCalls TargetCalls cases
 
   pub exprs_are : (es : List RawExpr) → Fits there (joined (map expr_marks es)) → list_all (calls_functions units) (map (named_expr scopes) es) ≡ true

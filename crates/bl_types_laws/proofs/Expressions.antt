@@ -1,5 +1,26 @@
 -- What is made of an expression fits, and where a target leads.
-use Rattle.std.proofs.Common.{◌≡◌, ℕ, ℤ, zero, suc, List, [], ◌∷◌, map, length, nat_lt, Option, Some, None, refl, ap, sym, subst, ◌∙◌, arith}
+use Rattle.std.proofs.Common.{
+  ◌≡◌,
+  ℕ,
+  ℤ,
+  zero,
+  suc,
+  List,
+  [],
+  ◌∷◌,
+  map,
+  length,
+  nat_lt,
+  Option,
+  Some,
+  None,
+  refl,
+  ap,
+  sym,
+  subst,
+  ◌∙◌,
+  arith,
+}
 use Rattle.std.specs.Prelude.{All, Bool, true, false, ◌&&◌, nat_eq, is_some, option_and_then, option_map, slice_get, if◌then◌else◌}
 use Rattle.std.specs.List.{cons_option}
 use Rattle.std.proofs.lemmas.Bool.{eq-eqb, eqb-true, ltb-true}
@@ -29,14 +50,79 @@ use Rattle.bl_named.specs.declared.expr.NamedPart.{NamedPart, fold-NamedPart, fo
 use Rattle.bl_named.specs.declared.expr.NamedTarget.{NamedTarget, fold-roll-NamedTarget, roll-NamedTarget}
 use Rattle.bl_named.specs.declared.expr.Root.{Root}
 use Rattle.bl_named.specs.declared.expr.Root.TheVariants as root
-use Rattle.bl_named.specs.Placed.{expr_layer_placed, expr_placed, holds_of, kind_placed, part_placed, root_placed, step_placed, target_layer_placed, target_placed}
+use Rattle.bl_named.specs.Placed.{
+  expr_layer_placed,
+  expr_placed,
+  holds_of,
+  kind_placed,
+  part_placed,
+  root_placed,
+  step_placed,
+  target_layer_placed,
+  target_placed,
+}
 use Rattle.bl_types.specs.declared.environment.Environment.{Environment}
-use Rattle.bl_types.specs.Expressions.{Formed, Judged, Led, Stepped, Targeted, all_failures, all_made, call, call_form, call_formed, constant_found, fitted, in_context, judged, judged_kind, judged_layer, judged_part, judged_target, misnamed, params_of, path_found, previous_fits, previous_formed, previous_typed, step_of, stepped, targeted, targeted_from, type_of_constant, type_of_variable, value_of_constant, written_number}
+use Rattle.bl_types.specs.Expressions.{
+  Formed,
+  Judged,
+  Led,
+  Stepped,
+  Targeted,
+  all_failures,
+  all_made,
+  call,
+  call_form,
+  call_formed,
+  constant_found,
+  fitted,
+  in_context,
+  judged,
+  judged_kind,
+  judged_layer,
+  judged_part,
+  judged_target,
+  misnamed,
+  params_of,
+  path_found,
+  previous_fits,
+  previous_formed,
+  previous_typed,
+  step_of,
+  stepped,
+  targeted,
+  targeted_from,
+  type_of_constant,
+  type_of_variable,
+  value_of_constant,
+  written_number,
+}
 use Rattle.bl_types.specs.Failures.{unless}
 use Rattle.bl_types.specs.Settled.{Settled, int32}
 use Rattle.bl_types_laws.specs.Fitting.{FormFits, FoundFits, IsMade, SettledFits}
-use Rattle.bl_types_laws.specs.Within.{Within, calls_functions, expr_layer_calls, has_parameters, kind_calls, known_in, part_calls, target_calls, target_layer_calls}
-use Rattle.bl_types_laws.proofs.Forms.{FormedFits, cast_fits, in_context_fits, literal_open, nil_left, nil_right, one_fits, reading_fits, same_type_self, two_fits, unless_holds}
+use Rattle.bl_types_laws.specs.Within.{
+  Within,
+  calls_functions,
+  expr_layer_calls,
+  has_parameters,
+  kind_calls,
+  known_in,
+  part_calls,
+  target_calls,
+  target_layer_calls,
+}
+use Rattle.bl_types_laws.proofs.Forms.{
+  FormedFits,
+  cast_fits,
+  in_context_fits,
+  literal_open,
+  nil_left,
+  nil_right,
+  one_fits,
+  reading_fits,
+  same_type_self,
+  two_fits,
+  unless_holds,
+}
 use Rattle.bl_types_laws.proofs.NamedExprInduction.{Cases, EachIndex, OfIndex, expr, induct, induct_target}
 use Rattle.bl_types_laws.proofs.Targets.{LedFits, StepFits, field_fits, first_leads, index_fits, no_element, no_field, none_lead}
 use Rattle.bl_types_laws.proofs.Typed.{call_is, literal_is, path_is, previous_is}
@@ -62,7 +148,8 @@ pub record ArgumentsFit (site : Site) (params : List Var) (arguments : List Sett
   pub count : length (all_made arguments) ≡ length arguments
   pub match : types_match (map (type_of site) (all_made arguments)) params ≡ true
 
-made_first : (site : Site) (var : Var) (vars : List Var) (first : Settled) (rest : List Settled) → IsMade site var.ty first.made → ArgumentsFit site vars rest →
+made_first : (site : Site) (var : Var) (vars : List Var) (first : Settled) (rest : List Settled) → IsMade site var.ty first.made →
+    ArgumentsFit site vars rest →
     ArgumentsFit site (var ∷ vars) (first ∷ rest)
 made_first site var vars first rest made more = record {
   count = ap (λ made. length (cons_option made (all_made rest))) made.is ∙ ap suc more.count;
@@ -99,7 +186,8 @@ call_by site at f inputs unit s there function none match result =
     (both (is_function unit.kind) _ function (both (nat_eq unit.outputs 0) (types_match (map (type_of site) inputs) (inputs_of unit)) none match))
     ∙ ap (option_map scalar) result
 
-form_by : (site : Site) (at : Place) (f : ℕ) (inputs : List Expr) (all : Bool) (result : Option ScalarType) (s : ScalarType) → all ≡ true → result ≡ Some s →
+form_by : (site : Site) (at : Place) (f : ℕ) (inputs : List Expr) (all : Bool) (result : Option ScalarType) (s : ScalarType) →
+    all ≡ true → result ≡ Some s →
     type_of site (call at f inputs) ≡ Some (scalar s) → FormFits site (call_form at f inputs all result)
 form_by site at f inputs all result s is are typed =
     subst (λ all. FormFits site (call_form at f inputs all result)) (sym is)
@@ -112,11 +200,13 @@ call_fits site at name f arguments unit there function has each none =
     let given : List Settled = fitted arguments (inputs_of unit) in
     let counts : Bool = nat_eq (length given) unit.inputs && nat_eq 0 unit.outputs in
     let named : misnamed name (length given) (Some unit) ≡ [] = nil_right (all_failures given) (misnamed name (length given) (Some unit)) none in
-    let counted : counts ≡ true = unless_holds counts rule.Arity name (nil_left (unless counts rule.Arity name) (unless (is_some unit.result) rule.Return name)
+    let counted : counts ≡ true = unless_holds counts rule.Arity name
+    (nil_left (unless counts rule.Arity name) (unless (is_some unit.result) rule.Return name)
     named) in
     let result = some_of unit.result (unless_holds (is_some unit.result) rule.Return name
     (nil_right (unless counts rule.Arity name) (unless (is_some unit.result) rule.Return name) named)) in
-    let inputs : length given ≡ unit.inputs = eqb-true (length given) unit.inputs (and_left (nat_eq (length given) unit.inputs) (nat_eq 0 unit.outputs) counted)
+    let inputs : length given ≡ unit.inputs = eqb-true (length given) unit.inputs
+    (and_left (nat_eq (length given) unit.inputs) (nat_eq 0 unit.outputs) counted)
     in
     let outputs : 0 ≡ unit.outputs = eqb-true 0 unit.outputs (and_right (nat_eq (length given) unit.inputs) (nat_eq 0 unit.outputs) counted) in
     let fit = arguments_fit site arguments (inputs_of unit) each (sym (length-fitted arguments (inputs_of unit)) ∙ inputs ∙ sym (inputs_length unit has))
@@ -130,7 +220,8 @@ call_fits site at name f arguments unit there function has each none =
 
 -- ---- variables
 
-previous_at : (site : Site) (at : Place) (k : ℕ) (var : Var) → var_at site k ≡ Some var → FormedFits site (previous_typed site.kind at k var.role (Some var.ty))
+previous_at : (site : Site) (at : Place) (k : ℕ) (var : Var) → var_at site k ≡ Some var →
+    FormedFits site (previous_typed site.kind at k var.role (Some var.ty))
 previous_at site at k var there none =
     previous_is site at k
     ∙ ap (option_and_then (prev_type site.kind)) there
@@ -305,16 +396,19 @@ module _ (env : Environment) (site : Site) (within : Within env site) where
   calls_part_is part = fold_out-NamedPart Bool Bool Bool Bool (kind_calls env.units) part_calls expr_layer_calls target_layer_calls part
 
   step_is : (part : NamedPart) → step_of env part ≡ stepped_part (out-NamedPart part)
-  step_is part = fold_out-NamedPart (Place → Formed) (Option Ty → Stepped) Judged Targeted (judged_kind env) (judged_part env) judged_layer (judged_target env)
+  step_is part = fold_out-NamedPart (Place → Formed) (Option Ty → Stepped) Judged Targeted (judged_kind env)
+      (judged_part env) judged_layer (judged_target env)
       part
 
-  part_fits : (layer : NamedPart-F NamedExprKind NamedPart NamedExpr NamedTarget) → OfIndex P layer → placed_part layer ≡ true → calls_part layer ≡ true →
+  part_fits : (layer : NamedPart-F NamedExprKind NamedPart NamedExpr NamedTarget) → OfIndex P layer → placed_part layer ≡ true →
+      calls_part layer ≡ true →
       (ty : Ty) → (stepped_part layer (Some ty)).failures ≡ [] →
       StepFits site ty (stepped_part layer (Some ty))
   part_fits (NamedPart-F.Field name) fit placed calls ty = field_fits env site within name ty
   part_fits (NamedPart-F.Index index) fit placed calls ty = index_fits site (judged env index) ty (fit placed calls)
 
-  no_part : (layer : NamedPart-F NamedExprKind NamedPart NamedExpr NamedTarget) (s : ScalarType) → (stepped_part layer (Some (scalar s))).failures ≡ [] → ⊥
+  no_part : (layer : NamedPart-F NamedExprKind NamedPart NamedExpr NamedTarget) (s : ScalarType) →
+      (stepped_part layer (Some (scalar s))).failures ≡ [] → ⊥
   no_part (NamedPart-F.Field name) s none = no_field env.structs name s none
   no_part (NamedPart-F.Index index) s none = no_element (judged env index) s none
 
@@ -324,7 +418,8 @@ module _ (env : Environment) (site : Site) (within : Within env site) where
       subst (λ step. (step (Some ty)).failures ≡ [] → StepFits site ty (step (Some ty))) (sym (step_is part))
       (part_fits (out-NamedPart part) fit (sym (placed_part_is part) ∙ placed) (sym (calls_part_is part) ∙ calls) ty)
 
-  parts_lead : (parts : List NamedPart) → EachIndex P parts → all_of (map (step_placed (known_in env)) parts) ≡ true → all_of (map step_calls parts) ≡ true →
+  parts_lead : (parts : List NamedPart) → EachIndex P parts → all_of (map (step_placed (known_in env)) parts) ≡ true →
+      all_of (map step_calls parts) ≡ true →
       (ty : Ty) → (stepped (map (step_of env) parts) (Some ty)).failures ≡ [] →
       LedFits site ty (stepped (map (step_of env) parts) (Some ty))
   parts_lead [] each placed calls = none_lead site (step_of env)
@@ -342,11 +437,13 @@ module _ (env : Environment) (site : Site) (within : Within env site) where
   variable_found place k var led there fit =
       subst (λ ty. FoundFits site (path_found place k led.parts ty)) (sym fit.is_end)
       (path_is site place k led.parts fit.end
-      ∙ ap (λ found. option_and_then (where_same fit.end) (option_and_then (λ (var : Var). after_parts (map (type_of_part site) led.parts) var.ty) found)) there
+      ∙ ap (λ found. option_and_then (where_same fit.end)
+      (option_and_then (λ (var : Var). after_parts (map (type_of_part site) led.parts) var.ty) found)) there
       ∙ ap (option_and_then (where_same fit.end)) fit.leads
       ∙ ap (λ same. if same then Some fit.end else None) (same_type_self fit.end))
 
-  no_parts : (parts : List NamedPart) (n : ℤ) (s : ScalarType) → in_range s n ≡ true → (stepped (map (step_of env) parts) (Some (scalar s))).failures ≡ [] →
+  no_parts : (parts : List NamedPart) (n : ℤ) (s : ScalarType) → in_range s n ≡ true →
+      (stepped (map (step_of env) parts) (Some (scalar s))).failures ≡ [] →
       FoundFits site (constant_found n (option_and_then scalar_in (stepped (map (step_of env) parts) (Some (scalar s))).ty))
   no_parts [] n s number none = subst (λ s. FoundFits site (constant_found n s)) (sym (scalar_alone s)) number
   no_parts (part ∷ rest) n s number none =
@@ -402,7 +499,8 @@ module _ (env : Environment) (site : Site) (within : Within env site) where
   }
 
   -- an expression in which nothing fails is open or has its type
-  pub expressions_fit : (e : NamedExpr) → expr_placed (known_in env) e ≡ true → calls_functions env.units e ≡ true → (judged env e).failures ≡ [] →
+  pub expressions_fit : (e : NamedExpr) → expr_placed (known_in env) e ≡ true → calls_functions env.units e ≡ true →
+      (judged env e).failures ≡ [] →
       FormFits site (judged env e).form
   expressions_fit = induct P Q cases
 

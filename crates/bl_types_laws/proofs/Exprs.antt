@@ -28,13 +28,78 @@ use Rattle.bl_names_laws.specs.Apart as named
 use Rattle.bl_names_laws.specs.Depths as nested
 use Rattle.bl_types.specs.declared.environment.Environment.{Environment}
 use Rattle.bl_types.specs.declared.form.Form.{Form}
-use Rattle.bl_types.specs.Expressions.{FieldAt, Formed, Judged, Stepped, Targeted, all_made, constant_found, element_found, field_found, field_in, fitted, in_context, judged, judged_kind, judged_layer, judged_part, judged_target, params_of, path, path_found, step_of, stepped, targeted, targeted_from, to_element, to_field, type_of_constant, type_of_variable, value_of_constant, written_number}
+use Rattle.bl_types.specs.Expressions.{
+  FieldAt,
+  Formed,
+  Judged,
+  Stepped,
+  Targeted,
+  all_made,
+  constant_found,
+  element_found,
+  field_found,
+  field_in,
+  fitted,
+  in_context,
+  judged,
+  judged_kind,
+  judged_layer,
+  judged_part,
+  judged_target,
+  params_of,
+  path,
+  path_found,
+  step_of,
+  stepped,
+  targeted,
+  targeted_from,
+  to_element,
+  to_field,
+  type_of_constant,
+  type_of_variable,
+  value_of_constant,
+  written_number,
+}
 use Rattle.bl_types.specs.Settled.{int32, literal}
 use Rattle.bl_types_laws.proofs.NamedExprInduction.{Cases, EachIndex, OfIndex, expr, induct, induct_target}
 use Rattle.bl_types_laws.proofs.ShapeForms.{FormIn, FoundIn, as_index_in, call_in, cast_in, fitting_in, one_in, previous_in, reading_in, two_in}
-use Rattle.bl_types_laws.proofs.NamedSizes.{Layer, PartLayer, inputs_size, named_kind_size, named_size, named_size_at, step_kind_size, step_size, step_size_is, target_size, target_size_is}
+use Rattle.bl_types_laws.proofs.NamedSizes.{
+  Layer,
+  PartLayer,
+  inputs_size,
+  named_kind_size,
+  named_size,
+  named_size_at,
+  step_kind_size,
+  step_size,
+  step_size_is,
+  target_size,
+  target_size_is,
+}
 use Rattle.bl_types_laws.proofs.Opens.{ExprIn}
-use Rattle.bl_types_laws.proofs.Sizes.{MadeIn, Size, SizeMost, deeper, empty, field_size, index_size, literal_size, made_first, part_depth, part_roots, path_size, rooted, size_all, size_deeper, size_empty, size_is, size_of, size_of_part, size_of_path, size_rooted}
+use Rattle.bl_types_laws.proofs.Sizes.{
+  MadeIn,
+  Size,
+  SizeMost,
+  deeper,
+  empty,
+  field_size,
+  index_size,
+  literal_size,
+  made_first,
+  part_depth,
+  part_roots,
+  path_size,
+  rooted,
+  size_all,
+  size_deeper,
+  size_empty,
+  size_is,
+  size_of,
+  size_of_part,
+  size_of_path,
+  size_rooted,
+}
 
 abbrev pub PartIn : Size → Option Part → Type 0
 PartIn = MadeIn size_of_part
@@ -53,7 +118,8 @@ index_part_in : (index : Option Expr) (size : Size) → ExprIn size index → Pa
 index_part_in (Some e) size most = size_is (size_of_part (part.Index e)) (deeper (size_of e)) (deeper size) (index_size e) (size_deeper (size_of e) size most)
 index_part_in None size most = tt
 
-element_part_in : (element : Option Ty) (at : Place) (form : Form) (size : Size) → FormIn size form → PartIn (deeper size) (element_found element at form).part
+element_part_in : (element : Option Ty) (at : Place) (form : Form) (size : Size) → FormIn size form →
+    PartIn (deeper size) (element_found element at form).part
 element_part_in (Some element) at form size most = index_part_in _ size (as_index_in at form size most)
 element_part_in None at form size most = tt
 
@@ -101,7 +167,8 @@ module _ (env : Environment) where
       (step_of env) (judged env) (targeted env) layer)
 
   step_is : (part : NamedPart) → step_of env part ≡ stepped_by (out-NamedPart part)
-  step_is part = fold_out-NamedPart (Place → Formed) (Option Ty → Stepped) Judged Targeted (judged_kind env) (judged_part env) judged_layer (judged_target env)
+  step_is part = fold_out-NamedPart (Place → Formed) (Option Ty → Stepped) Judged Targeted (judged_kind env)
+      (judged_part env) judged_layer (judged_target env)
       part
 
   step_by_in : (layer : PartLayer) → OfIndex P layer → (ty : Option Ty) → PartIn (step_kind_size layer) (stepped_by layer ty).part

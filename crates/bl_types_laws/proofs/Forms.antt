@@ -27,9 +27,47 @@ use Rattle.bl_types.specs.declared.form.Form.{Form}
 use Rattle.bl_types.specs.declared.form.Form.TheVariants.{Failing, Open, Of}
 use Rattle.bl_types.specs.declared.form.Found.{Found}
 use Rattle.bl_types.specs.declared.form.Found.TheVariants as found
-use Rattle.bl_types.specs.Expressions.{Formed, Judged, after_failures, beside, cast, cast_formed, cast_made, cast_settled, fails_type, formed_as, in_context, one_formed, operands_made, reading, settled_two, two_formed, two_of, type_of_two, unwanted, wanted_as}
+use Rattle.bl_types.specs.Expressions.{
+  Formed,
+  Judged,
+  after_failures,
+  beside,
+  cast,
+  cast_formed,
+  cast_made,
+  cast_settled,
+  fails_type,
+  formed_as,
+  in_context,
+  one_formed,
+  operands_made,
+  reading,
+  settled_two,
+  two_formed,
+  two_of,
+  type_of_two,
+  unwanted,
+  wanted_as,
+}
 use Rattle.bl_types.specs.Failures.{unless}
-use Rattle.bl_types.specs.Settled.{Settled, given, given_scalar, int32, is_logical, keeps_one_open, keeps_two_open, kept, literal, one, one_made, settled, settled_if, two, two_made, unfit}
+use Rattle.bl_types.specs.Settled.{
+  Settled,
+  given,
+  given_scalar,
+  int32,
+  is_logical,
+  keeps_one_open,
+  keeps_two_open,
+  kept,
+  literal,
+  one,
+  one_made,
+  settled,
+  settled_if,
+  two,
+  two_made,
+  unfit,
+}
 use Rattle.bl_types_laws.specs.Fitting.{FormFits, FoundFits, IsMade, OpenFits, SettledFits}
 use Rattle.bl_types_laws.proofs.Typed.{cast_is, literal_is, one_is, read_is, settled_literal, settled_one, settled_two as settled_two_is, two_is}
 
@@ -165,7 +203,8 @@ module _ (site : Site) where
       record { it = two at op a b; is = refl; is_typed = two_is site at op a b (scalar s) (scalar s) typed other ∙ two_taken op s stays takes }
   two_made_by at op s a b false stays takes typed other none = absurd (cc)
 
-  two_made_fits : (at : Place) (op : Op) (s : ScalarType) (a b : Option Expr) → keeps_two_open op ≡ true → IsMade site (scalar s) a → IsMade site (scalar s) b →
+  two_made_fits : (at : Place) (op : Op) (s : ScalarType) (a b : Option Expr) → keeps_two_open op ≡ true →
+      IsMade site (scalar s) a → IsMade site (scalar s) b →
       SettledFits site (scalar s) (two_made s at op a b)
   two_made_fits at op s None b stays made other none = absurd (let is = made.is in cc)
   two_made_fits at op s (Some a) None stays made other none = absurd (let is = other.is in cc)
@@ -176,7 +215,8 @@ module _ (site : Site) where
   two_open at op a b stays fit other s whole =
       subst (λ (settled : Settled). SettledFits site (scalar s) settled) (sym (settled_two_is s at op a b))
       (λ none.
-      let second : (settled s b).failures ++ (two_made s at op (settled s a).made (settled s b).made).failures ≡ [] = nil_right (settled s a).failures _ none in
+      let second : (settled s b).failures ++ (two_made s at op (settled s a).made (settled s b).made).failures ≡ [] =
+      nil_right (settled s a).failures _ none in
       two_made_fits at op s (settled s a).made (settled s b).made stays (fit s whole (nil_left (settled s a).failures _ none))
       (other s whole (nil_left (settled s b).failures _ second))
       (nil_right (settled s b).failures _ second))
@@ -257,7 +297,8 @@ module _ (site : Site) where
       operands_fit at op left right a.made b.made (fit (nil_left a.failures (b.failures ++ formed.failures) none))
       (other (nil_left b.failures formed.failures second)) (nil_right b.failures formed.failures second)
 
-  beside_by : (op : Op) (ty : Ty) (e : Expr) (logical : Bool) → OpenFits site e → SettledFits site ty (if logical then unfit (out-Expr e).place else given ty e)
+  beside_by : (op : Op) (ty : Ty) (e : Expr) (logical : Bool) → OpenFits site e →
+      SettledFits site ty (if logical then unfit (out-Expr e).place else given ty e)
   beside_by op ty e true fit none = absurd (cc)
   beside_by op ty e false fit none = given_fits ty e fit none
 

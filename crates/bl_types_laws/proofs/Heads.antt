@@ -1,5 +1,26 @@
 -- The head of a unit: its parameters and its result.
-use Rattle.std.proofs.Common.{◌≡◌, ℕ, suc, ◌+◌, List, [], ◌∷◌, ◌++◌, length, take, drop, Option, Some, None, refl, ap, sym, subst, ◌∙◌, arith}
+use Rattle.std.proofs.Common.{
+  ◌≡◌,
+  ℕ,
+  suc,
+  ◌+◌,
+  List,
+  [],
+  ◌∷◌,
+  ◌++◌,
+  length,
+  take,
+  drop,
+  Option,
+  Some,
+  None,
+  refl,
+  ap,
+  sym,
+  subst,
+  ◌∙◌,
+  arith,
+}
 use Rattle.std.specs.Prelude.{Bool, true, false, ◌&&◌, ◌||◌, is_some, option_map, slice_get, if◌then◌else◌}
 use Rattle.std.specs.List.{cons_option, list_all}
 use Rattle.std.proofs.Math.Seq.{take-add}
@@ -46,7 +67,8 @@ parameter_is var env is = ap (λ holds. (if holds then after_variable var env el
 abbrev pub written_good : ℕ → List Constant → NamedVar → Bool
 written_good n constants var = holds_if (λ ty. type_stands n (written_type constants ty)) var.ty
 
-one_parameter : (n : ℕ) (constants : List Constant) (var : NamedVar) (env : Environment) → length env.structs ≡ n → env.constants ≡ constants → Known env →
+one_parameter : (n : ℕ) (constants : List Constant) (var : NamedVar) (env : Environment) → length env.structs ≡ n →
+    env.constants ≡ constants → Known env →
     is_typed_parameter var ≡ true → written_good n constants var ≡ true →
     ParametersPassed env 1 (with_variable env var (option_map (written_type env.constants) var.ty))
 one_parameter n constants var env structs same known is good =
@@ -55,7 +77,8 @@ one_parameter n constants var env structs same known is good =
     record {
       grown = variable_grown env var ty;
       known = variable_known env var ty (written_type env.constants written.0) known (ap (option_map (written_type env.constants)) written.1)
-          ((λ i. type_stands (structs i) (written_type (same i) written.0)) ∙ ap (holds_if (λ ty. type_stands n (written_type constants ty))) (sym written.1)
+          ((λ i. type_stands (structs i) (written_type (same i) written.0))
+          ∙ ap (holds_if (λ ty. type_stands n (written_type constants ty))) (sym written.1)
           ∙ good);
       longer = length-append env.vars (record { name = var.name.text; place = var.name.place; ty = ty; role = var.role } ∷ []);
       same_constants = refl;
@@ -69,7 +92,8 @@ further_parameters a b c count one more = record {
   same_constants = more.same_constants ∙ one.same_constants;
 }
 
-parameters_pass : (n : ℕ) (constants : List Constant) (vars : List NamedVar) (env : Environment) → length env.structs ≡ n → env.constants ≡ constants →
+parameters_pass : (n : ℕ) (constants : List Constant) (vars : List NamedVar) (env : Environment) → length env.structs ≡ n →
+    env.constants ≡ constants →
     Known env → list_all is_typed_parameter vars ≡ true →
     list_all (written_good n constants) vars ≡ true → ParametersPassed env (length vars) (after_parameters vars env).env
 parameters_pass n constants [] env structs same known all good = record { grown = grown_self env; known = known; longer = omega arith; same_constants = refl }
@@ -152,7 +176,8 @@ output_role Output is = refl
 output_role Var is = absurd (cc)
 output_role Fixed is = absurd (cc)
 
-pub all_weaker : {X : Type 0} (p q : X → Bool) → ((x : X) → p x ≡ true → q x ≡ true) → (xs : List X) → list_all p xs ≡ true → list_all q xs ≡ true
+pub all_weaker : {X : Type 0} (p q : X → Bool) → ((x : X) → p x ≡ true → q x ≡ true) → (xs : List X) → list_all p xs ≡ true →
+    list_all q xs ≡ true
 all_weaker p q each [] all = refl
 all_weaker p q each (x ∷ xs) all = both (q x) (list_all q xs) (each x (and_left (p x) (list_all p xs) all))
     (all_weaker p q each xs (and_right (p x) (list_all p xs) all))
@@ -173,7 +198,8 @@ take_both p xs n m first next =
 -- the inputs and outputs of a unit, where they have types, are typed parameters
 pub typed_parameters : (vars : List NamedVar) (inputs outputs : ℕ) → list_all (λ (var : NamedVar). is_input var.role) (take inputs vars) ≡ true →
     list_all (λ (var : NamedVar). is_output var.role) (take outputs (drop inputs vars)) ≡ true →
-    list_all (λ (var : NamedVar). is_some var.ty) (take (inputs + outputs) vars) ≡ true → list_all is_typed_parameter (take (inputs + outputs) vars) ≡ true
+    list_all (λ (var : NamedVar). is_some var.ty) (take (inputs + outputs) vars) ≡ true →
+    list_all is_typed_parameter (take (inputs + outputs) vars) ≡ true
 typed_parameters vars inputs outputs first next typed =
     all_both (λ (var : NamedVar). is_parameter var.role) (λ (var : NamedVar). is_some var.ty) (take (inputs + outputs) vars)
     (take_both (λ (var : NamedVar). is_parameter var.role) vars inputs outputs

@@ -33,9 +33,33 @@ use Rattle.bl_types.specs.declared.environment.Environment.{Environment}
 use Rattle.bl_types.specs.declared.form.Form.{Form}
 use Rattle.bl_types.specs.declared.form.Form.TheVariants.{Failing, Open, Of}
 use Rattle.bl_types.specs.declared.form.Valued.{Valued}
-use Rattle.bl_types.specs.Declarations.{Initial, after_constant, closed_initial, constant_failures, constant_of, expr_of_form, initial, not_folded, not_scalar, type_of_form, typed_initial}
+use Rattle.bl_types.specs.Declarations.{
+  Initial,
+  after_constant,
+  closed_initial,
+  constant_failures,
+  constant_of,
+  expr_of_form,
+  initial,
+  not_folded,
+  not_scalar,
+  type_of_form,
+  typed_initial,
+}
 use Rattle.bl_types.specs.Expressions.{Judged, closed_form, in_context, judged, of_settled}
-use Rattle.bl_types.specs.Folded.{constant_kind, constant_layer, constant_part, constant_path, folded, is_constant, no_values, not_constant, nowhere, number_in, number_or_zero}
+use Rattle.bl_types.specs.Folded.{
+  constant_kind,
+  constant_layer,
+  constant_part,
+  constant_path,
+  folded,
+  is_constant,
+  no_values,
+  not_constant,
+  nowhere,
+  number_in,
+  number_or_zero,
+}
 use Rattle.bl_types.specs.Settled.{Settled, int32}
 use Rattle.bl_types.specs.Written.{bad_lengths, written_type}
 use Rattle.bl_types_laws.specs.Fitting.{FormFits, InitialFits, IsMade}
@@ -89,7 +113,8 @@ module _ (site other : Site) where
         (λ is.
         ap (λ found. option_and_then (λ s. option_and_then (two_type op s) (option_and_then scalar_in (type_of site b))) (option_and_then scalar_in found))
         (same (and_left (is_constant a) (is_constant b) is))
-        ∙ ap (λ found. option_and_then (λ s. option_and_then (two_type op s) (option_and_then scalar_in found)) (option_and_then scalar_in (type_of other a)))
+        ∙ ap (λ found. option_and_then (λ s. option_and_then (two_type op s) (option_and_then scalar_in found))
+        (option_and_then scalar_in (type_of other a)))
         (more (and_right (is_constant a) (is_constant b) is)));
     cast = λ place target a same. by_kind place (ExprKind-F.Cast target a)
         (λ is. ap (λ found. option_and_then (cast_type target) (option_and_then scalar_in found)) (same is));
@@ -110,7 +135,8 @@ number_of_type : (s : ScalarType) (found : Option Operand) (a : Operand) → IfS
 number_of_type s None a fit is = absurd (cc)
 number_of_type s (Some b) a fit is = subst (λ (a : Operand). in_range s a.n ≡ true) (same_Some b a is) fit.1
 
-number_fits : (site : Site) (e : Expr) (ty : Ty) (s : ScalarType) (a : Operand) → type_of site e ≡ Some ty → scalar_in ty ≡ Some s → is_constant e ≡ true →
+number_fits : (site : Site) (e : Expr) (ty : Ty) (s : ScalarType) (a : Operand) → type_of site e ≡ Some ty → scalar_in ty ≡ Some s →
+    is_constant e ≡ true →
     number_in e ≡ Some a → in_range s a.n ≡ true
 number_fits site e ty s a typed scalar_is constant is =
     let there : type_of (site_of [] [] empty) e ≡ Some ty = sym (same_everywhere site (site_of [] [] empty) e constant) ∙ typed in
@@ -135,7 +161,8 @@ module _ (site : Site) where
       }
   closed_fits earlier (Of ty e) fit none = record { ty = ty; it = e; is_typed = refl; is_made = refl; fits = fit }
 
-  wanted_initial : (ty : Ty) (earlier : List Failure) (value : Settled) → IsMade site ty value.made → InitialFits site (typed_initial ty earlier value).valued
+  wanted_initial : (ty : Ty) (earlier : List Failure) (value : Settled) → IsMade site ty value.made →
+      InitialFits site (typed_initial ty earlier value).valued
   wanted_initial ty earlier value made = record { ty = ty; it = made.it; is_typed = refl; is_made = made.is; fits = made.is_typed }
 
 module _ (env : Environment) (site : Site) (within : Within env site) where
@@ -174,7 +201,8 @@ module _ (env : Environment) (site : Site) (within : Within env site) where
       }
 
   -- a constant in which nothing fails has a scalar type, and its number is one of it
-  pub constant_fits : (constant : NamedConstant) → expr_placed (known_in env) constant.value ≡ true → calls_functions env.units constant.value ≡ true →
+  pub constant_fits : (constant : NamedConstant) → expr_placed (known_in env) constant.value ≡ true →
+      calls_functions env.units constant.value ≡ true →
       (after_constant constant env).failures ≡ [] →
       ConstantStands (constant_of (initial env constant.ty constant.value).valued)
   constant_fits constant placed calls none =

@@ -1,5 +1,31 @@
 -- Units are named as their types want it, and calls in the values of constants name functions, where every use fits.
-use Rattle.std.proofs.Common.{◌≡◌, ℕ, zero, suc, ◌+◌, Bool, true, ◌&&◌, List, [], ◌∷◌, ◌++◌, map, length, take, Some, None, refl, sym, ap, subst, ◌∙◌, append_assoc, append-nil, arith}
+use Rattle.std.proofs.Common.{
+  ◌≡◌,
+  ℕ,
+  zero,
+  suc,
+  ◌+◌,
+  Bool,
+  true,
+  ◌&&◌,
+  List,
+  [],
+  ◌∷◌,
+  ◌++◌,
+  map,
+  length,
+  take,
+  Some,
+  None,
+  refl,
+  sym,
+  ap,
+  subst,
+  ◌∙◌,
+  append_assoc,
+  append-nil,
+  arith,
+}
 use Rattle.std.specs.Prelude.{slice_get, ⊤}
 use Rattle.std.specs.List.{list_all}
 use Rattle.std.proofs.lemmas.Option.{same_Some}
@@ -18,7 +44,21 @@ use Rattle.bl_named.specs.declared.stmt.NamedStmt.{NamedStmt}
 use Rattle.bl_named.specs.Placed.{holds_of}
 use Rattle.bl_scopes.specs.declared.kind.Kind.TheVariants as kinds
 use Rattle.bl_scopes.specs.declared.scopes.Counts.{Counts}
-use Rattle.bl_scopes.specs.Marks.{closes, constant_marks, declares, expr_marks, in_scope, inside_unit, item_marks, kind_of_unit, marks_of, optional, struct_marks, type_marks, unit_marks}
+use Rattle.bl_scopes.specs.Marks.{
+  closes,
+  constant_marks,
+  declares,
+  expr_marks,
+  in_scope,
+  inside_unit,
+  item_marks,
+  kind_of_unit,
+  marks_of,
+  optional,
+  struct_marks,
+  type_marks,
+  unit_marks,
+}
 use Rattle.bl_scopes.specs.Scopes.{Scopes, after, count_of, counted, enter}
 use Rattle.bl_raw.specs.declared.item.RawItem.{RawItem}
 use Rattle.bl_raw.specs.declared.item.RawItem.TheVariants as item
@@ -245,7 +285,8 @@ module _ (all_constants : List NamedConstant) where
       Told (kinds_of whole) scopes
   told_among done rest scopes whole told is = subst (λ kinds. Told kinds scopes) (sym is) (told_more done rest scopes told)
 
-  constant_then : (done : List UnitKind) (scopes : Scopes) (def : RawConstant) (units : List NamedUnit) (constants : List NamedConstant) → Told done scopes →
+  constant_then : (done : List UnitKind) (scopes : Scopes) (def : RawConstant) (units : List NamedUnit)
+      (constants : List NamedConstant) → Told done scopes →
       Fits scopes (constant_marks def) →
       ItemsSuit done units constants → ItemsSuit done units (named_constant scopes def ∷ constants)
   constant_then done scopes def units constants told fits later = record {

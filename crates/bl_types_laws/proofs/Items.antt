@@ -24,13 +24,15 @@ use Rattle.bl_types_laws.proofs.Walks.{site_in, within_in}
 nothing_known : (n : ℕ) (xs : List Variable) → xs ≡ [] → (k : ℕ) (known : Variable) → slice_get xs k ≡ Some known → VariableKnown n known
 nothing_known n xs none k known is = absurd (let there : slice_get [] k ≡ Some known = ap (λ xs. slice_get xs k) (sym none) ∙ is in cc)
 
-pub struct_between : (def : NamedStruct) (env : Environment) → Between env → struct_placed (known_in env) def ≡ true → (after_struct def env).failures ≡ [] →
+pub struct_between : (def : NamedStruct) (env : Environment) → Between env → struct_placed (known_in env) def ≡ true →
+    (after_struct def env).failures ≡ [] →
     Between (after_struct def env).env
 struct_between def env between placed none = record {
   vars = between.vars;
   known = record {
     vars = nothing_known (length (after_struct def env).env.structs) env.vars between.vars;
-    fields = push_further (λ (k : ℕ) (def : StructDef). list_all (λ (field : Field). type_stands k field.ty) def.fields ≡ true) env.structs (struct_of env def)
+    fields = push_further (λ (k : ℕ) (def : StructDef). list_all (λ (field : Field). type_stands k field.ty) def.fields ≡ true)
+        env.structs (struct_of env def)
         between.known.fields (struct_stands def env placed none);
     constants = between.known.constants;
   };

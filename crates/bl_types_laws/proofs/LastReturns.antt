@@ -29,7 +29,8 @@ pub stmt_whole : (s : NamedStmt) → stmt (out-NamedStmt s).place (out-NamedStmt
 stmt_whole s = ap (λ (what : NamedStmtKind). roll-NamedStmt (record { place = (out-NamedStmt s).place; what = what }))
     (roll-out-NamedStmtKind (out-NamedStmt s).what) ∙ roll-out-NamedStmt s
 
-return_is : (at : Place) (kind : StmtKind) (layer : StmtKind-F _ _ _ _) → out-StmtKind kind ≡ layer → is_return (stmt_made at kind) ≡ is_return_kind layer
+return_is : (at : Place) (kind : StmtKind) (layer : StmtKind-F _ _ _ _) → out-StmtKind kind ≡ layer →
+    is_return (stmt_made at kind) ≡ is_return_kind layer
 return_is at kind layer is =
     ap (λ s. is_return_kind (out-StmtKind s.what)) (out-roll-Stmt (record { place = at; what = kind })) ∙ ap is_return_kind is
 
@@ -71,7 +72,8 @@ module _ (constants : List NamedConstant) (vars : List NamedVar) where
       layer_returned (out-NamedStmt s).place (out-NamedStmtKind (out-NamedStmt s).what) env t returns
       (ap (λ s. (walked_stmt constants vars s env).made) (stmt_whole s) ∙ is)
 
-  one_alone : (made : Option Stmt) → ((t : Stmt) → made ≡ Some t → (not (has_return t) || is_return t) ≡ true) → returns_last_alone (cons_option made []) ≡ true
+  one_alone : (made : Option Stmt) → ((t : Stmt) → made ≡ Some t → (not (has_return t) || is_return t) ≡ true) →
+      returns_last_alone (cons_option made []) ≡ true
   one_alone None fit = refl
   one_alone (Some t) fit = fit t refl
 

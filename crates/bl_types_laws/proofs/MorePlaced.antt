@@ -14,7 +14,17 @@ use Rattle.bl_named.specs.declared.expr.NamedPart.{NamedPart, fold_out-NamedPart
 use Rattle.bl_named.specs.declared.expr.NamedTarget.{NamedTarget, fold-roll-NamedTarget, roll-NamedTarget}
 use Rattle.bl_named.specs.declared.expr.Root.{Root}
 use Rattle.bl_named.specs.declared.expr.Root.TheVariants as root
-use Rattle.bl_named.specs.Placed.{Earlier, expr_layer_placed, expr_placed, kind_placed, part_placed, root_placed, step_placed, target_layer_placed, target_placed}
+use Rattle.bl_named.specs.Placed.{
+  Earlier,
+  expr_layer_placed,
+  expr_placed,
+  kind_placed,
+  part_placed,
+  root_placed,
+  step_placed,
+  target_layer_placed,
+  target_placed,
+}
 use Rattle.bl_types.specs.declared.environment.Environment.{Environment}
 use Rattle.bl_types_laws.specs.Standing.{Grown}
 use Rattle.bl_types_laws.specs.Within.{known_in}
@@ -49,7 +59,8 @@ target_is : (earlier : Earlier) (place : Place) (root : Root) (parts : List Name
     ≡ (root_placed earlier root && all_of (map (step_placed earlier) parts))
 target_is earlier place root parts = rw fold-roll-NamedTarget refl
 
-all_more : {X : Type 0} (a b : X → Bool) (xs : List X) → All (λ x. a x ≡ true → b x ≡ true) xs → all_of (map a xs) ≡ true → all_of (map b xs) ≡ true
+all_more : {X : Type 0} (a b : X → Bool) (xs : List X) → All (λ x. a x ≡ true → b x ≡ true) xs → all_of (map a xs) ≡ true →
+    all_of (map b xs) ≡ true
 all_more a b [] each all = refl
 all_more a b (x ∷ xs) each all =
     both (b x) (all_of (map b xs)) (All-head (λ x. a x ≡ true → b x ≡ true) x xs each (and_left (a x) (all_of (map a xs)) all))
@@ -75,7 +86,8 @@ module _ (before after : Earlier) (constants : before.constants ≤ after.consta
   layer_more (NamedPart-F.Field name) index is = refl
   layer_more (NamedPart-F.Index e) index is = index is
 
-  parts_more : (parts : List NamedPart) → EachIndex P parts → all_of (map (step_placed before) parts) ≡ true → all_of (map (step_placed after) parts) ≡ true
+  parts_more : (parts : List NamedPart) → EachIndex P parts → all_of (map (step_placed before) parts) ≡ true →
+      all_of (map (step_placed after) parts) ≡ true
   parts_more [] each all = refl
   parts_more (part ∷ rest) each all =
       both (step_placed after part) (all_of (map (step_placed after) rest))

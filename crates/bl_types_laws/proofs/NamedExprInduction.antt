@@ -47,7 +47,8 @@ module _ (P : NamedExpr → Type 0) (Q : NamedTarget → Type 0) (cases : Cases 
   OfPart part = OfIndex P (out-NamedPart part)
 
   abbrev Shown : Type 0
-  Shown = NamedExprKind-F ((kind : NamedExprKind) × OfKind kind) ((part : NamedPart) × OfPart part) ((e : NamedExpr) × P e) ((target : NamedTarget) × Q target)
+  Shown = NamedExprKind-F ((kind : NamedExprKind) × OfKind kind) ((part : NamedPart) × OfPart part) ((e : NamedExpr) × P e)
+      ((target : NamedTarget) × Q target)
 
   abbrev plain : Shown → NamedExprKind-F NamedExprKind NamedPart NamedExpr NamedTarget
   plain = map-NamedExprKind ((kind : NamedExprKind) × OfKind kind) ((part : NamedPart) × OfPart part) ((e : NamedExpr) × P e)
@@ -65,7 +66,8 @@ module _ (P : NamedExpr → Type 0) (Q : NamedTarget → Type 0) (cases : Cases 
   by_kind place (NamedExprKind-F.Call name f inputs) = cases.call place name f _ (each_such P inputs)
 
   abbrev ShownPart : Type 0
-  ShownPart = NamedPart-F ((kind : NamedExprKind) × OfKind kind) ((part : NamedPart) × OfPart part) ((e : NamedExpr) × P e) ((target : NamedTarget) × Q target)
+  ShownPart = NamedPart-F ((kind : NamedExprKind) × OfKind kind) ((part : NamedPart) × OfPart part) ((e : NamedExpr) × P e)
+      ((target : NamedTarget) × Q target)
 
   abbrev plain_part : ShownPart → NamedPart-F NamedExprKind NamedPart NamedExpr NamedTarget
   plain_part = map-NamedPart ((kind : NamedExprKind) × OfKind kind) ((part : NamedPart) × OfPart part) ((e : NamedExpr) × P e)

@@ -27,7 +27,8 @@ pub record Cases (P : NamedStmt → Type 0) (Q : NamedArm → Type 0) (R : Named
   pub await : (place : Place) (e : NamedExpr) → P (stmt place (NamedStmtKind-F.Await e))
   pub run : (place : Place) (target : Option NamedPath) (name : Place) (a : ℕ) (inputs : List NamedExpr) (outputs : List NamedPath) →
       P (stmt place (NamedStmtKind-F.Run target name a inputs outputs))
-  pub branching : (place : Place) (arms : List NamedArm) (other : List NamedStmt) → All Q arms → All P other → P (stmt place (NamedStmtKind-F.If arms other))
+  pub branching : (place : Place) (arms : List NamedArm) (other : List NamedStmt) → All Q arms → All P other →
+      P (stmt place (NamedStmtKind-F.If arms other))
   pub cobegin : (place : Place) (branches : List NamedBranch) → All R branches → P (stmt place (NamedStmtKind-F.Cobegin branches))
   pub guarded : (place : Place) (guard : Guard) (e : NamedExpr) (body : List NamedStmt) → All P body → P (stmt place (NamedStmtKind-F.When guard e body))
   pub repeat : (place : Place) (body : List NamedStmt) → All P body → P (stmt place (NamedStmtKind-F.Repeat body))

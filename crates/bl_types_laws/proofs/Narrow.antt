@@ -8,12 +8,30 @@ use Rattle.bl_tree.specs.Reduce.{all_of}
 use Rattle.bl_tree.specs.Typing.{is_function}
 use Rattle.bl_eval.proofs.PassLemmas.{and_left, and_right, both}
 use Rattle.bl_named.specs.declared.expr.NamedExpr.{NamedExpr, fold-roll-NamedExpr}
-use Rattle.bl_named.specs.declared.expr.NamedExprKind.{NamedExprKind, fold-NamedExprKind, fold-roll-NamedExprKind, map-NamedExprKind, out-roll-NamedExprKind, roll-NamedExprKind}
+use Rattle.bl_named.specs.declared.expr.NamedExprKind.{
+  NamedExprKind,
+  fold-NamedExprKind,
+  fold-roll-NamedExprKind,
+  map-NamedExprKind,
+  out-roll-NamedExprKind,
+  roll-NamedExprKind,
+}
 use Rattle.bl_named.specs.declared.expr.NamedExprKind.TheOpen.{NamedExprKind-F, NamedPart-F}
 use Rattle.bl_named.specs.declared.expr.NamedPart.{NamedPart, fold_out-NamedPart, map-NamedPart, out-NamedPart}
 use Rattle.bl_named.specs.declared.expr.NamedTarget.{NamedTarget, fold-roll-NamedTarget, roll-NamedTarget}
 use Rattle.bl_named.specs.declared.expr.Root.{Root}
-use Rattle.bl_named.specs.Placed.{Earlier, expr_layer_placed, expr_placed, holds_of, kind_placed, part_placed, root_placed, step_placed, target_layer_placed, target_placed}
+use Rattle.bl_named.specs.Placed.{
+  Earlier,
+  expr_layer_placed,
+  expr_placed,
+  holds_of,
+  kind_placed,
+  part_placed,
+  root_placed,
+  step_placed,
+  target_layer_placed,
+  target_placed,
+}
 use Rattle.bl_types_laws.specs.Within.{calls_functions, target_calls}
 use Rattle.bl_types_laws.proofs.NamedExprInduction.{Cases, EachIndex, OfIndex, expr, induct}
 use Rattle.bl_types_laws.proofs.ExprCalls.{Layer, PartLayer, calls_at, calls_by, calls_part, calls_step, step_at}
@@ -52,12 +70,14 @@ calls_target_is units place root parts = rw fold-roll-NamedTarget refl
 
 -- ---- all of them
 
-all_narrow : {X : Type 0} (a b c : X → Bool) (xs : List X) → All (λ x. a x ≡ true → b x ≡ true → c x ≡ true) xs → all_of (map a xs) ≡ true →
+all_narrow : {X : Type 0} (a b c : X → Bool) (xs : List X) → All (λ x. a x ≡ true → b x ≡ true → c x ≡ true) xs →
+    all_of (map a xs) ≡ true →
     all_of (map b xs) ≡ true → all_of (map c xs) ≡ true
 all_narrow a b c [] each one two = refl
 all_narrow a b c (x ∷ xs) each one two =
     both (c x) (all_of (map c xs))
-    (All-head (λ x. a x ≡ true → b x ≡ true → c x ≡ true) x xs each (and_left (a x) (all_of (map a xs)) one) (and_left (b x) (all_of (map b xs)) two))
+    (All-head (λ x. a x ≡ true → b x ≡ true → c x ≡ true) x xs each (and_left (a x) (all_of (map a xs)) one)
+    (and_left (b x) (all_of (map b xs)) two))
     (all_narrow a b c xs (All-tail (λ x. a x ≡ true → b x ≡ true → c x ≡ true) x xs each) (and_right (a x) (all_of (map a xs)) one)
     (and_right (b x) (all_of (map b xs)) two))
 
@@ -73,10 +93,13 @@ module _ (whole first : List UnitDef) (counts : Earlier) (narrows : Narrows whol
   abbrev Q : NamedTarget → Type 0
   Q target = target_placed counts target ≡ true → target_calls whole target ≡ true → target_calls first target ≡ true
 
-  by_kind : (place : Place) (layer : Layer) → (placed_by counts layer ≡ true → calls_by whole layer ≡ true → calls_by first layer ≡ true) → P (expr place layer)
-  by_kind place layer so placed calls = calls_is first place layer ∙ so (sym (placed_is counts place layer) ∙ placed) (sym (calls_is whole place layer) ∙ calls)
+  by_kind : (place : Place) (layer : Layer) → (placed_by counts layer ≡ true → calls_by whole layer ≡ true →
+      calls_by first layer ≡ true) → P (expr place layer)
+  by_kind place layer so placed calls = calls_is first place layer
+      ∙ so (sym (placed_is counts place layer) ∙ placed) (sym (calls_is whole place layer) ∙ calls)
 
-  by_part : (layer : PartLayer) → OfIndex P layer → placed_part counts layer ≡ true → calls_part whole layer ≡ true → calls_part first layer ≡ true
+  by_part : (layer : PartLayer) → OfIndex P layer → placed_part counts layer ≡ true → calls_part whole layer ≡ true →
+      calls_part first layer ≡ true
   by_part (NamedPart-F.Field name) index placed calls = refl
   by_part (NamedPart-F.Index e) index placed calls = index placed calls
 

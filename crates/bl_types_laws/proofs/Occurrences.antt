@@ -1,5 +1,27 @@
 -- A statement of a program whose statements begin one after another is known by where it begins.
-use Rattle.std.proofs.Common.{◌≡◌, ℕ, ◌<◌, true, List, [], ◌∷◌, ◌++◌, map, Some, refl, sym, ap, subst, ◌∙◌, append_assoc, inl, inr, ⊎_elim, ◌⊎◌, arith}
+use Rattle.std.proofs.Common.{
+  ◌≡◌,
+  ℕ,
+  ◌<◌,
+  true,
+  List,
+  [],
+  ◌∷◌,
+  ◌++◌,
+  map,
+  Some,
+  refl,
+  sym,
+  ap,
+  subst,
+  ◌∙◌,
+  append_assoc,
+  inl,
+  inr,
+  ⊎_elim,
+  ◌⊎◌,
+  arith,
+}
 use Rattle.std.specs.Prelude.{Contains, slice_get, IsTrue}
 use Rattle.bl_tree.specs.declared.place.Place.{Place}
 use Rattle.bl_tree.specs.declared.tree.Arm.{Arm, fold-Arm, fold_out-Arm, out-Arm}
@@ -9,7 +31,23 @@ use Rattle.bl_tree.specs.declared.tree.StmtKind.{StmtKind, fold-StmtKind, fold_o
 use Rattle.bl_tree.specs.declared.tree.StmtKind.TheOpen.{StmtKind-F, Arm-F, Branch-F, Stmt-F}
 use Rattle.bl_tree.specs.declared.tree.Unit.{Unit as UnitDef}
 use Rattle.bl_tree.specs.Reduce.{joined}
-use Rattle.bl_tree.specs.Within.{PlacesDecide, RunsDecide, RunsIn, StandsIn, StandsInUnits, Within, branches_of, children, deeper, effect_of, is_run, itself, kind_branches, kind_children, place_of}
+use Rattle.bl_tree.specs.Within.{
+  PlacesDecide,
+  RunsDecide,
+  RunsIn,
+  StandsIn,
+  StandsInUnits,
+  Within,
+  branches_of,
+  children,
+  deeper,
+  effect_of,
+  is_run,
+  itself,
+  kind_branches,
+  kind_children,
+  place_of,
+}
 use Rattle.bl_tree.proofs.FirstLemmas.{In, contains_in}
 use Rattle.bl_tree.proofs.ReduceLemmas.{joined-append}
 use Rattle.bl_raw.specs.Starts.{ascends}
@@ -182,7 +220,8 @@ not_less : (m n : ℕ) → m ≡ n → m < n → ⊥
 not_less m n is less = omega arith
 
 -- two statements that stand in one, and begin at one place, are one
-pub one_within : (s outer : Stmt) → Within s outer → (t : Stmt) → Within t outer → ascends (starts_of outer) ≡ true → (place_of s).start ≡ (place_of t).start →
+pub one_within : (s outer : Stmt) → Within s outer → (t : Stmt) → Within t outer → ascends (starts_of outer) ≡ true →
+    (place_of s).start ≡ (place_of t).start →
     s ≡ t
 one_within s outer itself t other up same =
     ⊎_elim (λ (is : t ≡ s). sym is) (λ (below : Below t s). absurd (not_less (place_of s).start (place_of t).start same (below_later t s up below)))
@@ -243,7 +282,8 @@ module _ (units : List UnitDef) (up : ascends (joined (map unit_starts units)) �
       one_position branch_starts (branches_of outer) j k one.branch two.branch (place_of s).start
       (branches_ascend outer (stands_ascends stands.unit.body outer stands.stands of_unit)) one.is_there two.is_there
       (stands_starts (out-Branch one.branch).body s one.stands)
-      (subst (λ n. In n (branch_starts two.branch)) (ap (λ (place : Place). place.start) (sym same)) (stands_starts (out-Branch two.branch).body t two.stands))
+      (subst (λ n. In n (branch_starts two.branch)) (ap (λ (place : Place). place.start) (sym same))
+      (stands_starts (out-Branch two.branch).body t two.stands))
 
   -- and which `run` statement is which
   pub runs_decide : RunsDecide units

@@ -14,8 +14,41 @@ use Rattle.bl_tree.specs.Numbers.{takes_one, takes_two}
 use Rattle.bl_tree.specs.Scalar.{is_whole}
 use Rattle.bl_tree.specs.Types.{scalar_in}
 use Rattle.bl_tree.proofs.ExprInduction.{Cases, expr, induct}
-use Rattle.bl_types.specs.Settled.{Settled, given, given_scalar, kept, literal, one, one_made, settled, settled_if, settled_kind, settled_layer, settled_part, settled_path, two, two_made, unfit}
-use Rattle.bl_types_laws.proofs.Sizes.{Layer, MadeIn, Size, SizeMost, beside, deeper, empty, literal_size, one_most, size_at, size_empty, size_is, size_kind, size_of, two_most}
+use Rattle.bl_types.specs.Settled.{
+  Settled,
+  given,
+  given_scalar,
+  kept,
+  literal,
+  one,
+  one_made,
+  settled,
+  settled_if,
+  settled_kind,
+  settled_layer,
+  settled_part,
+  settled_path,
+  two,
+  two_made,
+  unfit,
+}
+use Rattle.bl_types_laws.proofs.Sizes.{
+  Layer,
+  MadeIn,
+  Size,
+  SizeMost,
+  beside,
+  deeper,
+  empty,
+  literal_size,
+  one_most,
+  size_at,
+  size_empty,
+  size_is,
+  size_kind,
+  size_of,
+  two_most,
+}
 
 abbrev pub ExprIn : Size → Option Expr → Type 0
 ExprIn = MadeIn size_of
@@ -29,7 +62,8 @@ one_in : (s : ScalarType) (at : Place) (op : Op) (a : Option Expr) (size : Size)
 one_in s at op (Some a) size most = one_if s at op a (takes_one op s) size most
 one_in s at op None size most = tt
 
-two_if : (s : ScalarType) (at : Place) (op : Op) (a b : Expr) (takes : Bool) (left right : Size) → SizeMost (size_of a) left → SizeMost (size_of b) right →
+two_if : (s : ScalarType) (at : Place) (op : Op) (a b : Expr) (takes : Bool) (left right : Size) → SizeMost (size_of a) left →
+    SizeMost (size_of b) right →
     ExprIn (deeper (beside left right)) (if takes then kept (two at op a b) else unfit at).made
 two_if s at op a b true left right most other = two_most at op a b left right most other
 two_if s at op a b false left right most other = tt

@@ -1,5 +1,26 @@
 -- Paths that stand for outputs, and targets that are assigned.
-use Rattle.std.proofs.Common.{◌≡◌, ℕ, suc, ℤ, List, [], ◌∷◌, ◌++◌, map, length, nat_lt, Option, Some, None, refl, ap, sym, subst, ◌∙◌, arith}
+use Rattle.std.proofs.Common.{
+  ◌≡◌,
+  ℕ,
+  suc,
+  ℤ,
+  List,
+  [],
+  ◌∷◌,
+  ◌++◌,
+  map,
+  length,
+  nat_lt,
+  Option,
+  Some,
+  None,
+  refl,
+  ap,
+  sym,
+  subst,
+  ◌∙◌,
+  arith,
+}
 use Rattle.std.specs.Prelude.{Bool, true, false, is_some, option_and_then, slice_get, if◌then◌else◌}
 use Rattle.std.specs.List.{cons_option, list_all}
 use Rattle.bl_tree.specs.declared.place.Place.{Place}
@@ -17,7 +38,20 @@ use Rattle.bl_tree.specs.declared.tree.Var.{Var}
 use Rattle.bl_tree.specs.Reduce.{all_of}
 use Rattle.bl_tree.specs.declared.scalar.Scalar.{Scalar as ScalarType}
 use Rattle.bl_tree.specs.Types.{same_type, scalar_in}
-use Rattle.bl_tree.specs.Typing.{Site, expr_ignored, is_assignable, is_outlet, is_plain, kind_ignored, may_change, part_is_field, path_is_plain, type_of_path, types_match, var_at}
+use Rattle.bl_tree.specs.Typing.{
+  Site,
+  expr_ignored,
+  is_assignable,
+  is_outlet,
+  is_plain,
+  kind_ignored,
+  may_change,
+  part_is_field,
+  path_is_plain,
+  type_of_path,
+  types_match,
+  var_at,
+}
 use Rattle.bl_eval.proofs.FitLemmas.{same_type_is}
 use Rattle.bl_eval.proofs.PassLemmas.{and_left, and_right, both}
 use Rattle.bl_raw.specs.declared.name.Name.{Name}
@@ -29,7 +63,31 @@ use Rattle.bl_named.specs.Placed.{expr_layer_placed, kind_placed, part_placed, p
 use Rattle.bl_types.specs.declared.environment.Environment.{Environment}
 use Rattle.bl_types.specs.declared.environment.Variable.{Variable}
 use Rattle.bl_types.specs.declared.form.Found.TheVariants as found
-use Rattle.bl_types.specs.Expressions.{FieldAt, Formed, Judged, Led, Stepped, Targeted, constant_found, field_found, field_in, judged_kind, judged_layer, judged_part, judged_target, path, path_found, stepped, step_of, targeted, targeted_from, to_field, type_of_constant, type_of_variable, value_of_constant}
+use Rattle.bl_types.specs.Expressions.{
+  FieldAt,
+  Formed,
+  Judged,
+  Led,
+  Stepped,
+  Targeted,
+  constant_found,
+  field_found,
+  field_in,
+  judged_kind,
+  judged_layer,
+  judged_part,
+  judged_target,
+  path,
+  path_found,
+  stepped,
+  step_of,
+  targeted,
+  targeted_from,
+  to_field,
+  type_of_constant,
+  type_of_variable,
+  value_of_constant,
+}
 use Rattle.bl_types.specs.Failures.{fails_at}
 use Rattle.bl_types.specs.Statements.{Lent, all_lent, immutable, immutable_variable, lent, lent_as, paths_failures, paths_made}
 use Rattle.bl_types_laws.specs.Fitting.{AllLent, FoundFits, IsLent}
@@ -60,7 +118,8 @@ plain_first : (structs : List StructDef) (name : Name) (ty : Option Ty) (rest : 
 plain_first structs name None rest all = all
 plain_first structs name (Some ty) rest all = plain_cons name.place (field_in structs name.text _) rest all
 
-plain_parts : (structs : List StructDef) (fields : List Name) (ty : Option Ty) → all_of (map is_field (stepped (map (to_field structs) fields) ty).parts) ≡ true
+plain_parts : (structs : List StructDef) (fields : List Name) (ty : Option Ty) →
+    all_of (map is_field (stepped (map (to_field structs) fields) ty).parts) ≡ true
 plain_parts structs [] ty = refl
 plain_parts structs (name ∷ rest) ty =
     plain_first structs name ty (stepped (map (to_field structs) rest) (to_field structs name ty).ty).parts
@@ -112,7 +171,8 @@ module _ (env : Environment) (site : Site) (within : Within env site) where
       both (is_plain (path at k parts ty)) (is_assignable site (path at k parts ty)) (plain_is at k parts ty ∙ all)
       (may_assign at k (path at k parts ty) less (root_is at k parts ty) none)
 
-  same_lent : (wanted : Ty) (at : Place) (it : Path) (same : Bool) → same_type wanted (out-Path it).ty ≡ same → type_of_path site it ≡ Some (out-Path it).ty →
+  same_lent : (wanted : Ty) (at : Place) (it : Path) (same : Bool) → same_type wanted (out-Path it).ty ≡ same →
+      type_of_path site it ≡ Some (out-Path it).ty →
       is_outlet site it ≡ true →
       (lent_if at it same).failures ≡ [] → IsLent site wanted (lent_if at it same).made
   same_lent wanted at it true same typed outlet none = record {
@@ -165,7 +225,8 @@ module _ (env : Environment) (site : Site) (within : Within env site) where
   }
 
   -- and paths, one for each parameter
-  pub all_lent_fit : (paths : List NamedPath) (params : List Var) → list_all (path_placed (known_in env)) paths ≡ true → length paths ≡ length params →
+  pub all_lent_fit : (paths : List NamedPath) (params : List Var) → list_all (path_placed (known_in env)) paths ≡ true →
+      length paths ≡ length params →
       paths_failures (all_lent env paths params) ≡ [] →
       AllLent site params (all_lent env paths params)
   all_lent_fit [] [] placed same none = record { count = refl; match = refl; outlets = refl }
@@ -180,7 +241,8 @@ module _ (env : Environment) (site : Site) (within : Within env site) where
 
   -- ---- targets
 
-  found_root : (at : Place) (k : ℕ) (parts : List Part) (ty : Option Ty) (it : Path) → path_found at k parts ty ≡ found.Place it → (out-Path it).root ≡ k
+  found_root : (at : Place) (k : ℕ) (parts : List Part) (ty : Option Ty) (it : Path) → path_found at k parts ty ≡ found.Place it →
+      (out-Path it).root ≡ k
   found_root at k parts None it is = absurd (cc)
   found_root at k parts (Some ty) it is = let same : path at k parts ty ≡ it = cc in ap (λ it. (out-Path it).root) (sym same) ∙ root_is at k parts ty
 
@@ -199,7 +261,8 @@ module _ (env : Environment) (site : Site) (within : Within env site) where
       (option_and_then scalar_in (stepped steps (type_of_constant (slice_get env.constants k))).ty) it is)
 
   -- what a target leads to may be changed where its root may
-  pub target_assignable : (target : NamedTarget) (it : Path) → target_placed (known_in env) target ≡ true → (targeted env target).found ≡ found.Place it →
+  pub target_assignable : (target : NamedTarget) (it : Path) → target_placed (known_in env) target ≡ true →
+      (targeted env target).found ≡ found.Place it →
       immutable env (out-NamedTarget target).place (out-NamedTarget target).root ≡ [] → is_assignable site it ≡ true
   target_assignable target it placed is none =
       assign_by (out-NamedTarget target).place (out-NamedTarget target).root (map (step_of env) (out-NamedTarget target).parts) it

@@ -30,7 +30,29 @@ use Rattle.bl_types.specs.declared.form.Found.{Found}
 use Rattle.bl_types.specs.declared.form.Found.TheVariants as found
 use Rattle.bl_types.specs.Declarations.{initial}
 use Rattle.bl_types.specs.Expressions.{in_context, judged, targeted, with_made}
-use Rattle.bl_types.specs.Statements.{Arguments, Block, Walk, Walked, arguments, arm_of, arm_walked, assign_made, branch_walked, condition, declare, if_complete, in_order, returned, run_made, run_target, stmt_made, type_found, walked_arm, walked_branch, walked_stmt}
+use Rattle.bl_types.specs.Statements.{
+  Arguments,
+  Block,
+  Walk,
+  Walked,
+  arguments,
+  arm_of,
+  arm_walked,
+  assign_made,
+  branch_walked,
+  condition,
+  declare,
+  if_complete,
+  in_order,
+  returned,
+  run_made,
+  run_target,
+  stmt_made,
+  type_found,
+  walked_arm,
+  walked_branch,
+  walked_stmt,
+}
 use Rattle.bl_types_laws.proofs.NamedStmtInduction.{Cases, induct, stmt}
 use Rattle.bl_types_laws.proofs.Occurrences.{Starts, block_starts, kind_is, layer_starts, starts_in, starts_of, starts_of_arm, starts_of_branch}
 use Rattle.bl_types_laws.proofs.Starts.{Picked, none, picked_append, picked_none, taken, left}
@@ -75,7 +97,8 @@ kind_picked : (kind : StmtKind) (layer : StmtKind-F StmtKind Arm Branch Stmt) (i
 kind_picked kind layer inside is picked = subst (λ l. Picked l inside) (sym (kind_is kind layer is)) picked
 
 -- a kind without blocks
-plain : (kind : StmtKind) (layer : StmtKind-F StmtKind Arm Branch Stmt) → out-StmtKind kind ≡ layer → layer_starts layer ≡ [] → KindPicked [] (Some kind)
+plain : (kind : StmtKind) (layer : StmtKind-F StmtKind Arm Branch Stmt) → out-StmtKind kind ≡ layer → layer_starts layer ≡ [] →
+    KindPicked [] (Some kind)
 plain kind layer is empty = kind_picked kind layer [] is (subst (λ l. Picked l []) (sym empty) none)
 
 declare_value : (k : ℕ) (value : Option Expr) → KindPicked [] (option_map (λ e. what.Declare k (Some e)) value)
@@ -185,7 +208,8 @@ module _ (constants : List NamedConstant) (vars : List NamedVar) where
       P (stmt place layer)
   by_kind place layer picked env =
       subst (λ l. Picked (starts_if starts_of (walked_stmt constants vars (stmt place layer) env).made) l) (sym (named_is place layer))
-      (subst (λ (walk : Walk Stmt). Picked (starts_if starts_of (walk env).made) (place.start ∷ named_layer layer)) (sym (walked_is constants vars place layer))
+      (subst (λ (walk : Walk Stmt). Picked (starts_if starts_of (walk env).made) (place.start ∷ named_layer layer))
+      (sym (walked_is constants vars place layer))
       (starts_made place (walked_by constants vars layer place env).made (named_layer layer) (picked env)))
 
   arm_case : (test : NamedExpr) (body : List NamedStmt) → All P body → Q (roll-NamedArm (record { test = test; body = body }))
@@ -209,7 +233,8 @@ module _ (constants : List NamedConstant) (vars : List NamedVar) where
       subst (λ (walk : Walk Branch). Picked (starts_if starts_of_branch (walk env).made) (named.starts_of_branch branch)) (sym walked_as)
       (subst (λ l. Picked (starts_of_branch made) l) (sym starts_as) (subst (λ l. Picked l (named_block body)) (sym made_as) (body_picked body each env)))
 
-  branching_case : (place : Place) (arms : List NamedArm) (other : List NamedStmt) → All Q arms → All P other → P (stmt place (NamedStmtKind-F.If arms other))
+  branching_case : (place : Place) (arms : List NamedArm) (other : List NamedStmt) → All Q arms → All P other →
+      P (stmt place (NamedStmtKind-F.If arms other))
   branching_case place arms other each rest = by_kind place (NamedStmtKind-F.If arms other)
       (λ env.
       let tests : Block Arm = in_order (map (arm_walked constants vars) arms) env in

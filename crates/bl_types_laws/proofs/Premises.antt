@@ -23,7 +23,8 @@ use Rattle.bl_types_laws.specs.Within.{calls_functions}
 abbrev pub UnitsSuit : Named → Type 0
 UnitsSuit named = (k : ℕ) (unit : NamedUnit) → slice_get named.units k ≡ Some unit → (before : List UnitDef) →
     map (λ (unit : UnitDef). unit.kind) before ≡ map (λ (unit : NamedUnit). unit.kind) (take k named.units) →
-    (counts behind : Earlier) → counts.units ≡ k → unit_step named.constants unit counts ≡ Some behind → unit_named named.constants before unit ≡ true
+    (counts behind : Earlier) → counts.units ≡ k → unit_step named.constants unit counts ≡ Some behind →
+    unit_named named.constants before unit ≡ true
 
 -- the value of a constant, likewise
 abbrev pub ConstantsSuit : Named → Type 0

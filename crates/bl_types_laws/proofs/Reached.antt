@@ -1,5 +1,24 @@
 -- What is known before the items that are still to come, and what is made of them.
-use Rattle.std.proofs.Common.{◌≡◌, ℕ, ◌+◌, true, List, [], ◌∷◌, ◌++◌, length, map, Some, refl, sym, ap, subst, ◌∙◌, append-nil, arith}
+use Rattle.std.proofs.Common.{
+  ◌≡◌,
+  ℕ,
+  ◌+◌,
+  true,
+  List,
+  [],
+  ◌∷◌,
+  ◌++◌,
+  length,
+  map,
+  Some,
+  refl,
+  sym,
+  ap,
+  subst,
+  ◌∙◌,
+  append-nil,
+  arith,
+}
 use Rattle.std.specs.Prelude.{slice_get}
 use Rattle.std.specs.List.{list_all}
 use Rattle.std.proofs.lemmas.List.{length-append}
@@ -65,14 +84,16 @@ pub record Made (scopes : Scopes) (items : List RawItem) (env final : Environmen
   pub units : final.units ≡ env.units ++ more
   pub units_stand : units_stand_after final.structs env.units more ≡ true
   pub unit_names : map (λ (unit : UnitDef). unit.name) more ≡ map (λ (unit : NamedUnit). unit.name.text) (along units_of scopes items)
-  pub driven : (k : ℕ) (unit : NamedUnit) → slice_get (along units_of scopes items) k ≡ Some unit → drives unit ≡ true → is_entry (slice_get more k) ≡ true
+  pub driven : (k : ℕ) (unit : NamedUnit) → slice_get (along units_of scopes items) k ≡ Some unit → drives unit ≡ true →
+      is_entry (slice_get more k) ≡ true
   pub starts : Picked (joined (map unit_starts more)) (joined (map named_starts (along units_of scopes items)))
 
 module _ (named : Named) where
   -- ---- what is next is the first of what is to come
 
   module _ (scopes : Scopes) (items : List RawItem) (env : Environment) (at : At named scopes items env) where
-    pub struct_next : (def : NamedStruct) → slice_get (along structs_of scopes items) 0 ≡ Some def → after_item named kind.Struct env ≡ after_struct def env
+    pub struct_next : (def : NamedStruct) → slice_get (along structs_of scopes items) 0 ≡ Some def →
+        after_item named kind.Struct env ≡ after_struct def env
     struct_next def first =
         ap (λ next. after_next after_struct next env)
         (ap (λ (e : Earlier). slice_get named.structs e.structs) at.counts
@@ -122,7 +143,8 @@ module _ (named : Named) where
       after_item named (kind_of_item one) env ≡ first →
       (first.failures ++ (after_items named (order_of items) first.env).failures ≡ [] →
       Made scopes (one ∷ items) env (after_items named (order_of items) first.env).env) →
-      (after_items named (order_of (one ∷ items)) env).failures ≡ [] → Made scopes (one ∷ items) env (after_items named (order_of (one ∷ items)) env).env
+      (after_items named (order_of (one ∷ items)) env).failures ≡ [] →
+      Made scopes (one ∷ items) env (after_items named (order_of (one ∷ items)) env).env
   first_taken one items scopes env first is shown =
       subst
       (λ (first : Declaring).

@@ -29,7 +29,14 @@ use Rattle.bl_named.specs.declared.stmt.NamedStmtKind.TheOpen.{NamedStmtKind-F}
 use Rattle.bl_named.specs.Placed.{Earlier, Step, declares_none, expr_placed, holds_if, in_turn, step_of_arm, stmt_step, tested}
 use Rattle.bl_types.specs.declared.environment.Environment.{Environment}
 use Rattle.bl_types.specs.Expressions.{in_context, judged}
-use Rattle.bl_types.specs.Returns.{arm_surely_returns, arm_returns as named_arm_returns, branch_returns as named_branch_returns, kind_returns as named_kind_returns, layer_returns, surely_returns as named_surely_returns}
+use Rattle.bl_types.specs.Returns.{
+  arm_surely_returns,
+  arm_returns as named_arm_returns,
+  branch_returns as named_branch_returns,
+  kind_returns as named_kind_returns,
+  layer_returns,
+  surely_returns as named_surely_returns,
+}
 use Rattle.bl_types.specs.Statements.{Block, Walk, Walked, arm_of, arm_walked, condition, in_order, returned, stmt_made, walked_arm, walked_stmt}
 use Rattle.bl_types_laws.specs.Standing.{Around, Known, named_arm, stmt_named}
 use Rattle.bl_types_laws.specs.Within.{calls_functions, known_in}
@@ -64,7 +71,8 @@ surely_is at kind layer is = rw fold-roll-Stmt (fold_out-StmtKind Bool Bool Bool
 arm_surely_is : (test : Expr) (body : List Stmt) → arm_surely (arm_of test body) ≡ last_of (map surely_returns body)
 arm_surely_is test body = rw fold-roll-Arm refl
 
-last_front : (made : Option Stmt) (rest : List Stmt) → last_of (map surely_returns rest) ≡ true → last_of (map surely_returns (cons_option made rest)) ≡ true
+last_front : (made : Option Stmt) (rest : List Stmt) → last_of (map surely_returns rest) ≡ true →
+    last_of (map surely_returns (cons_option made rest)) ≡ true
 last_front None rest is = is
 last_front (Some a) [] is = absurd (cc)
 last_front (Some a) (b ∷ rest) is = is
@@ -87,7 +95,8 @@ module _ (constants : List NamedConstant) (vars : List NamedVar) (site : Site) w
   -- what is known where a part of a body begins in which nothing fails
   abbrev Walking : {A : Type 0} → (A → Bool) → Bool → Bool → (Environment → Walked A) → Step → Type 0
   Walking returns named surely walk step =
-      named ≡ true → surely ≡ true → (env : Environment) → Around env site → Known env → (counts : Earlier) → step (known_in env) ≡ Some counts →
+      named ≡ true → surely ≡ true → (env : Environment) → Around env site → Known env → (counts : Earlier) →
+      step (known_in env) ≡ Some counts →
       (walk env).failures ≡ [] → ReturnMade returns (walk env).made
 
   abbrev P : NamedStmt → Type 0
@@ -264,6 +273,7 @@ module _ (constants : List NamedConstant) (vars : List NamedVar) (site : Site) w
   -- a body that surely returns as it is named does so as it is made
   pub bodies_return : (body : List NamedStmt) → all_of (map (stmt_named constants vars site.earlier) body) ≡ true →
       last_of (map named_surely_returns body) ≡ true → (env : Environment) → Around env site → Known env → (counts : Earlier) →
-      in_turn (map (stmt_step vars constants) body) (known_in env) ≡ Some counts → (in_order (map (walked_stmt constants vars) body) env).failures ≡ [] →
+      in_turn (map (stmt_step vars constants) body) (known_in env) ≡ Some counts →
+      (in_order (map (walked_stmt constants vars) body) env).failures ≡ [] →
       last_of (map surely_returns (in_order (map (walked_stmt constants vars) body) env).made) ≡ true
   bodies_return body = body_returns body (each_returns body)

@@ -1,5 +1,26 @@
 -- The names and roles of a unit's variables are those that are named.
-use Rattle.std.proofs.Common.{◌≡◌, ℕ, suc, ◌+◌, List, [], ◌∷◌, map, length, take, drop, Option, Some, None, refl, ap, sym, subst, ◌∙◌, arith}
+use Rattle.std.proofs.Common.{
+  ◌≡◌,
+  ℕ,
+  suc,
+  ◌+◌,
+  List,
+  [],
+  ◌∷◌,
+  map,
+  length,
+  take,
+  drop,
+  Option,
+  Some,
+  None,
+  refl,
+  ap,
+  sym,
+  subst,
+  ◌∙◌,
+  arith,
+}
 use Rattle.std.specs.Prelude.{Bool, true, false, ◌&&◌, ◌||◌, is_none, is_some, nat_le, option_map, slice_get, if◌then◌else◌}
 use Rattle.std.specs.List.{cons_option, list_all}
 use Rattle.std.proofs.lemmas.List.{drop-map, length-append, take-append-drop, take-map}
@@ -92,7 +113,8 @@ head_named vars n env none first rest =
 
 mapped_same : {Y : Type 0} (f : Var → Y) (g : NamedVar → Y) (n : ℕ) (xs : List Variable) (vars : List NamedVar) → length xs ≡ length vars →
     ((k : ℕ) (known : Variable) → slice_get xs k ≡ Some known → VariableKnown n known) →
-    ((k : ℕ) (known : Variable) (var : NamedVar) (ty : Ty) → slice_get xs k ≡ Some known → slice_get vars k ≡ Some var → f (var_typed known ty) ≡ g var) →
+    ((k : ℕ) (known : Variable) (var : NamedVar) (ty : Ty) → slice_get xs k ≡ Some known → slice_get vars k ≡ Some var →
+    f (var_typed known ty) ≡ g var) →
     map f (vars_of xs) ≡ map g vars
 mapped_same f g n [] [] count typed each = refl
 mapped_same f g n [] (var ∷ vars) count typed each = absurd (omega arith)
@@ -149,7 +171,8 @@ roles_made unit made env same count roles =
     let last : (outputs && locals) ≡ true = and_right inputs (outputs && locals) behind in
     let f : Var → Role = λ (var : Var). var.role in
     let g : NamedVar → Role = λ (var : NamedVar). var.role in
-    both (nat_le (parameters unit) (length (vars_of env.vars))) _ (ap (nat_le (parameters unit)) count ∙ and_left enough (inputs && (outputs && locals)) roles)
+    both (nat_le (parameters unit) (length (vars_of env.vars))) _
+    (ap (nat_le (parameters unit)) count ∙ and_left enough (inputs && (outputs && locals)) roles)
     (both (list_all (λ (var : Var). is_input var.role) (take unit.inputs (vars_of env.vars))) _
     (front_same f g (vars_of env.vars) unit.vars same is_input unit.inputs (and_left inputs (outputs && locals) behind))
     (both (list_all (λ (var : Var). is_output var.role) (take unit.outputs (drop unit.inputs (vars_of env.vars)))) _
@@ -159,7 +182,8 @@ roles_made unit made env same count roles =
 -- ---- the entry
 
 -- what holds of each named variable holds of the one that is made
-each_made : (test : Var → Bool) (n : ℕ) (xs : List Variable) → ((k : ℕ) (known : Variable) → slice_get xs k ≡ Some known → VariableKnown n known) →
+each_made : (test : Var → Bool) (n : ℕ) (xs : List Variable) →
+    ((k : ℕ) (known : Variable) → slice_get xs k ≡ Some known → VariableKnown n known) →
     ((k : ℕ) (known : Variable) (ty : Ty) → slice_get xs k ≡ Some known → known.ty ≡ Some ty → test (var_typed known ty) ≡ true) →
     list_all test (vars_of xs) ≡ true
 each_made test n [] typed each = refl
@@ -178,7 +202,8 @@ driven_one : (parameter scalar : Bool) (found : Bool) → (if parameter then sca
 driven_one true scalar found is each = each is
 driven_one false scalar found is each = refl
 
-driven_all : (vars : List NamedVar) (n : ℕ) (xs : List Variable) → ((k : ℕ) (known : Variable) → slice_get xs k ≡ Some known → VariableKnown n known) →
+driven_all : (vars : List NamedVar) (n : ℕ) (xs : List Variable) →
+    ((k : ℕ) (known : Variable) → slice_get xs k ≡ Some known → VariableKnown n known) →
     VariablesNamed vars xs → list_all can_be_driven vars ≡ true →
     list_all scalar_parameter (vars_of xs) ≡ true
 driven_all vars n xs typed named all =

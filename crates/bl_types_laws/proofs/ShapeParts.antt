@@ -10,7 +10,24 @@ use Rattle.bl_tree.proofs.ReduceLemmas.{all_of-append, joined-append}
 use Rattle.bl_eval.proofs.PassLemmas.{and_left, and_right, both}
 use Rattle.bl_types.specs.declared.environment.Environment.{Environment}
 use Rattle.bl_types.specs.Statements.{Walked, in_order}
-use Rattle.bl_types_laws.proofs.Orders.{DepthMost, NamingMost, NamingsMost, among_both, among_none, among_self, block_most, branches_most, depths_first, depths_none, depths_skip, leaf_most, namings_first, namings_none, namings_skip, none_most}
+use Rattle.bl_types_laws.proofs.Orders.{
+  DepthMost,
+  NamingMost,
+  NamingsMost,
+  among_both,
+  among_none,
+  among_self,
+  block_most,
+  branches_most,
+  depths_first,
+  depths_none,
+  depths_skip,
+  leaf_most,
+  namings_first,
+  namings_none,
+  namings_skip,
+  none_most,
+}
 use Rattle.bl_types_laws.proofs.Sizes.{Size, SizeMost}
 
 -- what a statement, an arm or a branch is by its depth, what it declares and names
@@ -55,7 +72,8 @@ shape_first depth naming None rest first shapes one more = record {
 }
 
 -- what is made of one part after another is no more than they are
-pub in_order_in : {X A : Type 0} (depth : A → Depth) (naming : A → Naming) (before : X → Depth) (earlier : X → Naming) (walk : X → Environment → Walked A)
+pub in_order_in : {X A : Type 0} (depth : A → Depth) (naming : A → Naming) (before : X → Depth) (earlier : X → Naming)
+    (walk : X → Environment → Walked A)
     (xs : List X) →
     All (λ x. (env : Environment) → ShapeIn depth naming (record { depth = before x; naming = earlier x }) (walk x env).made) xs → (env : Environment) →
     ShapesMost (shapes_of depth naming (in_order (map walk xs) env).made) (shapes_of before earlier xs)

@@ -34,7 +34,29 @@ use Rattle.bl_types.specs.declared.form.Found.{Found}
 use Rattle.bl_types.specs.declared.form.Found.TheVariants as found
 use Rattle.bl_types.specs.Declarations.{initial}
 use Rattle.bl_types.specs.Expressions.{in_context, judged, params_of, targeted}
-use Rattle.bl_types.specs.Statements.{Arguments, Block, Walk, arguments, arm_of, arm_walked, assign_made, branch_walked, condition, declare, if_complete, in_order, outputs_wanted, returned, run_made, run_target, stmt_made, type_found, walked_arm, walked_branch, walked_stmt}
+use Rattle.bl_types.specs.Statements.{
+  Arguments,
+  Block,
+  Walk,
+  arguments,
+  arm_of,
+  arm_walked,
+  assign_made,
+  branch_walked,
+  condition,
+  declare,
+  if_complete,
+  in_order,
+  outputs_wanted,
+  returned,
+  run_made,
+  run_target,
+  stmt_made,
+  type_found,
+  walked_arm,
+  walked_branch,
+  walked_stmt,
+}
 use Rattle.bl_types_laws.proofs.NamedStmtInduction.{Cases, induct, stmt}
 use Rattle.bl_types_laws.proofs.StmtLayers.{Layer, walked_by, walked_is}
 use Rattle.bl_types_laws.proofs.Exprs.{context_in, inputs_in, targeted_in}
@@ -42,7 +64,27 @@ use Rattle.bl_types_laws.proofs.ShapeForms.{FoundIn}
 use Rattle.bl_types_laws.proofs.NamedSizes.{inputs_size, named_size, target_size}
 use Rattle.bl_types_laws.proofs.Opens.{ExprIn}
 use Rattle.bl_types_laws.proofs.ShapePaths.{TargetIn, all_lent_in, initial_in, paths_size, run_target_in, size_of_target, taker_size}
-use Rattle.bl_types_laws.proofs.ShapeParts.{Shape, ShapeIn, ShapeMost, Shapes, ShapesMost, block_shape, bodies_most, branches_shape, branching_most, choice_most, choice_shape, declared_most, declared_shape, in_order_in, plain_most, plain_shape, shapes_of, tested_most, tested_shape}
+use Rattle.bl_types_laws.proofs.ShapeParts.{
+  Shape,
+  ShapeIn,
+  ShapeMost,
+  Shapes,
+  ShapesMost,
+  block_shape,
+  bodies_most,
+  branches_shape,
+  branching_most,
+  choice_most,
+  choice_shape,
+  declared_most,
+  declared_shape,
+  in_order_in,
+  plain_most,
+  plain_shape,
+  shapes_of,
+  tested_most,
+  tested_shape,
+}
 use Rattle.bl_types_laws.proofs.Sizes.{Size, SizeMost, beside, empty, size_all, size_beside, size_empty, size_first, size_of, size_of_path, size_second}
 
 -- ---- typed statements
@@ -236,7 +278,8 @@ module _ (place : Place) where
   return_in at None (Some s) env = return_none
   return_in at None None env = return_none
 
-  guarded_in : (guard : Guard) (test : Option Expr) (body : List Stmt) (size : Size) (others : Shapes) → ExprIn size test → ShapesMost (bodies body) others →
+  guarded_in : (guard : Guard) (test : Option Expr) (body : List Stmt) (size : Size) (others : Shapes) → ExprIn size test →
+      ShapesMost (bodies body) others →
       KindIn place (tested_shape size others) (option_map (λ e. what.When guard e body) test)
   guarded_in guard (Some e) body size others one more =
       kind_most place (what.When guard e body) (StmtKind-F.When guard e body) (tested_shape size others) (what.outs-When guard e body)
@@ -274,7 +317,8 @@ module _ (constants : List NamedConstant) (vars : List NamedVar) where
       (arm_walked constants vars arm env).made
 
   abbrev R : NamedBranch → Type 0
-  R branch = (env : Environment) → ShapeIn branch_depth branch_naming (record { depth = nested.depth_of_branch branch; naming = named.naming_of_branch branch })
+  R branch = (env : Environment) → ShapeIn branch_depth branch_naming
+      (record { depth = nested.depth_of_branch branch; naming = named.naming_of_branch branch })
       (branch_walked constants vars branch env).made
 
   abbrev walked_body : List NamedStmt → Environment → Block Stmt
@@ -283,10 +327,12 @@ module _ (constants : List NamedConstant) (vars : List NamedVar) where
   body_in : (body : List NamedStmt) → All P body → (env : Environment) → ShapesMost (bodies (walked_body body env).made) (named_bodies body)
   body_in = in_order_in depths.depth_of names.naming_of nested.depth_of named.naming_of (walked_stmt constants vars)
 
-  by_kind : (place : Place) (layer : Layer) → ((env : Environment) → KindIn place (named_kind_shape layer) (walked_by constants vars layer place env).made) →
+  by_kind : (place : Place) (layer : Layer) → ((env : Environment) →
+      KindIn place (named_kind_shape layer) (walked_by constants vars layer place env).made) →
       P (stmt place layer)
   by_kind place layer most env =
-      subst (λ shape. ShapeIn depths.depth_of names.naming_of shape (walked_stmt constants vars (stmt place layer) env).made) (sym (named_shape_is place layer))
+      subst (λ shape. ShapeIn depths.depth_of names.naming_of shape (walked_stmt constants vars (stmt place layer) env).made)
+      (sym (named_shape_is place layer))
       (subst (λ (walk : Walk Stmt). ShapeIn depths.depth_of names.naming_of (named_kind_shape layer) (walk env).made)
       (sym (walked_is constants vars place layer))
       (made_in place (named_kind_shape layer) (walked_by constants vars layer place env).made (most env)))
@@ -321,7 +367,8 @@ module _ (constants : List NamedConstant) (vars : List NamedVar) where
       (subst (λ shape. ShapeMost shape (block_shape (named_bodies body))) (sym (branch_shape_is weak (walked_body body env).made))
       (bodies_most (bodies (walked_body body env).made) (named_bodies body) (body_in body each env))))
 
-  branching_case : (place : Place) (arms : List NamedArm) (other : List NamedStmt) → All Q arms → All P other → P (stmt place (NamedStmtKind-F.If arms other))
+  branching_case : (place : Place) (arms : List NamedArm) (other : List NamedStmt) → All Q arms → All P other →
+      P (stmt place (NamedStmtKind-F.If arms other))
   branching_case place arms other each rest = by_kind place (NamedStmtKind-F.If arms other)
       (λ env.
       let tests : Block Arm = in_order (map (arm_walked constants vars) arms) env in

@@ -1,5 +1,25 @@
 -- How deep an expression is nested, and which variables it names.
-use Rattle.std.proofs.Common.{◌≡◌, ℕ, ℤ, ◌+◌, ◌≤◌, List, [], ◌∷◌, ◌++◌, map, Option, Some, None, refl, ap, subst, sym, ◌∙◌, arith}
+use Rattle.std.proofs.Common.{
+  ◌≡◌,
+  ℕ,
+  ℤ,
+  ◌+◌,
+  ◌≤◌,
+  List,
+  [],
+  ◌∷◌,
+  ◌++◌,
+  map,
+  Option,
+  Some,
+  None,
+  refl,
+  ap,
+  subst,
+  sym,
+  ◌∙◌,
+  arith,
+}
 use Rattle.std.specs.Prelude.{max, ⊤}
 use Rattle.std.specs.List.{cons_option}
 use Rattle.bl_tree.specs.declared.place.Place.{Place}
@@ -107,7 +127,8 @@ Layer = ExprKind-F ExprKind Part Expr Path
 
 abbrev depth_kind : Layer → ℕ
 depth_kind layer = depths.kind_depth
-    (map-ExprKind ExprKind Part Expr Path ℕ ℕ ℕ ℕ (fold-ExprKind ℕ ℕ ℕ ℕ depths.kind_depth depths.part_depth depths.expr_layer_depth depths.path_layer_depth)
+    (map-ExprKind ExprKind Part Expr Path ℕ ℕ ℕ ℕ (fold-ExprKind ℕ ℕ ℕ ℕ depths.kind_depth depths.part_depth depths.expr_layer_depth
+    depths.path_layer_depth)
     part_depth depths.expr_depth depths.path_depth layer)
 
 abbrev roots_kind : Layer → Roots
@@ -122,7 +143,8 @@ pub size_at : (at : Place) (kind : ExprKind) (layer : Layer) → out-ExprKind ki
     size_of (roll-Expr (record { place = at; what = kind })) ≡ size_kind layer
 size_at at kind layer is =
     let depth_is : depths.expr_depth (roll-Expr (record { place = at; what = kind })) ≡ depth_kind layer =
-    rw fold-roll-Expr (fold_out-ExprKind ℕ ℕ ℕ ℕ depths.kind_depth depths.part_depth depths.expr_layer_depth depths.path_layer_depth kind ∙ ap depth_kind is) in
+    rw fold-roll-Expr (fold_out-ExprKind ℕ ℕ ℕ ℕ depths.kind_depth depths.part_depth depths.expr_layer_depth depths.path_layer_depth
+    kind ∙ ap depth_kind is) in
     let roots_are : names.roots_in (roll-Expr (record { place = at; what = kind })) ≡ roots_kind layer =
     rw fold-roll-Expr (fold_out-ExprKind Roots Roots Roots Roots names.kind_roots names.part_roots names.expr_layer_roots names.path_layer_roots kind
     ∙ ap roots_kind is) in
@@ -130,7 +152,8 @@ size_at at kind layer is =
 
 abbrev depth_step : Part-F ExprKind Part Expr Path → ℕ
 depth_step layer = depths.part_depth
-    (map-Part ExprKind Part Expr Path ℕ ℕ ℕ ℕ (fold-ExprKind ℕ ℕ ℕ ℕ depths.kind_depth depths.part_depth depths.expr_layer_depth depths.path_layer_depth)
+    (map-Part ExprKind Part Expr Path ℕ ℕ ℕ ℕ (fold-ExprKind ℕ ℕ ℕ ℕ depths.kind_depth depths.part_depth depths.expr_layer_depth
+    depths.path_layer_depth)
     part_depth depths.expr_depth depths.path_depth layer)
 
 abbrev roots_step : Part-F ExprKind Part Expr Path → Roots
@@ -141,7 +164,8 @@ roots_step layer = names.part_roots
 part_at : (part : Part) (layer : Part-F ExprKind Part Expr Path) → out-Part part ≡ layer →
     size_of_part part ≡ record { depth = depth_step layer; roots = roots_step layer }
 part_at part layer is =
-    let depth_is = fold_out-Part ℕ ℕ ℕ ℕ depths.kind_depth depths.part_depth depths.expr_layer_depth depths.path_layer_depth part ∙ ap depth_step is in
+    let depth_is = fold_out-Part ℕ ℕ ℕ ℕ depths.kind_depth depths.part_depth depths.expr_layer_depth depths.path_layer_depth part
+    ∙ ap depth_step is in
     let roots_are = fold_out-Part Roots Roots Roots Roots names.kind_roots names.part_roots names.expr_layer_roots names.path_layer_roots part
     ∙ ap roots_step is in
     λ i. record { depth = depth_is i; roots = roots_are i }
@@ -176,7 +200,8 @@ index_size e = part_at (part.Index e) (Part-F.Index e) (part.outs-Index e)
 abbrev pub rooted : Roots → Size → Size
 rooted roots size = record { depth = size.depth; roots = roots ++ size.roots }
 
-pub path_size : (at : Place) (k : ℕ) (parts : List Part) (ty : Ty) → size_of_path (path at k parts ty) ≡ rooted (k ∷ []) (size_all part_depth part_roots parts)
+pub path_size : (at : Place) (k : ℕ) (parts : List Part) (ty : Ty) →
+    size_of_path (path at k parts ty) ≡ rooted (k ∷ []) (size_all part_depth part_roots parts)
 path_size at k parts ty =
     let depth_is : depths.path_depth (path at k parts ty) ≡ greatest (map part_depth parts) = rw fold-roll-Path refl in
     let roots_are : names.roots_in_path (path at k parts ty) ≡ k ∷ joined (map part_roots parts) = rw fold-roll-Path refl in
@@ -200,13 +225,15 @@ two_most at op a b left right most other =
     size_is (size_of (two at op a b)) (deeper (beside (size_of a) (size_of b))) (deeper (beside left right)) (two_size at op a b)
     (size_deeper (beside (size_of a) (size_of b)) (beside left right) (size_beside (size_of a) (size_of b) left right most other))
 
-pub cast_most : (at : Place) (target : ScalarType) (a : Expr) (size : Size) → SizeMost (size_of a) size → SizeMost (size_of (cast at target a)) (deeper size)
+pub cast_most : (at : Place) (target : ScalarType) (a : Expr) (size : Size) → SizeMost (size_of a) size →
+    SizeMost (size_of (cast at target a)) (deeper size)
 cast_most at target a size most = size_is (size_of (cast at target a)) (deeper (size_of a)) (deeper size) (cast_size at target a)
     (size_deeper (size_of a) size most)
 
 -- ---- beside what is not deep
 
-pub size_first : (a b c d : Size) → d.depth ≡ 0 → SizeMost a c → SizeMost b d → SizeMost (beside a b) (record { depth = c.depth; roots = c.roots ++ d.roots })
+pub size_first : (a b c d : Size) → d.depth ≡ 0 → SizeMost a c → SizeMost b d →
+    SizeMost (beside a b) (record { depth = c.depth; roots = c.roots ++ d.roots })
 size_first a b c d flat one other = record {
   depth = deep a.depth b.depth c.depth d.depth flat one.depth other.depth;
   roots = among_both a.roots b.roots c.roots d.roots one.roots other.roots;
@@ -215,7 +242,8 @@ size_first a b c d flat one other = record {
     deep : (a b c d : ℕ) → d ≡ 0 → a ≤ c → b ≤ d → max a b ≤ c
     deep a b c d flat most less = grind arith
 
-pub size_second : (a b c d : Size) → c.depth ≡ 0 → SizeMost a c → SizeMost b d → SizeMost (beside a b) (record { depth = d.depth; roots = c.roots ++ d.roots })
+pub size_second : (a b c d : Size) → c.depth ≡ 0 → SizeMost a c → SizeMost b d →
+    SizeMost (beside a b) (record { depth = d.depth; roots = c.roots ++ d.roots })
 size_second a b c d flat one other = record {
   depth = deep a.depth b.depth c.depth d.depth flat one.depth other.depth;
   roots = among_both a.roots b.roots c.roots d.roots one.roots other.roots;

@@ -21,7 +21,20 @@ use Rattle.bl_named.specs.declared.item.NamedStruct.{NamedStruct}
 use Rattle.bl_named.specs.declared.item.NamedUnit.{NamedUnit}
 use Rattle.bl_named.specs.declared.item.NamedVar.{NamedVar}
 use Rattle.bl_named.specs.Placed.{Earlier, parameters, struct_placed}
-use Rattle.bl_names_laws.specs.Keeps.{body_apart, body_filled, body_shallow, fields_differ, fields_named, has_name, parameters_differ, variables_named, field_names as named_fields, names_of as named_names, struct_stands as struct_keeps, unit_stands as unit_keeps}
+use Rattle.bl_names_laws.specs.Keeps.{
+  body_apart,
+  body_filled,
+  body_shallow,
+  fields_differ,
+  fields_named,
+  has_name,
+  parameters_differ,
+  variables_named,
+  field_names as named_fields,
+  names_of as named_names,
+  struct_stands as struct_keeps,
+  unit_stands as unit_keeps,
+}
 use Rattle.bl_types.specs.declared.environment.Environment.{Environment}
 use Rattle.bl_types.specs.Declarations.{after_struct, field_of, struct_of}
 use Rattle.bl_types.specs.Statements.{Block, walked_block}

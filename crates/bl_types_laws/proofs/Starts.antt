@@ -1,5 +1,30 @@
 -- Lists of numbers that ascend, and lists that are picked from others.
-use Rattle.std.proofs.Common.{◌≡◌, ℕ, zero, suc, ◌+◌, ◌<◌, Bool, true, ◌&&◌, List, [], ◌∷◌, ◌++◌, map, Some, refl, sym, ap, subst, inl, inr, ⊎_elim, ◌⊎◌, arith}
+use Rattle.std.proofs.Common.{
+  ◌≡◌,
+  ℕ,
+  zero,
+  suc,
+  ◌+◌,
+  ◌<◌,
+  Bool,
+  true,
+  ◌&&◌,
+  List,
+  [],
+  ◌∷◌,
+  ◌++◌,
+  map,
+  Some,
+  refl,
+  sym,
+  ap,
+  subst,
+  inl,
+  inr,
+  ⊎_elim,
+  ◌⊎◌,
+  arith,
+}
 use Rattle.std.specs.Prelude.{nat_lt, slice_get}
 use Rattle.std.specs.List.{list_all}
 use Rattle.std.proofs.lemmas.Bool.Decides.{nat_tests}
@@ -125,7 +150,8 @@ module _ {A : Type 0} (f : A → List ℕ) where
       (λ (q : In y xs). one_part xs x y n (ascends_right (f z) rest up) p q in_x in_y) two) one
 
   -- at one position
-  pub one_position : (xs : List A) (j k : ℕ) (x y : A) (n : ℕ) → ascends (joined (map f xs)) ≡ true → slice_get xs j ≡ Some x → slice_get xs k ≡ Some y →
+  pub one_position : (xs : List A) (j k : ℕ) (x y : A) (n : ℕ) → ascends (joined (map f xs)) ≡ true → slice_get xs j ≡ Some x →
+      slice_get xs k ≡ Some y →
       In n (f x) → In n (f y) → j ≡ k
   one_position [] j k x y n up one two in_x in_y = absurd (cc)
   one_position (z ∷ xs) zero zero x y n up one two in_x in_y = refl

@@ -20,7 +20,27 @@ use Rattle.bl_tree.specs.declared.tree.Ty.{Ty}
 use Rattle.bl_tree.specs.declared.tree.Unit.{Unit as UnitDef}
 use Rattle.bl_tree.specs.Reduce.{all_of}
 use Rattle.bl_tree.specs.Types.{scalar}
-use Rattle.bl_tree.specs.Typing.{Site, are_same, arguments_fit, arm_fits, branch_fits, call_fits, fits, is_activity, is_assignable, is_function, is_outlet, is_truth, kind_fits, return_fits, run_fits, stmt_fits, target_fits, type_of, type_of_path}
+use Rattle.bl_tree.specs.Typing.{
+  Site,
+  are_same,
+  arguments_fit,
+  arm_fits,
+  branch_fits,
+  call_fits,
+  fits,
+  is_activity,
+  is_assignable,
+  is_function,
+  is_outlet,
+  is_truth,
+  kind_fits,
+  return_fits,
+  run_fits,
+  stmt_fits,
+  target_fits,
+  type_of,
+  type_of_path,
+}
 use Rattle.bl_eval.proofs.OperatorFits.{where_holds}
 use Rattle.bl_eval.proofs.PassLemmas.{and_left, and_right, both}
 use Rattle.bl_named.specs.declared.expr.NamedExpr.{NamedExpr}
@@ -33,7 +53,30 @@ use Rattle.bl_types.specs.declared.form.Found.TheVariants as found
 use Rattle.bl_types.specs.Expressions.{Targeted, in_context, judged, targeted}
 use Rattle.bl_types.specs.Failures.{unless}
 use Rattle.bl_types.specs.Settled.{Settled}
-use Rattle.bl_types.specs.Statements.{Arguments, RunTarget, arguments, arm_of, assign, assign_made, call_walked, condition, has_result, if_complete, immutable, lent, misplaced, no_result, result_type, returned, run_made, run_target, run_walked, stmt_made, type_found, walked}
+use Rattle.bl_types.specs.Statements.{
+  Arguments,
+  RunTarget,
+  arguments,
+  arm_of,
+  assign,
+  assign_made,
+  call_walked,
+  condition,
+  has_result,
+  if_complete,
+  immutable,
+  lent,
+  misplaced,
+  no_result,
+  result_type,
+  returned,
+  run_made,
+  run_target,
+  run_walked,
+  stmt_made,
+  type_found,
+  walked,
+}
 use Rattle.bl_types_laws.specs.Fitting.{FoundFits, IsLent, IsMade}
 use Rattle.bl_types_laws.specs.Standing.{Around, Known, Passed}
 use Rattle.bl_types_laws.specs.Within.{Within, calls_functions, known_in, target_calls}
@@ -88,7 +131,8 @@ module _ (site : Site) where
 
   call_good : (at : Place) (f : ℕ) (arguments : Arguments) (unit : UnitDef) (a : StmtKind) → slice_get site.earlier f ≡ Some unit →
       is_function unit.kind ≡ true → is_none unit.result ≡ true →
-      arguments_fit site arguments.inputs arguments.outputs unit ≡ true → if_complete arguments (what.Call f) ≡ Some a → fits site (stmt_made at a) ≡ true
+      arguments_fit site arguments.inputs arguments.outputs unit ≡ true → if_complete arguments (what.Call f) ≡ Some a →
+      fits site (stmt_made at a) ≡ true
   call_good at f arguments unit a there function none fit is =
       subst (λ a. fits site (stmt_made at a) ≡ true) (complete_if arguments.complete (what.Call f) arguments.inputs arguments.outputs a is)
       (fits_is at (what.Call f arguments.inputs arguments.outputs) (StmtKind-F.Call f arguments.inputs arguments.outputs)
@@ -111,7 +155,8 @@ module _ (site : Site) where
       ∙ both (is_activity site.kind && is_activity unit.kind) _ (both (is_activity site.kind) (is_activity unit.kind) own activity)
       (both (target_fits site unit.result path) (arguments_fit site arguments.inputs arguments.outputs unit) (leads path refl) fit))
 
-  target_lent : (result : Option ScalarType) (s : ScalarType) (made : Option Path) (path : Option Path) → result ≡ Some s → IsLent site (scalar s) made →
+  target_lent : (result : Option ScalarType) (s : ScalarType) (made : Option Path) (path : Option Path) → result ≡ Some s →
+      IsLent site (scalar s) made →
       option_map (λ path. Some path) made ≡ Some path → target_fits site result path ≡ true
   target_lent result s made path is lent are =
       let found = map_found (λ (path : Path). Some path) made path are in
@@ -220,10 +265,12 @@ module _ (site : Site) (at : Place) where
       (nil_left given.failures (has_result name (slice_get env.units f)) none) in
       call_good site at f given unit a there function bare complete.fit is)
 
-  target_by : (env : Environment) → Within env site → (unit : UnitDef) (target : Option NamedPath) → holds_if (path_placed (known_in env)) target ≡ true →
+  target_by : (env : Environment) → Within env site → (unit : UnitDef) (target : Option NamedPath) →
+      holds_if (path_placed (known_in env)) target ≡ true →
       (run_target env (Some unit) target).failures ≡ [] →
       (path : Option Path) → (run_target env (Some unit) target).made ≡ Some path → target_fits site unit.result path ≡ true
-  target_by env within unit None placed none path is = subst (λ path. target_fits site unit.result path ≡ true) (same_Some None path is) (no_target unit.result)
+  target_by env within unit None placed none path is =
+      subst (λ path. target_fits site unit.result path ≡ true) (same_Some None path is) (no_target unit.result)
     where
       no_target : (result : Option ScalarType) → target_fits site result None ≡ true
       no_target None = refl
@@ -262,7 +309,8 @@ module _ (site : Site) (at : Place) where
       ap (holds_of (λ (unit : UnitDef). is_activity unit.kind)) (sym there)
       ∙ and_left (holds_of (λ (unit : UnitDef). is_activity unit.kind) (slice_get site.earlier f)) (list_all (calls_functions site.earlier) inputs) named in
       let behind : leads.failures ++ given.failures ≡ [] = nil_right (misplaced env.kind at) (leads.failures ++ given.failures) none in
-      let target_is : run_target env (slice_get env.units f) target ≡ run_target env (Some unit) target = ap (λ callee. run_target env callee target) found.1 in
+      let target_is : run_target env (slice_get env.units f) target ≡ run_target env (Some unit) target =
+      ap (λ callee. run_target env callee target) found.1 in
       passed_still site good env counts (run_made leads.made f given) (misplaced env.kind at ++ (leads.failures ++ given.failures)) around known placed.1
       (λ within a is.
       let complete = arguments_good env site within name f inputs outputs unit found.1
@@ -287,7 +335,8 @@ module _ (site : Site) (at : Place) where
       await_good site at test.made a (own_kind env around (nil_left (misplaced env.kind at) test.failures none))
       (condition_fits env site within e placed.0 (own_calls env site around e named) (nil_right (misplaced env.kind at) test.failures none)) is)
 
-  return_by : (e : Option NamedExpr) (result : Option ScalarType) (env : Environment) → env.result ≡ result → holds_if (calls_functions site.earlier) e ≡ true →
+  return_by : (e : Option NamedExpr) (result : Option ScalarType) (env : Environment) → env.result ≡ result →
+      holds_if (calls_functions site.earlier) e ≡ true →
       Around env site → Known env → (counts : Earlier) →
       declares_none (holds_if (expr_placed (known_in env)) e) (known_in env) ≡ Some counts → (returned at e result env).failures ≡ [] →
       Passed false site good env counts (returned at e result env)

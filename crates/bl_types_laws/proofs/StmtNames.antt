@@ -1,5 +1,24 @@
 -- Statements are named as their types want it, where every use fits.
-use Rattle.std.proofs.Common.{◌≡◌, Bool, true, ◌&&◌, ◌||◌, List, [], ◌∷◌, ◌++◌, map, Option, Some, None, refl, sym, ap, subst, ◌∙◌}
+use Rattle.std.proofs.Common.{
+  ◌≡◌,
+  Bool,
+  true,
+  ◌&&◌,
+  ◌||◌,
+  List,
+  [],
+  ◌∷◌,
+  ◌++◌,
+  map,
+  Option,
+  Some,
+  None,
+  refl,
+  sym,
+  ap,
+  subst,
+  ◌∙◌,
+}
 use Rattle.std.specs.Prelude.{All, is_some, option_map, slice_get}
 use Rattle.std.proofs.lemmas.List.Elements.{All-head, All-tail}
 use Rattle.bl_tree.specs.declared.place.Place.{Place}
@@ -32,20 +51,71 @@ use Rattle.bl_raw.specs.declared.stmt.RawStmt.{RawStmt, fold-roll-RawStmt}
 use Rattle.bl_raw.specs.declared.stmt.RawStmtKind.{RawStmtKind, fold-RawStmtKind, fold-roll-RawStmtKind, map-RawStmtKind}
 use Rattle.bl_raw.specs.declared.stmt.RawStmtKind.TheOpen.{RawStmtKind-F}
 use Rattle.bl_raw.specs.declared.types.RawType.{RawType}
-use Rattle.bl_raw.specs.Names.{arm_stands, branch_stands, expr_named, is_filled, named, optional as if_there, stmt_kind_stands, stmt_layer_stands, stmt_stands, type_named}
-use Rattle.bl_names.specs.Named.{Piece, all, arm_piece, branch_piece, constant_piece, kind_piece, made_of_all, marks_of_all, named_constant, named_var, opened, own_scope, piece_of_arm, piece_of_branch, plain, stmt_layer_piece, stmt_piece}
+use Rattle.bl_raw.specs.Names.{
+  arm_stands,
+  branch_stands,
+  expr_named,
+  is_filled,
+  named,
+  optional as if_there,
+  stmt_kind_stands,
+  stmt_layer_stands,
+  stmt_stands,
+  type_named,
+}
+use Rattle.bl_names.specs.Named.{
+  Piece,
+  all,
+  arm_piece,
+  branch_piece,
+  constant_piece,
+  kind_piece,
+  made_of_all,
+  marks_of_all,
+  named_constant,
+  named_var,
+  opened,
+  own_scope,
+  piece_of_arm,
+  piece_of_branch,
+  plain,
+  stmt_layer_piece,
+  stmt_piece,
+}
 use Rattle.bl_names.specs.Naming.{named_expr, named_path, named_target, position}
 use Rattle.bl_names.proofs.FitLemmas.{Fits, fits_behind, fits_first, fits_second}
 use Rattle.bl_names.proofs.PastLemmas.{enter-behind}
 use Rattle.bl_names.proofs.PieceLemmas.{parts}
 use Rattle.bl_names.proofs.PlacedStmt.{Within, within_first, within_one, within_second}
 use Rattle.bl_names.proofs.RawStmtInduction.{Cases, induct, stmt}
-use Rattle.bl_names.proofs.StillLemmas.{Still, after-append, still_append, still_arguments, still_expr, still_optional, still_target, still_type, still_use, still_value}
+use Rattle.bl_names.proofs.StillLemmas.{
+  Still,
+  after-append,
+  still_append,
+  still_arguments,
+  still_expr,
+  still_optional,
+  still_target,
+  still_type,
+  still_use,
+  still_value,
+}
 use Rattle.bl_eval.proofs.PassLemmas.{and_left, and_right, both}
 use Rattle.bl_types_laws.specs.Standing.{arm_named, branch_named, declared_by, kind_named, named_arm, named_branch, stmt_layer_named, stmt_named}
 use Rattle.bl_types_laws.specs.Within.{calls_functions}
 use Rattle.bl_types_laws.proofs.ExprCalls.{activity_is, expr_is, exprs_are, function_is, optional_is, target_is}
-use Rattle.bl_types_laws.proofs.Suits.{Suits, scope_is, suits_closed, suits_constant, suits_none, suits_so, suits_still, suits_then, suits_variable, told_opened}
+use Rattle.bl_types_laws.proofs.Suits.{
+  Suits,
+  scope_is,
+  suits_closed,
+  suits_constant,
+  suits_none,
+  suits_so,
+  suits_still,
+  suits_then,
+  suits_variable,
+  told_opened,
+}
 use Rattle.bl_types_laws.proofs.Told.{Told, kinds_of}
 
 abbrev RawLayer : Type 0
@@ -85,7 +155,8 @@ arm_stands_at : (test : RawExpr) (body : List RawStmt) → arm_filled (roll-RawA
     ≡ (expr_named test && all_of (map stmt_stands body))
 arm_stands_at test body = rw fold-roll-RawArm refl
 
-branch_stands_at : (weak : Bool) (body : List RawStmt) → branch_filled (roll-RawBranch (record { weak = weak; body = body })) ≡ all_of (map stmt_stands body)
+branch_stands_at : (weak : Bool) (body : List RawStmt) →
+    branch_filled (roll-RawBranch (record { weak = weak; body = body })) ≡ all_of (map stmt_stands body)
 branch_stands_at weak body = rw fold-roll-RawBranch refl
 
 -- a `var` without a value has a type
@@ -95,7 +166,8 @@ declared_so scopes name ty (Some e) stands = refl
 declared_so scopes name (Some ty) None stands = refl
 declared_so scopes name None None stands = stands
 
-inhabited : {X A : Type 0} (test : A → Bool) (stands : X → Bool) (piece : X → Piece A) (xs : List X) (scopes : Scopes) → is_filled (map stands xs) ≡ true →
+inhabited : {X A : Type 0} (test : A → Bool) (stands : X → Bool) (piece : X → Piece A) (xs : List X) (scopes : Scopes) →
+    is_filled (map stands xs) ≡ true →
     is_inhabited (map test (made_of_all (map piece xs) scopes)) ≡ true
 inhabited test stands piece [] scopes has = has
 inhabited test stands piece (x ∷ xs) scopes has = refl
@@ -138,7 +210,8 @@ module _ (units : List UnitDef) (all_vars : List NamedVar) (all_constants : List
   BranchGood branch = branch_filled branch ≡ true → Good branch_test (piece_of_branch branch)
 
   -- one part and then another
-  good_then : {A B : Type 0} (first : Piece A) (second : Piece B) (one : A → Bool) (other : B → Bool) (scopes : Scopes) → Good one first → Good other second →
+  good_then : {A B : Type 0} (first : Piece A) (second : Piece B) (one : A → Bool) (other : B → Bool) (scopes : Scopes) →
+      Good one first → Good other second →
       Told kinds scopes → Fits scopes (first.marks ++ second.marks) →
       Within all_vars scopes.counts.variables (first.vars scopes ++ second.vars (after scopes first.marks)) →
       Within all_constants scopes.counts.constants (first.constants scopes ++ second.constants (after scopes first.marks)) →
@@ -160,14 +233,16 @@ module _ (units : List UnitDef) (all_vars : List NamedVar) (all_constants : List
       (suits_then units (one (first.made scopes)) (other (second.made middle)) scopes middle (after middle second.marks) (first.vars scopes)
       (second.vars middle) (first.constants scopes) (second.constants middle) there behind)
 
-  good_all : {X A : Type 0} (piece : X → Piece A) (test : A → Bool) (stands : X → Bool) (xs : List X) → All (λ x. stands x ≡ true → Good test (piece x)) xs →
+  good_all : {X A : Type 0} (piece : X → Piece A) (test : A → Bool) (stands : X → Bool) (xs : List X) →
+      All (λ x. stands x ≡ true → Good test (piece x)) xs →
       all_of (map stands xs) ≡ true →
       Good (λ made. all_of (map test made)) (all (map piece xs))
   good_all piece test stands [] each hold scopes told fits vars constants = suits_none units scopes told
   good_all piece test stands (x ∷ xs) each hold scopes told fits vars constants =
       good_then (piece x) (all (map piece xs)) test (λ made. all_of (map test made)) scopes
       (All-head (λ x. stands x ≡ true → Good test (piece x)) x xs each (and_left (stands x) (all_of (map stands xs)) hold))
-      (good_all piece test stands xs (All-tail (λ x. stands x ≡ true → Good test (piece x)) x xs each) (and_right (stands x) (all_of (map stands xs)) hold))
+      (good_all piece test stands xs (All-tail (λ x. stands x ≡ true → Good test (piece x)) x xs each)
+      (and_right (stands x) (all_of (map stands xs)) hold))
       told fits vars constants
 
   -- in a scope of its own
@@ -186,7 +261,8 @@ module _ (units : List UnitDef) (all_vars : List NamedVar) (all_constants : List
   good_body body each hold = good_all stmt_piece stmt_test stmt_stands body each hold
 
   -- a body behind a condition
-  good_tested : (e : RawExpr) (body : List RawStmt) → All StmtGood body → all_of (map stmt_stands body) ≡ true → (scopes : Scopes) → Told kinds scopes →
+  good_tested : (e : RawExpr) (body : List RawStmt) → All StmtGood body → all_of (map stmt_stands body) ≡ true → (scopes : Scopes) →
+      Told kinds scopes →
       Fits scopes (expr_marks e ++ in_scope (body_of body).marks) →
       Within all_vars scopes.counts.variables ((body_of body).vars (opened (after scopes (expr_marks e)))) →
       Within all_constants scopes.counts.constants ((body_of body).constants (opened (after scopes (expr_marks e)))) →
@@ -200,7 +276,8 @@ module _ (units : List UnitDef) (all_vars : List NamedVar) (all_constants : List
       (good_own (body_of body) body_test (good_body body each hold)) told fits vars constants
 
   -- a body before a condition, which sees what is around it
-  good_until : (body : List RawStmt) (e : RawExpr) → All StmtGood body → all_of (map stmt_stands body) ≡ true → (scopes : Scopes) → Told kinds scopes →
+  good_until : (body : List RawStmt) (e : RawExpr) → All StmtGood body → all_of (map stmt_stands body) ≡ true → (scopes : Scopes) →
+      Told kinds scopes →
       Fits scopes (in_scope (body_of body).marks ++ expr_marks e) →
       Within all_vars scopes.counts.variables ((body_of body).vars (opened scopes)) →
       Within all_constants scopes.counts.constants ((body_of body).constants (opened scopes)) →

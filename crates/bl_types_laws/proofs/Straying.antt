@@ -28,7 +28,27 @@ use Rattle.bl_types.specs.declared.environment.Environment.{Environment}
 use Rattle.bl_types.specs.declared.form.Found.{Found}
 use Rattle.bl_types.specs.declared.form.Found.TheVariants as found
 use Rattle.bl_types.specs.Returns.{arm_layer_strays, branch_layer_strays, kind_strays, layer_strays, strays_in, strays_in_arm, strays_in_branch}
-use Rattle.bl_types.specs.Statements.{Arguments, Block, Walk, Walked, arguments, run_target, arm_of, arm_walked, assign_made, branch_walked, condition, declare, if_complete, in_order, run_made, stmt_made, walked_arm, walked_branch, walked_stmt}
+use Rattle.bl_types.specs.Statements.{
+  Arguments,
+  Block,
+  Walk,
+  Walked,
+  arguments,
+  run_target,
+  arm_of,
+  arm_walked,
+  assign_made,
+  branch_walked,
+  condition,
+  declare,
+  if_complete,
+  in_order,
+  run_made,
+  stmt_made,
+  walked_arm,
+  walked_branch,
+  walked_stmt,
+}
 use Rattle.bl_types_laws.proofs.Arguments.{complete_if}
 use Rattle.bl_types_laws.proofs.Forms.{map_found, nil_left, nil_right}
 use Rattle.bl_types_laws.proofs.NamedStmtInduction.{Cases, induct, stmt}
@@ -123,14 +143,16 @@ module _ (constants : List NamedConstant) (vars : List NamedVar) where
       let found = map_found (λ e. what.Declare k (Some e)) _ a is in
       kind_none place (what.Declare k (Some found.0)) a (StmtKind-F.Declare k (Some found.0)) found.2 (what.outs-Declare k (Some found.0)) refl
 
-  assign_none : (place : Place) (leads : Found) (value : Option Expr) (a : StmtKind) → assign_made leads value ≡ Some a → has_return (stmt_made place a) ≡ false
+  assign_none : (place : Place) (leads : Found) (value : Option Expr) (a : StmtKind) → assign_made leads value ≡ Some a →
+      has_return (stmt_made place a) ≡ false
   assign_none place found.Nothing value a is = absurd (cc)
   assign_none place (found.Constant s n) value a is = absurd (cc)
   assign_none place (found.Place path) None a is = absurd (cc)
   assign_none place (found.Place path) (Some e) a is = kind_none place (what.Assign path e) a (StmtKind-F.Assign path e) (same_Some (what.Assign path e) a is)
       (what.outs-Assign path e) refl
 
-  call_none : (place : Place) (f : ℕ) (given : Arguments) (a : StmtKind) → if_complete given (what.Call f) ≡ Some a → has_return (stmt_made place a) ≡ false
+  call_none : (place : Place) (f : ℕ) (given : Arguments) (a : StmtKind) → if_complete given (what.Call f) ≡ Some a →
+      has_return (stmt_made place a) ≡ false
   call_none place f given a is =
       kind_none place (what.Call f given.inputs given.outputs) a (StmtKind-F.Call f given.inputs given.outputs)
       (complete_if given.complete (what.Call f) given.inputs given.outputs a is) (what.outs-Call f given.inputs given.outputs) refl
@@ -157,7 +179,8 @@ module _ (constants : List NamedConstant) (vars : List NamedVar) where
 
   branch_case : (weak : Bool) (body : List NamedStmt) → All P body → R (roll-NamedBranch (record { weak = weak; body = body }))
   branch_case weak body each none env a is =
-      let strays_as : strays_in_branch (roll-NamedBranch (record { weak = weak; body = body })) ≡ joined (map strays_in body) = rw fold-roll-NamedBranch refl in
+      let strays_as : strays_in_branch (roll-NamedBranch (record { weak = weak; body = body })) ≡ joined (map strays_in body) =
+      rw fold-roll-NamedBranch refl in
       let walked_as : branch_walked constants vars (roll-NamedBranch (record { weak = weak; body = body }))
       ≡ walked_branch (record { weak = weak; body = map (walked_stmt constants vars) body }) = rw fold-roll-NamedBranch refl in
       let all : Block Stmt = in_order (map (walked_stmt constants vars) body) env in

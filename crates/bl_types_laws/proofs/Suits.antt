@@ -104,7 +104,8 @@ module _ (units : List UnitDef) where
   }
 
   -- and of a constant
-  pub suits_constant : (scopes : Scopes) (name : Name) (constant : NamedConstant) → Told (kinds_of units) scopes → constant_calls units constant ≡ true →
+  pub suits_constant : (scopes : Scopes) (name : Name) (constant : NamedConstant) → Told (kinds_of units) scopes →
+      constant_calls units constant ≡ true →
       Suits units (constant_calls units constant) scopes (enter scopes (declares name kind.Constant)) [] (constant ∷ [])
   suits_constant scopes name constant told is = record {
     named = is;
@@ -121,7 +122,8 @@ module _ (units : List UnitDef) where
       after scopes (in_scope marks) ≡ record scopes { counts = (after (opened scopes) marks).counts }
   scope_is scopes marks is = after-append (opened scopes) marks (closes ∷ []) ∙ closed_is scopes (after (opened scopes) marks) is
 
-  pub suits_closed : (holds : Bool) (scopes : Scopes) (marks : Marks) (vars : List NamedVar) (constants : List NamedConstant) → Told (kinds_of units) scopes →
+  pub suits_closed : (holds : Bool) (scopes : Scopes) (marks : Marks) (vars : List NamedVar) (constants : List NamedConstant) →
+      Told (kinds_of units) scopes →
       Suits units holds (opened scopes) (after (opened scopes) marks) vars constants → Suits units holds scopes (after scopes (in_scope marks)) vars constants
   suits_closed holds scopes marks vars constants told inside =
       subst (λ new. Suits units holds scopes new vars constants) (sym (scope_is scopes marks inside.outer))

@@ -22,7 +22,23 @@ use Rattle.bl_eval.proofs.PassLemmas.{get_front}
 use Rattle.bl_raw.specs.declared.name.Name.{Name}
 use Rattle.bl_types.specs.declared.form.Form.{Form}
 use Rattle.bl_types.specs.declared.form.Form.TheVariants.{Failing, Open, Of}
-use Rattle.bl_types.specs.Expressions.{FieldAt, Judged, Led, Stepped, after_index, as_index, element_found, field_among, field_found, field_in as field_named, index_made, stepped, to_element, to_field, whole_or_unfit}
+use Rattle.bl_types.specs.Expressions.{
+  FieldAt,
+  Judged,
+  Led,
+  Stepped,
+  after_index,
+  as_index,
+  element_found,
+  field_among,
+  field_found,
+  field_in as field_named,
+  index_made,
+  stepped,
+  to_element,
+  to_field,
+  whole_or_unfit,
+}
 use Rattle.bl_types.specs.declared.environment.Environment.{Environment}
 use Rattle.bl_types.specs.Settled.{Settled, int32, kept, unfit}
 use Rattle.bl_types_laws.specs.Fitting.{FormFits, IsMade}
@@ -111,7 +127,8 @@ pub record IndexFits (site : Site) (made : Option Expr) : Type 0 where
   pub is_made : IsMade site (scalar ty) made
 
 module _ (site : Site) where
-  whole_by : (at : Place) (ty : Ty) (s : ScalarType) (e : Expr) (whole : Bool) → scalar_in ty ≡ Some s → is_whole s ≡ whole → type_of site e ≡ Some ty →
+  whole_by : (at : Place) (ty : Ty) (s : ScalarType) (e : Expr) (whole : Bool) → scalar_in ty ≡ Some s → is_whole s ≡ whole →
+      type_of site e ≡ Some ty →
       (if whole then kept e else unfit at).failures ≡ [] → IndexFits site (if whole then kept e else unfit at).made
   whole_by at ty s e true is whole typed none = record {
     ty = s;
@@ -121,7 +138,8 @@ module _ (site : Site) where
   }
   whole_by at ty s e false is whole typed none = absurd (cc)
 
-  whole_fits : (at : Place) (ty : Ty) (s : Option ScalarType) (e : Expr) → scalar_in ty ≡ s → type_of site e ≡ Some ty → (whole_or_unfit at s e).failures ≡ [] →
+  whole_fits : (at : Place) (ty : Ty) (s : Option ScalarType) (e : Expr) → scalar_in ty ≡ s → type_of site e ≡ Some ty →
+      (whole_or_unfit at s e).failures ≡ [] →
       IndexFits site (whole_or_unfit at s e).made
   whole_fits at ty None e is typed none = absurd (cc)
   whole_fits at ty (Some s) e is typed none = whole_by at ty s e (is_whole s) is refl typed none
@@ -131,7 +149,8 @@ module _ (site : Site) where
   as_index_fits at (Open e) fit none = record { ty = int32; is_whole_number = refl; is_made = fit int32 refl none }
   as_index_fits at (Of ty e) fit none = whole_fits at ty (scalar_in ty) e refl fit none
 
-  index_leads : (ty element : Ty) (s : ScalarType) (e : Expr) → element_in (out-Ty ty) ≡ Some element → is_whole s ≡ true → type_of site e ≡ Some (scalar s) →
+  index_leads : (ty element : Ty) (s : ScalarType) (e : Expr) → element_in (out-Ty ty) ≡ Some element → is_whole s ≡ true →
+      type_of site e ≡ Some (scalar s) →
       type_of_part site (part.Index e) ty ≡ Some element
   index_leads ty element s e is whole typed =
       index_is site e ty
@@ -140,7 +159,8 @@ module _ (site : Site) where
       ∙ ap (λ holds. if holds then element_in (out-Ty ty) else None) whole
       ∙ is
 
-  index_by : (ty element : Ty) (index : Settled) (made : Option Expr) → element_in (out-Ty ty) ≡ Some element → index.made ≡ made → IndexFits site made →
+  index_by : (ty element : Ty) (index : Settled) (made : Option Expr) → element_in (out-Ty ty) ≡ Some element → index.made ≡ made →
+      IndexFits site made →
       StepFits site ty (index_made element index)
   index_by ty element index None is same fit = absurd (let none = fit.is_made.is in cc)
   index_by ty element index (Some e) is same fit = record {

@@ -1,5 +1,27 @@
 -- What open scopes say of functions and activities: each is declared with the position of one.
-use Rattle.std.proofs.Common.{◌≡◌, ℕ, zero, suc, Bool, true, false, ◌&&◌, cond, List, [], ◌∷◌, ◌++◌, map, Option, Some, None, refl, ap, subst, ◌∙◌}
+use Rattle.std.proofs.Common.{
+  ◌≡◌,
+  ℕ,
+  zero,
+  suc,
+  Bool,
+  true,
+  false,
+  ◌&&◌,
+  cond,
+  List,
+  [],
+  ◌∷◌,
+  ◌++◌,
+  map,
+  Option,
+  Some,
+  None,
+  refl,
+  ap,
+  subst,
+  ◌∙◌,
+}
 use Rattle.std.proofs.lemmas.Option.{same_Some}
 use Rattle.std.specs.Prelude.{bytes_eq, slice_get}
 use Rattle.std.specs.List.{list_all}
@@ -41,7 +63,8 @@ Told units scopes = (scope_told units scopes.inner ≡ true) × (list_all (scope
 abbrev DeclarationTold : List UnitKind → Declaration → Type 0
 DeclarationTold units d = kind_told units d.kind d.position ≡ true
 
-found_told : (units : List UnitKind) (scope : Declared) (name : List ℕ) (d : Declaration) → scope_told units scope ≡ true → found scope name ≡ Some d →
+found_told : (units : List UnitKind) (scope : Declared) (name : List ℕ) (d : Declaration) → scope_told units scope ≡ true →
+    found scope name ≡ Some d →
     DeclarationTold units d
 found_told units [] name d told is = absurd (cc)
 found_told units (entry ∷ rest) name d told is =
@@ -96,14 +119,16 @@ suited_activity units kinds.Field k suited told = absurd (cc)
 module _ (units : List UnitDef) (scopes : Scopes) (name : Name) (d : Declaration) (told : Told (kinds_of units) scopes)
     (is_bound : bound scopes name.text ≡ Some d) where
   -- a name that stands for a function has the position of one
-  pub function_there : suits wants.Function d.kind ≡ true → holds_of (λ (unit : UnitDef). is_function unit.kind) (slice_get units (position scopes name)) ≡ true
+  pub function_there : suits wants.Function d.kind ≡ true →
+      holds_of (λ (unit : UnitDef). is_function unit.kind) (slice_get units (position scopes name)) ≡ true
   function_there suited =
       ap (λ found. holds_of (λ (unit : UnitDef). is_function unit.kind) (slice_get units (position_of found))) is_bound
       ∙ kind_at is_function units d.position ∙ suited_function (kinds_of units) d.kind d.position suited
       (bound_told (kinds_of units) scopes name.text d told is_bound)
 
   -- and one that stands for an activity that of one
-  pub activity_there : suits wants.Activity d.kind ≡ true → holds_of (λ (unit : UnitDef). is_activity unit.kind) (slice_get units (position scopes name)) ≡ true
+  pub activity_there : suits wants.Activity d.kind ≡ true →
+      holds_of (λ (unit : UnitDef). is_activity unit.kind) (slice_get units (position scopes name)) ≡ true
   activity_there suited =
       ap (λ found. holds_of (λ (unit : UnitDef). is_activity unit.kind) (slice_get units (position_of found))) is_bound
       ∙ kind_at is_activity units d.position ∙ suited_activity (kinds_of units) d.kind d.position suited

@@ -19,11 +19,41 @@ use Rattle.bl_named.specs.declared.stmt.NamedArm.{NamedArm, fold-roll-NamedArm, 
 use Rattle.bl_named.specs.declared.stmt.NamedBranch.{NamedBranch, fold-roll-NamedBranch, roll-NamedBranch}
 use Rattle.bl_named.specs.declared.stmt.NamedStmt.{NamedStmt}
 use Rattle.bl_named.specs.declared.stmt.NamedStmtKind.TheOpen.{NamedStmtKind-F}
-use Rattle.bl_named.specs.Placed.{Earlier, Step, constant_placed, declares_none, expr_placed, holds_if, holds_of, in_turn, step_of_arm, step_of_branch, stmt_step, tested, var_placed, with_constant as constant_counted, with_variable as variable_counted}
+use Rattle.bl_named.specs.Placed.{
+  Earlier,
+  Step,
+  constant_placed,
+  declares_none,
+  expr_placed,
+  holds_if,
+  holds_of,
+  in_turn,
+  step_of_arm,
+  step_of_branch,
+  stmt_step,
+  tested,
+  var_placed,
+  with_constant as constant_counted,
+  with_variable as variable_counted,
+}
 use Rattle.bl_types.specs.declared.environment.Environment.{Environment}
 use Rattle.bl_types.specs.declared.environment.Variable.{Variable}
 use Rattle.bl_types.specs.Declarations.{constant_of, initial, with_variable}
-use Rattle.bl_types.specs.Statements.{Block, Walk, Walked, after_optional_constant, arm_walked, branch_walked, constant_walked, declare, in_order, returned, walked_arm, walked_branch, walked_stmt}
+use Rattle.bl_types.specs.Statements.{
+  Block,
+  Walk,
+  Walked,
+  after_optional_constant,
+  arm_walked,
+  branch_walked,
+  constant_walked,
+  declare,
+  in_order,
+  returned,
+  walked_arm,
+  walked_branch,
+  walked_stmt,
+}
 use Rattle.bl_types_laws.proofs.TypesStand.{scalar_initial, scalar_optional}
 use Rattle.bl_types.specs.Units.{is_scalar}
 use Rattle.bl_types_laws.specs.Standing.{has_scalar, VariablesNamed, NamedAs}
@@ -49,7 +79,8 @@ turned_still vars placed env counts named step = record {
 }
 
 module _ {X A : Type 0} (vars : List NamedVar) (walk : X → Environment → Walked A) (step : X → Step) where
-  pub block_turns : (xs : List X) → All (λ x. Turns vars (walk x) (step x)) xs → (env : Environment) (counts : Earlier) → VariablesNamed vars env.vars →
+  pub block_turns : (xs : List X) → All (λ x. Turns vars (walk x) (step x)) xs → (env : Environment) (counts : Earlier) →
+      VariablesNamed vars env.vars →
       in_turn (map step xs) (known_in env) ≡ Some counts → Turned vars counts (in_order (map walk xs) env).env
   block_turns [] each env counts named is = record { counts_are = same_Some (known_in env) counts is; named = named }
   block_turns (x ∷ xs) each env counts named is =
@@ -59,7 +90,8 @@ module _ {X A : Type 0} (vars : List NamedVar) (walk : X → Environment → Wal
       (ap (in_turn (map step xs)) one.counts_are ∙ found.2)
 
 -- one more behind those of which something holds at their positions
-pub push_further : {A : Type 0} (P : ℕ → A → Type 0) (xs : List A) (x : A) → ((k : ℕ) (known : A) → slice_get xs k ≡ Some known → P k known) → P (length xs) x →
+pub push_further : {A : Type 0} (P : ℕ → A → Type 0) (xs : List A) (x : A) →
+    ((k : ℕ) (known : A) → slice_get xs k ≡ Some known → P k known) → P (length xs) x →
     (k : ℕ) (known : A) →
     slice_get (xs ++ x ∷ []) k ≡ Some known → P k known
 push_further P [] x each one zero known is = subst (P zero) (same_Some x known is) one
@@ -73,7 +105,8 @@ pub push_named : (vars : List NamedVar) (xs : List Variable) (x : Variable) → 
 push_named vars xs x named one = push_further (NamedAs vars) xs x named one
 
 module _ (constants : List NamedConstant) (vars : List NamedVar) where
-  declared_turns : (k : ℕ) (var : NamedVar) (ty : Option Ty) (env : Environment) (counts : Earlier) → slice_get vars k ≡ Some var → k ≡ length env.vars →
+  declared_turns : (k : ℕ) (var : NamedVar) (ty : Option Ty) (env : Environment) (counts : Earlier) → slice_get vars k ≡ Some var →
+      k ≡ length env.vars →
       (is_scalar var.ty ≡ true → has_scalar ty ≡ true) → VariablesNamed vars env.vars → Some (variable_counted (known_in env)) ≡ Some counts →
       Turned vars counts (with_variable env var ty)
   declared_turns k var ty env counts there next scalar named count = record {
@@ -201,5 +234,6 @@ module _ (constants : List NamedConstant) (vars : List NamedVar) where
 
   -- after a body each variable is the one that is named at its position
   pub bodies_turn : (body : List NamedStmt) (env : Environment) (counts : Earlier) → VariablesNamed vars env.vars →
-      in_turn (map (stmt_step vars constants) body) (known_in env) ≡ Some counts → Turned vars counts (in_order (map (walked_stmt constants vars) body) env).env
+      in_turn (map (stmt_step vars constants) body) (known_in env) ≡ Some counts →
+      Turned vars counts (in_order (map (walked_stmt constants vars) body) env).env
   bodies_turn body = body_turns body (each_turns body)

@@ -16,7 +16,27 @@ use Rattle.bl_tree.specs.declared.tree.Ty.{Ty, out-Ty}
 use Rattle.bl_tree.specs.declared.tree.Var.{Var}
 use Rattle.bl_tree.specs.Scalar.{in_range}
 use Rattle.bl_tree.specs.Types.{scalar_in}
-use Rattle.bl_tree.specs.Typing.{Site, after_parts, call_type, cast_type, element_in, expr_type, field_in, kind_type, literal_type, one_type, part_type, path_type, prev_type, two_type, type_of, type_of_path, var_at, where_same, where_whole}
+use Rattle.bl_tree.specs.Typing.{
+  Site,
+  after_parts,
+  call_type,
+  cast_type,
+  element_in,
+  expr_type,
+  field_in,
+  kind_type,
+  literal_type,
+  one_type,
+  part_type,
+  path_type,
+  prev_type,
+  two_type,
+  type_of,
+  type_of_path,
+  var_at,
+  where_same,
+  where_whole,
+}
 use Rattle.bl_eval.proofs.PartFits.{type_of_part}
 use Rattle.bl_types.specs.Expressions.{call, cast, path, previous, read}
 use Rattle.bl_types.specs.Failures.{unless}
@@ -41,7 +61,8 @@ module _ (site : Site) where
       (fold-ExprKind (Option Ty) (Ty → Option Ty) (Option Ty) (Option Ty) (kind_type site) (part_type site) expr_type (path_type site)) (type_of_part site)
       (type_of site) (type_of_path site) layer) ty
   part_at part layer ty is =
-      ap (λ (step : Ty → Option Ty). step ty) (fold_out-Part (Option Ty) (Ty → Option Ty) (Option Ty) (Option Ty) (kind_type site) (part_type site) expr_type
+      ap (λ (step : Ty → Option Ty). step ty) (fold_out-Part (Option Ty) (Ty → Option Ty) (Option Ty) (Option Ty) (kind_type site)
+      (part_type site) expr_type
       (path_type site) part)
       ∙ ap (λ layer. part_type site (map-Part ExprKind Part Expr Path (Option Ty) (Ty → Option Ty) (Option Ty) (Option Ty)
       (fold-ExprKind (Option Ty) (Ty → Option Ty) (Option Ty) (Option Ty) (kind_type site) (part_type site) expr_type (path_type site)) (type_of_part site)
@@ -66,7 +87,8 @@ module _ (site : Site) where
       type_of site (two at op a b) ≡ option_and_then (λ s. option_and_then (two_type op s) (scalar_in other)) (scalar_in ty)
   two_is at op a b ty other is are =
       kind_at at (what.Two op a b) (ExprKind-F.Two op a b) (what.outs-Two op a b)
-      ∙ ap (λ found. option_and_then (λ s. option_and_then (two_type op s) (option_and_then scalar_in (type_of site b))) (option_and_then scalar_in found)) is
+      ∙ ap (λ found. option_and_then (λ s. option_and_then (two_type op s) (option_and_then scalar_in (type_of site b)))
+      (option_and_then scalar_in found)) is
       ∙ ap (λ found. option_and_then (λ s. option_and_then (two_type op s) (option_and_then scalar_in found)) (scalar_in ty)) are
 
   pub cast_is : (at : Place) (target : ScalarType) (a : Expr) (ty : Ty) → type_of site a ≡ Some ty →

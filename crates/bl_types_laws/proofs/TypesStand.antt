@@ -1,5 +1,26 @@
 -- Types that are written or that expressions have name structs that are declared, and have lengths.
-use Rattle.std.proofs.Common.{◌≡◌, ℕ, suc, ◌≤◌, List, [], ◌∷◌, ◌++◌, map, length, nat_lt, Option, Some, None, refl, ap, sym, subst, ◌∙◌, arith}
+use Rattle.std.proofs.Common.{
+  ◌≡◌,
+  ℕ,
+  suc,
+  ◌≤◌,
+  List,
+  [],
+  ◌∷◌,
+  ◌++◌,
+  map,
+  length,
+  nat_lt,
+  Option,
+  Some,
+  None,
+  refl,
+  ap,
+  sym,
+  subst,
+  ◌∙◌,
+  arith,
+}
 use Rattle.std.specs.Prelude.{is_some, Bool, true, ◌&&◌, nat_le, option_and_then, option_map, slice_get, if◌then◌else◌}
 use Rattle.std.specs.List.{cons_option, list_all}
 use Rattle.bl_types.specs.declared.environment.Variable.{Variable}
@@ -23,7 +44,22 @@ use Rattle.bl_tree.specs.Numbers.{takes_one, takes_two, type_of_result}
 use Rattle.bl_tree.specs.Reduce.{joined}
 use Rattle.bl_tree.specs.Scalar.{in_range, is_whole}
 use Rattle.bl_tree.specs.Types.{scalar_at, same_scalar, same_type, scalar, scalar_in, type_stands, type_stands_level}
-use Rattle.bl_tree.specs.Typing.{Site, after_parts, call_type, cast_type, element_in, field_in, one_type, prev_type, two_type, type_of, type_of_path, var_at, where_same, where_whole}
+use Rattle.bl_tree.specs.Typing.{
+  Site,
+  after_parts,
+  call_type,
+  cast_type,
+  element_in,
+  field_in,
+  one_type,
+  prev_type,
+  two_type,
+  type_of,
+  type_of_path,
+  var_at,
+  where_same,
+  where_whole,
+}
 use Rattle.bl_tree.proofs.ExprInduction.{Cases, induct}
 use Rattle.bl_eval.proofs.OperatorFits.{some_found, where_holds}
 use Rattle.bl_eval.proofs.PartFits.{type_of_part}
@@ -32,14 +68,34 @@ use Rattle.bl_named.specs.declared.item.NamedField.{NamedField}
 use Rattle.bl_named.specs.declared.item.NamedStruct.{NamedStruct}
 use Rattle.bl_named.specs.declared.types.NamedLength.{NamedLength}
 use Rattle.bl_named.specs.declared.types.NamedLength.TheVariants as length_of
-use Rattle.bl_named.specs.declared.types.NamedType.{NamedType, fold_out-NamedType, out-NamedType, fold-roll-NamedType, ind-NamedType, map-NamedType, roll-NamedType}
+use Rattle.bl_named.specs.declared.types.NamedType.{
+  NamedType,
+  fold_out-NamedType,
+  out-NamedType,
+  fold-roll-NamedType,
+  ind-NamedType,
+  map-NamedType,
+  roll-NamedType,
+}
 use Rattle.bl_named.specs.declared.types.NamedType.TheOpen.{NamedType-F}
 use Rattle.bl_named.specs.Placed.{Earlier, length_placed, struct_placed, type_placed}
 use Rattle.bl_types.specs.declared.environment.Constant.{Constant}
 use Rattle.bl_types.specs.declared.environment.Environment.{Environment}
 use Rattle.bl_named.specs.declared.expr.NamedExpr.{NamedExpr}
 use Rattle.bl_types.specs.Declarations.{initial, after_struct, field_lengths, field_of, struct_of}
-use Rattle.bl_types.specs.Written.{type_level, as_length, bad_length, bad_lengths, constant_length, is_whole_type, natural, or_zero, place_of_length, written_length, written_type}
+use Rattle.bl_types.specs.Written.{
+  type_level,
+  as_length,
+  bad_length,
+  bad_lengths,
+  constant_length,
+  is_whole_type,
+  natural,
+  or_zero,
+  place_of_length,
+  written_length,
+  written_type,
+}
 use Rattle.bl_types_laws.specs.Standing.{has_scalar, FieldsStand, VariableKnown}
 use Rattle.bl_types_laws.specs.Within.{known_in}
 use Rattle.bl_types_laws.proofs.Forms.{map_found, nil_left, nil_right}
@@ -173,14 +229,16 @@ module _ (site : Site) (fields : FieldsStand site.structs) (vars : list_all (λ 
       let number = some_found (λ s. if is_whole s then t else None) (scalar_in found.0) ty found.2 in
       where_true (is_whole number.0) t ty number.2
 
-  part_by : (layer : Part-F _ _ _ _) (part : Part) (from ty : Ty) → out-Part part ≡ layer → stands from ≡ true → type_of_part site part from ≡ Some ty →
+  part_by : (layer : Part-F _ _ _ _) (part : Part) (from ty : Ty) → out-Part part ≡ layer → stands from ≡ true →
+      type_of_part site part from ≡ Some ty →
       stands ty ≡ true
   part_by (Part-F.Field k) part from ty is whole leads = field_stands k (out-Ty from) ty (sym (part_at site part (Part-F.Field k) from is) ∙ leads)
   part_by (Part-F.Index e) part from ty is whole leads =
       element_stands (out-Ty from) ty (sym (stands_at (length site.structs) from (out-Ty from) refl) ∙ whole)
       (whole_is (type_of site e) (element_in (out-Ty from)) ty (sym (part_at site part (Part-F.Index e) from is) ∙ leads))
 
-  parts_stand : (parts : List Part) (from ty : Ty) → stands from ≡ true → after_parts (map (type_of_part site) parts) from ≡ Some ty → stands ty ≡ true
+  parts_stand : (parts : List Part) (from ty : Ty) → stands from ≡ true →
+      after_parts (map (type_of_part site) parts) from ≡ Some ty → stands ty ≡ true
   parts_stand [] from ty whole is = ap stands (sym (same_Some from ty is)) ∙ whole
   parts_stand (part ∷ rest) from ty whole is =
       let found = some_found (after_parts (map (type_of_part site) rest)) (type_of_part site part from) ty is in
@@ -223,11 +281,13 @@ module _ (site : Site) (fields : FieldsStand site.structs) (vars : list_all (λ 
         two_stands op found.0 right.0 ty right.2;
     cast = λ place target a fit ty is.
         let found = some_found (cast_type target) (option_and_then scalar_in (type_of site a)) ty
-        (sym (kind_at site place (roll-ExprKind (ExprKind-F.Cast target a)) (ExprKind-F.Cast target a) (out-roll-ExprKind (ExprKind-F.Cast target a))) ∙ is) in
+        (sym (kind_at site place (roll-ExprKind (ExprKind-F.Cast target a)) (ExprKind-F.Cast target a)
+        (out-roll-ExprKind (ExprKind-F.Cast target a))) ∙ is) in
         scalar_of target ty (where_true (is_whole target && is_whole found.0) (Some (scalar target)) ty found.2);
     call = λ place f inputs each ty is.
         let found = some_found (call_type (map (type_of site) inputs)) (slice_get site.earlier f) ty
-        (sym (kind_at site place (roll-ExprKind (ExprKind-F.Call f inputs)) (ExprKind-F.Call f inputs) (out-roll-ExprKind (ExprKind-F.Call f inputs))) ∙ is) in
+        (sym (kind_at site place (roll-ExprKind (ExprKind-F.Call f inputs)) (ExprKind-F.Call f inputs)
+        (out-roll-ExprKind (ExprKind-F.Call f inputs))) ∙ is) in
         let result = map_found scalar found.0.result ty (where_true _ (option_map scalar found.0.result) ty found.2) in
         scalar_of result.0 ty (ap Some result.2);
     path = λ place root parts ty each. path_case place root parts ty;
@@ -253,7 +313,8 @@ vars_stand n (x ∷ xs) each =
 
 -- ---- scalar types
 
-scalar_level : (constants : List Constant) (ty : NamedType) (layer : NamedType-F NamedType) → out-NamedType ty ≡ layer → is_scalar_level layer ≡ true →
+scalar_level : (constants : List Constant) (ty : NamedType) (layer : NamedType-F NamedType) → out-NamedType ty ≡ layer →
+    is_scalar_level layer ≡ true →
     is_some (scalar_in (written_type constants ty)) ≡ true
 scalar_level constants ty (NamedType-F.Scalar s) is whole =
     ap (λ ty. is_some (scalar_in ty)) (fold_out-NamedType Ty (type_level constants) ty
@@ -266,7 +327,8 @@ scalar_level constants ty (NamedType-F.Array n element) is whole = absurd (cc)
 pub scalar_written : (constants : List Constant) (ty : NamedType) → is_scalar (Some ty) ≡ true → is_some (scalar_in (written_type constants ty)) ≡ true
 scalar_written constants ty = scalar_level constants ty (out-NamedType ty) refl
 
-pub scalar_optional : (constants : List Constant) (ty : Option NamedType) → is_scalar ty ≡ true → has_scalar (option_map (written_type constants) ty) ≡ true
+pub scalar_optional : (constants : List Constant) (ty : Option NamedType) → is_scalar ty ≡ true →
+    has_scalar (option_map (written_type constants) ty) ≡ true
 scalar_optional constants None is = absurd (cc)
 scalar_optional constants (Some ty) is = scalar_written constants ty is
 

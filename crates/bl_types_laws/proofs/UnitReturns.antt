@@ -19,7 +19,15 @@ use Rattle.bl_named.specs.declared.stmt.NamedStmtKind.TheOpen.{NamedStmtKind-F}
 use Rattle.bl_named.specs.Placed.{Earlier, in_turn, stmt_step}
 use Rattle.bl_types.specs.declared.environment.Environment.{Environment}
 use Rattle.bl_types.specs.Failures.{unless}
-use Rattle.bl_types.specs.Returns.{activity_returns as named_activity_returns, function_returns as named_function_returns, is_return as named_is_return, is_return_kind as named_return_kind, return_failures, strays, surely_returns as named_surely_returns}
+use Rattle.bl_types.specs.Returns.{
+  activity_returns as named_activity_returns,
+  function_returns as named_function_returns,
+  is_return as named_is_return,
+  is_return_kind as named_return_kind,
+  return_failures,
+  strays,
+  surely_returns as named_surely_returns,
+}
 use Rattle.bl_types.specs.Statements.{Block, in_order, walked_stmt}
 use Rattle.bl_types_laws.specs.Standing.{Around, Known, stmt_named}
 use Rattle.bl_types_laws.specs.Within.{known_in}
@@ -55,9 +63,11 @@ either_by false b c d is one other = ap (λ d. c || d) (other is) ∙ or_true c
 
 module _ (constants : List NamedConstant) (vars : List NamedVar) (site : Site) where
   -- a body whose last statement is a `return` is made one
-  body_last : (body : List NamedStmt) → all_of (map (stmt_named constants vars site.earlier) body) ≡ true → last_of (map named_is_return body) ≡ true →
+  body_last : (body : List NamedStmt) → all_of (map (stmt_named constants vars site.earlier) body) ≡ true →
+      last_of (map named_is_return body) ≡ true →
       (env : Environment) → Around env site → Known env → (counts : Earlier) →
-      in_turn (map (stmt_step vars constants) body) (known_in env) ≡ Some counts → (in_order (map (walked_stmt constants vars) body) env).failures ≡ [] →
+      in_turn (map (stmt_step vars constants) body) (known_in env) ≡ Some counts →
+      (in_order (map (walked_stmt constants vars) body) env).failures ≡ [] →
       last_of (map is_return (in_order (map (walked_stmt constants vars) body) env).made) ≡ true
   body_last [] named last env around known counts step none = absurd (cc)
   body_last (s ∷ []) named last env around known counts step none =
@@ -73,7 +83,8 @@ module _ (constants : List NamedConstant) (vars : List NamedVar) (site : Site) w
       (all_of (map (stmt_named constants vars site.earlier) (t ∷ rest))) named) env around known found.0 found.1
       (nil_left (walked_stmt constants vars s env).failures further.failures none) in
       last_front (walked_stmt constants vars s env).made further.made
-      (body_last (t ∷ rest) (and_right (stmt_named constants vars site.earlier s) (all_of (map (stmt_named constants vars site.earlier) (t ∷ rest))) named) last
+      (body_last (t ∷ rest) (and_right (stmt_named constants vars site.earlier s)
+      (all_of (map (stmt_named constants vars site.earlier) (t ∷ rest))) named) last
       next
       (grown_around env next site passed.grown around) passed.known counts
       (ap (in_turn (map (stmt_step vars constants) (t ∷ rest))) passed.counts_are ∙ found.2)

@@ -1,5 +1,25 @@
 -- What is made of a unit, and of the items behind it.
-use Rattle.std.proofs.Common.{◌≡◌, ℕ, suc, zero, true, List, [], ◌∷◌, ◌++◌, length, map, Some, refl, sym, ap, subst, ◌∙◌, append-nil, append_assoc}
+use Rattle.std.proofs.Common.{
+  ◌≡◌,
+  ℕ,
+  suc,
+  zero,
+  true,
+  List,
+  [],
+  ◌∷◌,
+  ◌++◌,
+  length,
+  map,
+  Some,
+  refl,
+  sym,
+  ap,
+  subst,
+  ◌∙◌,
+  append-nil,
+  append_assoc,
+}
 use Rattle.std.specs.Prelude.{slice_get}
 use Rattle.std.specs.List.{list_all}
 use Rattle.std.proofs.lemmas.Option.{same_Some}
@@ -50,7 +70,8 @@ same_kinds : (units before_units : List UnitDef) (before : List NamedUnit) (made
     map kind_made before_units ≡ map kind_named before → made.kind ≡ unit.kind →
     map kind_made units ≡ map kind_named (before ++ unit ∷ [])
 same_kinds units before_units before made unit is same kind =
-    ap (map kind_made) is ∙ map-append kind_made before_units (made ∷ []) ∙ (λ i. same i ++ kind i ∷ []) ∙ sym (map-append kind_named before (unit ∷ []))
+    ap (map kind_made) is ∙ map-append kind_made before_units (made ∷ []) ∙ (λ i. same i ++ kind i ∷ [])
+    ∙ sym (map-append kind_named before (unit ∷ []))
 
 module _ (named : Named) (suits : Suits named) (shapes : Shapes) where
   module _ (def : RawUnit) (items : List RawItem) (scopes : Scopes) (env : Environment) (at : At named scopes (item.Unit def ∷ items) env) where
@@ -77,7 +98,8 @@ module _ (named : Named) (suits : Suits named) (shapes : Shapes) where
     is_named : unit_named named.constants env.units new_unit ≡ true
     is_named =
         suits.units scopes.counts.units new_unit (ends_next named.units scopes.counts.units (new_unit ∷ along units_of behind_unit items) at.units) env.units
-        (at.kinds ∙ ap (map (λ (unit : NamedUnit). unit.kind)) (sym (ends_take named.units scopes.counts.units (new_unit ∷ along units_of behind_unit items)
+        (at.kinds ∙ ap (map (λ (unit : NamedUnit). unit.kind))
+        (sym (ends_take named.units scopes.counts.units (new_unit ∷ along units_of behind_unit items)
         at.units)))
         (earlier scopes) (earlier behind_unit) refl holds.steps
 
@@ -113,7 +135,8 @@ module _ (named : Named) (suits : Suits named) (shapes : Shapes) where
         }
 
     unit_driven : (structs : List StructDef) (more : List UnitDef) → Passing structs new_unit env.units (made_of named.constants new_unit env) →
-        ((k : ℕ) (unit : NamedUnit) → slice_get (along units_of behind_unit items) k ≡ Some unit → drives unit ≡ true → is_entry (slice_get more k) ≡ true) →
+        ((k : ℕ) (unit : NamedUnit) → slice_get (along units_of behind_unit items) k ≡ Some unit → drives unit ≡ true →
+        is_entry (slice_get more k) ≡ true) →
         (k : ℕ) (unit : NamedUnit) → slice_get (new_unit ∷ along units_of behind_unit items) k ≡ Some unit → drives unit ≡ true →
         is_entry (slice_get (made_of named.constants new_unit env ∷ more) k) ≡ true
     unit_driven structs more passes rest zero unit is driven = passes.entry (ap drives (same_Some new_unit unit is) ∙ driven)

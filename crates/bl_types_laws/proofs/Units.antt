@@ -1,5 +1,27 @@
 -- What is made of a unit fits.
-use Rattle.std.proofs.Common.{◌≡◌, ℕ, ◌+◌, ◌≤◌, List, [], ◌∷◌, ◌++◌, length, map, take, drop, Option, Some, None, refl, ap, sym, subst, ◌∙◌, arith}
+use Rattle.std.proofs.Common.{
+  ◌≡◌,
+  ℕ,
+  ◌+◌,
+  ◌≤◌,
+  List,
+  [],
+  ◌∷◌,
+  ◌++◌,
+  length,
+  map,
+  take,
+  drop,
+  Option,
+  Some,
+  None,
+  refl,
+  ap,
+  sym,
+  subst,
+  ◌∙◌,
+  arith,
+}
 use Rattle.std.specs.Prelude.{is_none, Bool, true, false, ◌&&◌, ◌||◌, is_some, nat_eq, nat_le, option_and_then, slice_get}
 use Rattle.std.specs.List.{list_all}
 use Rattle.std.proofs.lemmas.Bool.{eqb-true, le-leb, leb-true}
@@ -20,7 +42,20 @@ use Rattle.bl_eval.proofs.PassLemmas.{and_left, and_right, both}
 use Rattle.bl_named.specs.declared.item.NamedConstant.{NamedConstant}
 use Rattle.bl_named.specs.declared.item.NamedUnit.{NamedUnit}
 use Rattle.bl_named.specs.declared.item.NamedVar.{NamedVar}
-use Rattle.bl_named.specs.Placed.{Earlier, behind_unit, head_placed, holds_if, in_turn, parameters, roles_placed, stmt_step, type_placed, unit_step, var_placed, with_parameters}
+use Rattle.bl_named.specs.Placed.{
+  Earlier,
+  behind_unit,
+  head_placed,
+  holds_if,
+  in_turn,
+  parameters,
+  roles_placed,
+  stmt_step,
+  type_placed,
+  unit_step,
+  var_placed,
+  with_parameters,
+}
 use Rattle.bl_types.specs.declared.environment.Environment.{Environment}
 use Rattle.bl_types.specs.declared.environment.Variable.{Variable}
 use Rattle.bl_tree.specs.declared.place.Place.{Place}
@@ -74,7 +109,13 @@ head_by unit env inside result enough passed named none typed =
       counts_are =
           ap (λ structs. record { structs = length structs; constants = length inside.constants; units = length inside.units; variables = length inside.vars })
           passed.grown.structs
-          ∙ ap (λ constants. record { structs = length env.structs; constants = length constants; units = length inside.units; variables = length inside.vars })
+          ∙ ap (λ constants. record {
+            structs = length env.structs;
+            constants = length constants;
+            units =
+                length inside.units;
+            variables = length inside.vars;
+          })
           passed.same_constants
           ∙ ap (λ units. record { structs = length env.structs; constants = length env.constants; units = length units; variables = length inside.vars })
           passed.grown.units
@@ -149,7 +190,8 @@ later_stand structs later env body front same known =
     (λ var. stands_more (length body.structs) (length structs) less var.ty) (vars_of body.vars)
     (vars_stand (length body.structs) body.vars known.vars)
 
-left_between : (unit : NamedUnit) (made : List Stmt) (env body : Environment) → Known body → body.units ≡ env.units → list_all has_parameters env.units ≡ true →
+left_between : (unit : NamedUnit) (made : List Stmt) (env body : Environment) → Known body → body.units ≡ env.units →
+    list_all has_parameters env.units ≡ true →
     has_parameters (unit_of unit made body) ≡ true → Between (left unit made body)
 left_between unit made env body known units heads has = record {
   vars = refl;
@@ -175,7 +217,8 @@ left_counts unit made body inner counts is are =
 module _ (constants : List NamedConstant) (unit : NamedUnit) (env : Environment) (structs later : List StructDef) (front : structs ≡ env.structs ++ later)
     (between : Between env) (named : unit_named constants env.units unit ≡ true) where
   body_passes : (head : Environment) (inner : Earlier) → HeadPassed unit env head →
-      in_turn (map (stmt_step unit.vars constants) unit.body) (known_in head) ≡ Some inner → (walked_block constants unit.vars unit.body head).failures ≡ [] →
+      in_turn (map (stmt_step unit.vars constants) unit.body) (known_in head) ≡ Some inner →
+      (walked_block constants unit.vars unit.body head).failures ≡ [] →
       (site : Site) → site.structs ≡ env.structs ++ later → env.units ≡ site.earlier → unit.kind ≡ site.kind → head.result ≡ site.result →
       BlockPassed site (fits site) false head inner (walked_block constants unit.vars unit.body head)
   body_passes head inner passed step none site structs units kind result =
@@ -183,7 +226,8 @@ module _ (constants : List NamedConstant) (unit : NamedUnit) (env : Environment)
       (ap (λ units. list_all (stmt_named constants unit.vars units) unit.body) (sym units)
       ∙ and_right (list_all (λ (var : NamedVar). is_some var.ty) (take (parameters unit) unit.vars))
       (list_all (stmt_named constants unit.vars env.units) unit.body) named)
-      head (around_head unit env head site later passed structs units kind result (subst (λ units. list_all has_parameters units ≡ true) units between.heads))
+      head (around_head unit env head site later passed structs units kind result
+      (subst (λ units. list_all has_parameters units ≡ true) units between.heads))
       passed.known inner step none
 
   unit_by : (head : Environment) (inner counts : Earlier) → HeadPassed unit env head →
@@ -257,7 +301,8 @@ module _ (constants : List NamedConstant) (unit : NamedUnit) (env : Environment)
       (nil_right body.failures (return_failures unit) (nil_right head.failures (body.failures ++ return_failures unit) none))
 
 -- each statement of a unit in which nothing fails fits
-pub unit_passes : (constants : List NamedConstant) (unit : NamedUnit) (env : Environment) (structs later : List StructDef) → structs ≡ env.structs ++ later →
+pub unit_passes : (constants : List NamedConstant) (unit : NamedUnit) (env : Environment) (structs later : List StructDef) →
+    structs ≡ env.structs ++ later →
     Between env → unit_named constants env.units unit ≡ true → (counts : Earlier) →
     unit_step constants unit (known_in env) ≡ Some counts → (after_unit constants unit env).failures ≡ [] →
     UnitPassed structs unit env counts (after_unit constants unit env).env

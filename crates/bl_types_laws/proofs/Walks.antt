@@ -1,5 +1,25 @@
 -- One part of a body after another.
-use Rattle.std.proofs.Common.{◌≡◌, ℕ, zero, suc, List, [], ◌∷◌, ◌++◌, map, length, Option, Some, None, refl, ap, sym, subst, ◌∙◌, append_assoc}
+use Rattle.std.proofs.Common.{
+  ◌≡◌,
+  ℕ,
+  zero,
+  suc,
+  List,
+  [],
+  ◌∷◌,
+  ◌++◌,
+  map,
+  length,
+  Option,
+  Some,
+  None,
+  refl,
+  ap,
+  sym,
+  subst,
+  ◌∙◌,
+  append_assoc,
+}
 use Rattle.std.specs.Prelude.{All, Bool, true, false, ◌&&◌, option_map, slice_get}
 use Rattle.std.specs.List.{cons_option, list_all}
 use Rattle.std.proofs.lemmas.List.{append-nil}
@@ -57,7 +77,8 @@ grown_further a b c one more = record {
   vars = one.vars ++ more.vars;
   has_vars = more.has_vars ∙ ap (λ vars. vars ++ more.vars) one.has_vars ∙ append_assoc a.vars one.vars more.vars;
   constants = one.constants ++ more.constants;
-  has_constants = more.has_constants ∙ ap (λ constants. constants ++ more.constants) one.has_constants ∙ append_assoc a.constants one.constants more.constants;
+  has_constants = more.has_constants ∙ ap (λ constants. constants ++ more.constants) one.has_constants
+      ∙ append_assoc a.constants one.constants more.constants;
   structs = more.structs ∙ one.structs;
   units = more.units ∙ one.units;
   kind = more.kind ∙ one.kind;

@@ -26,7 +26,8 @@ use Rattle.bl_types_laws.proofs.Reached.{Made}
 use Rattle.bl_types_laws.proofs.Starts.{picked_ascends}
 use Rattle.bl_types_laws.proofs.ItemTurns.{at_start, no_failure, turns}
 
-program_made : (items : List RawItem) (bytes : ℕ) → Suits (named_program items bytes) → Shapes → NamedKeeps (named_program items bytes) → NamesPass items →
+program_made : (items : List RawItem) (bytes : ℕ) → Suits (named_program items bytes) → Shapes →
+    NamedKeeps (named_program items bytes) → NamesPass items →
     TypesPass (named_program items bytes) →
     Made file_scope items fresh (after_program (named_program items bytes)).env
 program_made items bytes suits shapes keeps passes types =
@@ -41,7 +42,8 @@ same_names items bytes made =
     let units = ap (map (λ (unit : UnitDef). unit.name)) made.units ∙ made.unit_names in
     λ i. structs i ++ units i
 
-pub what_keeps : (items : List RawItem) (bytes : ℕ) → Suits (named_program items bytes) → Shapes → NamedKeeps (named_program items bytes) → NamesPass items →
+pub what_keeps : (items : List RawItem) (bytes : ℕ) → Suits (named_program items bytes) → Shapes →
+    NamedKeeps (named_program items bytes) → NamesPass items →
     TypesPass (named_program items bytes) →
     Keeps (typed_program (named_program items bytes)).structs (typed_program (named_program items bytes)).units
     (typed_program (named_program items bytes)).entry
@@ -67,7 +69,8 @@ what_keeps items bytes suits shapes keeps passes types =
 -- the same, of what the laws of the crates below say
 pub laws_keep : ((items : List RawItem) (bytes : ℕ) → RawKeeps items → NamesPass items → NamedKeeps (named_program items bytes)) →
     ((items : List RawItem) (bytes : ℕ) → RawKeeps items → NamesPass items → UnitsSuit (named_program items bytes)) →
-    ((items : List RawItem) (bytes : ℕ) → RawKeeps items → NamesPass items → ConstantsSuit (named_program items bytes)) → ShallowStays → ApartStays →
+    ((items : List RawItem) (bytes : ℕ) → RawKeeps items → NamesPass items → ConstantsSuit (named_program items bytes)) →
+    ShallowStays → ApartStays →
     (items : List RawItem) (bytes : ℕ) → RawKeeps items → NamesPass items → TypesPass (named_program items bytes) →
     Keeps (typed_program (named_program items bytes)).structs (typed_program (named_program items bytes)).units
     (typed_program (named_program items bytes)).entry

@@ -9,7 +9,7 @@ use Rattle.clap.specs.Words.{subcommand_name_of, subcommand_rows, subcommand_row
 use Rattle.clap.specs.declared.parser.matches.ArgMatches.{ArgMatches}
 use Rattle.clap.specs.declared.parser.matches.ArgMatches.TheViews.{out-ArgMatches, out-SubCommand}
 use Rattle.clap.specs.declared.parser.matches.SubCommand.{SubCommand}
-use Rattle.bl_words.specs.CommandLine.{named_read}
+use Rattle.bl_words.specs.inner.CommandLine.{named_read}
 
 parts_join : {Z : Type 0} (o : Option (Box SubCommand Z)) (name : Text) (rows : List Row) →
     Some name ≡ option_map (λ b. (out-SubCommand (box_value b)).name.now) o

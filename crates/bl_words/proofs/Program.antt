@@ -8,7 +8,7 @@ use Rattle.clap.specs.Walk.{Names, Text, answers_to, nothing_held}
 use Rattle.clap.specs.declared.error.kind.ErrorKind.TheVariants.{InvalidSubcommand, UnknownArgument}
 use Rattle.clap.proofs.SimpleLemmas.{is_false}
 use Rattle.clap.proofs.WalkLemmas.{both}
-use Rattle.bl_words.specs.CommandLine.{command_line, job_read}
+use Rattle.bl_words.specs.inner.CommandLine.{command_line, job_read}
 use Rattle.bl_words.specs.Jobs.{JobSpec, is_plain_word}
 use Rattle.bl_words.proofs.Walks.{fault_below, rows_below, unknown_refused}
 

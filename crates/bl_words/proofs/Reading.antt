@@ -11,7 +11,7 @@ use Rattle.clap.specs.Walk.{Text, answers_to}
 use Rattle.clap.specs.declared.error.Error.{Error}
 use Rattle.clap.specs.declared.error.kind.ErrorKind.TheVariants.{OutOfMemory}
 use Rattle.clap.proofs.OnLiterals.{clap_on_literals}
-use Rattle.bl_words.specs.CommandLine.{command_line, job_read, named_read, one_read, two_read}
+use Rattle.bl_words.specs.inner.CommandLine.{command_line, job_read, named_read, one_read, two_read}
 use Rattle.bl_words.specs.Jobs.{JobSpec, Word, build, command_job, exec, is_plain_word, job_of, of_one, of_two, run}
 use Rattle.bl_words.proofs.Program.{ReadsAs, commands, name_refused, others_plain, program, takes_reads}
 use Rattle.bl_words.proofs.Values.{one, one_taken, two, two_taken}

@@ -6,7 +6,7 @@ use Rattle.clap.specs.Simple.{Shape, rows_at}
 use Rattle.clap.specs.Walk.{Text, first_of, nothing_held}
 use Rattle.clap.specs.declared.error.kind.ErrorKind.TheVariants.{MissingRequiredArgument, UnknownArgument}
 use Rattle.clap.proofs.OnLiterals.{clap_on_literals}
-use Rattle.bl_words.specs.CommandLine.{named_read, one_command, one_read, two_command, two_read}
+use Rattle.bl_words.specs.inner.CommandLine.{named_read, one_command, one_read, two_command, two_read}
 use Rattle.bl_words.specs.Jobs.{JobSpec, Word, is_plain_word, of_one, of_two}
 use Rattle.bl_words.proofs.Program.{TakesAs, built_command, no_hyphen, others_plain}
 

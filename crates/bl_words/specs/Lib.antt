@@ -1,3 +1,3 @@
-pub mod CommandLine
 pub mod Jobs
 pub mod Usage
+pub mod inner

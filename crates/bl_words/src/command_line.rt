@@ -2,7 +2,7 @@
 ghost use Rattle.std.specs.Prelude.{◌≡◌, IfOk, codes, false, option_map};
 ghost use Rattle.clap.specs.Words.{app_of, first_value, found_of, subcommand_rows_of};
 ghost use Rattle.clap.specs.declared.builder.command.Command.TheViews.{out-Command};
-ghost use Rattle.bl_words.specs.CommandLine.{command_line, job_read, one_command, one_read, two_command, two_read};
+ghost use Rattle.bl_words.specs.inner.CommandLine.{command_line, job_read, one_command, one_read, two_command, two_read};
 ghost use Rattle.bl_words.specs.Jobs.{build, exec, run, spec_of};
 
 use crate::job::Job;

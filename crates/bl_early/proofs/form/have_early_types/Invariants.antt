@@ -5,4 +5,5 @@ use Rattle.bl_early.specs.Form.{has_early_type}
 use Rattle.bl_early.proofs.form.have_early_types.Given as goal
 
 abbrev pub invariant-loop-var : goal.invariant-loop-var
-invariant-loop-var l = list_all (λ var. has_early_type (scalar_in var.ty)) (drop l.var-index l.vars) ≡ list_all (λ var. has_early_type (scalar_in var.ty)) l.vars
+invariant-loop-var l = list_all (λ var. has_early_type (scalar_in var.ty)) (drop l.var-index l.vars)
+    ≡ list_all (λ var. has_early_type (scalar_in var.ty)) l.vars

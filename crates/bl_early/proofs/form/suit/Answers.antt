@@ -25,5 +25,6 @@ returns-else-pauses c =
           c.if-pauses.false ∙ sym (suits c.args.body.now ∙ ap₂ (λ a b. a && (b && nat_le (length c.args.body.now) 1000)) all none)
       | else-are_steps w ↦
           let none : list_all is_any_step c.args.body.now ≡ false = cc in
-          c.if-pauses.false ∙ sym (suits c.args.body.now ∙ ap (λ a. a && (list_any has_pause c.args.body.now && nat_le (length c.args.body.now) 1000)) none)
+          c.if-pauses.false ∙ sym (suits c.args.body.now ∙ ap
+          (λ a. a && (list_any has_pause c.args.body.now && nat_le (length c.args.body.now) 1000)) none)
     ]

@@ -10,7 +10,9 @@ pub truth-requires-clause-is : goal.truth-requires-clause-is
 truth-requires-clause-is c = IsTruth.yes
 
 pub truth-requires-else-k-eq-TRUE-clause-stands : goal.truth-requires-else-k-eq-TRUE-clause-stands
-truth-requires-else-k-eq-TRUE-clause-stands c = next_word (after c.requires.awaits (opened_last (word FALSE ∷ []) _ (λ v. refl) c.requires.stands (primary_false c.args.k c.if-k-eq-PREV.false c.if-k-eq-TRUE.false)))
+truth-requires-else-k-eq-TRUE-clause-stands c = next_word
+    (after c.requires.awaits (opened_last (word FALSE ∷ []) _ (λ v. refl) c.requires.stands
+    (primary_false c.args.k c.if-k-eq-PREV.false c.if-k-eq-TRUE.false)))
 
 pub truth-requires-else-k-eq-TRUE-clause-is : goal.truth-requires-else-k-eq-TRUE-clause-is
 truth-requires-else-k-eq-TRUE-clause-is c = IsTruth.no

@@ -5,10 +5,12 @@ use Rattle.bl_parse.proofs.PartLemmas.{none_is, takes_tight, takes_left, takes_n
 use Rattle.bl_parse.proofs.expr.next_infix.Goals as goal
 
 pub returns-then-takes-clause-tight : goal.returns-then-takes-clause-tight
-returns-then-takes-clause-tight c = takes_tight c.args.level c.in-Some.found.level (left_level c.in-Some.found.level) c.args.bound (sym c.takes.ensures ∙ c.if-takes.true)
+returns-then-takes-clause-tight c = takes_tight c.args.level c.in-Some.found.level (left_level c.in-Some.found.level) c.args.bound
+    (sym c.takes.ensures ∙ c.if-takes.true)
 
 pub returns-then-takes-clause-left : goal.returns-then-takes-clause-left
-returns-then-takes-clause-left c = takes_left c.args.level c.in-Some.found.level (left_level c.in-Some.found.level) c.args.bound (sym c.takes.ensures ∙ c.if-takes.true)
+returns-then-takes-clause-left c = takes_left c.args.level c.in-Some.found.level (left_level c.in-Some.found.level) c.args.bound
+    (sym c.takes.ensures ∙ c.if-takes.true)
 
 pub returns-else-takes-clause-none : goal.returns-else-takes-clause-none
 returns-else-takes-clause-none c = λ e own op is le fit. let same = infix_one c.in-Some.ensures.spelled is in

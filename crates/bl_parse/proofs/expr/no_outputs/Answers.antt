@@ -6,13 +6,18 @@ use Rattle.bl_parse.proofs.ReadLemmas.{next_sign, after, then, pass, opened, omi
 use Rattle.bl_parse.proofs.expr.no_outputs.Goals as goal
 
 pub take-requires-then-stands : goal.take-requires-then-stands
-take-requires-then-stands c = record { stands = next_sign (after c.requires.awaits (then (opened (sign OPEN_PAREN ∷ sign CLOSE_PAREN ∷ []) (λ v. refl) (c.if-stands.ensures.kind.0 refl) refl) (pass c.take.ensures.next))) }
+take-requires-then-stands c = record {
+  stands = next_sign
+      (after c.requires.awaits (then (opened (sign OPEN_PAREN ∷ sign CLOSE_PAREN ∷ []) (λ v. refl)
+      (c.if-stands.ensures.kind.0 refl) refl) (pass c.take.ensures.next)));
+}
 
 pub returns-then-stands-clause-spelled : goal.returns-then-stands-clause-spelled
 returns-then-stands-clause-spelled c = SpellsNone.empty c.take.ensures.taken c.take-then-stands.ensures.taken
 
 pub returns-then-stands-clause-follows : goal.returns-then-stands-clause-follows
-returns-then-stands-clause-follows c = then (opened (sign OPEN_PAREN ∷ sign CLOSE_PAREN ∷ []) (λ v. refl) (c.if-stands.ensures.kind.0 refl) refl) (then (pass c.take.ensures.next) (pass c.take-then-stands.ensures.next))
+returns-then-stands-clause-follows c = then (opened (sign OPEN_PAREN ∷ sign CLOSE_PAREN ∷ []) (λ v. refl)
+    (c.if-stands.ensures.kind.0 refl) refl) (then (pass c.take.ensures.next) (pass c.take-then-stands.ensures.next))
 
 pub returns-else-stands-clause-follows : goal.returns-else-stands-clause-follows
 returns-else-stands-clause-follows c = omit refl (no_sign (c.if-stands.ensures.not refl))

@@ -8,10 +8,14 @@ use Rattle.bl_parse.proofs.ReadLemmas.{next_name, after, then, pass, opened}
 use Rattle.bl_parse.proofs.expr.previous.Goals as goal
 
 pub name-requires : goal.name-requires
-name-requires c = record { stands = next_name (after c.requires.awaits (then (opened (word PREV ∷ name ∷ []) (λ v. refl) c.requires.stands refl) (pass c.take.ensures.next))) }
+name-requires c = record {
+  stands = next_name (after c.requires.awaits
+      (then (opened (word PREV ∷ name ∷ []) (λ v. refl) c.requires.stands refl) (pass c.take.ensures.next)));
+}
 
 pub returns-clause-spelled : goal.returns-clause-spelled
 returns-clause-spelled c = SpellsExpr.before c.take.ensures.taken c.in_ok-variable.ensures.spelled (placed (kind.Prev c.in_ok-variable.variable) c.span.ensures)
 
 pub returns-clause-follows : goal.returns-clause-follows
-returns-clause-follows c = then (opened (word PREV ∷ name ∷ []) (λ v. refl) c.requires.stands refl) (then (pass c.take.ensures.next) (c.in_ok-variable.ensures.follows))
+returns-clause-follows c = then (opened (word PREV ∷ name ∷ []) (λ v. refl) c.requires.stands refl)
+    (then (pass c.take.ensures.next) (c.in_ok-variable.ensures.follows))

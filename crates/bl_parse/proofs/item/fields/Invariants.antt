@@ -2,7 +2,7 @@ use Rattle.std.proofs.Common.{◌-◌, ◌<◌, length, [], ◌∷◌}
 use Rattle.bl_parse.specs.Programs.{SpellsFieldList}
 use Rattle.bl_syntax.specs.declared.grammar.Part.TheVariants.{Field, Fields}
 use Rattle.bl_syntax.specs.Grammar.{the}
-use Rattle.bl_parse.specs.Reading.{Turns}
+use Rattle.bl_parse.specs.inner.Reading.{Turns}
 use Rattle.bl_parse.proofs.item.fields.Given as goal
 
 abbrev pub decreases-vars : goal.decreases-vars

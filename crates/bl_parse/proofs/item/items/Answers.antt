@@ -18,4 +18,5 @@ items-preserved c = record {
 }
 
 pub returns : goal.returns
-returns c = subst (λ n. SpellsItems c.args.source.now.text.now c.args.source.now.tokens.now c.items.items 0 n) (omega (arith, c.items.invariant.here.within, c.items-test.false)) c.items.invariant.items
+returns c = subst (λ n. SpellsItems c.args.source.now.text.now c.args.source.now.tokens.now c.items.items 0 n)
+    (omega (arith, c.items.invariant.here.within, c.items-test.false)) c.items.invariant.items

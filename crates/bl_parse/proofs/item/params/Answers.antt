@@ -8,25 +8,44 @@ use Rattle.bl_parse.proofs.ReadLemmas.{next_sign, first_two, after, then, read_t
 use Rattle.bl_parse.proofs.item.params.Goals as goal
 
 pub take-requires : goal.take-requires
-take-requires c = record { stands = next_sign (after c.requires.awaits (opened_one (sign OPEN_PAREN ∷ the ParamList ∷ sign CLOSE_PAREN ∷ []) (λ v. refl) refl (λ c. (_, refl)))) }
+take-requires c = record {
+  stands = next_sign (after c.requires.awaits
+      (opened_one (sign OPEN_PAREN ∷ the ParamList ∷ sign CLOSE_PAREN ∷ []) (λ v. refl) refl (λ c. (_, refl))));
+}
 
 pub take-requires-then-stands : goal.take-requires-then-stands
 take-requires-then-stands c = record { stands = c.if-stands.ensures.kind.0 refl }
 
 pub listed_params-requires : goal.listed_params-requires
-listed_params-requires c = record { awaits = first_two (after c.requires.awaits (then (opened_one (sign OPEN_PAREN ∷ the ParamList ∷ sign CLOSE_PAREN ∷ []) (λ v. refl) refl (λ c. (_, refl))) (then (pass c.take.ensures.next) (filled (the Param ∷ the ParamRest ∷ []) (λ v. refl) (λ c. (_, refl)) (no_sign (c.if-stands.ensures.not refl)))))) }
+listed_params-requires c = record {
+  awaits = first_two
+      (after c.requires.awaits (then (opened_one (sign OPEN_PAREN ∷ the ParamList ∷ sign CLOSE_PAREN ∷ []) (λ v. refl) refl
+      (λ c. (_, refl))) (then (pass c.take.ensures.next)
+      (filled (the Param ∷ the ParamRest ∷ []) (λ v. refl) (λ c. (_, refl)) (no_sign (c.if-stands.ensures.not refl))))));
+}
 
 pub take-requires-else-stands : goal.take-requires-else-stands
-take-requires-else-stands c = record { stands = next_sign (after c.requires.awaits (then (opened_one (sign OPEN_PAREN ∷ the ParamList ∷ sign CLOSE_PAREN ∷ []) (λ v. refl) refl (λ c. (_, refl))) (then (pass c.take.ensures.next) (then (filled (the Param ∷ the ParamRest ∷ []) (λ v. refl) (λ c. (_, refl)) (no_sign (c.if-stands.ensures.not refl))) (read_two c.in_ok-params.ensures.follows))))) }
+take-requires-else-stands c = record {
+  stands = next_sign
+      (after c.requires.awaits (then (opened_one (sign OPEN_PAREN ∷ the ParamList ∷ sign CLOSE_PAREN ∷ []) (λ v. refl) refl
+      (λ c. (_, refl))) (then (pass c.take.ensures.next)
+      (then (filled (the Param ∷ the ParamRest ∷ []) (λ v. refl) (λ c. (_, refl)) (no_sign (c.if-stands.ensures.not refl)))
+      (read_two c.in_ok-params.ensures.follows)))));
+}
 
 pub returns-then-stands-clause-spelled : goal.returns-then-stands-clause-spelled
 returns-then-stands-clause-spelled c = SpellsParams.none c.take.ensures.taken c.take-then-stands.ensures.taken c.new.ensures
 
 pub returns-then-stands-clause-follows : goal.returns-then-stands-clause-follows
-returns-then-stands-clause-follows c = then (opened_one (sign OPEN_PAREN ∷ the ParamList ∷ sign CLOSE_PAREN ∷ []) (λ v. refl) refl (λ c. (_, refl))) (then (pass c.take.ensures.next) (then (omit {part = ParamList} refl (next_other (c.if-stands.ensures.kind.0 refl) refl)) (pass c.take-then-stands.ensures.next)))
+returns-then-stands-clause-follows c = then (opened_one (sign OPEN_PAREN ∷ the ParamList ∷ sign CLOSE_PAREN ∷ []) (λ v. refl) refl
+    (λ c. (_, refl))) (then (pass c.take.ensures.next)
+    (then (omit {part = ParamList} refl (next_other (c.if-stands.ensures.kind.0 refl) refl)) (pass c.take-then-stands.ensures.next)))
 
 pub returns-in_ok-params-clause-spelled : goal.returns-in_ok-params-clause-spelled
 returns-in_ok-params-clause-spelled c = SpellsParams.some c.take.ensures.taken c.in_ok-params.ensures.spelled c.take-else-stands.ensures.taken
 
 pub returns-in_ok-params-clause-follows : goal.returns-in_ok-params-clause-follows
-returns-in_ok-params-clause-follows c = then (opened_one (sign OPEN_PAREN ∷ the ParamList ∷ sign CLOSE_PAREN ∷ []) (λ v. refl) refl (λ c. (_, refl))) (then (pass c.take.ensures.next) (then (filled (the Param ∷ the ParamRest ∷ []) (λ v. refl) (λ c. (_, refl)) (no_sign (c.if-stands.ensures.not refl))) (then (read_two c.in_ok-params.ensures.follows) (pass c.take-else-stands.ensures.next))))
+returns-in_ok-params-clause-follows c = then (opened_one (sign OPEN_PAREN ∷ the ParamList ∷ sign CLOSE_PAREN ∷ []) (λ v. refl) refl
+    (λ c. (_, refl))) (then (pass c.take.ensures.next)
+    (then (filled (the Param ∷ the ParamRest ∷ []) (λ v. refl) (λ c. (_, refl)) (no_sign (c.if-stands.ensures.not refl)))
+    (then (read_two c.in_ok-params.ensures.follows) (pass c.take-else-stands.ensures.next))))

@@ -12,19 +12,49 @@ pub name-requires : goal.name-requires
 name-requires c = record { stands = next_name (after c.requires.awaits (then (c.in_ok-entry.ensures.follows) (c.in_ok-kind.ensures.follows))) }
 
 pub params-requires : goal.params-requires
-params-requires c = record { awaits = first (after c.requires.awaits (then (c.in_ok-entry.ensures.follows) (then (c.in_ok-kind.ensures.follows) (then (read c.in_ok-name.ensures.follows) (opened_one (the Params ∷ the SecondParams ∷ the Returns ∷ the Block ∷ word END ∷ []) (λ v. refl) refl (λ c. (_, refl))))))) }
+params-requires c = record {
+  awaits = first (after c.requires.awaits
+      (then (c.in_ok-entry.ensures.follows) (then (c.in_ok-kind.ensures.follows)
+      (then (read c.in_ok-name.ensures.follows) (opened_one (the Params ∷ the SecondParams ∷ the Returns ∷ the Block ∷ word END ∷ [])
+      (λ v. refl) refl (λ c. (_, refl)))))));
+}
 
 pub output_params-requires : goal.output_params-requires
-output_params-requires c = record { awaits = first (after c.requires.awaits (then (c.in_ok-entry.ensures.follows) (then (c.in_ok-kind.ensures.follows) (then (read c.in_ok-name.ensures.follows) (then (opened_one (the Params ∷ the SecondParams ∷ the Returns ∷ the Block ∷ word END ∷ []) (λ v. refl) refl (λ c. (_, refl))) (read c.in_ok-inputs.ensures.follows)))))) }
+output_params-requires c = record {
+  awaits = first
+      (after c.requires.awaits (then (c.in_ok-entry.ensures.follows)
+      (then (c.in_ok-kind.ensures.follows) (then (read c.in_ok-name.ensures.follows)
+      (then (opened_one (the Params ∷ the SecondParams ∷ the Returns ∷ the Block ∷ word END ∷ []) (λ v. refl) refl (λ c. (_, refl)))
+      (read c.in_ok-inputs.ensures.follows))))));
+}
 
 pub result_type-requires : goal.result_type-requires
-result_type-requires c = record { awaits = first (after c.requires.awaits (then (c.in_ok-entry.ensures.follows) (then (c.in_ok-kind.ensures.follows) (then (read c.in_ok-name.ensures.follows) (then (opened_one (the Params ∷ the SecondParams ∷ the Returns ∷ the Block ∷ word END ∷ []) (λ v. refl) refl (λ c. (_, refl))) (then (read c.in_ok-inputs.ensures.follows) (read c.in_ok-outputs.ensures.follows))))))) }
+result_type-requires c = record {
+  awaits = first (after c.requires.awaits
+      (then (c.in_ok-entry.ensures.follows) (then (c.in_ok-kind.ensures.follows)
+      (then (read c.in_ok-name.ensures.follows) (then (opened_one
+      (the Params ∷ the SecondParams ∷ the Returns ∷ the Block ∷ word END ∷ []) (λ v. refl) refl (λ c. (_, refl)))
+      (then (read c.in_ok-inputs.ensures.follows) (read c.in_ok-outputs.ensures.follows)))))));
+}
 
 pub block-requires : goal.block-requires
-block-requires c = record { awaits = first (after c.requires.awaits (then (c.in_ok-entry.ensures.follows) (then (c.in_ok-kind.ensures.follows) (then (read c.in_ok-name.ensures.follows) (then (opened_one (the Params ∷ the SecondParams ∷ the Returns ∷ the Block ∷ word END ∷ []) (λ v. refl) refl (λ c. (_, refl))) (then (read c.in_ok-inputs.ensures.follows) (then (read c.in_ok-outputs.ensures.follows) (read c.in_ok-result.ensures.follows)))))))) }
+block-requires c = record {
+  awaits = first (after c.requires.awaits
+      (then (c.in_ok-entry.ensures.follows) (then (c.in_ok-kind.ensures.follows)
+      (then (read c.in_ok-name.ensures.follows) (then (opened_one
+      (the Params ∷ the SecondParams ∷ the Returns ∷ the Block ∷ word END ∷ []) (λ v. refl) refl (λ c. (_, refl)))
+      (then (read c.in_ok-inputs.ensures.follows) (then (read c.in_ok-outputs.ensures.follows) (read c.in_ok-result.ensures.follows))))))));
+}
 
 pub take-requires : goal.take-requires
-take-requires c = record { stands = next_word (after c.requires.awaits (then (c.in_ok-entry.ensures.follows) (then (c.in_ok-kind.ensures.follows) (then (read c.in_ok-name.ensures.follows) (then (opened_one (the Params ∷ the SecondParams ∷ the Returns ∷ the Block ∷ word END ∷ []) (λ v. refl) refl (λ c. (_, refl))) (then (read c.in_ok-inputs.ensures.follows) (then (read c.in_ok-outputs.ensures.follows) (then (read c.in_ok-result.ensures.follows) (read c.in_ok-body.ensures.follows))))))))) }
+take-requires c = record {
+  stands = next_word (after c.requires.awaits
+      (then (c.in_ok-entry.ensures.follows) (then (c.in_ok-kind.ensures.follows)
+      (then (read c.in_ok-name.ensures.follows) (then (opened_one
+      (the Params ∷ the SecondParams ∷ the Returns ∷ the Block ∷ word END ∷ []) (λ v. refl) refl (λ c. (_, refl)))
+      (then (read c.in_ok-inputs.ensures.follows) (then (read c.in_ok-outputs.ensures.follows)
+      (then (read c.in_ok-result.ensures.follows) (read c.in_ok-body.ensures.follows)))))))));
+}
 
 pub returns-clause-spelled : goal.returns-clause-spelled
 returns-clause-spelled c = record {
@@ -46,4 +76,8 @@ returns-clause-spelled c = record {
 }
 
 pub returns-clause-follows : goal.returns-clause-follows
-returns-clause-follows c = then (c.in_ok-entry.ensures.follows) (then (c.in_ok-kind.ensures.follows) (then (read c.in_ok-name.ensures.follows) (then (opened_one (the Params ∷ the SecondParams ∷ the Returns ∷ the Block ∷ word END ∷ []) (λ v. refl) refl (λ c. (_, refl))) (then (read c.in_ok-inputs.ensures.follows) (then (read c.in_ok-outputs.ensures.follows) (then (read c.in_ok-result.ensures.follows) (then (read c.in_ok-body.ensures.follows) (pass c.take.ensures.next))))))))
+returns-clause-follows c = then (c.in_ok-entry.ensures.follows)
+    (then (c.in_ok-kind.ensures.follows) (then (read c.in_ok-name.ensures.follows)
+    (then (opened_one (the Params ∷ the SecondParams ∷ the Returns ∷ the Block ∷ word END ∷ []) (λ v. refl) refl (λ c. (_, refl)))
+    (then (read c.in_ok-inputs.ensures.follows) (then (read c.in_ok-outputs.ensures.follows)
+    (then (read c.in_ok-result.ensures.follows) (then (read c.in_ok-body.ensures.follows) (pass c.take.ensures.next))))))))

@@ -1,6 +1,6 @@
 use Rattle.std.proofs.Common.{◌-◌, ◌≤◌, length}
 use Rattle.bl_parse.specs.Statements.{SpellsFields}
-use Rattle.bl_parse.specs.Reading.{KeepsFields}
+use Rattle.bl_parse.specs.inner.Reading.{KeepsFields}
 use Rattle.bl_parse.proofs.parts.fields.Given as goal
 
 abbrev pub decreases-dots : goal.decreases-dots

@@ -13,7 +13,8 @@ pub returns-in_ok-e-clause-spelled : goal.returns-in_ok-e-clause-spelled
 returns-in_ok-e-clause-spelled c = SpellsInitial.given c.in_ok-e.ensures.spelled refl
 
 pub returns-in_ok-e-clause-follows : goal.returns-in_ok-e-clause-follows
-returns-in_ok-e-clause-follows c = then (opened (sign ASSIGN ∷ the Expr ∷ []) (λ v. refl) (c.if-stands.ensures.kind.0 refl) refl) (c.in_ok-e.ensures.follows)
+returns-in_ok-e-clause-follows c = then (opened (sign ASSIGN ∷ the Expr ∷ []) (λ v. refl) (c.if-stands.ensures.kind.0 refl) refl)
+    (c.in_ok-e.ensures.follows)
 
 pub returns-else-stands-clause-spelled : goal.returns-else-stands-clause-spelled
 returns-else-stands-clause-spelled c = SpellsInitial.absent refl refl

@@ -13,7 +13,8 @@ pub returns-in_ok-ty-clause-spelled : goal.returns-in_ok-ty-clause-spelled
 returns-in_ok-ty-clause-spelled c = SpellsMaybeTyping.written c.in_ok-ty.ensures.spelled refl
 
 pub returns-in_ok-ty-clause-follows : goal.returns-in_ok-ty-clause-follows
-returns-in_ok-ty-clause-follows c = then (opened (sign COLON ∷ the Ty ∷ []) (λ v. refl) (c.if-stands.ensures.kind.0 refl) refl) (c.in_ok-ty.ensures.follows)
+returns-in_ok-ty-clause-follows c = then (opened (sign COLON ∷ the Ty ∷ []) (λ v. refl) (c.if-stands.ensures.kind.0 refl) refl)
+    (c.in_ok-ty.ensures.follows)
 
 pub returns-else-stands-clause-spelled : goal.returns-else-stands-clause-spelled
 returns-else-stands-clause-spelled c = SpellsMaybeTyping.absent refl refl

@@ -9,7 +9,8 @@ pub listed_outputs-requires : goal.listed_outputs-requires
 listed_outputs-requires c = record { awaits = after c.requires.awaits (opened (the Outputs ∷ []) (λ v. refl) (c.if-stands.ensures.kind.0 refl) refl) }
 
 pub returns-in_ok-outputs-clause-follows : goal.returns-in_ok-outputs-clause-follows
-returns-in_ok-outputs-clause-follows c = then (opened (the Outputs ∷ []) (λ v. refl) (c.if-stands.ensures.kind.0 refl) refl) (c.in_ok-outputs.ensures.follows)
+returns-in_ok-outputs-clause-follows c = then (opened (the Outputs ∷ []) (λ v. refl) (c.if-stands.ensures.kind.0 refl) refl)
+    (c.in_ok-outputs.ensures.follows)
 
 pub returns-else-stands-clause-spelled : goal.returns-else-stands-clause-spelled
 returns-else-stands-clause-spelled c = SpellsOutputs.absent c.new.ensures refl

@@ -8,16 +8,29 @@ use Rattle.bl_parse.proofs.ReadLemmas.{next_name, first, after, then, read, pass
 use Rattle.bl_parse.proofs.stmt.fixed.Goals as goal
 
 pub name-requires : goal.name-requires
-name-requires c = record { stands = next_name (after c.requires.awaits (then (opened (word LET ∷ name ∷ the TypeMark ∷ sign ASSIGN ∷ the Expr ∷ []) (λ v. refl) c.requires.stands refl) (pass c.take.ensures.next))) }
+name-requires c = record {
+  stands = next_name (after c.requires.awaits
+      (then (opened (word LET ∷ name ∷ the TypeMark ∷ sign ASSIGN ∷ the Expr ∷ []) (λ v. refl) c.requires.stands refl) (pass c.take.ensures.next)));
+}
 
 pub maybe_typing-requires : goal.maybe_typing-requires
-maybe_typing-requires c = record { awaits = first (after c.requires.awaits (then (opened (word LET ∷ name ∷ the TypeMark ∷ sign ASSIGN ∷ the Expr ∷ []) (λ v. refl) c.requires.stands refl) (then (pass c.take.ensures.next) (read c.in_ok-name.ensures.follows)))) }
+maybe_typing-requires c = record {
+  awaits = first (after c.requires.awaits
+      (then (opened (word LET ∷ name ∷ the TypeMark ∷ sign ASSIGN ∷ the Expr ∷ []) (λ v. refl) c.requires.stands refl)
+      (then (pass c.take.ensures.next) (read c.in_ok-name.ensures.follows))));
+}
 
 pub value-requires : goal.value-requires
-value-requires c = record { awaits = after c.requires.awaits (then (opened (word LET ∷ name ∷ the TypeMark ∷ sign ASSIGN ∷ the Expr ∷ []) (λ v. refl) c.requires.stands refl) (then (pass c.take.ensures.next) (then (read c.in_ok-name.ensures.follows) (read c.in_ok-ty.ensures.follows)))) }
+value-requires c = record {
+  awaits = after c.requires.awaits
+      (then (opened (word LET ∷ name ∷ the TypeMark ∷ sign ASSIGN ∷ the Expr ∷ []) (λ v. refl) c.requires.stands refl)
+      (then (pass c.take.ensures.next) (then (read c.in_ok-name.ensures.follows) (read c.in_ok-ty.ensures.follows))));
+}
 
 pub returns-clause-spelled : goal.returns-clause-spelled
 returns-clause-spelled c = SpellsKind.fixed c.take.ensures.taken c.in_ok-name.ensures.spelled c.in_ok-ty.ensures.spelled c.in_ok-value.ensures.spelled refl
 
 pub returns-clause-follows : goal.returns-clause-follows
-returns-clause-follows c = then (opened (word LET ∷ name ∷ the TypeMark ∷ sign ASSIGN ∷ the Expr ∷ []) (λ v. refl) c.requires.stands refl) (then (pass c.take.ensures.next) (then (read c.in_ok-name.ensures.follows) (then (read c.in_ok-ty.ensures.follows) (c.in_ok-value.ensures.follows))))
+returns-clause-follows c = then (opened (word LET ∷ name ∷ the TypeMark ∷ sign ASSIGN ∷ the Expr ∷ [])
+    (λ v. refl) c.requires.stands refl) (then (pass c.take.ensures.next)
+    (then (read c.in_ok-name.ensures.follows) (then (read c.in_ok-ty.ensures.follows) (c.in_ok-value.ensures.follows))))

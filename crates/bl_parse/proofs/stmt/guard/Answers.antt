@@ -8,7 +8,11 @@ use Rattle.bl_parse.proofs.ReadLemmas.{next_word, after, then, pass, opened, ope
 use Rattle.bl_parse.proofs.stmt.guard.Goals as goal
 
 pub take-requires-else-stands : goal.take-requires-else-stands
-take-requires-else-stands c = record { stands = next_word (after c.requires.awaits (opened_rest (word RESET ∷ []) (λ v. refl) refl (λ kind is. guard_reset (class_of kind) (off_at (no_word (c.if-stands.ensures.not refl)) kind is)))) }
+take-requires-else-stands c = record {
+  stands = next_word
+      (after c.requires.awaits (opened_rest (word RESET ∷ []) (λ v. refl) refl
+      (λ kind is. guard_reset (class_of kind) (off_at (no_word (c.if-stands.ensures.not refl)) kind is))));
+}
 
 pub returns-then-stands-clause-spelled : goal.returns-then-stands-clause-spelled
 returns-then-stands-clause-spelled c = record { word = Word ABORT; token = c.take.ensures.taken; is = IsGuard.abort }
@@ -20,4 +24,5 @@ pub returns-else-stands-clause-spelled : goal.returns-else-stands-clause-spelled
 returns-else-stands-clause-spelled c = record { word = Word RESET; token = c.take-else-stands.ensures.taken; is = IsGuard.reset }
 
 pub returns-else-stands-clause-follows : goal.returns-else-stands-clause-follows
-returns-else-stands-clause-follows c = then (opened_rest (word RESET ∷ []) (λ v. refl) refl (λ kind is. guard_reset (class_of kind) (off_at (no_word (c.if-stands.ensures.not refl)) kind is))) (pass c.take-else-stands.ensures.next)
+returns-else-stands-clause-follows c = then (opened_rest (word RESET ∷ []) (λ v. refl) refl
+    (λ kind is. guard_reset (class_of kind) (off_at (no_word (c.if-stands.ensures.not refl)) kind is))) (pass c.take-else-stands.ensures.next)

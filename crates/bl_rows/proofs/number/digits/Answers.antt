@@ -11,5 +11,6 @@ returns-in_err-checked_mul-clause-beyond c = λ _.
 
 pub returns-in_err-n-clause-beyond : goal.returns-in_err-n-clause-beyond
 returns-in_err-n-clause-beyond c = λ _.
-    let large : 2 ^ 64 ≤ c.digits.n * 10 + digit_value (get_or c.args.text.now c.digits.digit-index 0) = grind (arith, common_steps, c.in_err-n.ensures, c.in_ok-checked_mul.ensures) in
+    let large : 2 ^ 64 ≤ c.digits.n * 10 + digit_value (get_or c.args.text.now c.digits.digit-index 0) =
+    grind (arith, common_steps, c.in_err-n.ensures, c.in_ok-checked_mul.ensures) in
     grows_beyond c.args.text.now c.digits.digit-index c.digits.n (2 ^ 64) (omega arith) c.digits.invariant.value large

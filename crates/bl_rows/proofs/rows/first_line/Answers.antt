@@ -5,7 +5,8 @@ use Rattle.bl_rows.proofs.rows.first_line.Goals as goal
 
 pub returns-in-Some : goal.returns-in-Some
 returns-in-Some c =
-    let rest = take_all (length c.args.bytes.now - (c.in-Some.end + 1)) (drop (c.in-Some.end + 1) c.args.bytes.now) (omega (arith, length-drop (c.in-Some.end + 1) c.args.bytes.now)) in (
+    let rest = take_all (length c.args.bytes.now - (c.in-Some.end + 1)) (drop (c.in-Some.end + 1) c.args.bytes.now)
+    (omega (arith, length-drop (c.in-Some.end + 1) c.args.bytes.now)) in (
       first_line_feedless c.args.bytes.now c.in-Some.end c.in-Some.ensures,
       first_line_splits c.args.bytes.now c.in-Some.end c.in-Some.ensures ∙ ap (λ r. take c.in-Some.end c.args.bytes.now ++ (10 ∷ r)) (sym rest),
     )

@@ -4,4 +4,5 @@ use Rattle.bl_steps_tests.proofs.Standing.{dividing_twice_stands}
 use Rattle.bl_steps_tests.proofs.programs.dividing_twice.Goals as goal
 
 pub program-requires : goal.program-requires
-program-requires c = subst (λ units. Stands [] units 0) (sym (c.in_ok-units.ensures ∙ (λ i. c.in_ok-dividing_twice_unit.ensures i ∷ []))) dividing_twice_stands
+program-requires c = subst (λ units. Stands [] units 0)
+    (sym (c.in_ok-units.ensures ∙ (λ i. c.in_ok-dividing_twice_unit.ensures i ∷ []))) dividing_twice_stands

@@ -4,4 +4,5 @@ use Rattle.bl_steps_tests.proofs.Standing.{joining_stands}
 use Rattle.bl_steps_tests.proofs.programs.joining.Goals as goal
 
 pub program-requires : goal.program-requires
-program-requires c = subst (λ units. Stands [] units 0) (sym (c.in_ok-units.ensures ∙ (λ i. c.in_ok-joining_unit.ensures i ∷ []))) (joining_stands c.args.weak)
+program-requires c = subst (λ units. Stands [] units 0) (sym (c.in_ok-units.ensures ∙ (λ i. c.in_ok-joining_unit.ensures i ∷ [])))
+    (joining_stands c.args.weak)

@@ -4,4 +4,5 @@ use Rattle.bl_steps_tests.proofs.Standing.{looking_last_stands}
 use Rattle.bl_steps_tests.proofs.programs.looking_last.Goals as goal
 
 pub program-requires : goal.program-requires
-program-requires c = subst (λ units. Stands [] units 0) (sym (c.in_ok-units.ensures ∙ (λ i. c.in_ok-looking_last_unit.ensures i ∷ []))) looking_last_stands
+program-requires c = subst (λ units. Stands [] units 0)
+    (sym (c.in_ok-units.ensures ∙ (λ i. c.in_ok-looking_last_unit.ensures i ∷ []))) looking_last_stands

@@ -1,7 +1,7 @@
 use Rattle.std.proofs.Common.{◌-◌, ◌≤◌, ℕ, List, [], Option}
 use Rattle.bl_io.specs.Count.{NeverFell}
 use Rattle.bl_io.specs.Left.{KeepsOthers}
-use Rattle.bl_stream.specs.Going.{Going, Stands, most_reach, reach}
+use Rattle.bl_stream.specs.inner.Going.{Going, Stands, most_reach, reach}
 use Rattle.bl_stream.proofs.pieces.run_all.Given as goal
 
 abbrev pub invariant-pieces : goal.invariant-pieces

@@ -11,20 +11,24 @@ returns-in-Ok-eq0-clause-left g c =
     let next = g.F.Files.left c.next.new.self c.args.name.now in
     λ every before going.
     streamed-by (course_of c.args.runner.now.parts) every before _ going.read c.run_last.result
-    (read-all every left next going.read c.next.new.room going.has_read (subst (λ n. HandsOver left n c.next.new.room next) c.in-Ok-eq0.field-0-test c.in-Ok-eq0.ensures.front))
+    (read-all every left next going.read c.next.new.room going.has_read
+    (subst (λ n. HandsOver left n c.next.new.room next) c.in-Ok-eq0.field-0-test c.in-Ok-eq0.ensures.front))
     (c.run_last.ensures.ends going.read before going.stands)
 
 pub returns-in-Ok-clause-left : goal.returns-in-Ok-clause-left
 returns-in-Ok-clause-left g c = λ every before going.
-    next-goes c.args.runner.now.parts every before _ _ (going.read ++ take c.in-Ok.n c.next.new.room) c.run_piece.new.pace c.run_piece.new.runner c.run_piece.result
-    (read-more every (g.F.Files.left c.args.files.now c.args.name.now) (g.F.Files.left c.next.new.self c.args.name.now) going.read c.next.new.room c.in-Ok.n going.has_read c.in-Ok.ensures.front)
+    next-goes c.args.runner.now.parts every before _ _
+    (going.read ++ take c.in-Ok.n c.next.new.room) c.run_piece.new.pace c.run_piece.new.runner c.run_piece.result
+    (read-more every (g.F.Files.left c.args.files.now c.args.name.now)
+    (g.F.Files.left c.next.new.self c.args.name.now) going.read c.next.new.room c.in-Ok.n going.has_read c.in-Ok.ensures.front)
     (c.run_piece.ensures.left going.read before going.stands)
 
 pub returns-in-Ok-clause-read_fault : goal.returns-in-Ok-clause-read_fault
 returns-in-Ok-clause-read_fault g c =
     let going = c.requires.going.2 in
     λ is. absurd
-    (leaves-never c.args.runner.now.parts (going.read ++ take c.in-Ok.n c.next.new.room) c.requires.going.1 c.run_piece.new.pace c.run_piece.new.runner _ c.run_piece.result
+    (leaves-never c.args.runner.now.parts (going.read ++ take c.in-Ok.n c.next.new.room) c.requires.going.1 c.run_piece.new.pace
+    c.run_piece.new.runner _ c.run_piece.result
     (c.run_piece.ensures.left going.read c.requires.going.1 going.stands) is)
 
 pub returns-in-Err-Failed-clause-left : goal.returns-in-Err-Failed-clause-left

@@ -15,7 +15,8 @@ append_line-requires c = record {
 pub append_line-requires-in-Ended : goal.append_line-requires-in-Ended
 append_line-requires-in-Ended c = record {
   fits =
-      subst (λ outs. row_fits outs c.tick.new.outs ≡ true) (sym (c.outputs-in-Ended.ensures ∙ ap (λ (r : Running). outputs_of r.parts) c.tick.ensures.after))
+      subst (λ outs. row_fits outs c.tick.new.outs ≡ true)
+      (sym (c.outputs-in-Ended.ensures ∙ ap (λ (r : Running). outputs_of r.parts) c.tick.ensures.after))
       c.in-Ended.ensures.fit;
 }
 

@@ -20,7 +20,8 @@ returns-in-Ok-runner_of-clause-ends g c =
 
 pub returns-in-Ok-runner_of-clause-reads : goal.returns-in-Ok-runner_of-clause-reads
 returns-in-Ok-runner_of-clause-reads g c =
-    reads_both _ _ _ _ (g.F.Files.left c.read_up_to.new.files) _ (reads_up_to _ _ _ _ c.in-Ok.bytes.items c.in-Ok.ensures.front c.read_up_to.ensures.others) c.run_over.ensures.others
+    reads_both _ _ _ _ (g.F.Files.left c.read_up_to.new.files) _
+    (reads_up_to _ _ _ _ c.in-Ok.bytes.items c.in-Ok.ensures.front c.read_up_to.ensures.others) c.run_over.ensures.others
 
 pub returns-clause-ends : goal.returns-clause-ends
 returns-clause-ends g c =

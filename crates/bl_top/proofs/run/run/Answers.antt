@@ -10,7 +10,8 @@ returns-in-Err-clause-ends g c = run_stops _ _ _ _ _ c.in-Err.ensures.stopped (k
 
 pub returns-in-Ok-runner_of-clause-ends : goal.returns-in-Ok-runner_of-clause-ends
 returns-in-Ok-runner_of-clause-ends g c =
-    run_ran _ _ _ c.in-Ok.program (course_of c.in-Ok-runner_of.runner.parts) (g.F.Files.left c.program_of.new.files) _ _ _ c.in-Ok.ensures.program c.in-Ok-runner_of.ensures.course
+    run_ran _ _ _ c.in-Ok.program (course_of c.in-Ok-runner_of.runner.parts)
+    (g.F.Files.left c.program_of.new.files) _ _ _ c.in-Ok.ensures.program c.in-Ok-runner_of.ensures.course
     c.in-Ok.ensures.behind (c.program_of.ensures.file_counts _) c.run_over.ensures.streams
 
 pub returns-in-Ok-runner_of-clause-reads : goal.returns-in-Ok-runner_of-clause-reads

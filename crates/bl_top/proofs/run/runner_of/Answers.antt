@@ -6,7 +6,8 @@ use Rattle.bl_top.proofs.run.runner_of.Goals as goal
 pub returns-in-Ok-clause-course : goal.returns-in-Ok-clause-course
 returns-in-Ok-clause-course c =
     course_of_parts c.args.program.now.structs c.args.program.now.units c.args.program.now.entry c.in_ok-file.file c.in-Ok.runner.parts
-    (loaded_parts c.in-Ok.runner (parts_of c.in_ok-file.file) c.in-Ok.ensures.loaded) c.in_ok-file.ensures c.rows_of_bytes_fit.ensures c.rows_of_lines_fit.ensures
+    (loaded_parts c.in-Ok.runner (parts_of c.in_ok-file.file) c.in-Ok.ensures.loaded) c.in_ok-file.ensures
+    c.rows_of_bytes_fit.ensures c.rows_of_lines_fit.ensures
 
 pub returns-in-Ok-clause-fresh : goal.returns-in-Ok-clause-fresh
 returns-in-Ok-clause-fresh c = loaded_fresh c.in-Ok.runner (parts_of c.in_ok-file.file) c.in-Ok.ensures.loaded
@@ -16,4 +17,5 @@ returns-in-Ok-clause-runs c = loaded_runs c.in-Ok.runner (parts_of c.in_ok-file.
 
 pub wanting-requires : goal.wanting-requires
 wanting-requires c =
-    wants_memory c.in_ok-file.file c.args.program.now.structs c.args.program.now.units c.args.program.now.entry c.in-Err.fault c.in_ok-file.ensures c.in-Err.ensures.fault
+    wants_memory c.in_ok-file.file c.args.program.now.structs c.args.program.now.units c.args.program.now.entry c.in-Err.fault
+    c.in_ok-file.ensures c.in-Err.ensures.fault

@@ -9,4 +9,5 @@ returns-in-Ok-check-clause-units c = units_pass c.args.raw.now c.in-Ok.program c
 
 pub returns-in-Err-check-clause-refused : goal.returns-in-Err-check-clause-refused
 returns-in-Err-check-clause-refused c =
-    units_refusal c.args.raw.now c.in-Ok.program c.in-Err-check.refusal c.in-Ok.ensures.typed c.in-Ok.ensures.names c.in-Ok.ensures.types c.in-Err-check.ensures.cause
+    units_refusal c.args.raw.now c.in-Ok.program c.in-Err-check.refusal c.in-Ok.ensures.typed c.in-Ok.ensures.names
+    c.in-Ok.ensures.types c.in-Err-check.ensures.cause

@@ -14,7 +14,8 @@ returns-in-Err-NoMemory-clause-stopped g c = stops_short _ _ _ _ c.plain-in-Err-
 
 pub returns-in-Err-clause-stopped : goal.returns-in-Err-clause-stopped
 returns-in-Err-clause-stopped g c =
-    stops_refused _ c.in-Ok.bytes.items _ _ c.in-Err.refusal _ c.in-Ok.ensures.front (subst (λ text. IsRefusalOf text c.in-Err.refusal) c.deref.ensures.value c.in-Err.ensures.refused) c.refused.ensures
+    stops_refused _ c.in-Ok.bytes.items _ _ c.in-Err.refusal _ c.in-Ok.ensures.front
+    (subst (λ text. IsRefusalOf text c.in-Err.refusal) c.deref.ensures.value c.in-Err.ensures.refused) c.refused.ensures
 
 pub returns-in-Err-clause-reads : goal.returns-in-Err-clause-reads
 returns-in-Err-clause-reads g c = reads_up_to _ _ _ _ c.in-Ok.bytes.items c.in-Ok.ensures.front c.read_up_to.ensures.others

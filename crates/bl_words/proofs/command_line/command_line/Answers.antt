@@ -4,7 +4,7 @@ use Rattle.clap.specs.Simple.{App, on_top}
 use Rattle.clap.specs.Words.{app_of, with_subcommand}
 use Rattle.clap.specs.declared.builder.command.Command.{Command}
 use Rattle.clap.specs.declared.builder.command.Command.TheViews.{out-Command}
-use Rattle.bl_words.specs.CommandLine.{with_own_words_only}
+use Rattle.bl_words.specs.inner.CommandLine.{with_own_words_only}
 use Rattle.bl_words.proofs.command_line.command_line.Goals as goal
 
 settings_are : (a b c d e f : Command) → out-Command a ≡ record (out-Command b) { subcommand_required = true } →

@@ -2,7 +2,7 @@ use Rattle.std.proofs.Common.{◌∙◌, Some, sym, ap, ap₂, codes}
 use Rattle.clap.specs.Walk.{rows_of}
 use Rattle.clap.specs.Words.{first_of, found_of}
 use Rattle.clap.proofs.WalkLemmas.{first_value-rows}
-use Rattle.bl_words.specs.CommandLine.{job_read, one_read, two_read}
+use Rattle.bl_words.specs.inner.CommandLine.{job_read, one_read, two_read}
 use Rattle.bl_words.specs.Jobs.{build, exec, run}
 use Rattle.bl_words.proofs.Matches.{command_is, unnamed_read}
 use Rattle.bl_words.proofs.command_line.job_read.Goals as goal

@@ -6,7 +6,7 @@ use Rattle.clap.specs.Simple.{App, is_simple, subcommand_of}
 use Rattle.clap.specs.Walk.{Text}
 use Rattle.clap.specs.Faults.{fault_of, is_simple_and_free}
 use Rattle.bl_words.specs.Jobs.{is_plain_word}
-use Rattle.bl_words.specs.CommandLine.{command_line, job_read}
+use Rattle.bl_words.specs.inner.CommandLine.{command_line, job_read}
 use Rattle.bl_words.proofs.Reading.{none_plain, refusal_is, result_is}
 use Rattle.bl_words.proofs.job.job_of.Goals as goal
 

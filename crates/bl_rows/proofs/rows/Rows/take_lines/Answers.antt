@@ -1,41 +1,75 @@
 use Rattle.std.proofs.Common.{◌≡◌, ap, sym, ◌∙◌, subst, false, is_none}
 use Rattle.bl_rows.specs.Lines.{has_feed}
 use Rattle.bl_rows.specs.Reading.{Reading, Front, rows_in}
-use Rattle.bl_rows.proofs.Scans.{midst_line, midst_front, midst_stopped_rows, midst_stopped_fault, midst_kept_rows, midst_kept_fault, midst_kept_state, no_stop, a_stop, map_ok, ok_by}
+use Rattle.bl_rows.proofs.Scans.{
+  midst_line,
+  midst_front,
+  midst_stopped_rows,
+  midst_stopped_fault,
+  midst_kept_rows,
+  midst_kept_fault,
+  midst_kept_state,
+  no_stop,
+  a_stop,
+  map_ok,
+  ok_by,
+}
 use Rattle.bl_rows.proofs.rows.Rows.take_lines.Goals as goal
 
 pub returns-in_err-take_line-in-Some-clause-front : goal.returns-in_err-take_line-in-Some-clause-front
-returns-in_err-take_line-in-Some-clause-front c = subst (λ rows. Front c.args.into.now.items rows (rows_in c.args.self.now c.args.piece.now)) (sym c.in_err-take_line-in-Some.ensures.none) (midst_front c.args.self.now c.args.piece.now c.args.into.now.items c.lines.into.items c.lines.self c.lines.rest.now c.requires c.lines.invariant)
+returns-in_err-take_line-in-Some-clause-front c = subst (λ rows. Front c.args.into.now.items rows
+    (rows_in c.args.self.now c.args.piece.now)) (sym c.in_err-take_line-in-Some.ensures.none)
+    (midst_front c.args.self.now c.args.piece.now c.args.into.now.items c.lines.into.items c.lines.self c.lines.rest.now c.requires c.lines.invariant)
 
 pub lines-preserved : goal.lines-preserved
-lines-preserved c = midst_line c.args.self.now c.args.piece.now c.args.into.now.items c.lines.into.items c.take_line.new.into.items c.lines.self c.take_line.new.self c.lines.rest.now c.in-Some.line.now c.in-Some.after.now
-    c.lines.invariant (sym (ap (λ (r : Reading). r.stop) c.self-in-lines.view_is) ∙ no_stop c.self-in-lines.inside.stop c.is_none.result c.is_none.ensures c.lines-test.true)
+lines-preserved c = midst_line c.args.self.now c.args.piece.now c.args.into.now.items c.lines.into.items c.take_line.new.into.items
+    c.lines.self c.take_line.new.self c.lines.rest.now c.in-Some.line.now c.in-Some.after.now
+    c.lines.invariant (sym (ap (λ (r : Reading). r.stop) c.self-in-lines.view_is)
+    ∙ no_stop c.self-in-lines.inside.stop c.is_none.result c.is_none.ensures c.lines-test.true)
     (subst (λ (r : Reading). has_feed r.line ≡ false) c.self-in-lines.view_is c.self-in-lines.invariant.3) c.in-Some.ensures.0 c.in-Some.ensures.1
-    c.in_ok-take_line-in-Some.ensures.stop c.in_ok-take_line-in-Some.ensures.at c.in_ok-take_line-in-Some.ensures.rows c.in_ok-take_line-in-Some.ensures.line c.take_line.ensures.columns c.take_line.ensures.ended
+    c.in_ok-take_line-in-Some.ensures.stop c.in_ok-take_line-in-Some.ensures.at c.in_ok-take_line-in-Some.ensures.rows
+    c.in_ok-take_line-in-Some.ensures.line c.take_line.ensures.columns c.take_line.ensures.ended
 
 pub returns-in-None-clause-stop : goal.returns-in-None-clause-stop
-returns-in-None-clause-stop c = map_ok c.keep.result (λ e. midst_kept_fault c.args.self.now c.args.piece.now c.args.into.now.items c.lines.into.items c.lines.self c.lines.rest.now c.keep.new.self.stop c.requires c.lines.invariant
-    (sym (ap (λ (r : Reading). r.stop) c.self-in-lines.view_is) ∙ no_stop c.self-in-lines.inside.stop c.is_none.result c.is_none.ensures c.lines-test.true) (subst (λ (r : Reading). has_feed r.line ≡ false) c.self-in-lines.view_is c.self-in-lines.invariant.3)
+returns-in-None-clause-stop c = map_ok c.keep.result
+    (λ e. midst_kept_fault c.args.self.now c.args.piece.now c.args.into.now.items c.lines.into.items c.lines.self c.lines.rest.now
+    c.keep.new.self.stop c.requires c.lines.invariant
+    (sym (ap (λ (r : Reading). r.stop) c.self-in-lines.view_is)
+    ∙ no_stop c.self-in-lines.inside.stop c.is_none.result c.is_none.ensures c.lines-test.true)
+    (subst (λ (r : Reading). has_feed r.line ≡ false) c.self-in-lines.view_is c.self-in-lines.invariant.3)
     c.in-None.ensures e) c.keep.ensures.stop
 
 pub returns-in-None-clause-rows : goal.returns-in-None-clause-rows
-returns-in-None-clause-rows c = ok_by c.keep.result (midst_kept_rows c.args.self.now c.args.piece.now c.args.into.now.items c.lines.into.items c.lines.self c.lines.rest.now c.requires c.lines.invariant
-    (sym (ap (λ (r : Reading). r.stop) c.self-in-lines.view_is) ∙ no_stop c.self-in-lines.inside.stop c.is_none.result c.is_none.ensures c.lines-test.true) (subst (λ (r : Reading). has_feed r.line ≡ false) c.self-in-lines.view_is c.self-in-lines.invariant.3)
+returns-in-None-clause-rows c = ok_by c.keep.result
+    (midst_kept_rows c.args.self.now c.args.piece.now c.args.into.now.items c.lines.into.items c.lines.self c.lines.rest.now c.requires c.lines.invariant
+    (sym (ap (λ (r : Reading). r.stop) c.self-in-lines.view_is)
+    ∙ no_stop c.self-in-lines.inside.stop c.is_none.result c.is_none.ensures c.lines-test.true)
+    (subst (λ (r : Reading). has_feed r.line ≡ false) c.self-in-lines.view_is c.self-in-lines.invariant.3)
     c.in-None.ensures)
 
 pub returns-in-None-clause-front : goal.returns-in-None-clause-front
-returns-in-None-clause-front c = midst_front c.args.self.now c.args.piece.now c.args.into.now.items c.lines.into.items c.lines.self c.lines.rest.now c.requires c.lines.invariant
+returns-in-None-clause-front c = midst_front c.args.self.now c.args.piece.now c.args.into.now.items c.lines.into.items c.lines.self
+    c.lines.rest.now c.requires c.lines.invariant
 
 pub returns-in-None-clause-state : goal.returns-in-None-clause-state
-returns-in-None-clause-state c = map_ok c.keep.result (λ line stop. midst_kept_state c.args.self.now c.args.piece.now c.args.into.now.items c.lines.into.items c.lines.self c.keep.new.self c.lines.rest.now c.requires c.lines.invariant
-    (sym (ap (λ (r : Reading). r.stop) c.self-in-lines.view_is) ∙ no_stop c.self-in-lines.inside.stop c.is_none.result c.is_none.ensures c.lines-test.true) (subst (λ (r : Reading). has_feed r.line ≡ false) c.self-in-lines.view_is c.self-in-lines.invariant.3)
+returns-in-None-clause-state c = map_ok c.keep.result
+    (λ line stop. midst_kept_state c.args.self.now c.args.piece.now c.args.into.now.items c.lines.into.items c.lines.self
+    c.keep.new.self c.lines.rest.now c.requires c.lines.invariant
+    (sym (ap (λ (r : Reading). r.stop) c.self-in-lines.view_is)
+    ∙ no_stop c.self-in-lines.inside.stop c.is_none.result c.is_none.ensures c.lines-test.true)
+    (subst (λ (r : Reading). has_feed r.line ≡ false) c.self-in-lines.view_is c.self-in-lines.invariant.3)
     c.in-None.ensures stop (line stop) c.keep.ensures.at c.keep.ensures.columns c.keep.ensures.ended) c.keep.ensures.line
 
 pub returns-clause-stop : goal.returns-clause-stop
-returns-clause-stop c = midst_stopped_fault c.args.self.now c.args.piece.now c.args.into.now.items c.lines.into.items c.lines.self c.lines.rest.now c.requires c.lines.invariant (subst (λ (r : Reading). is_none r.stop ≡ false) c.self-in-lines.view_is (a_stop c.self-in-lines.inside.stop c.is_none.result c.is_none.ensures c.lines-test.false))
+returns-clause-stop c = midst_stopped_fault c.args.self.now c.args.piece.now c.args.into.now.items c.lines.into.items c.lines.self
+    c.lines.rest.now c.requires c.lines.invariant (subst (λ (r : Reading). is_none r.stop ≡ false) c.self-in-lines.view_is
+    (a_stop c.self-in-lines.inside.stop c.is_none.result c.is_none.ensures c.lines-test.false))
 
 pub returns-clause-rows : goal.returns-clause-rows
-returns-clause-rows c = midst_stopped_rows c.args.self.now c.args.piece.now c.args.into.now.items c.lines.into.items c.lines.self c.lines.rest.now c.requires c.lines.invariant (subst (λ (r : Reading). is_none r.stop ≡ false) c.self-in-lines.view_is (a_stop c.self-in-lines.inside.stop c.is_none.result c.is_none.ensures c.lines-test.false))
+returns-clause-rows c = midst_stopped_rows c.args.self.now c.args.piece.now c.args.into.now.items c.lines.into.items c.lines.self
+    c.lines.rest.now c.requires c.lines.invariant (subst (λ (r : Reading). is_none r.stop ≡ false) c.self-in-lines.view_is
+    (a_stop c.self-in-lines.inside.stop c.is_none.result c.is_none.ensures c.lines-test.false))
 
 pub returns-clause-front : goal.returns-clause-front
-returns-clause-front c = midst_front c.args.self.now c.args.piece.now c.args.into.now.items c.lines.into.items c.lines.self c.lines.rest.now c.requires c.lines.invariant
+returns-clause-front c = midst_front c.args.self.now c.args.piece.now c.args.into.now.items c.lines.into.items c.lines.self
+    c.lines.rest.now c.requires c.lines.invariant

@@ -6,11 +6,13 @@ use Rattle.bl_rows.proofs.rows.Rows.take_rest.Goals as goal
 
 pub returns-then-not-has_begun_line-clause-stop : goal.returns-then-not-has_begun_line-clause-stop
 returns-then-not-has_begun_line-clause-stop c =
-    ap (λ stop. fault_at_end c.args.self.now.at stop) c.requires ∙ sym (ap (λ (t : Told). t.fault) (ended_clean c.args.self.now c.requires (c.has_begun_line.ensures.none c.if-not-has_begun_line.true)))
+    ap (λ stop. fault_at_end c.args.self.now.at stop) c.requires
+    ∙ sym (ap (λ (t : Told). t.fault) (ended_clean c.args.self.now c.requires (c.has_begun_line.ensures.none c.if-not-has_begun_line.true)))
 
 pub returns-then-not-has_begun_line-clause-rows : goal.returns-then-not-has_begun_line-clause-rows
 returns-then-not-has_begun_line-clause-rows c =
-    sym (append-nil c.args.into.now.items) ∙ ap (λ (t : Told). c.args.into.now.items ++ t.rows) (sym (ended_clean c.args.self.now c.requires (c.has_begun_line.ensures.none c.if-not-has_begun_line.true)))
+    sym (append-nil c.args.into.now.items) ∙ ap (λ (t : Told). c.args.into.now.items ++ t.rows)
+    (sym (ended_clean c.args.self.now c.requires (c.has_begun_line.ensures.none c.if-not-has_begun_line.true)))
 
 pub returns-clause-stop : goal.returns-clause-stop
 returns-clause-stop c = both_ok c.take_line.result (λ stop at. ended_fault c.args.self.now c.take_line.new.self.stop c.take_line.new.self.at c.requires

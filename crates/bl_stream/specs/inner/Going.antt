@@ -10,7 +10,7 @@ use Rattle.bl_io.specs.Held.{Appends}
 use Rattle.bl_rows.specs.Reading.{Reading, begun, fault_in, led_by_rows, rows_after, rows_in, rows_of}
 use Rattle.bl_rows.specs.Text.{text_of}
 use Rattle.bl_rows.specs.declared.fault.RowFault.{RowFault}
-use Rattle.bl_stream.specs.Courses.{after_rows}
+use Rattle.bl_stream.specs.inner.Courses.{after_rows}
 use Rattle.bl_stream.specs.Streams.{AppendsFront, Course, Streamed, course_of, finish_of, text_over, trace_over, trace_so_far}
 use Rattle.bl_stream.specs.declared.finish.Finish.{Finish}
 use Rattle.bl_stream.specs.declared.finish.Finish.TheVariants as finish
@@ -49,8 +49,10 @@ pub record Stands (file : Parts) (read : List ℕ) (before : Option (List ℕ)) 
 
 -- how a run over these bytes ends
 pub data Ends (c : Course) (bytes : List ℕ) (before after : Option (List ℕ)) : Finish → Type 0 where
-  whole : {ended : Finish} → ended ≡ finish_of (trace_over c bytes).last (rows_of bytes c.ins).fault → Appends before (text_over c bytes) after → Ends c bytes before after ended
-  stopped : {ended : Finish} → (ended ≡ finish.WriteFault) ⊎ (ended ≡ finish.NoMemory) → AppendsFront before (text_over c bytes) after → Ends c bytes before after ended
+  whole : {ended : Finish} → ended ≡ finish_of (trace_over c bytes).last (rows_of bytes c.ins).fault →
+      Appends before (text_over c bytes) after → Ends c bytes before after ended
+  stopped : {ended : Finish} → (ended ≡ finish.WriteFault) ⊎ (ended ≡ finish.NoMemory) →
+      AppendsFront before (text_over c bytes) after → Ends c bytes before after ended
 
 -- how the rows of a piece leave a run: open, or over
 abbrev pub left_of : Last → Option RowFault → Left

@@ -32,13 +32,15 @@ pub data Matches (w : Setting) (M : Type 0) (R : Control → Store → M → Typ
       outcome_at (Rests c store) ≡ Paused → R c store m → Matches w M R (Rests c store) (pauses (outputs_row w store) m)
 
 -- a tick over the row from a tree and a store can end as the reaction does
-pub record Answers (w : Setting) (M : Type 0) (R : Control → Store → M → Type 0) (row : List ℤ) (c : Control) (store : Store) (reaction : Reaction M) : Type 0 where
+pub record Answers (w : Setting) (M : Type 0) (R : Control → Store → M → Type 0) (row : List ℤ) (c : Control) (store : Store)
+    (reaction : Reaction M) : Type 0 where
   pub end : End
   pub tick : Tick w row c store end
   pub matches : Matches w M R end reaction
 
 -- over rows that fit, from what is related: every tick has one end, and it can end as the machine's reaction does
-pub record Follows (w : Setting) (M : Type 0) (react : List ℤ → M → Reaction M) (fits : List ℤ → Bool) (R : Control → Store → M → Type 0) : Type 0 where
+pub record Follows (w : Setting) (M : Type 0) (react : List ℤ → M → Reaction M) (fits : List ℤ → Bool)
+    (R : Control → Store → M → Type 0) : Type 0 where
   pub one_end : (row : List ℤ) (c : Control) (store : Store) (m : M) → R c store m → fits row ≡ true →
       (end other : End) → Tick w row c store end → Tick w row c store other → end ≡ other
   pub answers : (row : List ℤ) (c : Control) (store : Store) (m : M) → R c store m → fits row ≡ true → Answers w M R row c store (react row m)
