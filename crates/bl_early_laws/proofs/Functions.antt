@@ -44,7 +44,7 @@ use Rattle.bl_tree.specs.Words.{are_distinct}
 use Rattle.bl_tree.specs.Typing.{inputs_of}
 use Rattle.bl_cmeaning.specs.Builtin.{builtin_of}
 use Rattle.bl_cmeaning.specs.Calls.{calls_in_block, most}
-use Rattle.bl_cmeaning.specs.Loops.{counters_in_block}
+use Rattle.bl_cmeaning.specs.Loops.{turns_in_block}
 use Rattle.bl_cmeaning.specs.Parts.{parts_from}
 use Rattle.bl_cmeaning.specs.Tables.{Table, found, no_entries, with_entry, entry_or}
 use Rattle.bl_cmeaning.specs.Faults.{
@@ -190,7 +190,7 @@ function-faultless structs functions depths n last f bounded few heads fine =
     (nat_le (depth_of_function depths f) 300) (is_none f.result || last_returns (map surely_returns f.body)) f.place
     heads.new heads.distinct heads.declared heads.scalars heads.static
     (is-short (depth_of_function depths f) (suc n) (function-bounded depths n bounded f) few) heads.returns)
-    (none-both (repeated (names_table (variable_names f)) (counters_in_block f.body))
+    (none-both (repeated (names_table (variable_names f)) (turns_in_block f.body))
     (block_faults (map faults_in_stmt f.body) (context_in structs functions f) false)
     (ap (repeated (names_table (variable_names f))) (block-counterless (context_in structs functions f) f.body fine))
     (block-faultless (context_in structs functions f) f.body fine))
@@ -373,11 +373,11 @@ module _ (unit : UnitDef) (steps : List Step) (named : list_all is_named_var uni
 
   -- ---- no function has a counter
 
-  pub activity-counterless : counters_in_block activity.body ≡ []
+  pub activity-counterless : turns_in_block activity.body ≡ []
   activity-counterless = block-counterless activity_context activity.body activity-fine
 
-  pub init-counterless : counters_in_block c_init.body ≡ []
+  pub init-counterless : turns_in_block c_init.body ≡ []
   init-counterless = block-counterless init_context c_init.body init-fine
 
-  pub tick-counterless : counters_in_block tick.body ≡ []
+  pub tick-counterless : turns_in_block tick.body ≡ []
   tick-counterless = block-counterless tick_context tick.body tick-fine

@@ -43,7 +43,7 @@ use Rattle.bl_tree.specs.declared.c.CStmtKind.{CStmtKind, CStmtKind-F, fold-roll
 use Rattle.bl_tree.specs.declared.c.CStmtKind.TheVariants as statement
 use Rattle.bl_tree.specs.Reduce.{joined}
 use Rattle.bl_cmeaning.specs.Builtin.{builtin_of}
-use Rattle.bl_cmeaning.specs.Loops.{Counters, counters_in, counters_in_block}
+use Rattle.bl_cmeaning.specs.Loops.{Turns, turns_in, turns_in_block}
 use Rattle.bl_cmeaning.specs.Tables.{Table}
 use Rattle.bl_cmeaning.specs.Faults.{
   Fault,
@@ -315,13 +315,13 @@ module _ (context : Context) where
   -- nothing fails in a statement that stands in no loop, and it has no counters
   pub record Fine (s : CStmt) : Type 0 where
     pub faults : faults_in_stmt s context false ≡ []
-    pub counters : counters_in s ≡ []
+    pub counters : turns_in s ≡ []
 
   pub block-faultless : (block : List CStmt) → Each Fine block → block_faults (map faults_in_stmt block) context false ≡ []
   block-faultless [] h = refl
   block-faultless (s ∷ block) h = ap₂ (λ xs ys. xs ++ ys) h.0.faults (block-faultless block h.1)
 
-  pub block-counterless : (block : List CStmt) → Each Fine block → counters_in_block block ≡ []
+  pub block-counterless : (block : List CStmt) → Each Fine block → turns_in_block block ≡ []
   block-counterless [] h = refl
   block-counterless (s ∷ block) h = ap₂ (λ xs ys. xs ++ ys) h.0.counters (block-counterless block h.1)
 
@@ -355,7 +355,7 @@ module _ (context : Context) where
   when-open : (test : CExpr) (body : List CStmt) → IsExpr context test bool_type → Each Fine body → Fine (what (CStmtKind-F.If test body None))
   when-open test body h i = record {
     faults = rw (fold-roll-CStmt, fold-roll-CStmtKind) (ap₂ (from_if test) h (block-faultless body i));
-    counters = rw (fold-roll-CStmt, fold-roll-CStmtKind) (ap (λ (xs : Counters). xs ++ []) (block-counterless body i));
+    counters = rw (fold-roll-CStmt, fold-roll-CStmtKind) (ap (λ (xs : Turns). xs ++ []) (block-counterless body i));
   }
 
   pub when-fine : (test : CExpr) (body : List CStmt) → IsExpr context test bool_type → Each Fine body → Fine (c_when test body)

@@ -43,7 +43,7 @@ use Rattle.bl_tree.specs.Typing.{Site, site_of, inputs_of}
 use Rattle.bl_tree.specs.Words.{are_distinct}
 use Rattle.bl_ctext.proofs.Bytes.{and-fst, and-snd}
 use Rattle.bl_cmeaning.specs.Calls.{calls_in_block, most}
-use Rattle.bl_cmeaning.specs.Loops.{counters_in_block}
+use Rattle.bl_cmeaning.specs.Loops.{turns_in_block}
 use Rattle.bl_cmeaning.specs.Parts.{parts_from}
 use Rattle.bl_cmeaning.specs.Sizes.{
   Sizes,
@@ -162,14 +162,14 @@ module _ (unit : UnitDef) (steps : List Step) (named : list_all is_named_var uni
     (ins : are_distinct (names_of (inputs_of unit)) ≡ true) (outs : are_distinct (names_of (outs_of unit)) ≡ true)
     (typed : Each (StepHas unit.vars) steps) (known : Sizes) where
   activity-own : own_cells known (c_activity unit steps) ≤ 5000
-  activity-own = let none : length (counters_in_block (c_activity unit steps).body) ≡ 0 =
+  activity-own = let none : length (turns_in_block (c_activity unit steps).body) ≡ 0 =
       ap length (activity-counterless unit steps named ins outs typed) in omega arith
 
   init-own : own_cells known c_init ≤ 5000
-  init-own = let none : length (counters_in_block c_init.body) ≡ 0 = ap length (init-counterless unit steps named ins outs typed) in omega arith
+  init-own = let none : length (turns_in_block c_init.body) ≡ 0 = ap length (init-counterless unit steps named ins outs typed) in omega arith
 
   tick-own : own_cells known (c_tick unit) ≤ 5000
-  tick-own = let none : length (counters_in_block (c_tick unit).body) ≡ 0 = ap length (tick-counterless unit steps named ins outs typed) in omega arith
+  tick-own = let none : length (turns_in_block (c_tick unit).body) ≡ 0 = ap length (tick-counterless unit steps named ins outs typed) in omega arith
 
   chains-few : deepest_chain known (c_funcs unit steps) ≤ 15000
   chains-few =
