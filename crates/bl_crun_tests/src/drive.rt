@@ -3,25 +3,10 @@
 use bl_cparse::parse;
 use bl_crun::{Runner, Tick};
 use bl_ctext::{CFile, PRELUDE};
-use bl_tree::{Place, Row};
+use bl_tree::Row;
 use std::alloc::{AllocError, Global};
 use std::process::Abort;
 use std::test::Fail;
-
-/// Structs with one number in each object.
-pub const STRUCTS: &str = "struct bl_state { int32_t n; };
-struct bl_in { uint8_t pad; int32_t i_a; };
-struct bl_out { uint8_t pad; int32_t o_r; };
-";
-
-/// A start that does nothing.
-pub const INIT: &str = "void bl_init(struct bl_state *s) { } ";
-
-/// What a tick begins with.
-pub const TICK: &str = "uint32_t bl_tick(struct bl_state *s, struct bl_in *i, struct bl_out *o) { ";
-
-/// What a tick ends with that isn't the last.
-pub const END: &str = "return UINT32_C(0); } ";
 
 /// The longest text that is read.
 const LONGEST: usize = 67_108_864;
@@ -82,19 +67,6 @@ fn text(alloc: Global, parts: &[&str]) -> Result<Vec<u8>, AllocError> {
     Ok(text)
 }
 
-/// How many bytes the text of these parts has.
-fn length(alloc: Global, parts: &[&str]) -> Result<u32, Fail> {
-    let text = text(alloc, parts)?;
-    Ok(u32::try_from(text.len())?)
-}
-
-/// What stands between the end of one text and that of a longer one.
-pub fn between(alloc: Global, before: &[&str], until: &[&str]) -> Result<Place, Fail> {
-    let start = length(alloc, before)?;
-    let end = length(alloc, until)?;
-    Ok(Place { start, end })
-}
-
 /// The file of a text.
 fn file(alloc: Global, text: &[u8]) -> Result<CFile, Fail> {
     if text.len() > LONGEST {
@@ -104,7 +76,7 @@ fn file(alloc: Global, text: &[u8]) -> Result<CFile, Fail> {
 }
 
 /// The file of the text of these parts.
-pub fn file_of(alloc: Global, parts: &[&str]) -> Result<CFile, Fail> {
+fn file_of(alloc: Global, parts: &[&str]) -> Result<CFile, Fail> {
     let text = text(alloc, parts)?;
     file(alloc, &text)
 }

@@ -7,15 +7,15 @@ use bl_tree::{Row, Scalar, Width};
 use std::alloc::{AllocError, Global};
 use std::test::Fail;
 
-pub const STRUCTS: &str = "struct bl_state { int32_t n; };
+const STRUCTS: &str = "struct bl_state { int32_t n; };
 struct bl_in { uint8_t pad; int32_t i_d; };
 struct bl_out { uint8_t pad; int32_t o_n; };
 ";
 
-pub const INIT: &str = "void bl_init(struct bl_state *s) { (*s).n = INT32_C(5); }
+const INIT: &str = "void bl_init(struct bl_state *s) { (*s).n = INT32_C(5); }
 ";
 
-pub const TICK: &str = "uint32_t bl_tick(struct bl_state *s, struct bl_in *i, struct bl_out *o) {
+const TICK: &str = "uint32_t bl_tick(struct bl_state *s, struct bl_in *i, struct bl_out *o) {
 (*s).n = bl_div_i32((*s).n, (*i).i_d); (*o).o_n = (*s).n;
 if (((*s).n == INT32_C(0))) { return UINT32_C(1); } return UINT32_C(0); }
 ";
@@ -57,7 +57,7 @@ fn a_start_that_traps_shows_at_the_first_tick(rt: HostRuntime) -> Result<(), Fai
 }
 
 /// The text before its first tick.
-pub fn hand(alloc: Global) -> Result<Driven, Fail> {
+fn hand(alloc: Global) -> Result<Driven, Fail> {
     loaded(alloc, &[STRUCTS, INIT, TICK])
 }
 

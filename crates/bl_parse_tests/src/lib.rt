@@ -1,9 +1,7 @@
-//! Tests of `bl_lex`, `bl_syntax` and `bl_parse`: source texts cut into tokens, judged by their syntax and read as
-//! trees (docs/LANGUAGE.md, "Tokens", "Grammar" and "Rules"). There is nothing else here.
+//! Tests of `bl_lex` and `bl_parse` for what no command shows: tokens and trees of texts (docs/LANGUAGE.md, "Tokens" and
+//! "Raw trees"). There is nothing else here.
 #![tactic(auto)]
 
-#[cfg(test)]
-mod syntax;
 #[cfg(test)]
 mod tokens;
 #[cfg(test)]

@@ -1,19 +1,9 @@
-//! Tokens, and rules Size, Lex and Profile over whole texts.
+//! Tokens with their kinds, places and lines.
 
 use bl_lex::{lex, sign, word};
-use bl_tree::token::{Token, TokenKind};
-use bl_tree::{Place, Refusal};
+use bl_tree::Place;
+use bl_tree::token::TokenKind;
 use std::test::Fail;
-
-/// A rule's number and its place.
-type Broken = (u8, u32, u32);
-
-fn broken(outcome: &Result<Vec<Token>, Refusal>) -> Option<Broken> {
-    match outcome {
-        Err(Refusal::Rule { rule, place, .. }) => Some((rule.number(), place.start, place.end)),
-        _ => None,
-    }
-}
 
 #[test]
 fn a_program_has_its_tokens(rt: HostRuntime) -> Result<(), Fail> {
@@ -44,75 +34,6 @@ fn a_program_has_its_tokens(rt: HostRuntime) -> Result<(), Fail> {
         );
         assert_eq!(rt; token.line, *line);
     }
-    Ok(())
-}
-
-#[test]
-fn each_text_breaks_its_rule(rt: HostRuntime) -> Result<(), Fail> {
-    let rows: [(&str, Option<Broken>); 36] = [
-        ("", None),
-        (
-            "@[EntryPoint] activity M ()(o: int32) o = 1 /* x",
-            Some((2, 44, 46)),
-        ),
-        (
-            "@[EntryPoint] activity M ()(o: int32) o = 1x",
-            Some((2, 42, 44)),
-        ),
-        (
-            "@[EntryPoint] activity M ()(o: float32) o = 1 await true end",
-            Some((3, 31, 38)),
-        ),
-        ("a //", None),
-        ("a /**/", None),
-        ("a <<= b", None),
-        ("a<=b", None),
-        ("x = -1 // to the end", None),
-        ("/* a /* b */ c", None),
-        ("@[EntryPoint]", None),
-        ("@(Foo) [Foo] @[if", None),
-        ("0b101 0xAf 007 a.5 0x1.5", None),
-        ("0x 1", Some((2, 0, 2))),
-        ("0b", Some((2, 0, 2))),
-        ("0b2", Some((2, 0, 3))),
-        ("0o", Some((2, 0, 2))),
-        ("0o8", Some((2, 0, 3))),
-        ("0X1", Some((2, 0, 3))),
-        ("a 1x", Some((2, 2, 4))),
-        ("1 /* x", Some((2, 2, 4))),
-        ("/*/", Some((2, 0, 2))),
-        ("1.5x", Some((2, 2, 4))),
-        ("a ! b", Some((2, 2, 3))),
-        ("\"", Some((2, 0, 1))),
-        ("é", Some((2, 0, 1))),
-        ("a\u{c}b", Some((2, 1, 2))),
-        ("0o7", Some((3, 0, 3))),
-        ("1.5", Some((3, 0, 1))),
-        ("a float32", Some((3, 2, 9))),
-        ("@[Foo]", Some((3, 2, 5))),
-        ("@ /* c */ [ Foo ]", Some((3, 12, 15))),
-        ("a } {", Some((3, 2, 3))),
-        ("enum 1x", Some((2, 5, 7))),
-        ("@[EntryPoint2]", Some((3, 2, 13))),
-        ("@[@[Foo]", Some((3, 4, 7))),
-    ];
-    for (text, expected) in rows.iter() {
-        let outcome = lex(rt.alloc(), text.as_bytes());
-        assert_eq!(rt; broken(&outcome), *expected, "{text}");
-        assert_eq!(rt; outcome.is_ok(), expected.is_none(), "{text}");
-    }
-    Ok(())
-}
-
-#[test]
-fn a_text_may_have_so_many_bytes(rt: HostRuntime) -> Result<(), Fail> {
-    let mut text = vec![in rt.alloc(); b' '; 1_048_576]?;
-    assert!(rt; lex(rt.alloc(), &text).is_ok());
-    text.push(b'?')?;
-    assert_eq!(rt;
-        broken(&lex(rt.alloc(), &text)),
-        Some((1, 1_048_576, 1_048_577))
-    );
     Ok(())
 }
 

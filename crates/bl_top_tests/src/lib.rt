@@ -1,20 +1,10 @@
-//! Tests of `bl_top`: source and C texts, and what the program answers to each (docs/LANGUAGE.md, "Rules" and "What is
-//! built"; docs/FORMATS.md). There is nothing else here.
+//! Tests of the one call `bl_top::blechc` over files and sinks in memory: absent files, and calls that fail in turn
+//! (docs/FORMATS.md, "Notes"). What the program itself can show stands in `tests/` as data.
 #![tactic(auto)]
 
 #[cfg(test)]
-mod calls;
+mod call;
 #[cfg(test)]
-mod depths;
+mod end;
 #[cfg(test)]
-mod heater;
-#[cfg(test)]
-mod names;
-#[cfg(test)]
-mod run;
-#[cfg(test)]
-mod texts;
-#[cfg(test)]
-mod types;
-#[cfg(test)]
-mod units;
+mod faults;

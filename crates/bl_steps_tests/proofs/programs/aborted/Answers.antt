@@ -1,7 +1,0 @@
-use Rattle.std.proofs.Common.{[], ◌∷◌, subst, sym, ◌∙◌}
-use Rattle.bl_steps_tests.specs.Stands.{Stands}
-use Rattle.bl_steps_tests.proofs.Standing.{aborted_stands}
-use Rattle.bl_steps_tests.proofs.programs.aborted.Goals as goal
-
-pub program-requires : goal.program-requires
-program-requires c = subst (λ units. Stands [] units 0) (sym (c.in_ok-units.ensures ∙ (λ i. c.in_ok-aborted_unit.ensures i ∷ []))) aborted_stands
