@@ -33,6 +33,3 @@ pub use pieces::{PIECE, read_up_to, write_all};
 pub use sink::Sink;
 pub use sure_files::SureFiles;
 pub use sure_sink::SureSink;
-
-#[cfg(test)]
-mod tests;

@@ -1,7 +1,9 @@
-//! Objects in memory whose calls fail.
+//! Each public call once, with ample memory: objects in memory whose calls fail, and the system's files and streams.
 
-// Each public call once, with ample memory.
-use super::*;
+use bl_io::{
+    Files, HostFiles, HostSink, IoFault, MemFiles, MemSink, PIECE, Sink, SureFiles, SureSink,
+    read_up_to, write_all,
+};
 use std::fs;
 use std::test::Fail;
 
