@@ -3,8 +3,6 @@
 #![tactic(auto)]
 
 #[cfg(test)]
-mod numbers;
-#[cfg(test)]
 mod program;
 #[cfg(test)]
 mod rows;
