@@ -4,7 +4,7 @@
 //! from its first token to its last, and chains associate to the left. By `bl_parse_laws` there is no other.
 //!
 //! It reads by recursive descent over positions in the list of tokens. A reader asks that its part of the grammar is
-//! expected where it stands (`specs/Reading.antt`, `Awaits`), so that it fails for want of memory alone.
+//! expected where it stands (`specs/inner/Reading.antt`, `Awaits`), so that it fails for want of memory alone.
 #![tactic(auto)]
 
 mod expr;

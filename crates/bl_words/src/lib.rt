@@ -1,6 +1,6 @@
 //! What the words of the command line ask for. `job_of` gives, for all words, exactly the job of the definition
 //! `job_of` (`specs/Jobs.antt`), and `usage` gives its line (`specs/Usage.antt`); want of memory aside. The words are
-//! read with clap, by the rules of `specs/CommandLine.antt`.
+//! read with clap, by the rules of `specs/inner/CommandLine.antt`.
 #![tactic(auto)]
 
 ghost use Rattle.std.specs.Prelude.{◌≡◌};
