@@ -28,12 +28,14 @@ use Rattle.bl_tree.specs.declared.token.Token.{Token}
 use Rattle.bl_tree.specs.declared.token.TokenKind.{TokenKind}
 use Rattle.bl_tree.specs.declared.token.TokenKind.TheVariants.{Word}
 use Rattle.bl_tree.specs.declared.tree.Guard.{Guard}
+use Rattle.bl_tree.specs.declared.tree.UnitKind.{UnitKind}
 use Rattle.bl_tree.specs.Depths.{Depth, leaf, of_all, block}
 use Rattle.bl_tree.specs.Reduce.{greatest}
 use Rattle.bl_syntax.specs.Rules.{PassesDepth}
 use Rattle.bl_raw.specs.declared.expr.RawExpr.{RawExpr}
 use Rattle.bl_raw.specs.declared.expr.RawTarget.{RawTarget}
 use Rattle.bl_raw.specs.declared.item.RawItem.{RawItem}
+use Rattle.bl_raw.specs.declared.item.RawUnit.{RawUnit}
 use Rattle.bl_raw.specs.declared.name.Name.{Name}
 use Rattle.bl_raw.specs.declared.raw.Raw.{Raw}
 use Rattle.bl_raw.specs.declared.stmt.RawArm.{RawArm, fold-RawArm, fold-roll-RawArm, roll-RawArm}
@@ -63,7 +65,7 @@ use Rattle.bl_raw.specs.declared.types.RawType.{RawType}
 use Rattle.bl_raw.specs.Depths.{expr_depth, target_depth, optional_depth, stmt_kind_depth, arm_depth, branch_depth, stmt_layer_depth, depth_of, item_shallow}
 use Rattle.bl_parse.specs.At.{Takes}
 use Rattle.bl_parse.specs.Expressions.{SpellsExpr, SpellsTarget, SpellsInputs}
-use Rattle.bl_parse.specs.Programs.{SpellsItem, SpellsItems, Spells}
+use Rattle.bl_parse.specs.Programs.{IsUnit, SpellsItem, SpellsItems, SpellsUnit, Spells}
 use Rattle.bl_parse.specs.Statements.{
   IsGuard,
   SpellsInitial,
@@ -77,7 +79,7 @@ use Rattle.bl_parse.specs.Statements.{
   SpellsBranch,
   SpellsBranches,
 }
-use Rattle.bl_parse_laws.proofs.Counts.{open_at, is_level, level, opens, closes, from_nothing, Limits, limits}
+use Rattle.bl_parse_laws.proofs.Counts.{open_at, is_level, is_opening, level, opens, closes, from_nothing, Limits, limits}
 use Rattle.bl_parse_laws.proofs.Level as flat
 use Rattle.bl_parse_laws.proofs.Members.{mapped_more, greatest_more}
 use Rattle.bl_parse_laws.proofs.Runs as runs
@@ -250,6 +252,10 @@ nests_leaf : {tokens : List Token} {n from to : ℕ} → Limits tokens → n ≤
     Nests tokens from to (leaf n)
 nests_leaf {n = n} {from = from} limit short same = record { same = same; fits = fits_leaf n (limit.blocks from) short }
 
+unit_opening : {kind : TokenKind} {of : UnitKind} → IsUnit kind of → is_opening kind ≡ true
+unit_opening IsUnit.function = refl
+unit_opening IsUnit.activity = refl
+
 guard_level : {kind : TokenKind} {guard : Guard} → IsGuard kind guard → is_level kind ≡ true
 guard_level IsGuard.abort = refl
 guard_level IsGuard.reset = refl
@@ -368,11 +374,17 @@ module _ {text : List ℕ} {tokens : List Token} (limit : Limits tokens) where
   constant : {one : RawConstant} {from to : ℕ} → SpellsConstant text tokens one from to → expr_depth one.value ≤ 200
   constant h = expression h.value.expr
 
+  -- a unit is a block, in which its body stands
+  unit_opens : {u : RawUnit} {from to : ℕ} (h : SpellsUnit text tokens u from to) → open_at tokens h.r ≡ open_at tokens h.m + 1
+  unit_opens h =
+      let head = flat.then (flat.token h.name.token refl) (flat.then (flat.params h.inputs) (flat.then (flat.output_params h.outputs) (flat.result h.result))) in
+      head.same ∙ opens h.kind.token (unit_opening h.kind.is)
+
   item : {one : RawItem} {from to : ℕ} → SpellsItem text tokens one from to → item_shallow one ≡ true
   item (SpellsItem.structure def is) = ap item_shallow is
   item (SpellsItem.constant c is) = ap item_shallow is ∙ le-leb _ _ (constant c)
   item (SpellsItem.unit u is) = let fit = (block_rows u.body).all.fit in
-      ap item_shallow is ∙ both (le-leb _ _ (omega (arith, fit.blocks))) (le-leb _ _ fit.exprs)
+      ap item_shallow is ∙ both (le-leb _ _ (omega (arith, fit.blocks, unit_opens u))) (le-leb _ _ fit.exprs)
 
   items : {all : List RawItem} {from to : ℕ} → SpellsItems text tokens all from to → Each item_shallow all
   items (SpellsItems.none none is) = none_hold item_shallow none
