@@ -158,8 +158,8 @@ size_first whole place fails = record {
 
 -- what fails first for a front that was cut is Size
 module _ (whole got : List ℕ) (got_long : 1_048_576 < length got) (whole_long : 1_048_576 < length whole) where
-  not_first : (rule : Rule) (place : Place) (also : List Place) → 1 < number_of rule → ¬ FailsFirst got rule place also
-  not_first rule place also more first =
+  not_first : (told : Rule) (place : Place) (also : List Place) → 1 < number_of told → ¬ FailsFirst got told place also
+  not_first told place also more first =
       let least = first.least_rule rule.Size first_beyond [] (record { too_long = got_long; at = refl }, refl) in omega arith
 
   first_of_long : (rule : Rule) (place : Place) (also : List Place) → FailsFirst got rule place also → FailsFirst whole rule place also

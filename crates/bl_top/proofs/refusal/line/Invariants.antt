@@ -7,4 +7,4 @@ use Rattle.bl_top.proofs.refusal.line.Given as goal
 abbrev pub invariant-also : goal.invariant-also
 invariant-also l =
     l.line.items ++ joined (map place_text (drop l.other-index l.also))
-    ≡ codes "rule " ++ (decimal (number_of l.rule) ++ (32 ∷ (name_of l.rule ++ (place_text l.fn.place ++ joined (map place_text l.also)))))
+    ≡ codes "rule " ++ (decimal (number_of l.fn.rule) ++ (32 ∷ (name_of l.fn.rule ++ (place_text l.fn.place ++ joined (map place_text l.also)))))
