@@ -1,5 +1,39 @@
 -- How many instances there are below `run` statements.
-use Rattle.std.proofs.Common.{◌≡◌, ℕ, zero, suc, ◌+◌, ◌-◌, ◌<◌, ◌≤◌, Bool, true, false, not, cond, List, [], ◌∷◌, ◌++◌, length, map, filter, drop, slice_get, Option, Some, None, option_map, unwrap_or, refl, ap, ◌∙◌, subst, arith, length-append}
+use Rattle.std.proofs.Common.{
+  ◌≡◌,
+  ℕ,
+  zero,
+  suc,
+  ◌+◌,
+  ◌-◌,
+  ◌<◌,
+  ◌≤◌,
+  Bool,
+  true,
+  false,
+  not,
+  cond,
+  List,
+  [],
+  ◌∷◌,
+  ◌++◌,
+  length,
+  map,
+  filter,
+  drop,
+  slice_get,
+  Option,
+  Some,
+  None,
+  option_map,
+  unwrap_or,
+  refl,
+  ap,
+  ◌∙◌,
+  subst,
+  arith,
+  length-append,
+}
 use Rattle.std.proofs.lemmas.List.{length-map, at_drop_all}
 use Rattle.bl_tree.specs.Reduce.{total}
 use Rattle.bl_tree.specs.Rules.{same_place}
@@ -17,8 +51,9 @@ below alone n [] = refl
 below alone n (run ∷ rest) =
     let inner : List Instance = map (called_from n run) (alone run.unit) in
     let first : length inner ≡ length (alone run.unit) = length-map (alone run.unit) (called_from n run) in
-    let more : length (instances_below alone (n + length inner) rest) ≡ sizes alone rest = below alone (n + length inner) rest in
-    let both : length (inner ++ instances_below alone (n + length inner) rest) ≡ length inner + length (instances_below alone (n + length inner) rest) = length-append inner (instances_below alone (n + length inner) rest) in
+    let later : List Instance = instances_below alone (n + length inner) rest in
+    let others : length later ≡ sizes alone rest = below alone (n + length inner) rest in
+    let both : length (inner ++ later) ≡ length inner + length later = length-append inner later in
     omega arith
 
 -- with some of them left out
@@ -26,14 +61,16 @@ fewer : (alone : ℕ → List Instance) (keeps : Run → Bool) (runs : List Run)
 fewer alone keeps [] = omega arith
 fewer alone keeps (run ∷ rest) = step (keeps run) (fewer alone keeps rest)
   where
-    step : (b : Bool) → sizes alone (filter keeps rest) ≤ sizes alone rest → sizes alone (cond b (run ∷ filter keeps rest) (filter keeps rest)) ≤ sizes alone (run ∷ rest)
+    step : (b : Bool) → sizes alone (filter keeps rest) ≤ sizes alone rest
+        → sizes alone (cond b (run ∷ filter keeps rest) (filter keeps rest)) ≤ sizes alone (run ∷ rest)
     step true less = omega arith
     step false less = omega arith
 
 once : (alone : ℕ → List Instance) (runs : List Run) → sizes alone (one_a_place runs) ≤ sizes alone runs
 once alone [] = omega arith
 once alone (run ∷ rest) =
-    let less : sizes alone (filter (λ other. not (same_place run.place other.place)) (one_a_place rest)) ≤ sizes alone (one_a_place rest) = fewer alone (λ other. not (same_place run.place other.place)) (one_a_place rest) in
+    let keeps : Run → Bool = (λ other. not (same_place run.place other.place)) in
+    let less : sizes alone (filter keeps (one_a_place rest)) ≤ sizes alone (one_a_place rest) = fewer alone keeps (one_a_place rest) in
     let known : sizes alone (one_a_place rest) ≤ sizes alone rest = once alone rest in
     omega arith
 
@@ -56,6 +93,10 @@ enough alone items runs k n same over counted =
 more : (n : ℕ) → suc n ≡ n + 1
 more n = omega arith
 
+-- a unit's own instance, and those below it
+abbrev all_of : List UnitDef → ℕ → ℕ → UnitDef → List Instance
+all_of units longest k unit = record { unit = k; depth = 0; origin = None } ∷ instances_below (expanded units longest) 1 (runs_of unit)
+
 -- a unit is one instance more than those below it
 pub opened : (units : List UnitDef) (longest k : ℕ) (unit : UnitDef) → 0 < longest → slice_get units k ≡ Some unit
     → length (expanded units longest k) ≡ length (instances_below (expanded units (longest - 1)) 1 (runs_of unit)) + 1
@@ -63,6 +104,6 @@ opened units zero k unit some is = absurd (omega (arith, some))
 opened units (suc longest) k unit some is =
     let back : longest ≡ suc longest - 1 = omega arith in
     let one : length (expanded units (suc longest) k) ≡ suc (length (instances_below (expanded units longest) 1 (runs_of unit))) =
-    ap (λ (found : Option UnitDef). length (unwrap_or (option_map (λ (unit : UnitDef). record { unit = k; depth = 0; origin = None } ∷ instances_below (expanded units longest) 1 (runs_of unit)) found) [])) is in
+    ap (λ (found : Option UnitDef). length (unwrap_or (option_map (all_of units longest k) found) [])) is in
     subst (λ less. length (expanded units (suc longest) k) ≡ length (instances_below (expanded units less) 1 (runs_of unit)) + 1) back
     (one ∙ more (length (instances_below (expanded units longest) 1 (runs_of unit))))

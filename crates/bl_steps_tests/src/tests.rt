@@ -7,11 +7,12 @@ use crate::program::program_of;
 use bl_tree::NoMemory;
 use std::alloc::Global;
 
-const TO_AND_FRO: &str =
-    "@[EntryPoint] activity M (i: int32)(o: int32) var x: int32 var y: int32 cobegin repeat x = i + 1 o = y await true end with repeat y = x * 2 await true end end end";
+const TO_AND_FRO: &str = "@[EntryPoint] activity M (i: int32)(o: int32) var x: int32 var y: int32
+cobegin repeat x = i + 1 o = y await true end with repeat y = x * 2 await true end end end";
 
-const CALLED: &str =
-    "activity A (i: int32)(x: int32) x = i await true x = x + 10 end activity B (x: int32)(o: int32) o = o + x await true o = o + 100 end @[EntryPoint] activity M (i: int32)(o: int32) var x: int32 repeat cobegin run A(i)(x) with run B(x)(o) end end end";
+const CALLED: &str = "activity A (i: int32)(x: int32) x = i await true x = x + 10 end
+activity B (x: int32)(o: int32) o = o + x await true o = o + 100 end
+@[EntryPoint] activity M (i: int32)(o: int32) var x: int32 repeat cobegin run A(i)(x) with run B(x)(o) end end end";
 
 const NESTED: &str =
     "@[EntryPoint] activity M (a: bool, b: bool)(c: int32) when a abort when b reset c = c + 1 await false end end c = 100 await false end";
@@ -87,7 +88,8 @@ static CASES: [Case; 10] = [
     },
     // branches share a struct by its fields
     Case {
-        text: "struct S var a: int32 var b: int32 end @[EntryPoint] activity M (i: int32)(o: int32) var s: S cobegin repeat s.a = i + 1 o = s.b await true end with repeat s.b = s.a * 2 await true end end end",
+        text: "struct S var a: int32 var b: int32 end
+@[EntryPoint] activity M (i: int32)(o: int32) var s: S cobegin repeat s.a = i + 1 o = s.b await true end with repeat s.b = s.a * 2 await true end end end",
         rows: &[&[3], &[-1]],
         outs: &[8, 0],
         stand: Stand::Open,
@@ -217,8 +219,9 @@ fn actions_are_taken_in_their_order(rt: HostRuntime) -> Result<(), NoMemory> {
 }
 
 /// An activity whose first statement is an `if`, one arm of which may end at once.
-const CHOOSING: &str =
-    "struct S var a: int32 var b: int32 end activity A (s: S, c: bool)(o: int32, p: int32) if c then o = s.b else p = o await c end end @[EntryPoint] activity M ()(o: int32) await true end";
+const CHOOSING: &str = "struct S var a: int32 var b: int32 end
+activity A (s: S, c: bool)(o: int32, p: int32) if c then o = s.b else p = o await c end end
+@[EntryPoint] activity M ()(o: int32) await true end";
 
 static CHOICE: Told = Told {
     reads: &[(0, &[1]), (1, &[]), (2, &[])],
