@@ -157,17 +157,19 @@ fn a_built_text_stops_where_a_write_fails(rt: HostRuntime) -> Result<(), Fail> {
     Ok(())
 }
 
+/// The lamp's whole trace.
+const WHOLE: End = End {
+    status: 0,
+    line: "",
+    out: LAMP_TRACE,
+};
+
 /// The rows and the trace are the same where each call moves one byte.
 #[test]
 fn bytes_may_come_one_by_one(rt: HostRuntime) -> Result<(), Fail> {
     let mut case = smooth(Command::Run, LAMP.as_bytes(), LAMP_ROWS);
     case.reads.is_narrow = true;
     case.writes.is_narrow = true;
-    let end = End {
-        status: 0,
-        line: "",
-        out: LAMP_TRACE,
-    };
-    assert!(rt; ends(rt.alloc(), &case, &end)?);
+    assert!(rt; ends(rt.alloc(), &case, &WHOLE)?);
     Ok(())
 }
