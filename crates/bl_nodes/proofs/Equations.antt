@@ -2,9 +2,9 @@
 use Rattle.std.proofs.Common.{◌≡◌, List, [], ◌∷◌, map, refl, ap, sym, ◌∙◌}
 use Rattle.bl_tree.specs.declared.tree.Arm.{Arm, out-Arm, fold-Arm, fold_out-Arm}
 use Rattle.bl_tree.specs.declared.tree.Branch.{Branch, out-Branch, fold-Branch, fold_out-Branch}
-use Rattle.bl_tree.specs.declared.tree.Stmt.{fold-roll-Stmt}
-use Rattle.bl_tree.specs.declared.tree.StmtKind.{fold-roll-StmtKind}
-use Rattle.bl_nodes.specs.Laws.{PlainStatements, plain_arm, plain_branch}
+use Rattle.bl_tree.specs.declared.tree.Stmt.{Stmt, fold-roll-Stmt, out-Stmt, roll-Stmt, roll-out-Stmt}
+use Rattle.bl_tree.specs.declared.tree.StmtKind.{fold-roll-StmtKind, out-StmtKind, roll-out-StmtKind}
+use Rattle.bl_nodes.specs.Laws.{PlainStatements, plain_arm, plain_branch, stmt}
 use Rattle.bl_nodes.specs.Plain.{
   Cobegin,
   If,
@@ -60,3 +60,6 @@ plain_statements = record {
   parallel = λ place at branches. rw (fold-roll-Stmt, fold-roll-StmtKind)
       (ap (λ all. Cobegin (label_at at) place (bodies_from all 0 (label_at at))) (branches_are branches));
 }
+
+pub made_of_parts : (s : Stmt) → stmt (out-Stmt s).place (out-StmtKind (out-Stmt s).what) ≡ s
+made_of_parts s = ap (λ kind. roll-Stmt (record { place = (out-Stmt s).place; what = kind })) (roll-out-StmtKind (out-Stmt s).what) ∙ roll-out-Stmt s

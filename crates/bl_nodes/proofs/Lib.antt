@@ -1,1 +1,3 @@
 pub mod Equations
+pub mod Instants
+pub mod Labels

@@ -1,14 +1,16 @@
 -- What the plain statements of statements are, kind by kind.
-use Rattle.std.specs.Prelude.{◌≡◌, ℕ, List, [], ◌∷◌, Option, map}
+use Rattle.std.specs.Prelude.{◌≡◌, ℕ, List, [], ◌∷◌, ◌++◌, Option, map, ⊤}
 use Rattle.bl_tree.specs.declared.place.Place.{Place}
 use Rattle.bl_tree.specs.declared.tree.Arm.{Arm, out-Arm}
 use Rattle.bl_tree.specs.declared.tree.Branch.{Branch, out-Branch}
 use Rattle.bl_tree.specs.declared.tree.Expr.{Expr}
 use Rattle.bl_tree.specs.declared.tree.Guard.{Guard}
 use Rattle.bl_tree.specs.declared.tree.Path.{Path}
-use Rattle.bl_tree.specs.declared.tree.Stmt.{Stmt, roll-Stmt}
-use Rattle.bl_tree.specs.declared.tree.StmtKind.{StmtKind, roll-StmtKind}
+use Rattle.bl_tree.specs.declared.tree.Stmt.{Stmt, out-Stmt, roll-Stmt}
+use Rattle.bl_tree.specs.declared.tree.StmtKind.{StmtKind, out-StmtKind, roll-StmtKind}
 use Rattle.bl_tree.specs.declared.tree.StmtKind.TheOpen.{StmtKind-F}
+use Rattle.bl_tree.specs.Instant.{instant, is_instant_block}
+use Rattle.bl_nodes.specs.Nodes.{Node, are_instant, is_instant, label_of, nodes_in, nodes_of}
 use Rattle.bl_nodes.specs.Plain.{
   Act,
   Await,
@@ -69,3 +71,34 @@ pub record PlainStatements : Type 0 where
       plain (stmt place (StmtKind-F.Until body e)) at ≡ Until (label_at at) place (plain_block body (inside (label_at at) 0)) e
   pub while : (place : Place) (at : Position) (e : Expr) (body : List Stmt) →
       plain (stmt place (StmtKind-F.While e body)) at ≡ While (label_at at) place e (plain_block body (inside (label_at at) 0))
+
+-- a plain statement may end in the tick in which it begins exactly where its statement may
+abbrev pub InstantIsKept : Type 0
+InstantIsKept = (s : Stmt) (at : Position) → is_instant (plain s at) ≡ instant s
+
+-- and a block where the block may
+abbrev pub BlocksAreInstant : Type 0
+BlocksAreInstant = (body : List Stmt) (at : Position) → are_instant (plain_block body at) ≡ is_instant_block body
+
+-- each statement is that of its place and its kind's parts, so what is said of these is said of it
+abbrev pub MadeOfParts : Type 0
+MadeOfParts = (s : Stmt) → stmt (out-Stmt s).place (out-StmtKind (out-Stmt s).what) ≡ s
+
+-- a position begins with another
+pub record Begins (front position : Position) : Type 0 where
+  pub rest : List ℕ
+  pub is : position ≡ front ++ rest
+
+-- the label of each of these nodes has a position that begins with this one
+abbrev pub Below : Position → List Node → Type 0
+Below at [] = ⊤
+Below at (n ∷ nodes) = Begins at (label_of n).position × Below at nodes
+
+-- the nodes of a statement at a position are labelled below it, and so are those of a block
+pub record LabelsAreBelow : Type 0 where
+  pub statements : (s : Stmt) (at : Position) → Below at (nodes_of (plain s at))
+  pub blocks : (body : List Stmt) (at : Position) → Below at (nodes_in (plain_block body at))
+
+-- no position begins with those of two blocks of a statement, nor of two statements of a block
+abbrev pub PositionsPart : Type 0
+PositionsPart = (at position : Position) (j k : ℕ) → Begins (at ++ j ∷ []) position → Begins (at ++ k ∷ []) position → j ≡ k

@@ -160,7 +160,8 @@ abbrev mutual
   nodes_of (Await l at e) = PauseAt l at ∷ TestAt l at e ∷ []
   nodes_of (Run l at target a inputs outputs) = EnterAt l at (arguments_of target inputs outputs) ∷ ResumeAt l at (arguments_of target inputs outputs) ∷ []
   nodes_of (If l at e body other) = TestAt l at e ∷ (nodes_in body ++ nodes_in other)
-  nodes_of (Cobegin l at bodies) = ForkAt l at ∷ (where_so (is_instant (Cobegin l at bodies)) (SurfaceJoinAt l at) ++ DepthJoinAt l at ∷ nodes_in_each bodies)
+  nodes_of (Cobegin l at bodies) = ForkAt l at ∷ (where_so (is_instant (Cobegin l at bodies)) (SurfaceJoinAt l at)
+      ++ DepthJoinAt l at ∷ nodes_in_each bodies)
   nodes_of (When l at guard e body) =
       StartAt l at ∷ (where_so (are_instant body) (SurfaceEndAt l at) ++ CheckAt l at e ∷ DepthEndAt l at ∷ nodes_in body)
   nodes_of (Repeat l at body) = HeadAt l at ∷ nodes_in body

@@ -91,9 +91,9 @@ else_at at (arm ∷ rest) other = Then (If at (place_of_test arm) arm.test (arm.
 abbrev pub never : Place → Expr
 never place = roll-Expr (record { place = place; what = roll-ExprKind (ExprKind-F.Literal (pos 0) OfBool) })
 
--- no `if` of a program is without an arm; one would do its `else` part
+-- no `if` of a program is without an arm; one would do its `else` part, whatever its condition
 abbrev pub if_with : Label → Place → List Arm → (Position → Block) → Plain
-if_with at place [] other = If at place (never place) Done (other (inside at 0))
+if_with at place [] other = If at place (never place) (other (inside at 0)) (other (inside at 0))
 if_with at place (arm ∷ rest) other = If at place arm.test (arm.body (inside at 0)) (else_at (passed_one at) rest other)
 
 -- the branches from the one with number k on
