@@ -92,11 +92,11 @@ module _ (structs : List StructDef) (earlier : List UnitDef) (unit : UnitDef) (s
 
   returns : unit_returns unit ≡ true
   returns =
-      let last : Bool = unit_returns unit && (is_shallow unit.body && list_all is_apart unit.body) in
+      let last : Bool = unit_returns unit && (is_shallow 200 unit.body && list_all is_apart unit.body) in
       let fitted : Bool = list_all (fits (site_of structs earlier unit)) unit.body in
       let typed : Bool = list_all (λ var. type_stands (length structs) var.ty) unit.vars in
       let named : Bool = roles_stand unit && (list_all is_name (names_of unit.vars) && are_distinct (names_of (parameters_of unit))) in
-      and_left (unit_returns unit) (is_shallow unit.body && list_all is_apart unit.body)
+      and_left (unit_returns unit) (is_shallow 200 unit.body && list_all is_apart unit.body)
       (and_right fitted last (and_right typed (fitted && last) (and_right named (typed && (fitted && last)) stands)))
 
 surely : (unit : UnitDef) (s : ScalarType) → is_function unit.kind ≡ true → unit.result ≡ Some s → unit_returns unit ≡ true →

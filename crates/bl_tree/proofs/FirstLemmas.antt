@@ -46,12 +46,14 @@ use Rattle.bl_tree.specs.Rules.{
   Refuses,
   come_before,
   comes_before,
+  compared,
   first_of,
   further_places,
   is_before,
   number_of,
   places_of,
   same_place,
+  tells_walk,
 }
 
 -- ---- rules by number
@@ -313,6 +315,18 @@ none_is (y ∷ xs) is x there = some_stays y xs is
 
 -- ---- the first rule that fails
 
+-- what holds of all places holds of those that are compared
+no_later_compared : (r : Rule) (p q : Place) (a b : List Place) → AreNoLater (p ∷ a) (q ∷ b) → AreNoLater (compared r p a) (compared r q b)
+no_later_compared r p q a b h =
+    elim (tells_walk r) as (λ walk. AreNoLater (cond walk (p ∷ []) (p ∷ a)) (cond walk (q ∷ []) (q ∷ b))) [
+      | false ↦ h
+      | true ↦ ⊎_elim (λ before. inl before) (λ same. inr (same.0, tt)) h
+    ]
+
+-- where no walk is told, all places are compared
+all_compared : (r : Rule) (p : Place) (a : List Place) → tells_walk r ≡ false → compared r p a ≡ p ∷ a
+all_compared r p a no_walk = ap (λ walk. cond walk (p ∷ []) (p ∷ a)) no_walk
+
 -- where nothing comes first, no rule fails
 pub none_passes : (failures : List Failure) → first_of None failures ≡ None → Passes (Among failures)
 none_passes failures is rule at also fails = none_is failures is fails.failure (contains_in fails.failure failures fails.is_there)
@@ -331,11 +345,12 @@ first_fails failures first is =
           (found.earliest fails.failure (contains_in fails.failure failures fails.is_there));
       least_places = λ elsewhere further fails.
           let e = ap number_of fails.of_rule in
-          subst (λ l. AreNoLater (places_of first) (elsewhere ∷ l)) (sym fails.further)
+          no_later_compared first.rule first.at elsewhere (further_places first.further) further
+          (subst (λ l. AreNoLater (places_of first) (elsewhere ∷ l)) (sym fails.further)
           (subst (λ p. AreNoLater (places_of first) (p ∷ further_places fails.failure.further)) (sym fails.at_place)
           (⊎_elim (λ (p : number_of first.rule < number_of fails.failure.rule). absurd (omega arith))
           (λ (p : (first.rule ≡ fails.failure.rule) × AreNoLater (places_of first) (places_of fails.failure)). p.1)
-          (found.earliest fails.failure (contains_in fails.failure failures fails.is_there))));
+          (found.earliest fails.failure (contains_in fails.failure failures fails.is_there)))));
     }
 
 -- what is refused by the first failure has its cause
@@ -359,10 +374,10 @@ module _ (F G : Rule → Place → List Place → Type 0)
   pub alike_passes : Passes F → Passes G
   alike_passes passes r p a fails = passes r p a (from r p a fails)
 
--- there is one first failure
+-- there is one first failure; where it tells a walk, of its places the first is determined
 pub record Same (r s : Rule) (p q : Place) (a b : List Place) : Type 0 where
   pub rule : r ≡ s
-  pub places : (p ∷ a) ≡ (q ∷ b)
+  pub places : compared r p a ≡ compared r q b
 
 pub first_is_one : (Fails : Rule → Place → List Place → Type 0) (r s : Rule) (p q : Place) (a b : List Place)
     → FailsFirst Fails r p a → FailsFirst Fails s q b → Same r s p q a b
@@ -372,7 +387,15 @@ first_is_one Fails r s p q a b one two =
     let same : r ≡ s = same_rule r s (omega arith) in
     record {
       rule = same;
-      places = no_later_both (p ∷ a) (q ∷ b)
+      places = no_later_both (compared r p a) (compared r q b)
           (one.least_places q b (subst (λ t. Fails t q b) (sym same) two.fails))
-          (two.least_places p a (subst (λ t. Fails t p a) same one.fails));
+          (subst (λ t. AreNoLater (compared t q b) (compared t p a)) (sym same)
+          (two.least_places p a (subst (λ t. Fails t p a) same one.fails)));
     }
+
+-- and where it tells none, all places are
+pub first_and_places_are_one : (Fails : Rule → Place → List Place → Type 0) (r s : Rule) (p q : Place) (a b : List Place)
+    → tells_walk r ≡ false → FailsFirst Fails r p a → FailsFirst Fails s q b → (r ≡ s) × ((p ∷ a) ≡ (q ∷ b))
+first_and_places_are_one Fails r s p q a b no_walk one two =
+    let same = first_is_one Fails r s p q a b one two in
+    (same.rule, sym (all_compared r p a no_walk) ∙ same.places ∙ all_compared r q b no_walk)

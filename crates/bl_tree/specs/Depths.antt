@@ -86,6 +86,6 @@ stmt_layer_depth s = s.what
 abbrev pub depth_of : Stmt → Depth
 depth_of = fold-Stmt Depth Depth Depth Depth stmt_kind_depth arm_depth branch_depth stmt_layer_depth
 
--- whether blocks nest at most 100 deep, that of the unit and empty ones included, and expressions at most 200 deep
-abbrev pub is_shallow : List Stmt → Bool
-is_shallow body = nat_le (block 0 (map depth_of body)).blocks 100 && nat_le (of_all (map depth_of body)).exprs 200
+-- whether blocks nest at most so deep, that of the unit and empty ones included, and expressions at most 200 deep
+abbrev pub is_shallow : ℕ → List Stmt → Bool
+is_shallow most body = nat_le (block 0 (map depth_of body)).blocks most && nat_le (of_all (map depth_of body)).exprs 200

@@ -88,7 +88,7 @@ unit_stands structs earlier unit =
     (roles_stand unit && (list_all is_name (names_of unit.vars) && are_distinct (names_of (parameters_of unit))))
     && (list_all (λ var. type_stands (length structs) var.ty) unit.vars
     && (list_all (fits (site_of structs earlier unit)) unit.body
-    && (unit_returns unit && (is_shallow unit.body && list_all is_apart unit.body))))
+    && (unit_returns unit && (is_shallow 200 unit.body && list_all is_apart unit.body))))
 
 -- each unit sees those before it
 abbrev pub units_stand_after : List StructDef → List UnitDef → List UnitDef → Bool

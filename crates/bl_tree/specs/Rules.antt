@@ -109,12 +109,23 @@ AreNoLater (one ∷ rest) (other ∷ others) = IsBefore one other ⊎ ((one ≡ 
 
 -- ---- the first rule that fails
 
+-- whether the further places of the rule's line are a closed walk in a tick graph: there are many from one place, any will
+-- do, and a least one needn't exist
+abbrev pub tells_walk : Rule → Bool
+tells_walk rule.Twice = true
+tells_walk rule.Cycle = true
+tells_walk _ = false
+
+-- the places by which two failures of one rule are compared: all that its line names, and of a walk where it begins
+abbrev pub compared : Rule → Place → List Place → List Place
+compared rule at also = if tells_walk rule then at ∷ [] else at ∷ also
+
 -- the rule fails at the place with the further places, no rule of a lesser number fails, and this rule fails at no earlier
--- place, and at this place with no earlier further places
+-- place, and at this place with no earlier further places where they aren't a walk
 pub record FailsFirst (Fails : Rule → Place → List Place → Type 0) (rule : Rule) (at : Place) (also : List Place) : Type 0 where
   pub fails : Fails rule at also
   pub least_rule : (other : Rule) (elsewhere : Place) (further : List Place) → Fails other elsewhere further → number_of rule ≤ number_of other
-  pub least_places : (elsewhere : Place) (further : List Place) → Fails rule elsewhere further → AreNoLater (at ∷ also) (elsewhere ∷ further)
+  pub least_places : (elsewhere : Place) (further : List Place) → Fails rule elsewhere further → AreNoLater (compared rule at also) (compared rule elsewhere further)
 
 -- no rule fails
 abbrev pub Passes : (Rule → Place → List Place → Type 0) → Type 0

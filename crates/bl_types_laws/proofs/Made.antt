@@ -34,7 +34,7 @@ module _ (constants : List NamedConstant) (vars : List NamedVar) (body : List Na
   abbrev made : List Stmt
   made = (walked_block constants vars body env).made
 
-  pub made_shallow : nested.is_shallow body ≡ true → is_shallow (walked_block constants vars body env).made ≡ true
+  pub made_shallow : nested.is_shallow body ≡ true → is_shallow 100 (walked_block constants vars body env).made ≡ true
   made_shallow shallow = let most = statements_in constants vars body env in
       shallow_still (of_all (map depth_of made)) (of_all (map nested.depth_of body)) most.depths shallow
 

@@ -41,7 +41,7 @@ pub record Suits (named : Named) : Type 0 where
 
 abbrev pub ShallowStays : Type 0
 ShallowStays = (constants : List NamedConstant) (vars : List NamedVar) (body : List NamedStmt) (env : Environment) → names_shallow body ≡ true →
-    is_shallow (walked_block constants vars body env).made ≡ true
+    is_shallow 100 (walked_block constants vars body env).made ≡ true
 
 abbrev pub ApartStays : Type 0
 ApartStays = (constants : List NamedConstant) (vars : List NamedVar) (body : List NamedStmt) (env : Environment) → list_all names_apart body ≡ true →

@@ -1,5 +1,6 @@
 -- What is made of a struct and of a unit stands.
-use Rattle.std.proofs.Common.{◌≡◌, ℕ, ◌+◌, true, ◌&&◌, List, [], ◌∷◌, ◌++◌, length, map, take, Some, refl, sym, ap, subst, ◌∙◌}
+use Rattle.std.proofs.Common.{◌≡◌, ℕ, ◌+◌, ◌≤◌, arith, true, ◌&&◌, List, [], ◌∷◌, ◌++◌, length, map, take, Some, refl, sym, ap, subst, ◌∙◌}
+use Rattle.std.specs.Prelude.{nat_le}
 use Rattle.std.specs.List.{list_all}
 use Rattle.std.proofs.lemmas.List.{take-map}
 use Rattle.std.proofs.lemmas.Simd.{map-map}
@@ -9,7 +10,7 @@ use Rattle.bl_tree.specs.declared.tree.Stmt.{Stmt}
 use Rattle.bl_tree.specs.declared.tree.StructDef.{StructDef}
 use Rattle.bl_tree.specs.declared.tree.Unit.{Unit as UnitDef}
 use Rattle.bl_tree.specs.declared.tree.Var.{Var}
-use Rattle.bl_tree.specs.Depths.{is_shallow}
+use Rattle.bl_tree.specs.Depths.{block, depth_of, is_shallow, of_all}
 use Rattle.bl_tree.specs.Program.{field_names, is_entry, names_of, parameters_of, roles_stand, struct_stands, unit_stands}
 use Rattle.bl_tree.specs.Returns.{unit_returns}
 use Rattle.bl_tree.specs.Types.{type_stands}
@@ -117,7 +118,7 @@ parameter_names unit made n names =
 -- where the same parameters are, and what is made of the body is shallow and apart, what is made of a unit stands
 stands_by : (structs : List StructDef) (earlier : List UnitDef) (unit : NamedUnit) (made : UnitDef) → unit_keeps unit ≡ true →
     Passing structs unit earlier made → made.inputs + made.outputs ≡ parameters unit →
-    is_shallow made.body ≡ true → list_all is_apart made.body ≡ true → unit_stands structs earlier made ≡ true
+    is_shallow 200 made.body ≡ true → list_all is_apart made.body ≡ true → unit_stands structs earlier made ≡ true
 stands_by structs earlier unit made keeps passing same shallow apart =
     let head = and_left (variables_named unit && parameters_differ unit) (body_filled unit && (body_shallow unit && body_apart unit)) keeps in
     let named : list_all is_name (names_of made.vars) ≡ true = ap (list_all is_name) passing.names
@@ -127,16 +128,24 @@ stands_by structs earlier unit made keeps passing same shallow apart =
     ∙ and_right (variables_named unit) (parameters_differ unit) head in
     both (roles_stand made && (list_all is_name (names_of made.vars) && are_distinct (names_of (parameters_of made))))
     (list_all (λ (var : Var). type_stands (length structs) var.ty) made.vars
-    && (list_all (fits (site_of structs earlier made)) made.body && (unit_returns made && (is_shallow made.body && list_all is_apart made.body))))
+    && (list_all (fits (site_of structs earlier made)) made.body && (unit_returns made && (is_shallow 200 made.body && list_all is_apart made.body))))
     (both (roles_stand made) (list_all is_name (names_of made.vars) && are_distinct (names_of (parameters_of made))) passing.roles
     (both (list_all is_name (names_of made.vars)) (are_distinct (names_of (parameters_of made))) named differ))
     (both (list_all (λ (var : Var). type_stands (length structs) var.ty) made.vars)
-    (list_all (fits (site_of structs earlier made)) made.body && (unit_returns made && (is_shallow made.body && list_all is_apart made.body)))
+    (list_all (fits (site_of structs earlier made)) made.body && (unit_returns made && (is_shallow 200 made.body && list_all is_apart made.body)))
     passing.vars_stand
-    (both (list_all (fits (site_of structs earlier made)) made.body) (unit_returns made && (is_shallow made.body && list_all is_apart made.body))
+    (both (list_all (fits (site_of structs earlier made)) made.body) (unit_returns made && (is_shallow 200 made.body && list_all is_apart made.body))
     passing.is_good
-    (both (unit_returns made) (is_shallow made.body && list_all is_apart made.body) passing.returns
-    (both (is_shallow made.body) (list_all is_apart made.body) shallow apart))))
+    (both (unit_returns made) (is_shallow 200 made.body && list_all is_apart made.body) passing.returns
+    (both (is_shallow 200 made.body) (list_all is_apart made.body) shallow apart))))
+
+-- what is nested at most 100 deep is nested at most 200 deep
+deeper_too : (body : List Stmt) → is_shallow 100 body ≡ true → is_shallow 200 body ≡ true
+deeper_too body shallow =
+    let d = (block 0 (map depth_of body)).blocks in
+    let exprs = nat_le (of_all (map depth_of body)).exprs 200 in
+    let less : d ≤ 100 = leb-true d 100 (and_left (nat_le d 100) exprs shallow) in
+    both (nat_le d 200) exprs (le-leb d 200 (omega arith)) (and_right (nat_le d 100) exprs shallow)
 
 pub unit_made : Shapes → (structs : List StructDef) (constants : List NamedConstant) (unit : NamedUnit) (env : Environment) → unit_keeps unit ≡ true →
     Passing structs unit env.units (made_of constants unit env) →
@@ -146,5 +155,6 @@ unit_made shapes structs constants unit env keeps passing =
     let inner = and_right (body_filled unit) (body_shallow unit && body_apart unit) rest in
     let head : Environment = (after_head unit env).env in
     stands_by structs env.units unit (made_of constants unit env) keeps passing refl
-    (shapes.shallow constants unit.vars unit.body head (and_left (body_shallow unit) (body_apart unit) inner))
+    (deeper_too (made_of constants unit env).body
+    (shapes.shallow constants unit.vars unit.body head (and_left (body_shallow unit) (body_apart unit) inner)))
     (shapes.apart constants unit.vars unit.body head (and_right (body_shallow unit) (body_apart unit) inner))

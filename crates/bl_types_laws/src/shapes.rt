@@ -16,7 +16,7 @@ ghost use Rattle.bl_types.specs.Statements.{walked_block};
 /// theirs do, whatever is known and whatever fails: what fails isn't made, a constant that is read becomes a literal, and outputs lead by fields alone.
 pub fn what_is_made_keeps_shape()
     ensures shallow { (constants : List NamedConstant) (vars : List NamedVar) (body : List NamedStmt) (env : Environment) → names_shallow body ≡ true →
-        is_shallow (walked_block constants vars body env).made ≡ true }
+        is_shallow 100 (walked_block constants vars body env).made ≡ true }
     ensures apart { (constants : List NamedConstant) (vars : List NamedVar) (body : List NamedStmt) (env : Environment) → list_all names_apart body ≡ true →
         list_all is_apart (walked_block constants vars body env).made ≡ true }
 {}
