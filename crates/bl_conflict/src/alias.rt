@@ -3,7 +3,8 @@
 #![tactic(auto, using(crate::proofs::FirstLemmas::firsts))]
 
 ghost use Rattle.std.specs.Prelude.{◌≡◌, ◌++◌, [], is_none, map, IfOk, OnOk};
-ghost use Rattle.bl_conflict.specs.inner.Failures.{added, alias_failures, aliases_of_arm, aliases_of_branch, least_by, marked_read, of_alias, place_overlapping};
+ghost use Rattle.bl_conflict.specs.inner.Failures.{added, alias_failures, aliases_of_arm, aliases_of_branch, least_by, marked_read, of_alias};
+ghost use Rattle.bl_conflict.specs.inner.Failures.{place_overlapping};
 ghost use Rattle.bl_effects.specs.Rules.{aliased_with, aliases_in, aliases_of, marked_input, marked_inputs, outputs_aliased, target_aliased};
 ghost use Rattle.bl_tree.specs.Reduce.{joined};
 ghost use Rattle.bl_tree.specs.Types.{scalar_in};

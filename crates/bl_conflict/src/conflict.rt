@@ -4,7 +4,8 @@
 ghost use Rattle.std.specs.BTreeSet.{contains};
 ghost use Rattle.std.specs.Ordering.{nat_cmp};
 ghost use Rattle.std.specs.Prelude.{◌≡◌, ◌≤◌, ◌++◌, ◌∷◌, ℕ, List as Elements, true, [], length, map, take, drop, IfOk, OnOk};
-ghost use Rattle.bl_conflict.specs.inner.Failures.{all_clashes, clashes, clash_of, clashes_at, clashes_with, clashes_of_unit, conflict_failures, parallel_of_arm, parallel_of_branch, written};
+ghost use Rattle.bl_conflict.specs.inner.Failures.{all_clashes, clashes, clash_of, clashes_at, clashes_with, clashes_of_unit, conflict_failures};
+ghost use Rattle.bl_conflict.specs.inner.Failures.{parallel_of_arm, parallel_of_branch, written};
 ghost use Rattle.bl_effects.specs.declared.marked.Marked.{Marked as MarkedPath};
 ghost use Rattle.bl_conflict.specs.inner.Roots.{Knows};
 ghost use Rattle.bl_tree.specs.Effects.{target_static};

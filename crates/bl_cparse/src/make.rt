@@ -4,8 +4,10 @@ ghost use Rattle.std.specs.Prelude.{◌≡◌, [], ◌∷◌, ◌++◌, ◌&&◌
 ghost use Rattle.std.specs.Fmt.{decimal};
 ghost use Rattle.bl_tree.specs.Reduce.{all_of, joined};
 ghost use Rattle.bl_ctext.specs.Names.{is_name, is_callee};
-ghost use Rattle.bl_ctext.specs.Spelling.{literal_tokens, operator_sign, call_tokens, index_front, root_tokens, if_any, expr_tokens, kind_tokens, place_tokens, step_tokens, index_tokens, ccall_tokens, arg_tokens};
-ghost use Rattle.bl_ctext.specs.Spellable.{is_literal, is_c_operator, is_length, none_or, spells_expr, spells_kind, spells_place, spells_step, spells_index, spells_call, spells_arg};
+ghost use Rattle.bl_ctext.specs.Spelling.{literal_tokens, operator_sign, call_tokens, index_front, root_tokens, if_any, expr_tokens, kind_tokens};
+ghost use Rattle.bl_ctext.specs.Spelling.{place_tokens, step_tokens, index_tokens, ccall_tokens, arg_tokens};
+ghost use Rattle.bl_ctext.specs.Spellable.{is_literal, is_c_operator, is_length, none_or, spells_expr, spells_kind, spells_place, spells_step};
+ghost use Rattle.bl_ctext.specs.Spellable.{spells_index, spells_call, spells_arg};
 
 use crate::room::fitted;
 use bl_tree::c::{CArg, CCall, CExpr, CExprKind, CIndex, CPlace, CStep};

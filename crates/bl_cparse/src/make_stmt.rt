@@ -3,7 +3,8 @@
 ghost use Rattle.std.specs.Prelude.{◌≡◌, [], ◌∷◌, ◌++◌, ◌&&◌, map, option_map, codes, true};
 ghost use Rattle.bl_tree.specs.Reduce.{all_of, joined};
 ghost use Rattle.bl_ctext.specs.Names.{is_struct_name, is_turn_name};
-ghost use Rattle.bl_ctext.specs.Spelling.{expr_tokens, place_tokens, ccall_tokens, stmt_tokens, stmt_kind_tokens, braced, condition_tokens, result_tokens, zeros_tokens, turn_declared, turn_counted};
+ghost use Rattle.bl_ctext.specs.Spelling.{expr_tokens, place_tokens, ccall_tokens, stmt_tokens, stmt_kind_tokens, braced, condition_tokens};
+ghost use Rattle.bl_ctext.specs.Spelling.{result_tokens, zeros_tokens, turn_declared, turn_counted};
 ghost use Rattle.bl_ctext.specs.Spellable.{spells_expr, spells_place, spells_call, spells_stmt, spells_stmt_kind, spells_result};
 
 use crate::make::NOWHERE;
@@ -49,14 +50,16 @@ pub fn branch(test: Box<CExpr>, then_part: List<CStmt>) -> CStmtKind
 }
 
 pub fn branches(test: Box<CExpr>, then_part: List<CStmt>, else_part: List<CStmt>) -> CStmtKind
-    ensures tokens { stmt_kind_tokens result ≡ codes "if" ∷ (condition_tokens test ++ (braced (map stmt_tokens then_part) ++ codes "else" ∷ braced (map stmt_tokens else_part))) }
+    ensures tokens { stmt_kind_tokens result ≡ codes "if" ∷ (condition_tokens test ++
+        (braced (map stmt_tokens then_part) ++ codes "else" ∷ braced (map stmt_tokens else_part))) }
     ensures spells { spells_stmt_kind result ≡ spells_expr test && (all_of (map spells_stmt then_part) && all_of (map spells_stmt else_part)) }
 {
     CStmtKind::If(test, then_part, Some(else_part))
 }
 
 pub fn turns(turn: Text, test: Box<CExpr>, body: List<CStmt>) -> CStmtKind
-    ensures tokens { stmt_kind_tokens result ≡ turn_declared turn ++ (condition_tokens test ++ (turn_counted turn ++ (joined (map stmt_tokens body) ++ codes "}" ∷ codes "}" ∷ []))) }
+    ensures tokens { stmt_kind_tokens result ≡ turn_declared turn ++
+        (condition_tokens test ++ (turn_counted turn ++ (joined (map stmt_tokens body) ++ codes "}" ∷ codes "}" ∷ []))) }
     ensures spells { spells_stmt_kind result ≡ is_turn_name turn && (spells_expr test && all_of (map spells_stmt body)) }
 {
     CStmtKind::Loop(turn, test, body)

@@ -134,7 +134,8 @@ impl<'a> Reader<'a> {
     pub fn copy(&mut self) -> Result<Text, CRefusal>
         requires { IsTrue (is_word (first_of self.old)) }
         ensures read { IfOk result (λ t. self.old ≡ t ∷ self.new) }
-        ensures follows { (class : Class) (rest : List Wanted) → Expects (Symbol.Terminal class ∷ rest) self.old → MatchResult result (λ _. Expects rest self.new) WantsMemory }
+        ensures follows { (class : Class) (rest : List Wanted) → Expects (Symbol.Terminal class ∷ rest) self.old
+            → MatchResult result (λ _. Expects rest self.new) WantsMemory }
     {
         let text = text_of(self.alloc, self.piece())?;
         self.pass();

@@ -45,7 +45,8 @@ pub fn may_be_absent(part: Part) -> bool
 
 /// The production, where so many brackets suffice.
 fn roomed(choice: Choice, room: u16) -> Option<&'static [Shape]>
-    ensures { (piece : List ℕ) (may : Bool) → option_map (λ shapes. wanted_from room piece shapes.now) result ≡ decided room piece may (Some (production_shown choice)) }
+    ensures { (piece : List ℕ) (may : Bool) → option_map (λ shapes. wanted_from room piece shapes.now) result
+        ≡ decided room piece may (Some (production_shown choice)) }
 {
     if choice.needs <= room {
         Some(choice.production)

@@ -130,7 +130,8 @@ fn push_all<'a>(
     room: u16,
     turn: &'a [u8],
 ) -> Result<(), NoMemory>
-    ensures { OnOk result (reverse (map shown wanted.new.items) ≡ map (placed room turn.now) (map shape_shown shapes.now) ++ reverse (map shown wanted.old.items)) }
+    ensures { OnOk result (reverse (map shown wanted.new.items)
+        ≡ map (placed room turn.now) (map shape_shown shapes.now) ++ reverse (map shown wanted.old.items)) }
 {
     let mut left = shapes.len();
     while left > 0 {

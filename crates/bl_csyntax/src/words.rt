@@ -4,7 +4,8 @@ ghost use Rattle.std.specs.Prelude.{◌≡◌, map};
 ghost use Rattle.std.specs.Char.{is_ascii_digit};
 ghost use Rattle.bl_tree.specs.Reduce.{all_of};
 ghost use Rattle.bl_ctext.specs.Token.{is_word as is_c_word, is_word_byte as word_byte};
-ghost use Rattle.bl_ctext.specs.Names.{is_among as among, is_name as name, is_struct_name as struct_name, is_function_name as function_name, is_callee as callee, is_turn_name as turn_name, begins_with_digit};
+ghost use Rattle.bl_ctext.specs.Names.{is_among as among, is_name as name, is_struct_name as struct_name, is_function_name as function_name};
+ghost use Rattle.bl_ctext.specs.Names.{is_callee as callee, is_turn_name as turn_name, begins_with_digit};
 
 /// The words of the grammar that don't begin with `bl_`.
 static GRAMMAR_WORDS: [&str; 31] = [

@@ -1,6 +1,8 @@
 //! Laws of control trees. None of these functions does anything: the contract is the law.
 
-ghost use Rattle.bl_ctree.specs.Laws.{FrontsAreSteps, ItemsBeginProper, MaximalIsSteps, MovesAreListed, MovesKeepProper, PointsAct, PointsHaveNodes, PointsInOrder, PointsMove, ReachedInsideIsProper, ReachedIsProper, SeqIsProper, SettledIsStill, StepsAreListed, StepsFollow, StillIsUnlisted, WakingForgets, WakingKeepsProper};
+ghost use Rattle.bl_ctree.specs.Laws.{FrontsAreSteps, ItemsBeginProper, MaximalIsSteps, MovesAreListed, MovesKeepProper, PointsAct, PointsHaveNodes};
+ghost use Rattle.bl_ctree.specs.Laws.{PointsInOrder, PointsMove, ReachedInsideIsProper, ReachedIsProper, SeqIsProper, SettledIsStill, StepsAreListed};
+ghost use Rattle.bl_ctree.specs.Laws.{StepsFollow, StillIsUnlisted, WakingForgets, WakingKeepsProper};
 
 /// The listed points of a tree are its steps: each may act, and no other.
 pub fn points_are_steps()

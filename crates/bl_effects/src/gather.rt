@@ -5,7 +5,8 @@ ghost use Rattle.bl_tree.specs.declared.tree.Arm.{out-Arm};
 ghost use Rattle.bl_tree.specs.declared.tree.Branch.{out-Branch};
 ghost use Rattle.bl_tree.specs.Reduce.{all_of, any_of, joined};
 ghost use Rattle.bl_tree.specs.Effects.{argument_mentions, optional_mentions, reads, target_mentions, target_static, writes};
-ghost use Rattle.bl_effects.specs.inner.Gathered.{Gathers, children_of_kind, ends_of_branch, instant_of_arm, instant_of_kind, reads_of_arm, reads_of_branch, reads_of_kind, writes_of_arm, writes_of_branch, writes_of_kind};
+ghost use Rattle.bl_effects.specs.inner.Gathered.{Gathers, children_of_kind, ends_of_branch, instant_of_arm, instant_of_kind, reads_of_arm};
+ghost use Rattle.bl_effects.specs.inner.Gathered.{reads_of_branch, reads_of_kind, writes_of_arm, writes_of_branch, writes_of_kind};
 ghost use Rattle.bl_tree.specs.Instant.{branches_instant, instant};
 ghost use Rattle.bl_tree.specs.Static.{mentions, path_mentions, static_of};
 
@@ -113,7 +114,8 @@ fn parts(
     paths: &mut Paths,
 ) -> Result<bool, NoMemory>
     ensures instant { IfOk result (λ ends. ends ≡ instant_of_kind what.now) }
-    ensures gathers { OnOk result (Gathers (reads_of_kind what.now) (writes_of_kind what.now) (children_of_kind what.now) paths.old paths.new table.old table.new) }
+    ensures gathers { OnOk result (Gathers (reads_of_kind what.now) (writes_of_kind what.now) (children_of_kind what.now) paths.old paths.new table.old
+        table.new) }
 {
     match what {
         StmtKind::Declare(k, initial) => {
@@ -180,7 +182,8 @@ fn choices(
     paths: &mut Paths,
 ) -> Result<bool, NoMemory>
     ensures instant { IfOk result (λ ends. ends ≡ any_of (map instant_of_arm arms.now)) }
-    ensures gathers { OnOk result (Gathers (joined (map reads_of_arm arms.now)) (joined (map writes_of_arm arms.now)) (joined (map (λ arm. (out-Arm arm).body) arms.now)) paths.old paths.new table.old table.new) }
+    ensures gathers { OnOk result (Gathers (joined (map reads_of_arm arms.now)) (joined (map writes_of_arm arms.now))
+        (joined (map (λ arm. (out-Arm arm).body) arms.now)) paths.old paths.new table.old table.new) }
 {
     let mut some = false;
     for arm in arms {
@@ -199,7 +202,8 @@ fn branches(
     paths: &mut Paths,
 ) -> Result<bool, NoMemory>
     ensures instant { IfOk result (λ ends. ends ≡ branches_instant (map ends_of_branch all.now)) }
-    ensures gathers { OnOk result (Gathers (joined (map reads_of_branch all.now)) (joined (map writes_of_branch all.now)) (joined (map (λ branch. (out-Branch branch).body) all.now)) paths.old paths.new table.old table.new) }
+    ensures gathers { OnOk result (Gathers (joined (map reads_of_branch all.now)) (joined (map writes_of_branch all.now))
+        (joined (map (λ branch. (out-Branch branch).body) all.now)) paths.old paths.new table.old table.new) }
 {
     let mut is_strong = false;
     let mut strong = true;

@@ -39,7 +39,10 @@ pub fn endings_agree()
 /// A table that tells of a program has the places of all its statements, with their effects.
 pub fn told_statements_are_there()
     ensures has { (effects : List Effect) (units : List UnitDef) (s : Stmt) → Tells effects units → StandsInUnits units s → Has effects (place_of s) }
-    ensures reads { (effects : List Effect) (units : List UnitDef) (s : Stmt) → Tells effects units → StandsInUnits units s → reads_at effects (place_of s) ≡ reads s }
-    ensures writes { (effects : List Effect) (units : List UnitDef) (s : Stmt) → Tells effects units → StandsInUnits units s → writes_at effects (place_of s) ≡ writes s }
-    ensures instant { (effects : List Effect) (units : List UnitDef) (s : Stmt) → Tells effects units → StandsInUnits units s → instant_at effects (place_of s) ≡ instant s }
+    ensures reads { (effects : List Effect) (units : List UnitDef) (s : Stmt) → Tells effects units → StandsInUnits units s
+        → reads_at effects (place_of s) ≡ reads s }
+    ensures writes { (effects : List Effect) (units : List UnitDef) (s : Stmt) → Tells effects units → StandsInUnits units s
+        → writes_at effects (place_of s) ≡ writes s }
+    ensures instant { (effects : List Effect) (units : List UnitDef) (s : Stmt) → Tells effects units → StandsInUnits units s
+        → instant_at effects (place_of s) ≡ instant s }
 {}

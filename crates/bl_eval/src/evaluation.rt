@@ -252,7 +252,8 @@ fn choice(
     arms: &[Arm],
     other: &[Stmt],
 ) -> Result<Flow, NoMemory>
-    ensures { IfOk result (λ flow. ended flow frame.new.items ≡ chosen (map (choice_of (scope_in site.entry.now)) arms.now) (in_order (map (does (scope_in site.entry.now)) other.now)) frame.old.items) }
+    ensures { IfOk result (λ flow. ended flow frame.new.items
+        ≡ chosen (map (choice_of (scope_in site.entry.now)) arms.now) (in_order (map (does (scope_in site.entry.now)) other.now)) frame.old.items) }
 {
     for arm in arms {
         match condition(alloc, site, frame.as_slice(), Some(&arm.test), true)? {
@@ -274,7 +275,9 @@ fn turns(
     body: &[Stmt],
     ends: Option<&Expr>,
 ) -> Result<Flow, NoMemory>
-    ensures { IfOk result (λ flow. ended flow frame.new.items ≡ looped (condition (scope_in site.entry.now) (option_map (λ e. e.now) goes.entry) true) (in_order (map (does (scope_in site.entry.now)) body.now)) (condition (scope_in site.entry.now) (option_map (λ e. e.now) ends.entry) false) most_turns frame.old.items) }
+    ensures { IfOk result (λ flow. ended flow frame.new.items
+        ≡ looped (condition (scope_in site.entry.now) (option_map (λ e. e.now) goes.entry) true) (in_order (map (does (scope_in site.entry.now)) body.now))
+        (condition (scope_in site.entry.now) (option_map (λ e. e.now) ends.entry) false) most_turns frame.old.items) }
 {
     for _ in 0..MOST_TURNS {
         match condition(alloc, site, frame.as_slice(), goes, true)? {
@@ -303,7 +306,8 @@ pub fn changes(
     view: &View,
     what: &StmtKind,
 ) -> Result<Option<List<Put>>, NoMemory>
-    ensures { IfOk result (λ changes. option_map (λ puts. all_changed puts view.entry.now.now.now) changes ≡ acted (scope_in site.entry.now) (out-StmtKind what.now) (view_in view.entry.now)) }
+    ensures { IfOk result (λ changes. option_map (λ puts. all_changed puts view.entry.now.now.now) changes
+        ≡ acted (scope_in site.entry.now) (out-StmtKind what.now) (view_in view.entry.now)) }
 {
     match what {
         StmtKind::Declare(k, None) => declared_zero(
@@ -362,7 +366,8 @@ fn procedure(
     inputs: &[Expr],
     outputs: &[Path],
 ) -> Result<Option<List<Put>>, NoMemory>
-    ensures { IfOk result (λ changes. option_map (λ puts. all_changed puts view.entry.now.now.now) changes ≡ call_of (scope_in site.entry.now) f inputs.now outputs.now (view_in view.entry.now)) }
+    ensures { IfOk result (λ changes. option_map (λ puts. all_changed puts view.entry.now.now.now) changes
+        ≡ call_of (scope_in site.entry.now) f inputs.now outputs.now (view_in view.entry.now)) }
 {
     let Some(targets) = targets(alloc, site, view, outputs)? else {
         return Ok(None);

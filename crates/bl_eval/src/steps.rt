@@ -175,7 +175,8 @@ pub fn declared_zero(
     now: &[Value],
     k: usize,
 ) -> Result<Option<List<Put>>, NoMemory>
-    ensures { IfOk result (λ changes. option_map (λ puts. all_changed puts now.now) changes ≡ option_and_then (λ var. put_at k [] (zero_of structs.now var.ty) now.now) (slice_get vars.now k)) }
+    ensures { IfOk result (λ changes. option_map (λ puts. all_changed puts now.now) changes
+        ≡ option_and_then (λ var. put_at k [] (zero_of structs.now var.ty) now.now) (slice_get vars.now k)) }
 {
     match element(vars, k) {
         None => Ok(None),

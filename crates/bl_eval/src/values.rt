@@ -80,7 +80,8 @@ pub fn act(
     before: &Values,
     s: &Stmt,
 ) -> Result<Did, NoMemory>
-    ensures outcome { IfOk result (λ did. left_values did now.new ≡ outcome_in_unit program.now.structs program.now.units now.old.unit s.now (view_of now.old before.now)) }
+    ensures outcome { IfOk result (λ did. left_values did now.new
+        ≡ outcome_in_unit program.now.structs program.now.units now.old.unit s.now (view_of now.old before.now)) }
     ensures unit { now.new.unit ≡ now.old.unit }
     ensures trap { IfOk result (λ did. did ≡ Did.Trap → now.new ≡ now.old) }
     ensures memory { OnErr result (now.new ≡ now.old) }

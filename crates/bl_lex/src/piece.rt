@@ -1,6 +1,7 @@
 //! What stands at a place of the text: a blank, a comment or a token.
 
-ghost use Rattle.std.specs.Prelude.{◌≡◌, ◌≢◌, ℕ, ◌+◌, ◌<◌, ◌≤◌, true, false, ◌↔◌, List, [], ◌∷◌, length, slice_get, slice_index, Some, IsTrue, MatchOption, MatchResult};
+ghost use Rattle.std.specs.Prelude.{◌≡◌, ◌≢◌, ℕ, ◌+◌, ◌<◌, ◌≤◌, true, false, ◌↔◌, List, [], ◌∷◌, length, slice_get, slice_index, Some, IsTrue};
+ghost use Rattle.std.specs.Prelude.{MatchOption, MatchResult};
 ghost use Rattle.bl_tree.specs.declared.place.Place.{Place};
 ghost use Rattle.bl_lex.specs.Spelling.{signs, is_blank, is_word_byte, begins_with_digit};
 ghost use Rattle.bl_lex.specs.Pieces.{slash, star, line_feed, OpensComment, ClosesComment, FractionAt, IsLineComment, IsBlockComment, IsWord, WordIs, IsSign};

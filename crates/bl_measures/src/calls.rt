@@ -2,7 +2,8 @@
 
 ghost use Rattle.std.specs.Prelude.{◌≡◌, ◌++◌, map, IfOk, OnOk};
 ghost use Rattle.bl_tree.specs.Reduce.{joined};
-ghost use Rattle.bl_measures.specs.Calls.{argument_calls, calls_in, calls_in_arm, calls_in_branch, calls_in_expr, calls_in_part, calls_in_path, calls_of, optional_calls, target_calls};
+ghost use Rattle.bl_measures.specs.Calls.{argument_calls, calls_in, calls_in_arm, calls_in_branch, calls_in_expr, calls_in_part, calls_in_path};
+ghost use Rattle.bl_measures.specs.Calls.{calls_of, optional_calls, target_calls};
 
 use bl_tree::tree::{Arm, Branch, Expr, ExprKind, Part, Path, Stmt, StmtKind, Unit};
 use bl_tree::{List, NoMemory};

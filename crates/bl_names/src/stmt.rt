@@ -2,7 +2,8 @@
 
 ghost use Rattle.std.specs.Prelude.{◌≡◌, IfOk, OnOk, Some, map, option_map};
 ghost use Rattle.bl_scopes.specs.Scopes.{enter};
-ghost use Rattle.bl_names.specs.Named.{arms_piece, block_piece, branches_piece, constant_piece, named_var, own_scope, piece_of_arm, piece_of_branch, piece_of_kind, stmt_piece};
+ghost use Rattle.bl_names.specs.Named.{arms_piece, block_piece, branches_piece, constant_piece, named_var, own_scope, piece_of_arm, piece_of_branch};
+ghost use Rattle.bl_names.specs.Named.{piece_of_kind, stmt_piece};
 ghost use Rattle.bl_names.specs.Naming.{named_expr, named_path, named_target, position};
 ghost use Rattle.bl_names.specs.inner.Past.{past, with_variable};
 

@@ -9,7 +9,8 @@ ghost use Rattle.bl_raw.specs.Starts.{all_starts as raw_starts};
 ghost use Rattle.bl_scopes.specs.Rules.{Passes};
 ghost use Rattle.bl_named.specs.Starts.{all_starts};
 ghost use Rattle.bl_names.specs.Named.{named_program};
-ghost use Rattle.bl_names_laws.specs.Keeps.{Keeps, all_names, body_apart, body_filled, body_shallow, fields_differ, fields_named, parameters_differ, variables_named};
+ghost use Rattle.bl_names_laws.specs.Keeps.{Keeps, all_names, body_apart, body_filled, body_shallow, fields_differ, fields_named, parameters_differ};
+ghost use Rattle.bl_names_laws.specs.Keeps.{variables_named};
 
 /// What a named tree keeps: names, filled lists, depth and the order of places follow from what its raw tree keeps, the rest from the
 /// rules on names.

@@ -10,7 +10,8 @@ ghost use Rattle.bl_syntax.specs.Grammar.{the};
 ghost use Rattle.bl_syntax.specs.Grammar as grammar;
 ghost use Rattle.bl_lex.specs.declared.sign.TheConstants.{OPEN_PAREN, CLOSE_PAREN, OPEN_BRACKET, CLOSE_BRACKET};
 ghost use Rattle.bl_parse.specs.At.{kind_at, span, SpellsName, Takes};
-ghost use Rattle.bl_parse.specs.Expressions.{expr, is_number, IsTruth, SpellsExpr, SpellsTarget, SpellsPart, SpellsParts, SpellsInputs, SpellsExprs, SpellsNone};
+ghost use Rattle.bl_parse.specs.Expressions.{expr, is_number, IsTruth, SpellsExpr, SpellsTarget, SpellsPart, SpellsParts, SpellsInputs, SpellsExprs};
+ghost use Rattle.bl_parse.specs.Expressions.{SpellsNone};
 ghost use Rattle.bl_parse.specs.Operators.{left_level, operator_classes, NoInfix, SpellsInfix, SpellsPrefix};
 ghost use Rattle.bl_parse.specs.inner.Reading.{accessing, next_among, just, operand, Awaits, AwaitsTail, KeepsTail, NoneNext, Turns};
 
@@ -141,7 +142,8 @@ fn one_cast(
     operand: RawExpr,
 ) -> Result<RawExpr, NoMemory>
     requires awaits { Awaits (just Part.Scalar) source.now.tokens.now at.old }
-    ensures spelled { IfOk result (λ e. (k : ℕ) → SpellsExpr source.now.text.now source.now.tokens.now 9 operand from k → Takes source.now.tokens.now (TokenKind.Word AS) k at.old → SpellsExpr source.now.text.now source.now.tokens.now 9 e from at.new) }
+    ensures spelled { IfOk result (λ e. (k : ℕ) → SpellsExpr source.now.text.now source.now.tokens.now 9 operand from k
+        → Takes source.now.tokens.now (TokenKind.Word AS) k at.old → SpellsExpr source.now.text.now source.now.tokens.now 9 e from at.new) }
     ensures follows { OnOk result (Turns (just Part.Scalar) source.now.tokens.now at.old [] at.new) }
     ensures next { OnOk result (at.new ≡ at.old + 1) }
 {

@@ -6,7 +6,8 @@ ghost use Rattle.bl_syntax.specs.Grammar.{the, views};
 ghost use Rattle.bl_syntax.specs.Grammar as grammar;
 ghost use Rattle.bl_syntax.specs.Expects.{Expects};
 ghost use Rattle.bl_parse.specs.inner.Reading.{just, Awaits, Turns};
-ghost use Rattle.bl_parse.specs.Programs.{SpellsItems, SpellsItem, SpellsStruct, SpellsFieldList, SpellsField, SpellsUnit, SpellsMark, SpellsUnitKind, SpellsParams, SpellsParamList, SpellsParam, SpellsOutputParams, SpellsResult};
+ghost use Rattle.bl_parse.specs.Programs.{SpellsItems, SpellsItem, SpellsStruct, SpellsFieldList, SpellsField, SpellsUnit, SpellsMark};
+ghost use Rattle.bl_parse.specs.Programs.{SpellsUnitKind, SpellsParams, SpellsParamList, SpellsParam, SpellsOutputParams, SpellsResult};
 
 use crate::name::name;
 use crate::parts::{constant, typing};

@@ -8,7 +8,8 @@ ghost use Rattle.bl_syntax.specs.Grammar.{the};
 ghost use Rattle.bl_syntax.specs.Grammar as grammar;
 ghost use Rattle.bl_parse.specs.At.{kind_at};
 ghost use Rattle.bl_parse.specs.inner.Reading.{next_among, just, Awaits, AwaitsFields, KeepsFields, NoneNext, Turns};
-ghost use Rattle.bl_parse.specs.Statements.{SpellsTyping, SpellsMaybeTyping, SpellsValue, SpellsInitial, SpellsConstant, SpellsFields, SpellsPath, SpellsPaths, SpellsOutputs};
+ghost use Rattle.bl_parse.specs.Statements.{SpellsTyping, SpellsMaybeTyping, SpellsValue, SpellsInitial, SpellsConstant, SpellsFields, SpellsPath};
+ghost use Rattle.bl_parse.specs.Statements.{SpellsPaths, SpellsOutputs};
 ghost use Rattle.bl_parse.specs.inner.Steps.{SpellsStarted};
 
 use crate::expr::read_expr;

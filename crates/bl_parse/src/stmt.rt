@@ -8,7 +8,8 @@ ghost use Rattle.bl_syntax.specs.Grammar.{the};
 ghost use Rattle.bl_syntax.specs.Grammar as grammar;
 ghost use Rattle.bl_parse.specs.At.{kind_at};
 ghost use Rattle.bl_parse.specs.inner.Reading.{just, Awaits, Turns};
-ghost use Rattle.bl_parse.specs.Statements.{SpellsBlock, SpellsStmt, SpellsKind, SpellsBranches, SpellsBranch, SpellsWeak, SpellsGuard, SpellsArms, SpellsArm, SpellsElse, begins_stmt, goes_on, leads_stmt, takes_value};
+ghost use Rattle.bl_parse.specs.Statements.{SpellsBlock, SpellsStmt, SpellsKind, SpellsBranches, SpellsBranch, SpellsWeak, SpellsGuard, SpellsArms};
+ghost use Rattle.bl_parse.specs.Statements.{SpellsArm, SpellsElse, begins_stmt, goes_on, leads_stmt, takes_value};
 
 use crate::expr::{read_expr, read_inputs, target_of};
 use crate::name::name;
@@ -401,7 +402,8 @@ fn branching(source: &Source, at: &mut usize) -> Result<RawStmtKind, NoMemory>
 fn arms(source: &Source, at: &mut usize) -> Result<List<RawArm>, NoMemory>
     requires awaits { Awaits (grammar.word IF ∷ the Part.Expr ∷ grammar.word THEN ∷ the Part.Block ∷ the Part.Elseifs ∷ []) source.now.tokens.now at.old }
     ensures spelled { IfOk result (λ arms. SpellsArms source.now.text.now source.now.tokens.now arms at.old at.new) }
-    ensures follows { OnOk result (Turns (grammar.word IF ∷ the Part.Expr ∷ grammar.word THEN ∷ the Part.Block ∷ the Part.Elseifs ∷ []) source.now.tokens.now at.old [] at.new) }
+    ensures follows { OnOk result (Turns (grammar.word IF ∷ the Part.Expr ∷ grammar.word THEN ∷ the Part.Block ∷ the Part.Elseifs ∷ []) source.now.tokens.now
+        at.old [] at.new) }
     ensures ahead { OnOk result (at.old < at.new) }
 {
     let mut arms = List::new(source.alloc);

@@ -2,7 +2,8 @@
 
 ghost use Rattle.std.specs.Prelude.{◌≡◌, ◌==◌, ◌||◌, ◌<◌, length, [], ◌∷◌, true, false, IfOk, OnOk, option_map};
 ghost use Rattle.csv.specs.Records.{fields_of};
-ghost use Rattle.csv.specs.Reading.{ReadRecord, Ready, default_config, error_kind, is_flexible, reader_config, reader_state, reader_trim, source_of, strip_bom, took_first};
+ghost use Rattle.csv.specs.Reading.{ReadRecord, Ready, default_config, error_kind, is_flexible, reader_config, reader_state, reader_trim, source_of};
+ghost use Rattle.csv.specs.Reading.{strip_bom, took_first};
 ghost use Rattle.csv.specs.declared.parser.State.TheVariants as st;
 ghost use Rattle.csv.specs.declared.reader.Trim.TheVariants as trim;
 ghost use Rattle.bl_rows.specs.Fields.{records_in};

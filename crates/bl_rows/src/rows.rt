@@ -1,9 +1,11 @@
 //! The reader of rows, fed with pieces of bytes.
 
-ghost use Rattle.std.specs.Prelude.{◌≡◌, ◌≢◌, ◌++◌, ◌+◌, ◌<◌, ◌≤◌, ◌^◌, [], true, false, Option, Some, None, List, ℕ, length, position, ◌==◌, ◌∷◌, MatchOption, Ok, Err, IfOk, IfErr, IfSome, OnOk, OnErr};
+ghost use Rattle.std.specs.Prelude.{◌≡◌, ◌≢◌, ◌++◌, ◌+◌, ◌<◌, ◌≤◌, ◌^◌, [], true, false, Option, Some, None, List, ℕ, length, position, ◌==◌, ◌∷◌};
+ghost use Rattle.std.specs.Prelude.{MatchOption, Ok, Err, IfOk, IfErr, IfSome, OnOk, OnErr};
 ghost use Rattle.bl_rows.specs.Lines.{has_feed};
 ghost use Rattle.bl_rows.specs.Fields.{records_in};
-ghost use Rattle.bl_rows.specs.Reading.{begun, read_on, rows_in, rows_after, rows_of, fault_in, answer_of, overrun, over_limit as past_limit_at, Unrefused, Front, led_by_rows, judged, after, fault_at_end, next_tick as tick_after, verdict as verdict_on};
+ghost use Rattle.bl_rows.specs.Reading.{begun, read_on, rows_in, rows_after, rows_of, fault_in, answer_of, overrun, over_limit as past_limit_at};
+ghost use Rattle.bl_rows.specs.Reading.{Unrefused, Front, led_by_rows, judged, after, fault_at_end, next_tick as tick_after, verdict as verdict_on};
 ghost use Rattle.bl_rows.specs.inner.Steps.{fault_of, rows_by};
 
 use crate::fault::RowFault;
@@ -71,8 +73,10 @@ impl Rows {
         ensures rows { Unrefused result (into.new.items ≡ into.old.items ++ rows_in self.old piece.now) }
         ensures front { Front into.old.items into.new.items (rows_in self.old piece.now) }
         ensures state { OnOk result (self.new ≡ read_on self.old piece.now) }
-        ensures any_cut { (rest : List ℕ) → Unrefused result (rows_after self.old (piece.now ++ rest) ≡ led_by_rows (rows_in self.old piece.now) (rows_after self.new rest)) }
-        ensures joins { OnOk result ((more : List ℕ) → (rows_in self.old (piece.now ++ more) ≡ rows_in self.old piece.now ++ rows_in self.new more) × (fault_in self.old (piece.now ++ more) ≡ fault_in self.new more)) }
+        ensures any_cut { (rest : List ℕ) → Unrefused result
+            (rows_after self.old (piece.now ++ rest) ≡ led_by_rows (rows_in self.old piece.now) (rows_after self.new rest)) }
+        ensures joins { OnOk result ((more : List ℕ) → (rows_in self.old (piece.now ++ more) ≡ rows_in self.old piece.now ++ rows_in self.new more)
+            × (fault_in self.old (piece.now ++ more) ≡ fault_in self.new more)) }
         ensures stop { IfErr result (λ fault. self.new.stop ≡ Some fault) }
         ensures repeats { IfSome self.old.stop (λ fault. (result ≡ Err fault) × (self.new ≡ self.old)) }
         ensures short { length self.new.line ≤ 65536 }

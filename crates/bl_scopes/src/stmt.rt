@@ -4,7 +4,8 @@
 ghost use Rattle.std.specs.Prelude.{◌≡◌, OnOk, ◌++◌, ◌∷◌, [], map};
 ghost use Rattle.bl_tree.specs.Reduce.{joined};
 ghost use Rattle.bl_scopes.specs.inner.Judged.{judged_by};
-ghost use Rattle.bl_scopes.specs.Marks.{argument_marks, constant_marks, declared_after, expr_marks, in_scope, marks_of_arm, marks_of_branch, optional, path_marks, stmt_marks, target_marks, type_marks, uses};
+ghost use Rattle.bl_scopes.specs.Marks.{argument_marks, constant_marks, declared_after, expr_marks, in_scope, marks_of_arm, marks_of_branch};
+ghost use Rattle.bl_scopes.specs.Marks.{optional, path_marks, stmt_marks, target_marks, type_marks, uses};
 
 use crate::expr::{expr, exprs, optional_expr, optional_path, optional_ty, paths, target};
 use crate::judge::Judge;

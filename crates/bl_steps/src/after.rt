@@ -119,7 +119,8 @@ fn in_guard<'a>(
     path: &[usize],
     answer: bool,
 ) -> Result<Node<'a>, NoMemory>
-    ensures { IfOk result (λ made. control_of made ≡ (if is_nil (control_of inner.now) then Nil else Guard (located s.now) Body stood (after_by (setting_in w.now) i (control_of inner.now) path.now answer))) }
+    ensures { IfOk result (λ made. control_of made ≡ (if is_nil (control_of inner.now) then Nil else Guard (located s.now) Body stood
+        (after_by (setting_in w.now) i (control_of inner.now) path.now answer))) }
 {
     if is_nil(inner) {
         return Ok(Node::Nil);
@@ -139,7 +140,8 @@ fn in_run<'a>(
     path: &[usize],
     answer: bool,
 ) -> Result<Node<'a>, NoMemory>
-    ensures { IfOk result (λ made. control_of made ≡ (if is_nil (control_of inner.now) then Nil else Run (located s.now) callee Body stood (after_by (setting_in w.now) callee (control_of inner.now) path.now answer))) }
+    ensures { IfOk result (λ made. control_of made ≡ (if is_nil (control_of inner.now) then Nil else Run (located s.now) callee Body stood
+        (after_by (setting_in w.now) callee (control_of inner.now) path.now answer))) }
 {
     if is_nil(inner) {
         return Ok(Node::Nil);

@@ -95,7 +95,8 @@ fn choice<'a>(
 
 /// The same of an `if` of which some arms are passed.
 pub fn further<'a>(alloc: Global, left: &Arms<'a>, answer: bool) -> Result<Node<'a>, NoMemory>
-    ensures { IfOk result (λ made. control_of made ≡ (if answer then do_all (arm_items (left_of_arms left.now) left.now.arm.now) else passing (left_of_arms left.now) left.now.arms.now left.now.other.now)) }
+    ensures { IfOk result (λ made. control_of made ≡ (if answer then do_all (arm_items (left_of_arms left.now) left.now.arm.now) else passing
+        (left_of_arms left.now) left.now.arms.now left.now.other.now)) }
 {
     if answer {
         return inner(alloc, &left.position, left.passed, &left.arm.body);
@@ -259,7 +260,8 @@ pub fn checks<'a>(
     body: &Node<'a>,
     answer: bool,
 ) -> Result<Node<'a>, NoMemory>
-    ensures { IfOk result (λ made. (i : ℕ) → control_of made ≡ first_after (checks i (located s.now) stood (control_of body.now) (kind_of (located s.now))) answer) }
+    ensures { IfOk result (λ made. (i : ℕ) → control_of made
+        ≡ first_after (checks i (located s.now) stood (control_of body.now) (kind_of (located s.now))) answer) }
 {
     match &s.stmt.what {
         StmtKind::When(guard, _, first) => {
@@ -281,7 +283,8 @@ pub fn copying<'a>(
     stood: bool,
     body: &Node<'a>,
 ) -> Result<Node<'a>, NoMemory>
-    ensures { IfOk result (λ made. (i : ℕ) (d : Bool) → control_of made ≡ first_after (copying i (located s.now) callee stood (control_of body.now) (kind_of (located s.now))) d) }
+    ensures { IfOk result (λ made. (i : ℕ) (d : Bool) → control_of made
+        ≡ first_after (copying i (located s.now) callee stood (control_of body.now) (kind_of (located s.now))) d) }
 {
     match &s.stmt.what {
         StmtKind::Run(_, _, _, _) => {

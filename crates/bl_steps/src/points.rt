@@ -25,7 +25,8 @@ pub fn points<'a>(
     path: &[usize],
     into: &mut List<Point<'a>>,
 ) -> Result<(), NoMemory>
-    ensures { OnOk result (map spot_of into.new ≡ map spot_of into.old ++ map (spot_below (setting_in w.now) path.now) (points (setting_in w.now) i (control_of node.now))) }
+    ensures { OnOk result (map spot_of into.new ≡ map spot_of into.old ++ map (spot_below (setting_in w.now) path.now)
+        (points (setting_in w.now) i (control_of node.now))) }
 {
     let act = own(alloc, w, i, node)?;
     push(alloc, w, path, act, into)?;
@@ -53,7 +54,8 @@ fn branch_points<'a>(
     path: &[usize],
     into: &mut List<Point<'a>>,
 ) -> Result<(), NoMemory>
-    ensures { OnOk result (map spot_of into.new ≡ map spot_of into.old ++ map (spot_below (setting_in w.now) path.now) (branch_points (setting_in w.now) i (branches_of (map seen_of branches.now)))) }
+    ensures { OnOk result (map spot_of into.new ≡ map spot_of into.old ++ map (spot_below (setting_in w.now) path.now)
+        (branch_points (setting_in w.now) i (branches_of (map seen_of branches.now)))) }
 {
     let writers = Writers::of(alloc, w, i, branches)?;
     for k in 0..branches.len() {

@@ -62,7 +62,8 @@ impl Writers {
     }
 
     fn insert(&mut self, key: (u32, usize), writes: List<Write>) -> Result<(), NoMemory>
-        ensures { OnOk result ((q : _) → lookup (is_at (key_cmp q)) self.new ≡ cond (is_at (key_cmp key) q) (Some writes) (lookup (is_at (key_cmp q)) self.old)) }
+        ensures { OnOk result ((q : _) → lookup (is_at (key_cmp q)) self.new
+            ≡ cond (is_at (key_cmp key) q) (Some writes) (lookup (is_at (key_cmp q)) self.old)) }
     {
         match self.by_variable.insert(key, writes) {
             Ok(_) => Ok(()),
@@ -97,7 +98,8 @@ impl Writers {
         k: usize,
         branch: &Branch,
     ) -> Result<(), NoMemory>
-        ensures { OnOk result ((at : Location) → kept self.new at ≡ kept self.old at ++ of_variable at (writes_by k (homes_seen (setting_in w.now) i (seen_of branch.now)))) }
+        ensures { OnOk result ((at : Location) → kept self.new at
+            ≡ kept self.old at ++ of_variable at (writes_by k (homes_seen (setting_in w.now) i (seen_of branch.now)))) }
     {
         let mut paths = List::new(alloc);
         pending(alloc, &branch.tree, &mut paths)?;
@@ -108,7 +110,8 @@ impl Writers {
 
     /// What each of the branches may still write.
     pub fn of(alloc: Global, w: &Setting, i: u32, branches: &[Branch]) -> Result<Writers, NoMemory>
-        ensures { IfOk result (λ writers. (at : Location) → kept writers at ≡ of_variable at (all_writes (map (homes_seen (setting_in w.now) i) (map seen_of branches.now)))) }
+        ensures { IfOk result (λ writers. (at : Location) → kept writers at
+            ≡ of_variable at (all_writes (map (homes_seen (setting_in w.now) i) (map seen_of branches.now)))) }
     {
         let mut writers = Writers::new(alloc);
         for k in 0..branches.len() {

@@ -48,7 +48,8 @@ impl Callees {
 
     /// Adds an instance that comes behind those that are there.
     fn add(&mut self, origin: &Option<Origin>, k: u32) -> Result<(), NoMemory>
-        ensures { OnOk result ((caller : _) → (place : _) → begun self.new caller place ≡ option_or (begun self.old caller place) (cond (begins_at caller place origin.now) (Some k) None)) }
+        ensures { OnOk result ((caller : _) → (place : _) → begun self.new caller place
+            ≡ option_or (begun self.old caller place) (cond (begins_at caller place origin.now) (Some k) None)) }
     {
         let Some(origin) = origin else {
             return Ok(());

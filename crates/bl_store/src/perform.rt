@@ -142,7 +142,8 @@ fn outcome(
     i: u32,
     s: &Stmt,
 ) -> Result<Option<List<Value>>, NoMemory>
-    ensures { IfOk result (λ left. left ≡ outcome_by (setting_in w.now) (glimpse (roots_of_act (stmt_kind s.now)) (setting_in w.now) (store_of frames.now) i) s.now) }
+    ensures { IfOk result (λ left. left ≡ outcome_by (setting_in w.now) (glimpse (roots_of_act (stmt_kind s.now)) (setting_in w.now) (store_of frames.now) i)
+        s.now) }
 {
     let asked = named_by_act(alloc, &s.what)?;
     let seen = look(alloc, w, frames, i, &asked)?;
@@ -159,7 +160,8 @@ fn writes(
     paths: &[Static],
 ) -> Result<Did, NoMemory>
     requires { Covers (roots_of_act (stmt_kind s.now)) paths.now }
-    ensures { Carried (option_map (λ values. put_written (setting_in w.now) i values paths.now (store_of frames.old.items)) (outcome_there (setting_in w.now) (store_of frames.old.items) i s.now)) (store_of frames.old.items) (store_of frames.new.items) result }
+    ensures { Carried (option_map (λ values. put_written (setting_in w.now) i values paths.now (store_of frames.old.items))
+        (outcome_there (setting_in w.now) (store_of frames.old.items) i s.now)) (store_of frames.old.items) (store_of frames.new.items) result }
 {
     let Some(variables) = outcome(alloc, w, frames, i, s)? else {
         return Ok(Did::Trap);
@@ -211,7 +213,8 @@ fn declare(
     at: &Home,
     value: Value,
 ) -> Result<Did, NoMemory>
-    ensures { Carried (Some (with_frame i (remember k) (put (location_of at.now) value (store_of frames.old.items)))) (store_of frames.old.items) (store_of frames.new.items) result }
+    ensures { Carried (Some (with_frame i (remember k) (put (location_of at.now) value (store_of frames.old.items)))) (store_of frames.old.items)
+        (store_of frames.new.items) result }
 {
     let after = after_put(alloc, frames, at, &value, i, k)?;
     put(frames, at, value);
@@ -228,7 +231,8 @@ fn declares(
     k: u32,
 ) -> Result<Did, NoMemory>
     requires { Covers (roots_of_act (stmt_kind s.now)) (whole k ∷ []) }
-    ensures { Carried (option_map (λ values. with_frame i (remember k) (put_written (setting_in w.now) i values (whole k ∷ []) (store_of frames.old.items))) (outcome_there (setting_in w.now) (store_of frames.old.items) i s.now)) (store_of frames.old.items) (store_of frames.new.items) result }
+    ensures { Carried (option_map (λ values. with_frame i (remember k) (put_written (setting_in w.now) i values (whole k ∷ []) (store_of frames.old.items)))
+        (outcome_there (setting_in w.now) (store_of frames.old.items) i s.now)) (store_of frames.old.items) (store_of frames.new.items) result }
 {
     let Some(variables) = outcome(alloc, w, frames, i, s)? else {
         return Ok(Did::Trap);
@@ -264,7 +268,8 @@ fn returns(
     i: u32,
     e: &Expr,
 ) -> Result<Did, NoMemory>
-    ensures { Carried (option_map (λ value. with_frame i (with_result value) (store_of frames.old.items)) (value_there (setting_in w.now) (store_of frames.old.items) i e.now)) (store_of frames.old.items) (store_of frames.new.items) result }
+    ensures { Carried (option_map (λ value. with_frame i (with_result value) (store_of frames.old.items))
+        (value_there (setting_in w.now) (store_of frames.old.items) i e.now)) (store_of frames.old.items) (store_of frames.new.items) result }
 {
     match value_there(alloc, w, frames, i, e)? {
         Got::Trap => Ok(Did::Trap),
@@ -291,7 +296,8 @@ fn acts(
     i: u32,
     s: &Stmt,
 ) -> Result<Did, NoMemory>
-    ensures { Carried (acted_kind (setting_in w.now) i s.now (stmt_kind s.now) (store_of frames.old.items)) (store_of frames.old.items) (store_of frames.new.items) result }
+    ensures { Carried (acted_kind (setting_in w.now) i s.now (stmt_kind s.now) (store_of frames.old.items)) (store_of frames.old.items)
+        (store_of frames.new.items) result }
 {
     match &s.what {
         StmtKind::Return(None) => Ok(Did::Done),
@@ -324,7 +330,8 @@ fn copies(
     callee: u32,
     inputs: &[Expr],
 ) -> Result<Did, NoMemory>
-    ensures { Carried (option_map (λ values. with_frame callee (with_inputs values) (store_of frames.old.items)) (values_there (setting_in w.now) (store_of frames.old.items) i inputs.now)) (store_of frames.old.items) (store_of frames.new.items) result }
+    ensures { Carried (option_map (λ values. with_frame callee (with_inputs values) (store_of frames.old.items))
+        (values_there (setting_in w.now) (store_of frames.old.items) i inputs.now)) (store_of frames.old.items) (store_of frames.new.items) result }
 {
     match values_there(alloc, w, frames, i, inputs)? {
         None => Ok(Did::Trap),
@@ -349,7 +356,8 @@ fn gives(
     callee: u32,
     target: &Option<Path>,
 ) -> Result<Did, NoMemory>
-    ensures { Carried (Some (given_to (setting_in w.now) i target.now (result_at (store_of frames.old.items) callee) (store_of frames.old.items))) (store_of frames.old.items) (store_of frames.new.items) result }
+    ensures { Carried (Some (given_to (setting_in w.now) i target.now (result_at (store_of frames.old.items) callee) (store_of frames.old.items)))
+        (store_of frames.old.items) (store_of frames.new.items) result }
 {
     let Some(path) = target else {
         return Ok(Did::Done);

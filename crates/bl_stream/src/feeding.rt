@@ -17,8 +17,11 @@ pub fn feed(
     ensures rows { OnOk result (rows.new.items ≡ rows.old.items ++ rows_in reader.old piece.now) }
     ensures state { IfOk result (λ fault. fault ≡ None → reader.new ≡ read_on reader.old piece.now) }
     ensures short { length reader.new.line ≤ 65536 }
-    ensures any_cut { OnOk result ((rest : List ℕ) → rows_after reader.old (piece.now ++ rest) ≡ led_by_rows (rows_in reader.old piece.now) (rows_after reader.new rest)) }
-    ensures joins { IfOk result (λ fault. fault ≡ None → (more : List ℕ) → (rows_in reader.old (piece.now ++ more) ≡ rows_in reader.old piece.now ++ rows_in reader.new more) × (fault_in reader.old (piece.now ++ more) ≡ fault_in reader.new more)) }
+    ensures any_cut { OnOk result ((rest : List ℕ) → rows_after reader.old (piece.now ++ rest)
+        ≡ led_by_rows (rows_in reader.old piece.now) (rows_after reader.new rest)) }
+    ensures joins { IfOk result (λ fault. fault ≡ None → (more : List ℕ)
+        → (rows_in reader.old (piece.now ++ more) ≡ rows_in reader.old piece.now ++ rows_in reader.new more)
+        × (fault_in reader.old (piece.now ++ more) ≡ fault_in reader.new more)) }
     ensures stop { IfOk result (λ fault. IfSome fault (λ f. reader.new.stop ≡ Some f)) }
     ensures unended { reader.new.ended ≡ false }
 {

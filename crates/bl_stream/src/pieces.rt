@@ -25,7 +25,8 @@ pub fn run_all<F: Files, O: Sink>(
     out: &mut O,
 ) -> Finish
     requires begun { (before : Option (List ℕ)) × Stands runner.old.parts [] before pace.old runner.old (O.held out.old) }
-    ensures streamed { (before : Option (List ℕ)) → Stands runner.old.parts [] before pace.old runner.old (O.held out.old) → Streamed (course_of runner.old.parts) (F.left files.old name.now) before (O.held out.new) result }
+    ensures streamed { (before : Option (List ℕ)) → Stands runner.old.parts [] before pace.old runner.old (O.held out.old)
+        → Streamed (course_of runner.old.parts) (F.left files.old name.now) before (O.held out.new) result }
     ensures read_fault { result ≡ Finish.ReadFault → Rose (F.faults files.old name.now) (F.faults files.new name.now) }
     ensures write_fault { result ≡ Finish.WriteFault → Rose (O.faults out.old) (O.faults out.new) }
     ensures others { KeepsOthers name.now (F.left files.old) (F.left files.new) }
@@ -54,7 +55,8 @@ fn run_next<F: Files, O: Sink>(
     requires room { 0 < length room.old }
     requires going { (all before : Option (List ℕ)) × Going runner.old.parts all before pace.old runner.old (F.left files.old name.now) (O.held out.old) }
     ensures further { result ≡ Left.Open → reach pace.old.reader < reach pace.new.reader }
-    ensures left { (all before : Option (List ℕ)) → Going runner.old.parts all before pace.old runner.old (F.left files.old name.now) (O.held out.old) → GoesOrEnds runner.old.parts all before pace.new runner.new (F.left files.new name.now) (O.held out.new) result }
+    ensures left { (all before : Option (List ℕ)) → Going runner.old.parts all before pace.old runner.old (F.left files.old name.now) (O.held out.old)
+        → GoesOrEnds runner.old.parts all before pace.new runner.new (F.left files.new name.now) (O.held out.new) result }
     ensures read_fault { result ≡ Left.Over Finish.ReadFault → Rose (F.faults files.old name.now) (F.faults files.new name.now) }
     ensures write_fault { result ≡ Left.Over Finish.WriteFault → Rose (O.faults out.old) (O.faults out.new) }
     ensures others { KeepsOthers name.now (F.left files.old) (F.left files.new) }
@@ -79,7 +81,8 @@ fn run_piece<O: Sink>(
 ) -> Left
     requires stands { (read : List ℕ) × (before : Option (List ℕ)) × Stands runner.old.parts read before pace.old runner.old (O.held out.old) }
     ensures further { result ≡ Left.Open → reach pace.old.reader + length piece.now ≤ reach pace.new.reader }
-    ensures left { (read : List ℕ) (before : Option (List ℕ)) → Stands runner.old.parts read before pace.old runner.old (O.held out.old) → Leaves runner.old.parts (read ++ piece.now) before pace.new runner.new (O.held out.new) result }
+    ensures left { (read : List ℕ) (before : Option (List ℕ)) → Stands runner.old.parts read before pace.old runner.old (O.held out.old)
+        → Leaves runner.old.parts (read ++ piece.now) before pace.new runner.new (O.held out.new) result }
     ensures write_fault { result ≡ Left.Over Finish.WriteFault → Rose (O.faults out.old) (O.faults out.new) }
     ensures out_count { O.faults out.old ≤ O.faults out.new }
 {
@@ -96,7 +99,8 @@ fn run_piece<O: Sink>(
 // Runs the row of a last line without a line feed, where there is one.
 fn run_last<O: Sink>(alloc: Global, runner: &mut Runner, pace: &mut Pace, out: &mut O) -> Finish
     requires stands { (read : List ℕ) × (before : Option (List ℕ)) × Stands runner.old.parts read before pace.old runner.old (O.held out.old) }
-    ensures ends { (read : List ℕ) (before : Option (List ℕ)) → Stands runner.old.parts read before pace.old runner.old (O.held out.old) → Ends (course_of runner.old.parts) read before (O.held out.new) result }
+    ensures ends { (read : List ℕ) (before : Option (List ℕ)) → Stands runner.old.parts read before pace.old runner.old (O.held out.old)
+        → Ends (course_of runner.old.parts) read before (O.held out.new) result }
     ensures write_fault { result ≡ Finish.WriteFault → Rose (O.faults out.old) (O.faults out.new) }
     ensures out_count { O.faults out.old ≤ O.faults out.new }
 {

@@ -26,7 +26,8 @@ pub fn run(
     requires long { length ticks.old.outputs ≡ length (outputs_of runner.old.parts) }
     requires few { ticks.old.done + length rows.now ≤ 1000000 }
     ensures last { IfOk result (λ last. last ≡ (trace_from runner.old rows.now).last) }
-    ensures text { OnOk result (text.new.items ≡ text.old.items ++ text_from (ticks.old.done + 1) (outputs_of runner.old.parts) (trace_from runner.old rows.now)) }
+    ensures text { OnOk result (text.new.items ≡ text.old.items ++ text_from (ticks.old.done + 1) (outputs_of runner.old.parts)
+        (trace_from runner.old rows.now)) }
     ensures after { IfOk result (λ last. last ≡ Last.Open → runner.new ≡ after_rows runner.old rows.now) }
     ensures live { IfOk result (λ last. last ≡ Last.Open → runner.new.live ≡ true) }
     ensures done { IfOk result (λ last. last ≡ Last.Open → ticks.new.done ≡ ticks.old.done + length rows.now) }
@@ -54,7 +55,8 @@ fn tick(
     requires long { length ticks.old.outputs ≡ length (outputs_of runner.old.parts) }
     requires few { ticks.old.done < 1000000 }
     ensures last { IfOk result (λ last. last ≡ (trace_from runner.old (ins.now ∷ [])).last) }
-    ensures text { OnOk result (text.new.items ≡ text.old.items ++ text_from (ticks.old.done + 1) (outputs_of runner.old.parts) (trace_from runner.old (ins.now ∷ []))) }
+    ensures text { OnOk result (text.new.items ≡ text.old.items ++ text_from (ticks.old.done + 1) (outputs_of runner.old.parts)
+        (trace_from runner.old (ins.now ∷ []))) }
     ensures after { OnOk result (runner.new ≡ after_tick runner.old ins.now) }
     ensures live { IfOk result (λ last. last ≡ Last.Open → runner.new.live ≡ true) }
     ensures done { OnOk result (ticks.new.done ≡ ticks.old.done + 1) }

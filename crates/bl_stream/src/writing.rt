@@ -29,12 +29,14 @@ pub fn run_and_write<O: Sink>(
     requires long { length ticks.old.outputs ≡ length (outputs_of runner.old.parts) }
     requires few { ticks.old.done + length rows.now ≤ 1000000 }
     ensures last { IfOk result (λ last. last ≡ (trace_from runner.old rows.now).last) }
-    ensures all { OnOk result (Appends (O.held out.old) (text_from (ticks.old.done + 1) (outputs_of runner.old.parts) (trace_from runner.old rows.now)) (O.held out.new)) }
+    ensures all { OnOk result (Appends (O.held out.old) (text_from (ticks.old.done + 1) (outputs_of runner.old.parts) (trace_from runner.old rows.now))
+        (O.held out.new)) }
     ensures after { IfOk result (λ last. last ≡ Last.Open → runner.new ≡ after_rows runner.old rows.now) }
     ensures live { IfOk result (λ last. last ≡ Last.Open → runner.new.live ≡ true) }
     ensures done { IfOk result (λ last. last ≡ Last.Open → ticks.new.done ≡ ticks.old.done + length rows.now) }
     ensures long { OnOk result (length ticks.new.outputs ≡ length (outputs_of runner.old.parts)) }
-    ensures front { OnErr result (AppendsFront (O.held out.old) (text_from (ticks.old.done + 1) (outputs_of runner.old.parts) (trace_from runner.old rows.now)) (O.held out.new)) }
+    ensures front { OnErr result (AppendsFront (O.held out.old)
+        (text_from (ticks.old.done + 1) (outputs_of runner.old.parts) (trace_from runner.old rows.now)) (O.held out.new)) }
     ensures why { IfErr result (λ f. (f ≡ Finish.WriteFault) ⊎ (f ≡ Finish.NoMemory)) }
     ensures failed { IsErrOf result Finish.WriteFault → Rose (O.faults out.old) (O.faults out.new) }
     ensures count { O.faults out.old ≤ O.faults out.new }

@@ -2,7 +2,8 @@
 
 ghost use Rattle.std.specs.Prelude.{◌≡◌, ℕ, ◌<◌, List, length, MatchOption};
 ghost use Rattle.bl_tree.specs.declared.token.Token.{Token};
-ghost use Rattle.bl_syntax.specs.Depth.{is_one_of, opening_words, scalar_words, counted_words, counted_signs, blocks_after, is_counted, is_last, is_inner_word, begins_run, run_with};
+ghost use Rattle.bl_syntax.specs.Depth.{is_one_of, opening_words, scalar_words, counted_words, counted_signs, blocks_after, is_counted, is_last};
+ghost use Rattle.bl_syntax.specs.Depth.{is_inner_word, begins_run, run_with};
 ghost use Rattle.bl_syntax.specs.Rules.{FailsDepth, PassesDepth};
 
 use bl_lex::{sign, word};

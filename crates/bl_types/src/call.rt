@@ -6,7 +6,8 @@ ghost use Rattle.bl_tree.specs.declared.tree.StmtKind.TheVariants.{Call as ACall
 ghost use Rattle.bl_tree.specs.Typing.{may_change};
 ghost use Rattle.bl_types.specs.Expressions.{stepped, to_field};
 ghost use Rattle.bl_types.specs.Failures.{noted};
-ghost use Rattle.bl_types.specs.Statements.{all_lent, arguments, call_walked, counted, has_result, immutable_variable, lent, lent_as, misplaced, no_result, paths_failures, paths_made, result_type, run_target, run_walked, targeted_path};
+ghost use Rattle.bl_types.specs.Statements.{all_lent, arguments, call_walked, counted, has_result, immutable_variable, lent, lent_as, misplaced};
+ghost use Rattle.bl_types.specs.Statements.{no_result, paths_failures, paths_made, result_type, run_target, run_walked, targeted_path};
 
 use crate::environment::Environment;
 use crate::expr::{arguments, miscounted};
@@ -291,8 +292,10 @@ pub fn run(
     env: &Environment,
     notes: &mut Notes,
 ) -> Result<Option<StmtKind>, NoMemory>
-    ensures made { IfOk result (λ made. made ≡ (run_walked at a (run_target env.now (slice_get env.now.units a) place.now) (arguments env.now name a inputs.now outputs.now) env.now).made) }
-    ensures notes { OnOk result (notes.new ≡ noted notes.old (run_walked at a (run_target env.now (slice_get env.now.units a) place.now) (arguments env.now name a inputs.now outputs.now) env.now).failures) }
+    ensures made { IfOk result (λ made. made ≡ (run_walked at a (run_target env.now (slice_get env.now.units a) place.now)
+        (arguments env.now name a inputs.now outputs.now) env.now).made) }
+    ensures notes { OnOk result (notes.new ≡ noted notes.old
+        (run_walked at a (run_target env.now (slice_get env.now.units a) place.now) (arguments env.now name a inputs.now outputs.now) env.now).failures) }
 {
     placed(at, env.kind, notes);
     let target = run_target(alloc, place, element(&env.units, a as usize), env, notes)?;

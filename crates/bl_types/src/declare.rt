@@ -4,7 +4,9 @@
 ghost use Rattle.std.specs.Prelude.{◌≡◌, IfOk, OnOk, map, option_and_then, option_map};
 ghost use Rattle.bl_tree.specs.Types.{scalar_in};
 ghost use Rattle.bl_tree.specs.Reduce.{joined};
-ghost use Rattle.bl_types.specs.Declarations.{after_constant, after_parameter, after_parameters, after_struct, after_variable, constant_failures, constant_of, expr_of_form, field_lengths, field_of, initial, is_parameter, not_folded, optional_lengths, type_of_form, with_variable};
+ghost use Rattle.bl_types.specs.Declarations.{after_constant, after_parameter, after_parameters, after_struct, after_variable, constant_failures};
+ghost use Rattle.bl_types.specs.Declarations.{constant_of, expr_of_form, field_lengths, field_of, initial, is_parameter, not_folded};
+ghost use Rattle.bl_types.specs.Declarations.{optional_lengths, type_of_form, with_variable};
 ghost use Rattle.bl_types.specs.Failures.{noted};
 ghost use Rattle.bl_types.specs.Folded.{folded, number_or_zero};
 ghost use Rattle.bl_types.specs.inner.States.{after};

@@ -5,7 +5,8 @@ ghost use Rattle.std.specs.Prelude.{◌≡◌, IfOk, OnOk, Some, is_some, map, n
 ghost use Rattle.bl_tree.specs.declared.scalar.Scalar.TheVariants.{Bool as OfBool};
 ghost use Rattle.bl_tree.specs.Numbers.{number_of};
 ghost use Rattle.bl_tree.specs.Types.{scalar};
-ghost use Rattle.bl_types.specs.Expressions.{all_failures, all_made, call_form, called, fitted, fitting, in_context, judged, miscounted, misnamed, previous_fits, previous_formed, reading, step_of, stepped, targeted, written_number};
+ghost use Rattle.bl_types.specs.Expressions.{all_failures, all_made, call_form, called, fitted, fitting, in_context, judged, miscounted, misnamed};
+ghost use Rattle.bl_types.specs.Expressions.{previous_fits, previous_formed, reading, step_of, stepped, targeted, written_number};
 ghost use Rattle.bl_types.specs.Failures.{noted};
 ghost use Rattle.bl_types.specs.Settled.{literal};
 ghost use Rattle.bl_types.specs.declared.form.Form.TheVariants.{Of};

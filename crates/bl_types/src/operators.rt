@@ -4,7 +4,8 @@
 ghost use Rattle.std.specs.Prelude.{◌≡◌, IfOk, OnOk, Some, option_and_then};
 ghost use Rattle.bl_tree.specs.Types.{scalar, scalar_in};
 ghost use Rattle.bl_tree.specs.Typing.{cast_type, one_type};
-ghost use Rattle.bl_types.specs.Expressions.{beside, cast, cast_formed, closed_form, fitting, formed_as, one_formed, open_two, operands_made, settled_two, two_formed, unwanted, type_of_two};
+ghost use Rattle.bl_types.specs.Expressions.{beside, cast, cast_formed, closed_form, fitting, formed_as, one_formed, open_two, operands_made};
+ghost use Rattle.bl_types.specs.Expressions.{settled_two, two_formed, unwanted, type_of_two};
 ghost use Rattle.bl_types.specs.Failures.{noted};
 ghost use Rattle.bl_types.specs.Settled.{int32};
 ghost use Rattle.bl_types.specs.declared.form.Form.TheVariants.{Of, Open};

@@ -5,7 +5,8 @@ ghost use Rattle.std.specs.Prelude.{◌≡◌, map};
 ghost use Rattle.bl_tree.specs.Reduce.{all_of, joined};
 ghost use Rattle.bl_tree.specs.Returns.{last_of};
 ghost use Rattle.bl_types.specs.Failures.{noted};
-ghost use Rattle.bl_types.specs.Returns.{activity_returns, arm_surely_returns, function_returns, is_return, return_failures, stray, strays, strays_in, strays_in_arm, strays_in_branch, surely_returns};
+ghost use Rattle.bl_types.specs.Returns.{activity_returns, arm_surely_returns, function_returns, is_return, return_failures, stray, strays};
+ghost use Rattle.bl_types.specs.Returns.{strays_in, strays_in_arm, strays_in_branch, surely_returns};
 
 use crate::failure::Notes;
 use bl_named::item::NamedUnit;

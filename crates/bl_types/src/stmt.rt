@@ -5,7 +5,8 @@ ghost use Rattle.std.specs.Prelude.{◌≡◌, ◌++◌, IfOk, OnOk, Some, map, 
 ghost use Rattle.bl_tree.specs.declared.tree.StmtKind.TheVariants.{Await, Return, Until, When, While};
 ghost use Rattle.bl_types.specs.Expressions.{targeted};
 ghost use Rattle.bl_types.specs.inner.States.{passed};
-ghost use Rattle.bl_types.specs.Statements.{arm_of, arm_walked, assign, branch_walked, condition, declare, in_order, kind_walked, misplaced, returned, stmt_made, walked_block, walked_stmt};
+ghost use Rattle.bl_types.specs.Statements.{arm_of, arm_walked, assign, branch_walked, condition, declare, in_order, kind_walked, misplaced};
+ghost use Rattle.bl_types.specs.Statements.{returned, stmt_made, walked_block, walked_stmt};
 
 use crate::call::{call, changes, placed, run};
 use crate::declare::{constant, declare, initial, variable};
@@ -103,7 +104,8 @@ fn declared(
     state: &mut State,
 ) -> Result<Option<StmtKind>, NoMemory>
     ensures made { IfOk result (λ made. made ≡ (declare k (Some var.now) e.now state.old.env).made) }
-    ensures state { OnOk result (state.new ≡ passed state.old (declare k (Some var.now) e.now state.old.env).env (declare k (Some var.now) e.now state.old.env).failures) }
+    ensures state { OnOk result (state.new ≡ passed state.old (declare k (Some var.now) e.now state.old.env).env
+        (declare k (Some var.now) e.now state.old.env).failures) }
 {
     match e {
         Some(e) => {
@@ -128,7 +130,8 @@ fn assign(
     state: &mut State,
 ) -> Result<Option<StmtKind>, NoMemory>
     ensures made { IfOk result (λ made. made ≡ (assign place.now (targeted state.old.env place.now) e.now state.old.env).made) }
-    ensures state { OnOk result (state.new ≡ passed state.old (assign place.now (targeted state.old.env place.now) e.now state.old.env).env (assign place.now (targeted state.old.env place.now) e.now state.old.env).failures) }
+    ensures state { OnOk result (state.new ≡ passed state.old (assign place.now (targeted state.old.env place.now) e.now state.old.env).env
+        (assign place.now (targeted state.old.env place.now) e.now state.old.env).failures) }
 {
     let found = target(alloc, place, &state.env, &mut state.notes)?;
     let made = match found {
@@ -211,7 +214,8 @@ fn kind(
     state: &mut State,
 ) -> Result<Option<StmtKind>, NoMemory>
     ensures made { IfOk result (λ made. made ≡ (kind_walked source.entry.constants.now source.entry.vars.now s.now state.old.env).made) }
-    ensures state { OnOk result (state.new ≡ passed state.old (kind_walked source.entry.constants.now source.entry.vars.now s.now state.old.env).env (kind_walked source.entry.constants.now source.entry.vars.now s.now state.old.env).failures) }
+    ensures state { OnOk result (state.new ≡ passed state.old (kind_walked source.entry.constants.now source.entry.vars.now s.now state.old.env).env
+        (kind_walked source.entry.constants.now source.entry.vars.now s.now state.old.env).failures) }
 {
     match &s.what {
         NamedStmtKind::Declare(k, e) => match element(source.vars, *k as usize) {
@@ -301,7 +305,8 @@ fn statement(
     state: &mut State,
 ) -> Result<Option<Stmt>, NoMemory>
     ensures made { IfOk result (λ made. made ≡ (walked_stmt source.entry.constants.now source.entry.vars.now s.now state.old.env).made) }
-    ensures state { OnOk result (state.new ≡ passed state.old (walked_stmt source.entry.constants.now source.entry.vars.now s.now state.old.env).env (walked_stmt source.entry.constants.now source.entry.vars.now s.now state.old.env).failures) }
+    ensures state { OnOk result (state.new ≡ passed state.old (walked_stmt source.entry.constants.now source.entry.vars.now s.now state.old.env).env
+        (walked_stmt source.entry.constants.now source.entry.vars.now s.now state.old.env).failures) }
 {
     let what = kind(alloc, s, source, state)?;
     Ok(stmt_made(s.place, what))
@@ -315,7 +320,8 @@ pub fn block(
     state: &mut State,
 ) -> Result<List<Stmt>, NoMemory>
     ensures made { IfOk result (λ made. made ≡ (walked_block source.entry.constants.now source.entry.vars.now body.now state.old.env).made) }
-    ensures state { OnOk result (state.new ≡ passed state.old (walked_block source.entry.constants.now source.entry.vars.now body.now state.old.env).env (walked_block source.entry.constants.now source.entry.vars.now body.now state.old.env).failures) }
+    ensures state { OnOk result (state.new ≡ passed state.old (walked_block source.entry.constants.now source.entry.vars.now body.now state.old.env).env
+        (walked_block source.entry.constants.now source.entry.vars.now body.now state.old.env).failures) }
 {
     let mut made = List::new(alloc);
     for s in body {
@@ -342,7 +348,8 @@ fn arm(
     state: &mut State,
 ) -> Result<Option<Arm>, NoMemory>
     ensures made { IfOk result (λ made. made ≡ (arm_walked source.entry.constants.now source.entry.vars.now arm.now state.old.env).made) }
-    ensures state { OnOk result (state.new ≡ passed state.old (arm_walked source.entry.constants.now source.entry.vars.now arm.now state.old.env).env (arm_walked source.entry.constants.now source.entry.vars.now arm.now state.old.env).failures) }
+    ensures state { OnOk result (state.new ≡ passed state.old (arm_walked source.entry.constants.now source.entry.vars.now arm.now state.old.env).env
+        (arm_walked source.entry.constants.now source.entry.vars.now arm.now state.old.env).failures) }
 {
     let test = condition(alloc, &arm.test, state)?;
     let body = block(alloc, &arm.body, source, state)?;
@@ -357,7 +364,9 @@ fn arms(
     state: &mut State,
 ) -> Result<List<Arm>, NoMemory>
     ensures made { IfOk result (λ made. made ≡ (in_order (map (arm_walked source.entry.constants.now source.entry.vars.now) all.now) state.old.env).made) }
-    ensures state { OnOk result (state.new ≡ passed state.old (in_order (map (arm_walked source.entry.constants.now source.entry.vars.now) all.now) state.old.env).env (in_order (map (arm_walked source.entry.constants.now source.entry.vars.now) all.now) state.old.env).failures) }
+    ensures state { OnOk result (state.new ≡ passed state.old
+        (in_order (map (arm_walked source.entry.constants.now source.entry.vars.now) all.now) state.old.env).env
+        (in_order (map (arm_walked source.entry.constants.now source.entry.vars.now) all.now) state.old.env).failures) }
 {
     let mut made = List::new(alloc);
     for one in all {
@@ -375,7 +384,8 @@ fn branch(
     state: &mut State,
 ) -> Result<Option<Branch>, NoMemory>
     ensures made { IfOk result (λ made. made ≡ (branch_walked source.entry.constants.now source.entry.vars.now branch.now state.old.env).made) }
-    ensures state { OnOk result (state.new ≡ passed state.old (branch_walked source.entry.constants.now source.entry.vars.now branch.now state.old.env).env (branch_walked source.entry.constants.now source.entry.vars.now branch.now state.old.env).failures) }
+    ensures state { OnOk result (state.new ≡ passed state.old (branch_walked source.entry.constants.now source.entry.vars.now branch.now state.old.env).env
+        (branch_walked source.entry.constants.now source.entry.vars.now branch.now state.old.env).failures) }
 {
     let body = block(alloc, &branch.body, source, state)?;
     Ok(Some(Branch {
@@ -392,7 +402,9 @@ fn branches(
     state: &mut State,
 ) -> Result<List<Branch>, NoMemory>
     ensures made { IfOk result (λ made. made ≡ (in_order (map (branch_walked source.entry.constants.now source.entry.vars.now) all.now) state.old.env).made) }
-    ensures state { OnOk result (state.new ≡ passed state.old (in_order (map (branch_walked source.entry.constants.now source.entry.vars.now) all.now) state.old.env).env (in_order (map (branch_walked source.entry.constants.now source.entry.vars.now) all.now) state.old.env).failures) }
+    ensures state { OnOk result (state.new ≡ passed state.old
+        (in_order (map (branch_walked source.entry.constants.now source.entry.vars.now) all.now) state.old.env).env
+        (in_order (map (branch_walked source.entry.constants.now source.entry.vars.now) all.now) state.old.env).failures) }
 {
     let mut made = List::new(alloc);
     for one in all {

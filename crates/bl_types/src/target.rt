@@ -3,7 +3,8 @@
 
 ghost use Rattle.std.specs.Prelude.{◌≡◌, IfOk, OnOk, Some, option_and_then, option_map};
 ghost use Rattle.bl_tree.specs.Types.{scalar_in};
-ghost use Rattle.bl_types.specs.Expressions.{as_index, constant_found, element_found, field_among, field_in, path_found, to_element, to_field, type_of_constant, type_of_variable, value_of_constant, whole_or_unfit};
+ghost use Rattle.bl_types.specs.Expressions.{as_index, constant_found, element_found, field_among, field_in, path_found, to_element, to_field};
+ghost use Rattle.bl_types.specs.Expressions.{type_of_constant, type_of_variable, value_of_constant, whole_or_unfit};
 ghost use Rattle.bl_tree.specs.declared.tree.Part.TheVariants.{Field as ToField};
 ghost use Rattle.bl_tree.specs.declared.tree.Ty.{out-Ty};
 ghost use Rattle.bl_types.specs.Failures.{noted};

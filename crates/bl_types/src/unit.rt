@@ -8,7 +8,8 @@ ghost use Rattle.bl_tree.specs.Types.{scalar_in};
 ghost use Rattle.bl_types.specs.Failures.{noted, unless};
 ghost use Rattle.bl_types.specs.Returns.{return_failures};
 ghost use Rattle.bl_types.specs.inner.States.{after, passed};
-ghost use Rattle.bl_types.specs.Units.{after_head, after_unit, can_be_driven, drives, entries, entry_among, entered, is_scalar, left, result_of, var_of, vars_of};
+ghost use Rattle.bl_types.specs.Units.{after_head, after_unit, can_be_driven, drives, entries, entry_among, entered, is_scalar, left, result_of};
+ghost use Rattle.bl_types.specs.Units.{var_of, vars_of};
 
 use crate::declare::{is_parameter, parameters};
 use crate::environment::{Environment, State, Variable};

@@ -6,7 +6,8 @@ ghost use Rattle.bl_tree.specs.Reduce.{all_of};
 ghost use Rattle.bl_ctext.specs.Names.{is_name, is_callee};
 ghost use Rattle.bl_ctext.specs.Spelling.{with_commas, operator_sign, expr_tokens, step_tokens, arg_tokens};
 ghost use Rattle.bl_ctext.specs.Spellable.{has_any, is_c_operator, spells_expr, spells_step, spells_arg};
-ghost use Rattle.bl_cparse.specs.inner.Partial.{called_front, use_tokens, place_front, held_tokens, on_stack, partial_tokens, spells_called, spells_use, spells_root, spells_held, spells_partial, work_left};
+ghost use Rattle.bl_cparse.specs.inner.Partial.{called_front, use_tokens, place_front, held_tokens, on_stack, partial_tokens, spells_called};
+ghost use Rattle.bl_cparse.specs.inner.Partial.{spells_use, spells_root, spells_held, spells_partial, work_left};
 ghost use Rattle.bl_ctext.specs.Token.{Token};
 ghost use Rattle.bl_csyntax.specs.declared.grammar.Part.{Part};
 ghost use Rattle.bl_csyntax.specs.Pieces.{first_of};
@@ -388,7 +389,8 @@ fn prelude_called(r: &mut Reader<'_>, outer: Vec<Held>, room: u32) -> Result<Par
     requires outer { IsTrue (all_of (map spells_held outer.items)) }
     ensures read { IfOk result (λ p. (on_stack outer.items ++ r.old ≡ partial_tokens p ++ r.new) × IsTrue (spells_partial p)) }
     ensures less { IfOk result (λ p. 2 * length r.new + work_left p.next < 2 * length r.old) }
-    ensures follows { 1 ≤ room → GoesOn result (prelude_function ∷ sign (codes "(") ∷ part Part.Args (room - 1) ∷ sign (codes ")") ∷ behind outer.items) r.old r.new }
+    ensures follows { 1 ≤ room → GoesOn result (prelude_function ∷ sign (codes "(") ∷ part Part.Args (room - 1) ∷ sign (codes ")") ∷ behind outer.items) r.old
+        r.new }
 {
     let name = name::callee(r)?;
     let p = call(r, outer, name, room)?;
@@ -471,7 +473,8 @@ fn argument(r: &mut Reader<'_>, outer: Vec<Held>, call: CallFront) -> Result<Par
 fn address(r: &mut Reader<'_>, outer: Vec<Held>, call: CallFront) -> Result<Partial, CRefusal>
     requires outer { IsTrue (all_of (map spells_held outer.items)) }
     requires call { IsTrue (spells_called call) }
-    ensures read { IfOk result (λ p. (on_stack outer.items ++ (called_front call ++ codes "&" ∷ r.old) ≡ partial_tokens p ++ r.new) × IsTrue (spells_partial p)) }
+    ensures read { IfOk result (λ p. (on_stack outer.items ++ (called_front call ++ codes "&" ∷ r.old) ≡ partial_tokens p ++ r.new)
+        × IsTrue (spells_partial p)) }
     ensures less { IfOk result (λ p. 2 * length r.new + work_left p.next < 2 * length r.old + 3) }
     ensures follows { GoesOn result (part Part.Place call.room ∷ part Part.ArgRest call.room ∷ sign (codes ")") ∷ behind outer.items) r.old r.new }
 {
@@ -495,7 +498,8 @@ fn step(
     requires outer { IsTrue (all_of (map spells_held outer.items)) }
     requires of { IsTrue (spells_use of) }
     requires place { IsTrue (spells_root place) }
-    ensures read { IfOk result (λ p. (on_stack outer.items ++ ((use_tokens of ++ place_front place) ++ r.old) ≡ partial_tokens p ++ r.new) × IsTrue (spells_partial p)) }
+    ensures read { IfOk result (λ p. (on_stack outer.items ++ ((use_tokens of ++ place_front place) ++ r.old) ≡ partial_tokens p ++ r.new)
+        × IsTrue (spells_partial p)) }
     ensures less { IfOk result (λ p. 2 * length r.new + work_left p.next < 2 * length r.old + 1) }
     ensures follows { GoesOn result (part Part.Steps place.room ∷ (use_wanted of ++ behind outer.items)) r.old r.new }
 {
@@ -517,7 +521,8 @@ fn stepped(alloc: Global, place: PlaceFront, step: CStep) -> Result<PlaceFront, 
     requires place { IsTrue (spells_root place) }
     requires step { IsTrue (spells_step step) }
     ensures read { IfOk result (λ longer. (place_front longer ≡ place_front place ++ step_tokens step) × IsTrue (spells_root longer)) }
-    ensures awaits { (rest : List Wanted) (pieces : List Token) → Expects (part Part.Steps place.room ∷ rest) pieces → MatchResult result (λ longer. Expects (part Part.Steps longer.room ∷ rest) pieces) WantsMemory }
+    ensures awaits { (rest : List Wanted) (pieces : List Token) → Expects (part Part.Steps place.room ∷ rest) pieces
+        → MatchResult result (λ longer. Expects (part Part.Steps longer.room ∷ rest) pieces) WantsMemory }
 {
     let mut place = place;
     room::push(alloc, &mut place.steps, step, 1)?;
@@ -536,9 +541,11 @@ fn indexed(
     requires of { IsTrue (spells_use of) }
     requires place { IsTrue (spells_root place) }
     requires member { IsTrue (is_name member) }
-    ensures read { IfOk result (λ p. (on_stack outer.items ++ ((use_tokens of ++ place_front place) ++ codes "." ∷ member ∷ r.old) ≡ partial_tokens p ++ r.new) × IsTrue (spells_partial p)) }
+    ensures read { IfOk result (λ p. (on_stack outer.items ++ ((use_tokens of ++ place_front place) ++ codes "." ∷ member ∷ r.old)
+        ≡ partial_tokens p ++ r.new) × IsTrue (spells_partial p)) }
     ensures less { IfOk result (λ p. 2 * length r.new + work_left p.next < 2 * length r.old) }
-    ensures follows { IsTrue (matches (Class.exactly (codes "[")) (first_of r.old)) → GoesOn result (part Part.Index place.room ∷ part Part.Steps place.room ∷ (use_wanted of ++ behind outer.items)) r.old r.new }
+    ensures follows { IsTrue (matches (Class.exactly (codes "[")) (first_of r.old))
+        → GoesOn result (part Part.Index place.room ∷ part Part.Steps place.room ∷ (use_wanted of ++ behind outer.items)) r.old r.new }
 {
     if place.room < 2 {
         return Err(r.refusal());
@@ -565,7 +572,8 @@ fn placed(
     requires outer { IsTrue (all_of (map spells_held outer.items)) }
     requires of { IsTrue (spells_use of) }
     requires place { IsTrue (spells_root place) }
-    ensures read { IfOk result (λ p. (on_stack outer.items ++ ((use_tokens of ++ place_front place) ++ r.old) ≡ partial_tokens p ++ r.new) × IsTrue (spells_partial p)) }
+    ensures read { IfOk result (λ p. (on_stack outer.items ++ ((use_tokens of ++ place_front place) ++ r.old) ≡ partial_tokens p ++ r.new)
+        × IsTrue (spells_partial p)) }
     ensures less { IfOk result (λ p. 2 * length r.new + work_left p.next < 2 * length r.old + 1) }
     ensures follows { GoesOn result (use_wanted of ++ behind outer.items) r.old r.new }
 {
@@ -592,7 +600,8 @@ fn argued(
     requires outer { IsTrue (all_of (map spells_held outer.items)) }
     requires call { IsTrue (spells_called call) }
     requires arg { IsTrue (spells_arg arg) }
-    ensures read { IfOk result (λ p. (on_stack outer.items ++ (called_front call ++ (arg_tokens arg ++ r.old)) ≡ partial_tokens p ++ r.new) × IsTrue (spells_partial p)) }
+    ensures read { IfOk result (λ p. (on_stack outer.items ++ (called_front call ++ (arg_tokens arg ++ r.old)) ≡ partial_tokens p ++ r.new)
+        × IsTrue (spells_partial p)) }
     ensures less { IfOk result (λ p. 2 * length r.new + work_left p.next < 2 * length r.old) }
     ensures follows { GoesOn result (part Part.ArgRest call.room ∷ sign (codes ")") ∷ behind outer.items) r.old r.new }
 {
@@ -610,7 +619,8 @@ fn with_argument(alloc: Global, call: CallFront, arg: CArg) -> Result<CallFront,
     requires arg { IsTrue (spells_arg arg) }
     ensures tokens { IfOk result (λ more. more.name ∷ codes "(" ∷ with_commas (map arg_tokens more.args) ≡ called_front call ++ arg_tokens arg) }
     ensures spells { IfOk result (λ more. IsTrue (spells_called more) × IsTrue (has_any more.args)) }
-    ensures awaits { (rest : List Wanted) (pieces : List Token) → Expects (part Part.ArgRest call.room ∷ rest) pieces → MatchResult result (λ more. Expects (part Part.ArgRest more.room ∷ rest) pieces) WantsMemory }
+    ensures awaits { (rest : List Wanted) (pieces : List Token) → Expects (part Part.ArgRest call.room ∷ rest) pieces
+        → MatchResult result (λ more. Expects (part Part.ArgRest more.room ∷ rest) pieces) WantsMemory }
 {
     let mut call = call;
     room::push(alloc, &mut call.args, arg, 2)?;
@@ -645,7 +655,8 @@ fn closed_held(
     requires outer { IsTrue (all_of (map spells_held outer.items)) }
     requires held { IsTrue (spells_held held) }
     requires whole { IsTrue (spells_expr e) }
-    ensures read { IfOk result (λ p. (on_stack outer.items ++ (held_tokens held ++ (expr_tokens e ++ r.old)) ≡ partial_tokens p ++ r.new) × IsTrue (spells_partial p)) }
+    ensures read { IfOk result (λ p. (on_stack outer.items ++ (held_tokens held ++ (expr_tokens e ++ r.old)) ≡ partial_tokens p ++ r.new)
+        × IsTrue (spells_partial p)) }
     ensures less { IfOk result (λ p. 2 * length r.new + work_left p.next < 2 * length r.old) }
     ensures follows { GoesOn result (held_wanted held ++ behind outer.items) r.old r.new }
 {
@@ -678,7 +689,8 @@ fn closed_held(
 fn negated(r: &mut Reader<'_>, outer: Vec<Held>, e: CExpr) -> Result<Partial, CRefusal>
     requires outer { IsTrue (all_of (map spells_held outer.items)) }
     requires whole { IsTrue (spells_expr e) }
-    ensures read { IfOk result (λ p. (on_stack outer.items ++ codes "(" ∷ codes "!" ∷ (expr_tokens e ++ r.old) ≡ partial_tokens p ++ r.new) × IsTrue (spells_partial p)) }
+    ensures read { IfOk result (λ p. (on_stack outer.items ++ codes "(" ∷ codes "!" ∷ (expr_tokens e ++ r.old) ≡ partial_tokens p ++ r.new)
+        × IsTrue (spells_partial p)) }
     ensures less { IfOk result (λ p. 2 * length r.new + work_left p.next < 2 * length r.old) }
     ensures follows { GoesOn result (sign (codes ")") ∷ behind outer.items) r.old r.new }
 {
@@ -701,7 +713,9 @@ fn compared(r: &mut Reader<'_>, outer: Vec<Held>, operands: Operands) -> Result<
     requires op { IsTrue (is_c_operator operands.op) }
     requires left { IsTrue (spells_expr operands.left) }
     requires right { IsTrue (spells_expr operands.right) }
-    ensures read { IfOk result (λ p. (on_stack outer.items ++ codes "(" ∷ (expr_tokens operands.left ++ operator_sign operands.op ∷ (expr_tokens operands.right ++ r.old)) ≡ partial_tokens p ++ r.new) × IsTrue (spells_partial p)) }
+    ensures read { IfOk result (λ p. (on_stack outer.items ++ codes
+        "(" ∷ (expr_tokens operands.left ++ operator_sign operands.op ∷ (expr_tokens operands.right ++ r.old)) ≡ partial_tokens p ++ r.new)
+        × IsTrue (spells_partial p)) }
     ensures less { IfOk result (λ p. 2 * length r.new + work_left p.next < 2 * length r.old) }
     ensures follows { GoesOn result (sign (codes ")") ∷ behind outer.items) r.old r.new }
 {
@@ -722,9 +736,11 @@ fn closed_index(
     requires outer { IsTrue (all_of (map spells_held outer.items)) }
     requires front { IsTrue (spells_held (Held.Index front)) }
     requires whole { IsTrue (spells_expr e) }
-    ensures read { IfOk result (λ p. (on_stack outer.items ++ (held_tokens (Held.Index front) ++ (expr_tokens e ++ r.old)) ≡ partial_tokens p ++ r.new) × IsTrue (spells_partial p)) }
+    ensures read { IfOk result (λ p. (on_stack outer.items ++ (held_tokens (Held.Index front) ++ (expr_tokens e ++ r.old)) ≡ partial_tokens p ++ r.new)
+        × IsTrue (spells_partial p)) }
     ensures less { IfOk result (λ p. 2 * length r.new + work_left p.next < 2 * length r.old) }
-    ensures follows { GoesOn result (sign (codes ",") ∷ elements ∷ sign (codes ")") ∷ sign (codes "]") ∷ part Part.Steps front.place.room ∷ (use_wanted front.of ++ behind outer.items)) r.old r.new }
+    ensures follows { GoesOn result (sign (codes ",") ∷ elements ∷ sign (codes ")") ∷ sign (codes "]") ∷ part Part.Steps front.place.room
+        ∷ (use_wanted front.of ++ behind outer.items)) r.old r.new }
 {
     let length = place::index_length(r)?;
     let index = make::index(front.signed, e, length);

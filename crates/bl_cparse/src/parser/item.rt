@@ -3,8 +3,10 @@
 ghost use Rattle.std.specs.Prelude.{◌≡◌, ℕ, ◌-◌, List, [], ◌∷◌, ◌++◌, map, codes, IsTrue, IfOk, MatchResult, ⊤};
 ghost use Rattle.bl_tree.specs.Reduce.{all_of, joined};
 ghost use Rattle.bl_ctext.specs.Names.{is_name, is_function_name};
-ghost use Rattle.bl_ctext.specs.Spelling.{with_commas, type_tokens, length_tokens, member_tokens, struct_tokens, star_if, param_tokens, local_tokens, returned_tokens, static_if, func_front, func_rest, func_tokens, stmt_tokens};
-ghost use Rattle.bl_ctext.specs.Spellable.{has_any, spells_type, spells_length, spells_member, spells_struct, spells_param, spells_local, spells_returned, spells_func, spells_stmt};
+ghost use Rattle.bl_ctext.specs.Spelling.{with_commas, type_tokens, length_tokens, member_tokens, struct_tokens, star_if, param_tokens, local_tokens};
+ghost use Rattle.bl_ctext.specs.Spelling.{returned_tokens, static_if, func_front, func_rest, func_tokens, stmt_tokens};
+ghost use Rattle.bl_ctext.specs.Spellable.{has_any, spells_type, spells_length, spells_member, spells_struct, spells_param, spells_local};
+ghost use Rattle.bl_ctext.specs.Spellable.{spells_returned, spells_func, spells_stmt};
 ghost use Rattle.bl_csyntax.specs.declared.grammar.Part.{Part};
 ghost use Rattle.bl_csyntax.specs.Pieces.{first_of};
 ghost use Rattle.bl_csyntax.specs.Grammar.{Wanted, most_open};
@@ -66,7 +68,8 @@ fn structure(r: &mut Reader<'_>) -> Result<CStruct, CRefusal>
 /// One member or more.
 fn members(r: &mut Reader<'_>) -> Result<List<CMember>, CRefusal>
     ensures read { IfOk result (λ all. (r.old ≡ joined (map member_tokens all) ++ r.new) × (IsTrue (has_any all) × IsTrue (all_of (map spells_member all)))) }
-    ensures follows { (room : ℕ) (rest : List Wanted) → Expects (part Part.Member room ∷ part Part.Members room ∷ sign (codes "}") ∷ rest) r.old → MatchResult result (λ _. Expects (sign (codes "}") ∷ rest) r.new) WantsMemory }
+    ensures follows { (room : ℕ) (rest : List Wanted) → Expects (part Part.Member room ∷ part Part.Members room ∷ sign (codes "}") ∷ rest) r.old
+        → MatchResult result (λ _. Expects (sign (codes "}") ∷ rest) r.new) WantsMemory }
 {
     let mut members = List::new(r.alloc());
     members.push(member(r)?)?;
@@ -138,7 +141,8 @@ struct FuncBody {
 
 /// The locals and statements, and the brace behind them.
 fn func_body(r: &mut Reader<'_>) -> Result<FuncBody, CRefusal>
-    ensures read { IfOk result (λ f. (r.old ≡ joined (map local_tokens f.locals) ++ (joined (map stmt_tokens f.body) ++ codes "}" ∷ []) ++ r.new) × (IsTrue (all_of (map spells_local f.locals)) × IsTrue (all_of (map spells_stmt f.body)))) }
+    ensures read { IfOk result (λ f. (r.old ≡ joined (map local_tokens f.locals) ++ (joined (map stmt_tokens f.body) ++ codes "}" ∷ []) ++ r.new)
+        × (IsTrue (all_of (map spells_local f.locals)) × IsTrue (all_of (map spells_stmt f.body)))) }
     ensures follows { (room : ℕ) → Follows result (part Part.Locals room ∷ part Part.Stmts (most_open - 1) ∷ sign (codes "}") ∷ []) [] r.old r.new }
 {
     let locals = locals(r)?;
@@ -156,8 +160,10 @@ struct FuncHead {
 }
 
 fn func_head(r: &mut Reader<'_>) -> Result<FuncHead, CRefusal>
-    ensures read { IfOk result (λ h. (r.old ≡ static_if h.fixed ++ (returned_tokens h.result ++ (h.name ∷ codes "(" ∷ [])) ++ r.new) × (IsTrue (spells_returned h.result) × IsTrue (is_function_name h.name))) }
-    ensures follows { (room : ℕ) → Follows result (part Part.Func room ∷ []) (part Part.Params (room - 1) ∷ sign (codes ")") ∷ sign (codes "{") ∷ part Part.Locals (room - 1) ∷ part Part.Stmts (room - 1) ∷ sign (codes "}") ∷ []) r.old r.new }
+    ensures read { IfOk result (λ h. (r.old ≡ static_if h.fixed ++ (returned_tokens h.result ++ (h.name ∷ codes "(" ∷ [])) ++ r.new)
+        × (IsTrue (spells_returned h.result) × IsTrue (is_function_name h.name))) }
+    ensures follows { (room : ℕ) → Follows result (part Part.Func room ∷ []) (part Part.Params (room - 1) ∷ sign (codes ")")
+        ∷ sign (codes "{") ∷ part Part.Locals (room - 1) ∷ part Part.Stmts (room - 1) ∷ sign (codes "}") ∷ []) r.old r.new }
 {
     let fixed = fixed(r);
     let result = returned(r)?;
@@ -191,7 +197,8 @@ fn returned(r: &mut Reader<'_>) -> Result<Option<Scalar>, CRefusal>
 /// The parameters before a `)`.
 fn params(r: &mut Reader<'_>) -> Result<List<CParam>, CRefusal>
     ensures read { IfOk result (λ all. (r.old ≡ with_commas (map param_tokens all) ++ r.new) × IsTrue (all_of (map spells_param all))) }
-    ensures follows { (room : ℕ) (rest : List Wanted) → Expects (part Part.Params room ∷ sign (codes ")") ∷ rest) r.old → MatchResult result (λ _. Expects (sign (codes ")") ∷ rest) r.new) WantsMemory }
+    ensures follows { (room : ℕ) (rest : List Wanted) → Expects (part Part.Params room ∷ sign (codes ")") ∷ rest) r.old
+        → MatchResult result (λ _. Expects (sign (codes ")") ∷ rest) r.new) WantsMemory }
 {
     let mut params = List::new(r.alloc());
     if r.sees(")") {
@@ -263,7 +270,8 @@ fn local(r: &mut Reader<'_>) -> Result<CLocal, CRefusal>
 /// A local whose type is a struct, behind its `struct`.
 fn struct_local(r: &mut Reader<'_>) -> Result<CLocal, CRefusal>
     ensures read { IfOk result (λ x. (codes "struct" ∷ r.old ≡ local_tokens x ++ r.new) × IsTrue (spells_local x)) }
-    ensures follows { (room : ℕ) → Follows result (part Part.StructName room ∷ name_of ∷ sign (codes "=") ∷ sign (codes "{") ∷ sign (codes "0") ∷ sign (codes "}") ∷ sign (codes ";") ∷ []) [] r.old r.new }
+    ensures follows { (room : ℕ) → Follows result (part Part.StructName room ∷ name_of ∷ sign (codes "=")
+        ∷ sign (codes "{") ∷ sign (codes "0") ∷ sign (codes "}") ∷ sign (codes ";") ∷ []) [] r.old r.new }
 {
     let of = name::struct_name(r)?;
     let name = name::name(r)?;

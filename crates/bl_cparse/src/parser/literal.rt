@@ -1,6 +1,7 @@
 //! Words of types, signs of operators, numbers and literals.
 
-ghost use Rattle.std.specs.Prelude.{◌≡◌, ◌≤◌, ◌<◌, ℕ, ◌+◌, ◌*◌, false, List, [], ◌∷◌, ◌++◌, codes, length, IsTrue, IsNone, IfOk, IfSome, OnOk, MatchOption, MatchResult};
+ghost use Rattle.std.specs.Prelude.{◌≡◌, ◌≤◌, ◌<◌, ℕ, ◌+◌, ◌*◌, false, List, [], ◌∷◌, ◌++◌, codes, length, IsTrue, IsNone, IfOk, IfSome, OnOk};
+ghost use Rattle.std.specs.Prelude.{MatchOption, MatchResult};
 ghost use Rattle.bl_grammar.specs.declared.symbol.Symbol.{Symbol};
 ghost use Rattle.std.specs.Fmt.{decimal};
 ghost use Rattle.bl_tree.specs.declared.scalar.Scalar.{Scalar};
@@ -16,7 +17,8 @@ ghost use Rattle.bl_csyntax.specs.Tables.{has};
 ghost use Rattle.bl_csyntax.specs.Expects.{Expects};
 ghost use Rattle.bl_csyntax.specs.Follow.{constant_starts};
 ghost use Rattle.bl_cparse.specs.inner.Parts.{MaybeKind};
-ghost use Rattle.bl_cparse.specs.Reading.{sign, part, scalar_type, operator, signed_starts, unsigned_starts, least_starts, literal_starts, by_width, exactly_one, Follows, WantsMemory};
+ghost use Rattle.bl_cparse.specs.Reading.{sign, part, scalar_type, operator, signed_starts, unsigned_starts, least_starts, literal_starts, by_width};
+ghost use Rattle.bl_cparse.specs.Reading.{exactly_one, Follows, WantsMemory};
 
 use crate::make;
 use crate::reader::Reader;
@@ -224,7 +226,8 @@ pub fn number(r: &mut Reader<'_>, low: u64, high: u64) -> Result<u64, CRefusal>
 /// The digits of a constant in their parentheses.
 fn constant(r: &mut Reader<'_>, low: u64, high: u64) -> Result<u64, CRefusal>
     ensures read { IfOk result (λ n. (r.old ≡ codes "(" ∷ decimal n ∷ codes ")" ∷ r.new) × ((low ≤ n) × (n ≤ high))) }
-    ensures follows { (of : Digits) → least of ≡ low → bound of ≡ high + 1 → Follows result (sign (codes "(") ∷ Symbol.Terminal (Class.number of) ∷ sign (codes ")") ∷ []) [] r.old r.new }
+    ensures follows { (of : Digits) → least of ≡ low → bound of ≡ high + 1
+        → Follows result (sign (codes "(") ∷ Symbol.Terminal (Class.number of) ∷ sign (codes ")") ∷ []) [] r.old r.new }
 {
     r.take("(")?;
     let n = number(r, low, high)?;
@@ -236,7 +239,8 @@ fn constant(r: &mut Reader<'_>, low: u64, high: u64) -> Result<u64, CRefusal>
 pub fn literal(r: &mut Reader<'_>) -> Result<Option<CExprKind>, CRefusal>
     ensures read { IfOk result (λ found. MaybeKind r.old r.new found) }
     ensures shorter { IfOk result (λ found. IfSome found (λ what. length r.new < length r.old)) }
-    ensures follows { (room : ℕ) (rest : List Wanted) → Expects (part Part.Simple room ∷ rest) r.old → MatchResult result (λ found. MatchOption found (has literal_starts (first_of r.old) ≡ false) (λ _. Expects rest r.new)) WantsMemory }
+    ensures follows { (room : ℕ) (rest : List Wanted) → Expects (part Part.Simple room ∷ rest) r.old
+        → MatchResult result (λ found. MatchOption found (has literal_starts (first_of r.old) ≡ false) (λ _. Expects rest r.new)) WantsMemory }
 {
     if r.eat("true") {
         return Ok(Some(make::literal(Scalar::Bool, 1)));
@@ -256,7 +260,8 @@ pub fn literal(r: &mut Reader<'_>) -> Result<Option<CExprKind>, CRefusal>
 fn bracketed_constant(r: &mut Reader<'_>) -> Result<Option<CExprKind>, CRefusal>
     ensures read { IfOk result (λ found. MaybeKind r.old r.new found) }
     ensures shorter { IfOk result (λ found. IfSome found (λ what. length r.new < length r.old)) }
-    ensures follows { (room : ℕ) (rest : List Wanted) → Expects (part Part.Simple room ∷ rest) r.old → MatchResult result (λ found. MatchOption found (has constant_starts (first_of r.old) ≡ false) (λ _. Expects rest r.new)) WantsMemory }
+    ensures follows { (room : ℕ) (rest : List Wanted) → Expects (part Part.Simple room ∷ rest) r.old
+        → MatchResult result (λ found. MatchOption found (has constant_starts (first_of r.old) ≡ false) (λ _. Expects rest r.new)) WantsMemory }
 {
     if let Some(width) = signed_of(r.piece()) {
         r.skip();

@@ -58,7 +58,8 @@ pub fn callee(r: &mut Reader<'_>) -> Result<Text, CRefusal>
 
 pub fn turn_name(r: &mut Reader<'_>) -> Result<Text, CRefusal>
     ensures read { IfOk result (λ found. (r.old ≡ found ∷ r.new) × IsTrue (is_turn_name found)) }
-    ensures follows { (room : ℕ) (rest : List Wanted) → Expects (part Part.Turns room ∷ rest) r.old → MatchResult result (λ turn. Expects (behind_turn turn room ++ rest) r.new) WantsMemory }
+    ensures follows { (room : ℕ) (rest : List Wanted) → Expects (part Part.Turns room ∷ rest) r.old
+        → MatchResult result (λ turn. Expects (behind_turn turn room ++ rest) r.new) WantsMemory }
 {
     if words::is_turn_name(r.piece()) {
         r.copy()

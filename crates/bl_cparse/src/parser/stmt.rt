@@ -1,10 +1,12 @@
 //! Statements. `room` is how many brackets may still be opened. Open braces are kept on a stack of our own, so that
 //! nested statements take no more of the machine's.
 
-ghost use Rattle.std.specs.Prelude.{◌≡◌, ℕ, ◌<◌, ◌≤◌, ◌-◌, true, false, List, [], ◌∷◌, ◌++◌, map, codes, length, IsTrue, IsFalse, IfOk, IfErr, OnOk, MatchResult};
+ghost use Rattle.std.specs.Prelude.{◌≡◌, ℕ, ◌<◌, ◌≤◌, ◌-◌, true, false, List, [], ◌∷◌, ◌++◌, map, codes, length, IsTrue, IsFalse, IfOk, IfErr, OnOk};
+ghost use Rattle.std.specs.Prelude.{MatchResult};
 ghost use Rattle.bl_tree.specs.Reduce.{all_of, joined};
 ghost use Rattle.bl_ctext.specs.Names.{is_name, is_callee, is_turn_name};
-ghost use Rattle.bl_ctext.specs.Spelling.{expr_tokens, place_tokens, root_tokens, ccall_tokens, stmt_tokens, stmt_kind_tokens, condition_tokens, turn_declared, turn_counted};
+ghost use Rattle.bl_ctext.specs.Spelling.{expr_tokens, place_tokens, root_tokens, ccall_tokens, stmt_tokens, stmt_kind_tokens, condition_tokens};
+ghost use Rattle.bl_ctext.specs.Spelling.{turn_declared, turn_counted};
 ghost use Rattle.bl_ctext.specs.Spellable.{spells_expr, spells_place, spells_stmt, spells_stmt_kind, has_any};
 ghost use Rattle.bl_cparse.specs.inner.Nest.{opened_tokens, frame_tokens, spells_frame, nest_tokens, spells_nest};
 ghost use Rattle.bl_csyntax.specs.declared.grammar.Part.{Part};
@@ -113,7 +115,8 @@ fn one(r: &mut Reader<'_>, nest: Nest) -> Result<Nest, CRefusal>
     requires { IsTrue (spells_nest nest) }
     ensures read { IfOk result (λ next. (nest_tokens nest ++ r.old ≡ nest_tokens next ++ r.new) × IsTrue (spells_nest next)) }
     ensures shorter { OnOk result (length r.new < length r.old) }
-    ensures follows { matches (Class.exactly (codes "if")) (first_of r.old) ≡ false → matches (Class.exactly (codes "{")) (first_of r.old) ≡ false → Nests result (part Part.Stmt nest.room ∷ nest_wanted nest) r.old r.new }
+    ensures follows { matches (Class.exactly (codes "if")) (first_of r.old) ≡ false
+        → matches (Class.exactly (codes "{")) (first_of r.old) ≡ false → Nests result (part Part.Stmt nest.room ∷ nest_wanted nest) r.old r.new }
 {
     let Nest { outer, body, room } = nest;
     let what = simple(r, room)?;
@@ -135,7 +138,8 @@ fn opened_branch(r: &mut Reader<'_>, nest: Nest) -> Result<Nest, CRefusal>
     requires { IsTrue (spells_nest nest) }
     ensures read { IfOk result (λ next. (nest_tokens nest ++ r.old ≡ nest_tokens next ++ r.new) × IsTrue (spells_nest next)) }
     ensures shorter { OnOk result (length r.new < length r.old) }
-    ensures follows { 1 ≤ nest.room → Nests result (sign (codes "if") ∷ sign (codes "(") ∷ part Part.Expr (nest.room - 1) ∷ sign (codes ")") ∷ sign (codes "{") ∷ part Part.Stmts (nest.room - 1) ∷ sign (codes "}") ∷ part Part.Else nest.room ∷ nest_wanted nest) r.old r.new }
+    ensures follows { 1 ≤ nest.room → Nests result (sign (codes "if") ∷ sign (codes "(") ∷ part Part.Expr (nest.room - 1) ∷ sign (codes ")")
+        ∷ sign (codes "{") ∷ part Part.Stmts (nest.room - 1) ∷ sign (codes "}") ∷ part Part.Else nest.room ∷ nest_wanted nest) r.old r.new }
 {
     let Nest { outer, body, room } = nest;
     if room == 0 {
@@ -212,8 +216,10 @@ struct TurnsFront {
 #[tactic(auto, using(crate::proofs::TokenLemmas::turn_name_any))]
 fn turns_front(r: &mut Reader<'_>, room: u32) -> Result<TurnsFront, CRefusal>
     requires { 2 ≤ room }
-    ensures read { IfOk result (λ front. (r.old ≡ opened_tokens (Opened.Turns front.turn front.test) ++ r.new) × (IsTrue (is_turn_name front.turn) × IsTrue (spells_expr front.test))) }
-    ensures follows { Follows result (sign (codes "{") ∷ sign (codes "uint32_t") ∷ part Part.Turns room ∷ []) (part Part.Stmts (room - 2) ∷ sign (codes "}") ∷ sign (codes "}") ∷ []) r.old r.new }
+    ensures read { IfOk result (λ front. (r.old ≡ opened_tokens (Opened.Turns front.turn front.test) ++ r.new)
+        × (IsTrue (is_turn_name front.turn) × IsTrue (spells_expr front.test))) }
+    ensures follows { Follows result (sign (codes "{") ∷ sign (codes "uint32_t") ∷ part Part.Turns room ∷ []) (part Part.Stmts (room - 2) ∷ sign (codes "}")
+        ∷ sign (codes "}") ∷ []) r.old r.new }
 {
     let turn = declared_turn(r)?;
     let test = condition(r, room - 2)?;
@@ -253,7 +259,8 @@ fn closed_frame(
     requires outer { IsTrue (all_of (map spells_frame outer.items)) }
     requires frame { IsTrue (spells_frame frame) }
     requires body { IsTrue (all_of (map spells_stmt body)) }
-    ensures read { IfOk result (λ next. (joined (map frame_tokens outer.items) ++ (frame_tokens frame ++ (joined (map stmt_tokens body) ++ r.old)) ≡ nest_tokens next ++ r.new) × IsTrue (spells_nest next)) }
+    ensures read { IfOk result (λ next. (joined (map frame_tokens outer.items) ++ (frame_tokens frame ++ (joined (map stmt_tokens body) ++ r.old))
+        ≡ nest_tokens next ++ r.new) × IsTrue (spells_nest next)) }
     ensures shorter { OnOk result (length r.new < length r.old) }
     ensures follows { Nests result (sign (codes "}") ∷ (frame_wanted frame ++ outside outer.items)) r.old r.new }
 {
@@ -304,9 +311,12 @@ fn closed_then(
     requires before { IsTrue (all_of (map spells_stmt place.before)) }
     requires test { IsTrue (spells_expr test) }
     requires body { IsTrue (all_of (map spells_stmt body)) }
-    ensures read { IfOk result (λ next. (joined (map frame_tokens outer.items) ++ ((joined (map stmt_tokens place.before) ++ opened_tokens (Opened.Then test)) ++ (joined (map stmt_tokens body) ++ r.old)) ≡ nest_tokens next ++ r.new) × IsTrue (spells_nest next)) }
+    ensures read { IfOk result (λ next. (joined (map frame_tokens outer.items) ++
+        ((joined (map stmt_tokens place.before) ++ opened_tokens (Opened.Then test)) ++ (joined (map stmt_tokens body) ++ r.old)) ≡ nest_tokens next ++ r.new)
+        × IsTrue (spells_nest next)) }
     ensures shorter { OnOk result (length r.new < length r.old) }
-    ensures follows { Nests result (sign (codes "}") ∷ part Part.Else place.room ∷ part Part.Stmts place.room ∷ sign (codes "}") ∷ outside outer.items) r.old r.new }
+    ensures follows { Nests result (sign (codes "}") ∷ part Part.Else place.room ∷ part Part.Stmts place.room ∷ sign (codes "}") ∷ outside outer.items) r.old
+        r.new }
 {
     r.take("}")?;
     if !r.eat("else") {
@@ -343,8 +353,11 @@ fn reopened(
     requires before { IsTrue (all_of (map spells_stmt place.before)) }
     requires test { IsTrue (spells_expr parts.test) }
     requires then_part { IsTrue (all_of (map spells_stmt parts.then_part)) }
-    ensures read { IfOk result (λ next. (r.old ≡ codes "{" ∷ r.new) × ((nest_tokens next ≡ joined (map frame_tokens outer.items) ++ (joined (map stmt_tokens place.before) ++ opened_tokens (Opened.Else parts.test parts.then_part))) × IsTrue (spells_nest next))) }
-    ensures follows { Nests result (sign (codes "{") ∷ part Part.Stmts (place.room - 1) ∷ sign (codes "}") ∷ part Part.Stmts place.room ∷ sign (codes "}") ∷ outside outer.items) r.old r.new }
+    ensures read { IfOk result (λ next. (r.old ≡ codes "{" ∷ r.new)
+        × ((nest_tokens next ≡ joined (map frame_tokens outer.items) ++
+        (joined (map stmt_tokens place.before) ++ opened_tokens (Opened.Else parts.test parts.then_part))) × IsTrue (spells_nest next))) }
+    ensures follows { Nests result (sign (codes "{") ∷ part Part.Stmts (place.room - 1) ∷ sign (codes "}") ∷ part Part.Stmts place.room ∷ sign (codes "}")
+        ∷ outside outer.items) r.old r.new }
 {
     r.take("{")?;
     let room = one_less(place.room);
@@ -369,7 +382,9 @@ fn closed_else(
     requires test { IsTrue (spells_expr parts.test) }
     requires then_part { IsTrue (all_of (map spells_stmt parts.then_part)) }
     requires body { IsTrue (all_of (map spells_stmt body)) }
-    ensures read { IfOk result (λ next. (joined (map frame_tokens outer.items) ++ ((joined (map stmt_tokens place.before) ++ opened_tokens (Opened.Else parts.test parts.then_part)) ++ (joined (map stmt_tokens body) ++ r.old)) ≡ nest_tokens next ++ r.new) × IsTrue (spells_nest next)) }
+    ensures read { IfOk result (λ next. (joined (map frame_tokens outer.items) ++
+        ((joined (map stmt_tokens place.before) ++ opened_tokens (Opened.Else parts.test parts.then_part)) ++ (joined (map stmt_tokens body) ++ r.old))
+        ≡ nest_tokens next ++ r.new) × IsTrue (spells_nest next)) }
     ensures shorter { OnOk result (length r.new < length r.old) }
     ensures follows { Nests result (sign (codes "}") ∷ part Part.Stmts place.room ∷ sign (codes "}") ∷ outside outer.items) r.old r.new }
 {
@@ -391,7 +406,9 @@ fn closed_turns(
     requires turn { IsTrue (is_turn_name front.turn) }
     requires test { IsTrue (spells_expr front.test) }
     requires body { IsTrue (all_of (map spells_stmt body)) }
-    ensures read { IfOk result (λ next. (joined (map frame_tokens outer.items) ++ ((joined (map stmt_tokens place.before) ++ opened_tokens (Opened.Turns front.turn front.test)) ++ (joined (map stmt_tokens body) ++ r.old)) ≡ nest_tokens next ++ r.new) × IsTrue (spells_nest next)) }
+    ensures read { IfOk result (λ next. (joined (map frame_tokens outer.items) ++
+        ((joined (map stmt_tokens place.before) ++ opened_tokens (Opened.Turns front.turn front.test)) ++ (joined (map stmt_tokens body) ++ r.old))
+        ≡ nest_tokens next ++ r.new) × IsTrue (spells_nest next)) }
     ensures shorter { OnOk result (length r.new < length r.old) }
     ensures follows { Nests result (sign (codes "}") ∷ sign (codes "}") ∷ part Part.Stmts place.room ∷ sign (codes "}") ∷ outside outer.items) r.old r.new }
 {
@@ -407,7 +424,8 @@ fn ended(outer: Vec<Frame>, place: Outside, what: CStmtKind) -> Result<Nest, CRe
     requires outer { IsTrue (all_of (map spells_frame outer.items)) }
     requires before { IsTrue (all_of (map spells_stmt place.before)) }
     requires what { IsTrue (spells_stmt_kind what) }
-    ensures read { IfOk result (λ next. (nest_tokens next ≡ joined (map frame_tokens outer.items) ++ (joined (map stmt_tokens place.before) ++ stmt_kind_tokens what)) × IsTrue (spells_nest next)) }
+    ensures read { IfOk result (λ next. (nest_tokens next ≡ joined (map frame_tokens outer.items) ++
+        (joined (map stmt_tokens place.before) ++ stmt_kind_tokens what)) × IsTrue (spells_nest next)) }
     ensures awaits { NestStays result (part Part.Stmts place.room ∷ sign (codes "}") ∷ outside outer.items) }
 {
     let stmt = make_stmt::stmt(what);
@@ -421,7 +439,8 @@ fn ended(outer: Vec<Frame>, place: Outside, what: CStmtKind) -> Result<Nest, CRe
 
 fn simple(r: &mut Reader<'_>, room: u32) -> Result<CStmtKind, CRefusal>
     ensures read { IfOk result (λ k. (r.old ≡ stmt_kind_tokens k ++ r.new) × IsTrue (spells_stmt_kind k)) }
-    ensures follows { matches (Class.exactly (codes "if")) (first_of r.old) ≡ false → matches (Class.exactly (codes "{")) (first_of r.old) ≡ false → Follows result (part Part.Stmt room ∷ []) [] r.old r.new }
+    ensures follows { matches (Class.exactly (codes "if")) (first_of r.old) ≡ false
+        → matches (Class.exactly (codes "{")) (first_of r.old) ≡ false → Follows result (part Part.Stmt room ∷ []) [] r.old r.new }
 {
     if r.eat("break") {
         r.take(";")?;
@@ -528,7 +547,8 @@ fn bracketed(r: &mut Reader<'_>, at: CPlace, room: u32) -> Result<CStmtKind, CRe
 fn stored(r: &mut Reader<'_>, at: CPlace, value: CExpr) -> Result<CStmtKind, CRefusal>
     requires at { IsTrue (spells_place at) }
     requires value { IsTrue (spells_expr value) }
-    ensures read { IfOk result (λ k. (place_tokens at ++ codes "=" ∷ (expr_tokens value ++ r.old) ≡ stmt_kind_tokens k ++ r.new) × IsTrue (spells_stmt_kind k)) }
+    ensures read { IfOk result (λ k. (place_tokens at ++ codes "=" ∷ (expr_tokens value ++ r.old) ≡ stmt_kind_tokens k ++ r.new)
+        × IsTrue (spells_stmt_kind k)) }
     ensures follows { Follows result (sign (codes ";") ∷ []) [] r.old r.new }
 {
     r.take(";")?;
@@ -538,8 +558,10 @@ fn stored(r: &mut Reader<'_>, at: CPlace, value: CExpr) -> Result<CStmtKind, CRe
 /// What follows `(struct` where a place is set to zeros.
 fn cleared(r: &mut Reader<'_>, at: CPlace) -> Result<CStmtKind, CRefusal>
     requires { IsTrue (spells_place at) }
-    ensures read { IfOk result (λ k. (place_tokens at ++ codes "=" ∷ codes "(" ∷ codes "struct" ∷ r.old ≡ stmt_kind_tokens k ++ r.new) × IsTrue (spells_stmt_kind k)) }
-    ensures follows { (room : ℕ) → Follows result (part Part.StructName room ∷ sign (codes ")") ∷ sign (codes "{") ∷ sign (codes "0") ∷ sign (codes "}") ∷ sign (codes ";") ∷ []) [] r.old r.new }
+    ensures read { IfOk result (λ k. (place_tokens at ++ codes "=" ∷ codes "(" ∷ codes "struct" ∷ r.old ≡ stmt_kind_tokens k ++ r.new)
+        × IsTrue (spells_stmt_kind k)) }
+    ensures follows { (room : ℕ) → Follows result (part Part.StructName room ∷ sign (codes ")") ∷ sign (codes "{") ∷ sign (codes "0") ∷ sign (codes "}")
+        ∷ sign (codes ";") ∷ []) [] r.old r.new }
 {
     let of = name::struct_name(r)?;
     r.take(")")?;
@@ -572,7 +594,9 @@ fn condition(r: &mut Reader<'_>, room: u32) -> Result<Box<CExpr>, CRefusal>
 /// The front of a loop, and the name of its turns.
 fn declared_turn(r: &mut Reader<'_>) -> Result<Text, CRefusal>
     ensures read { IfOk result (λ turn. (r.old ≡ turn_declared turn ++ r.new) × IsTrue (is_turn_name turn)) }
-    ensures follows { (room : ℕ) (rest : List Wanted) → Expects (sign (codes "{") ∷ sign (codes "uint32_t") ∷ part Part.Turns room ∷ rest) r.old → MatchResult result (λ turn. Expects (sign (codes "(") ∷ part Part.Expr (room - 2) ∷ sign (codes ")") ∷ (turn_wanted turn ++ part Part.Stmts (room - 2) ∷ sign (codes "}") ∷ sign (codes "}") ∷ rest)) r.new) WantsMemory }
+    ensures follows { (room : ℕ) (rest : List Wanted) → Expects
+        (sign (codes "{") ∷ sign (codes "uint32_t") ∷ part Part.Turns room ∷ rest) r.old
+        → MatchResult result (λ turn. Expects (sign (codes "(") ∷ part Part.Expr (room - 2) ∷ sign (codes ")") ∷ (turn_wanted turn ++ part Part.Stmts (room - 2) ∷ sign (codes "}") ∷ sign (codes "}") ∷ rest)) r.new) WantsMemory }
 {
     r.take("{")?;
     r.take("uint32_t")?;

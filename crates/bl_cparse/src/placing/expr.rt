@@ -2,7 +2,8 @@
 
 ghost use Rattle.std.specs.Prelude.{◌≡◌, ℕ, ◌<ℤ◌, pos, List, [], ◌∷◌, ◌++◌, codes, length, map, option_map, true};
 ghost use Rattle.std.specs.Fmt.{decimal};
-ghost use Rattle.bl_ctext.specs.Spelling.{arg_tokens, comma_before, ccall_tokens, expr_tokens, index_front, index_tokens, kind_tokens, literal_tokens, place_tokens, root_tokens, step_tokens};
+ghost use Rattle.bl_ctext.specs.Spelling.{arg_tokens, comma_before, ccall_tokens, expr_tokens, index_front, index_tokens, kind_tokens};
+ghost use Rattle.bl_ctext.specs.Spelling.{literal_tokens, place_tokens, root_tokens, step_tokens};
 ghost use Rattle.bl_ctext.specs.Spellable.{spells_arg, spells_call, spells_expr, spells_index, spells_kind, spells_place, spells_step};
 ghost use Rattle.bl_cparse.specs.HasPlaces.{arg_walk, call_walk, expr_walk, if_there, in_list, in_turn, index_walk, kind_walk, past, place_walk, step_walk};
 

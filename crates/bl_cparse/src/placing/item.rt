@@ -2,7 +2,8 @@
 
 ghost use Rattle.std.specs.Prelude.{◌≡◌, [], ◌∷◌, ◌++◌, codes, map};
 ghost use Rattle.bl_tree.specs.Reduce.{joined};
-ghost use Rattle.bl_ctext.specs.Spelling.{func_front, func_tokens, length_tokens, local_tokens, member_tokens, param_tokens, star_if, static_if, struct_tokens, type_tokens, with_commas, zero_tokens};
+ghost use Rattle.bl_ctext.specs.Spelling.{func_front, func_tokens, length_tokens, local_tokens, member_tokens, param_tokens, star_if, static_if};
+ghost use Rattle.bl_ctext.specs.Spelling.{struct_tokens, type_tokens, with_commas, zero_tokens};
 ghost use Rattle.bl_ctext.specs.Spellable.{spells_func, spells_struct};
 ghost use Rattle.bl_cparse.specs.HasPlaces.{func_walk, head_tokens, in_turn, past, struct_walk};
 

@@ -105,7 +105,8 @@ fn condition(spot: &mut Spot<'_>, test: &mut CExpr)
 
 /// The condition of a loop, whatever the name of its turns, with the tokens around it up to the first statement.
 fn counted(spot: &mut Spot<'_>, test: &mut CExpr)
-    ensures places { (turn : List ℕ) → made (λ t. t) (codes ")" ∷ turn_counted turn) (expr_walk test.new (past (turn_declared turn ++ codes "(" ∷ []) spot.old)) ≡ (test.new, spot.new) }
+    ensures places { (turn : List ℕ) → made (λ t. t) (codes ")" ∷ turn_counted turn)
+        (expr_walk test.new (past (turn_declared turn ++ codes "(" ∷ []) spot.old)) ≡ (test.new, spot.new) }
     ensures tokens { expr_tokens test.new ≡ expr_tokens test.old }
     ensures spells { spells_expr test.new ≡ spells_expr test.old }
 {

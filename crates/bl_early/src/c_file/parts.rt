@@ -1,7 +1,8 @@
 //! Small parts of C trees. What is made has no place in a text.
 
 ghost use Rattle.std.specs.Prelude.{◌≡◌, ◌++◌, IfOk};
-ghost use Rattle.bl_early.specs.Emitted.{c_call, c_called, c_calling, c_count, c_counter_local, c_equal, c_inner, c_literal, c_member, c_outer, c_pointer, c_read, c_returning, c_set, c_step, c_target, c_through, c_variable, c_when};
+ghost use Rattle.bl_early.specs.Emitted.{c_call, c_called, c_calling, c_count, c_counter_local, c_equal, c_inner, c_literal, c_member, c_outer};
+ghost use Rattle.bl_early.specs.Emitted.{c_pointer, c_read, c_returning, c_set, c_step, c_target, c_through, c_variable, c_when};
 
 use bl_tree::c::{
     CArg, CCall, CExpr, CExprKind, CFunc, CLocal, CMember, CParam, CPlace, CStep, CStmt, CStmtKind,
