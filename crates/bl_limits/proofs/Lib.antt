@@ -1,0 +1,3 @@
+pub mod Causes
+pub mod Lists
+pub mod Members

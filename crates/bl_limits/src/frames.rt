@@ -1,0 +1,56 @@
+//! Rule Frames: too many activity instances, and too long a chain of units that call or run one another.
+
+ghost use Rattle.std.specs.Prelude.{◌≡◌};
+ghost use Rattle.bl_measures.specs.Tells.{Tells};
+ghost use Rattle.bl_tree.specs.Rules.{first_of};
+ghost use Rattle.bl_limits.specs.inner.Failures.{chain_failures, many_instances};
+
+use crate::limit::{failure, judge};
+use bl_measures::Measures;
+use bl_tree::tree::{StructDef, Unit};
+use bl_tree::{Failure, Rule};
+
+/// The most activity instances that the entry may expand to.
+const MOST_INSTANCES: u64 = 4096;
+
+/// The most units that a chain may have.
+const MOST_UNITS: u64 = 100;
+
+/// The first so far, or that of the entry's instances, at its name.
+pub fn of_entry(
+    measures: &Measures,
+    structs: &[StructDef],
+    units: &[Unit],
+    entry: u32,
+    first: Option<Failure>,
+) -> Option<Failure>
+    requires tells { Tells measures.now structs.now units.now }
+    ensures { result ≡ first_of first (many_instances units.now entry) }
+{
+    match units.get(entry as usize) {
+        Some(unit) => judge(
+            measures.instances(entry),
+            MOST_INSTANCES,
+            failure(Rule::Frames, unit.place),
+            first,
+        ),
+        None => first,
+    }
+}
+
+/// The first so far, or that of the units that head too long a chain, each at its name.
+pub fn of_chains(
+    measures: &Measures,
+    structs: &[StructDef],
+    units: &[Unit],
+    first: Option<Failure>,
+) -> Option<Failure>
+    requires tells { Tells measures.now structs.now units.now }
+    ensures { result ≡ first_of first (chain_failures units.now) }
+{
+    let mut first = first;
+    for (unit, chain) in units.iter().zip(measures.chains.iter()) {
+        first = judge(*chain, MOST_UNITS, failure(Rule::Frames, unit.place), first);
+    }
+    first
+}
