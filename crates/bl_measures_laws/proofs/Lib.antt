@@ -1,2 +1,3 @@
 pub mod EarlierLemmas
 pub mod InstanceLemmas
+pub mod RunLemmas

@@ -1,4 +1,6 @@
 pub mod Apart
+pub mod Bound
 pub mod Depths
 pub mod Filled
 pub mod Keeps
+pub mod Leads

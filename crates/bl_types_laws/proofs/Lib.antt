@@ -55,3 +55,4 @@ pub mod ConstantTurn
 pub mod UnitTurn
 pub mod ItemTurns
 pub mod WhatKeeps
+pub mod InOrder

@@ -1,0 +1,190 @@
+-- What the positions in a named tree lead to: the names of declarations, one for each use, in the order in which uses take effect.
+use Rattle.std.specs.Prelude.{ℕ, List, [], ◌∷◌, ◌++◌, map, take, slice_get, Option, Some, None, option_map}
+use Rattle.bl_tree.specs.Reduce.{joined}
+use Rattle.bl_raw.specs.declared.name.Name.{Name}
+use Rattle.bl_named.specs.declared.expr.NamedExpr.{NamedExpr, fold-NamedExpr}
+use Rattle.bl_named.specs.declared.expr.NamedExprKind.TheOpen.{NamedExprKind-F, NamedPart-F, NamedExpr-F, NamedTarget-F}
+use Rattle.bl_named.specs.declared.expr.NamedPart.{NamedPart, fold-NamedPart}
+use Rattle.bl_named.specs.declared.expr.NamedTarget.{NamedTarget, fold-NamedTarget}
+use Rattle.bl_named.specs.declared.expr.Root.{Root}
+use Rattle.bl_named.specs.declared.expr.Root.TheVariants as root
+use Rattle.bl_named.specs.declared.item.Item.{Item}
+use Rattle.bl_named.specs.declared.item.Item.TheVariants as item
+use Rattle.bl_named.specs.declared.item.NamedConstant.{NamedConstant}
+use Rattle.bl_named.specs.declared.item.NamedField.{NamedField}
+use Rattle.bl_named.specs.declared.item.NamedStruct.{NamedStruct}
+use Rattle.bl_named.specs.declared.item.NamedUnit.{NamedUnit}
+use Rattle.bl_named.specs.declared.item.NamedVar.{NamedVar}
+use Rattle.bl_named.specs.declared.named.Named.{Named}
+use Rattle.bl_named.specs.declared.stmt.NamedArm.{NamedArm, fold-NamedArm}
+use Rattle.bl_named.specs.declared.stmt.NamedBranch.{NamedBranch, fold-NamedBranch}
+use Rattle.bl_named.specs.declared.stmt.NamedPath.{NamedPath}
+use Rattle.bl_named.specs.declared.stmt.NamedStmt.{NamedStmt, fold-NamedStmt}
+use Rattle.bl_named.specs.declared.stmt.NamedStmtKind.TheOpen.{NamedStmtKind-F, NamedArm-F, NamedBranch-F, NamedStmt-F}
+use Rattle.bl_named.specs.declared.types.NamedLength.{NamedLength}
+use Rattle.bl_named.specs.declared.types.NamedLength.TheVariants as count
+use Rattle.bl_named.specs.declared.types.NamedType.{NamedType, fold-NamedType}
+use Rattle.bl_named.specs.declared.types.NamedType.TheOpen.{NamedType-F}
+use Rattle.bl_named.specs.Placed.{Earlier, item_step, nothing_earlier, parameters}
+
+-- the names of what positions lead to; none for a position at which nothing is
+abbrev pub Leads : Type 0
+Leads = List (Option Name)
+
+-- the name of the struct at a position, of the constant, of the unit, and of the variable among those of its unit
+abbrev pub struct_at : Named → ℕ → Option Name
+struct_at named k = option_map (λ def. def.name) (slice_get named.structs k)
+
+abbrev pub constant_at : Named → ℕ → Option Name
+constant_at named k = option_map (λ constant. constant.name) (slice_get named.constants k)
+
+abbrev pub unit_at : Named → ℕ → Option Name
+unit_at named k = option_map (λ unit. unit.name) (slice_get named.units k)
+
+abbrev pub variable_at : List NamedVar → ℕ → Option Name
+variable_at vars k = option_map (λ var. var.name) (slice_get vars k)
+
+-- what is optional may be missing
+abbrev pub leads_if : {A : Type 0} → (A → Leads) → Option A → Leads
+leads_if leads (Some x) = leads x
+leads_if leads None = []
+
+-- ---- types
+
+abbrev pub length_leads : Named → NamedLength → Leads
+length_leads named (count.Number n) = []
+length_leads named (count.Constant at k) = constant_at named k ∷ []
+
+abbrev pub type_level_leads : Named → NamedType-F Leads → Leads
+type_level_leads named (NamedType-F.Scalar s) = []
+type_level_leads named (NamedType-F.Struct k) = struct_at named k ∷ []
+type_level_leads named (NamedType-F.Array n element) = length_leads named n ++ element
+
+-- the structs of a type, and the constants of its lengths
+abbrev pub type_leads : Named → NamedType → Leads
+type_leads named = fold-NamedType Leads (type_level_leads named)
+
+-- ---- expressions, in a unit that has these variables
+
+abbrev pub at_root : Named → List NamedVar → Root → Option Name
+at_root named vars (root.Variable k) = variable_at vars k
+at_root named vars (root.Constant k) = constant_at named k
+
+abbrev pub kind_leads : Named → List NamedVar → NamedExprKind-F Leads Leads Leads Leads → Leads
+kind_leads named vars (NamedExprKind-F.Number minus n) = []
+kind_leads named vars (NamedExprKind-F.Truth b) = []
+kind_leads named vars (NamedExprKind-F.Read target) = target
+kind_leads named vars (NamedExprKind-F.Prev k) = variable_at vars k ∷ []
+kind_leads named vars (NamedExprKind-F.One op a) = a
+kind_leads named vars (NamedExprKind-F.Two op a b) = a ++ b
+kind_leads named vars (NamedExprKind-F.Cast s a) = a
+kind_leads named vars (NamedExprKind-F.Call at f inputs) = unit_at named f ∷ joined inputs
+
+abbrev pub part_leads : NamedPart-F Leads Leads Leads Leads → Leads
+part_leads (NamedPart-F.Field name) = []
+part_leads (NamedPart-F.Index e) = e
+
+abbrev pub expr_layer_leads : NamedExpr-F Leads Leads Leads Leads → Leads
+expr_layer_leads e = e.what
+
+abbrev pub target_layer_leads : Named → List NamedVar → NamedTarget-F Leads Leads Leads Leads → Leads
+target_layer_leads named vars target = at_root named vars target.root ∷ joined target.parts
+
+-- the variables, constants and functions of an expression
+abbrev pub expr_leads : Named → List NamedVar → NamedExpr → Leads
+expr_leads named vars = fold-NamedExpr Leads Leads Leads Leads (kind_leads named vars) part_leads expr_layer_leads (target_layer_leads named vars)
+
+-- of a target, its root first
+abbrev pub target_leads : Named → List NamedVar → NamedTarget → Leads
+target_leads named vars = fold-NamedTarget Leads Leads Leads Leads (kind_leads named vars) part_leads expr_layer_leads (target_layer_leads named vars)
+
+abbrev pub step_leads : Named → List NamedVar → NamedPart → Leads
+step_leads named vars = fold-NamedPart Leads Leads Leads Leads (kind_leads named vars) part_leads expr_layer_leads (target_layer_leads named vars)
+
+-- the variable that stands for an output or takes a result
+abbrev pub path_leads : List NamedVar → NamedPath → Leads
+path_leads vars path = variable_at vars path.root ∷ []
+
+-- ---- declarations
+
+-- what the type of a variable leads to
+abbrev pub var_leads : Named → NamedVar → Leads
+var_leads named var = leads_if (type_leads named) var.ty
+
+-- what the type and the value of a constant lead to
+abbrev pub constant_leads : Named → List NamedVar → NamedConstant → Leads
+constant_leads named vars constant = leads_if (type_leads named) constant.ty ++ expr_leads named vars constant.value
+
+-- ---- statements, in a unit that has these variables
+
+abbrev pub argument_leads : Named → List NamedVar → List NamedExpr → List NamedPath → Leads
+argument_leads named vars inputs outputs = joined (map (expr_leads named vars) inputs) ++ joined (map (path_leads vars) outputs)
+
+-- the type of a variable and the parts of a constant stand where those are declared
+abbrev pub stmt_kind_leads : Named → List NamedVar → NamedStmtKind-F Leads Leads Leads Leads → Leads
+stmt_kind_leads named vars (NamedStmtKind-F.Declare k value) = leads_if (var_leads named) (slice_get vars k) ++ leads_if (expr_leads named vars) value
+stmt_kind_leads named vars (NamedStmtKind-F.Const k) = leads_if (constant_leads named vars) (slice_get named.constants k)
+stmt_kind_leads named vars (NamedStmtKind-F.Assign target e) = target_leads named vars target ++ expr_leads named vars e
+stmt_kind_leads named vars (NamedStmtKind-F.Call at f inputs outputs) = unit_at named f ∷ argument_leads named vars inputs outputs
+stmt_kind_leads named vars (NamedStmtKind-F.Await e) = expr_leads named vars e
+stmt_kind_leads named vars (NamedStmtKind-F.Run target at a inputs outputs) =
+    leads_if (path_leads vars) target ++ (unit_at named a ∷ argument_leads named vars inputs outputs)
+stmt_kind_leads named vars (NamedStmtKind-F.If arms other) = joined arms ++ joined other
+stmt_kind_leads named vars (NamedStmtKind-F.Cobegin branches) = joined branches
+stmt_kind_leads named vars (NamedStmtKind-F.When guard e body) = expr_leads named vars e ++ joined body
+stmt_kind_leads named vars (NamedStmtKind-F.Repeat body) = joined body
+stmt_kind_leads named vars (NamedStmtKind-F.Until body e) = joined body ++ expr_leads named vars e
+stmt_kind_leads named vars (NamedStmtKind-F.While e body) = expr_leads named vars e ++ joined body
+stmt_kind_leads named vars (NamedStmtKind-F.Return e) = leads_if (expr_leads named vars) e
+
+abbrev pub arm_layer_leads : Named → List NamedVar → NamedArm-F Leads Leads Leads Leads → Leads
+arm_layer_leads named vars arm = expr_leads named vars arm.test ++ joined arm.body
+
+abbrev pub branch_layer_leads : NamedBranch-F Leads Leads Leads Leads → Leads
+branch_layer_leads branch = joined branch.body
+
+abbrev pub stmt_layer_leads : NamedStmt-F Leads Leads Leads Leads → Leads
+stmt_layer_leads s = s.what
+
+-- what a statement leads to, and what stands in it
+abbrev pub stmt_leads : Named → List NamedVar → NamedStmt → Leads
+stmt_leads named vars = fold-NamedStmt Leads Leads Leads Leads (stmt_kind_leads named vars) (arm_layer_leads named vars) branch_layer_leads stmt_layer_leads
+
+-- the same of an arm and of a branch
+abbrev pub leads_of_arm : Named → List NamedVar → NamedArm → Leads
+leads_of_arm named vars = fold-NamedArm Leads Leads Leads Leads (stmt_kind_leads named vars) (arm_layer_leads named vars) branch_layer_leads stmt_layer_leads
+
+abbrev pub leads_of_branch : Named → List NamedVar → NamedBranch → Leads
+leads_of_branch named vars =
+    fold-NamedBranch Leads Leads Leads Leads (stmt_kind_leads named vars) (arm_layer_leads named vars) branch_layer_leads stmt_layer_leads
+
+-- ---- items
+
+abbrev pub field_leads : Named → NamedField → Leads
+field_leads named field = type_leads named field.ty
+
+-- what the types of the fields of a struct lead to
+abbrev pub struct_leads : Named → NamedStruct → Leads
+struct_leads named def = joined (map (field_leads named) def.fields)
+
+-- what the types of the parameters of a unit lead to, that of its result, and its statements
+abbrev pub unit_leads : Named → NamedUnit → Leads
+unit_leads named unit =
+    joined (map (var_leads named) (take (parameters unit) unit.vars))
+    ++ (leads_if (type_leads named) unit.result ++ joined (map (stmt_leads named unit.vars) unit.body))
+
+-- the same of the next struct, constant or unit, where so much is declared before it; no variable is visible outside of units
+abbrev pub item_leads : Named → Item → Earlier → Leads
+item_leads named item.Struct earlier = leads_if (struct_leads named) (slice_get named.structs earlier.structs)
+item_leads named item.Constant earlier = leads_if (constant_leads named []) (slice_get named.constants earlier.constants)
+item_leads named item.Unit earlier = leads_if (unit_leads named) (slice_get named.units earlier.units)
+
+-- of items one after another, as far as their positions are in place
+abbrev pub items_lead : Named → List Item → Option Earlier → Leads
+items_lead named [] earlier = []
+items_lead named (one ∷ rest) None = []
+items_lead named (one ∷ rest) (Some earlier) = item_leads named one earlier ++ items_lead named rest (item_step named one earlier)
+
+-- what all positions in a program lead to
+abbrev pub program_leads : Named → Leads
+program_leads named = items_lead named named.order (Some nothing_earlier)

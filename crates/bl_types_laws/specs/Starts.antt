@@ -1,0 +1,52 @@
+-- Where the statements of typed units begin.
+use Rattle.std.specs.Prelude.{ℕ, List, [], ◌∷◌, ◌++◌, map}
+use Rattle.bl_tree.specs.declared.tree.Arm.{Arm, fold-Arm}
+use Rattle.bl_tree.specs.declared.tree.Branch.{Branch, fold-Branch}
+use Rattle.bl_tree.specs.declared.tree.Stmt.{Stmt, fold-Stmt}
+use Rattle.bl_tree.specs.declared.tree.StmtKind.TheOpen.{StmtKind-F, Arm-F, Branch-F, Stmt-F}
+use Rattle.bl_tree.specs.declared.tree.Unit.{Unit as UnitDef}
+use Rattle.bl_tree.specs.Reduce.{joined}
+
+abbrev pub Starts : Type 0
+Starts = List ℕ
+
+abbrev pub stmt_kind_starts : StmtKind-F Starts Starts Starts Starts → Starts
+stmt_kind_starts (StmtKind-F.Declare k value) = []
+stmt_kind_starts (StmtKind-F.Assign path e) = []
+stmt_kind_starts (StmtKind-F.Call f inputs outputs) = []
+stmt_kind_starts (StmtKind-F.Await e) = []
+stmt_kind_starts (StmtKind-F.Run target a inputs outputs) = []
+stmt_kind_starts (StmtKind-F.If arms other) = joined arms ++ joined other
+stmt_kind_starts (StmtKind-F.Cobegin branches) = joined branches
+stmt_kind_starts (StmtKind-F.When guard e body) = joined body
+stmt_kind_starts (StmtKind-F.Repeat body) = joined body
+stmt_kind_starts (StmtKind-F.Until body e) = joined body
+stmt_kind_starts (StmtKind-F.While e body) = joined body
+stmt_kind_starts (StmtKind-F.Return e) = []
+
+abbrev pub arm_layer_starts : Arm-F Starts Starts Starts Starts → Starts
+arm_layer_starts arm = joined arm.body
+
+abbrev pub branch_layer_starts : Branch-F Starts Starts Starts Starts → Starts
+branch_layer_starts branch = joined branch.body
+
+abbrev pub stmt_layer_starts : Stmt-F Starts Starts Starts Starts → Starts
+stmt_layer_starts s = s.place.start ∷ s.what
+
+-- where a statement and those in it begin, in source order
+abbrev pub starts_of : Stmt → Starts
+starts_of = fold-Stmt Starts Starts Starts Starts stmt_kind_starts arm_layer_starts branch_layer_starts stmt_layer_starts
+
+-- the same of an arm and of a branch
+abbrev pub starts_of_arm : Arm → Starts
+starts_of_arm = fold-Arm Starts Starts Starts Starts stmt_kind_starts arm_layer_starts branch_layer_starts stmt_layer_starts
+
+abbrev pub starts_of_branch : Branch → Starts
+starts_of_branch = fold-Branch Starts Starts Starts Starts stmt_kind_starts arm_layer_starts branch_layer_starts stmt_layer_starts
+
+abbrev pub unit_starts : UnitDef → Starts
+unit_starts unit = joined (map starts_of unit.body)
+
+-- where the statements of all units begin, in source order
+abbrev pub all_starts : List UnitDef → Starts
+all_starts units = joined (map unit_starts units)
