@@ -27,7 +27,7 @@ use Rattle.bl_tree.specs.declared.tree.StructDef.{StructDef}
 use Rattle.bl_tree.specs.declared.tree.Ty.{Ty}
 use Rattle.bl_tree.specs.Reduce.{joined}
 use Rattle.bl_tree.specs.Types.{scalar_in}
-use Rattle.bl_named.specs.declared.expr.NamedExpr.{NamedExpr, out-NamedExpr}
+use Rattle.bl_named.specs.declared.expr.NamedExpr.{NamedExpr}
 use Rattle.bl_named.specs.declared.item.NamedConstant.{NamedConstant}
 use Rattle.bl_named.specs.declared.item.NamedField.{NamedField}
 use Rattle.bl_named.specs.declared.item.NamedStruct.{NamedStruct}
@@ -86,15 +86,12 @@ abbrev pub not_scalar : Place → Option Ty → List Failure
 not_scalar at (Some ty) = unless (is_some (scalar_in ty)) rule.Type at
 not_scalar at None = []
 
-abbrev pub not_folded : Place → Option Expr → List Failure
-not_folded at (Some e) = not_constant at (folded e)
-not_folded at None = []
+-- a constant with this value
+abbrev pub constant_of : NamedExpr → Valued → Constant
+constant_of e valued = record { ty = option_and_then scalar_in valued.ty; value = number_or_zero (folded e valued.value) }
 
-abbrev pub constant_of : Valued → Constant
-constant_of valued = record { ty = option_and_then scalar_in valued.ty; value = number_or_zero (option_and_then folded valued.value) }
-
-abbrev pub constant_failures : Place → Place → Valued → List Failure
-constant_failures name at valued = not_scalar name valued.ty ++ not_folded at valued.value
+abbrev pub constant_failures : Place → NamedExpr → Valued → List Failure
+constant_failures name e valued = not_scalar name valued.ty ++ not_constant e valued.value
 
 abbrev pub with_constant : Environment → Constant → Environment
 with_constant env constant = record env { constants = env.constants ++ constant ∷ [] }
@@ -104,8 +101,8 @@ abbrev pub after_constant : NamedConstant → Environment → Declaring
 after_constant constant env =
     let value : Initial = initial env constant.ty constant.value in
     record {
-      env = with_constant env (constant_of value.valued);
-      failures = value.failures ++ constant_failures constant.name.place (out-NamedExpr constant.value).place value.valued;
+      env = with_constant env (constant_of constant.value value.valued);
+      failures = value.failures ++ constant_failures constant.name.place constant.value value.valued;
     }
 
 -- ---- variables

@@ -108,7 +108,7 @@ fails_type at = record { form = Failing; failures = fails_at rule.Type at }
 abbrev pub has_type : Ty → Expr → Formed
 has_type ty e = record { form = Of ty e; failures = [] }
 
--- the expression, where it has a type; the form at this place fails otherwise
+-- Type: the operands of a form don't fit it; at the whole form. Where they do, it has this type
 abbrev pub formed_as : Option Ty → Place → Expr → Formed
 formed_as (Some ty) at e = has_type ty e
 formed_as None at e = fails_type at
@@ -119,7 +119,8 @@ after_failures earlier formed = record { form = formed.form; failures = earlier 
 
 -- ---- where a type is wanted
 
--- an expression with a type, where some type is wanted
+-- Type: an expression has another type than is wanted of it: the value of an assignment or a declaration, an argument, a condition or
+-- what is returned; at the expression
 abbrev pub same_or_unfit : Ty → Place → Ty → Expr → Settled
 same_or_unfit wanted at ty e = if same_type wanted ty then kept e else unfit at
 
@@ -173,7 +174,7 @@ operands_made at op ty _ _ = failing
 abbrev pub two_of : Place → Op → Option Ty → Settled → Settled → Formed
 two_of at op ty a b = after_failures a.failures (after_failures b.failures (operands_made at op ty a.made b.made))
 
--- an open operand beside one of this type: a logical operator wants a bool of it, which it never is
+-- an open operand beside one of this type, which it takes. Type: a logical operator wants a bool of it, which it never is; at the operand
 abbrev pub beside : Op → Ty → Expr → Settled
 beside op ty e = if is_logical op then unfit (out-Expr e).place else given ty e
 
@@ -185,9 +186,15 @@ settled_two at op a b = two_of at op (type_of_two op (scalar int32) (scalar int3
 abbrev pub open_two : Place → Op → Expr → Expr → Formed
 open_two at op a b = if keeps_two_open op then record { form = Open (two at op a b); failures = [] } else settled_two at op a b
 
+-- a form with an operand that has no type has none either, and no clause compares its operands. Of an open operand nothing is wanted
+-- there, but a bool by a logical operator: it takes `int32`
+abbrev pub beside_none : Op → Form → Formed
+beside_none op (Open e) = record { form = Failing; failures = (beside op (scalar int32) e).failures }
+beside_none op _ = failing
+
 abbrev pub two_formed : Place → Op → Form → Form → Formed
-two_formed at op Failing b = failing
-two_formed at op (Open a) Failing = failing
+two_formed at op Failing b = beside_none op b
+two_formed at op (Open a) Failing = beside_none op (Open a)
 two_formed at op (Open a) (Open b) = open_two at op a b
 two_formed at op (Open a) (Of ty b) = two_of at op (type_of_two op ty ty) (beside op ty a) (kept b)
 two_formed at op (Of ty a) Failing = failing
@@ -253,37 +260,43 @@ pub record Stepped : Type 0 where
 abbrev pub lost : List Failure → Stepped
 lost failures = record { ty = None; part = None; failures = failures }
 
+-- Type: what is reached is no struct with a field of the name; at the name
 abbrev pub field_found : Place → Option FieldAt → Stepped
 field_found at (Some field) = record { ty = Some field.ty; part = Some (part.Field field.position); failures = [] }
 field_found at None = lost (fails_at rule.Type at)
 
--- a step to a field: it fails at the field's name where what is reached has no such field
+-- a step to a field
 abbrev pub to_field : List StructDef → Name → Option Ty → Stepped
 to_field structs name (Some ty) = field_found name.place (field_in structs name.text (out-Ty ty))
 to_field structs name None = lost []
 
+-- Type: an index has no whole-number type; at the index
 abbrev pub whole_or_unfit : Place → Option ScalarType → Expr → Settled
 whole_or_unfit at (Some s) e = if is_whole s then kept e else unfit at
 whole_or_unfit at None e = unfit at
 
--- an expression as an index, which has a whole-number type
+-- an expression as an index, of which nothing is wanted but a whole number: an open one takes `int32`
 abbrev pub as_index : Place → Form → Settled
 as_index at Failing = nothing
 as_index at (Open e) = settled int32 e
 as_index at (Of ty e) = whole_or_unfit at (scalar_in ty) e
 
-abbrev pub index_made : Ty → Settled → Stepped
-index_made element index = record { ty = option_map (λ e. element) index.made; part = option_map part.Index index.made; failures = index.failures }
+-- the elements of what has this type have this one, where that is an array
+abbrev pub element_type : Option Ty → Option Ty
+element_type reached = option_and_then (λ ty. element_in (out-Ty ty)) reached
 
--- it fails at the index where what is reached is no array
-abbrev pub element_found : Option Ty → Place → Form → Stepped
-element_found (Some element) at index = index_made element (as_index at index)
-element_found None at index = lost (fails_at rule.Type at)
+-- Type: what is reached is no array; at the index
+abbrev pub no_array : Place → Option Ty → List Failure
+no_array at (Some ty) = unless (is_some (element_in (out-Ty ty))) rule.Type at
+no_array at None = []
 
--- a step to an element, behind the form of its index
+-- a step to an element, behind the form of its index, which is judged as one whatever is reached
 abbrev pub to_element : Place → Form → Option Ty → Stepped
-to_element at index (Some ty) = element_found (element_in (out-Ty ty)) at index
-to_element at index None = lost []
+to_element at index reached = record {
+  ty = option_and_then (λ e. element_type reached) (as_index at index).made;
+  part = option_map part.Index (as_index at index).made;
+  failures = no_array at reached ++ (as_index at index).failures;
+}
 
 abbrev pub after_index : Judged → Stepped → Stepped
 after_index index step = record { ty = step.ty; part = step.part; failures = index.failures ++ step.failures }

@@ -1,34 +1,51 @@
 -- The numbers that constants stand for.
-use Rattle.std.specs.Prelude.{ℤ, pos, Bool, true, false, ◌&&◌, List, [], Option, Some, None, if◌then◌else◌}
-use Rattle.bl_tree.specs.declared.place.Place.{Place}
+use Rattle.std.specs.Prelude.{ℤ, pos, Bool, true, false, not, ◌&&◌, is_none, List, [], Option, Some, None, option_and_then, if◌then◌else◌}
 use Rattle.bl_tree.specs.declared.rule.Failure.{Failure}
 use Rattle.bl_tree.specs.declared.rule.Rule.TheVariants as rule
-use Rattle.bl_tree.specs.declared.tree.Expr.{Expr, fold-Expr}
-use Rattle.bl_tree.specs.declared.tree.ExprKind.TheOpen.{ExprKind-F, Part-F, Path-F, Expr-F}
+use Rattle.bl_tree.specs.declared.tree.Expr.{Expr}
+use Rattle.bl_named.specs.declared.expr.NamedExpr.{NamedExpr, fold-NamedExpr, out-NamedExpr}
+use Rattle.bl_named.specs.declared.expr.NamedExprKind.TheOpen.{NamedExprKind-F, NamedPart-F, NamedExpr-F, NamedTarget-F}
+use Rattle.bl_named.specs.declared.expr.NamedTarget.{NamedTarget, fold-NamedTarget}
+use Rattle.bl_named.specs.declared.expr.Root.{Root}
+use Rattle.bl_named.specs.declared.expr.Root.TheVariants as root
 use Rattle.bl_eval.specs.declared.datum.Operand.{Operand}
 use Rattle.bl_eval.specs.Meaning.{Scope, View, meaning_of, operand}
 use Rattle.bl_types.specs.declared.fold.Number.{Number}
-use Rattle.bl_types.specs.Failures.{fails_at}
+use Rattle.bl_types.specs.Failures.{unless}
 
-abbrev pub constant_kind : ExprKind-F Bool (Unit {0}) Bool (Unit {0}) → Bool
-constant_kind (ExprKind-F.Literal n s) = true
-constant_kind (ExprKind-F.One op a) = a
-constant_kind (ExprKind-F.Two op a b) = a && b
-constant_kind (ExprKind-F.Cast s a) = a
+-- ---- what a constant's value is made of
+
+abbrev pub constant_kind : NamedExprKind-F Bool (Unit {0}) Bool Bool → Bool
+constant_kind (NamedExprKind-F.Number minus n) = true
+constant_kind (NamedExprKind-F.Truth truth) = true
+constant_kind (NamedExprKind-F.Read target) = target
+constant_kind (NamedExprKind-F.One op a) = a
+constant_kind (NamedExprKind-F.Two op a b) = a && b
+constant_kind (NamedExprKind-F.Cast target a) = a
 constant_kind _ = false
 
-abbrev pub constant_part : Part-F Bool (Unit {0}) Bool (Unit {0}) → Unit {0}
+abbrev pub constant_part : NamedPart-F Bool (Unit {0}) Bool Bool → Unit {0}
 constant_part part = tt
 
-abbrev pub constant_layer : Expr-F Bool (Unit {0}) Bool (Unit {0}) → Bool
+abbrev pub constant_layer : NamedExpr-F Bool (Unit {0}) Bool Bool → Bool
 constant_layer e = e.what
 
-abbrev pub constant_path : Path-F Bool (Unit {0}) Bool (Unit {0}) → Unit {0}
-constant_path path = tt
+abbrev pub whole_constant : Root → List (Unit {0}) → Bool
+whole_constant (root.Constant k) [] = true
+whole_constant _ _ = false
 
--- whether an expression is made of literals, operators and casts alone; a constant stands as a literal
-abbrev pub is_constant : Expr → Bool
-is_constant = fold-Expr Bool (Unit {0}) Bool (Unit {0}) constant_kind constant_part constant_layer constant_path
+abbrev pub constant_target : NamedTarget-F Bool (Unit {0}) Bool Bool → Bool
+constant_target target = whole_constant target.root target.parts
+
+-- whether an expression is made of literals, constants, operators and casts alone, whatever its type, and also where it has none
+abbrev pub is_constant : NamedExpr → Bool
+is_constant = fold-NamedExpr Bool (Unit {0}) Bool Bool constant_kind constant_part constant_layer constant_target
+
+-- whether a target is a constant and no part of one
+abbrev pub constant_target_of : NamedTarget → Bool
+constant_target_of = fold-NamedTarget Bool (Unit {0}) Bool Bool constant_kind constant_part constant_layer constant_target
+
+-- ---- the number that it stands for
 
 -- where there are no variables and no functions
 abbrev pub nowhere : Scope
@@ -45,15 +62,19 @@ number_in e = operand (meaning_of nowhere e) no_values
 abbrev pub as_operand : Number → Operand
 as_operand a = record { ty = a.ty; n = a.n }
 
--- the number of a constant's value; none where that is made of other things too, or traps
-abbrev pub folded : Expr → Option Operand
-folded e = if is_constant e then number_in e else None
+-- the number of a constant whose value is made of these; none where that has no type, or traps
+abbrev pub folded : NamedExpr → Option Expr → Option Operand
+folded e value = if is_constant e then option_and_then number_in value else None
 
 abbrev pub number_or_zero : Option Operand → ℤ
 number_or_zero (Some a) = a.n
 number_or_zero None = pos 0
 
--- Constant: a constant's value is not made of literals, constants, operators and casts alone, or traps
-abbrev pub not_constant : Place → Option Operand → List Failure
-not_constant at (Some a) = []
-not_constant at None = fails_at rule.Constant at
+-- whether a value traps; one without a type doesn't
+abbrev pub traps : Option Expr → Bool
+traps (Some e) = is_none (number_in e)
+traps None = false
+
+-- Constant: a constant's value isn't made of literals, constants, operators and casts alone, or it traps; at the value
+abbrev pub not_constant : NamedExpr → Option Expr → List Failure
+not_constant e value = unless (is_constant e && not (traps value)) rule.Constant (out-NamedExpr e).place

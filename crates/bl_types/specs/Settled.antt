@@ -76,10 +76,12 @@ unfit at = record { made = None; failures = fails_at rule.Type at }
 
 -- ---- an open expression as one of a type
 
+-- Type: the operator doesn't take the type that its operands take; at the form
 abbrev pub one_made : ScalarType → Place → Op → Option Expr → Settled
 one_made s at op (Some a) = if takes_one op s then kept (one at op a) else unfit at
 one_made s at op None = nothing
 
+-- the same of two operands
 abbrev pub two_made : ScalarType → Place → Op → Option Expr → Option Expr → Settled
 two_made s at op (Some a) (Some b) = if takes_two op s then kept (two at op a b) else unfit at
 two_made s at op _ _ = nothing
@@ -88,8 +90,7 @@ two_made s at op _ _ = nothing
 abbrev pub behind : List Failure → Settled → Settled
 behind earlier settled = record { made = settled.made; failures = earlier ++ settled.failures }
 
--- at a place, an operator fails rule Type where the type doesn't have it and its operands have the type, and a number fails
--- rule Literal where it isn't one of the type
+-- Literal: a number isn't in the range of its type; at the number, with its minus
 abbrev pub settled_kind : ScalarType → ExprKind-F (Place → Settled) (Unit {0}) Settled (Unit {0}) → Place → Settled
 settled_kind s (ExprKind-F.Literal n t) at = record { made = Some (literal at n s); failures = unless (in_range s n) rule.Literal at }
 settled_kind s (ExprKind-F.One op a) at = behind a.failures (one_made s at op a.made)
@@ -115,7 +116,7 @@ abbrev pub settled_if : Bool → ScalarType → Expr → Settled
 settled_if true s e = settled s e
 settled_if false s e = unfit (out-Expr e).place
 
--- of a scalar, which is to be a whole-number type; none stands for an aggregate. It fails at itself otherwise
+-- Type: a bool or an aggregate is wanted of an open expression; at itself. None stands for an aggregate
 abbrev pub given_scalar : Option ScalarType → Expr → Settled
 given_scalar (Some s) e = settled_if (is_whole s) s e
 given_scalar None e = unfit (out-Expr e).place

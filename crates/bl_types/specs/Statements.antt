@@ -139,6 +139,7 @@ pub record Lent : Type 0 where
   pub made : Option Path
   pub failures : List Failure
 
+-- Type: an output argument or the target of a run has another type than is wanted; at it
 abbrev pub lent_as : Option Ty → Place → Found → Lent
 lent_as (Some wanted) at (found.Place path) = if same_type wanted
     (out-Path path).ty then record { made = Some path; failures = [] } else record { made = None; failures = fails_at rule.Type at }

@@ -5,24 +5,23 @@ ghost use Rattle.std.specs.Prelude.{◌≡◌, IfOk, OnOk, map, option_and_then,
 ghost use Rattle.bl_tree.specs.Types.{scalar_in};
 ghost use Rattle.bl_tree.specs.Reduce.{joined};
 ghost use Rattle.bl_types.specs.Declarations.{after_constant, after_parameter, after_parameters, after_struct, after_variable, constant_failures};
-ghost use Rattle.bl_types.specs.Declarations.{constant_of, expr_of_form, field_lengths, field_of, initial, is_parameter, not_folded};
+ghost use Rattle.bl_types.specs.Declarations.{constant_of, expr_of_form, field_lengths, field_of, initial, is_parameter};
 ghost use Rattle.bl_types.specs.Declarations.{optional_lengths, type_of_form, with_variable};
 ghost use Rattle.bl_types.specs.Failures.{noted};
-ghost use Rattle.bl_types.specs.Folded.{folded, number_or_zero};
 ghost use Rattle.bl_types.specs.inner.States.{after};
 ghost use Rattle.bl_types.specs.Written.{written_type};
 
 use crate::environment::{Constant, Environment, State, Variable};
 use crate::expr::{in_context, judge};
 use crate::failure::Notes;
-use crate::fold::folded;
+use crate::fold::constant_number;
 use crate::form::{Form, Valued};
 use crate::operators::closed;
 use crate::types::{scalar_in, typed};
 use bl_named::expr::NamedExpr;
 use bl_named::item::{NamedConstant, NamedField, NamedStruct, NamedVar};
 use bl_named::types::NamedType;
-use bl_tree::tree::{Expr, Field, Role, StructDef, Ty};
+use bl_tree::tree::{Field, Role, StructDef, Ty};
 use bl_tree::{List, NoMemory, Place, Rule, Scalar, Text};
 use std::alloc::Global;
 
@@ -79,10 +78,10 @@ fn scalar_of(ty: &Option<Ty>) -> Option<Scalar>
     }
 }
 
-/// A constant is to be scalar, and its value is to be made of literals, constants, operators and casts alone, and not to trap.
-fn constant_of(name: Place, at: Place, valued: &Valued, notes: &mut Notes) -> Constant
-    ensures constant { result ≡ constant_of valued.now }
-    ensures notes { notes.new ≡ noted notes.old (constant_failures name at valued.now) }
+/// A constant is to be scalar, and its value one that stands for a number.
+fn constant_of(name: Place, e: &NamedExpr, valued: &Valued, notes: &mut Notes) -> Constant
+    ensures constant { result ≡ constant_of e.now valued.now }
+    ensures notes { notes.new ≡ noted notes.old (constant_failures name e.now valued.now) }
 {
     let ty = scalar_of(&valued.ty);
     if valued.ty.is_some() && ty.is_none() {
@@ -90,23 +89,7 @@ fn constant_of(name: Place, at: Place, valued: &Valued, notes: &mut Notes) -> Co
     }
     Constant {
         ty,
-        value: number_of(at, &valued.value, notes),
-    }
-}
-
-fn number_of(at: Place, value: &Option<Expr>, notes: &mut Notes) -> i128
-    ensures number { result ≡ number_or_zero (option_and_then folded value.now) }
-    ensures notes { notes.new ≡ noted notes.old (not_folded at value.now) }
-{
-    match value {
-        Some(e) => match folded(e) {
-            Some(a) => a.n,
-            None => {
-                notes.fail(Rule::Constant, at);
-                0
-            }
-        },
-        None => 0,
+        value: constant_number(e, &valued.value, notes),
     }
 }
 
@@ -123,7 +106,7 @@ pub fn constant(alloc: Global, constant: &NamedConstant, state: &mut State) -> R
     )?;
     let made = constant_of(
         constant.name.place,
-        constant.value.place,
+        &constant.value,
         &value,
         &mut state.notes,
     );

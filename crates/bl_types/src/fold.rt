@@ -3,10 +3,13 @@
 ghost use Rattle.std.specs.Prelude.{◌≡◌, ◌↔◌, IsTrue, option_and_then, option_map};
 ghost use Rattle.bl_tree.specs.Scalar.{InRange, in_range};
 ghost use Rattle.bl_eval.specs.Meaning.{applied_one, applied_two, cast_datum, decides, one_datum, operand_in, two_data, two_datum};
-ghost use Rattle.bl_types.specs.Folded.{as_operand, folded, is_constant, number_in};
+ghost use Rattle.bl_types.specs.Failures.{noted};
+ghost use Rattle.bl_types.specs.Folded.{as_operand, constant_target_of, folded, is_constant, not_constant, number_in, number_or_zero};
 
+use crate::failure::Notes;
+use bl_named::expr::{NamedExpr, NamedExprKind, NamedTarget, Root};
 use bl_tree::tree::{Expr, ExprKind};
-use bl_tree::{Op, Scalar, checked, checked_one};
+use bl_tree::{Op, Rule, Scalar, checked, checked_one};
 
 /// A number and its type.
 #[derive(Clone, Copy)]
@@ -121,15 +124,29 @@ fn cast(target: Scalar, a: Option<Number>) -> Option<Number>
     }
 }
 
-/// Whether an expression is made of literals, operators and casts alone.
-fn is_constant(e: &Expr) -> bool
+/// Whether a target is a constant and no part of one.
+fn is_whole_constant(target: &NamedTarget) -> bool
+    ensures { result ≡ constant_target_of target.now }
+{
+    match target.root {
+        Root::Constant(_) => match target.parts.as_slice() {
+            [] => true,
+            [_, ..] => false,
+        },
+        Root::Variable(_) => false,
+    }
+}
+
+/// Whether an expression is made of literals, constants, operators and casts alone.
+fn is_constant(e: &NamedExpr) -> bool
     ensures { result ≡ is_constant e.now }
 {
     match &e.what {
-        ExprKind::Literal(_, _) => true,
-        ExprKind::One(_, a) | ExprKind::Cast(_, a) => is_constant(a),
-        ExprKind::Two(_, a, b) => is_constant(a) && is_constant(b),
-        ExprKind::Read(_) | ExprKind::Prev(_) | ExprKind::Call(_, _) => false,
+        NamedExprKind::Number(_, _) | NamedExprKind::Truth(_) => true,
+        NamedExprKind::Read(target) => is_whole_constant(target),
+        NamedExprKind::One(_, a) | NamedExprKind::Cast(_, a) => is_constant(a),
+        NamedExprKind::Two(_, a, b) => is_constant(a) && is_constant(b),
+        NamedExprKind::Prev(_) | NamedExprKind::Call(_, _, _) => false,
     }
 }
 
@@ -146,9 +163,32 @@ fn number_in(e: &Expr) -> Option<Number>
     }
 }
 
-/// The number of a constant's value; `None` where that is made of other things too, or traps.
-pub fn folded(e: &Expr) -> Option<Number>
-    ensures { option_map as_operand result ≡ folded e.now }
+fn number_of(value: &Option<Expr>) -> Option<Number>
+    ensures { option_map as_operand result ≡ option_and_then number_in value.now }
 {
-    if is_constant(e) { number_in(e) } else { None }
+    match value {
+        Some(e) => number_in(e),
+        None => None,
+    }
+}
+
+/// The number of a constant, and 0 where it has none. Its value is to be made of literals, constants, operators and casts alone, and
+/// not to trap.
+pub fn constant_number(e: &NamedExpr, value: &Option<Expr>, notes: &mut Notes) -> i128
+    ensures number { result ≡ number_or_zero (folded e.now value.now) }
+    ensures notes { notes.new ≡ noted notes.old (not_constant e.now value.now) }
+{
+    if !is_constant(e) {
+        notes.fail(Rule::Constant, e.place);
+        return 0;
+    }
+    match number_of(value) {
+        Some(a) => a.n,
+        None => {
+            if value.is_some() {
+                notes.fail(Rule::Constant, e.place);
+            }
+            0
+        }
+    }
 }

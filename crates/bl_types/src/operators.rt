@@ -4,7 +4,7 @@
 ghost use Rattle.std.specs.Prelude.{◌≡◌, IfOk, OnOk, Some, option_and_then};
 ghost use Rattle.bl_tree.specs.Types.{scalar, scalar_in};
 ghost use Rattle.bl_tree.specs.Typing.{cast_type, one_type};
-ghost use Rattle.bl_types.specs.Expressions.{beside, cast, cast_formed, closed_form, fitting, formed_as, one_formed, open_two, operands_made};
+ghost use Rattle.bl_types.specs.Expressions.{beside, beside_none, cast, cast_formed, closed_form, fitting, formed_as, one_formed, open_two, operands_made};
 ghost use Rattle.bl_types.specs.Expressions.{settled_two, two_formed, unwanted, type_of_two};
 ghost use Rattle.bl_types.specs.Failures.{noted};
 ghost use Rattle.bl_types.specs.Settled.{int32};
@@ -149,6 +149,18 @@ fn int32() -> Ty
     Ty::Scalar(INT32)
 }
 
+/// A form with an operand that has no type: it has none either. Of the other operand nothing is wanted but what the operator wants.
+fn beside_none(alloc: Global, op: Op, other: Form, notes: &mut Notes) -> Result<Form, NoMemory>
+    ensures form { IfOk result (λ form. form ≡ (beside_none op other).form) }
+    ensures notes { OnOk result (notes.new ≡ noted notes.old (beside_none op other).failures) }
+{
+    if let Form::Open(e) = other {
+        let int32 = int32();
+        beside(alloc, op, &int32, &e, notes)?;
+    }
+    Ok(Form::Failing)
+}
+
 /// Two open operands that take `int32`.
 fn settled_two(
     alloc: Global,
@@ -230,7 +242,7 @@ fn after_open(
     ensures notes { OnOk result (notes.new ≡ noted notes.old (two_formed at op (Open a) b).failures) }
 {
     match b {
-        Form::Failing => Ok(Form::Failing),
+        Form::Failing => beside_none(alloc, op, Form::Open(a), notes),
         Form::Open(b) => open_two(alloc, at, op, a, b, notes),
         Form::Of(ty, b) => open_and_typed(alloc, at, op, a, ty, b, notes),
     }
@@ -271,7 +283,7 @@ pub fn of_two(
     ensures notes { OnOk result (notes.new ≡ noted notes.old (two_formed at op a b).failures) }
 {
     match a {
-        Form::Failing => Ok(Form::Failing),
+        Form::Failing => beside_none(alloc, op, b, notes),
         Form::Open(a) => after_open(alloc, at, op, a, b, notes),
         Form::Of(ty, a) => after_typed(alloc, at, op, ty, a, b, notes),
     }

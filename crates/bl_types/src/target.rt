@@ -3,9 +3,9 @@
 
 ghost use Rattle.std.specs.Prelude.{◌≡◌, IfOk, OnOk, Some, option_and_then, option_map};
 ghost use Rattle.bl_tree.specs.Types.{scalar_in};
-ghost use Rattle.bl_types.specs.Expressions.{as_index, constant_found, element_found, field_among, field_in, path_found, to_element, to_field};
+ghost use Rattle.bl_types.specs.Expressions.{as_index, constant_found, element_type, field_among, field_in, no_array, path_found, to_element, to_field};
 ghost use Rattle.bl_types.specs.Expressions.{type_of_constant, type_of_variable, value_of_constant, whole_or_unfit};
-ghost use Rattle.bl_tree.specs.declared.tree.Part.TheVariants.{Field as ToField};
+ghost use Rattle.bl_tree.specs.declared.tree.Part.TheVariants.{Field as ToField, Index as ToElement};
 ghost use Rattle.bl_tree.specs.declared.tree.Ty.{out-Ty};
 ghost use Rattle.bl_types.specs.Failures.{noted};
 
@@ -130,27 +130,46 @@ fn whole(at: Place, ty: &Ty, e: Expr, notes: &mut Notes) -> Option<Expr>
     }
 }
 
-fn index_step(
-    alloc: Global,
-    element: &Ty,
-    at: Place,
-    form: Form,
-    notes: &mut Notes,
-) -> Result<Step, NoMemory>
-    ensures ty { IfOk result (λ step. step.ty ≡ (element_found (Some element.now) at form).ty) }
-    ensures part { IfOk result (λ step. step.part ≡ (element_found (Some element.now) at form).part) }
-    ensures notes { OnOk result (notes.new ≡ noted notes.old (element_found (Some element.now) at form).failures) }
+/// The type of the elements of what has the type, where that is an array.
+fn element_type(alloc: Global, ty: &Option<Ty>) -> Result<Option<Ty>, NoMemory>
+    ensures { IfOk result (λ element. element ≡ element_type ty.now) }
 {
-    match as_index(alloc, at, form, notes)? {
-        Some(e) => Ok(Step {
-            ty: Some(copy_of(alloc, element)?),
-            part: Some(Part::Index(e)),
-        }),
-        None => Ok(Step::lost()),
+    match ty {
+        Some(ty) => match ty {
+            Ty::Array(_, element) => Ok(Some(copy_of(alloc, element)?)),
+            _ => Ok(None),
+        },
+        None => Ok(None),
     }
 }
 
 /// Fails at the index where what is reached is no array.
+fn in_array(at: Place, ty: &Option<Ty>, notes: &mut Notes)
+    ensures { notes.new ≡ noted notes.old (no_array at ty.now) }
+{
+    match ty {
+        Some(ty) => match ty {
+            Ty::Array(_, _) => {}
+            _ => notes.fail(Rule::Type, at),
+        },
+        None => {}
+    }
+}
+
+fn index_step(element: Option<Ty>, index: Option<Expr>) -> Step
+    ensures ty { result.ty ≡ option_and_then (λ e. element) index }
+    ensures part { result.part ≡ option_map ToElement index }
+{
+    match index {
+        Some(e) => Step {
+            ty: element,
+            part: Some(Part::Index(e)),
+        },
+        None => Step::lost(),
+    }
+}
+
+/// A step to an element. Its index is judged whatever is reached.
 pub fn to_element(
     alloc: Global,
     at: Place,
@@ -162,16 +181,10 @@ pub fn to_element(
     ensures part { IfOk result (λ step. step.part ≡ (to_element at form ty).part) }
     ensures notes { OnOk result (notes.new ≡ noted notes.old (to_element at form ty).failures) }
 {
-    let Some(ty) = ty else {
-        return Ok(Step::lost());
-    };
-    match &ty {
-        Ty::Array(_, element) => index_step(alloc, element, at, form, notes),
-        _ => {
-            notes.fail(Rule::Type, at);
-            Ok(Step::lost())
-        }
-    }
+    in_array(at, &ty, notes);
+    let element = element_type(alloc, &ty)?;
+    let index = as_index(alloc, at, form, notes)?;
+    Ok(index_step(element, index))
 }
 
 pub fn type_of_variable(alloc: Global, var: Option<&Variable>) -> Result<Option<Ty>, NoMemory>

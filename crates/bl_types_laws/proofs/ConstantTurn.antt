@@ -1,7 +1,6 @@
 -- What is made of the items behind a constant.
 use Rattle.std.proofs.Common.{◌≡◌, refl, true, List, [], ◌∷◌, length, map, take, sym, ap, ◌∙◌, append-nil}
-use Rattle.std.specs.List.{list_all}
-use Rattle.bl_eval.proofs.PassLemmas.{and_left, and_right}
+use Rattle.bl_eval.proofs.PassLemmas.{and_right}
 use Rattle.bl_named.specs.declared.item.Item.TheVariants as kind
 use Rattle.bl_named.specs.declared.item.NamedConstant.{NamedConstant}
 use Rattle.bl_named.specs.declared.item.NamedUnit.{NamedUnit}
@@ -71,7 +70,7 @@ module _ (named : Named) (suits : Suits named) where
           units = ends_on named.units scopes.counts.units behind_constant.counts.units [] (along units_of behind_constant items) on.more_units at.units;
           counts = same_counts (after_constant new_constant env).env behind_constant
               (no_more (length env.structs) scopes.counts.structs behind_constant.counts.structs (ap (λ (e : Earlier). e.structs) at.counts) on.more_structs)
-              (one_more env.constants (constant_of (initial env new_constant.ty new_constant.value).valued) scopes.counts.constants
+              (one_more env.constants (constant_of new_constant.value (initial env new_constant.ty new_constant.value).valued) scopes.counts.constants
               behind_constant.counts.constants (ap (λ (e : Earlier). e.constants) at.counts) on.more_constants)
               (no_more (length env.units) scopes.counts.units behind_constant.counts.units (ap (λ (e : Earlier). e.units) at.counts) on.more_units)
               (ap length at.between.vars ∙ sym on.none);
@@ -89,6 +88,7 @@ module _ (named : Named) (suits : Suits named) where
       more = rest.more;
       units = rest.units;
       units_stand = rest.units_stand;
+      shallow = rest.shallow;
       unit_names = rest.unit_names;
       driven = rest.driven;
       starts = rest.starts;

@@ -228,9 +228,9 @@ module _ (site : Site) (good : StmtKind → Bool) where
       let stands = constant_fits env (site_in env) (within_in env site around known) constant placed own none in
       let value : Initial = initial env constant.ty constant.value in
       record {
-        grown = constant_grown env (constant_of value.valued);
-        known = constant_known env (constant_of value.valued) known stands;
-        counts_are = constant_counts env (constant_of value.valued) counts holds.1;
+        grown = constant_grown env (constant_of constant.value value.valued);
+        known = constant_known env (constant_of constant.value value.valued) known stands;
+        counts_are = constant_counts env (constant_of constant.value value.valued) counts holds.1;
         is_good = λ there a is. absurd (nothing_made a is);
         is_made = λ must there. absurd (not_must must);
       }

@@ -15,7 +15,6 @@ use Rattle.bl_tree.specs.Apart as names
 use Rattle.bl_tree.specs.Depths as depths
 use Rattle.bl_tree.specs.Numbers.{number_of}
 use Rattle.bl_tree.specs.Types.{scalar_in}
-use Rattle.bl_tree.specs.Typing.{element_in}
 use Rattle.bl_raw.specs.declared.name.Name.{Name}
 use Rattle.bl_named.specs.declared.expr.NamedExpr.{NamedExpr, fold-roll-NamedExpr}
 use Rattle.bl_named.specs.declared.expr.NamedExprKind.{NamedExprKind, fold-NamedExprKind, fold-roll-NamedExprKind, map-NamedExprKind}
@@ -35,8 +34,8 @@ use Rattle.bl_types.specs.Expressions.{
   Stepped,
   Targeted,
   all_made,
+  as_index,
   constant_found,
-  element_found,
   field_found,
   field_in,
   fitted,
@@ -118,14 +117,8 @@ index_part_in : (index : Option Expr) (size : Size) → ExprIn size index → Pa
 index_part_in (Some e) size most = size_is (size_of_part (part.Index e)) (deeper (size_of e)) (deeper size) (index_size e) (size_deeper (size_of e) size most)
 index_part_in None size most = tt
 
-element_part_in : (element : Option Ty) (at : Place) (form : Form) (size : Size) → FormIn size form →
-    PartIn (deeper size) (element_found element at form).part
-element_part_in (Some element) at form size most = index_part_in _ size (as_index_in at form size most)
-element_part_in None at form size most = tt
-
 index_in_step : (at : Place) (form : Form) (ty : Option Ty) (size : Size) → FormIn size form → PartIn (deeper size) (to_element at form ty).part
-index_in_step at form (Some ty) size most = element_part_in (element_in (out-Ty ty)) at form size most
-index_in_step at form None size most = tt
+index_in_step at form ty size most = index_part_in (as_index at form).made size (as_index_in at form size most)
 
 -- ---- arguments
 

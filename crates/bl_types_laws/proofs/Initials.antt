@@ -1,16 +1,16 @@
 -- Initial values and constants.
 use Rattle.std.proofs.Common.{◌≡◌, List, [], Option, Some, None, refl, ap, sym, subst, ◌∙◌}
-use Rattle.std.specs.Prelude.{Bool, true, is_some, option_and_then, IfSome}
+use Rattle.std.specs.Prelude.{Bool, true, not, ◌&&◌, is_none, is_some, option_and_then, if◌then◌else◌, IfSome}
 use Rattle.std.proofs.lemmas.Option.{same_Some}
 use Rattle.bl_tree.specs.declared.place.Place.{Place}
 use Rattle.bl_tree.specs.declared.rule.Failure.{Failure}
 use Rattle.bl_tree.specs.declared.rule.Rule.TheVariants as rule
 use Rattle.bl_tree.specs.declared.scalar.Scalar.{Scalar as ScalarType}
-use Rattle.bl_tree.specs.declared.tree.Expr.{Expr, fold-roll-Expr}
-use Rattle.bl_tree.specs.declared.tree.ExprKind.{ExprKind, fold-ExprKind, fold-roll-ExprKind, map-ExprKind, out-roll-ExprKind, roll-ExprKind}
+use Rattle.bl_tree.specs.declared.tree.Expr.{Expr}
+use Rattle.bl_tree.specs.declared.tree.ExprKind.{ExprKind, fold-ExprKind, map-ExprKind, out-roll-ExprKind, roll-ExprKind}
 use Rattle.bl_tree.specs.declared.tree.ExprKind.TheOpen.{ExprKind-F}
-use Rattle.bl_tree.specs.declared.tree.Part.{Part, fold-Part}
-use Rattle.bl_tree.specs.declared.tree.Path.{Path, fold-Path}
+use Rattle.bl_tree.specs.declared.tree.Part.{Part}
+use Rattle.bl_tree.specs.declared.tree.Path.{Path}
 use Rattle.bl_tree.specs.declared.tree.Ty.{Ty}
 use Rattle.bl_tree.specs.declared.tree.Unit.{Unit as UnitDef}
 use Rattle.bl_tree.specs.declared.tree.UnitKind.TheVariants.{Function}
@@ -22,7 +22,7 @@ use Rattle.bl_eval.specs.declared.datum.Operand.{Operand}
 use Rattle.bl_eval.specs.Meaning.{meaning_of}
 use Rattle.bl_eval.proofs.ExprFits.{Sound, expr_fits}
 use Rattle.bl_eval.proofs.FitLemmas.{scalar_is}
-use Rattle.bl_eval.proofs.OperatorFits.{DatumFits, OperandFits, operand_fits, where_holds}
+use Rattle.bl_eval.proofs.OperatorFits.{DatumFits, OperandFits, operand_fits}
 use Rattle.bl_eval.proofs.PartFits.{type_of_part}
 use Rattle.bl_eval.proofs.PassLemmas.{and_left, and_right}
 use Rattle.bl_named.specs.declared.expr.NamedExpr.{NamedExpr, out-NamedExpr}
@@ -41,54 +41,29 @@ use Rattle.bl_types.specs.Declarations.{
   constant_of,
   expr_of_form,
   initial,
-  not_folded,
   not_scalar,
   type_of_form,
   typed_initial,
 }
 use Rattle.bl_types.specs.Expressions.{Judged, closed_form, in_context, judged, of_settled}
-use Rattle.bl_types.specs.Folded.{
-  constant_kind,
-  constant_layer,
-  constant_part,
-  constant_path,
-  folded,
-  is_constant,
-  no_values,
-  not_constant,
-  nowhere,
-  number_in,
-  number_or_zero,
-}
+use Rattle.bl_types.specs.Folded.{folded, is_constant, no_values, not_constant, nowhere, number_in, number_or_zero, traps}
 use Rattle.bl_types.specs.Settled.{Settled, int32}
 use Rattle.bl_types.specs.Written.{bad_lengths, written_type}
 use Rattle.bl_types_laws.specs.Fitting.{FormFits, InitialFits, IsMade}
 use Rattle.bl_types_laws.specs.Within.{ConstantStands, Within, calls_functions, known_in}
 use Rattle.bl_types_laws.proofs.Expressions.{expressions_fit, some_of, wanted_fits}
 use Rattle.bl_types_laws.proofs.Forms.{nil_left, nil_right, unless_holds}
+use Rattle.bl_types_laws.proofs.Nameless.{Layer, MadeNameless, initial_nameless, is_nameless, nameless_by, nameless_is}
 use Rattle.bl_types_laws.proofs.Typed.{kind_at}
 
--- ---- a constant's value has the same type at each site
+-- ---- what names nothing has the same type at each site
 
 module _ (site other : Site) where
   abbrev P : Expr → Type 0
-  P e = is_constant e ≡ true → type_of site e ≡ type_of other e
+  P e = is_nameless e ≡ true → type_of site e ≡ type_of other e
 
   abbrev Q : Path → Type 0
   Q path = Unit {0}
-
-  abbrev Layer : Type 0
-  Layer = ExprKind-F ExprKind Part Expr Path
-
-  abbrev constant_by : Layer → Bool
-  constant_by layer = constant_kind
-      (map-ExprKind ExprKind Part Expr Path Bool (Unit {0}) Bool (Unit {0})
-      (fold-ExprKind Bool (Unit {0}) Bool (Unit {0}) constant_kind constant_part constant_layer constant_path)
-      (fold-Part Bool (Unit {0}) Bool (Unit {0}) constant_kind constant_part constant_layer constant_path) is_constant
-      (fold-Path Bool (Unit {0}) Bool (Unit {0}) constant_kind constant_part constant_layer constant_path) layer)
-
-  constant_is : (place : Place) (layer : Layer) → is_constant (expr place layer) ≡ constant_by layer
-  constant_is place layer = rw (fold-roll-Expr, fold-roll-ExprKind) refl
 
   abbrev typed_by : Site → Layer → Option Ty
   typed_by site layer = kind_type site
@@ -96,10 +71,10 @@ module _ (site other : Site) where
       (fold-ExprKind (Option Ty) (Ty → Option Ty) (Option Ty) (Option Ty) (kind_type site) (part_type site) expr_type (path_type site)) (type_of_part site)
       (type_of site) (type_of_path site) layer)
 
-  by_kind : (place : Place) (layer : Layer) → (constant_by layer ≡ true → typed_by site layer ≡ typed_by other layer) → P (expr place layer)
+  by_kind : (place : Place) (layer : Layer) → (nameless_by layer ≡ true → typed_by site layer ≡ typed_by other layer) → P (expr place layer)
   by_kind place layer same is =
       kind_at site place (roll-ExprKind layer) layer (out-roll-ExprKind layer)
-      ∙ same (sym (constant_is place layer) ∙ is)
+      ∙ same (sym (nameless_is place layer) ∙ is)
       ∙ sym (kind_at other place (roll-ExprKind layer) layer (out-roll-ExprKind layer))
 
   same_cases : Cases P Q
@@ -112,17 +87,17 @@ module _ (site other : Site) where
     two = λ place op a b same more. by_kind place (ExprKind-F.Two op a b)
         (λ is.
         ap (λ found. option_and_then (λ s. option_and_then (two_type op s) (option_and_then scalar_in (type_of site b))) (option_and_then scalar_in found))
-        (same (and_left (is_constant a) (is_constant b) is))
+        (same (and_left (is_nameless a) (is_nameless b) is))
         ∙ ap (λ found. option_and_then (λ s. option_and_then (two_type op s) (option_and_then scalar_in found))
         (option_and_then scalar_in (type_of other a)))
-        (more (and_right (is_constant a) (is_constant b) is)));
+        (more (and_right (is_nameless a) (is_nameless b) is)));
     cast = λ place target a same. by_kind place (ExprKind-F.Cast target a)
         (λ is. ap (λ found. option_and_then (cast_type target) (option_and_then scalar_in found)) (same is));
     call = λ place f inputs each. by_kind place (ExprKind-F.Call f inputs) (λ is. absurd (cc));
     path = λ place root parts ty each. tt;
   }
 
-  same_everywhere : (e : Expr) → is_constant e ≡ true → type_of site e ≡ type_of other e
+  same_everywhere : (e : Expr) → is_nameless e ≡ true → type_of site e ≡ type_of other e
   same_everywhere = induct P Q same_cases
 
 -- ---- the number of a constant
@@ -136,15 +111,19 @@ number_of_type s None a fit is = absurd (cc)
 number_of_type s (Some b) a fit is = subst (λ (a : Operand). in_range s a.n ≡ true) (same_Some b a is) fit.1
 
 number_fits : (site : Site) (e : Expr) (ty : Ty) (s : ScalarType) (a : Operand) → type_of site e ≡ Some ty → scalar_in ty ≡ Some s →
-    is_constant e ≡ true →
+    is_nameless e ≡ true →
     number_in e ≡ Some a → in_range s a.n ≡ true
-number_fits site e ty s a typed scalar_is constant is =
-    let there : type_of (site_of [] [] empty) e ≡ Some ty = sym (same_everywhere site (site_of [] [] empty) e constant) ∙ typed in
+number_fits site e ty s a typed scalar_is nameless is =
+    let there : type_of (site_of [] [] empty) e ≡ Some ty = sym (same_everywhere site (site_of [] [] empty) e nameless) ∙ typed in
     let sound : Sound [] [] empty [] = record { structs_stand = refl; vars_stand = refl; callees_fit = tt } in
     let fit : IfSome (meaning_of nowhere e no_values) (DatumFits [] ty) = expr_fits [] [] empty [] sound no_values refl refl e ty there in
     number_of_type s (number_in e) a (operand_fits [] ty s (meaning_of nowhere e no_values) scalar_is fit) is
 
 -- ---- initial values
+
+not_none : (found : Option Operand) → not (is_none found) ≡ true → (a : Operand) × (found ≡ Some a)
+not_none None there = absurd (cc)
+not_none (Some a) there = (a, refl)
 
 module _ (site : Site) where
   closed_fits : (earlier : List Failure) (form : Form) → FormFits site form → (closed_form form).failures ≡ [] →
@@ -178,36 +157,38 @@ module _ (env : Environment) (site : Site) (within : Within env site) where
       closed_fits site value.failures value.form (expressions_fit env site within e placed calls
       (nil_left value.failures (closed_form value.form).failures none)) (nil_right value.failures (closed_form value.form).failures none)
 
-  folded_some : (at : Place) (found : Option Operand) → not_constant at found ≡ [] → (a : Operand) × (found ≡ Some a)
-  folded_some at None none = absurd (cc)
-  folded_some at (Some a) none = (a, refl)
-
-  constant_by_value : (name at : Place) (valued : Valued) → InitialFits site valued → constant_failures name at valued ≡ [] →
-      ConstantStands (constant_of valued)
-  constant_by_value name at valued fit none =
+  constant_by_value : (name : Place) (e : NamedExpr) (valued : Valued) → InitialFits site valued → (is_constant e ≡ true → MadeNameless valued.value) →
+      constant_failures name e valued ≡ [] →
+      ConstantStands (constant_of e valued)
+  constant_by_value name e valued fit nameless none =
       let scalar_none : not_scalar name (Some fit.ty) ≡ [] = ap (not_scalar name) (sym fit.is_typed)
-      ∙ nil_left (not_scalar name valued.ty) (not_folded at valued.value) none in
+      ∙ nil_left (not_scalar name valued.ty) (not_constant e valued.value) none in
       let found = some_of (scalar_in fit.ty) (unless_holds (is_some (scalar_in fit.ty)) rule.Type name scalar_none) in
-      let folded_none : not_folded at (Some fit.it) ≡ [] = ap (not_folded at) (sym fit.is_made)
-      ∙ nil_right (not_scalar name valued.ty) (not_folded at valued.value) none in
-      let number = folded_some at (folded fit.it) folded_none in
-      let holds = where_holds (is_constant fit.it) (number_in fit.it) number.0 number.1 in
-      let value : number_or_zero (option_and_then folded valued.value) ≡ number.0.n = ap (λ made. number_or_zero (option_and_then folded made)) fit.is_made
+      let good = unless_holds (is_constant e && not (traps valued.value)) rule.Constant (out-NamedExpr e).place
+      (nil_right (not_scalar name valued.ty) (not_constant e valued.value) none) in
+      let constant = and_left (is_constant e) (not (traps valued.value)) good in
+      let number = not_none (number_in fit.it)
+      (ap (λ value. not (traps value)) (sym fit.is_made) ∙ and_right (is_constant e) (not (traps valued.value)) good) in
+      let value : number_or_zero (folded e valued.value) ≡ number.0.n =
+      ap (λ (holds : Bool). number_or_zero (if holds then option_and_then number_in valued.value else None)) constant
+      ∙ ap (λ made. number_or_zero (option_and_then number_in made)) fit.is_made
       ∙ ap number_or_zero number.1 in
       record {
         ty = found.0;
         is_typed = ap (option_and_then scalar_in) fit.is_typed ∙ found.1;
-        is_number = ap (in_range found.0) value ∙ number_fits site fit.it fit.ty found.0 number.0 fit.fits found.1 holds.0 holds.1;
+        is_number = ap (in_range found.0) value
+            ∙ number_fits site fit.it fit.ty found.0 number.0 fit.fits found.1 (subst MadeNameless fit.is_made (nameless constant)) number.1;
       }
 
   -- a constant in which nothing fails has a scalar type, and its number is one of it
   pub constant_fits : (constant : NamedConstant) → expr_placed (known_in env) constant.value ≡ true →
       calls_functions env.units constant.value ≡ true →
       (after_constant constant env).failures ≡ [] →
-      ConstantStands (constant_of (initial env constant.ty constant.value).valued)
+      ConstantStands (constant_of constant.value (initial env constant.ty constant.value).valued)
   constant_fits constant placed calls none =
       let value : Initial = initial env constant.ty constant.value in
-      constant_by_value constant.name.place (out-NamedExpr constant.value).place value.valued
+      constant_by_value constant.name.place constant.value value.valued
       (initial_fits constant.ty constant.value placed calls (nil_left value.failures
-      (constant_failures constant.name.place (out-NamedExpr constant.value).place value.valued) none))
-      (nil_right value.failures (constant_failures constant.name.place (out-NamedExpr constant.value).place value.valued) none)
+      (constant_failures constant.name.place constant.value value.valued) none))
+      (initial_nameless env constant.ty constant.value)
+      (nil_right value.failures (constant_failures constant.name.place constant.value value.valued) none)

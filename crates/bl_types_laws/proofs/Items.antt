@@ -47,7 +47,7 @@ pub constant_between : (constant : NamedConstant) (env : Environment) → Betwee
     Between (after_constant constant env).env
 constant_between constant env between placed calls none = record {
   vars = between.vars;
-  known = constant_known env (constant_of (initial env constant.ty constant.value).valued) between.known
+  known = constant_known env (constant_of constant.value (initial env constant.ty constant.value).valued) between.known
       (constant_fits env (site_in env) (within_in env (site_in env) (around_self env between) between.known) constant
       (and_right (holds_if (type_placed (known_in env)) constant.ty) (expr_placed (known_in env) constant.value) placed) calls none);
   heads = between.heads;

@@ -4,6 +4,7 @@ pub mod Forms
 pub mod Targets
 pub mod Expressions
 pub mod Paths
+pub mod Nameless
 pub mod Initials
 pub mod NamedStmtInduction
 pub mod Walks

@@ -9,7 +9,6 @@ use Rattle.std.proofs.Common.{
   ◌∷◌,
   ◌++◌,
   map,
-  Some,
   refl,
   sym,
   ap,
@@ -22,7 +21,6 @@ use Rattle.std.proofs.Common.{
   ◌⊎◌,
   arith,
 }
-use Rattle.std.specs.Prelude.{Contains, slice_get, IsTrue}
 use Rattle.bl_tree.specs.declared.place.Place.{Place}
 use Rattle.bl_tree.specs.declared.tree.Arm.{Arm, fold-Arm, fold_out-Arm, out-Arm}
 use Rattle.bl_tree.specs.declared.tree.Branch.{Branch, fold-Branch, fold_out-Branch, out-Branch}
@@ -42,16 +40,14 @@ use Rattle.bl_tree.specs.Within.{
   children,
   deeper,
   effect_of,
-  is_run,
   itself,
   kind_branches,
   kind_children,
   place_of,
 }
 use Rattle.bl_tree.proofs.FirstLemmas.{In, contains_in}
-use Rattle.bl_tree.proofs.ReduceLemmas.{joined-append}
 use Rattle.bl_raw.specs.Starts.{ascends}
-use Rattle.bl_types_laws.proofs.Starts.{ascends_rest, first_less, in_at, in_joined, one_part, one_position, part_ascends}
+use Rattle.bl_types_laws.proofs.Starts.{ascends_rest, first_less, in_joined, one_part, one_position, part_ascends}
 
 -- ---- where statements begin
 

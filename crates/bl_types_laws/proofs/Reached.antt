@@ -46,7 +46,7 @@ use Rattle.bl_types.specs.declared.environment.Environment.{Environment}
 use Rattle.bl_types.specs.Declarations.{Declaring, after_constant, after_struct}
 use Rattle.bl_types.specs.Programs.{after_item, after_items, after_next}
 use Rattle.bl_types.specs.Units.{after_unit, drives}
-use Rattle.bl_types_laws.specs.Standing.{Between}
+use Rattle.bl_types_laws.specs.Standing.{Between, are_shallow}
 use Rattle.bl_types_laws.specs.Within.{known_in}
 use Rattle.bl_types_laws.proofs.Ends.{Ends, ends_next}
 use Rattle.bl_types_laws.proofs.Occurrences.{unit_starts}
@@ -83,6 +83,7 @@ pub record Made (scopes : Scopes) (items : List RawItem) (env final : Environmen
   pub more : List UnitDef
   pub units : final.units ≡ env.units ++ more
   pub units_stand : units_stand_after final.structs env.units more ≡ true
+  pub shallow : are_shallow more ≡ true
   pub unit_names : map (λ (unit : UnitDef). unit.name) more ≡ map (λ (unit : NamedUnit). unit.name.text) (along units_of scopes items)
   pub driven : (k : ℕ) (unit : NamedUnit) → slice_get (along units_of scopes items) k ≡ Some unit → drives unit ≡ true →
       is_entry (slice_get more k) ≡ true
@@ -133,6 +134,7 @@ module _ (named : Named) where
     more = [];
     units = sym (append-nil env.units);
     units_stand = refl;
+    shallow = refl;
     unit_names = refl;
     driven = λ k unit is drives. absurd (nothing_there k unit is);
     starts = none_picked;

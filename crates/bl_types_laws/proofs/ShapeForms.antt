@@ -21,6 +21,7 @@ use Rattle.bl_types.specs.Declarations.{expr_of_form}
 use Rattle.bl_types.specs.Expressions.{
   as_index,
   beside as taken,
+  beside_none,
   call,
   call_form,
   cast,
@@ -159,9 +160,14 @@ open_two at op a b false left right most other =
     operands_in at op (type_of_two op (scalar int32) (scalar int32)) (taken op (scalar int32) a).made (taken op (scalar int32) b).made left right
     (taken_in op (scalar int32) a left most) (taken_in op (scalar int32) b right other)
 
+none_in : (op : Op) (other : Form) (size : Size) → FormIn size (beside_none op other).form
+none_in op Failing size = tt
+none_in op (Open e) size = tt
+none_in op (Of ty e) size = tt
+
 pub two_in : (at : Place) (op : Op) (a b : Form) (left right : Size) → FormIn left a → FormIn right b →
     FormIn (deeper (beside left right)) (two_formed at op a b).form
-two_in at op Failing b left right most other = tt
+two_in at op Failing b left right most other = none_in op b (deeper (beside left right))
 two_in at op (Open a) Failing left right most other = tt
 two_in at op (Open a) (Open b) left right most other = open_two at op a b (keeps_two_open op) left right most other
 two_in at op (Open a) (Of ty b) left right most other = operands_in at op (type_of_two op ty ty) (taken op ty a).made (Some b) left right

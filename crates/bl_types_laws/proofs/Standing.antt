@@ -148,6 +148,14 @@ deeper_too body shallow =
     let less : d ≤ 100 = leb-true d 100 (and_left (nat_le d 100) exprs shallow) in
     both (nat_le d 200) exprs (le-leb d 200 (omega arith)) (and_right (nat_le d 100) exprs shallow)
 
+-- what is made of a unit is nested no deeper than it may be itself
+pub unit_shallow : Shapes → (constants : List NamedConstant) (unit : NamedUnit) (env : Environment) → unit_keeps unit ≡ true →
+    is_shallow 100 (made_of constants unit env).body ≡ true
+unit_shallow shapes constants unit env keeps =
+    let rest = and_right (variables_named unit && parameters_differ unit) (body_filled unit && (body_shallow unit && body_apart unit)) keeps in
+    let inner = and_right (body_filled unit) (body_shallow unit && body_apart unit) rest in
+    shapes.shallow constants unit.vars unit.body (after_head unit env).env (and_left (body_shallow unit) (body_apart unit) inner)
+
 pub unit_made : Shapes → (structs : List StructDef) (constants : List NamedConstant) (unit : NamedUnit) (env : Environment) → unit_keeps unit ≡ true →
     Passing structs unit env.units (made_of constants unit env) →
     unit_stands structs env.units (made_of constants unit env) ≡ true
@@ -156,6 +164,5 @@ unit_made shapes structs constants unit env keeps passing =
     let inner = and_right (body_filled unit) (body_shallow unit && body_apart unit) rest in
     let head : Environment = (after_head unit env).env in
     stands_by structs env.units unit (made_of constants unit env) keeps passing refl
-    (deeper_too (made_of constants unit env).body
-    (shapes.shallow constants unit.vars unit.body head (and_left (body_shallow unit) (body_apart unit) inner)))
+    (deeper_too (made_of constants unit env).body (unit_shallow shapes constants unit env keeps))
     (shapes.apart constants unit.vars unit.body head (and_right (body_shallow unit) (body_apart unit) inner))

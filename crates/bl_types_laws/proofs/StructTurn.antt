@@ -83,6 +83,7 @@ module _ (named : Named) where
           more = rest.more;
           units = rest.units;
           units_stand = rest.units_stand;
+          shallow = rest.shallow;
           unit_names = rest.unit_names;
           driven = rest.driven;
           starts = rest.starts;

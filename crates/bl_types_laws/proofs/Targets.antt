@@ -1,9 +1,10 @@
 -- Where the parts of a target lead.
 use Rattle.std.proofs.Common.{◌≡◌, ℕ, suc, ◌+◌, List, [], ◌∷◌, ◌++◌, map, Option, Some, None, refl, ap, sym, subst, ◌∙◌, arith}
-use Rattle.std.specs.Prelude.{Bool, true, false, bytes_eq, option_and_then, option_map, slice_get, if◌then◌else◌}
+use Rattle.std.specs.Prelude.{Bool, true, false, bytes_eq, is_some, option_and_then, option_map, slice_get, if◌then◌else◌}
 use Rattle.std.specs.List.{cons_option}
 use Rattle.std.proofs.lemmas.Option.{same_Some}
 use Rattle.bl_tree.specs.declared.place.Place.{Place}
+use Rattle.bl_tree.specs.declared.rule.Rule.TheVariants as rule
 use Rattle.bl_tree.specs.declared.scalar.Scalar.{Scalar as ScalarType}
 use Rattle.bl_tree.specs.declared.tree.Expr.{Expr}
 use Rattle.bl_tree.specs.declared.tree.Field.{Field}
@@ -29,17 +30,17 @@ use Rattle.bl_types.specs.Expressions.{
   Stepped,
   after_index,
   as_index,
-  element_found,
   field_among,
   field_found,
   field_in as field_named,
-  index_made,
+  no_array,
   stepped,
   to_element,
   to_field,
   whole_or_unfit,
 }
 use Rattle.bl_types.specs.declared.environment.Environment.{Environment}
+use Rattle.bl_types.specs.Failures.{unless}
 use Rattle.bl_types.specs.Settled.{Settled, int32, kept, unfit}
 use Rattle.bl_types_laws.specs.Fitting.{FormFits, IsMade}
 use Rattle.bl_types_laws.specs.Within.{Within}
@@ -159,30 +160,32 @@ module _ (site : Site) where
       ∙ ap (λ holds. if holds then element_in (out-Ty ty) else None) whole
       ∙ is
 
-  index_by : (ty element : Ty) (index : Settled) (made : Option Expr) → element_in (out-Ty ty) ≡ Some element → index.made ≡ made →
-      IndexFits site made →
-      StepFits site ty (index_made element index)
-  index_by ty element index None is same fit = absurd (let none = fit.is_made.is in cc)
-  index_by ty element index (Some e) is same fit = record {
+  index_by : (ty element : Ty) (at : Place) (form : Form) → element_in (out-Ty ty) ≡ Some element → IndexFits site (as_index at form).made →
+      StepFits site ty (to_element at form (Some ty))
+  index_by ty element at form is fit = record {
     next = element;
-    made = part.Index e;
-    is_next = ap (option_map (λ e. element)) same;
-    is_made = ap (option_map part.Index) same;
-    leads = index_leads ty element fit.ty e is fit.is_whole_number (ap (type_of site) (same_Some e fit.is_made.it fit.is_made.is) ∙ fit.is_made.is_typed);
+    made = part.Index fit.is_made.it;
+    is_next = ap (option_and_then (λ e. element_in (out-Ty ty))) fit.is_made.is ∙ is;
+    is_made = ap (option_map part.Index) fit.is_made.is;
+    leads = index_leads ty element fit.ty fit.is_made.it is fit.is_whole_number fit.is_made.is_typed;
   }
 
-  element_by : (ty : Ty) (at : Place) (form : Form) (element : Option Ty) → element_in (out-Ty ty) ≡ element → FormFits site form →
-      (element_found element at form).failures ≡ [] → StepFits site ty (element_found element at form)
-  element_by ty at form None is fit none = absurd (cc)
-  element_by ty at form (Some element) is fit none = index_by ty element (as_index at form) (as_index at form).made is refl (as_index_fits at form fit none)
+  array_by : (ty : Ty) (at : Place) (element : Option Ty) → element_in (out-Ty ty) ≡ element → unless (is_some element) rule.Type at ≡ [] →
+      (e : Ty) × (element_in (out-Ty ty) ≡ Some e)
+  array_by ty at None is none = absurd (cc)
+  array_by ty at (Some element) is none = (element, is)
 
   pub index_fits : (index : Judged) (ty : Ty) → (index.failures ≡ [] → FormFits site index.form) →
       (after_index index (to_element index.place index.form (Some ty))).failures ≡ [] →
       StepFits site ty (after_index index (to_element index.place index.form (Some ty)))
   index_fits index ty fit none =
       let step : Stepped = to_element index.place index.form (Some ty) in
-      let found = element_by ty index.place index.form (element_in (out-Ty ty)) refl (fit (nil_left index.failures step.failures none))
-      (nil_right index.failures step.failures none) in
+      let inside : step.failures ≡ [] = nil_right index.failures step.failures none in
+      let given : Settled = as_index index.place index.form in
+      let array = array_by ty index.place (element_in (out-Ty ty)) refl (nil_left (no_array index.place (Some ty)) given.failures inside) in
+      let found = index_by ty array.0 index.place index.form array.1
+      (as_index_fits index.place index.form (fit (nil_left index.failures step.failures none))
+      (nil_right (no_array index.place (Some ty)) given.failures inside)) in
       record { next = found.next; made = found.made; is_next = found.is_next; is_made = found.is_made; leads = found.leads }
 
 -- ---- constants have no parts
@@ -195,9 +198,10 @@ no_field structs name s none =
 
 pub no_element : (index : Judged) (s : ScalarType) → (after_index index (to_element index.place index.form (Some (scalar s)))).failures ≡ [] → ⊥
 no_element index s none =
-    let last : (element_found (element_in (out-Ty (scalar s))) index.place index.form).failures ≡ [] = nil_right index.failures _ none in
-    let fails : (element_found None index.place index.form).failures ≡ [] =
-    ap (λ layer. (element_found (element_in layer) index.place index.form).failures) (sym (out-roll-Ty (Ty-F.Scalar s))) ∙ last in
+    let inside : no_array index.place (Some (scalar s)) ++ (as_index index.place index.form).failures ≡ [] = nil_right index.failures _ none in
+    let fails : unless (is_some (element_in (Ty-F.Scalar s))) rule.Type index.place ≡ [] =
+    ap (λ layer. unless (is_some (element_in layer)) rule.Type index.place) (sym (out-roll-Ty (Ty-F.Scalar s)))
+    ∙ nil_left (no_array index.place (Some (scalar s))) (as_index index.place index.form).failures inside in
     absurd (cc)
 
 -- ---- one part after another

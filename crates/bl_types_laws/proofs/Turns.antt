@@ -141,7 +141,7 @@ module _ (constants : List NamedConstant) (vars : List NamedVar) where
   constant_turns k (Some constant) env counts named step =
       let holds = where_holds (nat_eq k (length env.constants) && constant_placed (known_in env) constant) (Some (constant_counted (known_in env))) counts step
       in
-      record { counts_are = constant_counts env (constant_of (initial env constant.ty constant.value).valued) counts holds.1; named = named }
+      record { counts_are = constant_counts env (constant_of constant.value (initial env constant.ty constant.value).valued) counts holds.1; named = named }
 
   returned_env : (at : Place) (e : Option NamedExpr) (result : Option ScalarType) (env : Environment) → (returned at e result env).env ≡ env
   returned_env at (Some e) (Some s) env = refl

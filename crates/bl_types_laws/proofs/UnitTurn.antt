@@ -27,6 +27,7 @@ use Rattle.std.proofs.lemmas.List.{map-append}
 use Rattle.bl_tree.specs.declared.tree.StructDef.{StructDef}
 use Rattle.bl_tree.specs.declared.tree.Unit.{Unit as UnitDef}
 use Rattle.bl_tree.specs.declared.tree.UnitKind.{UnitKind}
+use Rattle.bl_tree.specs.Depths.{is_shallow}
 use Rattle.bl_tree.specs.Program.{is_entry, structs_stand_from, unit_stands, units_stand_after}
 use Rattle.bl_eval.proofs.PassLemmas.{and_left, and_right, both}
 use Rattle.bl_named.specs.declared.item.Item.TheVariants as kind
@@ -48,7 +49,7 @@ use Rattle.bl_names.proofs.PlacedItem.{UnitHolds, unit_holds}
 use Rattle.bl_types.specs.declared.environment.Environment.{Environment}
 use Rattle.bl_types.specs.Programs.{after_item, after_items}
 use Rattle.bl_types.specs.Units.{after_head, after_unit, drives}
-use Rattle.bl_types_laws.specs.Standing.{UnitPassed, unit_named}
+use Rattle.bl_types_laws.specs.Standing.{UnitPassed, are_shallow, unit_named}
 use Rattle.bl_types_laws.specs.Within.{known_in}
 use Rattle.bl_types_laws.proofs.Forms.{nil_left, nil_right}
 use Rattle.bl_types_laws.proofs.Units.{unit_passes}
@@ -57,7 +58,7 @@ use Rattle.bl_types_laws.proofs.Ends.{ends_first, ends_next, ends_on, ends_take}
 use Rattle.bl_types_laws.proofs.Onward.{unit_onward}
 use Rattle.bl_types_laws.proofs.Places.{starts_stay}
 use Rattle.bl_types_laws.proofs.Starts.{picked_append}
-use Rattle.bl_types_laws.proofs.Standing.{Passing, made_of, passing, unit_made, units_made}
+use Rattle.bl_types_laws.proofs.Standing.{Passing, made_of, passing, unit_made, unit_shallow, units_made}
 use Rattle.bl_types_laws.proofs.Reached.{At, Induction, Made, first_taken, unit_next}
 
 abbrev kind_made : UnitDef → UnitKind
@@ -160,6 +161,7 @@ module _ (named : Named) (suits : Suits named) (shapes : Shapes) where
           units_stand = both (unit_stands final.structs env.units made) (units_stand_after final.structs (env.units ++ made ∷ []) rest.more)
               (unit_made shapes final.structs named.constants new_unit env keeps passes)
               (subst (λ units. units_stand_after final.structs units rest.more ≡ true) (units_are none) rest.units_stand);
+          shallow = both (is_shallow 100 made.body) (are_shallow rest.more) (unit_shallow shapes named.constants new_unit env keeps) rest.shallow;
           unit_names = ap (λ names. def.name.text ∷ names) rest.unit_names;
           driven = unit_driven final.structs rest.more passes rest.driven;
           starts = picked_append (starts_stay named.constants new_unit.vars new_unit.body (after_head new_unit env).env) rest.starts;

@@ -18,6 +18,7 @@ use Rattle.bl_types.specs.declared.environment.Environment.{Environment}
 use Rattle.bl_types.specs.Programs.{after_program, fresh, text_end, typed_program}
 use Rattle.bl_types.specs.Rules.{Passes as TypesPass}
 use Rattle.bl_types.specs.Units.{entries, entry_among}
+use Rattle.bl_types_laws.specs.Standing.{are_shallow}
 use Rattle.bl_types_laws.proofs.Entry.{entry_is_driven}
 use Rattle.bl_types_laws.proofs.Forms.{nil_left, nil_right}
 use Rattle.bl_types_laws.proofs.Occurrences.{places_decide, runs_decide, unit_starts}
@@ -76,4 +77,25 @@ pub laws_keep : ((items : List RawItem) (bytes : ℕ) → RawKeeps items → Nam
     (typed_program (named_program items bytes)).entry
 laws_keep keeps units constants shallow apart items bytes raw names types =
     what_keeps items bytes (record { units = units items bytes raw names; constants = constants items bytes raw names })
+    (record { shallow = shallow; apart = apart }) (keeps items bytes raw names) names types
+
+-- ---- depth
+
+what_is_shallow : (items : List RawItem) (bytes : ℕ) → Suits (named_program items bytes) → Shapes →
+    NamedKeeps (named_program items bytes) → NamesPass items →
+    TypesPass (named_program items bytes) →
+    are_shallow (typed_program (named_program items bytes)).units ≡ true
+what_is_shallow items bytes suits shapes keeps passes types =
+    let made = program_made items bytes suits shapes keeps passes types in
+    ap are_shallow made.units ∙ made.shallow
+
+-- the same, of what the laws of the crates below say
+pub laws_are_shallow : ((items : List RawItem) (bytes : ℕ) → RawKeeps items → NamesPass items → NamedKeeps (named_program items bytes)) →
+    ((items : List RawItem) (bytes : ℕ) → RawKeeps items → NamesPass items → UnitsSuit (named_program items bytes)) →
+    ((items : List RawItem) (bytes : ℕ) → RawKeeps items → NamesPass items → ConstantsSuit (named_program items bytes)) →
+    ShallowStays → ApartStays →
+    (items : List RawItem) (bytes : ℕ) → RawKeeps items → NamesPass items → TypesPass (named_program items bytes) →
+    are_shallow (typed_program (named_program items bytes)).units ≡ true
+laws_are_shallow keeps units constants shallow apart items bytes raw names types =
+    what_is_shallow items bytes (record { units = units items bytes raw names; constants = constants items bytes raw names })
     (record { shallow = shallow; apart = apart }) (keeps items bytes raw names) names types

@@ -24,6 +24,7 @@ use Rattle.std.specs.List.{list_all}
 use Rattle.bl_tree.specs.declared.tree.StructDef.{StructDef}
 use Rattle.bl_tree.specs.declared.tree.Ty.{Ty}
 use Rattle.bl_tree.specs.declared.tree.Unit.{Unit as UnitDef}
+use Rattle.bl_tree.specs.Depths.{is_shallow}
 use Rattle.bl_tree.specs.Program.{is_entry, names_of, roles_stand}
 use Rattle.bl_tree.specs.Reduce.{all_of}
 use Rattle.bl_tree.specs.Returns.{unit_returns}
@@ -200,3 +201,9 @@ pub record IsDriven (units : List NamedUnit) (k : ℕ) : Type 0 where
   pub unit : NamedUnit
   pub is_there : slice_get units k ≡ Some unit
   pub is_driven : drives unit ≡ true
+
+-- ---- depth
+
+-- whether blocks nest at most 100 deep in each unit, as they may in a source text
+abbrev pub are_shallow : List UnitDef → Bool
+are_shallow units = list_all (λ unit. is_shallow 100 unit.body) units

@@ -65,7 +65,7 @@ pub fn declarations_fit()
         calls_functions env.units e ≡ true → (initial env ty e).failures ≡ [] → InitialFits site (initial env ty e).valued }
     ensures constant { (env : Environment) (site : Site) → Within env site → (constant : NamedConstant) → expr_placed (known_in env) constant.value ≡ true →
         calls_functions env.units constant.value ≡ true → (after_constant constant env).failures ≡ [] →
-        ConstantStands (constant_of (initial env constant.ty constant.value).valued) }
+        ConstantStands (constant_of constant.value (initial env constant.ty constant.value).valued) }
 {}
 
 /// Where no rule fails in a statement, as many variables and constants are known after it as are counted, and what is made of it fits the
