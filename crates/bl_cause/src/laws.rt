@@ -1,0 +1,18 @@
+//! Laws of closed walks, each the contract of a function that does nothing.
+
+ghost use Rattle.bl_cause.specs.Laws.{RanksLeaveNoWalk, RulesLeaveNoWalk, WalksTurn};
+
+/// Where numbers rise along every edge nothing acts twice, and nothing waits for itself.
+pub fn ranks_leave_no_walk()
+    ensures { RanksLeaveNoWalk }
+{}
+
+/// It doesn't matter at which of its nodes a closed walk is told.
+pub fn walks_turn()
+    ensures { WalksTurn }
+{}
+
+/// A closed walk has a data edge, or all its edges are control edges.
+pub fn rules_leave_no_walk()
+    ensures { RulesLeaveNoWalk }
+{}

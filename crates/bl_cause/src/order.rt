@@ -1,0 +1,53 @@
+//! An order of the nodes by numbers that rise along every edge.
+
+ghost use Rattle.std.specs.Prelude.{◌≡◌, ◌<◌, ◌≤◌, ◌^◌, All, List as Elements, length, replicate, slice_index, IfOk};
+ghost use Rattle.bl_tree.specs.declared.graph.Edge.{Edge as AnEdge};
+ghost use Rattle.bl_cause.specs.Walks.{ClosedWalk};
+ghost use Rattle.bl_cause.specs.inner.Orders.{ranked};
+ghost use Rattle.bl_cause.specs.Ranks.{Ranks};
+
+use crate::edges::count_of;
+use crate::finishing::sorted;
+use bl_tree::graph::Edge;
+use bl_tree::{List, NoMemory};
+use std::alloc::Global;
+
+/// In which order the nodes may act. Nodes that no edge joins may have any numbers.
+#[derive(Drop)]
+pub struct Order {
+    /// The number of each node.
+    pub ranks: List<u32>,
+}
+
+impl Order {
+    /// It rises along every edge. A node that isn't there has 0.
+    pub fn rank(&self, node: u32) -> u32
+        ensures { result ≡ slice_index self.now.ranks node }
+    {
+        self.ranks.get(node as usize).copied().unwrap_or(0)
+    }
+}
+
+/// An order for a graph without closed walks.
+pub fn order_of(alloc: Global, edges: &[Edge]) -> Result<Order, NoMemory>
+    requires { (walk : Elements AnEdge) → ¬ ClosedWalk edges.now walk }
+    ensures { IfOk result (λ order. Ranks edges.now order.ranks) }
+{
+    let count = count_of(edges);
+    let order = sorted(alloc, count, edges)?;
+    let ranks = ranks_of(alloc, count, &order)?;
+    Ok(Order { ranks })
+}
+
+/// The position in the order for each node.
+fn ranks_of(alloc: Global, count: usize, order: &[u32]) -> Result<List<u32>, NoMemory>
+    requires nodes { All (λ node. node < count) order.now }
+    requires few { length order.now ≤ 2 ^ 32 }
+    ensures { IfOk result (λ ranks. ranks ≡ ranked order.now 0 (replicate count 0)) }
+{
+    let mut ranks = List::from_vec(vec![in alloc; 0u32; count]?);
+    for (rank, node) in order.iter().enumerate() {
+        ranks.set(*node as usize, rank as u32);
+    }
+    Ok(ranks)
+}
