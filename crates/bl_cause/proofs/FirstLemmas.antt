@@ -6,7 +6,44 @@
 -- all that it leads to. Without a walk back it begins no closed walk, and those that are left still have all that do. With one,
 -- the closed walk is shown by its edges, and no closed walk begins earlier: it would begin with a candidate, and this one is
 -- the least. Nowhere is it used that nodes of one number lead to each other.
-use Rattle.std.proofs.Common.{◌≡◌, ℕ, zero, suc, ◌+◌, ◌<◌, ◌≤◌, Bool, true, false, not, ◌&&◌, Option, Some, None, Result, Ok, Err, ◌||◌, List, [], ◌∷◌, ◌⊎◌, inl, inr, ⊎_elim, length, get_or, take, drop, refl, sym, ap, subst, ◌∙◌, arith}
+use Rattle.std.proofs.Common.{
+  ◌≡◌,
+  ℕ,
+  zero,
+  suc,
+  ◌+◌,
+  ◌<◌,
+  ◌≤◌,
+  Bool,
+  true,
+  false,
+  not,
+  ◌&&◌,
+  Option,
+  Some,
+  None,
+  Result,
+  Ok,
+  Err,
+  ◌||◌,
+  List,
+  [],
+  ◌∷◌,
+  ◌⊎◌,
+  inl,
+  inr,
+  ⊎_elim,
+  length,
+  get_or,
+  take,
+  drop,
+  refl,
+  sym,
+  ap,
+  subst,
+  ◌∙◌,
+  arith,
+}
 use Rattle.std.specs.Prelude.{Contains, IfOk, MatchOption, OnOk, nat_eq, nat_lt, remove, slice_index, ⊤}
 use Rattle.std.proofs.lemmas.Bool.{cases_lt}
 use Rattle.std.proofs.lemmas.Bool.Decides.{nat_tests}
@@ -116,13 +153,15 @@ pub record Least (nodes : List Node) (edges : List Edge) (k best : ℕ) : Type 0
   pub least : (j : ℕ) (d : Edge) → j < k → is_before (place_at nodes (get_or edges j d).from) (place_at nodes (get_or edges best d).from) ≡ false
 
 pub least_better : (nodes : List Node) (edges : List Edge) (k best : ℕ) (d : Edge) → k < length edges →
-    is_before (place_at nodes (get_or edges k d).from) (place_at nodes (get_or edges best d).from) ≡ true → Least nodes edges k best → Least nodes edges (k + 1) k
+    is_before (place_at nodes (get_or edges k d).from) (place_at nodes (get_or edges best d).from) ≡ true → Least nodes edges k best →
+    Least nodes edges (k + 1) k
 least_better nodes edges k best d lt is h = record {
   inside = lt;
   least = λ j e below.
       ⊎_elim
       (λ (old : j < k).
-      not_before_then (place_at nodes (get_or edges j e).from) (place_at nodes (get_or edges k e).from) (place_at nodes (get_or edges best e).from) (h.least j e old)
+      not_before_then (place_at nodes (get_or edges j e).from) (place_at nodes (get_or edges k e).from) (place_at nodes (get_or edges best e).from)
+      (h.least j e old)
       (ap (λ a. is_before (place_at nodes a.from) (place_at nodes (get_or edges best e).from)) (get_or_default edges k e d lt)
       ∙ ap (λ a. is_before (place_at nodes (get_or edges k d).from) (place_at nodes a.from)) (get_or_default edges best e d h.inside) ∙ is)
       )
@@ -134,7 +173,8 @@ least_better nodes edges k best d lt is h = record {
 }
 
 pub least_same : (nodes : List Node) (edges : List Edge) (k best : ℕ) (d : Edge) → k < length edges →
-    is_before (place_at nodes (get_or edges k d).from) (place_at nodes (get_or edges best d).from) ≡ false → Least nodes edges k best → Least nodes edges (k + 1) best
+    is_before (place_at nodes (get_or edges k d).from) (place_at nodes (get_or edges best d).from) ≡ false → Least nodes edges k best →
+    Least nodes edges (k + 1) best
 least_same nodes edges k best d lt is h = record {
   inside = h.inside;
   least = λ j e below.
@@ -158,7 +198,8 @@ remove_there [] zero x h = h
 remove_there [] (suc k) x h = h
 remove_there (y ∷ xs) zero x h = contains_tail y xs x h
 remove_there (y ∷ xs) (suc k) x h =
-    ⊎_elim (λ (is : y ≡ x). subst (λ z. Contains (z ∷ xs) x) (sym is) (contains_head x xs)) (λ (later : Contains (remove xs k) x). contains_tail y xs x (remove_there xs k x later))
+    ⊎_elim (λ (is : y ≡ x). subst (λ z. Contains (z ∷ xs) x) (sym is) (contains_head x xs)) (λ (later : Contains (remove xs k) x).
+    contains_tail y xs x (remove_there xs k x later))
     (contains_cons y (remove xs k) x h)
 
 pub remove_kept : {X : Type 0} (xs : List X) (k : ℕ) (x : X) → Contains xs x → (get_or xs k x ≡ x) ⊎ Contains (remove xs k) x
@@ -168,7 +209,8 @@ remove_kept (y ∷ xs) (suc k) x h =
     ⊎_elim
     (λ (is : y ≡ x). inr (subst (λ z. Contains (z ∷ remove xs k) x) (sym is) (contains_head x (remove xs k))))
     (λ (later : Contains xs x).
-    ⊎_elim (λ (this : get_or xs k x ≡ x). inl this) (λ (other : Contains (remove xs k) x). inr (contains_tail y (remove xs k) x other)) (remove_kept xs k x later))
+    ⊎_elim (λ (this : get_or xs k x ≡ x). inl this) (λ (other : Contains (remove xs k) x).
+    inr (contains_tail y (remove xs k) x other)) (remove_kept xs k x later))
     (contains_cons y xs x h)
 
 pub remove_within : (count : ℕ) (edges : List Edge) (k : ℕ) → Within count edges → Within count (remove edges k)
@@ -190,7 +232,8 @@ is_kind true b is = sym is
 is_kind false b is = ap not (sym is)
 
 -- where the numbers never fall, the edges that begin a closed walk are level
-pub candidates_first : (edges : List Edge) (numbers : List ℕ) (by_data : Bool) → NeverFall edges numbers → Candidates edges by_data (level_edges numbers by_data edges)
+pub candidates_first : (edges : List Edge) (numbers : List ℕ) (by_data : Bool) → NeverFall edges numbers →
+    Candidates edges by_data (level_edges numbers by_data edges)
 candidates_first edges numbers by_data keep = record {
   there = λ edge h. (
     filter_there (λ it. same_kind it.by_data by_data && nat_eq (slice_index numbers it.from) (slice_index numbers it.to)) edges edge h,
@@ -254,7 +297,8 @@ first_found nodes edges by_data left view k this same lt least is h at also begi
     let inside : k < length left = (let e = ap length same in omega (arith, lt, e)) in
     let there = h.there this (k, inside, sym is) in
     first_is_least nodes edges by_data left k this is inside
-    (subst (λ it. (j : ℕ) (d : Edge) → j < length it → is_before (place_at nodes (get_or it j d).from) (place_at nodes (get_or it k d).from) ≡ false) same least)
+    (subst (λ it. (j : ℕ) (d : Edge) → j < length it → is_before (place_at nodes (get_or it j d).from) (place_at nodes
+    (get_or it k d).from) ≡ false) same least)
     h at also here (subst (λ b. BeginsWalk nodes edges b at also) there.1 (begins there.0))
 
 -- the least candidate begins no closed walk

@@ -1,5 +1,32 @@
 -- What stands in lists.
-use Rattle.std.proofs.Common.{◌≡◌, ℕ, zero, suc, ◌<◌, Bool, true, false, cond, List, [], ◌∷◌, ◌++◌, ◌⊎◌, inl, inr, ⊎_elim, length, get_or, reverse, refl, sym, ap, subst, ◌∙◌, arith}
+use Rattle.std.proofs.Common.{
+  ◌≡◌,
+  ℕ,
+  zero,
+  suc,
+  ◌<◌,
+  Bool,
+  true,
+  false,
+  cond,
+  List,
+  [],
+  ◌∷◌,
+  ◌++◌,
+  ◌⊎◌,
+  inl,
+  inr,
+  ⊎_elim,
+  length,
+  get_or,
+  reverse,
+  refl,
+  sym,
+  ap,
+  subst,
+  ◌∙◌,
+  arith,
+}
 use Rattle.std.specs.Prelude.{Contains, filter}
 use Rattle.std.proofs.lemmas.List.{reverse-append}
 use Rattle.std.proofs.lemmas.List.Elements.{All-contains, All-contains_itself, All-filter, filter_passes}
@@ -37,7 +64,8 @@ filter_keeps p (y ∷ xs) x h good =
     ⊎_elim
     (λ (is : y ≡ x).
     let e : p y ≡ true = ap p is ∙ good in
-    subst (λ b. Contains (cond b (y ∷ filter p xs) (filter p xs)) x) (sym e) (subst (λ z. Contains (z ∷ filter p xs) x) (sym is) (contains_head x (filter p xs))))
+    subst (λ b. Contains (cond b (y ∷ filter p xs) (filter p xs)) x) (sym e) (subst (λ z.
+    Contains (z ∷ filter p xs) x) (sym is) (contains_head x (filter p xs))))
     (λ (later : Contains xs x).
     let rest = filter_keeps p xs x later good in
     either (p y) rest)

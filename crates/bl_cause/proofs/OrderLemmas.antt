@@ -1,5 +1,40 @@
 -- What a depth-first search keeps, how it ends, and what its order tells.
-use Rattle.std.proofs.Common.{◌≡◌, ℕ, zero, suc, ◌+◌, ◌-◌, ◌*◌, ◌<◌, ◌≤◌, Bool, true, false, cond, Option, Some, None, List, [], ◌∷◌, ◌++◌, ◌⊎◌, inl, inr, ⊎_elim, length, get_or, set, reverse, refl, sym, ap, subst, ◌∙◌, arith}
+use Rattle.std.proofs.Common.{
+  ◌≡◌,
+  ℕ,
+  zero,
+  suc,
+  ◌+◌,
+  ◌-◌,
+  ◌*◌,
+  ◌<◌,
+  ◌≤◌,
+  Bool,
+  true,
+  false,
+  cond,
+  Option,
+  Some,
+  None,
+  List,
+  [],
+  ◌∷◌,
+  ◌++◌,
+  ◌⊎◌,
+  inl,
+  inr,
+  ⊎_elim,
+  length,
+  get_or,
+  set,
+  reverse,
+  refl,
+  sym,
+  ap,
+  subst,
+  ◌∙◌,
+  arith,
+}
 use Rattle.std.specs.Prelude.{All, Contains, nat_eq, replicate, slice_get, sum_by}
 use Rattle.std.proofs.lemmas.Bool.{cases_lt}
 use Rattle.std.proofs.lemmas.Bool.Decides.{nat_tests}
@@ -109,7 +144,8 @@ module _ (edges : List Edge) (rows : List (List Edge)) where
         sorted = subst (Sorted edges) (sym (reverse_push s.order frame.node)) (
           (λ edge there from.
               let inside : Contains (get_or rows frame.node []) edge =
-              subst (λ it. Contains it edge) (sym row) (filter_keeps (λ it. nat_eq it.from frame.node) edges edge there (same_test edge.from frame.node from)) in
+              subst (λ it. Contains it edge) (sym row) (filter_keeps (λ it.
+              nat_eq it.from frame.node) edges edge there (same_test edge.from frame.node from)) in
               ⊎_elim
               (λ (done : In edge.to (reverse s.order)). inl done)
               (λ (open' : Open edge.to (frame ∷ reverse s.stack)).
@@ -150,12 +186,15 @@ module _ (edges : List Edge) (rows : List (List Edge)) where
   keeps_looks : (s : State) (frame : Frame) (edge : Edge) → Keeps edges rows (with_frame s frame) → get_or rows frame.node [] ≡ edges_from edges frame.node →
       slice_get (get_or rows frame.node []) frame.next ≡ Some edge → edge.to < length s.seen → Keeps edges rows (at_edge frame (Some edge) s)
   keeps_looks s frame edge h row is lt =
-      elim (get_or s.seen edge.to false) as (λ b. get_or s.seen edge.to false ≡ b → Keeps edges rows (entered_unless b edge.to (with_frame s (next_of frame)))) [
+      elim (get_or s.seen edge.to false) as (λ b. get_or s.seen edge.to false ≡ b →
+      Keeps edges rows (entered_unless b edge.to (with_frame s (next_of frame)))) [
         | true ↦ λ yes. record {
-          nested = subst (Nested edges rows s.seen) (sym (reverse_push s.stack (next_of frame))) (nested.0, looked_next s.seen frame edge is yes nested.1, nested.2);
+          nested = subst (Nested edges rows s.seen) (sym (reverse_push s.stack (next_of frame)))
+              (nested.0, looked_next s.seen frame edge is yes nested.1, nested.2);
           sorted = h.sorted;
           held = λ node seen. subst (λ stack. In node (reverse s.order) ⊎ Open node stack) (sym (reverse_push s.stack (next_of frame))) (held node seen);
-          counted = (let c = h.counted in let two = length_push s.stack frame in let three = length_push s.stack (next_of frame) in omega (arith, c, two, three));
+          counted = (let c = h.counted in let two = length_push s.stack frame in let three = length_push s.stack (next_of frame) in
+              omega (arith, c, two, three));
         }
         | false ↦ λ no. record {
           nested = subst (Nested edges rows (set s.seen edge.to true)) (sym turned) (
@@ -200,8 +239,12 @@ module _ (edges : List Edge) (rows : List (List Edge)) where
       turned = reverse_push (s.stack ++ next_of frame ∷ []) (fresh edge.to) ∙ ap (λ rest. fresh edge.to ∷ rest) (reverse_push s.stack (next_of frame))
 
       inside : Contains (edges_from edges frame.node) edge
-      inside = subst (λ it. Contains it edge) row
-          (frame.next, slice_get_within (get_or rows frame.node []) frame.next edge is, get_or_from_slice_get (get_or rows frame.node []) frame.next edge edge is)
+      inside = subst (λ it. Contains it edge) row (
+        frame.next,
+        slice_get_within (get_or rows frame.node []) frame.next edge is,
+        get_or_from_slice_get
+            (get_or rows frame.node []) frame.next edge edge is,
+      )
 
       leads : Reaches edges frame.node edge.to
       leads = subst (λ n. Reaches edges n edge.to) (row_from edges frame.node edge inside) (reaches_edge edges edge (row_there edges frame.node edge inside))
@@ -210,7 +253,8 @@ module _ (edges : List Edge) (rows : List (List Edge)) where
       Within (length s.seen) (get_or rows frame.node []) → Keeps edges rows (advanced frame (get_or rows frame.node []) s)
   keeps_advanced s frame h row within =
       ⊎_elim
-      (λ (some : (x : Edge) × (frame.next < length (get_or rows frame.node [])) × (slice_get (get_or rows frame.node []) frame.next ≡ Some x) × (get_or (get_or rows frame.node []) frame.next x ≡ x)).
+      (λ (some : (x : Edge) × (frame.next < length (get_or rows frame.node [])) × (slice_get (get_or rows frame.node []) frame.next ≡ Some x) ×
+      (get_or (get_or rows frame.node []) frame.next x ≡ x)).
       let end = within frame.next some.0 some.1 in
       subst (λ found. Keeps edges rows (at_edge frame found s)) (sym some.2)
       (keeps_looks s frame some.0 h row some.2 (subst (λ it. it.to < length s.seen) some.3 end.1)))
@@ -403,18 +447,20 @@ pub frame_within : (rows : List (List Edge)) (before s : State) (rest : List Fra
     frame.node < length before.seen
 frame_within rows before s rest frame is h = (All-pop (λ frame. frame.node < length before.seen) s.stack rest (Some frame) is h.frames).1
 
-pub going_next : (rows : List (List Edge)) (before s next : State) (rest : List Frame) (frame : Frame) (row : List Edge) → RowsWithin (length before.seen) rows →
+pub going_next : (rows : List (List Edge)) (before s next : State) (rest : List Frame) (frame : Frame) (row : List Edge) →
+    RowsWithin (length before.seen) rows →
     s.stack ≡ rest ++ frame ∷ [] → row ≡ get_or rows frame.node [] → next ≡ advanced frame row (popped s rest) → Going rows before s → Going rows before next
-going_next rows before s next rest frame row within is same advance h = subst (Going rows before) (sym (advance ∙ ap (λ it. advanced frame it (popped s rest)) same)) (record {
-  length_stays = advanced_length frame (get_or rows frame.node []) (popped s rest) ∙ h.length_stays;
-  frames = advanced_frames (length before.seen) frame (get_or rows frame.node []) (popped s rest) here lt
-      (All-pop (λ frame. frame.node < length before.seen) s.stack rest (Some frame) is h.frames).0;
-  order = advanced_order (length before.seen) frame (get_or rows frame.node []) (popped s rest) lt h.order;
-  seen = λ node met. advanced_seen frame (get_or rows frame.node []) (popped s rest) node (h.seen node met);
-  keeps = λ edges all keep.
-      keeps_advanced edges rows (popped s rest) frame (subst (Keeps edges rows) (whole_again s rest frame is) (h.keeps edges all keep))
-      (all.row frame.node lt) (subst (λ n. Within n (get_or rows frame.node [])) (sym h.length_stays) here);
-})
+going_next rows before s next rest frame row within is same advance h = subst (Going rows before) (sym (advance ∙ ap (λ it.
+    advanced frame it (popped s rest)) same)) (record {
+      length_stays = advanced_length frame (get_or rows frame.node []) (popped s rest) ∙ h.length_stays;
+      frames = advanced_frames (length before.seen) frame (get_or rows frame.node []) (popped s rest) here lt
+          (All-pop (λ frame. frame.node < length before.seen) s.stack rest (Some frame) is h.frames).0;
+      order = advanced_order (length before.seen) frame (get_or rows frame.node []) (popped s rest) lt h.order;
+      seen = λ node met. advanced_seen frame (get_or rows frame.node []) (popped s rest) node (h.seen node met);
+      keeps = λ edges all keep.
+          keeps_advanced edges rows (popped s rest) frame (subst (Keeps edges rows) (whole_again s rest frame is) (h.keeps edges all keep))
+          (all.row frame.node lt) (subst (λ n. Within n (get_or rows frame.node [])) (sym h.length_stays) here);
+    })
   where
     lt : frame.node < length before.seen
     lt = frame_within rows before s rest frame is h
@@ -422,8 +468,10 @@ going_next rows before s next rest frame row within is same advance h = subst (G
     here : Within (length before.seen) (get_or rows frame.node [])
     here = row_within (length before.seen) rows frame.node within lt
 
-pub going_less : (rows : List (List Edge)) (before s next : State) (rest : List Frame) (frame : Frame) (row : List Edge) → RowsWithin (length before.seen) rows →
-    s.stack ≡ rest ++ frame ∷ [] → row ≡ get_or rows frame.node [] → next ≡ advanced frame row (popped s rest) → Going rows before s → work rows next < work rows s
+pub going_less : (rows : List (List Edge)) (before s next : State) (rest : List Frame) (frame : Frame) (row : List Edge) →
+    RowsWithin (length before.seen) rows →
+    s.stack ≡ rest ++ frame ∷ [] → row ≡ get_or rows frame.node [] → next ≡ advanced frame row (popped s rest) → Going rows before s →
+    work rows next < work rows s
 going_less rows before s next rest frame row within is same advance h =
     let lt = frame_within rows before s rest frame is h in
     let here = row_within (length before.seen) rows frame.node within lt in
@@ -454,12 +502,14 @@ searched_first rows = record {
 -- a node was entered
 pub entered_going : (rows : List (List Edge)) (k : ℕ) (s next : State) → k < length rows → next ≡ entered k s → Searched rows k s →
     (length next.seen ≡ length rows) × FramesWithin (length next.seen) next.stack × All (λ node. node < length next.seen) next.order
-entered_going rows k s next lt is h = subst (λ it. (length it.seen ≡ length rows) × FramesWithin (length it.seen) it.stack × All (λ node. node < length it.seen) it.order) (sym is) (
-  same,
-  subst (λ n. FramesWithin n (entered k s).stack) (sym same)
-      (entered_frames (length rows) k s lt (subst (FramesWithin (length rows)) (sym h.empty) (All-nil (λ frame. frame.node < length rows)))),
-  subst (λ n. All (λ node. node < n) (entered k s).order) (sym same) (subst (λ order. All (λ node. node < length rows) order) (sym (entered_order k s)) h.nodes),
-)
+entered_going rows k s next lt is h = subst (λ it. (length it.seen ≡ length rows) × FramesWithin (length it.seen) it.stack × All (λ node.
+    node < length it.seen) it.order) (sym is) (
+      same,
+      subst (λ n. FramesWithin n (entered k s).stack) (sym same)
+          (entered_frames (length rows) k s lt (subst (FramesWithin (length rows)) (sym h.empty) (All-nil (λ frame. frame.node < length rows)))),
+      subst (λ n. All (λ node. node < n) (entered k s).order) (sym same) (subst (λ order. All (λ node.
+          node < length rows) order) (sym (entered_order k s)) h.nodes),
+    )
   where
     same : length (entered k s).seen ≡ length rows
     same = entered_length k s ∙ h.length_stays
@@ -474,7 +524,8 @@ entered_new node s lt = by (get_or s.seen node false) refl
 pub searched_next : (rows : List (List Edge)) (k : ℕ) (s next last : State) → k < length rows → next ≡ entered k s → length last.seen ≡ length next.seen →
     last.stack ≡ [] → All (λ node. node < length last.seen) last.order →
     ((node : ℕ) → get_or next.seen node false ≡ true → get_or last.seen node false ≡ true) →
-    ((edges : List Edge) → Rows (edges_from edges) (length next.seen) rows → Keeps edges rows next → Keeps edges rows last) → Searched rows k s → Searched rows (k + 1) last
+    ((edges : List Edge) → Rows (edges_from edges) (length next.seen) rows → Keeps edges rows next → Keeps edges rows last) → Searched rows k s →
+    Searched rows (k + 1) last
 searched_next rows k s next last lt is stays empty order seen keeps h = record {
   length_stays = same;
   empty = empty;

@@ -1,5 +1,38 @@
 -- What a breadth-first search keeps, and what it finds in the end.
-use Rattle.std.proofs.Common.{◌≡◌, ℕ, zero, suc, ◌+◌, ◌-◌, ◌<◌, ◌≤◌, Bool, true, false, cond, List, [], ◌∷◌, ◌++◌, ◌⊎◌, inl, inr, ⊎_elim, length, get_or, set, take, drop, reverse, refl, sym, ap, subst, ◌∙◌, arith}
+use Rattle.std.proofs.Common.{
+  ◌≡◌,
+  ℕ,
+  zero,
+  suc,
+  ◌+◌,
+  ◌-◌,
+  ◌<◌,
+  ◌≤◌,
+  Bool,
+  true,
+  false,
+  cond,
+  List,
+  [],
+  ◌∷◌,
+  ◌++◌,
+  ◌⊎◌,
+  inl,
+  inr,
+  ⊎_elim,
+  length,
+  get_or,
+  set,
+  take,
+  drop,
+  reverse,
+  refl,
+  sym,
+  ap,
+  subst,
+  ◌∙◌,
+  arith,
+}
 use Rattle.std.specs.Prelude.{All, Contains, nat_eq, replicate}
 use Rattle.std.proofs.lemmas.Bool.{cases_eq, cases_lt}
 use Rattle.std.proofs.lemmas.Bool.Decides.{nat_tests}
@@ -178,7 +211,8 @@ tree_push edges first steps step lt there follows earlier h = record {
     more : length (steps ++ step ∷ []) ≡ length steps + 1
     more = length_push steps step
 
-    there_at : (k : ℕ) (d : Step) → 0 < k → k < length (steps ++ step ∷ []) → (k < length steps) ⊎ (length steps ≤ k) → Contains edges (get_or (steps ++ step ∷ []) k d).edge
+    there_at : (k : ℕ) (d : Step) → 0 < k → k < length (steps ++ step ∷ []) → (k < length steps) ⊎ (length steps ≤ k) →
+        Contains edges (get_or (steps ++ step ∷ []) k d).edge
     there_at k d pos in' case =
         ⊎_elim
         (λ (old : k < length steps). subst (λ s. Contains edges s.edge) (sym (get_or_append_left steps (step ∷ []) d k old)) (h.there k d pos old))
@@ -385,7 +419,8 @@ sees_first count first lt = record {
 pub leaves_first : (edges : List Edge) (count : ℕ) (first : Edge) →
     Leaves edges (set (replicate count false) first.to true) (record { edge = first; before = 0 } ∷ []) []
 leaves_first edges count first x there from =
-    ⊎_elim (λ (old : get_or (replicate count false) x.from false ≡ true). absurd (none_seen count x.from old)) (λ (new : first.to ≡ x.from). inr (inl (inl new)))
+    ⊎_elim (λ (old : get_or (replicate count false) x.from false ≡ true). absurd (none_seen count x.from old)) (λ (new : first.to ≡ x.from).
+    inr (inl (inl new)))
     (seen_cases (replicate count false) first.to x.from from)
 
 pub earlier_first : (first : Edge) → Earlier (record { edge = first; before = 0 } ∷ [])
@@ -483,7 +518,8 @@ under_next rows first r at row next within lt is gone h = subst (λ it. Under ro
   tree = λ edges all.
       tree_along edges first at row r lt
       (λ edge inside. row_there edges node edge (subst (λ it. Contains it edge) (of edges all) inside))
-      (λ edge d inside. row_from edges node edge (subst (λ it. Contains it edge) (of edges all) inside) ∙ ap (λ s. s.edge.to) (get_or_default r.steps at blank d lt))
+      (λ edge d inside. row_from edges node edge (subst (λ it. Contains it edge) (of edges all) inside) ∙ ap (λ s.
+      s.edge.to) (get_or_default r.steps at blank d lt))
       h.earlier (h.tree edges all);
   leaves = λ edges all.
       leaves_along edges (at + 1) at row r here (omega (arith, lt))
@@ -521,7 +557,8 @@ pub back_more : (edges : List Edge) (first : Edge) (steps : List Step) (at last 
 back_more edges first steps at last walk longer d e pos lt earlier tree more h =
     subst (λ it. Walk edges (get_or steps (get_or steps at e).before d).edge.to it last) (sym turned) (
       tree.there at e pos lt,
-      (tree.follows at e pos lt ∙ ap (λ s. s.edge.to) (get_or_default steps (get_or steps at e).before e d (let b = earlier at e pos lt in omega (arith, b, lt)))),
+      (tree.follows at e pos lt ∙ ap (λ s. s.edge.to) (get_or_default steps (get_or steps at e).before e d (let b = earlier at e pos lt in
+          omega (arith, b, lt)))),
       subst (λ s. Walk edges s.edge.to (reverse walk) last) (get_or_default steps at d e lt) h,
     )
   where

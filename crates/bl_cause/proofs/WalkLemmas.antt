@@ -99,7 +99,8 @@ data_in : (walk : List Edge) →
     ((edge : Edge) → Contains walk edge → edge.by_data ≡ false) ⊎ ((edge : Edge) × Contains walk edge × (edge.by_data ≡ true))
 data_in [] = inl (λ edge h. absurd (contains_none edge h))
 data_in (head ∷ walk) =
-    elim head.by_data as (λ b. head.by_data ≡ b → ((edge : Edge) → Contains (head ∷ walk) edge → edge.by_data ≡ false) ⊎ ((edge : Edge) × Contains (head ∷ walk) edge × (edge.by_data ≡ true))) [
+    elim head.by_data as (λ b. head.by_data ≡ b → ((edge : Edge) → Contains (head ∷ walk) edge →
+    edge.by_data ≡ false) ⊎ ((edge : Edge) × Contains (head ∷ walk) edge × (edge.by_data ≡ true))) [
       | true ↦ λ is. inr (head, contains_head head walk, is)
       | false ↦ λ is.
           ⊎_elim

@@ -1,11 +1,9 @@
 //! The first place at which a closed walk begins with an edge of one kind.
 
-ghost use Rattle.std.specs.Prelude.{◌≡◌, ◌<◌, ℕ, Bool, false, Contains, List as Elements, [], ◌∷◌, MatchOption, length, slice_index_or, IfOk, ⊤};
-ghost use Rattle.bl_tree.specs.declared.graph.Edge.{Edge as AnEdge};
-ghost use Rattle.bl_tree.specs.Rules.{is_before};
+ghost use Rattle.std.specs.Prelude.{◌≡◌, ◌<◌, [], MatchOption, length, IfOk, ⊤};
 ghost use Rattle.bl_cause.specs.Fails.{BeginsWalk, IsFirst, Never, place_at, places_of};
-ghost use Rattle.bl_cause.specs.Walks.{ClosedWalk};
-ghost use Rattle.bl_cause.specs.inner.Lists.{Candidates, Rows, RowsWithin, Within, edges_from, level_edges};
+ghost use Rattle.bl_cause.specs.inner.Found.{BeginsFrom, FirstBegins, IsLeast, NoneBegins, NoWalkFrom};
+ghost use Rattle.bl_cause.specs.inner.Lists.{RowsWithin, Within, level_edges};
 
 use crate::edges::{count_of, leaving};
 use crate::finishing::sorted;
@@ -68,8 +66,8 @@ fn first_of(
 ) -> Result<Option<Found>, NoMemory>
     requires rows { RowsWithin (length rows.now) rows.now }
     requires left { Within (length rows.now) left.items }
-    ensures none { IfOk result (λ found. MatchOption found ((edges : Elements AnEdge) (by_data : Bool) → Rows (edges_from edges) (length rows.now) rows.now → Candidates edges by_data left.items → Never (BeginsWalk nodes.now edges by_data)) (λ _. ⊤)) }
-    ensures some { IfOk result (λ found. MatchOption found ⊤ (λ walk. (edges : Elements AnEdge) (by_data : Bool) → Rows (edges_from edges) (length rows.now) rows.now → Candidates edges by_data left.items → IsFirst (BeginsWalk nodes.now edges by_data) walk.at walk.also)) }
+    ensures none { IfOk result (λ found. MatchOption found (NoneBegins nodes.now rows.now left.items) (λ _. ⊤)) }
+    ensures some { IfOk result (λ found. MatchOption found ⊤ (λ walk. FirstBegins nodes.now rows.now left.items walk.at walk.also)) }
 {
     let mut left = left;
     while let Some(k) = least(nodes, &left) {
@@ -85,7 +83,7 @@ fn first_of(
 fn least(nodes: &[Node], edges: &[Edge]) -> Option<usize>
     ensures none { MatchOption result (edges.now ≡ []) (λ _. ⊤) }
     ensures some { MatchOption result ⊤ (λ k. k < length edges.now) }
-    ensures least { MatchOption result ⊤ (λ k. (j : ℕ) (d : AnEdge) → j < length edges.now → is_before (place_at nodes.now (slice_index_or edges.now j d).from) (place_at nodes.now (slice_index_or edges.now k d).from) ≡ false) }
+    ensures least { MatchOption result ⊤ (IsLeast nodes.now edges.now) }
 {
     if edges.is_empty() {
         return None;
@@ -108,8 +106,8 @@ fn walk_from(
 ) -> Result<Option<Found>, NoMemory>
     requires rows { RowsWithin (length rows.now) rows.now }
     requires ends { edge.to < length rows.now }
-    ensures none { IfOk result (λ found. MatchOption found ((edges : Elements AnEdge) → Rows (edges_from edges) (length rows.now) rows.now → Contains edges edge → (rest : Elements AnEdge) → ¬ ClosedWalk edges (edge ∷ rest)) (λ _. ⊤)) }
-    ensures some { IfOk result (λ found. MatchOption found ⊤ (λ walk. (edges : Elements AnEdge) → Rows (edges_from edges) (length rows.now) rows.now → Contains edges edge → BeginsWalk nodes.now edges edge.by_data walk.at walk.also)) }
+    ensures none { IfOk result (λ found. MatchOption found (NoWalkFrom rows.now edge) (λ _. ⊤)) }
+    ensures some { IfOk result (λ found. MatchOption found ⊤ (λ walk. BeginsFrom nodes.now rows.now edge walk.at walk.also)) }
     ensures at { IfOk result (λ found. MatchOption found ⊤ (λ walk. walk.at ≡ place_at nodes.now edge.from)) }
 {
     match way_back(alloc, rows, edge)? {

@@ -8,8 +8,8 @@
 //! walk is in the way. `numbering` takes them in that order, and gives one number to all that lead to a node and have none
 //! yet. The numbers never fall along an edge, so the ends of an edge on a closed walk have one number. `first` takes the
 //! edges at whose ends the numbers are the same, by their places, and `way_back` looks for a walk from the end of such an
-//! edge to its beginning. The nodes of one number lead to each other, so that the first try succeeds; nothing here depends
-//! on it but the time.
+//! edge to its beginning. That nodes of one number lead to each other, so that the first try succeeds, isn't proved: only
+//! the time depends on it.
 //!
 //! Laws: numbers that rise leave no closed walk; a closed walk can begin with any of its edges; where neither rule fails
 //! there is none.

@@ -1,9 +1,8 @@
 //! Numbers for the nodes that never fall along an edge, and are the same for nodes that lead to each other.
 
-ghost use Rattle.std.specs.Prelude.{◌≡◌, ◌<◌, All, List as Elements, length, IfOk, OnOk};
-ghost use Rattle.bl_tree.specs.declared.graph.Edge.{Edge as AnEdge};
-ghost use Rattle.bl_cause.specs.inner.Lists.{Rows, RowsWithin, Within, edges_into};
-ghost use Rattle.bl_cause.specs.inner.Numbers.{NeverFall, lowered_along};
+ghost use Rattle.std.specs.Prelude.{◌≡◌, ◌<◌, All, length, IfOk, OnOk};
+ghost use Rattle.bl_cause.specs.inner.Lists.{RowsWithin, Within};
+ghost use Rattle.bl_cause.specs.inner.Numbers.{NeverFall, StayUp, lowered_along, lowered_to};
 
 use crate::edges::entering;
 use bl_tree::graph::Edge;
@@ -42,7 +41,7 @@ fn lower(
     requires node { node < length numbers.old }
     requires rows { RowsWithin (length numbers.old) rows.now }
     ensures length { OnOk result (length numbers.new ≡ length numbers.old) }
-    ensures fall { OnOk result ((edges : Elements AnEdge) → Rows (edges_into edges) (length numbers.old) rows.now → NeverFall edges numbers.old → NeverFall edges numbers.new) }
+    ensures fall { OnOk result (StayUp rows.now numbers.old numbers.new) }
 {
     if numbers[node as usize] <= number {
         return Ok(());
@@ -65,7 +64,7 @@ fn lower_along(
     lowered: &mut Vec<u32>,
 ) -> Result<(), NoMemory>
     requires ends { Within (length numbers.old) row.now }
-    ensures { OnOk result (record { numbers = numbers.new; nodes = lowered.new.items } ≡ lowered_along row.now (record { numbers = numbers.old; nodes = lowered.old.items })) }
+    ensures { OnOk result (lowered_to numbers.new lowered.new.items ≡ lowered_along row.now (lowered_to numbers.old lowered.old.items)) }
 {
     for edge in row {
         let number = numbers[edge.to as usize];

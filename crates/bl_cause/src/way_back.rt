@@ -1,11 +1,11 @@
 //! A breadth-first search for a walk from the end of an edge to its beginning.
 
-ghost use Rattle.std.specs.Prelude.{◌≡◌, ◌<◌, true, false, Contains, List as Elements, [], ◌∷◌, ◌++◌, replicate, slice_index_or, slice_set, MatchOption, length, IfOk, OnOk, ⊤};
-ghost use Rattle.bl_tree.specs.declared.graph.Edge.{Edge as AnEdge};
-ghost use Rattle.bl_cause.specs.Walks.{ClosedWalk, Walk};
-ghost use Rattle.bl_cause.specs.inner.Lists.{Rows, RowsWithin, Within, edges_from};
+ghost use Rattle.std.specs.Prelude.{◌≡◌, ◌<◌, true, false, [], ◌∷◌, ◌++◌, replicate, slice_index_or, slice_set};
+ghost use Rattle.std.specs.Prelude.{MatchOption, length, IfOk, OnOk, ⊤};
 ghost use Rattle.bl_cause.specs.declared.way_back.Step.{Step as AStep};
-ghost use Rattle.bl_cause.specs.inner.Steps.{Closed, Earlier, Ends, Tree, gone_along};
+ghost use Rattle.bl_cause.specs.inner.Found.{InGraphs, NoWalkFrom, WalkFrom};
+ghost use Rattle.bl_cause.specs.inner.Lists.{RowsWithin, Within};
+ghost use Rattle.bl_cause.specs.inner.Steps.{Closed, Earlier, Ends, LeadsTo, Tree, gone_along};
 
 use bl_tree::graph::Edge;
 use bl_tree::{List, NoMemory};
@@ -27,7 +27,7 @@ pub struct Reached {
     pub steps: List<Step>,
 }
 
-/// The rest of a shortest closed walk that begins with the edge, if there is one.
+/// The rest of a closed walk that begins with the edge, if there is one.
 pub fn way_back(
     alloc: Global,
     rows: &[List<Edge>],
@@ -35,8 +35,8 @@ pub fn way_back(
 ) -> Result<Option<Vec<Edge>>, NoMemory>
     requires rows { RowsWithin (length rows.now) rows.now }
     requires ends { first.to < length rows.now }
-    ensures none { IfOk result (λ found. MatchOption found ((edges : Elements AnEdge) → Rows (edges_from edges) (length rows.now) rows.now → Contains edges first → (rest : Elements AnEdge) → ¬ ClosedWalk edges (first ∷ rest)) (λ _. ⊤)) }
-    ensures some { IfOk result (λ found. MatchOption found ⊤ (λ rest. (edges : Elements AnEdge) → Rows (edges_from edges) (length rows.now) rows.now → Contains edges first → ClosedWalk edges (first ∷ rest.items))) }
+    ensures none { IfOk result (λ found. MatchOption found (NoWalkFrom rows.now first) (λ _. ⊤)) }
+    ensures some { IfOk result (λ found. MatchOption found ⊤ (λ rest. WalkFrom rows.now first rest.items)) }
 {
     let steps = steps_from(alloc, rows, first)?;
     match last_step(&steps, first.from) {
@@ -48,13 +48,13 @@ pub fn way_back(
     }
 }
 
-/// All steps that can follow on the edge, the nearest first.
+/// The edge and all that can follow on it, one step to each node that is reached.
 fn steps_from(alloc: Global, rows: &[List<Edge>], first: Edge) -> Result<List<Step>, NoMemory>
     requires rows { RowsWithin (length rows.now) rows.now }
     requires ends { first.to < length rows.now }
     ensures earlier { IfOk result Earlier }
-    ensures tree { IfOk result (λ steps. (edges : Elements AnEdge) → Rows (edges_from edges) (length rows.now) rows.now → Tree edges first steps) }
-    ensures closed { IfOk result (λ steps. (edges : Elements AnEdge) → Rows (edges_from edges) (length rows.now) rows.now → Closed edges steps) }
+    ensures tree { IfOk result (λ steps. InGraphs rows.now (λ edges. Tree edges first steps)) }
+    ensures closed { IfOk result (λ steps. InGraphs rows.now (λ edges. Closed edges steps)) }
 {
     let mut reached = Reached::new(alloc, rows.len(), first)?;
     let mut at = 0;
@@ -82,7 +82,7 @@ fn last_step(steps: &[Step], node: u32) -> Option<usize>
 fn walk_to(alloc: Global, steps: &[Step], last: usize) -> Result<Vec<Edge>, NoMemory>
     requires last { last < length steps.now }
     requires earlier { Earlier steps.now }
-    ensures { IfOk result (λ walk. (edges : Elements AnEdge) (first : AnEdge) (d : AStep) → Tree edges first steps.now → Walk edges first.to walk.items (slice_index_or steps.now last d).edge.to) }
+    ensures { IfOk result (λ walk. LeadsTo steps.now last walk.items) }
 {
     let mut walk = List::new(alloc);
     let mut at = last;

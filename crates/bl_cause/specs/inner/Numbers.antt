@@ -1,7 +1,7 @@
 -- Numbers that never fall along an edge.
-use Rattle.std.specs.Prelude.{ℕ, ◌≤◌, ◌⊎◌, nat_lt, Bool, true, false, List, [], ◌∷◌, ◌++◌, Contains, slice_index, slice_set}
+use Rattle.std.specs.Prelude.{ℕ, ◌≤◌, ◌⊎◌, nat_lt, Bool, true, false, List, [], ◌∷◌, ◌++◌, Contains, length, slice_index, slice_set}
 use Rattle.bl_tree.specs.declared.graph.Edge.{Edge}
-use Rattle.bl_cause.specs.inner.Lists.{In}
+use Rattle.bl_cause.specs.inner.Lists.{In, Rows, edges_into}
 
 -- the numbers of the nodes never fall along an edge
 abbrev pub NeverFall : List Edge → List ℕ → Type 0
@@ -17,6 +17,10 @@ pub record Lowered : Type 0 where
   pub numbers : List ℕ
   pub nodes : List ℕ
 
+-- these numbers, and these nodes
+abbrev pub lowered_to : List ℕ → List ℕ → Lowered
+lowered_to numbers nodes = record { numbers = numbers; nodes = nodes }
+
 -- where the test is true, the number where the edge begins becomes the one where it ends
 abbrev pub lowered_if : Bool → Edge → Lowered → Lowered
 lowered_if true edge s = record { numbers = slice_set s.numbers edge.from (slice_index s.numbers edge.to); nodes = s.nodes ++ edge.from ∷ [] }
@@ -30,3 +34,8 @@ lowered edge s = lowered_if (nat_lt (slice_index s.numbers edge.to) (slice_index
 abbrev pub lowered_along : List Edge → Lowered → Lowered
 lowered_along [] s = s
 lowered_along (edge ∷ row) s = lowered_along row (lowered edge s)
+
+-- numbers that never fall along the edges in these rows, by the nodes at which they end, still don't
+abbrev pub StayUp : List (List Edge) → List ℕ → List ℕ → Type 0
+StayUp rows before after =
+    (edges : List Edge) → Rows (edges_into edges) (length before) rows → NeverFall edges before → NeverFall edges after

@@ -1,10 +1,33 @@
 -- The order in which a depth-first search is done with the nodes.
-use Rattle.std.specs.Prelude.{◌≡◌, ◌+◌, ◌<◌, ◌⊎◌, ℕ, true, false, Option, Some, None, slice_get, Bool, Contains, List, [], ◌∷◌, ◌++◌, length, reverse, slice_index_or, slice_set, ⊤}
+use Rattle.std.specs.Prelude.{
+  ◌≡◌,
+  ◌+◌,
+  ◌<◌,
+  ◌⊎◌,
+  ℕ,
+  true,
+  false,
+  Option,
+  Some,
+  None,
+  slice_get,
+  Bool,
+  Contains,
+  List,
+  [],
+  ◌∷◌,
+  ◌++◌,
+  length,
+  reverse,
+  slice_index_or,
+  slice_set,
+  ⊤,
+}
 use Rattle.bl_tree.specs.declared.graph.Edge.{Edge}
 use Rattle.bl_cause.specs.declared.finishing.Frame.{Frame}
 use Rattle.bl_cause.specs.declared.finishing.Search.{Search}
 use Rattle.bl_cause.specs.Walks.{Walk}
-use Rattle.bl_cause.specs.inner.Lists.{In, unseen}
+use Rattle.bl_cause.specs.inner.Lists.{In, Rows, edges_from, unseen}
 
 -- some walk leads from the one node to the other
 abbrev pub Reaches : List Edge → ℕ → ℕ → Type 0
@@ -68,6 +91,10 @@ pub record Keeps (edges : List Edge) (rows : List (List Edge)) (s : State) : Typ
   pub sorted : Sorted edges (reverse s.order)
   pub held : (node : ℕ) → slice_index_or s.seen node false ≡ true → In node (reverse s.order) ⊎ Open node (reverse s.stack)
   pub counted : unseen s.seen + (length s.order + length s.stack) ≡ length s.seen
+
+-- a search over these rows keeps what it kept, in every graph with so many nodes
+abbrev pub KeepsOn : ℕ → List (List Edge) → State → State → Type 0
+KeepsOn count rows before after = (edges : List Edge) → Rows (edges_from edges) count rows → Keeps edges rows before → Keeps edges rows after
 
 -- each node of the order gets its position there, counted from this number on
 abbrev pub ranked : List ℕ → ℕ → List ℕ → List ℕ

@@ -22,7 +22,8 @@ returns c =
     let size : length c.deref.result.now ≡ c.args.count = ap length c.deref.ensures ∙ c.in_ok-rows.ensures.one_each in
     record {
       nodes = subst (λ order. All (λ node. node < c.args.count) order) (sym turned)
-          (all_reverse c.args.count c.in_ok-search.search.order (subst (λ n. All (λ node. node < n) c.in_ok-search.search.order) size c.in_ok-search.ensures.nodes));
+          (all_reverse c.args.count c.in_ok-search.search.order (subst (λ n. All (λ node.
+          node < n) c.in_ok-search.search.order) size c.in_ok-search.ensures.nodes));
       all = λ node lt. subst (In node) (sym turned) (done.all node lt);
       length = (let e = ap length turned in let f = length-reverse c.in_ok-search.search.order in let g = done.few in omega (arith, e, f, g));
       sorted = subst (Sorted c.args.edges.now) (sym turned) done.sorted;

@@ -10,7 +10,8 @@ abbrev pub invariant-loop-node : goal.invariant-loop-node
 invariant-loop-node l = record {
   length_stays : length l.numbers ≡ length l.fn.numbers;
   nodes : All (λ node. node < length l.fn.numbers) l.lowered.items;
-  fall : (edges : List Edge) → Rows (edges_into edges) (length l.fn.numbers) l.rows → NeverFall edges l.fn.numbers → FallBefore edges l.numbers l.lowered.items [];
+  fall : (edges : List Edge) → Rows (edges_into edges) (length l.fn.numbers) l.rows → NeverFall edges l.fn.numbers →
+      FallBefore edges l.numbers l.lowered.items [];
 }
 
 abbrev pub decreases-loop-node : goal.decreases-loop-node

@@ -21,7 +21,10 @@ spread-requires c =
     row_read c.args.rows.now (get_or c.loop-at.reached.steps c.loop-at.at blank).edge.to c.deref-in-loop-at.result.now c.index-rows-node.result
     (c.index-rows-node.is ∙ ap (λ steps. get_or c.args.rows.now (get_or steps c.loop-at.at blank).edge.to c.index-rows-node.result) c.deref.ensures)
     c.deref-in-loop-at.ensures there in
-    record { row = under_row c.args.rows.now c.args.first c.loop-at.reached c.loop-at.at c.deref-in-loop-at.result.now c.requires.rows lt is c.loop-at.invariant }
+    record {
+      row = under_row c.args.rows.now c.args.first c.loop-at.reached c.loop-at.at c.deref-in-loop-at.result.now c.requires.rows lt is
+          c.loop-at.invariant;
+    }
 
 pub loop-at-smaller : goal.loop-at-smaller
 loop-at-smaller c =

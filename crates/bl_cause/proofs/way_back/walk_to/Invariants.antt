@@ -8,7 +8,8 @@ use Rattle.bl_cause.proofs.way_back.walk_to.Given as goal
 abbrev pub invariant-loop-at : goal.invariant-loop-at
 invariant-loop-at l = record {
   inside : l.at ≤ l.last;
-  leads : (edges : List Edge) (first : Edge) (d : Step) → Tree edges first l.steps → Walk edges (get_or l.steps l.at d).edge.to (reverse l.walk) (get_or l.steps l.last d).edge.to;
+  leads : (edges : List Edge) (first : Edge) (d : Step) → Tree edges first l.steps →
+      Walk edges (get_or l.steps l.at d).edge.to (reverse l.walk) (get_or l.steps l.last d).edge.to;
 }
 
 abbrev pub decreases-loop-at : goal.decreases-loop-at

@@ -12,7 +12,8 @@ pub loop-frame-smaller : goal.loop-frame-smaller
 loop-frame-smaller c =
     let is : c.deref.result.now ≡ get_or c.args.rows.now c.in-Some.frame.node [] =
     row_read c.args.rows.now c.in-Some.frame.node c.deref.result.now c.index-rows-frame.result c.index-rows-frame.is c.deref.ensures
-    (let lt = frame_within c.args.rows.now (state_of c.args.self.now) (state_of c.loop-frame.self) c.pop.new.self.items c.in-Some.frame c.in-Some.ensures.items c.loop-frame.invariant in
+    (let lt = frame_within c.args.rows.now (state_of c.args.self.now)
+    (state_of c.loop-frame.self) c.pop.new.self.items c.in-Some.frame c.in-Some.ensures.items c.loop-frame.invariant in
     let e = c.requires.rows.0 in
     omega (arith, lt, e)) in
     going_less c.args.rows.now (state_of c.args.self.now) (state_of c.loop-frame.self) (state_of c.advance.new.self) c.pop.new.self.items c.in-Some.frame
@@ -22,7 +23,8 @@ pub loop-frame-preserved : goal.loop-frame-preserved
 loop-frame-preserved c =
     let is : c.deref.result.now ≡ get_or c.args.rows.now c.in-Some.frame.node [] =
     row_read c.args.rows.now c.in-Some.frame.node c.deref.result.now c.index-rows-frame.result c.index-rows-frame.is c.deref.ensures
-    (let lt = frame_within c.args.rows.now (state_of c.args.self.now) (state_of c.loop-frame.self) c.pop.new.self.items c.in-Some.frame c.in-Some.ensures.items c.loop-frame.invariant in
+    (let lt = frame_within c.args.rows.now (state_of c.args.self.now)
+    (state_of c.loop-frame.self) c.pop.new.self.items c.in-Some.frame c.in-Some.ensures.items c.loop-frame.invariant in
     let e = c.requires.rows.0 in
     omega (arith, lt, e)) in
     going_next c.args.rows.now (state_of c.args.self.now) (state_of c.loop-frame.self) (state_of c.advance.new.self) c.pop.new.self.items c.in-Some.frame
