@@ -163,3 +163,29 @@ never_twice_never_cycle graph twice cycle walk closed =
     none_begins graph.nodes (controls graph.edges) false twice edge rest
     (not_false edge.by_data (filter_true (λ it. not it.by_data) graph.edges edge w.0)) w)
     (λ edge rest kind w. none_begins graph.nodes graph.edges true cycle edge rest kind w) walk closed
+
+walk_of_controls : (edges : List Edge) (first last : ℕ) (walk : List Edge) → Walk (controls edges) first walk last → Walk edges first walk last
+walk_of_controls edges first last [] w = w
+walk_of_controls edges first last (head ∷ walk) w = (control_is edges head w.0, w.1, walk_of_controls edges head.to last walk w.2)
+
+control_kind : (edges : List Edge) (edge : Edge) → Contains (controls edges) edge → edge.by_data ≡ false
+control_kind edges edge h = not_false edge.by_data (filter_true (λ it. not it.by_data) edges edge h)
+
+pub controls_closed : (edges walk : List Edge) → ClosedWalk (controls edges) walk →
+    ClosedWalk edges walk × ((edge : Edge) → Contains walk edge → edge.by_data ≡ false)
+controls_closed edges [] w = absurd w
+controls_closed edges (head ∷ walk) w = (
+  (control_is edges head w.0, walk_of_controls edges head.to head.from walk w.1),
+  λ edge h.
+      ⊎_elim (λ (same : head ≡ edge). sym (ap (λ it. it.by_data) same) ∙ control_kind edges head w.0)
+      (λ (later : Contains walk edge). control_kind edges edge (passes (controls edges) head.to head.from walk w.1 edge later).0)
+      (contains_cons head walk edge h),
+)
+
+pub closed_controls : (edges walk : List Edge) → ClosedWalk edges walk →
+    ((edge : Edge) → Contains walk edge → edge.by_data ≡ false) → ClosedWalk (controls edges) walk
+closed_controls edges [] w none = w
+closed_controls edges (head ∷ walk) w none = (
+  is_control edges head w.0 (none head (contains_head head walk)),
+  walk_by_controls edges head.to head.from walk w.1 (λ edge h. none edge (contains_tail head walk edge h)),
+)

@@ -1,6 +1,6 @@
 //! Laws of closed walks, each the contract of a function that does nothing.
 
-ghost use Rattle.bl_cause.specs.Laws.{RanksLeaveNoWalk, RulesLeaveNoWalk, WalksTurn};
+ghost use Rattle.bl_cause.specs.Laws.{ControlWalks, RanksLeaveNoWalk, RulesLeaveNoWalk, WalksTurn};
 
 /// Where numbers rise along every edge nothing acts twice, and nothing waits for itself.
 pub fn ranks_leave_no_walk()
@@ -15,4 +15,9 @@ pub fn walks_turn()
 /// A closed walk has a data edge, or all its edges are control edges.
 pub fn rules_leave_no_walk()
     ensures { RulesLeaveNoWalk }
+{}
+
+/// What rule Twice speaks of, said by the edges of the whole graph.
+pub fn control_walks_are_walks()
+    ensures { ControlWalks }
 {}

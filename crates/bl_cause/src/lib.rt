@@ -11,8 +11,8 @@
 //! edge to its beginning. That nodes of one number lead to each other, so that the first try succeeds, isn't proved: only
 //! the time depends on it.
 //!
-//! Laws: numbers that rise leave no closed walk; a closed walk can begin with any of its edges; where neither rule fails
-//! there is none.
+//! Laws: numbers that rise leave no closed walk; a closed walk can begin with any of its edges; one of control edges is one
+//! without data edges; where neither rule fails there is none.
 #![tactic(auto)]
 
 ghost use Rattle.std.specs.Prelude.{List as Elements, MatchOption, OnOk, IfOk, IfErr, ⊤};
