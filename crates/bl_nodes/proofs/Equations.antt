@@ -1,7 +1,7 @@
 -- A fold doesn't compute at a made value: each equation is by unfolding one level.
-use Rattle.std.proofs.Common.{◌≡◌, List, [], ◌∷◌, map, refl, ap, sym, ◌∙◌}
-use Rattle.bl_tree.specs.declared.tree.Arm.{Arm, out-Arm, fold-Arm, fold_out-Arm}
-use Rattle.bl_tree.specs.declared.tree.Branch.{Branch, out-Branch, fold-Branch, fold_out-Branch}
+use Rattle.std.proofs.Common.{◌≡◌, List, [], ◌∷◌, map, refl, ap, ◌∙◌}
+use Rattle.bl_tree.specs.declared.tree.Arm.{Arm, fold-Arm, fold_out-Arm}
+use Rattle.bl_tree.specs.declared.tree.Branch.{Branch, fold-Branch, fold_out-Branch}
 use Rattle.bl_tree.specs.declared.tree.Stmt.{Stmt, fold-roll-Stmt, out-Stmt, roll-Stmt, roll-out-Stmt}
 use Rattle.bl_tree.specs.declared.tree.StmtKind.{fold-roll-StmtKind, out-StmtKind, roll-out-StmtKind}
 use Rattle.bl_nodes.specs.Laws.{PlainStatements, plain_arm, plain_branch, stmt}
@@ -18,7 +18,6 @@ use Rattle.bl_nodes.specs.Plain.{
   kind_plain,
   label_at,
   passed_one,
-  plain,
   plain_block,
   stmt_plain,
   Position,

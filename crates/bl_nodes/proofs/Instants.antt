@@ -15,13 +15,11 @@ use Rattle.std.proofs.Common.{
   ◌∷◌,
   ◌++◌,
   map,
-  Option,
   refl,
   ap,
   sym,
   ◌∙◌,
 }
-use Rattle.std.specs.Prelude.{All}
 use Rattle.std.proofs.lemmas.List.Elements.{All-head, All-tail}
 use Rattle.bl_tree.specs.declared.place.Place.{Place}
 use Rattle.bl_tree.specs.declared.tree.Arm.{Arm, out-Arm, fold-Arm, fold_out-Arm}
@@ -29,11 +27,31 @@ use Rattle.bl_tree.specs.declared.tree.Branch.{Branch, out-Branch, fold-Branch, 
 use Rattle.bl_tree.specs.declared.tree.Stmt.{Stmt, fold-roll-Stmt}
 use Rattle.bl_tree.specs.declared.tree.StmtKind.{fold-roll-StmtKind}
 use Rattle.bl_tree.specs.declared.tree.StmtKind.TheOpen.{StmtKind-F}
-use Rattle.bl_tree.specs.Instant.{Ends, arm_instant, branch_ends, branches_instant, instant, is_instant_block, kind_instant, stmt_instant}
+use Rattle.bl_tree.specs.Instant.{
+  Ends,
+  arm_instant,
+  branch_ends,
+  branches_instant,
+  instant,
+  is_instant_block,
+  kind_instant,
+  stmt_instant,
+}
 use Rattle.bl_tree.specs.Reduce.{all_of, any_of}
 use Rattle.bl_tree.proofs.StmtInduction.{Cases, Each, EachArm, EachBranch, induct, stmt}
 use Rattle.bl_nodes.specs.Nodes.{are_instant, is_instant, some_instant, some_strong, strong_instant}
-use Rattle.bl_nodes.specs.Plain.{Label, Position, block_from, bodies_from, else_at, inside, label_at, passed_one, plain, plain_block}
+use Rattle.bl_nodes.specs.Plain.{
+  Label,
+  Position,
+  block_from,
+  bodies_from,
+  else_at,
+  inside,
+  label_at,
+  passed_one,
+  plain,
+  plain_block,
+}
 use Rattle.bl_nodes.specs.Laws.{plain_arm, plain_branch}
 use Rattle.bl_nodes.proofs.Equations.{plain_statements}
 
@@ -136,8 +154,8 @@ bodies_same branches at each =
 branching_same : (place : Place) (arms : List Arm) (other : List Stmt) → EachArm Same arms → Each Same other →
     Same (stmt place (StmtKind-F.If arms other))
 branching_same place [] other each others at = rw (fold-roll-Stmt, fold-roll-StmtKind, fold-roll-Stmt, fold-roll-StmtKind)
-    (ap (λ a. a || are_instant (plain_block other (inside (label_at at) 0))) (block_same other 0 (inside (label_at at) 0) others)
-    ∙ ap (λ a. all_of (map instant other) || a) (block_same other 0 (inside (label_at at) 0) others) ∙ or_same (all_of (map instant other)))
+    (ap (λ a. a || are_instant (plain_block other (inside (label_at at) 1))) (block_same other 0 (inside (label_at at) 0) others)
+    ∙ ap (λ a. all_of (map instant other) || a) (block_same other 0 (inside (label_at at) 1) others) ∙ or_same (all_of (map instant other)))
 branching_same place (arm ∷ rest) other each others at =
     ap is_instant (plain_statements.branching place at arm rest other)
     ∙ ap (λ first. first || are_instant (else_at (passed_one (label_at at)) (map plain_arm rest) (plain_block other)))

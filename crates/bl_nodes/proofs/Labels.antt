@@ -1,6 +1,5 @@
 -- The nodes of a statement have labels below its position.
-use Rattle.std.proofs.Common.{◌≡◌, ℕ, zero, suc, Bool, true, false, cond, List, [], ◌∷◌, ◌++◌, map, Option, refl, ap, sym, ◌∙◌, subst}
-use Rattle.std.specs.Prelude.{All}
+use Rattle.std.proofs.Common.{◌≡◌, ℕ, suc, Bool, true, false, List, [], ◌∷◌, ◌++◌, map, refl, ap, sym, ◌∙◌, subst}
 use Rattle.std.proofs.lemmas.List.Elements.{All-head, All-tail}
 use Rattle.bl_tree.specs.declared.place.Place.{Place}
 use Rattle.bl_tree.specs.declared.tree.Arm.{Arm, out-Arm}
@@ -38,7 +37,6 @@ use Rattle.bl_nodes.specs.Plain.{
   else_at,
   inside,
   label_at,
-  never,
   passed_one,
   plain,
   plain_block,
@@ -56,16 +54,16 @@ append_apart : (xs ys zs : List ℕ) → (xs ++ ys) ++ zs ≡ xs ++ (ys ++ zs)
 append_apart [] ys zs = refl
 append_apart (x ∷ xs) ys zs = ap (λ l. x ∷ l) (append_apart xs ys zs)
 
-itself : (at : Position) → Begins at at
+pub itself : (at : Position) → Begins at at
 itself at = record { rest = []; is = append_nil at }
 
-one_on : (at : Position) (k : ℕ) → Begins at (at ++ k ∷ [])
+pub one_on : (at : Position) (k : ℕ) → Begins at (at ++ k ∷ [])
 one_on at k = record { rest = k ∷ []; is = refl }
 
-through : (a b c : Position) → Begins a b → Begins b c → Begins a c
+pub through : (a b c : Position) → Begins a b → Begins b c → Begins a c
 through a b c one two = record { rest = one.rest ++ two.rest; is = two.is ∙ ap (λ l. l ++ two.rest) one.is ∙ append_apart a one.rest two.rest }
 
-tail_same : (x y : ℕ) (xs ys : List ℕ) → (x ∷ xs) ≡ (y ∷ ys) → xs ≡ ys
+pub tail_same : (x y : ℕ) (xs ys : List ℕ) → (x ∷ xs) ≡ (y ∷ ys) → xs ≡ ys
 tail_same x y xs ys is = cc
 
 head_same : (x y : ℕ) (xs ys : List ℕ) → (x ∷ xs) ≡ (y ∷ ys) → x ≡ y
@@ -98,7 +96,7 @@ perhaps at false n rest begins below = below
 abbrev Low : Stmt → Type 0
 Low s = (at : Position) → Below at (nodes_of (plain s at))
 
-block_low : (body : List Stmt) (k : ℕ) (block : Position) → Each Low body → Below block (nodes_in (block_from (map plain body) k block))
+pub block_low : (body : List Stmt) (k : ℕ) (block : Position) → Each Low body → Below block (nodes_in (block_from (map plain body) k block))
 block_low [] k block each = tt
 block_low (s ∷ rest) k block each =
     both block _ _ (further block (block ++ k ∷ []) _ (one_on block k) (All-head Low s rest each (block ++ k ∷ [])))
@@ -124,12 +122,12 @@ bodies_low (b ∷ rest) k at each =
 
 -- ---- statements
 
-of_plain : (at : Position) (one other : Plain) → one ≡ other → Below at (nodes_of other) → Below at (nodes_of one)
+pub of_plain : (at : Position) (one other : Plain) → one ≡ other → Below at (nodes_of other) → Below at (nodes_of one)
 of_plain at one other is below = subst (λ s. Below at (nodes_of s)) (sym is) below
 
 branching_low : (place : Place) (arms : List Arm) (other : List Stmt) → EachArm Low arms → Each Low other → Low (stmt place (StmtKind-F.If arms other))
 branching_low place [] other each others at = rw (fold-roll-Stmt, fold-roll-StmtKind)
-    (itself at, both at _ _ (inner_low other (label_at at) 0 others) (inner_low other (label_at at) 0 others))
+    (itself at, both at _ _ (inner_low other (label_at at) 0 others) (inner_low other (label_at at) 1 others))
 branching_low place (arm ∷ rest) other each others at = of_plain at _ _ (plain_statements.branching place at arm rest other) (
   itself at,
   both at _ _ (inner_low (out-Arm arm).body (label_at at) 0 (All-head (λ arm. Each Low (out-Arm arm).body) arm rest each))
@@ -171,10 +169,10 @@ cases = record {
   returns = λ place e at. of_plain at _ _ (plain_statements.returns place at e) (itself at, tt);
 }
 
-low : (s : Stmt) → Low s
+pub low : (s : Stmt) → Low s
 low = induct Low cases
 
-each_low : (body : List Stmt) → Each Low body
+pub each_low : (body : List Stmt) → Each Low body
 each_low body k s lt = low _
 
 pub labels_are_below : LabelsAreBelow

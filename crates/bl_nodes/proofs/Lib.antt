@@ -1,3 +1,4 @@
 pub mod Equations
 pub mod Instants
 pub mod Labels
+pub mod Differing

@@ -1,5 +1,5 @@
 -- What the plain statements of statements are, kind by kind.
-use Rattle.std.specs.Prelude.{◌≡◌, ℕ, List, [], ◌∷◌, ◌++◌, Option, map, ⊤}
+use Rattle.std.specs.Prelude.{◌≡◌, ℕ, List, [], ◌∷◌, ◌++◌, Option, Some, map, slice_get, ⊤}
 use Rattle.bl_tree.specs.declared.place.Place.{Place}
 use Rattle.bl_tree.specs.declared.tree.Arm.{Arm, out-Arm}
 use Rattle.bl_tree.specs.declared.tree.Branch.{Branch, out-Branch}
@@ -102,3 +102,12 @@ pub record LabelsAreBelow : Type 0 where
 -- no position begins with those of two blocks of a statement, nor of two statements of a block
 abbrev pub PositionsPart : Type 0
 PositionsPart = (at position : Position) (j k : ℕ) → Begins (at ++ j ∷ []) position → Begins (at ++ k ∷ []) position → j ≡ k
+
+-- no node stands in two places of the list
+abbrev pub EachOnce : List Node → Type 0
+EachOnce nodes = (i j : ℕ) (n : Node) → slice_get nodes i ≡ Some n → slice_get nodes j ≡ Some n → i ≡ j
+
+-- the nodes of a statement at a position differ, and so do those of a block
+pub record NodesDiffer : Type 0 where
+  pub statements : (s : Stmt) (at : Position) → EachOnce (nodes_of (plain s at))
+  pub blocks : (body : List Stmt) (at : Position) → EachOnce (nodes_in (plain_block body at))

@@ -1,16 +1,35 @@
 -- The nodes of the tick graph: what of a plain statement acts by itself. A node has its label and its statement's text, so
 -- what it reads and writes is told by the node alone (docs/LANGUAGE.md, "Tick graphs").
-use Rattle.std.specs.Prelude.{ℕ, Bool, true, false, not, ◌&&◌, ◌||◌, List, [], ◌∷◌, ◌++◌, map, Option, if◌then◌else◌}
+use Rattle.std.specs.Prelude.{Bool, true, false, not, ◌&&◌, ◌||◌, List, [], ◌∷◌, ◌++◌, map, Option, if◌then◌else◌}
 use Rattle.bl_tree.specs.declared.graph.NodeKind.{NodeKind}
 use Rattle.bl_tree.specs.declared.graph.NodeKind.TheVariants as kind
 use Rattle.bl_tree.specs.declared.place.Place.{Place}
 use Rattle.bl_tree.specs.declared.static_path.Static.{Static}
-use Rattle.bl_tree.specs.declared.tree.Expr.{Expr, out-Expr}
+use Rattle.bl_tree.specs.declared.tree.Expr.{Expr}
 use Rattle.bl_tree.specs.declared.tree.Path.{Path}
 use Rattle.bl_tree.specs.declared.tree.Stmt.{Stmt, out-Stmt}
 use Rattle.bl_tree.specs.Effects.{argument_mentions, reads, target_mentions, target_static, writes}
 use Rattle.bl_tree.specs.Static.{mentions, set_of, static_of}
-use Rattle.bl_nodes.specs.Plain.{Block, Bodies, Label, Plain, Act, Again, Await, Body, Cobegin, Done, If, Last, Repeat, Run, Then, Until, When, While}
+use Rattle.bl_nodes.specs.Plain.{
+  Block,
+  Bodies,
+  Label,
+  Plain,
+  Act,
+  Again,
+  Await,
+  Body,
+  Cobegin,
+  Done,
+  If,
+  Last,
+  Repeat,
+  Run,
+  Then,
+  Until,
+  When,
+  While,
+}
 
 -- the arguments of a `run`: its target, its inputs and its outputs
 pub record Arguments : Type 0 where
@@ -85,7 +104,7 @@ kind_of_node (SurfaceJoinAt l at) = kind.SurfaceJoin
 kind_of_node (DepthJoinAt l at) = kind.DepthJoin
 
 -- what a node reads: an act what its statement does, a test and a check their condition, both nodes of a `run` its inputs and
--- outputs and the indices of its target
+-- outputs, and where it goes on or ends the indices of its target too
 abbrev pub node_reads : Node → List Static
 node_reads (ActAt l s) = reads s
 node_reads (TestAt l at e) = set_of (mentions e)
@@ -154,7 +173,8 @@ abbrev pub where_so : Bool → Node → List Node
 where_so test node = if test then node ∷ [] else []
 
 abbrev mutual
-  -- the nodes of a statement and of all that stands in it. What begins and ends in one tick alone has a surface end or join
+  -- the nodes of a statement and of all that stands in it. What begins and ends in one tick alone has a surface end or join; the
+  -- test after a turn goes on with its loop and has the nodes of it
   pub nodes_of : Plain → List Node
   nodes_of (Act l s) = ActAt l s ∷ []
   nodes_of (Await l at e) = PauseAt l at ∷ TestAt l at e ∷ []
@@ -167,7 +187,7 @@ abbrev mutual
   nodes_of (Repeat l at body) = HeadAt l at ∷ nodes_in body
   nodes_of (Until l at body e) = HeadAt l at ∷ TestAt l at e ∷ nodes_in body
   nodes_of (While l at e body) = TestAt l at e ∷ nodes_in body
-  nodes_of (Again l at body e) = TestAt l at e ∷ []
+  nodes_of (Again l at body e) = HeadAt l at ∷ TestAt l at e ∷ nodes_in body
 
   pub nodes_in : Block → List Node
   nodes_in Done = []

@@ -1,6 +1,6 @@
 -- Plain statements: the statements of a body with their labels. Two statements at different positions are two, also where
 -- they are alike. They are plain data, over which relations can be defined by recursion.
-use Rattle.std.specs.Prelude.{ℕ, suc, pos, Bool, List, [], ◌∷◌, ◌++◌, map, Option}
+use Rattle.std.specs.Prelude.{ℕ, suc, pos, Bool, true, false, List, [], ◌∷◌, ◌++◌, map, Option}
 use Rattle.bl_tree.specs.declared.place.Place.{Place}
 use Rattle.bl_tree.specs.declared.scalar.Scalar.TheVariants.{Bool as OfBool}
 use Rattle.bl_tree.specs.declared.tree.Expr.{Expr, out-Expr, roll-Expr}
@@ -9,7 +9,7 @@ use Rattle.bl_tree.specs.declared.tree.ExprKind.TheOpen.{ExprKind-F}
 use Rattle.bl_tree.specs.declared.tree.Guard.{Guard}
 use Rattle.bl_tree.specs.declared.tree.Path.{Path}
 use Rattle.bl_tree.specs.declared.tree.Stmt.{Stmt, fold-Stmt, roll-Stmt}
-use Rattle.bl_tree.specs.declared.tree.StmtKind.{StmtKind, roll-StmtKind}
+use Rattle.bl_tree.specs.declared.tree.StmtKind.{roll-StmtKind}
 use Rattle.bl_tree.specs.declared.tree.StmtKind.TheOpen.{StmtKind-F, Arm-F, Branch-F, Stmt-F}
 
 -- the number of a statement in its unit's body, then in turn the number of a block in it and that of a statement there
@@ -40,7 +40,7 @@ mutual
     -- `repeat .. until`
     Until : Label → Place → Block → Expr → Plain
     While : Label → Place → Expr → Block → Plain
-    -- the test at the end of a turn of `repeat .. until`
+    -- the test at the end of a turn of `repeat .. until`: no statement of a body, but what may be left of one
     Again : Label → Place → Block → Expr → Plain
 
   -- statements one after another
@@ -52,6 +52,11 @@ mutual
   pub data Bodies : Type 0 where
     Last : Bodies
     Body : Bool → Block → Bodies → Bodies
+
+-- whether nothing stands in a block
+abbrev pub is_empty : Block → Bool
+is_empty Done = true
+is_empty (Then s rest) = false
 
 -- ---- the plain statements of a body
 
@@ -93,7 +98,7 @@ never place = roll-Expr (record { place = place; what = roll-ExprKind (ExprKind-
 
 -- no `if` of a program is without an arm; one would do its `else` part, whatever its condition
 abbrev pub if_with : Label → Place → List Arm → (Position → Block) → Plain
-if_with at place [] other = If at place (never place) (other (inside at 0)) (other (inside at 0))
+if_with at place [] other = If at place (never place) (other (inside at 0)) (other (inside at 1))
 if_with at place (arm ∷ rest) other = If at place arm.test (arm.body (inside at 0)) (else_at (passed_one at) rest other)
 
 -- the branches from the one with number k on

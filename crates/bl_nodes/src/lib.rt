@@ -1,12 +1,13 @@
 //! What tells the statements of a body apart, and the nodes of its tick graph: plain statements with labels, on which the
-//! tick graph and the control trees are to stand (docs/LANGUAGE.md, "Tick graphs"; `specs/Plain.antt`, `Nodes.antt`). There is
-//! no code here.
+//! tick graph and the control trees are to stand (docs/LANGUAGE.md, "Tick graphs"; `specs/Plain.antt`, `Nodes.antt`). Also
+//! defined here: what a plain statement may write before its next pause and ever (`Writes.antt`), and the labels of steps
+//! (`Steps.antt`). There is no code here.
 //!
 //! Laws (`specs/Laws.antt`): what the plain statement of each kind is; a plain statement may end at once exactly where its
-//! statement may; labels tell nodes of different branches and statements apart.
+//! statement may; labels tell nodes of different branches and statements apart, and no node stands twice.
 #![tactic(auto)]
 
-ghost use Rattle.bl_nodes.specs.Laws.{BlocksAreInstant, InstantIsKept, LabelsAreBelow, MadeOfParts, PlainStatements, PositionsPart};
+ghost use Rattle.bl_nodes.specs.Laws.{BlocksAreInstant, InstantIsKept, LabelsAreBelow, MadeOfParts, NodesDiffer, PlainStatements, PositionsPart};
 
 /// What the plain statement of a statement at a position is, for each kind of statement.
 pub fn plain_statements()
@@ -30,4 +31,9 @@ pub fn instant_is_kept()
 pub fn labels_tell_apart()
     ensures below { LabelsAreBelow }
     ensures part { PositionsPart }
+{}
+
+/// A statement has no node twice, and neither has a block.
+pub fn nodes_differ()
+    ensures { NodesDiffer }
 {}

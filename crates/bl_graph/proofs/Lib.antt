@@ -1,0 +1,11 @@
+pub mod Enclosing
+pub mod Filling
+pub mod Flowing
+pub mod Listing
+pub mod Marking
+pub mod Parting
+pub mod Passing
+pub mod Sounding
+pub mod Staying
+pub mod Walking
+pub mod Writing

@@ -1,0 +1,59 @@
+//! The tick graph of an activity: what may act after what in one tick (docs/LANGUAGE.md, "Tick graphs"). Control edges,
+//! surfaces and depths are defined by recursion on plain statements (`specs/Edges.antt`), and on them data edges
+//! (`specs/DataEdges.antt`) and what a `Graph` shows of a body (`specs/Graph.antt`, `IsTickGraph`). Surfaces and depths are
+//! also found in one pass over a body, by marks (`specs/Marks.antt`), and all edges are listed by them (`specs/Listed.antt`).
+//! There is no code here.
+//!
+//! Laws (`specs/Laws.antt`): a graph speaks of the body's nodes alone; what may end in the tick in which it begins has a
+//! way through it; what may be written before the next pause is written at a node that is reached from the entry; labels
+//! tell nodes of different branches apart; marks tell surfaces and depths, and the listed edges are the edges.
+#![tactic(auto)]
+
+ghost use Rattle.bl_nodes.specs.Plain.{Block};
+ghost use Rattle.bl_graph.specs.Laws.{BranchesPart, EdgesAreListed, FlowsAreListed, InstantsPass, MarksTell, StaysWithin, WritersAreReached};
+
+use bl_nodes::{labels_tell_apart, nodes_differ, plain_statements};
+
+/// The edges of a body join nodes of it, and its surface and depth are made of such.
+pub fn graphs_stay_within()
+    ensures { (body : Block) → StaysWithin body }
+{}
+
+/// What may end in the tick in which it begins leads from its entry to what follows it.
+pub fn instants_pass()
+    ensures { InstantsPass }
+{}
+
+/// What a statement or a block may write before it pauses is written at a node that is reached from its entry.
+pub fn writers_are_reached()
+    ensures { WritersAreReached }
+{}
+
+/// Two nodes that stand in different branches of one `cobegin` are two, and so are their statements.
+pub fn branches_part()
+    ensures { BranchesPart }
+{
+    labels_tell_apart();
+    plain_statements();
+}
+
+/// Marks that are made in one pass, from the innermost statements outwards, tell the surface and the depth of a body.
+pub fn marks_tell()
+    ensures { MarksTell }
+{
+    nodes_differ();
+}
+
+/// The control edges of a body as a list, for which what leaves a branch is found by marks.
+pub fn edges_are_listed()
+    ensures { EdgesAreListed }
+{
+    nodes_differ();
+}
+
+/// The data edges of a body as a list.
+pub fn flows_are_listed()
+    ensures { FlowsAreListed }
+{
+    nodes_differ();
+}
