@@ -1,0 +1,15 @@
+mod Alike
+mod Answering
+mod Backward
+pub mod Diamond
+mod Ending
+mod Fitting
+mod Forward
+pub mod Leaving
+mod PlainKinds
+pub mod Less
+mod Running
+mod Surfaces
+pub mod Ticking
+pub mod Tests
+mod Waking

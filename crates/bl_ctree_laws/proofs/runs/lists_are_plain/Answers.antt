@@ -1,0 +1,7 @@
+use Rattle.bl_ctree_laws.proofs.Running.{lists_are_plain, still_is_plain}
+use Rattle.bl_ctree_laws.proofs.runs.lists_are_plain.Goals as goal
+
+pub returns : goal.returns
+returns c =
+    let proper = c.trees_stay_proper.ensures in
+    record { lists = lists_are_plain proper.steps proper.waking proper.reached; still = still_is_plain }

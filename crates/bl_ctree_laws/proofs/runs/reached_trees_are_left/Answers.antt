@@ -1,0 +1,10 @@
+use Rattle.bl_ctree_laws.proofs.Running.{reached_inside_is_left, reached_is_left}
+use Rattle.bl_ctree_laws.proofs.runs.reached_trees_are_left.Goals as goal
+
+pub returns : goal.returns
+returns c =
+    let proper = c.trees_stay_proper.ensures in
+    record {
+      trees = reached_is_left proper.steps proper.waking proper.reached;
+      inside = reached_inside_is_left proper.steps proper.waking proper.reached;
+    }

@@ -1,0 +1,13 @@
+pub mod Bridge
+pub mod Commutes
+pub mod Ends
+pub mod Fitted
+pub mod Laws
+pub mod Left
+pub mod LeftLaws
+pub mod Pending
+pub mod Runs
+pub mod Shrinks
+pub mod Soon
+pub mod Steps
+pub mod Trees

@@ -1,0 +1,81 @@
+-- What runs of a program reach, seen on plain trees.
+use Rattle.std.specs.Prelude.{ℕ, ℤ, true, List, length, ◌≡◌}
+use Rattle.bl_tree.specs.declared.tree.StructDef.{StructDef}
+use Rattle.bl_tree.specs.declared.tree.Unit.{Unit as UnitDef}
+use Rattle.bl_nodes.specs.Plain.{Block}
+use Rattle.bl_nodes.specs.Steps.{StepLabel}
+use Rattle.bl_ctree.specs.Actions.{Action}
+use Rattle.bl_ctree.specs.Control.{Control}
+use Rattle.bl_ctree.specs.Instances.{Setting, setting_of}
+use Rattle.bl_ctree.specs.Means.{Means, Shown, entry_items}
+use Rattle.bl_ctree.specs.Proper.{Proper}
+use Rattle.bl_ctree.specs.Reaches.{Reaches, ReachesInside}
+use Rattle.bl_ctree.specs.Steps as located
+use Rattle.bl_ctree.specs.Store.{Store}
+use Rattle.bl_ctree.specs.Ticks as ticks
+use Rattle.bl_ctree_laws.specs.Bridge.{plain_items, plain_tree}
+use Rattle.bl_ctree_laws.specs.Ends.{BranchesAreIndependent, End, IsStill, Rests, Steps, Trapped}
+use Rattle.bl_ctree_laws.specs.Fitted.{Fitted}
+use Rattle.bl_ctree_laws.specs.Laws.{Armed}
+use Rattle.bl_ctree_laws.specs.Left.{Left, LeftTree}
+use Rattle.bl_ctree_laws.specs.Shrinks.{Paces}
+
+-- the plain body of the entry's activity
+abbrev pub entry_block : Setting → Block
+entry_block w = plain_items (entry_items w)
+
+-- between ticks runs reach trees that may be left of the entry's body alone
+abbrev pub ReachedIsLeft : Type 0
+ReachedIsLeft = (w : Setting) (rows : List (List ℤ)) (c : Control) (store : Store) → Reaches w rows c store → LeftTree w (entry_block w) (plain_tree c)
+
+-- and inside ticks, where what is left of the woken tree has stood
+abbrev pub ReachedInsideIsLeft : Type 0
+ReachedInsideIsLeft =
+    (w : Setting) (rows : List (List ℤ)) (row : List ℤ) (actions : List Action) (c : Control) (store : Store) →
+    ReachesInside w rows row actions (ticks.Rests c store) → Left w true 0 (entry_block w) (plain_tree c)
+
+-- ---- lists of steps
+
+-- an end with its plain tree
+abbrev pub plain_end : ticks.End → End
+plain_end ticks.Trapped = Trapped
+plain_end (ticks.Rests c store) = Rests (plain_tree c) store
+
+-- a list of as many steps of the plain tree with this end
+pub record PlainList (w : Setting) (c : Control) (store : Store) (actions : List Action) (end : ticks.End) : Type 0 where
+  pub labels : List StepLabel
+  pub steps : Steps w (plain_tree c) store labels (plain_end end)
+  pub as_many : length labels ≡ length actions
+
+-- a list of steps of a tree is one of its plain tree
+abbrev pub ListsArePlain : Type 0
+ListsArePlain =
+    (w : Setting) (c : Control) (store : Store) (actions : List Action) (end : ticks.End) → Proper w 0 c →
+    ticks.Steps w c store actions end → PlainList w c store actions end
+
+-- and where nothing may act in a tree nothing may in its plain tree
+abbrev pub StillIsPlain : Type 0
+StillIsPlain = (w : Setting) (c : Control) → Proper w 0 c → Armed c → located.IsStill w c → IsStill w (plain_tree c)
+
+-- ---- ticks
+
+-- two ends of a tick are one: both trap, or both rest with one store and one plain tree; so they are one outcome
+pub record SameEnd (end end' : ticks.End) : Type 0 where
+  pub plain : plain_end end ≡ plain_end end'
+  pub outcome : ticks.outcome_at end ≡ ticks.outcome_at end'
+
+-- where bodies are typed and pause, and the order of steps of different branches does not matter, two ticks of runs have one end when
+-- they begin over one row with one store and one plain tree. So the next ticks begin alike too
+abbrev pub TicksHaveOneEnd : Type 0
+TicksHaveOneEnd =
+    (w : Setting) (rows rows' : List (List ℤ)) (row : List ℤ) (c c' : Control) (store : Store) (end end' : ticks.End) → Fitted w → Paces w →
+    BranchesAreIndependent w true (entry_block w) → Reaches w rows c store → Reaches w rows' c' store → plain_tree c ≡ plain_tree c' →
+    ticks.Tick w row c store end → ticks.Tick w row c' store end' → SameEnd end end'
+
+-- and then a program's meaning allows at most one trace over each list of rows
+abbrev pub TracesAreOne : Type 0
+TracesAreOne =
+    (structs : List StructDef) (units : List UnitDef) (entry : ℕ) (rows : List (List ℤ)) (one other : Shown) →
+    let w = setting_of structs units entry in
+    Fitted w → Paces w → BranchesAreIndependent w true (entry_block w) →
+    Means structs units entry rows one → Means structs units entry rows other → one ≡ other
