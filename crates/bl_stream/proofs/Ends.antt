@@ -1,86 +1,105 @@
 -- How a run ends over bytes of which it has run some rows.
-use Rattle.std.proofs.Common.{◌≡◌, ℕ, ◌+◌, ◌⊎◌, ℤ, List, ◌++◌, Option, ap, sym, subst, ◌∙◌}
+use Rattle.std.proofs.Common.{◌≡◌, ℕ, ◌+◌, ◌⊎◌, ℤ, List, [], ◌++◌, Option, ap, sym, subst, ◌∙◌, append-nil}
 use Rattle.bl_tree.specs.declared.row.Last.TheVariants.{Open}
 use Rattle.bl_tree.specs.declared.row.Trace.{Trace}
-use Rattle.bl_cmeaning.specs.Cells.{inputs_of, outputs_of}
+use Rattle.bl_cmeaning.specs.Cells.{inputs_of}
 use Rattle.bl_cmeaning.specs.Parts.{Parts}
-use Rattle.bl_crun.specs.Running.{Running, loaded}
+use Rattle.bl_crun.specs.Running.{Running}
 use Rattle.bl_io.specs.Held.{Appends}
 use Rattle.bl_io.proofs.Held.{Appends-trans}
 use Rattle.bl_rows.specs.Reading.{begun, rows_in, rows_of}
-use Rattle.bl_rows.specs.Text.{text_of}
-use Rattle.bl_stream.specs.inner.Courses.{after_rows, text_from, trace_from}
-use Rattle.bl_stream.specs.inner.Going.{Ends, stopped, whole, Stands}
-use Rattle.bl_stream.specs.Streams.{AppendsFront, course_of, finish_of, text_over, trace_over, trace_so_far}
+use Rattle.bl_stream.specs.Reports.{HasRun, after_rows, report_from, report_of, trace_from}
+use Rattle.bl_stream.specs.inner.Going.{Ends, Start, runner_at, stopped, whole, Stands}
+use Rattle.bl_stream.specs.Streams.{AppendsFront, course_from, finish_of, last_over, report_over}
 use Rattle.bl_stream.specs.declared.finish.Finish.{Finish}
 use Rattle.bl_stream.specs.declared.finish.Finish.TheVariants as finish
-use Rattle.bl_stream.specs.declared.pace.Pace.{Pace}
-use Rattle.bl_stream.proofs.Texts.{begins-behind, begins-by, begins-text, front-all, front-more, text-of-on}
-use Rattle.bl_stream.proofs.Traces.{trace-closed, trace-on}
+use Rattle.bl_stream.specs.declared.pieces.Session.{Session}
+use Rattle.bl_stream.specs.declared.ticks.Report.{Report}
+use Rattle.bl_stream.proofs.Texts.{begins-behind, begins-by, begins-report, front-all, front-more, report-closed, report-of-on}
+use Rattle.bl_stream.proofs.Traces.{after-more, trace-closed, trace-on}
 
-module _ (file : Parts) (read : List ℕ) (before : Option (List ℕ)) (p : Pace) (r : Running) (now : Option (List ℕ))
-    (stands : Stands file read before p r now) where
+module _ (report : Report) (start : Start) (file : Parts) (read : List ℕ) (before : Option (List ℕ)) (s : Session) (r : Running)
+    (now : Option (List ℕ)) (stands : Stands report start file read before s r now) where
+  abbrev First : Running
+  First = runner_at start file
+
   -- the rows that have run
   abbrev Ran : List (List ℤ)
   Ran = rows_in (begun (inputs_of file)) read
 
-  after : after_rows (loaded file) Ran ≡ r
+  -- what was written of them, and what is written of further rows
+  abbrev Written : List ℕ
+  Written = report_of report First Ran
+
+  abbrev Further : List (List ℤ) → List ℕ
+  Further rows = report_from report (s.ticks.done + 1) r rows
+
+  after : after_rows First Ran ≡ r
   after = sym stands.runs
 
-  pub last-more : (rows : List (List ℤ)) → (trace_from (loaded file) (Ran ++ rows)).last ≡ (trace_from r rows).last
-  last-more rows =
-      ap (λ (t : Trace). t.last) (trace-on (loaded file) Ran rows stands.running) ∙ ap (λ (q : Running). (trace_from q rows).last) after
+  pub last-more : (rows : List (List ℤ)) → (trace_from First (Ran ++ rows)).last ≡ (trace_from r rows).last
+  last-more rows = ap (λ (t : Trace). t.last) (trace-on First Ran rows stands.running) ∙ ap (λ (q : Running). (trace_from q rows).last) after
 
-  pub text-more : (rows : List (List ℤ)) → text_of (trace_from (loaded file) (Ran ++ rows)) (outputs_of file)
-      ≡ text_of (trace_so_far (course_of file) read) (outputs_of file) ++ text_from (p.ticks.done + 1) (outputs_of file) (trace_from r rows)
+  pub text-more : (rows : List (List ℤ)) → report_of report First (Ran ++ rows) ≡ Written ++ Further rows
   text-more rows =
-      text-of-on (outputs_of file) (loaded file) Ran rows stands.running
-      ∙ ap (λ n. text_of (trace_so_far (course_of file) read) (outputs_of file)
-      ++ text_from (n + 1) (outputs_of file) (trace_from (after_rows (loaded file) Ran) rows)) (sym stands.done)
-      ∙ ap (λ (q : Running). text_of (trace_so_far (course_of file) read) (outputs_of file)
-      ++ text_from (p.ticks.done + 1) (outputs_of file) (trace_from q rows)) after
+      report-of-on report First Ran rows stands.running
+      ∙ ap (λ n. Written ++ report_from report (n + 1) (after_rows First Ran) rows) (sym stands.done)
+      ∙ ap (λ q. Written ++ report_from report (s.ticks.done + 1) q rows) after
+
+  -- a runner that has run further rows has run all of them
+  run-more : (rows : List (List ℤ)) (now2 : Running) → HasRun r rows now2 → HasRun First (Ran ++ rows) now2
+  run-more rows now2 has = record {
+    going = λ still.
+        has.going (sym (last-more rows) ∙ still) ∙ ap (λ q. after_rows q rows) stands.runs ∙ sym (after-more First Ran rows);
+    closed = λ over. has.closed (λ still. over (last-more rows ∙ still));
+    parts = has.parts ∙ stands.parts;
+  }
 
   -- the whole of these bytes tells so much
-  module _ (bytes : List ℕ) (rows later : List (List ℤ))
-      (tells : (rows_of bytes (inputs_of file)).rows ≡ rows_in (begun (inputs_of file)) read ++ (rows ++ later)) where
-    pub last-over : (trace_over (course_of file) bytes).last ≡ (trace_from r (rows ++ later)).last
-    last-over = ap (λ l. (trace_from (loaded file) l).last) tells ∙ last-more (rows ++ later)
+  module _ (bytes : List ℕ) (rows later : List (List ℤ)) (tells : (rows_of bytes (inputs_of file)).rows ≡ Ran ++ (rows ++ later)) where
+    text-over : report_over report First bytes ≡ Written ++ Further (rows ++ later)
+    text-over = ap (λ l. report_of report First l) tells ∙ text-more (rows ++ later)
 
-    pub text-over : text_over (course_of file) bytes ≡ text_of (trace_so_far (course_of file) read) (outputs_of file)
-        ++ text_from (p.ticks.done + 1) (outputs_of file) (trace_from r (rows ++ later))
-    text-over = ap (λ l. text_of (trace_from (loaded file) l) (outputs_of file)) tells ∙ text-more (rows ++ later)
-
-    -- a front of the lines of the rows was written
-    pub ends-front : (after : Option (List ℕ)) (ended : Finish) → (ended ≡ finish.WriteFault) ⊎ (ended ≡ finish.NoMemory) →
-        AppendsFront now (text_from (p.ticks.done + 1) (outputs_of file) (trace_from r rows)) after →
-        Ends (course_of file) bytes before after ended
-    ends-front after ended why front =
+    -- a front was written of what is written of the rows
+    pub ends-front : (after : Option (List ℕ)) (now2 : Running) (ended : Finish) → (ended ≡ finish.WriteFault) ⊎ (ended ≡ finish.NoMemory) →
+        AppendsFront now (Further rows) after → Ends report First bytes before after now2 ended
+    ends-front after now2 ended why front =
         stopped why
-        (front-more before now after (text_of (trace_so_far (course_of file) read) (outputs_of file))
-        (text_from (p.ticks.done + 1) (outputs_of file) (trace_from r rows)) (text_over (course_of file) bytes) stands.written front
-        (begins-by _ _ _ (begins-behind (text_of (trace_so_far (course_of file) read) (outputs_of file)) _ _
-        (begins-text (p.ticks.done + 1) (outputs_of file) r rows later)) (sym text-over)))
+        (front-more before now after Written (Further rows) (report_over report First bytes) stands.written front
+        (begins-by _ _ _ (begins-behind Written _ _ (begins-report report (s.ticks.done + 1) r rows later)) (sym text-over)))
 
-    -- none of their lines was written
-    pub ends-before : (ended : Finish) → (ended ≡ finish.WriteFault) ⊎ (ended ≡ finish.NoMemory) → Ends (course_of file) bytes before now ended
-    ends-before ended why =
+    -- nothing of it was written
+    pub ends-before : (now2 : Running) (ended : Finish) → (ended ≡ finish.WriteFault) ⊎ (ended ≡ finish.NoMemory) →
+        Ends report First bytes before now now2 ended
+    ends-before now2 ended why =
         stopped why
-        (front-all before now (text_of (trace_so_far (course_of file) read) (outputs_of file)) (text_over (course_of file) bytes) stands.written
-        (record { rest = text_from (p.ticks.done + 1) (outputs_of file) (trace_from r (rows ++ later)); is = text-over }))
+        (front-all before now Written (report_over report First bytes) stands.written (record { rest = Further (rows ++ later); is = text-over }))
 
-    -- all their lines were written, and no further row has any
-    pub ends-whole : (after : Option (List ℕ)) (ended : Finish) → trace_from r (rows ++ later) ≡ trace_from r rows →
-        ended ≡ finish_of (trace_from r rows).last (rows_of bytes (inputs_of file)).fault →
-        Appends now (text_from (p.ticks.done + 1) (outputs_of file) (trace_from r rows)) after → Ends (course_of file) bytes before after ended
-    ends-whole after ended same is grew =
-        whole (is ∙ ap (λ l. finish_of l (rows_of bytes (inputs_of file)).fault) (sym (last-over ∙ ap (λ (t : Trace). t.last) same)))
-        (subst (λ text. Appends before text after) (sym (text-over
-        ∙ ap (λ t. text_of (trace_so_far (course_of file) read) (outputs_of file) ++ text_from (p.ticks.done + 1) (outputs_of file) t) same))
-        (Appends-trans before now after (text_of (trace_so_far (course_of file) read) (outputs_of file))
-        (text_from (p.ticks.done + 1) (outputs_of file) (trace_from r rows)) stands.written grew))
+    -- all of it was written, and no further row comes
+    pub ends-whole : (after : Option (List ℕ)) (now2 : Running) (ended : Finish) → later ≡ [] → HasRun r rows now2 →
+        ended ≡ finish_of (trace_from r rows).last (rows_of bytes (inputs_of file)).fault → Appends now (Further rows) after →
+        Ends report First bytes before after now2 ended
+    ends-whole after now2 ended none has is grew =
+        let all : (rows_of bytes (inputs_of file)).rows ≡ Ran ++ rows = tells ∙ ap (λ l. Ran ++ (rows ++ l)) none ∙ ap (λ l. Ran ++ l) (append-nil rows) in
+        whole
+        (is ∙ ap (λ l. finish_of l (rows_of bytes (inputs_of file)).fault) (sym (ap (λ l. (trace_from First l).last) all ∙ last-more rows)))
+        (subst (λ text. Appends before text after) (sym (ap (λ l. report_of report First l) all ∙ text-more rows))
+        (Appends-trans before now after Written (Further rows) stands.written grew))
+        (subst (λ l. HasRun First l now2) (sym all) (run-more rows now2 has))
 
     -- the same where the rows have closed the run
-    pub ends-closed : (after : Option (List ℕ)) (ended : Finish) → ((trace_from r rows).last ≡ Open → ⊥) →
-        ended ≡ finish_of (trace_from r rows).last (rows_of bytes (inputs_of file)).fault →
-        Appends now (text_from (p.ticks.done + 1) (outputs_of file) (trace_from r rows)) after → Ends (course_of file) bytes before after ended
-    ends-closed after ended not is grew = ends-whole after ended (trace-closed r rows later not) is grew
+    pub ends-closed : (after : Option (List ℕ)) (now2 : Running) (ended : Finish) → ((trace_from r rows).last ≡ Open → ⊥) → HasRun r rows now2 →
+        ended ≡ finish_of (trace_from r rows).last (rows_of bytes (inputs_of file)).fault → Appends now (Further rows) after →
+        Ends report First bytes before after now2 ended
+    ends-closed after now2 ended not has is grew =
+        let last : last_over (course_from First) bytes ≡ (trace_from r rows).last =
+        ap (λ l. (trace_from First l).last) tells ∙ last-more (rows ++ later) ∙ ap (λ (t : Trace). t.last) (trace-closed r rows later not) in
+        whole (is ∙ ap (λ l. finish_of l (rows_of bytes (inputs_of file)).fault) (sym last))
+        (subst (λ text. Appends before text after)
+        (sym (text-over ∙ ap (λ l. Written ++ l) (report-closed report (s.ticks.done + 1) r rows later not)))
+        (Appends-trans before now after Written (Further rows) stands.written grew))
+        (record {
+          going = λ still. absurd (not (sym last ∙ still));
+          closed = λ over. has.closed not;
+          parts = has.parts ∙ stands.parts;
+        })

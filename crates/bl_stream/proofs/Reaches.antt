@@ -29,12 +29,14 @@ use Rattle.std.specs.Prelude.{nat_le, nat_lt, if◌then◌else◌, ◌==◌}
 use Rattle.std.proofs.lemmas.Bool.Decides.{nat_tests}
 use Rattle.bl_tree.specs.declared.row.Column.{Column}
 use Rattle.bl_rows.specs.Fields.{records_in}
-use Rattle.bl_rows.specs.Lines.{Cut, cut, led_by, unfinished, whole_lines}
+use Rattle.bl_rows.specs.Lines.{Cut, cut, last_line, led_by, lines_of, unfinished, whole_lines}
 use Rattle.bl_rows.specs.Reading.{
   Reading,
   Scan,
   after,
+  at_start,
   bad_or,
+  begun,
   fault_in,
   fault_of_scan,
   first_of,
@@ -165,3 +167,45 @@ reads-on s s2 piece low good is =
     let both = length-append s.line piece in
     let further : reach s + length piece ≤ reach (read_on s piece) = omega arith in
     subst (λ r. reach s + length piece ≤ reach r) (sym is) further
+
+-- ---- how many lines were begun
+
+-- each good line is counted
+led-count : (at : Place) (v : Verdict) (s : Scan) (more : ℕ) → (led_by_line at v s).fault ≡ None →
+    (s.fault ≡ None → s.at.lines ≡ (after at v).lines + more) → (led_by_line at v s).at.lines ≡ at.lines + (more + 1)
+led-count at Passed s more none later = let l = later none in omega (arith, l)
+led-count at Header s more none later = let l = later none in omega (arith, l)
+led-count at (Numbers row) s more none later = let l = later none in omega (arith, l)
+led-count at (Bad fault) s more none later = absurd (cc)
+
+scan-count : (columns : List Column) (at : Place) (lines : List (List ℕ)) → (scan columns at lines).fault ≡ None →
+    (scan columns at lines).at.lines ≡ at.lines + length lines
+scan-count columns at [] none = omega arith
+scan-count columns at (line ∷ lines) none =
+    let l = led-count at (verdict columns at line) (scan columns (after at (verdict columns at line)) lines) (length lines) none
+    (scan-count columns (after at (verdict columns at line)) lines) in omega (arith, l)
+
+-- the fault of a next line of so many bytes, where the lines are used up or not
+abbrev over_by : Place → ℕ → Bool → Option RowFault
+over_by at size full = if full then Some (BadRow (line_number at)) else if nat_lt 65536 size then Some (LongLine (line_number at)) else None
+
+-- a line that is begun where no other may be shows it
+room-left : (at : Place) (size : ℕ) (full : Bool) → nat_le most_lines at.lines ≡ full → over_limit at size ≡ None → at.lines < 1000000
+room-left at size true e none =
+    absurd (let bad = ap (over_by at size) (sym e) ∙ none in cc)
+room-left at size false e none = grind (arith, nat_tests)
+
+last-room : (at : Place) (rest : List ℕ) → at.lines ≤ 1000000 → overrun at rest ≡ None → at.lines + length (last_line rest) ≤ 1000000
+last-room at [] low none = omega (arith, low)
+last-room at (b ∷ rest) low none =
+    let room = room-left at (length (b ∷ rest)) (nat_le most_lines at.lines) refl none in omega (arith, room)
+
+-- bytes without a fault begin no line too many
+pub few-lines : (ins : List Column) (read : List ℕ) → fault_in (begun ins) read ≡ None → length (lines_of read) ≤ most_lines
+unfolding fault_in
+few-lines ins read good =
+    let later = first-none (scanned (begun ins) read).fault (overrun (scanned (begun ins) read).at (unfinished read)) good in
+    let low = (scan-comes ins at_start (whole_lines read) (omega arith) later.0).low in
+    let count = scan-count ins at_start (whole_lines read) later.0 in
+    let room = last-room (scanned (begun ins) read).at (unfinished read) low later.1 in
+    let long = length-append (whole_lines read) (last_line (unfinished read)) in omega (arith, count, room, long)

@@ -4,6 +4,7 @@ use Rattle.std.proofs.Common.{
   ℕ,
   ◌≤◌,
   ◌⊎◌,
+  true,
   List,
   [],
   ◌++◌,
@@ -24,32 +25,68 @@ use Rattle.std.proofs.Common.{
   append_assoc,
   append-nil,
 }
-use Rattle.std.proofs.lemmas.List.{take-append-drop}
+use Rattle.std.proofs.lemmas.List.{length-take-le, take-append-drop}
 use Rattle.bl_cmeaning.specs.Cells.{inputs_of, outputs_of}
 use Rattle.bl_cmeaning.specs.Parts.{Parts}
-use Rattle.bl_crun.specs.Running.{Running, loaded}
+use Rattle.bl_crun.specs.Running.{Running}
 use Rattle.bl_io.specs.Held.{Appends}
 use Rattle.bl_io.specs.Left.{HandsOver, IsNext}
 use Rattle.bl_io.proofs.Held.{Appends-nothing}
-use Rattle.bl_rows.specs.Reading.{Reading, begun, rows_of}
+use Rattle.bl_rows.specs.Reading.{Reading, begun, fault_in, most_lines, rows_of}
+use Rattle.bl_io.specs.declared.pieces.TheConstants.{PIECE}
 use Rattle.bl_rows.specs.declared.fault.RowFault.{RowFault}
 use Rattle.bl_rows.specs.declared.fault.RowFault.TheVariants as fault
-use Rattle.bl_rows.specs.Text.{header_text, text_of}
+use Rattle.bl_tree.specs.declared.row.Column.{Column}
 use Rattle.bl_tree.specs.declared.row.Last.{Last}
 use Rattle.bl_tree.specs.declared.row.Last.TheVariants.{Open, Ended, Trap}
 use Rattle.bl_tree.specs.declared.row.Trace.{Trace}
-use Rattle.bl_stream.specs.inner.Courses.{after_rows, text_from, trace_from}
-use Rattle.bl_stream.specs.inner.Going.{Ends, Going, GoesOrEnds, HasFed, HasRead, Leaves, Stands, most_reach, reach, stopped, whole}
-use Rattle.bl_stream.specs.Streams.{AppendsFront, AreLeft, Course, Streamed, all, course_of, finish_of, front, text_over, trace_over, trace_so_far, unread}
+use Rattle.bl_stream.specs.Reports.{after_rows, report_from, report_header, report_of, trace_from}
+use Rattle.bl_stream.specs.inner.Going.{
+  Ends,
+  Going,
+  GoesOrEnds,
+  HasFed,
+  Leaves,
+  Stands,
+  Start,
+  most_reach,
+  reach,
+  runner_at,
+  start_of,
+  stopped,
+  whole,
+}
+use Rattle.bl_stream.specs.Streams.{
+  AppendsFront,
+  AreLeft,
+  HasRead,
+  ReadsLines,
+  Reported,
+  Streamed,
+  all,
+  broken,
+  course_from,
+  cut,
+  finish_of,
+  front,
+  last_over,
+  ran,
+  report_over,
+  rows_so_far,
+  unread,
+}
 use Rattle.bl_stream.specs.declared.finish.Finish.{Finish}
 use Rattle.bl_stream.specs.declared.finish.Finish.TheVariants as finish
-use Rattle.bl_stream.specs.declared.left.Left.{Left}
-use Rattle.bl_stream.specs.declared.left.Left.TheVariants as way
-use Rattle.bl_stream.specs.declared.pace.Pace.{Pace}
+use Rattle.bl_stream.specs.declared.finish.Progress.{Progress}
+use Rattle.bl_stream.specs.declared.finish.Progress.TheVariants as progress
+use Rattle.bl_stream.specs.declared.pieces.Session.{Session}
+use Rattle.bl_stream.specs.declared.ticks.Report.{Report}
+use Rattle.bl_stream.specs.declared.ticks.Report.TheVariants as kind
 use Rattle.bl_stream.proofs.PieceEnds.{refused}
+use Rattle.bl_stream.proofs.Reaches.{few-lines}
 use Rattle.bl_stream.proofs.Readers.{none-in}
-use Rattle.bl_stream.proofs.Texts.{Begins, front-all, front-more, text-whole}
-use Rattle.bl_stream.proofs.Traces.{none_yet, trace-none}
+use Rattle.bl_stream.proofs.Texts.{Begins, front-all, front-more, trace-text}
+use Rattle.bl_stream.proofs.Traces.{trace-none}
 
 -- ---- the bytes of the file
 
@@ -83,95 +120,165 @@ bytes-left (Some bytes) = (bytes, refl)
 
 -- ---- steps
 
-pub streamed-by : (c : Course) (every before after : Option (List ℕ)) (bytes : List ℕ) (ended : Finish) → AreLeft every bytes →
-    Ends c bytes before after ended → Streamed c every before after ended
-streamed-by c every before after bytes ended left (whole is grew) = all bytes left is grew
-streamed-by c every before after bytes ended left (stopped why grew) = front bytes left why grew
+pub reported-by : (report : Report) (first : Running) (every rest before after : Option (List ℕ)) (now : Running) (bytes : List ℕ) (ended : Finish) →
+    AreLeft every bytes → Ends report first bytes before after now ended → Reported report first every rest before after now ended
+reported-by report first every rest before after now bytes ended left (whole is grew has) = ran bytes left is grew has
+reported-by report first every rest before after now bytes ended left (stopped why grew) = cut bytes left why grew
 
-pub next-goes : (file : Parts) (every before left now : Option (List ℕ)) (read : List ℕ) (p : Pace) (r : Running) (l : Left) →
-    HasRead every read left → Leaves file read before p r now l → GoesOrEnds file every before p r left now l
-next-goes file every before left now read p r way.Open so leaves = record { read = read; has_read = so; stands = leaves }
-next-goes file every before left now read p r (way.Over ended) so leaves =
-    let rest = rest-left every left read so in
-    streamed-by (course_of file) every before now (read ++ rest.0) ended rest.1 (leaves rest.0)
-
--- want of memory, or more pieces than there are
-pub goes-refused : (every before left now : Option (List ℕ)) (p : Pace) (r : Running) → Going r.parts every before p r left now →
-    Streamed (course_of r.parts) every before now finish.NoMemory
-goes-refused every before left now p r going =
-    let rest = rest-left every left going.read going.has_read in
-    streamed-by (course_of r.parts) every before now (going.read ++ rest.0) finish.NoMemory rest.1
-    (refused going.read rest.0 before now p r going.stands finish.NoMemory (inr refl))
-
-pub goes-unread : (every before left now : Option (List ℕ)) (p : Pace) (r : Running) → Going r.parts every before p r left now →
-    Streamed (course_of r.parts) every before now finish.ReadFault
-goes-unread every before left now p r going =
-    let rest = rest-left every left going.read going.has_read in
+-- the report that is the text of a trace
+pub streamed-by : (r : Running) (every rest before after : Option (List ℕ)) (now : Running) (ended : Finish) →
+    Reported kind.Trace r every rest before after now ended → Streamed (course_from r) every rest before after ended
+streamed-by r every rest before after now ended (ran bytes left is grew has) =
+    all bytes left is (subst (λ text. Appends before text after) (trace-text r (rows_of bytes (inputs_of r.parts)).rows) grew)
+streamed-by r every rest before after now _ (broken b) =
     unread (record {
+      read = b.read;
+      handed_over = b.handed;
+      good = b.good;
+      running = b.running;
+      written = subst (λ text. Appends before text after) (trace-text r (rows_so_far r b.read)) b.written;
+    })
+streamed-by r every rest before after now ended (cut bytes left why grew) =
+    front bytes left why (subst (λ text. AppendsFront before text after) (trace-text r (rows_of bytes (inputs_of r.parts)).rows) grew)
+
+pub next-goes : (report : Report) (start : Start) (file : Parts) (every before left now : Option (List ℕ)) (read : List ℕ) (s : Session) (r : Running)
+    (l : Progress) →
+    HasRead every read left → Leaves report start file read before s r now l → GoesOrEnds report start file every before s r left now l
+next-goes report start file every before left now read s r progress.Open so leaves = record { read = read; has_read = so; stands = leaves }
+next-goes report start file every before left now read s r (progress.Over ended) so leaves =
+    let rest = rest-left every left read so in
+    reported-by report (runner_at start file) every left before now r (read ++ rest.0) ended rest.1 (leaves rest.0)
+
+-- want of memory
+pub goes-refused : (report : Report) (start : Start) (every before left now rest : Option (List ℕ)) (s : Session) (r now2 : Running) →
+    Going report start r.parts every before s r left now →
+    Reported report (runner_at start r.parts) every rest before now now2 finish.NoMemory
+goes-refused report start every before left now after s r now2 going =
+    let rest = rest-left every left going.read going.has_read in
+    reported-by report (runner_at start r.parts) every after before now now2 (going.read ++ rest.0) finish.NoMemory rest.1
+    (refused report start going.read rest.0 before now s r now2 going.stands finish.NoMemory (inr refl))
+
+pub goes-unread : (report : Report) (start : Start) (every before left now rest : Option (List ℕ)) (s : Session) (r : Running) →
+    Going report start r.parts every before s r left now → rest ≡ left →
+    Reported report (runner_at start r.parts) every rest before now r finish.ReadFault
+goes-unread report start every before left now rest s r going same =
+    broken (record {
       read = going.read;
-      rest = rest.0;
-      are_left = rest.1;
+      handed = subst (HasRead every going.read) (sym same) going.has_read;
       good = going.stands.fed.good;
       running = going.stands.running;
       written = going.stands.written;
+      runner = going.stands.runs;
     })
+
+-- ---- how far the file is read
+
+-- nothing was handed over
+pub reads-none : (most : ℕ) (left : Option (List ℕ)) → ReadsLines most left left
+reads-none most None = tt
+reads-none most (Some bytes) =
+    record { read = []; piece = []; rest = bytes; are = refl; few = omega arith; short = omega arith; left = refl }
+
+-- the piece behind what was read so far, or none
+reads-piece : (ins : List Column) (every left left2 : Option (List ℕ)) (read room : List ℕ) (n size : ℕ) → HasRead every read left →
+    fault_in (begun ins) read ≡ None → n ≤ size → size ≤ PIECE → HandsOver left n room left2 → ReadsLines most_lines every left2
+reads-piece ins None left left2 read room n size so good within short next = tt
+reads-piece ins (Some bytes) left left2 read room n size so good within short next =
+    let now : IsNext so.0 n room left2 = rw so.1.1 at next in
+    let long : length (take n so.0) ≡ n = length-take-le n so.0 now.within in
+    record {
+      read = read;
+      piece = take n so.0;
+      rest = drop n so.0;
+      are = so.1.0 ∙ ap (λ l. read ++ l) (sym (take-append-drop n so.0));
+      few = few-lines ins read good;
+      short = omega (arith, long, within, short);
+      left = now.rest;
+    }
+
+pub going-reads : (report : Report) (start : Start) (file : Parts) (every before left left2 now : Option (List ℕ)) (s : Session) (r : Running)
+    (room : List ℕ) (n size : ℕ) →
+    Going report start file every before s r left now → n ≤ size → size ≤ PIECE → HandsOver left n room left2 → ReadsLines most_lines every left2
+going-reads report start file every before left left2 now s r room n size going within short next =
+    reads-piece (inputs_of file) every left left2 going.read room n size going.has_read going.stands.fed.good within short next
+
+-- a file that is as it was
+still-there : (every left left2 : Option (List ℕ)) (read : List ℕ) → HasRead every read left → left2 ≡ left → (ins : List Column) →
+    fault_in (begun ins) read ≡ None → ReadsLines most_lines every left2
+still-there None left left2 read so same ins good = tt
+still-there (Some bytes) left left2 read so same ins good = record {
+  read = read;
+  piece = [];
+  rest = so.0;
+  are = so.1.0;
+  few = few-lines ins read good;
+  short = omega arith;
+  left = same ∙ so.1.1;
+}
+
+pub going-reads-none : (report : Report) (start : Start) (file : Parts) (every before left left2 now : Option (List ℕ)) (s : Session) (r : Running) →
+    Going report start file every before s r left now → left2 ≡ left → ReadsLines most_lines every left2
+going-reads-none report start file every before left left2 now s r going same =
+    still-there every left left2 going.read going.has_read same (inputs_of file) going.stands.fed.good
 
 -- ---- the beginning
 
-pub stands-first : (r : Running) (p : Pace) (before now : Option (List ℕ)) → r ≡ loaded r.parts →
-    p.reader ≡ begun (inputs_of r.parts) → HasFed (inputs_of r.parts) [] p.reader → p.ticks.done ≡ 0 →
-    length p.ticks.outputs ≡ length (outputs_of r.parts) →
-    Appends before (header_text (outputs_of r.parts)) now → Stands r.parts [] before p r now
-stands-first r p before now fresh first fed done long grew =
+-- a live runner stands where it stands
+pub runner-same : (r : Running) → r.live ≡ true → runner_at (start_of r) r.parts ≡ r
+runner-same r live = λ i. record { parts = r.parts; cells = r.cells; ready = r.ready; live = sym live i }
+
+pub stands-first : (report : Report) (r : Running) (s : Session) (before now : Option (List ℕ)) → r.live ≡ true →
+    s.reader ≡ begun (inputs_of r.parts) → HasFed (inputs_of r.parts) [] s.reader → s.ticks.done ≡ 0 → s.ticks.report ≡ report →
+    length s.ticks.outputs ≡ length (outputs_of r.parts) →
+    Appends before (report_header report (outputs_of r.parts)) now → Stands report (start_of r) r.parts [] before s r now
+stands-first report r s before now live first fed done reports long grew =
     let none = none-in (inputs_of r.parts) in
-    let trace : trace_so_far (course_of r.parts) [] ≡ none_yet = ap (trace_from (loaded r.parts)) none ∙ trace-none (loaded r.parts) in
+    let from : Running = runner_at (start_of r) r.parts in
     record {
       fed = fed;
-      runs = fresh ∙ sym (ap (after_rows (loaded r.parts)) none);
+      runs = sym (runner-same r live) ∙ sym (ap (after_rows from) none);
       parts = refl;
-      live = ap (λ (q : Running). q.live) fresh;
-      low = let e = ap (λ (s : Reading). s.at.lines) first in omega arith;
-      short = let e = ap (λ (s : Reading). length s.line) first in omega arith;
-      running = ap (λ (t : Trace). t.last) trace;
+      live = live;
+      low = let e = ap (λ (t : Reading). t.at.lines) first in omega arith;
+      short = let e = ap (λ (t : Reading). length t.line) first in omega arith;
+      running = ap (λ (t : Trace). t.last) (ap (trace_from from) none ∙ trace-none from);
       done = done ∙ sym (ap length none);
+      reports = reports;
       outputs = long;
       written =
           subst (λ text. Appends before text now)
-          (sym (append-nil (header_text (outputs_of r.parts))) ∙ sym (text-whole (outputs_of r.parts) none_yet)
-          ∙ ap (λ t. text_of t (outputs_of r.parts)) (sym trace)) grew;
+          (sym (append-nil (report_header report (outputs_of r.parts))) ∙ sym (ap (report_of report from) none)) grew;
     }
 
-header-begins : (file : Parts) (bytes : List ℕ) → Begins (header_text (outputs_of file)) (text_over (course_of file) bytes)
-header-begins file bytes = record {
-  rest = text_from 1 (outputs_of file) (trace_over (course_of file) bytes);
-  is =
-      text-whole (outputs_of file) (trace_over (course_of file) bytes);
-}
+header-begins : (report : Report) (r : Running) (bytes : List ℕ) → Begins (report_header report (outputs_of r.parts)) (report_over report r bytes)
+header-begins report r bytes = record { rest = report_from report 1 r (rows_of bytes (inputs_of r.parts)).rows; is = refl }
 
--- the header couldn't be written
-pub header-front : (file : Parts) (bytes : List ℕ) (before after : Option (List ℕ)) (ended : Finish) →
-    (ended ≡ finish.WriteFault) ⊎ (ended ≡ finish.NoMemory) → AppendsFront before (header_text (outputs_of file)) after →
-    Ends (course_of file) bytes before after ended
-header-front file bytes before after ended why grew =
-    stopped why (front-more before before after [] (header_text (outputs_of file)) (text_over (course_of file) bytes)
-    (Appends-nothing before) grew (header-begins file bytes))
+-- what comes before the first tick couldn't be written
+pub header-front : (report : Report) (r : Running) (bytes : List ℕ) (before after : Option (List ℕ)) (now : Running) (ended : Finish) →
+    (ended ≡ finish.WriteFault) ⊎ (ended ≡ finish.NoMemory) → AppendsFront before (report_header report (outputs_of r.parts)) after →
+    Ends report r bytes before after now ended
+header-front report r bytes before after now ended why grew =
+    stopped why (front-more before before after [] (report_header report (outputs_of r.parts)) (report_over report r bytes)
+    (Appends-nothing before) grew (header-begins report r bytes))
 
 -- nothing was written
-pub nothing-front : (file : Parts) (bytes : List ℕ) (before : Option (List ℕ)) → Ends (course_of file) bytes before before finish.NoMemory
-nothing-front file bytes before = stopped (inr refl)
-    (front-all before before [] (text_over (course_of file) bytes) (Appends-nothing before) (record { rest = text_over (course_of file) bytes; is = refl }))
+pub nothing-front : (report : Report) (r : Running) (bytes : List ℕ) (before : Option (List ℕ)) (now : Running) →
+    Ends report r bytes before before now finish.NoMemory
+nothing-front report r bytes before now = stopped (inr refl)
+    (front-all before before [] (report_over report r bytes) (Appends-nothing before) (record { rest = report_over report r bytes; is = refl }))
 
 -- ---- a file's parts and those of its runner
 
-pub going-here : (file : Parts) (every before left now : Option (List ℕ)) (p : Pace) (r : Running) →
-    Going file every before p r left now → Going r.parts every before p r left now
-going-here file every before left now p r going = subst (λ f. Going f every before p r left now) (sym going.stands.parts) going
+pub going-here : (report : Report) (start : Start) (file : Parts) (every before left now : Option (List ℕ)) (s : Session) (r : Running) →
+    Going report start file every before s r left now → Going report start r.parts every before s r left now
+going-here report start file every before left now s r going =
+    subst (λ f. Going report start f every before s r left now) (sym going.stands.parts) going
 
 -- ---- how far a run can come
 
-pub going-within : (file : Parts) (every before left now : Option (List ℕ)) (p : Pace) (r : Running) →
-    Going file every before p r left now → reach p.reader ≤ most_reach
-going-within file every before left now p r going =
+pub going-within : (report : Report) (start : Start) (file : Parts) (every before left now : Option (List ℕ)) (s : Session) (r : Running) →
+    Going report start file every before s r left now → reach s.reader ≤ most_reach
+going-within report start file every before left now s r going =
     let low = going.stands.low in
     let short = going.stands.short in
     omega arith
@@ -191,13 +298,14 @@ no-stop-fault : (ended : Finish) → (ended ≡ finish.WriteFault) ⊎ (ended �
 no-stop-fault ended (inl is) e = cc
 no-stop-fault ended (inr is) e = cc
 
-ends-never : (c : Course) (bytes : List ℕ) (before after : Option (List ℕ)) (ended : Finish) → Ends c bytes before after ended →
-    ended ≡ finish.ReadFault → ⊥
-ends-never c bytes before after ended (whole is grew) e = no-read-fault (trace_over c bytes).last (rows_of bytes c.ins).fault (sym is ∙ e)
-ends-never c bytes before after ended (stopped why grew) e = no-stop-fault ended why e
+ends-never : (report : Report) (first : Running) (bytes : List ℕ) (before after : Option (List ℕ)) (now : Running) (ended : Finish) →
+    Ends report first bytes before after now ended → ended ≡ finish.ReadFault → ⊥
+ends-never report first bytes before after now ended (whole is grew has) e =
+    no-read-fault (last_over (course_from first) bytes) (rows_of bytes (inputs_of first.parts)).fault (sym is ∙ e)
+ends-never report first bytes before after now ended (stopped why grew) e = no-stop-fault ended why e
 
-pub leaves-never : (file : Parts) (read : List ℕ) (before : Option (List ℕ)) (p : Pace) (r : Running) (now : Option (List ℕ))
-    (l : Left) → Leaves file read before p r now l → l ≡ way.Over finish.ReadFault → ⊥
-leaves-never file read before p r now way.Open leaves e = cc
-leaves-never file read before p r now (way.Over ended) leaves e = let same : ended ≡ finish.ReadFault = cc in
-    ends-never (course_of file) (read ++ []) before now ended (leaves []) same
+pub leaves-never : (report : Report) (start : Start) (file : Parts) (read : List ℕ) (before : Option (List ℕ)) (s : Session) (r : Running)
+    (now : Option (List ℕ)) (l : Progress) → Leaves report start file read before s r now l → l ≡ progress.Over finish.ReadFault → ⊥
+leaves-never report start file read before s r now progress.Open leaves e = cc
+leaves-never report start file read before s r now (progress.Over ended) leaves e = let same : ended ≡ finish.ReadFault = cc in
+    ends-never report (runner_at start file) (read ++ []) before now r ended (leaves []) same

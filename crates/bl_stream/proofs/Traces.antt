@@ -8,7 +8,7 @@ use Rattle.bl_cmeaning.specs.Trace.{Reply, row, ended, trapped, c_trace_from, ce
 use Rattle.bl_crun.specs.Running.{Running, after_tick, answer_of, outputs_after, reply_at, tick_if, unless_trapped}
 use Rattle.bl_crun.specs.declared.tick.Tick.{Tick}
 use Rattle.bl_crun.specs.declared.tick.Tick.TheVariants as tick
-use Rattle.bl_stream.specs.inner.Courses.{after_rows, trace_from}
+use Rattle.bl_stream.specs.Reports.{after_rows, trace_from}
 
 -- the trace that begins with a tick that was answered so
 abbrev pub traced_by : Tick → List ℤ → Trace → Trace

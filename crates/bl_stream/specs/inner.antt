@@ -1,2 +1,2 @@
-pub mod Courses
 pub mod Going
+pub mod Ticks

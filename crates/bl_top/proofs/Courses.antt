@@ -5,17 +5,20 @@ use Rattle.bl_cmeaning.specs.Cells.{inputs_of as file_inputs}
 use Rattle.bl_cmeaning.specs.Faults.{WellFormed, first_fault, first_place}
 use Rattle.bl_cmeaning.specs.Parts.{Parts, parts_of}
 use Rattle.bl_cmeaning.specs.Sizes.{cells_needed}
-use Rattle.bl_crun.specs.Cause.{IsCause, Runs}
+use Rattle.bl_cmeaning.specs.Trace.{c_trace}
+use Rattle.bl_crun.specs.Cause.{IsCause}
 use Rattle.bl_crun.specs.Running.{Running, loaded}
 use Rattle.bl_crun.specs.declared.fault.LoadFault.{LoadFault}
 use Rattle.bl_crun.specs.declared.fault.LoadFault.TheVariants as load
 use Rattle.bl_ctext.specs.declared.file.CFile.{CFile}
 use Rattle.bl_rows.specs.Reading.{begun, rows_in, rows_of}
+use Rattle.bl_rows.specs.Text.{text_of}
 use Rattle.bl_stream.specs.Streams.{Course, course_of}
 use Rattle.bl_program.specs.Programs.{typed_of}
 use Rattle.bl_top.proofs.Fronts.{tree_built}
-use Rattle.bl_top.specs.Sources.{IsBuilt, IsFileOfParts, RunsAs}
-use Rattle.bl_top.specs.Traces.{HasCourse}
+use Rattle.bl_top.specs.inner.Programs.{IsBuilt}
+use Rattle.bl_top.specs.Sources.{RunsAs}
+use Rattle.bl_top.specs.Traces.{HasCourse, OneTrace}
 use Rattle.bl_tree.specs.Ports.{RowsFit, input_columns}
 use Rattle.bl_tree.specs.declared.place.Place.{Place}
 use Rattle.bl_tree.specs.declared.program.Program.{Program}
@@ -31,22 +34,23 @@ columns_fit columns wanted rows same fit = subst (λ cs. RowsFit cs rows) same f
 -- ---- a program's file as a course
 
 pub course_of_parts : (structs : List StructDef) (units : List UnitDef) (entry : ℕ) (file : CFile) (ready : Parts) →
-    ready ≡ parts_of file → IsFileOfParts structs units entry file →
+    ready ≡ parts_of file → OneTrace structs units entry file →
     ((bytes : List ℕ) (columns : List Column) → RowsFit columns (rows_of bytes columns).rows) →
     ((bytes : List ℕ) (columns : List Column) → RowsFit columns (rows_in (begun columns) bytes)) → HasCourse structs units entry (course_of ready)
 course_of_parts structs units entry file ready same is fit so_far = subst (λ p. HasCourse structs units entry (course_of p)) (sym same) (record {
-  form = is.form;
   unit = is.unit;
   is_entry = is.is_entry;
-  inputs = is.one_trace.inputs;
-  outputs = is.one_trace.outputs;
-  trace = is.one_trace.trace;
+  inputs = is.inputs;
+  trace = c_trace (parts_of file);
+  one = is.trace;
+  stands = λ rows. refl;
+  shows = λ rows. ap (text_of (c_trace (parts_of file) rows)) is.outputs;
   fit = λ bytes. columns_fit (file_inputs (parts_of file)) (input_columns is.unit) (rows_of bytes (file_inputs (parts_of file))).rows
-      is.one_trace.inputs (fit bytes (file_inputs (parts_of file)));
+      is.inputs (fit bytes (file_inputs (parts_of file)));
   fit_so_far = λ bytes. columns_fit (file_inputs (parts_of file)) (input_columns is.unit) (rows_in (begun (file_inputs (parts_of file))) bytes)
-      is.one_trace.inputs (so_far bytes (file_inputs (parts_of file)));
-  bounded = is.one_trace.bounded;
-  never_stuck = is.one_trace.never_stuck;
+      is.inputs (so_far bytes (file_inputs (parts_of file)));
+  bounded = is.bounded;
+  never_stuck = is.never_stuck;
 })
 
 -- the course of the program of a tree
@@ -81,10 +85,10 @@ not_large : (cells : ℕ) → 1000000 < cells → cells ≤ 1000000 → ⊥
 not_large cells large small = omega (arith, large, small)
 
 pub wants_memory : (file : CFile) (structs : List StructDef) (units : List UnitDef) (entry : ℕ) (fault : LoadFault) →
-    IsFileOfParts structs units entry file → IsCause (parts_of file) fault →
+    OneTrace structs units entry file → IsCause (parts_of file) fault →
     fault ≡ load.NoMemory
-wants_memory file structs units entry (load.IllFormed at) is cause = absurd (faultless (parts_of file) at is.one_trace.well_formed cause)
-wants_memory file structs units entry (load.TooLarge cells) is cause = absurd (not_large (cells_needed (parts_of file)) cause.large is.one_trace.small)
+wants_memory file structs units entry (load.IllFormed at) is cause = absurd (faultless (parts_of file) at is.well_formed cause)
+wants_memory file structs units entry (load.TooLarge cells) is cause = absurd (not_large (cells_needed (parts_of file)) cause.large is.small)
 wants_memory file structs units entry load.NoMemory is cause = refl
 
 -- ---- what was just loaded
@@ -94,6 +98,3 @@ loaded_parts ready file e = ap (λ (r : Running). r.parts) e
 
 pub loaded_fresh : (ready : Running) (file : Parts) → ready ≡ loaded file → ready ≡ loaded ready.parts
 loaded_fresh ready file e = e ∙ ap loaded (sym (loaded_parts ready file e))
-
-pub loaded_runs : (ready : Running) (file : Parts) → ready ≡ loaded file → Runs file → Runs ready.parts
-loaded_runs ready file e runs = subst Runs (sym (loaded_parts ready file e)) runs

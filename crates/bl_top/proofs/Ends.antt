@@ -6,20 +6,21 @@ use Rattle.bl_io.specs.Left.{IsKept}
 use Rattle.bl_stream.specs.Streams.{Course}
 use Rattle.bl_top.specs.Answers.{Answers, builds, execs, no_job, runs, short}
 use Rattle.bl_top.specs.Build.{BuildEnds, Writes, fault, nothing, stopped, want, whole, written}
-use Rattle.bl_top.specs.Calls.{Call, Count, HasRisen}
+use Rattle.bl_top.specs.Calls.{Call, HasRisen, Output}
 use Rattle.bl_top.specs.Exec.{ExecEnds}
-use Rattle.bl_top.specs.Notes.{chosen_line, line_of}
+use Rattle.bl_top.specs.inner.Outcomes.{chosen_line}
+use Rattle.bl_top.specs.inner.Programs.{IsBuilt}
+use Rattle.bl_top.specs.Notes.{line_of}
 use Rattle.bl_top.specs.Reads.{LeftBehind, source_limit}
 use Rattle.bl_top.specs.Refusals.{Stops}
 use Rattle.bl_top.specs.Rows.{Streams}
 use Rattle.bl_top.specs.Run.{RunEnds, ran, stopped as run_stopped}
-use Rattle.bl_top.specs.Sources.{IsBuilt, IsTextOf, IsTextOfParts}
+use Rattle.bl_top.specs.Sources.{IsTextOf, IsTextOfParts}
 use Rattle.bl_top.specs.Traces.{HasCourse}
 use Rattle.bl_top.specs.declared.status.Status.{Status}
 use Rattle.bl_top.specs.declared.status.Status.TheVariants as status
 use Rattle.bl_top.proofs.Courses.{runs_as}
 use Rattle.bl_top.proofs.Fronts.{text_of_source}
-use Rattle.bl_top.proofs.Cuts.{kept_same}
 use Rattle.bl_top.proofs.Streams.{streams_from}
 use Rattle.bl_tree.specs.declared.program.Program.{Program}
 use Rattle.bl_words.specs.Jobs.{JobSpec, Word, build, exec, run}
@@ -27,41 +28,39 @@ use Rattle.bl_words.specs.Jobs.{JobSpec, Word, build, exec, run}
 -- ---- `build`
 
 -- what was written is the result, or a front of it
-pub wrote_all : (IsResult : List ℕ → Type 0) (out : Count) (before after : Option (List ℕ)) (ended : Status) (text piece : List ℕ) →
-    ended ≡ status.Ok → piece ≡ text → IsResult text → Appends before piece after →
-    Writes IsResult out before after ended
-wrote_all IsResult out before after ended text piece e same is grew = rw e (whole text is (subst (λ t. Appends before t after) same grew))
+pub wrote_all : (IsResult : List ℕ → Type 0) (out : Output) (ended : Status) (text piece : List ℕ) → ended ≡ status.Ok → piece ≡ text →
+    IsResult text → Appends out.before piece out.after → Writes IsResult out ended
+wrote_all IsResult out ended text piece e same is grew = rw e (whole text is (subst (λ t. Appends out.before t out.after) same grew))
 
-pub wrote_part : (IsResult : List ℕ → Type 0) (out : Count) (before after : Option (List ℕ)) (ended : Status)
-    (text piece : List ℕ) → ended ≡ status.WriteFault → piece ≡ text → IsResult text → AppendsPart before piece after →
-    HasRisen out → Writes IsResult out before after ended
-wrote_part IsResult out before after ended text piece e same is grew risen = rw e (fault text is (subst (λ t. AppendsPart before t after) same grew) risen)
+pub wrote_part : (IsResult : List ℕ → Type 0) (out : Output) (ended : Status) (text piece : List ℕ) → ended ≡ status.WriteFault →
+    piece ≡ text → IsResult text → AppendsPart out.before piece out.after → HasRisen out.faults → Writes IsResult out ended
+wrote_part IsResult out ended text piece e same is grew risen =
+    rw e (fault text is (subst (λ t. AppendsPart out.before t out.after) same grew) risen)
 
-pub wrote_less : (IsResult : List ℕ → Type 0) (out : Count) (before after : Option (List ℕ)) (ended : Status)
-    (text piece : List ℕ) → ended ≡ status.NoMemory → piece ≡ text → IsResult text → AppendsPart before piece after →
-    Writes IsResult out before after ended
-wrote_less IsResult out before after ended text piece e same is grew = rw e (want text is (subst (λ t. AppendsPart before t after) same grew))
+pub wrote_less : (IsResult : List ℕ → Type 0) (out : Output) (ended : Status) (text piece : List ℕ) → ended ≡ status.NoMemory →
+    piece ≡ text → IsResult text → AppendsPart out.before piece out.after → Writes IsResult out ended
+wrote_less IsResult out ended text piece e same is grew = rw e (want text is (subst (λ t. AppendsPart out.before t out.after) same grew))
 
-pub wrote_nothing : (IsResult : List ℕ → Type 0) (out : Count) (held : Option (List ℕ)) (ended : Status) → ended ≡ status.NoMemory →
-    Writes IsResult out held held ended
-wrote_nothing IsResult out held ended e = rw e (nothing (kept_same held))
+pub wrote_nothing : (IsResult : List ℕ → Type 0) (out : Output) (ended : Status) → ended ≡ status.NoMemory → IsKept out.before out.after →
+    Writes IsResult out ended
+wrote_nothing IsResult out ended e kept = rw e (nothing kept)
 
 -- what is a result in one sense is one in another
-writes_as : (P Q : List ℕ → Type 0) (out : Count) (before after : Option (List ℕ)) (ended : Status) →
-    ((text : List ℕ) → P text → Q text) → Writes P out before after ended → Writes Q out before after ended
-writes_as P Q out before after _ turned (whole text is grew) = whole text (turned text is) grew
-writes_as P Q out before after _ turned (fault text is grew risen) = fault text (turned text is) grew risen
-writes_as P Q out before after _ turned (want text is grew) = want text (turned text is) grew
-writes_as P Q out before after _ turned (nothing kept) = nothing kept
+writes_as : (P Q : List ℕ → Type 0) (out : Output) (ended : Status) → ((text : List ℕ) → P text → Q text) → Writes P out ended →
+    Writes Q out ended
+writes_as P Q out _ turned (whole text is grew) = whole text (turned text is) grew
+writes_as P Q out _ turned (fault text is grew risen) = fault text (turned text is) grew risen
+writes_as P Q out _ turned (want text is grew) = want text (turned text is) grew
+writes_as P Q out _ turned (nothing kept) = nothing kept
 
 pub build_written : (c : Call) (source : Word) (program : Program) (ended : Status) (line : List ℕ) → IsBuilt (c.left source) program →
-    Writes (IsTextOfParts program.structs program.units program.entry) c.out c.before c.after ended → line ≡ line_of ended → BuildEnds c source ended line
+    Writes (IsTextOfParts program.structs program.units program.entry) c.out ended → line ≡ line_of ended → BuildEnds c source ended line
 build_written c source program ended line built writes told =
-    rw told (written (writes_as (IsTextOfParts program.structs program.units program.entry) (IsTextOf (c.left source)) c.out c.before c.after ended
+    rw told (written (writes_as (IsTextOfParts program.structs program.units program.entry) (IsTextOf (c.left source)) c.out ended
     (λ text is. text_of_source (c.left source) program text built is) writes))
 
 pub build_stopped : (c : Call) (source : Word) (ended : Status) (line : List ℕ) → Stops (c.left source) (c.file source) ended line →
-    IsKept c.before c.after → BuildEnds c source ended line
+    IsKept c.out.before c.out.after → BuildEnds c source ended line
 build_stopped c source ended line stops kept = stopped stops kept
 
 -- ---- `run`
@@ -69,14 +68,14 @@ build_stopped c source ended line stops kept = stopped stops kept
 pub run_ran : (c : Call) (source rows : Word) (program : Program) (course : Course) (between : Word → Option (List ℕ)) (second : ℕ)
     (ended : Status) (line : List ℕ) → IsBuilt (c.left source) program →
     HasCourse program.structs program.units program.entry course → LeftBehind source_limit source c.left between → (c.file rows).before ≤ second →
-    Streams course (between rows) (record { before = second; after = (c.file rows).after }) c.out c.before c.after ended line →
+    Streams course (between rows) (c.rest rows) (record { before = second; after = (c.file rows).after }) c.out ended line →
     RunEnds c source rows ended line
 run_ran c source rows program course between second ended line built has behind below streams =
     ran course (runs_as (c.left source) program course built has) between behind
-    (streams_from course (between rows) (c.file rows).before second (c.file rows).after c.out c.before c.after ended line below streams)
+    (streams_from course (between rows) (c.rest rows) (c.file rows).before second (c.file rows).after c.out ended line below streams)
 
 pub run_stops : (c : Call) (source rows : Word) (ended : Status) (line : List ℕ) →
-    Stops (c.left source) (c.file source) ended line → IsKept c.before c.after → RunEnds c source rows ended line
+    Stops (c.left source) (c.file source) ended line → IsKept c.out.before c.out.after → RunEnds c source rows ended line
 run_stops c source rows ended line stops kept = run_stopped stops kept
 
 -- ---- the job
@@ -94,9 +93,9 @@ pub answers_exec : (c : Call) (job : Option JobSpec) (text rows : Word) (ended :
 answers_exec c job text rows ended line asked ends = rw asked (execs ends)
 
 pub answers_none : (c : Call) (job : Option JobSpec) (ended : Status) (own : List ℕ) → job ≡ None → ended ≡ status.Usage →
-    IsKept c.before c.after → Answers c job ended (chosen_line ended own)
+    IsKept c.out.before c.out.after → Answers c job ended (chosen_line ended own)
 answers_none c job ended own none e kept = rw (none, e) (no_job kept)
 
 pub answers_short : (c : Call) (job : Option JobSpec) (ended : Status) (own : List ℕ) → ended ≡ status.NoMemory →
-    IsKept c.before c.after → Answers c job ended (chosen_line ended own)
+    IsKept c.out.before c.out.after → Answers c job ended (chosen_line ended own)
 answers_short c job ended own e kept = rw e (short kept)

@@ -19,8 +19,6 @@ use Rattle.bl_top.specs.Calls.{Call, HasRisen}
 use Rattle.bl_top.specs.Exec.{
   ExecEnds,
   HasFile,
-  IsEndAtLoad,
-  IsEndAtText,
   Loads,
   Rejects,
   ill_formed,
@@ -33,7 +31,8 @@ use Rattle.bl_top.specs.Exec.{
   unread,
   want,
 }
-use Rattle.bl_top.specs.Notes.{IsTold, chosen_line, line_in, not_subset_line, too_large_line}
+use Rattle.bl_top.specs.inner.Outcomes.{IsEndAtLoad, IsEndAtText, IsTold, chosen_line, line_in}
+use Rattle.bl_top.specs.Notes.{not_subset_line, too_large_line}
 use Rattle.bl_top.specs.Reads.{LeftBehind, longest_text, text_limit}
 use Rattle.bl_top.specs.Rows.{Streams}
 use Rattle.bl_top.specs.declared.outcome.Outcome.{Outcome}
@@ -113,7 +112,7 @@ whole_loads whole got file front loads = subst (λ t. Loads t file) (sym (short_
 
 pub exec_rejected : (c : Call) (text rows : Word) (got : List ℕ) (after : Option (List ℕ)) (ended : Status) (line : List ℕ) →
     GivesUpTo text_limit (c.left text) got after → Rejects got ended line →
-    IsKept c.before c.after → ExecEnds c text rows ended line
+    IsKept c.out.before c.out.after → ExecEnds c text rows ended line
 exec_rejected c text rows got after ended line read because kept =
     let some = sourced text_limit (λ t. Rejects t ended line) (c.left text) got after read because
     (λ whole front. whole_rejects whole got front ended line because) in
@@ -122,17 +121,17 @@ exec_rejected c text rows got after ended line read because kept =
 pub exec_ran : (c : Call) (text rows : Word) (got : List ℕ) (file : Parts) (between : Word → Option (List ℕ)) (second : ℕ)
     (ended : Status) (line : List ℕ) → GivesUpTo text_limit (c.left text) got (between text) →
     Loads got file → LeftBehind text_limit text c.left between → (c.file rows).before ≤ second →
-    Streams (course_of file) (between rows) (record { before = second; after = (c.file rows).after }) c.out c.before c.after ended
+    Streams (course_of file) (between rows) (c.rest rows) (record { before = second; after = (c.file rows).after }) c.out ended
     line → ExecEnds c text rows ended line
 exec_ran c text rows got file between second ended line read loads behind below streams =
     let some = sourced text_limit (λ t. Loads t file) (c.left text) got (between text) read loads (λ whole front. whole_loads whole got file front loads) in
     ran some.0 file some.1.0 some.1.1 between behind
-    (streams_from (course_of file) (between rows) (c.file rows).before second (c.file rows).after c.out c.before c.after ended line below streams)
+    (streams_from (course_of file) (between rows) (c.rest rows) (c.file rows).before second (c.file rows).after c.out ended line below streams)
 
 pub exec_unread : (c : Call) (text rows : Word) (ended : Status) (own : List ℕ) → ended ≡ status.ReadFault →
-    HasRisen (c.file text) → IsKept c.before c.after → ExecEnds c text rows ended (chosen_line ended own)
+    HasRisen (c.file text) → IsKept c.out.before c.out.after → ExecEnds c text rows ended (chosen_line ended own)
 exec_unread c text rows ended own e risen kept = rw e (unread risen kept)
 
-pub exec_wants : (c : Call) (text rows : Word) (ended : Status) (own : List ℕ) → ended ≡ status.NoMemory → IsKept c.before c.after →
-    ExecEnds c text rows ended (chosen_line ended own)
+pub exec_wants : (c : Call) (text rows : Word) (ended : Status) (own : List ℕ) → ended ≡ status.NoMemory →
+    IsKept c.out.before c.out.after → ExecEnds c text rows ended (chosen_line ended own)
 exec_wants c text rows ended own e kept = rw e (want kept)

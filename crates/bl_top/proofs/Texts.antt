@@ -44,7 +44,6 @@ use Rattle.bl_tree.specs.declared.tree.Var.{Var}
 use Rattle.bl_tree.specs.Ports.{RowsFit, columns_of, input_columns, row_fits}
 use Rattle.bl_tree.specs.Program.{Keeps, is_entry}
 use Rattle.bl_tree.specs.Typing.{inputs_of}
-use Rattle.bl_top.specs.Sources.{IsFileOfParts}
 use Rattle.bl_top.specs.Traces.{OneTrace}
 
 -- ---- tests
@@ -103,8 +102,10 @@ file_is unit file structs funcs = rw (structs, funcs) refl
 one_trace : (unit : UnitDef) (entry : ℕ) (file : CFile) → Early [] (unit ∷ []) entry unit (loop_steps unit) →
     file.structs ≡ c_structs_of (unit ∷ []) → file.funcs ≡ c_funcs_of (unit ∷ []) →
     EarlyHasOneTrace → EarlyIsBounded → EarlyIsNeverStuck → WrittenTrace (unit ∷ []) → WrittenColumns (unit ∷ []) →
-    WrittenWellFormed (unit ∷ []) → WrittenIsSmall (unit ∷ []) → OneTrace [] (unit ∷ []) entry unit file
+    WrittenWellFormed (unit ∷ []) → WrittenIsSmall (unit ∷ []) → OneTrace [] (unit ∷ []) entry file
 one_trace unit entry file early structs funcs one bounded stuck has columns formed small = record {
+  unit = unit;
+  is_entry = early.is_entry;
   well_formed = subst WellFormed (sym (file_is unit file structs funcs)) formed;
   small = subst (λ parts. cells_needed parts ≤ 1000000) (sym (file_is unit file structs funcs)) small;
   inputs = ap file_inputs (file_is unit file structs funcs) ∙ columns.inputs;
@@ -130,17 +131,9 @@ pub file_of_parts : (file : CFile) (structs : List StructDef) (units : List Unit
     is_early structs units ≡ true →
     file.structs ≡ c_structs_of units → file.funcs ≡ c_funcs_of units →
     EarlyHasOneTrace → EarlyIsBounded → EarlyIsNeverStuck → WrittenTrace units → WrittenColumns units → WrittenWellFormed units →
-    WrittenIsSmall units → IsFileOfParts structs units entry file
+    WrittenIsSmall units → OneTrace structs units entry file
 file_of_parts file (def ∷ structs) units entry keeps form s f one bounded stuck has columns formed small = absurd cc
 file_of_parts file [] [] entry keeps form s f one bounded stuck has columns formed small = absurd cc
 file_of_parts file [] (unit ∷ other ∷ rest) entry keeps form s f one bounded stuck has columns formed small = absurd cc
 file_of_parts file [] (unit ∷ []) entry keeps form s f one bounded stuck has columns formed small =
-    let early : Early [] (unit ∷ []) entry unit (loop_steps unit) = early_of unit entry keeps form in
-    record {
-      form = form;
-      unit = unit;
-      is_entry = early.is_entry;
-      file_structs = s;
-      file_funcs = f;
-      one_trace = one_trace unit entry file early s f one bounded stuck has columns formed small;
-    }
+    one_trace unit entry file (early_of unit entry keeps form) s f one bounded stuck has columns formed small

@@ -11,12 +11,17 @@ pub record Count : Type 0 where
 abbrev pub HasRisen : Count → Type 0
 HasRisen count = Rose count.before count.after
 
-pub record Call : Type 0 where
-  -- what is left of each file before it, where that is told
-  pub left : Word → Option (List ℕ)
-  -- the count of faults of each file, and that of `out`
-  pub file : Word → Count
-  pub out : Count
-  -- what `out` holds before it and after it, where that is told
+-- a sink: its count of faults, and what it holds before the call and after it, where that is told
+pub record Output : Type 0 where
+  pub faults : Count
   pub before : Option (List ℕ)
   pub after : Option (List ℕ)
+
+pub record Call : Type 0 where
+  -- what is left of each file before the call and after it, where that is told
+  pub left : Word → Option (List ℕ)
+  pub rest : Word → Option (List ℕ)
+  -- the count of faults of each file
+  pub file : Word → Count
+  pub out : Output
+  pub notes : Output

@@ -4,11 +4,7 @@ use Rattle.bl_cmeaning.specs.Faults.{first_fault}
 use Rattle.bl_cmeaning.specs.Parts.{Parts, parts_of}
 use Rattle.bl_cparse.specs.HasPlaces.{HasPlaces}
 use Rattle.bl_cparse.specs.Places.{Leaves, SpellsNone}
-use Rattle.bl_cparse.specs.declared.refusal.CRefusal.{CRefusal}
-use Rattle.bl_cparse.specs.declared.refusal.CRefusal.TheVariants as refusal
 use Rattle.bl_crun.specs.Cause.{IsTooLarge, Runs}
-use Rattle.bl_crun.specs.declared.fault.LoadFault.{LoadFault}
-use Rattle.bl_crun.specs.declared.fault.LoadFault.TheVariants as load
 use Rattle.bl_csyntax.specs.Rules.{FailsFirst}
 use Rattle.bl_ctext.specs.declared.file.CFile.{CFile}
 use Rattle.bl_ctext.specs.Prelude.{prelude}
@@ -16,11 +12,10 @@ use Rattle.bl_ctext.specs.SpellsC.{SpellsC}
 use Rattle.bl_io.specs.Left.{IsKept}
 use Rattle.bl_stream.specs.Streams.{course_of}
 use Rattle.bl_top.specs.Calls.{Call, HasRisen}
-use Rattle.bl_top.specs.Notes.{IsTold, line_of, not_subset_line, too_large_line}
+use Rattle.bl_top.specs.Notes.{line_of, not_subset_line, too_large_line}
 use Rattle.bl_top.specs.Reads.{LeftBehind, longest_text, text_limit}
 use Rattle.bl_top.specs.Rows.{Streams}
 use Rattle.bl_top.specs.Sources.{IsSource}
-use Rattle.bl_top.specs.declared.outcome.Outcome.{Outcome}
 use Rattle.bl_top.specs.declared.status.Status.{Status}
 use Rattle.bl_top.specs.declared.status.Status.TheVariants as status
 use Rattle.bl_tree.specs.declared.place.Place.{Place}
@@ -55,24 +50,13 @@ pub data Rejects (text : List ℕ) : Status → List ℕ → Type 0 where
   too_many_cells : (file : Parts) (cells : ℕ) → HasFile text file → IsTooLarge file cells → Rejects text status.TooLarge (too_large_line cells)
   no_memory : Rejects text status.NoMemory (line_of status.NoMemory)
 
--- the status and the line with which a C text is run over a file of rows
+-- the status with which a C text is run over a file of rows, and the lines for `notes`
 pub data ExecEnds (c : Call) (text rows : Word) : Status → List ℕ → Type 0 where
   -- over the rows that are left once the text was read
   ran : {ended : Status} {line : List ℕ} (bytes : List ℕ) (file : Parts) → IsSource (c.left text) bytes → Loads bytes file →
       (between : Word → Option (List ℕ)) → LeftBehind text_limit text c.left between →
-      Streams (course_of file) (between rows) (c.file rows) c.out c.before c.after ended line → ExecEnds c text rows ended line
-  rejected : {ended : Status} {line : List ℕ} (bytes : List ℕ) → IsSource (c.left text) bytes → Rejects bytes ended line → IsKept c.before c.after →
-      ExecEnds c text rows ended line
-  unread : HasRisen (c.file text) → IsKept c.before c.after → ExecEnds c text rows status.ReadFault (line_of status.ReadFault)
-  want : IsKept c.before c.after → ExecEnds c text rows status.NoMemory (line_of status.NoMemory)
-
--- the outcome is that of a text which is refused so
-abbrev pub IsEndAtText : CRefusal → Outcome → Type 0
-IsEndAtText (refusal.NotSubset at) outcome = IsTold status.NotSubset (not_subset_line at) outcome
-IsEndAtText refusal.NoMemory outcome = outcome.status ≡ status.NoMemory
-
--- or of a file that isn't loaded for this
-abbrev pub IsEndAtLoad : LoadFault → Outcome → Type 0
-IsEndAtLoad (load.IllFormed at) outcome = IsTold status.NotSubset (not_subset_line at.start) outcome
-IsEndAtLoad (load.TooLarge cells) outcome = IsTold status.TooLarge (too_large_line cells) outcome
-IsEndAtLoad load.NoMemory outcome = outcome.status ≡ status.NoMemory
+      Streams (course_of file) (between rows) (c.rest rows) (c.file rows) c.out ended line → ExecEnds c text rows ended line
+  rejected : {ended : Status} {line : List ℕ} (bytes : List ℕ) → IsSource (c.left text) bytes → Rejects bytes ended line →
+      IsKept c.out.before c.out.after → ExecEnds c text rows ended line
+  unread : HasRisen (c.file text) → IsKept c.out.before c.out.after → ExecEnds c text rows status.ReadFault (line_of status.ReadFault)
+  want : IsKept c.out.before c.out.after → ExecEnds c text rows status.NoMemory (line_of status.NoMemory)

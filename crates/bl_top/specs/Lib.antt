@@ -2,6 +2,7 @@ pub mod Answers
 pub mod Build
 pub mod Calls
 pub mod Exec
+pub mod inner
 pub mod Notes
 pub mod Reads
 pub mod Refusals

@@ -1,8 +1,7 @@
--- The number and the line on `notes` that go with each status.
-use Rattle.std.specs.Prelude.{◌≡◌, ℕ, ◌⊎◌, Bool, true, false, List, [], ◌∷◌, ◌++◌, Option, codes, decimal}
+-- The number and the line on `notes` that go with each status, and what a call writes there.
+use Rattle.std.specs.Prelude.{◌≢◌, ℕ, List, [], ◌∷◌, ◌++◌, codes, decimal}
 use Rattle.bl_io.specs.Held.{Appends, AppendsPart}
-use Rattle.bl_top.specs.Calls.{Count, HasRisen}
-use Rattle.bl_top.specs.declared.outcome.Outcome.{Outcome}
+use Rattle.bl_top.specs.Calls.{HasRisen, Output}
 use Rattle.bl_top.specs.declared.status.Status.{Status}
 use Rattle.bl_top.specs.declared.status.Status.TheVariants as status
 use Rattle.bl_words.specs.Usage.{usage_line}
@@ -20,13 +19,6 @@ code_of status.NoMemory = 7
 code_of status.NotSubset = 8
 code_of status.TooLarge = 11
 code_of status.Unbuilt = 12
-
--- whether a status has a line
-abbrev pub has_line : Status → Bool
-has_line status.Ok = false
-has_line status.WriteFault = false
-has_line status.Trapped = false
-has_line _ = true
 
 -- ---- lines, each with its line feed
 
@@ -60,26 +52,11 @@ not_subset_line at = numbered_line (codes "not subset: at ") at
 abbrev pub too_large_line : ℕ → List ℕ
 too_large_line size = numbered_line (codes "too large: ") size
 
--- some statuses have a line of the job's own
-abbrev pub chosen_line : Status → List ℕ → List ℕ
-chosen_line status.Refused own = own
-chosen_line status.BadRows own = own
-chosen_line status.NotSubset own = own
-chosen_line status.TooLarge own = own
-chosen_line ended own = line_of ended
-
--- the line of an outcome
-abbrev pub line_in : Outcome → List ℕ
-line_in outcome = chosen_line outcome.status outcome.line.items
-
--- the outcome has the status and the job's own line, or memory was refused for the line
-abbrev pub IsTold : Status → List ℕ → Outcome → Type 0
-IsTold ended line outcome = ((outcome.status ≡ ended) × (outcome.line.items ≡ line)) ⊎ (outcome.status ≡ status.NoMemory)
-
 -- ---- on `notes`
 
--- the line of a status was to be written: it was, or the write failed behind a front of it, and the call ends with that
-pub data Written (notes : Count) (before : Option (List ℕ)) (line : List ℕ) (after : Option (List ℕ)) (meant : Status) : Status → Type 0 where
-  whole : Appends before line after → Written notes before line after meant meant
-  fault : has_line meant ≡ true → AppendsPart before line after → HasRisen notes → Written notes before line after meant status.WriteFault
-  want : has_line meant ≡ true → AppendsPart before line after → Written notes before line after meant status.NoMemory
+-- the lines of a job that ends with this status were to be written: they were, or a write failed behind a front of them, and the call
+-- ends with that
+pub data Written (notes : Output) (lines : List ℕ) (meant : Status) : Status → Type 0 where
+  whole : Appends notes.before lines notes.after → Written notes lines meant meant
+  fault : lines ≢ [] → AppendsPart notes.before lines notes.after → HasRisen notes.faults → Written notes lines meant status.WriteFault
+  want : lines ≢ [] → AppendsPart notes.before lines notes.after → Written notes lines meant status.NoMemory

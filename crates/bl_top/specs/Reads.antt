@@ -1,6 +1,7 @@
 -- Which files a job reads, and how far.
-use Rattle.std.specs.Prelude.{◌≡◌, ◌≢◌, ℕ, List, drop, Option, Some, None, IfSome}
+use Rattle.std.specs.Prelude.{◌≡◌, ℕ, List, [], ◌∷◌, drop, Option, Some, None, IfSome}
 use Rattle.bl_io.specs.Left.{IsKept, KeepsOthers, StandsFurther}
+use Rattle.bl_stream.specs.Streams.{ReadsLines}
 use Rattle.bl_words.specs.Jobs.{JobSpec, Word, build, exec, run}
 
 -- the greatest length of a source, and how far one is read: one byte past it
@@ -17,23 +18,51 @@ longest_text = 67108864
 abbrev pub text_limit : ℕ
 text_limit = 67108865
 
+-- how many lines a file of rows may have: line 1,000,001 is bad at its first byte
+abbrev pub most_rows : ℕ
+most_rows = 1000000
+
+-- how far a file is read
+pub data Limit : Type 0 where
+  -- no further than so many bytes
+  in_bytes : ℕ → Limit
+  -- in pieces, none of which is asked for once more lines than these have begun
+  in_lines : ℕ → Limit
+
+-- where a file stands that was read within a limit
+abbrev pub StandsWithin : Limit → Option (List ℕ) → Option (List ℕ) → Type 0
+StandsWithin (in_bytes most) before after = StandsFurther most before after
+StandsWithin (in_lines most) before after = ReadsLines most before after
+
+-- a file that a job reads, and how far
+pub record FileRead : Type 0 where
+  pub name : Word
+  pub limit : Limit
+
+abbrev pub source_file : Word → FileRead
+source_file name = record { name = name; limit = in_bytes source_limit }
+
+abbrev pub text_file : Word → FileRead
+text_file name = record { name = name; limit = in_bytes text_limit }
+
+abbrev pub rows_file : Word → FileRead
+rows_file name = record { name = name; limit = in_lines most_rows }
+
+-- the files of a job, in the order in which it reads them: those that its words name
+abbrev pub files_read : Option JobSpec → List FileRead
+files_read None = []
+files_read (Some (build source)) = source_file source ∷ []
+files_read (Some (run source rows)) = source_file source ∷ rows_file rows ∷ []
+files_read (Some (exec text rows)) = text_file text ∷ rows_file rows ∷ []
+
+-- these files are read, one after the other and each within its limit, and no other is
+abbrev pub Reads : List FileRead → (Word → Option (List ℕ)) → (Word → Option (List ℕ)) → Type 0
+Reads [] before after = (name : Word) → IsKept (before name) (after name)
+Reads (file ∷ files) before after =
+    (between : Word → Option (List ℕ)) × StandsWithin file.limit (before file.name) (between file.name) × KeepsOthers file.name before between
+    × Reads files between after
+
 -- what is left of each file once the first one was read to its end or to the limit
 pub record LeftBehind (limit : ℕ) (first : Word) (before between : Word → Option (List ℕ)) : Type 0 where
   pub rest : IfSome (before first) (λ bytes. between first ≡ Some (drop limit bytes))
   pub others : KeepsOthers first before between
-
--- one file alone is read, and not past the limit
-abbrev pub ReadsOne : ℕ → Word → (Word → Option (List ℕ)) → (Word → Option (List ℕ)) → Type 0
-ReadsOne limit name before after = StandsFurther limit (before name) (after name) × KeepsOthers name before after
-
--- two files alone are read, the first not past the limit
-pub record ReadsTwo (limit : ℕ) (first second : Word) (before after : Word → Option (List ℕ)) : Type 0 where
-  pub further : first ≢ second → StandsFurther limit (before first) (after first)
-  pub others : (name : Word) → name ≢ first → name ≢ second → IsKept (before name) (after name)
-
--- the call reads the files that its words name alone, and a source or a C text not past its limit
-abbrev pub ReadsNamed : Option JobSpec → (Word → Option (List ℕ)) → (Word → Option (List ℕ)) → Type 0
-ReadsNamed None before after = (name : Word) → IsKept (before name) (after name)
-ReadsNamed (Some (build source)) before after = ReadsOne source_limit source before after
-ReadsNamed (Some (run source rows)) before after = ReadsTwo source_limit source rows before after
-ReadsNamed (Some (exec text rows)) before after = ReadsTwo text_limit text rows before after

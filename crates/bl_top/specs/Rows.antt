@@ -1,39 +1,37 @@
 -- How a run over a file of rows ends.
 use Rattle.std.specs.Prelude.{◌≡◌, ℕ, List, Option}
-use Rattle.bl_stream.specs.Streams.{Course, Streamed}
+use Rattle.bl_io.specs.Held.{Appends}
+use Rattle.bl_rows.specs.Reading.{rows_of}
+use Rattle.bl_stream.specs.Streams.{AppendsFront, AreLeft, Course, Unread, finish_of, last_over, text_over}
 use Rattle.bl_stream.specs.declared.finish.Finish.{Finish}
 use Rattle.bl_stream.specs.declared.finish.Finish.TheVariants as finish
-use Rattle.bl_top.specs.Calls.{Count, HasRisen}
-use Rattle.bl_top.specs.Notes.{IsTold, bad_rows_line, line_of}
-use Rattle.bl_top.specs.declared.outcome.Outcome.{Outcome}
+use Rattle.bl_top.specs.Calls.{Count, HasRisen, Output}
+use Rattle.bl_top.specs.Notes.{bad_rows_line, line_of}
 use Rattle.bl_top.specs.declared.status.Status.{Status}
 use Rattle.bl_top.specs.declared.status.Status.TheVariants as status
 
--- the status of a run that ended so
-abbrev pub status_of : Finish → Status
-status_of finish.Done = status.Ok
-status_of finish.Trapped = status.Trapped
-status_of (finish.BadRows line) = status.BadRows
-status_of finish.ReadFault = status.ReadFault
-status_of finish.WriteFault = status.WriteFault
-status_of finish.NoMemory = status.NoMemory
+-- the course ends so over these bytes of rows, and the whole text that it shows of them grew on `out`
+pub record Ran (course : Course) (left : Option (List ℕ)) (out : Output) (how : Finish) : Type 0 where
+  pub bytes : List ℕ
+  pub are_left : AreLeft left bytes
+  pub ends : finish_of (last_over course bytes) (rows_of bytes course.ins).fault ≡ how
+  pub grew : Appends out.before (text_over course bytes) out.after
 
--- and its line
-abbrev pub note_of : Finish → List ℕ
-note_of (finish.BadRows line) = bad_rows_line line
-note_of ended = line_of (status_of ended)
+-- a front of that text grew
+pub record RanInPart (course : Course) (left : Option (List ℕ)) (out : Output) : Type 0 where
+  pub bytes : List ℕ
+  pub are_left : AreLeft left bytes
+  pub grew : AppendsFront out.before (text_over course bytes) out.after
 
--- the status and the line with which a course ends over the rows that are left of a file, and what of its trace grew on `out`
-pub record Streams (course : Course) (left : Option (List ℕ)) (rows out : Count) (before after : Option (List ℕ)) (ended : Status)
-    (line : List ℕ) : Type 0 where
-  pub how : Finish
-  pub is : ended ≡ status_of how
-  pub told : line ≡ note_of how
-  pub streamed : Streamed course left before after how
-  pub read_fault : how ≡ finish.ReadFault → HasRisen rows
-  pub write_fault : how ≡ finish.WriteFault → HasRisen out
-
--- the outcome is that of a run which ended so, or memory was refused for its line
-abbrev pub IsEndOf : Finish → Outcome → Type 0
-IsEndOf (finish.BadRows line) outcome = IsTold status.BadRows (bad_rows_line line) outcome
-IsEndOf ended outcome = outcome.status ≡ status_of ended
+-- the status and the line with which a course ends over the rows that are left of a file, what is then left of the file, and what of
+-- the course's text grew on `out`
+pub data Streams (course : Course) (left rest : Option (List ℕ)) (rows : Count) (out : Output) : Status → List ℕ → Type 0 where
+  -- the rows are used up, or the run has ended before that
+  done : Ran course left out finish.Done → Streams course left rest rows out status.Ok (line_of status.Ok)
+  trapped : Ran course left out finish.Trapped → Streams course left rest rows out status.Trapped (line_of status.Trapped)
+  -- the run could go on at the first bad line
+  bad_rows : (line : ℕ) → Ran course left out (finish.BadRows line) → Streams course left rest rows out status.BadRows (bad_rows_line line)
+  -- nothing of what the file handed over has stopped the run
+  unread : Unread course left rest out.before out.after → HasRisen rows → Streams course left rest rows out status.ReadFault (line_of status.ReadFault)
+  unwritten : RanInPart course left out → HasRisen out.faults → Streams course left rest rows out status.WriteFault (line_of status.WriteFault)
+  no_memory : RanInPart course left out → Streams course left rest rows out status.NoMemory (line_of status.NoMemory)

@@ -10,11 +10,11 @@ use Rattle.bl_top.specs.Sources.{RunsAs}
 use Rattle.bl_top.specs.declared.status.Status.{Status}
 use Rattle.bl_words.specs.Jobs.{Word}
 
--- the status and the line with which a source is run over a file of rows
+-- the status with which a source is run over a file of rows, and the lines for `notes`
 pub data RunEnds (c : Call) (source rows : Word) : Status → List ℕ → Type 0 where
   -- over the rows that are left once the source was read, by the one trace of its program
   ran : {ended : Status} {line : List ℕ} (course : Course) → RunsAs (c.left source) course →
       (between : Word → Option (List ℕ)) → LeftBehind source_limit source c.left between →
-      Streams course (between rows) (c.file rows) c.out c.before c.after ended line → RunEnds c source rows ended line
-  stopped : {ended : Status} {line : List ℕ} → Stops (c.left source) (c.file source) ended line → IsKept c.before c.after →
+      Streams course (between rows) (c.rest rows) (c.file rows) c.out ended line → RunEnds c source rows ended line
+  stopped : {ended : Status} {line : List ℕ} → Stops (c.left source) (c.file source) ended line → IsKept c.out.before c.out.after →
       RunEnds c source rows ended line

@@ -3,8 +3,9 @@
 ghost use Rattle.std.specs.Prelude.{◌≤◌, map, string_bytes};
 ghost use Rattle.bl_io.specs.Count.{NeverFell};
 ghost use Rattle.bl_top.specs.Answers.{Answered, Answers};
-ghost use Rattle.bl_top.specs.Notes.{line_in};
-ghost use Rattle.bl_top.specs.Reads.{ReadsNamed};
+ghost use Rattle.bl_top.specs.Calls.{Output};
+ghost use Rattle.bl_top.specs.inner.Outcomes.{line_in};
+ghost use Rattle.bl_top.specs.Reads.{Reads, files_read};
 ghost use Rattle.bl_words.specs.Jobs.{job_of};
 
 use crate::build::build;
@@ -29,13 +30,20 @@ pub fn blechc<F: Files, O: Sink, N: Sink>(
     ensures answered { Answered (map string_bytes words.now)
         (record {
           left = F.left files.old;
+          rest = F.left files.new;
           file = λ name. record { before = F.faults files.old name; after = F.faults files.new name };
-          out = record { before = O.faults out.old; after = O.faults out.new };
-          before = O.held out.old;
-          after = O.held out.new;
-        })
-        (record { before = N.faults notes.old; after = N.faults notes.new }) (N.held notes.old) (N.held notes.new) result }
-    ensures files { ReadsNamed (job_of (map string_bytes words.now)) (F.left files.old) (F.left files.new) }
+          out = record {
+            faults = record { before = O.faults out.old; after = O.faults out.new };
+            before = O.held out.old;
+            after = O.held out.new;
+          };
+          notes = record {
+            faults = record { before = N.faults notes.old; after = N.faults notes.new };
+            before = N.held notes.old;
+            after = N.held notes.new;
+          };
+        }) result }
+    ensures reads { Reads (files_read (job_of (map string_bytes words.now))) (F.left files.old) (F.left files.new) }
     ensures file_counts { NeverFell (F.faults files.old) (F.faults files.new) }
     ensures out_count { O.faults out.old ≤ O.faults out.new }
     ensures notes_count { N.faults notes.old ≤ N.faults notes.new }
@@ -46,15 +54,18 @@ pub fn blechc<F: Files, O: Sink, N: Sink>(
 
 /// The end of the job itself, before its line is written.
 fn answer<F: Files, O: Sink>(alloc: Global, words: &[String], files: &mut F, out: &mut O) -> Outcome
-    ensures answers { Answers
-        (record {
-          left = F.left files.old;
-          file = λ name. record { before = F.faults files.old name; after = F.faults files.new name };
-          out = record { before = O.faults out.old; after = O.faults out.new };
-          before = O.held out.old;
-          after = O.held out.new;
-        }) (job_of (map string_bytes words.now)) result.status (line_in result) }
-    ensures files { ReadsNamed (job_of (map string_bytes words.now)) (F.left files.old) (F.left files.new) }
+    ensures answers { (notes : Output) → Answers (record {
+      left = F.left files.old;
+      rest = F.left files.new;
+      file = λ name. record { before = F.faults files.old name; after = F.faults files.new name };
+      out = record {
+        faults = record { before = O.faults out.old; after = O.faults out.new };
+        before = O.held out.old;
+        after = O.held out.new;
+      };
+      notes = notes;
+    }) (job_of (map string_bytes words.now)) result.status (line_in result) }
+    ensures reads { Reads (files_read (job_of (map string_bytes words.now))) (F.left files.old) (F.left files.new) }
     ensures file_counts { NeverFell (F.faults files.old) (F.faults files.new) }
     ensures out_count { O.faults out.old ≤ O.faults out.new }
 {

@@ -1,11 +1,14 @@
 //! The command `exec C ROWS`.
 
-ghost use Rattle.std.specs.Prelude.{◌≡◌, ◌≤◌, length, IfErr, IfOk};
+ghost use Rattle.std.specs.Prelude.{◌≡◌, ◌≤◌, length, IfErr, IfOk, Some};
 ghost use Rattle.bl_crun.specs.Running.{loaded};
 ghost use Rattle.bl_io.specs.Count.{NeverFell};
-ghost use Rattle.bl_top.specs.Exec.{ExecEnds, IsEndAtLoad, IsEndAtText, Loads, Rejects};
-ghost use Rattle.bl_top.specs.Notes.{IsTold, line_in, not_subset_line, too_large_line};
-ghost use Rattle.bl_top.specs.Reads.{ReadsTwo, text_limit};
+ghost use Rattle.bl_top.specs.Calls.{Output};
+ghost use Rattle.bl_top.specs.Exec.{ExecEnds, Loads, Rejects};
+ghost use Rattle.bl_top.specs.inner.Outcomes.{IsEndAtLoad, IsEndAtText, IsTold, line_in};
+ghost use Rattle.bl_top.specs.Notes.{not_subset_line, too_large_line};
+ghost use Rattle.bl_top.specs.Reads.{Reads, files_read, text_limit};
+ghost use Rattle.bl_words.specs.Jobs.{exec};
 
 use crate::outcome::Outcome;
 use crate::rows::run_over;
@@ -26,14 +29,18 @@ pub fn exec<F: Files, O: Sink>(
     files: &mut F,
     out: &mut O,
 ) -> Outcome
-    ensures ends { ExecEnds (record {
+    ensures ends { (notes : Output) → ExecEnds (record {
       left = F.left files.old;
+      rest = F.left files.new;
       file = λ name. record { before = F.faults files.old name; after = F.faults files.new name };
-      out = record { before = O.faults out.old; after = O.faults out.new };
-      before = O.held out.old;
-      after = O.held out.new;
+      out = record {
+        faults = record { before = O.faults out.old; after = O.faults out.new };
+        before = O.held out.old;
+        after = O.held out.new;
+      };
+      notes = notes;
     }) text.now rows.now result.status (line_in result) }
-    ensures reads { ReadsTwo text_limit text.now rows.now (F.left files.old) (F.left files.new) }
+    ensures reads { Reads (files_read (Some (exec text.now rows.now))) (F.left files.old) (F.left files.new) }
     ensures file_counts { NeverFell (F.faults files.old) (F.faults files.new) }
     ensures out_count { O.faults out.old ≤ O.faults out.new }
 {

@@ -1,9 +1,10 @@
-//! The one call that the program makes. `blechc` ends with the status of the job that its words ask for, and the line
-//! of that status grew on `notes` (`specs/Answers.antt`, `Answered`). Each way in which a job ends comes with its whole
-//! cause and with what grew on `out`: `specs/Build.antt`, `specs/Run.antt` and `specs/Exec.antt`, a file for each
-//! command. At a source that isn't accepted nothing grew on `out`, and a refusal names the first rule that fails for
-//! its bytes (`specs/Refusals.antt`, `Stops`). What `build` writes has the one trace of the source's program
-//! (`specs/Traces.antt`, `OneTrace`). docs/THEOREM.md leads through it.
+//! The one call that the program makes. `blechc` ends with the status of the job that its words ask for, and the lines
+//! of the job grew on `notes`, that of the status last (`specs/Answers.antt`, `Answered`). Each way in which a job ends
+//! comes with its whole cause and with what grew on `out`: `specs/Build.antt`, `specs/Run.antt` and `specs/Exec.antt`, a
+//! file for each command. At a source that isn't accepted nothing grew on `out`, and a refusal names the first rule that
+//! fails for its bytes (`specs/Refusals.antt`, `Stops`). What `build` writes has the one trace of the source's program,
+//! and what `run` shows is the text of it (`specs/Traces.antt`, `OneTrace` and `HasCourse`). No file is read but those
+//! that the words name, each within its limit (`specs/Reads.antt`, `Reads`). docs/THEOREM.md leads through it.
 #![tactic(auto)]
 
 mod build;

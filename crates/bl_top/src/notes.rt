@@ -1,7 +1,8 @@
 //! The line on `notes` that goes with a status.
 
 ghost use Rattle.std.specs.Prelude.{◌≡◌, ◌≤◌};
-ghost use Rattle.bl_top.specs.Notes.{Written, line_in, line_of};
+ghost use Rattle.bl_top.specs.inner.Outcomes.{line_in};
+ghost use Rattle.bl_top.specs.Notes.{Written, line_of};
 
 use crate::outcome::Outcome;
 use crate::status::Status;
@@ -9,8 +10,11 @@ use bl_io::{IoFault, Sink, write_all};
 
 /// The status after its line was written on `notes`: the same, or that of the write.
 pub fn with_note<N: Sink>(outcome: &Outcome, notes: &mut N) -> Status
-    ensures written { Written (record { before = N.faults notes.old; after = N.faults notes.new }) (N.held notes.old) (line_in outcome.now)
-        (N.held notes.new) outcome.now.status result }
+    ensures written { Written (record {
+      faults = record { before = N.faults notes.old; after = N.faults notes.new };
+      before = N.held notes.old;
+      after = N.held notes.new;
+    }) (line_in outcome.now) outcome.now.status result }
     ensures count { N.faults notes.old ≤ N.faults notes.new }
 {
     let line = line_of(outcome);

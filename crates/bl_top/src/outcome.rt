@@ -1,7 +1,8 @@
 //! Ends of jobs, before their lines are written.
 
 ghost use Rattle.std.specs.Prelude.{◌≡◌, IfOk};
-ghost use Rattle.bl_top.specs.Notes.{IsTold, numbered_line};
+ghost use Rattle.bl_top.specs.inner.Outcomes.{IsTold};
+ghost use Rattle.bl_top.specs.Notes.{numbered_line};
 
 use crate::status::Status;
 use itoa::Buffer;

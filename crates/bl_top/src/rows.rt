@@ -1,13 +1,13 @@
 //! Runs over files of rows, as each command does them that names one.
 
 ghost use Rattle.std.specs.Prelude.{◌≡◌, ◌≤◌};
-ghost use Rattle.bl_crun.specs.Cause.{Runs};
 ghost use Rattle.bl_crun.specs.Running.{loaded};
 ghost use Rattle.bl_io.specs.Count.{NeverFell};
 ghost use Rattle.bl_io.specs.Left.{KeepsOthers};
-ghost use Rattle.bl_stream.specs.Streams.{course_of};
-ghost use Rattle.bl_top.specs.Notes.{line_in};
-ghost use Rattle.bl_top.specs.Rows.{IsEndOf, Streams};
+ghost use Rattle.bl_stream.specs.Streams.{ReadsLines, course_of};
+ghost use Rattle.bl_top.specs.inner.Outcomes.{IsEndOf, line_in};
+ghost use Rattle.bl_top.specs.Reads.{most_rows};
+ghost use Rattle.bl_top.specs.Rows.{Streams};
 
 use crate::outcome::Outcome;
 use crate::status::Status;
@@ -25,10 +25,14 @@ pub fn run_over<F: Files, O: Sink>(
     out: &mut O,
 ) -> Outcome
     requires fresh { runner ≡ loaded runner.parts }
-    requires runs { Runs runner.parts }
-    ensures streams { Streams (course_of runner.parts) (F.left files.old rows.now)
+    ensures streams { Streams (course_of runner.parts) (F.left files.old rows.now) (F.left files.new rows.now)
         (record { before = F.faults files.old rows.now; after = F.faults files.new rows.now })
-        (record { before = O.faults out.old; after = O.faults out.new }) (O.held out.old) (O.held out.new) result.status (line_in result) }
+        (record {
+          faults = record { before = O.faults out.old; after = O.faults out.new };
+          before = O.held out.old;
+          after = O.held out.new;
+        }) result.status (line_in result) }
+    ensures reads { ReadsLines most_rows (F.left files.old rows.now) (F.left files.new rows.now) }
     ensures others { KeepsOthers rows.now (F.left files.old) (F.left files.new) }
     ensures file_counts { NeverFell (F.faults files.old) (F.faults files.new) }
     ensures out_count { O.faults out.old ≤ O.faults out.new }

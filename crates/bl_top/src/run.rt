@@ -1,15 +1,16 @@
 //! The command `run P ROWS`.
 
-ghost use Rattle.std.specs.Prelude.{◌≡◌, ◌≤◌, true, IfOk};
-ghost use Rattle.bl_crun.specs.Cause.{Runs};
+ghost use Rattle.std.specs.Prelude.{◌≡◌, ◌≤◌, true, IfOk, Some};
 ghost use Rattle.bl_crun.specs.Running.{loaded};
 ghost use Rattle.bl_early.specs.Form.{is_early};
 ghost use Rattle.bl_io.specs.Count.{NeverFell};
 ghost use Rattle.bl_stream.specs.Streams.{course_of};
-ghost use Rattle.bl_top.specs.Notes.{line_in};
-ghost use Rattle.bl_top.specs.Reads.{ReadsTwo, source_limit};
+ghost use Rattle.bl_top.specs.Calls.{Output};
+ghost use Rattle.bl_top.specs.inner.Outcomes.{line_in};
+ghost use Rattle.bl_top.specs.Reads.{Reads, files_read};
 ghost use Rattle.bl_top.specs.Run.{RunEnds};
 ghost use Rattle.bl_top.specs.Traces.{HasCourse};
+ghost use Rattle.bl_words.specs.Jobs.{run};
 
 use crate::emitted::c_file;
 use crate::outcome::Outcome;
@@ -30,14 +31,18 @@ pub fn run<F: Files, O: Sink>(
     files: &mut F,
     out: &mut O,
 ) -> Outcome
-    ensures ends { RunEnds (record {
+    ensures ends { (notes : Output) → RunEnds (record {
       left = F.left files.old;
+      rest = F.left files.new;
       file = λ name. record { before = F.faults files.old name; after = F.faults files.new name };
-      out = record { before = O.faults out.old; after = O.faults out.new };
-      before = O.held out.old;
-      after = O.held out.new;
+      out = record {
+        faults = record { before = O.faults out.old; after = O.faults out.new };
+        before = O.held out.old;
+        after = O.held out.new;
+      };
+      notes = notes;
     }) source.now rows.now result.status (line_in result) }
-    ensures reads { ReadsTwo source_limit source.now rows.now (F.left files.old) (F.left files.new) }
+    ensures reads { Reads (files_read (Some (run source.now rows.now))) (F.left files.old) (F.left files.new) }
     ensures file_counts { NeverFell (F.faults files.old) (F.faults files.new) }
     ensures out_count { O.faults out.old ≤ O.faults out.new }
 {
@@ -56,7 +61,6 @@ fn runner_of(alloc: Global, program: &Program) -> Result<Runner, NoMemory>
     requires { is_early program.now.structs program.now.units ≡ true }
     ensures course { IfOk result (λ runner. HasCourse program.now.structs program.now.units program.now.entry (course_of runner.parts)) }
     ensures fresh { IfOk result (λ runner. runner ≡ loaded runner.parts) }
-    ensures runs { IfOk result (λ runner. Runs runner.parts) }
 {
     rows_of_bytes_fit();
     rows_of_lines_fit();

@@ -5,6 +5,8 @@
 #[cfg(test)]
 mod call;
 #[cfg(test)]
+mod cuts;
+#[cfg(test)]
 mod end;
 #[cfg(test)]
 mod faults;

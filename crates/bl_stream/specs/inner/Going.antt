@@ -1,22 +1,31 @@
 -- How a run stands between two pieces of its file, and how a piece leaves it.
-use Rattle.std.specs.Prelude.{◌≡◌, ◌⊎◌, ℕ, ◌+◌, ◌*◌, ◌≤◌, List, ◌++◌, length, Option, Some, None, IfSome, true, false}
+use Rattle.std.specs.Prelude.{◌≡◌, ◌⊎◌, ℕ, ◌+◌, ◌*◌, ◌≤◌, ℤ, Bool, List, ◌++◌, length, Option, Some, None, true, false}
 use Rattle.bl_tree.specs.declared.row.Column.{Column}
 use Rattle.bl_tree.specs.declared.row.Last.{Last}
 use Rattle.bl_tree.specs.declared.row.Last.TheVariants.{Open, Ended, Trap}
 use Rattle.bl_cmeaning.specs.Cells.{inputs_of, outputs_of}
 use Rattle.bl_cmeaning.specs.Parts.{Parts}
-use Rattle.bl_crun.specs.Running.{Running, loaded}
+use Rattle.bl_crun.specs.Running.{Running}
 use Rattle.bl_io.specs.Held.{Appends}
 use Rattle.bl_rows.specs.Reading.{Reading, begun, fault_in, led_by_rows, rows_after, rows_in, rows_of}
-use Rattle.bl_rows.specs.Text.{text_of}
 use Rattle.bl_rows.specs.declared.fault.RowFault.{RowFault}
-use Rattle.bl_stream.specs.inner.Courses.{after_rows}
-use Rattle.bl_stream.specs.Streams.{AppendsFront, Course, Streamed, course_of, finish_of, text_over, trace_over, trace_so_far}
+use Rattle.bl_stream.specs.Reports.{HasRun, after_rows, report_of}
+use Rattle.bl_stream.specs.Streams.{
+  AppendsFront,
+  HasRead,
+  Reported,
+  course_from,
+  finish_of,
+  last_over,
+  last_so_far,
+  report_over,
+}
 use Rattle.bl_stream.specs.declared.finish.Finish.{Finish}
 use Rattle.bl_stream.specs.declared.finish.Finish.TheVariants as finish
-use Rattle.bl_stream.specs.declared.left.Left.{Left}
-use Rattle.bl_stream.specs.declared.left.Left.TheVariants as left
-use Rattle.bl_stream.specs.declared.pace.Pace.{Pace}
+use Rattle.bl_stream.specs.declared.finish.Progress.{Progress}
+use Rattle.bl_stream.specs.declared.finish.Progress.TheVariants as progress
+use Rattle.bl_stream.specs.declared.ticks.Report.{Report}
+use Rattle.bl_stream.specs.declared.pieces.Session.{Session}
 
 -- a reader that has read these bytes, in which there is no fault
 pub record HasFed (ins : List Column) (read : List ℕ) (reader : Reading) : Type 0 where
@@ -34,49 +43,64 @@ reach reader = reader.at.lines * 65537 + length reader.line
 abbrev pub most_reach : ℕ
 most_reach = 1000000 * 65537 + 65536
 
--- these bytes were read, their rows have run, and the text of their trace was written
-pub record Stands (file : Parts) (read : List ℕ) (before : Option (List ℕ)) (p : Pace) (r : Running) (now : Option (List ℕ)) : Type 0 where
-  pub fed : HasFed (inputs_of file) read p.reader
-  pub runs : r ≡ after_rows (loaded file) (rows_in (begun (inputs_of file)) read)
+-- where a live runner stands: the numbers of its cells, and whether its start hasn't trapped
+pub record Start : Type 0 where
+  pub cells : List ℤ
+  pub ready : Bool
+
+-- a live runner of a file from there on
+abbrev pub runner_at : Start → Parts → Running
+runner_at start file = record { parts = file; cells = start.cells; ready = start.ready; live = true }
+
+abbrev pub start_of : Running → Start
+start_of r = record { cells = r.cells; ready = r.ready }
+
+-- these bytes were read, their rows have run, and what is written of them was written
+pub record Stands (report : Report) (start : Start) (file : Parts) (read : List ℕ) (before : Option (List ℕ)) (s : Session) (r : Running)
+    (now : Option (List ℕ)) : Type 0 where
+  pub fed : HasFed (inputs_of file) read s.reader
+  pub runs : r ≡ after_rows (runner_at start file) (rows_in (begun (inputs_of file)) read)
   pub parts : r.parts ≡ file
   pub live : r.live ≡ true
-  pub low : p.reader.at.lines ≤ 1000000
-  pub short : length p.reader.line ≤ 65536
-  pub running : (trace_so_far (course_of file) read).last ≡ Open
-  pub done : p.ticks.done ≡ length (rows_in (begun (inputs_of file)) read)
-  pub outputs : length p.ticks.outputs ≡ length (outputs_of file)
-  pub written : Appends before (text_of (trace_so_far (course_of file) read) (outputs_of file)) now
+  pub low : s.reader.at.lines ≤ 1000000
+  pub short : length s.reader.line ≤ 65536
+  pub running : last_so_far (course_from (runner_at start file)) read ≡ Open
+  pub done : s.ticks.done ≡ length (rows_in (begun (inputs_of file)) read)
+  pub reports : s.ticks.report ≡ report
+  pub outputs : length s.ticks.outputs ≡ length (outputs_of file)
+  pub written : Appends before (report_of report (runner_at start file) (rows_in (begun (inputs_of file)) read)) now
 
 -- how a run over these bytes ends
-pub data Ends (c : Course) (bytes : List ℕ) (before after : Option (List ℕ)) : Finish → Type 0 where
-  whole : {ended : Finish} → ended ≡ finish_of (trace_over c bytes).last (rows_of bytes c.ins).fault →
-      Appends before (text_over c bytes) after → Ends c bytes before after ended
+pub data Ends (report : Report) (first : Running) (bytes : List ℕ) (before after : Option (List ℕ)) (now : Running) : Finish → Type 0 where
+  whole : {ended : Finish} →
+      ended ≡ finish_of (last_over (course_from first) bytes) (rows_of bytes (inputs_of first.parts)).fault →
+      Appends before (report_over report first bytes) after → HasRun first (rows_of bytes (inputs_of first.parts)).rows now →
+      Ends report first bytes before after now ended
   stopped : {ended : Finish} → (ended ≡ finish.WriteFault) ⊎ (ended ≡ finish.NoMemory) →
-      AppendsFront before (text_over c bytes) after → Ends c bytes before after ended
+      AppendsFront before (report_over report first bytes) after → Ends report first bytes before after now ended
 
 -- how the rows of a piece leave a run: open, or over
-abbrev pub left_of : Last → Option RowFault → Left
-left_of Open None = left.Open
-left_of Open (Some fault) = left.Over (finish_of Open (Some fault))
-left_of Ended fault = left.Over finish.Done
-left_of Trap fault = left.Over finish.Trapped
+abbrev pub progress_of : Last → Option RowFault → Progress
+progress_of Open None = progress.Open
+progress_of Open (Some fault) = progress.Over (finish_of Open (Some fault))
+progress_of Ended fault = progress.Over finish.Done
+progress_of Trap fault = progress.Over finish.Trapped
 
 -- a piece with which these bytes are read has left the run so
-abbrev pub Leaves : Parts → List ℕ → Option (List ℕ) → Pace → Running → Option (List ℕ) → Left → Type 0
-Leaves file read before p r now left.Open = Stands file read before p r now
-Leaves file read before p r now (left.Over ended) = (rest : List ℕ) → Ends (course_of file) (read ++ rest) before now ended
-
--- these bytes of a file were read, where what was left of it is told
-abbrev pub HasRead : Option (List ℕ) → List ℕ → Option (List ℕ) → Type 0
-HasRead all read now = IfSome all (λ bytes. (rest : List ℕ) × ((bytes ≡ read ++ rest) × (now ≡ Some rest)))
+abbrev pub Leaves : Report → Start → Parts → List ℕ → Option (List ℕ) → Session → Running → Option (List ℕ) → Progress → Type 0
+Leaves report start file read before s r now progress.Open = Stands report start file read before s r now
+Leaves report start file read before s r now (progress.Over ended) =
+    (rest : List ℕ) → Ends report (runner_at start file) (read ++ rest) before now r ended
 
 -- a run that goes on, over a file of which so much is left
-pub record Going (file : Parts) (all before : Option (List ℕ)) (p : Pace) (r : Running) (left now : Option (List ℕ)) : Type 0 where
+pub record Going (report : Report) (start : Start) (file : Parts) (all before : Option (List ℕ)) (s : Session) (r : Running)
+    (left now : Option (List ℕ)) : Type 0 where
   pub read : List ℕ
   pub has_read : HasRead all read left
-  pub stands : Stands file read before p r now
+  pub stands : Stands report start file read before s r now
 
 -- a piece of the file has left the run so
-abbrev pub GoesOrEnds : Parts → Option (List ℕ) → Option (List ℕ) → Pace → Running → Option (List ℕ) → Option (List ℕ) → Left → Type 0
-GoesOrEnds file all before p r rest now left.Open = Going file all before p r rest now
-GoesOrEnds file all before p r rest now (left.Over ended) = Streamed (course_of file) all before now ended
+abbrev pub GoesOrEnds : Report → Start → Parts → Option (List ℕ) → Option (List ℕ) → Session → Running → Option (List ℕ) → Option (List ℕ) →
+    Progress → Type 0
+GoesOrEnds report start file all before s r rest now progress.Open = Going report start file all before s r rest now
+GoesOrEnds report start file all before s r rest now (progress.Over ended) = Reported report (runner_at start file) all rest before now r ended

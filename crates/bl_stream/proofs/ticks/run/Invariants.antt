@@ -7,11 +7,12 @@ use Rattle.bl_stream.proofs.ticks.run.Given as goal
 abbrev pub invariant-rows : goal.invariant-rows
 invariant-rows l = record {
   onward :
-      Onward (outputs_of l.initial.runner.parts) l.initial.runner l.rows l.initial.ticks.done l.initial.text.items l.runner
+      Onward l.initial.ticks.report l.initial.runner l.rows l.initial.ticks.done l.initial.text.items l.runner
       (drop l.row-index l.rows) l.ticks.done l.text.items;
   parts : l.runner.parts ≡ l.initial.runner.parts;
   live : l.runner.live ≡ true;
   fit : RowsFit (inputs_of l.initial.runner.parts) (drop l.row-index l.rows);
   long : length l.ticks.outputs ≡ length (outputs_of l.initial.runner.parts);
+  report : l.ticks.report ≡ l.initial.ticks.report;
   done : l.ticks.done ≡ l.initial.ticks.done + l.row-index;
 }

@@ -1,6 +1,6 @@
 -- The file is loaded, unless memory is wanting, and has the program's trace.
 use Rattle.bl_cmeaning.specs.Parts.{parts_of}
-use Rattle.bl_top.proofs.Courses.{course_of_parts, loaded_fresh, loaded_parts, loaded_runs, wants_memory}
+use Rattle.bl_top.proofs.Courses.{course_of_parts, loaded_fresh, loaded_parts, wants_memory}
 use Rattle.bl_top.proofs.run.runner_of.Goals as goal
 
 pub returns-in-Ok-clause-course : goal.returns-in-Ok-clause-course
@@ -11,9 +11,6 @@ returns-in-Ok-clause-course c =
 
 pub returns-in-Ok-clause-fresh : goal.returns-in-Ok-clause-fresh
 returns-in-Ok-clause-fresh c = loaded_fresh c.in-Ok.runner (parts_of c.in_ok-file.file) c.in-Ok.ensures.loaded
-
-pub returns-in-Ok-clause-runs : goal.returns-in-Ok-clause-runs
-returns-in-Ok-clause-runs c = loaded_runs c.in-Ok.runner (parts_of c.in_ok-file.file) c.in-Ok.ensures.loaded c.in-Ok.ensures.runs
 
 pub wanting-requires : goal.wanting-requires
 wanting-requires c =

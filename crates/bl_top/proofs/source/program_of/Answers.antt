@@ -1,8 +1,10 @@
 -- Why a job stops at its source, and what is left of it.
 use Rattle.std.proofs.Common.{Err, ap, subst}
-use Rattle.bl_top.specs.Refusals.{IsRefusalOf}
-use Rattle.bl_top.specs.Sources.{HasProgram}
-use Rattle.bl_top.proofs.Cuts.{reads_up_to}
+use Rattle.bl_rules.specs.Accepted.{HasProgram}
+use Rattle.bl_rules.specs.Rules.{Fails}
+use Rattle.bl_tree.specs.Rules.{IsCause}
+use Rattle.bl_top.specs.Reads.{source_limit}
+use Rattle.bl_top.proofs.Cuts.{further_from_up_to}
 use Rattle.bl_top.proofs.Fronts.{is_built, stops_refused, stops_short, stops_unbuilt, stops_unread}
 use Rattle.bl_top.proofs.source.program_of.Goals as goal
 
@@ -15,23 +17,29 @@ returns-in-Err-NoMemory-clause-stopped g c = stops_short _ _ _ _ c.plain-in-Err-
 pub returns-in-Err-clause-stopped : goal.returns-in-Err-clause-stopped
 returns-in-Err-clause-stopped g c =
     stops_refused _ c.in-Ok.bytes.items _ _ c.in-Err.refusal _ c.in-Ok.ensures.front
-    (subst (λ text. IsRefusalOf text c.in-Err.refusal) c.deref.ensures.value c.in-Err.ensures.refused) c.refused.ensures
+    (subst (λ text. IsCause (Fails text) c.in-Err.refusal) c.deref.ensures.value c.in-Err.ensures.cause) c.refused.ensures
 
-pub returns-in-Err-clause-reads : goal.returns-in-Err-clause-reads
-returns-in-Err-clause-reads g c = reads_up_to _ _ _ _ c.in-Ok.bytes.items c.in-Ok.ensures.front c.read_up_to.ensures.others
+pub returns-in-Err-clause-further : goal.returns-in-Err-clause-further
+returns-in-Err-clause-further g c =
+    further_from_up_to source_limit (g.F.Files.left c.args.files.now c.args.source.now) c.in-Ok.bytes.items
+    (g.F.Files.left c.read_up_to.new.files c.args.source.now) c.in-Ok.ensures.front
 
 pub returns-then-is_early-clause-program : goal.returns-then-is_early-clause-program
 returns-then-is_early-clause-program g c =
-    is_built _ c.in-Ok.bytes.items _ c.in-Ok-judged.program c.in-Ok.ensures.front
-    (subst (λ text. HasProgram text c.in-Ok-judged.program) c.deref.ensures.value c.in-Ok-judged.ensures.accepted) (cc)
+    is_built _ c.in-Ok.bytes.items _ c.in-Ok-accept.accepted.program c.in-Ok.ensures.front
+    (subst (λ text. HasProgram text c.in-Ok-accept.accepted.program) c.deref.ensures.value c.in-Ok-accept.ensures.program) (cc)
 
-pub returns-then-is_early-clause-reads : goal.returns-then-is_early-clause-reads
-returns-then-is_early-clause-reads g c = reads_up_to _ _ _ _ c.in-Ok.bytes.items c.in-Ok.ensures.front c.read_up_to.ensures.others
+pub returns-then-is_early-clause-further : goal.returns-then-is_early-clause-further
+returns-then-is_early-clause-further g c =
+    further_from_up_to source_limit (g.F.Files.left c.args.files.now c.args.source.now) c.in-Ok.bytes.items
+    (g.F.Files.left c.read_up_to.new.files c.args.source.now) c.in-Ok.ensures.front
 
 pub returns-clause-stopped : goal.returns-clause-stopped
 returns-clause-stopped g c =
-    stops_unbuilt _ c.in-Ok.bytes.items _ _ c.in-Ok-judged.program _ _ c.in-Ok.ensures.front
-    (subst (λ text. HasProgram text c.in-Ok-judged.program) c.deref.ensures.value c.in-Ok-judged.ensures.accepted) (cc) (cc)
+    stops_unbuilt _ c.in-Ok.bytes.items _ _ c.in-Ok-accept.accepted.program _ _ c.in-Ok.ensures.front
+    (subst (λ text. HasProgram text c.in-Ok-accept.accepted.program) c.deref.ensures.value c.in-Ok-accept.ensures.program) (cc) (cc)
 
-pub returns-clause-reads : goal.returns-clause-reads
-returns-clause-reads g c = reads_up_to _ _ _ _ c.in-Ok.bytes.items c.in-Ok.ensures.front c.read_up_to.ensures.others
+pub returns-clause-further : goal.returns-clause-further
+returns-clause-further g c =
+    further_from_up_to source_limit (g.F.Files.left c.args.files.now c.args.source.now) c.in-Ok.bytes.items
+    (g.F.Files.left c.read_up_to.new.files c.args.source.now) c.in-Ok.ensures.front

@@ -2,7 +2,7 @@ use Rattle.std.proofs.Common.{ap, ◌∙◌}
 use Rattle.bl_cmeaning.specs.Cells.{inputs_of}
 use Rattle.bl_rows.specs.Reading.{begun, rows_of}
 use Rattle.bl_stream.proofs.Readers.{fed-first}
-use Rattle.bl_stream.proofs.streaming.first_pace.Goals as goal
+use Rattle.bl_stream.proofs.streaming.first_session.Goals as goal
 
 pub returns-clause-fed : goal.returns-clause-fed
 returns-clause-fed c =

@@ -1,0 +1,9 @@
+pub mod Lists
+pub mod Exprs
+pub mod Stmts
+pub mod Judged
+pub mod Bodies
+pub mod Faults
+pub mod Runs
+pub mod Files
+pub mod Texts

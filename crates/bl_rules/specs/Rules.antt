@@ -1,0 +1,53 @@
+-- How a source text fails the rules, all of them in one relation, and the first rule that fails.
+use Rattle.std.specs.Prelude.{ℕ, List, length}
+use Rattle.bl_effects.specs.Rules.{Fails as UnitsFail}
+use Rattle.bl_lex.specs.Rules.{Fails as TextFails, Passes as TextPasses}
+use Rattle.bl_lex.specs.Tokens.{Lexes}
+use Rattle.bl_parse.specs.Programs.{Spells}
+use Rattle.bl_program.specs.Programs.{named_of, typed_of}
+use Rattle.bl_raw.specs.declared.raw.Raw.{Raw}
+use Rattle.bl_scopes.specs.Rules.{Fails as NamesFail, Passes as NamesPass}
+use Rattle.bl_syntax.specs.Rules.{Fails as TokensFail, Passes as TokensPass}
+use Rattle.bl_tree.specs.declared.place.Place.{Place}
+use Rattle.bl_tree.specs.declared.rule.Rule.{Rule}
+use Rattle.bl_tree.specs.declared.token.Token.{Token}
+use Rattle.bl_tree.specs.Rules.{FailsFirst, Passes as NoneOf}
+use Rattle.bl_types.specs.Rules.{Fails as TypesFail, Passes as TypesPass}
+
+-- the tokens of the text keep the rules Depth and Syntax and spell the tree
+pub record Parses (text : List ℕ) (raw : Raw) : Type 0 where
+  pub tokens : List Token
+  pub lexes : Lexes text tokens
+  pub passes : TokensPass tokens
+  pub spells : Spells text tokens raw
+
+-- the rule fails for a tree at the place, with the further places. Rules are judged in layers, each on what the layers before it make
+-- where none of their rules fails. Twice, Cycle, Frames and Cells aren't decided yet: no tree fails them
+pub data TreeFails (raw : Raw) (rule : Rule) (at : Place) (also : List Place) : Type 0 where
+  -- one of Duplicate, Unknown and Kind, on the tree
+  in_names : NamesFail raw.items rule at also → TreeFails raw rule at also
+  -- one of Type, Literal, Immutable, Constant, Arity, Prev, Return, Where and Entry, on the tree with declarations for its names
+  in_types : NamesPass raw.items → TypesFail (named_of raw) rule at also → TreeFails raw rule at also
+  -- one of Pause, Conflict, Alias and Instant, on the units with their types
+  in_units : NamesPass raw.items → TypesPass (named_of raw) → UnitsFail (typed_of raw).units rule at also → TreeFails raw rule at also
+
+-- none of these rules fails for a tree
+abbrev pub TreePasses : Raw → Type 0
+TreePasses raw = NoneOf (TreeFails raw)
+
+-- the rule fails for a text at the place, with the further places
+pub data Fails (text : List ℕ) (rule : Rule) (at : Place) (also : List Place) : Type 0 where
+  -- one of Size, Lex and Profile, on the bytes
+  in_bytes : TextFails text rule at also → Fails text rule at also
+  -- one of Depth and Syntax, on the tokens
+  in_tokens : (tokens : List Token) → TextPasses text → Lexes text tokens → TokensFail (length text) tokens rule at also → Fails text rule at also
+  -- one of the others, on the tree
+  in_tree : (raw : Raw) → TextPasses text → Parses text raw → TreeFails raw rule at also → Fails text rule at also
+
+-- no rule decided so far fails for a text
+abbrev pub Passes : List ℕ → Type 0
+Passes text = NoneOf (Fails text)
+
+-- the rule of the least number that fails for a text, at its first place; its further places come first too, where they are no walk
+abbrev pub FirstFailing : List ℕ → Rule → Place → List Place → Type 0
+FirstFailing text = FailsFirst (Fails text)

@@ -1,0 +1,31 @@
+//! Laws of the rules, each the contract of a function that does nothing.
+
+ghost use Rattle.std.specs.Prelude.{◌≡◌, false, ℕ, List};
+ghost use Rattle.bl_raw.specs.declared.raw.Raw.{Raw};
+ghost use Rattle.bl_rules.specs.Accepted.{HasTree};
+ghost use Rattle.bl_rules.specs.Rules.{FirstFailing, Passes, TreePasses};
+ghost use Rattle.bl_tree.specs.declared.place.Place.{Place};
+ghost use Rattle.bl_tree.specs.declared.rule.Rule.{Rule};
+ghost use Rattle.bl_tree.specs.Rules.{tells_walk};
+
+use bl_lex::laws::tokens_are_one;
+use bl_parse_laws::spelled::a_text_has_one_tree;
+
+/// A text has at most one first failing rule, with one place; its further places are determined too, unless they are a
+/// walk, of which there are many. A text that passes has none.
+pub fn first_failing_is_one()
+    ensures one { (text : List ℕ) (rule other : Rule) (place elsewhere : Place) (also further : List Place)
+        → FirstFailing text rule place also → FirstFailing text other elsewhere further → (rule ≡ other) × (place ≡ elsewhere) }
+    ensures further { (text : List ℕ) (rule other : Rule) (place elsewhere : Place) (also further : List Place)
+        → FirstFailing text rule place also → FirstFailing text other elsewhere further → tells_walk rule ≡ false → also ≡ further }
+    ensures none { (text : List ℕ) (rule : Rule) (place : Place) (also : List Place) → Passes text → ¬ FirstFailing text rule place also }
+{}
+
+/// A text that is accepted has one tree, which passes.
+pub fn an_accepted_text_has_one_tree()
+    ensures one { (text : List ℕ) (raw other : Raw) → HasTree text raw → HasTree text other → raw ≡ other }
+    ensures passes { (text : List ℕ) (raw : Raw) → HasTree text raw → TreePasses raw }
+{
+    tokens_are_one();
+    a_text_has_one_tree();
+}

@@ -1,0 +1,16 @@
+//! The rules decided so far, from Size to Instant, decided together. `accept` answers Ok exactly where none of them
+//! fails for a text, with its program, and else names the first that fails, at its first place (`specs/Rules.antt`,
+//! `FirstFailing`); want of memory aside. How a text fails a rule is one relation, `Fails`, over the judges of the
+//! layers: each judges what the layers before it make where none of their rules fails. `accept_raw` does the same of a
+//! tree, with the rules from Duplicate on.
+//!
+//! Laws: a text has at most one first failing rule, with one place, and one that passes has none; it has at most one
+//! tree.
+#![tactic(auto)]
+
+mod judge;
+pub mod laws;
+mod program;
+
+pub use judge::{accept, accept_raw};
+pub use program::Accepted;

@@ -1,0 +1,10 @@
+-- How a tick leaves a run.
+use Rattle.bl_tree.specs.declared.row.Last.{Last}
+use Rattle.bl_tree.specs.declared.row.Last.TheVariants as last
+use Rattle.bl_crun.specs.declared.tick.Tick.{Tick}
+use Rattle.bl_crun.specs.declared.tick.Tick.TheVariants as tick
+
+abbrev pub last_by : Tick → Last
+last_by tick.Row = last.Open
+last_by tick.Ended = last.Ended
+last_by tick.Trap = last.Trap
