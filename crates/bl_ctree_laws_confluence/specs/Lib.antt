@@ -1,1 +1,5 @@
 pub mod Deeds
+pub mod Homes
+pub mod Nesting
+pub mod Orderly
+pub mod Origins

@@ -34,7 +34,7 @@ use Rattle.bl_ctree_laws_stores.specs.Stores.{FramesKeepOthers, PutsCommute, Put
 
 -- ---- one element of a list is changed
 
-abbrev changed : {A : Type 0} → ℕ → (A → A) → List A → List A
+abbrev pub changed : {A : Type 0} → ℕ → (A → A) → List A → List A
 changed k h [] = []
 changed zero h (x ∷ xs) = h x ∷ xs
 changed (suc k) h (x ∷ xs) = x ∷ changed k h xs
@@ -62,7 +62,7 @@ changed_alike k h g [] same = refl
 changed_alike zero h g (x ∷ xs) same = ap (λ y. y ∷ xs) (same x)
 changed_alike (suc k) h g (x ∷ xs) same = ap (λ all. x ∷ all) (changed_alike k h g xs same)
 
-changes_commute : {A : Type 0} (j k : ℕ) (h g : A → A) (xs : List A) → (j ≡ k → (x : A) → h (g x) ≡ g (h x)) →
+pub changes_commute : {A : Type 0} (j k : ℕ) (h g : A → A) (xs : List A) → (j ≡ k → (x : A) → h (g x) ≡ g (h x)) →
     changed j h (changed k g xs) ≡ changed k g (changed j h xs)
 changes_commute j k h g [] same = refl
 changes_commute zero zero h g (x ∷ xs) same = ap (λ y. y ∷ xs) (same refl x)
@@ -88,7 +88,7 @@ replaced {A} k p xs = by_old (slice_get xs k) refl
 -- ---- a part of a value
 
 -- the value with the new one at the fields, where they lead to one
-abbrev with_put : List ℕ → Value → Value → Value
+abbrev pub with_put : List ℕ → Value → Value → Value
 with_put fields new value = unwrap_or (with_value_at fields new value) value
 
 abbrev on_parts : (List Value → List Value) → Value → Value
@@ -155,11 +155,11 @@ first_no : (a b : Bool) → (a || b) ≡ false → a ≡ false
 first_no true b e = absurd cc
 first_no false b e = refl
 
-second_no : (a b : Bool) → (a || b) ≡ false → b ≡ false
+pub second_no : (a b : Bool) → (a || b) ≡ false → b ≡ false
 second_no true b e = absurd cc
 second_no false b e = e
 
-rest_no : (a b : Bool) → (a && b) ≡ false → a ≡ true → b ≡ false
+pub rest_no : (a b : Bool) → (a && b) ≡ false → a ≡ true → b ≡ false
 rest_no true b e is = e
 rest_no false b e is = absurd cc
 
@@ -177,10 +177,10 @@ field_puts_commute (f ∷ fs) (g ∷ gs) v u value e h =
 
 -- ---- the store
 
-abbrev frame_put : Location → Value → Frame → Frame
+abbrev pub frame_put : Location → Value → Frame → Frame
 frame_put at v frame = record frame { now = changed at.path.root (with_put at.path.fields v) frame.now }
 
-put_is : (at : Location) (v : Value) (store : Store) → put at v store ≡ changed at.instance (frame_put at v) store
+pub put_is : (at : Location) (v : Value) (store : Store) → put at v store ≡ changed at.instance (frame_put at v) store
 put_is at v store =
     ap (λ o. unwrap_or o store) (by_frame (slice_get store at.instance))
     ∙ replaced at.instance (λ frame. option_map (λ now. record frame { now = now }) (put_at at.path.root at.path.fields v frame.now)) store
@@ -218,7 +218,7 @@ puts_commute a b v u store apart =
 -- ---- what is elsewhere
 
 -- what a test of elements shows of one that is perhaps the changed one
-seen_changed : {A B : Type 0} (q : A → Option B) (k j : ℕ) (h : A → A) (xs : List A) → (j ≡ k → (x : A) → q (h x) ≡ q x) →
+pub seen_changed : {A B : Type 0} (q : A → Option B) (k j : ℕ) (h : A → A) (xs : List A) → (j ≡ k → (x : A) → q (h x) ≡ q x) →
     option_and_then q (slice_get (changed k h xs) j) ≡ option_and_then q (slice_get xs j)
 seen_changed q k j h [] same = refl
 seen_changed q zero zero h (x ∷ xs) same = same refl x
@@ -276,7 +276,7 @@ puts_keep_others = record { now = now_elsewhere; before = before_kept; results =
 
 -- ---- frames
 
-frame_is : (i : ℕ) (change : Frame → Frame) (store : Store) → with_frame i change store ≡ changed i change store
+pub frame_is : (i : ℕ) (change : Frame → Frame) (store : Store) → with_frame i change store ≡ changed i change store
 frame_is i change store = by_frame (slice_get store i) refl
   where
     by_frame : (frame : Option Frame) → slice_get store i ≡ frame →
@@ -284,7 +284,7 @@ frame_is i change store = by_frame (slice_get store i) refl
     by_frame None e = sym (changed_none i change store e)
     by_frame (Some frame) e = sym (changed_some i change store frame (change frame) e refl)
 
-no_way : {A : Type 0} (b : Bool) → b ≡ false → b ≡ true → A
+pub no_way : {A : Type 0} (b : Bool) → b ≡ false → b ≡ true → A
 no_way true e f = absurd cc
 no_way false e f = absurd cc
 

@@ -1,3 +1,4 @@
 pub mod Changes
 pub mod Homes
+pub mod Remembering
 pub mod Views

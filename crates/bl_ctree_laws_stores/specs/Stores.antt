@@ -9,7 +9,7 @@ use Rattle.bl_tree.specs.Effects.{reads, writes}
 use Rattle.bl_tree.specs.Static.{mentions}
 use Rattle.bl_ctree.specs.Actions.{outcome_there, result_at, value_there}
 use Rattle.bl_ctree.specs.Instances.{Setting}
-use Rattle.bl_ctree.specs.Store.{Frame, Location, Store, home, homes, overlap, put, value_among, view_at, whole_of, with_frame}
+use Rattle.bl_ctree.specs.Store.{Frame, Location, Store, home, homes, overlap, put, remember, value_among, view_at, whole_of, with_frame}
 use Rattle.bl_eval_laws_local.specs.Local.{Alike, LeftAlike, SameAt, named_by}
 
 -- the values of a frame now
@@ -79,3 +79,15 @@ pub record FramesKeepOthers : Type 0 where
       value_among values (with_frame i change store) b ≡ value_among values store b
   pub results : (i j : ℕ) (change : Frame → Frame) (store : Store) → nat_eq i j ≡ false →
       result_at (with_frame i change store) j ≡ result_at store j
+
+-- that a declared variable had before what it has now is set in either order with what is put elsewhere and with what other
+-- variables had before, and leaves all values, all results and what other variables had before
+pub record RememberingKeepsOthers : Type 0 where
+  pub puts : (i k : ℕ) (a : Location) (v : Value) (store : Store) → overlap a (whole_of i k) ≡ false →
+      with_frame i (remember k) (put a v store) ≡ put a v (with_frame i (remember k) store)
+  pub order : (i k j l : ℕ) (store : Store) → overlap (whole_of i k) (whole_of j l) ≡ false →
+      with_frame i (remember k) (with_frame j (remember l) store) ≡ with_frame j (remember l) (with_frame i (remember k) store)
+  pub now : (i k : ℕ) (b : Location) (store : Store) → value_among now_of (with_frame i (remember k) store) b ≡ value_among now_of store b
+  pub before : (i k : ℕ) (b : Location) (store : Store) → overlap (whole_of i k) b ≡ false →
+      value_among before_of (with_frame i (remember k) store) b ≡ value_among before_of store b
+  pub results : (i k j : ℕ) (store : Store) → result_at (with_frame i (remember k) store) j ≡ result_at store j

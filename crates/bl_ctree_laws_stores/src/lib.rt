@@ -5,7 +5,7 @@
 #![tactic(auto)]
 
 ghost use Rattle.bl_ctree_laws_stores.specs.Stores.{FramesKeepOthers, HomesLeadOn, OutcomesThereAreLocal, PutsCommute};
-ghost use Rattle.bl_ctree_laws_stores.specs.Stores.{PutsKeepOthers, ValuesThereAreLocal, ViewsAreLocal};
+ghost use Rattle.bl_ctree_laws_stores.specs.Stores.{PutsKeepOthers, RememberingKeepsOthers, ValuesThereAreLocal, ViewsAreLocal};
 
 /// Expressions and acts of an instance look at nothing but homes of what they read and write.
 pub fn stores_are_local()
@@ -24,4 +24,9 @@ pub fn puts_commute()
 /// A change of one frame is done in either order with what is done to other instances.
 pub fn frames_keep_others()
     ensures { FramesKeepOthers }
+{}
+
+/// What a declared variable had before is set in either order with what is done to other variables.
+pub fn declarations_keep_others()
+    ensures { RememberingKeepsOthers }
 {}

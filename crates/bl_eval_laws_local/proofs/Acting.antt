@@ -59,46 +59,46 @@ left_set paths (Some xs) (Some ys) left = alike_set paths xs ys left
 
 -- ---- what a statement reads and writes, by its kind
 
-abbrev Kind : Type 0
+abbrev pub Kind : Type 0
 Kind = StmtKind-F StmtKind Arm Branch Stmt
 
-abbrev Paths : Type 0
+abbrev pub Paths : Type 0
 Paths = StmtKind-F (List Static) (List Static) (List Static) (List Static)
 
-abbrev read_parts : Kind → Paths
+abbrev pub read_parts : Kind → Paths
 read_parts = map-StmtKind StmtKind Arm Branch Stmt (List Static) (List Static) (List Static) (List Static)
     (fold-StmtKind (List Static) (List Static) (List Static) (List Static) kind_reads arm_reads branch_paths stmt_set)
     (fold-Arm (List Static) (List Static) (List Static) (List Static) kind_reads arm_reads branch_paths stmt_set)
     (fold-Branch (List Static) (List Static) (List Static) (List Static) kind_reads arm_reads branch_paths stmt_set)
     reads
 
-abbrev written_parts : Kind → Paths
+abbrev pub written_parts : Kind → Paths
 written_parts = map-StmtKind StmtKind Arm Branch Stmt (List Static) (List Static) (List Static) (List Static)
     (fold-StmtKind (List Static) (List Static) (List Static) (List Static) kind_writes arm_writes branch_paths stmt_set)
     (fold-Arm (List Static) (List Static) (List Static) (List Static) kind_writes arm_writes branch_paths stmt_set)
     (fold-Branch (List Static) (List Static) (List Static) (List Static) kind_writes arm_writes branch_paths stmt_set)
     writes
 
-abbrev kind_of : Stmt → Kind
+abbrev pub kind_of : Stmt → Kind
 kind_of s = out-StmtKind (out-Stmt s).what
 
-reads_out : (s : Stmt) → reads s ≡ set_of (kind_reads (read_parts (kind_of s)))
+pub reads_out : (s : Stmt) → reads s ≡ set_of (kind_reads (read_parts (kind_of s)))
 reads_out s =
     fold_out-Stmt (List Static) (List Static) (List Static) (List Static) kind_reads arm_reads branch_paths stmt_set s
     ∙ ap set_of (fold_out-StmtKind (List Static) (List Static) (List Static) (List Static) kind_reads arm_reads branch_paths stmt_set (out-Stmt s).what)
 
-writes_out : (s : Stmt) → writes s ≡ set_of (kind_writes (written_parts (kind_of s)))
+pub writes_out : (s : Stmt) → writes s ≡ set_of (kind_writes (written_parts (kind_of s)))
 writes_out s =
     fold_out-Stmt (List Static) (List Static) (List Static) (List Static) kind_writes arm_writes branch_paths stmt_set s
     ∙ ap set_of (fold_out-StmtKind (List Static) (List Static) (List Static) (List Static) kind_writes arm_writes branch_paths stmt_set (out-Stmt s).what)
 
-abbrev named_parts : Kind → StmtKind-F Naming Naming Naming Naming
+abbrev pub named_parts : Kind → StmtKind-F Naming Naming Naming Naming
 named_parts = map-StmtKind StmtKind Arm Branch Stmt Naming Naming Naming Naming
     (fold-StmtKind Naming Naming Naming Naming stmt_kind_naming arm_naming branch_naming stmt_layer_naming)
     (fold-Arm Naming Naming Naming Naming stmt_kind_naming arm_naming branch_naming stmt_layer_naming)
     (fold-Branch Naming Naming Naming Naming stmt_kind_naming arm_naming branch_naming stmt_layer_naming) naming_of
 
-naming_out : (s : Stmt) → naming_of s ≡ stmt_kind_naming (named_parts (kind_of s))
+pub naming_out : (s : Stmt) → naming_of s ≡ stmt_kind_naming (named_parts (kind_of s))
 naming_out s =
     fold_out-Stmt Naming Naming Naming Naming stmt_kind_naming arm_naming branch_naming stmt_layer_naming s
     ∙ fold_out-StmtKind Naming Naming Naming Naming stmt_kind_naming arm_naming branch_naming stmt_layer_naming (out-Stmt s).what
