@@ -1,11 +1,10 @@
 -- What is run of a program has the program's one trace.
 use Rattle.std.proofs.Common.{◌≡◌, ℕ, ℤ, List, refl, sym, ap, ◌∙◌, subst, arith}
 use Rattle.std.specs.Prelude.{◌<◌, ◌≤◌, Option, Some, None}
-use Rattle.bl_cmeaning.specs.Cells.{inputs_of as file_inputs}
 use Rattle.bl_cmeaning.specs.Faults.{WellFormed, first_fault, first_place}
 use Rattle.bl_cmeaning.specs.Parts.{Parts, parts_of}
 use Rattle.bl_cmeaning.specs.Sizes.{cells_needed}
-use Rattle.bl_cmeaning.specs.Trace.{c_trace}
+use Rattle.bl_cmeaning_laws_places.specs.Behaviour.{Behaviour, behaviour_of}
 use Rattle.bl_crun.specs.Cause.{IsCause}
 use Rattle.bl_crun.specs.Running.{Running, loaded}
 use Rattle.bl_crun.specs.declared.fault.LoadFault.{LoadFault}
@@ -16,9 +15,9 @@ use Rattle.bl_rows.specs.Text.{text_of}
 use Rattle.bl_stream.specs.Streams.{Course, course_of}
 use Rattle.bl_program.specs.Programs.{typed_of}
 use Rattle.bl_top.proofs.Fronts.{tree_built}
-use Rattle.bl_top.specs.inner.Programs.{IsBuilt}
+use Rattle.bl_top.specs.inner.Programs.{HasOneTrace, IsBuilt}
 use Rattle.bl_top.specs.Sources.{RunsAs}
-use Rattle.bl_top.specs.Traces.{HasCourse, OneTrace}
+use Rattle.bl_top.specs.Traces.{HasCourse, OneTrace, course_by}
 use Rattle.bl_tree.specs.Ports.{RowsFit, input_columns}
 use Rattle.bl_tree.specs.declared.place.Place.{Place}
 use Rattle.bl_tree.specs.declared.program.Program.{Program}
@@ -31,27 +30,37 @@ use Rattle.bl_tree.specs.declared.tree.Unit.{Unit as UnitDef}
 columns_fit : (columns wanted : List Column) (rows : List (List ℤ)) → columns ≡ wanted → RowsFit columns rows → RowsFit wanted rows
 columns_fit columns wanted rows same fit = subst (λ cs. RowsFit cs rows) same fit
 
--- ---- a program's file as a course
+-- the rows of any bytes fit the columns that they are read for, and so do those of whole lines
+abbrev pub BytesFit : Type 0
+BytesFit = (bytes : List ℕ) (columns : List Column) → RowsFit columns (rows_of bytes columns).rows
 
-pub course_of_parts : (structs : List StructDef) (units : List UnitDef) (entry : ℕ) (file : CFile) (ready : Parts) →
-    ready ≡ parts_of file → OneTrace structs units entry file →
-    ((bytes : List ℕ) (columns : List Column) → RowsFit columns (rows_of bytes columns).rows) →
-    ((bytes : List ℕ) (columns : List Column) → RowsFit columns (rows_in (begun columns) bytes)) → HasCourse structs units entry (course_of ready)
-course_of_parts structs units entry file ready same is fit so_far = subst (λ p. HasCourse structs units entry (course_of p)) (sym same) (record {
+abbrev pub LinesFit : Type 0
+LinesFit = (bytes : List ℕ) (columns : List Column) → RowsFit columns (rows_in (begun columns) bytes)
+
+-- ---- what behaves as a program, as a course
+
+pub course_of_behaviour : (structs : List StructDef) (units : List UnitDef) (entry : ℕ) (behaviour : Behaviour) →
+    OneTrace structs units entry behaviour → BytesFit → LinesFit → HasCourse structs units entry (course_by behaviour)
+course_of_behaviour structs units entry behaviour is fit so_far = record {
   unit = is.unit;
   is_entry = is.is_entry;
   inputs = is.inputs;
-  trace = c_trace (parts_of file);
+  trace = behaviour.trace;
   one = is.trace;
   stands = λ rows. refl;
-  shows = λ rows. ap (text_of (c_trace (parts_of file) rows)) is.outputs;
-  fit = λ bytes. columns_fit (file_inputs (parts_of file)) (input_columns is.unit) (rows_of bytes (file_inputs (parts_of file))).rows
-      is.inputs (fit bytes (file_inputs (parts_of file)));
-  fit_so_far = λ bytes. columns_fit (file_inputs (parts_of file)) (input_columns is.unit) (rows_in (begun (file_inputs (parts_of file))) bytes)
-      is.inputs (so_far bytes (file_inputs (parts_of file)));
+  shows = λ rows. ap (text_of (behaviour.trace rows)) is.outputs;
+  fit = λ bytes. columns_fit behaviour.inputs (input_columns is.unit) (rows_of bytes behaviour.inputs).rows is.inputs (fit bytes behaviour.inputs);
+  fit_so_far = λ bytes. columns_fit behaviour.inputs (input_columns is.unit) (rows_in (begun behaviour.inputs) bytes) is.inputs
+      (so_far bytes behaviour.inputs);
   bounded = is.bounded;
   never_stuck = is.never_stuck;
-})
+}
+
+pub course_of_parts : (structs : List StructDef) (units : List UnitDef) (entry : ℕ) (file : CFile) (ready : Parts) →
+    ready ≡ parts_of file → HasOneTrace structs units entry file → BytesFit → LinesFit → HasCourse structs units entry (course_of ready)
+course_of_parts structs units entry file ready same is fit so_far =
+    subst (λ parts. HasCourse structs units entry (course_of parts)) (sym same)
+    (course_of_behaviour structs units entry (behaviour_of (parts_of file)) is.one_trace fit so_far)
 
 -- the course of the program of a tree
 course_of_tree : (course : Course) (structs structs' : List StructDef) (units units' : List UnitDef) (entry entry' : ℕ) →
@@ -78,17 +87,17 @@ not_both : (found : Option Place) (at : Place) → found ≡ None → found ≡ 
 not_both found at none some = let e = sym none ∙ some in cc
 
 -- a well-formed file has no first fault
-faultless : (file : Parts) (at : Place) → WellFormed file → first_fault file ≡ Some at → ⊥
+pub faultless : (file : Parts) (at : Place) → WellFormed file → first_fault file ≡ Some at → ⊥
 faultless file at formed is = not_both (first_fault file) at (ap first_place formed.none) is
 
-not_large : (cells : ℕ) → 1000000 < cells → cells ≤ 1000000 → ⊥
+pub not_large : (cells : ℕ) → 1000000 < cells → cells ≤ 1000000 → ⊥
 not_large cells large small = omega (arith, large, small)
 
 pub wants_memory : (file : CFile) (structs : List StructDef) (units : List UnitDef) (entry : ℕ) (fault : LoadFault) →
-    OneTrace structs units entry file → IsCause (parts_of file) fault →
+    HasOneTrace structs units entry file → IsCause (parts_of file) fault →
     fault ≡ load.NoMemory
 wants_memory file structs units entry (load.IllFormed at) is cause = absurd (faultless (parts_of file) at is.well_formed cause)
-wants_memory file structs units entry (load.TooLarge cells) is cause = absurd (not_large (cells_needed (parts_of file)) cause.large is.small)
+wants_memory file structs units entry (load.TooLarge cells) is cause = absurd (not_large (cells_needed (parts_of file)) cause.large is.one_trace.small)
 wants_memory file structs units entry load.NoMemory is cause = refl
 
 -- ---- what was just loaded

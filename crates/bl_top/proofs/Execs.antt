@@ -3,10 +3,12 @@ use Rattle.std.proofs.Common.{◌≡◌, ◌≢◌, ◌∙◌, ℕ, ◌≤◌, �
 use Rattle.std.proofs.lemmas.Bool.{cases_lt}
 use Rattle.std.specs.Prelude.{Option}
 use Rattle.bl_cmeaning.specs.Parts.{Parts, parts_of}
+use Rattle.bl_cmeaning.specs.Sizes.{cells_needed}
 use Rattle.bl_cparse.specs.HasPlaces.{HasPlaces}
 use Rattle.bl_cparse.specs.Places.{LeavesPrelude, RefusesAt, RefusesNone, SpellsNone}
 use Rattle.bl_cparse.specs.declared.refusal.CRefusal.{CRefusal}
 use Rattle.bl_cparse.specs.declared.refusal.CRefusal.TheVariants as refusal
+use Rattle.bl_cmeaning_laws_places.specs.Behaviour.{Behaviour, behaviour_of}
 use Rattle.bl_crun.specs.Cause.{IsCause, Runs}
 use Rattle.bl_crun.specs.declared.fault.LoadFault.{LoadFault}
 use Rattle.bl_crun.specs.declared.fault.LoadFault.TheVariants as load
@@ -14,7 +16,6 @@ use Rattle.bl_ctext.specs.Prelude.{prelude}
 use Rattle.bl_ctext.specs.SpellsC.{SpellsC}
 use Rattle.bl_ctext.specs.declared.file.CFile.{CFile}
 use Rattle.bl_io.specs.Left.{GivesUpTo, IsKept}
-use Rattle.bl_stream.specs.Streams.{course_of}
 use Rattle.bl_top.specs.Calls.{Call, HasRisen}
 use Rattle.bl_top.specs.Exec.{
   ExecEnds,
@@ -35,6 +36,7 @@ use Rattle.bl_top.specs.inner.Outcomes.{IsEndAtLoad, IsEndAtText, IsTold, chosen
 use Rattle.bl_top.specs.Notes.{not_subset_line, too_large_line}
 use Rattle.bl_top.specs.Reads.{LeftBehind, longest_text, text_limit}
 use Rattle.bl_top.specs.Rows.{Streams}
+use Rattle.bl_top.specs.Traces.{course_by}
 use Rattle.bl_top.specs.declared.outcome.Outcome.{Outcome}
 use Rattle.bl_top.specs.declared.status.Status.{Status}
 use Rattle.bl_top.specs.declared.status.Status.TheVariants as status
@@ -86,10 +88,12 @@ file_rejected text file (load.TooLarge cells) outcome fits spells placed cause i
 file_rejected text file load.NoMemory outcome fits spells placed cause is = rw is no_memory
 
 pub file_loads : (text : List ℕ) (file : CFile) (ready : Parts) → length text ≤ longest_text → SpellsC file text →
-    HasPlaces text file → Runs (parts_of file) → ready ≡ parts_of file → Loads text ready
+    HasPlaces text file → Runs (parts_of file) → ready ≡ parts_of file → Loads text (behaviour_of ready)
 file_loads text file ready fits spells placed runs same = record {
-  has = record { short = fits; spelled = file; spells = spells; placed = placed; parts = same };
-  runs = subst Runs (sym same) runs;
+  file = parts_of file;
+  has = has_file text file fits spells placed;
+  behaves = record { file = file; spells = spells; well_formed = runs.formed; is = ap behaviour_of same };
+  small = subst (λ parts. cells_needed parts ≤ 1000000) (sym same) runs.small;
 }
 
 -- ---- fronts of a text
@@ -105,8 +109,8 @@ whole_rejects whole got front _ _ (ill_formed file at has is) = rw (short_whole 
 whole_rejects whole got front _ _ (too_many_cells file cells has is) = rw (short_whole whole got front has.short) (too_many_cells file cells has is)
 whole_rejects whole got front _ _ no_memory = no_memory
 
-whole_loads : (whole got : List ℕ) (file : Parts) → got ≡ take text_limit whole → Loads got file → Loads whole file
-whole_loads whole got file front loads = subst (λ t. Loads t file) (sym (short_whole whole got front loads.has.short)) loads
+whole_loads : (whole got : List ℕ) (behaviour : Behaviour) → got ≡ take text_limit whole → Loads got behaviour → Loads whole behaviour
+whole_loads whole got behaviour front loads = subst (λ t. Loads t behaviour) (sym (short_whole whole got front loads.has.short)) loads
 
 -- ---- the command
 
@@ -118,15 +122,16 @@ exec_rejected c text rows got after ended line read because kept =
     (λ whole front. whole_rejects whole got front ended line because) in
     rejected some.0 some.1.0 some.1.1 kept
 
-pub exec_ran : (c : Call) (text rows : Word) (got : List ℕ) (file : Parts) (between : Word → Option (List ℕ)) (second : ℕ)
+pub exec_ran : (c : Call) (text rows : Word) (got : List ℕ) (behaviour : Behaviour) (between : Word → Option (List ℕ)) (second : ℕ)
     (ended : Status) (line : List ℕ) → GivesUpTo text_limit (c.left text) got (between text) →
-    Loads got file → LeftBehind text_limit text c.left between → (c.file rows).before ≤ second →
-    Streams (course_of file) (between rows) (c.rest rows) (record { before = second; after = (c.file rows).after }) c.out ended
+    Loads got behaviour → LeftBehind text_limit text c.left between → (c.file rows).before ≤ second →
+    Streams (course_by behaviour) (between rows) (c.rest rows) (record { before = second; after = (c.file rows).after }) c.out ended
     line → ExecEnds c text rows ended line
-exec_ran c text rows got file between second ended line read loads behind below streams =
-    let some = sourced text_limit (λ t. Loads t file) (c.left text) got (between text) read loads (λ whole front. whole_loads whole got file front loads) in
-    ran some.0 file some.1.0 some.1.1 between behind
-    (streams_from (course_of file) (between rows) (c.rest rows) (c.file rows).before second (c.file rows).after c.out ended line below streams)
+exec_ran c text rows got behaviour between second ended line read loads behind below streams =
+    let some = sourced text_limit (λ t. Loads t behaviour) (c.left text) got (between text) read loads
+    (λ whole front. whole_loads whole got behaviour front loads) in
+    ran some.0 behaviour some.1.0 some.1.1 between behind
+    (streams_from (course_by behaviour) (between rows) (c.rest rows) (c.file rows).before second (c.file rows).after c.out ended line below streams)
 
 pub exec_unread : (c : Call) (text rows : Word) (ended : Status) (own : List ℕ) → ended ≡ status.ReadFault →
     HasRisen (c.file text) → IsKept c.out.before c.out.after → ExecEnds c text rows ended (chosen_line ended own)

@@ -1,3 +1,5 @@
+pub mod Alike
+pub mod Builds
 pub mod Courses
 pub mod Cuts
 pub mod Ends

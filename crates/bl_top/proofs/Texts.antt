@@ -30,6 +30,7 @@ use Rattle.bl_cmeaning.specs.Sizes.{cells_needed}
 use Rattle.bl_cmeaning.specs.Trace.{c_trace}
 use Rattle.bl_cmeaning.specs.Cells.{inputs_of as file_inputs, outputs_of as file_outputs}
 use Rattle.bl_cmeaning.specs.Faults.{WellFormed}
+use Rattle.bl_cmeaning_laws_places.specs.Behaviour.{behaviour_of}
 use Rattle.bl_ctext.specs.declared.file.CFile.{CFile}
 use Rattle.bl_ctree.specs.Means.{Means, Shown, shown}
 use Rattle.bl_early.specs.Built.{loop_steps}
@@ -44,6 +45,7 @@ use Rattle.bl_tree.specs.declared.tree.Var.{Var}
 use Rattle.bl_tree.specs.Ports.{RowsFit, columns_of, input_columns, row_fits}
 use Rattle.bl_tree.specs.Program.{Keeps, is_entry}
 use Rattle.bl_tree.specs.Typing.{inputs_of}
+use Rattle.bl_top.specs.inner.Programs.{HasOneTrace}
 use Rattle.bl_top.specs.Traces.{OneTrace}
 
 -- ---- tests
@@ -102,11 +104,10 @@ file_is unit file structs funcs = rw (structs, funcs) refl
 one_trace : (unit : UnitDef) (entry : ℕ) (file : CFile) → Early [] (unit ∷ []) entry unit (loop_steps unit) →
     file.structs ≡ c_structs_of (unit ∷ []) → file.funcs ≡ c_funcs_of (unit ∷ []) →
     EarlyHasOneTrace → EarlyIsBounded → EarlyIsNeverStuck → WrittenTrace (unit ∷ []) → WrittenColumns (unit ∷ []) →
-    WrittenWellFormed (unit ∷ []) → WrittenIsSmall (unit ∷ []) → OneTrace [] (unit ∷ []) entry file
-one_trace unit entry file early structs funcs one bounded stuck has columns formed small = record {
+    WrittenIsSmall (unit ∷ []) → OneTrace [] (unit ∷ []) entry (behaviour_of (parts_of file))
+one_trace unit entry file early structs funcs one bounded stuck has columns small = record {
   unit = unit;
   is_entry = early.is_entry;
-  well_formed = subst WellFormed (sym (file_is unit file structs funcs)) formed;
   small = subst (λ parts. cells_needed parts ≤ 1000000) (sym (file_is unit file structs funcs)) small;
   inputs = ap file_inputs (file_is unit file structs funcs) ∙ columns.inputs;
   outputs = ap file_outputs (file_is unit file structs funcs) ∙ columns.outputs;
@@ -131,9 +132,12 @@ pub file_of_parts : (file : CFile) (structs : List StructDef) (units : List Unit
     is_early structs units ≡ true →
     file.structs ≡ c_structs_of units → file.funcs ≡ c_funcs_of units →
     EarlyHasOneTrace → EarlyIsBounded → EarlyIsNeverStuck → WrittenTrace units → WrittenColumns units → WrittenWellFormed units →
-    WrittenIsSmall units → OneTrace structs units entry file
+    WrittenIsSmall units → HasOneTrace structs units entry file
 file_of_parts file (def ∷ structs) units entry keeps form s f one bounded stuck has columns formed small = absurd cc
 file_of_parts file [] [] entry keeps form s f one bounded stuck has columns formed small = absurd cc
 file_of_parts file [] (unit ∷ other ∷ rest) entry keeps form s f one bounded stuck has columns formed small = absurd cc
 file_of_parts file [] (unit ∷ []) entry keeps form s f one bounded stuck has columns formed small =
-    one_trace unit entry file (early_of unit entry keeps form) s f one bounded stuck has columns formed small
+    record {
+      well_formed = subst WellFormed (sym (file_is unit file s f)) formed;
+      one_trace = one_trace unit entry file (early_of unit entry keeps form) s f one bounded stuck has columns small;
+    }

@@ -2,20 +2,22 @@
 use Rattle.std.specs.Prelude.{◌≡◌, ◌≢◌, ℕ, ◌<◌, ◌≤◌, List, ◌++◌, length, Option, Some}
 use Rattle.bl_cmeaning.specs.Faults.{first_fault}
 use Rattle.bl_cmeaning.specs.Parts.{Parts, parts_of}
+use Rattle.bl_cmeaning_laws_places.specs.Behaviour.{Behaviour}
+use Rattle.bl_cmeaning_laws_places.specs.Bytes.{Behaves}
 use Rattle.bl_cparse.specs.HasPlaces.{HasPlaces}
 use Rattle.bl_cparse.specs.Places.{Leaves, SpellsNone}
-use Rattle.bl_crun.specs.Cause.{IsTooLarge, Runs}
+use Rattle.bl_crun.specs.Cause.{IsTooLarge}
 use Rattle.bl_csyntax.specs.Rules.{FailsFirst}
 use Rattle.bl_ctext.specs.declared.file.CFile.{CFile}
 use Rattle.bl_ctext.specs.Prelude.{prelude}
 use Rattle.bl_ctext.specs.SpellsC.{SpellsC}
 use Rattle.bl_io.specs.Left.{IsKept}
-use Rattle.bl_stream.specs.Streams.{course_of}
 use Rattle.bl_top.specs.Calls.{Call, HasRisen}
 use Rattle.bl_top.specs.Notes.{line_of, not_subset_line, too_large_line}
 use Rattle.bl_top.specs.Reads.{LeftBehind, longest_text, text_limit}
 use Rattle.bl_top.specs.Rows.{Streams}
 use Rattle.bl_top.specs.Sources.{IsSource}
+use Rattle.bl_top.specs.Traces.{course_by}
 use Rattle.bl_top.specs.declared.status.Status.{Status}
 use Rattle.bl_top.specs.declared.status.Status.TheVariants as status
 use Rattle.bl_tree.specs.declared.place.Place.{Place}
@@ -37,10 +39,12 @@ pub record HasFile (text : List ℕ) (file : Parts) : Type 0 where
   pub placed : HasPlaces text spelled
   pub parts : file ≡ parts_of spelled
 
--- and it can be loaded
-pub record Loads (text : List ℕ) (file : Parts) : Type 0 where
+-- a text that has a file behaves so, and needs no more cells than can be loaded
+pub record Loads (text : List ℕ) (behaviour : Behaviour) : Type 0 where
+  pub file : Parts
   pub has : HasFile text file
-  pub runs : Runs file
+  pub behaves : Behaves text behaviour
+  pub small : behaviour.needed ≤ 1000000
 
 -- why a text isn't run, with the status and the line
 pub data Rejects (text : List ℕ) : Status → List ℕ → Type 0 where
@@ -53,9 +57,9 @@ pub data Rejects (text : List ℕ) : Status → List ℕ → Type 0 where
 -- the status with which a C text is run over a file of rows, and the lines for `notes`
 pub data ExecEnds (c : Call) (text rows : Word) : Status → List ℕ → Type 0 where
   -- over the rows that are left once the text was read
-  ran : {ended : Status} {line : List ℕ} (bytes : List ℕ) (file : Parts) → IsSource (c.left text) bytes → Loads bytes file →
+  ran : {ended : Status} {line : List ℕ} (bytes : List ℕ) (behaviour : Behaviour) → IsSource (c.left text) bytes → Loads bytes behaviour →
       (between : Word → Option (List ℕ)) → LeftBehind text_limit text c.left between →
-      Streams (course_of file) (between rows) (c.rest rows) (c.file rows) c.out ended line → ExecEnds c text rows ended line
+      Streams (course_by behaviour) (between rows) (c.rest rows) (c.file rows) c.out ended line → ExecEnds c text rows ended line
   rejected : {ended : Status} {line : List ℕ} (bytes : List ℕ) → IsSource (c.left text) bytes → Rejects bytes ended line →
       IsKept c.out.before c.out.after → ExecEnds c text rows ended line
   unread : HasRisen (c.file text) → IsKept c.out.before c.out.after → ExecEnds c text rows status.ReadFault (line_of status.ReadFault)

@@ -1,5 +1,6 @@
 pub mod Answers
 pub mod Build
+pub mod Built
 pub mod Calls
 pub mod Exec
 pub mod inner

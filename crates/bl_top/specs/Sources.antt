@@ -1,7 +1,7 @@
 -- What is known of the source of a job: its tree, its program, and what is written for it.
 use Rattle.std.specs.Prelude.{◌≡◌, ℕ, false, List, Option, IfSome}
-use Rattle.bl_ctext.specs.declared.file.CFile.{CFile}
-use Rattle.bl_ctext.specs.SpellsC.{SpellsC}
+use Rattle.bl_cmeaning_laws_places.specs.Behaviour.{Behaviour}
+use Rattle.bl_cmeaning_laws_places.specs.Bytes.{Behaves}
 use Rattle.bl_early.specs.Form.{is_early}
 use Rattle.bl_program.specs.Programs.{typed_of}
 use Rattle.bl_raw.specs.declared.raw.Raw.{Raw}
@@ -21,12 +21,12 @@ pub record IsTreeOf (left : Option (List ℕ)) (raw : Raw) : Type 0 where
   pub of_source : IsSource left source
   pub has : HasTree source raw
 
--- the bytes spell a C file that has the one trace of the program with these structs, these units and this entry. The files that bytes
--- spell differ in places alone; that all of them have this trace isn't said here
+-- the bytes spell a well-formed C file and behave as it does, and have the one trace of the program with these structs, these units and
+-- this entry
 pub record IsTextOfParts (structs : List StructDef) (units : List UnitDef) (entry : ℕ) (text : List ℕ) : Type 0 where
-  pub file : CFile
-  pub spells : SpellsC file text
-  pub one_trace : OneTrace structs units entry file
+  pub behaviour : Behaviour
+  pub behaves : Behaves text behaviour
+  pub one_trace : OneTrace structs units entry behaviour
 
 -- the bytes are a C text of the program of a source
 pub record IsTextOf (left : Option (List ℕ)) (text : List ℕ) : Type 0 where

@@ -1,11 +1,6 @@
 -- That what is written for a program, and what is run of it, has the trace of the program.
 use Rattle.std.specs.Prelude.{◌≡◌, ◌↔◌, ◌≤◌, ℕ, ℤ, List, Some, slice_get}
-use Rattle.bl_cmeaning.specs.Cells.{inputs_of, outputs_of}
-use Rattle.bl_cmeaning.specs.Faults.{WellFormed}
-use Rattle.bl_cmeaning.specs.Parts.{parts_of}
-use Rattle.bl_cmeaning.specs.Sizes.{cells_needed}
-use Rattle.bl_cmeaning.specs.Trace.{c_trace}
-use Rattle.bl_ctext.specs.declared.file.CFile.{CFile}
+use Rattle.bl_cmeaning_laws_places.specs.Behaviour.{Behaviour}
 use Rattle.bl_ctree.specs.Means.{Means, Shown, shown}
 use Rattle.bl_ctree.specs.Reaches.{Bounded, NeverStuck}
 use Rattle.bl_rows.specs.Reading.{begun, rows_in, rows_of}
@@ -16,22 +11,29 @@ use Rattle.bl_tree.specs.declared.tree.StructDef.{StructDef}
 use Rattle.bl_tree.specs.declared.tree.Unit.{Unit as UnitDef}
 use Rattle.bl_tree.specs.Ports.{RowsFit, input_columns, output_columns}
 
--- a program has one trace, and a C file has it
-pub record OneTrace (structs : List StructDef) (units : List UnitDef) (entry : ℕ) (file : CFile) : Type 0 where
+-- a program has one trace, and a C file that behaves so has it
+pub record OneTrace (structs : List StructDef) (units : List UnitDef) (entry : ℕ) (behaviour : Behaviour) : Type 0 where
   pub unit : UnitDef
   pub is_entry : slice_get units entry ≡ Some unit
-  -- the file is well formed and needs no more cells than can be loaded, and its inputs and outputs are those of the entry
-  pub well_formed : WellFormed (parts_of file)
-  pub small : cells_needed (parts_of file) ≤ 1000000
-  pub inputs : inputs_of (parts_of file) ≡ input_columns unit
-  pub outputs : outputs_of (parts_of file) ≡ output_columns unit
+  -- the file needs no more cells than can be loaded, and its inputs and outputs are those of the entry
+  pub small : behaviour.needed ≤ 1000000
+  pub inputs : behaviour.inputs ≡ input_columns unit
+  pub outputs : behaviour.outputs ≡ output_columns unit
   -- over all rows that fit its inputs the parallel meaning allows the trace of the C file, and no other
   pub trace : (rows : List (List ℤ)) (shows : Shown) → RowsFit (input_columns unit) rows →
-      Means structs units entry rows shows ↔ (shows ≡ shown (c_trace (parts_of file) rows))
+      Means structs units entry rows shows ↔ (shows ≡ shown (behaviour.trace rows))
   -- no list of steps within a tick is longer than the number of the program's steps
   pub bounded : Bounded structs units entry
   -- and where no point may act nothing is left to do
   pub never_stuck : NeverStuck structs units entry
+
+-- the course that runs a C file which behaves so, and shows its trace
+abbrev pub course_by : Behaviour → Course
+course_by behaviour = record {
+  ins = behaviour.inputs;
+  last = λ rows. (behaviour.trace rows).last;
+  text = λ rows. text_of (behaviour.trace rows) behaviour.outputs;
+}
 
 -- a program has one trace, and a course runs it and shows its text
 pub record HasCourse (structs : List StructDef) (units : List UnitDef) (entry : ℕ) (course : Course) : Type 0 where

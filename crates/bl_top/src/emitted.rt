@@ -2,7 +2,7 @@
 
 ghost use Rattle.std.specs.Prelude.{◌≡◌, true, IfOk};
 ghost use Rattle.bl_early.specs.Form.{is_early};
-ghost use Rattle.bl_top.specs.Traces.{OneTrace};
+ghost use Rattle.bl_top.specs.inner.Programs.{HasOneTrace};
 
 use bl_ctext::CFile;
 use bl_early::emit;
@@ -16,7 +16,7 @@ use std::alloc::Global;
 /// The C file of a program of the form.
 pub fn c_file(alloc: Global, program: &Program) -> Result<CFile, NoMemory>
     requires { is_early program.now.structs program.now.units ≡ true }
-    ensures { IfOk result (OneTrace program.now.structs program.now.units program.now.entry) }
+    ensures { IfOk result (HasOneTrace program.now.structs program.now.units program.now.entry) }
 {
     early_programs_have_one_trace();
     early_ticks_end();

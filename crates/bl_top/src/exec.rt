@@ -1,6 +1,7 @@
 //! The command `exec C ROWS`.
 
 ghost use Rattle.std.specs.Prelude.{◌≡◌, ◌≤◌, length, IfErr, IfOk, Some};
+ghost use Rattle.bl_cmeaning_laws_places.specs.Behaviour.{behaviour_of};
 ghost use Rattle.bl_crun.specs.Running.{loaded};
 ghost use Rattle.bl_io.specs.Count.{NeverFell};
 ghost use Rattle.bl_top.specs.Calls.{Output};
@@ -58,7 +59,7 @@ pub fn exec<F: Files, O: Sink>(
 /// The file that a text spells, loaded, or how the job ends.
 fn runner_of(alloc: Global, text: &[u8]) -> Result<Runner, Outcome>
     requires { length text.now ≤ text_limit }
-    ensures loads { IfOk result (λ runner. Loads text.now runner.parts) }
+    ensures loads { IfOk result (λ runner. Loads text.now (behaviour_of runner.parts)) }
     ensures fresh { IfOk result (λ runner. runner ≡ loaded runner.parts) }
     ensures rejected { IfErr result (λ outcome. Rejects text.now outcome.status (line_in outcome)) }
 {

@@ -2,15 +2,19 @@
 //! of the job grew on `notes`, that of the status last (`specs/Answers.antt`, `Answered`). Each way in which a job ends
 //! comes with its whole cause and with what grew on `out`: `specs/Build.antt`, `specs/Run.antt` and `specs/Exec.antt`, a
 //! file for each command. At a source that isn't accepted nothing grew on `out`, and a refusal names the first rule that
-//! fails for its bytes (`specs/Refusals.antt`, `Stops`). What `build` writes has the one trace of the source's program,
-//! and what `run` shows is the text of it (`specs/Traces.antt`, `OneTrace` and `HasCourse`). No file is read but those
-//! that the words name, each within its limit (`specs/Reads.antt`, `Reads`). docs/THEOREM.md leads through it.
+//! fails for its bytes (`specs/Refusals.antt`, `Stops`). The bytes that `build` writes have the one trace of the source's
+//! program, and what `run` shows is the text of it (`specs/Traces.antt`, `OneTrace` and `HasCourse`). No file is read but
+//! those that the words name, each within its limit (`specs/Reads.antt`, `Reads`). docs/THEOREM.md leads through it.
+//!
+//! Laws: `exec` of a text that was built of a source, and isn't too long, ends by the one trace of the source's program
+//! (`specs/Built.antt`, `BuiltEnds`). Whatever runs a source ends alike over the same rows, and shows the same.
 #![tactic(auto)]
 
 mod build;
 mod call;
 mod emitted;
 mod exec;
+pub mod laws;
 mod notes;
 mod outcome;
 mod refusal;

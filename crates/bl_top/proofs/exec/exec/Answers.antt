@@ -1,5 +1,6 @@
 -- How the command ends, and what is left of its files.
 use Rattle.std.proofs.Common.{[], ◌∷◌, Err, ap, subst}
+use Rattle.bl_cmeaning_laws_places.specs.Behaviour.{behaviour_of}
 use Rattle.bl_top.specs.Exec.{Loads, Rejects}
 use Rattle.bl_top.specs.inner.Outcomes.{line_in}
 use Rattle.bl_top.specs.Reads.{rows_file, text_file, text_limit}
@@ -16,8 +17,8 @@ returns-in-Err-NoMemory-clause-ends g c = λ notes. exec_wants _ _ _ _ _ c.plain
 
 pub returns-in-Ok-runner_of-clause-ends : goal.returns-in-Ok-runner_of-clause-ends
 returns-in-Ok-runner_of-clause-ends g c = λ notes.
-    exec_ran _ _ _ c.in-Ok.bytes.items c.in-Ok-runner_of.runner.parts (g.F.Files.left c.read_up_to.new.files) _ _ _ c.in-Ok.ensures.front
-    (subst (λ text. Loads text c.in-Ok-runner_of.runner.parts) c.deref.ensures.value c.in-Ok-runner_of.ensures.loads)
+    exec_ran _ _ _ c.in-Ok.bytes.items (behaviour_of c.in-Ok-runner_of.runner.parts) (g.F.Files.left c.read_up_to.new.files) _ _ _ c.in-Ok.ensures.front
+    (subst (λ text. Loads text (behaviour_of c.in-Ok-runner_of.runner.parts)) c.deref.ensures.value c.in-Ok-runner_of.ensures.loads)
     (left_behind _ _ _ _ c.in-Ok.bytes.items c.in-Ok.ensures.front c.read_up_to.ensures.others) (c.read_up_to.ensures.counts _) c.run_over.ensures.streams
 
 pub returns-in-Ok-runner_of-clause-reads : goal.returns-in-Ok-runner_of-clause-reads
