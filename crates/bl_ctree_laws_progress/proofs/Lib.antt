@@ -1,0 +1,9 @@
+pub mod Acting
+pub mod Beginning
+pub mod Keeping
+pub mod Leading
+pub mod Paths
+pub mod Reaching
+pub mod Waiting
+pub mod Waking
+pub mod Writing

@@ -1,0 +1,5 @@
+pub mod Blocked
+pub mod Laws
+pub mod Live
+pub mod Places
+pub mod Reached
