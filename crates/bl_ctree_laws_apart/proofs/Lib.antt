@@ -1,0 +1,7 @@
+pub mod Calls
+pub mod Declared
+pub mod Forks
+pub mod Named
+pub mod Owned
+pub mod Parted
+pub mod Seen

@@ -1,0 +1,123 @@
+-- Deeds that are done in either order are those of two branches of one `cobegin`.
+use Rattle.std.proofs.Common.{◌⊎◌, inl, inr, ℕ, Bool, []}
+use Rattle.bl_nodes.specs.Plain.{Block, Bodies, Plain, Done, Then}
+use Rattle.bl_ctree.specs.Instances.{Setting}
+use Rattle.bl_ctree_laws.specs.Commutes.{
+  Apart,
+  ApartIn,
+  in_branches,
+  in_first,
+  in_others,
+  in_sequence,
+  left_right,
+  right_left,
+  under_guard,
+  under_run,
+}
+use Rattle.bl_ctree_laws.specs.Left.{
+  Left,
+  LeftEach,
+  LeftOf,
+  Stands,
+  ended,
+  here,
+  none_left,
+  nothing,
+  of_again,
+  of_else,
+  of_guard,
+  of_last,
+  of_one,
+  of_par,
+  of_repeat,
+  of_run,
+  of_then,
+  of_until,
+  of_while,
+  one_left,
+  paused,
+  tested,
+  there,
+  to_begin,
+}
+use Rattle.bl_ctree_laws.specs.Pending.{Deed}
+use Rattle.bl_ctree_laws.specs.Trees.{Tree, Trees, before}
+use Rattle.bl_ctree_laws_confluence.proofs.Accepted.{accepted_is_orderly}
+use Rattle.bl_ctree_laws_apart.specs.Forks.{EachFork, EachForkIn, EachForkInEach, KeepApart}
+use Rattle.bl_ctree_laws_apart.specs.Parted.{AcceptedKeepsApart, AllKeepApart, ApartIsTwoBranches, TwoBranches}
+use Rattle.bl_ctree_laws_apart.proofs.Forks.{branches_keep_apart_so}
+
+fork_at : {s : Plain} {rest body : Block} → Stands s rest body → EachForkIn KeepApart body → EachFork KeepApart s
+fork_at here forks = forks.0
+fork_at (there stands) forks = fork_at stands forks.1
+
+turned : (body : Block) (next : Plain) → EachForkIn KeepApart body → EachFork KeepApart next → EachForkIn KeepApart (before body (Then next Done))
+turned Done next forks last = (last, tt)
+turned (Then s body) next forks last = (forks.0, turned body next forks.1 last)
+
+module _ {w : Setting} (all : AllKeepApart w) where
+  mutual
+    parted : {stood : Bool} {i : ℕ} {body : Block} {c : Tree} {a b : Deed} → Left w stood i body c → Apart w i c a b → EachForkIn KeepApart body →
+        TwoBranches w a b ⊎ TwoBranches w b a
+    parted nothing two forks = elim two [ ]
+    parted (of_last stands of) two forks = parted_of of two (fork_at stands forks)
+    parted (of_one stands of busy) (in_sequence two) forks = parted_of of two (fork_at stands forks)
+
+    parted_of : {stood : Bool} {i : ℕ} {s : Plain} {c : Tree} {a b : Deed} → LeftOf w stood i s c → Apart w i c a b → EachFork KeepApart s →
+        TwoBranches w a b ⊎ TwoBranches w b a
+    parted_of to_begin two forks = elim two [ ]
+    parted_of ended two forks = elim two [ ]
+    parted_of paused two forks = elim two [ ]
+    parted_of tested two forks = elim two [ ]
+    parted_of (of_then left) two forks = parted left two forks.0
+    parted_of (of_else left) two forks = parted left two forks.1
+    parted_of (of_repeat {body = body} left) two forks = parted left two (turned body _ forks forks)
+    parted_of (of_until {body = body} left) two forks = parted left two (turned body _ forks forks)
+    parted_of (of_while {body = body} left) two forks = parted left two (turned body _ forks forks)
+    parted_of (of_again of) two forks = parted_of of two forks
+    parted_of (of_par kept each) (in_branches two) forks = parted_in each two forks.0 forks.1
+    parted_of (of_guard kept checked left) (under_guard two) forks = parted left two forks
+    parted_of (of_run {callee = callee} {unit = unit} begins is kept checked left) (under_run two) forks = parted left two (all callee unit is)
+
+    parted_in : {stood : Bool} {i : ℕ} {bodies : Bodies} {branches : Trees} {a b : Deed} → LeftEach w stood i bodies branches →
+        ApartIn w i branches a b → KeepApart bodies → EachForkInEach KeepApart bodies → TwoBranches w a b ⊎ TwoBranches w b a
+    parted_in none_left two apart forks = elim two [ ]
+    parted_in (one_left left each) (in_first two) apart forks = parted left two forks.0
+    parted_in (one_left left each) (in_others two) apart forks = parted_in each two apart.1 forks.1
+    parted_in {stood} {i} (one_left {weak = weak} {body = body} {bodies = rest} left each)
+        (left_right {c = c} {others = others} {d = d} {e = e} {n = n} {m = m} {c' = c'} {others' = others'} one unmet other unmet') apart forks = inl (record {
+          stood = stood;
+          instance = i;
+          weak = weak;
+          body = body;
+          rest = rest;
+          apart = apart;
+          tree = c;
+          others = others;
+          first = record { left = left; answer = d; label = n; after = c'; moves = one };
+          second = record { left = each; answer = e; label = m; after = others'; moves = other };
+          first_unmet = unmet;
+          second_unmet = unmet';
+        })
+    parted_in {stood} {i} (one_left {weak = weak} {body = body} {bodies = rest} left each)
+        (right_left {c = c} {others = others} {d = d} {e = e} {n = n} {m = m} {c' = c'} {others' = others'} other unmet' one unmet) apart forks = inr (record {
+          stood = stood;
+          instance = i;
+          weak = weak;
+          body = body;
+          rest = rest;
+          apart = apart;
+          tree = c;
+          others = others;
+          first = record { left = left; answer = e; label = m; after = c'; moves = one };
+          second = record { left = each; answer = d; label = n; after = others'; moves = other };
+          first_unmet = unmet;
+          second_unmet = unmet';
+        })
+
+pub apart_is_two_branches_so : ApartIsTwoBranches
+apart_is_two_branches_so w stood i body c a b all forks left two = parted all left two forks
+
+pub accepted_keeps_apart_so : AcceptedKeepsApart
+accepted_keeps_apart_so structs units entry keeps passes i unit is =
+    branches_keep_apart_so unit.body [] ((accepted_is_orderly structs units entry keeps passes).each i unit is).apart

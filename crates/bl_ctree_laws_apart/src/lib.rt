@@ -1,0 +1,53 @@
+//! What deeds of branches write apart from each other. Laws, as contracts of functions that do nothing: a deed stays inside the
+//! instance of its tree, and what it writes is seen in what its tree may still write, or lies in a call (`specs/Seen.antt`).
+//! A deed of what is left of a body is that of a statement of it, or lies in a call by one of its `run` statements (`specs/Owned.antt`),
+//! and what it names or declares the body does (`specs/Named.antt`).
+//! So no deed of one branch of a `cobegin` names what another branch declares (`specs/Forks.antt`),
+//! and steps that are done in either order are of two branches that keep so apart (`specs/Parted.antt`).
+#![tactic(auto)]
+
+ghost use Rattle.bl_ctree_laws_apart.specs.Forks.{BranchesKeepApart};
+ghost use Rattle.bl_ctree_laws_apart.specs.Named.{BodiesDeclareWhatTheyDo, BodiesNameWhatTheyDo};
+ghost use Rattle.bl_ctree_laws_apart.specs.Owned.{DeedsAreOfBodies};
+ghost use Rattle.bl_ctree_laws_apart.specs.Parted.{AcceptedKeepsApart, ApartIsTwoBranches};
+ghost use Rattle.bl_ctree_laws_apart.specs.Seen.{DeedsStayInside, WritesAreSeen};
+
+/// Where calls stand the instance of each deed of a tree is the tree's own, or is inside a call of it.
+pub fn deeds_stay_inside()
+    ensures { DeedsStayInside }
+{}
+
+/// There what overlaps a home that a deed writes is what its tree may still write, or the home lies in a call.
+pub fn writes_are_seen()
+    ensures { WritesAreSeen }
+{}
+
+/// A deed of what is left of a body is that of a statement of it, or is done inside a call by one of its `run` statements.
+pub fn deeds_are_of_bodies()
+    ensures { DeedsAreOfBodies }
+{}
+
+/// The variables that an effect of a statement in a body names are among those that the body names.
+pub fn bodies_name_what_they_do()
+    ensures { BodiesNameWhatTheyDo }
+{}
+
+/// And the variables that it declares are among those that the body declares.
+pub fn bodies_declare_what_they_do()
+    ensures { BodiesDeclareWhatTheyDo }
+{}
+
+/// Where statements keep apart no effect in one branch of a `cobegin` names what is declared in another.
+pub fn branches_keep_apart()
+    ensures { BranchesKeepApart }
+{}
+
+/// There steps of different branches are of two branches of one `cobegin`, and neither reads what the other's branch may still write.
+pub fn apart_is_two_branches()
+    ensures { ApartIsTwoBranches }
+{}
+
+/// In an accepted program the branches of each `cobegin` of a unit that has an instance keep apart.
+pub fn accepted_programs_keep_apart()
+    ensures { AcceptedKeepsApart }
+{}
