@@ -1,7 +1,10 @@
 pub mod Calls
 pub mod Declared
 pub mod Forks
+pub mod Frames
 pub mod Named
 pub mod Owned
 pub mod Parted
+pub mod Returns
+pub mod Running
 pub mod Seen

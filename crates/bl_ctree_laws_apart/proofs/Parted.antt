@@ -1,6 +1,25 @@
 -- Deeds that are done in either order are those of two branches of one `cobegin`.
 use Rattle.std.proofs.Common.{◌⊎◌, inl, inr, ℕ, Bool, []}
-use Rattle.bl_nodes.specs.Plain.{Block, Bodies, Plain, Done, Then}
+use Rattle.bl_nodes.specs.Plain.{
+  Block,
+  Bodies,
+  Plain,
+  Act,
+  Again,
+  Await,
+  Body as BodyOf,
+  Cobegin,
+  Done,
+  If,
+  Last,
+  Repeat,
+  Run as RunOf,
+  Then,
+  Until,
+  When,
+  While,
+  plain_body,
+}
 use Rattle.bl_ctree.specs.Instances.{Setting}
 use Rattle.bl_ctree_laws.specs.Commutes.{
   Apart,
@@ -44,26 +63,59 @@ use Rattle.bl_ctree_laws.specs.Pending.{Deed}
 use Rattle.bl_ctree_laws.specs.Trees.{Tree, Trees, before}
 use Rattle.bl_ctree_laws_confluence.proofs.Accepted.{accepted_is_orderly}
 use Rattle.bl_ctree_laws_apart.specs.Forks.{EachFork, EachForkIn, EachForkInEach, KeepApart}
-use Rattle.bl_ctree_laws_apart.specs.Parted.{AcceptedKeepsApart, AllKeepApart, ApartIsTwoBranches, TwoBranches}
+use Rattle.bl_ctree_laws_apart.specs.Parted.{AcceptedKeepsApart, AllKeepApart, ApartIsTwoBranches, StandApart, TwoBranches}
+use Rattle.bl_ctree_laws_apart.specs.Returns.{NoneReturns}
+use Rattle.bl_ctree_laws_apart.specs.Running.{RunApart}
 use Rattle.bl_ctree_laws_apart.proofs.Forks.{branches_keep_apart_so}
+use Rattle.bl_ctree_laws_apart.proofs.Returns.{accepted_returns_last_so}
+use Rattle.bl_ctree_laws_apart.proofs.Running.{accepted_runs_apart_so}
 
-fork_at : {s : Plain} {rest body : Block} → Stands s rest body → EachForkIn KeepApart body → EachFork KeepApart s
+rest_apart : (weak : Bool) (body : Block) (rest : Bodies) → StandApart (BodyOf weak body rest) → StandApart rest
+rest_apart weak body rest apart = (apart.0.1, ((λ some. apart.1.0 (inr some)), apart.1.1.1))
+
+-- ---- what holds of the branches of each `cobegin` one by one holds together
+
+module _ (P Q : Bodies → Type 0) where
+  mutual
+    both_of : (p : Plain) → EachFork P p → EachFork Q p → EachFork (λ bodies. P bodies × Q bodies) p
+    both_of (Act l s) one other = tt
+    both_of (Await l at e) one other = tt
+    both_of (RunOf l at target a inputs outputs) one other = tt
+    both_of (If l at e body otherwise) one other = (both_in body one.0 other.0, both_in otherwise one.1 other.1)
+    both_of (Cobegin l at bodies) one other = ((one.0, other.0), both_each bodies one.1 other.1)
+    both_of (When l at guard e body) one other = both_in body one other
+    both_of (Repeat l at body) one other = both_in body one other
+    both_of (Until l at body e) one other = both_in body one other
+    both_of (While l at e body) one other = both_in body one other
+    both_of (Again l at body e) one other = both_in body one other
+
+    both_in : (body : Block) → EachForkIn P body → EachForkIn Q body → EachForkIn (λ bodies. P bodies × Q bodies) body
+    both_in Done one other = tt
+    both_in (Then s rest) one other = (both_of s one.0 other.0, both_in rest one.1 other.1)
+
+    both_each : (bodies : Bodies) → EachForkInEach P bodies → EachForkInEach Q bodies → EachForkInEach (λ bodies. P bodies × Q bodies) bodies
+    both_each Last one other = tt
+    both_each (BodyOf weak body rest) one other = (both_in body one.0 other.0, both_each rest one.1 other.1)
+
+-- ---- steps of different branches
+
+fork_at : {s : Plain} {rest body : Block} → Stands s rest body → EachForkIn StandApart body → EachFork StandApart s
 fork_at here forks = forks.0
 fork_at (there stands) forks = fork_at stands forks.1
 
-turned : (body : Block) (next : Plain) → EachForkIn KeepApart body → EachFork KeepApart next → EachForkIn KeepApart (before body (Then next Done))
+turned : (body : Block) (next : Plain) → EachForkIn StandApart body → EachFork StandApart next → EachForkIn StandApart (before body (Then next Done))
 turned Done next forks last = (last, tt)
 turned (Then s body) next forks last = (forks.0, turned body next forks.1 last)
 
 module _ {w : Setting} (all : AllKeepApart w) where
   mutual
-    parted : {stood : Bool} {i : ℕ} {body : Block} {c : Tree} {a b : Deed} → Left w stood i body c → Apart w i c a b → EachForkIn KeepApart body →
+    parted : {stood : Bool} {i : ℕ} {body : Block} {c : Tree} {a b : Deed} → Left w stood i body c → Apart w i c a b → EachForkIn StandApart body →
         TwoBranches w a b ⊎ TwoBranches w b a
     parted nothing two forks = elim two [ ]
     parted (of_last stands of) two forks = parted_of of two (fork_at stands forks)
     parted (of_one stands of busy) (in_sequence two) forks = parted_of of two (fork_at stands forks)
 
-    parted_of : {stood : Bool} {i : ℕ} {s : Plain} {c : Tree} {a b : Deed} → LeftOf w stood i s c → Apart w i c a b → EachFork KeepApart s →
+    parted_of : {stood : Bool} {i : ℕ} {s : Plain} {c : Tree} {a b : Deed} → LeftOf w stood i s c → Apart w i c a b → EachFork StandApart s →
         TwoBranches w a b ⊎ TwoBranches w b a
     parted_of to_begin two forks = elim two [ ]
     parted_of ended two forks = elim two [ ]
@@ -80,10 +132,11 @@ module _ {w : Setting} (all : AllKeepApart w) where
     parted_of (of_run {callee = callee} {unit = unit} begins is kept checked left) (under_run two) forks = parted left two (all callee unit is)
 
     parted_in : {stood : Bool} {i : ℕ} {bodies : Bodies} {branches : Trees} {a b : Deed} → LeftEach w stood i bodies branches →
-        ApartIn w i branches a b → KeepApart bodies → EachForkInEach KeepApart bodies → TwoBranches w a b ⊎ TwoBranches w b a
+        ApartIn w i branches a b → StandApart bodies → EachForkInEach StandApart bodies → TwoBranches w a b ⊎ TwoBranches w b a
     parted_in none_left two apart forks = elim two [ ]
     parted_in (one_left left each) (in_first two) apart forks = parted left two forks.0
-    parted_in (one_left left each) (in_others two) apart forks = parted_in each two apart.1 forks.1
+    parted_in (one_left {weak = weak} {body = body} {bodies = rest} left each) (in_others two) apart forks =
+        parted_in each two (rest_apart weak body rest apart) forks.1
     parted_in {stood} {i} (one_left {weak = weak} {body = body} {bodies = rest} left each)
         (left_right {c = c} {others = others} {d = d} {e = e} {n = n} {m = m} {c' = c'} {others' = others'} one unmet other unmet') apart forks = inl (record {
           stood = stood;
@@ -120,4 +173,7 @@ apart_is_two_branches_so w stood i body c a b all forks left two = parted all le
 
 pub accepted_keeps_apart_so : AcceptedKeepsApart
 accepted_keeps_apart_so structs units entry keeps passes i unit is =
-    branches_keep_apart_so unit.body [] ((accepted_is_orderly structs units entry keeps passes).each i unit is).apart
+    both_in KeepApart (λ bodies. NoneReturns bodies × RunApart bodies) (plain_body unit.body)
+    (branches_keep_apart_so unit.body [] ((accepted_is_orderly structs units entry keeps passes).each i unit is).apart)
+    (both_in NoneReturns RunApart (plain_body unit.body) (accepted_returns_last_so structs units entry i unit keeps passes is)
+    (accepted_runs_apart_so structs units entry i unit keeps passes is))

@@ -31,7 +31,7 @@ use Rattle.std.proofs.Common.{
   eq-eqb,
   eqb-true,
 }
-use Rattle.std.specs.Prelude.{Contains, nat_eq, slice_get, slice_index_or}
+use Rattle.std.specs.Prelude.{nat_eq, slice_get, slice_index_or}
 use Rattle.std.specs.List.{list_any}
 use Rattle.bl_tree.specs.declared.static_path.Static.{Static}
 use Rattle.bl_tree.specs.declared.tree.StructDef.{StructDef}
@@ -186,13 +186,12 @@ module _ (structs : List StructDef) (units : List UnitDef) (entry : ℕ) (over :
       may_write W i (Run s callee Body stood c) over ≡ true
   output_seen i s callee stood c own at has moving is out o =
       let paths : List Static = map static_of s.arguments.outputs in
-      let contains : Contains paths out.output =
-      subst (λ outputs. Contains outputs out.output) (has out.instance out.origin out.there out.began) out.is_output in
       let leads : at ≡ home W (record { instance = i; path = longer out.output out.fields }) = sym is ∙ out.leads in
       let met : leads_over W i over out.output ≡ true =
       cut_home W i over out.output out.fields (subst (λ at. overlap over at ≡ true) leads o) in
       let some : list_any (leads_over W i over) paths ≡ true =
-      any_at (leads_over W i over) paths contains.0 out.output contains.1 contains.2 met in
+      has out.instance out.origin (leads_over W i over) out.there out.began
+      (any_at (leads_over W i over) out.origin.outputs out.is_output.0 out.output out.is_output.1 out.is_output.2 met) in
       and_both (not (is_settled (Run s callee Body stood c)))
       (list_any (leads_over W i over) paths || (may_end c && list_any (leads_over W i over) (target_static s.arguments.target)))
       (not_so (is_settled (Run s callee Body stood c)) moving)

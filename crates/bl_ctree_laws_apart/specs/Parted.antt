@@ -13,6 +13,12 @@ use Rattle.bl_ctree_laws.specs.Pending.{Deed, any_meets, meets}
 use Rattle.bl_ctree_laws.specs.Steps.{Moves, OneMoves, Unmet}
 use Rattle.bl_ctree_laws.specs.Trees.{Tree, Trees}
 use Rattle.bl_ctree_laws_apart.specs.Forks.{EachForkIn, KeepApart}
+use Rattle.bl_ctree_laws_apart.specs.Returns.{NoneReturns}
+use Rattle.bl_ctree_laws_apart.specs.Running.{RunApart}
+
+-- none names what another declares, none returns, and no two run at one place
+abbrev pub StandApart : Bodies → Type 0
+StandApart bodies = KeepApart bodies × (NoneReturns bodies × RunApart bodies)
 
 -- a step of what is left of a branch, which stands in the instance
 pub record Steps (w : Setting) (stood : Bool) (i : ℕ) (body : Block) (c : Tree) (a : Deed) : Type 0 where
@@ -37,7 +43,7 @@ pub record TwoBranches (w : Setting) (a b : Deed) : Type 0 where
   pub weak : Bool
   pub body : Block
   pub rest : Bodies
-  pub apart : KeepApart (BodyOf weak body rest)
+  pub apart : StandApart (BodyOf weak body rest)
   pub tree : Tree
   pub others : Trees
   pub first : Steps w stood instance body tree a
@@ -47,12 +53,12 @@ pub record TwoBranches (w : Setting) (a b : Deed) : Type 0 where
 
 -- in each unit that has an instance branches keep apart
 abbrev pub AllKeepApart : Setting → Type 0
-AllKeepApart w = (i : ℕ) (unit : UnitDef) → unit_at w i ≡ Some unit → EachForkIn KeepApart (plain_body unit.body)
+AllKeepApart w = (i : ℕ) (unit : UnitDef) → unit_at w i ≡ Some unit → EachForkIn StandApart (plain_body unit.body)
 
 -- then steps of different branches are of two branches of one `cobegin`, the one first or the other
 abbrev pub ApartIsTwoBranches : Type 0
 ApartIsTwoBranches =
-    (w : Setting) (stood : Bool) (i : ℕ) (body : Block) (c : Tree) (a b : Deed) → AllKeepApart w → EachForkIn KeepApart body →
+    (w : Setting) (stood : Bool) (i : ℕ) (body : Block) (c : Tree) (a b : Deed) → AllKeepApart w → EachForkIn StandApart body →
     Left w stood i body c → Apart w i c a b → TwoBranches w a b ⊎ TwoBranches w b a
 
 -- and in an accepted program all branches keep apart

@@ -1,5 +1,6 @@
 -- What a tree may still write covers what its deeds do write, but for what lies in its calls.
 use Rattle.std.specs.Prelude.{◌≡◌, ◌⊎◌, ℕ, Bool, true, List, map, Some, slice_get, ⊤}
+use Rattle.std.specs.List.{list_any}
 use Rattle.bl_tree.specs.declared.place.Place.{Place}
 use Rattle.bl_tree.specs.declared.static_path.Static.{Static}
 use Rattle.bl_tree.specs.declared.tree.StructDef.{StructDef}
@@ -16,10 +17,11 @@ use Rattle.bl_ctree_laws.specs.Trees.{Tree, Trees, Nil, Wait, Test, Idle, Do, Se
 use Rattle.bl_ctree_laws_confluence.specs.Deeds.{effect_writes}
 use Rattle.bl_ctree_laws_confluence.specs.Nesting.{Inside}
 
--- these are the outputs that the callee was begun with
+-- what is so of an output that the callee was begun with is so of one of these
 abbrev pub HasOutputs : Setting → ℕ → List Static → Type 0
 HasOutputs w callee outputs =
-    (instance : Instance) (origin : Origin) → slice_get w.instances callee ≡ Some instance → instance.origin ≡ Some origin → origin.outputs ≡ outputs
+    (instance : Instance) (origin : Origin) (test : Static → Bool) → slice_get w.instances callee ≡ Some instance → instance.origin ≡ Some origin →
+    list_any test origin.outputs ≡ true → list_any test outputs ≡ true
 
 abbrev mutual
   -- each `run` in the tree, which stands in the instance, has the callee that its place begins, with its own outputs

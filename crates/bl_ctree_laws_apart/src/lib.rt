@@ -4,12 +4,17 @@
 //! and what it names or declares the body does (`specs/Named.antt`).
 //! So no deed of one branch of a `cobegin` names what another branch declares (`specs/Forks.antt`),
 //! and steps that are done in either order are of two branches that keep so apart (`specs/Parted.antt`).
+//! No `return` stands in a branch (`specs/Returns.antt`), and no two branches run at one place (`specs/Running.antt`).
+//! The frames that the deeds of a body change as a whole, and the results that they look at, are of what the body calls (`specs/Frames.antt`).
 #![tactic(auto)]
 
 ghost use Rattle.bl_ctree_laws_apart.specs.Forks.{BranchesKeepApart};
+ghost use Rattle.bl_ctree_laws_apart.specs.Frames.{FramesAreOfCalls, ResultsAreOfCalls};
 ghost use Rattle.bl_ctree_laws_apart.specs.Named.{BodiesDeclareWhatTheyDo, BodiesNameWhatTheyDo};
 ghost use Rattle.bl_ctree_laws_apart.specs.Owned.{DeedsAreOfBodies};
 ghost use Rattle.bl_ctree_laws_apart.specs.Parted.{AcceptedKeepsApart, ApartIsTwoBranches};
+ghost use Rattle.bl_ctree_laws_apart.specs.Returns.{AcceptedReturnsLast, NoBranchReturns};
+ghost use Rattle.bl_ctree_laws_apart.specs.Running.{AcceptedRunsApart, BranchesRunApart, RunsAreOfStatements};
 ghost use Rattle.bl_ctree_laws_apart.specs.Seen.{DeedsStayInside, WritesAreSeen};
 
 /// Where calls stand the instance of each deed of a tree is the tree's own, or is inside a call of it.
@@ -47,7 +52,43 @@ pub fn apart_is_two_branches()
     ensures { ApartIsTwoBranches }
 {}
 
-/// In an accepted program the branches of each `cobegin` of a unit that has an instance keep apart.
+/// In an accepted program the branches of each `cobegin` of a unit that has an instance keep apart: none names what another declares,
+/// none returns, and no two run at one place.
 pub fn accepted_programs_keep_apart()
     ensures { AcceptedKeepsApart }
+{}
+
+/// Where only the last statement of a body may be a `return` none stands in a branch of a `cobegin`, at any depth.
+pub fn branches_do_not_return()
+    ensures { NoBranchReturns }
+{}
+
+/// In an accepted program none does in a unit that has an instance.
+pub fn accepted_programs_return_last()
+    ensures { AcceptedReturnsLast }
+{}
+
+/// A `run` at a place in the plain block of a body is that of a `run` statement with this place, at any depth.
+pub fn runs_are_of_statements()
+    ensures { RunsAreOfStatements }
+{}
+
+/// Where no `run` statements of one place stand in two branches of a statement the plain branches don't run at one place either.
+pub fn branches_run_apart()
+    ensures { BranchesRunApart }
+{}
+
+/// In an accepted program this holds of the branches of each `cobegin` of a unit that has an instance.
+pub fn accepted_programs_run_apart()
+    ensures { AcceptedRunsApart }
+{}
+
+/// A frame that an effect of a body changes as a whole is its own, by a `return`, or that of an instance that a `run` of the body begins.
+pub fn frames_are_of_calls()
+    ensures { FramesAreOfCalls }
+{}
+
+/// A result that an effect of a body looks at is that of an instance that a `run` of the body begins.
+pub fn results_are_of_calls()
+    ensures { ResultsAreOfCalls }
 {}
