@@ -1,9 +1,14 @@
+pub mod Accepted
 pub mod Acting
 pub mod Beginning
+pub mod Calling
+pub mod Earlier
+pub mod Instances
 pub mod Keeping
 pub mod Leading
 pub mod Paths
 pub mod Reaching
+pub mod Reading
 pub mod Waiting
 pub mod Waking
 pub mod Writing

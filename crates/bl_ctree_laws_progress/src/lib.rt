@@ -6,20 +6,25 @@
 //! of the graph that acts in this tick; a tree in which something is left to do has something that could act; where it may
 //! end, or write something, edges lead from what could act in it to what leads out, or to a node that writes it. So what
 //! could act may, or it waits for a writer in another branch to which something else that could act leads
-//! (`specs/Blocked.antt`). All trees that runs reach are live (`specs/Reached.antt`). That ranks which rise along all edges
-//! leave no reached tree stuck isn't shown here yet.
+//! (`specs/Blocked.antt`). All trees that runs reach are live (`specs/Reached.antt`), in accepted programs without premises
+//! (`specs/Accepted.antt`). What a deed reads is what its node reads, so in one instance such a writer has a static path that
+//! overlaps one that the waiting node reads (`specs/Reading.antt`). That ranks which rise along all edges leave no reached
+//! tree stuck isn't shown here yet.
 #![tactic(auto)]
 
+ghost use Rattle.bl_ctree_laws_progress.specs.Accepted.{AcceptedTreesAreLive, ProgramsAreCallable};
 ghost use Rattle.bl_ctree_laws_progress.specs.Blocked.{ActsOrWaits};
 ghost use Rattle.bl_ctree_laws_progress.specs.Laws.{BodiesBeginLive, EndsAreReached, NodesAreInPart, StepsKeepLive};
 ghost use Rattle.bl_ctree_laws_progress.specs.Laws.{UnsettledCould, WakingKeepsLive, WritersAreAhead};
 ghost use Rattle.bl_ctree_laws_progress.specs.Reached.{ReachedCould, ReachedInsideIsLive, ReachedIsLive};
+ghost use Rattle.bl_ctree_laws_progress.specs.Reading.{DeedsReadAtNodes, DeedsStandAtNodes, WritersTouch};
 
 use bl_ctree::laws::trees_stay_proper;
 use bl_ctree_laws::bridge::{
     answers_are_plain, statements_are_plain, steps_are_plain, surfaces_write_soon, waking_is_plain,
 };
 use bl_ctree_laws::shrinking::{acting_is_open, steps_shrink};
+use bl_ctree_laws_confluence::{accepted_programs_are_orderly, homes_are_apart};
 use bl_graph::{instants_pass, writers_are_reached};
 
 /// What could act in a tree is a node of the part of its body's graph that acts in this tick.
@@ -92,4 +97,36 @@ pub fn reached_trees_are_live()
     instants_pass();
     acting_is_open();
     steps_shrink();
+}
+
+/// What the deed of a step reads is what the node that acts reads.
+pub fn deeds_read_at_nodes()
+    ensures { DeedsReadAtNodes }
+{}
+
+/// A deed whose step is not inside a call is done in the instance of the tree.
+pub fn deeds_stand_at_nodes()
+    ensures { DeedsStandAtNodes }
+{}
+
+/// A node that writes something over a home that a deed of the same instance reads writes a static path that overlaps one that
+/// the deed's node reads.
+pub fn writers_touch()
+    ensures { WritersTouch }
+{
+    homes_are_apart();
+}
+
+/// Each `run` in an instance of a typed program begins an instance of a unit.
+pub fn programs_are_callable()
+    ensures { ProgramsAreCallable }
+{}
+
+/// The trees that runs of an accepted program reach stand at their places, whatever their inputs.
+pub fn accepted_trees_are_live()
+    ensures { AcceptedTreesAreLive }
+{
+    accepted_programs_are_orderly();
+    programs_are_callable();
+    reached_trees_are_live();
 }
