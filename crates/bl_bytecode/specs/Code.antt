@@ -23,6 +23,7 @@ use Rattle.bl_cmeaning_laws.specs.Reaching.{Ground, Index, Reach, Start, Step, T
 use Rattle.bl_bytecode.specs.declared.instruction.Instruction.{Instruction}
 use Rattle.bl_bytecode.specs.declared.instruction.Instruction.TheVariants as ins
 
+-- a list of instructions
 abbrev pub Code : Type 0
 Code = List Instruction
 
@@ -37,10 +38,12 @@ Coded A = Ground Entry → A
 
 -- ---- places
 
+-- the instruction that gives where a place begins
 abbrev pub start_code : Start → ℕ → Instruction
 start_code (near k) passed = ins.Near k passed
 start_code (through k) passed = ins.Through k passed
 
+-- the code that adds an index
 abbrev pub term_code : Term Code → Code
 term_code term = term.index ++ ins.Element term.length term.size ∷ []
 
@@ -50,19 +53,23 @@ reach_code reach = start_code reach.start reach.passed ∷ joined (map term_code
 
 -- ---- expressions: code that pushes the value
 
+-- the code that reads a scalar at an address
 abbrev pub fetch_code : Option CType → Code
 fetch_code (Some (OfScalar s)) = ins.Fetch ∷ []
 fetch_code _ = []
 
+-- the code of an operator, where that of its operands is known
 abbrev pub two_code : Op → Code → Code → Code
 two_code And first second = first ++ ins.Both (length second) ∷ second
 two_code Or first second = first ++ ins.Either (length second) ∷ second
 two_code op first second = first ++ (second ++ ins.Two op ∷ [])
 
+-- the instruction of a call of a function of the file
 abbrev pub known_call : Ground Entry → ℕ → Option Entry → Instruction
 known_call here args None = ins.Stop
 known_call here args (Some known) = ins.Call (record { entry = known.entry; args = args; passed = here.frame; frame = known.frame })
 
+-- the instruction of a call, of the prelude first
 abbrev pub call_as : Ground Entry → ℕ → Option Builtin → Option Entry → Instruction
 call_as here args (Some builtin) known = ins.Prelude builtin args
 call_as here args None known = known_call here args known
@@ -71,6 +78,7 @@ call_as here args None known = known_call here args known
 abbrev pub Coding : OpenPart → Type 0
 Coding Of = Of (Coded Code) (Coded Code) (Coded Code) (Coded Code) (Coded (Index Code)) (Coded (Reach Code)) (Step Entry Code)
 
+-- one step of the fold for each part: its code, where that of its own parts is known
 abbrev pub arg_step : Coding CArg-F → Coded Code
 arg_step (CArg-F.Value value) here = value here
 arg_step (CArg-F.Address place) here = reach_code (place here)
@@ -118,6 +126,7 @@ code_of_call = fold-CCall _ _ _ _ _ _ _ arg_step kind_step call_step expr_step i
 
 -- ---- statements: code behind which so many instructions stand up to the end of the loop around it, or of the function
 
+-- the code of a statement, where it is known what stands around it
 abbrev pub StmtCode : Type 0
 StmtCode = Ground Entry → ℕ → Code
 
@@ -126,6 +135,7 @@ abbrev pub block_code : List StmtCode → StmtCode
 block_code [] here left = []
 block_code (stmt ∷ rest) here left = stmt here (length (block_code rest here left) + left) ++ block_code rest here left
 
+-- the code of an `else` that may be absent
 abbrev pub other_code : Option (List StmtCode) → StmtCode
 other_code None here left = []
 other_code (Some block) here left = block_code block here left
@@ -135,14 +145,17 @@ abbrev pub write_code : Sizes → Option CType → Instruction
 write_code known (Some (OfStruct name)) = ins.Copy (entry_or 0 known name)
 write_code known _ = ins.Store
 
+-- the code of an `if`
 abbrev pub if_code : Code → Code → Code → Code
 if_code condition block other = ins.Count ∷ (condition ++ ins.Unless (length block + 1) ∷ (block ++ ins.Skip (length other) ∷ other))
 
+-- the code of a loop
 abbrev pub loop_code : Code → Code → Code
 loop_code condition body =
     ins.Count ∷ ins.Turns
     ∷ (condition ++ ins.Unless (length body + 3) ∷ ins.Count ∷ ins.Turn ∷ (body ++ ins.Again (length condition + length body + 3) ∷ ins.Over ∷ []))
 
+-- one step of the fold for statements
 abbrev pub stmt_kind_code : CStmtKind-F StmtCode StmtCode → StmtCode
 stmt_kind_code (CStmtKind-F.Set place expr) here left =
     ins.Count ∷ (reach_code (reach_of place here) ++ (code_of expr here ++ write_code here.sizes (reach_of place here).ty ∷ []))
@@ -158,14 +171,17 @@ stmt_kind_code (CStmtKind-F.Return (Some expr)) here left = ins.Count ∷ (code_
 abbrev pub stmt_step : CStmt-F StmtCode StmtCode → StmtCode
 stmt_step stmt = stmt.what
 
+-- the code of a statement
 abbrev pub code_of_stmt : CStmt → StmtCode
 code_of_stmt = fold-CStmt StmtCode StmtCode stmt_kind_code stmt_step
 
+-- the code of a block
 abbrev pub code_of_block : List CStmt → StmtCode
 code_of_block stmts = block_code (map code_of_stmt stmts)
 
 -- ---- functions and files
 
+-- what is known inside a function
 abbrev pub ground_of : Sizes → Layouts → Table Entry → CFunc → Ground Entry
 ground_of known structs earlier function =
     record { sizes = known; structs = structs; known = earlier; slots = slots_of known function; frame = frame_cells known function }
@@ -175,6 +191,7 @@ abbrev pub function_code : Sizes → Layouts → Table Entry → CFunc → Code
 function_code known structs earlier function =
     code_of_block function.body (ground_of known structs earlier function) 0 ++ ins.Push (pos 0) ∷ ins.Return ∷ []
 
+-- where a function's code begins, and how many cells its frame has
 abbrev pub entry_of : Sizes → ℕ → CFunc → Entry
 entry_of known at function = record { entry = at; frame = frame_cells known function }
 

@@ -41,7 +41,7 @@ use Rattle.bl_bytecode.proofs.Folds.{index_code, step_code}
 use Rattle.bl_bytecode_compiler.specs.declared.place.Root.{Root}
 use Rattle.bl_bytecode_compiler.specs.declared.place.Walk.{Walk}
 use Rattle.bl_bytecode_compiler.specs.declared.here.Laid.{Laid as CodeLaid}
-use Rattle.bl_bytecode_compiler.specs.Views.{laid_of}
+use Rattle.bl_bytecode_compiler.specs.inner.Views.{laid_of}
 use Rattle.bl_bytecode_compiler.specs.inner.Walks.{
   IsWalk,
   cells_before,

@@ -1,2 +1,3 @@
 pub mod Coded
+pub mod Views
 pub mod Walks

@@ -5,7 +5,8 @@ ghost use Rattle.bl_cmeaning_laws.specs.Layout.{capped_sizes, layouts};
 ghost use Rattle.bl_cmeaning.specs.Saturated.{AlikeSaturated};
 ghost use Rattle.bl_bytecode.specs.Code.{entry_of, function_code};
 ghost use Rattle.bl_bytecode.specs.Laws.{code_of_file, entry_in_file};
-ghost use Rattle.bl_bytecode_compiler.specs.Views.{entries_in, entry_for, sizes_in, structs_in};
+ghost use Rattle.bl_bytecode_compiler.specs.inner.Views.{entries_in, sizes_in, structs_in};
+ghost use Rattle.bl_bytecode_compiler.specs.Entries.{entry_for};
 
 use crate::front::{Front, small};
 use crate::here::{Entry, Here, Members, Sizes};
@@ -35,7 +36,8 @@ fn function<'a>(
     known: &HashMap<&'a str, Entry>,
     of: &'a CFunc,
 ) -> Result<Front, NoMemory>
-    ensures { IfOk result (λ code. code ≡ function_code (sizes_in around.entry.sizes.now) (structs_in around.entry.structs.now) (entries_in known.now) of.now) }
+    ensures { IfOk result (λ code. code ≡ function_code (sizes_in around.entry.sizes.now) (structs_in around.entry.structs.now)
+        (entries_in known.now) of.now) }
 {
     let slots = slots(around.alloc, around.sizes, of)?;
     let frame = small(frame_size(around.sizes, of))?;

@@ -4,7 +4,7 @@ ghost use Rattle.std.specs.Prelude.{◌≡◌, ◌++◌, IfOk, length, map, OnOk
 ghost use Rattle.bl_tree.specs.Reduce.{joined};
 ghost use Rattle.bl_cmeaning.specs.Builtin.{builtin_of};
 ghost use Rattle.bl_bytecode.specs.Code.{arg_code, call_as, code_of, code_of_call, fetch_code, reach_code, reach_of, term_code};
-ghost use Rattle.bl_bytecode_compiler.specs.Views.{ground_of, laid_of};
+ghost use Rattle.bl_bytecode_compiler.specs.inner.Views.{ground_of, laid_of};
 ghost use Rattle.bl_bytecode_compiler.specs.inner.Walks.{IsWalk, term_if};
 
 use crate::front::{Front, small};
@@ -58,7 +58,8 @@ fn fetch(code: &mut Front, ty: Option<&CType>) -> Result<(), NoMemory>
 
 #[cycle(expressions)]
 fn read(here: &Here<'_, '_>, code: &mut Front, at: &CPlace) -> Result<(), NoMemory>
-    ensures { OnOk result (code.new ≡ (reach_code (reach_of at.now (ground_of here.now)) ++ fetch_code (reach_of at.now (ground_of here.now)).ty) ++ code.old) }
+    ensures { OnOk result (code.new ≡ (reach_code (reach_of at.now (ground_of here.now)) ++ fetch_code (reach_of at.now (ground_of here.now)).ty)
+        ++ code.old) }
 {
     let walk = walk_to(here, at)?;
     fetch(code, walk.ty)?;

@@ -61,7 +61,8 @@ impl Front {
     /// Puts an instruction in place of the one behind which so many stand.
     pub fn set(&mut self, behind: usize, instruction: Instruction)
         requires { behind < length self.old }
-        ensures { (front rest : List Step) (old : Step) → self.old ≡ front ++ old ∷ rest → length rest ≡ behind → self.new ≡ front ++ instruction ∷ rest }
+        ensures { (front rest : List Step) (old : Step) → self.old ≡ front ++ old ∷ rest → length rest ≡ behind → self.new
+            ≡ front ++ instruction ∷ rest }
     {
         self.reversed[behind] = instruction;
     }

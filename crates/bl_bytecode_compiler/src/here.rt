@@ -5,7 +5,7 @@ ghost use Rattle.bl_cmeaning.specs.Sizes.{size_of_type};
 ghost use Rattle.bl_cmeaning.specs.Tables.{entry_or};
 ghost use Rattle.bl_cmeaning_laws.specs.Layout.{capped};
 ghost use Rattle.bl_cmeaning_laws.specs.Reaching.{laid_in};
-ghost use Rattle.bl_bytecode_compiler.specs.Views.{ground_of, laid_of, sizes_in, structs_in};
+ghost use Rattle.bl_bytecode_compiler.specs.inner.Views.{ground_of, laid_of, sizes_in, structs_in};
 
 use bl_cmeaning::Builtins;
 use bl_cmeaning::maps::{Numbers, find};

@@ -8,7 +8,7 @@ ghost use Rattle.bl_cmeaning.specs.Saturated.{saturated};
 ghost use Rattle.bl_cmeaning.specs.Sizes.{size_of_member, size_of_param, size_of_type};
 ghost use Rattle.bl_cmeaning.specs.Tables.{found, no_entries, table_of, with_entry};
 ghost use Rattle.bl_cmeaning_laws.specs.Layout.{capped, frame_cells, layout_of, locals_laid, members_laid, params_laid, slots_of};
-ghost use Rattle.bl_bytecode_compiler.specs.Views.{members_in, sizes_in, slots_in, structs_in};
+ghost use Rattle.bl_bytecode_compiler.specs.inner.Views.{members_in, sizes_in, slots_in, structs_in};
 
 use crate::here::{Laid, Members, Sizes, Slot, type_size};
 use crate::place::behind;

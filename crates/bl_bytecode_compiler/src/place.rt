@@ -4,7 +4,7 @@ ghost use Rattle.std.specs.Prelude.{◌≡◌, ◌+◌, IfOk, option_map};
 ghost use Rattle.bl_cmeaning_laws.specs.Reaching.{start_of_slot};
 ghost use Rattle.bl_cmeaning_laws.specs.Layout.{capped};
 ghost use Rattle.bl_bytecode.specs.Code.{start_code};
-ghost use Rattle.bl_bytecode_compiler.specs.Views.{ground_of, laid_of};
+ghost use Rattle.bl_bytecode_compiler.specs.inner.Views.{ground_of, laid_of};
 ghost use Rattle.bl_bytecode_compiler.specs.inner.Walks.{cells_before, found_along, founds_of, IsWalk, passed_along, root_of, type_along, type_found};
 
 use crate::front::small;

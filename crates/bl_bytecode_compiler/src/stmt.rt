@@ -6,7 +6,7 @@ ghost use Rattle.bl_bytecode.specs.declared.instruction.Instruction.{Instruction
 ghost use Rattle.bl_bytecode.specs.declared.instruction.Instruction.TheVariants as ins;
 ghost use Rattle.bl_cmeaning.specs.Tables.{entry_or};
 ghost use Rattle.bl_bytecode_compiler.specs.inner.Coded.{return_code, given_code, turning_code};
-ghost use Rattle.bl_bytecode_compiler.specs.Views.{ground_of, sizes_in};
+ghost use Rattle.bl_bytecode_compiler.specs.inner.Views.{ground_of, sizes_in};
 
 use crate::expr::{call, expr, place};
 use crate::front::{Front, small};

@@ -35,7 +35,8 @@ use Rattle.bl_bytecode.specs.Machine.{step_with, trapped}
 use Rattle.bl_bytecode_machine.specs.declared.flow.Flow.{Flow}
 use Rattle.bl_bytecode_machine.specs.declared.flow.Flow.TheVariants as flow
 use Rattle.bl_bytecode_machine.specs.Shown.{Shown}
-use Rattle.bl_bytecode_machine.specs.Steps.{Came, as_shown, shown_count}
+use Rattle.bl_bytecode_machine.specs.Steps.{shown_count}
+use Rattle.bl_bytecode_machine.specs.inner.Stepping.{Came, as_shown}
 
 -- ---- the same, as far as a machine shows
 

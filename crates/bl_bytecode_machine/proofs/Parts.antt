@@ -32,8 +32,8 @@ use Rattle.bl_bytecode.specs.declared.instruction.Callee.{Callee}
 use Rattle.bl_bytecode.specs.Machine.{State, Waiting, args_on, entering, returned}
 use Rattle.bl_bytecode_machine.specs.declared.caller.Caller.{Caller}
 use Rattle.bl_bytecode_machine.specs.declared.flow.Flow.TheVariants as flow
-use Rattle.bl_bytecode_machine.specs.Shown.{Keeps, Shown, Stands, state_of, waiting_of}
-use Rattle.bl_bytecode_machine.specs.Steps.{After, Roomy, Suffices, as_shown, with_stack}
+use Rattle.bl_bytecode_machine.specs.Shown.{MachineKeeps, Shown, StacksStand, state_of, waiting_of}
+use Rattle.bl_bytecode_machine.specs.inner.Stepping.{After, Roomy, Suffices, as_shown, with_stack}
 use Rattle.bl_bytecode_machine.proofs.Views.{args-are, below-stays, kept, waiting-height}
 
 -- what a machine with these parts shows
@@ -89,19 +89,19 @@ enter-room at base floor count cells numbers callers numbers_room calls_room m c
 
 pub enter-keeps : (floor first : ℕ) (numbers new : List ℤ) (callers more : List Caller) (numbers_room calls_room room calls : ℕ)
     (c : Caller) (n : ℕ) →
-    Keeps floor numbers callers numbers_room calls_room → first ≡ floor + (length numbers - floor - n) → new ≡ take first numbers →
+    MachineKeeps floor numbers callers numbers_room calls_room → first ≡ floor + (length numbers - floor - n) → new ≡ take first numbers →
     more ≡ callers ++ c ∷ [] →
     c.floor ≡ floor →
-    room ≡ numbers_room → calls ≡ calls_room → length callers < calls_room → Keeps first new more room calls
+    room ≡ numbers_room → calls ≡ calls_room → length callers < calls_room → MachineKeeps first new more room calls
 enter-keeps floor first numbers new callers more numbers_room calls_room room calls c n k e f g h r q less =
     let l : length new ≡ first = ap length f ∙ omega (arith, length-take first numbers, e, k.within) in
     let t : reverse more ≡ c ∷ reverse callers = ap reverse g ∙ reverse-append callers (c ∷ []) in
-    let under : Stands c.floor (reverse callers) = subst (λ (x : ℕ). Stands x (reverse callers)) (sym h) k.stands in
-    let s : Stands first (c ∷ reverse callers) = (omega (arith, h, e), under) in
+    let under : StacksStand c.floor (reverse callers) = subst (λ (x : ℕ). StacksStand x (reverse callers)) (sym h) k.stands in
+    let s : StacksStand first (c ∷ reverse callers) = (omega (arith, h, e), under) in
     let m : length more ≡ length callers + 1 = ap length g ∙ length-append callers (c ∷ []) in
     record {
       within = omega (arith, l);
-      stands = subst (λ (x : List Caller). Stands first x) (sym t) s;
+      stands = subst (λ (x : List Caller). StacksStand first x) (sym t) s;
       numbers_fit = omega
           (arith, l, r, e, k.numbers_fit, k.within);
       callers_fit = omega (arith, m, q, less);
@@ -153,12 +153,12 @@ enter-shown at base floor count cells numbers callers numbers_room calls_room m 
 
 pub back-room : (at base floor count : ℕ) (cells : Cells) (numbers : List ℤ) (callers rest : List Caller) (numbers_room calls_room : ℕ) (m : Shown)
     (c : Caller) (x : ℤ) →
-    view_of at base floor count cells numbers callers numbers_room calls_room ≡ m → Keeps floor numbers callers numbers_room calls_room →
+    view_of at base floor count cells numbers callers numbers_room calls_room ≡ m → MachineKeeps floor numbers callers numbers_room calls_room →
     callers ≡ rest ++ c ∷ [] →
     Roomy m (returned m.state x m.state.waiting) → floor < numbers_room
 back-room at base floor count cells numbers callers rest numbers_room calls_room m c x v k e h =
     let t : reverse callers ≡ c ∷ reverse rest = ap reverse e ∙ reverse-append rest (c ∷ []) in
-    let stands : Stands floor (c ∷ reverse rest) = subst (λ (cs : List Caller). Stands floor cs) t k.stands in
+    let stands : StacksStand floor (c ∷ reverse rest) = subst (λ (cs : List Caller). StacksStand floor cs) t k.stands in
     let there : Suffices numbers_room calls_room
     (returned (state_of at base floor count cells numbers callers) x (waiting_of (take floor numbers) (reverse callers))) =
     subst (λ (y : Shown). Roomy y (returned y.state x y.state.waiting)) (sym v) h in
@@ -172,26 +172,26 @@ back-room at base floor count cells numbers callers rest numbers_room calls_room
     omega (arith, back.0, below)
 
 pub back-keeps : (floor : ℕ) (numbers new : List ℤ) (callers rest : List Caller) (numbers_room calls_room room calls : ℕ) (c : Caller) (x : ℤ) →
-    Keeps floor numbers callers numbers_room calls_room → callers ≡ rest ++ c ∷ [] → new ≡ take floor numbers ++ x ∷ [] →
+    MachineKeeps floor numbers callers numbers_room calls_room → callers ≡ rest ++ c ∷ [] → new ≡ take floor numbers ++ x ∷ [] →
     room ≡ numbers_room →
     calls ≡ calls_room → floor < numbers_room →
-    Keeps c.floor new rest room calls
+    MachineKeeps c.floor new rest room calls
 back-keeps floor numbers new callers rest numbers_room calls_room room calls c x k e f r q less =
     let t : reverse callers ≡ c ∷ reverse rest = ap reverse e ∙ reverse-append rest (c ∷ []) in
-    let stands : Stands floor (c ∷ reverse rest) = subst (λ (cs : List Caller). Stands floor cs) t k.stands in
+    let stands : StacksStand floor (c ∷ reverse rest) = subst (λ (cs : List Caller). StacksStand floor cs) t k.stands in
     let l : length new ≡ floor + 1 = ap length f ∙ (length-append (take floor numbers) (x ∷ []) ∙ omega (arith, length-take floor numbers, k.within)) in
     let m : length callers ≡ length rest + 1 = ap length e ∙ length-append rest (c ∷ []) in
     record { within = omega (arith, l, stands.0); stands = stands.1; numbers_fit = omega (arith, l, r, less); callers_fit = omega (arith, m, q, k.callers_fit) }
 
 pub back-shown : (at base floor count : ℕ) (cells : Cells) (numbers : List ℤ) (callers rest : List Caller) (numbers_room calls_room : ℕ) (m : Shown)
     (c : Caller) (x : ℤ) (new : List ℤ) (room calls : ℕ) →
-    view_of at base floor count cells numbers callers numbers_room calls_room ≡ m → Keeps floor numbers callers numbers_room calls_room →
+    view_of at base floor count cells numbers callers numbers_room calls_room ≡ m → MachineKeeps floor numbers callers numbers_room calls_room →
     callers ≡ rest ++ c ∷ [] →
     new ≡ take floor numbers ++ x ∷ [] → room ≡ numbers_room → calls ≡ calls_room →
     After m (returned m.state x m.state.waiting) flow.Goes (view_of c.back c.base c.floor count cells new rest room calls)
 back-shown at base floor count cells numbers callers rest numbers_room calls_room m c x new room calls v k e f r q =
     let t : reverse callers ≡ c ∷ reverse rest = ap reverse e ∙ reverse-append rest (c ∷ []) in
-    let stands : Stands floor (c ∷ reverse rest) = subst (λ (cs : List Caller). Stands floor cs) t k.stands in
+    let stands : StacksStand floor (c ∷ reverse rest) = subst (λ (cs : List Caller). StacksStand floor cs) t k.stands in
     let low : c.floor ≤ length (take floor numbers) = omega (arith, stands.0, length-take floor numbers, k.within) in
     let made : List ℤ → List ℤ → State = λ stack below.
     record { at = c.back; base = c.base; cells = cells; stack = stack; waiting = waiting_of below (reverse rest); count = count } in

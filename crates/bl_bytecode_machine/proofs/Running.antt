@@ -6,7 +6,8 @@ use Rattle.bl_bytecode.specs.Machine.{Has, Room, Runs, here, last, more, State, 
 use Rattle.bl_bytecode_machine.specs.declared.flow.Flow.{Flow}
 use Rattle.bl_bytecode_machine.specs.declared.flow.Flow.TheVariants as flow
 use Rattle.bl_bytecode_machine.specs.Shown.{Shown}
-use Rattle.bl_bytecode_machine.specs.Steps.{After, Came, Roomy, Suffices, Went, as_shown, in_state}
+use Rattle.bl_bytecode_machine.specs.Steps.{in_state}
+use Rattle.bl_bytecode_machine.specs.inner.Stepping.{After, Came, Roomy, Suffices, Went, as_shown}
 use Rattle.bl_bytecode_machine.specs.Ends.{Ended, Halts, IsEnd}
 use Rattle.bl_bytecode_machine.proofs.Counts.{Alike, alike-back, came-alike, step-alike}
 

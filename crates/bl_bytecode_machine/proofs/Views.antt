@@ -31,12 +31,12 @@ use Rattle.bl_tree.specs.Reduce.{total}
 use Rattle.bl_cmeaning_laws.specs.Flat.{Cells}
 use Rattle.bl_bytecode.specs.Machine.{Waiting, height, args_on}
 use Rattle.bl_bytecode_machine.specs.declared.caller.Caller.{Caller}
-use Rattle.bl_bytecode_machine.specs.Shown.{Keeps, Shown, Stands, state_of, waiting_of}
-use Rattle.bl_bytecode_machine.specs.Steps.{IsRoomy}
+use Rattle.bl_bytecode_machine.specs.Shown.{MachineKeeps, Shown, StacksStand, state_of, waiting_of}
+use Rattle.bl_bytecode_machine.specs.inner.Stepping.{IsRoomy}
 
 -- ---- heights
 
-pub waiting-height : (callers : List Caller) (floor : ℕ) (numbers : List ℤ) → length numbers ≡ floor → Stands floor callers →
+pub waiting-height : (callers : List Caller) (floor : ℕ) (numbers : List ℤ) → length numbers ≡ floor → StacksStand floor callers →
     total (map (λ (w : Waiting). length w.stack) (waiting_of numbers callers)) ≡ floor
 waiting-height [] floor numbers l h = sym h
 waiting-height (c ∷ callers) floor numbers l h =
@@ -47,7 +47,7 @@ waiting-height (c ∷ callers) floor numbers l h =
     omega (arith, length-reverse (drop c.floor numbers), length-drop c.floor numbers)
 
 pub state-height : (at base floor count : ℕ) (cells : Cells) (numbers : List ℤ) (callers : List Caller) (numbers_room calls_room : ℕ) →
-    Keeps floor numbers callers numbers_room calls_room → height (state_of at base floor count cells numbers callers) ≡ length numbers
+    MachineKeeps floor numbers callers numbers_room calls_room → height (state_of at base floor count cells numbers callers) ≡ length numbers
 state-height at base floor count cells numbers callers numbers_room calls_room k =
     let w : floor ≤ length numbers = k.within in
     let front : length (take floor numbers) ≡ floor = omega (arith, length-take floor numbers) in
@@ -57,7 +57,7 @@ state-height at base floor count cells numbers callers numbers_room calls_room k
 
 -- a machine that shows room for one more number has it
 pub room-there : (at base floor count : ℕ) (cells : Cells) (numbers : List ℤ) (callers : List Caller) (numbers_room calls_room : ℕ) (m : Shown) →
-    Keeps floor numbers callers numbers_room calls_room →
+    MachineKeeps floor numbers callers numbers_room calls_room →
     record { state = state_of at base floor count cells numbers callers; numbers = numbers_room; calls = calls_room } ≡ m →
     IsRoomy m → length numbers < numbers_room
 room-there at base floor count cells numbers callers numbers_room calls_room m k e r =

@@ -13,11 +13,13 @@ pub record Shown : Type 0 where
 
 -- ---- codes: each record is stored as the pair of its fields
 
+-- a waiting function, as the triple of its fields
 abbrev pub waiting_code : Coded Waiting
 waiting_code =
     code_by (ℕ × (ℕ × List ℤ)) (coded× coded_ℕ (coded× coded_ℕ (coded_list coded_ℤ))) (λ w. (w.back, (w.base, w.stack)))
     (λ p. record { back = p.0; base = p.1.0; stack = p.1.1 }) (λ _. refl)
 
+-- a state, as the tuple of its fields
 abbrev pub state_code : Coded State
 state_code =
     code_by (ℕ × (ℕ × (List ℤ × (List ℤ × (List Waiting × ℕ)))))
@@ -25,6 +27,7 @@ state_code =
     (λ s. (s.at, (s.base, (s.cells, (s.stack, (s.waiting, s.count))))))
     (λ p. record { at = p.0; base = p.1.0; cells = p.1.1.0; stack = p.1.1.1.0; waiting = p.1.1.1.1.0; count = p.1.1.1.1.1 }) (λ _. refl)
 
+-- what a machine shows, as the triple of its fields
 abbrev pub shown_code : Coded Shown
 shown_code =
     code_by (State × (ℕ × ℕ)) (coded× state_code (coded× coded_ℕ coded_ℕ)) (λ s. (s.state, (s.numbers, s.calls)))
@@ -52,13 +55,13 @@ state_of at base floor count cells numbers callers =
     }
 
 -- the stacks stand on each other, the first at the bottom
-abbrev pub Stands : ℕ → List Caller → Type 0
-Stands floor [] = floor ≡ 0
-Stands floor (c ∷ callers) = (c.floor ≤ floor) × Stands c.floor callers
+abbrev pub StacksStand : ℕ → List Caller → Type 0
+StacksStand floor [] = floor ≡ 0
+StacksStand floor (c ∷ callers) = (c.floor ≤ floor) × StacksStand c.floor callers
 
 -- what always holds of the parts, and of the room for them
-pub record Keeps (floor : ℕ) (numbers : List ℤ) (callers : List Caller) (numbers_room calls_room : ℕ) : Type 0 where
+pub record MachineKeeps (floor : ℕ) (numbers : List ℤ) (callers : List Caller) (numbers_room calls_room : ℕ) : Type 0 where
   pub within : floor ≤ length numbers
-  pub stands : Stands floor (reverse callers)
+  pub stands : StacksStand floor (reverse callers)
   pub numbers_fit : length numbers ≤ numbers_room
   pub callers_fit : length callers ≤ calls_room

@@ -1,59 +1,20 @@
 -- What a machine shows after a step.
-use Rattle.std.specs.Prelude.{◌≡◌, ◌≤◌, ◌<◌, ◌+◌, ◌-◌, ◌^◌, ℕ, ℤ, min, List, [], ◌∷◌, length, drop, Option, Some, None}
-use Rattle.bl_bytecode_machine.specs.declared.flow.Flow.{Flow}
-use Rattle.bl_bytecode_machine.specs.declared.flow.Flow.TheVariants as flow
+use Rattle.std.specs.Prelude.{◌≡◌, ◌-◌, ◌^◌, ℕ, min}
 use Rattle.bl_cmeaning_laws.specs.Flat.{Cells}
-use Rattle.bl_bytecode.specs.declared.instruction.Instruction.{Instruction}
-use Rattle.bl_bytecode.specs.Machine.{State, Stepped, goes, done, trapped, height, step_with}
+use Rattle.bl_bytecode.specs.Machine.{State}
 use Rattle.bl_bytecode_machine.specs.Shown.{Shown}
-
--- ---- one stack
-
--- the last number was taken, where there is one
-abbrev pub Taken : Option ℤ → List ℤ → Type 0
-Taken None stack = stack ≡ []
-Taken (Some n) stack = stack ≡ n ∷ drop 1 stack
-
--- the last two numbers were taken, the last first, where there are two
-abbrev pub TakenTwo : Option (ℤ × ℤ) → List ℤ → Type 0
-TakenTwo None stack = length stack < 2
-TakenTwo (Some two) stack = stack ≡ two.0 ∷ two.1 ∷ drop 2 stack
 
 -- a machine in another state
 abbrev pub in_state : Shown → State → Shown
 in_state m state = record m { state = state }
 
--- a machine with another stack of the running function
-abbrev pub with_stack : Shown → List ℤ → Shown
-with_stack m stack = in_state m (record m.state { stack = stack })
-
--- a machine that goes on at another position
-abbrev pub going_on_at : Shown → ℕ → Shown
-going_on_at m at = in_state m (record m.state { at = at })
-
 -- a machine with other cells
 abbrev pub holding : Shown → Cells → Shown
 holding m cells = in_state m (record m.state { cells = cells })
 
--- there is room for one more number
-abbrev pub IsRoomy : Shown → Type 0
-IsRoomy m = height m.state + 1 ≤ m.numbers
-
--- a position behind which code can go on
-abbrev pub IsNear : Shown → Type 0
-IsNear m = m.state.at < 2 ^ 63
-
--- ---- counts
-
 -- what a machine shows of a count of statements
 abbrev pub shown_count : ℕ → ℕ
 shown_count n = min n (2 ^ 128 - 1)
-
--- a state, as far as a machine can show it
-abbrev pub as_shown : State → State
-as_shown s = record s { count = shown_count s.count }
-
--- ---- steps
 
 -- a machine with room for so much has come to its end, with these cells and this count
 pub record Over (cells : Cells) (count numbers calls : ℕ) (m : Shown) : Type 0 where
@@ -61,37 +22,3 @@ pub record Over (cells : Cells) (count numbers calls : ℕ) (m : Shown) : Type 0
   pub count_is : shown_count m.state.count ≡ shown_count count
   pub numbers_stay : m.numbers ≡ numbers
   pub calls_stay : m.calls ≡ calls
-
--- a machine with room for so much has come to a state
-pub record Went (to : State) (numbers calls : ℕ) (m : Shown) : Type 0 where
-  pub state_is : as_shown m.state ≡ as_shown to
-  pub numbers_stay : m.numbers ≡ numbers
-  pub calls_stay : m.calls ≡ calls
-
--- a machine with room for so much has come to this
-abbrev pub Came : ℕ → ℕ → Stepped → Flow → Shown → Type 0
-Came numbers calls (goes to) flow.Goes m = Went to numbers calls m
-Came numbers calls (done cells count result) (flow.Done answer) m = Over cells count numbers calls m × (answer ≡ result)
-Came numbers calls (trapped cells count) flow.Trapped m = Over cells count numbers calls m
-Came numbers calls _ _ m = ⊥
-
--- the same, with the room of an earlier machine
-abbrev pub After : Shown → Stepped → Flow → Shown → Type 0
-After from end answer m = Came from.numbers from.calls end answer m
-
--- there is room for what a step comes to
-abbrev pub Suffices : ℕ → ℕ → Stepped → Type 0
-Suffices numbers calls (goes to) = (height to ≤ numbers) × (length to.waiting ≤ calls)
-Suffices numbers calls _ = Unit {0}
-
-abbrev pub Roomy : Shown → Stepped → Type 0
-Roomy m end = Suffices m.numbers m.calls end
-
--- a machine can take the step of an instruction
-pub record Ready (instruction : Instruction) (m : Shown) : Type 0 where
-  pub near : IsNear m
-  pub room : Roomy m (step_with m.state instruction m.state.stack)
-
--- a machine has taken the step of an instruction
-abbrev pub Done : Instruction → Shown → Flow → Shown → Type 0
-Done instruction from answer m = After from (step_with from.state instruction from.state.stack) answer m

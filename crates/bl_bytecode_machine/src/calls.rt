@@ -8,26 +8,26 @@ use bl_bytecode::instruction::Callee;
 use bl_ctext::Builtin;
 
 impl Machine {
-    ghost use Rattle.bl_bytecode_machine.specs.Steps.{Done, Ready};
+    ghost use Rattle.bl_bytecode_machine.specs.inner.Stepping.{StepDone, StepReady};
 
     pub(crate) fn call_builtin(&mut self, builtin: Builtin, n: u32) -> Flow
-        requires { Ready (ins.Prelude builtin n) self.old }
-        ensures { Done (ins.Prelude builtin n) self.old result self.new }
+        requires { StepReady (ins.Prelude builtin n) self.old }
+        ensures { StepDone (ins.Prelude builtin n) self.old result self.new }
     {
         let value = self.apply(builtin, n);
         self.give(value)
     }
 
     pub(crate) fn call(&mut self, callee: Callee) -> Flow
-        requires { Ready (ins.Call callee) self.old }
-        ensures { Done (ins.Call callee) self.old result self.new }
+        requires { StepReady (ins.Call callee) self.old }
+        ensures { StepDone (ins.Call callee) self.old result self.new }
     {
         self.enter(callee)
     }
 
     pub(crate) fn end(&mut self) -> Flow
-        requires { Ready ins.Return self.old }
-        ensures { Done ins.Return self.old result self.new }
+        requires { StepReady ins.Return self.old }
+        ensures { StepDone ins.Return self.old result self.new }
     {
         match self.pop() {
             None => Flow::Trapped,

@@ -7,11 +7,11 @@ use crate::machine::Machine;
 
 impl Machine {
     ghost use Rattle.bl_bytecode.specs.Machine.{past};
-    ghost use Rattle.bl_bytecode_machine.specs.Steps.{After, Done, IsNear, Ready};
+    ghost use Rattle.bl_bytecode_machine.specs.inner.Stepping.{After, StepDone, IsNear, StepReady};
 
     pub(crate) fn begin_statement(&mut self) -> Flow
-        requires { Ready ins.Count self.old }
-        ensures { Done ins.Count self.old result self.new }
+        requires { StepReady ins.Count self.old }
+        ensures { StepDone ins.Count self.old result self.new }
     {
         self.add_statement();
         self.go()
@@ -27,15 +27,15 @@ impl Machine {
     }
 
     pub(crate) fn skip(&mut self, n: u32) -> Flow
-        requires { Ready (ins.Skip n) self.old }
-        ensures { Done (ins.Skip n) self.old result self.new }
+        requires { StepReady (ins.Skip n) self.old }
+        ensures { StepDone (ins.Skip n) self.old result self.new }
     {
         self.go_past(n)
     }
 
     pub(crate) fn unless(&mut self, n: u32) -> Flow
-        requires { Ready (ins.Unless n) self.old }
-        ensures { Done (ins.Unless n) self.old result self.new }
+        requires { StepReady (ins.Unless n) self.old }
+        ensures { StepDone (ins.Unless n) self.old result self.new }
     {
         match self.pop() {
             None => Flow::Trapped,
@@ -44,8 +44,8 @@ impl Machine {
     }
 
     pub(crate) fn both(&mut self, n: u32) -> Flow
-        requires { Ready (ins.Both n) self.old }
-        ensures { Done (ins.Both n) self.old result self.new }
+        requires { StepReady (ins.Both n) self.old }
+        ensures { StepDone (ins.Both n) self.old result self.new }
     {
         match self.pop() {
             None => Flow::Trapped,
@@ -61,8 +61,8 @@ impl Machine {
     }
 
     pub(crate) fn either(&mut self, n: u32) -> Flow
-        requires { Ready (ins.Either n) self.old }
-        ensures { Done (ins.Either n) self.old result self.new }
+        requires { StepReady (ins.Either n) self.old }
+        ensures { StepDone (ins.Either n) self.old result self.new }
     {
         match self.pop() {
             None => Flow::Trapped,
@@ -78,8 +78,8 @@ impl Machine {
     }
 
     pub(crate) fn again(&mut self, n: u32) -> Flow
-        requires { Ready (ins.Again n) self.old }
-        ensures { Done (ins.Again n) self.old result self.new }
+        requires { StepReady (ins.Again n) self.old }
+        ensures { StepDone (ins.Again n) self.old result self.new }
     {
         self.back(n);
         Flow::Goes

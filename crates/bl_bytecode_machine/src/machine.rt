@@ -34,7 +34,7 @@ pub struct Machine {
 
 impl Model for Machine {
     ghost use Rattle.std.specs.Prelude.{vec_capacity};
-    ghost use Rattle.bl_bytecode_machine.specs.Shown.{Keeps, Shown, shown_code, state_of};
+    ghost use Rattle.bl_bytecode_machine.specs.Shown.{MachineKeeps, Shown, shown_code, state_of};
 
     ghost Value = { Shown };
 
@@ -46,11 +46,12 @@ impl Model for Machine {
       calls = vec_capacity m.callers;
     } };
 
-    ghost invariant = { λ m. Keeps m.floor m.numbers.items m.callers.items (vec_capacity m.numbers) (vec_capacity m.callers) };
+    ghost invariant = { λ m. MachineKeeps m.floor m.numbers.items m.callers.items (vec_capacity m.numbers) (vec_capacity m.callers) };
 }
 
 impl Machine {
-    ghost use Rattle.bl_bytecode_machine.specs.Steps.{After, IsNear, IsRoomy, Roomy, Taken, TakenTwo, going_on_at, holding, in_state, shown_count, with_stack};
+    ghost use Rattle.bl_bytecode_machine.specs.Steps.{holding, in_state, shown_count};
+    ghost use Rattle.bl_bytecode_machine.specs.inner.Stepping.{After, IsNear, IsRoomy, Roomy, Taken, TakenTwo, going_on_at, with_stack};
 
     /// All cells are 0. There is room for so many numbers on all stacks, and for so many waiting functions.
     pub fn new(

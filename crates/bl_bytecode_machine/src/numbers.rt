@@ -11,7 +11,7 @@ use bl_tree::Op;
 
 impl Machine {
     ghost use Rattle.bl_bytecode.specs.Machine.{on, on_number};
-    ghost use Rattle.bl_bytecode_machine.specs.Steps.{After, Done, IsNear, Ready, Roomy};
+    ghost use Rattle.bl_bytecode_machine.specs.inner.Stepping.{After, StepDone, IsNear, StepReady, Roomy};
 
     /// Goes on with the next instruction.
     pub(crate) fn go(&mut self) -> Flow
@@ -38,8 +38,8 @@ impl Machine {
     }
 
     pub(crate) fn negate(&mut self) -> Flow
-        requires { Ready ins.Negate self.old }
-        ensures { Done ins.Negate self.old result self.new }
+        requires { StepReady ins.Negate self.old }
+        ensures { StepDone ins.Negate self.old result self.new }
     {
         match self.pop() {
             None => Flow::Trapped,
@@ -48,15 +48,15 @@ impl Machine {
     }
 
     pub(crate) fn put(&mut self, n: i128) -> Flow
-        requires { Ready (ins.Push n) self.old }
-        ensures { Done (ins.Push n) self.old result self.new }
+        requires { StepReady (ins.Push n) self.old }
+        ensures { StepDone (ins.Push n) self.old result self.new }
     {
         self.give(Some(n))
     }
 
     pub(crate) fn two(&mut self, op: Op) -> Flow
-        requires { Ready (ins.Two op) self.old }
-        ensures { Done (ins.Two op) self.old result self.new }
+        requires { StepReady (ins.Two op) self.old }
+        ensures { StepDone (ins.Two op) self.old result self.new }
     {
         match self.pop_two() {
             None => Flow::Trapped,
@@ -65,8 +65,8 @@ impl Machine {
     }
 
     pub(crate) fn forget(&mut self) -> Flow
-        requires { Ready ins.Drop self.old }
-        ensures { Done ins.Drop self.old result self.new }
+        requires { StepReady ins.Drop self.old }
+        ensures { StepDone ins.Drop self.old result self.new }
     {
         match self.pop() {
             None => Flow::Trapped,
@@ -75,15 +75,15 @@ impl Machine {
     }
 
     pub(crate) fn begin_turns(&mut self) -> Flow
-        requires { Ready ins.Turns self.old }
-        ensures { Done ins.Turns self.old result self.new }
+        requires { StepReady ins.Turns self.old }
+        ensures { StepDone ins.Turns self.old result self.new }
     {
         self.give(Some(0))
     }
 
     pub(crate) fn turn(&mut self) -> Flow
-        requires { Ready ins.Turn self.old }
-        ensures { Done ins.Turn self.old result self.new }
+        requires { StepReady ins.Turn self.old }
+        ensures { StepDone ins.Turn self.old result self.new }
     {
         match self.pop() {
             None => Flow::Trapped,
@@ -92,8 +92,8 @@ impl Machine {
     }
 
     pub(crate) fn end_turns(&mut self) -> Flow
-        requires { Ready ins.Over self.old }
-        ensures { Done ins.Over self.old result self.new }
+        requires { StepReady ins.Over self.old }
+        ensures { StepDone ins.Over self.old result self.new }
     {
         match self.pop() {
             None => Flow::Trapped,

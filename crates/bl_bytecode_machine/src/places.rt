@@ -7,27 +7,27 @@ use crate::flow::Flow;
 use crate::machine::Machine;
 
 impl Machine {
-    ghost use Rattle.bl_bytecode_machine.specs.Steps.{Done, Ready};
+    ghost use Rattle.bl_bytecode_machine.specs.inner.Stepping.{StepDone, StepReady};
 
     pub(crate) fn near(&mut self, k: u32, passed: u32) -> Flow
-        requires { Ready (ins.Near k passed) self.old }
-        ensures { Done (ins.Near k passed) self.old result self.new }
+        requires { StepReady (ins.Near k passed) self.old }
+        ensures { StepDone (ins.Near k passed) self.old result self.new }
     {
         let first = address::capped(u64::from(self.base()) + u64::from(k));
         self.give(Some(address::of(u64::from(first) + u64::from(passed))))
     }
 
     pub(crate) fn through(&mut self, k: u32, passed: u32) -> Flow
-        requires { Ready (ins.Through k passed) self.old }
-        ensures { Done (ins.Through k passed) self.old result self.new }
+        requires { StepReady (ins.Through k passed) self.old }
+        ensures { StepDone (ins.Through k passed) self.old result self.new }
     {
         let first = address::cell(self.get(self.base() as usize + k as usize));
         self.give(Some(address::of(u64::from(first) + u64::from(passed))))
     }
 
     pub(crate) fn element(&mut self, length: u32, size: u32) -> Flow
-        requires { Ready (ins.Element length size) self.old }
-        ensures { Done (ins.Element length size) self.old result self.new }
+        requires { StepReady (ins.Element length size) self.old }
+        ensures { StepDone (ins.Element length size) self.old result self.new }
     {
         match self.pop_two() {
             None => Flow::Trapped,
@@ -36,8 +36,8 @@ impl Machine {
     }
 
     pub(crate) fn fetch(&mut self) -> Flow
-        requires { Ready ins.Fetch self.old }
-        ensures { Done ins.Fetch self.old result self.new }
+        requires { StepReady ins.Fetch self.old }
+        ensures { StepDone ins.Fetch self.old result self.new }
     {
         match self.pop() {
             None => Flow::Trapped,
@@ -49,8 +49,8 @@ impl Machine {
     }
 
     pub(crate) fn store(&mut self) -> Flow
-        requires { Ready ins.Store self.old }
-        ensures { Done ins.Store self.old result self.new }
+        requires { StepReady ins.Store self.old }
+        ensures { StepDone ins.Store self.old result self.new }
     {
         match self.pop_two() {
             None => Flow::Trapped,
@@ -62,8 +62,8 @@ impl Machine {
     }
 
     pub(crate) fn copy(&mut self, size: u32) -> Flow
-        requires { Ready (ins.Copy size) self.old }
-        ensures { Done (ins.Copy size) self.old result self.new }
+        requires { StepReady (ins.Copy size) self.old }
+        ensures { StepDone (ins.Copy size) self.old result self.new }
     {
         match self.pop_two() {
             None => Flow::Trapped,
@@ -75,8 +75,8 @@ impl Machine {
     }
 
     pub(crate) fn zero(&mut self, size: u32) -> Flow
-        requires { Ready (ins.Zero size) self.old }
-        ensures { Done (ins.Zero size) self.old result self.new }
+        requires { StepReady (ins.Zero size) self.old }
+        ensures { StepDone (ins.Zero size) self.old result self.new }
     {
         match self.pop() {
             None => Flow::Trapped,

@@ -10,7 +10,7 @@ use bl_bytecode::instruction::Instruction;
 
 impl Machine {
     ghost use Rattle.bl_bytecode_machine.specs.Ends.{Ended, Halts, IsEnd};
-    ghost use Rattle.bl_bytecode_machine.specs.Steps.{After, Done, Ready, Roomy};
+    ghost use Rattle.bl_bytecode_machine.specs.inner.Stepping.{After, StepDone, StepReady, Roomy};
 
     /// Runs a function of the code, whose frame begins at a cell, and gives its result, `None` where it traps. It takes
     /// no memory. The function comes to its end in a number of steps that only the contract names.
@@ -51,8 +51,8 @@ impl Machine {
 
     /// The step of an instruction.
     fn take(&mut self, instruction: Instruction) -> Flow
-        requires { Ready instruction self.old }
-        ensures { Done instruction self.old result self.new }
+        requires { StepReady instruction self.old }
+        ensures { StepDone instruction self.old result self.new }
     {
         match instruction {
             Instruction::Count => self.begin_statement(),

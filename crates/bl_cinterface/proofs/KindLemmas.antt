@@ -35,8 +35,8 @@ use Rattle.bl_cmeaning.specs.Memory.{Part, member, element, Root}
 use Rattle.bl_cmeaning.specs.Tables.{Table, found, no_entries, with_entry}
 use Rattle.bl_cmeaning.specs.Cells.{Inner, below, inside, inner_of_length, inner_of_type, inner_of_member, inner_after, cells_at}
 use Rattle.bl_cmeaning.proofs.MapLemmas.{next_entry, nothing_after, same_table}
-use Rattle.bl_cinterface.specs.Layout.{kinds_in, kinds_named, scalars_of, kinds_of_member, kinds_of_type, kinds_of_members, placed, if_below}
-use Rattle.bl_cinterface.specs.Layout.{placed_before, repeated}
+use Rattle.bl_cinterface.specs.inner.Spans.{kinds_in, kinds_named, scalars_of, kinds_of_member, kinds_of_type, kinds_of_members, placed, if_below}
+use Rattle.bl_cinterface.specs.inner.Spans.{placed_before, repeated}
 
 -- ---- members
 

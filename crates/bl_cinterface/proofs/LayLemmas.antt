@@ -34,14 +34,15 @@ use Rattle.bl_cmeaning.specs.Memory.{state_object, input_object, output_object}
 use Rattle.bl_cmeaning.specs.Parts.{parts_from}
 use Rattle.bl_cmeaning.specs.Tables.{Table, with_entry}
 use Rattle.bl_cinterface.specs.declared.repeat.Span.{Span}
-use Rattle.bl_cinterface.specs.Layout.{at_span, kinds_named, kinds_of, kinds_of_member, kinds_of_members, kinds_of_type, placed, placed_before}
-use Rattle.bl_cinterface.specs.Layout.{repeated, Laid, Stands}
+use Rattle.bl_cinterface.specs.Layout.{kinds_of}
+use Rattle.bl_cinterface.specs.inner.Spans.{at_span, kinds_named, kinds_of_member, kinds_of_members, kinds_of_type, placed, placed_before}
+use Rattle.bl_cinterface.specs.inner.Spans.{repeated, StructsLaid, StandsAtSpan}
 use Rattle.bl_cinterface.proofs.KindLemmas.{before-end, found-name, kinds-at, kinds-member, kinds-next, kinds-none, kinds-same, kinds-whole, placed-before}
 use Rattle.bl_cinterface.proofs.SpanLemmas.{laid-more, laid-next, stands-last}
 
-pub laid-grown : (structs : List CStruct) (spans : Table Span) (old new more : List Scalar) → new ≡ old ++ more → Laid structs spans old →
-    Laid structs spans new
-laid-grown structs spans old new more is h = subst (λ l. Laid structs spans l) (sym is) (laid-more structs spans old more h)
+pub laid-grown : (structs : List CStruct) (spans : Table Span) (old new more : List Scalar) → new ≡ old ++ more → StructsLaid structs spans old →
+    StructsLaid structs spans new
+laid-grown structs spans old new more is h = subst (λ l. StructsLaid structs spans l) (sym is) (laid-more structs spans old more h)
 
 -- ---- a member
 
@@ -96,13 +97,13 @@ pub struct-laid : (structs : List CStruct) (name : Text) (at : ℕ) (s : CStruct
     placed name structs ≡ Some at → s ≡ get_or structs at s →
     span.start ≡ length old → span.len ≡ length new - length old → new ≡ old ++ kinds_named structs name →
     ((asked : Text) → more asked ≡ with_entry spans s.name span asked) →
-    Laid structs spans new → Laid structs more new
+    StructsLaid structs spans new → StructsLaid structs more new
 struct-laid structs name at s spans more span old new is here start len told add h =
     let named : s.name ≡ name = ap (λ t. t.name) here ∙ found-name name structs at s is in
     let part = kinds_named structs name in
     let long : span.len ≡ length part = omega (arith, len, ap length told, length-append old part) in
-    let stands : Stands new span part = subst (λ l. Stands l span part) (sym told) (stands-last old part span start long) in
-    laid-next structs spans more s.name span new add (subst (λ n. Stands new span (kinds_named structs n)) (sym named) stands) h
+    let stands : StandsAtSpan new span part = subst (λ l. StandsAtSpan l span part) (sym told) (stands-last old part span start long) in
+    laid-next structs spans more s.name span new add (subst (λ n. StandsAtSpan new span (kinds_named structs n)) (sym named) stands) h
 
 pub none-added : (structs : List CStruct) (name : Text) (end : ℕ) (kinds : List Scalar) → placed_before end name structs ≡ None →
     kinds ≡ kinds ++ kinds_named (take end structs) name
@@ -116,7 +117,7 @@ same-added structs name end at old new is told =
     let any : CStruct = record { place = record { start = 0; end = 0 }; name = []; members = [] } in
     told ∙ ap (λ l. old ++ l) (sym (kinds-same name structs end at any (placed-before name structs end at is) (before-end name structs end at is)))
 
-pub copied : (structs : List CStruct) (spans : Table Span) (name : Text) (span : Span) (old new : List Scalar) → Laid structs spans old →
+pub copied : (structs : List CStruct) (spans : Table Span) (name : Text) (span : Span) (old new : List Scalar) → StructsLaid structs spans old →
     spans name ≡ Some span → new ≡ old ++ at_span span old →
     new ≡ old ++ kinds_named structs name
 copied structs spans name span old new h is told = told ∙ ap (λ l. old ++ l) (h.each name span is).here

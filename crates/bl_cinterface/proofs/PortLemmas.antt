@@ -47,7 +47,8 @@ use Rattle.bl_cmeaning.specs.Faults.{distinct_names, declared_before, short_chai
 use Rattle.bl_cmeaning.specs.Faults.{depth_of_struct, faults_in, faults_in_struct, interface_fits, is_declared, is_pad, is_port, is_scalar}
 use Rattle.bl_cmeaning.specs.Faults.{member_table, same_type, struct_faults_after, unless}
 use Rattle.bl_cmeaning.proofs.EndLemmas.{nil-left, nil-right}
-use Rattle.bl_cinterface.specs.Ports.{AllPrefixed, Formed, PortsStand, Prefixed, StandFrom, inputs_start, outputs_start}
+use Rattle.bl_cinterface.specs.Ports.{Formed, PortsStand, StandFrom, inputs_start, outputs_start}
+use Rattle.bl_cinterface.specs.inner.Prefixed.{AllPrefixed, Prefixed}
 
 and-left : (a b : Bool) → (a && b) ≡ true → a ≡ true
 and-left true b h = refl

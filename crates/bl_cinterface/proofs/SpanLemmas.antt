@@ -32,7 +32,7 @@ use Rattle.bl_tree.specs.declared.scalar.Scalar.{Scalar}
 use Rattle.bl_tree.specs.declared.c.CStruct.{CStruct}
 use Rattle.bl_cmeaning.specs.Tables.{Table, with_entry}
 use Rattle.bl_cinterface.specs.declared.repeat.Span.{Span}
-use Rattle.bl_cinterface.specs.Layout.{at_span, kinds_named, repeated, Laid, Stands}
+use Rattle.bl_cinterface.specs.inner.Spans.{at_span, kinds_named, repeated, StructsLaid, StandsAtSpan}
 use Rattle.bl_cinterface.proofs.KindLemmas.{some_of, repeated-last}
 
 -- a part stays where it is when the list grows
@@ -45,17 +45,19 @@ part-stays kinds more span within =
 pub longer : (kinds more : List Scalar) (n : ℕ) → n ≤ length kinds → n ≤ length (kinds ++ more)
 longer kinds more n within = omega (arith, within, length-append kinds more)
 
-pub stands-more : (kinds more part : List Scalar) (span : Span) → Stands kinds span part → Stands (kinds ++ more) span part
+pub stands-more : (kinds more part : List Scalar) (span : Span) → StandsAtSpan kinds span part → StandsAtSpan (kinds ++ more) span part
 stands-more kinds more part span h = record {
   within = longer kinds more (span.start + span.len) h.within;
   here = part-stays kinds more span h.within ∙ h.here;
 }
 
-pub laid-more : (structs : List CStruct) (spans : Table Span) (kinds more : List Scalar) → Laid structs spans kinds → Laid structs spans (kinds ++ more)
+pub laid-more : (structs : List CStruct) (spans : Table Span) (kinds more : List Scalar) → StructsLaid structs spans kinds →
+    StructsLaid structs spans (kinds ++ more)
 laid-more structs spans kinds more h = record { each = λ name span is. stands-more kinds more (kinds_named structs name) span (h.each name span is) }
 
 -- what was added last stands behind what there was
-pub stands-last : (kinds more : List Scalar) (span : Span) → span.start ≡ length kinds → span.len ≡ length more → Stands (kinds ++ more) span more
+pub stands-last : (kinds more : List Scalar) (span : Span) → span.start ≡ length kinds → span.len ≡ length more →
+    StandsAtSpan (kinds ++ more) span more
 stands-last kinds more span start len = record {
   within = omega (arith, start, len, length-append kinds more);
   here = ap (take span.len) (drop_at kinds more span.start (sym start)) ∙ take_all span.len more (omega (arith, len));
@@ -63,20 +65,20 @@ stands-last kinds more span start len = record {
 
 pub laid-next : (structs : List CStruct) (spans new : Table Span) (name : Text) (span : Span) (kinds : List Scalar) →
     ((asked : Text) → new asked ≡ with_entry spans name span asked) →
-    Stands kinds span (kinds_named structs name) → Laid structs spans kinds → Laid structs new kinds
+    StandsAtSpan kinds span (kinds_named structs name) → StructsLaid structs spans kinds → StructsLaid structs new kinds
 laid-next structs spans new name span kinds add here h = record { each = λ asked found is. chosen asked found (spans asked) refl (sym (add asked) ∙ is) }
   where
     fresh : (asked : Text) (found : Span) (b : Bool) → bytes_eq name asked ≡ b → (if b then Some span else None) ≡ Some found →
-        Stands kinds found (kinds_named structs asked)
+        StandsAtSpan kinds found (kinds_named structs asked)
     fresh asked found true same is =
-        subst (λ s. Stands kinds s (kinds_named structs asked)) (some_of span found is)
-        (subst (λ n. Stands kinds span (kinds_named structs n)) ((bytes_eq-Decides name asked).0 same) here)
+        subst (λ s. StandsAtSpan kinds s (kinds_named structs asked)) (some_of span found is)
+        (subst (λ n. StandsAtSpan kinds span (kinds_named structs n)) ((bytes_eq-Decides name asked).0 same) here)
     fresh asked found false same is = cc
 
     chosen : (asked : Text) (found : Span) (o : Option Span) → spans asked ≡ o →
         option_or o (if bytes_eq name asked then Some span else None) ≡ Some found →
-        Stands kinds found (kinds_named structs asked)
-    chosen asked found (Some old) there is = subst (λ s. Stands kinds s (kinds_named structs asked)) (some_of old found is) (h.each asked old there)
+        StandsAtSpan kinds found (kinds_named structs asked)
+    chosen asked found (Some old) there is = subst (λ s. StandsAtSpan kinds s (kinds_named structs asked)) (some_of old found is) (h.each asked old there)
     chosen asked found None there is = fresh asked found (bytes_eq name asked) refl is
 
 -- one more time

@@ -1,5 +1,5 @@
 -- The inputs and outputs of a file, and their cells.
-use Rattle.std.specs.Prelude.{◌≡◌, ℕ, ◌+◌, ◌<◌, ◌≤◌, List, length, get_or, slice_get, Some, codes, All}
+use Rattle.std.specs.Prelude.{◌≡◌, ℕ, ◌+◌, List, length, slice_get, Some, codes}
 use Rattle.bl_tree.specs.declared.text.Text.{Text}
 use Rattle.bl_tree.specs.declared.scalar.Scalar.{Scalar}
 use Rattle.bl_tree.specs.declared.c.CType.TheVariants.{Scalar as OfScalar}
@@ -15,17 +15,11 @@ use Rattle.bl_cmeaning.specs.Memory.{Root, input_object, output_object}
 abbrev pub Formed : List CStruct → Type 0
 Formed structs = (funcs : List CFunc) × WellFormed (parts_from structs funcs)
 
--- a name begins with two bytes, of which the second is a character of its own
-abbrev pub Prefixed : Text → Type 0
-Prefixed name = (2 ≤ length name) × (get_or name 1 0 < 128)
-
-abbrev pub AllPrefixed : List CMember → Type 0
-AllPrefixed ms = All (λ m. Prefixed m.name) ms
-
 -- where the cells of the input object begin, and where those of the output object
 abbrev pub inputs_start : List CStruct → ℕ
 inputs_start structs = length (inner_of structs (codes "bl_state"))
 
+-- where the cells of the output object begin
 abbrev pub outputs_start : List CStruct → ℕ
 outputs_start structs = inputs_start structs + length (inner_of structs (codes "bl_in"))
 

@@ -4,7 +4,8 @@ ghost use Rattle.std.specs.Prelude.{◌≡◌, ◌++◌, ◌<◌, IfOk, length, 
 ghost use Rattle.bl_tree.specs.declared.c.CFunc.{CFunc};
 ghost use Rattle.bl_cmeaning.specs.inner.Maps.{text_at};
 ghost use Rattle.bl_cmeaning.specs.Parts.{parts_from};
-ghost use Rattle.bl_cinterface.specs.Layout.{Laid, kinds_named, kinds_of, kinds_of_member, kinds_of_members, kinds_of_type, placed};
+ghost use Rattle.bl_cinterface.specs.Layout.{kinds_of};
+ghost use Rattle.bl_cinterface.specs.inner.Spans.{StructsLaid, kinds_named, kinds_of_member, kinds_of_members, kinds_of_type, placed};
 ghost use Rattle.bl_cinterface.specs.Ports.{inputs_start, outputs_start};
 
 use crate::places::Places;
@@ -37,9 +38,9 @@ fn add_struct<'a>(
     spans: &mut Spans<'a>,
     kinds: &mut Vec<Scalar>,
 ) -> Result<(), NoMemory>
-    requires { Laid places.now.structs.now (text_at spans.old) kinds.old.items }
+    requires { StructsLaid places.now.structs.now (text_at spans.old) kinds.old.items }
     ensures kinds { OnOk result (kinds.new.items ≡ kinds.old.items ++ kinds_named (take end places.now.structs.now) name.now) }
-    ensures laid { OnOk result (Laid places.now.structs.now (text_at spans.new) kinds.new.items) }
+    ensures laid { OnOk result (StructsLaid places.now.structs.now (text_at spans.new) kinds.new.items) }
 {
     let at = match places.before(end, name) {
         Some(at) => at,
@@ -62,9 +63,9 @@ fn add_new<'a>(
 ) -> Result<(), NoMemory>
     requires within { at < length places.now.structs.now }
     requires first { placed name.now places.now.structs.now ≡ Some at }
-    requires laid { Laid places.now.structs.now (text_at spans.old) kinds.old.items }
+    requires laid { StructsLaid places.now.structs.now (text_at spans.old) kinds.old.items }
     ensures kinds { OnOk result (kinds.new.items ≡ kinds.old.items ++ kinds_named places.now.structs.now name.now) }
-    ensures laid { OnOk result (Laid places.now.structs.now (text_at spans.new) kinds.new.items) }
+    ensures laid { OnOk result (StructsLaid places.now.structs.now (text_at spans.new) kinds.new.items) }
 {
     let of = &places.structs[at];
     let start = kinds.len();
@@ -81,9 +82,9 @@ fn add_members<'a>(
     spans: &mut Spans<'a>,
     kinds: &mut Vec<Scalar>,
 ) -> Result<(), NoMemory>
-    requires { Laid places.now.structs.now (text_at spans.old) kinds.old.items }
+    requires { StructsLaid places.now.structs.now (text_at spans.old) kinds.old.items }
     ensures kinds { OnOk result (kinds.new.items ≡ kinds.old.items ++ kinds_of_members (take end places.now.structs.now) members.now) }
-    ensures laid { OnOk result (Laid places.now.structs.now (text_at spans.new) kinds.new.items) }
+    ensures laid { OnOk result (StructsLaid places.now.structs.now (text_at spans.new) kinds.new.items) }
 {
     for member in members {
         add_member(places, end, member, spans, kinds)?;
@@ -99,9 +100,9 @@ fn add_member<'a>(
     spans: &mut Spans<'a>,
     kinds: &mut Vec<Scalar>,
 ) -> Result<(), NoMemory>
-    requires { Laid places.now.structs.now (text_at spans.old) kinds.old.items }
+    requires { StructsLaid places.now.structs.now (text_at spans.old) kinds.old.items }
     ensures kinds { OnOk result (kinds.new.items ≡ kinds.old.items ++ kinds_of_member (take end places.now.structs.now) member.now) }
-    ensures laid { OnOk result (Laid places.now.structs.now (text_at spans.new) kinds.new.items) }
+    ensures laid { OnOk result (StructsLaid places.now.structs.now (text_at spans.new) kinds.new.items) }
 {
     let times = member.length.unwrap_or(1);
     if times == 0 {
@@ -121,9 +122,9 @@ fn add_type<'a>(
     spans: &mut Spans<'a>,
     kinds: &mut Vec<Scalar>,
 ) -> Result<(), NoMemory>
-    requires { Laid places.now.structs.now (text_at spans.old) kinds.old.items }
+    requires { StructsLaid places.now.structs.now (text_at spans.old) kinds.old.items }
     ensures kinds { OnOk result (kinds.new.items ≡ kinds.old.items ++ kinds_of_type (take end places.now.structs.now) ty.now) }
-    ensures laid { OnOk result (Laid places.now.structs.now (text_at spans.new) kinds.new.items) }
+    ensures laid { OnOk result (StructsLaid places.now.structs.now (text_at spans.new) kinds.new.items) }
 {
     match ty {
         CType::Scalar(kind) => push(kinds, *kind),

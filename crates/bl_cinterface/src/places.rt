@@ -2,7 +2,7 @@
 
 ghost use Rattle.std.specs.Prelude.{◌≡◌, ℕ, List, IfOk};
 ghost use Rattle.bl_cmeaning.specs.inner.Maps.{text_at};
-ghost use Rattle.bl_cinterface.specs.Layout.{placed, placed_before};
+ghost use Rattle.bl_cinterface.specs.inner.Spans.{placed, placed_before};
 
 use bl_cmeaning::maps::{add, find};
 use bl_tree::NoMemory;

@@ -4,7 +4,8 @@ ghost use Rattle.std.specs.Prelude.{◌≡◌, codes, drop, filter_map, IfOk, Li
 ghost use Rattle.bl_tree.specs.declared.c.CFunc.{CFunc};
 ghost use Rattle.bl_cmeaning.specs.Cells.{column_of, inputs_of, members_of, outputs_of};
 ghost use Rattle.bl_cmeaning.specs.Parts.{parts_from};
-ghost use Rattle.bl_cinterface.specs.Ports.{AllPrefixed, Formed, Prefixed};
+ghost use Rattle.bl_cinterface.specs.Ports.{Formed};
+ghost use Rattle.bl_cinterface.specs.inner.Prefixed.{AllPrefixed, Prefixed};
 
 use bl_tree::c::{CMember, CStruct, CType};
 use bl_tree::{Column, List, NoMemory, Text};

@@ -1,7 +1,7 @@
 //! Parts of a list that are put behind it once more.
 
 ghost use Rattle.std.specs.Prelude.{◌≡◌, [], ◌∷◌, ◌++◌, ◌+◌, ◌≤◌, OnOk, length};
-ghost use Rattle.bl_cinterface.specs.Layout.{at_span, repeated};
+ghost use Rattle.bl_cinterface.specs.inner.Spans.{at_span, repeated};
 
 use bl_tree::{NoMemory, Scalar};
 

@@ -15,9 +15,11 @@ use Rattle.bl_cmeaning.specs.Tables.{Table, entry_or}
 
 -- ---- in one level, where the parts' calls are known
 
+-- a list of names
 abbrev pub Names : Type 0
 Names = List Text
 
+-- one step of the fold for each part: the names that are called in it, in order
 abbrev pub arg_calls : EachIs Names CArg-F → Names
 arg_calls (CArg-F.Value value) = value
 arg_calls (CArg-F.Address place) = place
@@ -41,6 +43,7 @@ index_calls index = index.at
 abbrev pub place_calls : EachIs Names CPlace-F → Names
 place_calls place = joined place.steps
 
+-- the names of a part that may be absent
 abbrev pub names_or_none : Option Names → Names
 names_or_none None = []
 names_or_none (Some names) = names
@@ -50,6 +53,7 @@ step_calls step = names_or_none step.index
 
 -- ---- the names of the called functions, one for each call
 
+-- the names that are called in an expression, and in each of its parts
 abbrev pub calls_in : CExpr → List Text
 calls_in = fold-CExpr _ _ _ _ _ _ _ arg_calls kind_calls call_calls expr_calls index_calls place_calls step_calls
 
@@ -65,14 +69,17 @@ calls_in_arg = fold-CArg _ _ _ _ _ _ _ arg_calls kind_calls call_calls expr_call
 abbrev pub calls_in_step : CStep → List Text
 calls_in_step = fold-CStep _ _ _ _ _ _ _ arg_calls kind_calls call_calls expr_calls index_calls place_calls step_calls
 
+-- the names that are called in an expression that may be absent
 abbrev pub calls_or_none : Option CExpr → List Text
 calls_or_none None = []
 calls_or_none (Some expr) = calls_in expr
 
+-- the names of a block that may be absent
 abbrev pub block_or_none : Option (List Names) → Names
 block_or_none None = []
 block_or_none (Some block) = joined block
 
+-- one step of the fold for statements
 abbrev pub stmt_kind_calls : CStmtKind-F Names Names → Names
 stmt_kind_calls (CStmtKind-F.Set place expr) = calls_in_place place ++ calls_in expr
 stmt_kind_calls (CStmtKind-F.Clear place struct) = calls_in_place place
@@ -85,9 +92,11 @@ stmt_kind_calls (CStmtKind-F.Return expr) = calls_or_none expr
 abbrev pub stmt_calls : CStmt-F Names Names → Names
 stmt_calls stmt = stmt.what
 
+-- the names that are called in a statement
 abbrev pub calls_in_stmt : CStmt → List Text
 calls_in_stmt = fold-CStmt Names Names stmt_kind_calls stmt_calls
 
+-- the names that are called in a block
 abbrev pub calls_in_block : List CStmt → List Text
 calls_in_block stmts = joined (map calls_in_stmt stmts)
 

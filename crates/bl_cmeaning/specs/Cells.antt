@@ -44,6 +44,7 @@ abbrev pub inner_of_length : Text → Option ℕ → List Inner → List Inner
 inner_of_length name None cells = map (inside (member name ∷ [])) cells
 inner_of_length name (Some length) cells = flat_map (λ k. map (inside (member name ∷ element k ∷ [])) cells) (below length)
 
+-- the scalars of a member, where those of each struct are known
 abbrev pub inner_of_member : Table (List Inner) → CMember → List Inner
 inner_of_member known m = inner_of_length m.name m.length (inner_of_type known m.ty)
 
@@ -63,6 +64,7 @@ pub record Cell : Type 0 where
   pub location : Location
   pub kind : Scalar
 
+-- the cells of an object with these scalars
 abbrev pub cells_at : Root → List Inner → List Cell
 cells_at root = map (λ cell. record { location = record { root = root; parts = cell.parts }; kind = cell.kind })
 
@@ -90,6 +92,7 @@ abbrev pub column_typed : Text → CType → Option Column
 column_typed name (OfScalar kind) = Some (record { name = drop 2 name; ty = kind })
 column_typed name (OfStruct struct) = None
 
+-- the column of a member of a scalar type
 abbrev pub column_of : CMember → Option Column
 column_of m = column_typed m.name m.ty
 

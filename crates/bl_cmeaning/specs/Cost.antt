@@ -18,13 +18,16 @@ Costs = Table ℕ
 abbrev pub cost_of_calls : Costs → List Text → ℕ
 cost_of_calls known names = total (map (entry_or 0 known) names)
 
+-- the cost of a block, statement after statement
 abbrev pub block_cost : List (Costs → ℕ) → Costs → ℕ
 block_cost block known = total (map (λ cost. cost known) block)
 
+-- the cost of an `else` that may be absent
 abbrev pub other_cost : Option (List (Costs → ℕ)) → Costs → ℕ
 other_cost None known = 0
 other_cost (Some block) known = block_cost block known
 
+-- one step of the fold for statements
 abbrev pub stmt_kind_cost : CStmtKind-F (Costs → ℕ) (Costs → ℕ) → Costs → ℕ
 stmt_kind_cost (CStmtKind-F.Set place expr) known = 1 + (cost_of_calls known (calls_in_place place) + cost_of_calls known (calls_in expr))
 stmt_kind_cost (CStmtKind-F.Clear place struct) known = 1 + cost_of_calls known (calls_in_place place)

@@ -109,6 +109,7 @@ unless holds clause place = if holds then [] else record { clause = clause; at =
 
 -- ---- types
 
+-- whether two widths are the same
 abbrev pub same_width : Width → Width → Bool
 same_width W8 W8 = true
 same_width W16 W16 = true
@@ -116,6 +117,7 @@ same_width W32 W32 = true
 same_width W64 W64 = true
 same_width _ _ = false
 
+-- whether two scalar types are the same
 abbrev pub same_scalar : Scalar → Scalar → Bool
 same_scalar OfBool OfBool = true
 same_scalar (Int v) (Int w) = same_width v w
@@ -123,6 +125,7 @@ same_scalar (Nat v) (Nat w) = same_width v w
 same_scalar (Bits v) (Bits w) = same_width v w
 same_scalar _ _ = false
 
+-- whether two types are the same
 abbrev pub same_type : CType → CType → Bool
 same_type (OfScalar s) (OfScalar t) = same_scalar s t
 same_type (OfStruct m) (OfStruct n) = bytes_eq m n
@@ -138,13 +141,16 @@ abbrev pub if_typed : Option CType → (CType → Bool) → Bool
 if_typed (Some t) test = test t
 if_typed None test = true
 
+-- the type of conditions
 abbrev pub bool_type : CType
 bool_type = OfScalar OfBool
 
+-- whether a type is a scalar
 abbrev pub is_scalar : CType → Bool
 is_scalar (OfScalar s) = true
 is_scalar (OfStruct name) = false
 
+-- whether a type is a scalar of numbers
 abbrev pub is_number : CType → Bool
 is_number (OfScalar OfBool) = false
 is_number (OfScalar s) = true
@@ -194,9 +200,11 @@ pub record Context : Type 0 where
   -- whether the running function may change nothing through a pointer
   pub keeps : Bool
 
+-- a variable that holds a scalar itself
 abbrev pub by_value : Scalar → Variable
 by_value t = record { pointer = false; ty = OfScalar t }
 
+-- the parameters and the result of a function of the prelude
 abbrev pub builtin_signature : Builtin → Option Signature
 builtin_signature Stop = None
 builtin_signature b = Some (record { widens = true; params = map by_value (builtin_params b); result = builtin_result b })
@@ -206,6 +214,7 @@ abbrev pub signature_as : Option Builtin → Option Signature → Option Signatu
 signature_as (Some b) own = builtin_signature b
 signature_as None own = own
 
+-- the parameters and the result of the function of a name, where one is declared before
 abbrev pub signature_of : Context → Text → Option Signature
 signature_of context name = signature_as (builtin_of name) (context.functions name)
 
@@ -257,6 +266,7 @@ fits_param true (OfScalar (Int W64)) t = indexes true t
 fits_param true (OfScalar (Nat W64)) t = indexes false t
 fits_param _ wanted t = same_type wanted t
 
+-- whether an argument suits a parameter
 abbrev pub fits_arg : Bool → Variable → JudgedArg → Bool
 fits_arg widens p a = (if p.pointer then a.address else not a.address) && if_typed a.ty (fits_param widens p.ty)
 
@@ -272,6 +282,7 @@ abbrev pub fit_args : Option Signature → List JudgedArg → Bool
 fit_args None args = true
 fit_args (Some s) args = fit_each s.widens s.params args
 
+-- one step of the fold for each part: its type and its faults, where those of its own parts are known
 abbrev pub judge_arg : Judging CArg-F → Judges JudgedArg
 judge_arg (CArg-F.Value value) context place =
     let v : Judged = value context in
@@ -364,6 +375,7 @@ judge_length ty None None place = record { ty = Some ty; faults = [] }
 judge_length ty (Some n) (Some k) place = record { ty = Some ty; faults = unless (n == k) indices place }
 judge_length ty _ _ place = record { ty = None; faults = unless false indices place }
 
+-- what is known behind a member, where there is one
 abbrev pub judge_member : Option CMember → Option ℕ → Place → Judged
 judge_member None length place = record { ty = None; faults = unless false declared_before place }
 judge_member (Some m) length place = judge_length m.ty m.length length place
@@ -378,14 +390,17 @@ abbrev pub judge_into : Context → Text → Option ℕ → Place → Option CTy
 judge_into context name length place None = record { ty = None; faults = [] }
 judge_into context name length place (Some ty) = judge_member (member_of context ty name) length place
 
+-- what is known of an index that may be absent
 abbrev pub index_or_none : Option (Judges JudgedIndex) → Judges (Option JudgedIndex)
 index_or_none None context place = None
 index_or_none (Some judge) context place = Some (judge context place)
 
+-- the faults of an index that may be absent
 abbrev pub faults_in_index : Option JudgedIndex → List Fault
 faults_in_index None = []
 faults_in_index (Some i) = i.faults
 
+-- one step of the fold for a step of a place
 abbrev pub judge_step : Judging CStep-F → Steps
 judge_step step context place ty =
     let i : Option JudgedIndex = index_or_none step.index context place in
@@ -408,9 +423,11 @@ judged_call = fold-CCall _ _ _ _ _ _ _ judge_arg judge_kind judge_call judge_exp
 abbrev pub judged_arg : CArg → Judges JudgedArg
 judged_arg = fold-CArg _ _ _ _ _ _ _ judge_arg judge_kind judge_call judge_expr judge_index judge_place judge_step
 
+-- what is known of an index
 abbrev pub judged_index : CIndex → Judges JudgedIndex
 judged_index = fold-CIndex _ _ _ _ _ _ _ judge_arg judge_kind judge_call judge_expr judge_index judge_place judge_step
 
+-- what is known of a step of a place
 abbrev pub judged_step : CStep → Steps
 judged_step = fold-CStep _ _ _ _ _ _ _ judge_arg judge_kind judge_call judge_expr judge_index judge_place judge_step
 
@@ -426,9 +443,11 @@ condition_faults expr context =
 abbrev pub StmtFaults : Type 0
 StmtFaults = Context → Bool → List Fault
 
+-- the faults of a block, statement after statement
 abbrev pub block_faults : List StmtFaults → StmtFaults
 block_faults block context looped = joined (map (λ faults. faults context looped) block)
 
+-- the faults of an `else` that may be absent
 abbrev pub other_faults : Option (List StmtFaults) → StmtFaults
 other_faults None context looped = []
 other_faults (Some block) context looped = block_faults block context looped
@@ -442,6 +461,7 @@ return_faults (Some expr) (Some t) context place =
     let e : Judged = judged_expr expr context in
     e.faults ++ unless (agree e.ty (Some (OfScalar t))) returns_result expr.place
 
+-- one step of the fold for statements
 abbrev pub stmt_kind_faults : CStmtKind-F (Place → StmtFaults) StmtFaults → Place → StmtFaults
 stmt_kind_faults (CStmtKind-F.Set target expr) place context looped =
     let p : JudgedPlace = judged_place target context place in
@@ -464,6 +484,7 @@ stmt_kind_faults (CStmtKind-F.Return expr) place context looped = return_faults 
 abbrev pub stmt_faults_step : CStmt-F (Place → StmtFaults) StmtFaults → StmtFaults
 stmt_faults_step stmt = stmt.what stmt.place
 
+-- the faults of a statement
 abbrev pub faults_in_stmt : CStmt → StmtFaults
 faults_in_stmt = fold-CStmt (Place → StmtFaults) StmtFaults stmt_kind_faults stmt_faults_step
 
@@ -478,6 +499,7 @@ last_or other (b ∷ rest) = last_or b rest
 abbrev pub last_returns : List Bool → Bool
 last_returns = last_or false
 
+-- whether an `else` that may be absent surely returns
 abbrev pub other_returns : Option (List Bool) → Bool
 other_returns None = false
 other_returns (Some block) = last_returns block
@@ -488,9 +510,11 @@ stmt_kind_returns (CStmtKind-F.Return expr) = true
 stmt_kind_returns (CStmtKind-F.If condition block other) = last_returns block && other_returns other
 stmt_kind_returns _ = false
 
+-- one step of the fold for statements
 abbrev pub stmt_returns_step : CStmt-F Bool Bool → Bool
 stmt_returns_step stmt = stmt.what
 
+-- whether a statement surely returns
 abbrev pub surely_returns : CStmt → Bool
 surely_returns = fold-CStmt Bool Bool stmt_kind_returns stmt_returns_step
 
@@ -523,6 +547,7 @@ abbrev pub depth_of_type : Table ℕ → CType → ℕ
 depth_of_type depths (OfScalar s) = 0
 depth_of_type depths (OfStruct name) = entry_or 0 depths name
 
+-- how deep a struct is nested, where the depths of those before it are known
 abbrev pub depth_of_struct : Table ℕ → CStruct → ℕ
 depth_of_struct depths s = limited (1 + greatest (map (λ m. depth_of_type depths m.ty) s.members))
 
@@ -530,9 +555,11 @@ depth_of_struct depths s = limited (1 + greatest (map (λ m. depth_of_type depth
 abbrev pub is_pad : CMember → Bool
 is_pad m = bytes_eq m.name (codes "pad") && (same_type m.ty (OfScalar (Nat W8)) && is_none m.length)
 
+-- whether a member can be a port: a scalar with the prefix
 abbrev pub is_port : Text → CMember → Bool
 is_port prefix m = (starts_with nat_eq m.name prefix && nat_lt (length prefix) (length m.name)) && (is_scalar m.ty && is_none m.length)
 
+-- whether each of these members can be a port
 abbrev pub are_ports : Text → List CMember → Bool
 are_ports prefix [] = false
 are_ports prefix (m ∷ ms) = is_pad m && list_all (is_port prefix) ms
@@ -557,6 +584,7 @@ faults_in_struct structs depths s =
     ++ (unless (nat_le (depth_of_struct depths s) 300) short_chain s.place
     ++ unless (interface_fits s) interface_members s.place)))
 
+-- the faults of structs, where those before them are known
 abbrev pub struct_faults_after : Table (Table CMember) → Table ℕ → List CStruct → List Fault
 struct_faults_after structs depths [] = []
 struct_faults_after structs depths (s ∷ rest) =
@@ -565,15 +593,19 @@ struct_faults_after structs depths (s ∷ rest) =
 
 -- ---- functions
 
+-- a parameter as a variable
 abbrev pub param_variable : CParam → Text × Variable
 param_variable p = (p.name, record { pointer = p.pointer; ty = p.ty })
 
+-- a local as a variable
 abbrev pub local_variable : CLocal → Text × Variable
 local_variable l = (l.name, record { pointer = false; ty = l.ty })
 
+-- the parameters and locals of a function
 abbrev pub variables_of : CFunc → List (Text × Variable)
 variables_of f = map param_variable f.params ++ map local_variable f.locals
 
+-- the parameters and the result of a function
 abbrev pub signature_in : CFunc → Signature
 signature_in f = record { widens = false; params = map (λ p. record { pointer = p.pointer; ty = p.ty }) f.params; result = f.result }
 
@@ -581,6 +613,7 @@ signature_in f = record { widens = false; params = map (λ p. record { pointer =
 abbrev pub keeps_all : CFunc → Bool
 keeps_all f = is_some f.result && not (bytes_eq f.name (codes "bl_tick"))
 
+-- what is known inside a function
 abbrev pub context_in : Table (Table CMember) → Table Signature → CFunc → Context
 context_in structs functions f =
     record { structs = structs; functions = functions; variables = table_of (variables_of f); result = f.result; keeps = keeps_all f }
@@ -615,6 +648,7 @@ faults_in_function structs functions depths last f =
     ++ (repeated (names_table (variable_names f)) (turns_in_block f.body)
     ++ block_faults (map faults_in_stmt f.body) (context_in structs functions f) false)
 
+-- the faults of functions, where those before them are known
 abbrev pub function_faults_after : Table (Table CMember) → Table Signature → Table ℕ → List CFunc → List Fault
 function_faults_after structs functions depths [] = []
 function_faults_after structs functions depths (f ∷ rest) =
@@ -638,6 +672,7 @@ tick_params (s ∷ i ∷ o ∷ []) =
     points_to (codes "bl_state") (codes "s") s && (points_to (codes "bl_in") (codes "i") i && points_to (codes "bl_out") (codes "o") o)
 tick_params _ = false
 
+-- whether a function returns a scalar of this type
 abbrev pub gives : Option Scalar → Scalar → Bool
 gives None t = false
 gives (Some s) t = same_scalar s t
@@ -648,6 +683,7 @@ init_faults f last =
     if bytes_eq f.name (codes "bl_init") then unless (is_none f.result && init_params f.params) interface_functions f.place
     else unless false interface_functions last
 
+-- the faults of the function that must be `bl_tick`
 abbrev pub tick_faults : CFunc → List Fault
 tick_faults f = unless (bytes_eq f.name (codes "bl_tick") && (gives f.result (Nat W32) && tick_params f.params)) interface_functions f.place
 
@@ -659,6 +695,7 @@ no_place = record { start = 0; end = 0 }
 abbrev pub last_two : List CFunc → List CFunc
 last_two funcs = drop (length funcs - 2) funcs
 
+-- the faults of the last two functions
 abbrev pub faults_of_two : List CFunc → List Fault
 faults_of_two [] = unless false interface_functions no_place
 faults_of_two (last ∷ []) = unless false interface_functions last.place ++ tick_faults last
@@ -668,6 +705,7 @@ faults_of_two (f ∷ last ∷ rest) = init_faults f last.place ++ tick_faults la
 abbrev pub interface_faults : List CFunc → List Fault
 interface_faults funcs = faults_of_two (last_two funcs)
 
+-- the place at which the last two functions are asked for
 abbrev pub place_of_two : List CFunc → Place
 place_of_two [] = no_place
 place_of_two (last ∷ []) = last.place

@@ -10,10 +10,12 @@ use Rattle.bl_tree.specs.Reduce.{joined}
 abbrev pub Turns : Type 0
 Turns = List (Text × Place)
 
+-- what counts the turns in a block that may be absent
 abbrev pub turns_or_none : Option (List Turns) → Turns
 turns_or_none None = []
 turns_or_none (Some block) = joined block
 
+-- one step of the fold for statements
 abbrev pub stmt_kind_turns : CStmtKind-F (Place → Turns) Turns → Place → Turns
 stmt_kind_turns (CStmtKind-F.If condition block other) place = joined block ++ turns_or_none other
 stmt_kind_turns (CStmtKind-F.Loop turn condition body) place = (turn, place) ∷ joined body
@@ -22,6 +24,7 @@ stmt_kind_turns _ place = []
 abbrev pub stmt_turns_step : CStmt-F (Place → Turns) Turns → Turns
 stmt_turns_step stmt = stmt.what stmt.place
 
+-- what counts turns in a statement
 abbrev pub turns_in : CStmt → Turns
 turns_in = fold-CStmt (Place → Turns) Turns stmt_kind_turns stmt_turns_step
 

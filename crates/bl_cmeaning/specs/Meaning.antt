@@ -121,6 +121,7 @@ called_after scope memory name n None = record { memory = memory; count = n; res
 
 -- ---- expressions change nothing: each is evaluated in a scope and a memory, from left to right
 
+-- what a part that is evaluated gives, in a scope and a memory
 abbrev pub Evaluates : Type 0 → Type 0
 Evaluates A = Scope → Memory → Counted A
 
@@ -172,6 +173,7 @@ abbrev pub Evaluating : OpenPart → Type 0
 Evaluating Of = Of (Evaluates Passed) (Evaluates CValue) (Scope → Memory → Called) (Evaluates CValue) (Evaluates (List Part)) (Evaluates Location)
     (Evaluates (List Part))
 
+-- one step of the fold for each part: what it gives, where what its own parts give is known
 abbrev pub arg_step : Evaluating CArg-F → Evaluates Passed
 arg_step (CArg-F.Value value) scope memory = next (value scope memory) (λ v. given (Some (by_value v)))
 arg_step (CArg-F.Address place) scope memory = next (place scope memory) (λ p. given (Some (by_address p)))
@@ -236,6 +238,7 @@ pub record Outcome : Type 0 where
   pub end : End
   pub count : ℕ
 
+-- what a statement does, in a scope and a memory
 abbrev pub Runs : Type 0
 Runs = Scope → Memory → Outcome
 
@@ -250,6 +253,7 @@ following_end n memory breaks rest = record { memory = memory; end = breaks; cou
 following_end n memory (returns result) rest = record { memory = memory; end = returns result; count = n }
 following_end n memory traps rest = record { memory = memory; end = traps; count = n }
 
+-- what follows an outcome that goes on
 abbrev pub following : Outcome → (Memory → Outcome) → Outcome
 following o rest = following_end o.count o.memory o.end rest
 
@@ -263,6 +267,7 @@ abbrev pub ended_by : {A : Type 0} → Memory → ℕ → Option A → (A → Ou
 ended_by memory n None rest = record { memory = memory; end = traps; count = n }
 ended_by memory n (Some a) rest = after n (rest a)
 
+-- a statement that first evaluates something, and traps where that traps
 abbrev pub executed : {A : Type 0} → Memory → Counted A → (A → Outcome) → Outcome
 executed memory evaluated rest = ended_by memory (1 + evaluated.count) evaluated.answer rest
 
@@ -270,6 +275,7 @@ executed memory evaluated rest = ended_by memory (1 + evaluated.count) evaluated
 abbrev pub going : Memory → Outcome
 going memory = record { memory = memory; end = goes_on; count = 0 }
 
+-- the outcome that returns a number
 abbrev pub returning : Memory → ℤ → Outcome
 returning memory result = record { memory = memory; end = returns result; count = 0 }
 
@@ -278,6 +284,7 @@ abbrev pub call_end : Option ℤ → End
 call_end (Some result) = goes_on
 call_end None = traps
 
+-- the outcome of a call that is a statement
 abbrev pub call_outcome : Called → Outcome
 call_outcome c = record { memory = c.memory; end = call_end c.result; count = 1 + c.count }
 
@@ -314,6 +321,7 @@ turns (suc n) condition body scope =
 unfoldable pub turn_limit : ℕ
 turn_limit = 65536
 
+-- one step of the fold for statements
 abbrev pub stmt_kind_step : CStmtKind-F Runs Runs → Runs
 stmt_kind_step (CStmtKind-F.Set place expr) scope memory =
     executed memory (next (location_c place scope memory) (λ p. next (value_c expr scope memory) (λ v. given (Some (set_at memory p v))))) going

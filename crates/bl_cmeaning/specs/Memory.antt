@@ -47,12 +47,14 @@ Memory = Root → CValue
 
 -- ---- tests
 
+-- whether two parts of a path are the same
 abbrev pub same_part : Part → Part → Bool
 same_part (member m) (member n) = bytes_eq m n
 same_part (element j) (element k) = j == k
 same_part (member m) (element k) = false
 same_part (element j) (member n) = false
 
+-- whether two roots are the same
 abbrev pub same_root : Root → Root → Bool
 same_root state_object state_object = true
 same_root input_object input_object = true

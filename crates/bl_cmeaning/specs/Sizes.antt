@@ -46,10 +46,12 @@ abbrev pub size_of_type : Sizes → CType → ℕ
 size_of_type known (OfScalar kind) = 1
 size_of_type known (OfStruct name) = entry_or 0 known name
 
+-- how many cells an array of such elements has, or one element
 abbrev pub size_of_length : Option ℕ → ℕ → ℕ
 size_of_length None size = size
 size_of_length (Some length) size = length * size
 
+-- how many cells a member has, where those of each struct are known
 abbrev pub size_of_member : Sizes → CMember → ℕ
 size_of_member known m = size_of_length m.length (size_of_type known m.ty)
 

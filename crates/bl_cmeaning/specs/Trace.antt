@@ -26,6 +26,7 @@ pub data Reply : Type 0 where
   ended : Reply
   trapped : Reply
 
+-- what one tick does
 pub record Tick : Type 0 where
   pub reply : Reply
   -- the outputs
@@ -94,6 +95,7 @@ abbrev pub trapped_at_start : List (List ℤ) → Trace
 trapped_at_start [] = record { rows = []; last = Open }
 trapped_at_start (ins ∷ rest) = record { rows = []; last = Trap }
 
+-- the trace that goes on from these numbers, where the start has left some
 abbrev pub trace_after : Parts → Option (List ℤ) → List (List ℤ) → Trace
 trace_after file None rows = trapped_at_start rows
 trace_after file (Some cells) rows = c_trace_from file rows cells

@@ -48,7 +48,7 @@ use Rattle.bl_cmeaning.specs.Trace.{entered, object}
 use Rattle.bl_cmeaning.specs.Faults.{WellFormed, faults_in, function_faults_after, init_params, interface_structs, last_place, points_to}
 use Rattle.bl_cmeaning.specs.Faults.{signature_in, struct_faults_after, struct_table, tick_params, unless}
 use Rattle.bl_cmeaning.proofs.EndLemmas.{nil-left, nil-right}
-use Rattle.bl_cmeaning_laws.specs.Fitting.{Spot, cell_holds, scalars, whole, walk}
+use Rattle.bl_cmeaning_laws.specs.Fitting.{ValueSpot, cell_holds, scalars, whole, walk}
 use Rattle.bl_cmeaning_laws.proofs.Lists.{all-append, and-both, and-left, and-right}
 use Rattle.bl_cmeaning_laws.specs.Laws.{SameCall, StartsAgree, TicksAgree, behind_objects, cells_in, entered_flat, input_at, output_at, routines}
 use Rattle.bl_cmeaning_laws.specs.Flat.{Cells, applied, cell_at}
@@ -137,13 +137,13 @@ module _ (file : Parts) (formed : WellFormed file) where
   pub shaped : Shaped (sizes file.structs) (lists_of file.structs) (struct_table file.structs)
   shaped = shaped-file file formed
 
-  abbrev pub Leads : Spot → ℕ → List Inner → Type 0
+  abbrev pub Leads : ValueSpot → ℕ → List Inner → Type 0
   Leads = Led (sizes file.structs) (lists_of file.structs) (struct_table file.structs) shaped (scalars file.structs) (inner-file file formed)
 
   abbrev pub Typed : CType → Type 0
   Typed = LedType (sizes file.structs) (lists_of file.structs) (struct_table file.structs) shaped (scalars file.structs) (inner-file file formed)
 
-  abbrev pub Offset : Spot → List Part → ℕ
+  abbrev pub Offset : ValueSpot → List Part → ℕ
   Offset spot parts = way_offset (sizes file.structs) (lists_of file.structs) (struct_table file.structs) (Some spot) parts
 
   pub struct-led : (name : Text) → is_some (struct_table file.structs name) ≡ true → Typed (OfStruct name)
@@ -166,7 +166,7 @@ module _ (file : Parts) (formed : WellFormed file) where
   scalar-end kind other (q ∷ []) h = cc
   scalar-end kind other (q ∷ r ∷ rest) h = cc
 
-  same-way : (spot : Spot) (i : Inner) (parts : List Part) (kind : Scalar) →
+  same-way : (spot : ValueSpot) (i : Inner) (parts : List Part) (kind : Scalar) →
       walk (struct_table file.structs) (Some spot) i.parts ≡ Some (whole (OfScalar i.kind)) →
       walk (struct_table file.structs) (Some spot) parts ≡ Some (whole (OfScalar kind)) →
       Offset spot i.parts ≡ Offset spot parts → (parts ≡ i.parts) × (kind ≡ i.kind)
@@ -187,7 +187,7 @@ module _ (file : Parts) (formed : WellFormed file) where
           let e = scalar-end i.kind kind rest last in
           (way ∙ ap (λ r. i.parts ++ r) e.0 ∙ append-nil i.parts, sym e.1)
 
-  found-in : (spot : Spot) (base at : ℕ) (is : List Inner) (cells : Cells) (value : CValue) (parts : List Part) (kind : Scalar) → Leads spot at is →
+  found-in : (spot : ValueSpot) (base at : ℕ) (is : List Inner) (cells : Cells) (value : CValue) (parts : List Part) (kind : Scalar) → Leads spot at is →
       ValueIn cells (base + at) value is →
       walk (struct_table file.structs) (Some spot) parts ≡ Some (whole (OfScalar kind)) → at ≤ Offset spot parts →
       Offset spot parts < at + length is →

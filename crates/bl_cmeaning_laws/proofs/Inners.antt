@@ -42,7 +42,7 @@ use Rattle.bl_cmeaning.specs.Faults.{struct_faults_after, unless}
 use Rattle.bl_cmeaning.specs.Tables.{Table, found, no_entries, table_of, with_entry}
 use Rattle.bl_cmeaning.proofs.EndLemmas.{nil-left, nil-right}
 use Rattle.bl_cmeaning.proofs.MapLemmas.{next_entry}
-use Rattle.bl_cmeaning_laws.specs.Fitting.{Spot, whole, row, spot_if, spot_of, spot_of_length, step_in, walk}
+use Rattle.bl_cmeaning_laws.specs.Fitting.{ValueSpot, whole, row, spot_if, spot_of, spot_of_length, step_in, walk}
 use Rattle.bl_cmeaning_laws.proofs.Lists.{and-left, and-right}
 use Rattle.bl_cmeaning_laws.proofs.Faultless.{unless-nil}
 use Rattle.bl_cmeaning_laws.proofs.Entries.{Positioned, positioned}
@@ -66,22 +66,22 @@ flat-append f (x ∷ xs) ys = ap (λ l. f x ++ l) (flat-append f xs ys) ∙ sym 
 
 module _ (known : Sizes) (lists : Lists) (structs : Structs) (shaped : Shaped known lists structs) (scalars : Scalars)
     (inner : (name : Text) (ms : List CMember) → lists name ≡ Some ms → scalars name ≡ Some (flat_map (inner_of_member scalars) ms)) where
-  abbrev Offset : Option Spot → List Part → ℕ
+  abbrev Offset : Option ValueSpot → List Part → ℕ
   Offset = way_offset known lists structs
 
   -- each scalar is led to from a spot, and stands so many cells behind it
-  abbrev pub Led : Spot → ℕ → List Inner → Type 0
+  abbrev pub Led : ValueSpot → ℕ → List Inner → Type 0
   Led spot at [] = Unit {0}
   Led spot at (i ∷ is) = ((walk structs (Some spot) i.parts ≡ Some (whole (OfScalar i.kind))) × (Offset (Some spot) i.parts ≡ at))
       × Led spot (suc at) is
 
-  led-append : (spot : Spot) (at : ℕ) (xs ys : List Inner) → Led spot at xs → Led spot (at + length xs) ys → Led spot at (xs ++ ys)
+  led-append : (spot : ValueSpot) (at : ℕ) (xs ys : List Inner) → Led spot at xs → Led spot (at + length xs) ys → Led spot at (xs ++ ys)
   led-append spot at [] ys h k = let e : at + 0 ≡ at = omega arith in subst (λ n. Led spot n ys) e k
   led-append spot at (x ∷ xs) ys h k =
       let e : at + suc (length xs) ≡ suc at + length xs = omega arith in
       (h.0, led-append spot (suc at) xs ys h.1 (subst (λ n. Led spot n ys) e k))
 
-  led-inside : (spot next : Spot) (p : Part) (at : ℕ) (is : List Inner) → step_in structs spot p ≡ Some next → Led next at is →
+  led-inside : (spot next : ValueSpot) (p : Part) (at : ℕ) (is : List Inner) → step_in structs spot p ≡ Some next → Led next at is →
       Led spot (part_offset known lists spot p + at) (map (inside (p ∷ [])) is)
   led-inside spot next p at [] steps h = tt
   led-inside spot next p at (i ∷ is) steps h =
@@ -94,7 +94,7 @@ module _ (known : Sizes) (lists : Lists) (structs : Structs) (shaped : Shaped kn
         subst (λ n. Led spot n (map (inside (p ∷ [])) is)) e (led-inside spot next p (suc at) is steps h.1),
       )
 
-  led-inside-two : (spot mid next : Spot) (p q : Part) (at : ℕ) (is : List Inner) → step_in structs spot p ≡ Some mid →
+  led-inside-two : (spot mid next : ValueSpot) (p q : Part) (at : ℕ) (is : List Inner) → step_in structs spot p ≡ Some mid →
       step_in structs mid q ≡ Some next →
       Led next at is →
       Led spot (part_offset known lists spot p + (part_offset known lists mid q + at)) (map (inside (p ∷ q ∷ [])) is)
@@ -124,7 +124,7 @@ module _ (known : Sizes) (lists : Lists) (structs : Structs) (shaped : Shaped kn
       chosen false is = absurd (grind (arith, common_steps))
 
   -- the elements of an array, in order
-  led-row : (spot : Spot) (name : Text) (n m : ℕ) (ty : CType) → step_in structs spot (member name) ≡ Some (row n ty) → LedType ty → m ≤ n →
+  led-row : (spot : ValueSpot) (name : Text) (n m : ℕ) (ty : CType) → step_in structs spot (member name) ≡ Some (row n ty) → LedType ty → m ≤ n →
       Led spot (part_offset known lists spot (member name))
       (flat_map (λ k. map (inside (member name ∷ element k ∷ [])) (inner_of_type scalars ty)) (below m))
       × (length (flat_map (λ k. map (inside (member name ∷ element k ∷ [])) (inner_of_type scalars ty)) (below m)) ≡ m * size_of_type known ty)
@@ -160,7 +160,7 @@ module _ (known : Sizes) (lists : Lists) (structs : Structs) (shaped : Shaped kn
       )
 
   -- a member
-  led-member : (spot : Spot) (m : CMember) → step_in structs spot (member m.name) ≡ Some (spot_of m) → LedType m.ty →
+  led-member : (spot : ValueSpot) (m : CMember) → step_in structs spot (member m.name) ≡ Some (spot_of m) → LedType m.ty →
       Led spot (part_offset known lists spot (member m.name)) (inner_of_member scalars m) × (length (inner_of_member scalars m) ≡ size_of_member known m)
   led-member spot m steps t = chosen m.length steps
     where

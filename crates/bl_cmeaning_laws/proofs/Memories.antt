@@ -44,7 +44,7 @@ use Rattle.bl_cmeaning.specs.Faults.{WellFormed, struct_table}
 use Rattle.bl_cmeaning.specs.Memory.{Part, Root, state_object, input_object, output_object, variable, Location, CValue, Memory, same_root, with_part}
 use Rattle.bl_cmeaning.specs.Memory.{set_at, value_at, cleared, zeros}
 use Rattle.bl_cmeaning.specs.Cells.{Inner, inner_of_type, inner_of, cells_at, cells_of}
-use Rattle.bl_cmeaning_laws.specs.Fitting.{Spot, whole, row, scalars, holds, fits, walk, whole_type, whole_spot, RootTypes, place_type, fits_where}
+use Rattle.bl_cmeaning_laws.specs.Fitting.{ValueSpot, whole, row, scalars, holds, fits, walk, whole_type, whole_spot, RootTypes, place_type, fits_where}
 use Rattle.bl_cmeaning_laws.specs.Fitting.{MemoryFits, ObjectsAre, cell_holds, ClearedFits, ReadingFits, SettingFits, CellsFit}
 use Rattle.bl_cmeaning_laws.proofs.Lists.{all-append, all-map, all-same, all-true, and-both, and-left, and-right}
 use Rattle.bl_cmeaning_laws.proofs.Members.{AllLaidOut, Scalars, Structs, laid-out}
@@ -79,7 +79,7 @@ cleared-fits file types = record { each = λ root. zeros-fit-where (scalars file
 
 -- ---- reading and setting
 
-whole-is : (o : Option Spot) (ty : CType) → whole_type o ≡ Some ty → o ≡ Some (whole ty)
+whole-is : (o : Option ValueSpot) (ty : CType) → whole_type o ≡ Some ty → o ≡ Some (whole ty)
 whole-is None ty h = cc
 whole-is (Some (whole t)) ty h = ap (λ x. Some (whole x)) (some_of t ty h)
   where

@@ -46,7 +46,7 @@ use Rattle.bl_cmeaning.specs.Faults.{distinct_names, declared_before, short_chai
 use Rattle.bl_cmeaning.specs.Faults.{depth_of_struct, faults_in, faults_in_struct, interface_fits, is_declared, is_pad, is_port, is_scalar}
 use Rattle.bl_cmeaning.specs.Faults.{member_table, struct_faults_after, struct_table, unless}
 use Rattle.bl_cmeaning.proofs.EndLemmas.{nil-left, nil-right}
-use Rattle.bl_cmeaning_laws.specs.Fitting.{Spot, cell_holds, scalars, whole}
+use Rattle.bl_cmeaning_laws.specs.Fitting.{ValueSpot, cell_holds, scalars, whole}
 use Rattle.bl_cmeaning_laws.proofs.Lists.{and-both, and-left, and-right}
 use Rattle.bl_cmeaning_laws.specs.Laws.{cells_in, input_at, kinds_of, output_at}
 use Rattle.bl_cmeaning_laws.specs.Flat.{Cells, cell_at, with_args}
@@ -227,13 +227,13 @@ module _ (file : Parts) (formed : WellFormed file)
       chosen false is h later = later h
 
   -- the scalars of members that are ports, one for each
-  abbrev PortsLed : Spot → ℕ → List CMember → Type 0
+  abbrev PortsLed : ValueSpot → ℕ → List CMember → Type 0
   PortsLed spot at [] = Unit {0}
   PortsLed spot at (m ∷ ms) =
       ((kind : Scalar) × ((m.ty ≡ OfScalar kind) × Leads file formed spot at (record { parts = member m.name ∷ []; kind = kind } ∷ [])))
       × PortsLed spot (suc at) ms
 
-  ports-led : (spot : Spot) (prefix : Text) (at : ℕ) (ms : List CMember) → list_all (is_port prefix) ms ≡ true →
+  ports-led : (spot : ValueSpot) (prefix : Text) (at : ℕ) (ms : List CMember) → list_all (is_port prefix) ms ≡ true →
       Leads file formed spot at (flat_map (inner_of_member (scalars file.structs)) ms) → PortsLed spot at ms
   ports-led spot prefix at [] all led = tt
   ports-led spot prefix at (m ∷ ms) all led =
@@ -267,7 +267,7 @@ module _ (file : Parts) (formed : WellFormed file)
       filter_map column_of (m ∷ ms) ≡ record { name = drop 2 m.name; ty = kind } ∷ filter_map column_of ms
   columns-are m ms kind is = ap (λ t. cons_option (column_typed m.name t) (filter_map column_of ms)) is
 
-  columns-count : (spot : Spot) (at : ℕ) (ms : List CMember) → PortsLed spot at ms → length (filter_map column_of ms) ≡ length ms
+  columns-count : (spot : ValueSpot) (at : ℕ) (ms : List CMember) → PortsLed spot at ms → length (filter_map column_of ms) ≡ length ms
   columns-count spot at [] led = refl
   columns-count spot at (m ∷ ms) led = ap length (columns-are m ms led.0.0 led.0.1.0) ∙ ap suc (columns-count spot (suc at) ms led.1)
 

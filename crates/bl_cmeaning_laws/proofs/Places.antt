@@ -33,17 +33,17 @@ use Rattle.bl_tree.specs.declared.c.CMember.{CMember}
 use Rattle.bl_cmeaning.specs.Cells.{Inner, inside, below, inner_of_length, inner_of_member, inner_of_type}
 use Rattle.bl_cmeaning.specs.Memory.{Part, member, element, CValue, same_part, left_after, number_or, with_part}
 use Rattle.bl_cmeaning.specs.Tables.{Table, found, no_entries, table_of}
-use Rattle.bl_cmeaning_laws.specs.Fitting.{Spot, whole, row, fits, holds, spot_if, spot_of, spot_of_length, step_in, walk, whole_type}
+use Rattle.bl_cmeaning_laws.specs.Fitting.{ValueSpot, whole, row, fits, holds, spot_if, spot_of, spot_of_length, step_in, walk, whole_type}
 use Rattle.bl_cmeaning_laws.proofs.Lists.{all-append, all-below-at, all-below-but, all-flat, all-found, all-found-but, all-map, all-same}
 use Rattle.bl_cmeaning_laws.proofs.Members.{AllLaidOut, LaidOut, Scalars, Structs}
 
 -- the scalars of what a way has led to
-abbrev pub inner_at : Scalars → Spot → List Inner
+abbrev pub inner_at : Scalars → ValueSpot → List Inner
 inner_at known (whole ty) = inner_of_type known ty
 inner_at known (row n ty) = flat_map (λ k. map (inside (element k ∷ [])) (inner_of_type known ty)) (below n)
 
 -- whether a value is one of what a way has led to
-abbrev pub spot_fits : Scalars → Spot → CValue → Bool
+abbrev pub spot_fits : Scalars → ValueSpot → CValue → Bool
 spot_fits known spot value = list_all (holds value) (inner_at known spot)
 
 -- the value of a part
@@ -108,12 +108,12 @@ part-itself (element k) = grind (arith, common_steps)
 
 -- ---- one step
 
-some_spot : (a b : Spot) → Some a ≡ Some b → a ≡ b
+some_spot : (a b : ValueSpot) → Some a ≡ Some b → a ≡ b
 some_spot a b h = cc
 
 module _ (known : Scalars) (structs : Structs) (laid : AllLaidOut known structs) where
   -- what is known of the member that a step leads to
-  record Stepped (struct name : Text) (next : Spot) : Type 0 where
+  record Stepped (struct name : Text) (next : ValueSpot) : Type 0 where
     members : Table CMember
     is : structs struct ≡ Some members
     it : CMember
@@ -121,7 +121,7 @@ module _ (known : Scalars) (structs : Structs) (laid : AllLaidOut known structs)
     named : it.name ≡ name
     spot : spot_of it ≡ next
 
-  stepped : (struct name : Text) (next : Spot) → step_in structs (whole (OfStruct struct)) (member name) ≡ Some next → Stepped struct name next
+  stepped : (struct name : Text) (next : ValueSpot) → step_in structs (whole (OfStruct struct)) (member name) ≡ Some next → Stepped struct name next
   stepped struct name next h = chosen (structs struct) refl h
     where
       with_member : (members : Table CMember) (is : structs struct ≡ Some members) (o : Option CMember) → members name ≡ o → spot_if o ≡ Some next →
@@ -145,7 +145,7 @@ module _ (known : Scalars) (structs : Structs) (laid : AllLaidOut known structs)
       chosen None is k = cc
       chosen (Some members) is k = with_member members is (members name) refl k
 
-  read-member : (struct name : Text) (next : Spot) (v : CValue) → step_in structs (whole (OfStruct struct)) (member name) ≡ Some next →
+  read-member : (struct name : Text) (next : ValueSpot) (v : CValue) → step_in structs (whole (OfStruct struct)) (member name) ≡ Some next →
       spot_fits known (whole (OfStruct struct)) v ≡ true →
       spot_fits known next (sub v (member name)) ≡ true
   read-member struct name next v h fit =
@@ -155,7 +155,7 @@ module _ (known : Scalars) (structs : Structs) (laid : AllLaidOut known structs)
       all-found (λ m. m.name) (member_fits known v) name s.it (laid struct s.members s.is).list s.there all in
       subst (λ n. spot_fits known next (sub v (member n)) ≡ true) s.named (subst (λ t. spot_fits known t (sub v (member s.it.name)) ≡ true) s.spot here)
 
-  set-member : (struct name : Text) (next : Spot) (v w new : CValue) → step_in structs (whole (OfStruct struct)) (member name) ≡ Some next →
+  set-member : (struct name : Text) (next : ValueSpot) (v w new : CValue) → step_in structs (whole (OfStruct struct)) (member name) ≡ Some next →
       spot_fits known (whole (OfStruct struct)) v ≡ true →
       spot_fits known next w ≡ true → sub new (member name) ≡ w → ((q : Part) → same_part (member name) q ≡ false → sub new q ≡ sub v q) →
       spot_fits known (whole (OfStruct struct)) new ≡ true
@@ -172,7 +172,8 @@ module _ (known : Scalars) (structs : Structs) (laid : AllLaidOut known structs)
       no_entries l.list l.apart s.there
       all
 
-  read-element : (n k : ℕ) (ty : CType) (next : Spot) (v : CValue) (b : Bool) → nat_lt k n ≡ b → (if b then Some (whole ty) else None) ≡ Some next →
+  read-element : (n k : ℕ) (ty : CType) (next : ValueSpot) (v : CValue) (b : Bool) → nat_lt k n ≡ b →
+      (if b then Some (whole ty) else None) ≡ Some next →
       spot_fits known (row n ty) v ≡ true →
       spot_fits known next (sub v (element k)) ≡ true
   read-element n k ty next v true within h fit =
@@ -180,7 +181,7 @@ module _ (known : Scalars) (structs : Structs) (laid : AllLaidOut known structs)
       (all-below-at (λ j. fits known ty (sub v (element j))) n k within (sym (row-fits known n ty v) ∙ fit))
   read-element n k ty next v false within h fit = cc
 
-  set-element : (n k : ℕ) (ty : CType) (next : Spot) (v w new : CValue) (b : Bool) → nat_lt k n ≡ b →
+  set-element : (n k : ℕ) (ty : CType) (next : ValueSpot) (v w new : CValue) (b : Bool) → nat_lt k n ≡ b →
       (if b then Some (whole ty) else None) ≡ Some next →
       spot_fits known (row n ty) v ≡ true →
       spot_fits known next w ≡ true → sub new (element k) ≡ w → ((q : Part) → same_part (element k) q ≡ false → sub new q ≡ sub v q) →
@@ -193,7 +194,7 @@ module _ (known : Scalars) (structs : Structs) (laid : AllLaidOut known structs)
       (λ j differs was. ap (fits known ty) (others (element j) differs) ∙ was) n (sym (row-fits known n ty v) ∙ fit)
   set-element n k ty next v w new false within h fit part at others = cc
 
-  read-step : (spot next : Spot) (p : Part) (v : CValue) → step_in structs spot p ≡ Some next → spot_fits known spot v ≡ true →
+  read-step : (spot next : ValueSpot) (p : Part) (v : CValue) → step_in structs spot p ≡ Some next → spot_fits known spot v ≡ true →
       spot_fits known next (sub v p) ≡ true
   read-step (whole (OfScalar kind)) next (member name) v h fit = cc
   read-step (whole (OfScalar kind)) next (element k) v h fit = cc
@@ -202,7 +203,7 @@ module _ (known : Scalars) (structs : Structs) (laid : AllLaidOut known structs)
   read-step (row n ty) next (member name) v h fit = cc
   read-step (row n ty) next (element k) v h fit = read-element n k ty next v (nat_lt k n) refl h fit
 
-  set-step : (spot next : Spot) (p : Part) (v w new : CValue) → step_in structs spot p ≡ Some next → spot_fits known spot v ≡ true →
+  set-step : (spot next : ValueSpot) (p : Part) (v w new : CValue) → step_in structs spot p ≡ Some next → spot_fits known spot v ≡ true →
       spot_fits known next w ≡ true →
       sub new p ≡ w → ((q : Part) → same_part p q ≡ false → sub new q ≡ sub v q) → spot_fits known spot new ≡ true
   set-step (whole (OfScalar kind)) next (member name) v w new h fit part at others = cc
@@ -218,17 +219,18 @@ module _ (known : Scalars) (structs : Structs) (laid : AllLaidOut known structs)
   walk-nowhere [] = refl
   walk-nowhere (p ∷ parts) = refl
 
-  nowhere : (parts : List Part) (goal : Spot) → walk structs None parts ≡ Some goal → ⊥
+  nowhere : (parts : List Part) (goal : ValueSpot) → walk structs None parts ≡ Some goal → ⊥
   nowhere parts goal h = let x : None ≡ Some goal = sym (walk-nowhere parts) ∙ h in cc
 
   -- a way that leads somewhere has a next step
-  walk-on : (o : Option Spot) (parts : List Part) (goal : Spot) (test : Bool) → walk structs o parts ≡ Some goal →
-      ((next : Spot) → o ≡ Some next → walk structs (Some next) parts ≡ Some goal → test ≡ true) → test ≡ true
+  walk-on : (o : Option ValueSpot) (parts : List Part) (goal : ValueSpot) (test : Bool) → walk structs o parts ≡ Some goal →
+      ((next : ValueSpot) → o ≡ Some next → walk structs (Some next) parts ≡ Some goal → test ≡ true) → test ≡ true
   walk-on None parts goal test h use_next = absurd (nowhere parts goal h)
   walk-on (Some next) parts goal test h use_next = use_next next refl h
 
   -- what is read at the end of a way fits what the way leads to
-  pub read-walk : (parts : List Part) (spot goal : Spot) (v : CValue) → walk structs (Some spot) parts ≡ Some goal → spot_fits known spot v ≡ true →
+  pub read-walk : (parts : List Part) (spot goal : ValueSpot) (v : CValue) → walk structs (Some spot) parts ≡ Some goal →
+      spot_fits known spot v ≡ true →
       spot_fits known goal (λ way. v (parts ++ way)) ≡ true
   read-walk [] spot goal v h fit = subst (λ t. spot_fits known t v ≡ true) (some_spot spot goal h) fit
   read-walk (p ∷ parts) spot goal v h fit =
@@ -243,7 +245,7 @@ module _ (known : Scalars) (structs : Structs) (laid : AllLaidOut known structs)
   set-at-other v p parts part q h = λ i way. ap (λ b. number_or (if b then left_after parts way else None) part (v (q ∷ way))) h i
 
   -- a value still fits after the end of a way was set to what fits there
-  pub set-walk : (parts : List Part) (spot goal : Spot) (v part : CValue) → walk structs (Some spot) parts ≡ Some goal →
+  pub set-walk : (parts : List Part) (spot goal : ValueSpot) (v part : CValue) → walk structs (Some spot) parts ≡ Some goal →
       spot_fits known spot v ≡ true →
       spot_fits known goal part ≡ true →
       spot_fits known spot (with_part v parts part) ≡ true

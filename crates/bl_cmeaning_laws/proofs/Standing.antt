@@ -34,7 +34,7 @@ use Rattle.bl_cmeaning.specs.Memory.{Part, Root, state_object, input_object, out
 use Rattle.bl_cmeaning.specs.Memory.{number_or, same_root, set_at, value_at, zeros, with_part}
 use Rattle.bl_cmeaning.specs.Sizes.{Sizes, size_of_type}
 use Rattle.bl_cmeaning.specs.Tables.{no_entries}
-use Rattle.bl_cmeaning_laws.specs.Fitting.{Spot, whole, walk}
+use Rattle.bl_cmeaning_laws.specs.Fitting.{ValueSpot, whole, walk}
 use Rattle.bl_cmeaning_laws.proofs.Lists.{and-left, and-right}
 use Rattle.bl_cmeaning_laws.proofs.Memories.{zeros-fit}
 use Rattle.bl_cmeaning_laws.specs.Flat.{Cells, cell_at, copied, zeroed}
@@ -105,7 +105,7 @@ pub zero-fits : (kind : Scalar) → in_range kind (pos 0) ≡ true
 zero-fits kind = and-left (in_range kind (pos 0)) true (zeros-fit no_entries (OfScalar kind))
 
 module _ (known : Sizes) (lists : Lists) (structs : Structs) (shaped : Shaped known lists structs) (limit : ℕ) where
-  abbrev Offset : Option Spot → List Part → ℕ
+  abbrev Offset : Option ValueSpot → List Part → ℕ
   Offset = way_offset known lists structs
 
   -- memory stands in cells

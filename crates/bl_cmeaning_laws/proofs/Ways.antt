@@ -36,7 +36,7 @@ use Rattle.bl_cmeaning.specs.Memory.{Part, member, element, same_part, left_afte
 use Rattle.bl_cmeaning.specs.Sizes.{Sizes, size_of_length, size_of_member, size_of_type}
 use Rattle.bl_cmeaning.specs.Tables.{Table, entry_or, found, table_of}
 use Rattle.bl_cmeaning_laws.proofs.Entries.{Apart, offset-apart, offset-within, offset_of, sum_of}
-use Rattle.bl_cmeaning_laws.specs.Fitting.{Spot, whole, row, spot_if, spot_of, spot_of_length, step_in, walk}
+use Rattle.bl_cmeaning_laws.specs.Fitting.{ValueSpot, whole, row, spot_if, spot_of, spot_of_length, step_in, walk}
 
 -- the members of each struct, by name and in order
 abbrev pub Structs : Type 0
@@ -53,7 +53,7 @@ abbrev pub offset_in : Sizes → List CMember → Text → ℕ
 offset_in known ms name = offset_of (size_of_member known) (by_name ms) name
 
 -- how many cells stand before a part
-abbrev pub part_offset : Sizes → Lists → Spot → Part → ℕ
+abbrev pub part_offset : Sizes → Lists → ValueSpot → Part → ℕ
 part_offset known lists (whole (OfStruct struct)) (member name) = offset_in known (entry_or [] lists struct) name
 part_offset known lists (row n ty) (element k) = k * size_of_type known ty
 part_offset known lists (whole (OfStruct struct)) (element k) = 0
@@ -61,13 +61,13 @@ part_offset known lists (whole (OfScalar kind)) part = 0
 part_offset known lists (row n ty) (member name) = 0
 
 -- how many cells stand before the end of a way
-abbrev pub way_offset : Sizes → Lists → Structs → Option Spot → List Part → ℕ
+abbrev pub way_offset : Sizes → Lists → Structs → Option ValueSpot → List Part → ℕ
 way_offset known lists structs o [] = 0
 way_offset known lists structs None (p ∷ ps) = 0
 way_offset known lists structs (Some spot) (p ∷ ps) = part_offset known lists spot p + way_offset known lists structs (step_in structs spot p) ps
 
 -- how many cells there are at the end of a way
-abbrev pub spot_size : Sizes → Spot → ℕ
+abbrev pub spot_size : Sizes → ValueSpot → ℕ
 spot_size known (whole ty) = size_of_type known ty
 spot_size known (row n ty) = n * size_of_type known ty
 
@@ -114,7 +114,7 @@ product-apart j k s h = chosen (nat_lt j k) refl
 
 -- ---- one step
 
-some_spot : (a b : Spot) → Some a ≡ Some b → a ≡ b
+some_spot : (a b : ValueSpot) → Some a ≡ Some b → a ≡ b
 some_spot a b h = cc
 
 pub same-part-is : (p q : Part) → same_part p q ≡ true → p ≡ q
@@ -125,14 +125,14 @@ same-part-is (element j) (element k) h = let e : j ≡ k = grind (arith, common_
 
 module _ (known : Sizes) (lists : Lists) (structs : Structs) (shaped : Shaped known lists structs) where
   -- what is known of the member that a step leads to
-  pub record Stepped (struct name : Text) (next : Spot) : Type 0 where
+  pub record Stepped (struct name : Text) (next : ValueSpot) : Type 0 where
     pub list : List CMember
     pub is : lists struct ≡ Some list
     pub it : CMember
     pub there : found name (by_name list) ≡ Some it
     pub spot : spot_of it ≡ next
 
-  pub stepped : (struct name : Text) (next : Spot) → step_in structs (whole (OfStruct struct)) (member name) ≡ Some next → Stepped struct name next
+  pub stepped : (struct name : Text) (next : ValueSpot) → step_in structs (whole (OfStruct struct)) (member name) ≡ Some next → Stepped struct name next
   stepped struct name next h = chosen (lists struct) refl (sym (ap (λ o. spot_if (option_and_then (λ members. members name) o)) (shaped.tables struct)) ∙ h)
     where
       with_member : (list : List CMember) → lists struct ≡ Some list → (o : Option CMember) → found name (by_name list) ≡ o →
@@ -146,11 +146,11 @@ module _ (known : Sizes) (lists : Lists) (structs : Structs) (shaped : Shaped kn
       chosen None is k = cc
       chosen (Some list) is k = with_member list is (found name (by_name list)) refl k
 
-  element-next : (n k : ℕ) (ty : CType) (next : Spot) (b : Bool) → (if b then Some (whole ty) else None) ≡ Some next → whole ty ≡ next
+  element-next : (n k : ℕ) (ty : CType) (next : ValueSpot) (b : Bool) → (if b then Some (whole ty) else None) ≡ Some next → whole ty ≡ next
   element-next n k ty next true h = some_spot (whole ty) next h
   element-next n k ty next false h = cc
 
-  element-within : (k n : ℕ) (ty : CType) (next : Spot) (b : Bool) → nat_lt k n ≡ b → (if b then Some (whole ty) else None) ≡ Some next → k < n
+  element-within : (k n : ℕ) (ty : CType) (next : ValueSpot) (b : Bool) → nat_lt k n ≡ b → (if b then Some (whole ty) else None) ≡ Some next → k < n
   element-within k n ty next true is h = grind (arith, common_steps)
   element-within k n ty next false is h = cc
 
@@ -162,10 +162,10 @@ module _ (known : Sizes) (lists : Lists) (structs : Structs) (shaped : Shaped kn
       part_offset known lists (whole (OfStruct struct)) (member name) ≡ offset_in known list name
   offset-of-member struct name list is = ap (λ o. offset_in known (unwrap_or o []) name) is
 
-  size-of-next : (m : CMember) (next : Spot) → spot_of m ≡ next → size_of_member known m ≡ spot_size known next
+  size-of-next : (m : CMember) (next : ValueSpot) → spot_of m ≡ next → size_of_member known m ≡ spot_size known next
   size-of-next m next is = sym (spot_size-length known m.ty m.length) ∙ ap (spot_size known) is
 
-  pub step-within : (spot next : Spot) (p : Part) → step_in structs spot p ≡ Some next →
+  pub step-within : (spot next : ValueSpot) (p : Part) → step_in structs spot p ≡ Some next →
       part_offset known lists spot p + spot_size known next ≤ spot_size known spot
   step-within (whole (OfStruct struct)) next (member name) h =
       let s : Stepped struct name next = stepped struct name next h in
@@ -186,7 +186,8 @@ module _ (known : Sizes) (lists : Lists) (structs : Structs) (shaped : Shaped kn
   step-within (row n ty) next (member name) h = cc
 
   -- different parts have no cell in common
-  pub step-apart : (spot a b : Spot) (p q : Part) → step_in structs spot p ≡ Some a → step_in structs spot q ≡ Some b → same_part p q ≡ false →
+  pub step-apart : (spot a b : ValueSpot) (p q : Part) → step_in structs spot p ≡ Some a →
+      step_in structs spot q ≡ Some b → same_part p q ≡ false →
       Apart (part_offset known lists spot p) (spot_size known a) (part_offset known lists spot q) (spot_size known b)
   step-apart (whole (OfStruct struct)) a b (member m) (member n) h k differ =
       let s : Stepped struct m a = stepped struct m a h in
@@ -219,7 +220,7 @@ module _ (known : Sizes) (lists : Lists) (structs : Structs) (shaped : Shaped kn
   walk-nowhere [] = refl
   walk-nowhere (p ∷ ps) = refl
 
-  pub walk-append : (o : Option Spot) (ps qs : List Part) → walk structs o (ps ++ qs) ≡ walk structs (walk structs o ps) qs
+  pub walk-append : (o : Option ValueSpot) (ps qs : List Part) → walk structs o (ps ++ qs) ≡ walk structs (walk structs o ps) qs
   walk-append o [] qs = refl
   walk-append None (p ∷ ps) qs = sym (walk-nowhere qs)
   walk-append (Some spot) (p ∷ ps) qs = walk-append (step_in structs spot p) ps qs
@@ -228,13 +229,13 @@ module _ (known : Sizes) (lists : Lists) (structs : Structs) (shaped : Shaped kn
   nowhere-offset [] = refl
   nowhere-offset (q ∷ qs) = refl
 
-  pub offset-append : (o : Option Spot) (ps qs : List Part) →
+  pub offset-append : (o : Option ValueSpot) (ps qs : List Part) →
       way_offset known lists structs o (ps ++ qs) ≡ way_offset known lists structs o ps + way_offset known lists structs (walk structs o ps) qs
   offset-append o [] qs = omega arith
   offset-append None (p ∷ ps) qs = let e = nowhere-offset qs in omega arith
   offset-append (Some spot) (p ∷ ps) qs = let e = offset-append (step_in structs spot p) ps qs in omega arith
 
-  pub walk-within : (o : Option Spot) (spot goal : Spot) (ps : List Part) → o ≡ Some spot → walk structs o ps ≡ Some goal →
+  pub walk-within : (o : Option ValueSpot) (spot goal : ValueSpot) (ps : List Part) → o ≡ Some spot → walk structs o ps ≡ Some goal →
       way_offset known lists structs o ps + spot_size known goal ≤ spot_size known spot
   walk-within o spot goal [] is h = let e : spot_size known spot ≡ spot_size known goal =
       ap (spot_size known) (some_spot spot goal (sym is ∙ h)) in omega arith
@@ -242,8 +243,8 @@ module _ (known : Sizes) (lists : Lists) (structs : Structs) (shaped : Shaped kn
   walk-within (Some x) spot goal (p ∷ ps) is h =
       through (step_in structs x p) refl h (λ next at k. walk-within (step_in structs x p) next goal ps at (ap (λ o. walk structs o ps) at ∙ k))
     where
-      through : (o : Option Spot) → step_in structs x p ≡ o → walk structs o ps ≡ Some goal →
-          ((next : Spot) → step_in structs x p ≡ Some next → walk structs (Some next) ps ≡ Some goal →
+      through : (o : Option ValueSpot) → step_in structs x p ≡ o → walk structs o ps ≡ Some goal →
+          ((next : ValueSpot) → step_in structs x p ≡ Some next → walk structs (Some next) ps ≡ Some goal →
           way_offset known lists structs (step_in structs x p) ps + spot_size known goal ≤ spot_size known next) →
           part_offset known lists x p + way_offset known lists structs (step_in structs x p) ps + spot_size known goal ≤ spot_size known spot
       through None at k inner = let bad : None ≡ Some goal = sym (walk-nowhere ps) ∙ k in cc
@@ -269,7 +270,7 @@ module _ (known : Sizes) (lists : Lists) (structs : Structs) (shaped : Shaped kn
       chosen false is k inner = cc
 
   -- a scalar outside of a part has its cell outside of it
-  pub ways-apart : (o : Option Spot) (goal : Spot) (kind : Scalar) (ps qs : List Part) → walk structs o ps ≡ Some goal →
+  pub ways-apart : (o : Option ValueSpot) (goal : ValueSpot) (kind : Scalar) (ps qs : List Part) → walk structs o ps ≡ Some goal →
       walk structs o qs ≡ Some (whole (OfScalar kind)) → left_after ps qs ≡ None →
       Apart (way_offset known lists structs o ps) (spot_size known goal) (way_offset known lists structs o qs) 1
   ways-apart o goal kind [] qs h k none = cc
@@ -278,13 +279,13 @@ module _ (known : Sizes) (lists : Lists) (structs : Structs) (shaped : Shaped kn
       let is : spot ≡ whole (OfScalar kind) = some_spot spot (whole (OfScalar kind)) k in
       absurd (nothing-in (step_in structs spot p) (ap (λ s. step_in structs s p) is) h)
     where
-      nothing-in : (o : Option Spot) → o ≡ None → walk structs o ps ≡ Some goal → ⊥
+      nothing-in : (o : Option ValueSpot) → o ≡ None → walk structs o ps ≡ Some goal → ⊥
       nothing-in None is h = let bad : None ≡ Some goal = sym (walk-nowhere ps) ∙ h in cc
       nothing-in (Some s) is h = cc
   ways-apart (Some spot) goal kind (p ∷ ps) (q ∷ qs) h k none =
       same (same_part p q) refl none (λ there n. ways-apart (step_in structs spot p) goal kind ps qs h there n)
     where
-      differ : (a b : Option Spot) → step_in structs spot p ≡ a → step_in structs spot q ≡ b → walk structs a ps ≡ Some goal →
+      differ : (a b : Option ValueSpot) → step_in structs spot p ≡ a → step_in structs spot q ≡ b → walk structs a ps ≡ Some goal →
           walk structs b qs ≡ Some (whole (OfScalar kind)) → same_part p q ≡ false →
           Apart (part_offset known lists spot p + way_offset known lists structs (step_in structs spot p) ps) (spot_size known goal)
           (part_offset known lists spot q + way_offset known lists structs (step_in structs spot q) qs) 1

@@ -55,42 +55,46 @@ fits known ty value = list_all (holds value) (inner_of_type known ty)
 -- ---- parts of values
 
 -- what a way into a value has led to: a value of a type, or an array of so many, of which an element must follow
-pub data Spot : Type 0 where
-  whole : CType → Spot
-  row : ℕ → CType → Spot
+pub data ValueSpot : Type 0 where
+  whole : CType → ValueSpot
+  row : ℕ → CType → ValueSpot
 
-abbrev pub spot_of_length : CType → Option ℕ → Spot
+-- a value of this type, or an array of so many
+abbrev pub spot_of_length : CType → Option ℕ → ValueSpot
 spot_of_length ty None = whole ty
 spot_of_length ty (Some length) = row length ty
 
 -- what a member is
-abbrev pub spot_of : CMember → Spot
+abbrev pub spot_of : CMember → ValueSpot
 spot_of m = spot_of_length m.ty m.length
 
-abbrev pub spot_if : Option CMember → Option Spot
+-- what a member is, where there is one
+abbrev pub spot_if : Option CMember → Option ValueSpot
 spot_if None = None
 spot_if (Some m) = Some (spot_of m)
 
 -- one step further in, where the members of each struct are these
-abbrev pub step_in : Table (Table CMember) → Spot → Part → Option Spot
+abbrev pub step_in : Table (Table CMember) → ValueSpot → Part → Option ValueSpot
 step_in structs (whole (OfStruct struct)) (member name) = spot_if (option_and_then (λ members. members name) (structs struct))
 step_in structs (row length ty) (element k) = if nat_lt k length then Some (whole ty) else None
 step_in structs (whole (OfStruct struct)) (element k) = None
 step_in structs (whole (OfScalar kind)) part = None
 step_in structs (row length ty) (member name) = None
 
-abbrev pub walk : Table (Table CMember) → Option Spot → List Part → Option Spot
+-- step after step further in
+abbrev pub walk : Table (Table CMember) → Option ValueSpot → List Part → Option ValueSpot
 walk structs spot [] = spot
 walk structs None (part ∷ parts) = None
 walk structs (Some spot) (part ∷ parts) = walk structs (step_in structs spot part) parts
 
 -- the type of a whole value
-abbrev pub whole_type : Option Spot → Option CType
+abbrev pub whole_type : Option ValueSpot → Option CType
 whole_type None = None
 whole_type (Some (whole ty)) = Some ty
 whole_type (Some (row length ty)) = None
 
-abbrev pub whole_spot : Option CType → Option Spot
+-- a whole value of the type
+abbrev pub whole_spot : Option CType → Option ValueSpot
 whole_spot None = None
 whole_spot (Some ty) = Some (whole ty)
 
@@ -104,6 +108,7 @@ RootTypes = Root → Option CType
 abbrev pub place_type : List CStruct → RootTypes → Location → Option CType
 place_type structs types place = whole_type (walk (struct_table structs) (whole_spot (types place.root)) place.parts)
 
+-- whether a value is of the type; any value is where no type is known
 abbrev pub fits_where : Table (List Inner) → Option CType → CValue → Bool
 fits_where known None value = true
 fits_where known (Some ty) value = fits known ty value

@@ -49,9 +49,11 @@ cells_in file name = entry_or 0 (sizes file.structs) name
 abbrev pub input_at : Parts → ℕ
 input_at file = cells_in file (codes "bl_state")
 
+-- where the cells of the output object begin
 abbrev pub output_at : Parts → ℕ
 output_at file = input_at file + cells_in file (codes "bl_in")
 
+-- how many cells the three objects have
 abbrev pub behind_objects : Parts → ℕ
 behind_objects file = output_at file + cells_in file (codes "bl_out")
 

@@ -36,9 +36,11 @@ members_laid known at (m ∷ rest) = (m.name, record { at = at; it = m }) ∷ me
 abbrev pub Layouts : Type 0
 Layouts = Table (Table Laid)
 
+-- where the members of a struct stand in it
 abbrev pub layout_of : Sizes → CStruct → Text × Table Laid
 layout_of known s = (s.name, table_of (members_laid known 0 s.members))
 
+-- where the members of each struct stand in it
 abbrev pub layouts : List CStruct → Layouts
 layouts structs = table_of (map (layout_of (capped_sizes structs)) structs)
 
@@ -50,6 +52,7 @@ pub record Slot : Type 0 where
   pub pointer : Bool
   pub ty : CType
 
+-- where the locals stand in a frame
 abbrev pub locals_laid : Sizes → ℕ → List CLocal → List (Text × Slot)
 locals_laid known at [] = []
 locals_laid known at (l ∷ rest) = (l.name, record { at = at; pointer = Bool.false; ty = l.ty })

@@ -1,5 +1,6 @@
 -- What statements fail in, which functions they call, what they cost and do, and what counts their turns, without their places.
-use Rattle.std.proofs.Common.{◌≡◌, ℕ, Bool, true, false, not, ◌&&◌, List, [], ◌∷◌, ◌++◌, map, Option, Some, None, refl, ap, ap₂, sym, ◌∙◌}
+use Rattle.std.proofs.Common.{◌≡◌, ℕ, Bool, true, false, not, ◌&&◌, List, [], ◌∷◌, ◌++◌, map, Option, Some, None, refl, ap}
+use Rattle.std.proofs.Common.{ap₂, sym, ◌∙◌}
 use Rattle.std.specs.Prelude.{is_some, option_map, max, if◌then◌else◌}
 use Rattle.std.proofs.Common.{◌+◌, ◌*◌, subst}
 use Rattle.std.proofs.lemmas.List.{map-append}

@@ -1,5 +1,6 @@
 -- What fails in structs, functions and files without their places: the same clauses.
-use Rattle.std.proofs.Common.{◌≡◌, ℕ, ◌+◌, ◌-◌, Bool, true, false, not, ◌&&◌, ◌||◌, List, [], ◌∷◌, ◌++◌, map, length, drop, refl, ap, ap₂, ◌∙◌}
+use Rattle.std.proofs.Common.{◌≡◌, ℕ, ◌+◌, ◌-◌, Bool, true, false, not, ◌&&◌, ◌||◌, List, [], ◌∷◌, ◌++◌, map}
+use Rattle.std.proofs.Common.{length, drop, refl, ap, ap₂, ◌∙◌}
 use Rattle.std.specs.Prelude.{bytes_eq, codes, is_none, is_some, nat_le, nat_lt, if◌then◌else◌}
 use Rattle.std.specs.List.{list_all}
 use Rattle.std.proofs.lemmas.List.{drop-map, length-map}
@@ -112,7 +113,8 @@ head_at-bare : (structs : Table (Table CMember)) (functions : Table Signature) (
 head_at-bare structs functions depths last f at calls returning =
     both_bare _ _ _ _ (unless_bare (is_none (functions f.name)) distinct_names at)
     (both_bare _ _ _ _ (unless_bare (all_distinct no_entries (variable_names f)) distinct_names at)
-    (both_bare _ _ _ _ (unless_bare (list_all (λ p. is_declared structs p.ty) f.params && list_all (λ l. is_declared structs l.ty) f.locals) declared_before at)
+    (both_bare _ _ _ _ (unless_bare (list_all (λ p. is_declared structs p.ty) f.params
+    && list_all (λ l. is_declared structs l.ty) f.locals) declared_before at)
     (both_bare _ _ _ _ (unless_bare (list_all (λ p. p.pointer || is_scalar p.ty) f.params) scalar_parameter at)
     (both_bare _ _ _ _ (unless_bare (if last then not f.fixed else f.fixed) static_functions at)
     (both_bare _ _ _ _ (unless_bare (nat_le (limited (1 + most depths calls)) 300) short_chain at)
@@ -174,7 +176,8 @@ two-bare [] = refl
 two-bare (last ∷ []) =
     both_bare (unless false interface_functions last.place) (tick_faults last) _ _ (unless_bare false interface_functions last.place) (tick-bare last)
 two-bare (f ∷ last ∷ rest) =
-    both_bare (init_faults f last.place) (tick_faults last) _ _ (init_at-bare (bytes_eq f.name (codes "bl_init")) (is_none f.result && init_params f.params) f.place last.place) (tick-bare last)
+    both_bare (init_faults f last.place) (tick_faults last) _ _
+    (init_at-bare (bytes_eq f.name (codes "bl_init")) (is_none f.result && init_params f.params) f.place last.place) (tick-bare last)
 
 interface-bare : (fs : List CFunc) → interface_faults (map placeless_func fs) ≡ bared (interface_faults fs)
 interface-bare fs = ap faults_of_two (last_two-same fs) ∙ two-bare (last_two fs)

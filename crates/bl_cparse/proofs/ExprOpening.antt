@@ -58,7 +58,7 @@ use Rattle.bl_csyntax.specs.Expects.{Expects}
 use Rattle.bl_csyntax.specs.Follow.{constant_starts, after_place, avoided}
 use Rattle.bl_csyntax_laws.proofs.Pieces.{name_is}
 use Rattle.bl_csyntax.proofs.ClassLemmas.{exactly_is}
-use Rattle.bl_cparse.specs.Reading.{sign, name_of, prelude_function, operator, index_function, elements, part, signed_starts, literal_starts}
+use Rattle.bl_cparse.specs.inner.Reading.{sign, name_of, prelude_function, operator, index_function, elements, part, signed_starts, literal_starts}
 use Rattle.bl_cparse.proofs.ReadLemmas.{seated, opened, begun, omitted, next, passed, retold, other_next}
 
 -- tests of which none holds

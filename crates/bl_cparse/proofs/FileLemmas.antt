@@ -37,7 +37,7 @@ use Rattle.bl_tree.specs.Reduce.{all_of, joined}
 use Rattle.bl_ctext.specs.Prelude.{prelude}
 use Rattle.bl_ctext.specs.declared.prelude.TheConstants.{PRELUDE}
 use Rattle.bl_ctext.specs.Token.{Token, SpacedC}
-use Rattle.bl_ctext.specs.Cut.{are_tokens}
+use Rattle.bl_ctext.specs.inner.Cut.{are_tokens}
 use Rattle.bl_ctext.specs.Spelling.{struct_tokens, func_tokens, tokens_of}
 use Rattle.bl_ctext.specs.Spellable.{has_any, is_spellable, most_open, spells_func, spells_struct}
 use Rattle.bl_ctext.proofs.Bytes.{both}
@@ -55,7 +55,8 @@ use Rattle.bl_csyntax.proofs.Once.{no_failure}
 use Rattle.bl_cparse.specs.declared.refusal.CRefusal.{CRefusal}
 use Rattle.bl_cparse.specs.declared.refusal.CRefusal.TheVariants.{NotSubset, NoMemory}
 use Rattle.bl_cparse.specs.Places.{SpellsNone, RefusesNone, RefusesAt}
-use Rattle.bl_cparse.specs.Reading.{part, WantsMemory}
+use Rattle.bl_cparse.specs.inner.Reading.{part}
+use Rattle.bl_cparse.specs.Places.{WantsMemory}
 use Rattle.bl_cparse.proofs.ItemOpening.{file_opens}
 
 at_most : (a b : ℕ) → a ≤ b → nat_le a b ≡ true

@@ -36,7 +36,7 @@ use Rattle.bl_csyntax.specs.Tables.{has, starts, absent}
 use Rattle.bl_csyntax.specs.Expects.{Expects}
 use Rattle.bl_csyntax.proofs.Expecting.{expects_nothing}
 use Rattle.bl_csyntax.proofs.ClassLemmas.{exactly_is}
-use Rattle.bl_cparse.specs.Reading.{sign, name_of, scalar_type, part, local_starts}
+use Rattle.bl_cparse.specs.inner.Reading.{sign, name_of, scalar_type, part, local_starts}
 use Rattle.bl_csyntax_laws.proofs.Pieces.{name_is, struct_word, function_word}
 use Rattle.bl_cparse.proofs.TokenLemmas.{name_struct, name_function}
 use Rattle.bl_cparse.proofs.ReadLemmas.{seated, opened, begun, omitted, next, passed, other_next}

@@ -9,7 +9,7 @@ use Rattle.bl_ctext.specs.declared.prelude.TheConstants.{PRELUDE}
 use Rattle.bl_ctext.specs.Token.{Token}
 use Rattle.bl_ctext.specs.Spelling.{struct_tokens, func_tokens, tokens_of}
 use Rattle.bl_ctext.specs.Spellable.{has_any, is_spellable, most_open, spells_func, spells_struct}
-use Rattle.bl_cparse.specs.HasPlaces.{Spot, and_then, func_walk, in_turn, struct_walk}
+use Rattle.bl_cparse.specs.HasPlaces.{TextSpot, and_then, func_walk, in_turn, struct_walk}
 use Rattle.bl_cparse.proofs.FileLemmas.{prelude_is}
 
 any_map : {A B : Type 0} (f : A → B) (xs : List A) → has_any (map f xs) ≡ has_any xs
@@ -41,10 +41,10 @@ module _ (structs made : List CStruct) (funcs placed : List CFunc) (s : map stru
 abbrev pub pair : List CStruct → List CFunc → List CStruct × List CFunc
 pair structs funcs = (structs, funcs)
 
-abbrev pub standing : List ℕ → List ℕ → Spot
+abbrev pub standing : List ℕ → List ℕ → TextSpot
 standing text front = record { text = text; at = length front }
 
-there : (text : List ℕ) (from : Spot) → from ≡ standing text PRELUDE.now → standing text prelude ≡ from
+there : (text : List ℕ) (from : TextSpot) → from ≡ standing text PRELUDE.now → standing text prelude ≡ from
 there text from is = ap (standing text) (sym prelude_is) ∙ sym is
 
 abbrev pub has_places : List ℕ → List CStruct → List CFunc → Type 0
@@ -52,9 +52,9 @@ has_places text structs funcs = (and_then pair (in_turn (map struct_walk structs
     (in_turn (map func_walk funcs))).0 ≡ pair structs funcs
 
 -- both walks, one behind the other
-pub walked : (text : List ℕ) (structs : List CStruct) (funcs : List CFunc) (from between behind : Spot) → from ≡ standing text PRELUDE.now →
+pub walked : (text : List ℕ) (structs : List CStruct) (funcs : List CFunc) (from between behind : TextSpot) → from ≡ standing text PRELUDE.now →
     in_turn (map struct_walk structs) from ≡ (structs, between) → in_turn (map func_walk funcs) between ≡ (funcs, behind) →
     has_places text structs funcs
 walked text structs funcs from between behind is h k =
     ap (λ spot. (and_then pair (in_turn (map struct_walk structs) spot) (in_turn (map func_walk funcs))).0) (there text from is)
-    ∙ (ap (λ r. (and_then pair r (in_turn (map func_walk funcs))).0) h ∙ ap (λ (r : List CFunc × Spot). pair structs r.0) k)
+    ∙ (ap (λ r. (and_then pair r (in_turn (map func_walk funcs))).0) h ∙ ap (λ (r : List CFunc × TextSpot). pair structs r.0) k)

@@ -43,7 +43,8 @@ use Rattle.bl_csyntax.proofs.ClassLemmas.{exactly_is}
 use Rattle.bl_csyntax.proofs.Predictive.{predictive}
 use Rattle.bl_csyntax.proofs.Expecting.{expects_production, expects_absent, expects_token}
 use Rattle.bl_cparse.specs.declared.refusal.CRefusal.{CRefusal}
-use Rattle.bl_cparse.specs.Reading.{sign, part, WantsMemory}
+use Rattle.bl_cparse.specs.inner.Reading.{sign, part}
+use Rattle.bl_cparse.specs.Places.{WantsMemory}
 
 -- ---- pieces
 

@@ -31,12 +31,12 @@ use Rattle.std.proofs.str.Laws.{order}
 use Rattle.std.proofs.lemmas.List.{length-drop, length-take-le, drop-drop, get_or-drop}
 use Rattle.bl_ctext.specs.Token.{Token, is_blank, is_double_sign, is_word_byte}
 use Rattle.std.specs.Prelude.{◌&&◌}
-use Rattle.bl_ctext.specs.Cut.{put_before}
+use Rattle.bl_ctext.specs.Token.{put_before}
 use Rattle.bl_ctext.proofs.Bytes.{joined-not_blank, or-snd}
 use Rattle.bl_csyntax.specs.Pieces.{cut_off, pieces, left_of, first_of}
 use Rattle.bl_csyntax.proofs.Ranges.{drop_more}
 use Rattle.bl_csyntax.proofs.PieceLemmas.{first_left}
-use Rattle.bl_cparse.specs.HasPlaces.{Spot, blanks, next, past}
+use Rattle.bl_cparse.specs.HasPlaces.{TextSpot, blanks, next, past}
 
 -- how many of the bytes are no blanks
 abbrev solid : List ℕ → ℕ
@@ -158,17 +158,17 @@ ends text at start end in_order inside at_end left =
     omega (arith, first, in_order)
 
 -- behind so many pieces
-abbrev pub times : ℕ → Spot → Spot
+abbrev pub times : ℕ → TextSpot → TextSpot
 times zero s = s
 times (suc n) s = next (times n s)
 
-first_time : (n : ℕ) (s : Spot) → times n (next s) ≡ times (suc n) s
+first_time : (n : ℕ) (s : TextSpot) → times n (next s) ≡ times (suc n) s
 first_time zero s = refl
 first_time (suc n) s = ap next (first_time n s)
 
-pub past_times : (tokens : List Token) (s : Spot) → past tokens s ≡ times (length tokens) s
+pub past_times : (tokens : List Token) (s : TextSpot) → past tokens s ≡ times (length tokens) s
 past_times [] s = refl
 past_times (t ∷ ts) s = past_times ts (next s) ∙ first_time (length ts) s
 
-pub one_more : (n : ℕ) (s : Spot) → times (n + 1) s ≡ next (times n s)
+pub one_more : (n : ℕ) (s : TextSpot) → times (n + 1) s ≡ next (times n s)
 one_more n s = let e : n + 1 ≡ suc n = omega arith in rw e refl

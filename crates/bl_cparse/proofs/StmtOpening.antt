@@ -33,7 +33,8 @@ use Rattle.bl_csyntax.specs.Expects.{Expects}
 use Rattle.bl_csyntax.proofs.ClassLemmas.{exactly_is}
 use Rattle.bl_csyntax_laws.proofs.Pieces.{name_is}
 use Rattle.bl_cparse.specs.declared.refusal.CRefusal.{CRefusal}
-use Rattle.bl_cparse.specs.Reading.{WantsMemory, sign, name_of, prelude_function, part, behind_turn, other_starts, GoesOnAPlace}
+use Rattle.bl_cparse.specs.inner.Reading.{sign, name_of, prelude_function, part, behind_turn, other_starts, GoesOnAPlace}
+use Rattle.bl_cparse.specs.Places.{WantsMemory}
 use Rattle.bl_cparse.proofs.ReadLemmas.{seated, opened, begun, omitted, next, other_next}
 use Rattle.bl_cparse.proofs.ExprOpening.{four_off, name_has, steps_more, simple_expr}
 

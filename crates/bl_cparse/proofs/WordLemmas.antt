@@ -15,7 +15,7 @@ use Rattle.bl_csyntax.specs.Classes.Class.{exactly, one_of}
 use Rattle.bl_csyntax.specs.Tables.{has}
 use Rattle.bl_csyntax.proofs.ClassLemmas.{exactly_is}
 use Rattle.bl_csyntax.specs.Follow.{constant_starts}
-use Rattle.bl_cparse.specs.Reading.{by_width, exactly_one, signed_starts, unsigned_starts, literal_starts, local_starts}
+use Rattle.bl_cparse.specs.inner.Reading.{by_width, exactly_one, signed_starts, unsigned_starts, literal_starts, local_starts}
 
 -- the word that a piece is
 pub word_is : (t w : Token) → matches (exactly w) t ≡ true → t ≡ w

@@ -58,7 +58,7 @@ use Rattle.bl_ctext.specs.declared.file.CFile.{CFile}
 use Rattle.bl_csyntax.specs.Pieces.{pieces, first_of}
 
 -- where a walk stands: behind the pieces of the text before this offset
-pub record Spot : Type 0 where
+pub record TextSpot : Type 0 where
   pub text : List ℕ
   pub at : ℕ
 
@@ -68,33 +68,34 @@ blanks [] = 0
 blanks (b ∷ bs) = cond (is_blank b) (suc (blanks bs)) 0
 
 -- where the next piece starts, and where it ends
-unfoldable pub start_of : Spot → ℕ
+unfoldable pub start_of : TextSpot → ℕ
 start_of s = s.at + blanks (drop s.at s.text)
 
-unfoldable pub end_of : Spot → ℕ
+unfoldable pub end_of : TextSpot → ℕ
 end_of s = start_of s + length (first_of (pieces (drop s.at s.text)))
 
-abbrev pub next : Spot → Spot
+-- the walk behind the next piece
+abbrev pub next : TextSpot → TextSpot
 next s = record { text = s.text; at = end_of s }
 
 -- behind as many pieces as these tokens
-abbrev pub past : List Token → Spot → Spot
+abbrev pub past : List Token → TextSpot → TextSpot
 past tokens s = fold (λ spot token. next spot) s tokens
 
 -- from the start of the next piece up to where another walk stands
-abbrev pub span : Spot → Spot → Place
+abbrev pub span : TextSpot → TextSpot → Place
 span s behind = record { start = start_of s; end = behind.at }
 
 -- a walk over a part: the part with its places set, and what stands behind it
 abbrev pub Walk : Type 0 → Type 0
-Walk A = Spot → A × Spot
+Walk A = TextSpot → A × TextSpot
 
 -- what is made of the part, and the same behind the tokens that follow it
-abbrev pub made : {A B : Type 0} → (A → B) → List Token → A × Spot → B × Spot
+abbrev pub made : {A B : Type 0} → (A → B) → List Token → A × TextSpot → B × TextSpot
 made f tokens walked = (f walked.0, past tokens walked.1)
 
 -- a walk behind a part, and what is made of both
-abbrev pub and_then : {A B C : Type 0} → (A → B → C) → A × Spot → Walk B → C × Spot
+abbrev pub and_then : {A B C : Type 0} → (A → B → C) → A × TextSpot → Walk B → C × TextSpot
 and_then f walked walk = (f walked.0 (walk walked.1).0, (walk walked.1).1)
 
 -- parts one after another
@@ -130,7 +131,7 @@ call_step c s = made (λ args. roll-CCall (record { name = c.name; args = args }
     (in_list true c.args (past (c.name ∷ codes "(" ∷ []) s))
 
 -- an expression, whose place is set
-abbrev pub expr_from : Spot → CExprKind × Spot → CExpr × Spot
+abbrev pub expr_from : TextSpot → CExprKind × TextSpot → CExpr × TextSpot
 expr_from s walked = (roll-CExpr (record { place = span s walked.1; what = walked.0 }), walked.1)
 
 abbrev pub expr_step : CExpr-F (Walk CArg) (Walk CExprKind) (Walk CCall) (Walk CExpr) (Walk CIndex) (Walk CPlace) (Walk CStep) → Walk CExpr
@@ -195,7 +196,7 @@ stmt_kind_step (CStmtKind-F.Return value) s =
     made (λ v. roll-CStmtKind (CStmtKind-F.Return v)) (codes ";" ∷ []) (if_there (option_map expr_walk value) (past (codes "return" ∷ []) s))
 
 -- a statement, whose place is set
-abbrev pub stmt_from : Spot → CStmtKind × Spot → CStmt × Spot
+abbrev pub stmt_from : TextSpot → CStmtKind × TextSpot → CStmt × TextSpot
 stmt_from s walked = (roll-CStmt (record { place = span s walked.1; what = walked.0 }), walked.1)
 
 abbrev pub stmt_step : CStmt-F (Walk CStmtKind) (Walk CStmt) → Walk CStmt
@@ -217,7 +218,7 @@ abbrev pub head_tokens : CFunc → List Token
 head_tokens f = func_front f ++ (with_commas (map param_tokens f.params) ++ (codes ")" ∷ codes "{" ∷ joined (map local_tokens f.locals)))
 
 -- a function, whose place is set
-abbrev pub func_from : CFunc → Spot → List CStmt × Spot → CFunc × Spot
+abbrev pub func_from : CFunc → TextSpot → List CStmt × TextSpot → CFunc × TextSpot
 func_from f s walked =
     (record { place = span s walked.1; fixed = f.fixed; result = f.result; name = f.name; params = f.params; locals = f.locals; body = walked.0 }, walked.1)
 

@@ -1,4 +1,3 @@
 pub mod HasPlaces
 pub mod Places
-pub mod Reading
 pub mod inner

@@ -32,3 +32,8 @@ RefusesAt text NoMemory = ⊤
 abbrev pub RefusesNone : List ℕ → CRefusal → Type 0
 RefusesNone text (NotSubset at) = SpellsNone text
 RefusesNone text NoMemory = ⊤
+
+-- memory was wanting
+abbrev pub WantsMemory : CRefusal → Type 0
+WantsMemory (NotSubset at) = ⊥
+WantsMemory NoMemory = ⊤

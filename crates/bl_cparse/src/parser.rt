@@ -18,7 +18,7 @@ ghost use Rattle.bl_ctext.specs.SpellsC.{SpellsC};
 ghost use Rattle.bl_csyntax.specs.Rules.{Passes};
 ghost use Rattle.bl_cparse.specs.HasPlaces.{HasPlaces};
 ghost use Rattle.bl_cparse.specs.Places.{LeavesPrelude, RefusesAt, RefusesNone, SpellsNone};
-ghost use Rattle.bl_cparse.specs.Reading.{WantsMemory};
+ghost use Rattle.bl_cparse.specs.Places.{WantsMemory};
 
 use crate::placing;
 use crate::placing::Spot;

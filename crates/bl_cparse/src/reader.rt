@@ -1,6 +1,7 @@
 //! A text behind its prelude, read from its front on.
 
-ghost use Rattle.std.specs.Prelude.{◌≡◌, ◌≤◌, true, false, List, [], ◌∷◌, length, drop, IsTrue, IsFalse, IsNone, IfOk, IfSome, OnOk, MatchResult};
+ghost use Rattle.std.specs.Prelude.{◌≡◌, ◌≤◌, true, false, List, [], ◌∷◌, length, drop, IsTrue, IsFalse, IsNone, IfOk, IfSome};
+ghost use Rattle.std.specs.Prelude.{OnOk, MatchResult};
 ghost use Rattle.bl_grammar.specs.declared.symbol.Symbol.{Symbol};
 ghost use Rattle.bl_ctext.specs.Token.{is_word};
 ghost use Rattle.bl_ctext.specs.Spellable.{has_any};
@@ -8,7 +9,8 @@ ghost use Rattle.bl_csyntax.specs.Pieces.{pieces, first_of, is_same};
 ghost use Rattle.bl_csyntax.specs.Classes.{Class, matches};
 ghost use Rattle.bl_csyntax.specs.Grammar.{Wanted};
 ghost use Rattle.bl_csyntax.specs.Expects.{Expects};
-ghost use Rattle.bl_cparse.specs.Reading.{sign, WantsMemory};
+ghost use Rattle.bl_cparse.specs.inner.Reading.{sign};
+ghost use Rattle.bl_cparse.specs.Places.{WantsMemory};
 
 use crate::refusal::CRefusal;
 use bl_csyntax::piece::next_piece;
@@ -28,7 +30,8 @@ pub struct Reader<'a> {
 
 impl<'a> Model for Reader<'a> {
     ghost use Rattle.std.specs.Prelude.{ℕ, List};
-    ghost use Rattle.bl_csyntax.specs.Pieces.{left_of, IsAt};
+    ghost use Rattle.bl_csyntax.specs.Pieces.{left_of};
+    ghost use Rattle.bl_csyntax.specs.inner.Seen.{IsAt};
 
     ghost Value = { List (List ℕ) };
 

@@ -1,6 +1,6 @@
 //! Why a text is no file of the C subset.
 
-ghost use Rattle.bl_cparse.specs.Reading.{WantsMemory};
+ghost use Rattle.bl_cparse.specs.Places.{WantsMemory};
 
 use bl_tree::NoMemory;
 use std::alloc::AllocError;

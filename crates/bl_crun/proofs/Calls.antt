@@ -6,7 +6,7 @@ use Rattle.bl_bytecode.specs.Code.{Code, Entry}
 use Rattle.bl_bytecode.specs.Laws.{Arrives, BothDo, begun, code_of_file, ended, ended_as, entry_in_file, routine_in_file}
 use Rattle.bl_bytecode.specs.Machine.{Room, Runs, State, Stepped, Waiting, returned}
 use Rattle.bl_bytecode.proofs.Files.{named-functions-run}
-use Rattle.bl_bytecode_compiler.specs.Views.{entry_for}
+use Rattle.bl_bytecode_compiler.specs.Entries.{entry_for}
 use Rattle.bl_bytecode_compiler.specs.declared.here.Entry.{Entry as CodeEntry}
 use Rattle.bl_cmeaning_laws.specs.Flat.{Left, Routine, applied}
 use Rattle.bl_cmeaning_laws.specs.Laws.{behind_objects, entered_flat}
@@ -15,7 +15,7 @@ use Rattle.bl_bytecode_machine.specs.Shown.{Shown}
 use Rattle.bl_bytecode_machine.specs.Steps.{Over, shown_count}
 use Rattle.bl_cmeaning.specs.Parts.{Parts}
 use Rattle.bl_crun.specs.declared.call.Called.{Called}
-use Rattle.bl_crun.specs.Done.{CallDone, Comes, Halting}
+use Rattle.bl_crun.specs.inner.CallsDone.{CallDone, Comes, Halting}
 
 -- ---- steps
 

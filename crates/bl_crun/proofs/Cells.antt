@@ -37,7 +37,7 @@ use Rattle.bl_cmeaning.specs.Parts.{Parts}
 use Rattle.bl_cmeaning.specs.Sizes.{sizes}
 use Rattle.bl_cmeaning.specs.Tables.{no_entries}
 use Rattle.bl_cmeaning.proofs.EndLemmas.{nil-left, nil-right}
-use Rattle.bl_cmeaning_laws.specs.Fitting.{Spot, scalars, whole, walk}
+use Rattle.bl_cmeaning_laws.specs.Fitting.{ValueSpot, scalars, whole, walk}
 use Rattle.bl_cmeaning_laws.proofs.Lists.{all-append, and-both, and-left, and-right}
 use Rattle.bl_cinterface.specs.Ports.{inputs_start, outputs_start}
 use Rattle.bl_cmeaning_laws.specs.Laws.{behind_objects, input_at, output_at}
@@ -192,13 +192,13 @@ module _ (file : Parts) (formed : WellFormed file) where
   shaped : Shaped (sizes file.structs) (lists_of file.structs) (struct_table file.structs)
   shaped = shaped-file file formed
 
-  abbrev Leads : Spot → ℕ → List Inner → Type 0
+  abbrev Leads : ValueSpot → ℕ → List Inner → Type 0
   Leads = Led (sizes file.structs) (lists_of file.structs) (struct_table file.structs) shaped (scalars file.structs) (inner-file file formed)
 
   abbrev Typed : CType → Type 0
   Typed = LedType (sizes file.structs) (lists_of file.structs) (struct_table file.structs) shaped (scalars file.structs) (inner-file file formed)
 
-  abbrev Offset : Spot → List Part → ℕ
+  abbrev Offset : ValueSpot → List Part → ℕ
   Offset spot parts = way_offset (sizes file.structs) (lists_of file.structs) (struct_table file.structs) (Some spot) parts
 
   -- behind a scalar there is nothing
@@ -209,7 +209,7 @@ module _ (file : Parts) (formed : WellFormed file) where
   scalar-end kind other (q ∷ r ∷ rest) h = cc
 
   -- two scalars with different offsets
-  none-left : (spot : Spot) (i j : Inner) → walk (struct_table file.structs) (Some spot) i.parts ≡ Some (whole (OfScalar i.kind)) →
+  none-left : (spot : ValueSpot) (i j : Inner) → walk (struct_table file.structs) (Some spot) i.parts ≡ Some (whole (OfScalar i.kind)) →
       walk (struct_table file.structs) (Some spot) j.parts ≡ Some (whole (OfScalar j.kind)) →
       (Offset spot i.parts ≡ Offset spot j.parts → ⊥) → is_none (left_after i.parts j.parts) ≡ true
   none-left spot i j a b differ = chosen (left_after i.parts j.parts) refl
@@ -226,7 +226,7 @@ module _ (file : Parts) (formed : WellFormed file) where
           let same : j.parts ≡ i.parts = way ∙ ap (λ r. i.parts ++ r) (scalar-end i.kind j.kind rest last) ∙ append-nil i.parts in
           absurd (differ (ap (Offset spot) (sym same)))
 
-  first-apart : (root : Root) (spot : Spot) (i : Inner) (at : ℕ) (is : List Inner) →
+  first-apart : (root : Root) (spot : ValueSpot) (i : Inner) (at : ℕ) (is : List Inner) →
       walk (struct_table file.structs) (Some spot) i.parts ≡ Some (whole (OfScalar i.kind)) → Offset spot i.parts < at → Leads spot at is →
       (list_all (spared (record { root = root; parts = i.parts })) (cells_at root is) ≡ true)
       × (list_all (λ d. spared d.location (record { location = record { root = root; parts = i.parts }; kind = i.kind })) (cells_at root is) ≡ true)
@@ -238,7 +238,7 @@ module _ (file : Parts) (formed : WellFormed file) where
         and-both _ _ (or-second _ _ (none-left spot j i led.0.0 a (λ e. omega arith))) rest.1,
       )
 
-  led-separate : (root : Root) (spot : Spot) (at : ℕ) (is : List Inner) → Leads spot at is → Separate (cells_at root is)
+  led-separate : (root : Root) (spot : ValueSpot) (at : ℕ) (is : List Inner) → Leads spot at is → Separate (cells_at root is)
   led-separate root spot at [] led = tt
   led-separate root spot at (i ∷ is) led =
       let e = led.0.1 in

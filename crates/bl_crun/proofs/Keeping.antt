@@ -40,15 +40,17 @@ use Rattle.std.proofs.lemmas.List.{length-map}
 use Rattle.bl_crun.specs.Cause.{Runs}
 use Rattle.bl_crun.specs.declared.call.Called.{Called}
 use Rattle.bl_crun.specs.declared.prepared.Prepared.{Prepared}
-use Rattle.bl_crun.specs.Done.{CallDone, CellsKeep, Comes, IsStart, IsTick, first_cells}
-use Rattle.bl_crun.specs.Prepared.{Keeps, Ticked, numbers_in}
+use Rattle.bl_crun.specs.Done.{CellsKeep, first_cells}
+use Rattle.bl_crun.specs.inner.CallsDone.{CallDone, Comes, IsStart, IsTick}
+use Rattle.bl_crun.specs.Prepared.{PreparedKeeps, numbers_in}
+use Rattle.bl_crun.specs.inner.Ticked.{Ticked}
 use Rattle.bl_crun.proofs.Calls.{file-comes, steps_of}
 use Rattle.bl_crun.proofs.Cells.{cells-long, input-start, output-start}
 use Rattle.bl_crun.proofs.Ticks.{inputs-within, outputs-within, start-is, tick-is}
 
 -- another machine with as much room
-pub kept : (file : Parts) (p : Prepared) (m : Shown) → Keeps file p → m.numbers ≡ p.machine.numbers → m.calls ≡ p.machine.calls →
-    CellsKeep file m.state.cells → Keeps file (record p { machine = m })
+pub kept : (file : Parts) (p : Prepared) (m : Shown) → PreparedKeeps file p → m.numbers ≡ p.machine.numbers → m.calls ≡ p.machine.calls →
+    CellsKeep file m.state.cells → PreparedKeeps file (record p { machine = m })
 kept file p m k n c cells = record {
   runs = k.runs;
   code = k.code;
@@ -65,7 +67,7 @@ kept file p m k n c cells = record {
   cells = cells;
 }
 
-first-numbers : (file : Parts) (p : Prepared) (m : Shown) → Keeps file p → numbers_in (record p { machine = m }) ≡ first_cells file m.state.cells
+first-numbers : (file : Parts) (p : Prepared) (m : Shown) → PreparedKeeps file p → numbers_in (record p { machine = m }) ≡ first_cells file m.state.cells
 first-numbers file p m k = ap (λ ts. take (length ts) m.state.cells) k.kinds
 
 -- ---- what is prepared at first
@@ -88,17 +90,17 @@ kinds-fit file runs = let e = kinds-base file runs in let s = runs.small in omeg
 abbrev pub Start : Parts → Prepared → Left ℤ
 Start file p = entered_flat file (codes "bl_init") (pos 0 ∷ []) p.machine.state.cells
 
-pub start-comes : (file : Parts) (p : Prepared) → Keeps file p →
+pub start-comes : (file : Parts) (p : Prepared) → PreparedKeeps file p →
     Comes (steps_of file (codes "bl_init") (pos 0 ∷ []) p.machine.state.cells) p.code.items p.init p.base (pos 0 ∷ []) p.machine (Start file p)
 start-comes file p k = file-comes file (codes "bl_init") (pos 0 ∷ []) p.machine p.code.items p.init p.base k.code k.init k.base k.numbers k.calls
 
-module _ (file : Parts) (p : Prepared) (k : Keeps file p) (agrees : StartsAgree file)
+module _ (file : Parts) (p : Prepared) (k : PreparedKeeps file p) (agrees : StartsAgree file)
     (cleared : p.machine.state.cells ≡ replicate (cells_needed file) (pos 0))
     (called : Called) (after : Shown) (done : CallDone (entered_flat file (codes "bl_init") (pos 0 ∷ []) p.machine.state.cells) p.machine called after) where
   started : IsStart file (Start file p)
   started = start-is file k.runs agrees p.machine.state.cells cleared
 
-  pub start-keeps : Keeps file (record p { machine = after })
+  pub start-keeps : PreparedKeeps file (record p { machine = after })
   start-keeps = kept file p after k done.numbers done.calls (subst (CellsKeep file) (sym done.cells) started.keeps)
 
   pub start-ready : is_some called.answer ≡ starts file
@@ -116,14 +118,14 @@ Args p = pos 0 ∷ pos p.input_at ∷ pos p.output_at ∷ []
 abbrev pub Set : Prepared → List ℤ → Shown
 Set p ins = holding p.machine (with_args (p.input_at + 1) ins p.machine.state.cells)
 
-pub tick-comes : (file : Parts) (p : Prepared) (m : Shown) (ins : List ℤ) → Keeps file p → m ≡ Set p ins →
+pub tick-comes : (file : Parts) (p : Prepared) (m : Shown) (ins : List ℤ) → PreparedKeeps file p → m ≡ Set p ins →
     Comes (steps_of file (codes "bl_tick") (Args p) m.state.cells) p.code.items p.tick p.base (Args p) m
     (entered_flat file (codes "bl_tick") (Args p) m.state.cells)
 tick-comes file p m ins k is =
     file-comes file (codes "bl_tick") (Args p) m p.code.items p.tick p.base k.code k.tick k.base
     (subst (λ (x : Shown). length p.code.items ≤ x.numbers) (sym is) k.numbers) (subst (λ (x : Shown). length file.funcs ≤ x.calls) (sym is) k.calls)
 
-tick-called : (file : Parts) (p : Prepared) (m : Shown) (ins : List ℤ) → Keeps file p → m ≡ Set p ins → (code : Code) →
+tick-called : (file : Parts) (p : Prepared) (m : Shown) (ins : List ℤ) → PreparedKeeps file p → m ≡ Set p ins → (code : Code) →
     code ≡ p.code.items → (args : List ℤ) →
     args ≡ Args p →
     Comes (steps_of file (codes "bl_tick") args m.state.cells) code p.tick p.base args m (entered_flat file (codes "bl_tick") args m.state.cells)
@@ -133,14 +135,15 @@ tick-called file p m ins keeps is code code-is args args-are =
     (subst (λ given. Comes (steps_of file (codes "bl_tick") given m.state.cells) p.code.items p.tick p.base given m
     (entered_flat file (codes "bl_tick") given m.state.cells)) (sym args-are) (tick-comes file p m ins keeps is))
 
-pub tick-required : (file : Parts) (p : Prepared) (m : Shown) (ins : List ℤ) → Keeps file p → m ≡ Set p ins → (code : Code) →
+pub tick-required : (file : Parts) (p : Prepared) (m : Shown) (ins : List ℤ) → PreparedKeeps file p → m ≡ Set p ins → (code : Code) →
     code ≡ p.code.items →
     (args : List ℤ) → args ≡ Args p →
     (l : Left ℤ) × Comes (steps_of file (codes "bl_tick") args m.state.cells) code p.tick p.base args m l
 tick-required file p m ins keeps is code code-is args args-are =
     (entered_flat file (codes "bl_tick") args m.state.cells, tick-called file p m ins keeps is code code-is args args-are)
 
-pub tick-done : (file : Parts) (p : Prepared) (m : Shown) (ins : List ℤ) → Keeps file p → m ≡ Set p ins → (code : Code) → code ≡ p.code.items →
+pub tick-done : (file : Parts) (p : Prepared) (m : Shown) (ins : List ℤ) → PreparedKeeps file p → m ≡ Set p ins →
+    (code : Code) → code ≡ p.code.items →
     (args : List ℤ) → args ≡ Args p → (called : Called) (after : Shown) →
     ((l : Left ℤ) → Comes (steps_of file (codes "bl_tick") args m.state.cells) code p.tick p.base args m l → CallDone l m called after) →
     CallDone (entered_flat file (codes "bl_tick") (pos 0 ∷ pos p.input_at ∷ pos p.output_at ∷ []) m.state.cells) m called after
@@ -148,24 +151,24 @@ tick-done file p m ins keeps is code code-is args args-are called after does =
     subst (λ given. CallDone (entered_flat file (codes "bl_tick") given m.state.cells) m called after) args-are
     (does (entered_flat file (codes "bl_tick") args m.state.cells) (tick-called file p m ins keeps is code code-is args args-are))
 
-start-called : (file : Parts) (p : Prepared) → Keeps file p → (code : Code) → code ≡ p.code.items →
+start-called : (file : Parts) (p : Prepared) → PreparedKeeps file p → (code : Code) → code ≡ p.code.items →
     Comes (steps_of file (codes "bl_init") (pos 0 ∷ []) p.machine.state.cells) code p.init p.base (pos 0 ∷ []) p.machine (Start file p)
 start-called file p keeps code code-is =
     subst (λ k. Comes (steps_of file (codes "bl_init") (pos 0 ∷ []) p.machine.state.cells) k p.init p.base (pos 0 ∷ []) p.machine
     (Start file p)) (sym code-is)
     (start-comes file p keeps)
 
-pub start-required : (file : Parts) (p : Prepared) → Keeps file p → (code : Code) → code ≡ p.code.items →
+pub start-required : (file : Parts) (p : Prepared) → PreparedKeeps file p → (code : Code) → code ≡ p.code.items →
     (l : Left ℤ) × Comes (steps_of file (codes "bl_init") (pos 0 ∷ []) p.machine.state.cells) code p.init p.base (pos 0 ∷ []) p.machine l
 start-required file p keeps code code-is = (Start file p, start-called file p keeps code code-is)
 
-pub start-done : (file : Parts) (p : Prepared) → Keeps file p → (code : Code) → code ≡ p.code.items → (called : Called) (after : Shown) →
+pub start-done : (file : Parts) (p : Prepared) → PreparedKeeps file p → (code : Code) → code ≡ p.code.items → (called : Called) (after : Shown) →
     ((l : Left ℤ) → Comes (steps_of file (codes "bl_init") (pos 0 ∷ []) p.machine.state.cells) code p.init p.base (pos 0 ∷ []) p.machine l →
     CallDone l p.machine called after) →
     CallDone (entered_flat file (codes "bl_init") (pos 0 ∷ []) p.machine.state.cells) p.machine called after
 start-done file p keeps code code-is called after does = does (Start file p) (start-called file p keeps code code-is)
 
-pub set-within : (file : Parts) (p : Prepared) (ins : List ℤ) → Keeps file p → PortsStand file →
+pub set-within : (file : Parts) (p : Prepared) (ins : List ℤ) → PreparedKeeps file p → PortsStand file →
     row_fits (inputs_of file) ins ≡ true → (k : ℕ) → k < length ins →
     p.input_at + 1 + k < length p.machine.state.cells
 set-within file p ins keeps stand fits k within =
@@ -173,7 +176,7 @@ set-within file p ins keeps stand fits k within =
     let h = inputs-within file keeps.runs stand ins p.machine.state.cells keeps.cells.room fits k within in
     omega arith
 
-module _ (file : Parts) (p : Prepared) (k : Keeps file p) (agrees : TicksAgree file) (stand : PortsStand file) (ins : List ℤ)
+module _ (file : Parts) (p : Prepared) (k : PreparedKeeps file p) (agrees : TicksAgree file) (stand : PortsStand file) (ins : List ℤ)
     (fits : row_fits (inputs_of file) ins ≡ true)
     (m : Shown) (is : m ≡ holding p.machine (with_args (p.input_at + 1) ins p.machine.state.cells))
     (called : Called) (after : Shown)
@@ -204,7 +207,7 @@ module _ (file : Parts) (p : Prepared) (k : Keeps file p) (agrees : TicksAgree f
       (entered_flat file (codes "bl_tick") (pos 0 ∷ pos (input_at file) ∷ pos a ∷ [])
       (with_args (inputs_start file.structs + 1) ins p.machine.state.cells))) out-flat t))))
 
-  pub tick-keeps : Keeps file (record p { machine = after })
+  pub tick-keeps : PreparedKeeps file (record p { machine = after })
   tick-keeps =
       kept file p after k (done.numbers ∙ ap (λ (x : Shown). x.numbers) is) (done.calls ∙ ap (λ (x : Shown). x.calls) is)
       (subst (CellsKeep file) (sym done.cells) ticks.keeps)

@@ -36,7 +36,7 @@ use Rattle.bl_cmeaning.specs.Parts.{Parts}
 use Rattle.bl_cinterface.specs.Layout.{kinds_of}
 use Rattle.bl_crun.specs.declared.prepared.Prepared.{Prepared}
 use Rattle.bl_crun.specs.Done.{first_cells}
-use Rattle.bl_crun.specs.Prepared.{Keeps, numbers_in}
+use Rattle.bl_crun.specs.Prepared.{PreparedKeeps, numbers_in}
 use Rattle.bl_crun.proofs.Cells.{cells-long}
 use Rattle.bl_crun.proofs.Keeping.{kept}
 use Rattle.bl_crun.proofs.Rows.{ranges-at, ranges-set, set-taken}
@@ -57,7 +57,7 @@ kinds-within [] k t h = cc
 kinds-within (u ∷ ts) zero t h = omega arith
 kinds-within (u ∷ ts) (suc k) t h = let e = kinds-within ts k t h in omega arith
 
-module _ (file : Parts) (p : Prepared) (keeps : Keeps file p) where
+module _ (file : Parts) (p : Prepared) (keeps : PreparedKeeps file p) where
   pub cells-are : p.base ≡ length (cells_of file)
   cells-are = keeps.base ∙ sym (cells-long file keeps.runs.formed)
 
@@ -81,7 +81,7 @@ module _ (file : Parts) (p : Prepared) (keeps : Keeps file p) where
 
   pub put-keeps : (k : ℕ) (n : ℤ) → k < length (cells_of file) →
       ((kind : Scalar) → slice_get (kinds_of file) k ≡ Some kind → in_range kind n ≡ true) →
-      Keeps file (record p { machine = holding p.machine (slice_set p.machine.state.cells k n) })
+      PreparedKeeps file (record p { machine = holding p.machine (slice_set p.machine.state.cells k n) })
   put-keeps k n h fits =
       let t = kind-there (kinds_of file) k (let e = kinds-long in omega arith) in
       kept file p (holding p.machine (slice_set p.machine.state.cells k n)) keeps refl refl (record {
@@ -101,7 +101,7 @@ module _ (file : Parts) (p : Prepared) (keeps : Keeps file p) where
 abbrev pub shown : Parts → Prepared → Bool → Bool → Running
 shown file p ready live = record { parts = file; cells = numbers_in p; ready = ready; live = live }
 
-module _ (file : Parts) (p : Prepared) (keeps : Keeps file p) (ready live : Bool) (r : Running) (is : shown file p ready live ≡ r) where
+module _ (file : Parts) (p : Prepared) (keeps : PreparedKeeps file p) (ready live : Bool) (r : Running) (is : shown file p ready live ≡ r) where
   shown-within : (k : ℕ) → k < length (cells_of r.parts) → k < length (cells_of file)
   shown-within k h = subst (λ (s : Running). k < length (cells_of s.parts)) (sym is) h
 
@@ -130,7 +130,7 @@ module _ (file : Parts) (p : Prepared) (keeps : Keeps file p) (ready live : Bool
 
   pub shown-keeps : (k : ℕ) (n : ℤ) (m : Shown) → k < length (cells_of r.parts) →
       ((kind : Scalar) → slice_get (kinds_of r.parts) k ≡ Some kind → in_range kind n ≡ true) →
-      m ≡ holding p.machine (slice_set p.machine.state.cells k n) → Keeps file (record p { machine = m })
+      m ≡ holding p.machine (slice_set p.machine.state.cells k n) → PreparedKeeps file (record p { machine = m })
   shown-keeps k n m h fits set =
-      subst (λ x. Keeps file (record p { machine = x })) (sym set)
+      subst (λ x. PreparedKeeps file (record p { machine = x })) (sym set)
       (put-keeps file p keeps k n (shown-within k h) (λ kind there. fits kind (ap (λ (s : Running). slice_get (kinds_of s.parts) k) (sym is) ∙ there)))

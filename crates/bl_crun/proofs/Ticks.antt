@@ -45,7 +45,8 @@ use Rattle.bl_cmeaning.specs.Trace.{entered, object, reply_of, started, tick_c}
 use Rattle.bl_cinterface.specs.Layout.{kinds_of}
 use Rattle.bl_cinterface.specs.Ports.{PortsStand, inputs_start, outputs_start}
 use Rattle.bl_crun.specs.Cause.{Runs}
-use Rattle.bl_crun.specs.Done.{CellsKeep, IsStart, IsTick, first_cells}
+use Rattle.bl_crun.specs.Done.{CellsKeep, first_cells}
+use Rattle.bl_crun.specs.inner.CallsDone.{IsStart, IsTick}
 use Rattle.bl_tree.specs.Ports.{in_ranges, row_fits, types_of}
 use Rattle.bl_crun.proofs.Cells.{cells-long, cells-separate, numbers-made}
 use Rattle.bl_crun.proofs.Rows.{args-taken, columns-long, inputs-fit, inputs-long, inputs-set, outputs-fit, outputs-taken, ranges-are, within-taken}

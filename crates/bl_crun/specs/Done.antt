@@ -1,40 +1,9 @@
 -- What calls of a file's functions come to in the machine.
-use Rattle.std.specs.Prelude.{◌≡◌, ◌≤◌, ◌+◌, ◌-◌, ◌^◌, ℕ, min, ℤ, true, List, [], length, take, drop, Option, Some, None, is_some}
-use Rattle.bl_bytecode.specs.Code.{Code}
-use Rattle.bl_bytecode.specs.Laws.{begun, ended_as}
-use Rattle.bl_bytecode.specs.Machine.{Room, Runs}
-use Rattle.bl_bytecode_compiler.specs.Views.{entry_for}
-use Rattle.bl_bytecode_compiler.specs.declared.here.Entry.{Entry as CodeEntry}
-use Rattle.bl_tree.specs.Ports.{in_ranges, row_fits}
-use Rattle.bl_cmeaning_laws.specs.Flat.{Left, left}
-use Rattle.bl_bytecode_machine.specs.Shown.{Shown}
-use Rattle.bl_cmeaning.specs.Cells.{outputs_of}
+use Rattle.std.specs.Prelude.{◌≡◌, ◌≤◌, ℤ, true, List, length, take}
+use Rattle.bl_tree.specs.Ports.{in_ranges}
 use Rattle.bl_cmeaning.specs.Parts.{Parts}
 use Rattle.bl_cmeaning.specs.Sizes.{cells_needed}
-use Rattle.bl_cmeaning.specs.Trace.{reply_of, start_cells, starts, tick_c}
 use Rattle.bl_cinterface.specs.Layout.{kinds_of}
-use Rattle.bl_cinterface.specs.Ports.{outputs_start}
-use Rattle.bl_crun.specs.declared.call.Called.{Called}
-
--- in so many steps the function at an entry of some code does this, and the room that a machine has is enough
-pub record Halting (steps : ℕ) (code : Code) (entry : CodeEntry) (base : ℕ) (args : List ℤ) (m : Shown) (l : Left ℤ) : Type 0 where
-  pub room : Room
-  pub runs : Runs code room steps (begun (entry_for entry) base args m.state.cells [] 0) (ended_as (begun (entry_for entry) base args m.state.cells [] 0) l)
-  pub numbers_fit : room.numbers ≤ m.numbers
-  pub calls_fit : room.calls ≤ m.calls
-
--- the same of a function that may be there; else nothing is done, and it traps
-abbrev pub Comes : ℕ → Code → Option CodeEntry → ℕ → List ℤ → Shown → Left ℤ → Type 0
-Comes steps code None base args m l = l ≡ left m.state.cells None
-Comes steps code (Some entry) base args m l = Halting steps code entry base args m l
-
--- a machine has done so
-pub record CallDone (l : Left ℤ) (before : Shown) (called : Called) (after : Shown) : Type 0 where
-  pub answer : called.answer ≡ l.answer
-  pub count : called.count ≡ min l.count (2 ^ 128 - 1)
-  pub cells : after.state.cells ≡ l.cells
-  pub numbers : after.numbers ≡ before.numbers
-  pub calls : after.calls ≡ before.calls
 
 -- the numbers of a file's cells, which come first
 abbrev pub first_cells : Parts → List ℤ → List ℤ
@@ -44,18 +13,3 @@ first_cells file cells = take (length (kinds_of file)) cells
 pub record CellsKeep (file : Parts) (cells : List ℤ) : Type 0 where
   pub room : cells_needed file ≤ length cells
   pub ranges : in_ranges (kinds_of file) (first_cells file cells) ≡ true
-
--- a routine does what the start does
-pub record IsStart (file : Parts) (left : Left ℤ) : Type 0 where
-  pub ready : is_some left.answer ≡ starts file
-  pub cells : first_cells file left.cells ≡ start_cells file
-  pub keeps : CellsKeep file left.cells
-
--- a routine does what a tick does
-pub record IsTick (file : Parts) (cells ins : List ℤ) (left : Left ℤ) : Type 0 where
-  pub reply : reply_of left.answer ≡ (tick_c file cells ins).reply
-  pub outputs : take (length (outputs_of file)) (drop (outputs_start file.structs + 1) left.cells) ≡ (tick_c file cells ins).outputs
-  pub ranges : row_fits (outputs_of file) (tick_c file cells ins).outputs ≡ true
-  pub after : first_cells file left.cells ≡ (tick_c file cells ins).cells
-  pub count : left.count ≡ (tick_c file cells ins).count
-  pub keeps : CellsKeep file left.cells

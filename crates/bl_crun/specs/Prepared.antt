@@ -1,21 +1,18 @@
 -- What a runner keeps of its file.
-use Rattle.std.specs.Prelude.{◌≡◌, ◌≤◌, ◌<◌, ◌+◌, ◌-◌, ◌^◌, ℕ, min, ℤ, true, List, length, take, drop, option_map, codes}
+use Rattle.std.specs.Prelude.{◌≡◌, ◌≤◌, ℤ, List, length, take, option_map, codes}
 use Rattle.bl_bytecode.specs.Laws.{code_of_file, entry_in_file}
-use Rattle.bl_bytecode_compiler.specs.Views.{entry_for}
+use Rattle.bl_bytecode_compiler.specs.Entries.{entry_for}
 use Rattle.bl_cmeaning_laws.specs.Laws.{behind_objects}
-use Rattle.bl_tree.specs.Ports.{row_fits}
 use Rattle.bl_cmeaning.specs.Cells.{inputs_of, outputs_of}
 use Rattle.bl_cmeaning.specs.Parts.{Parts}
-use Rattle.bl_cmeaning.specs.Trace.{reply_of, tick_c}
 use Rattle.bl_cinterface.specs.Layout.{kinds_of}
 use Rattle.bl_cinterface.specs.Ports.{inputs_start, outputs_start}
 use Rattle.bl_crun.specs.Cause.{Runs}
 use Rattle.bl_crun.specs.Done.{CellsKeep}
-use Rattle.bl_crun.specs.declared.call.Called.{Called}
 use Rattle.bl_crun.specs.declared.prepared.Prepared.{Prepared}
 
 -- what is prepared is the file's; the machine has room for its code
-pub record Keeps (file : Parts) (p : Prepared) : Type 0 where
+pub record PreparedKeeps (file : Parts) (p : Prepared) : Type 0 where
   pub runs : Runs file
   pub code : p.code.items ≡ code_of_file file.structs file.funcs
   pub init : option_map entry_for p.init ≡ entry_in_file file.structs file.funcs (codes "bl_init")
@@ -33,16 +30,3 @@ pub record Keeps (file : Parts) (p : Prepared) : Type 0 where
 -- the numbers of the cells
 abbrev pub numbers_in : Prepared → List ℤ
 numbers_in p = take (length p.kinds.items) p.machine.state.cells
-
--- the numbers of the outputs
-abbrev pub outputs_in : Prepared → List ℤ
-outputs_in p = take (length p.outputs) (drop (p.output_at + 1) p.machine.state.cells)
-
--- a tick was done
-pub record Ticked (file : Parts) (cells ins : List ℤ) (called : Called) (p : Prepared) : Type 0 where
-  pub reply : reply_of called.answer ≡ (tick_c file cells ins).reply
-  pub count : called.count ≡ min (tick_c file cells ins).count (2 ^ 128 - 1)
-  pub after : numbers_in p ≡ (tick_c file cells ins).cells
-  pub outputs : outputs_in p ≡ (tick_c file cells ins).outputs
-  pub ranges : row_fits p.outputs (outputs_in p) ≡ true
-  pub within : (k : ℕ) → k < length p.outputs → p.output_at + 1 + k < length p.machine.state.cells

@@ -7,6 +7,7 @@ use Rattle.bl_tree.specs.Ports.{row_fits}
 use Rattle.bl_crun.specs.declared.tick.Tick.{Tick}
 use Rattle.bl_crun.specs.declared.tick.Tick.TheVariants.{Row, Ended, Trap}
 
+-- what a runner shows
 pub record Running : Type 0 where
   -- the file that runs
   pub parts : Parts
@@ -64,9 +65,11 @@ OutputsFit outs Trap numbers = Unit {0}
 abbrev pub reply_at : Running → List ℤ → Reply
 reply_at r ins = (tick_at r ins).reply
 
+-- the runner after a tick over a row of inputs
 abbrev pub after_tick : Running → List ℤ → Running
 after_tick r ins = record { parts = r.parts; cells = (tick_at r ins).cells; ready = r.ready; live = is_row (answer_of (reply_at r ins)) }
 
+-- the outputs after a tick over a row of inputs, or those before it where the tick traps
 abbrev pub outputs_after : Running → List ℤ → List ℤ → List ℤ
 outputs_after r ins before = unless_trapped (answer_of (reply_at r ins)) (tick_at r ins).outputs before
 

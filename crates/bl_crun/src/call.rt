@@ -2,7 +2,7 @@
 
 ghost use Rattle.std.specs.Prelude.{ℕ, ℤ};
 ghost use Rattle.bl_cmeaning_laws.specs.Flat.{Left};
-ghost use Rattle.bl_crun.specs.Done.{CallDone, Comes};
+ghost use Rattle.bl_crun.specs.inner.CallsDone.{CallDone, Comes};
 
 use bl_bytecode::instruction::Instruction;
 use bl_bytecode_compiler::Entry;

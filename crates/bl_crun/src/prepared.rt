@@ -7,7 +7,8 @@ ghost use Rattle.bl_cmeaning.specs.Parts.{parts_of};
 ghost use Rattle.bl_cmeaning.specs.Sizes.{cells_needed};
 ghost use Rattle.bl_cmeaning.specs.Trace.{start_cells, starts};
 ghost use Rattle.bl_crun.specs.Cause.{IsCause, Runs};
-ghost use Rattle.bl_crun.specs.Prepared.{Keeps, Ticked, numbers_in, outputs_in};
+ghost use Rattle.bl_crun.specs.Prepared.{PreparedKeeps, numbers_in};
+ghost use Rattle.bl_crun.specs.inner.Ticked.{Ticked, outputs_in};
 ghost use Rattle.bl_crun.specs.Running.{OutputsFit, unless_trapped};
 
 use crate::call::{Called, call};
@@ -45,7 +46,7 @@ pub struct Prepared {
 
 /// Prepares a file, if it can be loaded. All cells of its machine are 0.
 pub fn prepare(alloc: Global, file: &CFile) -> Result<Prepared, LoadFault>
-    ensures keeps { IfOk result (Keeps (parts_of file.now)) }
+    ensures keeps { IfOk result (PreparedKeeps (parts_of file.now)) }
     ensures cleared { IfOk result (λ p. p.machine.state.cells ≡ replicate (cells_needed (parts_of file.now)) (pos 0)) }
     ensures fault { IfErr result (IsCause (parts_of file.now)) }
 {
@@ -63,7 +64,7 @@ pub fn prepare(alloc: Global, file: &CFile) -> Result<Prepared, LoadFault>
 fn prepare_for(alloc: Global, file: &CFile, cells: usize) -> Result<Prepared, NoMemory>
     requires runs { Runs (parts_of file.now) }
     requires cells { cells ≡ cells_needed (parts_of file.now) }
-    ensures keeps { IfOk result (Keeps (parts_of file.now)) }
+    ensures keeps { IfOk result (PreparedKeeps (parts_of file.now)) }
     ensures cleared { IfOk result (λ p. p.machine.state.cells ≡ replicate (cells_needed (parts_of file.now)) (pos 0)) }
 {
     let Compiled { code, init, tick } = compile(alloc, &file.structs, &file.funcs)?;
@@ -93,9 +94,9 @@ fn prepare_for(alloc: Global, file: &CFile, cells: usize) -> Result<Prepared, No
 
 /// Does the start, and tells whether it hasn't trapped.
 pub fn start(file: &CFile, prepared: &mut Prepared) -> bool
-    requires keeps { Keeps (parts_of file.now) prepared.old }
+    requires keeps { PreparedKeeps (parts_of file.now) prepared.old }
     requires cleared { prepared.old.machine.state.cells ≡ replicate (cells_needed (parts_of file.now)) (pos 0) }
-    ensures keeps { Keeps (parts_of file.now) prepared.new }
+    ensures keeps { PreparedKeeps (parts_of file.now) prepared.new }
     ensures ready { result ≡ starts (parts_of file.now) }
     ensures cells { numbers_in prepared.new ≡ start_cells (parts_of file.now) }
 {
@@ -120,9 +121,9 @@ fn tick_args(input_at: u32, output_at: u32) -> [i128; 3]
 
 /// Does a tick with a row of inputs.
 pub fn do_tick(file: &CFile, prepared: &mut Prepared, ins: &Row) -> Called
-    requires keeps { Keeps (parts_of file.now) prepared.old }
+    requires keeps { PreparedKeeps (parts_of file.now) prepared.old }
     requires fits { row_fits (inputs_of (parts_of file.now)) ins.now ≡ true }
-    ensures keeps { Keeps (parts_of file.now) prepared.new }
+    ensures keeps { PreparedKeeps (parts_of file.now) prepared.new }
     ensures ticked { Ticked (parts_of file.now) (numbers_in prepared.old) ins.now result prepared.new }
 {
     ticks_agree(file);

@@ -31,7 +31,7 @@ impl Model for Runner {
     ghost use Rattle.bl_tree.specs.contracts.c.CStmt as stmt;
     ghost use Rattle.bl_tree.specs.contracts.c.CStmtKind as kind;
     ghost use Rattle.bl_cmeaning.specs.Parts.{parts_of};
-    ghost use Rattle.bl_crun.specs.Prepared.{Keeps, numbers_in};
+    ghost use Rattle.bl_crun.specs.Prepared.{PreparedKeeps, numbers_in};
     ghost use Rattle.bl_crun.specs.Running.{Running};
 
     ghost Value = { Running };
@@ -40,7 +40,7 @@ impl Model for Runner {
 
     ghost view = { λ r. record { parts = parts_of r.file; cells = numbers_in r.prepared; ready = r.ready; live = r.live } };
 
-    ghost invariant = { λ r. Keeps (parts_of r.file) r.prepared };
+    ghost invariant = { λ r. PreparedKeeps (parts_of r.file) r.prepared };
 }
 
 impl Runner {

@@ -32,7 +32,8 @@ use Rattle.std.proofs.lemmas.List.{drop_all}
 use Rattle.bl_ctext.specs.Token.{Token, is_blank}
 use Rattle.bl_csyntax.specs.Pieces.{pieces, left_of}
 use Rattle.bl_csyntax.specs.Grammar.{Wanted, SpellText}
-use Rattle.bl_csyntax.specs.Stack.{Stands, Answers, may_vanish, shown}
+use Rattle.bl_csyntax.specs.Stack.{StackStands}
+use Rattle.bl_csyntax.specs.inner.Stacks.{Answers, may_vanish, shown}
 use Rattle.bl_csyntax.specs.Rules.{BeginsText, Passes, FailsAtPiece, FailsFirst}
 use Rattle.bl_csyntax.proofs.Ranges.{range_none}
 use Rattle.bl_csyntax.proofs.PieceLemmas.{left_cut}
@@ -41,9 +42,9 @@ use Rattle.bl_csyntax.proofs.Reading.{Rows, seen, begins_text, begins_none, read
 module _ (text : List ℕ) (start from end : ℕ) where
   -- what was read before the piece between the offsets, and what it leaves
   abbrev pub Read : List Wanted → Type 0
-  Read stack = (front : List Token) × (Stands front stack × (pieces (drop start text) ≡ front ++ left_of text from end))
+  Read stack = (front : List Token) × (StackStands front stack × (pieces (drop start text) ≡ front ++ left_of text from end))
 
-  fails_at : (front : List Token) (stack rest : List Wanted) → Stands front stack →
+  fails_at : (front : List Token) (stack rest : List Wanted) → StackStands front stack →
       pieces (drop start text) ≡ front ++ left_of text from end → from < end → end ≤ length text
       → pieces (drop from text) ≡ left_of text from end → (from < length text → is_blank (slice_index text from) ≡ false) →
       Answers (slice_range text from end) stack false rest → FailsAtPiece text start from
@@ -71,7 +72,7 @@ module _ (text : List ℕ) (start from end : ℕ) where
 
   pub reads_on : (piece : Token) (stack rest : List Wanted) (taken : Bool) → piece ≡ slice_range text from end → Read stack →
       from < end → end ≤ length text → (left : List Token) → left ≡ pieces (drop end text)
-      → Answers piece stack taken rest → taken ≡ true → (front : List Token) × (Stands front rest × (pieces (drop start text) ≡ front ++ left))
+      → Answers piece stack taken rest → taken ≡ true → (front : List Token) × (StackStands front rest × (pieces (drop start text) ≡ front ++ left))
   reads_on piece stack rest taken of read beyond inside left is answers is_yes = (
     read.0 ++ slice_range text from end ∷ [],
     (

@@ -37,7 +37,7 @@ use Rattle.std.proofs.str.Laws.{order}
 use Rattle.std.proofs.lemmas.List.{drop_all}
 use Rattle.bl_tree.specs.Reduce.{joined}
 use Rattle.bl_ctext.specs.Token.{Token, is_blank, is_word_byte, is_double_sign}
-use Rattle.bl_ctext.specs.Cut.{put_before}
+use Rattle.bl_ctext.specs.Token.{put_before}
 use Rattle.bl_ctext.proofs.Bytes.{joined-not_blank, or-snd}
 use Rattle.bl_csyntax.specs.Pieces.{cut_off, pieces}
 use Rattle.bl_csyntax.specs.Grammar.{SpellText}

@@ -32,13 +32,14 @@ use Rattle.bl_csyntax.specs.declared.grammar.Roomed.{Roomed}
 use Rattle.bl_csyntax.specs.Classes.{Class, matches}
 use Rattle.bl_csyntax.specs.Grammar.{Wanted, whole, Produces, SpellText}
 use Rattle.bl_csyntax.specs.Tables.{absent, pick}
-use Rattle.bl_csyntax.specs.Stack.{tables, file, IsGood, Stands, Expands, Answers, level, vanish, may_vanish, shown, class_shown}
+use Rattle.bl_csyntax.specs.Stack.{tables, file, IsGood, StackStands}
+use Rattle.bl_csyntax.specs.inner.Stacks.{Expands, Answers, level, vanish, may_vanish, shown, class_shown}
 use Rattle.bl_csyntax.specs.Rules.{BeginsText}
 use Rattle.bl_csyntax.proofs.Predictive.{predictive}
 
 -- the stack
 
-pub start : Stands [] (whole ∷ [])
+pub start : StackStands [] (whole ∷ [])
 start = RunLaws.starts Produces matches tables predictive file
 
 pub opened : (next : Token) (stack : List Wanted) → IsGood stack → Expands next stack stack
@@ -100,24 +101,24 @@ module _ (next : Token) (stack : List Wanted) (xs ys : Rows) (s : Symbol Row Roo
 -- fronts of texts
 
 -- what was read begins a text
-pub begins_text : (front : List Token) (stack : List Wanted) → Stands front stack → BeginsText front
+pub begins_text : (front : List Token) (stack : List Wanted) → StackStands front stack → BeginsText front
 begins_text front stack stands =
     let h : Completed Produces matches tables predictive stack [] = complete Produces matches tables predictive stack in
     (h.tokens, stands.back h.tokens h.spells)
 
 -- with a piece that the stack refuses it doesn't
-pub begins_none : (front : List Token) (piece : Token) (stack rest : List Wanted) → Stands front stack →
+pub begins_none : (front : List Token) (piece : Token) (stack rest : List Wanted) → StackStands front stack →
     Answers piece stack false rest → ¬ BeginsText (front ++ piece ∷ [])
 begins_none front piece stack rest stands refuses b = refuses b.0 (stands.there (piece ∷ b.0) (subst SpellText (append_assoc front (piece ∷ []) b.0) b.1))
 
-pub read_one : (front : List Token) (piece : Token) (stack rest : List Wanted) → Stands front stack →
-    Answers piece stack true rest → Stands (front ++ piece ∷ []) rest
+pub read_one : (front : List Token) (piece : Token) (stack rest : List Wanted) → StackStands front stack →
+    Answers piece stack true rest → StackStands (front ++ piece ∷ []) rest
 read_one front piece stack rest stands takes = RunLaws.next Produces matches tables predictive file front piece stack rest stands takes
 
-pub accepts : (pieces : List Token) (stack : List Wanted) → Stands pieces stack → vanish stack ≡ true → SpellText pieces
+pub accepts : (pieces : List Token) (stack : List Wanted) → StackStands pieces stack → vanish stack ≡ true → SpellText pieces
 accepts pieces stack stands vanishes = RunLaws.accepts Produces matches tables predictive file pieces stack stands vanishes
 
-pub rejects : (pieces : List Token) (stack : List Wanted) → Stands pieces stack → vanish stack ≡ false → ¬ SpellText pieces
+pub rejects : (pieces : List Token) (stack : List Wanted) → StackStands pieces stack → vanish stack ≡ false → ¬ SpellText pieces
 rejects pieces stack stands stays = RunLaws.rejects Produces matches tables predictive file pieces stack stands stays
 
 -- the end

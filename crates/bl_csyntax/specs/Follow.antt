@@ -129,6 +129,7 @@ begun known [] = 1
 begun known (Terminal class ∷ rest) = 1
 begun known (Nonterminal within ∷ rest) = known within.part + 1
 
+-- the depth of a part with these productions, where the depths of parts are known so far
 abbrev pub depth_of : (Part → ℕ) → List Production → ℕ
 depth_of known [] = 1
 depth_of known (production ∷ others) = max (begun known production.shapes) (depth_of known others)

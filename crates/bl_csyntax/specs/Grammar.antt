@@ -104,9 +104,11 @@ pub record Production : Type 0 where
   pub needs : ℕ
   pub shapes : List Shape
 
+-- a production that needs no open bracket
 abbrev pub plain : List Shape → Production
 plain shapes = record { needs = 0; shapes = shapes }
 
+-- a production that needs room for so many open brackets
 abbrev pub needing : ℕ → List Shape → Production
 needing needs shapes = record { needs = needs; shapes = shapes }
 

@@ -1,9 +1,8 @@
 -- Bytes cut into pieces: tokens, and bytes that begin none.
-use Rattle.std.specs.Prelude.{◌≡◌, ℕ, ◌≤◌, Bool, true, false, ◌&&◌, cond, List, [], ◌∷◌, length, drop, slice_range, nat_eq}
+use Rattle.std.specs.Prelude.{ℕ, Bool, true, false, ◌&&◌, cond, List, ◌∷◌, drop, slice_range, nat_eq, []}
 use Rattle.std.specs.Cmp.Lexicographic.{pointwise}
 use Rattle.bl_ctext.specs.Token.{Token, is_blank, is_word_byte, is_double_sign}
-use Rattle.bl_ctext.specs.Cut.{put_before}
-use Rattle.bl_ctext.specs.Names.{is_among, is_name, prelude_functions}
+use Rattle.bl_ctext.specs.Token.{put_before}
 
 -- the pieces of bytes that begin with two: white space is no part of them, and the two are a sign, go on in one word, or
 -- the first is a piece of its own; `far` are the pieces behind the two, and `near` those behind the first
@@ -28,13 +27,6 @@ put (b ∷ bs) ts = (b ∷ bs) ∷ ts
 abbrev pub left_of : List ℕ → ℕ → ℕ → List Token
 left_of text start end = put (slice_range text start end) (pieces (drop end text))
 
--- a piece stands between the offsets, or the text ends at both
-pub record IsAt (text : List ℕ) (start end : ℕ) : Type 0 where
-  pub short : length text ≤ 67108864
-  pub in_order : start ≤ end
-  pub inside : end ≤ length text
-  pub at_end : start ≡ end → end ≡ length text
-
 -- the first piece, and no bytes where there is none
 abbrev pub first_of : List Token → Token
 first_of [] = []
@@ -43,8 +35,3 @@ first_of (t ∷ ts) = t
 -- whether two runs of bytes are the same
 unfoldable pub is_same : List ℕ → List ℕ → Bool
 is_same one other = pointwise nat_eq one other
-
--- what is known of a piece: whether it is a name, and whether a function of the prelude
-pub record IsSeen (piece : Token) (named of_prelude : Bool) : Type 0 where
-  pub name : named ≡ is_name piece
-  pub prelude : of_prelude ≡ is_among piece prelude_functions

@@ -3,7 +3,7 @@
 ghost use Rattle.std.specs.Prelude.{◌≡◌, ℕ, List, Bool, true, false, None, Some, map, option_map};
 ghost use Rattle.bl_csyntax.specs.Classes.{matches};
 ghost use Rattle.bl_csyntax.specs.Tables.{choices, chosen, has, absent, decided, pick};
-ghost use Rattle.bl_csyntax.specs.Stack.{class_shown};
+ghost use Rattle.bl_csyntax.specs.inner.Stacks.{class_shown};
 ghost use Rattle.bl_csyntax.specs.inner.Rows.{choice_shown, wanted_from, production_shown};
 
 use crate::classes::is_of;

@@ -7,7 +7,7 @@ ghost use Rattle.bl_ctext.specs.Names.{is_among};
 ghost use Rattle.bl_ctext.specs.Spelling.{negatives};
 ghost use Rattle.bl_csyntax.specs.Pieces.{is_same};
 ghost use Rattle.bl_csyntax.specs.Classes.{words_of, least, bound, are_digits, is_number, matches};
-ghost use Rattle.bl_csyntax.specs.Stack.{class_shown};
+ghost use Rattle.bl_csyntax.specs.inner.Stacks.{class_shown};
 
 use crate::grammar::{Class, Digits, Group};
 use crate::seen::Seen;

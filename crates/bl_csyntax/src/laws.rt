@@ -8,7 +8,7 @@ ghost use Rattle.bl_csyntax.specs.Classes.{Class};
 ghost use Rattle.bl_csyntax.specs.Grammar.{Wanted, whole, Derives, SpellText};
 ghost use Rattle.bl_csyntax.specs.Tables.{absent, pick};
 ghost use Rattle.bl_csyntax.specs.Expects.{Expects, StandsNext};
-ghost use Rattle.bl_csyntax.specs.Stack.{Stands};
+ghost use Rattle.bl_csyntax.specs.Stack.{StackStands};
 ghost use Rattle.bl_csyntax.specs.Rules.{Passes, FailsFirst};
 
 /// A text fails at one place, or at none.
@@ -19,16 +19,18 @@ pub fn first_failure_is_one()
 
 /// In a text the pieces that parts stand for are determined: the grammar is read in one way.
 pub fn a_text_is_read_in_one_way()
-    ensures { (front pieces between other : List Token) (wanted rest : List Wanted) → Stands front (wanted ++ rest)
+    ensures { (front pieces between other : List Token) (wanted rest : List Wanted) → StackStands front (wanted ++ rest)
         → Derives wanted pieces between → Derives rest between [] → Derives wanted pieces other → Derives rest other [] → between ≡ other }
 {}
 
 /// What a reader that goes down the parts of a text knows of the pieces that are left.
 pub fn a_reader_knows_what_follows()
     ensures text { (pieces : List Token) → SpellText pieces → Expects (whole ∷ []) pieces }
-    ensures production { (part : Roomed) (rest : List Wanted) (next : Token) (pieces : List Token) → Expects (Symbol.Nonterminal part ∷ rest) (next ∷ pieces)
+    ensures production { (part : Roomed) (rest : List Wanted) (next : Token) (pieces : List Token)
+        → Expects (Symbol.Nonterminal part ∷ rest) (next ∷ pieces)
         → (production : List Wanted) × (pick part next ≡ Some production) × Expects (production ++ rest) (next ∷ pieces) }
     ensures absent { (part : Roomed) (rest : List Wanted) → Expects (Symbol.Nonterminal part ∷ rest) [] → (absent part.part ≡ true) × Expects rest [] }
-    ensures token { (class : Class) (rest : List Wanted) (pieces : List Token) → Expects (Symbol.Terminal class ∷ rest) pieces → StandsNext class rest pieces }
+    ensures token { (class : Class) (rest : List Wanted) (pieces : List Token) → Expects (Symbol.Terminal class ∷ rest) pieces
+        → StandsNext class rest pieces }
     ensures nothing { (pieces : List Token) → Expects [] pieces → pieces ≡ [] }
 {}

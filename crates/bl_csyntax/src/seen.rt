@@ -17,7 +17,7 @@ pub struct Seen<'a> {
 
 impl<'a> Model for Seen<'a> {
     ghost use Rattle.std.specs.Prelude.{ℕ, List};
-    ghost use Rattle.bl_csyntax.specs.Pieces.{IsSeen};
+    ghost use Rattle.bl_csyntax.specs.inner.Seen.{IsSeen};
 
     ghost Value = { List ℕ };
 

@@ -5,7 +5,8 @@ ghost use Rattle.std.specs.List.{list_all};
 ghost use Rattle.bl_csyntax.specs.Grammar.{placed, named};
 ghost use Rattle.bl_csyntax.specs.Tables.{turn_of};
 ghost use Rattle.bl_csyntax.specs.inner.Rows.{shape_shown};
-ghost use Rattle.bl_csyntax.specs.Stack.{IsGood, Stands, Answers, may_vanish, class_shown, shown};
+ghost use Rattle.bl_csyntax.specs.Stack.{IsGood, StackStands};
+ghost use Rattle.bl_csyntax.specs.inner.Stacks.{Answers, may_vanish, class_shown, shown};
 
 use crate::choice::{Shape, may_be_absent, pick};
 use crate::classes::is_of;
@@ -31,7 +32,7 @@ pub struct Stack<'a> {
 impl<'a> Stack<'a> {
     /// A whole text must follow.
     pub fn new(alloc: Global) -> Result<Stack<'a>, NoMemory>
-        ensures { IfOk result (λ stack. Stands [] (reverse (map shown stack.wanted.items))) }
+        ensures { IfOk result (λ stack. StackStands [] (reverse (map shown stack.wanted.items))) }
     {
         let mut wanted = Vec::new(alloc);
         let whole = Roomed {

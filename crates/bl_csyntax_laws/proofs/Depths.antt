@@ -37,7 +37,7 @@ use Rattle.std.specs.List.{list_all}
 use Rattle.std.proofs.lemmas.Bool.Decides.{nat_tests}
 use Rattle.bl_tree.specs.Reduce.{all_of}
 use Rattle.bl_ctext.specs.Token.{Token, is_token}
-use Rattle.bl_ctext.specs.Cut.{are_tokens}
+use Rattle.bl_ctext.specs.inner.Cut.{are_tokens}
 use Rattle.bl_ctext.specs.Names.{is_turn_name}
 use Rattle.bl_ctext.specs.Spellable.{is_opening, is_closing, most_open}
 use Rattle.bl_ctext.proofs.Bytes.{and-fst, and-snd, both}

@@ -28,7 +28,8 @@ use Rattle.std.proofs.Common.{
 use Rattle.std.proofs.lemmas.Bool.Decides.{nat_tests}
 use Rattle.bl_tree.specs.Reduce.{all_of}
 use Rattle.bl_ctext.specs.Token.{Token, is_blank, is_word_byte, is_double_sign, is_word, is_sign, is_token, IsLongest, SpacedC}
-use Rattle.bl_ctext.specs.Cut.{put_before, are_tokens}
+use Rattle.bl_ctext.specs.inner.Cut.{are_tokens}
+use Rattle.bl_ctext.specs.Token.{put_before}
 use Rattle.bl_ctext.proofs.Bytes.{and-fst, and-snd, both, either, or-fst, or-snd, word_byte-not_blank}
 use Rattle.bl_csyntax.specs.Pieces.{cut_off, pieces}
 

@@ -3,7 +3,7 @@ use Rattle.std.proofs.Common.{◌≡◌, ◌⊎◌, ℕ, Bool, true, false, ◌&
 use Rattle.std.proofs.Math.Bool.{and-false}
 use Rattle.std.proofs.lemmas.Bool.Decides.{nat_tests}
 use Rattle.bl_ctext.specs.Token.{is_blank, is_word_byte, is_sign_byte}
-use Rattle.bl_ctext.specs.Cut.{joins}
+use Rattle.bl_ctext.specs.inner.Cut.{joins}
 
 pub and-fst : (a b : Bool) → (a && b) ≡ true → a ≡ true
 and-fst true b h = refl

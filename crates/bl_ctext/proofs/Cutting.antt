@@ -26,7 +26,7 @@ use Rattle.std.specs.Prelude.{slice_get}
 use native.Mathlib.Numerals.{unary_clauses}
 use Rattle.bl_tree.specs.Reduce.{all_of}
 use Rattle.bl_ctext.specs.Token.{Token, is_blank, is_word_byte, is_word, is_sign, is_token}
-use Rattle.bl_ctext.specs.Cut.{joins, goes_on, cut_before, tokens_in, meets}
+use Rattle.bl_ctext.specs.inner.Cut.{joins, goes_on, cut_before, tokens_in, meets}
 use Rattle.bl_ctext.proofs.Bytes.{joined-not_blank, joins-blank, word_byte-not_blank, sign_byte-not_blank, and-fst, and-snd, both, either, or-fst, or-snd}
 
 -- whether the last byte of the first and the first of the second join

@@ -24,7 +24,8 @@ use Rattle.std.proofs.Common.{
 }
 use Rattle.bl_tree.specs.Reduce.{all_of}
 use Rattle.bl_ctext.specs.Token.{Token, is_blank, is_word_byte, is_double_sign, is_word, is_sign, is_token, IsLongest, SpacedC}
-use Rattle.bl_ctext.specs.Cut.{joins, goes_on, put_before, cut_before, tokens_in, meets, are_tokens}
+use Rattle.bl_ctext.specs.inner.Cut.{joins, goes_on, cut_before, tokens_in, meets, are_tokens}
+use Rattle.bl_ctext.specs.Token.{put_before}
 use Rattle.bl_ctext.proofs.Bytes.{and-fst, and-snd, both, either, or-fst, or-snd, joined-not_blank}
 use Rattle.bl_ctext.proofs.Cutting.{first_token}
 

@@ -23,7 +23,7 @@ use Rattle.std.proofs.lemmas.List.{drop-append-le}
 use Rattle.bl_ctext.specs.Prelude.{prelude}
 use Rattle.bl_ctext.specs.declared.prelude.TheConstants.{PRELUDE}
 use Rattle.bl_ctext.specs.Token.{Token, SpacedC}
-use Rattle.bl_ctext.specs.Cut.{tokens_in, meets, are_tokens, parted, behind_prelude, IsText}
+use Rattle.bl_ctext.specs.inner.Cut.{tokens_in, meets, are_tokens, parted, behind_prelude, IsText}
 use Rattle.bl_ctext.proofs.Bytes.{both, and-fst, and-snd}
 use Rattle.bl_ctext.proofs.Cutting.{meets-space, before_a_space, meets-drop, tokens_in-append}
 use Rattle.bl_ctext.proofs.Longest.{spaced}

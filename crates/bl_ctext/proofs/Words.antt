@@ -27,7 +27,7 @@ use Rattle.std.specs.Fmt.{decimal}
 use Rattle.bl_tree.specs.Reduce.{all_of}
 use Rattle.bl_ctext.specs.Token.{Token, is_word_byte, is_word, is_sign, is_token}
 use Rattle.bl_ctext.specs.Names.{is_among, is_name, is_struct_name, is_function_name, is_callee, is_turn_name, prelude_functions}
-use Rattle.bl_ctext.specs.Cut.{tokens_in, are_tokens}
+use Rattle.bl_ctext.specs.inner.Cut.{tokens_in, are_tokens}
 use Rattle.bl_ctext.proofs.Bytes.{and-fst, and-snd, both, either, or-fst}
 use Rattle.bl_ctext.proofs.Cutting.{tokens_in-token}
 

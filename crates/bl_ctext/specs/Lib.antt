@@ -1,5 +1,4 @@
 pub mod Builtins
-pub mod Cut
 pub mod Folds
 pub mod Names
 pub mod Prelude

@@ -90,6 +90,7 @@ abbrev pub has_any : {A : Type 0} → List A → Bool
 has_any [] = false
 has_any (x ∷ xs) = true
 
+-- one step of the fold for each part: what is asked of it, where its own parts are asked already
 abbrev pub is_arg : EachIs Bool CArg-F → Bool
 is_arg (CArg-F.Value value) = value
 is_arg (CArg-F.Address at) = at
@@ -120,6 +121,7 @@ is_step s = is_name s.member && none_or s.index
 abbrev pub spells_expr : CExpr → Bool
 spells_expr = fold-CExpr _ _ _ _ _ _ _ is_arg is_expr_kind is_call is_expr is_index is_place is_step
 
+-- the same for each part of a tree
 abbrev pub spells_kind : CExprKind → Bool
 spells_kind = fold-CExprKind _ _ _ _ _ _ _ is_arg is_expr_kind is_call is_expr is_index is_place is_step
 
@@ -138,14 +140,17 @@ spells_call = fold-CCall _ _ _ _ _ _ _ is_arg is_expr_kind is_call is_expr is_in
 abbrev pub spells_arg : CArg → Bool
 spells_arg = fold-CArg _ _ _ _ _ _ _ is_arg is_expr_kind is_call is_expr is_index is_place is_step
 
+-- a returned value that is there
 abbrev pub spells_result : Option CExpr → Bool
 spells_result None = true
 spells_result (Some e) = spells_expr e
 
+-- all of a block that may be absent
 abbrev pub all_if_any : Option (List Bool) → Bool
 all_if_any None = true
 all_if_any (Some answers) = all_of answers
 
+-- one step of the fold for statements
 abbrev pub is_stmt_kind : CStmtKind-F Bool Bool → Bool
 is_stmt_kind (CStmtKind-F.Set at value) = spells_place at && spells_expr value
 is_stmt_kind (CStmtKind-F.Clear at name) = spells_place at && is_struct_name name
@@ -162,17 +167,21 @@ is_stmt s = s.what
 abbrev pub spells_stmt : CStmt → Bool
 spells_stmt = fold-CStmt _ _ is_stmt_kind is_stmt
 
+-- whether what a statement does has a spelling
 abbrev pub spells_stmt_kind : CStmtKind → Bool
 spells_stmt_kind = fold-CStmtKind _ _ is_stmt_kind is_stmt
 
+-- whether a type has a spelling: the name of a struct is one
 abbrev pub spells_type : CType → Bool
 spells_type (ctype.Scalar s) = is_c_scalar s
 spells_type (ctype.Struct name) = is_struct_name name
 
+-- whether the length of an array has a spelling, where there is one
 abbrev pub spells_length : Option ℕ → Bool
 spells_length None = true
 spells_length (Some n) = is_length n
 
+-- whether a member of a struct has a spelling
 abbrev pub spells_member : CMember → Bool
 spells_member m = spells_type m.ty && (is_name m.name && spells_length m.length)
 
@@ -180,16 +189,20 @@ spells_member m = spells_type m.ty && (is_name m.name && spells_length m.length)
 abbrev pub spells_struct : CStruct → Bool
 spells_struct s = is_struct_name s.name && (has_any s.members && all_of (map spells_member s.members))
 
+-- whether a parameter has a spelling
 abbrev pub spells_param : CParam → Bool
 spells_param p = spells_type p.ty && is_name p.name
 
+-- whether a local variable has a spelling
 abbrev pub spells_local : CLocal → Bool
 spells_local x = spells_type x.ty && is_name x.name
 
+-- whether the type of what is returned has a spelling, where there is one
 abbrev pub spells_returned : Option Scalar → Bool
 spells_returned None = true
 spells_returned (Some s) = is_c_scalar s
 
+-- whether a function has a spelling
 abbrev pub spells_func : CFunc → Bool
 spells_func f =
     spells_returned f.result && (is_function_name f.name &&

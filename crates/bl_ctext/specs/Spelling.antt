@@ -62,6 +62,7 @@ listed first (part ∷ parts) = comma_before first ++ (part ++ listed false part
 abbrev pub with_commas : List (List Token) → List Token
 with_commas parts = listed true parts
 
+-- the digits of a width
 abbrev pub width_digits : Width → List ℕ
 width_digits W8 = codes "8"
 width_digits W16 = codes "16"
@@ -75,6 +76,7 @@ scalar_word (scalar.Int w) = codes "int" ++ (width_digits w ++ codes "_t")
 scalar_word (scalar.Nat w) = codes "uint" ++ (width_digits w ++ codes "_t")
 scalar_word (scalar.Bits w) = []
 
+-- the tokens of a type
 abbrev pub type_tokens : CType → List Token
 type_tokens (ctype.Scalar s) = scalar_word s ∷ []
 type_tokens (ctype.Struct name) = codes "struct" ∷ name ∷ []
@@ -130,6 +132,7 @@ call_tokens name args = name ∷ codes "(" ∷ (with_commas args ++ codes ")" �
 abbrev Spelled : Type 0
 Spelled = List Token
 
+-- one step of the fold for each part: its tokens, where those of its own parts are known
 abbrev pub arg_spelling : EachIs Spelled CArg-F → Spelled
 arg_spelling (CArg-F.Value value) = value
 arg_spelling (CArg-F.Address at) = codes "&" ∷ at
@@ -175,6 +178,7 @@ step_spelling s = codes "." ∷ s.member ∷ if_any s.index
 abbrev pub expr_tokens : CExpr → List Token
 expr_tokens = fold-CExpr _ _ _ _ _ _ _ arg_spelling kind_spelling call_spelling expr_spelling index_spelling place_spelling step_spelling
 
+-- the tokens of each part of a tree
 abbrev pub kind_tokens : CExprKind → List Token
 kind_tokens = fold-CExprKind _ _ _ _ _ _ _ arg_spelling kind_spelling call_spelling expr_spelling index_spelling place_spelling step_spelling
 
@@ -197,10 +201,12 @@ arg_tokens = fold-CArg _ _ _ _ _ _ _ arg_spelling kind_spelling call_spelling ex
 abbrev pub braced : List (List Token) → List Token
 braced parts = codes "{" ∷ (joined parts ++ codes "}" ∷ [])
 
+-- the tokens of an `else` that may be absent
 abbrev pub else_tokens : Option (List (List Token)) → List Token
 else_tokens None = []
 else_tokens (Some parts) = codes "else" ∷ braced parts
 
+-- the tokens of a returned value that may be absent
 abbrev pub result_tokens : Option CExpr → List Token
 result_tokens None = []
 result_tokens (Some e) = expr_tokens e
@@ -217,9 +223,11 @@ zeros_tokens name = codes "=" ∷ codes "(" ∷ codes "struct" ∷ name ∷ code
 abbrev pub turn_declared : List ℕ → List Token
 turn_declared turn = codes "{" ∷ codes "uint32_t" ∷ turn ∷ codes "=" ∷ codes "0" ∷ codes ";" ∷ codes "while" ∷ []
 
+-- the tokens that count a turn of a loop
 abbrev pub turn_counted : List ℕ → List Token
 turn_counted turn = codes "{" ∷ turn ∷ codes "=" ∷ codes "bl_turn" ∷ codes "(" ∷ turn ∷ codes ")" ∷ codes ";" ∷ []
 
+-- one step of the fold for statements
 abbrev pub stmt_kind_spelling : CStmtKind-F Spelled Spelled → Spelled
 stmt_kind_spelling (CStmtKind-F.Set at value) = place_tokens at ++ (codes "=" ∷ (expr_tokens value ++ codes ";" ∷ []))
 stmt_kind_spelling (CStmtKind-F.Clear at name) = place_tokens at ++ zeros_tokens name
@@ -237,23 +245,29 @@ stmt_spelling s = s.what
 abbrev pub stmt_tokens : CStmt → List Token
 stmt_tokens = fold-CStmt _ _ stmt_kind_spelling stmt_spelling
 
+-- the tokens of what a statement does
 abbrev pub stmt_kind_tokens : CStmtKind → List Token
 stmt_kind_tokens = fold-CStmtKind _ _ stmt_kind_spelling stmt_spelling
 
+-- the tokens of the length of an array, where there is one
 abbrev pub length_tokens : Option ℕ → List Token
 length_tokens None = []
 length_tokens (Some n) = codes "[" ∷ decimal n ∷ codes "]" ∷ []
 
+-- the tokens of a member of a struct
 abbrev pub member_tokens : CMember → List Token
 member_tokens m = type_tokens m.ty ++ (m.name ∷ (length_tokens m.length ++ codes ";" ∷ []))
 
+-- the tokens of a struct
 abbrev pub struct_tokens : CStruct → List Token
 struct_tokens s = codes "struct" ∷ s.name ∷ (braced (map member_tokens s.members) ++ codes ";" ∷ [])
 
+-- the star of a pointer
 abbrev pub star_if : Bool → List Token
 star_if true = codes "*" ∷ []
 star_if false = []
 
+-- the tokens of a parameter
 abbrev pub param_tokens : CParam → List Token
 param_tokens p = type_tokens p.ty ++ (star_if p.pointer ++ p.name ∷ [])
 
@@ -262,13 +276,16 @@ abbrev pub zero_tokens : CType → List Token
 zero_tokens (ctype.Scalar s) = codes "0" ∷ []
 zero_tokens (ctype.Struct name) = codes "{" ∷ codes "0" ∷ codes "}" ∷ []
 
+-- the tokens of a local variable
 abbrev pub local_tokens : CLocal → List Token
 local_tokens x = type_tokens x.ty ++ (x.name ∷ codes "=" ∷ (zero_tokens x.ty ++ codes ";" ∷ []))
 
+-- the tokens of the type of what is returned, `void` where nothing is
 abbrev pub returned_tokens : Option Scalar → List Token
 returned_tokens None = codes "void" ∷ []
 returned_tokens (Some s) = scalar_word s ∷ []
 
+-- the word `static`, where it stands
 abbrev pub static_if : Bool → List Token
 static_if true = codes "static" ∷ []
 static_if false = []
@@ -277,9 +294,11 @@ static_if false = []
 abbrev pub func_front : CFunc → List Token
 func_front f = static_if f.fixed ++ (returned_tokens f.result ++ (f.name ∷ codes "(" ∷ []))
 
+-- the tokens of a function behind its parameters
 abbrev pub func_rest : CFunc → List Token
 func_rest f = joined (map local_tokens f.locals) ++ (joined (map stmt_tokens f.body) ++ codes "}" ∷ [])
 
+-- the tokens of a function
 abbrev pub func_tokens : CFunc → List Token
 func_tokens f = func_front f ++ (with_commas (map param_tokens f.params) ++ (codes ")" ∷ codes "{" ∷ func_rest f))
 

@@ -1,5 +1,6 @@
 -- The tokens of a text of the C subset, and how bytes are cut into them.
-use Rattle.std.specs.Prelude.{◌≡◌, ℕ, ◌≤◌, Bool, false, ◌&&◌, ◌||◌, ◌==◌, IsTrue, List, [], ◌∷◌, ◌++◌, length, map}
+use Rattle.std.specs.Prelude.{◌≡◌, ℕ, ◌≤◌, Bool, false, ◌&&◌, ◌||◌, ◌==◌, IsTrue, List, ◌∷◌, ◌++◌, length, map}
+use Rattle.std.specs.Prelude.{[]}
 use Rattle.std.specs.Char.{is_ascii_alphanumeric}
 use Rattle.bl_tree.specs.Reduce.{all_of, any_of}
 
@@ -29,12 +30,14 @@ abbrev pub is_word : Token → Bool
 is_word [] = false
 is_word (b ∷ bs) = is_word_byte b && all_of (map is_word_byte bs)
 
+-- whether a token is a sign
 abbrev pub is_sign : Token → Bool
 is_sign [] = false
 is_sign (a ∷ []) = is_sign_byte a
 is_sign (a ∷ b ∷ []) = is_double_sign a b
 is_sign (a ∷ b ∷ c ∷ more) = false
 
+-- whether bytes are a token: a word or a sign
 abbrev pub is_token : Token → Bool
 is_token bytes = is_word bytes || is_sign bytes
 
@@ -54,3 +57,8 @@ pub record Begins (token : Token) (bytes after : List ℕ) : Type 0 where
 abbrev pub SpacedC : List Token → List ℕ → Type 0
 SpacedC [] bytes = IsTrue (all_of (map is_blank bytes))
 SpacedC (token ∷ tokens) bytes = (after : List ℕ) × (Begins token bytes after × SpacedC tokens after)
+
+-- the tokens, with a byte put before the first one
+abbrev pub put_before : ℕ → List Token → List Token
+put_before b [] = (b ∷ []) ∷ []
+put_before b (token ∷ tokens) = (b ∷ token) ∷ tokens

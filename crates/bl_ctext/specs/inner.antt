@@ -1,3 +1,4 @@
+pub mod Cut
 pub mod Depths
 pub mod Fits
 pub mod Prefixes

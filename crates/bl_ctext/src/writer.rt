@@ -3,7 +3,7 @@
 ghost use Rattle.std.specs.Prelude.{◌≡◌, ℕ, List, [], ◌∷◌, ◌++◌, IsTrue, IfOk, OnOk, OnErr};
 ghost use Rattle.bl_ctext.specs.Prelude.{prelude};
 ghost use Rattle.bl_ctext.specs.Token.{is_token, is_word_byte as word_byte, is_double_sign as double_sign, SpacedC};
-ghost use Rattle.bl_ctext.specs.Cut.{joins, meets, tokens_in, are_tokens, parted};
+ghost use Rattle.bl_ctext.specs.inner.Cut.{joins, meets, tokens_in, are_tokens, parted};
 
 use crate::prelude::PRELUDE;
 use bl_tree::NoMemory;
@@ -18,7 +18,7 @@ pub struct Writer {
 
 impl Model for Writer {
     ghost use Rattle.std.specs.Prelude.{ℕ, List};
-    ghost use Rattle.bl_ctext.specs.Cut.{tokens_in, behind_prelude, IsText};
+    ghost use Rattle.bl_ctext.specs.inner.Cut.{tokens_in, behind_prelude, IsText};
 
     ghost Value = { List (List ℕ) };
 

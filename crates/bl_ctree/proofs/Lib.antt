@@ -6,6 +6,5 @@ pub mod Listing
 mod Ordering
 mod Properness
 mod Settling
-mod Standing
 pub mod Stepping
 pub mod WakeLemmas

@@ -229,7 +229,7 @@ first_proper w = go (unit_at w 0)
 
 reached : {w : Setting} {rows : List (List ℤ)} {c : Control} {store : Store} → Reaches w rows c store → ProperTree w c
 reached {w} at_first = not_begun (first_proper w)
-reached (after_tick before tick paused) = has_begun (steps_keep tick.maximal.steps refl (tree_wakes (reached before)))
+reached (after_tick before tick paused is) = has_begun (steps_keep tick.maximal.steps refl (tree_wakes (reached before)))
 
 pub reached_is_proper : ReachedIsProper
 reached_is_proper w rows c store r = reached r

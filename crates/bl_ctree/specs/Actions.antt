@@ -1,5 +1,6 @@
 -- Actions: what one step asks of the store or does to it.
 use Rattle.std.specs.Prelude.{ℕ, Bool, true, List, [], ◌∷◌, map, slice_get, Option, Some, None, option_map, option_and_then}
+use Rattle.bl_tree.specs.declared.place.Place.{Place}
 use Rattle.bl_tree.specs.declared.tree.Arm.{Arm}
 use Rattle.bl_tree.specs.declared.tree.Branch.{Branch}
 use Rattle.bl_tree.specs.declared.tree.Expr.{Expr}
@@ -14,7 +15,7 @@ use Rattle.bl_eval.specs.Standing.{outcome_in_unit, value_in_unit}
 use Rattle.bl_tree.specs.Effects.{reads, writes}
 use Rattle.bl_tree.specs.Static.{mentions, static_of}
 use Rattle.bl_ctree.specs.Instances.{Setting}
-use Rattle.bl_ctree.specs.Positions.{Located, stmt_kind}
+use Rattle.bl_ctree.specs.Positions.{Located, place_of, stmt_kind}
 use Rattle.bl_ctree.specs.Store.{Frame, Location, Store, home, homes, number_or_zero, put, put_written, remember, view_at, with_frame, with_inputs}
 
 pub data Effect : Type 0 where
@@ -29,14 +30,14 @@ pub data Effect : Type 0 where
   -- the target of a `run` gets the result of that instance
   Gives : ℕ → Option Path → Effect
 
--- an action: the statement to which it belongs, the instance in which that stands, and its effect
+-- an action: the place of the statement to which it belongs, the instance in which that stands, and its effect
 pub record Action : Type 0 where
-  pub stmt : Located
+  pub place : Place
   pub instance : ℕ
   pub effect : Effect
 
 abbrev pub action : ℕ → Located → Effect → Action
-action i s effect = record { stmt = s; instance = i; effect = effect }
+action i s effect = record { place = place_of s; instance = i; effect = effect }
 
 -- what an action reads, as homes
 abbrev pub effect_reads : Setting → ℕ → Effect → List Location

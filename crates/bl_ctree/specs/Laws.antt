@@ -3,7 +3,6 @@ use Rattle.std.specs.Prelude.{ℕ, ℤ, Bool, true, List, [], ◌∷◌, ◌++�
 use Rattle.bl_tree.specs.Static.{fields_precede}
 use Rattle.bl_ctree.specs.Actions.{Action, Effect, Silent, Acts, Asks, Copies, Gives, perform}
 use Rattle.bl_ctree.specs.Control.{Control, do_all, forget, is_settled, seq, woken}
-use Rattle.bl_ctree.specs.GraphNodes.{node_of}
 use Rattle.bl_ctree.specs.Instances.{Setting}
 use Rattle.bl_ctree.specs.Points.{Among, Point, points}
 use Rattle.bl_ctree.specs.Positions.{Item}
@@ -68,11 +67,6 @@ pub data InOrder (A : Type 0) : List (Point A) → Type 0 where
 -- points are listed in order, each once
 abbrev pub PointsInOrder : Type 0
 PointsInOrder = (w : Setting) (i : ℕ) (c : Control) → InOrder Control (points w i c)
-
--- each listed point stands for a node
-abbrev pub PointsHaveNodes : Type 0
-PointsHaveNodes =
-    (w : Setting) (i : ℕ) (c : Control) (point : Point Control) → Among (Point Control) point (points w i c) → node_of c point.path ≢ []
 
 -- ---- lists of steps
 

@@ -1,6 +1,5 @@
 pub mod Actions
 pub mod Control
-pub mod GraphNodes
 pub mod Instances
 pub mod Laws
 pub mod Means

@@ -6,7 +6,6 @@ use Rattle.bl_ctree.specs.Actions.{Action}
 use Rattle.bl_ctree.specs.Control.{Control, Idle, is_settled, woken}
 use Rattle.bl_ctree.specs.Instances.{Setting, setting_of}
 use Rattle.bl_ctree.specs.Means.{entry_items}
-use Rattle.bl_ctree.specs.Measure.{steps}
 use Rattle.bl_ctree.specs.Steps.{IsStill}
 use Rattle.bl_ctree.specs.Store.{Store, first_store, woken_store}
 use Rattle.bl_ctree.specs.Ticks.{End, Rests, Steps, Tick, Paused, outcome_at}
@@ -14,8 +13,9 @@ use Rattle.bl_ctree.specs.Ticks.{End, Rests, Steps, Tick, Paused, outcome_at}
 -- a run over these rows can stand between ticks with this tree and this store: each of its ticks waited for the next one
 pub data Reaches (w : Setting) : List (List ℤ) → Control → Store → Type 0 where
   at_first : Reaches w [] (Idle (entry_items w)) (first_store w)
-  after_tick : {rows : List (List ℤ)} {row : List ℤ} {c : Control} {store : Store} {c' : Control} {store' : Store} →
-      Reaches w rows c store → Tick w row c store (Rests c' store') → outcome_at (Rests c' store') ≡ Paused → Reaches w (rows ++ row ∷ []) c' store'
+  after_tick : {before : List (List ℤ)} {row : List ℤ} {c : Control} {store : Store} {c' : Control} {store' : Store} {rows : List (List ℤ)} →
+      Reaches w before c store → Tick w row c store (Rests c' store') → outcome_at (Rests c' store') ≡ Paused → rows ≡ before ++ row ∷ [] →
+      Reaches w rows c' store'
 
 -- in the tick over the row that follows these rows, a run can take this list of steps, maximal or not, which leads to this end
 pub record ReachesInside (w : Setting) (rows : List (List ℤ)) (row : List ℤ) (actions : List Action) (end : End) : Type 0 where
@@ -24,12 +24,12 @@ pub record ReachesInside (w : Setting) (rows : List (List ℤ)) (row : List ℤ)
   pub before : Reaches w rows tree store
   pub steps : Steps w (woken tree) (woken_store row store) actions end
 
--- no list of steps within a tick is longer than the number of the program's steps: every tick ends
-abbrev pub Bounded : List StructDef → List UnitDef → ℕ → Type 0
-Bounded structs units entry =
+-- no list of steps within a tick is longer than this number: every tick ends
+abbrev pub Bounded : ℕ → List StructDef → List UnitDef → ℕ → Type 0
+Bounded most structs units entry =
     let w = setting_of structs units entry in
     (rows : List (List ℤ)) (row : List ℤ) (actions : List Action) (end : End) → ReachesInside w rows row actions end →
-    length actions ≤ steps structs units entry
+    length actions ≤ most
 
 -- no tree that a run reaches inside a tick is stuck: where no point may act nothing is left to do
 abbrev pub NeverStuck : List StructDef → List UnitDef → ℕ → Type 0

@@ -1,6 +1,6 @@
 //! Laws of control trees. None of these functions does anything: the contract is the law.
 
-ghost use Rattle.bl_ctree.specs.Laws.{FrontsAreSteps, ItemsBeginProper, MaximalIsSteps, MovesAreListed, MovesKeepProper, PointsAct, PointsHaveNodes};
+ghost use Rattle.bl_ctree.specs.Laws.{FrontsAreSteps, ItemsBeginProper, MaximalIsSteps, MovesAreListed, MovesKeepProper, PointsAct};
 ghost use Rattle.bl_ctree.specs.Laws.{PointsInOrder, PointsMove, ReachedInsideIsProper, ReachedIsProper, SeqIsProper, SettledIsStill, StepsAreListed};
 ghost use Rattle.bl_ctree.specs.Laws.{StepsFollow, StillIsUnlisted, WakingForgets, WakingKeepsProper};
 
@@ -15,11 +15,6 @@ pub fn points_are_steps()
 /// Points are listed in the order of the branches that lead to them, each once.
 pub fn points_are_in_order()
     ensures { PointsInOrder }
-{}
-
-/// Each point stands for a node of a tick graph.
-pub fn points_have_nodes()
-    ensures { PointsHaveNodes }
 {}
 
 /// Nothing can act in a settled tree.

@@ -340,7 +340,7 @@ steps_fit typed (ticks.step s more) e f = steps_fit typed more e (keeps typed s.
 
 reached : {w : Setting} {rows : List (List ℤ)} {c : Control} {store : Store} → Fitted w → Reaches w rows c store → FitsTree c
 reached {w} typed at_first = entry_fits w typed
-reached typed (after_tick {c = c} before tick paused) = steps_fit typed tick.maximal.steps refl (wakes c (reached typed before))
+reached typed (after_tick {c = c} before tick paused is) = steps_fit typed tick.maximal.steps refl (wakes c (reached typed before))
 
 pub reached_is_armed : ReachedIsArmed
 reached_is_armed w rows row actions c store typed r = armed c (steps_fit typed r.steps refl (wakes r.tree (reached typed r.before)))

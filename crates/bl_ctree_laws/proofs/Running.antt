@@ -38,7 +38,7 @@ module _ (kept : MovesKeepProper) (woken_proper : WakingKeepsProper) (proper : R
 
   pub reached : {w : Setting} {rows : List (List ℤ)} {c : control.Control} {store : Store} → Reaches w rows c store → LeftTree w (entry_block w) (plain_tree c)
   reached at_first = not_begun
-  reached {w} (after_tick {rows} {c = c} {store} before tick paused) =
+  reached {w} (after_tick {before = rows} {c = c} {store} before tick paused is) =
       let p = proper w rows c store before in
       has_begun (after_steps tick.maximal.steps refl (woken_proper w c p) (woken_left c p (reached before)))
 

@@ -153,7 +153,7 @@ module _ (kept : MovesKeepProper) (woken_proper : WakingKeepsProper) (proper : R
   one_trace given alike (goes_on t is more) (ends t' is') = ended_waits (sym (meet is is' (tick_same given alike t t').outcome))
   one_trace {w} given alike (goes_on t is more) (goes_on t' is' more') =
       let next = rests_same (tick_same given alike t t').plain in
-      let rest = one_trace given (begin_alike (after_tick alike.reached t is) (after_tick alike.reached' t' is') next) more more' in
+      let rest = one_trace given (begin_alike (after_tick alike.reached t is refl) (after_tick alike.reached' t' is' refl) next) more more' in
       λ i. row_then (outputs_row w (next.stores i)) (rest i)
 
   pub traces_are_one : TracesAreOne

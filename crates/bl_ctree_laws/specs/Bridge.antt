@@ -128,4 +128,4 @@ abbrev mutual
 
 -- an action without its statement's position
 abbrev pub deed_of : Action → Deed
-deed_of a = deed a.instance (place_of a.stmt) a.effect
+deed_of a = deed a.instance a.place a.effect

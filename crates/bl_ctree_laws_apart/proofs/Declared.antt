@@ -45,13 +45,15 @@ module _ (w : Setting) (i : ℕ) (effect : Effect) (k : ℕ) (one : OneOf k (eff
   block_so (s ∷ rest) n at each (inr some) =
       one_right k (naming_of s).declared (all_declared (map naming_of rest)) (block_so rest (suc n) at (All-tail S s rest each) some)
 
-  arm_so : (arm : Arm) (at : Position) → Each S (out-Arm arm).body → (effect ≡ Asks (out-Arm arm).test) ⊎ SomeIn D (plain_block (out-Arm arm).body at) →
+  arm_so : (arm : Arm) (at : Position) → Each S (out-Arm arm).body →
+      (effect ≡ Asks (out-Arm arm).test) ⊎ SomeIn D (plain_block (out-Arm arm).body at) →
       OneOf k (folded_arm arm).declared
   arm_so arm at each some =
       subst (λ n. OneOf k n.declared) (sym (fold_out-Arm Naming Naming Naming Naming stmt_kind_naming arm_naming branch_naming stmt_layer_naming arm))
       (by_part some)
     where
-      by_part : (effect ≡ Asks (out-Arm arm).test) ⊎ SomeIn D (plain_block (out-Arm arm).body at) → OneOf k (all_declared (map naming_of (out-Arm arm).body))
+      by_part : (effect ≡ Asks (out-Arm arm).test) ⊎ SomeIn D (plain_block (out-Arm arm).body at) →
+          OneOf k (all_declared (map naming_of (out-Arm arm).body))
       by_part (inl is) = not_one k (does_so (Asks (out-Arm arm).test) is)
       by_part (inr some) = block_so (out-Arm arm).body 0 at each some
 
@@ -88,7 +90,8 @@ module _ (w : Setting) (i : ℕ) (effect : Effect) (k : ℕ) (one : OneOf k (eff
   act_so : (s : Stmt) (l : Label) (at : Position) → plain s at ≡ Act l s → SomeOf D (plain s at) → OneOf k (naming_of s).declared
   act_so s l at is some = does_so (Acts s) (subst (SomeOf D) is some)
 
-  run_so : (copies gives : Effect) → effect_declares copies ≡ [] → effect_declares gives ≡ [] → (effect ≡ copies) ⊎ (effect ≡ gives) → OneOf k []
+  run_so : (copies gives : Effect) → effect_declares copies ≡ [] → effect_declares gives ≡ [] →
+      (effect ≡ copies) ⊎ (effect ≡ gives) → OneOf k []
   run_so copies gives none nor (inl is) = subst (OneOf k) none (does_so copies is)
   run_so copies gives none nor (inr is) = subst (OneOf k) nor (does_so gives is)
 
@@ -114,7 +117,8 @@ module _ (w : Setting) (i : ℕ) (effect : Effect) (k : ℕ) (one : OneOf k (eff
   none_asks place is = does_so (Asks (never place)) is
 
   no_arm_so : (place : Place) (other : List Stmt) (one two : Position) → Each S other →
-      (effect ≡ Asks (never place)) ⊎ (SomeIn D (plain_block other one) ⊎ SomeIn D (plain_block other two)) → OneOf k (all_declared (map naming_of other))
+      (effect ≡ Asks (never place)) ⊎ (SomeIn D (plain_block other one) ⊎ SomeIn D (plain_block other two)) →
+      OneOf k (all_declared (map naming_of other))
   no_arm_so place other one two others (inl is) = not_one k (none_asks place is)
   no_arm_so place other one two others (inr (inl some)) = block_so other 0 one others some
   no_arm_so place other one two others (inr (inr some)) = block_so other 0 two others some

@@ -80,7 +80,8 @@ meet : (k : ℕ) (xs ys : Roots) → OneOf k xs → OneOf k ys → list_any (λ 
 meet k [] ys e is = absurd cc
 meet k (x ∷ xs) ys e is = by_test (nat_eq k x) refl (λ more. meet k xs ys more is) e
   where
-    by_test : (b : Bool) → nat_eq k x ≡ b → (OneOf k xs → list_any (λ j. list_any (nat_eq j) ys) xs ≡ true) → (b || list_any (nat_eq k) xs) ≡ true →
+    by_test : (b : Bool) → nat_eq k x ≡ b → (OneOf k xs → list_any (λ j. list_any (nat_eq j) ys) xs ≡ true) →
+        (b || list_any (nat_eq k) xs) ≡ true →
         (list_any (nat_eq x) ys || list_any (λ j. list_any (nat_eq j) ys) xs) ≡ true
     by_test true same more e =
         or_left (list_any (nat_eq x) ys) (list_any (λ j. list_any (nat_eq j) ys) xs) (subst (λ k. OneOf k ys) (eqb-true k x same) is)
@@ -90,7 +91,7 @@ not_both : {A : Type 0} (b : Bool) → not b ≡ true → b ≡ true → A
 not_both true e f = absurd cc
 not_both false e f = absurd cc
 
-foreign_so : {A : Type 0} (k : ℕ) (xs ys : Roots) → is_foreign xs ys ≡ true → OneOf k xs → OneOf k ys → A
+pub foreign_so : {A : Type 0} (k : ℕ) (xs ys : Roots) → is_foreign xs ys ≡ true → OneOf k xs → OneOf k ys → A
 foreign_so k xs ys e one other = not_both (list_any (λ j. list_any (nat_eq j) ys) xs) e (meet k xs ys one other)
 
 -- what a branch declares and names is known
@@ -142,7 +143,7 @@ abbrev S : Stmt → Type 0
 S s = (at : Position) → is_apart s ≡ true → EachFork KeepApart (plain s at)
 
 -- whether these keep apart
-abbrev each_apart : List Naming → Bool
+abbrev pub each_apart : List Naming → Bool
 each_apart namings = all_of (map (λ n. n.apart) namings)
 
 block_so : (body : List Stmt) (n : ℕ) (at : Position) → Each S body → each_apart (map naming_of body) ≡ true →
@@ -153,7 +154,8 @@ block_so (s ∷ rest) n at each apart = (
   block_so rest (suc n) at (All-tail S s rest each) (and_second (is_apart s) (each_apart (map naming_of rest)) apart),
 )
 
-arm_so : (arm : Arm) (at : Position) → Each S (out-Arm arm).body → (folded_arm arm).apart ≡ true → EachForkIn KeepApart (plain_block (out-Arm arm).body at)
+arm_so : (arm : Arm) (at : Position) → Each S (out-Arm arm).body → (folded_arm arm).apart ≡ true →
+    EachForkIn KeepApart (plain_block (out-Arm arm).body at)
 arm_so arm at each apart =
     block_so (out-Arm arm).body 0 at each
     (sym (ap (λ n. n.apart) (fold_out-Arm Naming Naming Naming Naming stmt_kind_naming arm_naming branch_naming stmt_layer_naming arm)) ∙ apart)
@@ -221,7 +223,7 @@ stmt_cases = record {
   returns = λ place e at. by_parts place (StmtKind-F.Return e) at _ (plain_statements.returns place at e) (λ apart. tt);
 }
 
-all_true : (body : List Stmt) → list_all is_apart body ≡ true → each_apart (map naming_of body) ≡ true
+pub all_true : (body : List Stmt) → list_all is_apart body ≡ true → each_apart (map naming_of body) ≡ true
 all_true [] e = refl
 all_true (s ∷ rest) e =
     both (is_apart s) (and_first (is_apart s) (list_all is_apart rest) e) (all_true rest (and_second (is_apart s) (list_all is_apart rest) e))

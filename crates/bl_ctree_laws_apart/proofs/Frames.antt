@@ -64,7 +64,7 @@ module _ {K : Type 0} (P : Plain → Type 0) (R : K → Plain → Type 0) (so : 
     picked_of (Again l at body e) (inl own) = moved (λ k one. inl one) (so (Until l at body e) own)
     picked_of (Again l at body e) (inr some) = moved (λ k one. inr one) (picked body some)
 
-    picked : (body : Block) → SomeIn P body → (k : K) × SomeIn (R k) body
+    pub picked : (body : Block) → SomeIn P body → (k : K) × SomeIn (R k) body
     picked Done some = absurd some
     picked (Then s rest) (inl some) = moved (λ k one. inl one) (picked_of s some)
     picked (Then s rest) (inr some) = moved (λ k one. inr one) (picked rest some)
@@ -76,10 +76,10 @@ module _ {K : Type 0} (P : Plain → Type 0) (R : K → Plain → Type 0) (so : 
 
 -- ---- what touches a frame
 
-none_of : {A : Type 0} (k : ℕ) → Contains [] k → A
+pub none_of : {A : Type 0} (k : ℕ) → Contains [] k → A
 none_of k there = let below = there.1 in absurd (omega arith)
 
-sole : (j k : ℕ) → Contains (j ∷ []) k → j ≡ k
+pub sole : (j k : ℕ) → Contains (j ∷ []) k → j ≡ k
 sole j k (zero, below, is) = is
 sole j k (suc n, below, is) = absurd (omega arith)
 
@@ -92,7 +92,7 @@ abbrev By : {w : Setting} {i frame : ℕ} → Touch w i frame → Plain → Type
 By (returning is) s = Returns s
 By (calling place begins) s = RunsAt place s
 
-returned : (i frame : ℕ) (layer : StmtKind-F StmtKind Arm Branch Stmt) → Contains (kind_frames i layer) frame →
+pub returned : (i frame : ℕ) (layer : StmtKind-F StmtKind Arm Branch Stmt) → Contains (kind_frames i layer) frame →
     (frame ≡ i) × (is_return_kind layer ≡ true)
 returned i frame (StmtKind-F.Return (Some e)) there = (sym (sole i frame there), refl)
 returned i frame (StmtKind-F.Return None) there = none_of frame there

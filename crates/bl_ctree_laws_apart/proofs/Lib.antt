@@ -2,9 +2,13 @@ pub mod Calls
 pub mod Declared
 pub mod Forks
 pub mod Frames
+pub mod Members
 pub mod Named
+pub mod Outputs
 pub mod Owned
 pub mod Parted
 pub mod Returns
 pub mod Running
 pub mod Seen
+pub mod Told
+pub mod Writing

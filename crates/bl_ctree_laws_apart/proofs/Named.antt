@@ -1,5 +1,25 @@
 -- Bodies name what their statements do.
-use Rattle.std.proofs.Common.{◌≡◌, ◌⊎◌, inl, inr, ℕ, suc, Bool, true, false, ◌||◌, List, [], ◌∷◌, ◌++◌, map, get_or, refl, sym, subst}
+use Rattle.std.proofs.Common.{
+  ◌≡◌,
+  ◌⊎◌,
+  inl,
+  inr,
+  ℕ,
+  suc,
+  Bool,
+  true,
+  false,
+  ◌||◌,
+  List,
+  [],
+  ◌∷◌,
+  ◌++◌,
+  map,
+  get_or,
+  refl,
+  sym,
+  subst,
+}
 use Rattle.std.specs.Prelude.{nat_eq}
 use Rattle.std.specs.List.{list_any}
 use Rattle.std.proofs.lemmas.List.Elements.{All-head, All-tail}
@@ -75,7 +95,7 @@ naming_parts = map-StmtKind StmtKind Arm Branch Stmt Naming Naming Naming Naming
 pub naming_at : (place : Place) (layer : StmtKind-F StmtKind Arm Branch Stmt) → naming_of (stmt place layer) ≡ stmt_kind_naming (naming_parts layer)
 naming_at place layer = rw (fold-roll-Stmt, fold-roll-StmtKind) refl
 
-never_names : (place : Place) → roots_in (never place) ≡ []
+pub never_names : (place : Place) → roots_in (never place) ≡ []
 never_names place = rw (fold-roll-Expr, fold-roll-ExprKind) refl
 
 module _ (w : Setting) (i : ℕ) (effect : Effect) (k : ℕ) (one : OneOf k (effect_roots effect)) where
@@ -91,14 +111,16 @@ module _ (w : Setting) (i : ℕ) (effect : Effect) (k : ℕ) (one : OneOf k (eff
   silent : {A : Type 0} → effect ≡ Silent → A
   silent is = not_one k (does_so Silent is)
 
-  block_so : (body : List Stmt) (n : ℕ) (at : Position) → Each S body → SomeIn D (block_from (map plain body) n at) → OneOf k (all_named (map naming_of body))
+  block_so : (body : List Stmt) (n : ℕ) (at : Position) → Each S body → SomeIn D (block_from (map plain body) n at) →
+      OneOf k (all_named (map naming_of body))
   block_so [] n at each some = absurd some
   block_so (s ∷ rest) n at each (inl some) =
       one_left k (naming_of s).named (all_named (map naming_of rest)) (All-head S s rest each (at ++ n ∷ []) some)
   block_so (s ∷ rest) n at each (inr some) =
       one_right k (naming_of s).named (all_named (map naming_of rest)) (block_so rest (suc n) at (All-tail S s rest each) some)
 
-  arm_so : (arm : Arm) (at : Position) → Each S (out-Arm arm).body → (effect ≡ Asks (out-Arm arm).test) ⊎ SomeIn D (plain_block (out-Arm arm).body at) →
+  arm_so : (arm : Arm) (at : Position) → Each S (out-Arm arm).body →
+      (effect ≡ Asks (out-Arm arm).test) ⊎ SomeIn D (plain_block (out-Arm arm).body at) →
       OneOf k (folded_arm arm).named
   arm_so arm at each some =
       subst (λ n. OneOf k n.named) (sym (fold_out-Arm Naming Naming Naming Naming stmt_kind_naming arm_naming branch_naming stmt_layer_naming arm))

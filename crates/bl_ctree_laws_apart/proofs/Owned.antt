@@ -74,7 +74,8 @@ data Found (w : Setting) (i : ℕ) (In : (Plain → Type 0) → Type 0) (a : Dee
   by_own : a.instance ≡ i → In (Does w i a.effect) → Found w i In a
   by_call : (place : Place) (callee : ℕ) → In (RunsAt place) → callee_of w i place ≡ Some callee → Inside w callee a.instance → Found w i In a
 
-found : {w : Setting} {i : ℕ} {a : Deed} (In Out : (Plain → Type 0) → Type 0) → ((P : Plain → Type 0) → In P → Out P) → Found w i In a → Found w i Out a
+found : {w : Setting} {i : ℕ} {a : Deed} (In Out : (Plain → Type 0) → Type 0) → ((P : Plain → Type 0) → In P → Out P) →
+    Found w i In a → Found w i Out a
 found In Out more (by_own is does) = by_own is (more _ does)
 found In Out more (by_call place callee stands begins inside) = by_call place callee (more _ stands) begins inside
 
@@ -82,7 +83,7 @@ found_inside : {w : Setting} {i : ℕ} {a : Deed} {In : (Plain → Type 0) → T
 found_inside {w} {i} (by_own is does) = subst (Inside w i) (sym is) itself
 found_inside {w} {i} (by_call place callee stands begins inside) = inside_both (deeper i place itself begins) inside
 
-stands_in : (P : Plain → Type 0) {s : Plain} {rest body : Block} → Stands s rest body → SomeOf P s → SomeIn P body
+pub stands_in : (P : Plain → Type 0) {s : Plain} {rest body : Block} → Stands s rest body → SomeOf P s → SomeIn P body
 stands_in P here some = inl some
 stands_in P (there stands) some = inr (stands_in P stands some)
 
@@ -97,7 +98,7 @@ turned P (Then s body) next (inr others) = more (turned P body next others)
     more (inl some) = inl (inr some)
     more (inr some) = inr some
 
-looped : (P : Plain → Type 0) (body : Block) (next : Plain) (Own : Type 0) → (SomeOf P next → Own ⊎ SomeIn P body) →
+pub looped : (P : Plain → Type 0) (body : Block) (next : Plain) (Own : Type 0) → (SomeOf P next → Own ⊎ SomeIn P body) →
     SomeIn P (before body (Then next Done)) → Own ⊎ SomeIn P body
 looped P body next Own loop some = by_turn (turned P body next some)
   where

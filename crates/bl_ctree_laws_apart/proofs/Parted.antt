@@ -20,7 +20,7 @@ use Rattle.bl_nodes.specs.Plain.{
   While,
   plain_body,
 }
-use Rattle.bl_ctree.specs.Instances.{Setting}
+use Rattle.bl_ctree.specs.Instances.{Setting, setting_of}
 use Rattle.bl_ctree_laws.specs.Commutes.{
   Apart,
   ApartIn,
@@ -64,58 +64,69 @@ use Rattle.bl_ctree_laws.specs.Trees.{Tree, Trees, before}
 use Rattle.bl_ctree_laws_confluence.proofs.Accepted.{accepted_is_orderly}
 use Rattle.bl_ctree_laws_apart.specs.Forks.{EachFork, EachForkIn, EachForkInEach, KeepApart}
 use Rattle.bl_ctree_laws_apart.specs.Parted.{AcceptedKeepsApart, AllKeepApart, ApartIsTwoBranches, StandApart, TwoBranches}
+use Rattle.bl_ctree_laws_apart.specs.Outputs.{BranchesHaveOutputs}
 use Rattle.bl_ctree_laws_apart.specs.Returns.{NoneReturns}
 use Rattle.bl_ctree_laws_apart.specs.Running.{RunApart}
+use Rattle.bl_ctree_laws_apart.specs.Writing.{WriteApart}
 use Rattle.bl_ctree_laws_apart.proofs.Forks.{branches_keep_apart_so}
+use Rattle.bl_ctree_laws_apart.proofs.Outputs.{outputs_in_forks, typed_runs_have_outputs_so}
 use Rattle.bl_ctree_laws_apart.proofs.Returns.{accepted_returns_last_so}
 use Rattle.bl_ctree_laws_apart.proofs.Running.{accepted_runs_apart_so}
+use Rattle.bl_ctree_laws_apart.proofs.Writing.{accepted_writes_apart_so}
 
-rest_apart : (weak : Bool) (body : Block) (rest : Bodies) → StandApart (BodyOf weak body rest) → StandApart rest
-rest_apart weak body rest apart = (apart.0.1, ((λ some. apart.1.0 (inr some)), apart.1.1.1))
+rest_apart : (w : Setting) (i : ℕ) (weak : Bool) (body : Block) (rest : Bodies) → StandApart w i (BodyOf weak body rest) → StandApart w i rest
+rest_apart w i weak body rest apart = record {
+  names = apart.names.1;
+  returns = λ some. apart.returns (inr some);
+  runs = apart.runs.1;
+  writes = apart.writes.1;
+  outputs = λ place outputs callee some. apart.outputs place outputs callee (inr some);
+}
 
 -- ---- what holds of the branches of each `cobegin` one by one holds together
 
-module _ (P Q : Bodies → Type 0) where
+module _ (P Q R : Bodies → Type 0) (so : (bodies : Bodies) → P bodies → Q bodies → R bodies) where
   mutual
-    both_of : (p : Plain) → EachFork P p → EachFork Q p → EachFork (λ bodies. P bodies × Q bodies) p
+    both_of : (p : Plain) → EachFork P p → EachFork Q p → EachFork R p
     both_of (Act l s) one other = tt
     both_of (Await l at e) one other = tt
     both_of (RunOf l at target a inputs outputs) one other = tt
     both_of (If l at e body otherwise) one other = (both_in body one.0 other.0, both_in otherwise one.1 other.1)
-    both_of (Cobegin l at bodies) one other = ((one.0, other.0), both_each bodies one.1 other.1)
+    both_of (Cobegin l at bodies) one other = (so bodies one.0 other.0, both_each bodies one.1 other.1)
     both_of (When l at guard e body) one other = both_in body one other
     both_of (Repeat l at body) one other = both_in body one other
     both_of (Until l at body e) one other = both_in body one other
     both_of (While l at e body) one other = both_in body one other
     both_of (Again l at body e) one other = both_in body one other
 
-    both_in : (body : Block) → EachForkIn P body → EachForkIn Q body → EachForkIn (λ bodies. P bodies × Q bodies) body
+    both_in : (body : Block) → EachForkIn P body → EachForkIn Q body → EachForkIn R body
     both_in Done one other = tt
     both_in (Then s rest) one other = (both_of s one.0 other.0, both_in rest one.1 other.1)
 
-    both_each : (bodies : Bodies) → EachForkInEach P bodies → EachForkInEach Q bodies → EachForkInEach (λ bodies. P bodies × Q bodies) bodies
+    both_each : (bodies : Bodies) → EachForkInEach P bodies → EachForkInEach Q bodies → EachForkInEach R bodies
     both_each Last one other = tt
     both_each (BodyOf weak body rest) one other = (both_in body one.0 other.0, both_each rest one.1 other.1)
 
 -- ---- steps of different branches
 
-fork_at : {s : Plain} {rest body : Block} → Stands s rest body → EachForkIn StandApart body → EachFork StandApart s
-fork_at here forks = forks.0
-fork_at (there stands) forks = fork_at stands forks.1
+fork_at : (P : Bodies → Type 0) {s : Plain} {rest body : Block} → Stands s rest body → EachForkIn P body → EachFork P s
+fork_at P here forks = forks.0
+fork_at P (there stands) forks = fork_at P stands forks.1
 
-turned : (body : Block) (next : Plain) → EachForkIn StandApart body → EachFork StandApart next → EachForkIn StandApart (before body (Then next Done))
-turned Done next forks last = (last, tt)
-turned (Then s body) next forks last = (forks.0, turned body next forks.1 last)
+turned : (P : Bodies → Type 0) (body : Block) (next : Plain) → EachForkIn P body → EachFork P next → EachForkIn P (before body (Then next Done))
+turned P Done next forks last = (last, tt)
+turned P (Then s body) next forks last = (forks.0, turned P body next forks.1 last)
 
 module _ {w : Setting} (all : AllKeepApart w) where
   mutual
-    parted : {stood : Bool} {i : ℕ} {body : Block} {c : Tree} {a b : Deed} → Left w stood i body c → Apart w i c a b → EachForkIn StandApart body →
+    parted : {stood : Bool} {i : ℕ} {body : Block} {c : Tree} {a b : Deed} → Left w stood i body c → Apart w i c a b →
+        EachForkIn (StandApart w i) body →
         TwoBranches w a b ⊎ TwoBranches w b a
     parted nothing two forks = elim two [ ]
-    parted (of_last stands of) two forks = parted_of of two (fork_at stands forks)
-    parted (of_one stands of busy) (in_sequence two) forks = parted_of of two (fork_at stands forks)
+    parted (of_last stands of) two forks = parted_of of two (fork_at (StandApart w _) stands forks)
+    parted (of_one stands of busy) (in_sequence two) forks = parted_of of two (fork_at (StandApart w _) stands forks)
 
-    parted_of : {stood : Bool} {i : ℕ} {s : Plain} {c : Tree} {a b : Deed} → LeftOf w stood i s c → Apart w i c a b → EachFork StandApart s →
+    parted_of : {stood : Bool} {i : ℕ} {s : Plain} {c : Tree} {a b : Deed} → LeftOf w stood i s c → Apart w i c a b → EachFork (StandApart w i) s →
         TwoBranches w a b ⊎ TwoBranches w b a
     parted_of to_begin two forks = elim two [ ]
     parted_of ended two forks = elim two [ ]
@@ -123,20 +134,20 @@ module _ {w : Setting} (all : AllKeepApart w) where
     parted_of tested two forks = elim two [ ]
     parted_of (of_then left) two forks = parted left two forks.0
     parted_of (of_else left) two forks = parted left two forks.1
-    parted_of (of_repeat {body = body} left) two forks = parted left two (turned body _ forks forks)
-    parted_of (of_until {body = body} left) two forks = parted left two (turned body _ forks forks)
-    parted_of (of_while {body = body} left) two forks = parted left two (turned body _ forks forks)
+    parted_of (of_repeat {body = body} left) two forks = parted left two (turned (StandApart w _) body _ forks forks)
+    parted_of (of_until {body = body} left) two forks = parted left two (turned (StandApart w _) body _ forks forks)
+    parted_of (of_while {body = body} left) two forks = parted left two (turned (StandApart w _) body _ forks forks)
     parted_of (of_again of) two forks = parted_of of two forks
     parted_of (of_par kept each) (in_branches two) forks = parted_in each two forks.0 forks.1
     parted_of (of_guard kept checked left) (under_guard two) forks = parted left two forks
     parted_of (of_run {callee = callee} {unit = unit} begins is kept checked left) (under_run two) forks = parted left two (all callee unit is)
 
     parted_in : {stood : Bool} {i : ℕ} {bodies : Bodies} {branches : Trees} {a b : Deed} → LeftEach w stood i bodies branches →
-        ApartIn w i branches a b → StandApart bodies → EachForkInEach StandApart bodies → TwoBranches w a b ⊎ TwoBranches w b a
+        ApartIn w i branches a b → StandApart w i bodies → EachForkInEach (StandApart w i) bodies → TwoBranches w a b ⊎ TwoBranches w b a
     parted_in none_left two apart forks = elim two [ ]
     parted_in (one_left left each) (in_first two) apart forks = parted left two forks.0
-    parted_in (one_left {weak = weak} {body = body} {bodies = rest} left each) (in_others two) apart forks =
-        parted_in each two (rest_apart weak body rest apart) forks.1
+    parted_in {i = i} (one_left {weak = weak} {body = body} {bodies = rest} left each) (in_others two) apart forks =
+        parted_in each two (rest_apart w i weak body rest apart) forks.1
     parted_in {stood} {i} (one_left {weak = weak} {body = body} {bodies = rest} left each)
         (left_right {c = c} {others = others} {d = d} {e = e} {n = n} {m = m} {c' = c'} {others' = others'} one unmet other unmet') apart forks = inl (record {
           stood = stood;
@@ -173,7 +184,19 @@ apart_is_two_branches_so w stood i body c a b all forks left two = parted all le
 
 pub accepted_keeps_apart_so : AcceptedKeepsApart
 accepted_keeps_apart_so structs units entry keeps passes i unit is =
-    both_in KeepApart (λ bodies. NoneReturns bodies × RunApart bodies) (plain_body unit.body)
-    (branches_keep_apart_so unit.body [] ((accepted_is_orderly structs units entry keeps passes).each i unit is).apart)
-    (both_in NoneReturns RunApart (plain_body unit.body) (accepted_returns_last_so structs units entry i unit keeps passes is)
-    (accepted_runs_apart_so structs units entry i unit keeps passes is))
+    let w : Setting = setting_of structs units entry in
+    let body : Block = plain_body unit.body in
+    let orderly = (accepted_is_orderly structs units entry keeps passes).each i unit is in
+    let one : EachForkIn (λ bodies. KeepApart bodies × NoneReturns bodies) body =
+    both_in KeepApart NoneReturns (λ bodies. KeepApart bodies × NoneReturns bodies) (λ bodies one other. (one, other)) body
+    (branches_keep_apart_so unit.body [] orderly.apart) (accepted_returns_last_so structs units entry i unit keeps passes is) in
+    let two : EachForkIn (λ bodies. RunApart bodies × WriteApart bodies) body =
+    both_in RunApart WriteApart (λ bodies. RunApart bodies × WriteApart bodies) (λ bodies one other. (one, other)) body
+    (accepted_runs_apart_so structs units entry i unit keeps passes is) (accepted_writes_apart_so structs units entry i unit keeps passes is) in
+    let three : EachForkIn (λ bodies. (RunApart bodies × WriteApart bodies) × BranchesHaveOutputs w i bodies) body =
+    both_in (λ bodies. RunApart bodies × WriteApart bodies) (BranchesHaveOutputs w i)
+    (λ bodies. (RunApart bodies × WriteApart bodies) × BranchesHaveOutputs w i bodies) (λ bodies one other. (one, other)) body two
+    (outputs_in_forks w i body (typed_runs_have_outputs_so structs units entry i unit keeps is)) in
+    both_in (λ bodies. KeepApart bodies × NoneReturns bodies) (λ bodies. (RunApart bodies × WriteApart bodies) × BranchesHaveOutputs w i bodies)
+    (StandApart w i)
+    (λ bodies one other. record { names = one.0; returns = one.1; runs = other.0.0; writes = other.0.1; outputs = other.1 }) body one three

@@ -176,8 +176,10 @@ by_parts : (place : Place) (layer : StmtKind-F StmtKind Arm Branch Stmt) (at : P
 by_parts place layer at p is so some = returning_at place layer ∙ so (subst (SomeOf Returns) is some)
 
 -- what acts returns where it is a `return`
-act_so : (place : Place) (layer : StmtKind-F StmtKind Arm Branch Stmt) (at : Position) → plain (stmt place layer) at ≡ Act (label_at at) (stmt place layer) →
-    (is_return_kind layer ≡ true → kind_has_return (parts layer) ≡ true) → SomeOf Returns (plain (stmt place layer) at) → has_return (stmt place layer) ≡ true
+act_so : (place : Place) (layer : StmtKind-F StmtKind Arm Branch Stmt) (at : Position) →
+    plain (stmt place layer) at ≡ Act (label_at at) (stmt place layer) →
+    (is_return_kind layer ≡ true → kind_has_return (parts layer) ≡ true) →
+    SomeOf Returns (plain (stmt place layer) at) → has_return (stmt place layer) ≡ true
 act_so place layer at is so = by_parts place layer at (Act (label_at at) (stmt place layer)) is (λ some. so (sym (return_at place layer) ∙ some))
 
 in_body : (body : List Stmt) (at : Position) → Each S body → ⊥ ⊎ SomeIn Returns (plain_block body at) → any_of (map has_return body) ≡ true

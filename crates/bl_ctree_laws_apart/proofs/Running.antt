@@ -29,6 +29,7 @@ use Rattle.std.proofs.lemmas.List.Elements.{All-head, All-tail, Contains-append_
 use Rattle.bl_tree.specs.declared.place.Place.{Place}
 use Rattle.bl_tree.specs.declared.tree.Arm.{Arm, out-Arm}
 use Rattle.bl_tree.specs.declared.tree.Branch.{Branch, out-Branch}
+use Rattle.bl_tree.specs.declared.tree.Path.{Path}
 use Rattle.bl_tree.specs.declared.tree.Stmt.{Stmt, fold-roll-Stmt, out-Stmt, out-roll-Stmt}
 use Rattle.bl_tree.specs.declared.tree.StmtKind.{StmtKind, fold-roll-StmtKind, out-StmtKind, out-roll-StmtKind, roll-StmtKind}
 use Rattle.bl_tree.specs.declared.tree.StmtKind.TheOpen.{StmtKind-F}
@@ -53,68 +54,87 @@ use Rattle.bl_nodes.specs.Plain.{Label, Plain, Position, Act, If, block_from, bo
 use Rattle.bl_nodes.proofs.Equations.{plain_statements}
 use Rattle.bl_ctree_laws_confluence.proofs.Accepted.{accepted_is_orderly}
 use Rattle.bl_ctree_laws_apart.specs.Forks.{EachFork, EachForkIn, EachForkInEach}
-use Rattle.bl_ctree_laws_apart.specs.Owned.{RunsAt, SomeIn, SomeInEach, SomeOf}
+use Rattle.bl_ctree_laws_apart.specs.Owned.{Runs, RunsAt, SomeIn, SomeInEach, SomeOf}
 use Rattle.bl_ctree_laws_apart.specs.Running.{AcceptedRunsApart, BranchesRunApart, RunApart, RunStands, RunsAreOfStatements}
 
 -- ---- the parts of a statement that is made of them
 
-layer_at : (place : Place) (layer : StmtKind-F StmtKind Arm Branch Stmt) → out-StmtKind (out-Stmt (stmt place layer)).what ≡ layer
+pub layer_at : (place : Place) (layer : StmtKind-F StmtKind Arm Branch Stmt) → out-StmtKind (out-Stmt (stmt place layer)).what ≡ layer
 layer_at place layer = ap (λ s. out-StmtKind s.what) (out-roll-Stmt (record { place = place; what = roll-StmtKind layer })) ∙ out-roll-StmtKind layer
 
-placed_at : (place : Place) (layer : StmtKind-F StmtKind Arm Branch Stmt) → place_of (stmt place layer) ≡ place
+pub placed_at : (place : Place) (layer : StmtKind-F StmtKind Arm Branch Stmt) → place_of (stmt place layer) ≡ place
 placed_at place layer = ap (λ s. s.place) (out-roll-Stmt (record { place = place; what = roll-StmtKind layer }))
 
-children_at : (place : Place) (layer : StmtKind-F StmtKind Arm Branch Stmt) → children (stmt place layer) ≡ kind_children layer
+pub children_at : (place : Place) (layer : StmtKind-F StmtKind Arm Branch Stmt) → children (stmt place layer) ≡ kind_children layer
 children_at place layer = ap kind_children (layer_at place layer)
 
 -- ---- what stands in blocks
 
-first_one : {A : Type 0} (x : A) (xs : List A) → Contains (x ∷ xs) x
+pub first_one : {A : Type 0} (x : A) (xs : List A) → Contains (x ∷ xs) x
 first_one x xs = (zero, omega arith, refl)
 
-stands_left : (xs ys : List Stmt) {s : Stmt} → StandsIn xs s → StandsIn (xs ++ ys) s
+pub stands_left : (xs ys : List Stmt) {s : Stmt} → StandsIn xs s → StandsIn (xs ++ ys) s
 stands_left xs ys one = record { outer = one.outer; is_there = Contains-append_left xs ys one.outer one.is_there; within = one.within }
 
-stands_right : (xs ys : List Stmt) {s : Stmt} → StandsIn ys s → StandsIn (xs ++ ys) s
+pub stands_right : (xs ys : List Stmt) {s : Stmt} → StandsIn ys s → StandsIn (xs ++ ys) s
 stands_right xs ys one = record { outer = one.outer; is_there = Contains-append_right xs ys one.outer one.is_there; within = one.within }
 
-stands_between : (xs ys zs : List Stmt) {s : Stmt} → StandsIn (ys ++ zs) s → StandsIn ((xs ++ ys) ++ zs) s
+pub stands_between : (xs ys zs : List Stmt) {s : Stmt} → StandsIn (ys ++ zs) s → StandsIn ((xs ++ ys) ++ zs) s
 stands_between xs ys zs {s} one = subst (λ body. StandsIn body s) (sym (append_assoc xs ys zs)) (stands_right xs (ys ++ zs) one)
 
-stands_first : (s : Stmt) (rest : List Stmt) {inner : Stmt} → Within inner s → StandsIn (s ∷ rest) inner
+pub stands_first : (s : Stmt) (rest : List Stmt) {inner : Stmt} → Within inner s → StandsIn (s ∷ rest) inner
 stands_first s rest within = record { outer = s; is_there = first_one s rest; within = within }
 
-stands_below : (place : Place) (layer : StmtKind-F StmtKind Arm Branch Stmt) {s : Stmt} → StandsIn (kind_children layer) s → Within s (stmt place layer)
+pub stands_below : (place : Place) (layer : StmtKind-F StmtKind Arm Branch Stmt) {s : Stmt} → StandsIn (kind_children layer) s → Within s (stmt place layer)
 stands_below place layer one =
     deeper (stmt place layer) one.outer (subst (λ body. Contains body one.outer) (sym (children_at place layer)) one.is_there) one.within
 
-run_moved : {body other : List Stmt} {place : Place} → ((s : Stmt) → StandsIn body s → StandsIn other s) → RunStands body place → RunStands other place
-run_moved so one = record { statement = one.statement; stands = so one.statement one.stands; runs = one.runs; placed = one.placed }
+-- ---- a `run` is that of a statement
 
--- ---- a `run` at a place is that of a statement
+abbrev kind_outputs : StmtKind-F StmtKind Arm Branch Stmt → List Path
+kind_outputs (StmtKind-F.Run target a inputs outputs) = outputs
+kind_outputs _ = []
 
--- a `run` statement with this place is the statement, or stands in it
-record RunWithin (s : Stmt) (place : Place) : Type 0 where
+-- the outputs of a `run` statement
+abbrev pub outputs_of : Stmt → List Path
+outputs_of s = kind_outputs (out-StmtKind (out-Stmt s).what)
+
+pub outputs_at : (place : Place) (layer : StmtKind-F StmtKind Arm Branch Stmt) → outputs_of (stmt place layer) ≡ kind_outputs layer
+outputs_at place layer = ap kind_outputs (layer_at place layer)
+
+-- a `run` statement of which R holds stands in the body
+pub record RunFound (R : Place → List Path → Type 0) (body : List Stmt) : Type 0 where
+  pub statement : Stmt
+  pub stands : StandsIn body statement
+  pub runs : IsTrue (is_run statement)
+  pub holds : R (place_of statement) (outputs_of statement)
+
+-- it is the statement, or stands in it
+record RunWithin (R : Place → List Path → Type 0) (s : Stmt) : Type 0 where
   statement : Stmt
   within : Within statement s
   runs : IsTrue (is_run statement)
-  placed : place_of statement ≡ place
+  holds : R (place_of statement) (outputs_of statement)
 
-module _ (p : Place) where
+run_moved : {R : Place → List Path → Type 0} {body other : List Stmt} → ((s : Stmt) → StandsIn body s → StandsIn other s) → RunFound R body →
+    RunFound R other
+run_moved so one = record { statement = one.statement; stands = so one.statement one.stands; runs = one.runs; holds = one.holds }
+
+module _ (R : Place → List Path → Type 0) where
   abbrev S : Stmt → Type 0
-  S s = (at : Position) → SomeOf (RunsAt p) (plain s at) → RunWithin s p
+  S s = (at : Position) → SomeOf (Runs R) (plain s at) → RunWithin R s
 
-  first_run : (s : Stmt) (rest : List Stmt) → RunWithin s p → RunStands (s ∷ rest) p
-  first_run s rest one = record { statement = one.statement; stands = stands_first s rest one.within; runs = one.runs; placed = one.placed }
+  first_run : (s : Stmt) (rest : List Stmt) → RunWithin R s → RunFound R (s ∷ rest)
+  first_run s rest one = record { statement = one.statement; stands = stands_first s rest one.within; runs = one.runs; holds = one.holds }
 
-  block_so : (body : List Stmt) (n : ℕ) (at : Position) → Each S body → SomeIn (RunsAt p) (block_from (map plain body) n at) → RunStands body p
+  block_so : (body : List Stmt) (n : ℕ) (at : Position) → Each S body → SomeIn (Runs R) (block_from (map plain body) n at) → RunFound R body
   block_so [] n at each some = absurd some
   block_so (s ∷ rest) n at each (inl some) = first_run s rest (All-head S s rest each (at ++ n ∷ []) some)
   block_so (s ∷ rest) n at each (inr some) =
       run_moved (λ inner one. stands_right (s ∷ []) rest one) (block_so rest (suc n) at (All-tail S s rest each) some)
 
   arms_so : (l : Label) (arms : List Arm) (other : List Stmt) → EachArm S arms → Each S other →
-      SomeIn (RunsAt p) (else_at l (map plain_arm arms) (plain_block other)) → RunStands (joined (map (λ arm. (out-Arm arm).body) arms) ++ other) p
+      SomeIn (Runs R) (else_at l (map plain_arm arms) (plain_block other)) → RunFound R (joined (map (λ arm. (out-Arm arm).body) arms) ++ other)
   arms_so l [] other each others some = block_so other 0 (inside l l.passed) others some
   arms_so l (arm ∷ rest) other each others (inr none) = absurd none
   arms_so l (arm ∷ rest) other each others (inl (inl none)) = absurd none
@@ -127,7 +147,7 @@ module _ (p : Place) where
       (arms_so (passed_one l) rest other (All-tail (λ arm. Each S (out-Arm arm).body) arm rest each) others some)
 
   branches_so : (branches : List Branch) (n : ℕ) (l : Label) → EachBranch S branches →
-      SomeInEach (RunsAt p) (bodies_from (map plain_branch branches) n l) → RunStands (joined (map (λ branch. (out-Branch branch).body) branches)) p
+      SomeInEach (Runs R) (bodies_from (map plain_branch branches) n l) → RunFound R (joined (map (λ branch. (out-Branch branch).body) branches))
   branches_so [] n l each some = absurd some
   branches_so (branch ∷ rest) n l each (inl some) =
       run_moved (λ inner one. stands_left (out-Branch branch).body (joined (map (λ branch. (out-Branch branch).body) rest)) one)
@@ -137,34 +157,37 @@ module _ (p : Place) where
       (branches_so rest (suc n) l (All-tail (λ branch. Each S (out-Branch branch).body) branch rest each) some)
 
   by_parts : (place : Place) (layer : StmtKind-F StmtKind Arm Branch Stmt) (at : Position) (q : Plain) → plain (stmt place layer) at ≡ q →
-      (SomeOf (RunsAt p) q → RunStands (kind_children layer) p) → SomeOf (RunsAt p) (plain (stmt place layer) at) → RunWithin (stmt place layer) p
+      (SomeOf (Runs R) q → RunFound R (kind_children layer)) → SomeOf (Runs R) (plain (stmt place layer) at) → RunWithin R (stmt place layer)
   by_parts place layer at q is so some =
-      let one = so (subst (SomeOf (RunsAt p)) is some) in
-      record { statement = one.statement; within = stands_below place layer one.stands; runs = one.runs; placed = one.placed }
+      let one = so (subst (SomeOf (Runs R)) is some) in
+      record { statement = one.statement; within = stands_below place layer one.stands; runs = one.runs; holds = one.holds }
 
-  act_so : (place : Place) (layer : StmtKind-F StmtKind Arm Branch Stmt) (at : Position) → plain (stmt place layer) at ≡ Act (label_at at) (stmt place layer) →
-      SomeOf (RunsAt p) (plain (stmt place layer) at) → RunWithin (stmt place layer) p
+  act_so : (place : Place) (layer : StmtKind-F StmtKind Arm Branch Stmt) (at : Position) →
+      plain (stmt place layer) at ≡ Act (label_at at) (stmt place layer) →
+      SomeOf (Runs R) (plain (stmt place layer) at) → RunWithin R (stmt place layer)
   act_so place layer at is = by_parts place layer at (Act (label_at at) (stmt place layer)) is (λ none. absurd none)
 
-  run_so : (place : Place) (layer : StmtKind-F StmtKind Arm Branch Stmt) → is_run_kind layer ≡ true → place ≡ p → RunWithin (stmt place layer) p
+  run_so : (place : Place) (layer : StmtKind-F StmtKind Arm Branch Stmt) → is_run_kind layer ≡ true → R place (kind_outputs layer) →
+      RunWithin R (stmt place layer)
   run_so place layer run is = record {
     statement = stmt place layer;
     within = itself;
     runs = ap is_run_kind (layer_at place layer) ∙ run;
-    placed = placed_at place layer ∙ is;
+    holds = subst (λ at. R at (outputs_of (stmt place layer))) (sym (placed_at place layer))
+        (subst (R place) (sym (outputs_at place layer)) is);
   }
 
-  in_body : (body : List Stmt) (at : Position) → Each S body → ⊥ ⊎ SomeIn (RunsAt p) (plain_block body at) → RunStands body p
+  in_body : (body : List Stmt) (at : Position) → Each S body → ⊥ ⊎ SomeIn (Runs R) (plain_block body at) → RunFound R body
   in_body body at each (inl none) = absurd none
   in_body body at each (inr some) = block_so body 0 at each some
 
   in_branches : (branches : List Branch) (l : Label) → EachBranch S branches →
-      ⊥ ⊎ SomeInEach (RunsAt p) (bodies_from (map plain_branch branches) 0 l) → RunStands (joined (map (λ branch. (out-Branch branch).body) branches)) p
+      ⊥ ⊎ SomeInEach (Runs R) (bodies_from (map plain_branch branches) 0 l) → RunFound R (joined (map (λ branch. (out-Branch branch).body) branches))
   in_branches branches l each (inl none) = absurd none
   in_branches branches l each (inr some) = branches_so branches 0 l each some
 
   no_arm_so : (other : List Stmt) (one two : Position) → Each S other →
-      ⊥ ⊎ (SomeIn (RunsAt p) (plain_block other one) ⊎ SomeIn (RunsAt p) (plain_block other two)) → RunStands other p
+      ⊥ ⊎ (SomeIn (Runs R) (plain_block other one) ⊎ SomeIn (Runs R) (plain_block other two)) → RunFound R other
   no_arm_so other one two others (inl none) = absurd none
   no_arm_so other one two others (inr (inl some)) = block_so other 0 one others some
   no_arm_so other one two others (inr (inr some)) = block_so other 0 two others some
@@ -186,7 +209,7 @@ module _ (p : Place) where
     call = λ place f inputs outputs at. act_so place (StmtKind-F.Call f inputs outputs) at (plain_statements.call place at f inputs outputs);
     await = λ place e at. by_parts place (StmtKind-F.Await e) at _ (plain_statements.pause place at e) (λ none. absurd none);
     run = λ place target a inputs outputs at some. run_so place (StmtKind-F.Run target a inputs outputs) refl
-        (subst (SomeOf (RunsAt p)) (plain_statements.run place at target a inputs outputs) some);
+        (subst (SomeOf (Runs R)) (plain_statements.run place at target a inputs outputs) some);
     branching = branching_so;
     cobegin = λ place branches each at. by_parts place (StmtKind-F.Cobegin branches) at _ (plain_statements.parallel place at branches)
         (in_branches branches (label_at at) each);
@@ -201,8 +224,13 @@ module _ (p : Place) where
     returns = λ place e at. act_so place (StmtKind-F.Return e) at (plain_statements.returns place at e);
   }
 
+  pub run_found : (body : List Stmt) (at : Position) → SomeIn (Runs R) (plain_block body at) → RunFound R body
+  run_found body at some = block_so body 0 at (λ n d within. induct S stmt_cases (get_or body n d)) some
+
 pub runs_are_of_statements_so : RunsAreOfStatements
-runs_are_of_statements_so body at p some = block_so p body 0 at (λ n d within. induct (S p) (stmt_cases p) (get_or body n d)) some
+runs_are_of_statements_so body at p some =
+    let one = run_found (λ at outputs. at ≡ p) body at some in
+    record { statement = one.statement; stands = one.stands; runs = one.runs; placed = one.holds }
 
 -- ---- branches
 
@@ -255,7 +283,8 @@ apart_moved so apart outer s t j k among = apart outer s t j k (so outer among)
 abbrev Z : Stmt → Type 0
 Z s = (at : Position) → ApartAmong (λ inner. Within inner s) → EachFork RunApart (plain s at)
 
-forks_in : (body : List Stmt) (n : ℕ) (at : Position) → Each Z body → ApartAmong (StandsIn body) → EachForkIn RunApart (block_from (map plain body) n at)
+forks_in : (body : List Stmt) (n : ℕ) (at : Position) → Each Z body → ApartAmong (StandsIn body) →
+    EachForkIn RunApart (block_from (map plain body) n at)
 forks_in [] n at each apart = tt
 forks_in (s ∷ rest) n at each apart = (
   All-head Z s rest each (at ++ n ∷ []) (apart_moved {P = StandsIn (s ∷ rest)} (λ inner within. stands_first s rest within) apart),
@@ -279,7 +308,8 @@ forks_in_arms l (arm ∷ rest) other each others apart =
     )
 
 forks_in_branches : (branches : List Branch) (n : ℕ) (l : Label) → EachBranch Z branches →
-    ApartAmong (StandsIn (joined (map (λ branch. (out-Branch branch).body) branches))) → EachForkInEach RunApart (bodies_from (map plain_branch branches) n l)
+    ApartAmong (StandsIn (joined (map (λ branch. (out-Branch branch).body) branches))) →
+    EachForkInEach RunApart (bodies_from (map plain_branch branches) n l)
 forks_in_branches [] n l each apart = tt
 forks_in_branches (branch ∷ rest) n l each apart =
     let more : List Stmt = joined (map (λ branch. (out-Branch branch).body) rest) in (

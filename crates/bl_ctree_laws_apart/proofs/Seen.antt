@@ -181,7 +181,8 @@ module _ (structs : List StructDef) (units : List UnitDef) (entry : ℕ) (over :
   Seen i c at = (may_write W i c over ≡ true) ⊎ InCall W i at.instance
 
   -- an output of a call that goes on may be written
-  output_seen : (i : ℕ) (s : Call) (callee : ℕ) (stood : Bool) (c : Tree) (own at : Location) → HasOutputs W callee (map static_of s.arguments.outputs) →
+  output_seen : (i : ℕ) (s : Call) (callee : ℕ) (stood : Bool) (c : Tree) (own at : Location) →
+      HasOutputs W callee (map static_of s.arguments.outputs) →
       is_settled (Run s callee Body stood c) ≡ false → home W own ≡ at → IsOutput W i callee own → overlap over at ≡ true →
       may_write W i (Run s callee Body stood c) over ≡ true
   output_seen i s callee stood c own at has moving is out o =
@@ -222,7 +223,8 @@ module _ (structs : List StructDef) (units : List UnitDef) (entry : ℕ) (over :
       or_right (list_any (leads_over W i over) (map static_of s.arguments.outputs)) (list_any (leads_over W i over) (target_static s.arguments.target)) e
 
   mutual
-    seen : {i : ℕ} {c : Tree} {d : Bool} {a : Deed} {n : StepLabel} {c' : Tree} (k : ℕ) (at : Location) → overlap over at ≡ true → CallsStand W i c →
+    seen : {i : ℕ} {c : Tree} {d : Bool} {a : Deed} {n : StepLabel} {c' : Tree} (k : ℕ) (at : Location) →
+        overlap over at ≡ true → CallsStand W i c →
         Moves Anyway W i c d a n c' → slice_get (effect_writes W a.instance a.effect) k ≡ Some at → Seen i c at
     seen {i = i} k at o stand (acts {s = s}) e = inl (any_home W i at over (writes s) k e o)
     seen k at o stand takes e = nothing_written k at e

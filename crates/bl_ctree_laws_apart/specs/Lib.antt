@@ -1,8 +1,10 @@
 pub mod Forks
 pub mod Frames
 pub mod Named
+pub mod Outputs
 pub mod Owned
 pub mod Parted
 pub mod Returns
 pub mod Running
 pub mod Seen
+pub mod Writing

@@ -1,6 +1,7 @@
 -- Which statements of a body the deeds of what is left of it are of.
-use Rattle.std.specs.Prelude.{◌≡◌, ◌⊎◌, ℕ, Bool, Some}
+use Rattle.std.specs.Prelude.{◌≡◌, ◌⊎◌, ℕ, Bool, List, Some}
 use Rattle.bl_tree.specs.declared.place.Place.{Place}
+use Rattle.bl_tree.specs.declared.tree.Path.{Path}
 use Rattle.bl_nodes.specs.Plain.{
   Block,
   Bodies,
@@ -67,10 +68,14 @@ Does w i effect (Until l at body e) = (effect ≡ Silent) ⊎ (effect ≡ Asks e
 Does w i effect (While l at e body) = effect ≡ Asks e
 Does w i effect (Again l at body e) = (effect ≡ Silent) ⊎ (effect ≡ Asks e)
 
+-- the statement is a `run`, and this holds of its place and its outputs
+abbrev pub Runs : (Place → List Path → Type 0) → Plain → Type 0
+Runs R (RunOf l at target a inputs outputs) = R at outputs
+Runs R _ = ⊥
+
 -- the statement is a `run` at this place
 abbrev pub RunsAt : Place → Plain → Type 0
-RunsAt place (RunOf l at target a inputs outputs) = at ≡ place
-RunsAt place _ = ⊥
+RunsAt place = Runs (λ at outputs. at ≡ place)
 
 -- the deed is one of the instance itself, by a statement of the body
 pub record Own (w : Setting) (i : ℕ) (body : Block) (a : Deed) : Type 0 where

@@ -13,12 +13,23 @@ use Rattle.bl_ctree_laws.specs.Pending.{Deed, any_meets, meets}
 use Rattle.bl_ctree_laws.specs.Steps.{Moves, OneMoves, Unmet}
 use Rattle.bl_ctree_laws.specs.Trees.{Tree, Trees}
 use Rattle.bl_ctree_laws_apart.specs.Forks.{EachForkIn, KeepApart}
+use Rattle.bl_ctree_laws_apart.specs.Outputs.{BranchesHaveOutputs}
 use Rattle.bl_ctree_laws_apart.specs.Returns.{NoneReturns}
 use Rattle.bl_ctree_laws_apart.specs.Running.{RunApart}
+use Rattle.bl_ctree_laws_apart.specs.Writing.{WriteApart}
 
--- none names what another declares, none returns, and no two run at one place
-abbrev pub StandApart : Bodies → Type 0
-StandApart bodies = KeepApart bodies × (NoneReturns bodies × RunApart bodies)
+-- branches, which stand in the instance, that keep apart
+pub record StandApart (w : Setting) (i : ℕ) (bodies : Bodies) : Type 0 where
+  -- none names what another declares
+  pub names : KeepApart bodies
+  -- none returns
+  pub returns : NoneReturns bodies
+  -- no two run at one place
+  pub runs : RunApart bodies
+  -- and none writes over what another writes
+  pub writes : WriteApart bodies
+  -- their `run` statements have the outputs that the instances which they begin were begun with
+  pub outputs : BranchesHaveOutputs w i bodies
 
 -- a step of what is left of a branch, which stands in the instance
 pub record Steps (w : Setting) (stood : Bool) (i : ℕ) (body : Block) (c : Tree) (a : Deed) : Type 0 where
@@ -43,7 +54,7 @@ pub record TwoBranches (w : Setting) (a b : Deed) : Type 0 where
   pub weak : Bool
   pub body : Block
   pub rest : Bodies
-  pub apart : StandApart (BodyOf weak body rest)
+  pub apart : StandApart w instance (BodyOf weak body rest)
   pub tree : Tree
   pub others : Trees
   pub first : Steps w stood instance body tree a
@@ -53,15 +64,16 @@ pub record TwoBranches (w : Setting) (a b : Deed) : Type 0 where
 
 -- in each unit that has an instance branches keep apart
 abbrev pub AllKeepApart : Setting → Type 0
-AllKeepApart w = (i : ℕ) (unit : UnitDef) → unit_at w i ≡ Some unit → EachForkIn StandApart (plain_body unit.body)
+AllKeepApart w = (i : ℕ) (unit : UnitDef) → unit_at w i ≡ Some unit → EachForkIn (StandApart w i) (plain_body unit.body)
 
 -- then steps of different branches are of two branches of one `cobegin`, the one first or the other
 abbrev pub ApartIsTwoBranches : Type 0
 ApartIsTwoBranches =
-    (w : Setting) (stood : Bool) (i : ℕ) (body : Block) (c : Tree) (a b : Deed) → AllKeepApart w → EachForkIn StandApart body →
+    (w : Setting) (stood : Bool) (i : ℕ) (body : Block) (c : Tree) (a b : Deed) → AllKeepApart w → EachForkIn (StandApart w i) body →
     Left w stood i body c → Apart w i c a b → TwoBranches w a b ⊎ TwoBranches w b a
 
 -- and in an accepted program all branches keep apart
 abbrev pub AcceptedKeepsApart : Type 0
 AcceptedKeepsApart =
-    (structs : List StructDef) (units : List UnitDef) (entry : ℕ) → Keeps structs units entry → Passes units → AllKeepApart (setting_of structs units entry)
+    (structs : List StructDef) (units : List UnitDef) (entry : ℕ) → Keeps structs units entry → Passes units →
+    AllKeepApart (setting_of structs units entry)

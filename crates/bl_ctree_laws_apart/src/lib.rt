@@ -4,18 +4,22 @@
 //! and what it names or declares the body does (`specs/Named.antt`).
 //! So no deed of one branch of a `cobegin` names what another branch declares (`specs/Forks.antt`),
 //! and steps that are done in either order are of two branches that keep so apart (`specs/Parted.antt`).
-//! No `return` stands in a branch (`specs/Returns.antt`), and no two branches run at one place (`specs/Running.antt`).
+//! No `return` stands in a branch (`specs/Returns.antt`), no two branches run at one place (`specs/Running.antt`),
+//! and none writes over what another writes (`specs/Writing.antt`).
+//! Calls in trees that runs reach stand as their `run` statements do (`specs/Outputs.antt`).
 //! The frames that the deeds of a body change as a whole, and the results that they look at, are of what the body calls (`specs/Frames.antt`).
 #![tactic(auto)]
 
 ghost use Rattle.bl_ctree_laws_apart.specs.Forks.{BranchesKeepApart};
 ghost use Rattle.bl_ctree_laws_apart.specs.Frames.{FramesAreOfCalls, ResultsAreOfCalls};
 ghost use Rattle.bl_ctree_laws_apart.specs.Named.{BodiesDeclareWhatTheyDo, BodiesNameWhatTheyDo};
+ghost use Rattle.bl_ctree_laws_apart.specs.Outputs.{LeftCallsStand, TypedRunsHaveOutputs};
 ghost use Rattle.bl_ctree_laws_apart.specs.Owned.{DeedsAreOfBodies};
 ghost use Rattle.bl_ctree_laws_apart.specs.Parted.{AcceptedKeepsApart, ApartIsTwoBranches};
 ghost use Rattle.bl_ctree_laws_apart.specs.Returns.{AcceptedReturnsLast, NoBranchReturns};
 ghost use Rattle.bl_ctree_laws_apart.specs.Running.{AcceptedRunsApart, BranchesRunApart, RunsAreOfStatements};
 ghost use Rattle.bl_ctree_laws_apart.specs.Seen.{DeedsStayInside, WritesAreSeen};
+ghost use Rattle.bl_ctree_laws_apart.specs.Writing.{AcceptedWritesApart};
 
 /// Where calls stand the instance of each deed of a tree is the tree's own, or is inside a call of it.
 pub fn deeds_stay_inside()
@@ -53,7 +57,7 @@ pub fn apart_is_two_branches()
 {}
 
 /// In an accepted program the branches of each `cobegin` of a unit that has an instance keep apart: none names what another declares,
-/// none returns, and no two run at one place.
+/// none returns, no two run at one place, and none writes over what another writes.
 pub fn accepted_programs_keep_apart()
     ensures { AcceptedKeepsApart }
 {}
@@ -83,6 +87,11 @@ pub fn accepted_programs_run_apart()
     ensures { AcceptedRunsApart }
 {}
 
+/// No path that a branch writes in such a unit, by an act, a declaration or a `run`, overlaps one that another branch of its `cobegin` writes.
+pub fn accepted_programs_write_apart()
+    ensures { AcceptedWritesApart }
+{}
+
 /// A frame that an effect of a body changes as a whole is its own, by a `return`, or that of an instance that a `run` of the body begins.
 pub fn frames_are_of_calls()
     ensures { FramesAreOfCalls }
@@ -91,4 +100,14 @@ pub fn frames_are_of_calls()
 /// A result that an effect of a body looks at is that of an instance that a `run` of the body begins.
 pub fn results_are_of_calls()
     ensures { ResultsAreOfCalls }
+{}
+
+/// In a typed program each `run` of a unit that has an instance has the outputs that the instance which it begins was begun with.
+pub fn typed_runs_have_outputs()
+    ensures { TypedRunsHaveOutputs }
+{}
+
+/// So the calls in what is left of its body stand as its `run` statements do.
+pub fn left_calls_stand()
+    ensures { LeftCallsStand }
 {}

@@ -181,6 +181,7 @@ module _ (w : Setting) where
           beside = live.2.fits.beside;
           calls = live.2.fits.calls;
         };
+        called = live.2.called;
         is = live.2.is;
         now = more _ live.2.now;
         stays = live.2.stays;
@@ -197,6 +198,7 @@ module _ (w : Setting) where
           beside = live.2.fits.beside;
           calls = live.2.fits.calls;
         };
+        called = live.2.called;
         is = live.2.is;
         now = more _ live.2.now;
         has_stood = live.2.has_stood;
@@ -392,6 +394,7 @@ module _ {w : Setting} (pass : InstantsPass) (shrink : EndsShrink) (pace : Paces
             body_lives w callee all unit there,
             record {
               fits = live.0;
+              called = here;
               is = there;
               now = live.1;
               stays = λ ends. absurd (cc (shrink w i (Do (RunOf l at target a inputs outputs)) true _ _ _ pace (runs here there) ends));
@@ -424,7 +427,7 @@ module _ {w : Setting} (pass : InstantsPass) (shrink : EndsShrink) (pace : Paces
     kept (guard_ends {s = s} {stood = stood}) g live closed deep =
         left_by g (end_node stood s.label s.place) (live.1.closes refl).1 (live.1.fits.outs _ (end_out s stood (live.1.closes refl).0))
     kept copies g live closed deep = record {
-      lives = (live.0, live.1, record { fits = live.2.fits; is = live.2.is; now = live.2.now; stays = λ e. live.2.has_stood });
+      lives = (live.0, live.1, record { fits = live.2.fits; called = live.2.called; is = live.2.is; now = live.2.now; stays = λ e. live.2.has_stood });
       exits = λ e. absurd (cc (e));
     }
     kept {i = i} (run_ends {s = s} {stood = stood}) g live closed deep =
@@ -460,6 +463,7 @@ module _ {w : Setting} (pass : InstantsPass) (shrink : EndsShrink) (pace : Paces
             (part_closed true (plain_body live.0.body))).lives,
         record {
           fits = live.2.fits;
+          called = live.2.called;
           is = live.2.is;
           now = live.2.now;
           stays = λ ends. live.2.stays (shrink w callee c _ _ _ c' pace move ends);

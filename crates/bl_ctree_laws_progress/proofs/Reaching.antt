@@ -97,10 +97,10 @@ module _ (kept : MovesKeepProper) (woken_proper : WakingKeepsProper) (proper : R
   pub reached : (w : Setting) → Paces w → AllCallable w → {rows : List (List ℤ)} {c : control.Control} {store : Store} → Reaches w rows c store →
       LiveTree w (entry_block w) (plain_tree c)
   reached w pace all at_first = not_begun
-  reached w pace all (after_tick {rows} {row} {c} {store} {c' = c'} {store' = store'} before tick paused) =
+  reached w pace all (after_tick {before = rows} {row} {c} {store} {c' = c'} {store' = store'} before tick paused is) =
       let now = inside w rows c store _ tick.actions c' store' pace all before (reached w pace all before) tick.maximal.steps in
       rests now.stood (plain_tree c')
-      (settled_plain w c' (proper w _ c' store' (after_tick before tick paused)) ∙ paused_settled (control.is_nil c') (control.is_settled c') paused)
+      (settled_plain w c' (proper w _ c' store' (after_tick before tick paused is)) ∙ paused_settled (control.is_nil c') (control.is_settled c') paused)
       now.lives
 
   pub reached_is_live : ReachedIsLive

@@ -2,14 +2,14 @@
 use Rattle.std.proofs.Common.{◌≡◌, ℕ, Bool, true, false, ◌||◌, List, [], ◌∷◌, ◌⊎◌, inl, inr, refl, ap, ◌∙◌}
 use Rattle.std.specs.List.{list_any}
 use Rattle.bl_tree.specs.declared.place.Place.{Place as Source}
-use Rattle.bl_nodes.specs.Nodes.{Node, entry, is_instant, node_writes}
+use Rattle.bl_nodes.specs.Nodes.{Node, entry, is_instant, node_writes, place_of_node}
 use Rattle.bl_nodes.specs.Plain.{Block, Bodies, Cobegin, Label, Body as BodyOf, Done, Last, Then, plain_body}
-use Rattle.bl_nodes.specs.Steps.{Gives, Here, Inside, StepLabel, head_of}
+use Rattle.bl_nodes.specs.Steps.{Gives, Here, Inside, StepLabel, head_of, run_node}
 use Rattle.bl_graph.specs.DataEdges.{BesideEach}
 use Rattle.bl_graph.specs.Edges.{EdgeAll, EdgeEach, In, InEach}
 use Rattle.bl_graph.specs.Laws.{InstantsPass, WritersAreReached}
 use Rattle.bl_graph.proofs.Walking.{walk_more}
-use Rattle.bl_ctree.specs.Instances.{Setting}
+use Rattle.bl_ctree.specs.Instances.{Setting, callee_of}
 use Rattle.bl_ctree.specs.Store.{Location}
 use Rattle.bl_ctree_laws.specs.Pending.{Deed, any_meets, any_writes, deed_reads, leads_over, may_write, meets}
 use Rattle.bl_ctree_laws.specs.Soon.{SoonIsSurface}
@@ -47,13 +47,18 @@ use Rattle.bl_ctree_laws.specs.Steps.{
   first,
   later,
 }
-use Rattle.bl_ctree_laws.specs.Trees.{Tree, Trees, beside}
+use Rattle.bl_ctree_laws.specs.Trees.{Call, Tree, Trees, beside}
 use Rattle.bl_ctree_laws_progress.specs.Blocked.{ActsOrWaits, Blocked, WaitsFor, Writer}
 use Rattle.bl_ctree_laws_progress.specs.Live.{Live, Lives}
 use Rattle.bl_ctree_laws_progress.specs.Places.{Place, ahead_of, guarded, in_branch, whole}
 use Rattle.bl_ctree_laws_progress.proofs.Acting.{OneCould, one_region, region, this_could, this_one_could}
 use Rattle.bl_ctree_laws_progress.proofs.Leading.{in_on, rest_edges}
 use Rattle.bl_ctree_laws_progress.proofs.Writing.{one_writer, writer}
+
+-- the node of a `run` has its place
+run_place : (stood : Bool) (s : Call) → place_of_node (run_node stood s.label s.place s.arguments) ≡ s.place
+run_place true s = refl
+run_place false s = refl
 
 -- ---- what waits
 
@@ -219,11 +224,11 @@ module _ {w : Setting} (pass : InstantsPass) (reach : WritersAreReached) (surfac
       | inl able ↦ inl (in_guard able)
       | inr b ↦ inr (record { could = this_could (in_guard b.could.moves); waits = b.waits })
     ]
-    free (in_run {callee = callee} {stood = stood} move) g live = elim (free move (whole stood (plain_body live.0.body)) live.1) [
+    free {i = i} (in_run {s = s} {callee = callee} {stood = stood} move) g live = elim (free move (whole stood (plain_body live.0.body)) live.1) [
       | inl able ↦ inl (in_run able)
       | inr b ↦ inr (record {
         could = this_could (in_run b.could.moves);
-        waits = inr (callee, live.0, b.could.label, live.2.is, refl, b.waits);
+        waits = inr (callee, live.0, b.could.label, ap (callee_of w i) (run_place stood s) ∙ live.2.called, live.2.is, refl, b.waits);
       })
     ]
 

@@ -169,6 +169,7 @@ module _ (w : Setting) where
                 beside = live.2.fits.beside;
                 calls = live.2.fits.calls;
               };
+              called = live.2.called;
               is = live.2.is;
               now = live.2.fits.resumes _ refl;
               has_stood = refl;

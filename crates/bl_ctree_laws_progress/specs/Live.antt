@@ -6,7 +6,7 @@ use Rattle.bl_nodes.specs.Plain.{Block, Bodies, Plain, Body as BodyOf, Cobegin, 
 use Rattle.bl_nodes.specs.Steps.{end_node, join_node, run_node}
 use Rattle.bl_graph.specs.Edges.{InEach}
 use Rattle.bl_ctree.specs.Control.{Check, Body}
-use Rattle.bl_ctree.specs.Instances.{Setting, unit_at}
+use Rattle.bl_ctree.specs.Instances.{Setting, callee_of, unit_at}
 use Rattle.bl_ctree_laws.specs.Pending.{may_end, may_join}
 use Rattle.bl_ctree_laws.specs.Trees.{
   Call,
@@ -75,15 +75,17 @@ pub record CheckLive (w : Setting) (i : ℕ) (s : Watch) (stood nil : Bool) (g :
   pub checks : g.now (check_of s)
   pub unended : nil ≡ false
 
--- what a Run has beside its body: the unit of its instance, and its node; one that ends or copies its inputs has stood
+-- what a Run has beside its body: the instance that its place begins, the unit of that, and its node; one that ends or copies its inputs has stood
 pub record CallLive (w : Setting) (i : ℕ) (s : Call) (callee : ℕ) (unit : UnitDef) (stood ends : Bool) (g : Place) : Type 0 where
   pub fits : Fits w i (call_stmt s) g
+  pub called : callee_of w i s.place ≡ Some callee
   pub is : unit_at w callee ≡ Some unit
   pub now : g.now (run_node stood s.label s.place s.arguments)
   pub stays : ends ≡ true → stood ≡ true
 
 pub record CopyLive (w : Setting) (i : ℕ) (s : Call) (callee : ℕ) (unit : UnitDef) (stood nil : Bool) (g : Place) : Type 0 where
   pub fits : Fits w i (call_stmt s) g
+  pub called : callee_of w i s.place ≡ Some callee
   pub is : unit_at w callee ≡ Some unit
   pub now : g.now (run_node stood s.label s.place s.arguments)
   pub has_stood : stood ≡ true

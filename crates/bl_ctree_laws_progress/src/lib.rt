@@ -8,8 +8,7 @@
 //! could act may, or it waits for a writer in another branch to which something else that could act leads
 //! (`specs/Blocked.antt`). All trees that runs reach are live (`specs/Reached.antt`), in accepted programs without premises
 //! (`specs/Accepted.antt`). What a deed reads is what its node reads, so in one instance such a writer has a static path that
-//! overlaps one that the waiting node reads (`specs/Reading.antt`). That ranks which rise along all edges leave no reached
-//! tree stuck isn't shown here yet.
+//! overlaps one that the waiting node reads (`specs/Reading.antt`).
 #![tactic(auto)]
 
 ghost use Rattle.bl_ctree_laws_progress.specs.Accepted.{AcceptedTreesAreLive, ProgramsAreCallable};

@@ -113,7 +113,8 @@ use Rattle.bl_early.specs.Form.{
   unit_steps,
   is_pause,
 }
-use Rattle.bl_early.specs.Built.{item_within, source_within, step_within, passes, is_step, is_any_step, steps_at, loop_steps}
+use Rattle.bl_early.specs.inner.Built.{item_within, source_within, step_within, passes, is_step, is_any_step, steps_at}
+use Rattle.bl_early.specs.Form.{loop_steps}
 use Rattle.bl_early.specs.Emitted.{c_structs, c_funcs}
 use Rattle.bl_early.proofs.Spelled.{is_named_var, is_typed_var, file-spelled}
 use Rattle.bl_early.proofs.Steps.{same-length, steps-some, suited-all, suited-few, suited-pause}

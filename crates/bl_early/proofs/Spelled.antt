@@ -68,7 +68,7 @@ use Rattle.bl_ctext.proofs.Fitting.{
   file-spells,
 }
 use Rattle.bl_early.specs.Form.{Item, Number, Of, Source, Just, Sum, Step, Set, Pause, has_early_type}
-use Rattle.bl_early.specs.Built.{item_within, source_within, step_within}
+use Rattle.bl_early.specs.inner.Built.{item_within, source_within, step_within}
 use Rattle.bl_early.specs.Emitted.{
   nowhere,
   c_through,

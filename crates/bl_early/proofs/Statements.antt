@@ -47,7 +47,7 @@ use Rattle.bl_tree.specs.declared.tree.StmtKind.TheOpen.{StmtKind-F}
 use Rattle.bl_tree.specs.declared.tree.StmtKind.TheVariants.{Await, outs-Await, rolls-Await}
 use Rattle.bl_ctext.proofs.Bytes.{and-fst, and-snd}
 use Rattle.bl_early.specs.Form.{Item, Of, Source, Just, Sum, Step, Set, Pause, item_of, source_of, source_in, step_in, step_of, variable_of}
-use Rattle.bl_early.specs.Built.{item_within, source_within, step_within, passes, is_item, is_source, is_step, item_at, step_at, steps_at}
+use Rattle.bl_early.specs.inner.Built.{item_within, source_within, step_within, passes, is_item, is_source, is_step, item_at, step_at, steps_at}
 use Rattle.bl_early.specs.Emitted.{c_when, c_item, c_stretch, c_numbered, c_resumed}
 
 -- ---- sums

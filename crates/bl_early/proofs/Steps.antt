@@ -28,7 +28,7 @@ use Rattle.std.proofs.lemmas.Bool.Decides.{nat_tests}
 use Rattle.bl_tree.specs.declared.tree.Stmt.{Stmt}
 use Rattle.bl_ctext.proofs.Bytes.{and-fst, and-snd}
 use Rattle.bl_early.specs.Form.{Of, Step, Pause, is_pause, step_of, steps_of, steps_suit}
-use Rattle.bl_early.specs.Built.{passes, steps_at, is_any_step, has_pause}
+use Rattle.bl_early.specs.inner.Built.{passes, steps_at, is_any_step, has_pause}
 
 both-some : (one : Option Step) (rest : Option (List Step)) (steps : List Step) → is_some one ≡ true → rest ≡ Some steps →
     option_and_then (λ step. option_map (λ steps. step ∷ steps) rest) one ≡ Some (unwrap_or one (Pause (Of 0)) ∷ steps)

@@ -49,13 +49,14 @@ use Rattle.bl_tree.specs.declared.tree.Var.{Var}
 use Rattle.bl_tree.specs.Types.{scalar_in}
 use Rattle.bl_tree.specs.Typing.{inputs_of}
 use Rattle.bl_early.specs.Form.{Item, Number, Of, Source, Just, Sum, Step, Set, Pause}
-use Rattle.bl_early.specs.Built.{loop_steps}
+use Rattle.bl_early.specs.Form.{loop_steps}
 
 -- ---- parts of C texts
 
 abbrev pub nowhere : Place
 nowhere = record { start = 0; end = 0 }
 
+-- an expression without a place
 abbrev pub c_expr : CExprKind → CExpr
 c_expr what = roll-CExpr (record { place = nowhere; what = what })
 
@@ -133,12 +134,15 @@ c_outer returned name params body =
 
 -- ---- the structs
 
+-- the name of the struct of an activity's frame
 abbrev pub frame_name : UnitDef → Text
 frame_name unit = codes "f_" ++ unit.name
 
+-- the name of an input in C
 abbrev pub input_name : Var → Text
 input_name var = codes "i_" ++ var.name
 
+-- the name of an output in C
 abbrev pub output_name : Var → Text
 output_name var = codes "o_" ++ var.name
 
@@ -146,6 +150,7 @@ output_name var = codes "o_" ++ var.name
 abbrev pub c_frame : UnitDef → CStruct
 c_frame unit = c_struct (frame_name unit) (c_member (OfScalar (Nat W32)) (codes "c0") ∷ [])
 
+-- the struct of the state object
 abbrev pub c_state : UnitDef → CStruct
 c_state unit = c_struct (codes "bl_state") (c_member (OfStruct (frame_name unit)) (codes "m_0") ∷ [])
 
@@ -186,10 +191,12 @@ c_now = c_variable (codes "l_0")
 abbrev pub c_port : List CPlace → ℕ → CPlace
 c_port ports k = slice_index_or ports k c_now
 
+-- the expression of an item
 abbrev pub c_item : List CPlace → Item → CExpr
 c_item ports (Number n ty) = c_literal ty n
 c_item ports (Of k) = c_read (c_port ports k)
 
+-- the expression of a source
 abbrev pub c_source : List CPlace → Source → CExpr
 c_source ports (Just item) = c_item ports item
 c_source ports (Sum left right) = c_called (c_call (codes "bl_add_i32") (Value (c_item ports left) ∷ Value (c_item ports right) ∷ []))
@@ -216,16 +223,19 @@ abbrev pub c_tick_body : List CPlace → List Step → List CStmt
 c_tick_body ports steps =
     c_set c_now (c_read c_counter) ∷ (c_resumed ports 1 steps ++ c_numbered 0 (c_stretch ports 1 steps) ∷ [])
 
+-- the name of the function of an activity
 abbrev pub activity_name : UnitDef → Text
 activity_name unit = codes "a_" ++ unit.name
 
 abbrev pub c_local : CLocal
 c_local = c_counter_local (codes "l_0")
 
+-- the parameters of the function of an activity
 abbrev pub c_params : UnitDef → List CParam
 c_params unit =
     c_pointer (frame_name unit) (codes "p_f") ∷ c_pointer (codes "bl_in") (codes "p_i") ∷ c_pointer (codes "bl_out") (codes "p_o") ∷ []
 
+-- the function of an activity
 abbrev pub c_activity : UnitDef → List Step → CFunc
 c_activity unit steps = c_inner (activity_name unit) (c_params unit) (c_local ∷ []) (c_tick_body (c_ports unit) steps)
 
@@ -237,10 +247,12 @@ c_init =
     c_outer None (codes "bl_init") (c_pointer (codes "bl_state") (codes "s") ∷ [])
     (c_set (c_target (codes "s") (c_step (codes "m_0") ∷ c_step (codes "c0") ∷ [])) (c_count 0) ∷ [])
 
+-- the parameters of `bl_tick`
 abbrev pub c_tick_params : List CParam
 c_tick_params =
     c_pointer (codes "bl_state") (codes "s") ∷ c_pointer (codes "bl_in") (codes "i") ∷ c_pointer (codes "bl_out") (codes "o") ∷ []
 
+-- the arguments with which `bl_tick` calls the activity
 abbrev pub c_tick_args : List CArg
 c_tick_args =
     Address (c_through (codes "s") (codes "m_0")) ∷ Address (c_target (codes "i") []) ∷ Address (c_target (codes "o") []) ∷ []
@@ -251,15 +263,18 @@ c_tick unit =
     c_outer (Some (Nat W32)) (codes "bl_tick") c_tick_params
     (c_calling (c_call (activity_name unit) c_tick_args) ∷ c_returning (c_count 0) ∷ [])
 
+-- the functions of a unit
 abbrev pub c_funcs : UnitDef → List Step → List CFunc
 c_funcs unit steps = c_activity unit steps ∷ c_init ∷ c_tick unit ∷ []
 
 -- ---- the file of a program that has one unit alone
 
+-- the structs of units, which are one
 abbrev pub c_structs_of : List UnitDef → List CStruct
 c_structs_of (unit ∷ []) = c_structs unit
 c_structs_of _ = []
 
+-- the functions of units, which are one
 abbrev pub c_funcs_of : List UnitDef → List CFunc
 c_funcs_of (unit ∷ []) = c_funcs unit (loop_steps unit)
 c_funcs_of _ = []

@@ -1,28 +1,6 @@
 -- The form of programs that is built today: one activity that loops, and in its loop sets outputs and awaits conditions.
-use Rattle.std.specs.Prelude.{
-  ℕ,
-  ◌+◌,
-  ℤ,
-  pos,
-  Bool,
-  true,
-  false,
-  ◌&&◌,
-  ◌||◌,
-  nat_eq,
-  nat_le,
-  int_le,
-  List,
-  [],
-  ◌∷◌,
-  length,
-  Option,
-  Some,
-  None,
-  option_map,
-  option_and_then,
-  if◌then◌else◌,
-}
+use Rattle.std.specs.Prelude.{ℕ, ◌+◌, ℤ, pos, Bool, true, false, ◌&&◌, ◌||◌, nat_eq, nat_le, int_le, List, ◌∷◌, length, Option}
+use Rattle.std.specs.Prelude.{Some, None, option_map, option_and_then, if◌then◌else◌}
 use Rattle.std.specs.List.{list_all, list_any}
 use Rattle.bl_tree.specs.declared.scalar.Op.TheVariants.{Add}
 use Rattle.bl_tree.specs.declared.scalar.Scalar.{Scalar as ScalarType}
@@ -41,6 +19,7 @@ use Rattle.bl_tree.specs.declared.tree.StmtKind.TheOpen.{StmtKind-F}
 use Rattle.bl_tree.specs.declared.tree.StructDef.{StructDef}
 use Rattle.bl_tree.specs.declared.tree.Unit.{Unit as UnitDef}
 use Rattle.bl_tree.specs.Types.{scalar_in, same_scalar}
+use Rattle.std.specs.Prelude.{unwrap_or, []}
 
 -- a number of a type, or the variable at a position
 pub data Item : Type 0 where
@@ -59,6 +38,7 @@ pub data Step : Type 0 where
 
 -- ---- the steps for which statements stand
 
+-- the type of the numbers that are computed with
 abbrev pub int32 : ScalarType
 int32 = Int W32
 
@@ -71,6 +51,7 @@ abbrev pub alone : ℕ → List Part → Option ℕ
 alone root [] = Some root
 alone root (part ∷ parts) = None
 
+-- the position of the variable that a path names whole
 abbrev pub variable_of : Path → Option ℕ
 variable_of path = alone (out-Path path).root (out-Path path).parts
 
@@ -108,6 +89,7 @@ abbrev pub steps_of : List Stmt → Option (List Step)
 steps_of [] = Some []
 steps_of (s ∷ rest) = option_and_then (λ step. option_map (λ steps. step ∷ steps) (steps_of rest)) (step_of s)
 
+-- whether a step is a pause
 abbrev pub is_pause : Step → Bool
 is_pause (Set k source) = false
 is_pause (Pause item) = true
@@ -147,3 +129,7 @@ is_early_unit unit =
 abbrev pub is_early : List StructDef → List UnitDef → Bool
 is_early [] (unit ∷ []) = is_early_unit unit
 is_early _ _ = false
+
+-- the steps of a unit of the form
+abbrev pub loop_steps : UnitDef → List Step
+loop_steps unit = unwrap_or (unit_steps unit) []

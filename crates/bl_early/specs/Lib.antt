@@ -1,4 +1,4 @@
-pub mod Built
 pub mod Emitted
 pub mod Form
 pub mod Run
+pub mod inner

@@ -3,7 +3,7 @@
 ghost use Rattle.std.specs.Prelude.{◌≡◌, ◌<◌, ◌≤◌, IsTrue, IfOk, length};
 ghost use Rattle.std.specs.List.{list_all};
 ghost use Rattle.bl_early.specs.Form as form;
-ghost use Rattle.bl_early.specs.Built.{is_step, steps_at};
+ghost use Rattle.bl_early.specs.inner.Built.{is_step, steps_at};
 ghost use Rattle.bl_early.specs.Emitted.{c_funcs, c_funcs_of, c_structs_of};
 
 mod activity;

@@ -2,7 +2,7 @@
 
 ghost use Rattle.std.specs.Prelude.{◌≡◌, is_some, option_map};
 ghost use Rattle.std.specs.List.{list_all, list_any};
-ghost use Rattle.bl_early.specs.Built.{has_pause, is_any_step};
+ghost use Rattle.bl_early.specs.inner.Built.{has_pause, is_any_step};
 ghost use Rattle.bl_early.specs.Form as form;
 ghost use Rattle.bl_tree.specs.Types.{scalar_in};
 

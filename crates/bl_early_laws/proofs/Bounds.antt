@@ -178,7 +178,7 @@ module _ (w : Setting) (site : Site) (loop : Located) (body : List Stmt) (steps 
   module _ (begins : entry_items w ≡ Begin loop ∷ []) where
     reached_waits : {rows : List (List ℤ)} {c : Control} {store : Store} → Reaches w rows c store → Waiting c
     reached_waits at_first = subst (λ items. Waiting (Idle items)) (sym begins) not_begun
-    reached_waits (after_tick {c' = c'} {store'} before tick paused) =
+    reached_waits (after_tick {c' = c'} {store'} before tick paused is) =
         let found = leads_inside tick.maximal.steps most (woken_inside (reached_waits before)) c' store' refl in waits (next found.inside) tick.maximal.over
 
     pub ticks_bounded : (rows : List (List ℤ)) (row : List ℤ) (actions : List Action) (end : End) →

@@ -60,7 +60,7 @@ use Rattle.bl_early.specs.Emitted.{
   output_name,
   outs_of,
 }
-use Rattle.bl_early.specs.Built.{step_within}
+use Rattle.bl_early.specs.inner.Built.{step_within}
 use Rattle.bl_early_laws.proofs.Cells.{Each, each-append, each-map, number_at, Same, same-numbers, Own, Clear, AllApart}
 use Rattle.bl_early_laws.proofs.WrittenValues.{
   passes,

@@ -10,7 +10,7 @@ use Rattle.bl_ctext.proofs.Bytes.{and-fst, and-snd}
 use Rattle.bl_cmeaning.specs.Faults.{WellFormed, faults_in}
 use Rattle.bl_cmeaning.specs.Parts.{parts_from}
 use Rattle.bl_early.specs.Form.{is_early}
-use Rattle.bl_early.specs.Built.{steps_at}
+use Rattle.bl_early.specs.inner.Built.{steps_at}
 use Rattle.bl_early.specs.Emitted.{c_structs, c_funcs}
 use Rattle.bl_early.proofs.Known.{Stands, unit-stands, unit-loop}
 use Rattle.bl_early_laws.specs.Written.{written, WrittenWellFormed}

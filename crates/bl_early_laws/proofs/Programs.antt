@@ -51,6 +51,7 @@ use Rattle.bl_ctree.specs.Actions.{Action}
 use Rattle.bl_ctree.specs.Control.{Control, Idle, is_settled}
 use Rattle.bl_ctree.specs.Instances.{expanded, instances_below, one_a_place, runs_in, runs_of, setting_of}
 use Rattle.bl_ctree.specs.Means.{Allows, Means, Shown, entry_items, shown}
+use Rattle.bl_ctree.specs.Measure as measure
 use Rattle.bl_ctree.specs.Measure.{instance_steps, statements_in, statements_of}
 use Rattle.bl_ctree.specs.Positions.{Begin, Located, body_items, stmt_kind}
 use Rattle.bl_ctree.specs.Reaches.{Bounded, NeverStuck, ReachesInside}
@@ -198,7 +199,7 @@ module _ (unit : UnitDef) (steps : List Step) (early : Early [] (unit ∷ []) 0 
       (subst (λ items. Allows (alone unit) rows (Idle items) (first_store (alone unit)) shows ↔ (shows ≡ shown (trace_of unit steps rows))) (sym begins)
       (loop_has_one_trace unit sound vars_early located loop.body steps loop.kind loop.are_steps fits_are some_pause as_many_vars rows shows fit))
 
-  bounded_is : Bounded [] (unit ∷ []) 0
+  bounded_is : Bounded (measure.steps [] (unit ∷ []) 0) [] (unit ∷ []) 0
   bounded_is =
       subst (λ w. (rows : List (List ℤ)) (row : List ℤ) (actions : List Action) (end : End) → ReachesInside w rows row actions end →
       length actions ≤ total (map (instance_steps w) w.instances)) (sym setting_is)
@@ -234,7 +235,8 @@ early_one_trace structs units entry unit steps rows shows early fit =
 
 pub early_bounded : EarlyIsBounded
 early_bounded structs units entry unit steps early =
-    of_early unit steps Bounded (λ early. bounded_is unit steps early (unit_loop unit steps early.is_loop)) structs units entry early
+    of_early unit steps (λ structs units entry. Bounded (measure.steps structs units entry) structs units entry)
+    (λ early. bounded_is unit steps early (unit_loop unit steps early.is_loop)) structs units entry early
 
 pub early_never_stuck : EarlyIsNeverStuck
 early_never_stuck structs units entry unit steps early =

@@ -60,7 +60,7 @@ use Rattle.bl_cmeaning.specs.Sizes.{
 }
 use Rattle.bl_cmeaning.specs.Tables.{Table, no_entries, with_entry, entry_or}
 use Rattle.bl_early.specs.Form.{Step, is_early, is_early_unit}
-use Rattle.bl_early.specs.Built.{steps_at}
+use Rattle.bl_early.specs.inner.Built.{steps_at}
 use Rattle.bl_early.specs.Emitted.{
   c_activity,
   c_column,

@@ -52,7 +52,7 @@ use Rattle.bl_cmeaning.specs.Cells.{Cell, numbers_of}
 use Rattle.bl_cmeaning.specs.Meaning.{given, Meaning, Scope, Outcome, End, goes_on, traps, following, value_c, location_c, runs_c, block_c}
 use Rattle.bl_early.specs.Form.{Item, Number, Of, Source, Just, Sum, Step, Set, Pause}
 use Rattle.bl_early.specs.Run.{Numbers, item_value, source_value, Reached, Traps, Pauses, Passes, reached_with, taken}
-use Rattle.bl_early.specs.Built.{item_within, source_within, step_within}
+use Rattle.bl_early.specs.inner.Built.{item_within, source_within, step_within}
 use Rattle.bl_early.specs.Emitted.{c_count, c_set, c_port, c_item, c_source, c_counter, c_now, c_stretch}
 use Rattle.bl_early_laws.proofs.Cells.{Each, each-get, number_at, Apart, Own, set-other, set-own, Clear, AllApart, set-others, set-one, get-one}
 use Rattle.bl_early_laws.proofs.WrittenValues.{variable-place, through-place, literal-value, read-value, sum-value, set-runs, set-traps}

@@ -89,7 +89,7 @@ use Rattle.bl_early.specs.Form.{
   step_of,
   alone,
 }
-use Rattle.bl_early.specs.Built.{step_within, passes, is_step, steps_at}
+use Rattle.bl_early.specs.inner.Built.{step_within, passes, is_step, steps_at}
 use Rattle.bl_early.proofs.Spelled.{is_typed_var}
 use Rattle.bl_early_laws.proofs.Cells.{Each}
 use Rattle.bl_early_laws.proofs.Activity.{HasType, ItemHas, SourceHas, StepHas, none-some}

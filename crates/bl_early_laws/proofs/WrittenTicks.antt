@@ -39,7 +39,7 @@ use Rattle.bl_cmeaning.specs.Cells.{Cell}
 use Rattle.bl_cmeaning.specs.Meaning.{Meaning, Scope, Outcome, End, goes_on, breaks, returns, traps, after, following, going, runs_c, block_c}
 use Rattle.bl_early.specs.Form.{Item, Step, Set, Pause}
 use Rattle.bl_early.specs.Run.{Numbers, item_value, Reached, Traps, Pauses, Passes, taken, repeated}
-use Rattle.bl_early.specs.Built.{item_within, step_within}
+use Rattle.bl_early.specs.inner.Built.{item_within, step_within}
 use Rattle.bl_early.specs.Emitted.{c_count, c_read, c_equal, c_set, c_when, c_item, c_counter, c_now, c_stretch, c_numbered, c_resumed, c_tick_body}
 use Rattle.bl_early_laws.proofs.Cells.{Each, number_at, Own, Clear, AllApart}
 use Rattle.bl_early_laws.proofs.WrittenValues.{literal-value, read-value, equal-value, set-runs, when-runs}

@@ -70,7 +70,7 @@ use Rattle.bl_early.specs.Run.{
   trace_of,
   traced as run_traced,
 }
-use Rattle.bl_early.specs.Built.{step_within, steps_at}
+use Rattle.bl_early.specs.inner.Built.{step_within, steps_at}
 use Rattle.bl_early.specs.Emitted.{c_column, c_funcs, c_ports, input_name, output_name, outs_of}
 use Rattle.bl_early.proofs.Known.{Stands, unit-stands, steps-within}
 use Rattle.bl_early_laws.specs.Written.{HasTrace, WrittenTrace}

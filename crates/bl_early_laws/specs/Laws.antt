@@ -7,6 +7,7 @@ use Rattle.bl_tree.specs.Program.{Keeps}
 use Rattle.bl_early.specs.Form.{Step, is_early, unit_steps}
 use Rattle.bl_early.specs.Run.{trace_of}
 use Rattle.bl_ctree.specs.Means.{Means, Shown, shown}
+use Rattle.bl_ctree.specs.Measure as measure
 use Rattle.bl_ctree.specs.Reaches.{Bounded, NeverStuck}
 
 -- a typed program of the form, with its entry and the steps of the entry's loop
@@ -27,7 +28,7 @@ OneTrace =
 abbrev pub EarlyIsBounded : Type 0
 EarlyIsBounded =
     (structs : List StructDef) (units : List UnitDef) (entry : ℕ) (unit : UnitDef) (steps : List Step) →
-    Early structs units entry unit steps → Bounded structs units entry
+    Early structs units entry unit steps → Bounded (measure.steps structs units entry) structs units entry
 
 -- no tick is stuck
 abbrev pub EarlyIsNeverStuck : Type 0

@@ -7,7 +7,7 @@ use Rattle.bl_cmeaning.specs.Faults.{WellFormed}
 use Rattle.bl_cmeaning.specs.Parts.{Parts, parts_from}
 use Rattle.bl_cmeaning.specs.Sizes.{cells_needed}
 use Rattle.bl_cmeaning.specs.Trace.{c_trace}
-use Rattle.bl_early.specs.Built.{loop_steps}
+use Rattle.bl_early.specs.Form.{loop_steps}
 use Rattle.bl_early.specs.Emitted.{c_structs, c_funcs}
 use Rattle.bl_early.specs.Run.{trace_of}
 

@@ -34,6 +34,7 @@ use Rattle.bl_rows.specs.Fields.{records_in, row_of, is_header}
 abbrev pub most_lines : ℕ
 most_lines = 1000000
 
+-- how many bytes a line has at most
 abbrev pub longest_line : ℕ
 longest_line = 65536
 

@@ -1,6 +1,7 @@
 //! The reader of rows, fed with pieces of bytes.
 
-ghost use Rattle.std.specs.Prelude.{◌≡◌, ◌≢◌, ◌++◌, ◌+◌, ◌<◌, ◌≤◌, ◌^◌, [], true, false, Option, Some, None, List, ℕ, length, position, ◌==◌, ◌∷◌};
+ghost use Rattle.std.specs.Prelude.{◌≡◌, ◌≢◌, ◌++◌, ◌+◌, ◌<◌, ◌≤◌, ◌^◌, [], true, false, Option, Some, None, List};
+ghost use Rattle.std.specs.Prelude.{ℕ, length, position, ◌==◌, ◌∷◌};
 ghost use Rattle.std.specs.Prelude.{MatchOption, Ok, Err, IfOk, IfErr, IfSome, OnOk, OnErr};
 ghost use Rattle.bl_rows.specs.Lines.{has_feed};
 ghost use Rattle.bl_rows.specs.Fields.{records_in};
@@ -38,7 +39,8 @@ impl Model for Rows {
 
     ghost view = { λ rows. record { columns = rows.columns; at = rows.at; line = rows.line.items; stop = rows.stop; ended = rows.ended } };
 
-    ghost invariant = { λ rows. (length rows.columns < 2 ^ 32) × (rows.at.lines ≤ 1000000) × ((t : ℕ) → rows.at.ticks ≡ Some t → t ≤ rows.at.lines)
+    ghost invariant = { λ rows. (length rows.columns < 2 ^ 32) × (rows.at.lines ≤ 1000000)
+        × ((t : ℕ) → rows.at.ticks ≡ Some t → t ≤ rows.at.lines)
         × (has_feed rows.line.items ≡ false) × (length rows.line.items ≤ 65536) };
 }
 
@@ -343,7 +345,8 @@ fn first_feed(bytes: &[u8]) -> Option<usize>
 
 // The first line that a line feed ends, and the bytes after that.
 fn first_line(bytes: &[u8]) -> Option<(&[u8], &[u8])>
-    ensures { MatchOption result (has_feed bytes.now ≡ false) (λ parts. (has_feed parts.0.now ≡ false) × (bytes.now ≡ parts.0.now ++ 10 ∷ parts.1.now)) }
+    ensures { MatchOption result (has_feed bytes.now ≡ false) (λ parts. (has_feed parts.0.now ≡ false)
+        × (bytes.now ≡ parts.0.now ++ 10 ∷ parts.1.now)) }
 {
     match first_feed(bytes) {
         Some(end) => Some((&bytes[..end], &bytes[end + 1..])),

@@ -174,7 +174,7 @@ reads_told w a = reads_by w a.instance a.effect
 
 told_one : (w : Setting) (path : List ℕ) (p : Point Control) → p.path ≡ [] → spot_below w path p ≡ spot_told w path (told_point p)
 told_one w path p e = λ i. record {
-  place = place_of p.action.stmt;
+  place = p.action.place;
   instance = p.action.instance;
   effect = p.action.effect;
   reads = reads_told w p.action i;

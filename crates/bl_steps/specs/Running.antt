@@ -29,7 +29,7 @@ state tree = record { control = control_of tree.node; store = store_of tree.fram
 
 -- the action of a point, as it is told
 abbrev pub action_of : Point Control → Action
-action_of p = record { place = place_of p.action.stmt; instance = p.action.instance }
+action_of p = record { place = p.action.place; instance = p.action.instance }
 
 -- the state after the point has acted; none where its action traps
 abbrev pub stepped_by : Setting → State → Point Control → Option State

@@ -9,7 +9,7 @@ use Rattle.bl_io.specs.Held.{Appends}
 use Rattle.bl_io.proofs.Held.{Appends-trans}
 use Rattle.bl_rows.specs.Reading.{begun, rows_in, rows_of}
 use Rattle.bl_stream.specs.Reports.{HasRun, after_rows, report_from, report_of, trace_from}
-use Rattle.bl_stream.specs.inner.Going.{Ends, Start, runner_at, stopped, whole, Stands}
+use Rattle.bl_stream.specs.inner.Going.{RunEnds, Start, runner_at, stopped, whole, RunStands}
 use Rattle.bl_stream.specs.Streams.{AppendsFront, course_from, finish_of, last_over, report_over}
 use Rattle.bl_stream.specs.declared.finish.Finish.{Finish}
 use Rattle.bl_stream.specs.declared.finish.Finish.TheVariants as finish
@@ -19,7 +19,7 @@ use Rattle.bl_stream.proofs.Texts.{begins-behind, begins-by, begins-report, fron
 use Rattle.bl_stream.proofs.Traces.{after-more, trace-closed, trace-on}
 
 module _ (report : Report) (start : Start) (file : Parts) (read : List ℕ) (before : Option (List ℕ)) (s : Session) (r : Running)
-    (now : Option (List ℕ)) (stands : Stands report start file read before s r now) where
+    (now : Option (List ℕ)) (stands : RunStands report start file read before s r now) where
   abbrev First : Running
   First = runner_at start file
 
@@ -62,7 +62,7 @@ module _ (report : Report) (start : Start) (file : Parts) (read : List ℕ) (bef
 
     -- a front was written of what is written of the rows
     pub ends-front : (after : Option (List ℕ)) (now2 : Running) (ended : Finish) → (ended ≡ finish.WriteFault) ⊎ (ended ≡ finish.NoMemory) →
-        AppendsFront now (Further rows) after → Ends report First bytes before after now2 ended
+        AppendsFront now (Further rows) after → RunEnds report First bytes before after now2 ended
     ends-front after now2 ended why front =
         stopped why
         (front-more before now after Written (Further rows) (report_over report First bytes) stands.written front
@@ -70,7 +70,7 @@ module _ (report : Report) (start : Start) (file : Parts) (read : List ℕ) (bef
 
     -- nothing of it was written
     pub ends-before : (now2 : Running) (ended : Finish) → (ended ≡ finish.WriteFault) ⊎ (ended ≡ finish.NoMemory) →
-        Ends report First bytes before now now2 ended
+        RunEnds report First bytes before now now2 ended
     ends-before now2 ended why =
         stopped why
         (front-all before now Written (report_over report First bytes) stands.written (record { rest = Further (rows ++ later); is = text-over }))
@@ -78,9 +78,10 @@ module _ (report : Report) (start : Start) (file : Parts) (read : List ℕ) (bef
     -- all of it was written, and no further row comes
     pub ends-whole : (after : Option (List ℕ)) (now2 : Running) (ended : Finish) → later ≡ [] → HasRun r rows now2 →
         ended ≡ finish_of (trace_from r rows).last (rows_of bytes (inputs_of file)).fault → Appends now (Further rows) after →
-        Ends report First bytes before after now2 ended
+        RunEnds report First bytes before after now2 ended
     ends-whole after now2 ended none has is grew =
-        let all : (rows_of bytes (inputs_of file)).rows ≡ Ran ++ rows = tells ∙ ap (λ l. Ran ++ (rows ++ l)) none ∙ ap (λ l. Ran ++ l) (append-nil rows) in
+        let all : (rows_of bytes (inputs_of file)).rows ≡ Ran ++ rows =
+        tells ∙ ap (λ l. Ran ++ (rows ++ l)) none ∙ ap (λ l. Ran ++ l) (append-nil rows) in
         whole
         (is ∙ ap (λ l. finish_of l (rows_of bytes (inputs_of file)).fault) (sym (ap (λ l. (trace_from First l).last) all ∙ last-more rows)))
         (subst (λ text. Appends before text after) (sym (ap (λ l. report_of report First l) all ∙ text-more rows))
@@ -90,7 +91,7 @@ module _ (report : Report) (start : Start) (file : Parts) (read : List ℕ) (bef
     -- the same where the rows have closed the run
     pub ends-closed : (after : Option (List ℕ)) (now2 : Running) (ended : Finish) → ((trace_from r rows).last ≡ Open → ⊥) → HasRun r rows now2 →
         ended ≡ finish_of (trace_from r rows).last (rows_of bytes (inputs_of file)).fault → Appends now (Further rows) after →
-        Ends report First bytes before after now2 ended
+        RunEnds report First bytes before after now2 ended
     ends-closed after now2 ended not has is grew =
         let last : last_over (course_from First) bytes ≡ (trace_from r rows).last =
         ap (λ l. (trace_from First l).last) tells ∙ last-more (rows ++ later) ∙ ap (λ (t : Trace). t.last) (trace-closed r rows later not) in

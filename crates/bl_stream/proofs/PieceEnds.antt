@@ -36,7 +36,7 @@ use Rattle.bl_io.proofs.Held.{Appends-trans}
 use Rattle.bl_rows.specs.Reading.{Reading, Told, begun, fault_in, led_by_rows, read_on, rows_after, rows_in, rows_of}
 use Rattle.bl_rows.specs.declared.fault.RowFault.{RowFault}
 use Rattle.bl_stream.specs.Reports.{HasRun, after_rows, report_from, report_of, trace_from}
-use Rattle.bl_stream.specs.inner.Going.{Ends, Leaves, Stands, Start, progress_of, reach, runner_at}
+use Rattle.bl_stream.specs.inner.Going.{RunEnds, Leaves, RunStands, Start, progress_of, reach, runner_at}
 use Rattle.bl_stream.specs.Streams.{AppendsFront, finish_of}
 use Rattle.bl_stream.specs.declared.finish.Finish.{Finish}
 use Rattle.bl_stream.specs.declared.finish.Finish.TheVariants as finish
@@ -51,27 +51,27 @@ use Rattle.bl_stream.proofs.Traces.{after-more, after-parts}
 module _ (report : Report) (start : Start) where
   -- a run is refused before anything more is written
   pub refused : (read rest : List ℕ) (before now : Option (List ℕ)) (s : Session) (r now2 : Running) →
-      Stands report start r.parts read before s r now →
+      RunStands report start r.parts read before s r now →
       (ended : Finish) → (ended ≡ finish.WriteFault) ⊎ (ended ≡ finish.NoMemory) →
-      Ends report (runner_at start r.parts) (read ++ rest) before now now2 ended
+      RunEnds report (runner_at start r.parts) (read ++ rest) before now now2 ended
   refused read rest before now s r now2 stands ended why =
       ends-before report start r.parts read before s r now stands (read ++ rest) [] (rows_after s.reader rest).rows
       (ap (λ (t : Told). t.rows) (stands.fed.told rest)) now2 ended why
 
   -- the same before the rows of a piece
   pub piece-refused : (read piece rest : List ℕ) (before now : Option (List ℕ)) (s : Session) (r now2 : Running) →
-      Stands report start r.parts read before s r now → (ended : Finish) → (ended ≡ finish.WriteFault) ⊎ (ended ≡ finish.NoMemory) →
-      Ends report (runner_at start r.parts) ((read ++ piece) ++ rest) before now now2 ended
+      RunStands report start r.parts read before s r now → (ended : Finish) → (ended ≡ finish.WriteFault) ⊎ (ended ≡ finish.NoMemory) →
+      RunEnds report (runner_at start r.parts) ((read ++ piece) ++ rest) before now now2 ended
   piece-refused read piece rest before now s r now2 stands ended why =
-      subst (λ bytes. Ends report (runner_at start r.parts) bytes before now now2 ended) (sym (append_assoc read piece rest))
+      subst (λ bytes. RunEnds report (runner_at start r.parts) bytes before now now2 ended) (sym (append_assoc read piece rest))
       (refused read (piece ++ rest) before now s r now2 stands ended why)
 
   -- and before the last row
   pub last-refused : (read : List ℕ) (before now : Option (List ℕ)) (s : Session) (r now2 : Running) →
-      Stands report start r.parts read before s r now → (ended : Finish) → (ended ≡ finish.WriteFault) ⊎ (ended ≡ finish.NoMemory) →
-      Ends report (runner_at start r.parts) read before now now2 ended
+      RunStands report start r.parts read before s r now → (ended : Finish) → (ended ≡ finish.WriteFault) ⊎ (ended ≡ finish.NoMemory) →
+      RunEnds report (runner_at start r.parts) read before now now2 ended
   last-refused read before now s r now2 stands ended why =
-      subst (λ bytes. Ends report (runner_at start r.parts) bytes before now now2 ended) (append-nil read)
+      subst (λ bytes. RunEnds report (runner_at start r.parts) bytes before now now2 ended) (append-nil read)
       (refused read [] before now s r now2 stands ended why)
 
 -- what was written of rows by ticks that report so
@@ -84,7 +84,7 @@ front-so : (report own : Report) (n : ℕ) (r : Running) (rows : List (List ℤ)
 front-so report own n r rows now now2 same grew = subst (λ q. AppendsFront now (report_from q n r rows) now2) same grew
 
 module _ (report : Report) (start : Start) (read piece : List ℕ) (before now now2 : Option (List ℕ)) (s s2 : Session) (r r2 : Running)
-    (stands : Stands report start r.parts read before s r now) (rows : List (List ℤ)) (are : rows ≡ rows_in s.reader piece)
+    (stands : RunStands report start r.parts read before s r now) (rows : List (List ℤ)) (are : rows ≡ rows_in s.reader piece)
     (cuts : (rest : List ℕ) → rows_after s.reader (piece ++ rest) ≡ led_by_rows (rows_in s.reader piece) (rows_after s2.reader rest)) where
   tells : (rest : List ℕ) → rows_of ((read ++ piece) ++ rest) (inputs_of r.parts)
       ≡ led_by_rows (rows_in (begun (inputs_of r.parts)) read ++ rows) (rows_after s2.reader rest)
@@ -99,7 +99,7 @@ module _ (report : Report) (start : Start) (read piece : List ℕ) (before now n
   -- what is written of them couldn't all be written
   pub piece-failed : (ended : Finish) → (ended ≡ finish.WriteFault) ⊎ (ended ≡ finish.NoMemory) →
       AppendsFront now (report_from s.ticks.report (s.ticks.done + 1) r rows) now2 →
-      (rest : List ℕ) → Ends report (runner_at start r.parts) ((read ++ piece) ++ rest) before now2 r2 ended
+      (rest : List ℕ) → RunEnds report (runner_at start r.parts) ((read ++ piece) ++ rest) before now2 r2 ended
   piece-failed ended why front rest =
       ends-front report start r.parts read before s r now stands ((read ++ piece) ++ rest) rows (rows_after s2.reader rest).rows (tells-rows rest)
       now2 r2 ended why (front-so report s.ticks.report (s.ticks.done + 1) r rows now now2 stands.reports front)
@@ -128,7 +128,7 @@ module _ (report : Report) (start : Start) (read piece : List ℕ) (before now n
       parts = same_parts;
     }
 
-    stands-on : last ≡ Open → fault ≡ None → Stands report start r.parts (read ++ piece) before s2 r2 now2
+    stands-on : last ≡ Open → fault ≡ None → RunStands report start r.parts (read ++ piece) before s2 r2 now2
     stands-on e none = record {
       fed = fed-more (inputs_of r.parts) read piece s.reader s2.reader stands.fed (sym found ∙ none) cuts (joins none) unended;
       runs =
@@ -161,7 +161,7 @@ module _ (report : Report) (start : Start) (read piece : List ℕ) (before now n
     stopped-by f e = subst (λ o. IfSome o (λ f. s2.reader.stop ≡ Some f)) e stop
 
     ends-bad : (f : RowFault) → last ≡ Open → fault ≡ Some f → (rest : List ℕ) →
-        Ends report (runner_at start r.parts) ((read ++ piece) ++ rest) before now2 r2 (finish_of Open (Some f))
+        RunEnds report (runner_at start r.parts) ((read ++ piece) ++ rest) before now2 r2 (finish_of Open (Some f))
     ends-bad f e g rest =
         let none = stopped-told s2.reader rest f (stopped-by f g) in
         ends-whole report start r.parts read before s r now stands ((read ++ piece) ++ rest) rows (rows_after s2.reader rest).rows
@@ -170,7 +170,7 @@ module _ (report : Report) (start : Start) (read piece : List ℕ) (before now n
         (sym (ap (λ (t : Told). t.fault) (tells rest) ∙ ap (λ (t : Told). t.fault) none))) grew
 
     ends-by : (l : Last) → last ≡ l → (l ≡ Open → ⊥) → (ended : Finish) → ((o : Option RowFault) → ended ≡ finish_of l o) →
-        (rest : List ℕ) → Ends report (runner_at start r.parts) ((read ++ piece) ++ rest) before now2 r2 ended
+        (rest : List ℕ) → RunEnds report (runner_at start r.parts) ((read ++ piece) ++ rest) before now2 r2 ended
     ends-by l e not ended is rest =
         ends-closed report start r.parts read before s r now stands ((read ++ piece) ++ rest) rows (rows_after s2.reader rest).rows
         (tells-rows rest) now2 r2 ended (λ o. not (sym e ∙ came ∙ o)) has-run
@@ -195,7 +195,7 @@ left-open Trap fault e = absurd (cc)
 
 -- a piece that leaves the run open moves the reader on
 pub piece-further : (report : Report) (start : Start) (read piece : List ℕ) (before now : Option (List ℕ)) (s : Session) (t : Reading) (r : Running) →
-    Stands report start r.parts read before s r now → (last : Last) (fault : Option RowFault) →
+    RunStands report start r.parts read before s r now → (last : Last) (fault : Option RowFault) →
     fault ≡ fault_in s.reader piece → (fault ≡ None → t ≡ read_on s.reader piece) → progress_of last fault ≡ progress.Open →
     reach s.reader + length piece ≤ reach t
 piece-further report start read piece before now s t r stands last fault found state is =
@@ -204,14 +204,14 @@ piece-further report start read piece before now s t r stands last fault found s
 
 -- what is asked for before the rows of a piece run
 pub piece-fit : (report : Report) (start : Start) (read piece : List ℕ) (before now : Option (List ℕ)) (s : Session) (t : Reading) (r : Running) →
-    Stands report start r.parts read before s r now → (rows : List (List ℤ)) → rows ≡ rows_in s.reader piece →
+    RunStands report start r.parts read before s r now → (rows : List (List ℤ)) → rows ≡ rows_in s.reader piece →
     ((rest : List ℕ) → rows_after s.reader (piece ++ rest) ≡ led_by_rows (rows_in s.reader piece) (rows_after t rest)) →
     RowsFit (inputs_of r.parts) rows
 piece-fit report start read piece before now s t r stands rows are cuts =
     subst (RowsFit (inputs_of r.parts)) (sym are) (piece-fits (inputs_of r.parts) read piece s.reader t stands.fed cuts)
 
 pub piece-few-left : (report : Report) (start : Start) (read piece : List ℕ) (before now : Option (List ℕ)) (s : Session) (t : Reading) (r : Running) →
-    Stands report start r.parts read before s r now → (rows : List (List ℤ)) → rows ≡ rows_in s.reader piece →
+    RunStands report start r.parts read before s r now → (rows : List (List ℤ)) → rows ≡ rows_in s.reader piece →
     ((rest : List ℕ) → rows_after s.reader (piece ++ rest) ≡ led_by_rows (rows_in s.reader piece) (rows_after t rest)) →
     s.ticks.done + length rows ≤ 1000000
 piece-few-left report start read piece before now s t r stands rows are cuts =
@@ -224,13 +224,13 @@ piece-few-left report start read piece before now s t r stands rows are cuts =
 
 -- what is asked for before the last row runs
 pub last-fit : (report : Report) (start : Start) (read : List ℕ) (before now : Option (List ℕ)) (s : Session) (r : Running) →
-    Stands report start r.parts read before s r now →
+    RunStands report start r.parts read before s r now →
     (rows : List (List ℤ)) → rows ≡ (rows_after s.reader []).rows → RowsFit (inputs_of r.parts) rows
 last-fit report start read before now s r stands rows are =
     subst (RowsFit (inputs_of r.parts)) (sym are) (end-fits (inputs_of r.parts) read s.reader stands.fed)
 
 pub last-few-left : (report : Report) (start : Start) (read : List ℕ) (before now : Option (List ℕ)) (s : Session) (r : Running) →
-    Stands report start r.parts read before s r now →
+    RunStands report start r.parts read before s r now →
     (rows : List (List ℤ)) → rows ≡ (rows_after s.reader []).rows → s.ticks.done + length rows ≤ 1000000
 last-few-left report start read before now s r stands rows are =
     let few = end-few (inputs_of r.parts) read s.reader stands.fed in
@@ -239,7 +239,7 @@ last-few-left report start read before now s r stands rows are =
     omega arith
 
 module _ (report : Report) (start : Start) (read : List ℕ) (before now now2 : Option (List ℕ)) (s : Session) (r r2 : Running)
-    (stands : Stands report start r.parts read before s r now)
+    (stands : RunStands report start r.parts read before s r now)
     (rows : List (List ℤ)) (are : rows ≡ (rows_after s.reader []).rows) where
   end-rows : (rows_of read (inputs_of r.parts)).rows ≡ rows_in (begun (inputs_of r.parts)) read ++ (rows ++ [])
   end-rows =
@@ -248,7 +248,7 @@ module _ (report : Report) (start : Start) (read : List ℕ) (before now now2 : 
 
   pub last-failed : (ended : Finish) → (ended ≡ finish.WriteFault) ⊎ (ended ≡ finish.NoMemory) →
       AppendsFront now (report_from s.ticks.report (s.ticks.done + 1) r rows) now2 →
-      Ends report (runner_at start r.parts) read before now2 r2 ended
+      RunEnds report (runner_at start r.parts) read before now2 r2 ended
   last-failed ended why front =
       ends-front report start r.parts read before s r now stands read rows [] end-rows now2 r2 ended why
       (front-so report s.ticks.report (s.ticks.done + 1) r rows now now2 stands.reports front)
@@ -256,7 +256,7 @@ module _ (report : Report) (start : Start) (read : List ℕ) (before now now2 : 
   pub last-ends : (fault : Option RowFault) → fault ≡ (rows_after s.reader []).fault → (last : Last) → last ≡ (trace_from r rows).last →
       Appends now (report_from s.ticks.report (s.ticks.done + 1) r rows) now2 → (last ≡ Open → r2 ≡ after_rows r rows) →
       ((last ≡ Open → ⊥) → r2.live ≡ false) → r2.parts ≡ r.parts → (ended : Finish) →
-      ended ≡ finish_of last fault → Ends report (runner_at start r.parts) read before now2 r2 ended
+      ended ≡ finish_of last fault → RunEnds report (runner_at start r.parts) read before now2 r2 ended
   last-ends fault found last came wrote after over parts ended is =
       ends-whole report start r.parts read before s r now stands read rows [] end-rows now2 r2 ended refl
       (record { going = λ still. after (came ∙ still); closed = λ not. over (λ still. not (sym came ∙ still)); parts = parts })

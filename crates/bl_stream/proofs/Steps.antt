@@ -42,12 +42,12 @@ use Rattle.bl_tree.specs.declared.row.Last.TheVariants.{Open, Ended, Trap}
 use Rattle.bl_tree.specs.declared.row.Trace.{Trace}
 use Rattle.bl_stream.specs.Reports.{after_rows, report_from, report_header, report_of, trace_from}
 use Rattle.bl_stream.specs.inner.Going.{
-  Ends,
+  RunEnds,
   Going,
   GoesOrEnds,
   HasFed,
   Leaves,
-  Stands,
+  RunStands,
   Start,
   most_reach,
   reach,
@@ -121,7 +121,7 @@ bytes-left (Some bytes) = (bytes, refl)
 -- ---- steps
 
 pub reported-by : (report : Report) (first : Running) (every rest before after : Option (List ℕ)) (now : Running) (bytes : List ℕ) (ended : Finish) →
-    AreLeft every bytes → Ends report first bytes before after now ended → Reported report first every rest before after now ended
+    AreLeft every bytes → RunEnds report first bytes before after now ended → Reported report first every rest before after now ended
 reported-by report first every rest before after now bytes ended left (whole is grew has) = ran bytes left is grew has
 reported-by report first every rest before after now bytes ended left (stopped why grew) = cut bytes left why grew
 
@@ -230,7 +230,7 @@ runner-same r live = λ i. record { parts = r.parts; cells = r.cells; ready = r.
 pub stands-first : (report : Report) (r : Running) (s : Session) (before now : Option (List ℕ)) → r.live ≡ true →
     s.reader ≡ begun (inputs_of r.parts) → HasFed (inputs_of r.parts) [] s.reader → s.ticks.done ≡ 0 → s.ticks.report ≡ report →
     length s.ticks.outputs ≡ length (outputs_of r.parts) →
-    Appends before (report_header report (outputs_of r.parts)) now → Stands report (start_of r) r.parts [] before s r now
+    Appends before (report_header report (outputs_of r.parts)) now → RunStands report (start_of r) r.parts [] before s r now
 stands-first report r s before now live first fed done reports long grew =
     let none = none-in (inputs_of r.parts) in
     let from : Running = runner_at (start_of r) r.parts in
@@ -256,14 +256,14 @@ header-begins report r bytes = record { rest = report_from report 1 r (rows_of b
 -- what comes before the first tick couldn't be written
 pub header-front : (report : Report) (r : Running) (bytes : List ℕ) (before after : Option (List ℕ)) (now : Running) (ended : Finish) →
     (ended ≡ finish.WriteFault) ⊎ (ended ≡ finish.NoMemory) → AppendsFront before (report_header report (outputs_of r.parts)) after →
-    Ends report r bytes before after now ended
+    RunEnds report r bytes before after now ended
 header-front report r bytes before after now ended why grew =
     stopped why (front-more before before after [] (report_header report (outputs_of r.parts)) (report_over report r bytes)
     (Appends-nothing before) grew (header-begins report r bytes))
 
 -- nothing was written
 pub nothing-front : (report : Report) (r : Running) (bytes : List ℕ) (before : Option (List ℕ)) (now : Running) →
-    Ends report r bytes before before now finish.NoMemory
+    RunEnds report r bytes before before now finish.NoMemory
 nothing-front report r bytes before now = stopped (inr refl)
     (front-all before before [] (report_over report r bytes) (Appends-nothing before) (record { rest = report_over report r bytes; is = refl }))
 
@@ -299,7 +299,7 @@ no-stop-fault ended (inl is) e = cc
 no-stop-fault ended (inr is) e = cc
 
 ends-never : (report : Report) (first : Running) (bytes : List ℕ) (before after : Option (List ℕ)) (now : Running) (ended : Finish) →
-    Ends report first bytes before after now ended → ended ≡ finish.ReadFault → ⊥
+    RunEnds report first bytes before after now ended → ended ≡ finish.ReadFault → ⊥
 ends-never report first bytes before after now ended (whole is grew has) e =
     no-read-fault (last_over (course_from first) bytes) (rows_of bytes (inputs_of first.parts)).fault (sym is ∙ e)
 ends-never report first bytes before after now ended (stopped why grew) e = no-stop-fault ended why e

@@ -45,6 +45,7 @@ course_from r = record {
 abbrev pub last_over : Course → List ℕ → Last
 last_over c bytes = c.last (rows_of bytes c.ins).rows
 
+-- the whole text of a course
 abbrev pub text_over : Course → List ℕ → List ℕ
 text_over c bytes = c.text (rows_of bytes c.ins).rows
 
@@ -52,6 +53,7 @@ text_over c bytes = c.text (rows_of bytes c.ins).rows
 abbrev pub last_so_far : Course → List ℕ → Last
 last_so_far c bytes = c.last (rows_in (begun c.ins) bytes)
 
+-- the text of a course that is still open
 abbrev pub text_so_far : Course → List ℕ → List ℕ
 text_so_far c bytes = c.text (rows_in (begun c.ins) bytes)
 
@@ -62,6 +64,7 @@ at_bad_line (fault.BadRow line) = finish.BadRows line
 at_bad_line (fault.LongLine line) = finish.BadRows line
 at_bad_line fault.NoMemory = finish.NoMemory
 
+-- how a run ends that is still open, by why the rows ended
 abbrev pub while_open : Option RowFault → Finish
 while_open None = finish.Done
 while_open (Some fault) = at_bad_line fault

@@ -10,7 +10,7 @@ ghost use Rattle.bl_io.specs.declared.pieces.TheConstants.{PIECE};
 ghost use Rattle.bl_rows.specs.Reading.{fault_in, led_by_rows, most_lines, read_on, rows_after, rows_in};
 ghost use Rattle.bl_stream.specs.Reports.{after_rows, report_from, trace_from};
 ghost use Rattle.bl_stream.specs.Streams.{AppendsFront, ReadsLines, Reported};
-ghost use Rattle.bl_stream.specs.inner.Going.{Ends, Going, GoesOrEnds, Leaves, Stands, Start, reach, runner_at};
+ghost use Rattle.bl_stream.specs.inner.Going.{RunEnds, Going, GoesOrEnds, Leaves, RunStands, Start, reach, runner_at};
 ghost use Rattle.bl_tree.specs.Ports.{RowsFit};
 
 use crate::finish::{Finish, Progress, finish_by, progress_by};
@@ -38,9 +38,9 @@ pub fn run_all<F: Files, O: Sink>(
     out: &mut O,
 ) -> Finish
     requires begun { (report : Report) × (start : Start) × (before : Option (List ℕ)) ×
-        Stands report start runner.old.parts [] before session.old runner.old (O.held out.old) }
+        RunStands report start runner.old.parts [] before session.old runner.old (O.held out.old) }
     ensures reported { (report : Report) (start : Start) (before : Option (List ℕ)) →
-        Stands report start runner.old.parts [] before session.old runner.old (O.held out.old) →
+        RunStands report start runner.old.parts [] before session.old runner.old (O.held out.old) →
         Reported report (runner_at start runner.old.parts) (F.left files.old name.now) (F.left files.new name.now) before (O.held out.new) runner.new result }
     ensures reads { ReadsLines most_lines (F.left files.old name.now) (F.left files.new name.now) }
     ensures read_fault { result ≡ Finish.ReadFault → Rose (F.faults files.old name.now) (F.faults files.new name.now) }
@@ -102,10 +102,10 @@ fn run_piece<O: Sink>(
     out: &mut O,
 ) -> Progress
     requires stands { (report : Report) × (start : Start) × (read : List ℕ) × (before : Option (List ℕ)) ×
-        Stands report start runner.old.parts read before session.old runner.old (O.held out.old) }
+        RunStands report start runner.old.parts read before session.old runner.old (O.held out.old) }
     ensures further { result ≡ Progress.Open → reach session.old.reader + length piece.now ≤ reach session.new.reader }
     ensures left { (report : Report) (start : Start) (read : List ℕ) (before : Option (List ℕ)) →
-        Stands report start runner.old.parts read before session.old runner.old (O.held out.old) →
+        RunStands report start runner.old.parts read before session.old runner.old (O.held out.old) →
         Leaves report start runner.old.parts (read ++ piece.now) before session.new runner.new (O.held out.new) result }
     ensures write_fault { result ≡ Progress.Over Finish.WriteFault → Rose (O.faults out.old) (O.faults out.new) }
     ensures out_count { O.faults out.old ≤ O.faults out.new }
@@ -128,10 +128,10 @@ fn run_last<O: Sink>(
     out: &mut O,
 ) -> Finish
     requires stands { (report : Report) × (start : Start) × (read : List ℕ) × (before : Option (List ℕ)) ×
-        Stands report start runner.old.parts read before session.old runner.old (O.held out.old) }
+        RunStands report start runner.old.parts read before session.old runner.old (O.held out.old) }
     ensures ends { (report : Report) (start : Start) (read : List ℕ) (before : Option (List ℕ)) →
-        Stands report start runner.old.parts read before session.old runner.old (O.held out.old) →
-        Ends report (runner_at start runner.old.parts) read before (O.held out.new) runner.new result }
+        RunStands report start runner.old.parts read before session.old runner.old (O.held out.old) →
+        RunEnds report (runner_at start runner.old.parts) read before (O.held out.new) runner.new result }
     ensures write_fault { result ≡ Finish.WriteFault → Rose (O.faults out.old) (O.faults out.new) }
     ensures out_count { O.faults out.old ≤ O.faults out.new }
 {

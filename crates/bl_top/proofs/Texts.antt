@@ -33,7 +33,7 @@ use Rattle.bl_cmeaning.specs.Faults.{WellFormed}
 use Rattle.bl_cmeaning_laws_places.specs.Behaviour.{behaviour_of}
 use Rattle.bl_ctext.specs.declared.file.CFile.{CFile}
 use Rattle.bl_ctree.specs.Means.{Means, Shown, shown}
-use Rattle.bl_early.specs.Built.{loop_steps}
+use Rattle.bl_early.specs.Form.{loop_steps}
 use Rattle.bl_early.specs.Emitted.{c_funcs_of, c_structs_of}
 use Rattle.bl_early.specs.Form.{Step, is_early, is_early_unit, steps_suit, unit_steps}
 use Rattle.bl_early.specs.Run.{trace_of}

@@ -8,6 +8,7 @@ pub record Count : Type 0 where
   pub before : ℕ
   pub after : ℕ
 
+-- a count rose, or stands where it can rise no more
 abbrev pub HasRisen : Count → Type 0
 HasRisen count = Rose count.before count.after
 
@@ -17,6 +18,7 @@ pub record Output : Type 0 where
   pub before : Option (List ℕ)
   pub after : Option (List ℕ)
 
+-- what a call of the program finds, and what it leaves
 pub record Call : Type 0 where
   -- what is left of each file before the call and after it, where that is told
   pub left : Word → Option (List ℕ)

@@ -8,6 +8,7 @@ use Rattle.bl_words.specs.Jobs.{JobSpec, Word, build, exec, run}
 abbrev pub longest_source : ℕ
 longest_source = 1048576
 
+-- how many bytes of a source are asked for: one more than it may have
 abbrev pub source_limit : ℕ
 source_limit = 1048577
 
@@ -15,6 +16,7 @@ source_limit = 1048577
 abbrev pub longest_text : ℕ
 longest_text = 67108864
 
+-- how many bytes of a C text are asked for: one more than it may have
 abbrev pub text_limit : ℕ
 text_limit = 67108865
 
@@ -39,12 +41,15 @@ pub record FileRead : Type 0 where
   pub name : Word
   pub limit : Limit
 
+-- the file of a source, with its limit
 abbrev pub source_file : Word → FileRead
 source_file name = record { name = name; limit = in_bytes source_limit }
 
+-- the file of a C text, with its limit
 abbrev pub text_file : Word → FileRead
 text_file name = record { name = name; limit = in_bytes text_limit }
 
+-- the file of rows, with its limit
 abbrev pub rows_file : Word → FileRead
 rows_file name = record { name = name; limit = in_lines most_rows }
 

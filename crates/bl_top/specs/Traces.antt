@@ -2,6 +2,7 @@
 use Rattle.std.specs.Prelude.{◌≡◌, ◌↔◌, ◌≤◌, ℕ, ℤ, List, Some, slice_get}
 use Rattle.bl_cmeaning_laws_places.specs.Behaviour.{Behaviour}
 use Rattle.bl_ctree.specs.Means.{Means, Shown, shown}
+use Rattle.bl_ctree.specs.Measure.{steps}
 use Rattle.bl_ctree.specs.Reaches.{Bounded, NeverStuck}
 use Rattle.bl_rows.specs.Reading.{begun, rows_in, rows_of}
 use Rattle.bl_rows.specs.Text.{text_of}
@@ -23,7 +24,7 @@ pub record OneTrace (structs : List StructDef) (units : List UnitDef) (entry : �
   pub trace : (rows : List (List ℤ)) (shows : Shown) → RowsFit (input_columns unit) rows →
       Means structs units entry rows shows ↔ (shows ≡ shown (behaviour.trace rows))
   -- no list of steps within a tick is longer than the number of the program's steps
-  pub bounded : Bounded structs units entry
+  pub bounded : Bounded (steps structs units entry) structs units entry
   -- and where no point may act nothing is left to do
   pub never_stuck : NeverStuck structs units entry
 
@@ -53,5 +54,5 @@ pub record HasCourse (structs : List StructDef) (units : List UnitDef) (entry : 
   pub fit_so_far : (bytes : List ℕ) → RowsFit (input_columns unit) (rows_in (begun course.ins) bytes)
   -- no list of steps within a tick is longer than the number of the program's steps, and where no point may act nothing is left
   -- to do
-  pub bounded : Bounded structs units entry
+  pub bounded : Bounded (steps structs units entry) structs units entry
   pub never_stuck : NeverStuck structs units entry

@@ -11,7 +11,7 @@ use Rattle.bl_bytecode.specs.Code.{Code, Entry, code_of, reach_of, start_code}
 use Rattle.bl_bytecode_compiler.specs.declared.here.Laid.{Laid as CodeLaid}
 use Rattle.bl_bytecode_compiler.specs.declared.place.Root.{Root}
 use Rattle.bl_bytecode_compiler.specs.declared.place.Walk.{Walk}
-use Rattle.bl_bytecode_compiler.specs.Views.{laid_of}
+use Rattle.bl_bytecode_compiler.specs.inner.Views.{laid_of}
 
 -- the type of a member that was found
 abbrev pub type_found : Option Laid → Option CType

@@ -33,7 +33,8 @@ fn member_map<'a>(alloc: Global, members: &'a [CMember]) -> Result<Members<'a>, 
 }
 
 fn add_struct<'a>(alloc: Global, structs: &mut Structs<'a>, of: &'a CStruct) -> Result<(), NoMemory>
-    ensures { OnOk result ((asked : List ℕ) → structs_of structs.new asked ≡ with_entry (structs_of structs.old) of.now.name (member_table of.now) asked) }
+    ensures { OnOk result ((asked : List ℕ) → structs_of structs.new asked
+        ≡ with_entry (structs_of structs.old) of.now.name (member_table of.now) asked) }
 {
     if has(structs, &of.name) {
         return Ok(());

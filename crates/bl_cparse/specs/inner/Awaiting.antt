@@ -17,7 +17,8 @@ use Rattle.bl_cparse.specs.declared.parser.stmt.Opened.TheVariants.{Then, Turns}
 use Rattle.bl_cparse.specs.declared.parser.stmt.Opened.TheVariants as opened
 use Rattle.bl_cparse.specs.declared.parser.stmt.Frame.{Frame}
 use Rattle.bl_cparse.specs.declared.parser.stmt.Nest.{Nest}
-use Rattle.bl_cparse.specs.Reading.{sign, operator, elements, part, WantsMemory}
+use Rattle.bl_cparse.specs.inner.Reading.{sign, operator, elements, part}
+use Rattle.bl_cparse.specs.Places.{WantsMemory}
 
 -- what is expected behind all of a list's parts that are open, from the last one on
 abbrev pub unwound : {A : Type 0} → (A → List Wanted) → List A → List Wanted

@@ -1,7 +1,8 @@
 //! Expressions. Brackets that are open are kept on a stack of our own, so that nested expressions take no more of the
 //! machine's. `room` is how many brackets may still be opened.
 
-ghost use Rattle.std.specs.Prelude.{◌≡◌, ℕ, ◌+◌, ◌-◌, ◌*◌, ◌<◌, ◌≤◌, false, List, [], ◌∷◌, ◌++◌, codes, length, map, IsTrue, IsFalse, IfOk, MatchResult};
+ghost use Rattle.std.specs.Prelude.{◌≡◌, ℕ, ◌+◌, ◌-◌, ◌*◌, ◌<◌, ◌≤◌, false, List, [], ◌∷◌, ◌++◌, codes};
+ghost use Rattle.std.specs.Prelude.{length, map, IsTrue, IsFalse, IfOk, MatchResult};
 ghost use Rattle.bl_tree.specs.Reduce.{all_of};
 ghost use Rattle.bl_ctext.specs.Names.{is_name, is_callee};
 ghost use Rattle.bl_ctext.specs.Spelling.{with_commas, operator_sign, expr_tokens, step_tokens, arg_tokens};
@@ -15,7 +16,8 @@ ghost use Rattle.bl_csyntax.specs.Classes.{Class, matches};
 ghost use Rattle.bl_csyntax.specs.Grammar.{Wanted};
 ghost use Rattle.bl_csyntax.specs.Tables.{has};
 ghost use Rattle.bl_csyntax.specs.Expects.{Expects};
-ghost use Rattle.bl_cparse.specs.Reading.{sign, name_of, prelude_function, elements, part, literal_starts, Follows, WantsMemory};
+ghost use Rattle.bl_cparse.specs.inner.Reading.{sign, name_of, prelude_function, elements, part, literal_starts, Follows};
+ghost use Rattle.bl_cparse.specs.Places.{WantsMemory};
 ghost use Rattle.bl_cparse.specs.inner.Awaiting.{use_wanted, held_wanted, behind, partial_wanted, is_whole_next, GoesOn, Stays, Awaits};
 
 use crate::parser::{literal, name, place};
@@ -389,7 +391,8 @@ fn prelude_called(r: &mut Reader<'_>, outer: Vec<Held>, room: u32) -> Result<Par
     requires outer { IsTrue (all_of (map spells_held outer.items)) }
     ensures read { IfOk result (λ p. (on_stack outer.items ++ r.old ≡ partial_tokens p ++ r.new) × IsTrue (spells_partial p)) }
     ensures less { IfOk result (λ p. 2 * length r.new + work_left p.next < 2 * length r.old) }
-    ensures follows { 1 ≤ room → GoesOn result (prelude_function ∷ sign (codes "(") ∷ part Part.Args (room - 1) ∷ sign (codes ")") ∷ behind outer.items) r.old
+    ensures follows { 1 ≤ room → GoesOn result (prelude_function ∷ sign (codes "(") ∷ part Part.Args (room - 1) ∷ sign (codes ")")
+        ∷ behind outer.items) r.old
         r.new }
 {
     let name = name::callee(r)?;
@@ -443,7 +446,8 @@ fn call(r: &mut Reader<'_>, outer: Vec<Held>, name: Text, room: u32) -> Result<P
 fn called(outer: Vec<Held>, front: CallFront) -> Partial
     requires outer { IsTrue (all_of (map spells_held outer.items)) }
     requires call { IsTrue (spells_called front) }
-    ensures tokens { partial_tokens result ≡ on_stack outer.items ++ front.name ∷ codes "(" ∷ (with_commas (map arg_tokens front.args) ++ codes ")" ∷ []) }
+    ensures tokens { partial_tokens result ≡ on_stack outer.items ++ front.name
+        ∷ codes "(" ∷ (with_commas (map arg_tokens front.args) ++ codes ")" ∷ []) }
     ensures spells { IsTrue (spells_partial result) }
     ensures work { work_left result.next ≡ 0 }
     ensures awaits { Awaits result (behind outer.items) }

@@ -12,7 +12,8 @@ ghost use Rattle.bl_csyntax.specs.Pieces.{first_of};
 ghost use Rattle.bl_csyntax.specs.Grammar.{Wanted, most_open};
 ghost use Rattle.bl_csyntax.specs.Tables.{has};
 ghost use Rattle.bl_csyntax.specs.Expects.{Expects};
-ghost use Rattle.bl_cparse.specs.Reading.{sign, name_of, part, local_starts, Follows, Turns, WantsMemory};
+ghost use Rattle.bl_cparse.specs.inner.Reading.{sign, name_of, part, local_starts, Follows, Turns};
+ghost use Rattle.bl_cparse.specs.Places.{WantsMemory};
 
 use crate::make::NOWHERE;
 use crate::parser::{MOST_OPEN, literal, name, place, stmt};
@@ -24,7 +25,8 @@ use bl_tree::{List, Scalar, Text};
 
 /// One struct or more.
 pub fn structs(r: &mut Reader<'_>) -> Result<List<CStruct>, CRefusal>
-    ensures read { IfOk result (λ all. (r.old ≡ joined (map struct_tokens all) ++ r.new) × (IsTrue (has_any all) × IsTrue (all_of (map spells_struct all)))) }
+    ensures read { IfOk result (λ all. (r.old ≡ joined (map struct_tokens all) ++ r.new)
+        × (IsTrue (has_any all) × IsTrue (all_of (map spells_struct all)))) }
     ensures follows { (room : ℕ) → Follows result (part Part.Struct room ∷ part Part.Structs room ∷ []) [] r.old r.new }
 {
     let mut structs = List::new(r.alloc());
@@ -67,7 +69,8 @@ fn structure(r: &mut Reader<'_>) -> Result<CStruct, CRefusal>
 
 /// One member or more.
 fn members(r: &mut Reader<'_>) -> Result<List<CMember>, CRefusal>
-    ensures read { IfOk result (λ all. (r.old ≡ joined (map member_tokens all) ++ r.new) × (IsTrue (has_any all) × IsTrue (all_of (map spells_member all)))) }
+    ensures read { IfOk result (λ all. (r.old ≡ joined (map member_tokens all) ++ r.new)
+        × (IsTrue (has_any all) × IsTrue (all_of (map spells_member all)))) }
     ensures follows { (room : ℕ) (rest : List Wanted) → Expects (part Part.Member room ∷ part Part.Members room ∷ sign (codes "}") ∷ rest) r.old
         → MatchResult result (λ _. Expects (sign (codes "}") ∷ rest) r.new) WantsMemory }
 {

@@ -1,6 +1,7 @@
 //! Words of types, signs of operators, numbers and literals.
 
-ghost use Rattle.std.specs.Prelude.{◌≡◌, ◌≤◌, ◌<◌, ℕ, ◌+◌, ◌*◌, false, List, [], ◌∷◌, ◌++◌, codes, length, IsTrue, IsNone, IfOk, IfSome, OnOk};
+ghost use Rattle.std.specs.Prelude.{◌≡◌, ◌≤◌, ◌<◌, ℕ, ◌+◌, ◌*◌, false, List, [], ◌∷◌, ◌++◌, codes, length};
+ghost use Rattle.std.specs.Prelude.{IsTrue, IsNone, IfOk, IfSome, OnOk};
 ghost use Rattle.std.specs.Prelude.{MatchOption, MatchResult};
 ghost use Rattle.bl_grammar.specs.declared.symbol.Symbol.{Symbol};
 ghost use Rattle.std.specs.Fmt.{decimal};
@@ -17,8 +18,10 @@ ghost use Rattle.bl_csyntax.specs.Tables.{has};
 ghost use Rattle.bl_csyntax.specs.Expects.{Expects};
 ghost use Rattle.bl_csyntax.specs.Follow.{constant_starts};
 ghost use Rattle.bl_cparse.specs.inner.Parts.{MaybeKind};
-ghost use Rattle.bl_cparse.specs.Reading.{sign, part, scalar_type, operator, signed_starts, unsigned_starts, least_starts, literal_starts, by_width};
-ghost use Rattle.bl_cparse.specs.Reading.{exactly_one, Follows, WantsMemory};
+ghost use Rattle.bl_cparse.specs.inner.Reading.{sign, part, scalar_type, operator, signed_starts, unsigned_starts, least_starts, literal_starts};
+ghost use Rattle.bl_cparse.specs.inner.Reading.{by_width};
+ghost use Rattle.bl_cparse.specs.inner.Reading.{exactly_one, Follows};
+ghost use Rattle.bl_cparse.specs.Places.{WantsMemory};
 
 use crate::make;
 use crate::reader::Reader;
@@ -208,7 +211,8 @@ fn numeral(text: &str) -> Option<u64>
 /// A number from `low` to `high`.
 pub fn number(r: &mut Reader<'_>, low: u64, high: u64) -> Result<u64, CRefusal>
     ensures read { IfOk result (λ n. (r.old ≡ decimal n ∷ r.new) × ((low ≤ n) × (n ≤ high))) }
-    ensures follows { (of : Digits) → least of ≡ low → bound of ≡ high + 1 → Follows result (Symbol.Terminal (Class.number of) ∷ []) [] r.old r.new }
+    ensures follows { (of : Digits) → least of ≡ low → bound of ≡ high + 1
+        → Follows result (Symbol.Terminal (Class.number of) ∷ []) [] r.old r.new }
 {
     let Some(n) = number_of(r.piece()) else {
         return Err(r.refusal());

@@ -5,7 +5,8 @@ ghost use Rattle.bl_ctext.specs.Names.{is_name, is_struct_name, is_function_name
 ghost use Rattle.bl_csyntax.specs.declared.grammar.Part.{Part};
 ghost use Rattle.bl_csyntax.specs.Grammar.{Wanted};
 ghost use Rattle.bl_csyntax.specs.Expects.{Expects};
-ghost use Rattle.bl_cparse.specs.Reading.{name_of, prelude_function, behind_turn, part, Follows, WantsMemory};
+ghost use Rattle.bl_cparse.specs.inner.Reading.{name_of, prelude_function, behind_turn, part, Follows};
+ghost use Rattle.bl_cparse.specs.Places.{WantsMemory};
 
 use crate::reader::Reader;
 use crate::refusal::CRefusal;

@@ -10,7 +10,7 @@ ghost use Rattle.bl_ctext.specs.Spellable.{is_length, none_or, spells_place, spe
 ghost use Rattle.bl_csyntax.specs.declared.grammar.Part.{Part};
 ghost use Rattle.bl_csyntax.specs.Pieces.{first_of};
 ghost use Rattle.bl_csyntax.specs.Classes.{Class, matches};
-ghost use Rattle.bl_cparse.specs.Reading.{sign, name_of, index_function, elements, part, index_word, GoesOnAPlace, Follows};
+ghost use Rattle.bl_cparse.specs.inner.Reading.{sign, name_of, index_function, elements, part, index_word, GoesOnAPlace, Follows};
 
 use crate::parser::{expr, literal, name};
 use crate::reader::Reader;

@@ -1,7 +1,8 @@
 //! Statements. `room` is how many brackets may still be opened. Open braces are kept on a stack of our own, so that
 //! nested statements take no more of the machine's.
 
-ghost use Rattle.std.specs.Prelude.{◌≡◌, ℕ, ◌<◌, ◌≤◌, ◌-◌, true, false, List, [], ◌∷◌, ◌++◌, map, codes, length, IsTrue, IsFalse, IfOk, IfErr, OnOk};
+ghost use Rattle.std.specs.Prelude.{◌≡◌, ℕ, ◌<◌, ◌≤◌, ◌-◌, true, false, List, [], ◌∷◌, ◌++◌, map, codes, length};
+ghost use Rattle.std.specs.Prelude.{IsTrue, IsFalse, IfOk, IfErr, OnOk};
 ghost use Rattle.std.specs.Prelude.{MatchResult};
 ghost use Rattle.bl_tree.specs.Reduce.{all_of, joined};
 ghost use Rattle.bl_ctext.specs.Names.{is_name, is_callee, is_turn_name};
@@ -15,7 +16,8 @@ ghost use Rattle.bl_csyntax.specs.Classes.{Class, matches};
 ghost use Rattle.bl_csyntax.specs.Grammar.{Wanted};
 ghost use Rattle.bl_csyntax.specs.Tables.{has};
 ghost use Rattle.bl_csyntax.specs.Expects.{Expects};
-ghost use Rattle.bl_cparse.specs.Reading.{sign, name_of, part, turn_wanted, other_starts, Follows, WantsMemory};
+ghost use Rattle.bl_cparse.specs.inner.Reading.{sign, name_of, part, turn_wanted, other_starts, Follows};
+ghost use Rattle.bl_cparse.specs.Places.{WantsMemory};
 ghost use Rattle.bl_cparse.specs.inner.Awaiting.{frame_wanted, outside, nest_wanted, Nests, NestStays};
 
 use crate::make_stmt;
@@ -158,7 +160,8 @@ fn opened_branch(r: &mut Reader<'_>, nest: Nest) -> Result<Nest, CRefusal>
 /// The front of an `if`, where so many brackets may be opened in its parts.
 fn branch_front(r: &mut Reader<'_>, room: u32) -> Result<Box<CExpr>, CRefusal>
     ensures read { IfOk result (λ test. (r.old ≡ opened_tokens (Opened.Then test) ++ r.new) × IsTrue (spells_expr test)) }
-    ensures follows { Follows result (sign (codes "if") ∷ sign (codes "(") ∷ part Part.Expr room ∷ sign (codes ")") ∷ sign (codes "{") ∷ []) [] r.old r.new }
+    ensures follows { Follows result (sign (codes "if") ∷ sign (codes "(") ∷ part Part.Expr room ∷ sign (codes ")")
+        ∷ sign (codes "{") ∷ []) [] r.old r.new }
 {
     r.take("if")?;
     let test = condition(r, room)?;
@@ -188,7 +191,8 @@ fn opened_turns(r: &mut Reader<'_>, nest: Nest) -> Result<Nest, CRefusal>
     requires { IsTrue (spells_nest nest) }
     ensures read { IfOk result (λ next. (nest_tokens nest ++ r.old ≡ nest_tokens next ++ r.new) × IsTrue (spells_nest next)) }
     ensures shorter { OnOk result (length r.new < length r.old) }
-    ensures follows { 3 ≤ nest.room → Nests result (sign (codes "{") ∷ sign (codes "uint32_t") ∷ part Part.Turns nest.room ∷ nest_wanted nest) r.old r.new }
+    ensures follows { 3 ≤ nest.room → Nests result (sign (codes "{") ∷ sign (codes "uint32_t") ∷ part Part.Turns nest.room
+        ∷ nest_wanted nest) r.old r.new }
 {
     let Nest { outer, body, room } = nest;
     // The parenthesis of `bl_turn` stands in two braces.
@@ -218,7 +222,8 @@ fn turns_front(r: &mut Reader<'_>, room: u32) -> Result<TurnsFront, CRefusal>
     requires { 2 ≤ room }
     ensures read { IfOk result (λ front. (r.old ≡ opened_tokens (Opened.Turns front.turn front.test) ++ r.new)
         × (IsTrue (is_turn_name front.turn) × IsTrue (spells_expr front.test))) }
-    ensures follows { Follows result (sign (codes "{") ∷ sign (codes "uint32_t") ∷ part Part.Turns room ∷ []) (part Part.Stmts (room - 2) ∷ sign (codes "}")
+    ensures follows { Follows result (sign (codes "{") ∷ sign (codes "uint32_t") ∷ part Part.Turns room ∷ []) (part Part.Stmts (room - 2)
+        ∷ sign (codes "}")
         ∷ sign (codes "}") ∷ []) r.old r.new }
 {
     let turn = declared_turn(r)?;
@@ -315,7 +320,8 @@ fn closed_then(
         ((joined (map stmt_tokens place.before) ++ opened_tokens (Opened.Then test)) ++ (joined (map stmt_tokens body) ++ r.old)) ≡ nest_tokens next ++ r.new)
         × IsTrue (spells_nest next)) }
     ensures shorter { OnOk result (length r.new < length r.old) }
-    ensures follows { Nests result (sign (codes "}") ∷ part Part.Else place.room ∷ part Part.Stmts place.room ∷ sign (codes "}") ∷ outside outer.items) r.old
+    ensures follows { Nests result (sign (codes "}") ∷ part Part.Else place.room ∷ part Part.Stmts place.room ∷ sign (codes "}")
+        ∷ outside outer.items) r.old
         r.new }
 {
     r.take("}")?;
@@ -356,7 +362,8 @@ fn reopened(
     ensures read { IfOk result (λ next. (r.old ≡ codes "{" ∷ r.new)
         × ((nest_tokens next ≡ joined (map frame_tokens outer.items) ++
         (joined (map stmt_tokens place.before) ++ opened_tokens (Opened.Else parts.test parts.then_part))) × IsTrue (spells_nest next))) }
-    ensures follows { Nests result (sign (codes "{") ∷ part Part.Stmts (place.room - 1) ∷ sign (codes "}") ∷ part Part.Stmts place.room ∷ sign (codes "}")
+    ensures follows { Nests result (sign (codes "{") ∷ part Part.Stmts (place.room - 1) ∷ sign (codes "}") ∷ part Part.Stmts place.room
+        ∷ sign (codes "}")
         ∷ outside outer.items) r.old r.new }
 {
     r.take("{")?;
@@ -410,7 +417,8 @@ fn closed_turns(
         ((joined (map stmt_tokens place.before) ++ opened_tokens (Opened.Turns front.turn front.test)) ++ (joined (map stmt_tokens body) ++ r.old))
         ≡ nest_tokens next ++ r.new) × IsTrue (spells_nest next)) }
     ensures shorter { OnOk result (length r.new < length r.old) }
-    ensures follows { Nests result (sign (codes "}") ∷ sign (codes "}") ∷ part Part.Stmts place.room ∷ sign (codes "}") ∷ outside outer.items) r.old r.new }
+    ensures follows { Nests result (sign (codes "}") ∷ sign (codes "}") ∷ part Part.Stmts place.room ∷ sign (codes "}")
+        ∷ outside outer.items) r.old r.new }
 {
     r.take("}")?;
     r.take("}")?;
@@ -497,7 +505,8 @@ fn returned(r: &mut Reader<'_>, room: u32) -> Result<CStmtKind, CRefusal>
 fn called(r: &mut Reader<'_>, name: Text, room: u32) -> Result<CStmtKind, CRefusal>
     requires { IsTrue (is_callee name) }
     ensures read { IfOk result (λ k. (name ∷ r.old ≡ stmt_kind_tokens k ++ r.new) × IsTrue (spells_stmt_kind k)) }
-    ensures follows { 1 ≤ room → Follows result (sign (codes "(") ∷ part Part.Args (room - 1) ∷ sign (codes ")") ∷ sign (codes ";") ∷ []) [] r.old r.new }
+    ensures follows { 1 ≤ room → Follows result (sign (codes "(") ∷ part Part.Args (room - 1) ∷ sign (codes ")") ∷ sign (codes ";")
+        ∷ []) [] r.old r.new }
 {
     let call = place::call(r, name, room)?;
     r.take(";")?;
@@ -560,7 +569,8 @@ fn cleared(r: &mut Reader<'_>, at: CPlace) -> Result<CStmtKind, CRefusal>
     requires { IsTrue (spells_place at) }
     ensures read { IfOk result (λ k. (place_tokens at ++ codes "=" ∷ codes "(" ∷ codes "struct" ∷ r.old ≡ stmt_kind_tokens k ++ r.new)
         × IsTrue (spells_stmt_kind k)) }
-    ensures follows { (room : ℕ) → Follows result (part Part.StructName room ∷ sign (codes ")") ∷ sign (codes "{") ∷ sign (codes "0") ∷ sign (codes "}")
+    ensures follows { (room : ℕ) → Follows result (part Part.StructName room ∷ sign (codes ")")
+        ∷ sign (codes "{") ∷ sign (codes "0") ∷ sign (codes "}")
         ∷ sign (codes ";") ∷ []) [] r.old r.new }
 {
     let of = name::struct_name(r)?;
@@ -596,7 +606,8 @@ fn declared_turn(r: &mut Reader<'_>) -> Result<Text, CRefusal>
     ensures read { IfOk result (λ turn. (r.old ≡ turn_declared turn ++ r.new) × IsTrue (is_turn_name turn)) }
     ensures follows { (room : ℕ) (rest : List Wanted) → Expects
         (sign (codes "{") ∷ sign (codes "uint32_t") ∷ part Part.Turns room ∷ rest) r.old
-        → MatchResult result (λ turn. Expects (sign (codes "(") ∷ part Part.Expr (room - 2) ∷ sign (codes ")") ∷ (turn_wanted turn ++ part Part.Stmts (room - 2) ∷ sign (codes "}") ∷ sign (codes "}") ∷ rest)) r.new) WantsMemory }
+        → MatchResult result (λ turn. Expects (sign (codes "(") ∷ part Part.Expr (room - 2) ∷ sign (codes ")")
+        ∷ (turn_wanted turn ++ part Part.Stmts (room - 2) ∷ sign (codes "}") ∷ sign (codes "}") ∷ rest)) r.new) WantsMemory }
 {
     r.take("{")?;
     r.take("uint32_t")?;
@@ -632,7 +643,8 @@ fn counted_turn(r: &mut Reader<'_>, turn: &str) -> Result<(), CRefusal>
 fn next_turn(r: &mut Reader<'_>, turn: &str) -> Result<(), CRefusal>
     requires { IsTrue (has_any turn.now) }
     ensures read { OnOk result (r.old ≡ codes "bl_turn" ∷ codes "(" ∷ turn.now ∷ codes ")" ∷ codes ";" ∷ r.new) }
-    ensures follows { Follows result (sign (codes "bl_turn") ∷ sign (codes "(") ∷ sign turn.now ∷ sign (codes ")") ∷ sign (codes ";") ∷ []) [] r.old r.new }
+    ensures follows { Follows result (sign (codes "bl_turn") ∷ sign (codes "(") ∷ sign turn.now ∷ sign (codes ")") ∷ sign (codes ";")
+        ∷ []) [] r.old r.new }
 {
     r.take("bl_turn")?;
     r.take("(")?;

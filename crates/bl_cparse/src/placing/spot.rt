@@ -17,9 +17,9 @@ pub struct Spot<'a> {
 
 impl<'a> Model for Spot<'a> {
     ghost use Rattle.std.specs.Prelude.{◌≤◌, length};
-    ghost use Rattle.bl_cparse.specs.HasPlaces.{Spot};
+    ghost use Rattle.bl_cparse.specs.HasPlaces.{TextSpot};
 
-    ghost Value = { Spot };
+    ghost Value = { TextSpot };
 
     ghost view = { λ s. record { text = s.text.now; at = s.at } };
 

@@ -92,7 +92,8 @@ fn inside(spot: &mut Spot<'_>, body: &mut List<CStmt>)
 
 /// The condition of an `if`, with the tokens around it up to the brace.
 fn condition(spot: &mut Spot<'_>, test: &mut CExpr)
-    ensures places { made (λ t. t) (codes ")" ∷ codes "{" ∷ []) (expr_walk test.new (past (codes "if" ∷ codes "(" ∷ []) spot.old)) ≡ (test.new, spot.new) }
+    ensures places { made (λ t. t) (codes ")" ∷ codes "{" ∷ []) (expr_walk test.new (past (codes "if" ∷ codes "(" ∷ []) spot.old))
+        ≡ (test.new, spot.new) }
     ensures tokens { expr_tokens test.new ≡ expr_tokens test.old }
     ensures spells { spells_expr test.new ≡ spells_expr test.old }
 {

@@ -8,7 +8,7 @@ use Rattle.bl_csyntax.specs.declared.grammar.Class.{Class}
 use Rattle.bl_csyntax.specs.declared.grammar.Within.{Within}
 use Rattle.bl_csyntax.specs.Grammar.{Shape, Wanted, Production, placed}
 use Rattle.bl_csyntax.specs.Tables.{Choice, turn_of}
-use Rattle.bl_csyntax.specs.Stack.{class_shown}
+use Rattle.bl_csyntax.specs.inner.Stacks.{class_shown}
 
 -- a class or part of a production
 abbrev pub shape_shown : Symbol Class Within → Shape

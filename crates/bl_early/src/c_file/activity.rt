@@ -2,7 +2,7 @@
 
 ghost use Rattle.std.specs.Prelude.{◌≡◌, ◌≤◌, [], ◌∷◌, IsTrue, IfOk, length};
 ghost use Rattle.std.specs.List.{list_all};
-ghost use Rattle.bl_early.specs.Built.{is_step, steps_at};
+ghost use Rattle.bl_early.specs.inner.Built.{is_step, steps_at};
 ghost use Rattle.bl_early.specs.Emitted.{c_activity, c_counter, c_local, c_now, c_params, c_ports, c_read, c_set, c_tick_body};
 
 use super::parts::{counter_local, inner_function, named, pointer, prefixed, read, set};

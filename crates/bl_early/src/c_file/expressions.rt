@@ -1,7 +1,7 @@
 //! Places and expressions of the C file.
 
 ghost use Rattle.std.specs.Prelude.{◌≡◌, ◌<◌, IsTrue, IfOk, length, codes};
-ghost use Rattle.bl_early.specs.Built.{is_item, is_source, item_at, source_at};
+ghost use Rattle.bl_early.specs.inner.Built.{is_item, is_source, item_at, source_at};
 ghost use Rattle.bl_early.specs.Emitted.{c_item, c_port, c_ports, c_source};
 ghost use Rattle.bl_early.specs.Form.{Sum};
 

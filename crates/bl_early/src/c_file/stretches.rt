@@ -3,7 +3,7 @@
 
 ghost use Rattle.std.specs.Prelude.{◌≡◌, ◌<◌, ◌≤◌, ◌++◌, [], ◌∷◌, IsTrue, IfOk, length};
 ghost use Rattle.std.specs.List.{list_all};
-ghost use Rattle.bl_early.specs.Built.{is_source, is_step, source_at, steps_at};
+ghost use Rattle.bl_early.specs.inner.Built.{is_source, is_step, source_at, steps_at};
 ghost use Rattle.bl_early.specs.Emitted.{c_count, c_counter, c_now, c_numbered, c_port, c_ports, c_resumed, c_set, c_source, c_stretch, c_when};
 
 use super::expressions::{item, place, source};

@@ -91,7 +91,7 @@ spot_of p = record { place = p.place; instance = p.instance; effect = effect_in 
 -- a point of a part of a tree to which these branches lead
 abbrev pub spot_below : {A : Type 0} → Setting → List ℕ → Point A → Spot
 spot_below w path p = record {
-  place = place_of p.action.stmt;
+  place = p.action.place;
   instance = p.action.instance;
   effect = p.action.effect;
   reads = reads_of w p.action;
@@ -126,7 +126,7 @@ told_all (Some a) = told_of a ∷ []
 
 -- the same of a point of the definition
 abbrev pub told_point : {A : Type 0} → Point A → Told
-told_point p = record { place = place_of p.action.stmt; instance = p.action.instance; effect = p.action.effect; paths = effect_paths p.action.effect }
+told_point p = record { place = p.action.place; instance = p.action.instance; effect = p.action.effect; paths = effect_paths p.action.effect }
 
 -- a point of a node to which these branches lead, where this is told of it
 abbrev pub spot_told : Setting → List ℕ → Told → Spot

@@ -56,7 +56,7 @@ abbrev pub start_of : Running → Start
 start_of r = record { cells = r.cells; ready = r.ready }
 
 -- these bytes were read, their rows have run, and what is written of them was written
-pub record Stands (report : Report) (start : Start) (file : Parts) (read : List ℕ) (before : Option (List ℕ)) (s : Session) (r : Running)
+pub record RunStands (report : Report) (start : Start) (file : Parts) (read : List ℕ) (before : Option (List ℕ)) (s : Session) (r : Running)
     (now : Option (List ℕ)) : Type 0 where
   pub fed : HasFed (inputs_of file) read s.reader
   pub runs : r ≡ after_rows (runner_at start file) (rows_in (begun (inputs_of file)) read)
@@ -71,13 +71,13 @@ pub record Stands (report : Report) (start : Start) (file : Parts) (read : List 
   pub written : Appends before (report_of report (runner_at start file) (rows_in (begun (inputs_of file)) read)) now
 
 -- how a run over these bytes ends
-pub data Ends (report : Report) (first : Running) (bytes : List ℕ) (before after : Option (List ℕ)) (now : Running) : Finish → Type 0 where
+pub data RunEnds (report : Report) (first : Running) (bytes : List ℕ) (before after : Option (List ℕ)) (now : Running) : Finish → Type 0 where
   whole : {ended : Finish} →
       ended ≡ finish_of (last_over (course_from first) bytes) (rows_of bytes (inputs_of first.parts)).fault →
       Appends before (report_over report first bytes) after → HasRun first (rows_of bytes (inputs_of first.parts)).rows now →
-      Ends report first bytes before after now ended
+      RunEnds report first bytes before after now ended
   stopped : {ended : Finish} → (ended ≡ finish.WriteFault) ⊎ (ended ≡ finish.NoMemory) →
-      AppendsFront before (report_over report first bytes) after → Ends report first bytes before after now ended
+      AppendsFront before (report_over report first bytes) after → RunEnds report first bytes before after now ended
 
 -- how the rows of a piece leave a run: open, or over
 abbrev pub progress_of : Last → Option RowFault → Progress
@@ -88,19 +88,20 @@ progress_of Trap fault = progress.Over finish.Trapped
 
 -- a piece with which these bytes are read has left the run so
 abbrev pub Leaves : Report → Start → Parts → List ℕ → Option (List ℕ) → Session → Running → Option (List ℕ) → Progress → Type 0
-Leaves report start file read before s r now progress.Open = Stands report start file read before s r now
+Leaves report start file read before s r now progress.Open = RunStands report start file read before s r now
 Leaves report start file read before s r now (progress.Over ended) =
-    (rest : List ℕ) → Ends report (runner_at start file) (read ++ rest) before now r ended
+    (rest : List ℕ) → RunEnds report (runner_at start file) (read ++ rest) before now r ended
 
 -- a run that goes on, over a file of which so much is left
 pub record Going (report : Report) (start : Start) (file : Parts) (all before : Option (List ℕ)) (s : Session) (r : Running)
     (left now : Option (List ℕ)) : Type 0 where
   pub read : List ℕ
   pub has_read : HasRead all read left
-  pub stands : Stands report start file read before s r now
+  pub stands : RunStands report start file read before s r now
 
 -- a piece of the file has left the run so
-abbrev pub GoesOrEnds : Report → Start → Parts → Option (List ℕ) → Option (List ℕ) → Session → Running → Option (List ℕ) → Option (List ℕ) →
+abbrev pub GoesOrEnds : Report → Start → Parts → Option (List ℕ) → Option (List ℕ) → Session → Running → Option (List ℕ)
+    → Option (List ℕ) →
     Progress → Type 0
 GoesOrEnds report start file all before s r rest now progress.Open = Going report start file all before s r rest now
 GoesOrEnds report start file all before s r rest now (progress.Over ended) = Reported report (runner_at start file) all rest before now r ended

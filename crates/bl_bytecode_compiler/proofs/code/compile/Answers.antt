@@ -8,7 +8,8 @@ use Rattle.bl_bytecode.specs.Code.{Entry, entries_from, entry_of, functions_code
 use Rattle.bl_bytecode.specs.Laws.{code_of_file, entry_in_file}
 use Rattle.bl_bytecode_compiler.specs.declared.here.Entry.{Entry as CodeEntry}
 use Rattle.bl_cmeaning_laws.specs.Layout.{frame_cells}
-use Rattle.bl_bytecode_compiler.specs.Views.{entries_in, entry_for, sizes_in, structs_in}
+use Rattle.bl_bytecode_compiler.specs.inner.Views.{entries_in, sizes_in, structs_in}
+use Rattle.bl_bytecode_compiler.specs.Entries.{entry_for}
 use Rattle.bl_bytecode_compiler.proofs.Layouts.{entries-done, entries-next, file-begins, function-next, functions-done, made-with, sizes-capped}
 use Rattle.bl_bytecode_compiler.proofs.code.compile.Goals as goal
 

@@ -1,7 +1,7 @@
 use Rattle.std.proofs.Common.{◌≡◌, ◌++◌, drop, length}
 use Rattle.bl_bytecode.specs.Code.{entries_from, functions_code}
 use Rattle.bl_bytecode.specs.Laws.{code_of_file, entry_in_file}
-use Rattle.bl_bytecode_compiler.specs.Views.{entries_in, sizes_in, structs_in}
+use Rattle.bl_bytecode_compiler.specs.inner.Views.{entries_in, sizes_in, structs_in}
 use Rattle.bl_bytecode_compiler.proofs.code.compile.Given as goal
 
 abbrev pub invariant-loop-of : goal.invariant-loop-of

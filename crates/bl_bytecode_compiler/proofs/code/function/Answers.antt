@@ -1,6 +1,6 @@
 use Rattle.std.proofs.Common.{◌∷◌, pos, ap, ◌∙◌}
 use Rattle.bl_bytecode.specs.declared.instruction.Instruction.TheVariants as ins
-use Rattle.bl_bytecode_compiler.specs.Views.{entries_in, sizes_in, slots_in, structs_in}
+use Rattle.bl_bytecode_compiler.specs.inner.Views.{entries_in, sizes_in, slots_in, structs_in}
 use Rattle.bl_bytecode_compiler.proofs.Layouts.{function-is}
 use Rattle.bl_bytecode_compiler.proofs.code.function.Goals as goal
 

@@ -4,7 +4,7 @@ use Rattle.bl_tree.specs.declared.c.CPlace.{out-CPlace}
 use Rattle.bl_tree.specs.declared.c.CStep.{out-CStep}
 use Rattle.bl_tree.specs.Reduce.{joined}
 use Rattle.bl_bytecode.specs.Code.{term_code}
-use Rattle.bl_bytecode_compiler.specs.Views.{ground_of, laid_of}
+use Rattle.bl_bytecode_compiler.specs.inner.Views.{ground_of, laid_of}
 use Rattle.bl_bytecode_compiler.specs.inner.Walks.{term_if}
 use Rattle.bl_bytecode_compiler.proofs.Walking.{argument-down, call-done, step-down}
 use Rattle.bl_bytecode_compiler.proofs.expr.+expressions.Goals as goal

@@ -4,7 +4,7 @@ use Rattle.bl_tree.specs.declared.c.CCall.{out-CCall}
 use Rattle.bl_tree.specs.declared.c.CPlace.{out-CPlace}
 use Rattle.bl_cmeaning.specs.Builtin.{builtin_of}
 use Rattle.bl_bytecode.specs.Code.{arg_code, call_as, term_code}
-use Rattle.bl_bytecode_compiler.specs.Views.{ground_of}
+use Rattle.bl_bytecode_compiler.specs.inner.Views.{ground_of}
 use Rattle.bl_bytecode_compiler.specs.inner.Walks.{founds_of, terms_along}
 use Rattle.bl_bytecode_compiler.proofs.expr.+expressions.Given as goal
 

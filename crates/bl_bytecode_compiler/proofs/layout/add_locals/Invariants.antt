@@ -2,7 +2,7 @@ use Rattle.std.proofs.Common.{◌≡◌, ℕ, List, drop}
 use Rattle.std.specs.Option.{option_or}
 use Rattle.bl_cmeaning.specs.Tables.{found}
 use Rattle.bl_cmeaning_laws.specs.Layout.{locals_laid}
-use Rattle.bl_bytecode_compiler.specs.Views.{sizes_in, slots_in}
+use Rattle.bl_bytecode_compiler.specs.inner.Views.{sizes_in, slots_in}
 use Rattle.bl_bytecode_compiler.proofs.layout.add_locals.Given as goal
 
 abbrev pub invariant-loop-local : goal.invariant-loop-local

@@ -3,7 +3,7 @@ use Rattle.std.specs.Option.{option_or}
 use Rattle.bl_tree.specs.declared.c.CLocal.{CLocal}
 use Rattle.bl_cmeaning.specs.Tables.{found}
 use Rattle.bl_cmeaning_laws.specs.Layout.{params_laid}
-use Rattle.bl_bytecode_compiler.specs.Views.{sizes_in, slots_in}
+use Rattle.bl_bytecode_compiler.specs.inner.Views.{sizes_in, slots_in}
 use Rattle.bl_bytecode_compiler.proofs.layout.add_params.Given as goal
 
 abbrev pub invariant-loop-param : goal.invariant-loop-param

@@ -6,7 +6,7 @@ use Rattle.bl_cmeaning.specs.inner.Maps.{text_at}
 use Rattle.bl_cmeaning.specs.Tables.{table_of, with_entry}
 use Rattle.bl_cmeaning.proofs.MapLemmas.{inserted, same_table, struct_added}
 use Rattle.bl_cmeaning_laws.specs.Layout.{layout_of, members_laid}
-use Rattle.bl_bytecode_compiler.specs.Views.{members_in, sizes_in}
+use Rattle.bl_bytecode_compiler.specs.inner.Views.{members_in, sizes_in}
 use Rattle.bl_bytecode_compiler.proofs.layout.add_struct.Goals as goal
 
 pub returns-in-Ok : goal.returns-in-Ok

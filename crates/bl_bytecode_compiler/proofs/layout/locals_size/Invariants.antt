@@ -2,7 +2,7 @@ use Rattle.std.proofs.Common.{◌≡◌, ◌≤◌, ◌+◌, drop, map}
 use Rattle.bl_tree.specs.Reduce.{total}
 use Rattle.bl_cmeaning.specs.Sizes.{size_of_type}
 use Rattle.bl_cmeaning_laws.specs.Layout.{capped}
-use Rattle.bl_bytecode_compiler.specs.Views.{sizes_in}
+use Rattle.bl_bytecode_compiler.specs.inner.Views.{sizes_in}
 use Rattle.bl_bytecode_compiler.proofs.layout.locals_size.Given as goal
 
 abbrev pub invariant-loop-local : goal.invariant-loop-local

@@ -2,7 +2,7 @@ use Rattle.std.proofs.Common.{◌≡◌, ℕ, List, drop}
 use Rattle.std.specs.Option.{option_or}
 use Rattle.bl_cmeaning.specs.Tables.{found}
 use Rattle.bl_cmeaning_laws.specs.Layout.{members_laid}
-use Rattle.bl_bytecode_compiler.specs.Views.{members_in, sizes_in}
+use Rattle.bl_bytecode_compiler.specs.inner.Views.{members_in, sizes_in}
 use Rattle.bl_bytecode_compiler.proofs.layout.members.Given as goal
 
 abbrev pub invariant-loop-member : goal.invariant-loop-member

@@ -2,7 +2,7 @@ use Rattle.std.proofs.Common.{◌≡◌, ◌≤◌, ◌+◌, ap, arith, drop, �
 use Rattle.bl_cmeaning.proofs.ArgLemmas.{next_of}
 use Rattle.bl_cmeaning.specs.Sizes.{size_of_param}
 use Rattle.bl_cmeaning_laws.specs.Layout.{capped}
-use Rattle.bl_bytecode_compiler.specs.Views.{sizes_in}
+use Rattle.bl_bytecode_compiler.specs.inner.Views.{sizes_in}
 use Rattle.bl_bytecode_compiler.proofs.Layouts.{capped-small, sum-all, sum-capped}
 use Rattle.bl_bytecode_compiler.proofs.layout.params_size.Goals as goal
 

@@ -1,7 +1,7 @@
 use Rattle.std.proofs.Common.{◌+◌, ap, ◌∙◌}
 use Rattle.bl_cmeaning.specs.Sizes.{size_of_member}
 use Rattle.bl_cmeaning_laws.specs.Layout.{capped}
-use Rattle.bl_bytecode_compiler.specs.Views.{sizes_in}
+use Rattle.bl_bytecode_compiler.specs.inner.Views.{sizes_in}
 use Rattle.bl_bytecode_compiler.proofs.Layouts.{behind-saturated}
 use Rattle.bl_bytecode_compiler.proofs.layout.past.Goals as goal
 

@@ -2,7 +2,7 @@ use Rattle.std.proofs.Common.{◌≡◌, ℕ, List, drop, map}
 use Rattle.std.specs.Option.{option_or}
 use Rattle.bl_cmeaning.specs.Tables.{found}
 use Rattle.bl_cmeaning_laws.specs.Layout.{layout_of}
-use Rattle.bl_bytecode_compiler.specs.Views.{sizes_in, structs_in}
+use Rattle.bl_bytecode_compiler.specs.inner.Views.{sizes_in, structs_in}
 use Rattle.bl_bytecode_compiler.proofs.layout.struct_layouts.Given as goal
 
 abbrev pub invariant-loop-of : goal.invariant-loop-of

@@ -1,7 +1,7 @@
 use Rattle.std.proofs.Common.{ap, option_map, sym, ◌∙◌}
 use Rattle.bl_cmeaning_laws.specs.Reaching.{start_of_slot}
 use Rattle.bl_bytecode.specs.Code.{start_code}
-use Rattle.bl_bytecode_compiler.specs.Views.{ground_of}
+use Rattle.bl_bytecode_compiler.specs.inner.Views.{ground_of}
 use Rattle.bl_bytecode_compiler.specs.inner.Walks.{found_along, founds_of, passed_along, root_of, type_along}
 use Rattle.bl_bytecode_compiler.proofs.Walking.{walk-is}
 use Rattle.bl_bytecode_compiler.proofs.place.walk_to.Goals as goal

@@ -1,6 +1,6 @@
 use Rattle.std.proofs.Common.{◌≡◌, ◌≤◌, ◌-◌, ◌++◌, drop, length}
 use Rattle.bl_bytecode.specs.Code.{code_of_block}
-use Rattle.bl_bytecode_compiler.specs.Views.{ground_of}
+use Rattle.bl_bytecode_compiler.specs.inner.Views.{ground_of}
 use Rattle.bl_bytecode_compiler.proofs.stmt.+statements.Given as goal
 
 abbrev pub invariant-statements-loop-k : goal.invariant-statements-loop-k

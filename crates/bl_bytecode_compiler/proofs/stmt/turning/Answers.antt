@@ -1,6 +1,6 @@
 use Rattle.std.proofs.Common.{◌-◌, ◌∷◌, ◌++◌, ap, ◌∙◌}
 use Rattle.bl_bytecode.specs.declared.instruction.Instruction.TheVariants as ins
-use Rattle.bl_bytecode_compiler.specs.Views.{ground_of}
+use Rattle.bl_bytecode_compiler.specs.inner.Views.{ground_of}
 use Rattle.bl_bytecode_compiler.proofs.Blocks.{turning-done}
 use Rattle.bl_bytecode_compiler.proofs.stmt.turning.Goals as goal
 

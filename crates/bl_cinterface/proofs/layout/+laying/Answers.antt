@@ -2,7 +2,7 @@ use Rattle.std.proofs.Common.{◌-◌, ◌++◌, ◌∙◌, ap, arith, sym, take
 use Rattle.std.proofs.lemmas.Result.{on_ok_weaker}
 use Rattle.bl_cmeaning.specs.inner.Maps.{text_at}
 use Rattle.bl_cmeaning.specs.Tables.{with_entry}
-use Rattle.bl_cinterface.specs.Layout.{kinds_of_members}
+use Rattle.bl_cinterface.specs.inner.Spans.{kinds_of_members}
 use Rattle.bl_cinterface.proofs.KindLemmas.{before-end, placed-before, placed-within}
 use Rattle.bl_cinterface.proofs.LayLemmas.{copied, laid-grown, member-made, none-added, same-added, struct-laid, struct-made}
 use Rattle.bl_cinterface.proofs.layout.+laying.Goals as goal

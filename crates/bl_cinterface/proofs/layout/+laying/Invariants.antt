@@ -1,6 +1,6 @@
 use Rattle.std.proofs.Common.{◌≡◌, ◌+◌, ◌*◌, ◌++◌, drop, take}
 use Rattle.bl_cmeaning.specs.inner.Maps.{text_at}
-use Rattle.bl_cinterface.specs.Layout.{Laid, kinds_of_members}
+use Rattle.bl_cinterface.specs.inner.Spans.{StructsLaid, kinds_of_members}
 use Rattle.bl_cinterface.proofs.layout.+laying.Given as goal
 
 abbrev pub decreases-add_struct : goal.decreases-add_struct
@@ -22,4 +22,4 @@ abbrev pub invariant-add_members-loop-member : goal.invariant-add_members-loop-m
 invariant-add_members-loop-member l =
     (l.kinds.items ++ kinds_of_members (take l.end l.places.structs.now) (drop l.member-index l.members) ≡ l.initial.kinds.items
     ++ kinds_of_members (take l.end l.places.structs.now) l.members)
-    × Laid l.places.structs.now (text_at l.spans) l.kinds.items
+    × StructsLaid l.places.structs.now (text_at l.spans) l.kinds.items

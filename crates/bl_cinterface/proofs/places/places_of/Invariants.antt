@@ -2,7 +2,7 @@ use Rattle.std.proofs.Common.{◌≡◌, ℕ, ◌+◌, List, drop}
 use Rattle.std.specs.Prelude.{option_map}
 use Rattle.std.specs.Option.{option_or}
 use Rattle.bl_cmeaning.specs.inner.Maps.{text_at}
-use Rattle.bl_cinterface.specs.Layout.{placed}
+use Rattle.bl_cinterface.specs.inner.Spans.{placed}
 use Rattle.bl_cinterface.proofs.places.places_of.Given as goal
 
 abbrev pub invariant-loop-k : goal.invariant-loop-k

@@ -1,7 +1,7 @@
 use Rattle.std.proofs.Common.{◌≡◌, sym, subst}
 use Rattle.std.specs.Prelude.{filter_map, IfOk}
 use Rattle.bl_cmeaning.specs.Cells.{column_of, outputs_of}
-use Rattle.bl_cinterface.specs.Ports.{AllPrefixed}
+use Rattle.bl_cinterface.specs.inner.Prefixed.{AllPrefixed}
 use Rattle.bl_cinterface.proofs.PortLemmas.{outputs-prefixed}
 use Rattle.bl_cinterface.proofs.ports.outputs.Goals as goal
 

@@ -1,5 +1,5 @@
 use Rattle.std.proofs.Common.{◌≡◌, ◌++◌}
-use Rattle.bl_cinterface.specs.Layout.{at_span, repeated}
+use Rattle.bl_cinterface.specs.inner.Spans.{at_span, repeated}
 use Rattle.bl_cinterface.proofs.repeat.push_times.Given as goal
 
 abbrev pub invariant-loop-turn : goal.invariant-loop-turn

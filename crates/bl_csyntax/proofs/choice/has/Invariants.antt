@@ -1,6 +1,6 @@
 use Rattle.std.proofs.Common.{◌≡◌, map, drop}
 use Rattle.bl_csyntax.specs.Tables.{has}
-use Rattle.bl_csyntax.specs.Stack.{class_shown}
+use Rattle.bl_csyntax.specs.inner.Stacks.{class_shown}
 use Rattle.bl_csyntax.proofs.choice.has.Given as goal
 
 abbrev pub invariant-loop-class : goal.invariant-loop-class

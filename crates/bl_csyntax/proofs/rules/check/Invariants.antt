@@ -2,12 +2,13 @@ use Rattle.std.proofs.Common.{◌≡◌, ◌<◌, ◌≤◌, false, List, ◌++�
 use Rattle.std.specs.Prelude.{slice_index}
 use Rattle.bl_ctext.specs.Token.{Token, is_blank}
 use Rattle.bl_csyntax.specs.Pieces.{pieces, left_of}
-use Rattle.bl_csyntax.specs.Stack.{Stands, shown}
+use Rattle.bl_csyntax.specs.Stack.{StackStands}
+use Rattle.bl_csyntax.specs.inner.Stacks.{shown}
 use Rattle.bl_csyntax.proofs.rules.check.Given as goal
 
 abbrev pub invariant-loop-piece : goal.invariant-loop-piece
 invariant-loop-piece l = record {
-  read : (front : List Token) × (Stands front (reverse (map shown l.stack.wanted.items))
+  read : (front : List Token) × (StackStands front (reverse (map shown l.stack.wanted.items))
       × (pieces (drop l.start l.text) ≡ front ++ left_of l.text l.piece.start l.piece.end));
   in_order : l.piece.start ≤ l.piece.end;
   inside : l.piece.end ≤ length l.text;

@@ -1,7 +1,7 @@
 use Rattle.std.proofs.Common.{◌≡◌, ◌≤◌, ◌++◌, map, drop, reverse, length}
 use Rattle.bl_csyntax.specs.Grammar.{placed}
 use Rattle.bl_csyntax.specs.inner.Rows.{shape_shown}
-use Rattle.bl_csyntax.specs.Stack.{shown}
+use Rattle.bl_csyntax.specs.inner.Stacks.{shown}
 use Rattle.bl_csyntax.proofs.stack.push_all.Given as goal
 
 abbrev pub invariant-loop-left : goal.invariant-loop-left

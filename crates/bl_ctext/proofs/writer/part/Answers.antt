@@ -1,5 +1,5 @@
 use Rattle.std.proofs.Common.{rules, ◌≡◌, true, false}
-use Rattle.bl_ctext.specs.Cut.{meets}
+use Rattle.bl_ctext.specs.inner.Cut.{meets}
 use Rattle.bl_ctext.proofs.Texts.{parted_met, parted_kept}
 use Rattle.bl_ctext.proofs.writer.part.Goals as goal
 

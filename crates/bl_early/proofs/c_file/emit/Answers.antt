@@ -1,7 +1,7 @@
 use Rattle.std.proofs.Common.{◌≡◌, true, get_or, Some, sym, ap, ◌∙◌, option_map}
 use Rattle.bl_ctext.specs.Spellable.{is_spellable}
 use Rattle.bl_early.specs.Form.{loop_of}
-use Rattle.bl_early.specs.Built.{steps_at}
+use Rattle.bl_early.specs.inner.Built.{steps_at}
 use Rattle.bl_early.specs.Emitted.{c_funcs, c_funcs_of, c_structs, c_structs_of}
 use Rattle.bl_early.proofs.Known.{the-unit, looped, has-loop, file-spelled-of, same-spelled}
 use Rattle.bl_early.proofs.c_file.emit.Goals as goal

@@ -1,6 +1,6 @@
 use Rattle.std.proofs.Common.{◌≡◌, drop}
 use Rattle.std.specs.List.{list_any}
-use Rattle.bl_early.specs.Built.{has_pause}
+use Rattle.bl_early.specs.inner.Built.{has_pause}
 use Rattle.bl_early.proofs.form.pauses.Given as goal
 
 abbrev pub invariant-loop-statement : goal.invariant-loop-statement

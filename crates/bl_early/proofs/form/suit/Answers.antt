@@ -1,7 +1,7 @@
 use Rattle.std.proofs.Common.{◌≡◌, true, false, ◌&&◌, length, sym, ap, ap₂, ◌∙◌}
 use Rattle.std.specs.Prelude.{nat_le}
 use Rattle.std.specs.List.{list_all, list_any}
-use Rattle.bl_early.specs.Built.{has_pause, is_any_step}
+use Rattle.bl_early.specs.inner.Built.{has_pause, is_any_step}
 use Rattle.bl_early.proofs.Steps.{suits}
 use Rattle.bl_early.proofs.form.suit.Goals.{then-are_steps, else-are_steps}
 use Rattle.bl_early.proofs.form.suit.Goals as goal

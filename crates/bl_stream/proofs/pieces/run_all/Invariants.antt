@@ -2,14 +2,14 @@ use Rattle.std.proofs.Common.{◌-◌, ◌≤◌, ℕ, List, [], Option}
 use Rattle.bl_io.specs.Count.{NeverFell}
 use Rattle.bl_io.specs.Left.{KeepsOthers}
 use Rattle.bl_stream.specs.declared.ticks.Report.{Report}
-use Rattle.bl_stream.specs.inner.Going.{Going, Stands, Start, most_reach, reach}
+use Rattle.bl_stream.specs.inner.Going.{Going, RunStands, Start, most_reach, reach}
 use Rattle.bl_stream.proofs.pieces.run_all.Given as goal
 
 abbrev pub invariant-pieces : goal.invariant-pieces
 invariant-pieces g l = record {
   going :
       (report : Report) (start : Start) (before : Option (List ℕ)) →
-      Stands report start l.initial.runner.parts [] before l.initial.session l.initial.runner (g.O.Sink.held l.initial.out) →
+      RunStands report start l.initial.runner.parts [] before l.initial.session l.initial.runner (g.O.Sink.held l.initial.out) →
       Going report start l.initial.runner.parts (g.F.Files.left l.initial.files l.name) before l.session l.runner (g.F.Files.left l.files l.name)
       (g.O.Sink.held l.out);
   others : KeepsOthers l.name (g.F.Files.left l.initial.files) (g.F.Files.left l.files);

@@ -8,7 +8,7 @@ use Rattle.bl_ctext.specs.Token.{Token}
 use Rattle.bl_cparse.proofs.ExprOpening.{arg_more, args_end}
 use Rattle.bl_cparse.specs.inner.Awaiting.{behind}
 use Rattle.bl_cparse.proofs.ReadLemmas.{passed}
-use Rattle.bl_cparse.specs.Reading.{sign}
+use Rattle.bl_cparse.specs.inner.Reading.{sign}
 use Rattle.bl_cparse.proofs.parser.expr.argued.Goals as goal
 
 pub returns-then-eat-clause-read : goal.returns-then-eat-clause-read

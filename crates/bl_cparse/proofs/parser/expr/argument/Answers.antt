@@ -4,7 +4,7 @@ use Rattle.std.specs.Prelude.{List, codes}
 use Rattle.bl_ctext.specs.Token.{Token}
 use Rattle.bl_cparse.proofs.ExprOpening.{arg_address, arg_value}
 use Rattle.bl_cparse.specs.inner.Awaiting.{behind}
-use Rattle.bl_cparse.specs.Reading.{part, sign}
+use Rattle.bl_cparse.specs.inner.Reading.{part, sign}
 use Rattle.std.proofs.Common.{rules, subst, sym, ◌++◌, ◌∙◌, ◌∷◌}
 use Rattle.bl_cparse.proofs.parser.expr.argument.Goals as goal
 

@@ -3,7 +3,7 @@ use Rattle.bl_cparse.specs.declared.parser.expr.Held.{Held}
 use Rattle.bl_csyntax.specs.declared.grammar.Part.TheVariants.{Inside}
 use Rattle.std.specs.Prelude.{List}
 use Rattle.bl_cparse.specs.inner.Awaiting.{behind}
-use Rattle.bl_cparse.specs.Reading.{part}
+use Rattle.bl_cparse.specs.inner.Reading.{part}
 use Rattle.std.proofs.Common.{subst, sym, ◌++◌, ◌∷◌}
 use Rattle.bl_cparse.proofs.ReadLemmas.{wanting}
 use Rattle.bl_cparse.proofs.parser.expr.bracketed.Goals as goal

@@ -4,7 +4,7 @@ use Rattle.std.specs.Prelude.{List, codes}
 use Rattle.bl_ctext.specs.Token.{Token}
 use Rattle.bl_cparse.proofs.ExprOpening.{args_none, args_some}
 use Rattle.bl_cparse.specs.inner.Awaiting.{behind}
-use Rattle.bl_cparse.specs.Reading.{part, sign}
+use Rattle.bl_cparse.specs.inner.Reading.{part, sign}
 use Rattle.bl_cparse.proofs.ReadLemmas.{passed}
 use Rattle.std.proofs.Common.{rules, subst, sym, ◌++◌, ◌-◌, ◌∙◌, ◌∷◌}
 use Rattle.bl_cparse.proofs.parser.expr.call.Goals as goal

@@ -3,7 +3,7 @@ use Rattle.bl_ctext.proofs.Bytes.{both}
 use Rattle.bl_csyntax.specs.declared.grammar.Part.TheVariants.{Expr}
 use Rattle.bl_csyntax.specs.Grammar.{Wanted}
 use Rattle.bl_csyntax.specs.Expects.{Expects}
-use Rattle.bl_cparse.specs.Reading.{part}
+use Rattle.bl_cparse.specs.inner.Reading.{part}
 use Rattle.bl_cparse.specs.inner.Partial.{held_tokens, spells_held}
 use Rattle.bl_cparse.specs.inner.Awaiting.{held_wanted}
 use Rattle.bl_cparse.proofs.NestLemmas.{pushed, all_with}

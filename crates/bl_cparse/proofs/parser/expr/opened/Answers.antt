@@ -5,7 +5,7 @@ use Rattle.bl_ctext.specs.Token.{Token}
 use Rattle.bl_cparse.proofs.ReadLemmas.{at_same}
 use Rattle.bl_cparse.specs.inner.Awaiting.{behind}
 use Rattle.bl_cparse.proofs.ExprOpening.{inside_negative, inside_not, inside_place, inside_two}
-use Rattle.bl_cparse.specs.Reading.{operator, part, sign}
+use Rattle.bl_cparse.specs.inner.Reading.{operator, part, sign}
 use Rattle.std.proofs.Common.{rules, subst, sym, ◌++◌, ◌-◌, ◌∙◌, ◌∷◌, ◌≡◌}
 use Rattle.bl_cparse.proofs.parser.expr.opened.Goals as goal
 

@@ -5,7 +5,7 @@ use Rattle.bl_ctext.specs.Spellable.{has_any, spells_func}
 use Rattle.bl_csyntax.specs.declared.grammar.Part.TheVariants.{Func, Funcs}
 use Rattle.bl_csyntax.specs.Grammar.{most_open}
 use Rattle.bl_csyntax.specs.Expects.{Expects}
-use Rattle.bl_cparse.specs.Reading.{part}
+use Rattle.bl_cparse.specs.inner.Reading.{part}
 use Rattle.bl_cparse.proofs.parser.item.funcs.Given as goal
 
 abbrev pub invariant-loop-funcs : goal.invariant-loop-funcs

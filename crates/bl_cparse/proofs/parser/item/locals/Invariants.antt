@@ -5,7 +5,7 @@ use Rattle.bl_ctext.specs.Spellable.{spells_local}
 use Rattle.bl_csyntax.specs.declared.grammar.Part.TheVariants.{Locals}
 use Rattle.bl_csyntax.specs.Grammar.{Wanted}
 use Rattle.bl_csyntax.specs.Expects.{Expects}
-use Rattle.bl_cparse.specs.Reading.{part}
+use Rattle.bl_cparse.specs.inner.Reading.{part}
 use Rattle.bl_cparse.proofs.parser.item.locals.Given as goal
 
 abbrev pub invariant-loop-locals : goal.invariant-loop-locals

@@ -5,7 +5,7 @@ use Rattle.bl_ctext.specs.Spellable.{has_any, spells_struct}
 use Rattle.bl_csyntax.specs.declared.grammar.Part.TheVariants.{Struct, Structs}
 use Rattle.bl_csyntax.specs.Grammar.{Wanted}
 use Rattle.bl_csyntax.specs.Expects.{Expects}
-use Rattle.bl_cparse.specs.Reading.{part}
+use Rattle.bl_cparse.specs.inner.Reading.{part}
 use Rattle.bl_cparse.proofs.parser.item.structs.Given as goal
 
 abbrev pub invariant-loop-structs : goal.invariant-loop-structs

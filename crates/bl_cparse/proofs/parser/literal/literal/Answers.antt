@@ -8,7 +8,8 @@ use Rattle.bl_csyntax.specs.Classes.Class.{exactly}
 use Rattle.bl_cparse.proofs.ExprOpening.{false_passed, least_passed, true_passed}
 use Rattle.bl_csyntax.specs.Pieces.{first_of}
 use Rattle.bl_csyntax.specs.Tables.{has}
-use Rattle.bl_cparse.specs.Reading.{least_starts, part, WantsMemory}
+use Rattle.bl_cparse.specs.inner.Reading.{least_starts, part}
+use Rattle.bl_cparse.specs.Places.{WantsMemory}
 use Rattle.bl_csyntax.specs.Classes.{matches}
 use Rattle.bl_cparse.proofs.WordLemmas.{no_literal, no_plain}
 use Rattle.bl_cparse.proofs.ReadLemmas.{widened}

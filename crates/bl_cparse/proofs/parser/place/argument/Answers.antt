@@ -1,6 +1,6 @@
 use Rattle.bl_csyntax.specs.Expects.{Expects}
 use Rattle.bl_csyntax.specs.declared.grammar.Part.TheVariants.{Expr, Steps}
-use Rattle.bl_cparse.specs.Reading.{GoesOnAPlace, part}
+use Rattle.bl_cparse.specs.inner.Reading.{GoesOnAPlace, part}
 use Rattle.std.specs.Prelude.{List}
 use Rattle.bl_ctext.specs.Token.{Token}
 use Rattle.bl_cparse.proofs.ExprOpening.{arg_address, arg_value, steps_end}

@@ -6,7 +6,7 @@ use Rattle.std.specs.Prelude.{codes}
 use Rattle.bl_csyntax.specs.declared.grammar.Part.TheVariants.{Args, ArgRest}
 use Rattle.bl_csyntax.specs.Grammar.{Wanted}
 use Rattle.bl_csyntax.specs.Expects.{Expects}
-use Rattle.bl_cparse.specs.Reading.{sign, part}
+use Rattle.bl_cparse.specs.inner.Reading.{sign, part}
 use Rattle.bl_cparse.proofs.parser.place.arguments.Given as goal
 
 abbrev pub invariant-loop-r : goal.invariant-loop-r

@@ -5,7 +5,7 @@ use Rattle.bl_ctext.specs.Spellable.{spells_step}
 use Rattle.bl_csyntax.specs.declared.grammar.Part.{Part}
 use Rattle.bl_csyntax.specs.Grammar.{Wanted}
 use Rattle.bl_csyntax.specs.Expects.{Expects}
-use Rattle.bl_cparse.specs.Reading.{part, GoesOnAPlace}
+use Rattle.bl_cparse.specs.inner.Reading.{part, GoesOnAPlace}
 use Rattle.bl_cparse.proofs.parser.place.place.Given as goal
 
 abbrev pub invariant-loop-r : goal.invariant-loop-r

@@ -3,7 +3,7 @@ use Rattle.bl_csyntax.specs.declared.grammar.Part.TheVariants.{Inside}
 use Rattle.std.specs.Prelude.{List, codes}
 use Rattle.bl_ctext.specs.Token.{Token}
 use Rattle.bl_cparse.proofs.StmtOpening.{open_inside, open_struct}
-use Rattle.bl_cparse.specs.Reading.{part, sign}
+use Rattle.bl_cparse.specs.inner.Reading.{part, sign}
 use Rattle.bl_cparse.proofs.ReadLemmas.{passed}
 use Rattle.std.proofs.Common.{rules, subst, sym, ◌∙◌, ◌∷◌}
 use Rattle.bl_cparse.proofs.parser.stmt.bracketed.Goals as goal

@@ -8,7 +8,7 @@ use Rattle.bl_csyntax.specs.Expects.{Expects}
 use Rattle.std.specs.Prelude.{List, codes}
 use Rattle.bl_csyntax.specs.Grammar.{Wanted}
 use Rattle.bl_cparse.specs.inner.Awaiting.{frame_wanted}
-use Rattle.bl_cparse.specs.Reading.{sign}
+use Rattle.bl_cparse.specs.inner.Reading.{sign}
 use Rattle.bl_cparse.proofs.AwaitLemmas.{unwound_off}
 use Rattle.bl_cparse.proofs.parser.stmt.closed.Goals as goal
 

@@ -4,7 +4,7 @@ use Rattle.bl_csyntax.specs.declared.grammar.Part.TheVariants.{Stmts}
 use Rattle.std.proofs.Common.{[], rules, subst, ◌++◌, ◌∷◌}
 use Rattle.bl_cparse.specs.inner.Awaiting.{closed_wanted, outside}
 use Rattle.std.specs.Prelude.{codes}
-use Rattle.bl_cparse.specs.Reading.{part, sign}
+use Rattle.bl_cparse.specs.inner.Reading.{part, sign}
 use Rattle.bl_cparse.proofs.parser.stmt.closed_frame.Goals as goal
 
 pub returns-in_err-next-in-Then-clause-follows : goal.returns-in_err-next-in-Then-clause-follows

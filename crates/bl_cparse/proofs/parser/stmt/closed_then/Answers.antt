@@ -10,7 +10,7 @@ use Rattle.bl_csyntax.specs.declared.grammar.Part.TheVariants.{Stmts}
 use Rattle.bl_ctext.specs.Token.{Token}
 use Rattle.bl_cparse.proofs.StmtOpening.{else_absent, else_stands}
 use Rattle.bl_cparse.specs.inner.Awaiting.{outside}
-use Rattle.bl_cparse.specs.Reading.{part, sign}
+use Rattle.bl_cparse.specs.inner.Reading.{part, sign}
 use Rattle.bl_cparse.proofs.ReadLemmas.{passed}
 use Rattle.bl_cparse.proofs.parser.stmt.closed_then.Goals as goal
 

@@ -7,7 +7,7 @@ use Rattle.bl_csyntax.specs.declared.grammar.Part.TheVariants.{Stmts}
 use Rattle.bl_csyntax.specs.Grammar.{Wanted}
 use Rattle.bl_csyntax.specs.Expects.{Expects}
 use Rattle.bl_cparse.specs.inner.Nest.{frame_tokens, spells_frame}
-use Rattle.bl_cparse.specs.Reading.{sign, part}
+use Rattle.bl_cparse.specs.inner.Reading.{sign, part}
 use Rattle.bl_cparse.specs.inner.Awaiting.{frame_wanted}
 use Rattle.bl_cparse.proofs.NestLemmas.{pushed, all_with}
 use Rattle.bl_cparse.proofs.AwaitLemmas.{unwound_one}

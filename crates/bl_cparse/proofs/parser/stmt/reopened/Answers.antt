@@ -2,7 +2,7 @@ use Rattle.bl_csyntax.specs.Expects.{Expects}
 use Rattle.bl_csyntax.specs.declared.grammar.Part.TheVariants.{Stmts}
 use Rattle.std.specs.Prelude.{codes}
 use Rattle.bl_cparse.specs.inner.Awaiting.{outside}
-use Rattle.bl_cparse.specs.Reading.{part, sign}
+use Rattle.bl_cparse.specs.inner.Reading.{part, sign}
 use Rattle.std.proofs.Common.{subst, sym, ℕ, ◌++◌, ◌∷◌}
 use Rattle.bl_cparse.proofs.ReadLemmas.{wanting}
 use Rattle.bl_cparse.proofs.parser.stmt.reopened.Goals as goal

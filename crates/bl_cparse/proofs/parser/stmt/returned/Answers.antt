@@ -2,7 +2,7 @@ use Rattle.bl_csyntax.specs.Expects.{Expects}
 use Rattle.bl_csyntax.specs.declared.grammar.Part.TheVariants.{Expr}
 use Rattle.std.specs.Prelude.{List, codes}
 use Rattle.bl_ctext.specs.Token.{Token}
-use Rattle.bl_cparse.specs.Reading.{part, sign}
+use Rattle.bl_cparse.specs.inner.Reading.{part, sign}
 use Rattle.bl_cparse.proofs.ReadLemmas.{passed}
 use Rattle.bl_cparse.proofs.StmtOpening.{result_none, result_value}
 use Rattle.std.proofs.Common.{rules, subst, sym, ◌∙◌, ◌∷◌, ◌≡◌}

@@ -4,7 +4,7 @@ use Rattle.bl_csyntax.specs.declared.grammar.Part.TheVariants.{Stmt}
 use Rattle.bl_ctext.specs.Token.{Token}
 use Rattle.bl_cparse.proofs.ReadLemmas.{at_same, passed}
 use Rattle.bl_cparse.proofs.StmtOpening.{none_starts, stmt_break, stmt_return}
-use Rattle.bl_cparse.specs.Reading.{part}
+use Rattle.bl_cparse.specs.inner.Reading.{part}
 use Rattle.std.proofs.Common.{rules, subst, sym, ◌∙◌, ◌∷◌, ◌≡◌}
 use Rattle.bl_cparse.proofs.parser.stmt.simple.Goals as goal
 

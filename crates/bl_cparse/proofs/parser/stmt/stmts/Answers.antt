@@ -2,7 +2,7 @@ use Rattle.std.proofs.Common.{rules, List, ◌∷◌, ◌++◌, codes, subst}
 use Rattle.bl_csyntax.specs.declared.grammar.Part.TheVariants.{Stmts}
 use Rattle.bl_csyntax.specs.Expects.{Expects}
 use Rattle.bl_cparse.specs.declared.parser.stmt.Frame.{Frame}
-use Rattle.bl_cparse.specs.Reading.{sign, part}
+use Rattle.bl_cparse.specs.inner.Reading.{sign, part}
 use Rattle.bl_cparse.specs.inner.Awaiting.{outside}
 use Rattle.bl_cparse.proofs.StmtOpening.{stmts_end}
 use Rattle.bl_cparse.proofs.parser.stmt.stmts.Goals as goal

@@ -3,7 +3,7 @@ use Rattle.bl_csyntax.specs.declared.grammar.Part.TheVariants.{Stmts}
 use Rattle.bl_csyntax.specs.Grammar.{Wanted}
 use Rattle.bl_csyntax.specs.Expects.{Expects}
 use Rattle.bl_cparse.specs.inner.Nest.{nest_tokens, spells_nest}
-use Rattle.bl_cparse.specs.Reading.{sign, part}
+use Rattle.bl_cparse.specs.inner.Reading.{sign, part}
 use Rattle.bl_cparse.specs.inner.Awaiting.{nest_wanted}
 use Rattle.bl_cparse.proofs.parser.stmt.stmts.Given as goal
 

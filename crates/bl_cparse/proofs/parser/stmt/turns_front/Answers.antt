@@ -2,7 +2,7 @@ use Rattle.bl_csyntax.specs.Expects.{Expects}
 use Rattle.bl_csyntax.specs.declared.grammar.Part.TheVariants.{Stmts}
 use Rattle.bl_ctext.specs.Token.{Token}
 use Rattle.std.specs.Prelude.{codes}
-use Rattle.bl_cparse.specs.Reading.{part, sign, turn_wanted}
+use Rattle.bl_cparse.specs.inner.Reading.{part, sign, turn_wanted}
 use Rattle.std.proofs.Common.{subst, sym, ◌++◌, ◌-◌, ◌∷◌}
 use Rattle.bl_cparse.proofs.ReadLemmas.{wanting}
 use Rattle.bl_cparse.proofs.parser.stmt.turns_front.Goals as goal

@@ -1,6 +1,6 @@
 use Rattle.std.proofs.Common.{◌≡◌, map, drop}
 use Rattle.std.specs.List.{list_all}
-use Rattle.bl_csyntax.specs.Stack.{may_vanish, shown}
+use Rattle.bl_csyntax.specs.inner.Stacks.{may_vanish, shown}
 use Rattle.bl_csyntax.proofs.stack.Stack.may_end.Given as goal
 
 abbrev pub invariant-loop-wanted : goal.invariant-loop-wanted

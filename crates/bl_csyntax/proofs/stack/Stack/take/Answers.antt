@@ -1,6 +1,6 @@
 use Rattle.std.proofs.Common.{map, reverse, ap, ◌∙◌}
 use Rattle.bl_csyntax.specs.Tables.{turn_of}
-use Rattle.bl_csyntax.specs.Stack.{shown}
+use Rattle.bl_csyntax.specs.inner.Stacks.{shown}
 use Rattle.bl_csyntax.proofs.Picking.{with_turn}
 use Rattle.bl_csyntax.proofs.Reading.{at_terminal, at_none, at_part, nearer}
 use Rattle.bl_csyntax.proofs.stack.Stack.take.Goals as goal

@@ -1,5 +1,5 @@
 use Rattle.std.proofs.Common.{map, reverse}
-use Rattle.bl_csyntax.specs.Stack.{Expands, level, shown}
+use Rattle.bl_csyntax.specs.inner.Stacks.{Expands, level, shown}
 use Rattle.bl_csyntax.proofs.stack.Stack.take.Given as goal
 
 abbrev pub invariant-loop-first : goal.invariant-loop-first

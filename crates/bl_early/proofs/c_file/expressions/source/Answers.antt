@@ -1,6 +1,6 @@
 use Rattle.std.proofs.Common.{◌≡◌, true, length, sym, subst}
 use Rattle.bl_tree.specs.declared.tree.Expr.{Expr}
-use Rattle.bl_early.specs.Built.{is_item}
+use Rattle.bl_early.specs.inner.Built.{is_item}
 use Rattle.bl_early.proofs.Statements.{two-source}
 use Rattle.bl_early.proofs.c_file.expressions.source.Goals as goal
 

@@ -22,7 +22,7 @@ use Rattle.std.specs.List.{list_all}
 use Rattle.std.proofs.lemmas.Slice.{between_to_end}
 use Rattle.bl_tree.specs.declared.tree.Stmt.{Stmt}
 use Rattle.bl_tree.specs.declared.c.CStmt.{CStmt}
-use Rattle.bl_early.specs.Built.{is_step, item_at, steps_at}
+use Rattle.bl_early.specs.inner.Built.{is_step, item_at, steps_at}
 use Rattle.bl_early.specs.Emitted.{c_item, c_numbered, c_ports, c_resumed, c_stretch, c_when}
 use Rattle.bl_early.proofs.Spelled.{list_all-drop}
 use Rattle.bl_early.proofs.Statements.{at-passes, await-item, resumed-pause, resumed-other, pushed}

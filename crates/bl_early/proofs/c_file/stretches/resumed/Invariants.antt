@@ -1,5 +1,5 @@
 use Rattle.std.proofs.Common.{◌≡◌, ◌≤◌, ◌+◌, ◌++◌, drop}
-use Rattle.bl_early.specs.Built.{steps_at}
+use Rattle.bl_early.specs.inner.Built.{steps_at}
 use Rattle.bl_early.specs.Emitted.{c_ports, c_resumed}
 use Rattle.bl_early.proofs.c_file.stretches.resumed.Given as goal
 

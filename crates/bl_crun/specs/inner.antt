@@ -1,0 +1,2 @@
+pub mod CallsDone
+pub mod Ticked

@@ -1,0 +1,11 @@
+pub mod Ahead
+pub mod Bounding
+pub mod Callees
+pub mod Calls
+pub mod Counting
+pub mod Differing
+pub mod Listed
+pub mod Lists
+pub mod Onward
+pub mod Statements
+pub mod Stepping

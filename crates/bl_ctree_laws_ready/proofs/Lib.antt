@@ -1,0 +1,9 @@
+pub mod Before
+pub mod Deepening
+pub mod Descending
+pub mod Keys
+pub mod Least
+pub mod Lowering
+pub mod Never
+pub mod Numbering
+pub mod Touching

@@ -1,0 +1,5 @@
+pub mod Least
+pub mod Never
+pub mod Ordered
+pub mod Ranks
+pub mod Touching
