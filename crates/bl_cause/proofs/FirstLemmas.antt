@@ -70,7 +70,7 @@ both_true : (a b : Bool) → a ≡ true → b ≡ true → (a && b) ≡ true
 both_true true b one other = other
 both_true false b one other = absurd (cc)
 
-before_true : (a b : Place) → is_before a b ≡ true → IsBefore a b
+pub before_true : (a b : Place) → is_before a b ≡ true → IsBefore a b
 before_true a b is =
     elim (nat_lt a.start b.start) as (λ less. nat_lt a.start b.start ≡ less → (less || (nat_eq a.start b.start && nat_lt a.end b.end)) ≡ true → IsBefore a b) [
       | true ↦ λ less h. inl (grind (arith, nat_tests))
@@ -95,7 +95,7 @@ true_before a b h =
     or_true true b is = refl
     or_true false b is = is
 
-before_then : (a b c : Place) → IsBefore a b → IsBefore b c → IsBefore a c
+pub before_then : (a b c : Place) → IsBefore a b → IsBefore b c → IsBefore a c
 before_then a b c one two =
     ⊎_elim
     (λ (p : a.start < b.start).

@@ -1,7 +1,10 @@
+pub mod AlikeLemmas
 pub mod FirstLemmas
+pub mod GraphLemmas
 pub mod ListLemmas
 pub mod NumberLemmas
 pub mod OrderLemmas
+pub mod PairLemmas
 pub mod RankLemmas
 pub mod RowLemmas
 pub mod StepLemmas

@@ -1,4 +1,5 @@
 pub mod Found
+pub mod Graphs
 pub mod Lists
 pub mod Numbers
 pub mod Orders

@@ -1,6 +1,6 @@
-//! Laws of closed walks, each the contract of a function that does nothing.
+//! Laws of closed walks, and of the graphs of a program, each the contract of a function that does nothing.
 
-ghost use Rattle.bl_cause.specs.Laws.{ControlWalks, RanksLeaveNoWalk, RulesLeaveNoWalk, WalksTurn};
+ghost use Rattle.bl_cause.specs.Laws.{ControlWalks, GraphsAreFound, OrdersAreFound, RanksLeaveNoWalk, RulesLeaveNoWalk, WalksTurn};
 
 /// Where numbers rise along every edge nothing acts twice, and nothing waits for itself.
 pub fn ranks_leave_no_walk()
@@ -20,4 +20,10 @@ pub fn rules_leave_no_walk()
 /// What rule Twice speaks of, said by the edges of the whole graph.
 pub fn control_walks_are_walks()
     ensures { ControlWalks }
+{}
+
+/// Where the tick graph and the order of an activity stand.
+pub fn graphs_are_found()
+    ensures graphs { GraphsAreFound }
+    ensures orders { OrdersAreFound }
 {}

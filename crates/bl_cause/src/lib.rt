@@ -1,8 +1,13 @@
-//! The rules Twice and Cycle over one tick graph (docs/LANGUAGE.md, "Rules"). `twice` looks for a closed walk of control
-//! edges, `ordered` for one that begins with a data edge. Each names the first place at which there is one, with the
-//! places that one such walk passes, and where there is none `ordered` gives numbers that rise along every edge
-//! (`specs/Fails.antt`, `FailsTwice`, `FailsCycle`; `specs/Ranks.antt`, `Ranks`). An edge from a node to itself is a closed
-//! walk without further places.
+//! The rules Twice and Cycle (docs/LANGUAGE.md, "Rules"), and what an accepted program is. `check` answers Ok exactly where
+//! neither fails for an activity of the program, and gives its schedule: effects, the tick graphs of the activities, and
+//! an order for each. Else it names the first that fails, at its least place over all activities (`specs/Rules.antt`,
+//! `FailsFirst`); want of memory aside. `Accepted` is a program for which no rule fails, with its schedule
+//! (`specs/Accepted.antt`, `IsAccepted`).
+//!
+//! `twice` and `ordered` judge one tick graph. `twice` looks for a closed walk of control edges, `ordered` for one that
+//! begins with a data edge. Each names the first place at which there is one, with the places that one such walk passes,
+//! and where there is none `ordered` gives numbers that rise along every edge (`specs/Fails.antt`, `FailsTwice`,
+//! `FailsCycle`; `specs/Ranks.antt`, `Ranks`). An edge from a node to itself is a closed walk without further places.
 //!
 //! How the first place is found: `finishing` lists the nodes so that each stands before what it leads to, where no closed
 //! walk is in the way. `numbering` takes them in that order, and gives one number to all that lead to a node and have none
@@ -12,7 +17,8 @@
 //! the time depends on it.
 //!
 //! Laws: numbers that rise leave no closed walk; a closed walk can begin with any of its edges; one of control edges is one
-//! without data edges; where neither rule fails there is none.
+//! without data edges; where neither rule fails there is none. Each activity finds its tick graph and its order by its
+//! position.
 #![tactic(auto)]
 
 ghost use Rattle.std.specs.Prelude.{List as Elements, MatchOption, OnOk, IfOk, IfErr, ⊤};
@@ -22,20 +28,26 @@ ghost use Rattle.bl_cause.specs.Fails.{FailsTwice, FailsCycle, IsFirst, Never, T
 ghost use Rattle.bl_cause.specs.Ranks.{Ranks};
 ghost use Rattle.bl_cause.specs.Walks.{ClosedWalk};
 
+mod accepted;
+mod activities;
 mod edges;
 mod finishing;
 mod first;
+mod judge;
 pub mod laws;
 mod numbering;
 mod order;
+mod schedule;
 mod way_back;
 
 use crate::edges::controls;
 use crate::first::{Found, first_walk};
 use crate::order::order_of;
+pub use accepted::Accepted;
 use bl_tree::graph::Graph;
 use bl_tree::{NoMemory, Refusal, Rule};
 pub use order::Order;
+pub use schedule::{Schedule, check};
 use std::alloc::Global;
 
 /// Judges rule Twice for the graph. The walk that the refusal tells is one of many.

@@ -22,7 +22,7 @@ one_longer [] a = refl
 one_longer (x ∷ actions) a = ap suc (one_longer actions a)
 
 module _ (still : StillIsUnlisted) (moves : PointsMove) (act : PointsAct) (follow : StepsFollow) (w : Setting) (c0 : Control) (store0 : Store)
-    (most : ℕ) (bounded : (actions : List Action) (c : Control) (store : Store) → Steps w c0 store0 actions (Rests c store) → length actions ≤ most) where
+    (most : ℕ) (bounded : (list : List Action) (c : Control) (store : Store) → Steps w c0 store0 list (Rests c store) → length list ≤ most) where
   -- a list that leaves room for so many steps goes on
   abbrev Extends : ℕ → Type 0
   Extends left =

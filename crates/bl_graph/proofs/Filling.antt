@@ -236,20 +236,20 @@ if_outs l at e body other one two d n k (inl h) there =
     let whole = (part_of (If l at e body other)).nodes in
     let inside = back_at (part_in body).nodes whole n k d (λ i j x. inr (at_left (part_in body).nodes (part_in other).nodes i j x))
     (in_block body n (out_in body n h)) there in
-    at_left (part_in body).outs ((part_in other).outs ++ where_marked (is_empty body || is_empty other) (marked entered (TestAt l at e))) n k
+    at_left (part_in body).outs (where_marked (is_empty body || is_empty other) (marked entered (TestAt l at e)) ++ (part_in other).outs) n k
     (one.outs n k h inside)
 if_outs l at e body other one two d n k (inr (inl h)) there =
     let whole = (part_of (If l at e body other)).nodes in
     let last = where_marked (is_empty body || is_empty other) (marked entered (TestAt l at e)) in
     let inside = back_at (part_in other).nodes whole n k d (λ i j x. inr (at_right (part_in body).nodes (part_in other).nodes i j x))
     (in_block other n (out_in other n h)) there in
-    at_right (part_in body).outs ((part_in other).outs ++ last) n k (at_left (part_in other).outs last n k (two.outs n k h inside))
+    at_right (part_in body).outs (last ++ (part_in other).outs) n k (at_right last (part_in other).outs n k (two.outs n k h inside))
 if_outs l at e body other one two d n k (inr (inr h)) there =
     let whole = (part_of (If l at e body other)).nodes in
     let last = where_marked (is_empty body || is_empty other) (marked entered (TestAt l at e)) in
     let same : entered ≡ k = one_mark whole n entered k d (inl (h.1, refl)) there in
-    at_right (part_in body).outs ((part_in other).outs ++ last) n k
-    (at_right (part_in other).outs last n k
+    at_right (part_in body).outs (last ++ (part_in other).outs) n k
+    (at_left last (part_in other).outs n k
     (subst (At last n) same
     (where_at (is_empty body || is_empty other) (marked entered (TestAt l at e)) n (some_empty (is_empty body) (is_empty other) h.0) h.1)))
 

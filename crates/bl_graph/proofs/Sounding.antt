@@ -438,12 +438,12 @@ if_sound l at e body other one two = let xs = (part_in body).nodes in let ys = (
           | inr b ↦ reached_more (λ k m h. inr (inl h)) (λ m h. inr h) n (two.depth n b)
         ]
       ];
-      outs = λ n k h. elim (at_cases (part_in body).outs ((part_in other).outs ++ where_marked (is_empty body || is_empty other) test) n k h) [
+      outs = λ n k h. elim (at_cases (part_in body).outs (where_marked (is_empty body || is_empty other) test ++ (part_in other).outs) n k h) [
         | inl a ↦ let is = one.outs n k a in (inr (at_left xs ys n k is.0), inl is.1)
-        | inr rest ↦ elim (at_cases (part_in other).outs (where_marked (is_empty body || is_empty other) test) n k rest) [
-          | inl b ↦ let is = two.outs n k b in (inr (at_right xs ys n k is.0), inr (inl is.1))
-          | inr w ↦ let is = at_where (is_empty body || is_empty other) test n k w in
+        | inr rest ↦ elim (at_cases (where_marked (is_empty body || is_empty other) test) (part_in other).outs n k rest) [
+          | inl w ↦ let is = at_where (is_empty body || is_empty other) test n k w in
               (inl (is.1, is.2), inr (inr (or_cases (is_empty body) (is_empty other) is.0, is.1)))
+          | inr b ↦ let is = two.outs n k b in (inr (at_right xs ys n k is.0), inr (inl is.1))
         ]
       ];
     }

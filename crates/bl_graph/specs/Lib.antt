@@ -5,3 +5,4 @@ pub mod Laws
 pub mod Listed
 pub mod Marks
 pub mod Walks
+pub mod inner

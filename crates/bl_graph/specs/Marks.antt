@@ -41,11 +41,8 @@ use Rattle.bl_nodes.specs.Plain.{
   While,
   is_empty,
 }
-
--- whether a node is reached from where a part begins, and whether from where it goes on in a later tick
-pub record Mark : Type 0 where
-  pub surface : Bool
-  pub depth : Bool
+-- a mark tells whether a node is reached from where a part begins, and whether from where it goes on in a later tick
+pub use Rattle.bl_graph.specs.declared.flow.Mark.{Mark}
 
 -- reached from where the part begins alone, from where it goes on later alone, and not at all
 abbrev pub entered : Mark
@@ -154,7 +151,7 @@ abbrev mutual
   }
   part_of (If l at e body other) = record {
     nodes = marked entered (TestAt l at e) ∷ ((part_in body).nodes ++ (part_in other).nodes);
-    outs = (part_in body).outs ++ ((part_in other).outs ++ where_marked (is_empty body || is_empty other) (marked entered (TestAt l at e)));
+    outs = (part_in body).outs ++ (where_marked (is_empty body || is_empty other) (marked entered (TestAt l at e)) ++ (part_in other).outs);
   }
   part_of (Cobegin l at bodies) = record {
     nodes = marked entered (ForkAt l at) ∷ (where_marked (is_instant (Cobegin l at bodies)) (marked (join_mark (parts_of bodies).left) (SurfaceJoinAt l at))

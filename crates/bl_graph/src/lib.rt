@@ -1,8 +1,9 @@
 //! The tick graph of an activity: what may act after what in one tick (docs/LANGUAGE.md, "Tick graphs"). Control edges,
 //! surfaces and depths are defined by recursion on plain statements (`specs/Edges.antt`), and on them data edges
-//! (`specs/DataEdges.antt`) and what a `Graph` shows of a body (`specs/Graph.antt`, `IsTickGraph`). Surfaces and depths are
-//! also found in one pass over a body, by marks (`specs/Marks.antt`), and all edges are listed by them (`specs/Listed.antt`).
-//! There is no code here.
+//! (`specs/DataEdges.antt`) and what a `Graph` shows of a body (`specs/Graph.antt`, `IsTickGraph`). `graph_of` gives the
+//! graph of a unit, and fails for want of memory alone: in one pass over the body, each part with its nodes, which of them
+//! lead on and how they are reached. How surfaces and depths are found so, by marks, is in `specs/Marks.antt`, and all edges
+//! are listed by them (`specs/Listed.antt`).
 //!
 //! Laws (`specs/Laws.antt`): a graph speaks of the body's nodes alone; what may end in the tick in which it begins has a
 //! way through it; what may be written before the next pause is written at a node that is reached from the entry; labels
@@ -12,7 +13,16 @@
 ghost use Rattle.bl_nodes.specs.Plain.{Block};
 ghost use Rattle.bl_graph.specs.Laws.{BranchesPart, EdgesAreListed, FlowsAreListed, InstantsPass, MarksTell, StaysWithin, WritersAreReached};
 
+mod build;
+mod flow;
+mod frame;
+mod graph;
+mod instant;
+mod link;
+mod part;
+
 use bl_nodes::{labels_tell_apart, nodes_differ, plain_statements};
+pub use graph::graph_of;
 
 /// The edges of a body join nodes of it, and its surface and depth are made of such.
 pub fn graphs_stay_within()

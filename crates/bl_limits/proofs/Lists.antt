@@ -1,15 +1,16 @@
 -- The first of several failures, list by list.
-use Rattle.std.proofs.Common.{◌≡◌, ℕ, suc, ◌+◌, ◌-◌, ◌^◌, ◌<◌, cond, List, [], ◌∷◌, ◌++◌, map, length, ◌⊎◌, ⊎_elim, get_or, drop, Option, None, refl, sym, ap, ◌∙◌, add-one, arith}
+use Rattle.std.proofs.Common.{◌≡◌, ℕ, suc, ◌+◌, ◌-◌, ◌^◌, ◌<◌, cond, List, [], ◌∷◌, ◌++◌, map, length, ◌⊎◌, ⊎_elim, get_or, drop, Option, Some, None, refl, sym, ap, ◌∙◌, add-one, arith}
 use Rattle.std.specs.Prelude.{nat_lt}
 use Rattle.std.proofs.lemmas.Bool.Decides.{nat_tests}
 use Rattle.std.proofs.Math.Seq.{drop-cons}
 use Rattle.bl_tree.specs.declared.place.Place.{Place}
 use Rattle.bl_tree.specs.declared.rule.Failure.{Failure}
 use Rattle.bl_tree.specs.declared.rule.Rule.{Rule}
+use Rattle.bl_tree.specs.declared.tree.Unit.{Unit as UnitDef}
 use Rattle.bl_tree.specs.Reduce.{joined}
 use Rattle.bl_tree.specs.Rules.{first_of, lesser}
 use Rattle.bl_measures.specs.Saturated.{saturated}
-use Rattle.bl_limits.specs.inner.Failures.{above, failure_at, numbered}
+use Rattle.bl_limits.specs.inner.Failures.{above, at_unit, failure_at, numbered}
 
 pub first-append : (best : Option Failure) (xs ys : List Failure) → first_of best (xs ++ ys) ≡ first_of (first_of best xs) ys
 first-append best [] ys = refl
@@ -41,6 +42,11 @@ above-saturated limit n failure within = ap (λ test. cond test (failure ∷ [])
   where
     same : nat_lt limit (saturated n) ≡ nat_lt limit n
     same = grind (arith, nat_tests)
+
+pub unit-saturated : (rule : Rule) (limit n : ℕ) (found : Option UnitDef) → limit < 2 ^ 64 - 1 →
+    at_unit rule limit (saturated n) found ≡ at_unit rule limit n found
+unit-saturated rule limit n (Some unit) within = above-saturated limit n (failure_at rule unit.place) within
+unit-saturated rule limit n None within = refl
 
 module _ {A : Type 0} (rule : Rule) (limit : ℕ) (place : A → Place) where
   pub numbered-saturated : (xs : List A) (numbers : List ℕ) → limit < 2 ^ 64 - 1

@@ -5,16 +5,22 @@ ghost use Rattle.bl_measures.specs.Tells.{Tells};
 ghost use Rattle.bl_tree.specs.Rules.{first_of};
 ghost use Rattle.bl_limits.specs.inner.Failures.{large_state, struct_failures, unit_variable_failures, variable_failures};
 
-use crate::limit::{failure, judge};
+use crate::limit::Limit;
 use bl_measures::Measures;
 use bl_tree::tree::{StructDef, Unit, Var};
 use bl_tree::{Failure, Rule};
 
 /// The most cells that the entry may have.
-const MOST_CELLS: u64 = 1_000_000;
+const CELLS: Limit = Limit {
+    rule: Rule::Cells,
+    most: 1_000_000,
+};
 
 /// How deep a type may be nested.
-const DEEPEST: u64 = 100;
+const NESTING: Limit = Limit {
+    rule: Rule::Cells,
+    most: 100,
+};
 
 /// The first so far, or that of the entry's cells, at its name.
 pub fn of_entry(
@@ -27,15 +33,7 @@ pub fn of_entry(
     requires tells { Tells measures.now structs.now units.now }
     ensures { result ≡ first_of first (large_state structs.now units.now entry) }
 {
-    match units.get(entry as usize) {
-        Some(unit) => judge(
-            measures.cells(entry),
-            MOST_CELLS,
-            failure(Rule::Cells, unit.place),
-            first,
-        ),
-        None => first,
-    }
+    CELLS.judge_unit(measures.cells(entry), units, entry, first)
 }
 
 /// The first so far, or that of the structs that are nested too deep, each at its name.
@@ -50,7 +48,7 @@ pub fn of_structs(
 {
     let mut first = first;
     for (def, nesting) in structs.iter().zip(measures.struct_nestings.iter()) {
-        first = judge(*nesting, DEEPEST, failure(Rule::Cells, def.place), first);
+        first = NESTING.judge(*nesting, def.place, first);
     }
     first
 }
@@ -85,7 +83,7 @@ fn of_unit(
     let mut first = first;
     for var in vars {
         let nesting = measures.nesting(&var.ty);
-        first = judge(nesting, DEEPEST, failure(Rule::Cells, var.place), first);
+        first = NESTING.judge(nesting, var.place, first);
     }
     first
 }

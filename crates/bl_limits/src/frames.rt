@@ -5,16 +5,22 @@ ghost use Rattle.bl_measures.specs.Tells.{Tells};
 ghost use Rattle.bl_tree.specs.Rules.{first_of};
 ghost use Rattle.bl_limits.specs.inner.Failures.{chain_failures, many_instances};
 
-use crate::limit::{failure, judge};
+use crate::limit::Limit;
 use bl_measures::Measures;
 use bl_tree::tree::{StructDef, Unit};
 use bl_tree::{Failure, Rule};
 
 /// The most activity instances that the entry may expand to.
-const MOST_INSTANCES: u64 = 4096;
+const INSTANCES: Limit = Limit {
+    rule: Rule::Frames,
+    most: 4096,
+};
 
 /// The most units that a chain may have.
-const MOST_UNITS: u64 = 100;
+const UNITS: Limit = Limit {
+    rule: Rule::Frames,
+    most: 100,
+};
 
 /// The first so far, or that of the entry's instances, at its name.
 pub fn of_entry(
@@ -27,15 +33,7 @@ pub fn of_entry(
     requires tells { Tells measures.now structs.now units.now }
     ensures { result ≡ first_of first (many_instances units.now entry) }
 {
-    match units.get(entry as usize) {
-        Some(unit) => judge(
-            measures.instances(entry),
-            MOST_INSTANCES,
-            failure(Rule::Frames, unit.place),
-            first,
-        ),
-        None => first,
-    }
+    INSTANCES.judge_unit(measures.instances(entry), units, entry, first)
 }
 
 /// The first so far, or that of the units that head too long a chain, each at its name.
@@ -50,7 +48,7 @@ pub fn of_chains(
 {
     let mut first = first;
     for (unit, chain) in units.iter().zip(measures.chains.iter()) {
-        first = judge(*chain, MOST_UNITS, failure(Rule::Frames, unit.place), first);
+        first = UNITS.judge(*chain, unit.place, first);
     }
     first
 }

@@ -1,19 +1,24 @@
 -- Refusals of the judges have a cause in the rules together.
-use Rattle.std.proofs.Common.{ℕ, ◌<◌, ◌^◌, List, [], length, inl, inr, refl, subst, arith}
+use Rattle.std.proofs.Common.{◌≡◌, ℕ, ap, sym, ◌∙◌, ◌<◌, ◌^◌, List, [], length, inl, inr, refl, subst, arith}
 use Rattle.std.proofs.lemmas.Bool.{cases_lt}
+use Rattle.bl_cause.specs.Rules.{Fails as GraphsFail, Passes as GraphsPass}
 use Rattle.bl_effects.specs.Rules.{Fails as UnitsFail, Passes as UnitsPass}
 use Rattle.bl_lex.specs.Rules.{Fails as TextFails, Passes as TextPasses}
 use Rattle.bl_lex.specs.Tokens.{Lexes}
+use Rattle.bl_limits.specs.Rules.{Fails as LimitsFail}
 use Rattle.bl_parse.specs.Programs.{Spells}
 use Rattle.bl_program.specs.Cause.{IsCause as IsTypingCause, names as by_names, types as by_types}
-use Rattle.bl_program.specs.Programs.{IsProgramOf, named_of}
+use Rattle.bl_program.specs.Programs.{IsProgramOf, named_of, typed_of}
 use Rattle.bl_raw.specs.declared.raw.Raw.{Raw}
 use Rattle.bl_rules.proofs.Layers.{
   TokensAreOne,
   TokensThatPass,
   TreesAreOne,
   bytes_first,
+  graphs_first,
+  limits_first,
   names_first,
+  program_first,
   text_passes,
   tokens_first,
   tree_first,
@@ -22,15 +27,19 @@ use Rattle.bl_rules.proofs.Layers.{
   units_first,
 }
 use Rattle.bl_rules.specs.Accepted.{HasProgram}
-use Rattle.bl_rules.specs.Rules.{Fails, Parses, TreeFails, TreePasses}
+use Rattle.bl_rules.specs.Rules.{Fails, Parses, ProgramFails, ProgramPasses, TreeFails, TreePasses}
 use Rattle.bl_scopes.specs.Rules.{Passes as NamesPass}
 use Rattle.bl_syntax.specs.Rules.{Fails as TokensFail, Passes as TokensPass}
 use Rattle.bl_tree.specs.declared.place.Place.{Place}
 use Rattle.bl_tree.specs.declared.program.Program.{Program}
 use Rattle.bl_tree.specs.declared.rule.Refusal.{Refusal}
 use Rattle.bl_tree.specs.declared.rule.Refusal.TheVariants as refusal
+use Rattle.bl_tree.specs.declared.rule.Rule.{Rule}
 use Rattle.bl_tree.specs.declared.rule.Rule.TheVariants as rule
 use Rattle.bl_tree.specs.declared.token.Token.{Token}
+use Rattle.bl_tree.proofs.FirstLemmas.{alike_first}
+use Rattle.bl_tree.specs.declared.tree.StructDef.{StructDef}
+use Rattle.bl_tree.specs.declared.tree.Unit.{Unit as UnitDef}
 use Rattle.bl_tree.specs.Rules.{IsCause}
 use Rattle.bl_types.specs.Rules.{Passes as TypesPass}
 
@@ -41,15 +50,49 @@ typing_cause raw (refusal.Rule _ _ _) (by_names rule place also first) = names_f
 typing_cause raw (refusal.Rule _ _ _) (by_types rule place also pass first) = types_first raw rule place also pass first
 typing_cause raw refusal.NoMemory first = tt
 
-pub units_cause : (raw : Raw) (program : Program) (told : Refusal) → IsProgramOf raw program → NamesPass raw.items → TypesPass (named_of raw)
-    → IsCause (UnitsFail program.units) told → IsCause (TreeFails raw) told
-units_cause raw program (refusal.Rule rule place also) is pass more first =
-    units_first raw rule place also pass more (subst (λ us. IsCause (UnitsFail us) (refusal.Rule rule place also)) is.units first)
-units_cause raw program refusal.NoMemory is pass more first = tt
+-- a typed program has the parts of its tree's
+module _ (raw : Raw) (program : Program) (is : IsProgramOf raw program) where
+  same_fails : (r : Rule) (p : Place) (a : List Place) → ProgramFails program.structs program.units program.entry r p a ≡
+      ProgramFails (typed_of raw).structs (typed_of raw).units (typed_of raw).entry r p a
+  same_fails r p a =
+      ap (λ it. ProgramFails it program.units program.entry r p a) is.structs
+      ∙ ap (λ it. ProgramFails (typed_of raw).structs it program.entry r p a) is.units
+      ∙ ap (λ it. ProgramFails (typed_of raw).structs (typed_of raw).units it r p a) is.entry
 
-pub program_passes : (raw : Raw) (program : Program) → IsProgramOf raw program → NamesPass raw.items → TypesPass (named_of raw)
-    → UnitsPass program.units → TreePasses raw
-program_passes raw program is pass more most = tree_passes raw pass more (subst UnitsPass is.units most)
+  own_fails : (r : Rule) (p : Place) (a : List Place) → ProgramFails program.structs program.units program.entry r p a →
+      ProgramFails (typed_of raw).structs (typed_of raw).units (typed_of raw).entry r p a
+  own_fails r p a f = subst (λ it. it) (same_fails r p a) f
+
+  fails_own : (r : Rule) (p : Place) (a : List Place) → ProgramFails (typed_of raw).structs (typed_of raw).units (typed_of raw).entry r p a →
+      ProgramFails program.structs program.units program.entry r p a
+  fails_own r p a f = subst (λ it. it) (sym (same_fails r p a)) f
+
+  pub program_cause : (told : Refusal) → NamesPass raw.items → TypesPass (named_of raw) →
+      IsCause (ProgramFails program.structs program.units program.entry) told → IsCause (TreeFails raw) told
+  program_cause (refusal.Rule rule place also) pass more first =
+      program_first raw rule place also pass more
+      (alike_first (ProgramFails program.structs program.units program.entry)
+      (ProgramFails (typed_of raw).structs (typed_of raw).units (typed_of raw).entry) own_fails fails_own rule place also first)
+  program_cause refusal.NoMemory pass more first = tt
+
+  pub program_passes : NamesPass raw.items → TypesPass (named_of raw) → ProgramPasses program.structs program.units program.entry → TreePasses raw
+  program_passes pass more most = tree_passes raw pass more (λ r p a f. most r p a (fails_own r p a f))
+
+-- ---- typed programs
+
+module _ (structs : List StructDef) (units : List UnitDef) (entry : ℕ) where
+  pub units_cause : (told : Refusal) → IsCause (UnitsFail units) told → IsCause (ProgramFails structs units entry) told
+  units_cause (refusal.Rule rule place also) first = units_first structs units entry rule place also first
+  units_cause refusal.NoMemory first = tt
+
+  pub graphs_cause : (told : Refusal) → UnitsPass units → IsCause (GraphsFail units) told → IsCause (ProgramFails structs units entry) told
+  graphs_cause (refusal.Rule rule place also) pass first = graphs_first structs units entry pass rule place also first
+  graphs_cause refusal.NoMemory pass first = tt
+
+  pub limits_cause : (told : Refusal) → UnitsPass units → GraphsPass units → IsCause (LimitsFail structs units entry) told →
+      IsCause (ProgramFails structs units entry) told
+  limits_cause (refusal.Rule rule place also) pass more first = limits_first structs units entry pass more rule place also first
+  limits_cause refusal.NoMemory pass more first = tt
 
 -- ---- texts
 

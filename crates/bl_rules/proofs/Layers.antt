@@ -1,20 +1,78 @@
 -- What fails first in its layer, where the layers before it pass, fails first of all rules.
 use Rattle.std.proofs.Common.{◌≡◌, ℕ, List, length, subst}
+use Rattle.bl_cause.specs.Rules.{Fails as GraphsFail, Passes as GraphsPass}
 use Rattle.bl_effects.specs.Rules.{Fails as UnitsFail, Passes as UnitsPass}
 use Rattle.bl_lex.specs.Rules.{Fails as TextFails, Passes as TextPasses}
 use Rattle.bl_lex.specs.Tokens.{Lexes}
+use Rattle.bl_limits.specs.Rules.{Fails as LimitsFail, Passes as LimitsPass}
 use Rattle.bl_parse.specs.Programs.{Spells}
 use Rattle.bl_program.specs.Programs.{named_of, typed_of}
 use Rattle.bl_raw.specs.declared.raw.Raw.{Raw}
-use Rattle.bl_rules.specs.Rules.{Fails, Parses, Passes, TreeFails, TreePasses, in_bytes, in_names, in_tokens, in_tree, in_types, in_units}
+use Rattle.bl_rules.specs.Rules.{
+  Fails,
+  Parses,
+  Passes,
+  ProgramFails,
+  ProgramPasses,
+  TreeFails,
+  TreePasses,
+  in_bytes,
+  in_graphs,
+  in_limits,
+  in_names,
+  in_program,
+  in_tokens,
+  in_tree,
+  in_types,
+  in_units,
+}
 use Rattle.bl_scopes.specs.Rules.{Fails as NamesFail, Passes as NamesPass}
 use Rattle.bl_syntax.specs.Rules.{Fails as TokensFail, Passes as TokensPass}
 use Rattle.bl_tree.proofs.FirstLemmas.{alike_first}
 use Rattle.bl_tree.specs.declared.place.Place.{Place}
 use Rattle.bl_tree.specs.declared.rule.Rule.{Rule}
 use Rattle.bl_tree.specs.declared.token.Token.{Token}
+use Rattle.bl_tree.specs.declared.tree.StructDef.{StructDef}
+use Rattle.bl_tree.specs.declared.tree.Unit.{Unit as UnitDef}
 use Rattle.bl_tree.specs.Rules.{FailsFirst}
 use Rattle.bl_types.specs.Rules.{Fails as TypesFail, Passes as TypesPass}
+
+-- ---- typed programs
+
+module _ (structs : List StructDef) (units : List UnitDef) (entry : ℕ) where
+  pub units_first : (rule : Rule) (at : Place) (also : List Place) → FailsFirst (UnitsFail units) rule at also →
+      FailsFirst (ProgramFails structs units entry) rule at also
+  units_first rule at also first = alike_first (UnitsFail units) (ProgramFails structs units entry) (λ r p a f. in_units f) back rule at also first
+    where
+      back : (r : Rule) (p : Place) (a : List Place) → ProgramFails structs units entry r p a → UnitsFail units r p a
+      back r p a (in_units f) = f
+      back r p a (in_graphs passes f) = absurd (passes rule at also first.fails)
+      back r p a (in_limits passes others f) = absurd (passes rule at also first.fails)
+
+  pub graphs_first : UnitsPass units → (rule : Rule) (at : Place) (also : List Place) → FailsFirst (GraphsFail units) rule at also →
+      FailsFirst (ProgramFails structs units entry) rule at also
+  graphs_first pass rule at also first =
+      alike_first (GraphsFail units) (ProgramFails structs units entry) (λ r p a f. in_graphs pass f) back rule at also first
+    where
+      back : (r : Rule) (p : Place) (a : List Place) → ProgramFails structs units entry r p a → GraphsFail units r p a
+      back r p a (in_units f) = absurd (pass r p a f)
+      back r p a (in_graphs passes f) = f
+      back r p a (in_limits passes others f) = absurd (others rule at also first.fails)
+
+  pub limits_first : UnitsPass units → GraphsPass units → (rule : Rule) (at : Place) (also : List Place) →
+      FailsFirst (LimitsFail structs units entry) rule at also → FailsFirst (ProgramFails structs units entry) rule at also
+  limits_first pass more rule at also first =
+      alike_first (LimitsFail structs units entry) (ProgramFails structs units entry) (λ r p a f. in_limits pass more f) back rule at also first
+    where
+      back : (r : Rule) (p : Place) (a : List Place) → ProgramFails structs units entry r p a → LimitsFail structs units entry r p a
+      back r p a (in_units f) = absurd (pass r p a f)
+      back r p a (in_graphs passes f) = absurd (more r p a f)
+      back r p a (in_limits passes others f) = f
+
+  pub all_pass : UnitsPass units → GraphsPass units → LimitsPass structs units entry → ProgramPasses structs units entry
+  all_pass pass more most r p a (in_units f) = pass r p a f
+  all_pass pass more most r p a (in_graphs passes f) = more r p a f
+  all_pass pass more most r p a (in_limits passes others f) = most r p a f
 
 -- ---- trees
 
@@ -25,7 +83,7 @@ names_first raw rule at also first = alike_first (NamesFail raw.items) (TreeFail
     back : (r : Rule) (p : Place) (a : List Place) → TreeFails raw r p a → NamesFail raw.items r p a
     back r p a (in_names f) = f
     back r p a (in_types passes f) = absurd (passes rule at also first.fails)
-    back r p a (in_units passes others f) = absurd (passes rule at also first.fails)
+    back r p a (in_program passes others f) = absurd (passes rule at also first.fails)
 
 pub types_first : (raw : Raw) (rule : Rule) (at : Place) (also : List Place) → NamesPass raw.items
     → FailsFirst (TypesFail (named_of raw)) rule at also → FailsFirst (TreeFails raw) rule at also
@@ -34,22 +92,25 @@ types_first raw rule at also pass first = alike_first (TypesFail (named_of raw))
     back : (r : Rule) (p : Place) (a : List Place) → TreeFails raw r p a → TypesFail (named_of raw) r p a
     back r p a (in_names f) = absurd (pass r p a f)
     back r p a (in_types passes f) = f
-    back r p a (in_units passes others f) = absurd (others rule at also first.fails)
+    back r p a (in_program passes others f) = absurd (others rule at also first.fails)
 
-pub units_first : (raw : Raw) (rule : Rule) (at : Place) (also : List Place) → NamesPass raw.items → TypesPass (named_of raw)
-    → FailsFirst (UnitsFail (typed_of raw).units) rule at also → FailsFirst (TreeFails raw) rule at also
-units_first raw rule at also pass more first =
-    alike_first (UnitsFail (typed_of raw).units) (TreeFails raw) (λ r p a f. in_units pass more f) back rule at also first
+pub program_first : (raw : Raw) (rule : Rule) (at : Place) (also : List Place) → NamesPass raw.items → TypesPass (named_of raw)
+    → FailsFirst (ProgramFails (typed_of raw).structs (typed_of raw).units (typed_of raw).entry) rule at also → FailsFirst (TreeFails raw) rule at also
+program_first raw rule at also pass more first =
+    alike_first (ProgramFails (typed_of raw).structs (typed_of raw).units (typed_of raw).entry) (TreeFails raw) (λ r p a f. in_program pass more f) back
+    rule at also first
   where
-    back : (r : Rule) (p : Place) (a : List Place) → TreeFails raw r p a → UnitsFail (typed_of raw).units r p a
+    back : (r : Rule) (p : Place) (a : List Place) → TreeFails raw r p a →
+        ProgramFails (typed_of raw).structs (typed_of raw).units (typed_of raw).entry r p a
     back r p a (in_names f) = absurd (pass r p a f)
     back r p a (in_types passes f) = absurd (more r p a f)
-    back r p a (in_units passes others f) = f
+    back r p a (in_program passes others f) = f
 
-pub tree_passes : (raw : Raw) → NamesPass raw.items → TypesPass (named_of raw) → UnitsPass (typed_of raw).units → TreePasses raw
+pub tree_passes : (raw : Raw) → NamesPass raw.items → TypesPass (named_of raw) →
+    ProgramPasses (typed_of raw).structs (typed_of raw).units (typed_of raw).entry → TreePasses raw
 tree_passes raw pass more most r p a (in_names f) = pass r p a f
 tree_passes raw pass more most r p a (in_types passes f) = more r p a f
-tree_passes raw pass more most r p a (in_units passes others f) = most r p a f
+tree_passes raw pass more most r p a (in_program passes others f) = most r p a f
 
 -- ---- texts
 

@@ -5,12 +5,12 @@ use Rattle.bl_raw.specs.declared.raw.Raw.{Raw}
 use Rattle.bl_rules.specs.Rules.{Parses, Passes}
 use Rattle.bl_tree.specs.declared.program.Program.{Program}
 
--- no rule decided so far fails for the text, and this is its tree
+-- no rule fails for the text, and this is its tree
 pub record HasTree (text : List ℕ) (raw : Raw) : Type 0 where
   pub passes : Passes text
   pub parses : Parses text raw
 
--- no rule decided so far fails for the text, and this is its program
+-- no rule fails for the text, and this is its program
 pub record HasProgram (text : List ℕ) (program : Program) : Type 0 where
   pub raw : Raw
   pub has : HasTree text raw

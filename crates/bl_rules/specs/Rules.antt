@@ -1,8 +1,10 @@
 -- How a source text fails the rules, all of them in one relation, and the first rule that fails.
 use Rattle.std.specs.Prelude.{ℕ, List, length}
-use Rattle.bl_effects.specs.Rules.{Fails as UnitsFail}
+use Rattle.bl_cause.specs.Rules.{Fails as GraphsFail, Passes as GraphsPass}
+use Rattle.bl_effects.specs.Rules.{Fails as UnitsFail, Passes as UnitsPass}
 use Rattle.bl_lex.specs.Rules.{Fails as TextFails, Passes as TextPasses}
 use Rattle.bl_lex.specs.Tokens.{Lexes}
+use Rattle.bl_limits.specs.Rules.{Fails as LimitsFail}
 use Rattle.bl_parse.specs.Programs.{Spells}
 use Rattle.bl_program.specs.Programs.{named_of, typed_of}
 use Rattle.bl_raw.specs.declared.raw.Raw.{Raw}
@@ -11,6 +13,8 @@ use Rattle.bl_syntax.specs.Rules.{Fails as TokensFail, Passes as TokensPass}
 use Rattle.bl_tree.specs.declared.place.Place.{Place}
 use Rattle.bl_tree.specs.declared.rule.Rule.{Rule}
 use Rattle.bl_tree.specs.declared.token.Token.{Token}
+use Rattle.bl_tree.specs.declared.tree.StructDef.{StructDef}
+use Rattle.bl_tree.specs.declared.tree.Unit.{Unit as UnitDef}
 use Rattle.bl_tree.specs.Rules.{FailsFirst, Passes as NoneOf}
 use Rattle.bl_types.specs.Rules.{Fails as TypesFail, Passes as TypesPass}
 
@@ -21,15 +25,29 @@ pub record Parses (text : List ℕ) (raw : Raw) : Type 0 where
   pub passes : TokensPass tokens
   pub spells : Spells text tokens raw
 
+-- the rule fails for a typed program at the place, with the further places
+pub data ProgramFails (structs : List StructDef) (units : List UnitDef) (entry : ℕ) (rule : Rule) (at : Place) (also : List Place) : Type 0 where
+  -- one of Pause, Conflict, Alias and Instant, on the units
+  in_units : UnitsFail units rule at also → ProgramFails structs units entry rule at also
+  -- one of Twice and Cycle, on the tick graphs of the activities
+  in_graphs : UnitsPass units → GraphsFail units rule at also → ProgramFails structs units entry rule at also
+  -- one of Frames and Cells, on the measures of the program
+  in_limits : UnitsPass units → GraphsPass units → LimitsFail structs units entry rule at also → ProgramFails structs units entry rule at also
+
+-- none of these rules fails for a typed program
+abbrev pub ProgramPasses : List StructDef → List UnitDef → ℕ → Type 0
+ProgramPasses structs units entry = NoneOf (ProgramFails structs units entry)
+
 -- the rule fails for a tree at the place, with the further places. Rules are judged in layers, each on what the layers before it make
--- where none of their rules fails. Twice, Cycle, Frames and Cells aren't decided yet: no tree fails them
+-- where none of their rules fails
 pub data TreeFails (raw : Raw) (rule : Rule) (at : Place) (also : List Place) : Type 0 where
   -- one of Duplicate, Unknown and Kind, on the tree
   in_names : NamesFail raw.items rule at also → TreeFails raw rule at also
   -- one of Type, Literal, Immutable, Constant, Arity, Prev, Return, Where and Entry, on the tree with declarations for its names
   in_types : NamesPass raw.items → TypesFail (named_of raw) rule at also → TreeFails raw rule at also
-  -- one of Pause, Conflict, Alias and Instant, on the units with their types
-  in_units : NamesPass raw.items → TypesPass (named_of raw) → UnitsFail (typed_of raw).units rule at also → TreeFails raw rule at also
+  -- one of the others, on its program
+  in_program : NamesPass raw.items → TypesPass (named_of raw) →
+      ProgramFails (typed_of raw).structs (typed_of raw).units (typed_of raw).entry rule at also → TreeFails raw rule at also
 
 -- none of these rules fails for a tree
 abbrev pub TreePasses : Raw → Type 0
@@ -44,7 +62,7 @@ pub data Fails (text : List ℕ) (rule : Rule) (at : Place) (also : List Place) 
   -- one of the others, on the tree
   in_tree : (raw : Raw) → TextPasses text → Parses text raw → TreeFails raw rule at also → Fails text rule at also
 
--- no rule decided so far fails for a text
+-- no rule fails for a text
 abbrev pub Passes : List ℕ → Type 0
 Passes text = NoneOf (Fails text)
 

@@ -1,23 +1,22 @@
 //! Texts and trees judged by the rules in their order.
 
-ghost use Rattle.std.specs.Prelude.{IfErr, IfOk, OnOk};
+ghost use Rattle.std.specs.Prelude.{◌≡◌, IfErr, IfOk, OnOk};
 ghost use Rattle.bl_program.specs.Programs.{IsProgramOf};
 ghost use Rattle.bl_raw.specs.Keeps.{Keeps as RawKeeps};
 ghost use Rattle.bl_rules.specs.Accepted.{HasProgram};
-ghost use Rattle.bl_rules.specs.Rules.{Fails, Passes, TreeFails, TreePasses};
+ghost use Rattle.bl_rules.specs.Rules.{Fails, Passes, ProgramFails, ProgramPasses, TreeFails, TreePasses};
 ghost use Rattle.bl_tree.specs.Rules.{IsCause};
 
-use crate::program::Accepted;
+use bl_cause::Accepted;
 use bl_lex::laws::tokens_are_one;
 use bl_parse_laws::kept::what_is_spelled_keeps;
 use bl_parse_laws::spelled::a_text_has_one_tree;
 use bl_raw::Raw;
 use bl_syntax::laws::first_failure_is_one;
-use bl_tree::Refusal;
+use bl_tree::{Program, Refusal};
 use std::alloc::Global;
 
-/// Judges the rules of a source text that are decided so far (docs/LANGUAGE.md, "Rules": from Size to Instant), and
-/// makes its program.
+/// Judges the rules of a source text (docs/LANGUAGE.md, "Rules"), from Size to Cells, and makes its program.
 pub fn accept(alloc: Global, text: &[u8]) -> Result<Accepted, Refusal>
     ensures passes { OnOk result (Passes text.now) }
     ensures program { IfOk result (λ accepted. HasProgram text.now accepted.program) }
@@ -53,8 +52,28 @@ pub fn accept_raw(alloc: Global, raw: &Raw) -> Result<Accepted, Refusal>
         Ok(program) => program,
         Err(refusal) => return Err(refusal),
     };
+    match accept_program(alloc, program) {
+        Ok(accepted) => Ok(accepted),
+        Err(refusal) => Err(refusal),
+    }
+}
+
+/// Judges those of a typed program, from Pause on, and gives its schedule.
+pub fn accept_program(alloc: Global, program: Program) -> Result<Accepted, Refusal>
+    ensures passes { OnOk result (ProgramPasses program.structs program.units program.entry) }
+    ensures program { IfOk result (λ accepted. accepted.program ≡ program) }
+    ensures cause { IfErr result (IsCause (ProgramFails program.structs program.units program.entry)) }
+{
     match bl_conflict::check(alloc, &program) {
-        Ok(()) => Ok(Accepted { program }),
+        Ok(()) => {}
+        Err(refusal) => return Err(refusal),
+    }
+    let schedule = match bl_cause::check(alloc, &program) {
+        Ok(schedule) => schedule,
+        Err(refusal) => return Err(refusal),
+    };
+    match bl_limits::check(alloc, &program) {
+        Ok(()) => Ok(Accepted::new(program, schedule)),
         Err(refusal) => Err(refusal),
     }
 }

@@ -1,8 +1,9 @@
-//! The rules decided so far, from Size to Instant, decided together. `accept` answers Ok exactly where none of them
-//! fails for a text, with its program, and else names the first that fails, at its first place (`specs/Rules.antt`,
-//! `FirstFailing`); want of memory aside. How a text fails a rule is one relation, `Fails`, over the judges of the
-//! layers: each judges what the layers before it make where none of their rules fails. `accept_raw` does the same of a
-//! tree, with the rules from Duplicate on.
+//! All rules together. `accept` answers Ok exactly where no rule fails for a text, with its program, and else names the
+//! first that fails, at its first place (`specs/Rules.antt`, `FirstFailing`); want of memory aside. How a text fails a rule
+//! is one relation, `Fails`, over the judges of the layers: each judges what the layers before it make where none of their
+//! rules fails. `accept_raw` does the same of a tree, with the rules from Duplicate on, and `accept_program` of a typed
+//! program, with those from Pause on. What is accepted has its effects, the tick graphs of its activities, and an order for
+//! each (`Accepted` of `bl_cause`).
 //!
 //! Laws: a text has at most one first failing rule, with one place, and one that passes has none; it has at most one
 //! tree.
@@ -10,7 +11,6 @@
 
 mod judge;
 pub mod laws;
-mod program;
 
-pub use judge::{accept, accept_raw};
-pub use program::Accepted;
+pub use bl_cause::Accepted;
+pub use judge::{accept, accept_program, accept_raw};

@@ -4,15 +4,16 @@ use Rattle.std.specs.Prelude.{Option, Some, None}
 use Rattle.bl_io.specs.Held.{Appends, AppendsPart}
 use Rattle.bl_io.specs.Left.{IsKept}
 use Rattle.bl_stream.specs.Streams.{Course}
-use Rattle.bl_top.specs.Answers.{Answers, builds, execs, no_job, runs, short}
+use Rattle.bl_top.specs.Answers.{Answers, builds, checks, execs, no_job, runs, short}
 use Rattle.bl_top.specs.Build.{BuildEnds, Writes, fault, nothing, stopped, want, whole, written}
 use Rattle.bl_top.specs.Calls.{Call, HasRisen, Output}
+use Rattle.bl_top.specs.Check.{CheckEnds, accepted, accepted_line, stopped as check_ends}
 use Rattle.bl_top.specs.Exec.{ExecEnds}
 use Rattle.bl_top.specs.inner.Outcomes.{chosen_line}
-use Rattle.bl_top.specs.inner.Programs.{IsBuilt}
+use Rattle.bl_top.specs.inner.Programs.{IsBuilt, IsProgram}
 use Rattle.bl_top.specs.Notes.{line_of}
 use Rattle.bl_top.specs.Reads.{LeftBehind, source_limit}
-use Rattle.bl_top.specs.Refusals.{Stops}
+use Rattle.bl_top.specs.Refusals.{IsNotAccepted, Stops}
 use Rattle.bl_top.specs.Rows.{Streams}
 use Rattle.bl_top.specs.Run.{RunEnds, ran, stopped as run_stopped}
 use Rattle.bl_top.specs.Sources.{IsTextOf, IsTextOfParts}
@@ -20,12 +21,12 @@ use Rattle.bl_top.specs.Traces.{HasCourse}
 use Rattle.bl_top.specs.declared.status.Status.{Status}
 use Rattle.bl_top.specs.declared.status.Status.TheVariants as status
 use Rattle.bl_top.proofs.Courses.{runs_as}
-use Rattle.bl_top.proofs.Fronts.{text_of_source}
+use Rattle.bl_top.proofs.Fronts.{text_of_source, tree_of_program}
 use Rattle.bl_top.proofs.Streams.{streams_from}
 use Rattle.bl_tree.specs.declared.program.Program.{Program}
-use Rattle.bl_words.specs.Jobs.{JobSpec, Word, build, exec, run}
+use Rattle.bl_words.specs.Jobs.{JobSpec, Word, build, check, exec, run}
 
--- ---- `build`
+-- ---- results
 
 -- what was written is the result, or a front of it
 pub wrote_all : (IsResult : List ℕ → Type 0) (out : Output) (ended : Status) (text piece : List ℕ) → ended ≡ status.Ok → piece ≡ text →
@@ -46,12 +47,24 @@ pub wrote_nothing : (IsResult : List ℕ → Type 0) (out : Output) (ended : Sta
 wrote_nothing IsResult out ended e kept = rw e (nothing kept)
 
 -- what is a result in one sense is one in another
-writes_as : (P Q : List ℕ → Type 0) (out : Output) (ended : Status) → ((text : List ℕ) → P text → Q text) → Writes P out ended →
+pub writes_as : (P Q : List ℕ → Type 0) (out : Output) (ended : Status) → ((text : List ℕ) → P text → Q text) → Writes P out ended →
     Writes Q out ended
 writes_as P Q out _ turned (whole text is grew) = whole text (turned text is) grew
 writes_as P Q out _ turned (fault text is grew risen) = fault text (turned text is) grew risen
 writes_as P Q out _ turned (want text is grew) = want text (turned text is) grew
 writes_as P Q out _ turned (nothing kept) = nothing kept
+
+-- ---- `check`
+
+pub check_accepted : (c : Call) (source : Word) (program : Program) (ended : Status) (line : List ℕ) → IsProgram (c.left source) program →
+    Writes (λ text. text ≡ accepted_line) c.out ended → line ≡ line_of ended → CheckEnds c source ended line
+check_accepted c source program ended line is writes told = rw told (accepted is.has.raw (tree_of_program (c.left source) program is) writes)
+
+pub check_stopped : (c : Call) (source : Word) (ended : Status) (line : List ℕ) → IsNotAccepted (c.left source) (c.file source) ended line →
+    IsKept c.out.before c.out.after → CheckEnds c source ended line
+check_stopped c source ended line stops kept = check_ends stops kept
+
+-- ---- `build`
 
 pub build_written : (c : Call) (source : Word) (program : Program) (ended : Status) (line : List ℕ) → IsBuilt (c.left source) program →
     Writes (IsTextOfParts program.structs program.units program.entry) c.out ended → line ≡ line_of ended → BuildEnds c source ended line
@@ -79,6 +92,10 @@ pub run_stops : (c : Call) (source rows : Word) (ended : Status) (line : List �
 run_stops c source rows ended line stops kept = run_stopped stops kept
 
 -- ---- the job
+
+pub answers_check : (c : Call) (job : Option JobSpec) (source : Word) (ended : Status) (line : List ℕ) → job ≡ Some (check source) →
+    CheckEnds c source ended line → Answers c job ended line
+answers_check c job source ended line asked ends = rw asked (checks ends)
 
 pub answers_build : (c : Call) (job : Option JobSpec) (source : Word) (ended : Status) (line : List ℕ) → job ≡ Some (build source) →
     BuildEnds c source ended line → Answers c job ended line

@@ -20,16 +20,18 @@ use Rattle.bl_top.specs.declared.status.Status.{Status}
 use Rattle.bl_top.specs.declared.status.Status.TheVariants as status
 use Rattle.bl_top.proofs.Cuts.{whole_or_long}
 use Rattle.bl_top.specs.Refusals.{
+  IsNotAccepted,
   RefusedText,
   Stops,
   refusal_line,
+  not_accepted,
   refused as stopped,
   short as no_memory,
   unbuilt as unformed,
   unread,
 }
 use Rattle.bl_top.specs.inner.Outcomes.{IsRefusedBy, chosen_line, line_in}
-use Rattle.bl_top.specs.inner.Programs.{IsBuilt}
+use Rattle.bl_top.specs.inner.Programs.{IsBuilt, IsProgram}
 use Rattle.bl_top.specs.Sources.{IsOfNoForm, IsTextOf, IsTextOfParts, IsTreeOf}
 use Rattle.bl_raw.specs.declared.raw.Raw.{Raw}
 use Rattle.bl_tree.specs.declared.tree.StructDef.{StructDef}
@@ -54,18 +56,19 @@ whole_of_passing whole got front passes = elim (front_or_long whole got front) [
   | inr long ↦ absurd (passes rule.Size first_beyond [] (in_bytes (record { too_long = long.0; at = refl }, refl)))
 ]
 
-tree_of : (before : Option (List ℕ)) (got : List ℕ) (after : Option (List ℕ)) (raw : Raw) →
-    GivesUpTo source_limit before got after → HasTree got raw → IsTreeOf before raw
-tree_of None got after raw read has = record { source = got; of_source = tt; has = has }
-tree_of (Some whole) got after raw read has = record { source = got; of_source = whole_of_passing whole got read.front has.passes; has = has }
-
 -- the program of a front is that of the whole
-pub is_built : (before : Option (List ℕ)) (got : List ℕ) (after : Option (List ℕ)) (program : Program) →
-    GivesUpTo source_limit before got after → HasProgram got program →
-    is_early program.structs program.units ≡ true → IsBuilt before program
-is_built None got after program read made form = record { source = got; of_source = tt; has = made; form = form }
-is_built (Some whole) got after program read made form =
-    record { source = got; of_source = whole_of_passing whole got read.front made.has.passes; has = made; form = form }
+pub is_program : (before : Option (List ℕ)) (got : List ℕ) (after : Option (List ℕ)) (program : Program) →
+    GivesUpTo source_limit before got after → HasProgram got program → IsProgram before program
+is_program None got after program read made = record { source = got; of_source = tt; has = made }
+is_program (Some whole) got after program read made =
+    record { source = got; of_source = whole_of_passing whole got read.front made.has.passes; has = made }
+
+pub is_built : (left : Option (List ℕ)) (program : Program) → IsProgram left program → is_early program.structs program.units ≡ true →
+    IsBuilt left program
+is_built left program is form = record { source = is.source; of_source = is.of_source; has = is.has; form = form }
+
+pub tree_of_program : (left : Option (List ℕ)) (program : Program) (is : IsProgram left program) → IsTreeOf left is.has.raw
+tree_of_program left program is = record { source = is.source; of_source = is.of_source; has = is.has.has }
 
 pub tree_built : (left : Option (List ℕ)) (program : Program) (built : IsBuilt left program) → IsTreeOf left built.has.raw
 tree_built left program built = record { source = built.source; of_source = built.of_source; has = built.has.has }
@@ -75,14 +78,15 @@ form_of : (b : Bool) (structs structs' : List StructDef) (units units' : List Un
     is_early structs units ≡ b → is_early structs' units' ≡ b
 form_of b structs structs' units units' s u form = subst (λ us. is_early structs' us ≡ b) u (subst (λ ss. is_early ss units ≡ b) s form)
 
-pub unbuilt_text : (before : Option (List ℕ)) (got : List ℕ) (after : Option (List ℕ)) (program : Program) →
-    GivesUpTo source_limit before got after → HasProgram got program →
-    is_early program.structs program.units ≡ false → IsOfNoForm before
-unbuilt_text before got after program read made none = record {
-  raw = made.raw;
-  tree = tree_of before got after made.raw read made.has;
-  none = form_of false program.structs (typed_of made.raw).structs program.units (typed_of made.raw).units made.is.structs made.is.units none;
-}
+pub unbuilt_text : (left : Option (List ℕ)) (program : Program) → IsProgram left program → is_early program.structs program.units ≡ false →
+    IsOfNoForm left
+unbuilt_text left program is none =
+    let made = is.has in
+    record {
+      raw = made.raw;
+      tree = tree_of_program left program is;
+      none = form_of false program.structs (typed_of made.raw).structs program.units (typed_of made.raw).units made.is.structs made.is.units none;
+    }
 
 -- what is written for the program is written for the tree
 text_of_tree : (text : List ℕ) (structs structs' : List StructDef) (units units' : List UnitDef) (entry entry' : ℕ) →
@@ -166,11 +170,12 @@ refused_text (Some whole) got after rule place also line read first told = recor
 -- ---- ends of a job at its source
 
 pub stops_short : (before : Option (List ℕ)) (file : Count) (ended : Status) (own : List ℕ) → ended ≡ status.NoMemory →
-    Stops before file ended (chosen_line ended own)
+    IsNotAccepted before file ended (chosen_line ended own)
 stops_short before file ended own none = rw none no_memory
 
 pub stops_refused : (before : Option (List ℕ)) (got : List ℕ) (after : Option (List ℕ)) (file : Count) (told : Refusal) (outcome : Outcome) →
-    GivesUpTo source_limit before got after → IsCause (Fails got) told → IsRefusedBy told outcome → Stops before file outcome.status (line_in outcome)
+    GivesUpTo source_limit before got after → IsCause (Fails got) told → IsRefusedBy told outcome →
+    IsNotAccepted before file outcome.status (line_in outcome)
 stops_refused before got after file (refusal.Rule rule place also) outcome read is by = elim by [
   | inl told ↦ rw told.0 (stopped (refused_text before got after rule place also outcome.line.items read is told.1))
   | inr none ↦ stops_short before file outcome.status outcome.line.items none
@@ -178,11 +183,14 @@ stops_refused before got after file (refusal.Rule rule place also) outcome read 
 stops_refused before got after file refusal.NoMemory outcome read is none = stops_short before file outcome.status outcome.line.items none
 
 pub stops_unread : (before : Option (List ℕ)) (file : Count) (ended : Status) (own : List ℕ) → ended ≡ status.ReadFault →
-    HasRisen file → Stops before file ended (chosen_line ended own)
+    HasRisen file → IsNotAccepted before file ended (chosen_line ended own)
 stops_unread before file ended own e risen = rw e (unread risen)
 
-pub stops_unbuilt : (before : Option (List ℕ)) (got : List ℕ) (after : Option (List ℕ)) (file : Count) (program : Program)
-    (ended : Status) (own : List ℕ) →
-    GivesUpTo source_limit before got after → HasProgram got program → is_early program.structs program.units ≡ false →
-    ended ≡ status.Unbuilt → Stops before file ended (chosen_line ended own)
-stops_unbuilt before got after file program ended own read made none e = rw e (unformed (unbuilt_text before got after program read made none))
+-- a job that was to build stops for that too
+pub stops_before : (before : Option (List ℕ)) (file : Count) (ended : Status) (line : List ℕ) → IsNotAccepted before file ended line →
+    Stops before file ended line
+stops_before before file ended line why = not_accepted why
+
+pub stops_unbuilt : (left : Option (List ℕ)) (file : Count) (program : Program) (ended : Status) (own : List ℕ) → IsProgram left program →
+    is_early program.structs program.units ≡ false → ended ≡ status.Unbuilt → Stops left file ended (chosen_line ended own)
+stops_unbuilt left file program ended own is none e = rw e (unformed (unbuilt_text left program is none))

@@ -3,16 +3,18 @@ use Rattle.std.specs.Prelude.{ℕ, List, Option, Some, None}
 use Rattle.bl_io.specs.Left.{IsKept}
 use Rattle.bl_top.specs.Build.{BuildEnds}
 use Rattle.bl_top.specs.Calls.{Call}
+use Rattle.bl_top.specs.Check.{CheckEnds}
 use Rattle.bl_top.specs.Exec.{ExecEnds}
 use Rattle.bl_top.specs.Notes.{Written, line_of}
 use Rattle.bl_top.specs.Run.{RunEnds}
 use Rattle.bl_top.specs.declared.status.Status.{Status}
 use Rattle.bl_top.specs.declared.status.Status.TheVariants as status
-use Rattle.bl_words.specs.Jobs.{JobSpec, Word, build, exec, job_of, run}
+use Rattle.bl_words.specs.Jobs.{JobSpec, Word, build, check, exec, job_of, run}
 
 -- the status with which a job ends, with its whole cause and with what grew on `out`, and all lines that it has for `notes`, that of
 -- the status last
 pub data Answers (c : Call) : Option JobSpec → Status → List ℕ → Type 0 where
+  checks : {source : Word} {ended : Status} {lines : List ℕ} → CheckEnds c source ended lines → Answers c (Some (check source)) ended lines
   builds : {source : Word} {ended : Status} {lines : List ℕ} → BuildEnds c source ended lines → Answers c (Some (build source)) ended lines
   runs : {source rows : Word} {ended : Status} {lines : List ℕ} → RunEnds c source rows ended lines → Answers c (Some (run source rows)) ended lines
   execs : {text rows : Word} {ended : Status} {lines : List ℕ} → ExecEnds c text rows ended lines → Answers c (Some (exec text rows)) ended lines

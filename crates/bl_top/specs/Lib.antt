@@ -2,6 +2,7 @@ pub mod Answers
 pub mod Build
 pub mod Built
 pub mod Calls
+pub mod Check
 pub mod Exec
 pub mod inner
 pub mod Notes

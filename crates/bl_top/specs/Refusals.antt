@@ -34,10 +34,14 @@ pub record RefusedText (left : Option (List ℕ)) (line : List ℕ) : Type 0 whe
   pub first : FirstFailing text rule place also
   pub told : line ≡ refusal_line rule place also
 
--- why a job stops at its source, with the status and the line
+-- why a source isn't accepted, with the status and the line
+pub data IsNotAccepted (left : Option (List ℕ)) (file : Count) : Status → List ℕ → Type 0 where
+  refused : {line : List ℕ} → RefusedText left line → IsNotAccepted left file status.Refused line
+  unread : HasRisen file → IsNotAccepted left file status.ReadFault (line_of status.ReadFault)
+  short : IsNotAccepted left file status.NoMemory (line_of status.NoMemory)
+
+-- why a job of a program that is to be built stops at its source
 pub data Stops (left : Option (List ℕ)) (file : Count) : Status → List ℕ → Type 0 where
-  refused : {line : List ℕ} → RefusedText left line → Stops left file status.Refused line
-  -- no rule decided so far fails, and the program is in no form that is built
+  not_accepted : {ended : Status} {line : List ℕ} → IsNotAccepted left file ended line → Stops left file ended line
+  -- no rule fails, and the program is in no form that is built
   unbuilt : IsOfNoForm left → Stops left file status.Unbuilt (line_of status.Unbuilt)
-  unread : HasRisen file → Stops left file status.ReadFault (line_of status.ReadFault)
-  short : Stops left file status.NoMemory (line_of status.NoMemory)

@@ -15,7 +15,7 @@ use Rattle.bl_tree.specs.declared.tree.Unit.{Unit as UnitDef}
 abbrev pub IsSource : Option (List ℕ) → List ℕ → Type 0
 IsSource left text = IfSome left (λ bytes. bytes ≡ text)
 
--- no rule decided so far fails for a source, and this is its tree
+-- no rule fails for a source, and this is its tree
 pub record IsTreeOf (left : Option (List ℕ)) (raw : Raw) : Type 0 where
   pub source : List ℕ
   pub of_source : IsSource left source
@@ -40,7 +40,7 @@ pub record RunsAs (left : Option (List ℕ)) (course : Course) : Type 0 where
   pub tree : IsTreeOf left raw
   pub has : HasCourse (typed_of raw).structs (typed_of raw).units (typed_of raw).entry course
 
--- no rule decided so far fails for a source, and its program is in no form that is built
+-- no rule fails for a source, and its program is in no form that is built
 pub record IsOfNoForm (left : Option (List ℕ)) : Type 0 where
   pub raw : Raw
   pub tree : IsTreeOf left raw

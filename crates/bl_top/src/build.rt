@@ -15,7 +15,8 @@ use crate::emitted::c_file;
 use crate::outcome::Outcome;
 use crate::source::program_of;
 use crate::status::Status;
-use bl_io::{Files, IoFault, Sink, write_all};
+use crate::write::write_result;
+use bl_io::{Files, Sink};
 use bl_tree::{NoMemory, Program};
 use std::alloc::Global;
 
@@ -37,7 +38,7 @@ pub fn build<F: Files, O: Sink>(alloc: Global, source: &str, files: &mut F, out:
     ensures out_count { O.faults out.old ≤ O.faults out.new }
 {
     match program_of(alloc, source, files) {
-        Ok(program) => write_c(alloc, &program, out),
+        Ok(accepted) => write_c(alloc, accepted.program(), out),
         Err(outcome) => outcome,
     }
 }
@@ -58,11 +59,7 @@ fn write_c<O: Sink>(alloc: Global, program: &Program, out: &mut O) -> Outcome
         Ok(text) => text,
         Err(_) => return Outcome::plain(alloc, Status::NoMemory),
     };
-    match write_all(out, &text) {
-        Ok(()) => Outcome::plain(alloc, Status::Ok),
-        Err(IoFault::Failed) => Outcome::plain(alloc, Status::WriteFault),
-        Err(IoFault::NoMemory) => Outcome::plain(alloc, Status::NoMemory),
-    }
+    write_result(alloc, &text, out)
 }
 
 /// The C text of a program of the form.

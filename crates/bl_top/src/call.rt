@@ -9,6 +9,7 @@ ghost use Rattle.bl_top.specs.Reads.{Reads, files_read};
 ghost use Rattle.bl_words.specs.Jobs.{job_of};
 
 use crate::build::build;
+use crate::check::check;
 use crate::exec::exec;
 use crate::notes::with_note;
 use crate::outcome::Outcome;
@@ -70,6 +71,7 @@ fn answer<F: Files, O: Sink>(alloc: Global, words: &[String], files: &mut F, out
     ensures out_count { O.faults out.old ≤ O.faults out.new }
 {
     match bl_words::job_of(alloc, words) {
+        Ok(Some(Job::Check { source })) => check(alloc, source, files, out),
         Ok(Some(Job::Build { source })) => build(alloc, source, files, out),
         Ok(Some(Job::Run { source, rows })) => run(alloc, source, rows, files, out),
         Ok(Some(Job::Exec { text, rows })) => exec(alloc, text, rows, files, out),

@@ -1,7 +1,7 @@
 //! The one call that the program makes. `blechc` ends with the status of the job that its words ask for, and the lines
 //! of the job grew on `notes`, that of the status last (`specs/Answers.antt`, `Answered`). Each way in which a job ends
-//! comes with its whole cause and with what grew on `out`: `specs/Build.antt`, `specs/Run.antt` and `specs/Exec.antt`, a
-//! file for each command. At a source that isn't accepted nothing grew on `out`, and a refusal names the first rule that
+//! comes with its whole cause and with what grew on `out`: `specs/Check.antt`, `specs/Build.antt`, `specs/Run.antt` and
+//! `specs/Exec.antt`, a file for each command. At a source that isn't accepted nothing grew on `out`, and a refusal names the first rule that
 //! fails for its bytes (`specs/Refusals.antt`, `Stops`). The bytes that `build` writes have the one trace of the source's
 //! program, and what `run` shows is the text of it (`specs/Traces.antt`, `OneTrace` and `HasCourse`). No file is read but
 //! those that the words name, each within its limit (`specs/Reads.antt`, `Reads`). docs/THEOREM.md leads through it.
@@ -12,6 +12,7 @@
 
 mod build;
 mod call;
+mod check;
 mod emitted;
 mod exec;
 pub mod laws;
@@ -22,6 +23,7 @@ mod rows;
 mod run;
 mod source;
 mod status;
+mod write;
 
 pub use call::blechc;
 pub use status::Status;

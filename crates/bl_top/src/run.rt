@@ -46,11 +46,11 @@ pub fn run<F: Files, O: Sink>(
     ensures file_counts { NeverFell (F.faults files.old) (F.faults files.new) }
     ensures out_count { O.faults out.old ≤ O.faults out.new }
 {
-    let program = match program_of(alloc, source, files) {
-        Ok(program) => program,
+    let accepted = match program_of(alloc, source, files) {
+        Ok(accepted) => accepted,
         Err(outcome) => return outcome,
     };
-    match runner_of(alloc, &program) {
+    match runner_of(alloc, accepted.program()) {
         Ok(runner) => run_over(alloc, runner, rows, files, out),
         Err(_) => Outcome::plain(alloc, Status::NoMemory),
     }

@@ -12,7 +12,7 @@ use Rattle.clap.specs.declared.error.Error.{Error}
 use Rattle.clap.specs.declared.error.kind.ErrorKind.TheVariants.{OutOfMemory}
 use Rattle.clap.proofs.OnLiterals.{clap_on_literals}
 use Rattle.bl_words.specs.inner.CommandLine.{command_line, job_read, named_read, one_read, two_read}
-use Rattle.bl_words.specs.Jobs.{JobSpec, Word, build, command_job, exec, is_plain_word, job_of, of_one, of_two, run}
+use Rattle.bl_words.specs.Jobs.{JobSpec, Word, build, check, command_job, exec, is_plain_word, job_of, of_one, of_two, run}
 use Rattle.bl_words.proofs.Program.{ReadsAs, commands, name_refused, others_plain, program, takes_reads}
 use Rattle.bl_words.proofs.Values.{one, one_taken, two, two_taken}
 
@@ -47,10 +47,11 @@ two_reads label job read named is own values plain =
 command_reads : (name : Text) (values : List Text) → list_all is_plain_word (name ∷ values) ≡ true → ReadsAs (command_job name values) (name ∷ values)
 command_reads name values plain =
     let others = others_plain name values plain in
+    trying (codes "check") name values _ _ (one_reads (codes "check") check (λ f s. refl) refl refl refl values others) (λ not_check.
     trying (codes "build") name values _ _ (one_reads (codes "build") build (λ f s. refl) refl refl refl values others) (λ not_build.
     trying (codes "run") name values _ _ (two_reads (codes "run") run (λ f s. refl) refl refl refl values others) (λ not_run.
     trying (codes "exec") name values _ _ (two_reads (codes "exec") exec (λ f s. refl) refl refl refl values others) (λ not_exec.
-    inr (name_refused name values plain (rw (not_build, not_run, not_exec) refl), refl))))
+    inr (name_refused name values plain (rw (not_check, not_build, not_run, not_exec) refl), refl)))))
 
 reads : (words : List Text) → list_all is_plain_word words ≡ true → ReadsAs (job_of words) words
 unfolding clap_on_literals

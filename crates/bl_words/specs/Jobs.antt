@@ -12,6 +12,8 @@ Word = List ℕ
 
 -- what the program is to do
 pub data JobSpec : Type 0 where
+  -- judge the source file of this name
+  check : Word → JobSpec
   -- write the C text of the source file of this name
   build : Word → JobSpec
   -- run the source file of the first name over the file of rows of the second
@@ -21,6 +23,7 @@ pub data JobSpec : Type 0 where
 
 -- the files that the job reads, in the order of its words
 abbrev pub files_of : JobSpec → List Word
+files_of (check source) = source ∷ []
 files_of (build source) = source ∷ []
 files_of (run source rows) = source ∷ rows ∷ []
 files_of (exec text rows) = text ∷ rows ∷ []
@@ -42,9 +45,10 @@ of_two job _ = None
 
 -- the job of the command with this name, on the words after the name
 abbrev pub command_job : Word → List Word → Option JobSpec
-command_job name values = if bytes_eq (codes "build") name then of_one build values
+command_job name values = if bytes_eq (codes "check") name then of_one check values
+    else (if bytes_eq (codes "build") name then of_one build values
     else (if bytes_eq (codes "run") name then of_two run values
-    else (if bytes_eq (codes "exec") name then of_two exec values else None))
+    else (if bytes_eq (codes "exec") name then of_two exec values else None)))
 
 -- the first word names the command, and no word is empty or begins with a hyphen
 abbrev pub job_of : List Word → Option JobSpec
@@ -54,6 +58,7 @@ job_of (name ∷ values) =
 
 -- the job that a value of the program stands for
 abbrev pub spec_of : Job → JobSpec
+spec_of (job.Check source) = check source.now
 spec_of (job.Build source) = build source.now
 spec_of (job.Run source rows) = run source.now rows.now
 spec_of (job.Exec text rows) = exec text.now rows.now

@@ -3,7 +3,7 @@ ghost use Rattle.std.specs.Prelude.{◌≡◌, IfOk, codes, false, option_map};
 ghost use Rattle.clap.specs.Words.{app_of, first_value, found_of, subcommand_rows_of};
 ghost use Rattle.clap.specs.declared.builder.command.Command.TheViews.{out-Command};
 ghost use Rattle.bl_words.specs.inner.CommandLine.{command_line, job_read, one_command, one_read, two_command, two_read};
-ghost use Rattle.bl_words.specs.Jobs.{build, exec, run, spec_of};
+ghost use Rattle.bl_words.specs.Jobs.{build, check, exec, run, spec_of};
 
 use crate::job::Job;
 use clap::{Arg, ArgMatches, Command};
@@ -20,6 +20,7 @@ pub(crate) fn command_line<'a>(alloc: Global) -> Result<Command<'a>, AllocError>
         .disable_help_subcommand(true)
         .disable_version_flag(true)
         .subcommand_required(true)
+        .subcommand(one_command(alloc, "check")?)?
         .subcommand(one_command(alloc, "build")?)?
         .subcommand(two_command(alloc, "run")?)?
         .subcommand(two_command(alloc, "exec")?)
@@ -47,11 +48,20 @@ pub(crate) fn job_read<'a>(matches: &ArgMatches<'a>) -> Option<Job<'a>>
 {
     let (name, values) = matches.subcommand()?;
     match name {
+        "check" => check_read(values),
         "build" => build_read(values),
         "run" => run_read(values),
         "exec" => exec_read(values),
         _ => None,
     }
+}
+
+fn check_read<'a>(values: &ArgMatches<'a>) -> Option<Job<'a>>
+    ensures { option_map spec_of result
+        ≡ one_read check (first_value (found_of values.now) (codes "first")) }
+{
+    let source = values.get_str("first")?;
+    Some(Job::Check { source })
 }
 
 fn build_read<'a>(values: &ArgMatches<'a>) -> Option<Job<'a>>

@@ -11,6 +11,11 @@ use thiserror::Error;
 /// What the program is to do. File names are as they were given.
 #[derive(Clone, Copy, Debug, PartialEq, Eq)]
 pub enum Job<'a> {
+    /// Judge a source file by the rules.
+    Check {
+        /// The name of the source file.
+        source: &'a str,
+    },
     /// Write the C text of a source file.
     Build {
         /// The name of the source file.

@@ -16,5 +16,5 @@ pub use job::{Job, NoMemory, files_have_plain_names, job_of};
 pub fn usage() -> &'static str
     ensures { result.now ≡ usage_line }
 {
-    "usage: blechc build P | run P ROWS | exec C ROWS\n"
+    "usage: blechc check P | build P | run P ROWS | exec C ROWS\n"
 }

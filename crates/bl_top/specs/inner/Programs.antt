@@ -12,7 +12,13 @@ use Rattle.bl_tree.specs.declared.program.Program.{Program}
 use Rattle.bl_tree.specs.declared.tree.StructDef.{StructDef}
 use Rattle.bl_tree.specs.declared.tree.Unit.{Unit as UnitDef}
 
--- no rule decided so far fails for a source, and its program is of the form that is built
+-- no rule fails for a source, and this is its program
+pub record IsProgram (left : Option (List ℕ)) (program : Program) : Type 0 where
+  pub source : List ℕ
+  pub of_source : IsSource left source
+  pub has : HasProgram source program
+
+-- no rule fails for a source, and its program is of the form that is built
 pub record IsBuilt (left : Option (List ℕ)) (program : Program) : Type 0 where
   pub source : List ℕ
   pub of_source : IsSource left source

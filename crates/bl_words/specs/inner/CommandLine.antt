@@ -5,7 +5,7 @@ use Rattle.std.specs.Str.{bytes_eq}
 use Rattle.clap.specs.Words.{App, Row, Rule, Shape, Text, first_of, new_app, new_rule}
 use Rattle.clap.specs.Words.{with_rule, with_subcommand}
 use Rattle.clap.specs.Simple.{on_top}
-use Rattle.bl_words.specs.Jobs.{JobSpec, build, exec, run}
+use Rattle.bl_words.specs.Jobs.{JobSpec, build, check, exec, run}
 
 -- a value that has to be there, read back by this name
 abbrev pub required_value : Text → Rule
@@ -31,8 +31,9 @@ with_own_words_only s = record s {
 
 -- the program with all its commands
 abbrev pub command_line : App
-command_line = with_subcommand (with_subcommand (with_subcommand
+command_line = with_subcommand (with_subcommand (with_subcommand (with_subcommand
     (on_top with_own_words_only (new_app (codes "blechc")))
+    (one_command (codes "check")).top)
     (one_command (codes "build")).top)
     (two_command (codes "run")).top)
     (two_command (codes "exec")).top
@@ -47,9 +48,10 @@ two_read job first second = option_and_then (λ word. option_map (job word) seco
 
 -- the job of the command of this name, by the values that were read for it
 abbrev pub named_read : Text → Option Text → Option Text → Option JobSpec
-named_read name first second = if bytes_eq (codes "build") name then one_read build first
+named_read name first second = if bytes_eq (codes "check") name then one_read check first
+    else (if bytes_eq (codes "build") name then one_read build first
     else (if bytes_eq (codes "run") name then two_read run first second
-    else (if bytes_eq (codes "exec") name then two_read exec first second else None))
+    else (if bytes_eq (codes "exec") name then two_read exec first second else None)))
 
 -- the job of the command that was read
 abbrev pub job_read : Option (Text × List Row) → Option JobSpec

@@ -12,7 +12,7 @@ use Rattle.bl_limits.proofs.cells.of_structs.Goals as goal
 
 pub loop-def-preserved : goal.loop-def-preserved
 loop-def-preserved c =
-    rw (c.judge-first.ensures, c.failure.ensures)
+    rw c.judge-first.ensures
     (numbered-next rule.Cells 100 (λ (it : StructDef). it.place) _ _ _ _ c.in-Some.def.now c.in-Some.nesting.now c.loop-def.first _
     c.in-Some.ensures.steps.0 c.in-Some.ensures.steps.1 c.loop-def.invariant)
 

@@ -12,7 +12,7 @@ use Rattle.bl_limits.proofs.frames.of_chains.Goals as goal
 
 pub loop-unit-preserved : goal.loop-unit-preserved
 loop-unit-preserved c =
-    rw (c.judge-first.ensures, c.failure.ensures)
+    rw c.judge-first.ensures
     (numbered-next rule.Frames 100 (λ (it : UnitDef). it.place) _ _ _ _ c.in-Some.unit.now c.in-Some.chain.now c.loop-unit.first _
     c.in-Some.ensures.steps.0 c.in-Some.ensures.steps.1 c.loop-unit.invariant)
 

@@ -1,12 +1,15 @@
 -- How the command ends, and what is left of its file.
-use Rattle.std.proofs.Common.{[]}
+use Rattle.std.proofs.Common.{[], sym, subst}
+use Rattle.bl_top.specs.inner.Programs.{IsBuilt}
 use Rattle.bl_top.specs.Reads.{source_file}
 use Rattle.bl_top.proofs.Cuts.{kept_same, reads_first}
 use Rattle.bl_top.proofs.Ends.{build_stopped, build_written}
 use Rattle.bl_top.proofs.build.build.Goals as goal
 
 pub returns-in-Ok-clause-ends : goal.returns-in-Ok-clause-ends
-returns-in-Ok-clause-ends g c = λ notes. build_written _ _ c.in-Ok.program _ _ c.in-Ok.ensures.program c.write_c.ensures.writes c.write_c.ensures.line
+returns-in-Ok-clause-ends g c = λ notes.
+    build_written _ _ c.program.result.now _ _ (subst (IsBuilt _) (sym c.program.ensures) c.in-Ok.ensures.program)
+    c.write_c.ensures.writes c.write_c.ensures.line
 
 pub returns-in-Ok-clause-reads : goal.returns-in-Ok-clause-reads
 returns-in-Ok-clause-reads g c =

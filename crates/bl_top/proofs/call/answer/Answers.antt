@@ -1,8 +1,11 @@
 -- Each command's end is that of the job; where there is none nothing is written.
 use Rattle.std.proofs.Common.{rules}
 use Rattle.bl_top.proofs.Cuts.{kept_same, reads_nothing}
-use Rattle.bl_top.proofs.Ends.{answers_build, answers_exec, answers_none, answers_run, answers_short}
+use Rattle.bl_top.proofs.Ends.{answers_build, answers_check, answers_exec, answers_none, answers_run, answers_short}
 use Rattle.bl_top.proofs.call.answer.Goals as goal
+
+pub returns-in-Ok-Some-Check-clause-answers : goal.returns-in-Ok-Some-Check-clause-answers
+returns-in-Ok-Some-Check-clause-answers g c = λ notes. answers_check _ _ _ _ _ (search rules) (c.check.ensures.ends notes)
 
 pub returns-in-Ok-Some-Build-clause-answers : goal.returns-in-Ok-Some-Build-clause-answers
 returns-in-Ok-Some-Build-clause-answers g c = λ notes. answers_build _ _ _ _ _ (search rules) (c.build.ensures.ends notes)

@@ -19,9 +19,11 @@ returns c =
     c.disable_help_flag.result c.no_binary_name.result c.new.result
     c.subcommand_required.ensures c.disable_version_flag.ensures c.disable_help_subcommand.ensures c.disable_help_flag.ensures c.no_binary_name.ensures in
     let top = settings ∙ ap (on_top with_own_words_only) c.new.ensures.app in
-    let build = c.in_ok-one_command.ensures in
-    let with_build = c.in_ok-subcommand.ensures.shape build.1 ∙ ap₂ with_subcommand top (ap (λ (a : App). a.top) build.0) in
+    let check = c.in_ok-one_command.ensures in
+    let with_check = c.in_ok-subcommand.ensures.shape check.1 ∙ ap₂ with_subcommand top (ap (λ (a : App). a.top) check.0) in
+    let build = c.in_ok-one_command-2.ensures in
+    let with_build = c.in_ok-subcommand-2.ensures.shape build.1 ∙ ap₂ with_subcommand with_check (ap (λ (a : App). a.top) build.0) in
     let run = c.in_ok-two_command.ensures in
-    let with_run = c.in_ok-subcommand-2.ensures.shape run.1 ∙ ap₂ with_subcommand with_build (ap (λ (a : App). a.top) run.0) in
+    let with_run = c.in_ok-subcommand-3.ensures.shape run.1 ∙ ap₂ with_subcommand with_build (ap (λ (a : App). a.top) run.0) in
     let exec = c.in_ok-two_command-2.ensures in
-    IfOk-weaker c.subcommand-3.result _ _ (λ m h. h.shape exec.1 ∙ ap₂ with_subcommand with_run (ap (λ (a : App). a.top) exec.0)) c.subcommand-3.ensures
+    IfOk-weaker c.subcommand-4.result _ _ (λ m h. h.shape exec.1 ∙ ap₂ with_subcommand with_run (ap (λ (a : App). a.top) exec.0)) c.subcommand-4.ensures

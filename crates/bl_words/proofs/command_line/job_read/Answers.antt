@@ -3,9 +3,16 @@ use Rattle.clap.specs.Walk.{rows_of}
 use Rattle.clap.specs.Words.{first_of, found_of}
 use Rattle.clap.proofs.WalkLemmas.{first_value-rows}
 use Rattle.bl_words.specs.inner.CommandLine.{job_read, one_read, two_read}
-use Rattle.bl_words.specs.Jobs.{build, exec, run}
+use Rattle.bl_words.specs.Jobs.{build, check, exec, run}
 use Rattle.bl_words.proofs.Matches.{command_is, unnamed_read}
 use Rattle.bl_words.proofs.command_line.job_read.Goals as goal
+
+pub returns-in-check : goal.returns-in-check
+returns-in-check c =
+    let found = found_of c.in_ok-name.values.now in
+    let command = command_is c.args.matches.now c.in_ok-name.name.now (rows_of found) c.in_ok-name.ensures.name c.in_ok-name.ensures.rows in
+    c.check_read.ensures ∙ ap (one_read check) (first_value-rows found (codes "first"))
+    ∙ sym (ap job_read command ∙ ap (λ name. job_read (Some (name, rows_of found))) c.in-check.is)
 
 pub returns-in-build : goal.returns-in-build
 returns-in-build c =
@@ -33,4 +40,4 @@ returns-in_default c =
     let rows = rows_of (found_of c.in_ok-name.values.now) in
     let command = command_is c.args.matches.now c.in_ok-name.name.now rows c.in_ok-name.ensures.name c.in_ok-name.ensures.rows in
     sym (ap job_read command ∙ unnamed_read c.in_ok-name.name.now (first_of (codes "first") rows)
-    (first_of (codes "second") rows) c.in_default.not-build c.in_default.not-run c.in_default.not-exec)
+    (first_of (codes "second") rows) c.in_default.not-check c.in_default.not-build c.in_default.not-run c.in_default.not-exec)

@@ -1,7 +1,7 @@
 use Rattle.std.proofs.Common.{◌≡◌, Bool, IfSome, false, true, refl, List, [], ◌∷◌, Option, codes, if◌then◌else◌, map, string_bytes}
 use Rattle.std.specs.List.{list_all}
 use Rattle.std.specs.Str.{bytes_eq}
-use Rattle.bl_words.specs.Jobs.{JobSpec, Word, build, command_job, exec, files_of, is_plain_word, job_of, of_one, of_two, run}
+use Rattle.bl_words.specs.Jobs.{JobSpec, Word, build, check, command_job, exec, files_of, is_plain_word, job_of, of_one, of_two, run}
 use Rattle.bl_words.proofs.Program.{others_plain}
 use Rattle.bl_words.proofs.job.files_have_plain_names.Goals as goal
 
@@ -28,9 +28,10 @@ trying false job others holds other = other
 
 command_plain : (name : Word) (values : List Word) → list_all is_plain_word values ≡ true → IfSome (command_job name values) HasPlainFiles
 command_plain name values plain =
+    trying (bytes_eq (codes "check") name) _ _ (one_plain check (λ first. refl) values plain) (
     trying (bytes_eq (codes "build") name) _ _ (one_plain build (λ first. refl) values plain) (
     trying (bytes_eq (codes "run") name) _ _ (two_plain run (λ first second. refl) values plain) (
-    trying (bytes_eq (codes "exec") name) _ _ (two_plain exec (λ first second. refl) values plain) tt))
+    trying (bytes_eq (codes "exec") name) _ _ (two_plain exec (λ first second. refl) values plain) tt)))
 
 job_plain : (words : List Word) → IfSome (job_of words) HasPlainFiles
 job_plain [] = tt

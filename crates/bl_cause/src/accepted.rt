@@ -1,0 +1,114 @@
+//! Programs that are accepted.
+
+use crate::order::Order;
+use crate::schedule::Schedule;
+use bl_effects::Effects;
+use bl_tree::graph::Graph;
+use bl_tree::{List, Program};
+use std::marker::Model;
+
+/// A program for which no rule fails, with what is made of it (`specs/Accepted.antt`, `AcceptedProgram`). Its tree is
+/// the program of whose bodies the effects, graphs and orders are. Who needs these goes by the tree, and who needs the
+/// source by the program.
+#[derive(Drop)]
+pub struct Accepted {
+    program: Program,
+    schedule: Schedule,
+}
+
+impl Model for Accepted {
+    ghost use Rattle.std.specs.Coded.{codes};
+    ghost use Rattle.bl_tree.specs.contracts.tree.Stmt as stmt;
+    ghost use Rattle.bl_tree.specs.contracts.tree.StmtKind as kind;
+    ghost use Rattle.bl_tree.specs.contracts.tree.Ty as ty;
+    ghost use Rattle.bl_cause.specs.Accepted.{AcceptedProgram, IsAccepted};
+
+    ghost Value = { AcceptedProgram };
+
+    ghost coded = { Prim.hlevel (codes, stmt.the_row.coded, kind.the_row.coded, ty.the_row.coded) };
+
+    ghost view = { λ a. record {
+      program = a.program;
+      tree = a.program;
+      effects = a.schedule.effects;
+      graphs = a.schedule.graphs;
+      orders = a.schedule.orders;
+    } };
+
+    ghost invariant = { λ a. IsAccepted (record {
+      program = a.program;
+      tree = a.program;
+      effects = a.schedule.effects;
+      graphs = a.schedule.graphs;
+      orders = a.schedule.orders;
+    }) };
+}
+
+impl Accepted {
+    ghost use Rattle.std.specs.Prelude.{◌≡◌};
+    ghost use Rattle.bl_cause.specs.Accepted.{IsAccepted, IsSchedule};
+    ghost use Rattle.bl_cause.specs.Rules.{Passes};
+    ghost use Rattle.bl_effects.specs.Rules.{Passes as UnitsPass};
+    ghost use Rattle.bl_limits.specs.Rules.{Passes as KeepsLimits};
+
+    /// A program for which no rule fails, with its schedule.
+    pub fn new(program: Program, schedule: Schedule) -> Accepted
+        requires units { UnitsPass program.units }
+        requires no_walks { Passes program.units }
+        requires limits { KeepsLimits program.structs program.units program.entry }
+        requires schedule { IsSchedule program.units schedule.effects schedule.graphs schedule.orders }
+        ensures { result.program ≡ program }
+    {
+        Accepted { program, schedule }
+    }
+
+    /// The program of the source.
+    pub fn program(&self) -> &Program
+        ensures { result.now ≡ self.now.program }
+    {
+        &self.program
+    }
+
+    /// The program of whose bodies the effects, graphs and orders are.
+    pub fn tree(&self) -> &Program
+        ensures { result.now ≡ self.now.tree }
+    {
+        &self.program
+    }
+
+    /// What the statements of the tree read and write.
+    pub fn effects(&self) -> &Effects
+        ensures { result.now ≡ self.now.effects }
+    {
+        &self.schedule.effects
+    }
+
+    /// The tick graphs of the tree's activities, in the order of units.
+    pub fn graphs(&self) -> &[Graph]
+        ensures { result.now ≡ self.now.graphs }
+    {
+        &self.schedule.graphs
+    }
+
+    /// An order for each of them.
+    pub fn orders(&self) -> &[Order]
+        ensures { result.now ≡ self.now.orders }
+    {
+        &self.schedule.orders
+    }
+
+    /// No rule fails for the program.
+    pub fn is_accepted(&self)
+        ensures { IsAccepted self.now }
+    {
+        let _ = &self.program;
+    }
+
+    /// No first turn of a loop is copied yet, so the tree is the program. Who cites this has to be looked at again once
+    /// it isn't.
+    pub fn no_turn_is_copied(&self)
+        ensures { self.now.tree ≡ self.now.program }
+    {
+        let _ = &self.program;
+    }
+}

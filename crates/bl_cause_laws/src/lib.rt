@@ -1,0 +1,24 @@
+//! Each body has a tick graph, and each graph without a closed walk has an order: numbers for its nodes that rise along every
+//! edge (`specs/Orders.antt`). So where neither of the rules Twice and Cycle fails activities have orders. There is no code
+//! here: `bl_graph` makes the graphs and `bl_cause` the orders. Laws, as contracts of functions that do nothing.
+#![tactic(auto)]
+
+ghost use Rattle.bl_cause_laws.specs.Orders.{BodiesHaveGraphs, UnwalkedHaveRanks};
+
+use bl_graph::{edges_are_listed, flows_are_listed, graphs_stay_within};
+use bl_nodes::nodes_differ;
+
+/// Each body has a tick graph.
+pub fn bodies_have_graphs()
+    ensures { BodiesHaveGraphs }
+{
+    nodes_differ();
+    graphs_stay_within();
+    edges_are_listed();
+    flows_are_listed();
+}
+
+/// The converse of what rising numbers do: where no closed walk leads along the edges numbers rise along all of them.
+pub fn graphs_without_walks_have_ranks()
+    ensures { UnwalkedHaveRanks }
+{}

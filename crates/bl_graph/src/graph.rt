@@ -1,0 +1,71 @@
+//! The tick graph of an activity.
+
+ghost use Rattle.std.specs.Prelude.{◌≡◌, ◌<◌, ◌++◌, length, map, slice_get, IfOk, OnOk, Some};
+ghost use Rattle.bl_effects.specs.Table.{Tells};
+ghost use Rattle.bl_graph.specs.Graph.{IsTickGraph};
+ghost use Rattle.bl_nodes.specs.Plain.{plain_body};
+ghost use Rattle.bl_tree.specs.declared.tree.Unit.{Unit as UnitDef};
+
+use crate::build::block;
+use crate::flow::Flow;
+use crate::part::Links;
+use bl_effects::Effects;
+use bl_nodes::nodes_differ;
+use bl_tree::graph::{Edge, Graph, Node};
+use bl_tree::{List, NoMemory, Program};
+use std::alloc::Global;
+
+/// The tick graph of the unit at the position. Fails only for want of memory.
+pub fn graph_of(
+    alloc: Global,
+    program: &Program,
+    effects: &Effects,
+    unit: u32,
+) -> Result<Graph, NoMemory>
+    requires is_there { unit < length program.now.units }
+    requires effects { Tells effects.now program.now.units }
+    ensures { IfOk result (λ graph. (of : UnitDef) → slice_get program.now.units unit ≡ Some of
+        → IsTickGraph (plain_body of.body) graph.nodes graph.edges) }
+{
+    nodes_differ();
+    let of = &program.units[unit as usize];
+    let mut links = Links {
+        control: List::new(alloc),
+        by_data: List::new(alloc),
+    };
+    let made = block(alloc, of.body.as_slice(), 0, &mut links)?;
+    let nodes = shown_nodes(alloc, &made.flows)?;
+    let edges = joined(links)?;
+    Ok(Graph { nodes, edges })
+}
+
+/// What the graph shows of the nodes.
+fn shown_nodes(alloc: Global, flows: &[Flow]) -> Result<List<Node>, NoMemory>
+    ensures { IfOk result (λ nodes. nodes ≡ map (λ flow. flow.node) flows.now) }
+{
+    let mut nodes = List::new(alloc);
+    for flow in flows {
+        nodes.push(flow.node)?;
+    }
+    Ok(nodes)
+}
+
+/// The control edges and the data edges.
+fn joined(links: Links) -> Result<List<Edge>, NoMemory>
+    ensures { IfOk result (λ edges. edges ≡ links.control ++ links.by_data) }
+{
+    let Links { control, by_data } = links;
+    let mut edges = control;
+    append(&by_data, &mut edges)?;
+    Ok(edges)
+}
+
+/// Appends the edges.
+fn append(from: &[Edge], into: &mut List<Edge>) -> Result<(), NoMemory>
+    ensures { OnOk result (into.new ≡ into.old ++ from.now) }
+{
+    for edge in from {
+        into.push(*edge)?;
+    }
+    Ok(())
+}
