@@ -19,8 +19,8 @@ use Rattle.std.proofs.Common.{
   add-zero,
   arith,
 }
-use Rattle.bl_cmeaning.specs.Meaning.{End, goes_on, breaks, returns, traps}
-use Rattle.bl_cmeaning_laws.specs.Flat.{Cells, Left, Ran, after, ended_by, executed, following, following_end, going}
+use Rattle.bl_cmeaning.specs.Course.{End, Outcome, after, breaks, ended_by, following, following_end, goes_on, going, returns, traps}
+use Rattle.bl_cmeaning_laws.specs.Flat.{Cells, Left, executed}
 use Rattle.bl_bytecode.specs.declared.instruction.Instruction.{Instruction}
 use Rattle.bl_bytecode.specs.declared.instruction.Instruction.TheVariants as ins
 use Rattle.bl_bytecode.specs.Code.{Code}
@@ -45,8 +45,8 @@ ran s at left stack cells n breaks = goes (moved s (at + left) cells stack n)
 ran s at left stack cells n (returns result) = back_to s.waiting cells (s.count + n) result
 ran s at left stack cells n traps = trapped cells (s.count + n)
 
-abbrev pub runs_to : State → ℕ → ℕ → List ℤ → Ran → Stepped
-runs_to s at left stack r = ran s at left stack r.cells r.count r.end
+abbrev pub runs_to : State → ℕ → ℕ → List ℤ → Outcome Cells → Stepped
+runs_to s at left stack r = ran s at left stack r.memory r.count r.end
 
 ran-later : (s : State) (m : ℕ) (before : Cells) (held : List ℤ) (n at left : ℕ) (stack : List ℤ) (cells : Cells) (k : ℕ) (end : End) →
     ran (moved s m before held n) at left stack cells k end ≡ ran s at left stack cells (n + k) end
@@ -58,20 +58,20 @@ ran-later s m before held n at left stack cells k (returns result) = ap (λ c. b
 ran-later s m before held n at left stack cells k traps = ap (trapped cells) (add_assoc s.count n k)
 
 -- from a later state on
-pub later : (s : State) (m : ℕ) (before : Cells) (held : List ℤ) (n at left : ℕ) (stack : List ℤ) (r : Ran) →
+pub later : (s : State) (m : ℕ) (before : Cells) (held : List ℤ) (n at left : ℕ) (stack : List ℤ) (r : Outcome Cells) →
     runs_to (moved s m before held n) at left stack r ≡ runs_to s at left stack (after n r)
-later s m before held n at left stack r = ran-later s m before held n at left stack r.cells r.count r.end
+later s m before held n at left stack r = ran-later s m before held n at left stack r.memory r.count r.end
 
-executed-at : {A : Type 0} (own : ℕ) (cells : Cells) (n : ℕ) (answer : Option A) (rest : Cells → A → Ran) →
+executed-at : {A : Type 0} (own : ℕ) (cells : Cells) (n : ℕ) (answer : Option A) (rest : A → Outcome Cells) →
     ended_by cells (own + n) answer rest ≡ after own (ended_by cells (0 + n) answer rest)
-executed-at own cells n None rest = let e : own + n ≡ own + (0 + n) = omega arith in ap (λ k. record { cells = cells; end = traps; count = k }) e
+executed-at own cells n None rest = let e : own + n ≡ own + (0 + n) = omega arith in ap (λ k. record { memory = cells; end = traps; count = k }) e
 executed-at own cells n (Some a) rest =
-    let e : own + n + (rest cells a).count ≡ own + (0 + n + (rest cells a).count) = omega arith in
-    ap (λ k. record { cells = (rest cells a).cells; end = (rest cells a).end; count = k }) e
+    let e : own + n + (rest a).count ≡ own + (0 + n + (rest a).count) = omega arith in
+    ap (λ k. record { memory = (rest a).memory; end = (rest a).end; count = k }) e
 
 -- a statement that counts itself
-pub executed-is : {A : Type 0} (own : ℕ) (l : Left A) (rest : Cells → A → Ran) → executed own l rest ≡ after own (executed 0 l rest)
-executed-is own l rest = executed-at own l.cells l.count l.answer rest
+pub executed-is : {A : Type 0} (own : ℕ) (l : Left A) (rest : Cells → A → Outcome Cells) → executed own l rest ≡ after own (executed 0 l rest)
+executed-is own l rest = executed-at own l.cells l.count l.answer (rest l.cells)
 
 module _ (code : Code) (room : Room) where
   -- nothing is left to be done
@@ -91,7 +91,7 @@ module _ (code : Code) (room : Room) where
       ∙ ap (λ c. goes (record s { at = at; cells = cells; stack = stack; count = c })) (sym (add-zero s.count)))
 
   -- what a later state comes to
-  pub after-state : (s : State) (m : ℕ) (before : Cells) (held : List ℤ) (n at left : ℕ) (stack : List ℤ) (r : Ran) →
+  pub after-state : (s : State) (m : ℕ) (before : Cells) (held : List ℤ) (n at left : ℕ) (stack : List ℤ) (r : Outcome Cells) →
       Arrives code room s (goes (moved s m before held n)) →
       Arrives code room (moved s m before held n) (runs_to (moved s m before held n) at left stack r) →
       Arrives code room s (runs_to s at left stack (after n r))
@@ -99,38 +99,38 @@ module _ (code : Code) (room : Room) where
       and-then code room s (moved s m before held n) _ first (ends-as code room (moved s m before held n) _ _ (later s m before held n at left stack r) rest)
 
   execution-at : {A : Type 0} (s : State) (m at left : ℕ) (onto : A → List ℤ) (stack : List ℤ) (cells : Cells) (n : ℕ) (answer : Option A)
-      (rest : Cells → A → Ran) →
+      (rest : A → Outcome Cells) →
       Arrives code room s (answered s m onto cells n answer) →
       ((a : A) → answer ≡ Some a → length cells ≡ length s.cells →
-      Arrives code room (moved s m cells (onto a) n) (runs_to (moved s m cells (onto a) n) at left stack (rest cells a))) →
+      Arrives code room (moved s m cells (onto a) n) (runs_to (moved s m cells (onto a) n) at left stack (rest a))) →
       Arrives code room s (runs_to s at left stack (ended_by cells n answer rest))
   execution-at s m at left onto stack cells n None rest first second = first
   execution-at s m at left onto stack cells n (Some a) rest first second =
-      after-state s m cells (onto a) n at left stack (rest cells a) first (second a refl (cells-stay code room s (moved s m cells (onto a) n) first))
+      after-state s m cells (onto a) n at left stack (rest a) first (second a refl (cells-stay code room s (moved s m cells (onto a) n) first))
 
-  zero-more : {A : Type 0} (cells : Cells) (n : ℕ) (answer : Option A) (rest : Cells → A → Ran) →
+  zero-more : {A : Type 0} (cells : Cells) (n : ℕ) (answer : Option A) (rest : A → Outcome Cells) →
       ended_by cells n answer rest ≡ ended_by cells (0 + n) answer rest
   zero-more cells n answer rest = let e : n ≡ 0 + n = omega arith in ap (λ k. ended_by cells k answer rest) e
 
   -- an evaluation, and what is done with its answer
-  pub execution : {A : Type 0} (s : State) (m at left : ℕ) (onto : A → List ℤ) (stack : List ℤ) (l : Left A) (rest : Cells → A → Ran) →
+  pub execution : {A : Type 0} (s : State) (m at left : ℕ) (onto : A → List ℤ) (stack : List ℤ) (l : Left A) (rest : Cells → A → Outcome Cells) →
       Arrives code room s (answers s m onto l) →
       ((a : A) → l.answer ≡ Some a → length l.cells ≡ length s.cells →
       Arrives code room (moved s m l.cells (onto a) l.count) (runs_to (moved s m l.cells (onto a) l.count) at left stack (rest l.cells a))) →
       Arrives code room s (runs_to s at left stack (executed 0 l rest))
   execution s m at left onto stack l rest first second =
-      ends-as code room s _ _ (ap (runs_to s at left stack) (zero-more l.cells l.count l.answer rest))
-      (execution-at s m at left onto stack l.cells l.count l.answer rest first second)
+      ends-as code room s _ _ (ap (runs_to s at left stack) (zero-more l.cells l.count l.answer (rest l.cells)))
+      (execution-at s m at left onto stack l.cells l.count l.answer (rest l.cells) first second)
 
   -- a statement begins
-  pub counted : (s : State) (at left : ℕ) (stack : List ℤ) (part : Code) (r : Ran) → Has room s → Span code s.at (ins.Count ∷ part) at →
+  pub counted : (s : State) (at left : ℕ) (stack : List ℤ) (part : Code) (r : Outcome Cells) → Has room s → Span code s.at (ins.Count ∷ part) at →
       Arrives code room (moved s (s.at + 1) s.cells s.stack 1) (runs_to (moved s (s.at + 1) s.cells s.stack 1) at left stack r) →
       Arrives code room s (runs_to s at left stack (after 1 r))
   counted s at left stack part r has span rest =
       goes-on code room s (moved s (s.at + 1) s.cells s.stack 1) ins.Count _ has (span-first code s.at ins.Count part at span) refl
       (ends-as code room (moved s (s.at + 1) s.cells s.stack 1) _ _ (later s (s.at + 1) s.cells s.stack 1 at left stack r) rest)
 
-  following-at : (s : State) (m at more left : ℕ) (stack : List ℤ) (cells : Cells) (n : ℕ) (end : End) (rest : Cells → Ran) →
+  following-at : (s : State) (m at more left : ℕ) (stack : List ℤ) (cells : Cells) (n : ℕ) (end : End) (rest : Cells → Outcome Cells) →
       m + more ≡ at + left →
       Arrives code room s (ran s m more stack cells n end) →
       (length cells ≡ length s.cells → Arrives code room (moved s m cells stack n) (runs_to (moved s m cells stack n) at left stack (rest cells))) →
@@ -142,12 +142,12 @@ module _ (code : Code) (room : Room) where
   following-at s m at more left stack cells n traps rest is first second = first
 
   -- a statement, and what follows it
-  pub in-order : (s : State) (m at more left : ℕ) (stack : List ℤ) (r : Ran) (rest : Cells → Ran) → m + more ≡ at + left →
+  pub in-order : (s : State) (m at more left : ℕ) (stack : List ℤ) (r : Outcome Cells) (rest : Cells → Outcome Cells) → m + more ≡ at + left →
       Arrives code room s (runs_to s m more stack r) →
-      (length r.cells ≡ length s.cells →
-      Arrives code room (moved s m r.cells stack r.count) (runs_to (moved s m r.cells stack r.count) at left stack (rest r.cells))) →
+      (length r.memory ≡ length s.cells →
+      Arrives code room (moved s m r.memory stack r.count) (runs_to (moved s m r.memory stack r.count) at left stack (rest r.memory))) →
       Arrives code room s (runs_to s at left stack (following r rest))
-  in-order s m at more left stack r rest is first second = following-at s m at more left stack r.cells r.count r.end rest is first second
+  in-order s m at more left stack r rest is first second = following-at s m at more left stack r.memory r.count r.end rest is first second
 
   skipped-at : (s : State) (m at more left : ℕ) (stack : List ℤ) (cells : Cells) (n : ℕ) (end : End) → m + more ≡ at + left →
       Arrives code room s (ran s m more stack cells n end) →
@@ -160,8 +160,8 @@ module _ (code : Code) (room : Room) where
   skipped-at s m at more left stack cells n traps is first second = first
 
   -- a part after which some instructions are passed
-  pub skipped : (s : State) (m at more left : ℕ) (stack : List ℤ) (r : Ran) → m + more ≡ at + left →
+  pub skipped : (s : State) (m at more left : ℕ) (stack : List ℤ) (r : Outcome Cells) → m + more ≡ at + left →
       Arrives code room s (runs_to s m more stack r) →
-      (length r.cells ≡ length s.cells → Arrives code room (moved s m r.cells stack r.count) (goes (moved s at r.cells stack r.count))) →
+      (length r.memory ≡ length s.cells → Arrives code room (moved s m r.memory stack r.count) (goes (moved s at r.memory stack r.count))) →
       Arrives code room s (runs_to s at left stack r)
-  skipped s m at more left stack r is first second = skipped-at s m at more left stack r.cells r.count r.end is first second
+  skipped s m at more left stack r is first second = skipped-at s m at more left stack r.memory r.count r.end is first second

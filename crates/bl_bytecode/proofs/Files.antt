@@ -34,11 +34,11 @@ use Rattle.bl_tree.specs.declared.c.CStmtKind.{fold-roll-CStmtKind}
 use Rattle.bl_tree.specs.declared.c.CStmtKind.TheOpen.{CStmtKind-F}
 use Rattle.bl_tree.specs.declared.c.CFunc.{CFunc}
 use Rattle.bl_tree.specs.declared.c.CStruct.{CStruct}
-use Rattle.bl_cmeaning.specs.Meaning.{End, goes_on, breaks, returns, traps, result_at}
+use Rattle.bl_cmeaning.specs.Course.{End, Outcome, breaks, goes_on, result_at, returns, traps}
 use Rattle.bl_cmeaning.specs.Sizes.{Sizes}
 use Rattle.bl_cmeaning.specs.Tables.{Table, entry_or, found, no_entries, with_entry}
 use Rattle.bl_cmeaning.proofs.Induction.{Optional, StmtCases, induct_stmt, stmt}
-use Rattle.bl_cmeaning_laws.specs.Flat.{Cells, Ran, Routine, block_of, block_or_none, call_flat, reach_flat, routine_flat, routines_after, runs_flat}
+use Rattle.bl_cmeaning_laws.specs.Flat.{Cells, Routine, block_of, call_flat, reach_flat, routine_flat, routines_after, runs_flat}
 use Rattle.bl_cmeaning_laws.specs.Flat.{value_flat}
 use Rattle.bl_cmeaning_laws.specs.Layout.{Layouts, Slot, capped_sizes, frame_cells, layouts, slots_of}
 use Rattle.bl_cmeaning_laws.specs.Reaching.{Ground}
@@ -68,7 +68,7 @@ module _ (code : Code) (room : Room) (top calls : ℕ) (sizes : Sizes) (structs 
   OfStmt s = (left : ℕ) → Performs code room top calls left (code_of_stmt s Here left) (runs_flat s There)
 
   -- nothing
-  empty-runs : (left : ℕ) → Performs code room top calls left [] (λ base cells. record { cells = cells; end = goes_on; count = 0 })
+  empty-runs : (left : ℕ) → Performs code room top calls left [] (λ base cells. record { memory = cells; end = goes_on; count = 0 })
   empty-runs left = record
       { runs = λ s at span fits. is-over code room s at left s.stack (fits-has room top calls s _ fits) (span-none code s.at at span) refl }
 
@@ -80,7 +80,7 @@ module _ (code : Code) (room : Room) (top calls : ℕ) (sizes : Sizes) (structs 
         let tail : Code = block_code (map code_of_stmt stmts) Here left in
         let part : Code = code_of_stmt stmt Here (length tail + left) in
         let m : ℕ = s.at + length part in
-        let r : Ran = runs_flat stmt There s.base s.cells in
+        let r : Outcome Cells = runs_flat stmt There s.base s.cells in
         let long : length (part ++ tail) ≡ length part + length tail = length-append part tail in
         let back : Span code m tail at = span-back code s.at part tail at span in
         let ends : m + length tail ≡ at = back.ends in
@@ -88,7 +88,7 @@ module _ (code : Code) (room : Room) (top calls : ℕ) (sizes : Sizes) (structs 
         ((All-head OfStmt stmt stmts h (length tail + left)).runs s m (span-front code s.at part tail at span)
         (fits-fewer room top calls s _ (length part) fits (omega arith)))
         (λ same.
-        let t : State = moved s m r.cells s.stack r.count in
+        let t : State = moved s m r.memory s.stack r.count in
         (block-runs stmts (All-tail OfStmt stmt stmts h) left).runs t at back (fits-to room top calls s t _ (length tail) fits refl same (omega arith)));
   }
 
@@ -96,14 +96,14 @@ module _ (code : Code) (room : Room) (top calls : ℕ) (sizes : Sizes) (structs 
       OfStmt (stmt at (CStmtKind-F.If e block other))
   if-case at e block None h k left =
       rw (fold-roll-CStmt, fold-roll-CStmt, fold-roll-CStmtKind, fold-roll-CStmtKind)
-      (if-runs code room top calls left (block_code (map code_of_stmt block) Here (1 + 0 + left)) [] (block_of (map runs_flat block)) (block_or_none None) There
+      (if-runs code room top calls left (block_code (map code_of_stmt block) Here (1 + 0 + left)) [] (block_of (map runs_flat block)) (block_of []) There
       (block-runs block h (1 + 0 + left)) (empty-runs left) (code_of e Here) (value_flat e There)
       (expr-runs code room top calls sizes structs slots frame entries routines knows e))
   if-case at e block (Some other) h k left =
       let o : Code = block_code (map code_of_stmt other) Here left in
       rw (fold-roll-CStmt, fold-roll-CStmt, fold-roll-CStmtKind, fold-roll-CStmtKind)
       (if-runs code room top calls left (block_code (map code_of_stmt block) Here (1 + length o + left)) o (block_of (map runs_flat block))
-      (block_or_none (Some (map runs_flat other))) There
+      (block_of (map runs_flat other)) There
       (block-runs block h (1 + length o + left)) (block-runs other k left) (code_of e Here) (value_flat e There)
       (expr-runs code room top calls sizes structs slots frame entries routines knows e))
 
@@ -180,17 +180,18 @@ module _ (code : Code) (room : Room) (sizes : Sizes) (structs : Layouts) where
         let part : Code = code_of_block function.body (by_code code room top calls sizes structs slots frame entries routines knows) 0 in
         let last : Code = ins.Push (pos 0) ∷ ins.Return ∷ [] in
         let m : ℕ = top + length part in
-        let r : Ran = block_of (map runs_flat function.body) (by_value code room top calls sizes structs slots frame entries routines knows) base s.cells in
+        let r : Outcome Cells = block_of (map runs_flat function.body) (by_value code room top calls sizes structs slots frame entries routines knows)
+        base s.cells in
         let long : length (part ++ last) ≡ length part + 2 = length-append part last in
         let ends : top + length (part ++ last) ≡ q = span.ends in
         let fits : Fits room top calls s (length part + 2) =
         record { numbers = omega arith; chain = omega arith; cells = frame-keeps frame base args cells ∙ same } in
-        ended-at code room s m r.cells r.count r.end
+        ended-at code room s m r.memory r.count r.end
         ((body-runs code room top calls sizes structs slots frame entries routines knows function.body 0).runs s m (span-front code top part last q span)
         (fits-fewer room top calls s _ (length part) fits (omega arith)))
         (λ kept.
-        let t : State = moved s m r.cells [] r.count in
-        ends-as code room t _ _ (ap (λ c. back_to waiting r.cells c (pos 0)) (add-zero (count + r.count)))
+        let t : State = moved s m r.memory [] r.count in
+        ends-as code room t _ _ (ap (λ c. back_to waiting r.memory c (pos 0)) (add-zero (count + r.count)))
         (zero-returned code room top calls t q 0 [] (fits-to room top calls s t _ 2 fits refl kept (omega arith)) (span-back code top part last q span)));
   }
 

@@ -28,10 +28,10 @@ use Rattle.std.specs.Prelude.{slice_set, if◌then◌else◌}
 use Rattle.bl_tree.specs.declared.c.CType.{CType}
 use Rattle.bl_tree.specs.declared.c.CType.TheVariants.{Scalar as OfScalar, Struct as OfStruct}
 use Rattle.bl_tree.specs.Numbers.{is_one}
-use Rattle.bl_cmeaning.specs.Meaning.{breaks, returns}
+use Rattle.bl_cmeaning.specs.Course.{Outcome, breaks, ending, going, returns}
 use Rattle.bl_cmeaning.specs.Sizes.{Sizes}
 use Rattle.bl_cmeaning.specs.Tables.{entry_or}
-use Rattle.bl_cmeaning_laws.specs.Flat.{Cells, Evaluates, Left, Ran, Routine, Runs, address_of, cell_number, copied, ending, executed, going}
+use Rattle.bl_cmeaning_laws.specs.Flat.{Cells, Evaluates, Left, Routine, Runs, address_of, cell_number, copied, executed}
 use Rattle.bl_cmeaning_laws.specs.Flat.{left as left_with, next, written_at, zeroed}
 use Rattle.bl_cmeaning_laws.specs.Layout.{capped}
 use Rattle.bl_cmeaning_laws.specs.Reaching.{Ground, Reach}
@@ -47,7 +47,7 @@ use Rattle.bl_bytecode.proofs.Endings.{back_to, counted, executed-is, execution,
 
 module _ (code : Code) (room : Room) (top calls : ℕ) where
   -- it does what a statement does, where so many instructions stand behind it up to the end of the loop around it
-  pub record Performs (left : ℕ) (part : Code) (run : ℕ → Cells → Ran) : Type 0 where
+  pub record Performs (left : ℕ) (part : Code) (run : ℕ → Cells → Outcome Cells) : Type 0 where
     pub runs : (s : State) (at : ℕ) → Span code s.at part at → Fits room top calls s (length part) →
         Arrives code room s (runs_to s at left s.stack (run s.base s.cells))
 
@@ -63,11 +63,11 @@ module _ (code : Code) (room : Room) (top calls : ℕ) where
   abbrev P : Code → Evaluates ℤ → Type 0
   P = Pushes code room top calls
 
-  abbrev S : ℕ → Code → (ℕ → Cells → Ran) → Type 0
+  abbrev S : ℕ → Code → (ℕ → Cells → Outcome Cells) → Type 0
   S = Performs code room top calls
 
   -- a statement that counts itself and evaluates first
-  begins : {A : Type 0} (left : ℕ) (s : State) (at : ℕ) (part : Code) (l : Left A) (rest : Cells → A → Ran) →
+  begins : {A : Type 0} (left : ℕ) (s : State) (at : ℕ) (part : Code) (l : Left A) (rest : Cells → A → Outcome Cells) →
       Span code s.at (ins.Count ∷ part) at →
       Has room s →
       Arrives code room (moved s (s.at + 1) s.cells s.stack 1) (runs_to (moved s (s.at + 1) s.cells s.stack 1) at left s.stack (executed 0 l rest)) →
@@ -164,7 +164,7 @@ module _ (code : Code) (room : Room) (top calls : ℕ) where
   }
 
   -- a statement that evaluates, and one instruction with the number
-  with-number : (left : ℕ) (part : Code) (f : Evaluates ℤ) → P part f → (i : Instruction) (rest : Cells → ℤ → Ran) →
+  with-number : (left : ℕ) (part : Code) (f : Evaluates ℤ) → P part f → (i : Instruction) (rest : Cells → ℤ → Outcome Cells) →
       ((t : State) (at : ℕ) (n : ℤ) (stack : List ℤ) → t.stack ≡ n ∷ stack → Has room t → Span code t.at (i ∷ []) at →
       Arrives code room t (runs_to t at left stack (rest t.cells n))) →
       S left (ins.Count ∷ (part ++ i ∷ [])) (λ base cells. executed 1 (f base cells) rest)
@@ -220,7 +220,7 @@ module _ (code : Code) (room : Room) (top calls : ℕ) where
       (span-tail code t.at (ins.Push (pos 0)) (ins.Return ∷ []) at span))
 
   pub bare-return-runs : (left : ℕ) →
-      S left (ins.Count ∷ ins.Push (pos 0) ∷ ins.Return ∷ []) (λ base cells. record { cells = cells; end = returns (pos 0); count = 1 })
+      S left (ins.Count ∷ ins.Push (pos 0) ∷ ins.Return ∷ []) (λ base cells. record { memory = cells; end = returns (pos 0); count = 1 })
   bare-return-runs left = record {
     runs = λ s at span fits.
         let body : Code = ins.Push (pos 0) ∷ ins.Return ∷ [] in
@@ -229,7 +229,7 @@ module _ (code : Code) (room : Room) (top calls : ℕ) where
         (zero-returned t at left s.stack (fits-to room top calls s t _ 2 fits refl refl (omega arith)) (span-tail code s.at ins.Count body at span));
   }
 
-  pub break-runs : (left : ℕ) → S left (ins.Count ∷ ins.Skip left ∷ []) (λ base cells. record { cells = cells; end = breaks; count = 1 })
+  pub break-runs : (left : ℕ) → S left (ins.Count ∷ ins.Skip left ∷ []) (λ base cells. record { memory = cells; end = breaks; count = 1 })
   break-runs left = record {
     runs = λ s at span fits.
         let body : Code = ins.Skip left ∷ [] in
@@ -255,7 +255,7 @@ module _ (code : Code) (room : Room) (top calls : ℕ) where
     chosen true t stack at comes span fits fewer =
         let w : State = record t { at = t.at + 1; stack = stack } in
         let m : ℕ = t.at + 1 + length b in
-        let r : Ran = B here t.base t.cells in
+        let r : Outcome Cells = B here t.base t.cells in
         let tail : Span code (t.at + 1) Rest at = span-tail code t.at (ins.Unless (length b + 1)) Rest at span in
         let back : Span code m (ins.Skip (length o) ∷ o) at = span-back code (t.at + 1) b (ins.Skip (length o) ∷ o) at tail in
         let last : Span code (m + 1) o at = span-tail code m (ins.Skip (length o)) o at back in
@@ -266,7 +266,7 @@ module _ (code : Code) (room : Room) (top calls : ℕ) where
         (skipped code room w m at (1 + length o + left) left stack r (omega arith)
         (block.runs w m (span-front code (t.at + 1) b (ins.Skip (length o) ∷ o) at tail) there)
         (λ same.
-        let v : State = moved w m r.cells stack r.count in
+        let v : State = moved w m r.memory stack r.count in
         ends-at code room v (ins.Skip (length o)) _ (fits-has room top calls v 0 (fits-to room top calls w v _ 0 there refl same (omega arith)))
         (span-first code m (ins.Skip (length o)) o at back)
         (ap (λ p. goes (record v { at = p })) ends)))

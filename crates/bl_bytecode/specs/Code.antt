@@ -78,11 +78,12 @@ call_as here args None known = known_call here args known
 abbrev pub Coding : OpenPart → Type 0
 Coding Of = Of (Coded Code) (Coded Code) (Coded Code) (Coded Code) (Coded (Index Code)) (Coded (Reach Code)) (Step Entry Code)
 
--- one step of the fold for each part: its code, where that of its own parts is known
+-- one step of the fold for each part: its code, where that of its own parts is known. An argument pushes a value or the number of a cell
 abbrev pub arg_step : Coding CArg-F → Coded Code
 arg_step (CArg-F.Value value) here = value here
 arg_step (CArg-F.Address place) here = reach_code (place here)
 
+-- the code of an expression's form: a value is pushed
 abbrev pub kind_step : Coding CExprKind-F → Coded Code
 kind_step (CExprKind-F.Literal type n) here = ins.Push n ∷ []
 kind_step (CExprKind-F.Read place) here = reach_code (place here) ++ fetch_code (place here).ty
@@ -90,21 +91,27 @@ kind_step (CExprKind-F.Call call) here = call here
 kind_step (CExprKind-F.Not operand) here = operand here ++ ins.Negate ∷ []
 kind_step (CExprKind-F.Two op first second) here = two_code op (first here) (second here)
 
+-- the code of a call: its arguments from left to right, then the call itself
 abbrev pub call_step : Coding CCall-F → Coded Code
 call_step call here = joined (map (λ arg. arg here) call.args) ++ call_as here (length call.args) (builtin_of call.name) (here.known call.name) ∷ []
 
+-- an expression has the code of its form
 abbrev pub expr_step : Coding CExpr-F → Coded Code
 expr_step expr = expr.what
 
+-- an index: its length, and the code of the expression that chooses the element
 abbrev pub index_step : Coding CIndex-F → Coded (Index Code)
 index_step index here = record { length = index.length; index = index.at here }
 
+-- how a place is reached: from the cell of its name on, step by step
 abbrev pub place_step : Coding CPlace-F → Coded (Reach Code)
 place_step place here = reach_along place.steps here (start_of_slot (here.slots place.name))
 
+-- the index of a step, where it has one
 abbrev pub index_or_none : Option (Coded (Index Code)) → Ground Entry → Option (Index Code)
 index_or_none index here = option_map (λ i. i here) index
 
+-- how a step into a type goes on: to a member, and to an element of it where there is an index
 abbrev pub step_step : Coding CStep-F → Step Entry Code
 step_step step here ty = reach_member here (laid_in here ty step.member) (index_or_none step.index here)
 
@@ -168,6 +175,7 @@ stmt_kind_code CStmtKind-F.Break here left = ins.Count ∷ ins.Skip left ∷ []
 stmt_kind_code (CStmtKind-F.Return None) here left = ins.Count ∷ ins.Push (pos 0) ∷ ins.Return ∷ []
 stmt_kind_code (CStmtKind-F.Return (Some expr)) here left = ins.Count ∷ (code_of expr here ++ ins.Return ∷ [])
 
+-- a statement has the code of its form
 abbrev pub stmt_step : CStmt-F StmtCode StmtCode → StmtCode
 stmt_step stmt = stmt.what
 

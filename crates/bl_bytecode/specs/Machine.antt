@@ -64,6 +64,7 @@ on s stack = goes (record s { at = s.at + 1; stack = stack })
 abbrev pub past : ℕ → State → List ℤ → Stepped
 past n s stack = goes (record s { at = s.at + 1 + n; stack = stack })
 
+-- the machine traps, with its cells and its count as they stand
 abbrev pub stops : State → Stepped
 stops s = trapped s.cells s.count
 
@@ -72,6 +73,7 @@ abbrev pub on_number : State → List ℤ → Option ℤ → Stepped
 on_number s stack None = stops s
 on_number s stack (Some n) = on s (n ∷ stack)
 
+-- the next instruction comes, with other cells and another stack
 abbrev pub with_cells : State → Cells → List ℤ → Stepped
 with_cells s cells stack = goes (record s { at = s.at + 1; cells = cells; stack = stack })
 
@@ -79,6 +81,7 @@ with_cells s cells stack = goes (record s { at = s.at + 1; cells = cells; stack 
 abbrev pub cell_of : ℕ → ℤ
 cell_of k = pos (capped k)
 
+-- the cell where an element begins, none where the index isn't below the length
 abbrev pub element : ℕ → ℕ → ℤ → ℤ → Option ℤ
 element length size at i = option_map (λ k. cell_of (cell_number at + cell_number k * size)) (index_within i (pos length))
 
@@ -135,6 +138,7 @@ step_with s ins.Over (n ∷ stack) = on s stack
 step_with s ins.Return (n ∷ stack) = returned s n s.waiting
 step_with s _ stack = stops s
 
+-- the step of an instruction, which traps where there is none
 abbrev pub step_at : State → Option Instruction → Stepped
 step_at s None = stops s
 step_at s (Some instruction) = step_with s instruction s.stack

@@ -1,5 +1,26 @@
 -- Two tick graphs of one body have the same edges, so the rules fail for both alike.
-use Rattle.std.proofs.Common.{◌≡◌, ℕ, ◌+◌, ◌<◌, Bool, true, false, not, Some, List, [], ◌∷◌, ◌++◌, length, get_or, take, refl, sym, subst, ◌∙◌}
+use Rattle.std.proofs.Common.{
+  ◌≡◌,
+  ℕ,
+  ◌+◌,
+  ◌<◌,
+  Bool,
+  true,
+  false,
+  not,
+  Some,
+  List,
+  [],
+  ◌∷◌,
+  ◌++◌,
+  length,
+  get_or,
+  take,
+  refl,
+  sym,
+  subst,
+  ◌∙◌,
+}
 use Rattle.std.specs.Prelude.{Contains, slice_get}
 use Rattle.std.proofs.lemmas.Option.{slice_get_read}
 use Rattle.bl_tree.specs.declared.graph.Edge.{Edge}
@@ -28,7 +49,8 @@ use Rattle.bl_cause.proofs.PairLemmas.{each_first, each_more, each_second, filte
 
 -- ---- edges
 
-module _ (body : Block) (nodes others : List Node) (edges further : List Edge) (one : IsTickGraph body nodes edges) (two : IsTickGraph body others further) where
+module _ (body : Block) (nodes others : List Node) (edges further : List Edge) (one : IsTickGraph body nodes edges)
+    (two : IsTickGraph body others further) where
   -- the nodes are the same
   same_nodes : nodes ≡ others
   same_nodes = one.in_order ∙ sym two.in_order
@@ -76,7 +98,8 @@ begins_among nodes others edges further by_data same more at also begins =
 module _ (unit : UnitDef) (graph other : Graph) (one : IsGraphOf unit graph) (two : IsGraphOf unit other) (at : Place) (also : List Place) where
   pub twice_alike : FailsTwice graph at also → FailsTwice other at also
   twice_alike fails =
-      begins_among graph.nodes other.nodes (controls graph.edges) (controls other.edges) false (same_nodes _ graph.nodes other.nodes graph.edges other.edges one two)
+      begins_among graph.nodes other.nodes (controls graph.edges) (controls other.edges) false
+      (same_nodes _ graph.nodes other.nodes graph.edges other.edges one two)
       (controls_among graph.edges other.edges (same_edges _ graph.nodes other.nodes graph.edges other.edges one two)) at also fails
 
   pub cycle_alike : FailsCycle graph at also → FailsCycle other at also
@@ -89,7 +112,8 @@ abbrev Alike : (Graph → Place → List Place → Type 0) → Type 0
 Alike FailsIn = (unit : UnitDef) (graph other : Graph) → IsGraphOf unit graph → IsGraphOf unit other → (at : Place) (also : List Place) →
     FailsIn graph at also → FailsIn other at also
 
-module _ (units : List UnitDef) (graphs : List Graph) (are : AreGraphs units graphs) (FailsIn : Graph → Place → List Place → Type 0) (alike : Alike FailsIn)
+module _ (units : List UnitDef) (graphs : List Graph) (are : AreGraphs units graphs) (FailsIn : Graph → Place → List Place → Type 0)
+    (alike : Alike FailsIn)
     (at : Place) (also : List Place) where
   any_in : FailsInActivity FailsIn units at also → AnyFails FailsIn graphs at also
   any_in fails =

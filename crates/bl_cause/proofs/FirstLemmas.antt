@@ -72,7 +72,8 @@ both_true false b one other = absurd (cc)
 
 pub before_true : (a b : Place) → is_before a b ≡ true → IsBefore a b
 before_true a b is =
-    elim (nat_lt a.start b.start) as (λ less. nat_lt a.start b.start ≡ less → (less || (nat_eq a.start b.start && nat_lt a.end b.end)) ≡ true → IsBefore a b) [
+    elim (nat_lt a.start b.start) as
+    (λ less. nat_lt a.start b.start ≡ less → (less || (nat_eq a.start b.start && nat_lt a.end b.end)) ≡ true → IsBefore a b) [
       | true ↦ λ less h. inl (grind (arith, nat_tests))
       | false ↦ λ less h.
           let both = and_true (nat_eq a.start b.start) (nat_lt a.end b.end) h in
@@ -119,7 +120,8 @@ pub not_before_itself : (a : Place) → is_before a a ≡ false
 not_before_itself a =
     elim (is_before a a) as (λ t. is_before a a ≡ t → t ≡ false) [
       | true ↦ λ one.
-          ⊎_elim (λ (less : a.start < a.start). absurd (omega arith)) (λ (p : (a.start ≡ a.start) × (a.end < a.end)). let less = p.1 in absurd (omega arith))
+          ⊎_elim (λ (less : a.start < a.start). absurd (omega arith))
+          (λ (p : (a.start ≡ a.start) × (a.end < a.end)). let less = p.1 in absurd (omega arith))
           (before_true a a one)
       | false ↦ λ one. refl
     ] refl
@@ -253,7 +255,8 @@ candidates_first edges numbers by_data keep = record {
 
 -- an edge without a way back is no candidate
 pub candidates_removed : (edges : List Edge) (by_data : Bool) (left : List Edge) (k : ℕ) (gone : Edge) → gone ≡ get_or left k gone →
-    k < length left → ((rest : List Edge) → ClosedWalk edges (gone ∷ rest) → ⊥) → Candidates edges by_data left → Candidates edges by_data (remove left k)
+    k < length left → ((rest : List Edge) → ClosedWalk edges (gone ∷ rest) → ⊥) → Candidates edges by_data left →
+    Candidates edges by_data (remove left k)
 candidates_removed edges by_data left k gone is lt none h = record {
   there = λ edge inside. h.there edge (remove_there left k edge inside);
   all = λ edge rest kind closed.
@@ -283,16 +286,19 @@ first_is_least nodes edges by_data left k this is lt least h at also here begins
       let one : place_at nodes (get_or left inside.0 other.edge).from ≡ elsewhere = ap (λ it. place_at nodes it.from) inside.2 ∙ sym other.at_place in
       let two : place_at nodes (get_or left k other.edge).from ≡ at =
       ap (λ it. place_at nodes it.from) (get_or_default left k other.edge this lt ∙ sym is) ∙ sym here in
-      no_later at elsewhere (ap (λ a. is_before a at) (sym one) ∙ ap (is_before (place_at nodes (get_or left inside.0 other.edge).from)) (sym two) ∙ not_less),
+      no_later at elsewhere
+      (ap (λ a. is_before a at) (sym one) ∙ ap (is_before (place_at nodes (get_or left inside.0 other.edge).from)) (sym two) ∙ not_less),
 )
 
 -- ---- in the search
 
 -- the walk that was found from the least candidate
-pub first_found : (nodes : List Node) (edges : List Edge) (by_data : Bool) (left view : List Edge) (k : ℕ) (this : Edge) → view ≡ left → k < length view →
+pub first_found : (nodes : List Node) (edges : List Edge) (by_data : Bool) (left view : List Edge) (k : ℕ) (this : Edge) → view ≡ left →
+    k < length view →
     ((j : ℕ) (d : Edge) → j < length view → is_before (place_at nodes (get_or view j d).from) (place_at nodes (get_or view k d).from) ≡ false) →
     this ≡ get_or left k this → Candidates edges by_data left → (at : Place) (also : List Place) →
-    (Contains edges this → BeginsWalk nodes edges this.by_data at also) → at ≡ place_at nodes this.from → IsFirst (BeginsWalk nodes edges by_data) at also
+    (Contains edges this → BeginsWalk nodes edges this.by_data at also) → at ≡ place_at nodes this.from →
+    IsFirst (BeginsWalk nodes edges by_data) at also
 first_found nodes edges by_data left view k this same lt least is h at also begins here =
     let inside : k < length left = (let e = ap length same in omega (arith, lt, e)) in
     let there = h.there this (k, inside, sym is) in
@@ -303,7 +309,8 @@ first_found nodes edges by_data left view k this same lt least is h at also begi
 
 -- the least candidate begins no closed walk
 pub next_candidates : (edges : List Edge) (by_data : Bool) (left view : List Edge) (k : ℕ) (this : Edge) → view ≡ left → k < length view →
-    this ≡ get_or left k this → (Contains edges this → (rest : List Edge) → ClosedWalk edges (this ∷ rest) → ⊥) → Candidates edges by_data left →
+    this ≡ get_or left k this → (Contains edges this → (rest : List Edge) → ClosedWalk edges (this ∷ rest) → ⊥) →
+    Candidates edges by_data left →
     Candidates edges by_data (remove left k)
 next_candidates edges by_data left view k this same lt is none h =
     let inside : k < length left = (let e = ap length same in omega (arith, lt, e)) in
@@ -333,7 +340,8 @@ pub never_view : (nodes nodes' : List Node) (edges edges' : List Edge) (by_data 
 never_view nodes nodes' edges edges' by_data one two never =
     subst (λ it. Never (BeginsWalk it edges by_data)) one (subst (λ it. Never (BeginsWalk nodes' it by_data)) two never)
 
-pub first_view : (nodes nodes' : List Node) (edges edges' : List Edge) (by_data : Bool) (at : Place) (also : List Place) → nodes' ≡ nodes → edges' ≡ edges →
+pub first_view : (nodes nodes' : List Node) (edges edges' : List Edge) (by_data : Bool) (at : Place) (also : List Place) → nodes' ≡ nodes →
+    edges' ≡ edges →
     IsFirst (BeginsWalk nodes' edges' by_data) at also → IsFirst (BeginsWalk nodes edges by_data) at also
 first_view nodes nodes' edges edges' by_data at also one two first =
     subst (λ it. IsFirst (BeginsWalk it edges by_data) at also) one (subst (λ it. IsFirst (BeginsWalk nodes' it by_data) at also) two first)

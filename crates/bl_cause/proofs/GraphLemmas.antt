@@ -1,5 +1,26 @@
 -- The first failure over several graphs, and their orders.
-use Rattle.std.proofs.Common.{◌≡◌, ◌≤◌, arith, Bool, true, false, Option, Some, None, List, [], ◌∷◌, ◌++◌, ◌⊎◌, inl, inr, ⊎_elim, refl, sym, ap, subst, ◌∙◌}
+use Rattle.std.proofs.Common.{
+  ◌≡◌,
+  ◌≤◌,
+  arith,
+  true,
+  false,
+  Option,
+  Some,
+  None,
+  List,
+  [],
+  ◌∷◌,
+  ◌++◌,
+  ◌⊎◌,
+  inl,
+  inr,
+  ⊎_elim,
+  refl,
+  sym,
+  subst,
+  ◌∙◌,
+}
 use Rattle.std.specs.Prelude.{Contains, MatchOption, ⊤, if◌then◌else◌}
 use Rattle.bl_tree.specs.declared.graph.Edge.{Edge}
 use Rattle.bl_tree.specs.declared.graph.Graph.{Graph}
@@ -44,7 +65,8 @@ module _ (FailsIn : Graph → Place → List Place → Type 0) where
     by_last : (at : Place) (also : List Place) → FailsIn graph at also → AnyFails FailsIn (graphs ++ graph ∷ []) at also
     by_last at also fails = record { graph = graph; is_there = contains_last graphs graph; fails = fails }
 
-    by_which : (at : Place) (also : List Place) → AnyFails FailsIn (graphs ++ graph ∷ []) at also → AnyFails FailsIn graphs at also ⊎ FailsIn graph at also
+    by_which : (at : Place) (also : List Place) → AnyFails FailsIn (graphs ++ graph ∷ []) at also →
+        AnyFails FailsIn graphs at also ⊎ FailsIn graph at also
     by_which at also fails =
         ⊎_elim
         (λ (one : Contains graphs fails.graph). inl (record { graph = fails.graph; is_there = one; fails = fails.fails }))
@@ -98,7 +120,8 @@ module _ (graphs : List Graph) where
   pub twice_first : (at : Place) (also : List Place) → IsFirst (AnyFails FailsTwice graphs) at also → FailsFirst (GraphsFail graphs) rule.Twice at also
   twice_first at also first = record { fails = first.0; least_rule = least; least_places = first.1 }
     where
-      least : (other : Rule) (elsewhere : Place) (further : List Place) → GraphsFail graphs other elsewhere further → number_of rule.Twice ≤ number_of other
+      least : (other : Rule) (elsewhere : Place) (further : List Place) → GraphsFail graphs other elsewhere further →
+          number_of rule.Twice ≤ number_of other
       least rule.Twice elsewhere further fails = omega arith
       least rule.Cycle elsewhere further fails = omega arith
       least _ elsewhere further fails = absurd fails
@@ -107,7 +130,8 @@ module _ (graphs : List Graph) where
       FailsFirst (GraphsFail graphs) rule.Cycle at also
   cycle_first never at also first = record { fails = first.0; least_rule = least; least_places = first.1 }
     where
-      least : (other : Rule) (elsewhere : Place) (further : List Place) → GraphsFail graphs other elsewhere further → number_of rule.Cycle ≤ number_of other
+      least : (other : Rule) (elsewhere : Place) (further : List Place) → GraphsFail graphs other elsewhere further →
+          number_of rule.Cycle ≤ number_of other
       least rule.Twice elsewhere further fails = absurd (never elsewhere further fails)
       least rule.Cycle elsewhere further fails = omega arith
       least _ elsewhere further fails = absurd fails
@@ -118,7 +142,8 @@ module _ (graphs : List Graph) where
   neither_fails twice cycle _ at also fails = absurd fails
 
   -- so none of them has a closed walk
-  pub no_walks : Never (AnyFails FailsTwice graphs) → Never (AnyFails FailsCycle graphs) → (graph : Graph) → Contains graphs graph → (walk : List Edge) →
+  pub no_walks : Never (AnyFails FailsTwice graphs) → Never (AnyFails FailsCycle graphs) → (graph : Graph) → Contains graphs graph →
+      (walk : List Edge) →
       ¬ ClosedWalk graph.edges walk
   no_walks twice cycle graph is_there walk =
       never_twice_never_cycle graph (λ at also fails. twice at also (record { graph = graph; is_there = is_there; fails = fails }))

@@ -231,7 +231,8 @@ lowering_next rows before numbers nodes rest node row next within popped is lt l
     there = subst (Within (length before)) (sym is) (row_within (length before) rows node within lt)
 
 pub lowering_less : (rows : List (List Edge)) (before numbers nodes rest : List ℕ) (node : ℕ) (row : List Edge) (next : Lowered) →
-    RowsWithin (length before) rows → nodes ≡ rest ++ node ∷ [] → row ≡ get_or rows node [] → node < length before → length numbers ≡ length before →
+    RowsWithin (length before) rows → nodes ≡ rest ++ node ∷ [] → row ≡ get_or rows node [] → node < length before →
+    length numbers ≡ length before →
     next ≡ lowered_along row (record { numbers = numbers; nodes = rest }) → weight next < weight (record { numbers = numbers; nodes = nodes })
 lowering_less rows before numbers nodes rest node row next within popped is lt same lowered =
     let there : Within (length before) row = subst (Within (length before)) (sym is) (row_within (length before) rows node within lt) in

@@ -183,7 +183,8 @@ module _ (edges : List Edge) (rows : List (List Edge)) where
           subst (λ it. get_or seen it.to false ≡ true) inside.2 (h inside.0 edge (omega (arith, lt, le)) lt)
 
   -- the next edge is looked at: its end was seen before, or is entered
-  keeps_looks : (s : State) (frame : Frame) (edge : Edge) → Keeps edges rows (with_frame s frame) → get_or rows frame.node [] ≡ edges_from edges frame.node →
+  keeps_looks : (s : State) (frame : Frame) (edge : Edge) → Keeps edges rows (with_frame s frame) →
+      get_or rows frame.node [] ≡ edges_from edges frame.node →
       slice_get (get_or rows frame.node []) frame.next ≡ Some edge → edge.to < length s.seen → Keeps edges rows (at_edge frame (Some edge) s)
   keeps_looks s frame edge h row is lt =
       elim (get_or s.seen edge.to false) as (λ b. get_or s.seen edge.to false ≡ b →
@@ -285,7 +286,8 @@ entered_seen node s at good = by (get_or s.seen node false)
     by true = good
     by false = seen_kept s.seen node at good
 
-pub advanced_seen : (frame : Frame) (row : List Edge) (s : State) (at : ℕ) → get_or s.seen at false ≡ true → get_or (advanced frame row s).seen at false ≡ true
+pub advanced_seen : (frame : Frame) (row : List Edge) (s : State) (at : ℕ) → get_or s.seen at false ≡ true →
+    get_or (advanced frame row s).seen at false ≡ true
 advanced_seen frame row s at good = by (slice_get row frame.next)
   where
     by : (found : Option Edge) → get_or (at_edge frame found s).seen at false ≡ true
@@ -296,7 +298,8 @@ advanced_seen frame row s at good = by (slice_get row frame.next)
 abbrev pub FramesWithin : ℕ → List Frame → Type 0
 FramesWithin count stack = All (λ frame. frame.node < count) stack
 
-frames_push : (count : ℕ) (stack : List Frame) (frame : Frame) → FramesWithin count stack → frame.node < count → FramesWithin count (stack ++ frame ∷ [])
+frames_push : (count : ℕ) (stack : List Frame) (frame : Frame) → FramesWithin count stack → frame.node < count →
+    FramesWithin count (stack ++ frame ∷ [])
 frames_push count stack frame all lt = All-push (λ frame. frame.node < count) stack frame all lt
 
 entered_frames : (count node : ℕ) (s : State) → node < count → FramesWithin count s.stack → FramesWithin count (entered node s).stack
@@ -380,14 +383,16 @@ advanced_looks rows frame s edge more lt =
           fall (omega (arith, more)) row two three one
     ] refl
   where
-    less_work : (a b t p q r x y z w : ℕ) → a + (2 + t) ≡ b → q < p → r ≤ t → y ≡ x + (1 + q) → z ≡ y + (1 + (r - 0)) → w ≡ x + (1 + p) → a + z < b + w
+    less_work : (a b t p q r x y z w : ℕ) → a + (2 + t) ≡ b → q < p → r ≤ t → y ≡ x + (1 + q) → z ≡ y + (1 + (r - 0)) →
+        w ≡ x + (1 + p) → a + z < b + w
     less_work a b t p q r x y z w fall less row two three one = omega arith
 
 pub advanced_work : (rows : List (List Edge)) (frame : Frame) (s : State) → Within (length s.seen) (get_or rows frame.node []) →
     work rows (advanced frame (get_or rows frame.node []) s) < work rows (with_frame s frame)
 advanced_work rows frame s within = by (slice_get (get_or rows frame.node []) frame.next) refl
   where
-    by : (found : Option Edge) → slice_get (get_or rows frame.node []) frame.next ≡ found → work rows (at_edge frame found s) < work rows (with_frame s frame)
+    by : (found : Option Edge) → slice_get (get_or rows frame.node []) frame.next ≡ found →
+        work rows (at_edge frame found s) < work rows (with_frame s frame)
     by None is = advanced_done rows frame s
     by (Some edge) is =
         let lt = slice_get_within (get_or rows frame.node []) frame.next edge is in
@@ -427,7 +432,8 @@ pub record Going (rows : List (List Edge)) (before s : State) : Type 0 where
   pub seen : (node : ℕ) → get_or before.seen node false ≡ true → get_or s.seen node false ≡ true
   pub keeps : (edges : List Edge) → Rows (edges_from edges) (length before.seen) rows → Keeps edges rows before → Keeps edges rows s
 
-pub going_first : (rows : List (List Edge)) (s : State) → FramesWithin (length s.seen) s.stack → All (λ node. node < length s.seen) s.order → Going rows s s
+pub going_first : (rows : List (List Edge)) (s : State) → FramesWithin (length s.seen) s.stack → All (λ node. node < length s.seen) s.order →
+    Going rows s s
 going_first rows s frames order = record {
   length_stays = refl;
   frames = frames;
@@ -443,13 +449,15 @@ popped s rest = record { seen = s.seen; stack = rest; order = s.order }
 whole_again : (s : State) (rest : List Frame) (frame : Frame) → s.stack ≡ rest ++ frame ∷ [] → s ≡ with_frame (popped s rest) frame
 whole_again s rest frame is i = record { seen = s.seen; stack = is i; order = s.order }
 
-pub frame_within : (rows : List (List Edge)) (before s : State) (rest : List Frame) (frame : Frame) → s.stack ≡ rest ++ frame ∷ [] → Going rows before s →
+pub frame_within : (rows : List (List Edge)) (before s : State) (rest : List Frame) (frame : Frame) → s.stack ≡ rest ++ frame ∷ [] →
+    Going rows before s →
     frame.node < length before.seen
 frame_within rows before s rest frame is h = (All-pop (λ frame. frame.node < length before.seen) s.stack rest (Some frame) is h.frames).1
 
 pub going_next : (rows : List (List Edge)) (before s next : State) (rest : List Frame) (frame : Frame) (row : List Edge) →
     RowsWithin (length before.seen) rows →
-    s.stack ≡ rest ++ frame ∷ [] → row ≡ get_or rows frame.node [] → next ≡ advanced frame row (popped s rest) → Going rows before s → Going rows before next
+    s.stack ≡ rest ++ frame ∷ [] → row ≡ get_or rows frame.node [] → next ≡ advanced frame row (popped s rest) → Going rows before s →
+    Going rows before next
 going_next rows before s next rest frame row within is same advance h = subst (Going rows before) (sym (advance ∙ ap (λ it.
     advanced frame it (popped s rest)) same)) (record {
       length_stays = advanced_length frame (get_or rows frame.node []) (popped s rest) ∙ h.length_stays;
@@ -521,7 +529,8 @@ entered_new node s lt = by (get_or s.seen node false) refl
     by true is = is
     by false is = seen_new s.seen node lt
 
-pub searched_next : (rows : List (List Edge)) (k : ℕ) (s next last : State) → k < length rows → next ≡ entered k s → length last.seen ≡ length next.seen →
+pub searched_next : (rows : List (List Edge)) (k : ℕ) (s next last : State) → k < length rows → next ≡ entered k s →
+    length last.seen ≡ length next.seen →
     last.stack ≡ [] → All (λ node. node < length last.seen) last.order →
     ((node : ℕ) → get_or next.seen node false ≡ true → get_or last.seen node false ≡ true) →
     ((edges : List Edge) → Rows (edges_from edges) (length next.seen) rows → Keeps edges rows next → Keeps edges rows last) → Searched rows k s →

@@ -1,5 +1,27 @@
 -- The positions in the order rise along every edge.
-use Rattle.std.proofs.Common.{◌≡◌, ℕ, ◌+◌, ◌<◌, ◌≤◌, List, [], ◌∷◌, ◌⊎◌, inl, inr, ⊎_elim, length, get_or, set, refl, sym, ap, subst, ◌∙◌, arith}
+use Rattle.std.proofs.Common.{
+  ◌≡◌,
+  ℕ,
+  ◌+◌,
+  ◌<◌,
+  ◌≤◌,
+  List,
+  [],
+  ◌∷◌,
+  ◌⊎◌,
+  inl,
+  inr,
+  ⊎_elim,
+  length,
+  get_or,
+  set,
+  refl,
+  sym,
+  ap,
+  subst,
+  ◌∙◌,
+  arith,
+}
 use Rattle.std.specs.Prelude.{All, Contains, replicate}
 use Rattle.std.proofs.lemmas.Bool.{cases_eq}
 use Rattle.std.proofs.lemmas.List.{get_or-set_other, get_or-set_same, length-replicate, length-set}
@@ -39,7 +61,8 @@ decide x (y ∷ xs) =
     (cases_eq y x)
 
 -- a node that isn't in the order keeps what it had
-ranked_other : (order : List ℕ) (from : ℕ) (ranks : List ℕ) (node : ℕ) → (In node order → ⊥) → get_or (ranked order from ranks) node 0 ≡ get_or ranks node 0
+ranked_other : (order : List ℕ) (from : ℕ) (ranks : List ℕ) (node : ℕ) → (In node order → ⊥) →
+    get_or (ranked order from ranks) node 0 ≡ get_or ranks node 0
 ranked_other [] from ranks node none = refl
 ranked_other (head ∷ order) from ranks node none =
     ranked_other order (from + 1) (set ranks head from) node (λ later. none (inr later))
@@ -66,7 +89,8 @@ ranked_from (head ∷ order) from ranks node all h =
     h)
     (decide node order)
 
-ranked_rises : (edges : List Edge) (order : List ℕ) → Strict edges order → (from : ℕ) (ranks : List ℕ) → All (λ node. node < length ranks) order →
+ranked_rises : (edges : List Edge) (order : List ℕ) → Strict edges order → (from : ℕ) (ranks : List ℕ) →
+    All (λ node. node < length ranks) order →
     (edge : Edge) → Contains edges edge → In edge.from order → get_or (ranked order from ranks) edge.from 0 < get_or (ranked order from ranks) edge.to 0
 ranked_rises edges [] strict from ranks all edge there h = absurd h
 ranked_rises edges (head ∷ order) strict from ranks all edge there h =
@@ -94,8 +118,10 @@ pub ranks_of_order : (edges : List Edge) (order ranks : List ℕ) → ((walk : L
 ranks_of_order edges order ranks none sorted all every edge there =
     ranked_rises edges order (strict_of edges none order sorted) 0 ranks all edge there (every edge there)
 
-pub ranks_made : (edges : List Edge) (count : ℕ) (order view ranks : List ℕ) → ranks ≡ ranked view 0 (replicate count 0) → view ≡ order → Within count edges →
-    ((walk : List Edge) → ClosedWalk edges walk → ⊥) → Sorted edges order → All (λ node. node < count) order → ((node : ℕ) → node < count → In node order) →
+pub ranks_made : (edges : List Edge) (count : ℕ) (order view ranks : List ℕ) → ranks ≡ ranked view 0 (replicate count 0) → view ≡ order →
+    Within count edges →
+    ((walk : List Edge) → ClosedWalk edges walk → ⊥) → Sorted edges order → All (λ node. node < count) order →
+    ((node : ℕ) → node < count → In node order) →
     Ranks edges ranks
 ranks_made edges count order view ranks made same within none sorted nodes all =
     subst (Ranks edges) (sym (made ∙ ap (λ it. ranked it 0 (replicate count 0)) same))

@@ -102,11 +102,13 @@ pub row_read : (rows : List (List Edge)) (node : ℕ) (row found : List Edge) �
 row_read rows node row found is same lt = same ∙ is ∙ get_or_default rows node found [] lt
 
 -- rows that were lent
-pub rows_view : (row_of : ℕ → List Edge) (count : ℕ) (rows view : List (List Edge)) → Rows row_of count rows → view ≡ rows → Rows row_of (length view) view
+pub rows_view : (row_of : ℕ → List Edge) (count : ℕ) (rows view : List (List Edge)) → Rows row_of count rows → view ≡ rows →
+    Rows row_of (length view) view
 rows_view row_of count rows view h same =
     subst (λ n. Rows row_of n view) (sym (ap length same ∙ h.one_each)) (subst (Rows row_of count) (sym same) h)
 
-pub lent_within : (edges : List Edge) (count : ℕ) (rows view : List (List Edge)) → Within count edges → Rows (edges_from edges) count rows → view ≡ rows →
+pub lent_within : (edges : List Edge) (count : ℕ) (rows view : List (List Edge)) → Within count edges → Rows (edges_from edges) count rows →
+    view ≡ rows →
     RowsWithin (length view) view
 lent_within edges count rows view within h same =
     rows_within (λ edge. edge.from) edges (length view) view (subst (λ n. Within n edges) (sym (ap length same ∙ h.one_each)) within)

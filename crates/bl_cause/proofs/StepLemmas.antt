@@ -66,7 +66,8 @@ use Rattle.bl_cause.proofs.RowLemmas.{row_within}
 -- of a node that is seen now, it was seen before or is the new one
 pub seen_cases : (seen : List Bool) (at node : ℕ) → get_or (set seen at true) node false ≡ true → (get_or seen node false ≡ true) ⊎ (at ≡ node)
 seen_cases seen at node h =
-    ⊎_elim (λ (is : node ≡ at). inr (sym is)) (λ (not : node ≡ at → ⊥). inl (sym (get_or-set_other seen at node true false not) ∙ h)) (cases_eq node at)
+    ⊎_elim (λ (is : node ≡ at). inr (sym is)) (λ (not : node ≡ at → ⊥). inl (sym (get_or-set_other seen at node true false not) ∙ h))
+    (cases_eq node at)
 
 pub seen_kept : (seen : List Bool) (at node : ℕ) → get_or seen node false ≡ true → get_or (set seen at true) node false ≡ true
 seen_kept seen at node h =
@@ -110,7 +111,8 @@ none_seen count node h =
 
 pub ends_push : (node : ℕ) (steps : List Step) (step : Step) → Ends node steps → Ends node (steps ++ step ∷ [])
 ends_push node [] step h = absurd h
-ends_push node (one ∷ steps) step h = ⊎_elim (λ (is : one.edge.to ≡ node). inl is) (λ (later : Ends node steps). inr (ends_push node steps step later)) h
+ends_push node (one ∷ steps) step h =
+    ⊎_elim (λ (is : one.edge.to ≡ node). inl is) (λ (later : Ends node steps). inr (ends_push node steps step later)) h
 
 pub ends_last : (node : ℕ) (steps : List Step) (step : Step) → step.edge.to ≡ node → Ends node (steps ++ step ∷ [])
 ends_last node [] step is = inl is
@@ -200,7 +202,8 @@ earlier_step before edge r lt h = by (get_or r.seen edge.to false)
     by false = earlier_push r.steps (record { edge = edge; before = before }) lt h
 
 tree_push : (edges : List Edge) (first : Edge) (steps : List Step) (step : Step) → step.before < length steps → Contains edges step.edge →
-    ((d : Step) → step.edge.from ≡ (get_or steps step.before d).edge.to) → Earlier steps → Tree edges first steps → Tree edges first (steps ++ step ∷ [])
+    ((d : Step) → step.edge.from ≡ (get_or steps step.before d).edge.to) → Earlier steps → Tree edges first steps →
+    Tree edges first (steps ++ step ∷ [])
 tree_push edges first steps step lt there follows earlier h = record {
   begins = λ d. let e = get_or_append_left steps (step ∷ []) d 0 h.some in ap (λ s. s.edge) e ∙ h.begins d;
   some = (let more = length_push steps step in let some = h.some in omega (arith, more, some));
@@ -248,14 +251,16 @@ kept_step before at edge r d lt = by (get_or r.seen edge.to false)
     by false = get_or_append_left r.steps (record { edge = edge; before = before } ∷ []) d at lt
 
 tree_step : (edges : List Edge) (first : Edge) (before : ℕ) (edge : Edge) (r : Reached) → before < length r.steps → Contains edges edge →
-    ((d : Step) → edge.from ≡ (get_or r.steps before d).edge.to) → Earlier r.steps → Tree edges first r.steps → Tree edges first (gone before edge r).steps
+    ((d : Step) → edge.from ≡ (get_or r.steps before d).edge.to) → Earlier r.steps → Tree edges first r.steps →
+    Tree edges first (gone before edge r).steps
 tree_step edges first before edge r lt there follows earlier h = by (get_or r.seen edge.to false)
   where
     by : (b : Bool) → Tree edges first (gone_unless b before edge r).steps
     by true = h
     by false = tree_push edges first r.steps (record { edge = edge; before = before }) lt there follows earlier h
 
-sees_step : (before : ℕ) (edge : Edge) (r : Reached) → edge.to < length r.seen → Sees r.seen r.steps → Sees (gone before edge r).seen (gone before edge r).steps
+sees_step : (before : ℕ) (edge : Edge) (r : Reached) → edge.to < length r.seen → Sees r.seen r.steps →
+    Sees (gone before edge r).seen (gone before edge r).steps
 sees_step before edge r lt h = by (get_or r.seen edge.to false)
   where
     step : Step
@@ -353,7 +358,8 @@ earlier_along before (edge ∷ row) r lt h =
     earlier_along before row (gone before edge r) (let more = grows_step before edge r in omega (arith, more, lt)) (earlier_step before edge r lt h)
 
 pub tree_along : (edges : List Edge) (first : Edge) (before : ℕ) (row : List Edge) (r : Reached) → before < length r.steps →
-    ((edge : Edge) → Contains row edge → Contains edges edge) → ((edge : Edge) (d : Step) → Contains row edge → edge.from ≡ (get_or r.steps before d).edge.to) →
+    ((edge : Edge) → Contains row edge → Contains edges edge) →
+    ((edge : Edge) (d : Step) → Contains row edge → edge.from ≡ (get_or r.steps before d).edge.to) →
     Earlier r.steps → Tree edges first r.steps → Tree edges first (gone_along before row r).steps
 tree_along edges first before [] r lt there follows earlier h = h
 tree_along edges first before (edge ∷ row) r lt there follows earlier h =
@@ -403,7 +409,8 @@ leaves_next edges seen steps at d lt h x there from =
     (h x there from)
 
 -- what was seen at first: the end of the first edge alone
-pub sees_first : (count : ℕ) (first : Edge) → first.to < count → Sees (set (replicate count false) first.to true) (record { edge = first; before = 0 } ∷ [])
+pub sees_first : (count : ℕ) (first : Edge) → first.to < count →
+    Sees (set (replicate count false) first.to true) (record { edge = first; before = 0 } ∷ [])
 sees_first count first lt = record {
   ends = λ node is.
       ⊎_elim (λ (old : get_or (replicate count false) node false ≡ true). absurd (none_seen count node old)) (λ (new : first.to ≡ node). inl new)
@@ -453,7 +460,8 @@ ends_follow edges steps closed first last (edge ∷ walk) w h =
     ends_follow edges steps closed edge.to last walk w.2 (closed edge w.0 (subst (λ n. Ends n steps) (sym w.1) h))
 
 -- no step ends where the edge begins: no closed walk begins with it
-pub no_way_back : (edges : List Edge) (first : Edge) (steps : List Step) → Tree edges first steps → Closed edges steps → (Ends first.from steps → ⊥) →
+pub no_way_back : (edges : List Edge) (first : Edge) (steps : List Step) → Tree edges first steps → Closed edges steps →
+    (Ends first.from steps → ⊥) →
     (rest : List Edge) → ClosedWalk edges (first ∷ rest) → ⊥
 no_way_back edges first steps tree closed none rest w =
     none (ends_follow edges steps closed first.to first.from rest w.1
@@ -500,7 +508,8 @@ pub node_within : (rows : List (List Edge)) (first : Edge) (r : Reached) (at : �
     (get_or r.steps at blank).edge.to < length rows
 node_within rows first r at lt h = h.within at blank lt
 
-pub under_row : (rows : List (List Edge)) (first : Edge) (r : Reached) (at : ℕ) (row : List Edge) → RowsWithin (length rows) rows → at < length r.steps →
+pub under_row : (rows : List (List Edge)) (first : Edge) (r : Reached) (at : ℕ) (row : List Edge) → RowsWithin (length rows) rows →
+    at < length r.steps →
     row ≡ get_or rows (get_or r.steps at blank).edge.to [] → Under rows first r at → Within (length r.seen) row
 under_row rows first r at row within lt is h =
     subst (λ n. Within n row) (sym h.length_stays)
@@ -551,7 +560,8 @@ no_end_more node steps k d lt none other h =
     ⊎_elim none other (ends_cases node (take k steps) (get_or steps k d) (subst (Ends node) (take_more steps k d lt) h))
 
 -- a walk from the end of the first step, one step further back
-pub back_more : (edges : List Edge) (first : Edge) (steps : List Step) (at last : ℕ) (walk longer : List Edge) (d e : Step) → 0 < at → at < length steps →
+pub back_more : (edges : List Edge) (first : Edge) (steps : List Step) (at last : ℕ) (walk longer : List Edge) (d e : Step) → 0 < at →
+    at < length steps →
     Earlier steps → Tree edges first steps → longer ≡ walk ++ (get_or steps at e).edge ∷ [] →
     Walk edges (get_or steps at d).edge.to (reverse walk) last → Walk edges (get_or steps (get_or steps at e).before d).edge.to (reverse longer) last
 back_more edges first steps at last walk longer d e pos lt earlier tree more h =

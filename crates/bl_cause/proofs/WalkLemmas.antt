@@ -1,5 +1,27 @@
 -- Walks, one after another and turned; numbers along them; closed walks with and without data edges.
-use Rattle.std.proofs.Common.{◌≡◌, ℕ, ◌≤◌, Bool, true, false, not, List, [], ◌∷◌, ◌++◌, ◌⊎◌, inl, inr, ⊎_elim, refl, sym, ap, subst, ◌∙◌, arith}
+use Rattle.std.proofs.Common.{
+  ◌≡◌,
+  ℕ,
+  ◌≤◌,
+  Bool,
+  true,
+  false,
+  not,
+  List,
+  [],
+  ◌∷◌,
+  ◌++◌,
+  ◌⊎◌,
+  inl,
+  inr,
+  ⊎_elim,
+  refl,
+  sym,
+  ap,
+  subst,
+  ◌∙◌,
+  arith,
+}
 use Rattle.std.specs.Prelude.{Contains, slice_index}
 use Rattle.bl_tree.specs.declared.graph.Edge.{Edge}
 use Rattle.bl_tree.specs.declared.graph.Graph.{Graph}
@@ -124,7 +146,8 @@ walk_by_controls edges first last (head ∷ walk) w none = (
 
 -- without a closed walk of control edges, and without one that begins with a data edge, there is none
 pub no_walk : (edges : List Edge) → ((edge : Edge) (rest : List Edge) → ClosedWalk (controls edges) (edge ∷ rest) → ⊥) →
-    ((edge : Edge) (rest : List Edge) → edge.by_data ≡ true → ClosedWalk edges (edge ∷ rest) → ⊥) → (walk : List Edge) → ClosedWalk edges walk → ⊥
+    ((edge : Edge) (rest : List Edge) → edge.by_data ≡ true → ClosedWalk edges (edge ∷ rest) → ⊥) → (walk : List Edge) →
+    ClosedWalk edges walk → ⊥
 no_walk edges control written [] w = w
 no_walk edges control written (head ∷ walk) w =
     ⊎_elim
@@ -156,7 +179,8 @@ not_false true is = absurd (cc)
 not_false false is = refl
 
 -- neither rule fails: there is no closed walk
-pub never_twice_never_cycle : (graph : Graph) → Never (FailsTwice graph) → Never (FailsCycle graph) → (walk : List Edge) → ClosedWalk graph.edges walk → ⊥
+pub never_twice_never_cycle : (graph : Graph) → Never (FailsTwice graph) → Never (FailsCycle graph) → (walk : List Edge) →
+    ClosedWalk graph.edges walk → ⊥
 never_twice_never_cycle graph twice cycle walk closed =
     no_walk graph.edges
     (λ edge rest w.

@@ -4,7 +4,7 @@ use Rattle.bl_cause.specs.Activities.{AreGraphs, AreOrders}
 use Rattle.bl_cause.specs.Rules.{Passes}
 use Rattle.bl_cause.specs.declared.order.Order.{Order}
 use Rattle.bl_effects.specs.Rules.{Passes as UnitsPass}
-use Rattle.bl_effects.specs.Table.{Tells}
+use Rattle.bl_effects.specs.Table.{TableTellsEffects}
 use Rattle.bl_limits.specs.Rules.{Passes as KeepsLimits}
 use Rattle.bl_tree.specs.declared.graph.Graph.{Graph}
 use Rattle.bl_tree.specs.declared.program.Program.{Program}
@@ -26,7 +26,7 @@ pub record AcceptedProgram : Type 0 where
 
 -- these are the effects of the units' statements, the tick graphs of their activities, and orders of these
 pub record IsSchedule (units : List UnitDef) (effects : List Effect) (graphs : List Graph) (orders : List Order) : Type 0 where
-  pub effects_told : Tells effects units
+  pub effects_told : TableTellsEffects effects units
   pub each_graph : AreGraphs units graphs
   pub each_order : AreOrders graphs orders
 

@@ -16,7 +16,8 @@ RanksLeaveNoWalk = (edges : List Edge) (ranks : List ℕ) → Ranks edges ranks 
 
 -- a closed walk can begin with any of its edges
 abbrev pub WalksTurn : Type 0
-WalksTurn = (edges walk : List Edge) → ClosedWalk edges walk → (edge : Edge) → Contains walk edge → (rest : List Edge) × ClosedWalk edges (edge ∷ rest)
+WalksTurn = (edges walk : List Edge) → ClosedWalk edges walk → (edge : Edge) → Contains walk edge →
+    (rest : List Edge) × ClosedWalk edges (edge ∷ rest)
 
 -- a closed walk of control edges is a closed walk none of whose edges is by data
 abbrev pub ControlWalks : Type 0
@@ -37,7 +38,8 @@ pub record HasGraph (units : List UnitDef) (graphs : List Graph) (at : ℕ) (uni
 
 -- each activity finds its tick graph by its position
 abbrev pub GraphsAreFound : Type 0
-GraphsAreFound = (units : List UnitDef) (graphs : List Graph) → AreGraphs units graphs → (at : ℕ) (unit : UnitDef) → slice_get units at ≡ Some unit →
+GraphsAreFound = (units : List UnitDef) (graphs : List Graph) → AreGraphs units graphs → (at : ℕ) (unit : UnitDef) →
+    slice_get units at ≡ Some unit →
     IsTrue (is_activity unit.kind) → HasGraph units graphs at unit
 
 -- the graph has an order that stands at its position
@@ -48,5 +50,6 @@ pub record HasOrder (graph : Graph) (orders : List Order) (at : ℕ) : Type 0 wh
 
 -- and each tick graph its order
 abbrev pub OrdersAreFound : Type 0
-OrdersAreFound = (graphs : List Graph) (orders : List Order) → AreOrders graphs orders → (at : ℕ) (graph : Graph) → slice_get graphs at ≡ Some graph →
+OrdersAreFound = (graphs : List Graph) (orders : List Order) → AreOrders graphs orders → (at : ℕ) (graph : Graph) →
+    slice_get graphs at ≡ Some graph →
     HasOrder graph orders at

@@ -2,7 +2,7 @@
 
 ghost use Rattle.std.specs.Prelude.{◌≡◌, ◌<◌, length, slice_get, IfOk, Some};
 ghost use Rattle.bl_cause.specs.Activities.{AreGraphs, IsGraphOf};
-ghost use Rattle.bl_effects.specs.Table.{Tells};
+ghost use Rattle.bl_effects.specs.Table.{TableTellsEffects};
 ghost use Rattle.bl_tree.specs.declared.tree.Unit.{Unit as UnitDef};
 
 use bl_effects::Effects;
@@ -18,7 +18,7 @@ pub fn graphs_of(
     program: &Program,
     effects: &Effects,
 ) -> Result<List<Graph>, NoMemory>
-    requires { Tells effects.now program.now.units }
+    requires { TableTellsEffects effects.now program.now.units }
     ensures { IfOk result (λ graphs. AreGraphs program.now.units graphs) }
 {
     let mut graphs = List::new(alloc);
@@ -38,7 +38,7 @@ fn graph_at(
     at: usize,
 ) -> Result<Graph, NoMemory>
     requires is_there { at < length program.now.units }
-    requires effects { Tells effects.now program.now.units }
+    requires effects { TableTellsEffects effects.now program.now.units }
     ensures { IfOk result (λ graph. (unit : UnitDef) → slice_get program.now.units at ≡ Some unit → IsGraphOf unit graph) }
 {
     match u32::try_from(at) {

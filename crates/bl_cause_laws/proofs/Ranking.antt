@@ -22,7 +22,6 @@ use Rattle.std.proofs.Common.{
   ◌++◌,
   refl,
   sym,
-  ap,
   ◌∙◌,
   subst,
   arith,

@@ -1,6 +1,7 @@
 //! Each body has a tick graph, and each graph without a closed walk has an order: numbers for its nodes that rise along every
-//! edge (`specs/Orders.antt`). So where neither of the rules Twice and Cycle fails activities have orders. There is no code
-//! here: `bl_graph` makes the graphs and `bl_cause` the orders. Laws, as contracts of functions that do nothing.
+//! edge (`specs/Orders.antt`). There is no code here: `bl_graph` makes the graphs and `bl_cause` the orders, and
+//! `bl_rules_laws` has the law that activities have orders where no rule fails. Laws, as contracts of functions that do
+//! nothing.
 #![tactic(auto)]
 
 ghost use Rattle.bl_cause_laws.specs.Orders.{BodiesHaveGraphs, UnwalkedHaveRanks};

@@ -49,11 +49,11 @@ use Rattle.bl_cmeaning.specs.Memory.{Memory, CValue, member, number_in, scalar, 
 use Rattle.bl_cmeaning.specs.Tables.{found, Table, no_entries, table_of, with_entry, entry_or}
 use Rattle.bl_ctext.specs.declared.builtin.Builtin.{Builtin}
 use Rattle.bl_cmeaning.specs.Builtin.{builtin_of, index_within}
-use Rattle.bl_cmeaning.specs.Meaning.{Counted, given, going_on, next, Passed, by_value, by_address, Meaning, further, start_of, way_of, element_at}
+use Rattle.bl_cmeaning.specs.Course.{End, Outcome, after, breaks, ended_by, ending, following_end, goes_on, going, returns, traps, turn_end}
+use Rattle.bl_cmeaning.specs.Course.{turn_limit, turn_or_none, turns}
+use Rattle.bl_cmeaning.specs.Meaning.{Counted, given, going_on, next, once_more, Passed, by_value, by_address, Meaning, further, start_of, way_of, element_at}
 use Rattle.bl_cmeaning.specs.Meaning.{Scope, applied, called, called_as, called_after, Evaluates, each_of, at_once, two_values, value_c, location_c}
-use Rattle.bl_cmeaning.specs.Meaning.{call_c, Outcome, End, goes_on, breaks, returns, traps, Runs, after, following_end, block_of, block_or_none}
-use Rattle.bl_cmeaning.specs.Meaning.{ended_by, turn_end, turn_or_none, turns, turn_limit, runs_c, block_c, function_c, meanings_after, meanings}
-use Rattle.bl_cmeaning.specs.Meaning.{going, returning, executed, pointers_of, with_params}
+use Rattle.bl_cmeaning.specs.Meaning.{call_c, Runs, block_of, runs_c, block_c, function_c, meanings_after, meanings, executed, pointers_of, with_params}
 use Rattle.bl_cmeaning.specs.Calls.{Names, calls_in, calls_in_arg, calls_in_place, calls_in_call, calls_in_step}
 use Rattle.bl_cmeaning.proofs.Folds.{arg_c, calls_in_index, calls_in_kind, index_c, kind_c, step_c}
 use Rattle.bl_cmeaning.specs.Cost.{Costs, cost_of_calls, block_cost, cost_of_stmt, cost_of_function, costs_after, costs as all_costs, bound}
@@ -216,26 +216,26 @@ module _ (costs : Costs) (scope : Scope) (covers : Covers scope.known costs) (me
 
 -- ---- statements
 
-ended_by-le : {A : Type 0} (memory : Memory) (n k : ℕ) (answer : Option A) (rest : A → Outcome) → ((a : A) → (rest a).count ≤ k) →
+ended_by-le : {A : Type 0} (memory : Memory) (n k : ℕ) (answer : Option A) (rest : A → Outcome Memory) → ((a : A) → (rest a).count ≤ k) →
     (ended_by memory n answer rest).count ≤ n + k
 ended_by-le memory n k None rest h = omega arith
 ended_by-le memory n k (Some a) rest h = let r : (rest a).count ≤ k = h a in omega arith
 
-following_end-le : (n k : ℕ) (memory : Memory) (end : End) (rest : Memory → Outcome) → (rest memory).count ≤ k →
+following_end-le : (n k : ℕ) (memory : Memory) (end : End) (rest : Memory → Outcome Memory) → (rest memory).count ≤ k →
     (following_end n memory end rest).count ≤ n + k
 following_end-le n k memory goes_on rest h = omega arith
 following_end-le n k memory breaks rest h = omega arith
 following_end-le n k memory (returns r) rest h = omega arith
 following_end-le n k memory traps rest h = omega arith
 
-turn_end-le : (n k : ℕ) (memory : Memory) (end : End) (again : Memory → Outcome) → (again memory).count ≤ k →
+turn_end-le : (n k : ℕ) (memory : Memory) (end : End) (again : Memory → Outcome Memory) → (again memory).count ≤ k →
     (turn_end n memory end again).count ≤ n + k
 turn_end-le n k memory goes_on again h = omega arith
 turn_end-le n k memory breaks again h = omega arith
 turn_end-le n k memory (returns r) again h = omega arith
 turn_end-le n k memory traps again h = omega arith
 
-turn_or_none-le : (b : Bool) (memory : Memory) (turn : Memory → Outcome) (k : ℕ) → (turn memory).count ≤ k →
+turn_or_none-le : (b : Bool) (memory : Memory) (turn : Memory → Outcome Memory) (k : ℕ) → (turn memory).count ≤ k →
     (turn_or_none b memory turn).count ≤ 1 + k
 turn_or_none-le true memory turn k h = omega arith
 turn_or_none-le false memory turn k h = omega arith
@@ -243,22 +243,23 @@ turn_or_none-le false memory turn k h = omega arith
 -- a loop, by the most of its condition and of its body
 turns-le : (n k b : ℕ) (condition : Evaluates CValue) (body : Runs) (scope : Scope) →
     ((m : Memory) → (condition scope m).count ≤ k) → ((m : Memory) → (body scope m).count ≤ b) →
-    (m : Memory) → (turns n condition body scope m).count ≤ (n + 1) * (1 + (k + b))
+    (m : Memory) → (turns n (once_more condition scope) (body scope) m).count ≤ (n + 1) * (1 + (k + b))
 unfolding turns
 turns-le zero k b condition body scope hc hb m =
     let c : (condition scope m).count ≤ k = hc m in
-    let all : (turns zero condition body scope m).count ≤ (condition scope m).count + (1 + 0) =
+    let all : (turns zero (once_more condition scope) (body scope) m).count ≤ (condition scope m).count + (1 + 0) =
     ended_by-le m _ (1 + 0) _ _ (λ v. turn_or_none-le (is_one (number_in v)) m _ 0 (omega arith)) in
     omega arith
 turns-le (suc n) k b condition body scope hc hb m =
     let c : (condition scope m).count ≤ k = hc m in
     let o : (body scope m).count ≤ b = hb m in
-    let rest : (turns n condition body scope (body scope m).memory).count ≤ (n + 1) * (1 + (k + b)) =
+    let rest : (turns n (once_more condition scope) (body scope) (body scope m).memory).count ≤ (n + 1) * (1 + (k + b)) =
     turns-le n k b condition body scope hc hb (body scope m).memory in
-    let turn : (turn_end (body scope m).count (body scope m).memory (body scope m).end (turns n condition body scope)).count ≤ (body scope
+    let turn : (turn_end (body scope m).count (body scope m).memory (body scope m).end (turns n (once_more condition scope) (body scope))).count ≤ (body scope
     m).count + (n + 1) * (1 + (k + b)) =
     turn_end-le _ _ _ _ _ rest in
-    let all : (turns (suc n) condition body scope m).count ≤ (condition scope m).count + (1 + ((body scope m).count + (n + 1) * (1 + (k + b)))) =
+    let all : (turns (suc n) (once_more condition scope) (body scope) m).count
+    ≤ (condition scope m).count + (1 + ((body scope m).count + (n + 1) * (1 + (k + b)))) =
     ended_by-le m _ _ _ _ (λ v. turn_or_none-le (is_one (number_in v)) m _ _ turn) in
     omega arith
 
@@ -288,18 +289,18 @@ module _ (costs : Costs) (scope : Scope) (covers : Covers scope.known costs) whe
       let c : (value_c e scope memory).count ≤ cost_of_calls costs (calls_in e) = expr-le costs scope covers memory e in
       let b : (block_of (map runs_c block) scope memory).count ≤ block_cost (map cost_of_stmt block) costs = block-le block h memory in
       let all : (executed memory (value_c e scope memory)
-      (λ v. (if is_one (number_in v) then block_of (map runs_c block) else block_or_none None) scope memory)).count
+      (λ v. (if is_one (number_in v) then block_of (map runs_c block) else block_of []) scope memory)).count
       ≤ (1 + (value_c e scope memory).count) + max (block_cost (map cost_of_stmt block) costs) 0 =
-      ended_by-le memory _ _ _ _ (λ v. choose-le (is_one (number_in v)) (block_of (map runs_c block)) (block_or_none None) _ 0 memory b (omega arith)) in
+      ended_by-le memory _ _ _ _ (λ v. choose-le (is_one (number_in v)) (block_of (map runs_c block)) (block_of []) _ 0 memory b (omega arith)) in
       rw (fold-roll-CStmt, fold-roll-CStmt, fold-roll-CStmtKind, fold-roll-CStmtKind) (omega arith)
   of_if at e block (Some other) h r memory =
       let c : (value_c e scope memory).count ≤ cost_of_calls costs (calls_in e) = expr-le costs scope covers memory e in
       let b : (block_of (map runs_c block) scope memory).count ≤ block_cost (map cost_of_stmt block) costs = block-le block h memory in
       let o : (block_of (map runs_c other) scope memory).count ≤ block_cost (map cost_of_stmt other) costs = block-le other r memory in
       let all : (executed memory (value_c e scope memory)
-      (λ v. (if is_one (number_in v) then block_of (map runs_c block) else block_or_none (Some (map runs_c other))) scope memory)).count
+      (λ v. (if is_one (number_in v) then block_of (map runs_c block) else block_of (map runs_c other)) scope memory)).count
       ≤ (1 + (value_c e scope memory).count) + max (block_cost (map cost_of_stmt block) costs) (block_cost (map cost_of_stmt other) costs) =
-      ended_by-le memory _ _ _ _ (λ v. choose-le (is_one (number_in v)) (block_of (map runs_c block)) (block_or_none (Some (map runs_c other))) _ _ memory b o)
+      ended_by-le memory _ _ _ _ (λ v. choose-le (is_one (number_in v)) (block_of (map runs_c block)) (block_of (map runs_c other)) _ _ memory b o)
       in
       rw (fold-roll-CStmt, fold-roll-CStmt, fold-roll-CStmtKind, fold-roll-CStmtKind) (omega arith)
 
@@ -307,7 +308,7 @@ module _ (costs : Costs) (scope : Scope) (covers : Covers scope.known costs) whe
   of_return at None memory = rw (fold-roll-CStmt, fold-roll-CStmt, fold-roll-CStmtKind, fold-roll-CStmtKind) (omega arith)
   of_return at (Some e) memory =
       let c : (value_c e scope memory).count ≤ cost_of_calls costs (calls_in e) = expr-le costs scope covers memory e in
-      let all : (executed memory (value_c e scope memory) (λ v. returning memory (number_in v))).count ≤ (1 + (value_c e scope memory).count) + 0 =
+      let all : (executed memory (value_c e scope memory) (λ v. ending (returns (number_in v)) memory)).count ≤ (1 + (value_c e scope memory).count) + 0 =
       ended_by-le memory _ 0 _ _ (λ v. omega arith) in
       rw (fold-roll-CStmt, fold-roll-CStmt, fold-roll-CStmtKind, fold-roll-CStmtKind) (omega arith)
 
@@ -335,9 +336,9 @@ module _ (costs : Costs) (scope : Scope) (covers : Covers scope.known costs) whe
         rw (fold-roll-CStmt, fold-roll-CStmt, fold-roll-CStmtKind, fold-roll-CStmtKind) (omega arith);
     branching = of_if;
     loop = λ at turn e body h memory.
-        let all : (turns turn_limit (value_c e) (block_of (map runs_c body)) scope memory).count
+        let all : (turns turn_limit (once_more (value_c e) scope) (block_of (map runs_c body) scope) memory).count
         ≤ (turn_limit + 1) * (1 + (cost_of_calls costs (calls_in e) + block_cost (map cost_of_stmt body) costs)) =
-        turns-le turn_limit _ _ _ _ scope (λ m. expr-le costs scope covers m e) (λ m. block-le body h m) memory in
+        turns-le turn_limit _ _ (value_c e) (block_of (map runs_c body)) scope (λ m. expr-le costs scope covers m e) (λ m. block-le body h m) memory in
         rw (fold-roll-CStmt, fold-roll-CStmt, fold-roll-CStmtKind, fold-roll-CStmtKind) (omega arith);
     break = λ at memory. rw (fold-roll-CStmt, fold-roll-CStmt, fold-roll-CStmtKind, fold-roll-CStmtKind) (omega arith);
     returns = of_return;

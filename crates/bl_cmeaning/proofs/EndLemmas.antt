@@ -38,9 +38,10 @@ use Rattle.bl_tree.specs.declared.c.CFunc.{CFunc}
 use Rattle.bl_tree.specs.Reduce.{joined}
 use Rattle.bl_tree.specs.Numbers.{is_one}
 use Rattle.bl_cmeaning.specs.Memory.{Memory, CValue, number_in, set_at, zeros}
-use Rattle.bl_cmeaning.specs.Meaning.{Counted, Evaluates, given, next, Scope, Outcome, End, goes_on, breaks, returns, traps, Runs, following_end}
-use Rattle.bl_cmeaning.specs.Meaning.{block_of, block_or_none, ended_by, executed, call_end, turn_end, turn_or_none, once_more, turns, turn_limit}
-use Rattle.bl_cmeaning.specs.Meaning.{runs_c, block_c, value_c, location_c, call_c, going, returning}
+use Rattle.bl_cmeaning.specs.Course.{End, Outcome, breaks, ended_by, ending, following_end, goes_on, going, returns, traps, turn_end, turn_limit}
+use Rattle.bl_cmeaning.specs.Course.{turn_or_none, turns}
+use Rattle.bl_cmeaning.specs.Meaning.{Counted, Evaluates, given, next, Scope, Runs, block_of, executed, call_end, once_more, runs_c, block_c}
+use Rattle.bl_cmeaning.specs.Meaning.{value_c, location_c, call_c}
 use Rattle.bl_cmeaning.specs.Ends.{EndsAs, EndsInside, AlwaysEnds}
 use Rattle.bl_cmeaning.specs.Tables.{Table, no_entries, table_of, with_entry}
 use Rattle.bl_cmeaning.specs.Faults.{Clause, distinct_names, declared_before, scalar_parameter, static_functions, short_chain, returns_result}
@@ -84,65 +85,68 @@ staying traps = Unit {0}
 pub record Stays (end : End) : Type 0 where
   pub it : staying end
 
-ended_by-leaves : {A : Type 0} (memory : Memory) (n : ℕ) (answer : Option A) (rest : A → Outcome) → ((a : A) → Leaves (rest a).end) →
+ended_by-leaves : {A : Type 0} (memory : Memory) (n : ℕ) (answer : Option A) (rest : A → Outcome Memory) → ((a : A) → Leaves (rest a).end) →
     Leaves (ended_by memory n answer rest).end
 ended_by-leaves memory n None rest h = record { it = tt }
 ended_by-leaves memory n (Some a) rest h = h a
 
-ended_by-stays : {A : Type 0} (memory : Memory) (n : ℕ) (answer : Option A) (rest : A → Outcome) → ((a : A) → Stays (rest a).end) →
+ended_by-stays : {A : Type 0} (memory : Memory) (n : ℕ) (answer : Option A) (rest : A → Outcome Memory) → ((a : A) → Stays (rest a).end) →
     Stays (ended_by memory n answer rest).end
 ended_by-stays memory n None rest h = record { it = tt }
 ended_by-stays memory n (Some a) rest h = h a
 
-executed-leaves : {A : Type 0} (memory : Memory) (evaluated : Counted A) (rest : A → Outcome) → ((a : A) → Leaves (rest a).end) →
+executed-leaves : {A : Type 0} (memory : Memory) (evaluated : Counted A) (rest : A → Outcome Memory) → ((a : A) → Leaves (rest a).end) →
     Leaves (executed memory evaluated rest).end
 executed-leaves memory evaluated rest h = ended_by-leaves memory (1 + evaluated.count) evaluated.answer rest h
 
-executed-stays : {A : Type 0} (memory : Memory) (evaluated : Counted A) (rest : A → Outcome) → ((a : A) → Stays (rest a).end) →
+executed-stays : {A : Type 0} (memory : Memory) (evaluated : Counted A) (rest : A → Outcome Memory) → ((a : A) → Stays (rest a).end) →
     Stays (executed memory evaluated rest).end
 executed-stays memory evaluated rest h = ended_by-stays memory (1 + evaluated.count) evaluated.answer rest h
 
-following-leaves : (n : ℕ) (memory : Memory) (end : End) (rest : Memory → Outcome) → Leaves (rest memory).end →
+following-leaves : (n : ℕ) (memory : Memory) (end : End) (rest : Memory → Outcome Memory) → Leaves (rest memory).end →
     Leaves (following_end n memory end rest).end
 following-leaves n memory goes_on rest h = h
 following-leaves n memory breaks rest h = record { it = tt }
 following-leaves n memory (returns r) rest h = record { it = tt }
 following-leaves n memory traps rest h = record { it = tt }
 
-following-left : (n : ℕ) (memory : Memory) (end : End) (rest : Memory → Outcome) → Leaves end → Leaves (following_end n memory end rest).end
+following-left : (n : ℕ) (memory : Memory) (end : End) (rest : Memory → Outcome Memory) → Leaves end → Leaves (following_end n memory end rest).end
 following-left n memory goes_on rest h = absurd h.it
 following-left n memory breaks rest h = record { it = tt }
 following-left n memory (returns r) rest h = record { it = tt }
 following-left n memory traps rest h = record { it = tt }
 
-following-stays : (n : ℕ) (memory : Memory) (end : End) (rest : Memory → Outcome) → Stays end → Stays (rest memory).end →
+following-stays : (n : ℕ) (memory : Memory) (end : End) (rest : Memory → Outcome Memory) → Stays end → Stays (rest memory).end →
     Stays (following_end n memory end rest).end
 following-stays n memory goes_on rest h r = r
 following-stays n memory breaks rest h r = h
 following-stays n memory (returns v) rest h r = record { it = tt }
 following-stays n memory traps rest h r = record { it = tt }
 
-turn_end-stays : (n : ℕ) (memory : Memory) (end : End) (again : Memory → Outcome) → Stays (again memory).end → Stays (turn_end n memory end again).end
+turn_end-stays : (n : ℕ) (memory : Memory) (end : End) (again : Memory → Outcome Memory) → Stays (again memory).end →
+    Stays (turn_end n memory end again).end
 turn_end-stays n memory goes_on again h = h
 turn_end-stays n memory breaks again h = record { it = tt }
 turn_end-stays n memory (returns r) again h = record { it = tt }
 turn_end-stays n memory traps again h = record { it = tt }
 
-turn_or_none-stays : (b : Bool) (memory : Memory) (turn : Memory → Outcome) → Stays (turn memory).end → Stays (turn_or_none b memory turn).end
+turn_or_none-stays : (b : Bool) (memory : Memory) (turn : Memory → Outcome Memory) → Stays (turn memory).end → Stays (turn_or_none b memory turn).end
 turn_or_none-stays true memory turn h = h
 turn_or_none-stays false memory turn h = record { it = tt }
 
-turns-stays : (n : ℕ) (condition : Evaluates CValue) (body : Runs) (scope : Scope) (m : Memory) → Stays (turns n condition body scope m).end
+turns-stays : (n : ℕ) (condition : Evaluates CValue) (body : Runs) (scope : Scope) (m : Memory) →
+    Stays (turns n (once_more condition scope) (body scope) m).end
 unfolding turns
 turns-stays zero condition body scope m =
-    let stop : Memory → Outcome = λ w. record { memory = w; end = traps; count = 0 } in
+    let stop : Memory → Outcome Memory = λ w. record { memory = w; end = traps; count = 0 } in
     let trapped : Stays (stop m).end = record { it = tt } in
     ended_by-stays m (condition scope m).count (condition scope m).answer (λ v. turn_or_none (is_one (number_in v)) m stop)
     (λ v. turn_or_none-stays (is_one (number_in v)) m stop trapped)
 turns-stays (suc n) condition body scope m =
-    let turn : Memory → Outcome = λ w. turn_end (body scope w).count (body scope w).memory (body scope w).end (turns n condition body scope) in
+    let turn : Memory → Outcome Memory = λ w. turn_end (body scope w).count (body scope w).memory (body scope w).end
+    (turns n (once_more condition scope) (body scope)) in
     let rest : Stays (turn m).end =
-    turn_end-stays (body scope m).count (body scope m).memory (body scope m).end (turns n condition body scope)
+    turn_end-stays (body scope m).count (body scope m).memory (body scope m).end (turns n (once_more condition scope) (body scope))
     (turns-stays n condition body scope (body scope m).memory) in
     ended_by-stays m (condition scope m).count (condition scope m).answer (λ v. turn_or_none (is_one (number_in v)) m turn)
     (λ v. turn_or_none-stays (is_one (number_in v)) m turn rest)
@@ -191,17 +195,17 @@ module _ (scope : Scope) where
       let first : Leaves (block_of (map runs_c block) scope memory).end = block-leaves block h (and-left _ _ both) memory in
       let second : Leaves (block_of (map runs_c other) scope memory).end = block-leaves other r (and-right _ _ both) memory in
       let all : Leaves (executed memory (value_c e scope memory)
-      (λ v. (if is_one (number_in v) then block_of (map runs_c block) else block_or_none (Some (map runs_c other))) scope memory)).end =
+      (λ v. (if is_one (number_in v) then block_of (map runs_c block) else block_of (map runs_c other)) scope memory)).end =
       executed-leaves memory (value_c e scope memory)
-      (λ v. (if is_one (number_in v) then block_of (map runs_c block) else block_or_none (Some (map runs_c other))) scope memory)
-      (λ v. choose-leaves (is_one (number_in v)) (block_of (map runs_c block)) (block_or_none (Some (map runs_c other))) memory first second) in
+      (λ v. (if is_one (number_in v) then block_of (map runs_c block) else block_of (map runs_c other)) scope memory)
+      (λ v. choose-leaves (is_one (number_in v)) (block_of (map runs_c block)) (block_of (map runs_c other)) memory first second) in
       rw (fold-roll-CStmt, fold-roll-CStmtKind) all
 
   return-returns : (at : Place) (e : Option CExpr) → Returns (stmt at (CStmtKind-F.Return e))
   return-returns at None sure memory = rw (fold-roll-CStmt, fold-roll-CStmtKind) (record { it = tt })
   return-returns at (Some e) sure memory =
-      let all : Leaves (executed memory (value_c e scope memory) (λ v. returning memory (number_in v))).end =
-      executed-leaves memory (value_c e scope memory) (λ v. returning memory (number_in v)) (λ v. record { it = tt }) in
+      let all : Leaves (executed memory (value_c e scope memory) (λ v. ending (returns (number_in v)) memory)).end =
+      executed-leaves memory (value_c e scope memory) (λ v. ending (returns (number_in v)) memory) (λ v. record { it = tt }) in
       rw (fold-roll-CStmt, fold-roll-CStmtKind) all
 
   return_cases : StmtCases Returns
@@ -255,9 +259,9 @@ module _ (scope : Scope) where
       let first : Stays (block_of (map runs_c block) scope memory).end =
       block-stays block h context (nil-left _ _ (nil-right (condition_faults e context) _ all)) memory in
       let all : Stays (executed memory (value_c e scope memory)
-      (λ v. (if is_one (number_in v) then block_of (map runs_c block) else block_or_none None) scope memory)).end =
-      executed-stays memory (value_c e scope memory) (λ v. (if is_one (number_in v) then block_of (map runs_c block) else block_or_none None) scope memory)
-      (λ v. choose-stays (is_one (number_in v)) (block_of (map runs_c block)) (block_or_none None) memory first (record { it = tt })) in
+      (λ v. (if is_one (number_in v) then block_of (map runs_c block) else block_of []) scope memory)).end =
+      executed-stays memory (value_c e scope memory) (λ v. (if is_one (number_in v) then block_of (map runs_c block) else block_of []) scope memory)
+      (λ v. choose-stays (is_one (number_in v)) (block_of (map runs_c block)) (block_of []) memory first (record { it = tt })) in
       rw (fold-roll-CStmt, fold-roll-CStmtKind) all
   if-keeps at e block (Some other) h r context none memory =
       let all : condition_faults e context ++ (block_faults (map faults_in_stmt block) context false ++ block_faults (map faults_in_stmt other) context false)
@@ -267,17 +271,17 @@ module _ (scope : Scope) where
       let second : Stays (block_of (map runs_c other) scope memory).end =
       block-stays other r context (nil-right (block_faults (map faults_in_stmt block) context false) _ (nil-right (condition_faults e context) _ all)) memory in
       let all : Stays (executed memory (value_c e scope memory)
-      (λ v. (if is_one (number_in v) then block_of (map runs_c block) else block_or_none (Some (map runs_c other))) scope memory)).end =
+      (λ v. (if is_one (number_in v) then block_of (map runs_c block) else block_of (map runs_c other)) scope memory)).end =
       executed-stays memory (value_c e scope memory)
-      (λ v. (if is_one (number_in v) then block_of (map runs_c block) else block_or_none (Some (map runs_c other))) scope memory)
-      (λ v. choose-stays (is_one (number_in v)) (block_of (map runs_c block)) (block_or_none (Some (map runs_c other))) memory first second) in
+      (λ v. (if is_one (number_in v) then block_of (map runs_c block) else block_of (map runs_c other)) scope memory)
+      (λ v. choose-stays (is_one (number_in v)) (block_of (map runs_c block)) (block_of (map runs_c other)) memory first second) in
       rw (fold-roll-CStmt, fold-roll-CStmtKind) all
 
   return-keeps : (at : Place) (e : Option CExpr) → Keeps (stmt at (CStmtKind-F.Return e))
   return-keeps at None context none memory = rw (fold-roll-CStmt, fold-roll-CStmtKind) (record { it = tt })
   return-keeps at (Some e) context none memory =
-      let all : Stays (executed memory (value_c e scope memory) (λ v. returning memory (number_in v))).end =
-      executed-stays memory (value_c e scope memory) (λ v. returning memory (number_in v)) (λ v. record { it = tt }) in
+      let all : Stays (executed memory (value_c e scope memory) (λ v. ending (returns (number_in v)) memory)).end =
+      executed-stays memory (value_c e scope memory) (λ v. ending (returns (number_in v)) memory) (λ v. record { it = tt }) in
       rw (fold-roll-CStmt, fold-roll-CStmtKind) all
 
   keep_cases : StmtCases Keeps

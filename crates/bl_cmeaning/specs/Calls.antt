@@ -24,6 +24,7 @@ abbrev pub arg_calls : EachIs Names CArg-F → Names
 arg_calls (CArg-F.Value value) = value
 arg_calls (CArg-F.Address place) = place
 
+-- the names called in an expression's form
 abbrev pub kind_calls : EachIs Names CExprKind-F → Names
 kind_calls (CExprKind-F.Literal type n) = []
 kind_calls (CExprKind-F.Read place) = place
@@ -31,15 +32,19 @@ kind_calls (CExprKind-F.Call call) = call
 kind_calls (CExprKind-F.Not operand) = operand
 kind_calls (CExprKind-F.Two op left right) = left ++ right
 
+-- the name that a call calls, and then those of its arguments
 abbrev pub call_calls : EachIs Names CCall-F → Names
 call_calls call = call.name ∷ joined call.args
 
+-- an expression calls what its form calls
 abbrev pub expr_calls : EachIs Names CExpr-F → Names
 expr_calls expr = expr.what
 
+-- an index calls what the expression in it calls
 abbrev pub index_calls : EachIs Names CIndex-F → Names
 index_calls index = index.at
 
+-- a place calls what its steps call
 abbrev pub place_calls : EachIs Names CPlace-F → Names
 place_calls place = joined place.steps
 
@@ -48,6 +53,7 @@ abbrev pub names_or_none : Option Names → Names
 names_or_none None = []
 names_or_none (Some names) = names
 
+-- a step calls what its index calls, where it has one
 abbrev pub step_calls : EachIs Names CStep-F → Names
 step_calls step = names_or_none step.index
 
@@ -57,15 +63,19 @@ step_calls step = names_or_none step.index
 abbrev pub calls_in : CExpr → List Text
 calls_in = fold-CExpr _ _ _ _ _ _ _ arg_calls kind_calls call_calls expr_calls index_calls place_calls step_calls
 
+-- the names that are called in the indices of a place
 abbrev pub calls_in_place : CPlace → List Text
 calls_in_place = fold-CPlace _ _ _ _ _ _ _ arg_calls kind_calls call_calls expr_calls index_calls place_calls step_calls
 
+-- the names that are called by a call and in its arguments
 abbrev pub calls_in_call : CCall → List Text
 calls_in_call = fold-CCall _ _ _ _ _ _ _ arg_calls kind_calls call_calls expr_calls index_calls place_calls step_calls
 
+-- the names that are called in an argument
 abbrev pub calls_in_arg : CArg → List Text
 calls_in_arg = fold-CArg _ _ _ _ _ _ _ arg_calls kind_calls call_calls expr_calls index_calls place_calls step_calls
 
+-- the names that are called in the index of a step
 abbrev pub calls_in_step : CStep → List Text
 calls_in_step = fold-CStep _ _ _ _ _ _ _ arg_calls kind_calls call_calls expr_calls index_calls place_calls step_calls
 
@@ -89,6 +99,7 @@ stmt_kind_calls (CStmtKind-F.Loop turn condition body) = calls_in condition ++ j
 stmt_kind_calls CStmtKind-F.Break = []
 stmt_kind_calls (CStmtKind-F.Return expr) = calls_or_none expr
 
+-- a statement calls what its form calls
 abbrev pub stmt_calls : CStmt-F Names Names → Names
 stmt_calls stmt = stmt.what
 

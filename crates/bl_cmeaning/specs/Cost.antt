@@ -5,9 +5,9 @@ use Rattle.bl_tree.specs.declared.c.CStmtKind.TheOpen.{CStmtKind-F, CStmt-F}
 use Rattle.bl_tree.specs.declared.c.CStmt.{CStmt, fold-CStmt}
 use Rattle.bl_tree.specs.declared.c.CFunc.{CFunc}
 use Rattle.bl_tree.specs.Reduce.{total}
+use Rattle.bl_cmeaning.specs.Course.{turn_limit}
 use Rattle.bl_cmeaning.specs.Parts.{Parts}
 use Rattle.bl_cmeaning.specs.Tables.{found, Table, no_entries, with_entry, entry_or}
-use Rattle.bl_cmeaning.specs.Meaning.{turn_limit}
 use Rattle.bl_cmeaning.specs.Calls.{calls_in, calls_in_place, calls_in_call, calls_or_none}
 
 -- the costs of the earlier functions
@@ -39,6 +39,7 @@ stmt_kind_cost (CStmtKind-F.Loop turn condition body) known =
 stmt_kind_cost CStmtKind-F.Break known = 1
 stmt_kind_cost (CStmtKind-F.Return expr) known = 1 + cost_of_calls known (calls_or_none expr)
 
+-- a statement costs what its form costs
 abbrev pub stmt_cost_step : CStmt-F (Costs → ℕ) (Costs → ℕ) → Costs → ℕ
 stmt_cost_step stmt = stmt.what
 

@@ -4,7 +4,8 @@ use Rattle.bl_tree.specs.declared.scalar.Scalar.{Scalar}
 use Rattle.bl_tree.specs.declared.c.CFunc.{CFunc}
 use Rattle.bl_cmeaning.specs.Parts.{Parts}
 use Rattle.bl_cmeaning.specs.Memory.{Memory}
-use Rattle.bl_cmeaning.specs.Meaning.{End, goes_on, breaks, returns, traps, Scope, block_c}
+use Rattle.bl_cmeaning.specs.Course.{End, breaks, goes_on, returns, traps}
+use Rattle.bl_cmeaning.specs.Meaning.{Scope, block_c}
 use Rattle.bl_cmeaning.specs.Faults.{WellFormed}
 
 -- a body ends by a trap or a `return`, or, in a function without a result, by its last statement; never by a `break`

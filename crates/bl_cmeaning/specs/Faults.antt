@@ -309,6 +309,7 @@ is_void (Some result) = is_none result
 abbrev pub hands_on : Option Signature → List JudgedArg → Bool
 hands_on signature args = is_void (known_result signature) && any_of (map (λ a. a.address && a.through) args)
 
+-- an expression's form: its type, and what fails in it
 abbrev pub judge_kind : Judging CExprKind-F → Judges Judged
 judge_kind (CExprKind-F.Literal type n) context place = record { ty = Some (OfScalar type); faults = [] }
 judge_kind (CExprKind-F.Read target) context place =
@@ -328,6 +329,7 @@ judge_kind (CExprKind-F.Two op left right) context place =
       faults = a.faults ++ (b.faults ++ unless (if_typed a.ty (takes op) && if_typed b.ty (takes op) && agree a.ty b.ty) operand_type place);
     }
 
+-- a call: its function is declared before, and its arguments suit the parameters
 abbrev pub judge_call : Judging CCall-F → Judges JudgedCall
 judge_call call context place =
     let signature : Option Signature = signature_of context call.name in
@@ -340,9 +342,11 @@ judge_call call context place =
           ++ unless (not (context.keeps && hands_on signature args)) changes_nothing place));
     }
 
+-- an expression is judged at its own place
 abbrev pub judge_expr : Judging CExpr-F → Context → Judged
 judge_expr expr context = expr.what context expr.place
 
+-- an index: its expression has the type that its function takes
 abbrev pub judge_index : Judging CIndex-F → Judges JudgedIndex
 judge_index index context place =
     let i : Judged = index.at context in
@@ -363,6 +367,7 @@ judge_steps (step ∷ steps) context place ty =
     let last : Judged = judge_steps steps context place first.ty in
     record { ty = last.ty; faults = first.faults ++ last.faults }
 
+-- a place: the variable that it begins with is used in the right way, and each step suits the type before it
 abbrev pub judge_place : Judging CPlace-F → Judges JudgedPlace
 judge_place target context place =
     let root : Judged = judge_root (context.variables target.name) target.through place in
@@ -481,6 +486,7 @@ stmt_kind_faults (CStmtKind-F.Loop turn condition body) place context looped =
 stmt_kind_faults CStmtKind-F.Break place context looped = unless looped break_in_loop place
 stmt_kind_faults (CStmtKind-F.Return expr) place context looped = return_faults expr context.result context place
 
+-- a statement is judged at its own place
 abbrev pub stmt_faults_step : CStmt-F (Place → StmtFaults) StmtFaults → StmtFaults
 stmt_faults_step stmt = stmt.what stmt.place
 

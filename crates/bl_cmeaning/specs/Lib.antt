@@ -3,6 +3,7 @@ pub mod Calls
 pub mod Cause
 pub mod Cells
 pub mod Cost
+pub mod Course
 pub mod Ends
 pub mod Faults
 pub mod Laws

@@ -2,8 +2,6 @@
 -- A form that no well-formed file has (a function that isn't known, a number where a place is due) traps or gives some fixed value.
 use Rattle.std.specs.Prelude.{
   ℕ,
-  zero,
-  suc,
   ◌+◌,
   ℤ,
   pos,
@@ -19,6 +17,7 @@ use Rattle.std.specs.Prelude.{
   Some,
   None,
   option_map,
+  unwrap_or,
   if◌then◌else◌,
 }
 use Rattle.bl_tree.specs.declared.text.Text.{Text}
@@ -39,6 +38,8 @@ use Rattle.bl_cmeaning.specs.Memory.{Part, member, element, Root, variable, Loca
 use Rattle.bl_cmeaning.specs.Tables.{Table, no_entries, table_of, with_entry, entry_or}
 use Rattle.bl_ctext.specs.declared.builtin.Builtin.{Builtin}
 use Rattle.bl_cmeaning.specs.Builtin.{builtin_of, builtin_value, index_within}
+use Rattle.bl_cmeaning.specs.Course.{End, goes_on, breaks, returns, traps, result_at, Outcome, ending, going, after, ended_by, in_order}
+use Rattle.bl_cmeaning.specs.Course.{turn_or_none, turns, turn_limit}
 
 -- ---- answers with a count
 
@@ -178,6 +179,7 @@ abbrev pub arg_step : Evaluating CArg-F → Evaluates Passed
 arg_step (CArg-F.Value value) scope memory = next (value scope memory) (λ v. given (Some (by_value v)))
 arg_step (CArg-F.Address place) scope memory = next (place scope memory) (λ p. given (Some (by_address p)))
 
+-- the value of an expression's form
 abbrev pub kind_step : Evaluating CExprKind-F → Evaluates CValue
 kind_step (CExprKind-F.Literal type n) scope memory = given (Some (scalar n))
 kind_step (CExprKind-F.Read place) scope memory = next (place scope memory) (λ p. given (Some (value_at memory p)))
@@ -186,18 +188,22 @@ kind_step (CExprKind-F.Not operand) scope memory =
     next (operand scope memory) (λ a. given (option_map scalar (checked_one_of Not OfBool (number_in a))))
 kind_step (CExprKind-F.Two op left right) scope memory = two_values op left right scope memory
 
+-- a call: its arguments are evaluated, then the function is called
 abbrev pub call_step : Evaluating CCall-F → Scope → Memory → Called
 call_step call scope memory =
     let passed = each_of call.args scope memory in
     called_after scope memory call.name passed.count passed.answer
 
+-- an expression has the value of its form
 abbrev pub expr_step : Evaluating CExpr-F → Evaluates CValue
 expr_step expr = expr.what
 
+-- an index: the element that it chooses, a trap outside of the array
 abbrev pub index_step : Evaluating CIndex-F → Evaluates (List Part)
 index_step index scope memory =
     next (index.at scope memory) (λ i. given (element_at (index_within (number_in i) (pos index.length))))
 
+-- the location of a place: where its name leads, and then along its steps
 abbrev pub place_step : Evaluating CPlace-F → Evaluates Location
 place_step place scope memory =
     next (each_of place.steps scope memory) (λ ways. given (Some (further (start_of scope place.through place.name) (way_of ways))))
@@ -207,6 +213,7 @@ abbrev pub indexed : Text → Option (Evaluates (List Part)) → Evaluates (List
 indexed name None scope memory = given (Some (member name ∷ []))
 indexed name (Some index) scope memory = next (index scope memory) (λ parts. given (Some (member name ∷ parts)))
 
+-- the parts along which a step leads
 abbrev pub step_step : Evaluating CStep-F → Evaluates (List Part)
 step_step step = indexed step.member step.index
 
@@ -224,60 +231,17 @@ call_c = fold-CCall _ _ _ _ _ _ _ arg_step kind_step call_step expr_step index_s
 
 -- ---- statements
 
--- how a statement ends
-pub data End : Type 0 where
-  goes_on : End
-  breaks : End
-  -- with the function's result, 0 where it has none
-  returns : ℤ → End
-  traps : End
-
--- what a statement comes to: the memory after it, how it ended, and how many statements were executed
-pub record Outcome : Type 0 where
-  pub memory : Memory
-  pub end : End
-  pub count : ℕ
-
 -- what a statement does, in a scope and a memory
 abbrev pub Runs : Type 0
-Runs = Scope → Memory → Outcome
-
--- an outcome with so many statements before it
-abbrev pub after : ℕ → Outcome → Outcome
-after n o = record { memory = o.memory; end = o.end; count = n + o.count }
-
--- what follows where a statement goes on, and how else it ended
-abbrev pub following_end : ℕ → Memory → End → (Memory → Outcome) → Outcome
-following_end n memory goes_on rest = after n (rest memory)
-following_end n memory breaks rest = record { memory = memory; end = breaks; count = n }
-following_end n memory (returns result) rest = record { memory = memory; end = returns result; count = n }
-following_end n memory traps rest = record { memory = memory; end = traps; count = n }
-
--- what follows an outcome that goes on
-abbrev pub following : Outcome → (Memory → Outcome) → Outcome
-following o rest = following_end o.count o.memory o.end rest
+Runs = Scope → Memory → Outcome Memory
 
 -- the statements of a block, one after the other
 abbrev pub block_of : List Runs → Runs
-block_of [] scope memory = record { memory = memory; end = goes_on; count = 0 }
-block_of (runs ∷ rest) scope memory = following (runs scope memory) (λ m. block_of rest scope m)
-
--- a statement is executed, and what it evaluated says how it ends; it counts itself
-abbrev pub ended_by : {A : Type 0} → Memory → ℕ → Option A → (A → Outcome) → Outcome
-ended_by memory n None rest = record { memory = memory; end = traps; count = n }
-ended_by memory n (Some a) rest = after n (rest a)
+block_of block scope = in_order (map (λ runs. runs scope) block)
 
 -- a statement that first evaluates something, and traps where that traps
-abbrev pub executed : {A : Type 0} → Memory → Counted A → (A → Outcome) → Outcome
+abbrev pub executed : {A : Type 0} → Memory → Counted A → (A → Outcome Memory) → Outcome Memory
 executed memory evaluated rest = ended_by memory (1 + evaluated.count) evaluated.answer rest
-
--- a statement after which the next comes, with this memory
-abbrev pub going : Memory → Outcome
-going memory = record { memory = memory; end = goes_on; count = 0 }
-
--- the outcome that returns a number
-abbrev pub returning : Memory → ℤ → Outcome
-returning memory result = record { memory = memory; end = returns result; count = 0 }
 
 -- a call as a statement: its result is dropped
 abbrev pub call_end : Option ℤ → End
@@ -285,41 +249,14 @@ call_end (Some result) = goes_on
 call_end None = traps
 
 -- the outcome of a call that is a statement
-abbrev pub call_outcome : Called → Outcome
+abbrev pub call_outcome : Called → Outcome Memory
 call_outcome c = record { memory = c.memory; end = call_end c.result; count = 1 + c.count }
 
--- the block of an `if`, none where there is no `else`
-abbrev pub block_or_none : Option (List Runs) → Runs
-block_or_none None scope memory = going memory
-block_or_none (Some block) scope memory = block_of block scope memory
-
--- a turn of a loop that has ended: after `break` the loop goes on with what follows it, else comes its next turn
-abbrev pub turn_end : ℕ → Memory → End → (Memory → Outcome) → Outcome
-turn_end n memory goes_on again = after n (again memory)
-turn_end n memory breaks again = record { memory = memory; end = goes_on; count = n }
-turn_end n memory (returns result) again = record { memory = memory; end = returns result; count = n }
-turn_end n memory traps again = record { memory = memory; end = traps; count = n }
-
--- where the condition is true a turn begins, which counts one
-abbrev pub turn_or_none : Bool → Memory → (Memory → Outcome) → Outcome
-turn_or_none true memory turn = after 1 (turn memory)
-turn_or_none false memory turn = going memory
-
 -- the condition once more, and a turn where it is true
-abbrev pub once_more : Evaluates CValue → (Memory → Outcome) → Runs
-once_more condition turn scope memory =
+abbrev pub once_more : Evaluates CValue → Scope → (Memory → Outcome Memory) → Memory → Outcome Memory
+once_more condition scope turn memory =
     let c = condition scope memory in
     ended_by memory c.count c.answer (λ v. turn_or_none (is_one (number_in v)) memory turn)
-
--- a loop that can still end so many turns. The turn after the last of them traps at its beginning
-unfoldable pub turns : ℕ → Evaluates CValue → Runs → Scope → Memory → Outcome
-turns zero condition body scope = once_more condition (λ m. record { memory = m; end = traps; count = 0 }) scope
-turns (suc n) condition body scope =
-    once_more condition (λ m. let o = body scope m in turn_end o.count o.memory o.end (turns n condition body scope)) scope
-
--- how many turns of a loop can end
-unfoldable pub turn_limit : ℕ
-turn_limit = 65536
 
 -- one step of the fold for statements
 abbrev pub stmt_kind_step : CStmtKind-F Runs Runs → Runs
@@ -329,14 +266,15 @@ stmt_kind_step (CStmtKind-F.Clear place name) scope memory =
     executed memory (location_c place scope memory) (λ p. going (set_at memory p zeros))
 stmt_kind_step (CStmtKind-F.Call call) scope memory = call_outcome (call_c call scope memory)
 stmt_kind_step (CStmtKind-F.If condition block other) scope memory =
-    executed memory (value_c condition scope memory) (λ v. (if is_one (number_in v) then block_of block else block_or_none other) scope memory)
+    executed memory (value_c condition scope memory) (λ v. (if is_one (number_in v) then block_of block else block_of (unwrap_or other [])) scope memory)
 stmt_kind_step (CStmtKind-F.Loop name condition body) scope memory =
-    after 1 (turns turn_limit (value_c condition) (block_of body) scope memory)
+    after 1 (turns turn_limit (once_more (value_c condition) scope) (block_of body scope) memory)
 stmt_kind_step CStmtKind-F.Break scope memory = record { memory = memory; end = breaks; count = 1 }
 stmt_kind_step (CStmtKind-F.Return None) scope memory = record { memory = memory; end = returns (pos 0); count = 1 }
 stmt_kind_step (CStmtKind-F.Return (Some expr)) scope memory =
-    executed memory (value_c expr scope memory) (λ v. returning memory (number_in v))
+    executed memory (value_c expr scope memory) (λ v. ending (returns (number_in v)) memory)
 
+-- a statement does what its form does
 abbrev pub stmt_step : CStmt-F Runs Runs → Runs
 stmt_step stmt = stmt.what
 
@@ -365,18 +303,11 @@ with_params depth (param ∷ params) (by_address place ∷ rest) memory = with_p
 with_params depth params [] memory = memory
 with_params depth [] passed memory = memory
 
--- the result of a function whose body has ended
-abbrev pub result_at : End → Option ℤ
-result_at goes_on = Some (pos 0)
-result_at breaks = Some (pos 0)
-result_at (returns result) = Some result
-result_at traps = None
-
 -- what a function does where the earlier ones are known: its variables begin at 0, its parameters at the arguments, and all of them are gone after it
 abbrev pub function_c : Table Meaning → CFunc → Meaning
 function_c known function depth passed memory =
     let scope : Scope = record { known = known; depth = depth; pointers = table_of (pointers_of function.params passed) } in
-    let o : Outcome = block_c function.body scope (with_params depth function.params passed (without_frame depth memory)) in
+    let o : Outcome Memory = block_c function.body scope (with_params depth function.params passed (without_frame depth memory)) in
     record { memory = without_frame depth o.memory; count = o.count; result = result_at o.end }
 
 -- the functions in order by name, each over those before it

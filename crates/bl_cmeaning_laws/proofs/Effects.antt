@@ -42,10 +42,11 @@ use Rattle.bl_tree.specs.Reduce.{any_of, joined}
 use Rattle.bl_ctext.specs.declared.builtin.Builtin.{Builtin}
 use Rattle.bl_cmeaning.specs.Builtin.{builtin_of}
 use Rattle.bl_cmeaning.specs.Memory.{Part, Root, variable, Location, CValue, Memory, number_in, same_root, set_at, with_part, zeros}
-use Rattle.bl_cmeaning.specs.Meaning.{Counted, Evaluates, Meaning, Passed, by_address, by_value, Scope, End, goes_on, breaks, returns, traps, Outcome}
-use Rattle.bl_cmeaning.specs.Meaning.{Runs, after, block_c, block_of, block_or_none, call_c, called_after, called_as, each_of, ended_by, executed}
-use Rattle.bl_cmeaning.specs.Meaning.{following_end, further, given, going, going_on, location_c, next, returning, runs_c, start_of, turn_end}
-use Rattle.bl_cmeaning.specs.Meaning.{turn_limit, turn_or_none, turns, value_c, way_of}
+use Rattle.bl_cmeaning.specs.Course.{End, Outcome, after, breaks, ended_by, ending, following_end, goes_on, going, returns, traps, turn_end}
+use Rattle.bl_cmeaning.specs.Course.{turn_limit, turn_or_none, turns}
+use Rattle.bl_cmeaning.specs.Meaning.{Counted, Evaluates, Meaning, Passed, by_address, by_value, Scope}
+use Rattle.bl_cmeaning.specs.Meaning.{Runs, block_c, block_of, call_c, called_after, called_as, each_of, executed}
+use Rattle.bl_cmeaning.specs.Meaning.{further, given, going_on, location_c, next, once_more, runs_c, start_of, value_c, way_of}
 use Rattle.bl_cmeaning.specs.Faults.{Context, JudgedArg, Signature, agree, arguments, assigned_type, block_faults, changes_nothing, condition_faults}
 use Rattle.bl_cmeaning.specs.Faults.{declared_before, faults_in_stmt, fit_args, hands_on, judged_arg, judged_call, judged_expr, judged_place}
 use Rattle.bl_cmeaning.specs.Faults.{signature_as, signature_of, unless}
@@ -254,7 +255,7 @@ module _ (safe : Root → Bool) where
       abbrev OfStmt : CStmt → Type 0
       OfStmt s = (looped : Bool) → faults_in_stmt s context looped ≡ [] → (memory : Memory) → Stays memory (runs_c s scope memory).memory
 
-      ended-stays : {A : Type 0} (first memory : Memory) (n : ℕ) (a : Option A) (f : A → Outcome) → Stays first memory →
+      ended-stays : {A : Type 0} (first memory : Memory) (n : ℕ) (a : Option A) (f : A → Outcome Memory) → Stays first memory →
           ((x : A) → a ≡ Some x → Stays first (f x).memory) → Stays first (ended_by memory n a f).memory
       ended-stays first memory n None f h rest = h
       ended-stays first memory n (Some x) f h rest = rest x refl
@@ -265,27 +266,27 @@ module _ (safe : Root → Bool) where
       then-stays : (first memory after : Memory) → Stays first memory → Stays memory after → Stays first after
       then-stays first memory after h k root is = k root is ∙ h root is
 
-      following-stays : (first : Memory) (n : ℕ) (memory : Memory) (end : End) (rest : Memory → Outcome) → Stays first memory →
+      following-stays : (first : Memory) (n : ℕ) (memory : Memory) (end : End) (rest : Memory → Outcome Memory) → Stays first memory →
           Stays memory (rest memory).memory → Stays first (following_end n memory end rest).memory
       following-stays first n memory goes_on rest h k = then-stays first memory (rest memory).memory h k
       following-stays first n memory breaks rest h k = h
       following-stays first n memory (returns v) rest h k = h
       following-stays first n memory traps rest h k = h
 
-      turn-end-stays : (first : Memory) (n : ℕ) (memory : Memory) (end : End) (again : Memory → Outcome) → Stays first memory →
+      turn-end-stays : (first : Memory) (n : ℕ) (memory : Memory) (end : End) (again : Memory → Outcome Memory) → Stays first memory →
           Stays memory (again memory).memory → Stays first (turn_end n memory end again).memory
       turn-end-stays first n memory goes_on again h k = then-stays first memory (again memory).memory h k
       turn-end-stays first n memory breaks again h k = h
       turn-end-stays first n memory (returns v) again h k = h
       turn-end-stays first n memory traps again h k = h
 
-      turn-stays : (b : Bool) (memory : Memory) (turn : Memory → Outcome) → Stays memory (turn memory).memory →
+      turn-stays : (b : Bool) (memory : Memory) (turn : Memory → Outcome Memory) → Stays memory (turn memory).memory →
           Stays memory (turn_or_none b memory turn).memory
       turn-stays true memory turn h = h
       turn-stays false memory turn h = itself memory
 
       turns-stay : (n : ℕ) (condition : Evaluates CValue) (body : Runs) → ((m : Memory) → Stays m (body scope m).memory) → (memory : Memory) →
-          Stays memory (turns n condition body scope memory).memory
+          Stays memory (turns n (once_more condition scope) (body scope) memory).memory
       unfolding turns
       turns-stay zero condition body h memory =
           ended-stays memory memory (condition scope memory).count (condition scope memory).answer
@@ -294,10 +295,11 @@ module _ (safe : Root → Bool) where
       turns-stay (suc n) condition body h memory =
           ended-stays memory memory (condition scope memory).count (condition scope memory).answer
           (λ v. turn_or_none (is_one (number_in v)) memory
-          (λ m. turn_end (body scope m).count (body scope m).memory (body scope m).end (turns n condition body scope))) (itself memory)
+          (λ m. turn_end (body scope m).count (body scope m).memory (body scope m).end (turns n (once_more condition scope) (body scope)))) (itself memory)
           (λ v is. turn-stays (is_one (number_in v)) memory
-          (λ m. turn_end (body scope m).count (body scope m).memory (body scope m).end (turns n condition body scope))
-          (turn-end-stays memory (body scope memory).count (body scope memory).memory (body scope memory).end (turns n condition body scope) (h memory)
+          (λ m. turn_end (body scope m).count (body scope m).memory (body scope m).end (turns n (once_more condition scope) (body scope)))
+          (turn-end-stays memory (body scope memory).count (body scope memory).memory (body scope memory).end (turns n (once_more condition scope) (body scope))
+          (h memory)
           (turns-stay n condition body h (body scope memory).memory)))
 
       block-stays : (stmts : List CStmt) → All OfStmt stmts → (looped : Bool) → block_faults (map faults_in_stmt stmts) context looped ≡ [] →
@@ -379,7 +381,7 @@ module _ (safe : Root → Bool) where
           let n : condition_faults e context ++ (block_faults (map faults_in_stmt block) context looped ++ []) ≡ [] =
           rw (fold-roll-CStmt, fold-roll-CStmtKind) at none in
           rw (fold-roll-CStmt, fold-roll-CStmtKind)
-          (if-stays e (block_of (map runs_c block)) (block_or_none None) memory
+          (if-stays e (block_of (map runs_c block)) (block_of []) memory
           (block-stays block h looped (nil-left _ _ (nil-right (condition_faults e context) _ n)) memory) (itself memory))
       branching-case at e block (Some other) h o looped none memory =
           let n : condition_faults e context
@@ -387,14 +389,15 @@ module _ (safe : Root → Bool) where
           rw (fold-roll-CStmt, fold-roll-CStmtKind) at none in
           let n2 = nil-right (condition_faults e context) _ n in
           rw (fold-roll-CStmt, fold-roll-CStmtKind)
-          (if-stays e (block_of (map runs_c block)) (block_or_none (Some (map runs_c other))) memory (block-stays block h looped (nil-left _ _ n2) memory)
+          (if-stays e (block_of (map runs_c block)) (block_of (map runs_c other)) memory (block-stays block h looped (nil-left _ _ n2) memory)
           (block-stays other o looped (nil-right (block_faults (map faults_in_stmt block) context looped) _ n2) memory))
 
       returning-case : (at : Place) (e : Option CExpr) → OfStmt (stmt at (CStmtKind-F.Return e))
       returning-case at None looped none memory = rw (fold-roll-CStmt, fold-roll-CStmtKind) (itself memory)
       returning-case at (Some e) looped none memory =
           rw (fold-roll-CStmt, fold-roll-CStmtKind)
-          (ended-stays memory memory (1 + (value_c e scope memory).count) (value_c e scope memory).answer (λ v. returning memory (number_in v)) (itself memory)
+          (ended-stays memory memory (1 + (value_c e scope memory).count) (value_c e scope memory).answer (λ v. ending (returns (number_in v)) memory)
+          (itself memory)
           (λ v is. itself memory))
 
       stmt_cases : StmtCases OfStmt

@@ -35,8 +35,9 @@ use Rattle.bl_tree.specs.Reduce.{all_of}
 use Rattle.bl_ctext.specs.Spellable.{spells_func, spells_local, spells_param, spells_returned, spells_stmt}
 use Rattle.bl_ctext.specs.Names.{is_function_name}
 use Rattle.bl_cmeaning.specs.Memory.{Root, state_object, input_object, output_object, variable, Location, Memory, in_frame, set_at, without_frame, zeros}
-use Rattle.bl_cmeaning.specs.Meaning.{Meaning, Passed, by_address, by_value, Scope, End, goes_on, breaks, returns, traps, block_c, function_c}
-use Rattle.bl_cmeaning.specs.Meaning.{pointers_of, result_at, with_params}
+use Rattle.bl_cmeaning.specs.Course.{End, breaks, goes_on, result_at, returns, traps}
+use Rattle.bl_cmeaning.specs.Meaning.{Meaning, Passed, by_address, by_value, Scope, block_c, function_c}
+use Rattle.bl_cmeaning.specs.Meaning.{pointers_of, with_params}
 use Rattle.bl_cmeaning.specs.Sizes.{Sizes, chain_cells, sizes}
 use Rattle.bl_cmeaning.specs.Tables.{Table, entry_or, found, no_entries, table_of}
 use Rattle.bl_cmeaning.specs.Loops.{turns_in_block}
@@ -246,7 +247,7 @@ module _ (file : Parts) (shaped : Shaped (sizes file.structs) (lists_of file.str
           stands = ended-stands (sizes file.structs) (lists_of file.structs) (struct_table file.structs) shaped limit w depth base f.params f.locals separate
               shallow under fits apart is.single (pointer_cells base f.params args)
               (block_c f.body scope start).memory
-              (block_flat f.body ground base (frame_begun (frame_cells (capped_sizes file.structs) f) base args cells)).cells ran.stands;
+              (block_flat f.body ground base (frame_begun (frame_cells (capped_sizes file.structs) f) base args cells)).memory ran.stands;
           range = ranged-end f.result (block_c f.body scope start).end ran.range;
         };
   }

@@ -42,11 +42,11 @@ use Rattle.bl_tree.specs.Reduce.{all_of, joined}
 use Rattle.bl_ctext.specs.Names.{is_struct_name, is_turn_name}
 use Rattle.bl_ctext.specs.Spellable.{spells_expr, spells_place, spells_stmt}
 use Rattle.bl_cmeaning.specs.Memory.{Location, CValue, Memory, number_in, set_at, zeros}
-use Rattle.bl_cmeaning.specs.Meaning.{Called, Counted, Evaluates as EvaluatesC, Scope, End, goes_on, breaks, returns, traps, Outcome, Runs as RunsC}
-use Rattle.bl_cmeaning.specs.Meaning.{after as after_c, block_of as block_of_c, block_or_none as block_or_none_c, call_c, call_end, call_outcome}
-use Rattle.bl_cmeaning.specs.Meaning.{ended_by as ended_by_c, executed as executed_c, following_end as following_end_c, given, going as going_c}
-use Rattle.bl_cmeaning.specs.Meaning.{going_on as going_on_c, location_c, next as next_c, once_more as once_more_c, returning, runs_c}
-use Rattle.bl_cmeaning.specs.Meaning.{turn_end as turn_end_c, turn_limit, turn_or_none as turn_or_none_c, turns as turns_c, value_c}
+use Rattle.bl_cmeaning.specs.Course.{End, Outcome, after, breaks, ended_by, ending, following_end, goes_on, going, returns, traps, turn_end}
+use Rattle.bl_cmeaning.specs.Course.{turn_limit, turn_or_none, turns}
+use Rattle.bl_cmeaning.specs.Meaning.{Called, Counted, Evaluates as EvaluatesC, Scope, Runs as RunsC, block_of as block_of_c, call_c, call_end}
+use Rattle.bl_cmeaning.specs.Meaning.{call_outcome, executed as executed_c, given, going_on as going_on_c, location_c, next as next_c}
+use Rattle.bl_cmeaning.specs.Meaning.{once_more as once_more_c, runs_c, value_c}
 use Rattle.bl_cmeaning.specs.Sizes.{Sizes, size_of_type}
 use Rattle.bl_cmeaning.specs.Tables.{Table, entry_or}
 use Rattle.bl_cmeaning.specs.Calls.{calls_in, calls_in_place, calls_in_stmt}
@@ -57,9 +57,9 @@ use Rattle.bl_cmeaning.proofs.EndLemmas.{nil-left, nil-right}
 use Rattle.bl_cmeaning.proofs.Induction.{Optional, StmtCases, induct_stmt, stmt}
 use Rattle.bl_cmeaning_laws.proofs.Lists.{and-left, and-right}
 use Rattle.bl_cmeaning_laws.specs.Reaching.{Ground}
-use Rattle.bl_cmeaning_laws.specs.Flat.{Cells, Evaluates, Left, Ran, Routine, Runs, address_of, after, block_of, block_or_none, call_flat}
-use Rattle.bl_cmeaning_laws.specs.Flat.{cell_number, copied, ended_by, ending, executed, following_end, going, going_on, left, next, once_more}
-use Rattle.bl_cmeaning_laws.specs.Flat.{reach_flat, runs_flat, turn_end, turn_or_none, turns, value_flat, written_at, zeroed}
+use Rattle.bl_cmeaning_laws.specs.Flat.{Cells, Evaluates, Left, Routine, Runs, address_of, block_of, call_flat}
+use Rattle.bl_cmeaning_laws.specs.Flat.{cell_number, copied, executed, going_on, left, next, once_more}
+use Rattle.bl_cmeaning_laws.specs.Flat.{reach_flat, runs_flat, value_flat, written_at, zeroed}
 use Rattle.bl_cmeaning_laws.proofs.Faultless.{unless-nil}
 use Rattle.bl_cmeaning_laws.proofs.Ways.{Lists, Shaped, Structs}
 use Rattle.bl_cmeaning_laws.proofs.Standing.{PlacedAt, Stands, World, clear-stands, copy-stands, placed-below, set-stands, zero-fits}
@@ -98,50 +98,52 @@ module _ (known : Sizes) (lists : Lists) (structs : Structs) (shaped : Shaped kn
   Roomy names = RoomFor chains w.top limit names
 
   -- a statement in both
-  pub record RunAgrees (o : Outcome) (r : Ran) : Type 0 where
+  pub record RunAgrees (o : Outcome Memory) (r : Outcome Cells) : Type 0 where
     pub count : o.count ≡ r.count
     pub end : o.end ≡ r.end
-    pub stands : Stood o.memory r.cells
+    pub stands : Stood o.memory r.memory
     pub range : EndRanged context.result o.end
 
   -- ---- what comes one after the other
 
-  ended-agrees : {A B : Type 0} (R : A → B → Type 0) (memory : Memory) (n k : ℕ) (cells : Cells) (a : Option A) (b : Option B) (f : A → Outcome)
-      (g : Cells → B → Ran) → n ≡ k → Stood memory cells → Matches R a b →
-      ((x : A) (y : B) → R x y → RunAgrees (f x) (g cells y)) → RunAgrees (ended_by_c memory n a f) (ended_by cells k b g)
+  ended-agrees : {A B : Type 0} (R : A → B → Type 0) (memory : Memory) (n k : ℕ) (cells : Cells) (a : Option A) (b : Option B) (f : A → Outcome Memory)
+      (g : B → Outcome Cells) → n ≡ k → Stood memory cells → Matches R a b →
+      ((x : A) (y : B) → R x y → RunAgrees (f x) (g y)) → RunAgrees (ended_by memory n a f) (ended_by cells k b g)
   ended-agrees R memory n k cells None None f g same stood h rest = record { count = same; end = refl; stands = stood; range = no-number context.result }
   ended-agrees R memory n k cells None (Some b) f g same stood h rest = absurd h
   ended-agrees R memory n k cells (Some a) None f g same stood h rest = absurd h
   ended-agrees R memory n k cells (Some a) (Some b) f g same stood h rest =
-      let r : RunAgrees (f a) (g cells b) = rest a b h in
+      let r : RunAgrees (f a) (g b) = rest a b h in
       let e = r.count in
       record { count = omega arith; end = r.end; stands = r.stands; range = r.range }
 
-  executed-agrees : {A B : Type 0} (R : A → B → Type 0) (memory : Memory) (c : Counted A) (l : Left B) (f : A → Outcome) (g : Cells → B → Ran) →
+  executed-agrees : {A B : Type 0} (R : A → B → Type 0) (memory : Memory) (c : Counted A) (l : Left B) (f : A → Outcome Memory)
+      (g : Cells → B → Outcome Cells) →
       Alike memory R c l →
       ((x : A) (y : B) (cells : Cells) → R x y → Stood memory cells → RunAgrees (f x) (g cells y)) → RunAgrees (executed_c memory c f) (executed 1 l g)
   executed-agrees R memory c l f g h rest =
       let e = h.count in
-      ended-agrees R memory (1 + c.count) (1 + l.count) l.cells c.answer l.answer f g (omega arith) h.stands h.answer (λ x y r. rest x y l.cells r h.stands)
+      ended-agrees R memory (1 + c.count) (1 + l.count) l.cells c.answer l.answer f (g l.cells) (omega arith) h.stands h.answer
+      (λ x y r. rest x y l.cells r h.stands)
 
   unending : (r : Option Scalar) (end : End) → end ≡ goes_on → EndRanged r end
   unending None end is = tt
   unending (Some t) end is = subst (EndRanged (Some t)) (sym is) tt
 
-  following-agrees : (n k : ℕ) (memory : Memory) (cells : Cells) (end : End) (f : Memory → Outcome) (g : Cells → Ran) → n ≡ k →
+  following-agrees : (n k : ℕ) (memory : Memory) (cells : Cells) (end : End) (f : Memory → Outcome Memory) (g : Cells → Outcome Cells) → n ≡ k →
       Stood memory cells →
       EndRanged context.result end → RunAgrees (f memory) (g cells) →
-      RunAgrees (following_end_c n memory end f) (following_end k cells end g)
+      RunAgrees (following_end n memory end f) (following_end k cells end g)
   following-agrees n k memory cells goes_on f g same stood range rest = let e = rest.count in
       record { count = omega arith; end = rest.end; stands = rest.stands; range = rest.range }
   following-agrees n k memory cells breaks f g same stood range rest = record { count = same; end = refl; stands = stood; range = range }
   following-agrees n k memory cells (returns r) f g same stood range rest = record { count = same; end = refl; stands = stood; range = range }
   following-agrees n k memory cells traps f g same stood range rest = record { count = same; end = refl; stands = stood; range = range }
 
-  turn-end-agrees : (n k : ℕ) (memory : Memory) (cells : Cells) (end : End) (f : Memory → Outcome) (g : Cells → Ran) → n ≡ k →
+  turn-end-agrees : (n k : ℕ) (memory : Memory) (cells : Cells) (end : End) (f : Memory → Outcome Memory) (g : Cells → Outcome Cells) → n ≡ k →
       Stood memory cells →
       EndRanged context.result end → RunAgrees (f memory) (g cells) →
-      RunAgrees (turn_end_c n memory end f) (turn_end k cells end g)
+      RunAgrees (turn_end n memory end f) (turn_end k cells end g)
   turn-end-agrees n k memory cells goes_on f g same stood range rest = let e = rest.count in
       record { count = omega arith; end = rest.end; stands = rest.stands; range = rest.range }
   turn-end-agrees n k memory cells breaks f g same stood range rest =
@@ -149,9 +151,9 @@ module _ (known : Sizes) (lists : Lists) (structs : Structs) (shaped : Shaped kn
   turn-end-agrees n k memory cells (returns r) f g same stood range rest = record { count = same; end = refl; stands = stood; range = range }
   turn-end-agrees n k memory cells traps f g same stood range rest = record { count = same; end = refl; stands = stood; range = range }
 
-  turn-agrees : (b : Bool) (memory : Memory) (cells : Cells) (f : Memory → Outcome) (g : Cells → Ran) → Stood memory cells →
+  turn-agrees : (b : Bool) (memory : Memory) (cells : Cells) (f : Memory → Outcome Memory) (g : Cells → Outcome Cells) → Stood memory cells →
       RunAgrees (f memory) (g cells) →
-      RunAgrees (turn_or_none_c b memory f) (turn_or_none b g cells)
+      RunAgrees (turn_or_none b memory f) (turn_or_none b cells g)
   turn-agrees true memory cells f g stood h = let e = h.count in record { count = omega arith; end = h.end; stands = h.stands; range = h.range }
   turn-agrees false memory cells f g stood h = record { count = refl; end = refl; stands = stood; range = unending context.result goes_on refl }
 
@@ -161,37 +163,42 @@ module _ (known : Sizes) (lists : Lists) (structs : Structs) (shaped : Shaped kn
   Conditions condition flat =
       (memory : Memory) (cells : Cells) → Stood memory cells → Alike memory (Value memory (Some bool_type)) (condition scope memory) (flat base cells)
 
-  once-agrees : (condition : EvaluatesC CValue) (flat : Evaluates ℤ) → Conditions condition flat → (f : Memory → Outcome) (g : Cells → Ran) →
+  once-agrees : (condition : EvaluatesC CValue) (flat : Evaluates ℤ) → Conditions condition flat →
+      (f : Memory → Outcome Memory) (g : Cells → Outcome Cells) →
       ((memory : Memory) (cells : Cells) → Stood memory cells → RunAgrees (f memory) (g cells)) →
-      (memory : Memory) (cells : Cells) → Stood memory cells → RunAgrees (once_more_c condition f scope memory) (once_more flat g base cells)
+      (memory : Memory) (cells : Cells) → Stood memory cells → RunAgrees (once_more_c condition scope f memory) (once_more flat base g cells)
   once-agrees condition flat h f g turn memory cells stood =
       let c : Alike memory (Value memory (Some bool_type)) (condition scope memory) (flat base cells) = h memory cells stood in
       let e = c.count in
       ended-agrees (Value memory (Some bool_type)) memory (condition scope memory).count (0 + (flat base cells).count) (flat base cells).cells
       (condition scope memory).answer (flat base cells).answer
-      (λ v. turn_or_none_c (is_one (number_in v)) memory f) (λ after v. turn_or_none (is_one v) g after) (omega arith) c.stands c.answer
-      (λ v n valued. subst (λ x. RunAgrees (turn_or_none_c (is_one x) memory f) (turn_or_none (is_one n) g (flat base cells).cells)) (sym valued.0)
+      (λ v. turn_or_none (is_one (number_in v)) memory f) (λ v. turn_or_none (is_one v) (flat base cells).cells g) (omega arith) c.stands c.answer
+      (λ v n valued. subst (λ x. RunAgrees (turn_or_none (is_one x) memory f) (turn_or_none (is_one n) (flat base cells).cells g)) (sym valued.0)
       (turn-agrees (is_one n) memory (flat base cells).cells f g c.stands (turn memory (flat base cells).cells c.stands)))
 
   stopped : (memory : Memory) (cells : Cells) → Stood memory cells → RunAgrees (record { memory = memory; end = traps; count = 0 }) (ending traps cells)
   stopped memory cells stood = record { count = refl; end = refl; stands = stood; range = no-number context.result }
 
-  turns-agree : (n : ℕ) (condition : EvaluatesC CValue) (flat : Evaluates ℤ) (body : RunsC) (run : ℕ → Cells → Ran) → Conditions condition flat →
+  turns-agree : (n : ℕ) (condition : EvaluatesC CValue) (flat : Evaluates ℤ) (body : RunsC) (run : ℕ → Cells → Outcome Cells) →
+      Conditions condition flat →
       ((memory : Memory) (cells : Cells) → Stood memory cells → RunAgrees (body scope memory) (run base cells)) →
-      (memory : Memory) (cells : Cells) → Stood memory cells → RunAgrees (turns_c n condition body scope memory) (turns n flat run base cells)
-  unfolding turns_c turns
+      (memory : Memory) (cells : Cells) → Stood memory cells →
+      RunAgrees (turns n (once_more_c condition scope) (body scope) memory) (turns n (once_more flat base) (run base) cells)
+  unfolding turns
   turns-agree zero condition flat body run h b memory cells stood =
       once-agrees condition flat h (λ m. record { memory = m; end = traps; count = 0 }) (ending traps) stopped memory cells stood
   turns-agree (suc n) condition flat body run h b memory cells stood =
-      once-agrees condition flat h (λ m. turn_end_c (body scope m).count (body scope m).memory (body scope m).end (turns_c n condition body scope))
-      (λ c. turn_end (run base c).count (run base c).cells (run base c).end (turns n flat run base))
+      once-agrees condition flat h (λ m. turn_end (body scope m).count (body scope m).memory (body scope m).end
+      (turns n (once_more_c condition scope) (body scope)))
+      (λ c. turn_end (run base c).count (run base c).memory (run base c).end (turns n (once_more flat base) (run base)))
       (λ m c there.
       let r : RunAgrees (body scope m) (run base c) = b m c there in
-      subst (λ e. RunAgrees (turn_end_c (body scope m).count (body scope m).memory (body scope m).end (turns_c n condition body scope))
-      (turn_end (run base c).count (run base c).cells e (turns n flat run base))) r.end
-      (turn-end-agrees (body scope m).count (run base c).count (body scope m).memory (run base c).cells (body scope m).end (turns_c n condition body scope)
-      (turns n flat run base) r.count r.stands r.range
-      (turns-agree n condition flat body run h b (body scope m).memory (run base c).cells r.stands)))
+      subst (λ e. RunAgrees (turn_end (body scope m).count (body scope m).memory (body scope m).end (turns n (once_more_c condition scope) (body scope)))
+      (turn_end (run base c).count (run base c).memory e (turns n (once_more flat base) (run base)))) r.end
+      (turn-end-agrees (body scope m).count (run base c).count (body scope m).memory (run base c).memory (body scope m).end
+      (turns n (once_more_c condition scope) (body scope))
+      (turns n (once_more flat base) (run base)) r.count r.stands r.range
+      (turns-agree n condition flat body run h b (body scope m).memory (run base c).memory r.stands)))
       memory cells stood
 
   -- ---- each kind
@@ -216,7 +223,7 @@ module _ (known : Sizes) (lists : Lists) (structs : Structs) (shaped : Shaped kn
       both (Some v) (Some n) m = value-agrees known lists structs shaped limit w memory (judged_expr e context).ty bool_type v n typed m
 
   goes : (n k : ℕ) (memory : Memory) (cells : Cells) → n ≡ k → Stood memory cells →
-      RunAgrees (record { memory = memory; end = goes_on; count = n }) (record { cells = cells; end = goes_on; count = k })
+      RunAgrees (record { memory = memory; end = goes_on; count = n }) (record { memory = cells; end = goes_on; count = k })
   goes n k memory cells same stood = record { count = same; end = refl; stands = stood; range = unending context.result goes_on refl }
 
   -- ---- writing
@@ -254,7 +261,7 @@ module _ (known : Sizes) (lists : Lists) (structs : Structs) (shaped : Shaped kn
   -- what was evaluated and written
   pub record SetAgrees (memory : Memory) (c : Counted Memory) (l : Left ℤ) : Type 0 where
     pub count : c.count ≡ l.count
-    pub result : RunAgrees (ended_by_c memory (1 + c.count) c.answer going_c) (ended_by l.cells (1 + l.count) l.answer (λ after v. going after))
+    pub result : RunAgrees (ended_by memory (1 + c.count) c.answer going) (ended_by l.cells (1 + l.count) l.answer (λ v. going l.cells))
 
   set-value : (memory : Memory) (l : Location) (k n m : ℕ) (cells : Cells) (a : Option CValue) (b : Option ℤ) (goal : CType)
       (reached typed : Option CType) →
@@ -286,8 +293,8 @@ module _ (known : Sizes) (lists : Lists) (structs : Structs) (shaped : Shaped kn
       more-set n m (f l) (g cells k) same s
     where
       more-ended : (n m p q : ℕ) (a : Option Memory) (b : Option ℤ) (cells : Cells) → n ≡ m → p ≡ q →
-          RunAgrees (ended_by_c memory (1 + p) a going_c) (ended_by cells (1 + q) b (λ after v. going after)) →
-          RunAgrees (ended_by_c memory (1 + (n + p)) a going_c) (ended_by cells (1 + (m + q)) b (λ after v. going after))
+          RunAgrees (ended_by memory (1 + p) a going) (ended_by cells (1 + q) b (λ v. going cells)) →
+          RunAgrees (ended_by memory (1 + (n + p)) a going) (ended_by cells (1 + (m + q)) b (λ v. going cells))
       more-ended n m p q None None cells same alike r = record { count = omega arith; end = refl; stands = r.stands; range = r.range }
       more-ended n m p q None (Some b) cells same alike r = record { count = omega arith; end = r.end; stands = r.stands; range = r.range }
       more-ended n m p q (Some a) None cells same alike r = record { count = omega arith; end = r.end; stands = r.stands; range = r.range }
@@ -315,14 +322,14 @@ module _ (known : Sizes) (lists : Lists) (structs : Structs) (shaped : Shaped kn
       let r : RunAgrees (runs_c s scope memory) (runs_flat s ground base cells) =
       All-head OfStmt s stmts h looped (nil-left _ _ none) (room-left chains w.top limit (calls_in_stmt s) _ room) (and-left _ _ spelled) memory cells stood in
       subst (λ e. RunAgrees (block_of_c (map runs_c (s ∷ stmts)) scope memory)
-      (following_end (runs_flat s ground base cells).count (runs_flat s ground base cells).cells e (λ c. block_of (map runs_flat stmts) ground base c)))
+      (following_end (runs_flat s ground base cells).count (runs_flat s ground base cells).memory e (λ c. block_of (map runs_flat stmts) ground base c)))
       r.end
       (following-agrees (runs_c s scope memory).count (runs_flat s ground base cells).count (runs_c s scope memory).memory
-      (runs_flat s ground base cells).cells (runs_c s scope memory).end
+      (runs_flat s ground base cells).memory (runs_c s scope memory).end
       (λ m. block_of_c (map runs_c stmts) scope m) (λ c. block_of (map runs_flat stmts) ground base c) r.count r.stands r.range
       (block-agrees stmts (All-tail OfStmt s stmts h) looped (nil-right (faults_in_stmt s context looped) _ none)
       (room-right chains w.top limit (calls_in_stmt s) _ room) (and-right (spells_stmt s) _ spelled)
-      (runs_c s scope memory).memory (runs_flat s ground base cells).cells r.stands))
+      (runs_c s scope memory).memory (runs_flat s ground base cells).memory r.stands))
 
   set-case : (at : Place) (p : CPlace) (e : CExpr) (looped : Bool) →
       (judged_place p context at).faults
@@ -330,7 +337,7 @@ module _ (known : Sizes) (lists : Lists) (structs : Structs) (shaped : Shaped kn
       ++ unless (not (context.keeps && (judged_place p context at).through)) changes_nothing at)) ≡ [] →
       Roomy (calls_in_place p ++ calls_in e) → (spells_place p && spells_expr e) ≡ true → (memory : Memory) (cells : Cells) → Stood memory cells →
       RunAgrees (executed_c memory (next_c (location_c p scope memory)
-      (λ l. next_c (value_c e scope memory) (λ v. given (Some (set_at memory l v))))) going_c)
+      (λ l. next_c (value_c e scope memory) (λ v. given (Some (set_at memory l v))))) going)
       (executed 1 (next (address_of (reach_flat p ground) base cells)
       (λ c k. next (value_flat e ground base c) (λ d v. left (written_at ground.sizes (reach_flat p ground).ty k v d) (Some v)))) (λ c v. going c))
   set-case at p e looped none room spelled memory cells stood =
@@ -361,7 +368,7 @@ module _ (known : Sizes) (lists : Lists) (structs : Structs) (shaped : Shaped kn
       ++ (unless (agree (judged_place p context at).ty (Some (OfStruct name))) assigned_type at
       ++ unless (not (context.keeps && (judged_place p context at).through)) changes_nothing at)) ≡ [] →
       Roomy (calls_in_place p) → spells_place p ≡ true → (memory : Memory) (cells : Cells) → Stood memory cells →
-      RunAgrees (executed_c memory (location_c p scope memory) (λ l. going_c (set_at memory l zeros)))
+      RunAgrees (executed_c memory (location_c p scope memory) (λ l. going (set_at memory l zeros)))
       (executed 1 (address_of (reach_flat p ground) base cells) (λ c k. going (zeroed (entry_or 0 ground.sizes name) k c)))
   clear-case at p name looped none room spelled memory cells stood =
       let f = place-facts known lists structs shaped limit context scope ground chains base w running memory p at (nil-left _ _ none) room spelled in
@@ -370,7 +377,7 @@ module _ (known : Sizes) (lists : Lists) (structs : Structs) (shaped : Shaped kn
       let same = unless-nil (agree (judged_place p context at).ty (Some (OfStruct name))) assigned_type at (nil-left _ _ h2) in
       let goal : f.goal ≡ OfStruct name = same-type f.goal (OfStruct name) (ap (λ o. agree o (Some (OfStruct name))) (sym f.is) ∙ same) in
       executed-agrees (λ l k. PlacedAt known lists structs shaped limit w l f.goal k) memory (location_c p scope memory)
-      (address_of (reach_flat p ground) base cells) (λ l. going_c (set_at memory l zeros))
+      (address_of (reach_flat p ground) base cells) (λ l. going (set_at memory l zeros))
       (λ c k. going (zeroed (entry_or 0 ground.sizes name) k c)) (f.moves cells stood)
       (λ l k after placed there.
       let here : PlacedAt known lists structs shaped limit w l (OfStruct name) k =
@@ -390,7 +397,7 @@ module _ (known : Sizes) (lists : Lists) (structs : Structs) (shaped : Shaped kn
   call-case signature memory c l facts = ended c.result l.answer facts.agrees.answer
     where
       ended : (a b : Option ℤ) → a ≡ b →
-          RunAgrees (record { memory = c.memory; end = call_end a; count = 1 + c.count }) (ended_by l.cells (1 + l.count) b (λ d v. going d))
+          RunAgrees (record { memory = c.memory; end = call_end a; count = 1 + c.count }) (ended_by l.cells (1 + l.count) b (λ v. going l.cells))
       ended None None is =
           record { count = let e = facts.agrees.count in omega arith; end = refl; stands = facts.agrees.stands; range = no-number context.result }
       ended (Some n) (Some m) is = goes _ _ c.memory l.cells (let e = facts.agrees.count in omega arith) facts.agrees.stands
@@ -420,14 +427,14 @@ module _ (known : Sizes) (lists : Lists) (structs : Structs) (shaped : Shaped kn
 
   return-case : (e : CExpr) (at : Place) (r : Option Scalar) → context.result ≡ r → return_faults (Some e) r context at ≡ [] → Roomy (calls_in e) →
       spells_expr e ≡ true → (memory : Memory) (cells : Cells) → Stood memory cells →
-      RunAgrees (executed_c memory (value_c e scope memory) (λ v. returning memory (number_in v)))
+      RunAgrees (executed_c memory (value_c e scope memory) (λ v. ending (returns (number_in v)) memory))
       (executed 1 (value_flat e ground base cells) (λ c v. ending (returns v) c))
   return-case e at None is none room spelled memory cells stood =
       absurd (let x : false ≡ true = unless-nil false returns_result at (nil-right (judged_expr e context).faults _ none) in cc)
   return-case e at (Some t) is none room spelled memory cells stood =
       let typed = unless-nil (agree (judged_expr e context).ty (Some (OfScalar t))) returns_result _ (nil-right (judged_expr e context).faults _ none) in
       executed-agrees (Value memory (judged_expr e context).ty) memory (value_c e scope memory) (value_flat e ground base cells)
-      (λ v. returning memory (number_in v)) (λ c v. ending (returns v) c)
+      (λ v. ending (returns (number_in v)) memory) (λ c v. ending (returns v) c)
       (expr-agrees known lists structs shaped limit context scope ground chains base w running memory e (nil-left _ _ none) room spelled cells stood)
       (λ v n after valued there.
       let s = value-agrees known lists structs shaped limit w memory (judged_expr e context).ty (OfScalar t) v n typed valued in
@@ -447,7 +454,7 @@ module _ (known : Sizes) (lists : Lists) (structs : Structs) (shaped : Shaped kn
       let r : Roomy (calls_in e ++ joined (map calls_in_stmt block) ++ []) = rw (fold-roll-CStmt, fold-roll-CStmtKind) at room in
       let s : (spells_expr e && (all_of (map spells_stmt block) && true)) ≡ true = rw (fold-roll-CStmt, fold-roll-CStmtKind) at spelled in
       rw (fold-roll-CStmt, fold-roll-CStmt, fold-roll-CStmtKind, fold-roll-CStmtKind)
-      (if-case e (block_of_c (map runs_c block)) (block_or_none_c None) (block_of (map runs_flat block)) (block_or_none None) (nil-left _ _ n)
+      (if-case e (block_of_c (map runs_c block)) (block_of_c []) (block_of (map runs_flat block)) (block_of []) (nil-left _ _ n)
       (room-left chains w.top limit (calls_in e) (joined (map calls_in_stmt block))
       (room-left chains w.top limit (calls_in e ++ joined (map calls_in_stmt block)) [] r)) (and-left _ _ s)
       (λ m c there. block-agrees block h looped (nil-left _ _ (nil-right (condition_faults e context) _ n))
@@ -464,8 +471,8 @@ module _ (known : Sizes) (lists : Lists) (structs : Structs) (shaped : Shaped kn
       let n2 = nil-right (condition_faults e context) _ n in
       let r1 = room-left chains w.top limit (calls_in e ++ joined (map calls_in_stmt block)) (joined (map calls_in_stmt other)) r in
       rw (fold-roll-CStmt, fold-roll-CStmt, fold-roll-CStmtKind, fold-roll-CStmtKind)
-      (if-case e (block_of_c (map runs_c block)) (block_or_none_c (Some (map runs_c other))) (block_of (map runs_flat block))
-      (block_or_none (Some (map runs_flat other))) (nil-left _ _ n)
+      (if-case e (block_of_c (map runs_c block)) (block_of_c (map runs_c other)) (block_of (map runs_flat block))
+      (block_of (map runs_flat other)) (nil-left _ _ n)
       (room-left chains w.top limit (calls_in e) (joined (map calls_in_stmt block)) r1) (and-left _ _ s)
       (λ m c there. block-agrees block h looped (nil-left _ _ n2) (room-right chains w.top limit (calls_in e) (joined (map calls_in_stmt block)) r1)
       (and-left _ _ (and-right (spells_expr e) _ s)) m c there)
@@ -480,17 +487,17 @@ module _ (known : Sizes) (lists : Lists) (structs : Structs) (shaped : Shaped kn
       let r : Roomy (calls_in e ++ joined (map calls_in_stmt body)) = rw (fold-roll-CStmt, fold-roll-CStmtKind) at room in
       let s : (is_turn_name turn && (spells_expr e && all_of (map spells_stmt body))) ≡ true = rw (fold-roll-CStmt, fold-roll-CStmtKind) at spelled in
       let s2 = and-right (is_turn_name turn) _ s in
-      let t : RunAgrees (turns_c turn_limit (value_c e) (block_of_c (map runs_c body)) scope memory)
-      (turns turn_limit (value_flat e ground) (block_of (map runs_flat body) ground) base cells) =
+      let t : RunAgrees (turns turn_limit (once_more_c (value_c e) scope) (block_of_c (map runs_c body) scope) memory)
+      (turns turn_limit (once_more (value_flat e ground) base) (block_of (map runs_flat body) ground base) cells) =
       turns-agree turn_limit (value_c e) (value_flat e ground) (block_of_c (map runs_c body)) (block_of (map runs_flat body) ground)
       (condition-agrees e (nil-left _ _ n) (room-left chains w.top limit (calls_in e) (joined (map calls_in_stmt body)) r) (and-left _ _ s2))
       (λ m c there. block-agrees body h true (nil-right (condition_faults e context) _ n)
       (room-right chains w.top limit (calls_in e) (joined (map calls_in_stmt body)) r) (and-right (spells_expr e) _ s2) m c there) memory cells stood in
       rw (fold-roll-CStmt, fold-roll-CStmt, fold-roll-CStmtKind, fold-roll-CStmtKind)
-      (once-later (turns_c turn_limit (value_c e) (block_of_c (map runs_c body)) scope memory)
-      (turns turn_limit (value_flat e ground) (block_of (map runs_flat body) ground) base cells) t)
+      (once-later (turns turn_limit (once_more_c (value_c e) scope) (block_of_c (map runs_c body) scope) memory)
+      (turns turn_limit (once_more (value_flat e ground) base) (block_of (map runs_flat body) ground base) cells) t)
     where
-      once-later : (o : Outcome) (r : Ran) → RunAgrees o r → RunAgrees (after_c 1 o) (after 1 r)
+      once-later : (o : Outcome Memory) (r : Outcome Cells) → RunAgrees o r → RunAgrees (after 1 o) (after 1 r)
       once-later o r h = record { count = let e = h.count in omega arith; end = h.end; stands = h.stands; range = h.range }
 
   returning-case : (at : Place) (e : Option CExpr) → OfStmt (stmt at (CStmtKind-F.Return e))

@@ -1,6 +1,6 @@
 -- What C expressions, statements and functions do over numbered cells: a place is the number of its first cell, a pointer such a
--- number, and the frame of a function that runs begins at its base. How statements end, what they count and in which order things are
--- evaluated is as in the meaning of C texts. Where a form has no meaning there, some value is given.
+-- number, and the frame of a function that runs begins at its base. How statements end, follow one another and are counted is the
+-- same as in the meaning of C texts, and things are evaluated in the same order. Where a form has no meaning there, some value is given.
 use Rattle.std.specs.Prelude.{
   ℕ,
   zero,
@@ -22,7 +22,7 @@ use Rattle.std.specs.Prelude.{
   length,
   slice_set,
 }
-use Rattle.std.specs.Prelude.{slice_index_or, Option, Some, None, option_map, if◌then◌else◌, not, int_lt, int_le}
+use Rattle.std.specs.Prelude.{slice_index_or, Option, Some, None, option_map, unwrap_or, if◌then◌else◌, not, int_lt, int_le}
 use Rattle.std.specs.List.{copy_within}
 use Rattle.std.specs.Ordering.{int_eq}
 use Rattle.bl_tree.specs.declared.text.Text.{Text}
@@ -41,14 +41,15 @@ use Rattle.bl_tree.specs.Numbers.{is_one, number_of, takes_one, takes_two}
 use Rattle.bl_ctext.specs.declared.builtin.Builtin.{Builtin}
 use Rattle.bl_ctext.specs.declared.builtin.Builtin.TheVariants.{One, Two}
 use Rattle.bl_cmeaning.specs.Builtin.{builtin_of, builtin_params, builtin_value, index_within}
+use Rattle.bl_cmeaning.specs.Course.{breaks, returns, result_at, Outcome, ending, going, after, ended_by, in_order, turn_or_none, turns, turn_limit}
 use Rattle.bl_ctext.specs.Folds.{OpenPart}
-use Rattle.bl_cmeaning.specs.Meaning.{End, goes_on, breaks, returns, traps, result_at, turn_limit}
 use Rattle.bl_cmeaning.specs.Sizes.{Sizes}
 use Rattle.bl_cmeaning.specs.Tables.{Table, with_entry, entry_or}
 use Rattle.bl_tree.specs.Ports.{in_ranges}
 use Rattle.bl_cmeaning_laws.specs.Layout.{Layouts, capped, frame_cells, slots_of}
 use Rattle.bl_cmeaning_laws.specs.Reaching.{Ground, Index, Reach, Start, Step, Term, laid_in, near, reach_along, reach_member, start_of_slot, through}
 
+-- the numbers of all cells, in order
 abbrev pub Cells : Type 0
 Cells = List ℤ
 
@@ -60,6 +61,7 @@ pub record Left (A : Type 0) : Type 0 where
   pub count : ℕ
   pub answer : Option A
 
+-- an answer that executed no statement
 abbrev pub left : {A : Type 0} → Cells → Option A → Left A
 left cells answer = record { cells = cells; count = 0; answer = answer }
 
@@ -97,6 +99,7 @@ cell_number (negsuc n) = 0
 abbrev pub cell_at : Cells → ℕ → ℤ
 cell_at cells k = slice_index_or cells k (pos 0)
 
+-- the number of the cell where a place begins, in a frame with this base
 abbrev pub start_address : Start → ℕ → Cells → ℕ
 start_address (near k) base cells = capped (base + k)
 start_address (through k) base cells = cell_number (cell_at cells (base + k))
@@ -164,13 +167,16 @@ abbrev pub applied : Option Routine → ℕ → List ℤ → Cells → Left ℤ
 applied (Some routine) base args cells = routine base args cells
 applied None base args cells = left cells None
 
+-- a call of a function that may be the prelude's
 abbrev pub called_as : Option Builtin → Option Routine → ℕ → List ℤ → Cells → Left ℤ
 called_as (Some builtin) routine base args cells = left cells (prelude_value builtin args)
 called_as None routine base args cells = applied routine base args cells
 
+-- a call of the function of this name: its frame begins behind the caller's
 abbrev pub called : Ground Routine → Text → ℕ → List ℤ → Cells → Left ℤ
 called here name base args cells = called_as (builtin_of name) (here.known name) (capped (base + here.frame)) args cells
 
+-- what depends on what is known where an expression or statement stands
 abbrev pub Grounded : Type 0 → Type 0
 Grounded A = Ground Routine → A
 
@@ -180,10 +186,12 @@ Evaluating Of = Of (Grounded (Evaluates ℤ)) (Grounded (Evaluates ℤ)) (Ground
     (Grounded (Index (Evaluates ℤ)))
     (Grounded (Reach (Evaluates ℤ))) (Step Routine (Evaluates ℤ))
 
+-- one step of the fold for each part, where its own parts are known. An argument is a number: for `&` that of the place's first cell
 abbrev pub arg_step : Evaluating CArg-F → Grounded (Evaluates ℤ)
 arg_step (CArg-F.Value value) here base cells = value here base cells
 arg_step (CArg-F.Address place) here base cells = next (address_of (place here) base cells) (λ after k. left after (Some (pos k)))
 
+-- the value of an expression's form
 abbrev pub kind_step : Evaluating CExprKind-F → Grounded (Evaluates ℤ)
 kind_step (CExprKind-F.Literal type n) here base cells = left cells (Some n)
 kind_step (CExprKind-F.Read place) here base cells =
@@ -193,22 +201,28 @@ kind_step (CExprKind-F.Not operand) here base cells =
     next (operand here base cells) (λ after a. left after (Some (number_of (if is_one a then false else true))))
 kind_step (CExprKind-F.Two op first second) here base cells = two_values op (first here) (second here) base cells
 
+-- a call: its arguments are evaluated, then the function is called
 abbrev pub call_step : Evaluating CCall-F → Grounded (Evaluates ℤ)
 call_step call here base cells =
     next (each_of (map (λ arg. arg here) call.args) base cells) (λ after args. called here call.name base args after)
 
+-- an expression has the value of its form
 abbrev pub expr_step : Evaluating CExpr-F → Grounded (Evaluates ℤ)
 expr_step expr = expr.what
 
+-- an index: its length, and how the element is chosen
 abbrev pub index_step : Evaluating CIndex-F → Grounded (Index (Evaluates ℤ))
 index_step index here = record { length = index.length; index = index.at here }
 
+-- how a place is reached: from the cell of its name on, step by step
 abbrev pub place_step : Evaluating CPlace-F → Grounded (Reach (Evaluates ℤ))
 place_step place here = reach_along place.steps here (start_of_slot (here.slots place.name))
 
+-- the index of a step, where it has one
 abbrev pub index_or_none : Option (Grounded (Index (Evaluates ℤ))) → Ground Routine → Option (Index (Evaluates ℤ))
 index_or_none index here = option_map (λ i. i here) index
 
+-- how a step into a type goes on: to a member, and to an element of it where there is an index
 abbrev pub step_step : Evaluating CStep-F → Step Routine (Evaluates ℤ)
 step_step step here ty = reach_member here (laid_in here ty step.member) (index_or_none step.index here)
 
@@ -226,46 +240,17 @@ call_flat = fold-CCall _ _ _ _ _ _ _ arg_step kind_step call_step expr_step inde
 
 -- ---- statements
 
--- what a statement leaves: the cells, how it ended, and how many statements were executed
-pub record Ran : Type 0 where
-  pub cells : Cells
-  pub end : End
-  pub count : ℕ
-
+-- what a statement does, where these things are known, in a frame with this base, over the cells
 abbrev pub Runs : Type 0
-Runs = Ground Routine → ℕ → Cells → Ran
-
-abbrev pub after : ℕ → Ran → Ran
-after n r = record { cells = r.cells; end = r.end; count = n + r.count }
-
--- what follows where a statement goes on, and how else it ended
-abbrev pub following_end : ℕ → Cells → End → (Cells → Ran) → Ran
-following_end n cells goes_on rest = after n (rest cells)
-following_end n cells breaks rest = record { cells = cells; end = breaks; count = n }
-following_end n cells (returns result) rest = record { cells = cells; end = returns result; count = n }
-following_end n cells traps rest = record { cells = cells; end = traps; count = n }
-
-abbrev pub following : Ran → (Cells → Ran) → Ran
-following r rest = following_end r.count r.cells r.end rest
+Runs = Ground Routine → ℕ → Cells → Outcome Cells
 
 -- the statements of a block, one after the other
 abbrev pub block_of : List Runs → Runs
-block_of [] here base cells = record { cells = cells; end = goes_on; count = 0 }
-block_of (runs ∷ rest) here base cells = following (runs here base cells) (λ c. block_of rest here base c)
+block_of block here base = in_order (map (λ runs. runs here base) block)
 
--- a statement that counts itself is executed, and what it evaluated says how it ends
-abbrev pub ended_by : {A : Type 0} → Cells → ℕ → Option A → (Cells → A → Ran) → Ran
-ended_by cells n None rest = record { cells = cells; end = traps; count = n }
-ended_by cells n (Some a) rest = after n (rest cells a)
-
-abbrev pub executed : {A : Type 0} → ℕ → Left A → (Cells → A → Ran) → Ran
-executed own evaluated rest = ended_by evaluated.cells (own + evaluated.count) evaluated.answer rest
-
-abbrev pub going : Cells → Ran
-going cells = record { cells = cells; end = goes_on; count = 0 }
-
-abbrev pub ending : End → Cells → Ran
-ending end cells = record { cells = cells; end = end; count = 0 }
+-- a statement that first evaluates something, and traps where that traps; it counts so many of its own
+abbrev pub executed : {A : Type 0} → ℕ → Left A → (Cells → A → Outcome Cells) → Outcome Cells
+executed own evaluated rest = ended_by evaluated.cells (own + evaluated.count) evaluated.answer (rest evaluated.cells)
 
 -- so many cells from one on are copied to others, where all of them are there
 abbrev pub copied : ℕ → ℕ → ℕ → Cells → Cells
@@ -282,32 +267,11 @@ abbrev pub zeroed : ℕ → ℕ → Cells → Cells
 zeroed zero at cells = cells
 zeroed (suc n) at cells = zeroed n (suc at) (slice_set cells at (pos 0))
 
-abbrev pub block_or_none : Option (List Runs) → Runs
-block_or_none None here base cells = going cells
-block_or_none (Some block) here base cells = block_of block here base cells
-
--- a turn of a loop that has ended: after `break` the loop goes on with what follows it, else comes its next turn
-abbrev pub turn_end : ℕ → Cells → End → (Cells → Ran) → Ran
-turn_end n cells goes_on again = after n (again cells)
-turn_end n cells breaks again = record { cells = cells; end = goes_on; count = n }
-turn_end n cells (returns result) again = record { cells = cells; end = returns result; count = n }
-turn_end n cells traps again = record { cells = cells; end = traps; count = n }
-
--- where the condition is true a turn begins, which counts one
-abbrev pub turn_or_none : Bool → (Cells → Ran) → Cells → Ran
-turn_or_none true turn cells = after 1 (turn cells)
-turn_or_none false turn cells = going cells
-
 -- the condition once more, and a turn where it is true
-abbrev pub once_more : Evaluates ℤ → (Cells → Ran) → ℕ → Cells → Ran
-once_more condition turn base cells = executed 0 (condition base cells) (λ c v. turn_or_none (is_one v) turn c)
+abbrev pub once_more : Evaluates ℤ → ℕ → (Cells → Outcome Cells) → Cells → Outcome Cells
+once_more condition base turn cells = executed 0 (condition base cells) (λ c v. turn_or_none (is_one v) c turn)
 
--- a loop that can still end so many turns. The turn after the last of them traps at its beginning
-unfoldable pub turns : ℕ → Evaluates ℤ → (ℕ → Cells → Ran) → ℕ → Cells → Ran
-turns zero condition body base cells = once_more condition (ending traps) base cells
-turns (suc n) condition body base cells =
-    once_more condition (λ c. let r = body base c in turn_end r.count r.cells r.end (turns n condition body base)) base cells
-
+-- one step of the fold for statements
 abbrev pub stmt_kind_step : CStmtKind-F Runs Runs → Runs
 stmt_kind_step (CStmtKind-F.Set place expr) here base cells =
     executed 1 (next (address_of (reach_flat place here) base cells)
@@ -317,14 +281,15 @@ stmt_kind_step (CStmtKind-F.Clear place name) here base cells =
     executed 1 (address_of (reach_flat place here) base cells) (λ c k. going (zeroed (entry_or 0 here.sizes name) k c))
 stmt_kind_step (CStmtKind-F.Call call) here base cells = executed 1 (call_flat call here base cells) (λ c v. going c)
 stmt_kind_step (CStmtKind-F.If condition block other) here base cells =
-    executed 1 (value_flat condition here base cells) (λ c v. (if is_one v then block_of block else block_or_none other) here base c)
+    executed 1 (value_flat condition here base cells) (λ c v. (if is_one v then block_of block else block_of (unwrap_or other [])) here base c)
 stmt_kind_step (CStmtKind-F.Loop name condition body) here base cells =
-    after 1 (turns turn_limit (value_flat condition here) (block_of body here) base cells)
-stmt_kind_step CStmtKind-F.Break here base cells = record { cells = cells; end = breaks; count = 1 }
-stmt_kind_step (CStmtKind-F.Return None) here base cells = record { cells = cells; end = returns (pos 0); count = 1 }
+    after 1 (turns turn_limit (once_more (value_flat condition here) base) (block_of body here base) cells)
+stmt_kind_step CStmtKind-F.Break here base cells = record { memory = cells; end = breaks; count = 1 }
+stmt_kind_step (CStmtKind-F.Return None) here base cells = record { memory = cells; end = returns (pos 0); count = 1 }
 stmt_kind_step (CStmtKind-F.Return (Some expr)) here base cells =
     executed 1 (value_flat expr here base cells) (λ c v. ending (returns v) c)
 
+-- a statement does what its form does
 abbrev pub stmt_step : CStmt-F Runs Runs → Runs
 stmt_step stmt = stmt.what
 
@@ -347,9 +312,11 @@ with_args at (n ∷ ns) cells = with_args (suc at) ns (slice_set cells at n)
 abbrev pub frame_begun : ℕ → ℕ → List ℤ → Cells → Cells
 frame_begun size base args cells = with_args base args (zeroed size base cells)
 
-abbrev pub ended_as : Ran → Left ℤ
-ended_as r = record { cells = r.cells; count = r.count; answer = result_at r.end }
+-- what a function leaves whose body has come to this outcome
+abbrev pub ended_as : Outcome Cells → Left ℤ
+ended_as o = record { cells = o.memory; count = o.count; answer = result_at o.end }
 
+-- what is known inside a function
 abbrev pub ground_of : Sizes → Layouts → Table Routine → CFunc → Ground Routine
 ground_of known structs earlier function =
     record { sizes = known; structs = structs; known = earlier; slots = slots_of known function; frame = frame_cells known function }

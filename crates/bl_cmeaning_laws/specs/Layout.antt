@@ -13,6 +13,7 @@ use Rattle.bl_cmeaning.specs.Sizes.{Sizes, size_of_member, size_of_param, size_o
 
 -- ---- numbers of cells. A file that runs has far fewer than 2 to the 32; types that nothing has may be larger, and are told as that large
 
+-- a number of cells, of which 4294967295 is the largest that is told
 abbrev pub capped : ℕ → ℕ
 capped n = min n 4294967295
 

@@ -42,9 +42,11 @@ pub record Reach (I : Type 0) : Type 0 where
 abbrev pub Step : Type 0 → Type 0 → Type 0
 Step K I = Ground K → Option CType → Reach I
 
+-- what stands for a place that no well-formed file has: it has no type
 abbrev pub nowhere : {I : Type 0} → Reach I
 nowhere = record { start = near 0; passed = 0; terms = []; ty = None }
 
+-- the place of a whole parameter or local, or of what it points to
 abbrev pub start_of_slot : {I : Type 0} → Option Slot → Reach I
 start_of_slot None = nowhere
 start_of_slot (Some slot) = record { start = if slot.pointer then through slot.at else near slot.at; passed = 0; terms = []; ty = Some slot.ty }
@@ -63,10 +65,12 @@ abbrev pub laid_in : {K : Type 0} → Ground K → Option CType → Text → Opt
 laid_in here (Some (OfStruct struct)) name = option_and_then (λ members. members name) (here.structs struct)
 laid_in here _ name = None
 
+-- the index of a step into values of a type, none where the step has none
 abbrev pub element_terms : {K I : Type 0} → Ground K → CType → Option (Index I) → List (Term I)
 element_terms here ty None = []
 element_terms here ty (Some i) = record { length = i.length; size = size_of_type here.sizes ty; index = i.index } ∷ []
 
+-- how a member that was found is reached from where its struct begins, and the element of it where there is an index
 abbrev pub reach_member : {K I : Type 0} → Ground K → Option Laid → Option (Index I) → Reach I
 reach_member here None index = nowhere
 reach_member here (Some laid) index =

@@ -1,7 +1,7 @@
 -- What statements fail in, which functions they call, what they cost and do, and what counts their turns, without their places.
 use Rattle.std.proofs.Common.{◌≡◌, ℕ, Bool, true, false, not, ◌&&◌, List, [], ◌∷◌, ◌++◌, map, Option, Some, None, refl, ap}
 use Rattle.std.proofs.Common.{ap₂, sym, ◌∙◌}
-use Rattle.std.specs.Prelude.{is_some, option_map, max, if◌then◌else◌}
+use Rattle.std.specs.Prelude.{is_some, option_map, max, unwrap_or, if◌then◌else◌}
 use Rattle.std.proofs.Common.{◌+◌, ◌*◌, subst}
 use Rattle.std.proofs.lemmas.List.{map-append}
 use Rattle.bl_tree.specs.Numbers.{is_one}
@@ -64,6 +64,7 @@ use Rattle.bl_cmeaning.specs.Faults.{
   unless,
 }
 use Rattle.bl_cmeaning.specs.Loops.{Turns, stmt_kind_turns, stmt_turns_step, turns_in, turns_in_block}
+use Rattle.bl_cmeaning.specs.Course.{after, ending, going, returns, turn_limit, turns}
 use Rattle.bl_cmeaning.specs.Meaning.{
   Evaluates,
   Passed,
@@ -72,17 +73,12 @@ use Rattle.bl_cmeaning.specs.Meaning.{
   Called,
   arg_step,
   block_of,
-  block_or_none,
   call_c,
   call_outcome,
   executed,
   given,
-  going,
   next,
-  returning,
-  after,
-  turn_limit,
-  turns,
+  once_more,
   call_step,
   expr_step,
   index_step,
@@ -202,13 +198,13 @@ calling call scope memory = call_outcome (call scope memory)
 
 abbrev branching : List Runs → Option (List Runs) → Evaluates CValue → Runs
 branching block other test scope memory =
-    executed memory (test scope memory) (λ v. (if is_one (number_in v) then block_of block else block_or_none other) scope memory)
+    executed memory (test scope memory) (λ v. (if is_one (number_in v) then block_of block else block_of (unwrap_or other [])) scope memory)
 
 abbrev looping : List Runs → Evaluates CValue → Runs
-looping body test scope memory = after 1 (turns turn_limit test (block_of body) scope memory)
+looping body test scope memory = after 1 (turns turn_limit (once_more test scope) (block_of body scope) memory)
 
-abbrev ending : Evaluates CValue → Runs
-ending value scope memory = executed memory (value scope memory) (λ v. returning memory (number_in v))
+abbrev returning : Evaluates CValue → Runs
+returning value scope memory = executed memory (value scope memory) (λ v. ending (returns (number_in v)) memory)
 
 run_level : (level : CStmtKind-F Runs Runs) → stmt_kind_step (level_bare level) ≡ stmt_kind_step level
 run_level (CStmtKind-F.Set p e) = ap₂ setting (location_same p) (value_same e)
@@ -218,7 +214,7 @@ run_level (CStmtKind-F.If e block other) = ap (branching block other) (value_sam
 run_level (CStmtKind-F.Loop turn e body) = ap (looping body) (value_same e)
 run_level CStmtKind-F.Break = refl
 run_level (CStmtKind-F.Return None) = refl
-run_level (CStmtKind-F.Return (Some e)) = ap ending (value_same e)
+run_level (CStmtKind-F.Return (Some e)) = ap returning (value_same e)
 
 -- what each statement does
 pub runs_same : (body : List CStmt) → map runs_c (map placeless_stmt body) ≡ map runs_c body

@@ -27,10 +27,10 @@ use Rattle.bl_cmeaning.specs.Cells.{
 }
 use Rattle.bl_cmeaning.specs.Cost.{Costs, bound, cost_of_function, cost_of_stmt, costs_after}
 use Rattle.bl_cmeaning.specs.Loops.{turns_in_block}
+use Rattle.bl_cmeaning.specs.Course.{Outcome, result_at}
 use Rattle.bl_cmeaning.specs.Meaning.{
   Called,
   Meaning,
-  Outcome,
   Passed,
   Runs,
   Scope,
@@ -39,7 +39,6 @@ use Rattle.bl_cmeaning.specs.Meaning.{
   function_c,
   meanings_after,
   pointers_of,
-  result_at,
   with_params,
 }
 use Rattle.bl_cmeaning.specs.Memory.{Memory, cleared, input_object, output_object, state_object, without_frame}
@@ -82,7 +81,7 @@ use Rattle.bl_cmeaning_laws_places.proofs.Lists.{map-twice}
 abbrev function_by : Table Meaning → List CParam → List Runs → Meaning
 function_by known params body depth passed memory =
     let scope : Scope = record { known = known; depth = depth; pointers = table_of (pointers_of params passed) } in
-    let o : Outcome = block_of body scope (with_params depth params passed (without_frame depth memory)) in
+    let o : Outcome Memory = block_of body scope (with_params depth params passed (without_frame depth memory)) in
     record { memory = without_frame depth o.memory; count = o.count; result = result_at o.end }
 
 function-same : (known : Table Meaning) (f : CFunc) → function_c known (placeless_func f) ≡ function_c known f

@@ -67,10 +67,11 @@ abbrev pub blanks : List ℕ → ℕ
 blanks [] = 0
 blanks (b ∷ bs) = cond (is_blank b) (suc (blanks bs)) 0
 
--- where the next piece starts, and where it ends
+-- where the next piece starts
 unfoldable pub start_of : TextSpot → ℕ
 start_of s = s.at + blanks (drop s.at s.text)
 
+-- where the next piece ends
 unfoldable pub end_of : TextSpot → ℕ
 end_of s = start_of s + length (first_of (pieces (drop s.at s.text)))
 
@@ -113,10 +114,12 @@ abbrev pub if_there : {A : Type 0} → Option (Walk A) → Walk (Option A)
 if_there None s = (None, s)
 if_there (Some walk) s = made Some [] (walk s)
 
+-- one step of the fold for each part: a walk over it, where those over its own parts are known
 abbrev pub arg_step : CArg-F (Walk CArg) (Walk CExprKind) (Walk CCall) (Walk CExpr) (Walk CIndex) (Walk CPlace) (Walk CStep) → Walk CArg
 arg_step (CArg-F.Value value) s = made (λ e. roll-CArg (CArg-F.Value e)) [] (value s)
 arg_step (CArg-F.Address at) s = made (λ p. roll-CArg (CArg-F.Address p)) [] (at (past (codes "&" ∷ []) s))
 
+-- the walk over an expression's form
 abbrev pub kind_step : CExprKind-F (Walk CArg) (Walk CExprKind) (Walk CCall) (Walk CExpr) (Walk CIndex) (Walk CPlace) (Walk CStep) → Walk CExprKind
 kind_step (CExprKind-F.Literal scalar n) s = (roll-CExprKind (CExprKind-F.Literal scalar n), past (literal_tokens scalar n) s)
 kind_step (CExprKind-F.Read at) s = made (λ p. roll-CExprKind (CExprKind-F.Read p)) [] (at s)
@@ -126,6 +129,7 @@ kind_step (CExprKind-F.Two o left right) s =
     made (λ e. e) (codes ")" ∷ [])
     (and_then (λ l r. roll-CExprKind (CExprKind-F.Two o l r)) (made (λ e. e) (operator_sign o ∷ []) (left (past (codes "(" ∷ []) s))) right)
 
+-- the walk over a call: its name, then its arguments with their commas
 abbrev pub call_step : CCall-F (Walk CArg) (Walk CExprKind) (Walk CCall) (Walk CExpr) (Walk CIndex) (Walk CPlace) (Walk CStep) → Walk CCall
 call_step c s = made (λ args. roll-CCall (record { name = c.name; args = args })) (codes ")" ∷ [])
     (in_list true c.args (past (c.name ∷ codes "(" ∷ []) s))
@@ -134,47 +138,59 @@ call_step c s = made (λ args. roll-CCall (record { name = c.name; args = args }
 abbrev pub expr_from : TextSpot → CExprKind × TextSpot → CExpr × TextSpot
 expr_from s walked = (roll-CExpr (record { place = span s walked.1; what = walked.0 }), walked.1)
 
+-- the walk over an expression, which sets its place
 abbrev pub expr_step : CExpr-F (Walk CArg) (Walk CExprKind) (Walk CCall) (Walk CExpr) (Walk CIndex) (Walk CPlace) (Walk CStep) → Walk CExpr
 expr_step e s = expr_from s (e.what s)
 
+-- the walk over an index and its brackets
 abbrev pub index_step : CIndex-F (Walk CArg) (Walk CExprKind) (Walk CCall) (Walk CExpr) (Walk CIndex) (Walk CPlace) (Walk CStep) → Walk CIndex
 index_step i s =
     made (λ e. roll-CIndex (record { signed = i.signed; at = e; length = i.length }))
     (codes "," ∷ decimal i.length ∷ codes ")" ∷ codes "]" ∷ []) (i.at (past (index_front i.signed) s))
 
+-- the walk over a place: its root, then its steps
 abbrev pub place_step : CPlace-F (Walk CArg) (Walk CExprKind) (Walk CCall) (Walk CExpr) (Walk CIndex) (Walk CPlace) (Walk CStep) → Walk CPlace
 place_step p s = made (λ steps. roll-CPlace (record { through = p.through; name = p.name; steps = steps })) []
     (in_turn p.steps (past (root_tokens p.through p.name) s))
 
+-- the walk over a step: the member, then its index where there is one
 abbrev pub step_step : CStep-F (Walk CArg) (Walk CExprKind) (Walk CCall) (Walk CExpr) (Walk CIndex) (Walk CPlace) (Walk CStep) → Walk CStep
 step_step t s = made (λ index. roll-CStep (record { member = t.member; index = index })) [] (if_there t.index (past (codes "." ∷ t.member ∷ []) s))
 
--- the walks over expressions, places and calls
+-- the walk over an expression
 abbrev pub expr_walk : CExpr → Walk CExpr
 expr_walk = fold-CExpr _ _ _ _ _ _ _ arg_step kind_step call_step expr_step index_step place_step step_step
 
+-- the walk over an expression's form
 abbrev pub kind_walk : CExprKind → Walk CExprKind
 kind_walk = fold-CExprKind _ _ _ _ _ _ _ arg_step kind_step call_step expr_step index_step place_step step_step
 
+-- the walk over a place
 abbrev pub place_walk : CPlace → Walk CPlace
 place_walk = fold-CPlace _ _ _ _ _ _ _ arg_step kind_step call_step expr_step index_step place_step step_step
 
+-- the walk over a step of a place
 abbrev pub step_walk : CStep → Walk CStep
 step_walk = fold-CStep _ _ _ _ _ _ _ arg_step kind_step call_step expr_step index_step place_step step_step
 
+-- the walk over an index
 abbrev pub index_walk : CIndex → Walk CIndex
 index_walk = fold-CIndex _ _ _ _ _ _ _ arg_step kind_step call_step expr_step index_step place_step step_step
 
+-- the walk over a call
 abbrev pub call_walk : CCall → Walk CCall
 call_walk = fold-CCall _ _ _ _ _ _ _ arg_step kind_step call_step expr_step index_step place_step step_step
 
+-- the walk over an argument
 abbrev pub arg_walk : CArg → Walk CArg
 arg_walk = fold-CArg _ _ _ _ _ _ _ arg_step kind_step call_step expr_step index_step place_step step_step
 
+-- the walk over an `else` that may be absent
 abbrev pub else_walk : Option (List (Walk CStmt)) → Walk (Option (List CStmt))
 else_walk None s = (None, s)
 else_walk (Some parts) s = made Some (codes "}" ∷ []) (in_turn parts (past (codes "else" ∷ codes "{" ∷ []) s))
 
+-- one step of the fold for statements
 abbrev pub stmt_kind_step : CStmtKind-F (Walk CStmtKind) (Walk CStmt) → Walk CStmtKind
 stmt_kind_step (CStmtKind-F.Set at value) s =
     made (λ k. k) (codes ";" ∷ [])
@@ -199,13 +215,15 @@ stmt_kind_step (CStmtKind-F.Return value) s =
 abbrev pub stmt_from : TextSpot → CStmtKind × TextSpot → CStmt × TextSpot
 stmt_from s walked = (roll-CStmt (record { place = span s walked.1; what = walked.0 }), walked.1)
 
+-- the walk over a statement, which sets its place
 abbrev pub stmt_step : CStmt-F (Walk CStmtKind) (Walk CStmt) → Walk CStmt
 stmt_step stmt s = stmt_from s (stmt.what s)
 
--- the walks over statements
+-- the walk over a statement
 abbrev pub stmt_walk : CStmt → Walk CStmt
 stmt_walk = fold-CStmt _ _ stmt_kind_step stmt_step
 
+-- the walk over a statement's form
 abbrev pub stmt_kind_walk : CStmtKind → Walk CStmtKind
 stmt_kind_walk = fold-CStmtKind _ _ stmt_kind_step stmt_step
 
@@ -222,6 +240,7 @@ abbrev pub func_from : CFunc → TextSpot → List CStmt × TextSpot → CFunc �
 func_from f s walked =
     (record { place = span s walked.1; fixed = f.fixed; result = f.result; name = f.name; params = f.params; locals = f.locals; body = walked.0 }, walked.1)
 
+-- the walk over a function, which sets its place
 abbrev pub func_walk : CFunc → Walk CFunc
 func_walk f s = func_from f s (made (λ body. body) (codes "}" ∷ []) (in_turn (map stmt_walk f.body) (past (head_tokens f) s)))
 

@@ -33,7 +33,7 @@ use Rattle.bl_ctext.specs.Token.{Token, is_blank}
 use Rattle.bl_csyntax.specs.Pieces.{pieces, left_of}
 use Rattle.bl_csyntax.specs.Grammar.{Wanted, SpellText}
 use Rattle.bl_csyntax.specs.Stack.{StackStands}
-use Rattle.bl_csyntax.specs.inner.Stacks.{Answers, may_vanish, shown}
+use Rattle.bl_csyntax.specs.inner.Stacks.{StackAnswers, may_vanish, shown}
 use Rattle.bl_csyntax.specs.Rules.{BeginsText, Passes, FailsAtPiece, FailsFirst}
 use Rattle.bl_csyntax.proofs.Ranges.{range_none}
 use Rattle.bl_csyntax.proofs.PieceLemmas.{left_cut}
@@ -47,7 +47,7 @@ module _ (text : List ℕ) (start from end : ℕ) where
   fails_at : (front : List Token) (stack rest : List Wanted) → StackStands front stack →
       pieces (drop start text) ≡ front ++ left_of text from end → from < end → end ≤ length text
       → pieces (drop from text) ≡ left_of text from end → (from < length text → is_blank (slice_index text from) ≡ false) →
-      Answers (slice_range text from end) stack false rest → FailsAtPiece text start from
+      StackAnswers (slice_range text from end) stack false rest → FailsAtPiece text start from
   fails_at front stack rest stands is beyond inside there no_blank refuses = record {
     before = front;
     piece = slice_range text from end;
@@ -64,20 +64,21 @@ module _ (text : List ℕ) (start from end : ℕ) where
 
   pub fails_here : (piece : Token) (stack rest : List Wanted) (taken : Bool) → piece ≡ slice_range text from end → Read stack →
       from < end → end ≤ length text → pieces (drop from text) ≡ left_of text from end
-      → (from < length text → is_blank (slice_index text from) ≡ false) → Answers piece stack taken rest → taken ≡ false →
+      → (from < length text → is_blank (slice_index text from) ≡ false) → StackAnswers piece stack taken rest → taken ≡ false →
       FailsFirst text start from
   fails_here piece stack rest taken is read beyond inside there no_blank answers is_no =
       inl (fails_at read.0 stack rest read.1.0 read.1.1 beyond inside there no_blank
-      (subst (λ (t : Token). Answers t stack false rest) is (subst (λ b. Answers piece stack b rest) is_no answers)))
+      (subst (λ (t : Token). StackAnswers t stack false rest) is (subst (λ b. StackAnswers piece stack b rest) is_no answers)))
 
   pub reads_on : (piece : Token) (stack rest : List Wanted) (taken : Bool) → piece ≡ slice_range text from end → Read stack →
       from < end → end ≤ length text → (left : List Token) → left ≡ pieces (drop end text)
-      → Answers piece stack taken rest → taken ≡ true → (front : List Token) × (StackStands front rest × (pieces (drop start text) ≡ front ++ left))
+      → StackAnswers piece stack taken rest → taken ≡ true →
+      (front : List Token) × (StackStands front rest × (pieces (drop start text) ≡ front ++ left))
   reads_on piece stack rest taken of read beyond inside left is answers is_yes = (
     read.0 ++ slice_range text from end ∷ [],
     (
       read_one read.0 (slice_range text from end) stack rest read.1.0
-          (subst (λ (t : Token). Answers t stack true rest) of (subst (λ b. Answers piece stack b rest) is_yes answers)),
+          (subst (λ (t : Token). StackAnswers t stack true rest) of (subst (λ b. StackAnswers piece stack b rest) is_yes answers)),
       read.1.1 ∙ ap (λ (ts : List Token). read.0 ++ ts) (left_cut text from end beyond inside
           ∙ ap (λ (ts : List Token). slice_range text from end ∷ ts) (sym is))
           ∙ sym (append_assoc read.0 (slice_range text from end ∷ []) left),

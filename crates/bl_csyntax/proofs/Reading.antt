@@ -33,7 +33,7 @@ use Rattle.bl_csyntax.specs.Classes.{Class, matches}
 use Rattle.bl_csyntax.specs.Grammar.{Wanted, whole, Produces, SpellText}
 use Rattle.bl_csyntax.specs.Tables.{absent, pick}
 use Rattle.bl_csyntax.specs.Stack.{tables, file, IsGood, StackStands}
-use Rattle.bl_csyntax.specs.inner.Stacks.{Expands, Answers, level, vanish, may_vanish, shown, class_shown}
+use Rattle.bl_csyntax.specs.inner.Stacks.{StackExpands, StackAnswers, level, vanish, may_vanish, shown, class_shown}
 use Rattle.bl_csyntax.specs.Rules.{BeginsText}
 use Rattle.bl_csyntax.proofs.Predictive.{predictive}
 
@@ -42,23 +42,23 @@ use Rattle.bl_csyntax.proofs.Predictive.{predictive}
 pub start : StackStands [] (whole ∷ [])
 start = RunLaws.starts Produces matches tables predictive file
 
-pub opened : (next : Token) (stack : List Wanted) → IsGood stack → Expands next stack stack
+pub opened : (next : Token) (stack : List Wanted) → IsGood stack → StackExpands next stack stack
 opened next stack good = RunLaws.opened Produces matches tables predictive next stack good
 
-expand : (next : Token) (stack rest production : List Wanted) (part : Roomed) → Expands next stack (Nonterminal part ∷ rest) →
-    pick part next ≡ Some production → Expands next stack (production ++ rest)
+expand : (next : Token) (stack rest production : List Wanted) (part : Roomed) → StackExpands next stack (Nonterminal part ∷ rest) →
+    pick part next ≡ Some production → StackExpands next stack (production ++ rest)
 expand next stack rest production part now picked = RunLaws.expand Produces matches tables predictive next stack part rest production now picked
 
 terminal_answer : (next : Token) (stack rest : List Wanted) (class : Class) (taken : Bool) →
-    Expands next stack (Terminal class ∷ rest) → taken ≡ matches class next → Answers next stack taken rest
+    StackExpands next stack (Terminal class ∷ rest) → taken ≡ matches class next → StackAnswers next stack taken rest
 terminal_answer next stack rest class true now is = RunLaws.take Produces matches tables predictive next stack class rest now (sym is)
 terminal_answer next stack rest class false now is = RunLaws.refuse_other Produces matches tables predictive next stack class rest now (sym is)
 
-none_picked : (next : Token) (stack rest : List Wanted) (part : Roomed) → Expands next stack (Nonterminal part ∷ rest) →
-    pick part next ≡ None → Answers next stack false rest
+none_picked : (next : Token) (stack rest : List Wanted) (part : Roomed) → StackExpands next stack (Nonterminal part ∷ rest) →
+    pick part next ≡ None → StackAnswers next stack false rest
 none_picked next stack rest part now none = RunLaws.refuse_unpicked Produces matches tables predictive next stack part rest now none
 
-pub none_left : (next : Token) (stack rest : List Wanted) → Expands next stack [] → Answers next stack false rest
+pub none_left : (next : Token) (stack rest : List Wanted) → StackExpands next stack [] → StackAnswers next stack false rest
 none_left next stack rest now = RunLaws.refuse_more Produces matches tables predictive next stack now
 
 -- the stack as the code has it
@@ -78,21 +78,23 @@ pub popped : (xs ys : Rows) (s : Symbol Row Roomed) → xs ≡ ys ++ s ∷ [] �
 popped xs ys s is = ap seen is ∙ ap reverse (map_append ys (s ∷ [])) ∙ reverse-append (map shown ys) (shown s ∷ [])
 
 -- what was on top of a stack whose list ends with it
-module _ (next : Token) (stack : List Wanted) (xs ys : Rows) (s : Symbol Row Roomed) (now : Expands next stack (seen xs)) (top : xs ≡ ys ++ s ∷ []) where
-  opened_at : (wanted : Wanted) → shown s ≡ wanted → Expands next stack (wanted ∷ seen ys)
-  opened_at wanted is = subst (λ (x : Wanted). Expands next stack (x ∷ seen ys)) is
-      (subst (λ (zs : List Wanted). Expands next stack zs) (popped xs ys s top) now)
+module _ (next : Token) (stack : List Wanted) (xs ys : Rows) (s : Symbol Row Roomed) (now : StackExpands next stack (seen xs))
+    (top : xs ≡ ys ++ s ∷ []) where
+  opened_at : (wanted : Wanted) → shown s ≡ wanted → StackExpands next stack (wanted ∷ seen ys)
+  opened_at wanted is = subst (λ (x : Wanted). StackExpands next stack (x ∷ seen ys)) is
+      (subst (λ (zs : List Wanted). StackExpands next stack zs) (popped xs ys s top) now)
 
-  pub at_terminal : (class : Row) (taken : Bool) → s ≡ Terminal class → taken ≡ matches (class_shown class) next → Answers next stack taken (seen ys)
+  pub at_terminal : (class : Row) (taken : Bool) → s ≡ Terminal class → taken ≡ matches (class_shown class) next →
+      StackAnswers next stack taken (seen ys)
   at_terminal class taken is same = terminal_answer next stack (seen ys) (class_shown class) taken (opened_at (Terminal (class_shown class)) (ap shown is)) same
 
-  pub at_none : (part : Roomed) → s ≡ Nonterminal part → None ≡ pick part next → Answers next stack false (seen ys)
+  pub at_none : (part : Roomed) → s ≡ Nonterminal part → None ≡ pick part next → StackAnswers next stack false (seen ys)
   at_none part is none = none_picked next stack (seen ys) part (opened_at (Nonterminal part) (ap shown is)) (sym none)
 
   module _ (part : Roomed) (is : s ≡ Nonterminal part) (production : List Wanted) (picked : Some production ≡ pick part next)
       (news : Rows) (pushed : seen news ≡ production ++ seen ys) where
-    pub at_part : Expands next stack (seen news)
-    at_part = subst (λ (zs : List Wanted). Expands next stack zs) (sym pushed)
+    pub at_part : StackExpands next stack (seen news)
+    at_part = subst (λ (zs : List Wanted). StackExpands next stack zs) (sym pushed)
         (expand next stack (seen ys) production part (opened_at (Nonterminal part) (ap shown is)) (sym picked))
 
     pub nearer : level (seen news) < level (seen xs)
@@ -108,11 +110,11 @@ begins_text front stack stands =
 
 -- with a piece that the stack refuses it doesn't
 pub begins_none : (front : List Token) (piece : Token) (stack rest : List Wanted) → StackStands front stack →
-    Answers piece stack false rest → ¬ BeginsText (front ++ piece ∷ [])
+    StackAnswers piece stack false rest → ¬ BeginsText (front ++ piece ∷ [])
 begins_none front piece stack rest stands refuses b = refuses b.0 (stands.there (piece ∷ b.0) (subst SpellText (append_assoc front (piece ∷ []) b.0) b.1))
 
 pub read_one : (front : List Token) (piece : Token) (stack rest : List Wanted) → StackStands front stack →
-    Answers piece stack true rest → StackStands (front ++ piece ∷ []) rest
+    StackAnswers piece stack true rest → StackStands (front ++ piece ∷ []) rest
 read_one front piece stack rest stands takes = RunLaws.next Produces matches tables predictive file front piece stack rest stands takes
 
 pub accepts : (pieces : List Token) (stack : List Wanted) → StackStands pieces stack → vanish stack ≡ true → SpellText pieces

@@ -50,4 +50,4 @@ IsGood stack = Predictive.Good Produces matches tables stack
 
 -- after these pieces the stack stands for just what completes a text
 abbrev pub StackStands : List Token → List Wanted → Type 0
-StackStands front stack = Runs.Stands Produces matches tables file front stack
+StackStands front stack = Runs.StackStands Produces matches tables file front stack

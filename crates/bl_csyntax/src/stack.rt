@@ -6,7 +6,7 @@ ghost use Rattle.bl_csyntax.specs.Grammar.{placed, named};
 ghost use Rattle.bl_csyntax.specs.Tables.{turn_of};
 ghost use Rattle.bl_csyntax.specs.inner.Rows.{shape_shown};
 ghost use Rattle.bl_csyntax.specs.Stack.{IsGood, StackStands};
-ghost use Rattle.bl_csyntax.specs.inner.Stacks.{Answers, may_vanish, class_shown, shown};
+ghost use Rattle.bl_csyntax.specs.inner.Stacks.{StackAnswers, may_vanish, class_shown, shown};
 
 use crate::choice::{Shape, may_be_absent, pick};
 use crate::classes::is_of;
@@ -48,7 +48,7 @@ impl<'a> Stack<'a> {
     /// Whether the piece can follow. If so, it is taken off.
     pub fn take(&mut self, piece: &Seen<'a>) -> Result<bool, NoMemory>
         requires { IsGood (reverse (map shown self.old.wanted.items)) }
-        ensures { IfOk result (λ taken. Answers piece.now (reverse (map shown self.old.wanted.items)) taken (reverse (map shown self.new.wanted.items))) }
+        ensures { IfOk result (λ taken. StackAnswers piece.now (reverse (map shown self.old.wanted.items)) taken (reverse (map shown self.new.wanted.items))) }
     {
         while let Some(first) = self.wanted.pop() {
             match first {

@@ -18,6 +18,7 @@ use Rattle.bl_ctext.specs.declared.file.CFile.{CFile}
 abbrev pub nowhere : Place
 nowhere = record { start = 0; end = 0 }
 
+-- one level of an expression, where the expressions in it have no places
 abbrev pub expr_aside : CExpr-F CArg CExprKind CCall CExpr CIndex CPlace CStep → CExpr
 expr_aside e = roll-CExpr (record { place = nowhere; what = e.what })
 
@@ -25,24 +26,31 @@ expr_aside e = roll-CExpr (record { place = nowhere; what = e.what })
 abbrev pub placeless_expr : CExpr → CExpr
 placeless_expr = fold-CExpr _ _ _ _ _ _ _ roll-CArg roll-CExprKind roll-CCall expr_aside roll-CIndex roll-CPlace roll-CStep
 
+-- an expression's form without its places
 abbrev pub placeless_kind : CExprKind → CExprKind
 placeless_kind = fold-CExprKind _ _ _ _ _ _ _ roll-CArg roll-CExprKind roll-CCall expr_aside roll-CIndex roll-CPlace roll-CStep
 
+-- a place in C without the places in the text of the expressions in it
 abbrev pub placeless_place : CPlace → CPlace
 placeless_place = fold-CPlace _ _ _ _ _ _ _ roll-CArg roll-CExprKind roll-CCall expr_aside roll-CIndex roll-CPlace roll-CStep
 
+-- a step of a place without the places of the expressions in it
 abbrev pub placeless_step : CStep → CStep
 placeless_step = fold-CStep _ _ _ _ _ _ _ roll-CArg roll-CExprKind roll-CCall expr_aside roll-CIndex roll-CPlace roll-CStep
 
+-- an index without the places of the expressions in it
 abbrev pub placeless_index : CIndex → CIndex
 placeless_index = fold-CIndex _ _ _ _ _ _ _ roll-CArg roll-CExprKind roll-CCall expr_aside roll-CIndex roll-CPlace roll-CStep
 
+-- a call without the places of the expressions in it
 abbrev pub placeless_call : CCall → CCall
 placeless_call = fold-CCall _ _ _ _ _ _ _ roll-CArg roll-CExprKind roll-CCall expr_aside roll-CIndex roll-CPlace roll-CStep
 
+-- an argument without the places of the expressions in it
 abbrev pub placeless_arg : CArg → CArg
 placeless_arg = fold-CArg _ _ _ _ _ _ _ roll-CArg roll-CExprKind roll-CCall expr_aside roll-CIndex roll-CPlace roll-CStep
 
+-- a returned value that may be absent, without its places
 abbrev pub placeless_result : Option CExpr → Option CExpr
 placeless_result None = None
 placeless_result (Some e) = Some (placeless_expr e)
@@ -57,6 +65,7 @@ stmt_kind_aside (CStmtKind-F.Loop turn test body) = roll-CStmtKind (CStmtKind-F.
 stmt_kind_aside CStmtKind-F.Break = roll-CStmtKind CStmtKind-F.Break
 stmt_kind_aside (CStmtKind-F.Return value) = roll-CStmtKind (CStmtKind-F.Return (placeless_result value))
 
+-- one level of a statement that is given the one place
 abbrev pub stmt_aside : CStmt-F CStmtKind CStmt → CStmt
 stmt_aside s = roll-CStmt (record { place = nowhere; what = s.what })
 
@@ -64,12 +73,15 @@ stmt_aside s = roll-CStmt (record { place = nowhere; what = s.what })
 abbrev pub placeless_stmt : CStmt → CStmt
 placeless_stmt = fold-CStmt _ _ stmt_kind_aside stmt_aside
 
+-- a statement's form without its places
 abbrev pub placeless_stmt_kind : CStmtKind → CStmtKind
 placeless_stmt_kind = fold-CStmtKind _ _ stmt_kind_aside stmt_aside
 
+-- a struct without its place
 abbrev pub placeless_struct : CStruct → CStruct
 placeless_struct s = record { place = nowhere; name = s.name; members = s.members }
 
+-- a function without its place and those of its statements
 abbrev pub placeless_func : CFunc → CFunc
 placeless_func f = record {
   place = nowhere;

@@ -95,6 +95,7 @@ abbrev pub is_arg : EachIs Bool CArg-F → Bool
 is_arg (CArg-F.Value value) = value
 is_arg (CArg-F.Address at) = at
 
+-- an expression's form: literals are in the range of their types, and operators are some of the subset's
 abbrev pub is_expr_kind : EachIs Bool CExprKind-F → Bool
 is_expr_kind (CExprKind-F.Literal s n) = is_literal s n
 is_expr_kind (CExprKind-F.Read at) = at
@@ -102,18 +103,23 @@ is_expr_kind (CExprKind-F.Call call) = call
 is_expr_kind (CExprKind-F.Not operand) = operand
 is_expr_kind (CExprKind-F.Two o left right) = is_c_operator o && (left && right)
 
+-- a call: its name is that of a function, and each argument has a spelling
 abbrev pub is_call : EachIs Bool CCall-F → Bool
 is_call c = is_callee c.name && all_of c.args
 
+-- an expression has a spelling where its form has one
 abbrev pub is_expr : EachIs Bool CExpr-F → Bool
 is_expr e = e.what
 
+-- an index: its expression has a spelling, and its length is one of an array
 abbrev pub is_index : EachIs Bool CIndex-F → Bool
 is_index i = i.at && is_length i.length
 
+-- a place: its name is one, and each step has a spelling
 abbrev pub is_place : EachIs Bool CPlace-F → Bool
 is_place p = is_name p.name && all_of p.steps
 
+-- a step: the member's name is one, and the index has a spelling where there is one
 abbrev pub is_step : EachIs Bool CStep-F → Bool
 is_step s = is_name s.member && none_or s.index
 
@@ -121,22 +127,27 @@ is_step s = is_name s.member && none_or s.index
 abbrev pub spells_expr : CExpr → Bool
 spells_expr = fold-CExpr _ _ _ _ _ _ _ is_arg is_expr_kind is_call is_expr is_index is_place is_step
 
--- the same for each part of a tree
+-- the same of an expression's form
 abbrev pub spells_kind : CExprKind → Bool
 spells_kind = fold-CExprKind _ _ _ _ _ _ _ is_arg is_expr_kind is_call is_expr is_index is_place is_step
 
+-- the same of a place
 abbrev pub spells_place : CPlace → Bool
 spells_place = fold-CPlace _ _ _ _ _ _ _ is_arg is_expr_kind is_call is_expr is_index is_place is_step
 
+-- the same of a step of a place
 abbrev pub spells_step : CStep → Bool
 spells_step = fold-CStep _ _ _ _ _ _ _ is_arg is_expr_kind is_call is_expr is_index is_place is_step
 
+-- the same of an index
 abbrev pub spells_index : CIndex → Bool
 spells_index = fold-CIndex _ _ _ _ _ _ _ is_arg is_expr_kind is_call is_expr is_index is_place is_step
 
+-- the same of a call
 abbrev pub spells_call : CCall → Bool
 spells_call = fold-CCall _ _ _ _ _ _ _ is_arg is_expr_kind is_call is_expr is_index is_place is_step
 
+-- the same of an argument
 abbrev pub spells_arg : CArg → Bool
 spells_arg = fold-CArg _ _ _ _ _ _ _ is_arg is_expr_kind is_call is_expr is_index is_place is_step
 
@@ -160,6 +171,7 @@ is_stmt_kind (CStmtKind-F.Loop turn test body) = is_turn_name turn && (spells_ex
 is_stmt_kind CStmtKind-F.Break = true
 is_stmt_kind (CStmtKind-F.Return value) = spells_result value
 
+-- a statement has a spelling where its form has one
 abbrev pub is_stmt : CStmt-F Bool Bool → Bool
 is_stmt s = s.what
 

@@ -137,6 +137,7 @@ abbrev pub arg_spelling : EachIs Spelled CArg-F → Spelled
 arg_spelling (CArg-F.Value value) = value
 arg_spelling (CArg-F.Address at) = codes "&" ∷ at
 
+-- the tokens of an expression's form
 abbrev pub kind_spelling : EachIs Spelled CExprKind-F → Spelled
 kind_spelling (CExprKind-F.Literal s n) = literal_tokens s n
 kind_spelling (CExprKind-F.Read at) = at
@@ -144,9 +145,11 @@ kind_spelling (CExprKind-F.Call call) = call
 kind_spelling (CExprKind-F.Not operand) = codes "(" ∷ codes "!" ∷ (operand ++ codes ")" ∷ [])
 kind_spelling (CExprKind-F.Two o left right) = codes "(" ∷ (left ++ (operator_sign o ∷ (right ++ codes ")" ∷ [])))
 
+-- the tokens of a call
 abbrev pub call_spelling : EachIs Spelled CCall-F → Spelled
 call_spelling c = call_tokens c.name c.args
 
+-- an expression has the tokens of its form
 abbrev pub expr_spelling : EachIs Spelled CExpr-F → Spelled
 expr_spelling e = e.what
 
@@ -155,6 +158,7 @@ abbrev pub index_front : Bool → List Token
 index_front true = codes "[" ∷ codes "bl_ix_s" ∷ codes "(" ∷ []
 index_front false = codes "[" ∷ codes "bl_ix_u" ∷ codes "(" ∷ []
 
+-- the tokens of an index with its function, its length and its brackets
 abbrev pub index_spelling : EachIs Spelled CIndex-F → Spelled
 index_spelling i = index_front i.signed ++ (i.at ++ codes "," ∷ decimal i.length ∷ codes ")" ∷ codes "]" ∷ [])
 
@@ -163,6 +167,7 @@ abbrev pub root_tokens : Bool → List ℕ → List Token
 root_tokens true name = codes "(" ∷ codes "*" ∷ name ∷ codes ")" ∷ []
 root_tokens false name = name ∷ []
 
+-- the tokens of a place: its root, then its steps
 abbrev pub place_spelling : EachIs Spelled CPlace-F → Spelled
 place_spelling p = root_tokens p.through p.name ++ joined p.steps
 
@@ -171,29 +176,35 @@ abbrev pub if_any : Option (List Token) → List Token
 if_any None = []
 if_any (Some tokens) = tokens
 
+-- the tokens of a step: a dot, the member, and its index where there is one
 abbrev pub step_spelling : EachIs Spelled CStep-F → Spelled
 step_spelling s = codes "." ∷ s.member ∷ if_any s.index
 
--- the tokens of an expression, of a place and of a call
+-- the tokens of an expression
 abbrev pub expr_tokens : CExpr → List Token
 expr_tokens = fold-CExpr _ _ _ _ _ _ _ arg_spelling kind_spelling call_spelling expr_spelling index_spelling place_spelling step_spelling
 
--- the tokens of each part of a tree
+-- the tokens of an expression's form
 abbrev pub kind_tokens : CExprKind → List Token
 kind_tokens = fold-CExprKind _ _ _ _ _ _ _ arg_spelling kind_spelling call_spelling expr_spelling index_spelling place_spelling step_spelling
 
+-- the tokens of a place
 abbrev pub place_tokens : CPlace → List Token
 place_tokens = fold-CPlace _ _ _ _ _ _ _ arg_spelling kind_spelling call_spelling expr_spelling index_spelling place_spelling step_spelling
 
+-- the tokens of a step of a place
 abbrev pub step_tokens : CStep → List Token
 step_tokens = fold-CStep _ _ _ _ _ _ _ arg_spelling kind_spelling call_spelling expr_spelling index_spelling place_spelling step_spelling
 
+-- the tokens of an index
 abbrev pub index_tokens : CIndex → List Token
 index_tokens = fold-CIndex _ _ _ _ _ _ _ arg_spelling kind_spelling call_spelling expr_spelling index_spelling place_spelling step_spelling
 
+-- the tokens of a call
 abbrev pub ccall_tokens : CCall → List Token
 ccall_tokens = fold-CCall _ _ _ _ _ _ _ arg_spelling kind_spelling call_spelling expr_spelling index_spelling place_spelling step_spelling
 
+-- the tokens of an argument
 abbrev pub arg_tokens : CArg → List Token
 arg_tokens = fold-CArg _ _ _ _ _ _ _ arg_spelling kind_spelling call_spelling expr_spelling index_spelling place_spelling step_spelling
 
@@ -238,6 +249,7 @@ stmt_kind_spelling (CStmtKind-F.Loop turn test body) =
 stmt_kind_spelling CStmtKind-F.Break = codes "break" ∷ codes ";" ∷ []
 stmt_kind_spelling (CStmtKind-F.Return value) = codes "return" ∷ (result_tokens value ++ codes ";" ∷ [])
 
+-- a statement has the tokens of its form
 abbrev pub stmt_spelling : CStmt-F Spelled Spelled → Spelled
 stmt_spelling s = s.what
 

@@ -18,6 +18,7 @@ use Rattle.bl_ctree.specs.Instances.{Setting}
 use Rattle.bl_ctree.specs.Positions.{Located, place_of, stmt_kind}
 use Rattle.bl_ctree.specs.Store.{Frame, Location, Store, home, homes, number_or_zero, put, put_written, remember, view_at, with_frame, with_inputs}
 
+-- what an action does
 pub data Effect : Type 0 where
   -- the tree alone changes
   Silent : Effect
@@ -36,6 +37,7 @@ pub record Action : Type 0 where
   pub instance : ℕ
   pub effect : Effect
 
+-- the action of a statement in an instance, with this effect
 abbrev pub action : ℕ → Located → Effect → Action
 action i s effect = record { place = place_of s; instance = i; effect = effect }
 
@@ -47,6 +49,7 @@ effect_reads w i (Asks e) = homes w i (mentions e)
 effect_reads w i (Copies callee inputs) = homes w i (joined (map mentions inputs))
 effect_reads w i (Gives callee target) = []
 
+-- the homes that an action reads
 abbrev pub reads_of : Setting → Action → List Location
 reads_of w a = effect_reads w a.instance a.effect
 
@@ -57,6 +60,7 @@ pub record Performed : Type 0 where
   pub answer : Bool
   pub store : Store
 
+-- the store that an action leaves which tests nothing
 abbrev pub done : Store → Performed
 done store = record { answer = true; store = store }
 
@@ -65,6 +69,7 @@ abbrev pub value_there : Setting → Store → ℕ → Expr → Option Value
 value_there w store i e =
     option_and_then (λ instance. value_in_unit w.structs w.units instance.unit e (view_at w store i)) (slice_get w.instances i)
 
+-- the values of expressions in an instance, in order; none where one of them traps
 abbrev pub values_there : Setting → Store → ℕ → List Expr → Option (List Value)
 values_there w store i [] = Some []
 values_there w store i (e ∷ rest) =
@@ -75,6 +80,7 @@ abbrev pub outcome_there : Setting → Store → ℕ → Stmt → Option (List V
 outcome_there w store i s =
     option_and_then (λ instance. outcome_in_unit w.structs w.units instance.unit s (view_at w store i)) (slice_get w.instances i)
 
+-- the frame with this result
 abbrev pub with_result : Value → Frame → Frame
 with_result value frame = record frame { result = Some value }
 
@@ -87,12 +93,15 @@ acted_kind w i s (StmtKind-F.Declare k initial) store =
     option_map (λ values. with_frame i (remember k) (put_written w i values (writes s) store)) (outcome_there w store i s)
 acted_kind w i s _ store = option_map (λ values. put_written w i values (writes s) store) (outcome_there w store i s)
 
+-- whether a value is true; what isn't a number counts as false
 abbrev pub is_true_value : Value → Bool
 is_true_value value = is_one (number_or_zero value)
 
+-- the store with the value at the home of a path of the instance
 abbrev pub target_gets : Setting → ℕ → Store → Path → Value → Store
 target_gets w i store path value = put (home w (record { instance = i; path = static_of path })) value store
 
+-- the result of an instance; none where its activity returns nothing
 abbrev pub result_at : Store → ℕ → Option Value
 result_at store callee = option_and_then (λ frame. frame.result) (slice_get store callee)
 
@@ -101,6 +110,7 @@ abbrev pub given_to : Setting → ℕ → Option Path → Option Value → Store
 given_to w i (Some path) (Some value) store = target_gets w i store path value
 given_to w i _ _ store = store
 
+-- what an effect in an instance answers and leaves; none where it traps
 abbrev pub effect_on : Setting → ℕ → Effect → Store → Option Performed
 effect_on w i Silent store = Some (done store)
 effect_on w i (Acts s) store = option_map done (acted_kind w i s (stmt_kind s) store)

@@ -11,6 +11,7 @@ pub data Phase : Type 0 where
 -- A node has the statement that it comes from. `stood` of a Par, a Guard and a Run says that it stood in the tree when the
 -- tick began
 mutual
+  -- what of a statement, a list of statements or an activity is left
   pub data Control : Type 0 where
     -- ended
     Nil : Control
@@ -33,6 +34,7 @@ mutual
     -- a `run`, the instance that it began, and what of its body is left
     Run : Located → ℕ → Phase → (stood : Bool) → Control → Control
 
+  -- the branches of a `cobegin`, in source order
   pub data Branches : Type 0 where
     no_branch : Branches
     -- a branch, weak or not, before further ones
@@ -40,10 +42,12 @@ mutual
 
 -- ---- equalities: an empty list is Nil, what follows Nil is the rest, and an empty rest vanishes
 
+-- an item that is to begin
 abbrev pub do_item : Item → Control
 do_item (Begin s) = Do s
 do_item (Again s) = Turn s
 
+-- a tree and what follows it, where the tree hasn't ended
 abbrev pub followed : Control → List Item → Control
 followed c [] = c
 followed c (item ∷ rest) = Seq c (item ∷ rest)
@@ -65,18 +69,22 @@ begun s k (b ∷ rest) = branch (out-Branch b).weak (do_all (block_items s k (ou
 
 -- ---- settled. What is due has only still to end: a Par whose branches are settled and done, a Guard or a Run in phase body over Nil
 
+-- whether the tree has ended
 abbrev pub is_nil : Control → Bool
 is_nil Nil = true
 is_nil _ = false
 
+-- whether some branch is strong
 abbrev pub has_strong : Branches → Bool
 has_strong no_branch = false
 has_strong (branch weak c rest) = not weak || has_strong rest
 
+-- whether all strong branches have ended
 abbrev pub strong_ended : Branches → Bool
 strong_ended no_branch = true
 strong_ended (branch weak c rest) = (weak || is_nil c) && strong_ended rest
 
+-- whether some branch has ended
 abbrev pub some_ended : Branches → Bool
 some_ended no_branch = false
 some_ended (branch weak c rest) = is_nil c || some_ended rest
@@ -85,6 +93,7 @@ some_ended (branch weak c rest) = is_nil c || some_ended rest
 abbrev pub are_done : Branches → Bool
 are_done branches = if has_strong branches then strong_ended branches else some_ended branches
 
+-- whether a Guard or a Run let its body go on in this tick
 abbrev pub in_body : Phase → Bool
 in_body Check = false
 in_body Body = true
@@ -103,6 +112,7 @@ abbrev mutual
   is_settled (Guard s phase stood c) = in_body phase && (is_settled c && not (is_nil c))
   is_settled (Run s i phase stood c) = in_body phase && (is_settled c && not (is_nil c))
 
+  -- each branch is settled
   pub are_settled : Branches → Bool
   are_settled no_branch = true
   are_settled (branch weak c rest) = is_settled c && are_settled rest
@@ -123,6 +133,7 @@ abbrev mutual
   woken (Guard s phase stood c) = Guard s Check true (woken c)
   woken (Run s i phase stood c) = Run s i Check true (woken c)
 
+  -- each branch is woken
   pub all_woken : Branches → Branches
   all_woken no_branch = no_branch
   all_woken (branch weak c rest) = branch weak (woken c) (all_woken rest)
@@ -144,6 +155,7 @@ abbrev mutual
   forget (Guard s phase stood c) = Guard s phase false (forget c)
   forget (Run s i phase stood c) = Run s i phase false (forget c)
 
+  -- each branch without it
   pub all_forgotten : Branches → Branches
   all_forgotten no_branch = no_branch
   all_forgotten (branch weak c rest) = branch weak (forget c) (all_forgotten rest)

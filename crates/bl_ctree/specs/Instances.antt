@@ -40,6 +40,7 @@ use Rattle.bl_ctree.specs.declared.instance.Run.{Run}
 
 -- ---- the `run` statements of a unit
 
+-- those of a kind of statement at the place, where those of its parts are given
 abbrev pub kind_runs : StmtKind-F (Place → List Run) (List Run) (List Run) (List Run) → Place → List Run
 kind_runs (StmtKind-F.Declare k initial) place = []
 kind_runs (StmtKind-F.Assign path e) place = []
@@ -54,12 +55,15 @@ kind_runs (StmtKind-F.Until body e) place = joined body
 kind_runs (StmtKind-F.While e body) place = joined body
 kind_runs (StmtKind-F.Return e) place = []
 
+-- those of an arm, where those of its statements are given
 abbrev pub arm_runs : Arm-F (Place → List Run) (List Run) (List Run) (List Run) → List Run
 arm_runs arm = joined arm.body
 
+-- those of a branch, where those of its statements are given
 abbrev pub branch_runs : Branch-F (Place → List Run) (List Run) (List Run) (List Run) → List Run
 branch_runs branch = joined branch.body
 
+-- those of a statement, where those of its kind are given for each place
 abbrev pub stmt_layer_runs : Stmt-F (Place → List Run) (List Run) (List Run) (List Run) → List Run
 stmt_layer_runs s = s.what s.place
 
@@ -67,9 +71,11 @@ stmt_layer_runs s = s.what s.place
 abbrev pub runs_in : Stmt → List Run
 runs_in = fold-Stmt (Place → List Run) (List Run) (List Run) (List Run) kind_runs arm_runs branch_runs stmt_layer_runs
 
+-- the `run` statements in an arm, in source order
 abbrev pub runs_in_arm : Arm → List Run
 runs_in_arm = fold-Arm (Place → List Run) (List Run) (List Run) (List Run) kind_runs arm_runs branch_runs stmt_layer_runs
 
+-- the `run` statements in a branch, in source order
 abbrev pub runs_in_branch : Branch → List Run
 runs_in_branch = fold-Branch (Place → List Run) (List Run) (List Run) (List Run) kind_runs arm_runs branch_runs stmt_layer_runs
 
@@ -89,6 +95,7 @@ abbrev pub origin_under : ℕ → Run → Option Origin → Option Origin
 origin_under n run None = Some (record { caller = 0; place = run.place; outputs = run.outputs })
 origin_under n run (Some origin) = Some (record origin { caller = n + origin.caller })
 
+-- an instance below a called activity, as seen from its caller: it lies one deeper
 abbrev pub called_from : ℕ → Run → Instance → Instance
 called_from n run instance = record { unit = instance.unit; depth = suc instance.depth; origin = origin_under n run instance.origin }
 
@@ -113,14 +120,17 @@ instances_of units entry = expanded units (entry + 1) entry
 
 -- ---- a program with its instances
 
+-- structures and units of a program, and the instances of its entry
 pub record Setting : Type 0 where
   pub structs : List StructDef
   pub units : List UnitDef
   pub instances : List Instance
 
+-- the program with the instances that the entry at this position expands to
 abbrev pub setting_of : List StructDef → List UnitDef → ℕ → Setting
 setting_of structs units entry = record { structs = structs; units = units; instances = instances_of units entry }
 
+-- whether the `run` statement at the place in the caller's instance begins what has this origin
 abbrev pub begins_at : ℕ → Place → Option Origin → Bool
 begins_at caller place None = Bool.false
 begins_at caller place (Some origin) = nat_eq origin.caller caller && same_place origin.place place
@@ -129,6 +139,7 @@ begins_at caller place (Some origin) = nat_eq origin.caller caller && same_place
 abbrev pub callee_of : Setting → ℕ → Place → Option ℕ
 callee_of w caller place = position (λ instance. begins_at caller place instance.origin) w.instances
 
+-- the unit of an instance; none where there is no such unit
 abbrev pub unit_of : Setting → Instance → Option UnitDef
 unit_of w instance = slice_get w.units instance.unit
 

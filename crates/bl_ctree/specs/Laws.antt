@@ -99,9 +99,11 @@ PointsAct =
 
 -- ---- proper trees
 
+-- the tree of proper items that are to begin is proper
 abbrev pub ItemsBeginProper : Type 0
 ItemsBeginProper = (w : Setting) (i : ℕ) (items : List Item) → ItemsProper items → Proper w i (do_all items)
 
+-- a proper tree before proper items is proper
 abbrev pub SeqIsProper : Type 0
 SeqIsProper = (w : Setting) (i : ℕ) (c : Control) (rest : List Item) → Proper w i c → ItemsProper rest → Proper w i (seq c rest)
 

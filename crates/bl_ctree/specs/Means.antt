@@ -16,12 +16,15 @@ pub record Shown : Type 0 where
   pub rows : List (List ℤ)
   pub last : Option Last
 
+-- what a trace shows: all its rows, and how the run stands after them
 abbrev pub shown : Trace → Shown
 shown trace = record { rows = trace.rows; last = Some trace.last }
 
+-- no further row, and how the run stands
 abbrev pub nothing_more : Option Last → Shown
 nothing_more last = record { rows = []; last = last }
 
+-- one more row before what is shown
 abbrev pub row_then : List ℤ → Shown → Shown
 row_then row rest = record { rows = row ∷ rest.rows; last = rest.last }
 

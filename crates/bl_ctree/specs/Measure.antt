@@ -8,6 +8,7 @@ use Rattle.bl_tree.specs.Reduce.{total}
 use Rattle.bl_ctree.specs.declared.instance.Instance.{Instance}
 use Rattle.bl_ctree.specs.Instances.{Setting, setting_of, unit_of}
 
+-- a statement of this kind and those that stand in it, where the numbers of its parts are given
 abbrev pub kind_statements : StmtKind-F ℕ ℕ ℕ ℕ → ℕ
 kind_statements (StmtKind-F.Declare k initial) = 1
 kind_statements (StmtKind-F.Assign path e) = 1
@@ -22,12 +23,15 @@ kind_statements (StmtKind-F.Until body e) = 1 + total body
 kind_statements (StmtKind-F.While e body) = 1 + total body
 kind_statements (StmtKind-F.Return e) = 1
 
+-- the statements in an arm, where the number of each is given
 abbrev pub arm_statements : Arm-F ℕ ℕ ℕ ℕ → ℕ
 arm_statements arm = total arm.body
 
+-- the statements in a branch, where the number of each is given
 abbrev pub branch_statements : Branch-F ℕ ℕ ℕ ℕ → ℕ
 branch_statements branch = total branch.body
 
+-- those of a statement, where the number for its kind is given
 abbrev pub stmt_layer_statements : Stmt-F ℕ ℕ ℕ ℕ → ℕ
 stmt_layer_statements s = s.what
 
@@ -35,6 +39,7 @@ stmt_layer_statements s = s.what
 abbrev pub statements_in : Stmt → ℕ
 statements_in = fold-Stmt ℕ ℕ ℕ ℕ kind_statements arm_statements branch_statements stmt_layer_statements
 
+-- the statements of a unit, those inside others too
 abbrev pub statements_of : UnitDef → ℕ
 statements_of unit = total (map statements_in unit.body)
 

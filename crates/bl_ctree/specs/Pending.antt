@@ -41,6 +41,7 @@ use Rattle.bl_ctree.specs.Store.{Location, homes, overlap}
 
 -- ---- ends
 
+-- whether a `when` of this kind resets its body
 abbrev pub is_reset_kind : GuardKind → Bool
 is_reset_kind Abort = false
 is_reset_kind Reset = true
@@ -50,10 +51,12 @@ abbrev pub is_reset : {A B C D : Type 0} → StmtKind-F A B C D → Bool
 is_reset (StmtKind-F.When guard e body) = is_reset_kind guard
 is_reset _ = false
 
+-- whether the item may end in the tick in which it begins
 abbrev pub item_may_end : Item → Bool
 item_may_end (Begin s) = instant s.stmt
 item_may_end (Again s) = true
 
+-- whether the items may all end in the tick in which they begin
 abbrev pub items_may_end : List Item → Bool
 items_may_end [] = true
 items_may_end (item ∷ rest) = item_may_end item && items_may_end rest
@@ -63,6 +66,7 @@ abbrev pub guard_may_end : Phase → Located → Bool → Bool
 guard_may_end Check s inner = if is_reset (kind_of s) then inner || instant s.stmt else true
 guard_may_end Body s inner = inner
 
+-- whether a Run may end, where the last says whether its body may: before its inputs are copied it counts as one that may
 abbrev pub run_may_end : Phase → Bool → Bool
 run_may_end Check inner = true
 run_may_end Body inner = inner
@@ -90,6 +94,7 @@ abbrev mutual
 
 -- ---- writes: whether one of the static paths that may still be written has a home that overlaps the location
 
+-- whether one of these paths of the instance has a home that overlaps the location
 abbrev pub lie_over : Setting → ℕ → List Static → Location → Bool
 lie_over w i paths at = list_any (overlap at) (homes w i paths)
 
@@ -107,10 +112,12 @@ abbrev pub items_surface : Setting → ℕ → List Item → Location → Bool
 items_surface w i [] at = false
 items_surface w i (item ∷ rest) at = item_surface w i item at || (item_may_end item && items_surface w i rest at)
 
+-- the paths that a `run` gives its activity as outputs; none for other statements
 abbrev pub outputs_of_kind : StmtKind-F StmtKind Arm Branch Stmt → List Static
 outputs_of_kind (StmtKind-F.Run target a inputs outputs) = map static_of outputs
 outputs_of_kind _ = []
 
+-- the path that gets the result of a `run`, where it has a target; none for other statements
 abbrev pub target_of_kind : StmtKind-F StmtKind Arm Branch Stmt → List Static
 target_of_kind (StmtKind-F.Run target a inputs outputs) = target_static target
 target_of_kind _ = []
@@ -140,6 +147,7 @@ abbrev mutual
   may_write w i (Guard s phase stood c) at = may_write w i c at || anew w i s phase at
   may_write w i (Run s callee phase stood c) at = run_writes w i s (is_settled (Run s callee phase stood c)) (run_may_end phase (may_end c)) at
 
+  -- whether one of the branches may
   pub any_writes : Setting → ℕ → Branches → Location → Bool
   any_writes w i no_branch at = false
   any_writes w i (branch weak c rest) at = may_write w i c at || any_writes w i rest at
@@ -150,5 +158,6 @@ abbrev mutual
 abbrev pub meets : Setting → ℕ → Control → Action → Bool
 meets w i c a = list_any (may_write w i c) (reads_of w a)
 
+-- whether one of the branches beside an action may still write what the action reads
 abbrev pub any_meets : Setting → ℕ → Branches → Action → Bool
 any_meets w i branches a = list_any (any_writes w i branches) (reads_of w a)

@@ -73,10 +73,12 @@ within around point = record { action = point.action; path = point.path; after =
 abbrev pub in_first : (Control → Branches) → Point Control → Point Branches
 in_first around point = record { action = point.action; path = 0 ∷ point.path; after = λ d. around (point.after d) }
 
+-- a path of branch numbers, seen with one more branch before the outermost
 abbrev pub one_on : List ℕ → List ℕ
 one_on [] = []
 one_on (k ∷ path) = suc k ∷ path
 
+-- a point of the later branches, seen with one more branch before them
 abbrev pub in_later : (Branches → Branches) → Point Branches → Point Branches
 in_later around point = record { action = point.action; path = one_on point.path; after = λ d. around (point.after d) }
 
@@ -84,6 +86,7 @@ in_later around point = record { action = point.action; path = one_on point.path
 abbrev pub sure : ℕ → Located → Effect → Control → List (Point Control)
 sure i s effect after = record { action = action i s effect; path = []; after = λ d. after } ∷ []
 
+-- a test, and what the tree becomes when it is true and when it is false
 abbrev pub asking : ℕ → Located → Effect → Control → Control → List (Point Control)
 asking i s effect if_true if_false = record { action = action i s effect; path = []; after = λ d. if d then if_true else if_false } ∷ []
 
@@ -92,9 +95,11 @@ abbrev pub passing : Located → List Arm → List Stmt → Control
 passing s [] other = do_all (else_items s other)
 passing s (next ∷ arms) other = Do (further s next arms other)
 
+-- a `run` whose inputs are to be copied begins its activity's body
 abbrev pub run_begins : Setting → ℕ → Located → Effect → ℕ → UnitDef → List (Point Control)
 run_begins w i s effect callee unit = sure i s effect (Run s callee Body false (do_all (body_items unit.body)))
 
+-- the list, or the empty one where there is none
 abbrev pub or_nothing : {A : Type 0} → Option (List A) → List A
 or_nothing (Some xs) = xs
 or_nothing None = []
@@ -126,6 +131,7 @@ abbrev pub turns_on : ℕ → Located → StmtKind-F StmtKind Arm Branch Stmt �
 turns_on i s (StmtKind-F.Until body e) = asking i s (Asks e) Nil (Do s)
 turns_on i s _ = []
 
+-- what becomes of a `when` whose condition holds: `abort` ends it, `reset` begins its body anew
 abbrev pub guard_strikes : GuardKind → Located → Bool → List Stmt → Control
 guard_strikes Abort s stood body = Nil
 guard_strikes Reset s stood body = Guard s Body stood (do_all (block_items s 0 body))
@@ -149,9 +155,11 @@ giving i s callee _ = []
 abbrev pub guard_points : ℕ → Located → Bool → Control → List (Point Control) → List (Point Control)
 guard_points i s stood c inner = if is_nil c then sure i s Silent Nil else map (within (Guard s Body stood)) inner
 
+-- the points of a Run in phase body: that of its end, or those of its tree
 abbrev pub run_points : ℕ → Located → ℕ → Bool → Control → List (Point Control) → List (Point Control)
 run_points i s callee stood c inner = if is_nil c then giving i s callee (kind_of s) else map (within (Run s callee Body stood)) inner
 
+-- the first points in phase check, the second ones in phase body
 abbrev pub in_phase : Phase → List (Point Control) → List (Point Control) → List (Point Control)
 in_phase Check checking inside = checking
 in_phase Body checking inside = inside

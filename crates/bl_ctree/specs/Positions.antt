@@ -22,9 +22,11 @@ pub record Located : Type 0 where
 abbrev pub stmt_kind : Stmt → StmtKind-F StmtKind Arm Branch Stmt
 stmt_kind s = out-StmtKind (out-Stmt s).what
 
+-- what kind of statement stands there, with its parts
 abbrev pub kind_of : Located → StmtKind-F StmtKind Arm Branch Stmt
 kind_of s = stmt_kind s.stmt
 
+-- the place of the statement in the source
 abbrev pub place_of : Located → Place
 place_of s = (out-Stmt s.stmt).place
 

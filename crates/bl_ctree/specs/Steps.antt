@@ -51,6 +51,7 @@ turn_items s body next = block_items s 0 body ++ next ∷ []
 -- Moves w i c d a c': the tree c, which stands in the instance i, becomes c' by the action a, where d is the action's
 -- answer. One constructor for each point of a tree that may act, and then those that lead to a point inside
 mutual
+  -- a point of the tree acts
   pub data Moves (w : Setting) : ℕ → Control → Bool → Action → Control → Type 0 where
     -- an assignment, a declaration, a call or a `return`
     acts : {i : ℕ} {s : Located} → is_act (kind_of s) ≡ true → Moves w i (Do s) true (action i s (Acts s.stmt)) Nil

@@ -61,6 +61,7 @@ pub record Location : Type 0 where
   pub instance : ℕ
   pub path : Static
 
+-- the whole variable with number k of the instance i
 abbrev pub whole_of : ℕ → ℕ → Location
 whole_of i k = record { instance = i; path = whole k }
 
@@ -72,6 +73,7 @@ under caller fields path = record { instance = caller; path = record { root = pa
 abbrev pub is_output_of : UnitDef → ℕ → Bool
 is_output_of unit k = nat_le unit.inputs k && nat_lt k (unit.inputs + unit.outputs)
 
+-- the caller's path for which a path of a unit stands: none where its variable isn't an output
 abbrev pub led_by : Static → Origin → UnitDef → Option Location
 led_by path origin unit =
     if is_output_of unit path.root
@@ -84,10 +86,12 @@ led w at =
     option_and_then (λ instance. option_and_then (λ origin. option_and_then (led_by at.path origin) (unit_of w instance)) instance.origin)
     (slice_get w.instances at.instance)
 
+-- where a location leads when it is followed through at most so many callers
 abbrev pub home_within : Setting → ℕ → Location → Location
 home_within w zero at = at
 home_within w (suc depth) at = unwrap_or (option_map (home_within w depth) (led w at)) at
 
+-- how many callers the instance has; 0 where there is no such instance
 abbrev pub depth_at : Setting → ℕ → ℕ
 depth_at w i = unwrap_or (option_map (λ instance. instance.depth) (slice_get w.instances i)) 0
 
@@ -114,6 +118,7 @@ value_among values store at =
 abbrev pub variable_among : (Frame → List Value) → Setting → Store → ℕ → ℕ → Value
 variable_among values w store i k = unwrap_or (value_among values store (home w (whole_of i k))) (Parts [])
 
+-- the variables of the instance's unit; none where there is no such instance
 abbrev pub vars_at : Setting → ℕ → List Var
 vars_at w i = unwrap_or (option_map (λ unit. unit.vars) (unit_at w i)) []
 
@@ -131,6 +136,7 @@ view_at w store i =
 
 -- ---- writing
 
+-- the store in which the frame at the location has this value there; none where the location isn't in the frame
 abbrev pub with_now : Store → Location → Value → Frame → Option Store
 with_now store at value frame =
     option_map (λ now. slice_set store at.instance (record frame { now = now })) (put_at at.path.root at.path.fields value frame.now)
@@ -165,15 +171,19 @@ with_inputs inputs frame = record frame { now = inputs ++ drop (length inputs) f
 
 -- ---- the start of a run, the start of a tick, and its outputs
 
+-- the first value of each variable
 abbrev pub zeros : List StructDef → List Var → List Value
 zeros structs vars = map (λ var. zero_of structs var.ty) vars
 
+-- the first result of an activity, where it has one: 0 or false
 abbrev pub zero_result : Option ScalarType → Option Value
 zero_result result = option_map (λ ty. Number (pos 0)) result
 
+-- the frame of an instance of the unit before the first tick
 abbrev pub first_frame : List StructDef → UnitDef → Frame
 first_frame structs unit = record { now = zeros structs unit.vars; before = zeros structs unit.vars; result = zero_result unit.result }
 
+-- the frame of an instance before the first tick; an empty one where its unit doesn't exist
 abbrev pub frame_at_first : Setting → Instance → Frame
 frame_at_first w instance =
     unwrap_or (option_map (first_frame w.structs) (unit_of w instance)) (record { now = []; before = []; result = None })
@@ -182,6 +192,7 @@ frame_at_first w instance =
 abbrev pub first_store : Setting → Store
 first_store w = map (frame_at_first w) w.instances
 
+-- the frame as a tick begins: what is now becomes what was before
 abbrev pub aged : Frame → Frame
 aged frame = record frame { before = frame.now }
 
@@ -189,9 +200,11 @@ aged frame = record frame { before = frame.now }
 abbrev pub woken_store : List ℤ → Store → Store
 woken_store row store = with_frame 0 (with_inputs (map Number row)) (map aged store)
 
+-- the number of a value, and 0 for an array or a structure
 abbrev pub number_or_zero : Value → ℤ
 number_or_zero value = unwrap_or (number_in value) (pos 0)
 
+-- the numbers of a unit's outputs, in order
 abbrev pub outputs_of_frame : UnitDef → Frame → List ℤ
 outputs_of_frame unit frame = map number_or_zero (take unit.outputs (drop unit.inputs frame.now))
 

@@ -40,11 +40,13 @@ pub data TickOutcome : Type 0 where
   Stuck : TickOutcome
   Trap : TickOutcome
 
+-- the outcome where no point may act, by whether the tree has ended and whether it is settled
 abbrev pub resting_outcome : Bool → Bool → TickOutcome
 resting_outcome true settled = Ended
 resting_outcome false true = Paused
 resting_outcome false false = Stuck
 
+-- the outcome of a tick whose list of steps leads there
 abbrev pub outcome_at : End → TickOutcome
 outcome_at Trapped = Trap
 outcome_at (Rests c store) = resting_outcome (is_nil c) (is_settled c)

@@ -189,7 +189,8 @@ phase_is control.Check = refl
 phase_is control.Body = refl
 
 at_rest : (phase : control.Phase) (c : control.Control) → is_settled (plain_tree c) ≡ control.is_settled c →
-    (in_body phase && (is_settled (plain_tree c) && not (is_nil (plain_tree c)))) ≡ (control.in_body phase && (control.is_settled c && not (control.is_nil c)))
+    (in_body phase && (is_settled (plain_tree c) && not (is_nil (plain_tree c))))
+    ≡ (control.in_body phase && (control.is_settled c && not (control.is_nil c)))
 at_rest phase c is = λ i. phase_is phase i && (is i && not (ended c i))
 
 mutual

@@ -100,7 +100,8 @@ apart is = absurd cc
 -- ---- a statement that is to begin
 
 module _ {w : Setting} {i : ℕ} (s : Located) where
-  begins : (layer : StmtKind-F StmtKind Arm Branch Stmt) {d : Bool} {a : Deed} {n : StepLabel} {c' : Tree} → kind_of s ≡ layer → has_arm layer ≡ true →
+  begins : (layer : StmtKind-F StmtKind Arm Branch Stmt) {d : Bool} {a : Deed} {n : StepLabel} {c' : Tree} → kind_of s ≡ layer →
+      has_arm layer ≡ true →
       Moves Unmet w i (Do (plain_kind s.stmt (label_of s) (place_of s) layer)) d a n c' → LocatedStep w i (control.Do s) d a c'
   begins (StmtKind-F.Declare k initial) e arm acts = found (action i s (Acts s.stmt)) control.Nil (located.acts (ap is_act e)) refl
   begins (StmtKind-F.Assign path value) e arm acts = found (action i s (Acts s.stmt)) control.Nil (located.acts (ap is_act e)) refl
@@ -158,7 +159,8 @@ module _ {w : Setting} {i : ℕ} (s : Located) where
       (sym (guard_begins s stood Reset test body e))
 
   copying : (callee : ℕ) (stood : Bool) (c : control.Control) (target : Option Path) (unit : ℕ)
-      (inputs : List Expr) (outputs : List Path) {d : Bool} {a : Deed} {n : StepLabel} {c' : Tree} → kind_of s ≡ StmtKind-F.Run target unit inputs outputs →
+      (inputs : List Expr) (outputs : List Path) {d : Bool} {a : Deed} {n : StepLabel} {c' : Tree} →
+      kind_of s ≡ StmtKind-F.Run target unit inputs outputs →
       Moves Unmet w i (Run (call_of s target unit inputs outputs) callee control.Check stood (plain_tree c)) d a n c' →
       LocatedStep w i (control.Run s callee control.Check stood c) d a c'
   copying callee stood c target unit inputs outputs e copies =
@@ -189,7 +191,8 @@ sequence c rest inner (in_seq move) =
     }
 
 module _ {w : Setting} {i : ℕ} (s : Located) (stood : Bool) where
-  guard_over : (c : control.Control) → control.is_nil c ≡ true → LocatedStep w i (control.Guard s control.Body stood c) true (deed i (place_of s) Silent) Nil
+  guard_over : (c : control.Control) → control.is_nil c ≡ true →
+      LocatedStep w i (control.Guard s control.Body stood c) true (deed i (place_of s) Silent) Nil
   guard_over control.Nil e = found (action i s Silent) control.Nil located.guard_ends refl
   guard_over c e = absurd cc
 
@@ -215,8 +218,10 @@ module _ {w : Setting} {i : ℕ} (s : Located) (stood : Bool) where
   run_over c callee target a inputs outputs e over = absurd cc
 
   within_run : (c : control.Control) (callee : ℕ) (target : Option Path) (unit : ℕ)
-      (inputs : List Expr) (outputs : List Path) {d : Bool} {a : Deed} {n : StepLabel} {c' : Tree} → kind_of s ≡ StmtKind-F.Run target unit inputs outputs →
-      (t : Tree) → control.is_nil c ≡ is_nil t → ((m : StepLabel) (after : Tree) → Moves Unmet w callee t d a m after → LocatedStep w callee c d a after) →
+      (inputs : List Expr) (outputs : List Path) {d : Bool} {a : Deed} {n : StepLabel} {c' : Tree} →
+      kind_of s ≡ StmtKind-F.Run target unit inputs outputs →
+      (t : Tree) → control.is_nil c ≡ is_nil t →
+      ((m : StepLabel) (after : Tree) → Moves Unmet w callee t d a m after → LocatedStep w callee c d a after) →
       Moves Unmet w i (Run (call_of s target unit inputs outputs) callee control.Body stood t) d a n c' →
       LocatedStep w i (control.Run s callee control.Body stood c) d a c'
   within_run c callee target unit inputs outputs e t nil inner run_ends = run_over c callee target unit inputs outputs e nil
@@ -268,7 +273,8 @@ none : {A : Type 0} {w : Setting} {i : ℕ} {d : Bool} {a : Deed} {n : StepLabel
 none move = elim move [ ]
 
 -- a step of a tree that is equal to this one
-as_of : {w : Setting} {i : ℕ} {one c c' : Tree} {d : Bool} {a : Deed} {n : StepLabel} → one ≡ c → Moves Unmet w i one d a n c' → Moves Unmet w i c d a n c'
+as_of : {w : Setting} {i : ℕ} {one c c' : Tree} {d : Bool} {a : Deed} {n : StepLabel} → one ≡ c → Moves Unmet w i one d a n c' →
+    Moves Unmet w i c d a n c'
 as_of {w} {i} {c' = c'} {d} {a} {n} e move = subst (λ c. Moves Unmet w i c d a n c') e move
 
 mutual

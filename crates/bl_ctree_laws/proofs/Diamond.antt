@@ -104,7 +104,8 @@ one_run w {i} {l} {at} {target} {a} {inputs} {outputs} callee callee' unit unit'
 
 -- ---- sequences
 
-busy : {T : Bool → Type 0} {w : Setting} {i : ℕ} {c : Tree} {d : Bool} {a : Deed} {n : StepLabel} {c' : Tree} → Moves T w i c d a n c' → is_nil c ≡ false
+busy : {T : Bool → Type 0} {w : Setting} {i : ℕ} {c : Tree} {d : Bool} {a : Deed} {n : StepLabel} {c' : Tree} → Moves T w i c d a n c' →
+    is_nil c ≡ false
 busy {c = Nil} move = elim move [ ]
 busy {c = Wait s} move = refl
 busy {c = Test s} move = refl

@@ -45,7 +45,8 @@ module _ {w : Setting} (paces : Paces w) (R : Tree → Type 0)
     (free : (c : Tree) (a b : Deed) → R c → Apart w 0 c a b → Independent w a b) where
   -- ---- after a step the rest has the same end
 
-  trap_stays : {c : Tree} {store : Store} {n m : StepLabel} {c1 : Tree} {store1 : Store} → R c → (s : Step w c store n c1 store1) (t : Traps w c store m) →
+  trap_stays : {c : Tree} {store : Store} {n m : StepLabel} {c1 : Tree} {store1 : Store} → R c →
+      (s : Step w c store n c1 store1) (t : Traps w c store m) →
       OneStep Tree s.answer t.answer s.deed t.deed n m c1 t.after ⊎ Swapped w 0 c s.answer t.answer s.deed t.deed n m c1 t.after → Traps w c1 store1 m
   trap_stays {store = store} r s t (inl one) = some_is_none (done_by w t.deed store) _ (sym (ap (λ a. done_by w a store) one.deed) ∙ s.performs) t.fails
   trap_stays {store = store} r s t (inr swap) = record {

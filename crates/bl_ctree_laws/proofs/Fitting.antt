@@ -1,5 +1,26 @@
 -- Steps and waking keep trees typed.
-use Rattle.std.proofs.Common.{◌≡◌, ℕ, ℤ, suc, Bool, true, ◌&&◌, List, [], ◌∷◌, ◌++◌, map, Option, Some, None, refl, sym, ap, ◌∙◌, subst}
+use Rattle.std.proofs.Common.{
+  ◌≡◌,
+  ℕ,
+  ℤ,
+  suc,
+  Bool,
+  true,
+  ◌&&◌,
+  List,
+  [],
+  ◌∷◌,
+  ◌++◌,
+  map,
+  Option,
+  Some,
+  None,
+  refl,
+  sym,
+  ap,
+  ◌∙◌,
+  subst,
+}
 use Rattle.std.specs.Prelude.{option_map, unwrap_or, ⊤}
 use Rattle.bl_tree.specs.declared.place.Place.{Place}
 use Rattle.bl_tree.specs.declared.tree.Arm.{Arm, fold-Arm, fold_out-Arm, out-Arm}
@@ -136,7 +157,8 @@ made_fits : (site : Site) (place : Place) (arm : Arm) (arms : List Arm) (other :
     fits site (roll-Stmt (record { place = place; what = roll-StmtKind (StmtKind-F.If (arm ∷ arms) other) })) ≡ true
 made_fits site place arm arms other e = rw (fold-roll-Stmt, fold-roll-StmtKind) e
 
-further_fits : (s : Located) {arm next : Arm} {arms : List Arm} {other : List Stmt} → Fits s.stmt → kind_of s ≡ StmtKind-F.If (arm ∷ next ∷ arms) other →
+further_fits : (s : Located) {arm next : Arm} {arms : List Arm} {other : List Stmt} → Fits s.stmt →
+    kind_of s ≡ StmtKind-F.If (arm ∷ next ∷ arms) other →
     Fits (further s next arms other).stmt
 further_fits s {arm} {next} {arms} {other} f e = record {
   site = f.site;

@@ -148,7 +148,8 @@ record PlainOne (w : Setting) (i : ℕ) (branches : control.Branches) (d : Bool)
   label : StepLabel
   moves : OneMoves Unmet w i (plain_trees branches) d (deed_of a) label (plain_trees branches')
 
-by : {w : Setting} {i : ℕ} {c c' : control.Control} {d : Bool} {a : Action} {n : StepLabel} → Moves Unmet w i (plain_tree c) d (deed_of a) n (plain_tree c') →
+by : {w : Setting} {i : ℕ} {c c' : control.Control} {d : Bool} {a : Action} {n : StepLabel} →
+    Moves Unmet w i (plain_tree c) d (deed_of a) n (plain_tree c') →
     PlainStep w i c d a c'
 by {n = n} move = record { label = n; moves = move }
 

@@ -216,7 +216,8 @@ do_writes test (Then s (Then t rest)) = refl
 
 pub before_ends : (body after : Block) → are_instant (before body after) ≡ (are_instant body && are_instant after)
 before_ends Done after = refl
-before_ends (Then s rest) after = ap (λ b. is_instant s && b) (before_ends rest after) ∙ sym (and_apart (is_instant s) (are_instant rest) (are_instant after))
+before_ends (Then s rest) after =
+    ap (λ b. is_instant s && b) (before_ends rest after) ∙ sym (and_apart (is_instant s) (are_instant rest) (are_instant after))
   where
     and_apart : (a b c : Bool) → ((a && b) && c) ≡ (a && (b && c))
     and_apart true b c = refl
@@ -291,7 +292,8 @@ begun_join false Last = refl
 begun_join true (BodyOf weak body rest) = λ i. (weak || do_ends body i) && begun_join true rest i
 begun_join false (BodyOf weak body rest) = λ i. do_ends body i || begun_join false rest i
 
-begun_ends : (bodies : Bodies) → may_join (has_strong (begun bodies)) (begun bodies) ≡ cond (some_strong bodies) (strong_instant bodies) (some_instant bodies)
+begun_ends : (bodies : Bodies) →
+    may_join (has_strong (begun bodies)) (begun bodies) ≡ cond (some_strong bodies) (strong_instant bodies) (some_instant bodies)
 begun_ends bodies = ap (λ b. may_join b (begun bodies)) (begun_strong bodies) ∙ begun_join (some_strong bodies) bodies
 
 begun_writes : (test : Static → Bool) (bodies : Bodies) → any_writes_path test (begun bodies) ≡ soon_in_each test bodies
@@ -370,7 +372,8 @@ same_strong (later {weak = weak} move free) = ap (λ b. not weak || b) (same_str
 
 module _ {T : Bool → Type 0} {w : Setting} (paces : Paces w) where
   mutual
-    pub ends_less : {i : ℕ} {c : Tree} {d : Bool} {a : Deed} {n : StepLabel} {c' : Tree} → Moves T w i c d a n c' → may_end c' ≡ true → may_end c ≡ true
+    pub ends_less : {i : ℕ} {c : Tree} {d : Bool} {a : Deed} {n : StepLabel} {c' : Tree} → Moves T w i c d a n c' → may_end c' ≡ true →
+        may_end c ≡ true
     ends_less acts e = refl
     ends_less (takes {body = body} {other}) e = or_left (are_instant body) (are_instant other) (sym (do_ends body) ∙ e)
     ends_less (passes {body = body} {other}) e = or_right (are_instant body) (are_instant other) (sym (do_ends other) ∙ e)

@@ -36,7 +36,8 @@ module _ (kept : MovesKeepProper) (woken_proper : WakingKeepsProper) (proper : R
       Left w true 0 body (plain_tree (control.woken c))
   woken_left {w} {body} c p left = subst (Left w true 0 body) (sym (waking_is_plain w c p)) (waking_keeps_left w body (plain_tree c) left)
 
-  pub reached : {w : Setting} {rows : List (List ℤ)} {c : control.Control} {store : Store} → Reaches w rows c store → LeftTree w (entry_block w) (plain_tree c)
+  pub reached : {w : Setting} {rows : List (List ℤ)} {c : control.Control} {store : Store} → Reaches w rows c store →
+      LeftTree w (entry_block w) (plain_tree c)
   reached at_first = not_begun
   reached {w} (after_tick {before = rows} {c = c} {store} before tick paused is) =
       let p = proper w rows c store before in

@@ -120,6 +120,7 @@ abbrev mutual
   plain_tree (control.Guard s phase stood c) = guarded phase stood (plain_tree c) (plain_at s)
   plain_tree (control.Run s callee phase stood c) = running callee phase stood (plain_tree c) (plain_at s)
 
+  -- the branches over plain statements
   pub plain_trees : control.Branches → Trees
   plain_trees control.no_branch = no_tree
   plain_trees (control.branch weak c rest) = beside weak (plain_tree c) (plain_trees rest)

@@ -73,6 +73,7 @@ abbrev mutual
   Armed (control.Guard s phase stood c) = Armed c
   Armed (control.Run s callee phase stood c) = Armed c
 
+  -- and in each of the branches
   pub AllArmed : control.Branches → Type 0
   AllArmed control.no_branch = ⊤
   AllArmed (control.branch weak c rest) = Armed c × AllArmed rest

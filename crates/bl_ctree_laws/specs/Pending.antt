@@ -86,6 +86,7 @@ abbrev mutual
   soon_in test Done = false
   soon_in test (Then s rest) = soon test s || (is_instant s && soon_in test rest)
 
+  -- branches can write what one of them can
   pub soon_in_each : (Static → Bool) → Bodies → Bool
   soon_in_each test Last = false
   soon_in_each test (BodyOf weak body rest) = soon_in test body || soon_in_each test rest
@@ -153,6 +154,7 @@ abbrev mutual
   may_write_path test (Guard s phase stood c) = may_write_path test c || anew test s phase
   may_write_path test (Run s callee phase stood c) = run_writes test s (is_settled (Run s callee phase stood c)) (run_may_end phase (may_end c))
 
+  -- whether one of the branches may
   pub any_writes_path : (Static → Bool) → Trees → Bool
   any_writes_path test no_tree = false
   any_writes_path test (beside weak c rest) = may_write_path test c || any_writes_path test rest

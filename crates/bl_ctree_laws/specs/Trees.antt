@@ -134,6 +134,7 @@ abbrev mutual
   is_settled (Guard s phase stood c) = in_body phase && (is_settled c && not (is_nil c))
   is_settled (Run s callee phase stood c) = in_body phase && (is_settled c && not (is_nil c))
 
+  -- each branch is settled
   pub are_settled : Trees → Bool
   are_settled no_tree = true
   are_settled (beside weak c rest) = is_settled c && are_settled rest
@@ -153,6 +154,7 @@ abbrev mutual
   woken (Guard s phase stood c) = Guard s Check true (woken c)
   woken (Run s callee phase stood c) = Run s callee Check true (woken c)
 
+  -- each branch is woken
   pub all_woken : Trees → Trees
   all_woken no_tree = no_tree
   all_woken (beside weak c rest) = beside weak (woken c) (all_woken rest)

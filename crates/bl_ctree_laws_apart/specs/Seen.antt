@@ -37,6 +37,7 @@ abbrev mutual
   CallsStand w i (Run s callee phase stood c) =
       (callee_of w i s.place ≡ Some callee) × (HasOutputs w callee (map static_of s.arguments.outputs) × CallsStand w callee c)
 
+  -- so does each in the branches
   pub AllCallsStand : Setting → ℕ → Trees → Type 0
   AllCallsStand w i no_tree = ⊤
   AllCallsStand w i (beside weak c rest) = CallsStand w i c × AllCallsStand w i rest

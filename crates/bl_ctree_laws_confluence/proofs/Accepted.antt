@@ -122,7 +122,8 @@ activity_does unit is returns = by_kind (is_activity unit.kind) is returns
     by_kind true e r = r
     by_kind false e r = absurd cc
 
-entry_is : (units : List UnitDef) (entry : ℕ) (found : Option UnitDef) → slice_get units entry ≡ found → is_entry found ≡ true → IsActivity units entry
+entry_is : (units : List UnitDef) (entry : ℕ) (found : Option UnitDef) → slice_get units entry ≡ found → is_entry found ≡ true →
+    IsActivity units entry
 entry_is units entry None there is = absurd cc
 entry_is units entry (Some unit) there is = record {
   unit = unit;
@@ -182,7 +183,8 @@ module _ (structs : List StructDef) (units : List UnitDef) (entry : ℕ) (keeps 
   instances_are : AllOf (λ instance. IsActivity units instance.unit) (expanded units (entry + 1) entry)
   instances_are = expanded_so units typed_at (entry + 1) entry (entry_is units entry (slice_get units entry) refl keeps.entry_stands)
 
-  by_instance : (i : ℕ) (unit : UnitDef) (found : Option Instance) → slice_get W.instances i ≡ found → option_and_then (unit_of W) found ≡ Some unit →
+  by_instance : (i : ℕ) (unit : UnitDef) (found : Option Instance) → slice_get W.instances i ≡ found →
+      option_and_then (unit_of W) found ≡ Some unit →
       OrderlyUnit structs units unit
   by_instance i unit None there is = absurd cc
   by_instance i unit (Some instance) there is =

@@ -103,7 +103,8 @@ none_aliased others one e = by_found (find (λ other. overlaps one.path other.pa
     by_found None is e = find_none (λ other. overlaps one.path other.path) others is
     by_found (Some other) is e = absurd cc
 
-later_past : (inputs before rest : List Marked) → outputs_aliased inputs before rest ≡ [] → (k : ℕ) (o : Marked) → slice_get rest k ≡ Some o → Past o before
+later_past : (inputs before rest : List Marked) → outputs_aliased inputs before rest ≡ [] → (k : ℕ) (o : Marked) → slice_get rest k ≡ Some o →
+    Past o before
 later_past inputs before [] e k o is = absurd cc
 later_past inputs before (x ∷ rest) e zero o is =
     let same : x ≡ o = cc in
@@ -154,7 +155,8 @@ R run = AreApart run.outputs
 abbrev S : Stmt → Type 0
 S s = aliases_in s ≡ [] → AllOf R (runs_in s)
 
-parts_apart : {A : Type 0} (g : A → List Aliased) (f : A → List Run) (xs : List A) → All (λ x. g x ≡ [] → AllOf R (f x)) xs → joined (map g xs) ≡ [] →
+parts_apart : {A : Type 0} (g : A → List Aliased) (f : A → List Run) (xs : List A) → All (λ x. g x ≡ [] → AllOf R (f x)) xs →
+    joined (map g xs) ≡ [] →
     AllOf R (joined (map f xs))
 parts_apart g f [] all none = tt
 parts_apart g f (x ∷ xs) all none =
@@ -192,7 +194,8 @@ arms_apart arms each = parts_apart arm_aliased runs_in_arm arms
 branches_apart : (branches : List Branch) → EachBranch S branches → joined (map branch_aliased branches) ≡ [] →
     AllOf R (joined (map runs_in_branch branches))
 branches_apart branches each = parts_apart branch_aliased runs_in_branch branches
-    (shown (λ branch. Each S (out-Branch branch).body) (λ branch. branch_aliased branch ≡ [] → AllOf R (runs_in_branch branch)) branch_apart branches each)
+    (shown (λ branch. Each S (out-Branch branch).body)
+    (λ branch. branch_aliased branch ≡ [] → AllOf R (runs_in_branch branch)) branch_apart branches each)
 
 abbrev alias_parts : StmtKind-F StmtKind Arm Branch Stmt → StmtKind-F (List Aliased) (List Aliased) (List Aliased) (List Aliased)
 alias_parts = map-StmtKind StmtKind Arm Branch Stmt (List Aliased) (List Aliased) (List Aliased) (List Aliased)

@@ -94,14 +94,16 @@ record Output (origin : Origin) (path : Static) (next : Location) : Type 0 where
 output_of : (path : Static) (origin : Origin) (unit : UnitDef) (next : Location) → led_by path origin unit ≡ Some next → Output origin path next
 output_of path origin unit next e = by_test (is_output_of unit path.root) e
   where
-    by_output : (o : Option Static) → slice_get origin.outputs (path.root - unit.inputs) ≡ o → option_map (under origin.caller path.fields) o ≡ Some next →
+    by_output : (o : Option Static) → slice_get origin.outputs (path.root - unit.inputs) ≡ o →
+        option_map (under origin.caller path.fields) o ≡ Some next →
         Output origin path next
     by_output None there e = absurd cc
     by_output (Some o) there e =
         let same : under origin.caller path.fields o ≡ next = cc in
         record { output = o; is_output = contains_at origin.outputs (path.root - unit.inputs) o there; leads = sym same }
 
-    by_test : (b : Bool) → (if b then option_map (under origin.caller path.fields) (slice_get origin.outputs (path.root - unit.inputs)) else None) ≡ Some next →
+    by_test : (b : Bool) →
+        (if b then option_map (under origin.caller path.fields) (slice_get origin.outputs (path.root - unit.inputs)) else None) ≡ Some next →
         Output origin path next
     by_test true e = by_output (slice_get origin.outputs (path.root - unit.inputs)) refl e
     by_test false e = absurd cc
@@ -216,7 +218,8 @@ module _ (structs : List StructDef) (units : List UnitDef) (entry : ℕ) where
   homes_there i c k place path runs (deeper j inner more began) =
       by_led (λ path. homes_there i c j place path runs more) (led W (record { instance = k; path = path })) refl
     where
-      by_led : ((path : Static) → There i c j path) → (next : Option Location) → led W (record { instance = k; path = path }) ≡ next → There i c k path
+      by_led : ((path : Static) → There i c j path) → (next : Option Location) → led W (record { instance = k; path = path }) ≡ next →
+          There i c k path
       by_led inside None e = own_there i c k path (deeper j inner more began) e
       by_led inside (Some next) e =
           passed_on i c k path next (homes_lead_out.out structs units entry (record { instance = k; path = path }) next e)

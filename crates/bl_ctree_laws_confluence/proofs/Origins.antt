@@ -63,7 +63,8 @@ get_second [] ys m k x is e = let same : k ≡ m = omega arith in subst (λ m. s
 get_second (z ∷ xs) ys zero k x is e = absurd (omega arith)
 get_second (z ∷ xs) ys (suc m) k x is e = get_second xs ys m k x (omega arith) e
 
-pub map_got : {A B : Type 0} (f : A → B) (xs : List A) (m : ℕ) (y : B) → slice_get (map f xs) m ≡ Some y → (x : A) × (slice_get xs m ≡ Some x) × (f x ≡ y)
+pub map_got : {A B : Type 0} (f : A → B) (xs : List A) (m : ℕ) (y : B) → slice_get (map f xs) m ≡ Some y →
+    (x : A) × (slice_get xs m ≡ Some x) × (f x ≡ y)
 map_got f [] m y e = absurd cc
 map_got f (x ∷ xs) zero y e = let same : f x ≡ y = cc in (x, refl, same)
 map_got f (x ∷ xs) (suc m) y e = map_got f xs m y e
@@ -86,9 +87,11 @@ all_members P (x ∷ xs) each =
 
 -- each instance of the list is called
 abbrev Stands : List UnitDef → ℕ → List Instance → Type 0
-Stands units entry instances = (i : ℕ) (instance : Instance) → slice_get instances i ≡ Some instance → Called units entry instances i instance instance.origin
+Stands units entry instances = (i : ℕ) (instance : Instance) → slice_get instances i ≡ Some instance →
+    Called units entry instances i instance instance.origin
 
-module _ (units : List UnitDef) (k : ℕ) (alone : ℕ → List Instance) (inner_stand : (j : ℕ) → Stands units j (alone j)) (root : Instance) (unit : UnitDef)
+module _ (units : List UnitDef) (k : ℕ) (alone : ℕ → List Instance) (inner_stand : (j : ℕ) → Stands units j (alone j)) (root : Instance)
+    (unit : UnitDef)
     (shallow : root.depth ≡ 0) (body : slice_get units root.unit ≡ Some unit) (whole : List Instance) (at_root : slice_get whole 0 ≡ Some root) where
   -- an instance that a `run` of the unit begins, or one below it
   called_in : (run : Run) → Contains (runs_of unit) run → (pre later : List Instance) (n m : ℕ) → length pre ≡ n →
@@ -223,14 +226,16 @@ led_from w at next e = by_instance (slice_get w.instances at.instance) refl e
     by_instance (Some instance) there e = by_origin instance there instance.origin refl e
 
 -- it is the caller's
-pub led_to_caller : (path : Static) (origin : Origin) (unit : UnitDef) (next : Location) → led_by path origin unit ≡ Some next → next.instance ≡ origin.caller
+pub led_to_caller : (path : Static) (origin : Origin) (unit : UnitDef) (next : Location) → led_by path origin unit ≡ Some next →
+    next.instance ≡ origin.caller
 led_to_caller path origin unit next e = by_test (is_output_of unit path.root) e
   where
     by_output : (o : Option Static) → option_map (under origin.caller path.fields) o ≡ Some next → next.instance ≡ origin.caller
     by_output None e = absurd cc
     by_output (Some o) e = let same : under origin.caller path.fields o ≡ next = cc in sym (ap (λ at. at.instance) same)
 
-    by_test : (b : Bool) → (if b then option_map (under origin.caller path.fields) (slice_get origin.outputs (path.root - unit.inputs)) else None) ≡ Some next →
+    by_test : (b : Bool) →
+        (if b then option_map (under origin.caller path.fields) (slice_get origin.outputs (path.root - unit.inputs)) else None) ≡ Some next →
         next.instance ≡ origin.caller
     by_test true e = by_output (slice_get origin.outputs (path.root - unit.inputs)) e
     by_test false e = absurd cc

@@ -1,5 +1,26 @@
 -- A deed as a plan: what it answers, and the values that it puts.
-use Rattle.std.proofs.Common.{◌≡◌, inl, inr, ℕ, Bool, true, List, [], ◌∷◌, ◌++◌, map, Option, Some, None, refl, sym, ap, ◌∙◌, subst, false}
+use Rattle.std.proofs.Common.{
+  ◌≡◌,
+  inl,
+  inr,
+  ℕ,
+  Bool,
+  true,
+  List,
+  [],
+  ◌∷◌,
+  ◌++◌,
+  map,
+  Option,
+  Some,
+  None,
+  refl,
+  sym,
+  ap,
+  ◌∙◌,
+  subst,
+  false,
+}
 use Rattle.std.specs.Prelude.{option_and_then, option_map, unwrap_or, ⊤, nat_eq}
 use Rattle.bl_tree.specs.declared.static_path.Static.{Static}
 use Rattle.bl_tree.specs.declared.tree.Arm.{Arm}
@@ -238,7 +259,8 @@ same_itself : (values : Frame → List Value) (ls : List Location) (s : Store) �
 same_itself values [] s = tt
 same_itself values (at ∷ rest) s = (refl, same_itself values rest s)
 
-same_then : (values : Frame → List Value) (ls : List Location) (s t u : Store) → SameThere values ls s t → SameThere values ls t u → SameThere values ls s u
+same_then : (values : Frame → List Value) (ls : List Location) (s t u : Store) → SameThere values ls s t → SameThere values ls t u →
+    SameThere values ls s u
 same_then values [] s t u one other = tt
 same_then values (at ∷ rest) s t u one other = (one.0 ∙ other.0, same_then values rest s t u one.1 other.1)
 
@@ -373,7 +395,8 @@ kind_same w i act s t same near (StmtKind-F.Return (Some e)) is =
     (returned_near w i s t act e is near))
 
 -- a deed has one plan in two stores that are the same where it looks
-plan_same : (w : Setting) (i : ℕ) (e : Effect) (s t : Store) → SameThere now_of (effect_looks w i e) s t → SameThere before_of (effect_names w i e) s t →
+plan_same : (w : Setting) (i : ℕ) (e : Effect) (s t : Store) → SameThere now_of (effect_looks w i e) s t →
+    SameThere before_of (effect_names w i e) s t →
     SameResults (effect_results e) s t → planned w i e s ≡ planned w i e t
 plan_same w i Silent s t same near results = refl
 plan_same w i (Acts act) s t same near results = kind_same w i act s t same near (stmt_kind act) refl
@@ -424,7 +447,8 @@ last_stays w i e (remembering j k) s clear =
     (remembering_results j k (effect_results e) s)
 
 -- after a plan that touches nothing that it looks at a deed has the plan that it had before
-plan_stays : (w : Setting) (i : ℕ) (e : Effect) (plan : Plan) (s : Store) → Clear (places plan.puts) (effect_looks w i e) → LastUntouched w i e plan.last →
+plan_stays : (w : Setting) (i : ℕ) (e : Effect) (plan : Plan) (s : Store) → Clear (places plan.puts) (effect_looks w i e) →
+    LastUntouched w i e plan.last →
     planned w i e (run_plan plan s) ≡ planned w i e s
 plan_stays w i e plan s clear last =
     last_stays w i e plan.last (do_puts plan.puts s) last
@@ -628,7 +652,8 @@ module _ (w : Setting) (a b : Deed) (spares : Spares w a b) where
   last_untouched (remembering i k) fits = (subst (λ ls. Clear ls (effect_names w b.instance b.effect)) fits spares.names).0
 
   -- the end of the one is past the puts of the other
-  last_clear : Spares w b a → (last : Last) → LastOf (effect_frames a.instance a.effect) (effect_remembers a.instance a.effect) last → (ls : List Location) →
+  last_clear : Spares w b a → (last : Last) → LastOf (effect_frames a.instance a.effect) (effect_remembers a.instance a.effect) last →
+      (ls : List Location) →
       Part ls (effect_writes w b.instance b.effect) → LastClear last ls
   last_clear other nothing fits ls part = tt
   last_clear other (changes f) fits ls part =

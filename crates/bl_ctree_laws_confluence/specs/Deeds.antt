@@ -33,6 +33,7 @@ abbrev pub kind_remembers : {A B C D : Type 0} → ℕ → StmtKind-F A B C D �
 kind_remembers i (StmtKind-F.Declare k initial) = whole_of i k ∷ []
 kind_remembers i _ = []
 
+-- the homes at which the effect sets what was before to what is now
 abbrev pub effect_remembers : ℕ → Effect → List Location
 effect_remembers i (Acts s) = kind_remembers i (stmt_kind s)
 effect_remembers i _ = []
@@ -49,6 +50,7 @@ abbrev pub kind_frames : {A B C D : Type 0} → ℕ → StmtKind-F A B C D → L
 kind_frames i (StmtKind-F.Return (Some e)) = i ∷ []
 kind_frames i _ = []
 
+-- the instances whose frames the effect changes as a whole
 abbrev pub effect_frames : ℕ → Effect → List ℕ
 effect_frames i (Acts s) = kind_frames i (stmt_kind s)
 effect_frames i (Copies callee inputs) = callee ∷ []

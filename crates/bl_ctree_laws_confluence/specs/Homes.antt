@@ -16,7 +16,8 @@ AreApart paths = (j k : ℕ) (a b : Static) → slice_get paths j ≡ Some a →
 -- no two outputs of a call overlap
 abbrev pub OutputsAreApart : Setting → Type 0
 OutputsAreApart w =
-    (i : ℕ) (instance : Instance) (origin : Origin) → slice_get w.instances i ≡ Some instance → instance.origin ≡ Some origin → AreApart origin.outputs
+    (i : ℕ) (instance : Instance) (origin : Origin) → slice_get w.instances i ≡ Some instance → instance.origin ≡ Some origin →
+    AreApart origin.outputs
 
 -- then homes overlap only where the paths do, so two variables have two homes
 abbrev pub HomesAreApart : Type 0

@@ -39,7 +39,8 @@ pub record HomesLeadOut : Type 0 where
   pub own : (w : Setting) (at : Location) → led w at ≡ None → home w at ≡ at
   pub out : (structs : List StructDef) (units : List UnitDef) (entry : ℕ) (at next : Location) → led (setting_of structs units entry) at ≡ Some next →
       home (setting_of structs units entry) at ≡ home (setting_of structs units entry) next
-  pub earlier : (structs : List StructDef) (units : List UnitDef) (entry : ℕ) (at next : Location) → led (setting_of structs units entry) at ≡ Some next →
+  pub earlier : (structs : List StructDef) (units : List UnitDef) (entry : ℕ) (at next : Location) →
+      led (setting_of structs units entry) at ≡ Some next →
       next.instance < at.instance
   pub no_later : (structs : List StructDef) (units : List UnitDef) (entry : ℕ) (at : Location) →
       (home (setting_of structs units entry) at).instance ≤ at.instance

@@ -99,7 +99,8 @@ standing structs earlier unit stands =
       apart = and_right flat apart (and_right (unit_returns unit) (flat && apart) last);
     }
 
-entry_is : (units : List UnitDef) (entry : ℕ) (found : Option UnitDef) → slice_get units entry ≡ found → is_entry found ≡ true → IsActivity units entry
+entry_is : (units : List UnitDef) (entry : ℕ) (found : Option UnitDef) → slice_get units entry ≡ found → is_entry found ≡ true →
+    IsActivity units entry
 entry_is units entry None there is = absurd cc
 entry_is units entry (Some unit) there is = record {
   unit = unit;
@@ -151,7 +152,8 @@ module _ (structs : List StructDef) (units : List UnitDef) (entry : ℕ) (keeps 
       let is = all_at (λ instance. IsActivity units instance.unit) W.instances first.at first.one instances_are first.there in
       record { callee = first.at; unit = is.unit; called = first.is; is = ap (option_and_then (unit_of W)) first.there ∙ is.there }
 
-  by_instance : (i : ℕ) (unit : UnitDef) (found : Option Instance) → slice_get W.instances i ≡ found → option_and_then (unit_of W) found ≡ Some unit →
+  by_instance : (i : ℕ) (unit : UnitDef) (found : Option Instance) → slice_get W.instances i ≡ found →
+      option_and_then (unit_of W) found ≡ Some unit →
       AllOf (λ run. SomeBegins W.instances i run.place) (runs_of unit)
   by_instance i unit None there of = absurd cc
   by_instance i unit (Some x) there of = all_begin i x unit there of

@@ -242,7 +242,8 @@ in_fork : (w : Setting) (i : ℕ) (s : Fork) (stood : Bool) (branches : Trees) �
     (are_settled branches && not (are_done branches)) ≡ false → Could w i (Par s stood branches)
 in_fork w i s stood branches more e = by_test (are_settled branches) refl (are_done branches) refl e
   where
-    by_test : (a : Bool) → are_settled branches ≡ a → (b : Bool) → are_done branches ≡ b → (a && not b) ≡ false → Could w i (Par s stood branches)
+    by_test : (a : Bool) → are_settled branches ≡ a → (b : Bool) → are_done branches ≡ b → (a && not b) ≡ false →
+        Could w i (Par s stood branches)
     by_test true still true done e = this_could (joins still done)
     by_test true still false done e = absurd cc
     by_test false moving b done e = this_could (in_par (more moving).moves)

@@ -67,7 +67,8 @@ nil_is_empty (Then s Done) e = absurd cc
 nil_is_empty (Then s (Then t rest)) e = absurd cc
 
 -- what is left of a statement, and what follows it
-pub seq_lives : {w : Setting} {i : ℕ} (c : Tree) (s : Plain) (rest : Block) (g : Place) → Live w i c (ahead_of (entry s) g) → FitsAll w i (Then s rest) g →
+pub seq_lives : {w : Setting} {i : ℕ} (c : Tree) (s : Plain) (rest : Block) (g : Place) → Live w i c (ahead_of (entry s) g) →
+    FitsAll w i (Then s rest) g →
     (is_nil c ≡ true → g.now (entry s)) → Live w i (seq c (Then s rest)) g
 seq_lives Nil s rest g live fits begins = do_lives (Then s rest) g fits (λ n h. subst g.now (sym h) (begins refl))
 seq_lives c s rest g live fits begins = (live, record { fits = fits; unended = refl })
@@ -238,7 +239,8 @@ body_lives w i all unit is = do_lives (plain_body unit.body) (whole false (plain
 }) (λ n h. record { from = n; begins = h; walk = stay n })
 
 -- the branches of a `cobegin`
-pub begun_live : (w : Setting) (i : ℕ) (bodies : Bodies) (g : Place) → ((n m : Node) → BesideEach bodies n m → g.links n m) → CallableEach w i bodies →
+pub begun_live : (w : Setting) (i : ℕ) (bodies : Bodies) (g : Place) → ((n m : Node) → BesideEach bodies n m → g.links n m) →
+    CallableEach w i bodies →
     Lives w i (begun bodies) bodies false g
 begun_live w i Last g links calls = tt
 begun_live w i (BodyOf weak body rest) g links calls = (

@@ -70,7 +70,8 @@ module _ (site : Site) where
   branches_run : (branches : List Branch) → EachBranch S branches → all_of (map branch_fitted branches) ≡ true →
       AllOf R (joined (map runs_in_branch branches))
   branches_run branches each = parts_run branch_fitted runs_in_branch branches
-      (shown (λ branch. Each S (out-Branch branch).body) (λ branch. branch_fitted branch ≡ true → AllOf R (runs_in_branch branch)) branch_runs_so branches each)
+      (shown (λ branch. Each S (out-Branch branch).body)
+      (λ branch. branch_fitted branch ≡ true → AllOf R (runs_in_branch branch)) branch_runs_so branches each)
 
   abbrev fit_parts : StmtKind-F StmtKind Arm Branch Stmt → StmtKind-F Bool Bool Bool Bool
   fit_parts = map-StmtKind StmtKind Arm Branch Stmt Bool Bool Bool Bool

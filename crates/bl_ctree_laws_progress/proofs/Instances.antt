@@ -56,7 +56,8 @@ any_first : {A : Type 0} (p : A → Bool) (xs ys : List A) → list_any p xs ≡
 any_first p [] ys e = absurd cc
 any_first p (x ∷ xs) ys e = by_test (p x) e (any_first p xs ys)
   where
-    by_test : (b : Bool) → (b || list_any p xs) ≡ true → (list_any p xs ≡ true → list_any p (xs ++ ys) ≡ true) → (b || list_any p (xs ++ ys)) ≡ true
+    by_test : (b : Bool) → (b || list_any p xs) ≡ true → (list_any p xs ≡ true → list_any p (xs ++ ys) ≡ true) →
+        (b || list_any p (xs ++ ys)) ≡ true
     by_test true e more = refl
     by_test false e more = more e
 
@@ -108,7 +109,8 @@ abbrev opened : List UnitDef → ℕ → ℕ → Option UnitDef → List Instanc
 opened units longest k found = unwrap_or (option_map (λ unit. root_of k ∷ instances_below (expanded units longest) 1 (runs_of unit)) found) []
 
 -- begun below, begun with other numbers
-renumbered : (n j : ℕ) (place : Place) (run : Run) (o : Option Origin) → begins_at j place o ≡ true → begins_at (n + j) place (origin_under n run o) ≡ true
+renumbered : (n j : ℕ) (place : Place) (run : Run) (o : Option Origin) → begins_at j place o ≡ true →
+    begins_at (n + j) place (origin_under n run o) ≡ true
 renumbered n j place run None e = absurd cc
 renumbered n j place run (Some origin) e = by_tests (nat_eq origin.caller j) refl (same_place origin.place place) refl e
   where
@@ -193,7 +195,8 @@ module _ (units : List UnitDef) (earlier : (k : ℕ) (unit : UnitDef) → slice_
   abbrev after_it : ℕ → ℕ → Run → List Run → List Instance
   after_it longest n run rest = instances_below (expanded units longest) (n + length (of_it longest n run)) rest
 
-  below_begin : (longest n : ℕ) (runs : List Run) → ((j : ℕ) → Of longest j) → AllOf (Found units longest) runs → (m : ℕ) (x : Instance) (unit : UnitDef) →
+  below_begin : (longest n : ℕ) (runs : List Run) → ((j : ℕ) → Of longest j) → AllOf (Found units longest) runs →
+      (m : ℕ) (x : Instance) (unit : UnitDef) →
       slice_get (instances_below (expanded units longest) n runs) m ≡ Some x → slice_get units x.unit ≡ Some unit →
       AllOf (λ run. SomeBegins (instances_below (expanded units longest) n runs) (n + m) run.place) (runs_of unit)
   below_begin longest n [] inner all m x unit there of = absurd cc
@@ -248,7 +251,8 @@ pub all_places : (P : Place → Type 0) (runs : List Run) → AllOf (λ run. P r
 all_places P [] all = tt
 all_places P (run ∷ rest) all = (all.0, all_places P rest (unfiltered (one_a_place rest) all.1))
   where
-    unfiltered : (xs : List Run) → AllOf (λ run. P run.place) (filter (λ other. not (same_place run.place other.place)) xs) → AllOf (λ run. P run.place) xs
+    unfiltered : (xs : List Run) → AllOf (λ run. P run.place) (filter (λ other. not (same_place run.place other.place)) xs) →
+        AllOf (λ run. P run.place) xs
     unfiltered [] all' = tt
     unfiltered (x ∷ xs) all' = by_test (same_place run.place x.place) refl all' (unfiltered xs)
       where

@@ -107,7 +107,8 @@ with_now g now' = record { links = g.links; edges = g.edges; out = g.out; now = 
 
 module _ (w : Setting) where
   mutual
-    pub more_now : (c : Tree) (i : ℕ) (g : Place) (now' : Node → Type 0) → ((n : Node) → g.now n → now' n) → Live w i c g → Live w i c (with_now g now')
+    pub more_now : (c : Tree) (i : ℕ) (g : Place) (now' : Node → Type 0) → ((n : Node) → g.now n → now' n) → Live w i c g →
+        Live w i c (with_now g now')
     more_now Nil i g now' more live = tt
     more_now (Wait s) i g now' more live = live
     more_now (Test s) i g now' more live = (live.0, live.1, more (test_of s) live.2)
@@ -315,7 +316,8 @@ lets_kept {w = w} {i = i} pass s stood c g live has closed = record {
   exits = λ e. absurd (cc (e));
 }
 
-aborts_kept : {w : Setting} {i : ℕ} (s : Watch) (stood nil : Bool) (g : Place) → CheckLive w i s stood nil g → Closed g.edges g.now → s.guard ≡ Abort →
+aborts_kept : {w : Setting} {i : ℕ} (s : Watch) (stood nil : Bool) (g : Place) → CheckLive w i s stood nil g → Closed g.edges g.now →
+    s.guard ≡ Abort →
     Kept w i Nil g
 aborts_kept s stood nil g has closed is = left_by g (DepthEndAt s.label s.place)
     (closed (check_of s) _ has.checks (has.fits.edges _ _

@@ -97,7 +97,8 @@ join_out l at bodies true so = inr refl
 join_out l at bodies false so = inl (so refl, refl)
 
 -- so is the end of a `when`
-pub end_out : (s : Watch) (stood : Bool) → (stood ≡ false → are_instant s.body ≡ true) → BodyEnd s.label s.place s.body (end_node stood s.label s.place)
+pub end_out : (s : Watch) (stood : Bool) → (stood ≡ false → are_instant s.body ≡ true) →
+    BodyEnd s.label s.place s.body (end_node stood s.label s.place)
 end_out s true so = inr refl
 end_out s false so = inl (so refl, refl)
 
@@ -223,7 +224,8 @@ done_leads w i s stood branches g lives ends fits done = by_test (are_settled br
 fork_leads : (w : Setting) (i : ℕ) (s : Fork) (stood : Bool) (branches : Trees) (g : Place) → Lives w i branches s.bodies stood g →
     Ends stood (is_instant (Cobegin s.label s.place s.bodies)) (join_node stood s.label s.place) g → Fits w i (Cobegin s.label s.place s.bodies) g →
     Ended (has_strong branches) branches
-    ⊎ OneLeads w i branches (EdgeEach s.bodies s.label s.place (is_instant (Cobegin s.label s.place s.bodies))) (λ n. n ≡ join_node stood s.label s.place) →
+    ⊎ OneLeads w i branches (EdgeEach s.bodies s.label s.place (is_instant (Cobegin s.label s.place s.bodies)))
+    (λ n. n ≡ join_node stood s.label s.place) →
     Leads w i (Par s stood branches) g.edges g.out
 fork_leads w i s stood branches g lives ends fits (inl done) = done_leads w i s stood branches g lives ends fits done
 fork_leads w i s stood branches g lives ends fits (inr one) = record {
@@ -321,7 +323,8 @@ run_out w i s true g fits is = fits.outs _ refl
 run_out w i s false g fits is = absurd cc
 
 call_leads : (w : Setting) (i : ℕ) (s : Call) (callee : ℕ) (stood : Bool) (c : Tree) (g : Place) → Fits w i (call_stmt s) g → stood ≡ true →
-    {E : Node → Node → Type 0} {F : Node → Type 0} → (is_nil c ≡ true) ⊎ Leads w callee c E F → Leads w i (Run s callee Body stood c) g.edges g.out
+    {E : Node → Node → Type 0} {F : Node → Type 0} → (is_nil c ≡ true) ⊎ Leads w callee c E F →
+    Leads w i (Run s callee Body stood c) g.edges g.out
 call_leads w i s callee stood c g fits is (inl nil) =
     subst (λ x. Leads w i (Run s callee Body stood x) g.edges g.out) (sym (is_the_nil c nil)) (record {
       could = this_could run_ends;

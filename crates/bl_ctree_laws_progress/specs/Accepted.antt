@@ -19,7 +19,8 @@ use Rattle.bl_ctree_laws_progress.specs.Reached.{LiveNow, LiveTree}
 
 -- so it is in each typed program
 abbrev pub ProgramsAreCallable : Type 0
-ProgramsAreCallable = (structs : List StructDef) (units : List UnitDef) (entry : ℕ) → Keeps structs units entry → AllCallable (setting_of structs units entry)
+ProgramsAreCallable = (structs : List StructDef) (units : List UnitDef) (entry : ℕ) → Keeps structs units entry →
+    AllCallable (setting_of structs units entry)
 
 -- what holds of the trees that runs reach
 pub record TreesAreLive (w : Setting) : Type 0 where
@@ -35,4 +36,5 @@ pub record TreesAreLive (w : Setting) : Type 0 where
 -- so it is in each typed program that passes the rules
 abbrev pub AcceptedTreesAreLive : Type 0
 AcceptedTreesAreLive =
-    (structs : List StructDef) (units : List UnitDef) (entry : ℕ) → Keeps structs units entry → Passes units → TreesAreLive (setting_of structs units entry)
+    (structs : List StructDef) (units : List UnitDef) (entry : ℕ) → Keeps structs units entry → Passes units →
+    TreesAreLive (setting_of structs units entry)

@@ -35,9 +35,11 @@ use Rattle.bl_ctree_laws_progress.specs.Places.{Fits, FitsAll, Place, ahead_of, 
 abbrev pub fork_stmt : Fork → Plain
 fork_stmt s = Cobegin s.label s.place s.bodies
 
+-- the `when` statement that a Guard is left of
 abbrev pub watch_stmt : Watch → Plain
 watch_stmt s = When s.label s.place s.guard s.test s.body
 
+-- the `run` statement that a Run is left of
 abbrev pub call_stmt : Call → Plain
 call_stmt s = RunOf s.label s.place s.arguments.target s.unit s.arguments.inputs s.arguments.outputs
 
@@ -69,6 +71,7 @@ pub record WatchLive (w : Setting) (i : ℕ) (s : Watch) (stood ends : Bool) (g 
   pub fits : Fits w i (watch_stmt s) g
   pub closes : ends ≡ true → Ends stood (are_instant s.body) (end_node stood s.label s.place) g
 
+-- what a Guard has beside its body when its condition is still to be tested: it has stood, and its body hasn't ended
 pub record CheckLive (w : Setting) (i : ℕ) (s : Watch) (stood nil : Bool) (g : Place) : Type 0 where
   pub fits : Fits w i (watch_stmt s) g
   pub has_stood : stood ≡ true
@@ -83,6 +86,7 @@ pub record CallLive (w : Setting) (i : ℕ) (s : Call) (callee : ℕ) (unit : Un
   pub now : g.now (run_node stood s.label s.place s.arguments)
   pub stays : ends ≡ true → stood ≡ true
 
+-- what a Run has beside its body when its inputs are still to be copied: it has stood, and its body hasn't ended
 pub record CopyLive (w : Setting) (i : ℕ) (s : Call) (callee : ℕ) (unit : UnitDef) (stood nil : Bool) (g : Place) : Type 0 where
   pub fits : Fits w i (call_stmt s) g
   pub called : callee_of w i s.place ≡ Some callee

@@ -32,6 +32,7 @@ StandsIn i a (Here n) = a.instance ≡ i
 StandsIn i a (Gives n) = a.instance ≡ i
 StandsIn i a (Inside n unit step) = ⊤
 
+-- a step that isn't inside a call is a deed of the tree's own instance
 abbrev pub DeedsStandAtNodes : Type 0
 DeedsStandAtNodes =
     (w : Setting) (i : ℕ) (c : Tree) (d : Bool) (a : Deed) (n : StepLabel) (c' : Tree) → Moves Anyway w i c d a n c' → StandsIn i a n

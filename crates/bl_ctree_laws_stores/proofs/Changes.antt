@@ -148,7 +148,8 @@ parts_commute a b value same = by_parts (parts_in value) refl
     by_parts : (all : Option (List Value)) → parts_in value ≡ all → on_parts a (on_parts b value) ≡ on_parts b (on_parts a value)
     by_parts None is = ap (on_parts a) (on_none b is) ∙ on_none a is ∙ sym (on_none b is) ∙ sym (ap (on_parts b) (on_none a is))
     by_parts (Some all) is =
-        ap (on_parts a) (on_some b all is) ∙ on_made a (b all) ∙ ap Parts (same all) ∙ sym (on_made b (a all)) ∙ sym (ap (on_parts b) (on_some a all is))
+        ap (on_parts a) (on_some b all is) ∙ on_made a (b all) ∙ ap Parts (same all) ∙ sym (on_made b (a all))
+        ∙ sym (ap (on_parts b) (on_some a all is))
 
 -- where both are no, neither is yes
 first_no : (a b : Bool) → (a || b) ≡ false → a ≡ false
@@ -234,7 +235,8 @@ parts_changed change value = by_parts (parts_in value) refl
     by_parts None is = is
     by_parts (Some all) is = parts_of (change all)
 
-elsewhere_same : (fs gs : List ℕ) (v value : Value) → is_front fs gs ≡ false → is_front gs fs ≡ false → value_at gs (with_put fs v value) ≡ value_at gs value
+elsewhere_same : (fs gs : List ℕ) (v value : Value) → is_front fs gs ≡ false → is_front gs fs ≡ false →
+    value_at gs (with_put fs v value) ≡ value_at gs value
 elsewhere_same [] gs v value e f = absurd cc
 elsewhere_same (f ∷ fs) [] v value e h = absurd cc
 elsewhere_same (f ∷ fs) (g ∷ gs) v value e h =
@@ -309,7 +311,8 @@ values_elsewhere values i change b store apart =
     ∙ seen_changed (λ frame. option_and_then (value_at b.path.fields) (slice_get (values frame) b.path.root)) i b.instance change store
     (λ same frame. no_way (nat_eq i b.instance) apart (eq-eqb i b.instance (sym same)))
 
-results_elsewhere : (i j : ℕ) (change : Frame → Frame) (store : Store) → nat_eq i j ≡ false → result_at (with_frame i change store) j ≡ result_at store j
+results_elsewhere : (i j : ℕ) (change : Frame → Frame) (store : Store) → nat_eq i j ≡ false →
+    result_at (with_frame i change store) j ≡ result_at store j
 results_elsewhere i j change store apart =
     ap (λ store. result_at store j) (frame_is i change store)
     ∙ seen_changed (λ frame. frame.result) i j change store (λ same frame. no_way (nat_eq i j) apart (eq-eqb i j (sym same)))

@@ -38,7 +38,8 @@ module _ (w : Setting) (fields : List ℕ) where
 
   by_instance : (at : Location) (instance : Option Instance) →
       option_and_then (λ instance. option_and_then (λ origin. option_and_then (led_by (on at).path origin) (unit_of w instance)) instance.origin) instance
-      ≡ option_map on (option_and_then (λ instance. option_and_then (λ origin. option_and_then (led_by at.path origin) (unit_of w instance)) instance.origin)
+      ≡ option_map on
+      (option_and_then (λ instance. option_and_then (λ origin. option_and_then (led_by at.path origin) (unit_of w instance)) instance.origin)
       instance)
   by_instance at None = refl
   by_instance at (Some instance) = by_origin at (unit_of w instance) instance.origin
@@ -46,7 +47,8 @@ module _ (w : Setting) (fields : List ℕ) where
   led_on : (at : Location) → led w (on at) ≡ option_map on (led w at)
   led_on at = by_instance at (slice_get w.instances at.instance)
 
-  by_led : (depth : ℕ) (at : Location) → ((next : Location) → home_within w depth (on next) ≡ on (home_within w depth next)) → (next : Option Location) →
+  by_led : (depth : ℕ) (at : Location) → ((next : Location) → home_within w depth (on next) ≡ on (home_within w depth next)) →
+      (next : Option Location) →
       unwrap_or (option_map (home_within w depth) (option_map on next)) (on at) ≡ on (unwrap_or (option_map (home_within w depth) next) at)
   by_led depth at inner None = refl
   by_led depth at inner (Some next) = inner next

@@ -56,7 +56,8 @@ mapped_same f g count k same =
     by_number : (o : Option ℕ) → slice_get (range_with_len 0 count) k ≡ o → option_map f o ≡ option_map g o
     by_number None e = refl
     by_number (Some j) e =
-        let is : j ≡ k = (let sum : j ≡ 0 + k = range_at 0 count k j e in omega arith) in ap (λ j. Some (f j)) is ∙ ap Some same ∙ ap (λ j. Some (g j)) (sym is)
+        let is : j ≡ k = (let sum : j ≡ 0 + k = range_at 0 count k j e in omega arith) in ap (λ j. Some (f j)) is ∙ ap Some same
+        ∙ ap (λ j. Some (g j)) (sym is)
 
 -- and those that agree at the fields
 mapped_alike : (f g : ℕ → Value) (count k : ℕ) (fields : List ℕ) → value_at fields (f k) ≡ value_at fields (g k) →
@@ -104,7 +105,8 @@ among_onward values store at fields = by_frame (slice_get store at.instance)
 
     by_frame : (frame : Option Frame) →
         option_and_then (λ frame. option_and_then (value_at (at.path.fields ++ fields)) (slice_get (values frame) at.path.root)) frame
-        ≡ option_and_then (value_at fields) (option_and_then (λ frame. option_and_then (value_at at.path.fields) (slice_get (values frame) at.path.root)) frame)
+        ≡ option_and_then (value_at fields)
+        (option_and_then (λ frame. option_and_then (value_at at.path.fields) (slice_get (values frame) at.path.root)) frame)
     by_frame None = refl
     by_frame (Some frame) = by_value (slice_get (values frame) at.path.root)
 

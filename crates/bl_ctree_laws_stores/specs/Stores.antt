@@ -47,7 +47,8 @@ pub record ViewsAreLocal : Type 0 where
 -- so an expression has the same value in both
 abbrev pub ValuesThereAreLocal : Type 0
 ValuesThereAreLocal =
-    (w : Setting) (s t : Store) (i : ℕ) (e : Expr) → SameThere now_of (homes w i (mentions e)) s t → SameThere before_of (homes_of w i (roots_in e)) s t →
+    (w : Setting) (s t : Store) (i : ℕ) (e : Expr) → SameThere now_of (homes w i (mentions e)) s t →
+    SameThere before_of (homes_of w i (roots_in e)) s t →
     value_there w s i e ≡ value_there w t i e
 
 -- and an act traps in both or in neither, and leaves alike what it writes

@@ -5,7 +5,7 @@ use Rattle.bl_tree.specs.declared.tree.StructDef.{StructDef}
 use Rattle.bl_tree.specs.declared.tree.Unit.{Unit as UnitDef}
 use Rattle.bl_tree.specs.Program.{Keeps}
 use Rattle.bl_raw.specs.declared.item.RawItem.{RawItem}
-use Rattle.bl_raw.specs.Keeps.{Keeps as RawKeeps}
+use Rattle.bl_raw.specs.Keeps.{RawKeeps}
 use Rattle.bl_scopes.specs.Rules.{Passes as NamesPass}
 use Rattle.bl_names.specs.Named.{named_program}
 use Rattle.bl_types.specs.Programs.{typed_program}

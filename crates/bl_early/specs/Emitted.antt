@@ -53,6 +53,7 @@ use Rattle.bl_early.specs.Form.{loop_steps}
 
 -- ---- parts of C texts
 
+-- the one place that every part is given
 abbrev pub nowhere : Place
 nowhere = record { start = 0; end = 0 }
 
@@ -60,6 +61,7 @@ nowhere = record { start = 0; end = 0 }
 abbrev pub c_expr : CExprKind → CExpr
 c_expr what = roll-CExpr (record { place = nowhere; what = what })
 
+-- a statement without a place
 abbrev pub c_stmt : CStmtKind → CStmt
 c_stmt what = roll-CStmt (record { place = nowhere; what = what })
 
@@ -79,6 +81,7 @@ c_through pointer member = c_target pointer (c_step member ∷ [])
 abbrev pub c_variable : Text → CPlace
 c_variable name = roll-CPlace (record { through = false; name = name; steps = [] })
 
+-- a literal of a type
 abbrev pub c_literal : Scalar → ℤ → CExpr
 c_literal ty n = c_expr (expression.Literal ty n)
 
@@ -86,39 +89,51 @@ c_literal ty n = c_expr (expression.Literal ty n)
 abbrev pub c_count : ℕ → CExpr
 c_count n = c_literal (Nat W32) (pos n)
 
+-- what stands at a place
 abbrev pub c_read : CPlace → CExpr
 c_read place = c_expr (expression.Read place)
 
+-- left == right
 abbrev pub c_equal : CExpr → CExpr → CExpr
 c_equal left right = c_expr (expression.Two Eq left right)
 
+-- a call of the function of a name with these arguments
 abbrev pub c_call : Text → List CArg → CCall
 c_call name args = roll-CCall (record { name = name; args = args })
 
+-- a call as an expression
 abbrev pub c_called : CCall → CExpr
 c_called call = c_expr (expression.Call call)
 
+-- place = value
 abbrev pub c_set : CPlace → CExpr → CStmt
 c_set place value = c_stmt (statement.Set place value)
 
+-- a call as a statement
 abbrev pub c_calling : CCall → CStmt
 c_calling call = c_stmt (statement.Call call)
 
+-- an `if` without an `else`
 abbrev pub c_when : CExpr → List CStmt → CStmt
 c_when test body = c_stmt (statement.If test body None)
 
+-- a `return` of a value
 abbrev pub c_returning : CExpr → CStmt
 c_returning value = c_stmt (statement.Return (Some value))
 
+-- a parameter that points to a struct
 abbrev pub c_pointer : Text → Text → CParam
 c_pointer structure name = record { ty = OfStruct structure; pointer = true; name = name }
 
+-- a member of a struct that is no array
 abbrev pub c_member : CType → Text → CMember
 c_member ty name = record { ty = ty; name = name; length = None }
 
+-- a struct with a name and these members
 abbrev pub c_struct : Text → List CMember → CStruct
 c_struct name members = record { place = nowhere; name = name; members = members }
 
+-- a local of the counter's type
 abbrev pub c_counter_local : Text → CLocal
 c_counter_local name = record { ty = OfScalar (Nat W32); name = name }
 
@@ -227,6 +242,7 @@ c_tick_body ports steps =
 abbrev pub activity_name : UnitDef → Text
 activity_name unit = codes "a_" ++ unit.name
 
+-- the one local of an activity's function: the number of the pause from which it goes on
 abbrev pub c_local : CLocal
 c_local = c_counter_local (codes "l_0")
 

@@ -55,6 +55,7 @@ alone root (part ∷ parts) = None
 abbrev pub variable_of : Path → Option ℕ
 variable_of path = alone (out-Path path).root (out-Path path).parts
 
+-- the item for which an expression's form stands: a number of a type of the form that isn't below 0, or a variable
 abbrev pub item_in : ExprKind-F ExprKind Part Expr Path → Option Item
 item_in (ExprKind-F.Literal n ty) = if is_early_type ty && int_le (pos 0) n then Some (Number n ty) else None
 item_in (ExprKind-F.Read path) = option_map Of (variable_of path)
@@ -64,9 +65,11 @@ item_in _ = None
 abbrev pub item_of : Expr → Option Item
 item_of e = item_in (out-ExprKind (out-Expr e).what)
 
+-- the sum of two items, none where either is no item
 abbrev pub sum_of : Expr → Expr → Option Source
 sum_of left right = option_and_then (λ first. option_map (Sum first) (item_of right)) (item_of left)
 
+-- the source for which an expression's form stands
 abbrev pub source_in : ExprKind-F ExprKind Part Expr Path → Option Source
 source_in (ExprKind-F.Two Add left right) = sum_of left right
 source_in kind = option_map Just (item_in kind)
@@ -75,6 +78,7 @@ source_in kind = option_map Just (item_in kind)
 abbrev pub source_of : Expr → Option Source
 source_of e = source_in (out-ExprKind (out-Expr e).what)
 
+-- the step for which a statement's form stands
 abbrev pub step_in : StmtKind-F StmtKind Arm Branch Stmt → Option Step
 step_in (StmtKind-F.Assign path e) = option_and_then (λ k. option_map (Set k) (source_of e)) (variable_of path)
 step_in (StmtKind-F.Await e) = option_map Pause (item_of e)
@@ -101,6 +105,7 @@ abbrev pub repeated : StmtKind-F StmtKind Arm Branch Stmt → Option (List Stmt)
 repeated (StmtKind-F.Repeat body) = Some body
 repeated _ = None
 
+-- the statements of the loop, where a body is a loop and nothing else
 abbrev pub loop_of : List Stmt → Option (List Stmt)
 loop_of [] = None
 loop_of (s ∷ []) = repeated (out-StmtKind (out-Stmt s).what)
@@ -115,6 +120,7 @@ abbrev pub steps_suit : Option (List Step) → Bool
 steps_suit None = false
 steps_suit (Some steps) = list_any is_pause steps && nat_le (length steps) 1000
 
+-- whether there is a type, and it is one of the form
 abbrev pub has_early_type : Option ScalarType → Bool
 has_early_type None = false
 has_early_type (Some ty) = is_early_type ty

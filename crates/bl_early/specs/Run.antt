@@ -28,6 +28,7 @@ use Rattle.bl_early.specs.Form.{Item, Number, Of, Source, Just, Sum, Step, Set, 
 abbrev pub Numbers : Type 0
 Numbers = List ℤ
 
+-- the number of an item, where the variables have these numbers
 abbrev pub item_value : Numbers → Item → ℤ
 item_value now (Number n ty) = n
 item_value now (Of k) = slice_index_or now k (pos 0)
@@ -46,6 +47,7 @@ pub data Reached : Type 0 where
   -- behind the last step
   Passes : Numbers → Reached
 
+-- where steps lead that go on with a number, and trap where there is none
 abbrev pub reached_with : (ℤ → Reached) → Option ℤ → Reached
 reached_with further None = Traps
 reached_with further (Some n) = further n

@@ -42,7 +42,7 @@ use Rattle.bl_tree.specs.Types.{scalar_in}
 use Rattle.bl_tree.specs.Typing.{Site, are_same, fits, is_activity, is_assignable, is_truth, site_of, type_of, type_of_path}
 use Rattle.bl_tree.proofs.StmtInduction.{stmt}
 use Rattle.bl_eval.specs.Functions.{acted, assigned, callees_of, scope_among}
-use Rattle.bl_eval.specs.Meaning.{Scope, View, plain, spot_of}
+use Rattle.bl_eval.specs.Meaning.{Scope, View, path_meaning_of, plain}
 use Rattle.bl_eval.specs.Standing.{outcome_in_unit, value_in_unit}
 use Rattle.bl_eval.specs.Values.{put_at, value_at, value_fits}
 use Rattle.bl_eval.proofs.ActFits.{AllFit, act_fits, same_found}
@@ -215,7 +215,8 @@ module _ (unit : UnitDef) where
     assigned_is : (now before : Numbers) (k : ℕ) (o : Option ℤ) (place : Place) (written ty : Ty) →
         AllFit [] unit.vars (values now) → AllFit [] unit.vars (values before) →
         type_of_path site (path_to place k written) ≡ Some ty →
-        assigned (spot_of scope (path_to place k written)) (option_map Number o) (record { now = values now; before = values before }) ≡ set_outcome now k o
+        assigned (path_meaning_of scope (path_to place k written)) (option_map Number o) (record { now = values now; before = values before })
+        ≡ set_outcome now k o
     assigned_is now before k None place written ty now_fits before_fits typed = refl
     assigned_is now before k (Some n) place written ty now_fits before_fits typed =
         let v = known unit sound vars_early now (values before) now_fits before_fits place k written ty typed in
@@ -229,9 +230,9 @@ module _ (unit : UnitDef) where
         let view : View = record { now = values now; before = values before } in
         let whole = variable_whole p.path k p.is_variable in
         ap (λ kind. acted scope kind view) p.kind
-        ∙ ap (λ value. assigned (spot_of scope p.path) value view)
+        ∙ ap (λ value. assigned (path_meaning_of scope p.path) value view)
         (source_shows unit sound vars_early now (values before) now_fits before_fits p.e source typed.0 p.is_source typed.2)
-        ∙ ap (λ path. assigned (spot_of scope path) (option_map Number (source_value now source)) view) (sym whole)
+        ∙ ap (λ path. assigned (path_meaning_of scope path) (option_map Number (source_value now source)) view) (sym whole)
         ∙ assigned_is now before k (source_value now source) (out-Path p.path).place (out-Path p.path).ty typed.0 now_fits before_fits
         (subst (λ path. type_of_path site path ≡ Some typed.0) (sym whole) typed.1)
 

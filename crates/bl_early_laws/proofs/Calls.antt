@@ -13,24 +13,19 @@ use Rattle.bl_cmeaning.specs.Parts.{Parts, parts_from}
 use Rattle.bl_cmeaning.specs.Memory.{member, state_object, input_object, output_object, Memory, scalar, set_at, without_frame, cleared}
 use Rattle.bl_cmeaning.specs.Tables.{Table, no_entries, table_of, with_entry}
 use Rattle.bl_cmeaning.specs.Cells.{numbers_of}
+use Rattle.bl_cmeaning.specs.Course.{End, Outcome, after, following, goes_on, result_at}
 use Rattle.bl_cmeaning.specs.Meaning.{
   Passed,
   by_address,
   Called,
   Meaning,
   Scope,
-  Outcome,
-  End,
-  goes_on,
   given,
-  after,
   each_of,
-  following,
   later_call,
   called_as,
   call_outcome,
   called,
-  result_at,
   runs_c,
   block_c,
   function_c,
@@ -126,11 +121,11 @@ module _ (unit : UnitDef) (steps : List Step) where
       (pointer-place (tick_scope known) m (codes "o")))
 
   -- what the activity's body does in a tick
-  abbrev pub body_outcome : Memory → Outcome
+  abbrev pub body_outcome : Memory → Outcome Memory
   body_outcome m = block_c (c_tick_body (c_ports unit) steps) (activity_scope no_entries) (without_frame 1 m)
 
   -- a call of the activity whose body comes to this outcome
-  abbrev pub as_called : Outcome → Called
+  abbrev pub as_called : Outcome Memory → Called
   as_called o = record { memory = without_frame 1 o.memory; count = o.count; result = result_at o.end }
 
   activity-called : (m : Memory) → called (tick_scope known) (activity_name unit) handed m ≡ as_called (body_outcome m)
@@ -143,10 +138,10 @@ module _ (unit : UnitDef) (steps : List Step) where
       (call-does (tick_scope known) m (activity_name unit) c_tick_args handed (args-pass m) ∙ ap (later_call 0) (activity-called m))
 
   -- a call of the function of the tick, once its first statement has come to this outcome
-  abbrev answer_of : Outcome → Called
+  abbrev answer_of : Outcome Memory → Called
   answer_of o = record { memory = without_frame 0 o.memory; count = o.count; result = result_at o.end }
 
-  abbrev rest_of : Memory → Outcome
+  abbrev rest_of : Memory → Outcome Memory
   rest_of m = block_c (c_returning (c_count 0) ∷ []) (tick_scope known) m
 
   abbrev pub tick_called : Memory → Called
@@ -212,7 +207,7 @@ module _ (unit : UnitDef) (steps : List Step) where
     -- a call of the function of the tick ends as the body of the activity's function does
     pub tick-ends : (reached : Reached) (m : Memory) → Shows (Done reached) (body_outcome (without_frame 0 m)) → TickEnds reached (tick_called m)
     tick-ends reached m h =
-        let o : Outcome = body_outcome (without_frame 0 m) in
+        let o : Outcome Memory = body_outcome (without_frame 0 m) in
         subst (TickEnds reached) (sym (tick-is m)) (ends reached o.count o.memory o.end h)
 
   -- ---- the calls from outside

@@ -49,7 +49,8 @@ use Rattle.bl_ctext.proofs.Bytes.{and-fst, and-snd}
 use Rattle.bl_cmeaning.specs.Memory.{member, state_object, input_object, output_object, variable, CValue, Memory, scalar, number_in, value_at, set_at}
 use Rattle.bl_cmeaning.specs.Tables.{Table, table_of}
 use Rattle.bl_cmeaning.specs.Cells.{Cell, numbers_of}
-use Rattle.bl_cmeaning.specs.Meaning.{given, Meaning, Scope, Outcome, End, goes_on, traps, following, value_c, location_c, runs_c, block_c}
+use Rattle.bl_cmeaning.specs.Course.{End, Outcome, following, goes_on, traps}
+use Rattle.bl_cmeaning.specs.Meaning.{given, Meaning, Scope, value_c, location_c, runs_c, block_c}
 use Rattle.bl_early.specs.Form.{Item, Number, Of, Source, Just, Sum, Step, Set, Pause}
 use Rattle.bl_early.specs.Run.{Numbers, item_value, source_value, Reached, Traps, Pauses, Passes, reached_with, taken}
 use Rattle.bl_early.specs.inner.Built.{item_within, source_within, step_within}
@@ -96,15 +97,15 @@ lead-get scope (p ∷ ports) (c ∷ slots) zero d e m leads within = leads.0 m
 lead-get scope (p ∷ ports) (c ∷ slots) (suc k) d e m leads within = lead-get scope ports slots k d e m leads.1 (omega arith)
 
 -- an outcome by how it ended and with which memory
-abbrev pub Shows : (Memory → End → Type 0) → Outcome → Type 0
+abbrev pub Shows : (Memory → End → Type 0) → Outcome Memory → Type 0
 Shows P o = P o.memory o.end
 
 -- a statement that has gone on, or trapped, and what follows it
-pub then-on : (P : Memory → End → Type 0) (o : Outcome) (m : Memory) (n : ℕ) (rest : Memory → Outcome) →
+pub then-on : (P : Memory → End → Type 0) (o : Outcome Memory) (m : Memory) (n : ℕ) (rest : Memory → Outcome Memory) →
     o ≡ record { memory = m; end = goes_on; count = n } → Shows P (rest m) → Shows P (following o rest)
 then-on P o m n rest h i = subst (λ x. Shows P (following x rest)) (sym h) i
 
-pub then-traps : (P : Memory → End → Type 0) (o : Outcome) (m : Memory) (n : ℕ) (rest : Memory → Outcome) →
+pub then-traps : (P : Memory → End → Type 0) (o : Outcome Memory) (m : Memory) (n : ℕ) (rest : Memory → Outcome Memory) →
     o ≡ record { memory = m; end = traps; count = n } → P m traps → Shows P (following o rest)
 then-traps P o m n rest h i = subst (λ x. Shows P (following x rest)) (sym h) i
 

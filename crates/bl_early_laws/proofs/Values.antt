@@ -45,7 +45,7 @@ use Rattle.bl_tree.proofs.ExprInduction.{expr}
 use Rattle.bl_eval.specs.declared.datum.Datum.{Datum}
 use Rattle.bl_eval.specs.declared.datum.Datum.TheVariants.{Scalar as OfScalar, Whole}
 use Rattle.bl_eval.specs.Functions.{callees_of, scope_among}
-use Rattle.bl_eval.specs.Meaning.{Scope, View, datum_of, level_datum, meaning_of, operand, operand_in, plain, reading, spot_of, two_datum, value_in}
+use Rattle.bl_eval.specs.Meaning.{Scope, View, datum_of, level_datum, meaning_of, operand, operand_in, path_meaning_of, plain, reading, two_datum, value_in}
 use Rattle.bl_eval.specs.Values.{value_at, values_fit}
 use Rattle.bl_eval.proofs.ExprFits.{Sound, expr_fits}
 use Rattle.bl_eval.proofs.FitLemmas.{same_scalar_is}
@@ -151,7 +151,7 @@ module _ (unit : UnitDef) (sound : Sound [] [] unit (callees_of [] [])) (vars_ea
       record { var = there.0; is_there = there.1; is = same_Some there.0.ty found.0 there.2 ∙ where_same_is written found.0 ty found.2 }
 
   variable_shows : (place : Place) (k : ℕ) (written ty : Ty) → type_of_path site (path_to place k written) ≡ Some ty →
-      Shows now (Of k) (reading (spot_of scope (path_to place k written)) view)
+      Shows now (Of k) (reading (path_meaning_of scope (path_to place k written)) view)
   variable_shows place k written ty typed =
       let v = known place k written ty typed in
       rw fold-roll-Path
@@ -177,7 +177,7 @@ module _ (unit : UnitDef) (sound : Sound [] [] unit (callees_of [] [])) (vars_ea
       let typed' = rw (fold-roll-Expr, fold-roll-ExprKind) at typed in
       subst (λ item. Shows now item (meaning_of scope (expr place (ExprKind-F.Read path)) view)) found.2
       (rw (fold-roll-Expr, fold-roll-ExprKind)
-      (subst (λ path. Shows now (Of found.0) (reading (spot_of scope path) view)) whole
+      (subst (λ path. Shows now (Of found.0) (reading (path_meaning_of scope path) view)) whole
       (variable_shows (out-Path path).place found.0 (out-Path path).ty ty (subst (λ path. type_of_path site path ≡ Some ty) (sym whole) typed'))))
   item_shows_kind place _ item ty is typed = absurd cc
 

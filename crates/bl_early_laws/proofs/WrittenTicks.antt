@@ -36,7 +36,8 @@ use Rattle.bl_ctext.proofs.Bytes.{and-fst, and-snd}
 use Rattle.bl_cmeaning.specs.Memory.{CValue, Memory, scalar, value_at, set_at}
 use Rattle.bl_cmeaning.specs.Tables.{Table}
 use Rattle.bl_cmeaning.specs.Cells.{Cell}
-use Rattle.bl_cmeaning.specs.Meaning.{Meaning, Scope, Outcome, End, goes_on, breaks, returns, traps, after, following, going, runs_c, block_c}
+use Rattle.bl_cmeaning.specs.Course.{End, Outcome, after, breaks, following, goes_on, going, returns, traps}
+use Rattle.bl_cmeaning.specs.Meaning.{Meaning, Scope, runs_c, block_c}
 use Rattle.bl_early.specs.Form.{Item, Step, Set, Pause}
 use Rattle.bl_early.specs.Run.{Numbers, item_value, Reached, Traps, Pauses, Passes, taken, repeated}
 use Rattle.bl_early.specs.inner.Built.{item_within, step_within}
@@ -67,23 +68,23 @@ use Rattle.bl_early_laws.proofs.Stretches.{
 }
 
 -- an `if` whose test is known
-if-true : (b : Bool) (o p : Outcome) → b ≡ true → after 1 (if b then o else p) ≡ after 1 o
+if-true : (b : Bool) (o p : Outcome Memory) → b ≡ true → after 1 (if b then o else p) ≡ after 1 o
 if-true true o p h = refl
 if-true false o p h = cc
 
-if-false : (b : Bool) (o p : Outcome) → b ≡ false → after 1 (if b then o else p) ≡ after 1 p
+if-false : (b : Bool) (o p : Outcome Memory) → b ≡ false → after 1 (if b then o else p) ≡ after 1 p
 if-false false o p h = refl
 if-false true o p h = cc
 
 -- what follows an outcome
-abbrev Follows : (Memory → End → Type 0) → ℕ → Memory → (Memory → Outcome) → End → Type 0
+abbrev Follows : (Memory → End → Type 0) → ℕ → Memory → (Memory → Outcome Memory) → End → Type 0
 Follows P n m rest e = Shows P (following (record { memory = m; end = e; count = n }) rest)
 
-pub follow-on : (P : Memory → End → Type 0) (o : Outcome) (rest : Memory → Outcome) → o.end ≡ goes_on → Shows P (rest o.memory) →
+pub follow-on : (P : Memory → End → Type 0) (o : Outcome Memory) (rest : Memory → Outcome Memory) → o.end ≡ goes_on → Shows P (rest o.memory) →
     Shows P (following o rest)
 follow-on P o rest h i = subst (Follows P o.count o.memory rest) (sym h) i
 
-pub follow-trap : (P : Memory → End → Type 0) (o : Outcome) (rest : Memory → Outcome) → o.end ≡ traps → P o.memory traps →
+pub follow-trap : (P : Memory → End → Type 0) (o : Outcome Memory) (rest : Memory → Outcome Memory) → o.end ≡ traps → P o.memory traps →
     Shows P (following o rest)
 follow-trap P o rest h i = subst (Follows P o.count o.memory rest) (sym h) i
 
@@ -152,7 +153,7 @@ module _ (known : Table Meaning) (ports : List CPlace) (slots : List Cell) (lead
   head = c_numbered 0 (c_stretch ports 1 steps) ∷ []
 
   -- behind the stretch at the head of the loop
-  led : (c : ℕ) (reached : Reached) (o : Outcome) → FirstAt 1 steps reached → Shows (Led 1 c 0 reached) o →
+  led : (c : ℕ) (reached : Reached) (o : Outcome Memory) → FirstAt 1 steps reached → Shows (Led 1 c 0 reached) o →
       Shows (Ticked reached) (following o (λ n. block_c [] scope n))
   led c Traps o first h = follow-trap (Ticked Traps) o (λ n. block_c [] scope n) h refl
   led c (Pauses item rest next) o first h =
@@ -176,10 +177,10 @@ module _ (known : Table Meaning) (ports : List CPlace) (slots : List Cell) (lead
 
   -- behind a pause whose condition is true, from the stretch on
   module _ (num : ℕ) (more : List Step) (positive : 0 < num) (lifts : Lifts (num + 1) more steps) where
-    abbrev tail : Memory → Outcome
+    abbrev tail : Memory → Outcome Memory
     tail n = block_c (c_resumed ports (num + 1) more ++ head) scope n
 
-    behind : (reached : Reached) (o : Outcome) → FirstAt (num + 1) more reached → Shows (Led (num + 1) num num reached) o →
+    behind : (reached : Reached) (o : Outcome Memory) → FirstAt (num + 1) more reached → Shows (Led (num + 1) num num reached) o →
         Shows (Ticked (repeated steps reached)) (following o tail)
     behind Traps o first h = follow-trap (Ticked Traps) o tail h refl
     behind (Pauses item rest next) o first h =
@@ -201,7 +202,7 @@ module _ (known : Table Meaning) (ports : List CPlace) (slots : List Cell) (lead
   either b rest item now = if b then repeated steps (taken rest now) else Pauses item rest now
 
   -- what a statement in a block of one comes to
-  one-on : (P : Memory → End → Type 0) (o : Outcome) (rest : Memory → Outcome) → Shows P (following o rest) →
+  one-on : (P : Memory → End → Type 0) (o : Outcome Memory) (rest : Memory → Outcome Memory) → Shows P (following o rest) →
       Shows P (following (after 1 (following (after 1 o) (λ n. block_c [] scope n))) rest)
   one-on P o rest h = one-end o.count o.memory o.end h
     where

@@ -47,7 +47,8 @@ use Rattle.bl_cmeaning.specs.Parts.{Parts}
 use Rattle.bl_cmeaning.specs.Memory.{member, state_object, input_object, output_object, Memory, scalar, set_at, without_frame}
 use Rattle.bl_cmeaning.specs.Tables.{no_entries}
 use Rattle.bl_cmeaning.specs.Cells.{Cell, cells_of, memory_of, numbers_of, ports_of, with_inputs, outputs_in}
-use Rattle.bl_cmeaning.specs.Meaning.{Called, Outcome}
+use Rattle.bl_cmeaning.specs.Course.{Outcome}
+use Rattle.bl_cmeaning.specs.Meaning.{Called}
 use Rattle.bl_cmeaning.specs.Trace.{Tick, tick_c, tick_of, start_c, started, cells_if, reply_of, c_trace, c_trace_from, trace_after, traced as c_traced}
 use Rattle.bl_early.specs.Form.{Item, Step, Set, Pause, is_pause, is_early}
 use Rattle.bl_early.specs.Run.{
@@ -270,7 +271,7 @@ module _ (unit : UnitDef) (steps : List Step) (inputs : unit.inputs ≤ length u
             (outs-same (outs_of unit) set made (output-kept (inputs_of unit) row made) ∙ outs ∙ sym behind);
       }
 
-  abbrev Done : Reached → Outcome → Type 0
+  abbrev Done : Reached → Outcome Memory → Type 0
   Done reached o = Shows (Ticked no_entries (c_ports unit) (slots_of unit) (ports-lead no_entries unit) (slots-apart unit distinct)
       (slots-own unit) (counter-clear unit) (current-clear unit) steps within reached) o
 

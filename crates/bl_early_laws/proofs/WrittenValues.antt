@@ -21,6 +21,7 @@ use Rattle.bl_tree.specs.declared.c.CStmtKind.{CStmtKind, CStmtKind-F, fold-roll
 use Rattle.bl_tree.specs.declared.c.CStmtKind.TheVariants as statement
 use Rattle.bl_tree.specs.Numbers.{is_one, fitted, number_of}
 use Rattle.bl_cmeaning.specs.Memory.{Part, member, Location, CValue, Memory, scalar, number_in, value_at, set_at}
+use Rattle.bl_cmeaning.specs.Course.{after, ending, goes_on, going, returns, traps}
 use Rattle.bl_cmeaning.specs.Meaning.{
   Counted,
   Evaluates,
@@ -31,18 +32,12 @@ use Rattle.bl_cmeaning.specs.Meaning.{
   by_address,
   Called,
   Scope,
-  goes_on,
-  returns,
-  traps,
-  after,
-  going,
   call_outcome,
   later_call,
   called,
   called_after,
   result_of,
   executed,
-  returning,
   value_c,
   location_c,
   call_c,
@@ -272,7 +267,7 @@ module _ (scope : Scope) (memory : Memory) where
 
   returning-open : (e : CExpr) (v : CValue) → value_c e scope memory ≡ given (Some v) →
       runs_c (what (CStmtKind-F.Return (Some e))) scope memory ≡ record { memory = memory; end = returns (number_in v); count = 1 }
-  returning-open e v h = rw (fold-roll-CStmt, fold-roll-CStmtKind) (ap (λ c. executed memory c (λ v. returning memory (number_in v))) h)
+  returning-open e v h = rw (fold-roll-CStmt, fold-roll-CStmtKind) (ap (λ c. executed memory c (λ v. ending (returns (number_in v)) memory)) h)
 
   pub returning-runs : (e : CExpr) (v : CValue) → value_c e scope memory ≡ given (Some v) →
       runs_c (c_returning e) scope memory ≡ record { memory = memory; end = returns (number_in v); count = 1 }

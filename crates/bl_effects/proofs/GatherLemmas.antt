@@ -57,9 +57,9 @@ use Rattle.bl_tree.specs.Effects.{arm_reads, arm_writes, branch_paths, kind_read
 use Rattle.bl_effects.specs.Entries.{effect_at}
 use Rattle.bl_effects.specs.inner.Gathered.{
   Gathers,
-  Kept,
-  Records,
-  Told,
+  TableKept,
+  TableRecords,
+  TableTold,
   children_of_kind,
   ends_of_branch,
   instant_of_arm,
@@ -82,16 +82,16 @@ use Rattle.bl_effects.proofs.EntryLemmas.{same_place_is, same_place_refl}
 
 -- what was told of the first and then of the second was told of both
 pub records_then : (P Q R : Stmt → Type 0) → ((s : Stmt) → R s → P s ⊎ Q s) → ((s : Stmt) → P s → R s) → ((s : Stmt) → Q s → R s)
-    → (a b c : List Effect) → Records P a b → Records Q b c → Records R a c
+    → (a b c : List Effect) → TableRecords P a b → TableRecords Q b c → TableRecords R a c
 records_then P Q R splits first second a b c one other at =
     ⊎_elim
-    (λ (kept : Kept Q b c at). ⊎_elim
-    (λ (before : Kept P a b at). inl (record {
+    (λ (kept : TableKept Q b c at). ⊎_elim
+    (λ (before : TableKept P a b at). inl (record {
       same = kept.same ∙ before.same;
       none =
           λ s stands. ⊎_elim (λ p. before.none s p) (λ q. kept.none s q) (splits s stands);
     }))
-    (λ (told : Told P b at). inr (record {
+    (λ (told : TableTold P b at). inr (record {
       statement = told.statement;
       stands = first told.statement told.stands;
       there =
@@ -99,13 +99,14 @@ records_then P Q R splits first second a b c one other at =
       tells = kept.same ∙ told.tells;
     }))
     (one at))
-    (λ (told : Told Q c at). inr (record { statement = told.statement; stands = second told.statement told.stands; there = told.there; tells = told.tells }))
+    (λ (told : TableTold Q c at). inr
+    (record { statement = told.statement; stands = second told.statement told.stands; there = told.there; tells = told.tells }))
     (other at)
 
 pub no_element : {A : Type 0} (x : A) → Contains [] x → ⊥
 no_element x there = let below = there.1 in omega arith
 
-pub records_none : (table : List Effect) → Records (StandsIn []) table table
+pub records_none : (table : List Effect) → TableRecords (StandsIn []) table table
 records_none table at = inl (record { same = refl; none = λ s stands. absurd (no_element stands.outer stands.is_there) })
 
 stands_cases : (xs ys : List Stmt) (s : Stmt) → StandsIn (xs ++ ys) s → StandsIn xs s ⊎ StandsIn ys s
@@ -120,7 +121,8 @@ stands_left xs ys s stands = record { outer = stands.outer; is_there = Contains-
 stands_right : (xs ys : List Stmt) (s : Stmt) → StandsIn ys s → StandsIn (xs ++ ys) s
 stands_right xs ys s stands = record { outer = stands.outer; is_there = Contains-append_right xs ys stands.outer stands.is_there; within = stands.within }
 
-records_append : (xs ys : List Stmt) (a b c : List Effect) → Records (StandsIn xs) a b → Records (StandsIn ys) b c → Records (StandsIn (xs ++ ys)) a c
+records_append : (xs ys : List Stmt) (a b c : List Effect) → TableRecords (StandsIn xs) a b → TableRecords (StandsIn ys) b c
+    → TableRecords (StandsIn (xs ++ ys)) a c
 records_append xs ys = records_then (StandsIn xs) (StandsIn ys) (StandsIn (xs ++ ys)) (stands_cases xs ys) (stands_left xs ys) (stands_right xs ys)
 
 -- ---- one part after another
@@ -380,12 +382,14 @@ alone : (s t : Stmt) → Within t s → StandsIn (s ∷ []) t
 alone s t within = record { outer = s; is_there = (0, omega arith, refl); within = within }
 
 -- the table after it was told of what stands in a statement, and then of the statement
-pub records_statement : (s : Stmt) (sets : Sets) (a b c : List Effect) → Records (StandsIn (children s)) a b → effect_at (place_of s) sets ≡ effect_of s
-    → ((q : Place) → found c q ≡ cond (same_place (place_of s) q) (Some (effect_at (place_of s) sets)) (found b q)) → Records (StandsIn (s ∷ [])) a c
+pub records_statement : (s : Stmt) (sets : Sets) (a b c : List Effect) → TableRecords (StandsIn (children s)) a b → effect_at (place_of s) sets
+    ≡ effect_of s
+    → ((q : Place) → found c q ≡ cond (same_place (place_of s) q) (Some (effect_at (place_of s) sets)) (found b q))
+    → TableRecords (StandsIn (s ∷ [])) a c
 records_statement s sets a b c inside is inserted at = step (same_place (place_of s) at) refl (inside at)
   where
-    step : (t : Bool) → same_place (place_of s) at ≡ t → Kept (StandsIn (children s)) a b at ⊎ Told (StandsIn (children s)) b at
-        → Kept (StandsIn (s ∷ [])) a c at ⊎ Told (StandsIn (s ∷ [])) c at
+    step : (t : Bool) → same_place (place_of s) at ≡ t → TableKept (StandsIn (children s)) a b at ⊎ TableTold (StandsIn (children s)) b at
+        → TableKept (StandsIn (s ∷ [])) a c at ⊎ TableTold (StandsIn (s ∷ [])) c at
     step true here before =
         inr (record {
           statement = s;
@@ -397,14 +401,14 @@ records_statement s sets a b c inside is inserted at = step (same_place (place_o
     step false here before =
         let past = inserted at ∙ ap (λ t. cond t (Some (effect_at (place_of s) sets)) (found b at)) here in
         ⊎_elim
-        (λ (kept : Kept (StandsIn (children s)) a b at). inl (record {
+        (λ (kept : TableKept (StandsIn (children s)) a b at). inl (record {
           same = past ∙ kept.same;
           none = λ t stands there.
               ⊎_elim (λ same. let seen : same_place (place_of s) at ≡ true =
               ap (λ u. same_place (place_of u) at) (sym same) ∙ ap (λ place. same_place place at) there ∙ same_place_refl at in absurd (cc))
               (λ deep. kept.none t deep there) (within_cases t s (only s t stands));
         }))
-        (λ (told : Told (StandsIn (children s)) b at). inr (record {
+        (λ (told : TableTold (StandsIn (children s)) b at). inr (record {
           statement = told.statement;
           stands = alone s told.statement (within_child told.statement s told.stands);
           there = told.there;

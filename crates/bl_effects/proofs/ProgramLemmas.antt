@@ -32,15 +32,15 @@ use Rattle.std.proofs.Common.{
 use Rattle.std.proofs.lemmas.List.Elements.{Contains-append_left, Contains-push, Contains-push_cases}
 use Rattle.bl_tree.specs.declared.tree.Stmt.{Stmt}
 use Rattle.bl_tree.specs.declared.tree.Unit.{Unit as UnitDef}
-use Rattle.bl_effects.specs.inner.Gathered.{Kept, Records, Told}
+use Rattle.bl_effects.specs.inner.Gathered.{TableKept, TableRecords, TableTold}
 use Rattle.bl_tree.specs.Effects.{reads, writes}
 use Rattle.bl_tree.specs.Instant.{instant}
 use Rattle.bl_tree.specs.Within.{Effect, PlacesDecide, StandsIn, StandsInUnits, place_of}
-use Rattle.bl_effects.specs.Table.{Has, instant_at, reads_at, writes_at, Tells}
+use Rattle.bl_effects.specs.Table.{TableHasPlace, instant_at, reads_at, writes_at, TableTellsEffects}
 use Rattle.bl_effects.proofs.GatherLemmas.{no_element, records_then}
 
 -- before the first unit
-pub units_none : (units : List UnitDef) → Records (StandsInUnits (take 0 units)) [] []
+pub units_none : (units : List UnitDef) → TableRecords (StandsInUnits (take 0 units)) [] []
 units_none units at = inl (record { same = refl; none = λ s stands. absurd (no_element stands.unit stands.is_there) })
 
 next : (units : List UnitDef) (k : ℕ) (unit : UnitDef) → k < length units → unit ≡ get_or units k unit →
@@ -50,9 +50,9 @@ next units k unit within is = ap (λ n. take n units) (add-one k) ∙ take-suc u
 -- after one unit more
 pub units_step : (units : List UnitDef) (k : ℕ) (unit : UnitDef) (body : List Stmt) → k < length units →
     unit ≡ get_or units k unit → body ≡ unit.body → (a b c : List Effect)
-    → Records (StandsInUnits (take k units)) a b → Records (StandsIn body) b c → Records (StandsInUnits (take (k + 1) units)) a c
+    → TableRecords (StandsInUnits (take k units)) a b → TableRecords (StandsIn body) b c → TableRecords (StandsInUnits (take (k + 1) units)) a c
 units_step units k unit body within is same a b c before one =
-    subst (λ front. Records (StandsInUnits front) a c) (sym (next units k unit within is))
+    subst (λ front. TableRecords (StandsInUnits front) a c) (sym (next units k unit within is))
     (records_then (StandsInUnits (take k units)) (StandsIn unit.body) (StandsInUnits (take k units ++ unit ∷ []))
     (λ s stands. ⊎_elim (λ there. inl (record { unit = stands.unit; is_there = there; stands = stands.stands }))
     (λ (its : unit ≡ stands.unit). inr (subst (λ (u : UnitDef). StandsIn u.body s) (sym its) stands.stands))
@@ -64,20 +64,20 @@ units_step units k unit body within is same a b c before one =
       stands = stands.stands;
     })
     (λ s stands. record { unit = unit; is_there = Contains-push (take k units) unit; stands = stands })
-    a b c before (subst (λ body. Records (StandsIn body) b c) same one))
+    a b c before (subst (λ body. TableRecords (StandsIn body) b c) same one))
 
 -- a table that was told of all units tells of every statement, since statements of one place have the same effects
 pub told_all : (units : List UnitDef) (k : ℕ) (effects : List Effect) → length units ≤ k →
-    Records (StandsInUnits (take k units)) [] effects → PlacesDecide units → Tells effects units
+    TableRecords (StandsInUnits (take k units)) [] effects → PlacesDecide units → TableTellsEffects effects units
 told_all units k effects over records decide s stands =
-    let all : Records (StandsInUnits units) [] effects = subst (λ front. Records (StandsInUnits front) [] effects) (take_all k units over) records in
-    ⊎_elim (λ (kept : Kept (StandsInUnits units) [] effects (place_of s)). absurd (kept.none s stands refl))
-    (λ (told : Told (StandsInUnits units) effects (place_of s)). told.tells
+    let all : TableRecords (StandsInUnits units) [] effects = subst (λ front. TableRecords (StandsInUnits front) [] effects) (take_all k units over) records in
+    ⊎_elim (λ (kept : TableKept (StandsInUnits units) [] effects (place_of s)). absurd (kept.none s stands refl))
+    (λ (told : TableTold (StandsInUnits units) effects (place_of s)). told.tells
     ∙ ap Some (decide told.statement s told.stands stands told.there)) (all (place_of s))
 
 -- what a table that tells of the program has at the place of a statement
-module _ (effects : List Effect) (units : List UnitDef) (s : Stmt) (tells : Tells effects units) (stands : StandsInUnits units s) where
-  pub told_there : Has effects (place_of s)
+module _ (effects : List Effect) (units : List UnitDef) (s : Stmt) (tells : TableTellsEffects effects units) (stands : StandsInUnits units s) where
+  pub told_there : TableHasPlace effects (place_of s)
   told_there = ap is_some (tells s stands)
 
   pub told_reads : reads_at effects (place_of s) ≡ reads s

@@ -12,6 +12,7 @@ effect_at at sets = record { place = at; reads = sets.reads; writes = sets.write
 abbrev pub key_of : Place → ℕ × ℕ
 key_of at = (at.start, at.end)
 
+-- the place that a key stands for
 abbrev pub place_at : ℕ × ℕ → Place
 place_at key = record { start = key.0; end = key.1 }
 

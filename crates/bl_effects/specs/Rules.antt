@@ -44,6 +44,7 @@ use Rattle.bl_tree.specs.Static.{overlaps, static_of}
 
 -- ---- Pause: an activity's body may end in the tick in which it begins; at the activity's name
 
+-- the unit is an activity whose body may end at once; no further place is named
 pub record FailsPause (units : List UnitDef) (at : Place) (also : List Place) : Type 0 where
   pub unit : UnitDef
   pub is_there : Contains units unit
@@ -104,15 +105,19 @@ kind_parallel (StmtKind-F.Until body e) place = together body
 kind_parallel (StmtKind-F.While e body) place = together body
 kind_parallel (StmtKind-F.Return e) place = still
 
+-- an arm of an `if`, from what its statements come to
 abbrev pub arm_parallel : Arm-F (Place → Parallel) Parallel Parallel Parallel → Parallel
 arm_parallel arm = together arm.body
 
+-- a branch by itself, from what its statements come to
 abbrev pub branch_parallel : Branch-F (Place → Parallel) Parallel Parallel Parallel → Parallel
 branch_parallel branch = together branch.body
 
+-- a statement, from what its kind comes to at a place
 abbrev pub stmt_parallel : Stmt-F (Place → Parallel) Parallel Parallel Parallel → Parallel
 stmt_parallel s = s.what s.place
 
+-- what the acts in a statement write, and the branches that stand in it
 abbrev pub parallel_of : Stmt → Parallel
 parallel_of = fold-Stmt (Place → Parallel) Parallel Parallel Parallel kind_parallel arm_parallel branch_parallel stmt_parallel
 
@@ -142,6 +147,7 @@ pub record FailsConflict (units : List UnitDef) (at : Place) (also : List Place)
 abbrev pub marked_path : Path → Marked
 marked_path path = record { place = (out-Path path).place; path = static_of path }
 
+-- a kind of input at a place: the path that it reads, where that is an aggregate
 abbrev pub marked_aggregate : {A B C : Type 0} → Place → ExprKind-F A B C Path → List Marked
 marked_aggregate place (ExprKind-F.Read path) = if is_none (scalar_in (out-Path path).ty) then record { place = place; path = static_of path } ∷ [] else []
 marked_aggregate place _ = []
@@ -178,6 +184,7 @@ target_aliased outputs None = []
 abbrev pub aliases_of : Option Path → List Expr → List Path → List Aliased
 aliases_of target inputs outputs = target_aliased (map marked_path outputs) target ++ outputs_aliased (marked_inputs inputs) [] (map marked_path outputs)
 
+-- the failures in a kind of statement, from those in its parts
 abbrev pub kind_aliases : StmtKind-F (List Aliased) (List Aliased) (List Aliased) (List Aliased) → List Aliased
 kind_aliases (StmtKind-F.Declare k initial) = []
 kind_aliases (StmtKind-F.Assign path e) = []
@@ -192,12 +199,15 @@ kind_aliases (StmtKind-F.Until body e) = joined body
 kind_aliases (StmtKind-F.While e body) = joined body
 kind_aliases (StmtKind-F.Return e) = []
 
+-- the failures in an arm, from those in its statements
 abbrev pub arm_aliases : Arm-F (List Aliased) (List Aliased) (List Aliased) (List Aliased) → List Aliased
 arm_aliases arm = joined arm.body
 
+-- the failures in a branch, from those in its statements
 abbrev pub branch_aliases : Branch-F (List Aliased) (List Aliased) (List Aliased) (List Aliased) → List Aliased
 branch_aliases branch = joined branch.body
 
+-- the failures in a statement are those of its kind
 abbrev pub stmt_aliases : Stmt-F (List Aliased) (List Aliased) (List Aliased) (List Aliased) → List Aliased
 stmt_aliases s = s.what
 
@@ -226,9 +236,11 @@ pub record BranchLoops : Type 0 where
   pub ends : Ends
   pub places : List Place
 
+-- the places of all loops in a block that are listed for its statements
 abbrev pub block_loops : List Loops → List Place
 block_loops body = joined (map (λ s. s.places) body)
 
+-- whether a block may end in the tick in which it begins: each of its statements may
 abbrev pub block_ends : List Loops → Bool
 block_ends body = all_of (map (λ s. s.instant) body)
 
@@ -236,6 +248,7 @@ block_ends body = all_of (map (λ s. s.instant) body)
 abbrev pub loop_places : Place → List Loops → List Place
 loop_places place body = block_loops body ++ (if block_ends body then place ∷ [] else [])
 
+-- the places that a kind of statement at this place lists, from those of its parts
 abbrev pub kind_loop_places : {A : Type 0} → StmtKind-F A Loops BranchLoops Loops → Place → List Place
 kind_loop_places (StmtKind-F.Declare k initial) place = []
 kind_loop_places (StmtKind-F.Assign path e) place = []
@@ -254,18 +267,23 @@ kind_loop_places (StmtKind-F.Return e) place = []
 abbrev pub loop_instants : StmtKind-F (Place → Loops) Loops BranchLoops Loops → StmtKind-F Bool Bool Ends Bool
 loop_instants = map-StmtKind (Place → Loops) Loops BranchLoops Loops Bool Bool Ends Bool (λ kind. true) (λ s. s.instant) (λ s. s.ends) (λ s. s.instant)
 
+-- a kind of statement at this place, from what is known of its parts
 abbrev pub kind_loops : StmtKind-F (Place → Loops) Loops BranchLoops Loops → Place → Loops
 kind_loops kind place = record { instant = kind_instant (loop_instants kind); places = kind_loop_places kind place }
 
+-- an arm, from what is known of its statements
 abbrev pub arm_loops : Arm-F (Place → Loops) Loops BranchLoops Loops → Loops
 arm_loops arm = record { instant = block_ends arm.body; places = block_loops arm.body }
 
+-- a branch, from what is known of its statements
 abbrev pub branch_loops : Branch-F (Place → Loops) Loops BranchLoops Loops → BranchLoops
 branch_loops branch = record { ends = record { weak = branch.weak; instant = block_ends branch.body }; places = block_loops branch.body }
 
+-- a statement, from what its kind comes to at a place
 abbrev pub stmt_loops : Stmt-F (Place → Loops) Loops BranchLoops Loops → Loops
 stmt_loops s = s.what s.place
 
+-- whether a statement may end in the tick in which it begins, and the loops in it whose bodies may
 abbrev pub loops_in : Stmt → Loops
 loops_in = fold-Stmt (Place → Loops) Loops BranchLoops Loops kind_loops arm_loops branch_loops stmt_loops
 

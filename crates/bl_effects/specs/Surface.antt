@@ -25,6 +25,7 @@ abbrev pub block_surface : List Surface → List Static
 block_surface [] = []
 block_surface (s ∷ rest) = s.writes ++ (if s.instant then block_surface rest else [])
 
+-- whether a block may end in the tick in which it begins: each of its statements may
 abbrev pub block_instant : List Surface → Bool
 block_instant body = all_of (map (λ s. s.instant) body)
 
@@ -47,28 +48,29 @@ kind_surface_writes (StmtKind-F.Return e) = []
 abbrev pub instants_of : StmtKind-F Surface Surface BranchSurface Surface → StmtKind-F Bool Bool Ends Bool
 instants_of = map-StmtKind Surface Surface BranchSurface Surface Bool Bool Ends Bool (λ s. s.instant) (λ s. s.instant) (λ s. s.ends) (λ s. s.instant)
 
+-- a kind of statement, from what is known of its parts
 abbrev pub kind_surface : StmtKind-F Surface Surface BranchSurface Surface → Surface
 kind_surface kind = record { instant = kind_instant (instants_of kind); writes = kind_surface_writes kind }
 
+-- an arm, from what is known of its statements
 abbrev pub arm_surface : Arm-F Surface Surface BranchSurface Surface → Surface
 arm_surface arm = record { instant = block_instant arm.body; writes = block_surface arm.body }
 
+-- a branch, from what is known of its statements
 abbrev pub branch_surface : Branch-F Surface Surface BranchSurface Surface → BranchSurface
 branch_surface branch = record { ends = record { weak = branch.weak; instant = block_instant branch.body }; writes = block_surface branch.body }
 
+-- what is known of a statement is what is known of its kind
 abbrev pub stmt_surface : Stmt-F Surface Surface BranchSurface Surface → Surface
 stmt_surface s = s.what
 
+-- whether a statement may end in the tick in which it begins, and what it can write in that tick
 abbrev pub surface_of : Stmt → Surface
 surface_of = fold-Stmt Surface Surface BranchSurface Surface kind_surface arm_surface branch_surface stmt_surface
 
 -- the set of the static paths that a statement that begins can write before it pauses
 abbrev pub surface_writes : Stmt → List Static
 surface_writes s = set_of (surface_of s).writes
-
--- the same of a list of statements
-abbrev pub surface_writes_of : List Stmt → List Static
-surface_writes_of body = set_of (block_surface (map surface_of body))
 
 -- ---- width
 
@@ -87,12 +89,15 @@ kind_width (StmtKind-F.Until body e) = greatest body
 kind_width (StmtKind-F.While e body) = greatest body
 kind_width (StmtKind-F.Return e) = 0
 
+-- the width of an arm: the greatest of its statements
 abbrev pub arm_width : Arm-F ℕ ℕ ℕ ℕ → ℕ
 arm_width arm = greatest arm.body
 
+-- the width of a branch: the greatest of its statements, and at least one
 abbrev pub branch_width : Branch-F ℕ ℕ ℕ ℕ → ℕ
 branch_width branch = max 1 (greatest branch.body)
 
+-- the width of a statement is that of its kind
 abbrev pub stmt_layer_width : Stmt-F ℕ ℕ ℕ ℕ → ℕ
 stmt_layer_width s = s.what
 

@@ -14,19 +14,21 @@ abbrev pub found : List Effect → Place → Option Effect
 found effects at = find (λ effect. same_place effect.place at) effects
 
 -- the table tells of every statement of the program, by its place, what it reads and writes and whether it may end at once
-abbrev pub Tells : List Effect → List UnitDef → Type 0
-Tells effects units = (s : Stmt) → StandsInUnits units s → found effects (place_of s) ≡ Some (effect_of s)
+abbrev pub TableTellsEffects : List Effect → List UnitDef → Type 0
+TableTellsEffects effects units = (s : Stmt) → StandsInUnits units s → found effects (place_of s) ≡ Some (effect_of s)
 
 -- the table has the place
-abbrev pub Has : List Effect → Place → Type 0
-Has effects at = IsTrue (is_some (found effects at))
+abbrev pub TableHasPlace : List Effect → Place → Type 0
+TableHasPlace effects at = IsTrue (is_some (found effects at))
 
--- what the table has for the place; nothing where it has not the place
+-- what the table says is read at the place; nothing where it has not the place
 abbrev pub reads_at : List Effect → Place → List Static
 reads_at effects at = unwrap_or (option_map (λ effect. effect.reads) (found effects at)) []
 
+-- what the table says is written at the place; nothing where it has not the place
 abbrev pub writes_at : List Effect → Place → List Static
 writes_at effects at = unwrap_or (option_map (λ effect. effect.writes) (found effects at)) []
 
+-- whether the table says that the statement at the place may end at once; false where it has not the place
 abbrev pub instant_at : List Effect → Place → Bool
 instant_at effects at = unwrap_or (option_map (λ effect. effect.instant) (found effects at)) Bool.false

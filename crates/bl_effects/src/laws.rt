@@ -10,7 +10,7 @@ ghost use Rattle.bl_effects.specs.Rules.{loops_in};
 ghost use Rattle.bl_tree.specs.Static.{overlaps, precedes, set_of};
 ghost use Rattle.bl_effects.specs.Surface.{surface_of};
 ghost use Rattle.bl_tree.specs.Within.{Effect, StandsInUnits, Within, place_of};
-ghost use Rattle.bl_effects.specs.Table.{Has, Tells, instant_at, reads_at, writes_at};
+ghost use Rattle.bl_effects.specs.Table.{TableHasPlace, TableTellsEffects, instant_at, reads_at, writes_at};
 
 /// A set has the static paths of the list that it is made from, in ascending order, each once.
 pub fn sets_are_ascending()
@@ -38,11 +38,12 @@ pub fn endings_agree()
 
 /// A table that tells of a program has the places of all its statements, with their effects.
 pub fn told_statements_are_there()
-    ensures has { (effects : List Effect) (units : List UnitDef) (s : Stmt) → Tells effects units → StandsInUnits units s → Has effects (place_of s) }
-    ensures reads { (effects : List Effect) (units : List UnitDef) (s : Stmt) → Tells effects units → StandsInUnits units s
+    ensures has { (effects : List Effect) (units : List UnitDef) (s : Stmt) → TableTellsEffects effects units → StandsInUnits units s
+        → TableHasPlace effects (place_of s) }
+    ensures reads { (effects : List Effect) (units : List UnitDef) (s : Stmt) → TableTellsEffects effects units → StandsInUnits units s
         → reads_at effects (place_of s) ≡ reads s }
-    ensures writes { (effects : List Effect) (units : List UnitDef) (s : Stmt) → Tells effects units → StandsInUnits units s
+    ensures writes { (effects : List Effect) (units : List UnitDef) (s : Stmt) → TableTellsEffects effects units → StandsInUnits units s
         → writes_at effects (place_of s) ≡ writes s }
-    ensures instant { (effects : List Effect) (units : List UnitDef) (s : Stmt) → Tells effects units → StandsInUnits units s
+    ensures instant { (effects : List Effect) (units : List UnitDef) (s : Stmt) → TableTellsEffects effects units → StandsInUnits units s
         → instant_at effects (place_of s) ≡ instant s }
 {}

@@ -3,7 +3,7 @@
 ghost use Rattle.std.specs.Prelude.{◌≡◌, cond, [], Some, IfOk, OnOk, option_map};
 ghost use Rattle.bl_effects.specs.Entries.{effect_at};
 ghost use Rattle.bl_tree.specs.Rules.{same_place};
-ghost use Rattle.bl_effects.specs.Table.{Has, Tells, found, instant_at, reads_at, writes_at};
+ghost use Rattle.bl_effects.specs.Table.{TableHasPlace, TableTellsEffects, found, instant_at, reads_at, writes_at};
 
 use crate::gather::{Paths, block};
 use bl_tree::{List, NoMemory, Place, Program, Static};
@@ -43,7 +43,7 @@ impl Model for Effects {
 impl Effects {
     /// The effects of all statements of the program, at any depth.
     pub fn of(alloc: Global, program: &Program) -> Result<Effects, NoMemory>
-        ensures { IfOk result (λ effects. Tells effects program.now.units) }
+        ensures { IfOk result (λ effects. TableTellsEffects effects program.now.units) }
     {
         let mut effects = Effects::new(alloc);
         for unit in program.units.iter() {
@@ -82,7 +82,7 @@ impl Effects {
     }
 
     fn sets(&self, at: Place) -> &Sets
-        requires { Has self.now at }
+        requires { TableHasPlace self.now at }
         ensures { found self.now at ≡ Some (effect_at at result.now) }
     {
         match self.find(at) {
@@ -93,7 +93,7 @@ impl Effects {
 
     /// The static paths that the statement at the place reads.
     pub fn reads(&self, at: Place) -> &List<Static>
-        requires { Has self.now at }
+        requires { TableHasPlace self.now at }
         ensures { result.now ≡ reads_at self.now at }
     {
         &self.sets(at).reads
@@ -101,7 +101,7 @@ impl Effects {
 
     /// The static paths that the statement at the place writes.
     pub fn writes(&self, at: Place) -> &List<Static>
-        requires { Has self.now at }
+        requires { TableHasPlace self.now at }
         ensures { result.now ≡ writes_at self.now at }
     {
         &self.sets(at).writes
@@ -109,7 +109,7 @@ impl Effects {
 
     /// Whether the statement at the place may end in the tick in which it begins.
     pub fn instant(&self, at: Place) -> bool
-        requires { Has self.now at }
+        requires { TableHasPlace self.now at }
         ensures { result ≡ instant_at self.now at }
     {
         self.sets(at).instant

@@ -1,5 +1,25 @@
 -- After an assignment, a declaration or a call that stands at a site the variables have values of their types.
-use Rattle.std.proofs.Common.{◌≡◌, ℕ, length, true, ◌||◌, List, [], ◌∷◌, ◌++◌, map, Option, Some, None, refl, sym, ap, ◌∙◌, subst, IfSome}
+use Rattle.std.proofs.Common.{
+  ◌≡◌,
+  ℕ,
+  length,
+  true,
+  ◌||◌,
+  List,
+  [],
+  ◌∷◌,
+  ◌++◌,
+  map,
+  Option,
+  Some,
+  None,
+  refl,
+  sym,
+  ap,
+  ◌∙◌,
+  subst,
+  IfSome,
+}
 use Rattle.std.proofs.Math.Seq.{take-add}
 use Rattle.std.specs.Prelude.{All, option_and_then, option_map, slice_get, unwrap_or}
 use Rattle.bl_tree.specs.declared.place.Place.{Place}
@@ -37,8 +57,8 @@ use Rattle.bl_tree.specs.Typing.{
 }
 use Rattle.bl_tree.proofs.StmtInduction.{stmt}
 use Rattle.bl_eval.specs.declared.datum.Left.{Left}
-use Rattle.bl_eval.specs.Functions.{acted, assigned, call_of, called, declared, initial_value, put_all, put_back, scope_among}
-use Rattle.bl_eval.specs.Meaning.{Callee, Meaning, Scope, Spot, View, meaning_of, plain, reading, spot_of, value_in, values_of}
+use Rattle.bl_eval.specs.Functions.{acted, assigned, call_of, declared, initial_value, outcome_of_call, put_all, put_back, scope_among}
+use Rattle.bl_eval.specs.Meaning.{Callee, Meaning, PathMeaning, Scope, View, meaning_of, path_meaning_of, plain, reading, value_in, values_of}
 use Rattle.bl_eval.specs.Values.{put_at, value_fits, values_fit, zero_of}
 use Rattle.bl_eval.proofs.ExprFits.{CalleeFits, GivesFit, LeftFits, Sound, SpotFits, callee_at, expr_fits, match_fits, reading_fits, spot_fits}
 use Rattle.bl_eval.proofs.FitLemmas.{same_type_is, zero_fits}
@@ -58,11 +78,12 @@ AllFit structs vars values = values_fit structs vars values ≡ true
 
 -- ---- what a path names has a new value
 
-pub spot_put : (structs : List StructDef) (vars : List Var) (view : View) (ty : Ty) (spot : Spot) (value : Value) (now : List Value) →
+pub spot_put : (structs : List StructDef) (vars : List Var) (view : View) (ty : Ty) (spot : PathMeaning) (value : Value) (now : List Value) →
     SpotFits structs vars view ty spot → Fits structs ty value
     → AllFit structs vars now → IfSome (option_and_then (λ positions. put_at spot.root positions value now) (spot.positions view)) (AllFit structs vars)
 spot_put structs vars view ty spot value now found one all =
-    if_then (λ ks. Leads structs found.var.ty ks ty) (AllFit structs vars) (λ positions. put_at spot.root positions value now) (spot.positions view) found.leads
+    if_then (λ ks. Leads structs found.var.ty ks ty) (AllFit structs vars) (λ positions. put_at spot.root positions value now)
+    (spot.positions view) found.leads
     (λ ks leads. put_fits structs vars spot.root found.var ks ty found.is_there leads now all value one)
 
 kept : (structs : List StructDef) (vars : List Var) (made : Option (List Value)) (now : List Value) → IfSome made (AllFit structs vars) →
@@ -70,16 +91,17 @@ kept : (structs : List StructDef) (vars : List Var) (made : Option (List Value))
 kept structs vars None now h all = all
 kept structs vars (Some new) now h all = h
 
-back_fits : (structs : List StructDef) (vars : List Var) (view : View) (ty : Ty) (spot : Spot) (value : Value) (now : List Value) →
+back_fits : (structs : List StructDef) (vars : List Var) (view : View) (ty : Ty) (spot : PathMeaning) (value : Value) (now : List Value) →
     SpotFits structs vars view ty spot → Fits structs ty value
     → AllFit structs vars now → AllFit structs vars (put_back spot value view now)
 back_fits structs vars view ty spot value now found one all =
     kept structs vars (option_and_then (λ positions. put_at spot.root positions value now) (spot.positions view)) now
     (spot_put structs vars view ty spot value now found one all) all
 
-reading_all : (scope : Scope) (paths : List Path) → map (λ path. reading (spot_of scope path)) paths ≡ map reading (map (spot_of scope) paths)
+reading_all : (scope : Scope) (paths : List Path) → map (λ path. reading (path_meaning_of scope path)) paths
+    ≡ map reading (map (path_meaning_of scope) paths)
 reading_all scope [] = refl
-reading_all scope (path ∷ paths) = ap (λ rest. reading (spot_of scope path) ∷ rest) (reading_all scope paths)
+reading_all scope (path ∷ paths) = ap (λ rest. reading (path_meaning_of scope path) ∷ rest) (reading_all scope paths)
 
 -- ---- acts
 
@@ -97,17 +119,18 @@ module _ (structs : List StructDef) (earlier : List UnitDef) (unit : UnitDef) (c
       (expr_fits structs earlier unit callees sound view now_fits before_fits e ty typed)
       (λ datum one. plain_fits structs ty datum one)
 
-  spot_at : (path : Path) (ty : Ty) → type_of_path site path ≡ Some ty → SpotFits structs unit.vars view ty (spot_of scope path)
+  spot_at : (path : Path) (ty : Ty) → type_of_path site path ≡ Some ty → SpotFits structs unit.vars view ty (path_meaning_of scope path)
   spot_at = spot_fits structs earlier unit callees sound view now_fits before_fits
 
   pub assigned_fits : (path : Path) (e : Expr) → are_same (type_of_path site path) (type_of site e) ≡ true →
-      IfSome (assigned (spot_of scope path) (value_in scope e view) view) (AllFit structs unit.vars)
+      IfSome (assigned (path_meaning_of scope path) (value_in scope e view) view) (AllFit structs unit.vars)
   assigned_fits path e same =
       let found = same_found (type_of_path site path) (type_of site e) same in
       if_then (Fits structs found.0) (AllFit structs unit.vars)
-      (λ value. option_and_then (λ positions. put_at (spot_of scope path).root positions value view.now) ((spot_of scope path).positions view))
+      (λ value. option_and_then (λ positions. put_at (path_meaning_of scope path).root positions value view.now)
+      ((path_meaning_of scope path).positions view))
       (value_in scope e view) (value_fits_at e found.0 found.2)
-      (λ value one. spot_put structs unit.vars view found.0 (spot_of scope path) value view.now (spot_at path found.0 found.1) one now_fits)
+      (λ value one. spot_put structs unit.vars view found.0 (path_meaning_of scope path) value view.now (spot_at path found.0 found.1) one now_fits)
 
   -- a declaration
   declared_var : (initial : Option Expr) (var : Option Var) → declaration_fits site initial var ≡ true → (found : Var) × (var ≡ Some found)
@@ -138,7 +161,7 @@ module _ (structs : List StructDef) (earlier : List UnitDef) (unit : UnitDef) (c
   -- the outputs of a call
   outputs_first : (path : Path) (paths : List Path) (var : Var) (vars : List Var) (typed : Option Ty) → type_of_path site path ≡ typed →
       types_match (typed ∷ map (type_of_path site) paths) (var ∷ vars) ≡ true
-      → SpotFits structs unit.vars view var.ty (spot_of scope path) × (types_match (map (type_of_path site) paths) vars ≡ true)
+      → SpotFits structs unit.vars view var.ty (path_meaning_of scope path) × (types_match (map (type_of_path site) paths) vars ≡ true)
   outputs_first path paths var vars None is matched = absurd (cc)
   outputs_first path paths var vars (Some ty) is matched = (
     spot_at path var.ty (is ∙ ap Some (same_type_is ty var.ty (and_left (same_type ty var.ty) (types_match (map (type_of_path site) paths) vars) matched))),
@@ -147,25 +170,25 @@ module _ (structs : List StructDef) (earlier : List UnitDef) (unit : UnitDef) (c
 
   back_all : (paths : List Path) (vars : List Var) (values : List Value) (now : List Value) →
       types_match (map (type_of_path site) paths) vars ≡ true → AllFit structs vars values
-      → AllFit structs unit.vars now → AllFit structs unit.vars (put_all (map (spot_of scope) paths) values view now)
+      → AllFit structs unit.vars now → AllFit structs unit.vars (put_all (map (path_meaning_of scope) paths) values view now)
   back_all [] vars values now matched given all = all
   back_all (path ∷ paths) vars [] now matched given all = all
   back_all (path ∷ paths) [] (value ∷ values) now matched given all = absurd (cc)
   back_all (path ∷ paths) (var ∷ vars) (value ∷ values) now matched given all =
       let first = outputs_first path paths var vars (type_of_path site path) refl matched in
-      back_all paths vars values (put_back (spot_of scope path) value view now) first.1
+      back_all paths vars values (put_back (path_meaning_of scope path) value view now) first.1
       (and_right (value_fits structs var.ty value) (values_fit structs vars values) given)
-      (back_fits structs unit.vars view var.ty (spot_of scope path) value now first.0
+      (back_fits structs unit.vars view var.ty (path_meaning_of scope path) value now first.0
       (and_left (value_fits structs var.ty value) (values_fit structs vars values) given) all)
 
   -- the arguments of a call
   outputs_given : (outputs : List Path) (vars : List Var) → types_match (map (type_of_path site) outputs) vars ≡ true
-      → IfSome (values_of (map reading (map (spot_of scope) outputs)) view) (AllFit structs vars)
+      → IfSome (values_of (map reading (map (path_meaning_of scope) outputs)) view) (AllFit structs vars)
   outputs_given outputs vars matched =
-      let each : All (λ path. GivesFit structs view (reading (spot_of scope path)) (type_of_path site path)) outputs =
+      let each : All (λ path. GivesFit structs view (reading (path_meaning_of scope path)) (type_of_path site path)) outputs =
       λ k d within ty typed. reading_fits structs unit.vars view ty _ now_fits (spot_at _ ty typed) in
       subst (λ means. IfSome (values_of means view) (AllFit structs vars)) (reading_all scope outputs)
-      (match_fits structs view (λ path. reading (spot_of scope path)) (type_of_path site) outputs each vars matched)
+      (match_fits structs view (λ path. reading (path_meaning_of scope path)) (type_of_path site) outputs each vars matched)
 
   inputs_given : (inputs : List Expr) (vars : List Var) → types_match (map (type_of site) inputs) vars ≡ true →
       IfSome (values_of (map (meaning_of scope) inputs) view) (AllFit structs vars)
@@ -191,20 +214,20 @@ module _ (structs : List StructDef) (earlier : List UnitDef) (unit : UnitDef) (c
       let fitting : arguments_fit site inputs outputs callee ≡ true = and_right (is_procedure callee) (arguments_fit site inputs outputs callee) fitted in
       let ins : types_match (map (type_of site) inputs) (inputs_of callee) ≡ true = and_left _ _ fitting in
       let outs : types_match (map (type_of_path site) outputs) (outputs_of callee) ≡ true = and_left _ _ (and_right _ _ fitting) in
-      let given : IfSome (values_of (map (meaning_of scope) inputs ++ map reading (map (spot_of scope) outputs)) view)
+      let given : IfSome (values_of (map (meaning_of scope) inputs ++ map reading (map (path_meaning_of scope) outputs)) view)
       (AllFit structs (inputs_of callee ++ outputs_of callee)) =
-      together (map (meaning_of scope) inputs) (map reading (map (spot_of scope) outputs)) (inputs_of callee) (outputs_of callee)
+      together (map (meaning_of scope) inputs) (map reading (map (path_meaning_of scope) outputs)) (inputs_of callee) (outputs_of callee)
       (inputs_given inputs (inputs_of callee) ins)
       (outputs_given outputs (outputs_of callee) outs) in
       let same : inputs_of callee ++ outputs_of callee ≡ parameters_of callee = sym (take-add callee.inputs callee.outputs callee.vars) in
       if_then (CalleeFits structs callee) (AllFit structs unit.vars)
-      (called (map (meaning_of scope) inputs) (map (spot_of scope) outputs) view) (slice_get callees f)
+      (outcome_of_call (map (meaning_of scope) inputs) (map (path_meaning_of scope) outputs) view) (slice_get callees f)
       (callee_at structs earlier callees f callee sound.callees_fit there)
       (λ does does_fit. if_then (AllFit structs (inputs_of callee ++ outputs_of callee)) (AllFit structs unit.vars)
-      (λ values. option_map (λ (left : Left). put_all (map (spot_of scope) outputs) left.outputs view view.now) (does values))
-      (values_of (map (meaning_of scope) inputs ++ map reading (map (spot_of scope) outputs)) view) given
+      (λ values. option_map (λ (left : Left). put_all (map (path_meaning_of scope) outputs) left.outputs view view.now) (does values))
+      (values_of (map (meaning_of scope) inputs ++ map reading (map (path_meaning_of scope) outputs)) view) given
       (λ values all. if_map (LeftFits structs callee) (AllFit structs unit.vars)
-      (λ (left : Left). put_all (map (spot_of scope) outputs) left.outputs view view.now) (does values)
+      (λ (left : Left). put_all (map (path_meaning_of scope) outputs) left.outputs view view.now) (does values)
       (does_fit values (subst (λ vars. AllFit structs vars values) same all))
       (λ left one. back_all outputs (outputs_of callee) left.outputs view.now outs one.0 now_fits)))
 

@@ -72,8 +72,8 @@ use Rattle.bl_eval.specs.Functions.{scope_among}
 use Rattle.bl_eval.specs.Meaning.{
   Callee,
   Meaning,
+  PathMeaning,
   Scope,
-  Spot,
   View,
   call_datum,
   cast_datum,
@@ -81,11 +81,11 @@ use Rattle.bl_eval.specs.Meaning.{
   meaning_of,
   one_datum,
   operand,
+  path_meaning_of,
   plain,
   read_at,
   reading,
   scalar_of,
-  spot_of,
   two_datum,
   values_of,
 }
@@ -109,11 +109,13 @@ abbrev pub CalleeFits : List StructDef → UnitDef → Callee → Type 0
 CalleeFits structs unit callee = (arguments : List Value) → values_fit structs (parameters_of unit) arguments ≡ true →
     IfSome (callee arguments) (LeftFits structs unit)
 
-pub callee_at : (structs : List StructDef) (units : List UnitDef) (callees : List Callee) (f : ℕ) (unit : UnitDef) → AllZip (CalleeFits structs) units callees
+pub callee_at : (structs : List StructDef) (units : List UnitDef) (callees : List Callee) (f : ℕ) (unit : UnitDef)
+    → AllZip (CalleeFits structs) units callees
     → slice_get units f ≡ Some unit → IfSome (slice_get callees f) (CalleeFits structs unit)
 callee_at structs [] callees f unit all there = absurd (cc)
 callee_at structs (first ∷ units) [] f unit all there = absurd all
-callee_at structs (first ∷ units) (callee ∷ callees) zero unit all there = subst (λ unit. CalleeFits structs unit callee) (same_Some first unit there) all.0
+callee_at structs (first ∷ units) (callee ∷ callees) zero unit all there =
+    subst (λ unit. CalleeFits structs unit callee) (same_Some first unit there) all.0
 callee_at structs (first ∷ units) (callee ∷ callees) (suc f) unit all there = callee_at structs units callees f unit all.1 there
 
 result_by : (structs : List StructDef) (ty : Ty) (result : Option ScalarType) (given : Option Datum) → option_map scalar result ≡ Some ty →
@@ -131,7 +133,8 @@ GivesFit structs view means typed = (ty : Ty) → typed ≡ Some ty → IfSome (
 values_first : (structs : List StructDef) (var : Var) (vars : List Var) (ty : Ty) (first : Option Datum) (rest : Option (List Value)) →
     same_type ty var.ty ≡ true
     → IfSome first (DatumFits structs ty) → IfSome rest (λ values. values_fit structs vars values ≡ true)
-    → IfSome (option_and_then (λ datum. option_map (λ values. plain datum ∷ values) rest) first) (λ values. values_fit structs (var ∷ vars) values ≡ true)
+    → IfSome (option_and_then (λ datum. option_map (λ values. plain datum ∷ values) rest) first)
+    (λ values. values_fit structs (var ∷ vars) values ≡ true)
 values_first structs var vars ty None rest same one more = tt
 values_first structs var vars ty (Some datum) None same one more = tt
 values_first structs var vars ty (Some datum) (Some values) same one more =
@@ -147,7 +150,8 @@ module _ {X : Type 0} (structs : List StructDef) (view : View) (means : X → Me
       IfSome (values_of (map means xs) view) (λ values. values_fit structs vars values ≡ true)
 
   match_first : (x : X) (xs : List X) (vars : List Var) (typed : Option Ty) → types x ≡ typed → types_match (typed ∷ map types xs) vars ≡ true
-      → GivesFit structs view (means x) (types x) → AllMatch xs → IfSome (values_of (map means (x ∷ xs)) view) (λ values. values_fit structs vars values ≡ true)
+      → GivesFit structs view (means x) (types x) → AllMatch xs
+      → IfSome (values_of (map means (x ∷ xs)) view) (λ values. values_fit structs vars values ≡ true)
   match_first x xs [] None is all one more = absurd (cc)
   match_first x xs [] (Some ty) is all one more = absurd (cc)
   match_first x xs (var ∷ vars) None is all one more = absurd (cc)
@@ -172,13 +176,13 @@ pub record Sound (structs : List StructDef) (earlier : List UnitDef) (unit : Uni
   pub callees_fit : AllZip (CalleeFits structs) earlier callees
 
 -- a path: its variable is there, and its positions lead to what is of its type
-pub record SpotFits (structs : List StructDef) (vars : List Var) (view : View) (ty : Ty) (spot : Spot) : Type 0 where
+pub record SpotFits (structs : List StructDef) (vars : List Var) (view : View) (ty : Ty) (spot : PathMeaning) : Type 0 where
   pub var : Var
   pub is_there : slice_get vars spot.root ≡ Some var
   pub is_typed : spot.ty ≡ ty
   pub leads : IfSome (spot.positions view) (λ ks. Leads structs var.ty ks ty)
 
-pub reading_fits : (structs : List StructDef) (vars : List Var) (view : View) (ty : Ty) (spot : Spot) →
+pub reading_fits : (structs : List StructDef) (vars : List Var) (view : View) (ty : Ty) (spot : PathMeaning) →
     values_fit structs vars view.now ≡ true → SpotFits structs vars view ty spot
     → IfSome (reading spot view) (DatumFits structs ty)
 reading_fits structs vars view ty spot fit found =
@@ -200,7 +204,7 @@ module _ (structs : List StructDef) (earlier : List UnitDef) (unit : UnitDef) (c
   P e = GivesFit structs view (meaning_of scope e) (type_of site e)
 
   abbrev Q : Path → Type 0
-  Q path = (ty : Ty) → type_of_path site path ≡ Some ty → SpotFits structs unit.vars view ty (spot_of scope path)
+  Q path = (ty : Ty) → type_of_path site path ≡ Some ty → SpotFits structs unit.vars view ty (path_meaning_of scope path)
 
   literal_fits : (place : Place) (n : ℤ) (s : ScalarType) → P (expr place (ExprKind-F.Literal n s))
   literal_fits place n s ty typed =
@@ -209,7 +213,7 @@ module _ (structs : List StructDef) (earlier : List UnitDef) (unit : UnitDef) (c
 
   read_path_fits : (place : Place) (path : Path) → Q path → P (expr place (ExprKind-F.Read path))
   read_path_fits place path leads ty typed =
-      rw (fold-roll-Expr, fold-roll-ExprKind) (reading_fits structs unit.vars view ty (spot_of scope path) now_fits
+      rw (fold-roll-Expr, fold-roll-ExprKind) (reading_fits structs unit.vars view ty (path_meaning_of scope path) now_fits
       (leads ty (rw (fold-roll-Expr, fold-roll-ExprKind) at typed)))
 
   before_at : (k : ℕ) (ty : Ty) → option_and_then (prev_type unit.kind) (slice_get unit.vars k) ≡ Some ty
@@ -258,7 +262,8 @@ module _ (structs : List StructDef) (earlier : List UnitDef) (unit : UnitDef) (c
       (λ operand one. cast_fits structs ty target found.0 operand found.2))
 
   -- a call
-  call_at : (f : ℕ) (inputs : List Expr) (ty : Ty) → All P inputs → option_and_then (call_type (map (type_of site) inputs)) (slice_get earlier f) ≡ Some ty
+  call_at : (f : ℕ) (inputs : List Expr) (ty : Ty) → All P inputs
+      → option_and_then (call_type (map (type_of site) inputs)) (slice_get earlier f) ≡ Some ty
       → IfSome (option_and_then (call_datum (values_of (map (meaning_of scope) inputs) view)) (slice_get callees f)) (DatumFits structs ty)
   call_at f inputs ty each typed =
       let found = some_found (call_type (map (type_of site) inputs)) (slice_get earlier f) ty typed in
@@ -278,7 +283,8 @@ module _ (structs : List StructDef) (earlier : List UnitDef) (unit : UnitDef) (c
       (λ values. option_and_then (λ (left : Left). left.result) (does values))
       (values_of (map (meaning_of scope) inputs) view) given
       (λ values all. if_then (LeftFits structs callee) (DatumFits structs ty) (λ (left : Left). left.result) (does values)
-      (fits values (subst (λ vars. values_fit structs vars values ≡ true) same all)) (λ left one. result_by structs ty callee.result left.result is.1 one.1)))
+      (fits values (subst (λ vars. values_fit structs vars values ≡ true) same all))
+      (λ left one. result_by structs ty callee.result left.result is.1 one.1)))
 
   call_fits : (place : Place) (f : ℕ) (inputs : List Expr) → All P inputs → P (expr place (ExprKind-F.Call f inputs))
   call_fits place f inputs each ty typed = rw (fold-roll-Expr, fold-roll-ExprKind) (call_at f inputs ty each (rw (fold-roll-Expr, fold-roll-ExprKind) at typed))
@@ -316,5 +322,5 @@ module _ (structs : List StructDef) (earlier : List UnitDef) (unit : UnitDef) (c
   expr_fits = induct P Q cases
 
   -- where a path leads is of its type
-  pub spot_fits : (path : Path) (ty : Ty) → type_of_path site path ≡ Some ty → SpotFits structs unit.vars view ty (spot_of scope path)
+  pub spot_fits : (path : Path) (ty : Ty) → type_of_path site path ≡ Some ty → SpotFits structs unit.vars view ty (path_meaning_of scope path)
   spot_fits = induct_path P Q cases

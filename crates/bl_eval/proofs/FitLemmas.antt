@@ -132,7 +132,8 @@ Test = Value → Bool
 pub fits_scalar : (tests : List Test) (s : ScalarType) (value : Value) → fits_by tests (scalar s) value ≡ is_number_of s (out-Value value)
 fits_scalar tests s value = rw fold-roll-Ty refl
 
-pub fits_struct : (tests : List Test) (ty : Ty) (k : ℕ) (value : Value) → out-Ty ty ≡ Ty-F.Struct k → fits_by tests ty value ≡ by_test (slice_get tests k) value
+pub fits_struct : (tests : List Test) (ty : Ty) (k : ℕ) (value : Value) → out-Ty ty ≡ Ty-F.Struct k →
+    fits_by tests ty value ≡ by_test (slice_get tests k) value
 fits_struct tests ty k value is = rw (rolled ty (Ty-F.Struct k) is, fold-roll-Ty) refl
 
 pub fits_array : (tests : List Test) (ty : Ty) (n : ℕ) (element : Ty) (value : Value) → out-Ty ty ≡ Ty-F.Array n element

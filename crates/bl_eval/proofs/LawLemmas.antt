@@ -10,7 +10,7 @@ use Rattle.bl_tree.specs.Program.{Keeps}
 use Rattle.bl_tree.specs.Typing.{Site, site_of, type_of}
 use Rattle.bl_eval.specs.Functions.{callees_of}
 use Rattle.bl_eval.specs.Meaning.{View, meaning_of, plain}
-use Rattle.bl_eval.specs.Standing.{Stands, StandsAct, outcome_in_unit, outcome_of, scope_of, type_in_unit, value_in_unit, value_of}
+use Rattle.bl_eval.specs.Standing.{ActStandsInUnit, ExprStandsInUnit, outcome_in_unit, outcome_of, scope_of, type_in_unit, value_in_unit, value_of}
 use Rattle.bl_eval.specs.Values.{value_fits, values_fit}
 use Rattle.bl_eval.proofs.ActFits.{act_fits}
 use Rattle.bl_eval.proofs.ExprFits.{expr_fits}
@@ -19,7 +19,7 @@ use Rattle.bl_eval.proofs.PartFits.{Fits, if_map, if_some}
 use Rattle.bl_eval.proofs.UnitFits.{sound_at}
 
 module _ (structs : List StructDef) (units : List UnitDef) (entry k : ℕ) (view : View) (keeps : Keeps structs units entry) where
-  module _ (e : Expr) (stands : Stands structs units k view e) where
+  module _ (e : Expr) (stands : ExprStandsInUnit structs units k view e) where
     abbrev site : Site
     site = site_of structs (take k units) stands.unit
 
@@ -40,7 +40,7 @@ module _ (structs : List StructDef) (units : List UnitDef) (entry k : ℕ) (view
         (λ ty. value_fits structs ty value ≡ true)))
         (sym stands.is_there) (of_type (type_of site e) refl)
 
-  module _ (s : Stmt) (stands : StandsAct structs units k view s) where
+  module _ (s : Stmt) (stands : ActStandsInUnit structs units k view s) where
     pub act_typed : IfSome (outcome_in_unit structs units k s view) (λ left. IfSome (slice_get units k) (λ unit. values_fit structs unit.vars left ≡ true))
     act_typed =
         subst (λ (at : Option UnitDef). IfSome (option_and_then (λ site. outcome_of site s view) (option_map (site_of structs (take k units)) at))

@@ -62,7 +62,7 @@ use Rattle.bl_eval.specs.Functions.{
   callee_of,
   callees_after,
   callees_of,
-  called,
+  outcome_of_call,
   condition,
   does,
   frame_of,
@@ -81,7 +81,7 @@ use Rattle.bl_eval.specs.Meaning.{
   Meaning,
   Position,
   Scope,
-  Spot,
+  PathMeaning,
   expr_means,
   kind_means,
   part_means,
@@ -94,7 +94,7 @@ use Rattle.bl_eval.specs.Meaning.{
   plain,
   read_at,
   reading,
-  spot_of,
+  path_meaning_of,
   values_of,
 }
 use Rattle.bl_eval.specs.Values.{put_at}
@@ -107,9 +107,9 @@ pub choice_out : (scope : Scope) (arm : Arm) → choice_of scope arm
     ≡ record { test = truth scope (out-Arm arm).test; body = in_order (map (does scope) (out-Arm arm).body) }
 choice_out scope arm = fold_out-Arm Does Choice Does Does (kind_does scope) (arm_does scope) branch_does stmt_does arm
 
-pub spot_out : (scope : Scope) (path : Path) → spot_of scope path
+pub spot_out : (scope : Scope) (path : Path) → path_meaning_of scope path
     ≡ record { root = (out-Path path).root; ty = (out-Path path).ty; positions = positions_of (map (part_of_path scope) (out-Path path).parts) }
-spot_out scope path = fold_out-Path Meaning Position Meaning Spot (kind_means scope) part_means expr_means path_means path
+spot_out scope path = fold_out-Path Meaning Position Meaning PathMeaning (kind_means scope) part_means expr_means path_means path
 
 module _ (scope : Scope) where
   abbrev kind : StmtKind → Does
@@ -119,7 +119,8 @@ module _ (scope : Scope) where
   done = map-StmtKind StmtKind Arm Branch Stmt Does Choice Does Does kind (choice_of scope)
       (fold-Branch Does Choice Does Does (kind_does scope) (arm_does scope) branch_does stmt_does) (does scope)
 
-  does_at : (s : Stmt) (layer : StmtKind-F StmtKind Arm Branch Stmt) → out-StmtKind (out-Stmt s).what ≡ layer → does scope s ≡ kind_does scope (done layer)
+  does_at : (s : Stmt) (layer : StmtKind-F StmtKind Arm Branch Stmt) → out-StmtKind (out-Stmt s).what ≡ layer →
+      does scope s ≡ kind_does scope (done layer)
   does_at s layer is =
       fold_out-Stmt Does Choice Does Does (kind_does scope) (arm_does scope) branch_does stmt_does s
       ∙ fold_out-StmtKind Does Choice Does Does (kind_does scope) (arm_does scope) branch_does stmt_does (out-Stmt s).what
@@ -163,7 +164,8 @@ callee_after structs (first ∷ rest) callees j zero unit there is =
     (get_seam callees (callee_of structs callees first) j (omega arith))
     ∙ ap (λ u. Some (callee_of structs callees u)) same
 callee_after structs (first ∷ rest) callees j (suc k) unit there is =
-    let is' : j ≡ length (callees ++ callee_of structs callees first ∷ []) + k = omega (arith, length-append callees (callee_of structs callees first ∷ [])) in
+    let is' : j ≡ length (callees ++ callee_of structs callees first ∷ []) + k =
+    omega (arith, length-append callees (callee_of structs callees first ∷ [])) in
     callee_after structs rest (callees ++ callee_of structs callees first ∷ []) j k unit there is'
 
 pub callee_is : (structs : List StructDef) (units : List UnitDef) (k : ℕ) (unit : UnitDef) → slice_get units k ≡ Some unit
@@ -209,7 +211,8 @@ called_is structs earlier f unit arguments frame vars body flow there is_vars is
 pub if_ok : {A B E : Type 0} (r : Result A E) (f : A → B) (a b : B) → IfOk r (λ x. f x ≡ a) → a ≡ b → IfOk r (λ x. f x ≡ b)
 if_ok r f a b h is = subst (λ a. IfOk r (λ x. f x ≡ a)) is h
 
-pub if_ok_then : {A B E : Type 0} (r : Result A E) (f : A → B) (a : A) (b : B) → IfOk r (λ x. x ≡ a) → ((x : A) → x ≡ a → f x ≡ b) → IfOk r (λ x. f x ≡ b)
+pub if_ok_then : {A B E : Type 0} (r : Result A E) (f : A → B) (a : A) (b : B) → IfOk r (λ x. x ≡ a) → ((x : A) → x ≡ a → f x ≡ b) →
+    IfOk r (λ x. f x ≡ b)
 if_ok_then (Ok x) f a b h then = then x h
 if_ok_then (Err e) f a b h then = tt
 
@@ -244,7 +247,8 @@ values_append (e ∷ xs) ys view =
 
 current_first : (ty : Option ScalarType) (root : ℕ) (ks : List ℕ) (now : List Value) (read : Option Value) (ts : Option (List Target)) →
     read_at root now ks ≡ read
-    → option_and_then (λ datum. option_map (λ values. plain datum ∷ values) (option_and_then (λ ts. current_of ts now) ts)) (option_map (datum_of ty) read)
+    → option_and_then (λ datum. option_map (λ values. plain datum ∷ values) (option_and_then (λ ts. current_of ts now) ts))
+    (option_map (datum_of ty) read)
     ≡ option_and_then (λ ts. current_of ts now) (option_map (λ rest. record { root = root; positions = ks } ∷ rest) ts)
 current_first ty root ks now None None is = refl
 current_first ty root ks now None (Some ts) is = sym (ap (option_and_then (λ value. option_map (λ values. value ∷ values) (current_of ts now))) is)
@@ -260,22 +264,23 @@ current_at : (ty : Option ScalarType) (root : ℕ) (now : List Value) (ks : Opti
 current_at ty root now None ts = refl
 current_at ty root now (Some ks) ts = current_first ty root ks now (read_at root now ks) ts refl
 
-current_is : (spots : List Spot) (view : View) → values_of (map reading spots) view ≡ option_and_then (λ ts. current_of ts view.now) (targets_of spots view)
+current_is : (spots : List PathMeaning) (view : View) → values_of (map reading spots) view
+    ≡ option_and_then (λ ts. current_of ts view.now) (targets_of spots view)
 current_is [] view = refl
 current_is (spot ∷ spots) view =
     ap (λ rest. option_and_then (λ datum. option_map (λ values. plain datum ∷ values) rest) (reading spot view)) (current_is spots view)
     ∙ current_at (scalar_in spot.ty) spot.root view.now (spot.positions view) (targets_of spots view)
 
-back_is : (spot : Spot) (value : Value) (view : View) (now : List Value) (ks : List ℕ) → spot.positions view ≡ Some ks
+back_is : (spot : PathMeaning) (value : Value) (view : View) (now : List Value) (ks : List ℕ) → spot.positions view ≡ Some ks
     → put_back spot value view now ≡ with_element_at spot.root ks value now
 back_is spot value view now ks is =
     ap (λ ks. unwrap_or (option_and_then (λ ks. put_at spot.root ks value now) ks) now) is ∙ put_unwrapped spot.root ks value now
 
-abbrev AllIs : List Spot → View → Type 0
+abbrev AllIs : List PathMeaning → View → Type 0
 AllIs spots view = (values : List Value) (now : List Value) (ts : List Target) → targets_of spots view ≡ Some ts
     → put_all spots values view now ≡ all_changed (puts_of ts values) now
 
-all_first : (spots : List Spot) (spot : Spot) (values : List Value) (view : View) (now : List Value) (ts : List Target)
+all_first : (spots : List PathMeaning) (spot : PathMeaning) (values : List Value) (view : View) (now : List Value) (ts : List Target)
     (ks : Option (List ℕ)) (rest : Option (List Target))
     → AllIs spots view → spot.positions view ≡ ks → targets_of spots view ≡ rest
     → option_and_then (λ ks. option_map (λ rest. record { root = spot.root; positions = ks } ∷ rest) rest) ks ≡ Some ts
@@ -291,34 +296,36 @@ all_first spots spot (value ∷ values) view now ts (Some ks) (Some rest) again 
     ∙ ap (all_changed (puts_of rest values)) (back_is spot value view now ks is_ks)
     ∙ ap (λ ts. all_changed (puts_of ts (value ∷ values)) now) same
 
-all_is : (spots : List Spot) (view : View) → AllIs spots view
+all_is : (spots : List PathMeaning) (view : View) → AllIs spots view
 all_is [] view values now ts is = let none : [] ≡ ts = cc in ap (λ ts. all_changed (puts_of ts values) now) none
 all_is (spot ∷ spots) view values now ts is =
     all_first spots spot values view now ts (spot.positions view) (targets_of spots view) (all_is spots view) refl refl is
 
 module _ (scope : Scope) (f : ℕ) (inputs : List Expr) (outputs : List Path) (view : View) where
   abbrev arguments : Option (List Value)
-  arguments = values_of (map (meaning_of scope) inputs ++ map reading (map (spot_of scope) outputs)) view
+  arguments = values_of (map (meaning_of scope) inputs ++ map reading (map (path_meaning_of scope) outputs)) view
 
   arguments_are : arguments
-      ≡ option_and_then (λ vs. option_map (λ ws. vs ++ ws) (option_and_then (λ ts. current_of ts view.now) (targets_of (map (spot_of scope) outputs) view)))
+      ≡ option_and_then (λ vs. option_map (λ ws. vs ++ ws)
+      (option_and_then (λ ts. current_of ts view.now) (targets_of (map (path_meaning_of scope) outputs) view)))
       (values_of (map (meaning_of scope) inputs) view)
   arguments_are =
-      values_append (map (meaning_of scope) inputs) (map reading (map (spot_of scope) outputs)) view
+      values_append (map (meaning_of scope) inputs) (map reading (map (path_meaning_of scope) outputs)) view
       ∙ ap (λ ws. option_and_then (λ vs. option_map (λ ws. vs ++ ws) ws) (values_of (map (meaning_of scope) inputs) view))
-      (current_is (map (spot_of scope) outputs) view)
+      (current_is (map (path_meaning_of scope) outputs) view)
 
   not_called : (callee : Option Callee) → arguments ≡ None →
-      None ≡ option_and_then (called (map (meaning_of scope) inputs) (map (spot_of scope) outputs) view) callee
+      None ≡ option_and_then (outcome_of_call (map (meaning_of scope) inputs) (map (path_meaning_of scope) outputs) view) callee
   not_called None none = refl
   not_called (Some callee) none =
-      sym (ap (option_and_then (λ values. option_map (λ left. put_all (map (spot_of scope) outputs) left.outputs view view.now) (callee values))) none)
+      sym (ap (option_and_then
+      (λ values. option_map (λ left. put_all (map (path_meaning_of scope) outputs) left.outputs view view.now) (callee values))) none)
 
   none_from : (vs : Option (List Value)) → option_and_then (λ (vs : List Value). option_map (λ (ws : List Value). vs ++ ws) None) vs ≡ None
   none_from None = refl
   none_from (Some vs) = refl
 
-  pub no_targets : targets_of (map (spot_of scope) outputs) view ≡ None → None ≡ call_of scope f inputs outputs view
+  pub no_targets : targets_of (map (path_meaning_of scope) outputs) view ≡ None → None ≡ call_of scope f inputs outputs view
   no_targets none =
       not_called (slice_get scope.callees f)
       (arguments_are
@@ -331,37 +338,39 @@ module _ (scope : Scope) (f : ℕ) (inputs : List Expr) (outputs : List Path) (v
       not_called (slice_get scope.callees f)
       (arguments_are
       ∙ ap (option_and_then (λ vs. option_map (λ ws. vs ++ ws)
-      (option_and_then (λ ts. current_of ts view.now) (targets_of (map (spot_of scope) outputs) view)))) none)
+      (option_and_then (λ ts. current_of ts view.now) (targets_of (map (path_meaning_of scope) outputs) view)))) none)
 
   arguments_with : (vs : List Value) (ts : List Target) → values_of (map (meaning_of scope) inputs) view ≡ Some vs →
-      targets_of (map (spot_of scope) outputs) view ≡ Some ts
+      targets_of (map (path_meaning_of scope) outputs) view ≡ Some ts
       → arguments ≡ option_map (λ ws. vs ++ ws) (current_of ts view.now)
   arguments_with vs ts is_vs is_ts =
       arguments_are
       ∙ ap (option_and_then (λ vs. option_map (λ ws. vs ++ ws)
-      (option_and_then (λ ts. current_of ts view.now) (targets_of (map (spot_of scope) outputs) view)))) is_vs
+      (option_and_then (λ ts. current_of ts view.now) (targets_of (map (path_meaning_of scope) outputs) view)))) is_vs
       ∙ ap (λ ts. option_map (λ ws. vs ++ ws) (option_and_then (λ ts. current_of ts view.now) ts)) is_ts
 
   pub no_current : (vs : List Value) (ts : List Target) → values_of (map (meaning_of scope) inputs) view ≡ Some vs →
-      targets_of (map (spot_of scope) outputs) view ≡ Some ts
+      targets_of (map (path_meaning_of scope) outputs) view ≡ Some ts
       → option_map (λ ws. vs ++ ws) (current_of ts view.now) ≡ None → None ≡ call_of scope f inputs outputs view
   no_current vs ts is_vs is_ts none = not_called (slice_get scope.callees f) (arguments_with vs ts is_vs is_ts ∙ none)
 
-  calls : (callee : Option Callee) (given : List Value) (ts : List Target) → arguments ≡ Some given → targets_of (map (spot_of scope) outputs) view ≡ Some ts
+  calls : (callee : Option Callee) (given : List Value) (ts : List Target) → arguments ≡ Some given
+      → targets_of (map (path_meaning_of scope) outputs) view ≡ Some ts
       → option_map (λ puts. all_changed puts view.now) (option_map (λ left. puts_of ts left.outputs) (option_and_then (λ callee. callee given) callee))
-      ≡ option_and_then (called (map (meaning_of scope) inputs) (map (spot_of scope) outputs) view) callee
+      ≡ option_and_then (outcome_of_call (map (meaning_of scope) inputs) (map (path_meaning_of scope) outputs) view) callee
   calls None given ts is is_ts = refl
   calls (Some callee) given ts is is_ts =
       leaves (callee given)
-      ∙ sym (ap (option_and_then (λ values. option_map (λ left. put_all (map (spot_of scope) outputs) left.outputs view view.now) (callee values))) is)
+      ∙ sym (ap (option_and_then
+      (λ values. option_map (λ left. put_all (map (path_meaning_of scope) outputs) left.outputs view view.now) (callee values))) is)
     where
       leaves : (left : Option Left) → option_map (λ puts. all_changed puts view.now) (option_map (λ left. puts_of ts left.outputs) left)
-          ≡ option_map (λ left. put_all (map (spot_of scope) outputs) left.outputs view view.now) left
+          ≡ option_map (λ left. put_all (map (path_meaning_of scope) outputs) left.outputs view view.now) left
       leaves None = refl
-      leaves (Some left) = ap Some (sym (all_is (map (spot_of scope) outputs) view left.outputs view.now ts is_ts))
+      leaves (Some left) = ap Some (sym (all_is (map (path_meaning_of scope) outputs) view left.outputs view.now ts is_ts))
 
   pub is_called : (vs : List Value) (ts : List Target) (given : List Value) (left : Option Left) (changes : Option (List Put))
-      → values_of (map (meaning_of scope) inputs) view ≡ Some vs → targets_of (map (spot_of scope) outputs) view ≡ Some ts
+      → values_of (map (meaning_of scope) inputs) view ≡ Some vs → targets_of (map (path_meaning_of scope) outputs) view ≡ Some ts
       → option_map (λ ws. vs ++ ws) (current_of ts view.now) ≡ Some given
       → left ≡ option_and_then (λ callee. callee given) (slice_get scope.callees f)
       → changes ≡ option_map (λ left. puts_of ts left.outputs) left

@@ -72,7 +72,8 @@ scalar_alone s = rw out-roll-Ty refl
 abbrev pub OperandFits : ScalarType → Operand → Type 0
 OperandFits s a = (a.ty ≡ s) × (in_range s a.n ≡ true)
 
-pub operand_fits : (structs : List StructDef) (ty : Ty) (s : ScalarType) (datum : Option Datum) → scalar_in ty ≡ Some s → IfSome datum (DatumFits structs ty)
+pub operand_fits : (structs : List StructDef) (ty : Ty) (s : ScalarType) (datum : Option Datum) → scalar_in ty ≡ Some s
+    → IfSome datum (DatumFits structs ty)
     → IfSome (option_and_then operand_in datum) (OperandFits s)
 operand_fits structs ty s None is fit = tt
 operand_fits structs ty s (Some (OfScalar t n)) is fit =

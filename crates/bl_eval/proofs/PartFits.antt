@@ -1,6 +1,29 @@
 -- Parts of the values of a type: what lies at the positions that a path leads to is of the path's type, and any value of
 -- that type may be put there.
-use Rattle.std.proofs.Common.{◌≡◌, ℕ, ◌<◌, Bool, true, false, List, [], ◌∷◌, length, map, take, arith, Option, Some, None, refl, sym, ap, ◌∙◌, subst, IfSome}
+use Rattle.std.proofs.Common.{
+  ◌≡◌,
+  ℕ,
+  ◌<◌,
+  Bool,
+  true,
+  false,
+  List,
+  [],
+  ◌∷◌,
+  length,
+  map,
+  take,
+  arith,
+  Option,
+  Some,
+  None,
+  refl,
+  sym,
+  ap,
+  ◌∙◌,
+  subst,
+  IfSome,
+}
 use Rattle.std.proofs.lemmas.List.{length-set}
 use Rattle.std.proofs.lemmas.Option.{same_Some, slice_get_within, IfSome_then}
 use Rattle.std.specs.Prelude.{nat_eq, option_and_then, option_map, slice_get, slice_set, if◌then◌else◌}
@@ -51,7 +74,8 @@ if_some P (Some x) h = h x refl
 pub some_if : {A : Type 0} (P : A → Type 0) (o : Option A) (x : A) → o ≡ Some x → P x → IfSome o P
 some_if P o x is h = subst (λ o. IfSome o P) (sym is) h
 
-pub if_map : {A B : Type 0} (P : A → Type 0) (Q : B → Type 0) (f : A → B) (o : Option A) → IfSome o P → ((x : A) → P x → Q (f x)) → IfSome (option_map f o) Q
+pub if_map : {A B : Type 0} (P : A → Type 0) (Q : B → Type 0) (f : A → B) (o : Option A) → IfSome o P → ((x : A) → P x → Q (f x)) →
+    IfSome (option_map f o) Q
 if_map P Q f None h next = tt
 if_map P Q f (Some x) h next = next x h
 
@@ -131,13 +155,15 @@ module _ (structs : List StructDef) (stand : structs_stand_from 0 structs ≡ tr
       (elements_part n (value_fits structs c) k (out-Value v) (sym (level v) ∙ fit))
 
   module _ (a c : Ty) (k : ℕ) where
-    by_field : (s : ℕ) (def : StructDef) (found : Option Field) → out-Ty a ≡ Ty-F.Struct s → slice_get structs s ≡ Some def → slice_get def.fields k ≡ found
+    by_field : (s : ℕ) (def : StructDef) (found : Option Field) → out-Ty a ≡ Ty-F.Struct s → slice_get structs s ≡ Some def
+        → slice_get def.fields k ≡ found
         → option_map (λ (field : Field). field.ty) found ≡ Some c → OnePart structs a k c
     by_field s def None is there has typed = absurd (cc)
     by_field s def (Some field) is there has typed = subst (OnePart structs a k) (same_Some field.ty c typed) (struct_part a s def k field is there has)
 
     by_def : (s : ℕ) (found : Option StructDef) → out-Ty a ≡ Ty-F.Struct s → slice_get structs s ≡ found
-        → option_and_then (λ (def : StructDef). option_map (λ (field : Field). field.ty) (slice_get def.fields k)) found ≡ Some c → OnePart structs a k c
+        → option_and_then (λ (def : StructDef). option_map (λ (field : Field). field.ty) (slice_get def.fields k)) found ≡ Some c
+        → OnePart structs a k c
     by_def s None is there typed = absurd (cc)
     by_def s (Some def) is there typed = by_field s def (slice_get def.fields k) is there refl typed
 

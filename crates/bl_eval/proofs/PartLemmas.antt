@@ -68,7 +68,8 @@ replaced_at : (all : List Value) (k : ℕ) (rest : List ℕ) (new : Value) (foun
 replaced_at all k rest new None is = refl
 replaced_at all k rest new (Some old) is = replaced_in all k old (with_value_at rest new old) is
 
-pub replaced_parts : (k : ℕ) (rest : List ℕ) (new : Value) (all : List Value) → replaced (k ∷ rest) new (Parts all) ≡ Parts (with_element_at k rest new all)
+pub replaced_parts : (k : ℕ) (rest : List ℕ) (new : Value) (all : List Value) →
+    replaced (k ∷ rest) new (Parts all) ≡ Parts (with_element_at k rest new all)
 replaced_parts k rest new all = rw (outs-Parts all) (replaced_at all k rest new (slice_get all k) refl)
 
 pub replaced_number : (k : ℕ) (rest : List ℕ) (new : Value) (n : _) → replaced (k ∷ rest) new (Number n) ≡ Number n

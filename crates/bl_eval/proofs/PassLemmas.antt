@@ -121,7 +121,8 @@ module _ {X : Type 0} (test : X → Value → Bool) where
       (pass_append xs ys values others (and_right (test x v) (pass (map test xs) values) one) other)
 
   -- what is made of each of them passes where it does one by one
-  pub pass_each : (make : X → Value) (good : X → Bool) → ((x : X) → good x ≡ true → test x (make x) ≡ true) → (xs : List X) → list_all good xs ≡ true
+  pub pass_each : (make : X → Value) (good : X → Bool) → ((x : X) → good x ≡ true → test x (make x) ≡ true) → (xs : List X)
+      → list_all good xs ≡ true
       → pass (map test xs) (map make xs) ≡ true
   pass_each make good one [] all = refl
   pass_each make good one (x ∷ xs) all =

@@ -38,8 +38,8 @@ use Rattle.bl_eval.specs.declared.datum.Target.{Target}
 use Rattle.bl_eval.specs.declared.evaluation.Flow.{Flow as Ended}
 use Rattle.bl_eval.specs.declared.evaluation.Flow.TheVariants as Ending
 use Rattle.bl_eval.specs.Changes.{ended, targets_of}
-use Rattle.bl_eval.specs.Functions.{Choice, Does, Flow, after, chosen, in_order, looped, most_turns}
-use Rattle.bl_eval.specs.Meaning.{Meaning, Position, Spot, View, plain, positions_of, values_of}
+use Rattle.bl_eval.specs.Functions.{Choice, Does, Flow, first_true_choice, flow_then, in_order, looped, most_turns}
+use Rattle.bl_eval.specs.Meaning.{Meaning, PathMeaning, Position, View, plain, positions_of, values_of}
 
 put_behind : {A : Type 0} (made : List A) (x : A) (rest : Option (List A))
     → option_map (λ xs. (made ++ x ∷ []) ++ xs) rest ≡ option_map (λ xs. made ++ xs) (option_map (λ xs. x ∷ xs) rest)
@@ -53,7 +53,8 @@ module _ {E : Type 0} (means : E → Meaning) (view : View) where
       → values_of (map means (e ∷ rest)) view ≡ option_map (λ values. plain datum ∷ values) (values_of (map means rest) view)
   values_first e rest datum is = rw is
 
-  pub values_step : (es : List E) (i : ℕ) (e : E) (datum : Datum) (made before : List Value) → i < length es → e ≡ get_or es i e → Some datum ≡ means e view
+  pub values_step : (es : List E) (i : ℕ) (e : E) (datum : Datum) (made before : List Value) → i < length es → e ≡ get_or es i e
+      → Some datum ≡ means e view
       → made ≡ before ++ plain datum ∷ []
       → option_map (λ values. made ++ values) (values_of (map means (drop (i + 1) es)) view)
       ≡ option_map (λ values. before ++ values) (values_of (map means (drop i es)) view)
@@ -94,9 +95,10 @@ module _ {P : Type 0} (means : P → Position) (view : View) where
 
 -- ---- targets of paths
 
-module _ {P : Type 0} (leads : P → Spot) (view : View) where
+module _ {P : Type 0} (leads : P → PathMeaning) (view : View) where
   targets_first : (p : P) (rest : List P) (ks : List ℕ) → (leads p).positions view ≡ Some ks
-      → targets_of (map leads (p ∷ rest)) view ≡ option_map (λ rest. record { root = (leads p).root; positions = ks } ∷ rest) (targets_of (map leads rest) view)
+      → targets_of (map leads (p ∷ rest)) view
+      ≡ option_map (λ rest. record { root = (leads p).root; positions = ks } ∷ rest) (targets_of (map leads rest) view)
   targets_first p rest ks is = rw is
 
   targets_none : (p : P) (rest : List P) → (leads p).positions view ≡ None → targets_of (map leads (p ∷ rest)) view ≡ None
@@ -127,18 +129,19 @@ module _ {P : Type 0} (leads : P → Spot) (view : View) where
 
 module _ {S : Type 0} (runs : S → Does) where
   pub order_step : (body : List S) (i : ℕ) (s : S) (now : List Value) → i < length body → s ≡ get_or body i s
-      → in_order (map runs (drop i body)) now ≡ after (runs s now) (in_order (map runs (drop (i + 1) body)))
+      → in_order (map runs (drop i body)) now ≡ flow_then (runs s now) (in_order (map runs (drop (i + 1) body)))
   order_step body i s now within is =
       let here : drop i body ≡ s ∷ drop (i + 1) body = rw (add-one) (drop-cons body i s within ∙ ap (λ x. x ∷ drop (suc i) body) (sym is)) in
       ap (λ body. in_order (map runs body) now) here
 
 module _ {S : Type 0} (offers : S → Choice) (other : Does) where
   pub choice_step : (arms : List S) (i : ℕ) (arm : S) (now : List Value) → i < length arms → arm ≡ get_or arms i arm
-      → chosen (map offers (drop i arms)) other now
-      ≡ option_and_then (λ holds. if holds then (offers arm).body now else chosen (map offers (drop (i + 1) arms)) other now) ((offers arm).test now)
+      → first_true_choice (map offers (drop i arms)) other now
+      ≡ option_and_then (λ holds. if holds then (offers arm).body now else first_true_choice (map offers (drop (i + 1) arms)) other now)
+      ((offers arm).test now)
   choice_step arms i arm now within is =
       let here : drop i arms ≡ arm ∷ drop (i + 1) arms = rw (add-one) (drop-cons arms i arm within ∙ ap (λ x. x ∷ drop (suc i) arms) (sym is)) in
-      ap (λ arms. chosen (map offers arms) other now) here
+      ap (λ arms. first_true_choice (map offers arms) other now) here
 
 -- ---- turns of a loop
 
@@ -146,7 +149,7 @@ module _ (goes : List Value → Option Bool) (body : Does) (ends : List Value �
   abbrev turn : Does → Does
   turn again now =
       option_and_then (λ more.
-      if more then after (body now) (λ new. option_and_then (λ is_over. if is_over then Some (Flow.On new) else again new) (ends new)) else
+      if more then flow_then (body now) (λ new. option_and_then (λ is_over. if is_over then Some (Flow.On new) else again new) (ends new)) else
       Some (Flow.On now)) (goes now)
 
   turn_at : (n m : ℕ) (now : List Value) → n ≡ suc m → looped goes body ends n now ≡ turn (looped goes body ends m) now
@@ -171,21 +174,21 @@ module _ (goes : List Value → Option Bool) (body : Does) (ends : List Value �
   -- how a turn goes, by its condition, its body and its end
   turn_over : (again : Does) (now : List Value) → goes now ≡ None → turn again now ≡ None
   turn_over again now none = ap (option_and_then (λ more.
-      if more then after (body now) (λ new. option_and_then (λ is_over. if is_over then Some (Flow.On new) else again new) (ends new)) else
+      if more then flow_then (body now) (λ new. option_and_then (λ is_over. if is_over then Some (Flow.On new) else again new) (ends new)) else
       Some (Flow.On now))) none
 
   turn_gone : (again : Does) (now : List Value) → goes now ≡ Some false → turn again now ≡ Some (Flow.On now)
   turn_gone again now ended_now = ap (option_and_then (λ more.
-      if more then after (body now) (λ new. option_and_then (λ is_over. if is_over then Some (Flow.On new) else again new) (ends new)) else
+      if more then flow_then (body now) (λ new. option_and_then (λ is_over. if is_over then Some (Flow.On new) else again new) (ends new)) else
       Some (Flow.On now))) ended_now
 
   turn_begun : (again : Does) (now : List Value) (r : Option Flow) → goes now ≡ Some true → r ≡ body now
-      → turn again now ≡ after r (λ new. option_and_then (λ is_over. if is_over then Some (Flow.On new) else again new) (ends new))
+      → turn again now ≡ flow_then r (λ new. option_and_then (λ is_over. if is_over then Some (Flow.On new) else again new) (ends new))
   turn_begun again now r begun is =
       ap (option_and_then (λ more.
-      if more then after (body now) (λ new. option_and_then (λ is_over. if is_over then Some (Flow.On new) else again new) (ends new)) else
+      if more then flow_then (body now) (λ new. option_and_then (λ is_over. if is_over then Some (Flow.On new) else again new) (ends new)) else
       Some (Flow.On now))) begun
-      ∙ ap (λ r. after r (λ new. option_and_then (λ is_over. if is_over then Some (Flow.On new) else again new) (ends new))) (sym is)
+      ∙ ap (λ r. flow_then r (λ new. option_and_then (λ is_over. if is_over then Some (Flow.On new) else again new) (ends new))) (sym is)
 
   module _ (counter : ℕ) (now : List Value) (target : Option Flow) (within : counter < 65536)
       (inv : looped goes body ends (most_turns - counter) now ≡ target) where
@@ -201,7 +204,8 @@ module _ (goes : List Value → Option Bool) (body : Does) (ends : List Value �
     pub turns_stop : goes now ≡ Some false → Some (Flow.On now) ≡ target
     turns_stop ended_now = sym (turn_gone next now ended_now) ∙ start
 
-    pub turns_left : (flow : Ended) (new : List Value) → goes now ≡ Some true → ended flow new ≡ body now → (flow ≡ Ending.On → ⊥) → ended flow new ≡ target
+    pub turns_left : (flow : Ended) (new : List Value) → goes now ≡ Some true → ended flow new ≡ body now → (flow ≡ Ending.On → ⊥) →
+        ended flow new ≡ target
     turns_left Ending.On new begun is not_on = absurd (not_on refl)
     turns_left (Ending.Back datum) new begun is not_on = sym (turn_begun next now (Some (Flow.Back new datum)) begun is) ∙ start
     turns_left Ending.Trap new begun is not_on = sym (turn_begun next now None begun is) ∙ start
@@ -230,18 +234,20 @@ module _ {S : Type 0} (runs : S → Does) where
       flow ≡ Ending.On → ended flow new ≡ runs s now
       → in_order (map runs (drop (i + 1) body)) new ≡ in_order (map runs (drop i body)) now
   order_on body i s now new flow within is on gives =
-      sym (order_step runs body i s now within is ∙ ap (λ r. after r (in_order (map runs (drop (i + 1) body)))) (sym gives ∙ ap (λ flow. ended flow new) on))
+      sym (order_step runs body i s now within is ∙ ap (λ r. flow_then r (in_order (map runs (drop (i + 1) body))))
+      (sym gives ∙ ap (λ flow. ended flow new) on))
 
 module _ {S : Type 0} (offers : S → Choice) (other : Does) (arms : List S) (i : ℕ) (arm : S) (now : List Value) (within : i < length arms)
     (is : arm ≡ get_or arms i arm) where
   abbrev picked : Option Bool → Option Flow
-  picked test = option_and_then (λ holds. if holds then (offers arm).body now else chosen (map offers (drop (i + 1) arms)) other now) test
+  picked test = option_and_then (λ holds. if holds then (offers arm).body now else first_true_choice (map offers (drop (i + 1) arms)) other now) test
 
-  pub choice_trap : (offers arm).test now ≡ None → None ≡ chosen (map offers (drop i arms)) other now
+  pub choice_trap : (offers arm).test now ≡ None → None ≡ first_true_choice (map offers (drop i arms)) other now
   choice_trap none = sym (choice_step offers other arms i arm now within is ∙ ap picked none)
 
-  pub choice_true : (offers arm).test now ≡ Some true → (offers arm).body now ≡ chosen (map offers (drop i arms)) other now
+  pub choice_true : (offers arm).test now ≡ Some true → (offers arm).body now ≡ first_true_choice (map offers (drop i arms)) other now
   choice_true begun = sym (choice_step offers other arms i arm now within is ∙ ap picked begun)
 
-  pub choice_false : (offers arm).test now ≡ Some false → chosen (map offers (drop (i + 1) arms)) other now ≡ chosen (map offers (drop i arms)) other now
+  pub choice_false : (offers arm).test now ≡ Some false → first_true_choice (map offers (drop (i + 1) arms)) other now
+      ≡ first_true_choice (map offers (drop i arms)) other now
   choice_false ended_now = sym (choice_step offers other arms i arm now within is ∙ ap picked ended_now)

@@ -1,5 +1,26 @@
 -- A statement of a unit leaves its variables with values of their types, and returns what is of its result's type.
-use Rattle.std.proofs.Common.{◌≡◌, ℕ, suc, zero, Bool, true, false, ◌&&◌, List, [], ◌∷◌, map, Option, Some, None, refl, sym, ◌∙◌, subst, IfSome}
+use Rattle.std.proofs.Common.{
+  ◌≡◌,
+  ℕ,
+  suc,
+  zero,
+  Bool,
+  true,
+  false,
+  ◌&&◌,
+  List,
+  [],
+  ◌∷◌,
+  map,
+  Option,
+  Some,
+  None,
+  refl,
+  sym,
+  ◌∙◌,
+  subst,
+  IfSome,
+}
 use Rattle.std.proofs.lemmas.List.Elements.{All-head, All-tail}
 use Rattle.std.specs.Prelude.{option_and_then, option_map, if◌then◌else◌}
 use Rattle.bl_tree.specs.declared.scalar.Scalar.{Scalar as ScalarType}
@@ -30,7 +51,22 @@ use Rattle.bl_tree.specs.Typing.{
 }
 use Rattle.bl_tree.proofs.StmtInduction.{Cases, Each, EachArm, induct}
 use Rattle.bl_eval.specs.Changes.{choice_of}
-use Rattle.bl_eval.specs.Functions.{Choice, Does, Flow, after, chosen, condition, declared, does, in_order, looped, most_turns, own, returned, scope_among}
+use Rattle.bl_eval.specs.Functions.{
+  Choice,
+  Does,
+  Flow,
+  condition,
+  declared,
+  does,
+  first_true_choice,
+  flow_then,
+  in_order,
+  looped,
+  most_turns,
+  own,
+  returned,
+  scope_among,
+}
 use Rattle.bl_eval.specs.Meaning.{Callee, Scope, meaning_of}
 use Rattle.bl_eval.proofs.ActFits.{AllFit, assigned_fits, called_fits, declared_fits, same_found}
 use Rattle.bl_eval.proofs.ExprFits.{ResultFits, Sound, expr_fits}
@@ -52,7 +88,7 @@ module _ (structs : List StructDef) (vars : List Var) (result : Option ScalarTyp
   EndsFit ends = (now : List Value) → AllFit structs vars now → IfSome (ends now) (FlowFits structs vars result)
 
   pub after_fits : (first : Option Flow) (next : Does) → IfSome first (FlowFits structs vars result) → EndsFit next →
-      IfSome (after first next) (FlowFits structs vars result)
+      IfSome (flow_then first next) (FlowFits structs vars result)
   after_fits None next one more = tt
   after_fits (Some (Flow.On now)) next one more = more now one
   after_fits (Some (Flow.Back now given)) next one more = one
@@ -63,9 +99,9 @@ module _ (structs : List StructDef) (vars : List Var) (result : Option ScalarTyp
   chosen_by (Some true) body rest now all one more = one now all
   chosen_by (Some false) body rest now all one more = more now all
 
-  pub choice_fits : (choice : Choice) (choices : List Choice) (other : Does) → EndsFit choice.body → EndsFit (chosen choices other) →
-      EndsFit (chosen (choice ∷ choices) other)
-  choice_fits choice choices other one more now all = chosen_by (choice.test now) choice.body (chosen choices other) now all one more
+  pub choice_fits : (choice : Choice) (choices : List Choice) (other : Does) → EndsFit choice.body → EndsFit (first_true_choice choices other) →
+      EndsFit (first_true_choice (choice ∷ choices) other)
+  choice_fits choice choices other one more now all = chosen_by (choice.test now) choice.body (first_true_choice choices other) now all one more
 
   last_fits : (more : Option Bool) (now : List Value) → AllFit structs vars now →
       IfSome (option_and_then (λ more. if more then None else Some (Flow.On now)) more) (FlowFits structs vars result)
@@ -81,7 +117,7 @@ module _ (structs : List StructDef) (vars : List Var) (result : Option ScalarTyp
     ended_by (Some false) again new all more = more new all
 
     turn_by : (more : Option Bool) (again : Does) (now : List Value) → AllFit structs vars now → EndsFit again
-        → IfSome (option_and_then (λ more. if more then after (body now)
+        → IfSome (option_and_then (λ more. if more then flow_then (body now)
         (λ new. option_and_then (λ is_over. if is_over then Some (Flow.On new) else again new) (ends new)) else Some (Flow.On now))
         more) (FlowFits structs vars result)
     turn_by None again now all next = tt
@@ -128,7 +164,7 @@ module _ (structs : List StructDef) (earlier : List UnitDef) (unit : UnitDef) (c
   OfArm arm = Each S (out-Arm arm).body
 
   arms_fit : (arms : List Arm) (other : Does) → EachArm S arms → all_of (map arm_fitted arms) ≡ true → Ends other →
-      Ends (chosen (map (choice_of scope) arms) other)
+      Ends (first_true_choice (map (choice_of scope) arms) other)
   arms_fit [] other each fitted last = last
   arms_fit (arm ∷ arms) other each fitted last =
       choice_fits structs unit.vars unit.result (choice_of scope arm) (map (choice_of scope) arms) other
@@ -136,7 +172,8 @@ module _ (structs : List StructDef) (earlier : List UnitDef) (unit : UnitDef) (c
       (block_fits (out-Arm arm).body (All-head OfArm arm arms each) (arm_block arm (and_left (arm_fitted arm) (all_of (map arm_fitted arms)) fitted))))
       (arms_fit arms other (All-tail OfArm arm arms each) (and_right (arm_fitted arm) (all_of (map arm_fitted arms)) fitted) last)
 
-  on_fits : (made : Option (List Value)) → IfSome made (AllFit structs unit.vars) → IfSome (option_map Flow.On made) (FlowFits structs unit.vars unit.result)
+  on_fits : (made : Option (List Value)) → IfSome made (AllFit structs unit.vars) →
+      IfSome (option_map Flow.On made) (FlowFits structs unit.vars unit.result)
   on_fits made fit = if_map (AllFit structs unit.vars) (FlowFits structs unit.vars unit.result) Flow.On made fit (λ now all. all)
 
   return_by : (e : Option Expr) (result : Option ScalarType) (now : List Value) → return_fits site e result ≡ true → AllFit structs unit.vars now

@@ -77,7 +77,8 @@ frame_fits structs unit arguments structs_stand vars_stand given =
     subst (λ vars. AllFit structs vars (frame_of structs unit arguments)) (take-append-drop (unit.inputs + unit.outputs) unit.vars)
     (pass_append test (parameters_of unit) (locals_of unit) arguments (map (λ (var : Var). zero_of structs var.ty) (locals_of unit)) given zeros)
 
-left_fits : (structs : List StructDef) (unit : UnitDef) (flow : Flow) → FlowFits structs unit.vars unit.result flow → LeftFits structs unit (left_by unit flow)
+left_fits : (structs : List StructDef) (unit : UnitDef) (flow : Flow) → FlowFits structs unit.vars unit.result flow →
+    LeftFits structs unit (left_by unit flow)
 left_fits structs unit (Flow.On now) fit =
     let test : Var → Value → Bool = λ var. value_fits structs var.ty in
     (pass_take test unit.outputs (drop unit.inputs unit.vars) (drop unit.inputs now) (pass_drop test unit.inputs unit.vars now fit), tt)
@@ -109,7 +110,8 @@ zip_push structs (first ∷ units) (other ∷ callees) unit callee all one = (al
 callees_fit_after : (structs : List StructDef) (earlier : List UnitDef) (callees : List Callee) (rest : List UnitDef) → structs_stand_from 0 structs ≡ true
     → AllZip (CalleeFits structs) earlier callees → units_stand_after structs earlier rest ≡ true →
     AllZip (CalleeFits structs) (earlier ++ rest) (callees_after structs callees rest)
-callees_fit_after structs earlier callees [] structs_stand all stand = subst (λ units. AllZip (CalleeFits structs) units callees) (sym (append-nil earlier)) all
+callees_fit_after structs earlier callees [] structs_stand all stand =
+    subst (λ units. AllZip (CalleeFits structs) units callees) (sym (append-nil earlier)) all
 callees_fit_after structs earlier callees (unit ∷ rest) structs_stand all stand =
     let here : unit_stands structs earlier unit ≡ true =
     and_left (unit_stands structs earlier unit) (units_stand_after structs (earlier ++ unit ∷ []) rest) stand in
@@ -150,7 +152,8 @@ unit_at structs earlier (first ∷ units) (suc k) unit stand there =
     (and_right (unit_stands structs earlier first) (units_stand_after structs (earlier ++ first ∷ []) units) stand) there)
 
 -- what the statements of a unit of a typed program stand on
-pub sound_at : (structs : List StructDef) (units : List UnitDef) (entry k : ℕ) (unit : UnitDef) → Keeps structs units entry → slice_get units k ≡ Some unit
+pub sound_at : (structs : List StructDef) (units : List UnitDef) (entry k : ℕ) (unit : UnitDef) → Keeps structs units entry
+    → slice_get units k ≡ Some unit
     → Sound structs (take k units) unit (callees_of structs (take k units))
 sound_at structs units entry k unit keeps there = record {
   structs_stand = keeps.structs_stand;

@@ -1,5 +1,27 @@
 -- Measures for what goes down from a struct or a unit to those before it, and from a statement to what stands in it.
-use Rattle.std.proofs.Common.{◌≡◌, ℕ, suc, zero, ◌+◌, ◌<◌, ◌≤◌, max, List, [], ◌∷◌, length, get_or, map, take, arith, Option, Some, None, ap, ◌∙◌}
+use Rattle.std.proofs.Common.{
+  ◌≡◌,
+  ℕ,
+  suc,
+  zero,
+  ◌+◌,
+  ◌<◌,
+  ◌≤◌,
+  max,
+  List,
+  [],
+  ◌∷◌,
+  length,
+  get_or,
+  map,
+  take,
+  arith,
+  Option,
+  Some,
+  None,
+  ap,
+  ◌∙◌,
+}
 use Rattle.std.specs.Prelude.{slice_get}
 use Rattle.bl_tree.specs.declared.tree.Arm.{Arm, fold-Arm, fold_out-Arm, out-Arm}
 use Rattle.bl_tree.specs.declared.tree.Branch.{Branch, fold-Branch}
@@ -132,7 +154,8 @@ pub weight_call : (k : StmtKind) (f : ℕ) (inputs : List Expr) (outputs : List 
     what_weight k ≡ 1 + max (exprs_depth inputs) (paths_depth outputs)
 weight_call k f inputs outputs is = what_at k (StmtKind-F.Call f inputs outputs) (ap out-StmtKind is ∙ outs-Call f inputs outputs)
 
-pub weight_if : (k : StmtKind) (arms : List Arm) (other : List Stmt) → k ≡ If arms other → what_weight k ≡ 1 + max (arms_weight arms) (block_weight other)
+pub weight_if : (k : StmtKind) (arms : List Arm) (other : List Stmt) → k ≡ If arms other →
+    what_weight k ≡ 1 + max (arms_weight arms) (block_weight other)
 weight_if k arms other is = what_at k (StmtKind-F.If arms other) (ap out-StmtKind is ∙ outs-If arms other)
 
 pub weight_repeat : (k : StmtKind) (body : List Stmt) → k ≡ Repeat body → what_weight k ≡ 1 + block_weight body

@@ -46,7 +46,8 @@ zeros_length [] zeros = omega arith
 zeros_length (def ∷ rest) zeros =
     omega (arith, zeros_length rest (zeros ++ struct_zero zeros def ∷ []), length-append zeros (struct_zero zeros def ∷ []))
 
-zeros_at : (structs : List StructDef) (zeros : List Value) (j k : ℕ) (d : Value) (def : StructDef) → slice_get structs k ≡ Some def → j ≡ length zeros + k
+zeros_at : (structs : List StructDef) (zeros : List Value) (j k : ℕ) (d : Value) (def : StructDef) → slice_get structs k ≡ Some def
+    → j ≡ length zeros + k
     → get_or (zeros_after zeros structs) j d ≡ struct_zero (zeros_after zeros (take k structs)) def
 zeros_at [] zeros j k d def there is = cc
 zeros_at (first ∷ rest) zeros j zero d def there is =

@@ -11,18 +11,20 @@ use Rattle.bl_eval.specs.declared.evaluation.Flow.TheVariants.{On, Back, Trap}
 use Rattle.bl_eval.specs.declared.evaluation.Site.{Site}
 use Rattle.bl_eval.specs.declared.evaluation.View.{View as Seen}
 use Rattle.bl_eval.specs.Functions.{Choice, Does, Flow, arm_does, branch_does, callees_of, kind_does, stmt_does}
-use Rattle.bl_eval.specs.Meaning.{View, Scope, Meaning, Position, Spot, kind_means, part_means, expr_means, path_means, read_at}
+use Rattle.bl_eval.specs.Meaning.{View, Scope, Meaning, Position, PathMeaning, kind_means, part_means, expr_means, path_means, read_at}
 use Rattle.bl_eval.specs.Values.{with_value_at}
 
+-- the scope of a site that the code has: its unit's variables, and the functions before its unit
 abbrev pub scope_in : Site → Scope
 scope_in site = record { structs = site.structs.now; vars = site.vars.now; callees = callees_of site.structs.now site.earlier.now }
 
+-- the values that the code has, as lists
 abbrev pub view_in : Seen → View
 view_in view = record { now = view.now.now; before = view.before.now }
 
 -- what a part of a path means
 abbrev pub part_of_path : Scope → Part → Position
-part_of_path scope = fold-Part Meaning Position Meaning Spot (kind_means scope) part_means expr_means path_means
+part_of_path scope = fold-Part Meaning Position Meaning PathMeaning (kind_means scope) part_means expr_means path_means
 
 -- a statement's end, with the variables that it left
 abbrev pub ended : Ended → List Value → Option Flow
@@ -42,15 +44,17 @@ with_element_at k rest new all = unwrap_or (option_map (λ old. slice_set all k 
 abbrev pub changed : List Value → Put → List Value
 changed now put = with_element_at put.root put.positions put.value now
 
+-- the variables after several changes, in order
 abbrev pub all_changed : List Put → List Value → List Value
 all_changed [] now = now
 all_changed (put ∷ puts) now = all_changed puts (changed now put)
 
 -- where the paths lead
-abbrev pub targets_of : List Spot → View → Option (List Target)
+abbrev pub targets_of : List PathMeaning → View → Option (List Target)
 targets_of [] view = Some []
 targets_of (path ∷ paths) view =
-    option_and_then (λ positions. option_map (λ rest. record { root = path.root; positions = positions } ∷ rest) (targets_of paths view)) (path.positions view)
+    option_and_then (λ positions. option_map (λ rest. record { root = path.root; positions = positions } ∷ rest) (targets_of paths view))
+    (path.positions view)
 
 -- what stands there
 abbrev pub current_of : List Target → List Value → Option (List Value)
@@ -62,6 +66,7 @@ current_of (target ∷ rest) now =
 abbrev pub put_of : Target × Value → Put
 put_of pair = record { root = pair.0.root; positions = pair.0.positions; value = pair.1 }
 
+-- the targets with their values, one for one
 abbrev pub puts_of : List Target → List Value → List Put
 puts_of targets values = map put_of (zip targets values)
 

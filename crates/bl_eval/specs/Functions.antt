@@ -33,12 +33,13 @@ use Rattle.bl_tree.specs.Numbers.{is_one}
 use Rattle.bl_tree.specs.Program.{locals_of}
 use Rattle.bl_eval.specs.declared.datum.Datum.{Datum}
 use Rattle.bl_eval.specs.declared.datum.Left.{Left}
-use Rattle.bl_eval.specs.Meaning.{View, Callee, Scope, Meaning, Spot, meaning_of, operand, reading, spot_of, value_in, values_of}
+use Rattle.bl_eval.specs.Meaning.{View, Callee, Scope, Meaning, PathMeaning, meaning_of, operand, reading, path_meaning_of, value_in, values_of}
 use Rattle.bl_eval.specs.Values.{put_at, zero_of}
 
 -- ---- acts: what they make of the values of their unit's variables; none where they trap
 
-abbrev pub assigned : Spot → Option Value → View → Option (List Value)
+-- an assignment puts the value where the path leads; none where the value or the path traps
+abbrev pub assigned : PathMeaning → Option Value → View → Option (List Value)
 assigned path value view =
     option_and_then (λ value. option_and_then (λ positions. put_at path.root positions value view.now) (path.positions view)) value
 
@@ -47,14 +48,16 @@ abbrev pub initial_value : Scope → ℕ → Option Expr → View → Option Val
 initial_value scope k (Some e) view = value_in scope e view
 initial_value scope k None view = option_map (λ var. zero_of scope.structs var.ty) (slice_get scope.vars k)
 
+-- a declaration puts the initial value into the variable with number k
 abbrev pub declared : Scope → ℕ → Option Expr → View → Option (List Value)
 declared scope k initial view = option_and_then (λ value. put_at k [] value view.now) (initial_value scope k initial view)
 
 -- the variables once what the path names has the value. It was read at the call, so the path leads to a value still
-abbrev pub put_back : Spot → Value → View → List Value → List Value
+abbrev pub put_back : PathMeaning → Value → View → List Value → List Value
 put_back path value view now = unwrap_or (option_and_then (λ positions. put_at path.root positions value now) (path.positions view)) now
 
-abbrev pub put_all : List Spot → List Value → View → List Value → List Value
+-- the variables once the paths have the values, one for one and in order
+abbrev pub put_all : List PathMeaning → List Value → View → List Value → List Value
 put_all [] values view now = now
 put_all (path ∷ paths) [] view now = now
 put_all (path ∷ paths) (value ∷ values) view now = put_all paths values view (put_back path value view now)
@@ -62,19 +65,20 @@ put_all (path ∷ paths) (value ∷ values) view now = put_all paths values view
 -- The outputs stand for the caller's paths. No two of them lead to one place, the inputs are copied, and the function
 -- sees nothing else of its caller: so nobody else looks at these paths while it runs, and what they have when it ends
 -- is all that a reference shows
-abbrev pub called : List Meaning → List Spot → View → Callee → Option (List Value)
-called inputs outputs view callee =
+abbrev pub outcome_of_call : List Meaning → List PathMeaning → View → Callee → Option (List Value)
+outcome_of_call inputs outputs view callee =
     option_and_then (λ values. option_map (λ left. put_all outputs left.outputs view view.now) (callee values))
     (values_of (inputs ++ map reading outputs) view)
 
+-- a call of the function with number f; none where an input, an output or the function traps
 abbrev pub call_of : Scope → ℕ → List Expr → List Path → View → Option (List Value)
 call_of scope f inputs outputs view =
-    option_and_then (called (map (meaning_of scope) inputs) (map (spot_of scope) outputs) view) (slice_get scope.callees f)
+    option_and_then (outcome_of_call (map (meaning_of scope) inputs) (map (path_meaning_of scope) outputs) view) (slice_get scope.callees f)
 
 -- an assignment, a declaration or a call
 abbrev pub acted : {A B C D : Type 0} → Scope → StmtKind-F A B C D → View → Option (List Value)
 acted scope (StmtKind-F.Declare k initial) view = declared scope k initial view
-acted scope (StmtKind-F.Assign path e) view = assigned (spot_of scope path) (value_in scope e view) view
+acted scope (StmtKind-F.Assign path e) view = assigned (path_meaning_of scope path) (value_in scope e view) view
 acted scope (StmtKind-F.Call f inputs outputs) view = call_of scope f inputs outputs view
 acted scope _ view = None
 
@@ -93,20 +97,23 @@ Does = List Value → Option Flow
 abbrev pub own : List Value → View
 own now = record { now = now; before = now }
 
-abbrev pub after : Option Flow → Does → Option Flow
-after None next = None
-after (Some (Flow.On now)) next = next now
-after (Some (Flow.Back now result)) next = Some (Flow.Back now result)
+-- what follows a statement that ended so: it is done where the statement went on, and else left out
+abbrev pub flow_then : Option Flow → Does → Option Flow
+flow_then None next = None
+flow_then (Some (Flow.On now)) next = next now
+flow_then (Some (Flow.Back now result)) next = Some (Flow.Back now result)
 
+-- statements one after another, until one returns or traps
 abbrev pub in_order : List Does → Does
 in_order [] now = Some (Flow.On now)
-in_order (first ∷ rest) now = after (first now) (in_order rest)
+in_order (first ∷ rest) now = flow_then (first now) (in_order rest)
 
 -- a condition, and what is done where it is true
 pub record Choice : Type 0 where
   pub test : List Value → Option Bool
   pub body : Does
 
+-- whether a condition is true; none where it traps
 abbrev pub truth : Scope → Expr → List Value → Option Bool
 truth scope e now = option_map (λ a. is_one a.n) (operand (meaning_of scope e) (own now))
 
@@ -116,9 +123,10 @@ condition scope (Some e) without now = truth scope e now
 condition scope None without now = Some without
 
 -- the first choice whose condition is true, and else the other
-abbrev pub chosen : List Choice → Does → Does
-chosen [] other now = other now
-chosen (choice ∷ rest) other now = option_and_then (λ holds. if holds then choice.body now else chosen rest other now) (choice.test now)
+abbrev pub first_true_choice : List Choice → Does → Does
+first_true_choice [] other now = other now
+first_true_choice (choice ∷ rest) other now =
+    option_and_then (λ holds. if holds then choice.body now else first_true_choice rest other now) (choice.test now)
 
 -- how many turns of a loop may begin since it was entered
 unfoldable pub most_turns : ℕ
@@ -131,9 +139,10 @@ looped goes body ends zero now = option_and_then (λ more. if more then None els
 looped goes body ends (suc n) now =
     option_and_then (λ more.
     if more
-    then after (body now) (λ new. option_and_then (λ done. if done then Some (Flow.On new) else looped goes body ends n new) (ends new))
+    then flow_then (body now) (λ new. option_and_then (λ done. if done then Some (Flow.On new) else looped goes body ends n new) (ends new))
     else Some (Flow.On now)) (goes now)
 
+-- a `return`: the function is over, with the value of the expression where there is one
 abbrev pub returned : Scope → Option Expr → Does
 returned scope (Some e) now = option_map (λ datum. Flow.Back now (Some datum)) (meaning_of scope e (own now))
 returned scope None now = Some (Flow.Back now None)
@@ -141,11 +150,11 @@ returned scope None now = Some (Flow.Back now None)
 -- `await`, `run`, `cobegin` and `when` stand in no function
 abbrev pub kind_does : Scope → StmtKind-F Does Choice Does Does → Does
 kind_does scope (StmtKind-F.Declare k initial) now = option_map Flow.On (declared scope k initial (own now))
-kind_does scope (StmtKind-F.Assign path e) now = option_map Flow.On (assigned (spot_of scope path) (value_in scope e (own now)) (own now))
+kind_does scope (StmtKind-F.Assign path e) now = option_map Flow.On (assigned (path_meaning_of scope path) (value_in scope e (own now)) (own now))
 kind_does scope (StmtKind-F.Call f inputs outputs) now = option_map Flow.On (call_of scope f inputs outputs (own now))
 kind_does scope (StmtKind-F.Await e) now = None
 kind_does scope (StmtKind-F.Run target a inputs outputs) now = None
-kind_does scope (StmtKind-F.If arms other) now = chosen arms (in_order other) now
+kind_does scope (StmtKind-F.If arms other) now = first_true_choice arms (in_order other) now
 kind_does scope (StmtKind-F.Cobegin branches) now = None
 kind_does scope (StmtKind-F.When guard e body) now = None
 kind_does scope (StmtKind-F.Repeat body) now = looped (condition scope None true) (in_order body) (condition scope None false) most_turns now
@@ -153,20 +162,25 @@ kind_does scope (StmtKind-F.Until body e) now = looped (condition scope None tru
 kind_does scope (StmtKind-F.While e body) now = looped (condition scope (Some e) true) (in_order body) (condition scope None false) most_turns now
 kind_does scope (StmtKind-F.Return e) now = returned scope e now
 
+-- an arm: its condition, and what its statements do in order
 abbrev pub arm_does : Scope → Arm-F Does Choice Does Does → Choice
 arm_does scope arm = record { test = truth scope arm.test; body = in_order arm.body }
 
+-- a branch: no function has one
 abbrev pub branch_does : Branch-F Does Choice Does Does → Does
 branch_does branch now = None
 
+-- a statement does what its kind does
 abbrev pub stmt_does : Stmt-F Does Choice Does Does → Does
 stmt_does s = s.what
 
+-- what a statement of a function does in a scope
 abbrev pub does : Scope → Stmt → Does
 does scope = fold-Stmt Does Choice Does Does (kind_does scope) (arm_does scope) branch_does stmt_does
 
 -- ---- functions
 
+-- the values of a unit's outputs, which come after its inputs
 abbrev pub outputs_in : UnitDef → List Value → List Value
 outputs_in unit now = take unit.outputs (drop unit.inputs now)
 
@@ -179,6 +193,7 @@ left_by unit (Flow.Back now result) = record { outputs = outputs_in unit now; re
 abbrev pub frame_of : List StructDef → UnitDef → List Value → List Value
 frame_of structs unit arguments = arguments ++ map (λ var. zero_of structs var.ty) (locals_of unit)
 
+-- the scope of a unit that sees these functions
 abbrev pub scope_among : List StructDef → List Callee → UnitDef → Scope
 scope_among structs callees unit = record { structs = structs; vars = unit.vars; callees = callees }
 
@@ -187,6 +202,7 @@ abbrev pub callee_of : List StructDef → List Callee → UnitDef → Callee
 callee_of structs callees unit arguments =
     option_map (left_by unit) (in_order (map (does (scope_among structs callees unit)) unit.body) (frame_of structs unit arguments))
 
+-- the functions once these units have joined them, each of which sees those before it
 abbrev pub callees_after : List StructDef → List Callee → List UnitDef → List Callee
 callees_after structs callees [] = callees
 callees_after structs callees (unit ∷ rest) = callees_after structs (callees ++ callee_of structs callees unit ∷ []) rest

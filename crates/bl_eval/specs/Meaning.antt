@@ -1,5 +1,22 @@
 -- The value of an expression.
-use Rattle.std.specs.Prelude.{ℕ, ℤ, Bool, false, not, ◌&&◌, List, [], ◌∷◌, slice_get, Option, Some, None, option_map, option_and_then, if◌then◌else◌}
+use Rattle.std.specs.Prelude.{
+  ℕ,
+  ℤ,
+  Bool,
+  false,
+  not,
+  ◌&&◌,
+  List,
+  [],
+  ◌∷◌,
+  slice_get,
+  Option,
+  Some,
+  None,
+  option_map,
+  option_and_then,
+  if◌then◌else◌,
+}
 use Rattle.bl_tree.specs.declared.scalar.Op.{Op}
 use Rattle.bl_tree.specs.declared.scalar.Op.TheVariants.{And, Or}
 use Rattle.bl_tree.specs.declared.scalar.Scalar.{Scalar as ScalarType}
@@ -43,21 +60,24 @@ Meaning = View → Option Datum
 
 -- a path: its variable, the type of what it names, and the positions that lead into the variable; none where an index
 -- traps or is below 0
-pub record Spot : Type 0 where
+pub record PathMeaning : Type 0 where
   pub root : ℕ
   pub ty : Ty
   pub positions : View → Option (List ℕ)
 
 -- ---- data
 
+-- the value of a datum, without its type
 abbrev pub plain : Datum → Value
 plain (OfScalar ty n) = Number n
 plain (Whole value) = value
 
+-- the number of a datum, with its type; none where the datum has parts
 abbrev pub operand_in : Datum → Option Operand
 operand_in (OfScalar ty n) = Some (record { ty = ty; n = n })
 operand_in (Whole value) = None
 
+-- a value whose outermost level is known: a number has the type, and one with parts is whole
 abbrev pub level_datum : ScalarType → Value → Value-F Value → Datum
 level_datum ty value (Value-F.Number n) = OfScalar ty n
 level_datum ty value (Value-F.Parts all) = Whole value
@@ -77,6 +97,7 @@ operand e view = option_and_then operand_in (e view)
 abbrev pub applied_one : Op → Operand → Option ℤ
 applied_one op a = if takes_one op a.ty && in_range a.ty a.n then checked_one_of op a.ty a.n else None
 
+-- the same of an operator with two operands, where the right one is this number
 abbrev pub applied_two : Op → Operand → ℤ → Option ℤ
 applied_two op a n = if takes_two op a.ty && (in_range a.ty a.n && in_range a.ty n) then checked_of op a.ty a.n n else None
 
@@ -86,9 +107,11 @@ decides And a = not (is_one a)
 decides Or a = is_one a
 decides _ a = false
 
+-- what an operator gives for an operand, with its type; none where it traps
 abbrev pub one_datum : Op → Operand → Option Datum
 one_datum op a = option_map (OfScalar (type_of_result op a.ty)) (applied_one op a)
 
+-- the same of an operator with two operands
 abbrev pub two_data : Op → Operand → Operand → Option Datum
 two_data op a b = option_map (OfScalar (type_of_result op a.ty)) (applied_two op a b.n)
 
@@ -107,6 +130,7 @@ abbrev pub values_of : List Meaning → View → Option (List Value)
 values_of [] view = Some []
 values_of (e ∷ rest) view = option_and_then (λ datum. option_map (λ values. plain datum ∷ values) (values_of rest view)) (e view)
 
+-- what a call gives for the inputs; none where an input or the function traps, or the function has no result
 abbrev pub call_datum : Option (List Value) → Callee → Option Datum
 call_datum inputs callee = option_and_then (λ values. option_and_then (λ left. left.result) (callee values)) inputs
 
@@ -116,6 +140,7 @@ call_datum inputs callee = option_and_then (λ values. option_and_then (λ left.
 abbrev pub Position : Type 0
 Position = View → Option ℕ
 
+-- the positions of all parts; none where one traps
 abbrev pub positions_of : List Position → View → Option (List ℕ)
 positions_of [] view = Some []
 positions_of (part ∷ rest) view = option_and_then (λ k. option_map (λ ks. k ∷ ks) (positions_of rest view)) (part view)
@@ -125,15 +150,17 @@ abbrev pub read_at : ℕ → List Value → List ℕ → Option Value
 read_at root now positions = option_and_then (value_at positions) (slice_get now root)
 
 -- what the path names
-abbrev pub reading : Spot → Meaning
+abbrev pub reading : PathMeaning → Meaning
 reading path view = option_map (datum_of (scalar_in path.ty)) (option_and_then (read_at path.root view.now) (path.positions view))
 
 -- ---- all expressions
 
+-- the scalar type of a variable; none where it has an aggregate
 abbrev pub scalar_of : Option Var → Option ScalarType
 scalar_of var = option_and_then (λ var. scalar_in var.ty) var
 
-abbrev pub kind_means : Scope → ExprKind-F Meaning Position Meaning Spot → Meaning
+-- what a kind of expression means, from what its parts mean
+abbrev pub kind_means : Scope → ExprKind-F Meaning Position Meaning PathMeaning → Meaning
 kind_means scope (ExprKind-F.Literal n s) view = Some (OfScalar s n)
 kind_means scope (ExprKind-F.Read path) view = reading path view
 kind_means scope (ExprKind-F.Prev k) view = option_map (datum_of (scalar_of (slice_get scope.vars k))) (slice_get view.before k)
@@ -142,25 +169,30 @@ kind_means scope (ExprKind-F.Two op a b) view = option_and_then (two_datum op (o
 kind_means scope (ExprKind-F.Cast target a) view = option_and_then (cast_datum target) (operand a view)
 kind_means scope (ExprKind-F.Call f inputs) view = option_and_then (call_datum (values_of inputs view)) (slice_get scope.callees f)
 
+-- the position that an index of this number stands for
 abbrev pub position_in : Operand → Option ℕ
 position_in a = position_of a.n
 
-abbrev pub part_means : Part-F Meaning Position Meaning Spot → Position
+-- what a part of a path means: a field's position, or that of an index
+abbrev pub part_means : Part-F Meaning Position Meaning PathMeaning → Position
 part_means (Part-F.Field k) view = Some k
 part_means (Part-F.Index e) view = option_and_then position_in (operand e view)
 
-abbrev pub expr_means : Expr-F Meaning Position Meaning Spot → Meaning
+-- an expression means what its kind means
+abbrev pub expr_means : Expr-F Meaning Position Meaning PathMeaning → Meaning
 expr_means e = e.what
 
-abbrev pub path_means : Path-F Meaning Position Meaning Spot → Spot
+-- a path means its variable, its type and the positions of its parts
+abbrev pub path_means : Path-F Meaning Position Meaning PathMeaning → PathMeaning
 path_means path = record { root = path.root; ty = path.ty; positions = positions_of path.parts }
 
--- what an expression and a path mean in a scope
+-- what an expression means in a scope
 abbrev pub meaning_of : Scope → Expr → Meaning
-meaning_of scope = fold-Expr Meaning Position Meaning Spot (kind_means scope) part_means expr_means path_means
+meaning_of scope = fold-Expr Meaning Position Meaning PathMeaning (kind_means scope) part_means expr_means path_means
 
-abbrev pub spot_of : Scope → Path → Spot
-spot_of scope = fold-Path Meaning Position Meaning Spot (kind_means scope) part_means expr_means path_means
+-- what a path means in a scope
+abbrev pub path_meaning_of : Scope → Path → PathMeaning
+path_meaning_of scope = fold-Path Meaning Position Meaning PathMeaning (kind_means scope) part_means expr_means path_means
 
 -- the value of an expression; none where it traps
 abbrev pub value_in : Scope → Expr → View → Option Value

@@ -45,9 +45,11 @@ type_in_unit structs units k e = option_and_then (λ site. type_of site e) (site
 abbrev pub outcome_in_unit : List StructDef → List UnitDef → ℕ → Stmt → View → Option (List Value)
 outcome_in_unit structs units k s view = option_and_then (λ site. outcome_of site s view) (site_at structs units k)
 
+-- what the variables have now and had at the end of the previous tick, from the values that the code has
 abbrev pub view_of : Values → Values → View
 view_of now before = record { now = now.list; before = before.list }
 
+-- the value that the code got; none where it trapped
 abbrev pub got_value : Got → Option Value
 got_value (Val value) = Some value
 got_value Got.Trap = None
@@ -63,14 +65,14 @@ pub record ViewFits (site : Site) (view : View) : Type 0 where
   pub before : IsTrue (values_fit site.structs site.vars view.before)
 
 -- the expression stands in the unit at the position, where both lists of values fit
-pub record Stands (structs : List StructDef) (units : List UnitDef) (k : ℕ) (view : View) (e : Expr) : Type 0 where
+pub record ExprStandsInUnit (structs : List StructDef) (units : List UnitDef) (k : ℕ) (view : View) (e : Expr) : Type 0 where
   pub unit : UnitDef
   pub is_there : slice_get units k ≡ Some unit
   pub typed : IsTrue (is_some (type_of (site_of structs (take k units) unit) e))
   pub fitting : ViewFits (site_of structs (take k units) unit) view
 
 -- the same of a statement
-pub record StandsAct (structs : List StructDef) (units : List UnitDef) (k : ℕ) (view : View) (s : Stmt) : Type 0 where
+pub record ActStandsInUnit (structs : List StructDef) (units : List UnitDef) (k : ℕ) (view : View) (s : Stmt) : Type 0 where
   pub unit : UnitDef
   pub is_there : slice_get units k ≡ Some unit
   pub fitted : IsTrue (fits (site_of structs (take k units) unit) s)

@@ -41,10 +41,12 @@ use Rattle.bl_tree.specs.Scalar.{in_range}
 
 -- ---- one level of a value
 
+-- the number at the outermost level; none where there are parts
 abbrev pub number_at : {A : Type 0} → Value-F A → Option ℤ
 number_at (Value-F.Number n) = Some n
 number_at (Value-F.Parts all) = None
 
+-- the parts at the outermost level; none where there is a number
 abbrev pub parts_at : {A : Type 0} → Value-F A → Option (List A)
 parts_at (Value-F.Number n) = None
 parts_at (Value-F.Parts all) = Some all
@@ -59,6 +61,7 @@ parts_in value = parts_at (out-Value value)
 
 -- ---- zero
 
+-- the zero of a type, from that of its elements and those of the structs
 abbrev pub zero_level : List Value → Ty-F Value → Value
 zero_level structs (Ty-F.Scalar s) = Number (pos 0)
 zero_level structs (Ty-F.Struct k) = slice_index_or structs k (Parts [])
@@ -68,6 +71,7 @@ zero_level structs (Ty-F.Array n element) = Parts (replicate n element)
 abbrev pub zero_by : List Value → Ty → Value
 zero_by structs = fold-Ty Value (zero_level structs)
 
+-- the zero of a struct: that of each field, by those of the structs before it
 abbrev pub struct_zero : List Value → StructDef → Value
 struct_zero structs def = Parts (map (λ field. zero_by structs field.ty) def.fields)
 
@@ -82,6 +86,7 @@ zero_of structs = zero_by (zeros_after [] structs)
 
 -- ---- the values of a type
 
+-- whether a level is a number in the range of the scalar type
 abbrev pub is_number_of : ScalarType → Value-F Value → Bool
 is_number_of s (Value-F.Number n) = in_range s n
 is_number_of s (Value-F.Parts all) = false
@@ -92,18 +97,22 @@ pass [] [] = true
 pass (test ∷ tests) (value ∷ values) = test value && pass tests values
 pass _ _ = false
 
+-- whether a level is n parts that all pass the test
 abbrev pub are_elements : ℕ → (Value → Bool) → Value-F Value → Bool
 are_elements n test (Value-F.Number m) = false
 are_elements n test (Value-F.Parts all) = nat_eq (length all) n && list_all test all
 
+-- whether a level is parts that pass the tests of the fields, one for one
 abbrev pub are_fields : List (Value → Bool) → Value-F Value → Bool
 are_fields tests (Value-F.Number n) = false
 are_fields tests (Value-F.Parts all) = pass tests all
 
+-- whether the value passes the test; nothing passes where there is none
 abbrev pub by_test : Option (Value → Bool) → Value → Bool
 by_test (Some test) value = test value
 by_test None value = false
 
+-- whether a value is one of a type, from the test of its elements and those of the structs
 abbrev pub fits_level : List (Value → Bool) → Ty-F (Value → Bool) → Value → Bool
 fits_level structs (Ty-F.Scalar s) value = is_number_of s (out-Value value)
 fits_level structs (Ty-F.Struct k) value = by_test (slice_get structs k) value
@@ -113,6 +122,7 @@ fits_level structs (Ty-F.Array n element) value = are_elements n element (out-Va
 abbrev pub fits_by : List (Value → Bool) → Ty → Value → Bool
 fits_by structs = fold-Ty (Value → Bool) (fits_level structs)
 
+-- whether the value is one of the struct, by the tests of the structs before it
 abbrev pub struct_test : List (Value → Bool) → StructDef → Value → Bool
 struct_test structs def value = are_fields (map (λ field. fits_by structs field.ty) def.fields) (out-Value value)
 
@@ -136,6 +146,7 @@ abbrev pub position_of : ℤ → Option ℕ
 position_of (pos k) = if nat_lt k (2 ^ 64) then Some k else None
 position_of (negsuc k) = None
 
+-- the part at a position; none where there is none
 abbrev pub part_of : ℕ → Value → Option Value
 part_of k value = option_and_then (λ all. slice_get all k) (parts_in value)
 

@@ -3,16 +3,16 @@
 ghost use Rattle.std.specs.Prelude.{◌≡◌, true, false, IfOk, map, option_map, option_and_then, slice_get};
 ghost use Rattle.bl_tree.specs.declared.tree.StmtKind.{out-StmtKind};
 ghost use Rattle.bl_eval.specs.Changes.{all_changed, choice_of, ended, part_of_path, scope_in, targets_of, view_in};
-ghost use Rattle.bl_eval.specs.Functions.{acted, call_of, callees_of, chosen, condition, does, in_order, looped, most_turns};
-ghost use Rattle.bl_eval.specs.Meaning.{meaning_of, positions_of, spot_of, values_of};
+ghost use Rattle.bl_eval.specs.Functions.{acted, call_of, callees_of, condition, does, first_true_choice, in_order, looped, most_turns};
+ghost use Rattle.bl_eval.specs.Meaning.{meaning_of, path_meaning_of, positions_of, values_of};
 
 use crate::datum::{Datum, Left, Put, Target};
 use crate::operators::{cast, decides, one, operand, plain_value, two};
-use crate::slices::element;
 use crate::steps::{
     after_last, back, declared_zero, frame, is_true, left, make, position, previous, reading,
     result_of, returned, single, with_current,
 };
+use bl_tree::slices::element;
 use bl_tree::tree::{Arm, Expr, ExprKind, Part, Path, Stmt, StmtKind, StructDef, Unit, Var};
 use bl_tree::{List, NoMemory, Value};
 use std::alloc::Global;
@@ -253,7 +253,8 @@ fn choice(
     other: &[Stmt],
 ) -> Result<Flow, NoMemory>
     ensures { IfOk result (λ flow. ended flow frame.new.items
-        ≡ chosen (map (choice_of (scope_in site.entry.now)) arms.now) (in_order (map (does (scope_in site.entry.now)) other.now)) frame.old.items) }
+        ≡ first_true_choice (map (choice_of (scope_in site.entry.now)) arms.now)
+        (in_order (map (does (scope_in site.entry.now)) other.now)) frame.old.items) }
 {
     for arm in arms {
         match condition(alloc, site, frame.as_slice(), Some(&arm.test), true)? {
@@ -390,7 +391,7 @@ fn targets(
     view: &View,
     outputs: &[Path],
 ) -> Result<Option<List<Target>>, NoMemory>
-    ensures { IfOk result (λ targets. targets ≡ targets_of (map (spot_of (scope_in site.entry.now)) outputs.now) (view_in view.entry.now)) }
+    ensures { IfOk result (λ targets. targets ≡ targets_of (map (path_meaning_of (scope_in site.entry.now)) outputs.now) (view_in view.entry.now)) }
 {
     let mut targets = List::new(alloc);
     for path in outputs {

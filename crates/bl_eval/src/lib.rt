@@ -14,7 +14,6 @@ mod evaluation;
 pub mod laws;
 mod operators;
 mod parts;
-mod slices;
 mod steps;
 mod values;
 mod zero;

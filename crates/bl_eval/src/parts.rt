@@ -5,7 +5,7 @@ ghost use Rattle.bl_eval.specs.Meaning.{read_at};
 ghost use Rattle.bl_eval.specs.Values.{part_of, value_at};
 ghost use Rattle.bl_eval.specs.Changes.{replaced, with_element_at};
 
-use crate::slices::element;
+use bl_tree::slices::element;
 use bl_tree::{List, Value};
 use std::mem;
 

@@ -7,8 +7,8 @@ ghost use Rattle.bl_eval.specs.Standing.{got_value, left_values, outcome_in_unit
 use crate::datum::Datum;
 use crate::evaluation::{Site, View, changes, evaluate};
 use crate::operators::plain_value;
-use crate::slices::element;
 use crate::steps::make_all;
+use bl_tree::slices::element;
 use bl_tree::tree::{Expr, Stmt};
 use bl_tree::{List, NoMemory, Program, Value};
 use std::alloc::Global;

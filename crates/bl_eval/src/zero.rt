@@ -4,7 +4,7 @@ ghost use Rattle.std.specs.Prelude.{◌≡◌, [], IfOk, map, slice_index_or, re
 ghost use Rattle.bl_eval.specs.Values.{zero_of, zeros_after};
 
 use crate::copying::copy;
-use crate::slices::element;
+use bl_tree::slices::element;
 use bl_tree::tree::{Field, StructDef, Ty};
 use bl_tree::{List, NoMemory, Value};
 use std::alloc::Global;

@@ -33,8 +33,8 @@ use Rattle.bl_tree.specs.Typing.{
 use Rattle.bl_eval.specs.declared.datum.Datum.{Datum}
 use Rattle.bl_eval.specs.declared.datum.Left.{Left}
 use Rattle.bl_eval.specs.Changes.{with_element_at}
-use Rattle.bl_eval.specs.Functions.{assigned, call_of, called, callees_of, declared, initial_value, put_all}
-use Rattle.bl_eval.specs.Meaning.{Meaning, Scope, Spot, View, datum_of, meaning_of, plain, read_at, reading, spot_of, value_in, values_of}
+use Rattle.bl_eval.specs.Functions.{assigned, call_of, callees_of, declared, initial_value, outcome_of_call, put_all}
+use Rattle.bl_eval.specs.Meaning.{Meaning, PathMeaning, Scope, View, datum_of, meaning_of, path_meaning_of, plain, read_at, reading, value_in, values_of}
 use Rattle.bl_eval.specs.Values.{put_at, value_fits, values_fit, zero_of}
 use Rattle.bl_eval.proofs.ActFits.{AllFit, same_found}
 use Rattle.bl_eval.proofs.ExprFits.{GivesFit, Sound, expr_fits, match_fits, reading_fits, spot_fits}
@@ -58,7 +58,8 @@ module _ (structs : List StructDef) (home : Home) (sound : Sound structs home.ea
   traps : (e : Expr) (ty : Ty) → type_of site e ≡ Some ty → meaning_of scope e view ≡ None → ExprTraps structs home view e
   traps = expr_traps structs home sound calls view now_fits before_fits
 
-  lost : (path : Path) (ty : Ty) → type_of_path site path ≡ Some ty → reading (spot_of scope path) view ≡ None → PathTraps structs home view path
+  lost : (path : Path) (ty : Ty) → type_of_path site path ≡ Some ty → reading (path_meaning_of scope path) view ≡ None
+      → PathTraps structs home view path
   lost = path_lost structs home sound calls view now_fits before_fits
 
   -- ---- declarations
@@ -71,7 +72,8 @@ module _ (structs : List StructDef) (home : Home) (sound : Sound structs home.ea
       (and_right (is_variable var.role || is_fixed var.role) (are_same (Some var.ty) (type_of site e)) fitted) in
       ActTraps.initial is (traps e found.0 found.2 (none_of_map plain (meaning_of scope e view) none))
   initial_traps s k (Some e) None is there fitted none = absurd (cc)
-  initial_traps s k None (Some var) is there fitted none = no_some there (none_of_map (λ (var : Var). zero_of structs var.ty) (slice_get home.unit.vars k) none)
+  initial_traps s k None (Some var) is there fitted none =
+      no_some there (none_of_map (λ (var : Var). zero_of structs var.ty) (slice_get home.unit.vars k) none)
   initial_traps s k None None is there fitted none = absurd (cc)
 
   declared_var : (initial : Option Expr) (var : Option Var) → declaration_fits site initial var ≡ true → (found : Var) × (var ≡ Some found)
@@ -104,30 +106,33 @@ module _ (structs : List StructDef) (home : Home) (sound : Sound structs home.ea
   -- ---- assignments
 
   -- where nothing can be set, nothing can be read
-  unread : (root : ℕ) (value : Value) (positions : Option (List ℕ)) → option_and_then (λ positions. put_at root positions value view.now) positions ≡ None
+  unread : (root : ℕ) (value : Value) (positions : Option (List ℕ))
+      → option_and_then (λ positions. put_at root positions value view.now) positions ≡ None
       → option_and_then (read_at root view.now) positions ≡ None
   unread root value None none = refl
   unread root value (Some ps) none = none_of_map (λ found. with_element_at root ps value view.now) (read_at root view.now ps)
       (sym (put_at_is root ps value view.now) ∙ none)
 
-  by_value : (s : Stmt) (path : Path) (e : Expr) (ty : Ty) → says s ≡ StmtKind-F.Assign path e → type_of_path site path ≡ Some ty → type_of site e ≡ Some ty
-      → (value : Option Value) → value_in scope e view ≡ value → assigned (spot_of scope path) value view ≡ None → ActTraps structs home view s
+  by_value : (s : Stmt) (path : Path) (e : Expr) (ty : Ty) → says s ≡ StmtKind-F.Assign path e → type_of_path site path ≡ Some ty →
+      type_of site e ≡ Some ty → (value : Option Value) → value_in scope e view ≡ value → assigned (path_meaning_of scope path) value view ≡ None
+      → ActTraps structs home view s
   by_value s path e ty is path_typed typed None at none = ActTraps.set_value is (traps e ty typed (none_of_map plain (meaning_of scope e view) at))
   by_value s path e ty is path_typed typed (Some value) at none =
-      let spot : Spot = spot_of scope path in
+      let spot : PathMeaning = path_meaning_of scope path in
       ActTraps.set_target is (lost path ty path_typed (ap (option_map (datum_of (scalar_in spot.ty))) (unread spot.root value (spot.positions view) none)))
 
-  pub assigned_traps : (s : Stmt) (path : Path) (e : Expr) → says s ≡ StmtKind-F.Assign path e → are_same (type_of_path site path) (type_of site e) ≡ true
-      → assigned (spot_of scope path) (value_in scope e view) view ≡ None → ActTraps structs home view s
+  pub assigned_traps : (s : Stmt) (path : Path) (e : Expr) → says s ≡ StmtKind-F.Assign path e →
+      are_same (type_of_path site path) (type_of site e) ≡ true → assigned (path_meaning_of scope path) (value_in scope e view) view ≡ None →
+      ActTraps structs home view s
   assigned_traps s path e is same none =
       let found = same_found (type_of_path site path) (type_of site e) same in
       by_value s path e found.0 is found.1 found.2 (value_in scope e view) refl none
 
   -- ---- calls
 
-  reading_all : (paths : List Path) → map (λ path. reading (spot_of scope path)) paths ≡ map reading (map (spot_of scope) paths)
+  reading_all : (paths : List Path) → map (λ path. reading (path_meaning_of scope path)) paths ≡ map reading (map (path_meaning_of scope) paths)
   reading_all [] = refl
-  reading_all (path ∷ paths) = ap (λ rest. reading (spot_of scope path) ∷ rest) (reading_all paths)
+  reading_all (path ∷ paths) = ap (λ rest. reading (path_meaning_of scope path) ∷ rest) (reading_all paths)
 
   inputs_given : (inputs : List Expr) (vars : List Var) → types_match (map (type_of site) inputs) vars ≡ true →
       IfSome (values_of (map (meaning_of scope) inputs) view) (AllFit structs vars)
@@ -137,13 +142,13 @@ module _ (structs : List StructDef) (home : Home) (sound : Sound structs home.ea
       (callees_of structs home.earlier) sound view now_fits before_fits _ ty typed) vars matched
 
   outputs_given : (outputs : List Path) (vars : List Var) → types_match (map (type_of_path site) outputs) vars ≡ true
-      → IfSome (values_of (map reading (map (spot_of scope) outputs)) view) (AllFit structs vars)
+      → IfSome (values_of (map reading (map (path_meaning_of scope) outputs)) view) (AllFit structs vars)
   outputs_given outputs vars matched =
-      let each : All (λ path. GivesFit structs view (reading (spot_of scope path)) (type_of_path site path)) outputs =
+      let each : All (λ path. GivesFit structs view (reading (path_meaning_of scope path)) (type_of_path site path)) outputs =
       λ k d within ty typed. reading_fits structs home.unit.vars view ty _ now_fits
       (spot_fits structs home.earlier home.unit (callees_of structs home.earlier) sound view now_fits before_fits _ ty typed) in
       subst (λ means. IfSome (values_of means view) (AllFit structs vars)) (reading_all outputs)
-      (match_fits structs view (λ path. reading (spot_of scope path)) (type_of_path site) outputs each vars matched)
+      (match_fits structs view (λ path. reading (path_meaning_of scope path)) (type_of_path site) outputs each vars matched)
 
   together : (means others : List Meaning) (xs ys : List Var) → IfSome (values_of means view) (AllFit structs xs) →
       IfSome (values_of others view) (AllFit structs ys)
@@ -155,27 +160,27 @@ module _ (structs : List StructDef) (home : Home) (sound : Sound structs home.ea
       (λ ws more. pass_append (λ (var : Var). value_fits structs var.ty) xs ys vs ws fit more)))
 
   by_datum : (path : Path) (paths : List Path) (datum : Option Datum) → (datum ≡ None → PathTraps structs home view path)
-      → (values_of (map reading (map (spot_of scope) paths)) view ≡ None → SomePathTraps structs home view paths)
-      → option_and_then (λ datum. option_map (λ values. plain datum ∷ values) (values_of (map reading (map (spot_of scope) paths)) view))
+      → (values_of (map reading (map (path_meaning_of scope) paths)) view ≡ None → SomePathTraps structs home view paths)
+      → option_and_then (λ datum. option_map (λ values. plain datum ∷ values) (values_of (map reading (map (path_meaning_of scope) paths)) view))
       datum ≡ None → SomePathTraps structs home view (path ∷ paths)
   by_datum path paths None inner more none = SomePathTraps.here_path (inner refl)
   by_datum path paths (Some datum) inner more none =
-      SomePathTraps.there_path (more (none_of_map _ (values_of (map reading (map (spot_of scope) paths)) view) none))
+      SomePathTraps.there_path (more (none_of_map _ (values_of (map reading (map (path_meaning_of scope) paths)) view) none))
 
   by_type : (path : Path) (paths : List Path) (vars : List Var) (found : Option Ty) → type_of_path site path ≡ found →
       types_match (found ∷ map (type_of_path site) paths) vars ≡ true
       → ((vars : List Var) → types_match (map (type_of_path site) paths) vars ≡ true →
-      values_of (map reading (map (spot_of scope) paths)) view ≡ None → SomePathTraps structs home view paths)
-      → values_of (map reading (map (spot_of scope) (path ∷ paths))) view ≡ None → SomePathTraps structs home view (path ∷ paths)
+      values_of (map reading (map (path_meaning_of scope) paths)) view ≡ None → SomePathTraps structs home view paths)
+      → values_of (map reading (map (path_meaning_of scope) (path ∷ paths))) view ≡ None → SomePathTraps structs home view (path ∷ paths)
   by_type path paths [] None is matched more none = absurd (cc)
   by_type path paths [] (Some ty) is matched more none = absurd (cc)
   by_type path paths (var ∷ vars) None is matched more none = absurd (cc)
   by_type path paths (var ∷ vars) (Some ty) is matched more none =
-      by_datum path paths (reading (spot_of scope path) view) (lost path ty is)
+      by_datum path paths (reading (path_meaning_of scope path) view) (lost path ty is)
       (more vars (and_right (same_type ty var.ty) (types_match (map (type_of_path site) paths) vars) matched)) none
 
   some_path : (paths : List Path) (vars : List Var) → types_match (map (type_of_path site) paths) vars ≡ true →
-      values_of (map reading (map (spot_of scope) paths)) view ≡ None
+      values_of (map reading (map (path_meaning_of scope) paths)) view ≡ None
       → SomePathTraps structs home view paths
   some_path [] vars matched none = made_some none
   some_path (path ∷ paths) vars matched none = by_type path paths vars (type_of_path site path) refl matched (some_path paths) none
@@ -185,7 +190,7 @@ module _ (structs : List StructDef) (home : Home) (sound : Sound structs home.ea
     ins = map (meaning_of scope) inputs
 
     abbrev outs : List Meaning
-    outs = map reading (map (spot_of scope) outputs)
+    outs = map reading (map (path_meaning_of scope) outputs)
 
     by_inputs : (callee : UnitDef) → types_match (map (type_of site) inputs) (inputs_of callee) ≡ true →
         types_match (map (type_of_path site) outputs) (outputs_of callee) ≡ true
@@ -200,7 +205,7 @@ module _ (structs : List StructDef) (home : Home) (sound : Sound structs home.ea
     by_arguments : (callee : UnitDef) → slice_get home.earlier f ≡ Some callee → is_function callee.kind ≡ true
         → types_match (map (type_of site) inputs) (inputs_of callee) ≡ true → types_match (map (type_of_path site) outputs) (outputs_of callee) ≡ true
         → (given : Option (List Value)) → values_of (ins ++ outs) view ≡ given → IfSome given (AllFit structs (parameters_of callee))
-        → option_and_then (λ values. option_map (λ (left : Left). put_all (map (spot_of scope) outputs) left.outputs view view.now)
+        → option_and_then (λ values. option_map (λ (left : Left). put_all (map (path_meaning_of scope) outputs) left.outputs view view.now)
         (called_at structs home f callee values)) given ≡ None
         → ActTraps structs home view s
     by_arguments callee there function matched others None at fit none =
@@ -223,5 +228,6 @@ module _ (structs : List StructDef) (home : Home) (sound : Sound structs home.ea
         (subst (λ vars. IfSome (values_of (ins ++ outs) view) (AllFit structs vars)) same
         (together ins outs (inputs_of callee) (outputs_of callee) (inputs_given inputs (inputs_of callee) matched)
         (outputs_given outputs (outputs_of callee) others)))
-        (none_of_then (called ins (map (spot_of scope) outputs) view) (slice_get (callees_of structs home.earlier) f) (called_at structs home f callee)
+        (none_of_then (outcome_of_call ins (map (path_meaning_of scope) outputs) view) (slice_get (callees_of structs home.earlier) f)
+        (called_at structs home f callee)
         (callee_is structs home.earlier f callee there) none)

@@ -1,5 +1,26 @@
 -- What traps has no value.
-use Rattle.std.proofs.Common.{◌≡◌, ℕ, suc, zero, Bool, true, false, ◌&&◌, List, [], ◌∷◌, ◌++◌, map, Option, Some, None, refl, sym, ap, ◌∙◌}
+use Rattle.std.proofs.Common.{
+  ◌≡◌,
+  ℕ,
+  suc,
+  zero,
+  Bool,
+  true,
+  false,
+  ◌&&◌,
+  List,
+  [],
+  ◌∷◌,
+  ◌++◌,
+  map,
+  Option,
+  Some,
+  None,
+  refl,
+  sym,
+  ap,
+  ◌∙◌,
+}
 use Rattle.std.specs.Prelude.{option_and_then, option_map, slice_get, if◌then◌else◌}
 use Rattle.bl_tree.specs.declared.scalar.Op.{Op}
 use Rattle.bl_tree.specs.declared.scalar.Scalar.{Scalar as ScalarType}
@@ -28,17 +49,17 @@ use Rattle.bl_eval.specs.Functions.{
   Does,
   Flow,
   acted,
-  after,
   assigned,
-  called,
   callees_of,
-  chosen,
   condition,
   does,
+  first_true_choice,
+  flow_then,
   in_order,
   left_by,
   looped,
   most_turns,
+  outcome_of_call,
   own,
   put_all,
   returned,
@@ -47,8 +68,8 @@ use Rattle.bl_eval.specs.Functions.{
 use Rattle.bl_eval.specs.Meaning.{
   Callee,
   Meaning,
+  PathMeaning,
   Scope,
-  Spot,
   View,
   call_datum,
   cast_datum,
@@ -58,12 +79,12 @@ use Rattle.bl_eval.specs.Meaning.{
   one_datum,
   operand,
   operand_in,
+  path_meaning_of,
   plain,
   position_in,
   positions_of,
   read_at,
   reading,
-  spot_of,
   two_data,
   two_datum,
   value_in,
@@ -116,13 +137,15 @@ two_gone : (op : Op) (x y : Operand) → checked_of op x.ty x.n y.n ≡ None →
 two_gone op x y none = map_gone (OfScalar (type_of_result op x.ty)) _
     (gone (takes_two op x.ty && (in_range x.ty x.n && in_range x.ty y.n)) (checked_of op x.ty x.n y.n) none)
 
-undecided : (op : Op) (x : Operand) (y : Option Operand) → decides op x.n ≡ false → option_and_then (two_data op x) y ≡ None → two_datum op y x ≡ None
+undecided : (op : Op) (x : Operand) (y : Option Operand) → decides op x.n ≡ false → option_and_then (two_data op x) y ≡ None →
+    two_datum op y x ≡ None
 undecided op x y is none = rw is none
 
 -- ---- what expressions say
 
 module _ (scope : Scope) (view : View) (e : Expr) where
-  one_means : (op : Op) (a : Expr) → what e ≡ ExprKind-F.One op a → meaning_of scope e view ≡ option_and_then (one_datum op) (operand (meaning_of scope a) view)
+  one_means : (op : Op) (a : Expr) → what e ≡ ExprKind-F.One op a →
+      meaning_of scope e view ≡ option_and_then (one_datum op) (operand (meaning_of scope a) view)
   one_means op a is = ap (λ e. meaning_of scope e view) (made_of e _ is) ∙ rw (fold-roll-Expr, fold-roll-ExprKind) refl
 
   two_means : (op : Op) (a b : Expr) → what e ≡ ExprKind-F.Two op a b →
@@ -133,7 +156,7 @@ module _ (scope : Scope) (view : View) (e : Expr) where
       meaning_of scope e view ≡ option_and_then (cast_datum target) (operand (meaning_of scope a) view)
   cast_means target a is = ap (λ e. meaning_of scope e view) (made_of e _ is) ∙ rw (fold-roll-Expr, fold-roll-ExprKind) refl
 
-  read_means : (path : Path) → what e ≡ ExprKind-F.Read path → meaning_of scope e view ≡ reading (spot_of scope path) view
+  read_means : (path : Path) → what e ≡ ExprKind-F.Read path → meaning_of scope e view ≡ reading (path_meaning_of scope path) view
   read_means path is = ap (λ e. meaning_of scope e view) (made_of e _ is) ∙ rw (fold-roll-Expr, fold-roll-ExprKind) refl
 
   call_means : (f : ℕ) (inputs : List Expr) → what e ≡ ExprKind-F.Call f inputs →
@@ -166,7 +189,8 @@ LostIn positions value = option_and_then (λ ks. value_at ks value) positions �
 abbrev joined : Option ℕ → Option (List ℕ) → Option (List ℕ)
 joined first rest = option_and_then (λ k. option_map (λ ks. k ∷ ks) rest) first
 
-no_part : (first : Option ℕ) (rest : Option (List ℕ)) (value : Value) → option_and_then (λ k. part_of k value) first ≡ None → LostIn (joined first rest) value
+no_part : (first : Option ℕ) (rest : Option (List ℕ)) (value : Value) → option_and_then (λ k. part_of k value) first ≡ None →
+    LostIn (joined first rest) value
 no_part None rest value none = refl
 no_part (Some k) None value none = refl
 no_part (Some k) (Some ks) value none = ap (option_and_then (value_at ks)) none
@@ -187,7 +211,7 @@ index_leads : (scope : Scope) (view : View) (part : Part) (e : Expr) → out-Par
 index_leads scope view part e is = ap (λ part. part_of_path scope part view) (sym (ap roll-Part (sym is) ∙ roll-out-Part part)) ∙ rw fold-roll-Part refl
 
 path_reads : (scope : Scope) (view : View) (path : Path) (value : Value) → slice_get view.now (out-Path path).root ≡ Some value
-    → LostIn (positions_of (map (part_of_path scope) (out-Path path).parts) view) value → reading (spot_of scope path) view ≡ None
+    → LostIn (positions_of (map (part_of_path scope) (out-Path path).parts) view) value → reading (path_meaning_of scope path) view ≡ None
 path_reads scope view path value there lost =
     ap (λ spot. reading spot view) (spot_out scope path)
     ∙ map_gone (datum_of (scalar_in (out-Path path).ty)) _
@@ -201,7 +225,7 @@ declare_acts scope view k e none = ap (λ datum. option_and_then (λ value. put_
 
 value_acts : (scope : Scope) (view : View) (path : Path) (e : Expr) → meaning_of scope e view ≡ None →
     acted {A = StmtKind} {B = Arm} {C = Branch} {D = Stmt} scope (StmtKind-F.Assign path e) view ≡ None
-value_acts scope view path e none = ap (λ datum. assigned (spot_of scope path) (option_map plain datum) view) none
+value_acts scope view path e none = ap (λ datum. assigned (path_meaning_of scope path) (option_map plain datum) view) none
 
 unset : (root : ℕ) (value : Value) (now : List Value) (positions : Option (List ℕ)) → option_and_then (read_at root now) positions ≡ None →
     option_and_then (λ positions. put_at root positions value now) positions ≡ None
@@ -212,19 +236,19 @@ unread : {A : Type 0} (f : Value → A) (o : Option Value) → option_map f o �
 unread f None none = refl
 unread f (Some value) none = cc
 
-target_acts : (scope : Scope) (view : View) (path : Path) (e : Expr) → reading (spot_of scope path) view ≡ None →
+target_acts : (scope : Scope) (view : View) (path : Path) (e : Expr) → reading (path_meaning_of scope path) view ≡ None →
     acted {A = StmtKind} {B = Arm} {C = Branch} {D = Stmt} scope (StmtKind-F.Assign path e) view ≡ None
 target_acts scope view path e none = by_value (value_in scope e view)
   where
-    by_value : (value : Option Value) → assigned (spot_of scope path) value view ≡ None
+    by_value : (value : Option Value) → assigned (path_meaning_of scope path) value view ≡ None
     by_value None = refl
     by_value (Some value) =
-        let spot = spot_of scope path in
+        let spot = path_meaning_of scope path in
         unset spot.root value view.now (spot.positions view)
         (unread (datum_of (scalar_in spot.ty)) (option_and_then (read_at spot.root view.now) (spot.positions view)) none)
 
-unfed : (inputs : List Meaning) (outputs : List Spot) (view : View) → values_of (inputs ++ map reading outputs) view ≡ None →
-    (callee : Option Callee) → option_and_then (called inputs outputs view) callee ≡ None
+unfed : (inputs : List Meaning) (outputs : List PathMeaning) (view : View) → values_of (inputs ++ map reading outputs) view ≡ None →
+    (callee : Option Callee) → option_and_then (outcome_of_call inputs outputs view) callee ≡ None
 unfed inputs outputs view none None = refl
 unfed inputs outputs view none (Some callee) = ap (option_and_then
     (λ values. option_map (λ (left : Left). put_all outputs left.outputs view view.now) (callee values))) none
@@ -243,8 +267,8 @@ module _ (scope : Scope) (view : View) (f : ℕ) (inputs : List Expr) (outputs :
   abbrev ins : List Meaning
   ins = map (meaning_of scope) inputs
 
-  abbrev spots : List Spot
-  spots = map (spot_of scope) outputs
+  abbrev spots : List PathMeaning
+  spots = map (path_meaning_of scope) outputs
 
   inputs_act : values_of ins view ≡ None → acted {A = StmtKind} {B = Arm} {C = Branch} {D = Stmt} scope (StmtKind-F.Call f inputs outputs) view ≡ None
   inputs_act none = unfed ins spots view (inputs_gone ins (map reading spots) view none) (slice_get scope.callees f)
@@ -257,7 +281,7 @@ module _ (scope : Scope) (view : View) (f : ℕ) (inputs : List Expr) (outputs :
       values_of (ins ++ map reading spots) view ≡ Some values → callee values ≡ None
       → acted {A = StmtKind} {B = Arm} {C = Branch} {D = Stmt} scope (StmtKind-F.Call f inputs outputs) view ≡ None
   callee_acts callee values there given none =
-      then_at (called ins spots view) (slice_get scope.callees f) callee there
+      then_at (outcome_of_call ins spots view) (slice_get scope.callees f) callee there
       (then_at (λ values. option_map (λ (left : Left). put_all spots left.outputs view view.now) (callee values))
       (values_of (ins ++ map reading spots) view) values given
       (map_gone (λ (left : Left). put_all spots left.outputs view view.now) (callee values) none))
@@ -282,7 +306,7 @@ module _ (scope : Scope) (s : Stmt) (now : List Value) where
   result_does e is = ap (λ s. does scope s now) (stmt_made_of s _ is) ∙ rw (fold-roll-Stmt, fold-roll-StmtKind) refl
 
   branching_does : (arms : List Arm) (other : List Stmt) → says s ≡ StmtKind-F.If arms other →
-      does scope s now ≡ chosen (map (choice_of scope) arms) (in_order (map (does scope) other)) now
+      does scope s now ≡ first_true_choice (map (choice_of scope) arms) (in_order (map (does scope) other)) now
   branching_does arms other is = ap (λ s. does scope s now) (stmt_made_of s _ is) ∙ rw (fold-roll-Stmt, fold-roll-StmtKind) refl
 
   repeat_does : (body : List Stmt) → says s ≡ StmtKind-F.Repeat body →
@@ -301,14 +325,15 @@ truth_gone : (scope : Scope) (e : Expr) (now : List Value) → meaning_of scope 
 truth_gone scope e now none = map_gone (λ (a : Operand). is_one a.n) (operand (meaning_of scope e) (own now)) (number_gone scope (own now) e none)
 
 -- an arm
-arm_chosen : (scope : Scope) (arm : Arm) (arms : List Arm) (other : Does) (now : List Value) (holds : Option Bool) → truth scope (out-Arm arm).test now ≡ holds
-    → option_and_then (λ holds. if holds then in_order (map (does scope) (out-Arm arm).body) now else chosen
+arm_chosen : (scope : Scope) (arm : Arm) (arms : List Arm) (other : Does) (now : List Value) (holds : Option Bool) →
+    truth scope (out-Arm arm).test now ≡ holds
+    → option_and_then (λ holds. if holds then in_order (map (does scope) (out-Arm arm).body) now else first_true_choice
     (map (choice_of scope) arms) other now) holds ≡ None
-    → chosen (map (choice_of scope) (arm ∷ arms)) other now ≡ None
+    → first_true_choice (map (choice_of scope) (arm ∷ arms)) other now ≡ None
 arm_chosen scope arm arms other now holds is none =
-    ap (λ (choice : Choice). option_and_then (λ holds. if holds then choice.body now else chosen (map (choice_of scope) arms) other now)
+    ap (λ (choice : Choice). option_and_then (λ holds. if holds then choice.body now else first_true_choice (map (choice_of scope) arms) other now)
     (choice.test now)) (choice_out scope arm)
-    ∙ (ap (option_and_then (λ holds. if holds then in_order (map (does scope) (out-Arm arm).body) now else chosen
+    ∙ (ap (option_and_then (λ holds. if holds then in_order (map (does scope) (out-Arm arm).body) now else first_true_choice
     (map (choice_of scope) arms) other now)) is ∙ none)
 
 -- a turn
@@ -316,14 +341,14 @@ module _ (goes ends : List Value → Option Bool) (body : Does) where
   never_goes : (n : ℕ) (now : List Value) → goes now ≡ None → looped goes body ends n now ≡ None
   never_goes zero now none = ap (option_and_then (λ more. if more then None else Some (Flow.On now))) none
   never_goes (suc n) now none =
-      ap (option_and_then (λ more. if more then after (body now)
+      ap (option_and_then (λ more. if more then flow_then (body now)
       (λ new. option_and_then (λ is_over. if is_over then Some (Flow.On new) else looped goes body ends n new) (ends new)) else Some (Flow.On now))) none
 
   turns_on : (n : ℕ) (now : List Value) → goes now ≡ Some true →
-      after (body now) (λ new. option_and_then (λ is_over. if is_over then Some (Flow.On new) else looped goes body ends n new) (ends new)) ≡ None
+      flow_then (body now) (λ new. option_and_then (λ is_over. if is_over then Some (Flow.On new) else looped goes body ends n new) (ends new)) ≡ None
       → looped goes body ends (suc n) now ≡ None
   turns_on n now more none =
-      ap (option_and_then (λ more. if more then after (body now)
+      ap (option_and_then (λ more. if more then flow_then (body now)
       (λ new. option_and_then (λ is_over. if is_over then Some (Flow.On new) else looped goes body ends n new) (ends new)) else Some
       (Flow.On now))) more ∙ none
 
@@ -331,14 +356,16 @@ module _ (goes ends : List Value → Option Bool) (body : Does) where
   after_turn n new is_over = option_and_then (λ is_over. if is_over then Some (Flow.On new) else looped goes body ends n new) is_over
 
   unturned : (n : ℕ) (now : List Value) → goes now ≡ Some true → body now ≡ None → looped goes body ends (suc n) now ≡ None
-  unturned n now more none = turns_on n now more (ap (λ done. after done (λ new. after_turn n new (ends new))) none)
+  unturned n now more none = turns_on n now more (ap (λ done. flow_then done (λ new. after_turn n new (ends new))) none)
 
-  untested : (n : ℕ) (now new : List Value) → goes now ≡ Some true → body now ≡ Some (Flow.On new) → ends new ≡ None → looped goes body ends (suc n) now ≡ None
-  untested n now new more is none = turns_on n now more (ap (λ done. after done (λ new. after_turn n new (ends new))) is ∙ ap (after_turn n new) none)
+  untested : (n : ℕ) (now new : List Value) → goes now ≡ Some true → body now ≡ Some (Flow.On new) → ends new ≡ None →
+      looped goes body ends (suc n) now ≡ None
+  untested n now new more is none = turns_on n now more (ap (λ done. flow_then done (λ new. after_turn n new (ends new))) is ∙ ap (after_turn n new) none)
 
   turned : (n : ℕ) (now new : List Value) → goes now ≡ Some true → body now ≡ Some (Flow.On new) → ends new ≡ Some false →
       looped goes body ends n new ≡ None → looped goes body ends (suc n) now ≡ None
-  turned n now new more is on none = turns_on n now more (ap (λ done. after done (λ new. after_turn n new (ends new))) is ∙ (ap (after_turn n new) on ∙ none))
+  turned n now new more is on none =
+      turns_on n now more (ap (λ done. flow_then done (λ new. after_turn n new (ends new))) is ∙ (ap (after_turn n new) on ∙ none))
 
 -- ---- all together
 
@@ -383,7 +410,8 @@ module _ (structs : List StructDef) where
     some_none (SomeTraps.here e) = first_gone _ _ (expr_none e)
     some_none (SomeTraps.there es) = rest_gone _ _ (some_none es)
 
-    path_none : {home : Home} {view : View} {path : Path} → PathTraps structs home view path → reading (spot_of (scope_at structs home) path) view ≡ None
+    path_none : {home : Home} {view : View} {path : Path} → PathTraps structs home view path
+        → reading (path_meaning_of (scope_at structs home) path) view ≡ None
     path_none (PathTraps.from {home = home} there parts) = path_reads (scope_at structs home) _ _ _ there (parts_none parts)
 
     parts_none : {home : Home} {view : View} {parts : List Part} {value : Value} → PartsTrap structs home view parts value
@@ -405,9 +433,10 @@ module _ (structs : List StructDef) where
 
     block_none : {home : Home} {body : List Stmt} {now : List Value} → BlockTraps structs home body now →
         in_order (map (does (scope_at structs home)) body) now ≡ None
-    block_none (BlockTraps.first {home = home} {rest = rest} s) = ap (λ first. after first (in_order (map (does (scope_at structs home)) rest))) (stmt_none s)
+    block_none (BlockTraps.first {home = home} {rest = rest} s) =
+        ap (λ first. flow_then first (in_order (map (does (scope_at structs home)) rest))) (stmt_none s)
     block_none (BlockTraps.later {home = home} {rest = rest} is more) =
-        ap (λ first. after first (in_order (map (does (scope_at structs home)) rest))) is ∙ block_none more
+        ap (λ first. flow_then first (in_order (map (does (scope_at structs home)) rest))) is ∙ block_none more
 
     pub act_none : {home : Home} {view : View} {s : Stmt} → ActTraps structs home view s → acted (scope_at structs home) (says s) view ≡ None
     act_none (ActTraps.initial {home = home} {view = view} is traps) =
@@ -424,7 +453,7 @@ module _ (structs : List StructDef) where
         ap (λ layer. acted (scope_at structs home) layer view) is ∙ callee_acts (scope_at structs home) view _ _ _ c.callee values c.is_there given c.none
 
     some_path_none : {home : Home} {view : View} {paths : List Path} → SomePathTraps structs home view paths →
-        values_of (map reading (map (spot_of (scope_at structs home)) paths)) view ≡ None
+        values_of (map reading (map (path_meaning_of (scope_at structs home)) paths)) view ≡ None
     some_path_none (SomePathTraps.here_path path) = first_gone _ _ (path_none path)
     some_path_none (SomePathTraps.there_path paths) = rest_gone _ _ (some_path_none paths)
 
@@ -437,7 +466,7 @@ module _ (structs : List StructDef) where
     stmt_none (StmtTraps.while {home = home} is turns) = while_does (scope_at structs home) _ _ _ _ is ∙ loop_none turns
 
     arms_none : {home : Home} {arms : List Arm} {other : List Stmt} {now : List Value} → ArmsTrap structs home arms other now
-        → chosen (map (choice_of (scope_at structs home)) arms) (in_order (map (does (scope_at structs home)) other)) now ≡ None
+        → first_true_choice (map (choice_of (scope_at structs home)) arms) (in_order (map (does (scope_at structs home)) other)) now ≡ None
     arms_none (ArmsTrap.none_taken {home = home} other) = block_none other
     arms_none (ArmsTrap.testing {home = home} {arm = arm} {arms = arms} {others = others} {now = now} e) =
         arm_chosen (scope_at structs home) arm arms (in_order (map (does (scope_at structs home)) others)) now None

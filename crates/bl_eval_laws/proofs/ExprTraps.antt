@@ -1,5 +1,28 @@
 -- An expression of a typed program that has no value traps.
-use Rattle.std.proofs.Common.{◌≡◌, ℕ, ℤ, Bool, true, false, ◌&&◌, List, [], ◌∷◌, map, take, arith, Option, Some, None, refl, sym, ap, ◌∙◌, subst, IfSome}
+use Rattle.std.proofs.Common.{
+  ◌≡◌,
+  ℕ,
+  ℤ,
+  Bool,
+  true,
+  false,
+  ◌&&◌,
+  List,
+  [],
+  ◌∷◌,
+  map,
+  take,
+  arith,
+  Option,
+  Some,
+  None,
+  refl,
+  sym,
+  ap,
+  ◌∙◌,
+  subst,
+  IfSome,
+}
 use Rattle.std.proofs.lemmas.Bool.{eqb-true}
 use Rattle.std.proofs.lemmas.List.Elements.{All-head, All-tail}
 use Rattle.std.specs.Prelude.{All, nat_eq, option_and_then, option_map, slice_get, if◌then◌else◌}
@@ -56,13 +79,13 @@ use Rattle.bl_eval.specs.Meaning.{
   decides,
   meaning_of,
   one_datum,
+  path_meaning_of,
   plain,
   position_in,
   positions_of,
   read_at,
   reading,
   scalar_of,
-  spot_of,
   two_data,
   two_datum,
   values_of,
@@ -119,7 +142,7 @@ module _ (structs : List StructDef) (home : Home) (sound : Sound structs home.ea
   P e = (ty : Ty) → type_of site e ≡ Some ty → meaning_of scope e view ≡ None → Traps e
 
   abbrev Q : Path → Type 0
-  Q path = (ty : Ty) → type_of_path site path ≡ Some ty → reading (spot_of scope path) view ≡ None → PathTraps structs home view path
+  Q path = (ty : Ty) → type_of_path site path ≡ Some ty → reading (path_meaning_of scope path) view ≡ None → PathTraps structs home view path
 
   gives : (e : Expr) (ty : Ty) → type_of site e ≡ Some ty → IfSome (meaning_of scope e view) (DatumFits structs ty)
   gives = expr_fits structs home.earlier home.unit (callees_of structs home.earlier) sound view now_fits before_fits
@@ -153,7 +176,8 @@ module _ (structs : List StructDef) (home : Home) (sound : Sound structs home.ea
 
     by_right : (op : Op) (a b : Expr) (s : ScalarType) (x : Operand) → number a ≡ Some x → OperandFits s x → decides op x.n ≡ false →
         takes_two op s ≡ true → (number b ≡ None → Traps b)
-        → (y : Option Operand) → number b ≡ y → IfSome y (OperandFits s) → option_and_then (two_data op x) y ≡ None → Traps (expr place (ExprKind-F.Two op a b))
+        → (y : Option Operand) → number b ≡ y → IfSome y (OperandFits s) → option_and_then (two_data op x) y ≡ None
+        → Traps (expr place (ExprKind-F.Two op a b))
     by_right op a b s x left fit undecided takes inner None is other none = ExprTraps.in_right (what_is place (ExprKind-F.Two op a b)) left undecided (inner is)
     by_right op a b s x left fit undecided takes inner (Some y) is other none =
         ExprTraps.two (what_is place (ExprKind-F.Two op a b)) left undecided is (two_fails op s x y fit other takes none)
@@ -242,7 +266,8 @@ module _ (structs : List StructDef) (home : Home) (sound : Sound structs home.ea
 
   by_left_behind : (place : Place) (f : ℕ) (inputs : List Expr) (callee : UnitDef) (s : ScalarType) (values : List Value) →
       slice_get home.earlier f ≡ Some callee → is_function callee.kind ≡ true
-      → callee.result ≡ Some s → values_of (map (meaning_of scope) inputs) view ≡ Some values → values_fit structs (parameters_of callee) values ≡ true
+      → callee.result ≡ Some s → values_of (map (meaning_of scope) inputs) view ≡ Some values
+      → values_fit structs (parameters_of callee) values ≡ true
       → (left : Option Left) → called_at structs home f callee values ≡ left → option_and_then (λ left. left.result) left ≡ None →
       Traps (expr place (ExprKind-F.Call f inputs))
   by_left_behind place f inputs callee s values there function result given fit None is none =
@@ -319,7 +344,8 @@ module _ (structs : List StructDef) (home : Home) (sound : Sound structs home.ea
 
   by_element : (part : Part) (parts : List Part) (a c : Ty) (value : Value) (e : Expr) (x : Operand) → Fits structs a value →
       out-Part part ≡ Part-F.Index e → element_in (out-Ty a) ≡ Some c → number e ≡ Some x
-      → Further parts c → Lost (part ∷ parts) value → (inner : Option Value) → element_at x.n value ≡ inner → PartsTrap structs home view (part ∷ parts) value
+      → Further parts c → Lost (part ∷ parts) value → (inner : Option Value) → element_at x.n value ≡ inner
+      → PartsTrap structs home view (part ∷ parts) value
   by_element part parts a c value e x fit is element there more lost None at = PartsTrap.outside is there at
   by_element part parts a c value e x fit is element there more lost (Some inner) at =
       let found = some_found (λ k. part_of k value) (position_of x.n) inner at in
@@ -394,5 +420,6 @@ module _ (structs : List StructDef) (home : Home) (sound : Sound structs home.ea
   expr_traps = induct P Q cases
 
   -- and so does a path that names nothing
-  pub path_lost : (path : Path) (ty : Ty) → type_of_path site path ≡ Some ty → reading (spot_of scope path) view ≡ None → PathTraps structs home view path
+  pub path_lost : (path : Path) (ty : Ty) → type_of_path site path ≡ Some ty → reading (path_meaning_of scope path) view ≡ None
+      → PathTraps structs home view path
   path_lost = induct_path P Q cases

@@ -38,7 +38,8 @@ none_of_then f o x there is = sym (ap (option_and_then f) there) ∙ is
 -- ---- numbers
 
 -- an expression of a scalar type that gives no number gives nothing
-pub numberless : (structs : List StructDef) (ty : Ty) (s : ScalarType) (datum : Option Datum) → scalar_in ty ≡ Some s → IfSome datum (DatumFits structs ty)
+pub numberless : (structs : List StructDef) (ty : Ty) (s : ScalarType) (datum : Option Datum) → scalar_in ty ≡ Some s
+    → IfSome datum (DatumFits structs ty)
     → option_and_then operand_in datum ≡ None → datum ≡ None
 numberless structs ty s None is fit none = refl
 numberless structs ty s (Some (OfScalar t n)) is fit none = cc
@@ -48,7 +49,8 @@ unchosen : {A : Type 0} (holds : Bool) (o : Option A) → holds ≡ true → (if
 unchosen true o is none = none
 unchosen false o is none = cc
 
-pub one_fails : (op : Op) (s : ScalarType) (x : Operand) → OperandFits s x → takes_one op s ≡ true → one_datum op x ≡ None → checked_one_of op x.ty x.n ≡ None
+pub one_fails : (op : Op) (s : ScalarType) (x : Operand) → OperandFits s x → takes_one op s ≡ true → one_datum op x ≡ None →
+    checked_one_of op x.ty x.n ≡ None
 one_fails op s x fit takes none =
     unchosen (takes_one op x.ty && in_range x.ty x.n) (checked_one_of op x.ty x.n)
     (rw (fit.0, takes, fit.1) refl)

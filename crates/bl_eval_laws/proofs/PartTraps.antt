@@ -54,13 +54,15 @@ module _ (structs : List StructDef) (stand : structs_stand_from 0 structs ≡ tr
             (ap (λ (test : Test). test found.0) (fits_before structs s field.ty (omega arith) stands)) ∙ found.2);
       }
 
-  by_field : (s : ℕ) (def : StructDef) (found : Option Field) → out-Ty a ≡ Ty-F.Struct s → slice_get structs s ≡ Some def → slice_get def.fields k ≡ found
+  by_field : (s : ℕ) (def : StructDef) (found : Option Field) → out-Ty a ≡ Ty-F.Struct s → slice_get structs s ≡ Some def
+      → slice_get def.fields k ≡ found
       → option_map (λ (field : Field). field.ty) found ≡ Some c → PartIs structs c k value
   by_field s def None is there has typed = absurd (cc)
   by_field s def (Some field) is there has typed = in_struct s def field is there has (same_Some field.ty c typed)
 
   by_def : (s : ℕ) (found : Option StructDef) → out-Ty a ≡ Ty-F.Struct s → slice_get structs s ≡ found
-      → option_and_then (λ (def : StructDef). option_map (λ (field : Field). field.ty) (slice_get def.fields k)) found ≡ Some c → PartIs structs c k value
+      → option_and_then (λ (def : StructDef). option_map (λ (field : Field). field.ty) (slice_get def.fields k)) found ≡ Some c
+      → PartIs structs c k value
   by_def s None is there typed = absurd (cc)
   by_def s (Some def) is there typed = by_field s def (slice_get def.fields k) is there refl typed
 
@@ -73,7 +75,8 @@ module _ (structs : List StructDef) (stand : structs_stand_from 0 structs ≡ tr
   pub field_is : field_in structs k (out-Ty a) ≡ Some c → PartIs structs c k value
   field_is typed = by_layer (out-Ty a) refl typed
 
-  by_element : (layer : Ty-F Ty) (inner : Value) → out-Ty a ≡ layer → element_in layer ≡ Some c → part_of k value ≡ Some inner → Fits structs c inner
+  by_element : (layer : Ty-F Ty) (inner : Value) → out-Ty a ≡ layer → element_in layer ≡ Some c → part_of k value ≡ Some inner →
+      Fits structs c inner
   by_element (Ty-F.Scalar s) inner is typed there = absurd (cc)
   by_element (Ty-F.Struct s) inner is typed there = absurd (cc)
   by_element (Ty-F.Array n element) inner is typed there =

@@ -1,5 +1,26 @@
 -- A function with a result gives one wherever it ends.
-use Rattle.std.proofs.Common.{◌≡◌, ℕ, suc, zero, Bool, true, false, ◌&&◌, List, [], ◌∷◌, map, Option, Some, None, refl, sym, ◌∙◌, subst, IfSome}
+use Rattle.std.proofs.Common.{
+  ◌≡◌,
+  ℕ,
+  suc,
+  zero,
+  Bool,
+  true,
+  false,
+  ◌&&◌,
+  List,
+  [],
+  ◌∷◌,
+  map,
+  Option,
+  Some,
+  None,
+  refl,
+  sym,
+  ◌∙◌,
+  subst,
+  IfSome,
+}
 use Rattle.std.proofs.lemmas.List.Elements.{All-head, All-tail}
 use Rattle.std.specs.Prelude.{option_and_then, option_map, if◌then◌else◌}
 use Rattle.bl_tree.specs.declared.scalar.Scalar.{Scalar as ScalarType}
@@ -14,7 +35,7 @@ use Rattle.bl_tree.specs.Typing.{Site, arm_fits, branch_fits, fits, is_inhabited
 use Rattle.bl_tree.proofs.StmtInduction.{Cases, Each, EachArm, induct}
 use Rattle.bl_eval.specs.declared.datum.Datum.{Datum}
 use Rattle.bl_eval.specs.Changes.{choice_of}
-use Rattle.bl_eval.specs.Functions.{Choice, Does, Flow, after, chosen, condition, does, in_order, looped, most_turns, own, returned}
+use Rattle.bl_eval.specs.Functions.{Choice, Does, Flow, condition, does, first_true_choice, flow_then, in_order, looped, most_turns, own, returned}
 use Rattle.bl_eval.specs.Meaning.{Scope, meaning_of}
 use Rattle.bl_eval.proofs.MeaningLemmas.{choice_out}
 use Rattle.bl_eval.proofs.PassLemmas.{and_left, and_right}
@@ -41,7 +62,7 @@ weaken_all sure other ends less h now = by_end (ends now) (h now)
 -- ---- one after another
 
 after_first : (sure : Bool) (first : Option Flow) (next : Does) (other : Bool) → IfSome first (Ends other) →
-    ((now : List Value) → other ≡ false → IfSome (next now) (Ends sure)) → IfSome (after first next) (Ends sure)
+    ((now : List Value) → other ≡ false → IfSome (next now) (Ends sure)) → IfSome (flow_then first next) (Ends sure)
 after_first sure None next other h more = tt
 after_first sure (Some (Flow.On now)) next other h more = more now h
 after_first sure (Some (Flow.Back now given)) next other h more = h
@@ -79,7 +100,7 @@ module _ (goes ends : List Value → Option Bool) (body : Does) (sure : Bool) (o
   over_ends (Some false) again new more = more new
 
   turn_ends : (more : Option Bool) (again : Does) (now : List Value) → EndsSo false again
-      → IfSome (option_and_then (λ more. if more then after (body now)
+      → IfSome (option_and_then (λ more. if more then flow_then (body now)
       (λ new. option_and_then (λ is_over. if is_over then Some (Flow.On new) else again new) (ends new)) else Some (Flow.On now)) more) (Ends false)
   turn_ends None again now next = tt
   turn_ends (Some true) again now next =
@@ -126,12 +147,12 @@ module _ (site : Site) (scope : Scope) (r : ScalarType) (gives : site.result ≡
       (sym (fold_out-Arm Bool Bool Bool Bool (kind_fits site) (arm_fits site) branch_fits stmt_fits arm) ∙ fitted))))
 
   arms_end : (arms : List Arm) (other : Does) (last : Bool) → EachArm S arms → all_of (map arm_fitted arms) ≡ true → EndsSo last other
-      → EndsSo (all_of (map arm_sure arms) && last) (chosen (map (choice_of scope) arms) other)
+      → EndsSo (all_of (map arm_sure arms) && last) (first_true_choice (map (choice_of scope) arms) other)
   arms_end [] other last each fitted h now = h now
   arms_end (arm ∷ arms) other last each fitted h now =
       let rest : Bool = all_of (map arm_sure arms) in
       choice_by ((arm_sure arm && rest) && last) (arm_sure arm) (rest && last) ((choice_of scope arm).test now) (choice_of scope arm).body
-      (chosen (map (choice_of scope) arms) other) now
+      (first_true_choice (map (choice_of scope) arms) other) now
       (λ is. no_left (arm_sure arm && rest) last (no_left (arm_sure arm) rest is)) (no_middle (arm_sure arm) rest last)
       (arm_ends arm (All-head OfArm arm arms each) (and_left (arm_fitted arm) (all_of (map arm_fitted arms)) fitted))
       (arms_end arms other last (All-tail OfArm arm arms each) (and_right (arm_fitted arm) (all_of (map arm_fitted arms)) fitted) h)

@@ -1,5 +1,28 @@
 -- A statement of a function of a typed program that does not end traps.
-use Rattle.std.proofs.Common.{◌≡◌, ℕ, suc, zero, Bool, true, false, not, ◌&&◌, List, [], ◌∷◌, map, Option, Some, None, refl, sym, ap, ◌∙◌, subst, IfSome}
+use Rattle.std.proofs.Common.{
+  ◌≡◌,
+  ℕ,
+  suc,
+  zero,
+  Bool,
+  true,
+  false,
+  not,
+  ◌&&◌,
+  List,
+  [],
+  ◌∷◌,
+  map,
+  Option,
+  Some,
+  None,
+  refl,
+  sym,
+  ap,
+  ◌∙◌,
+  subst,
+  IfSome,
+}
 use Rattle.std.proofs.lemmas.List.Elements.{All-head, All-tail}
 use Rattle.std.specs.Prelude.{is_some, option_and_then, slice_get, if◌then◌else◌}
 use Rattle.bl_tree.specs.declared.place.Place.{Place}
@@ -46,14 +69,14 @@ use Rattle.bl_eval.specs.Functions.{
   Choice,
   Does,
   Flow,
-  after,
   assigned,
   call_of,
   callees_of,
-  chosen,
   condition,
   declared,
   does,
+  first_true_choice,
+  flow_then,
   in_order,
   looped,
   most_turns,
@@ -61,7 +84,7 @@ use Rattle.bl_eval.specs.Functions.{
   returned,
   truth,
 }
-use Rattle.bl_eval.specs.Meaning.{Scope, meaning_of, operand, spot_of, value_in}
+use Rattle.bl_eval.specs.Meaning.{Scope, meaning_of, operand, path_meaning_of, value_in}
 use Rattle.bl_eval.proofs.ActFits.{AllFit, same_found}
 use Rattle.bl_eval.proofs.ExprFits.{Sound, expr_fits}
 use Rattle.bl_eval.proofs.MeaningLemmas.{choice_out}
@@ -115,7 +138,8 @@ module _ (structs : List StructDef) (home : Home) (sound : Sound structs home.ea
 
   -- ---- conditions
 
-  truth_traps : (now : List Value) → Fit now → (e : Expr) → is_truth (type_of site e) ≡ true → truth scope e now ≡ None → ExprTraps structs home (own now) e
+  truth_traps : (now : List Value) → Fit now → (e : Expr) → is_truth (type_of site e) ≡ true → truth scope e now ≡ None →
+      ExprTraps structs home (own now) e
   truth_traps now fit e typed none =
       let found = truth_type (type_of site e) typed in
       traps now fit e found.0 found.2
@@ -133,13 +157,15 @@ module _ (structs : List StructDef) (home : Home) (sound : Sound structs home.ea
   abbrev S : Stmt → Type 0
   S s = fits site s ≡ true → (now : List Value) → Fit now → does scope s now ≡ None → StmtTraps structs home s now
 
-  goes_on : (ends : Option Flow) (new : List Value) → IfSome ends (FlowFits structs home.unit.vars home.unit.result) → ends ≡ Some (Flow.On new) → Fit new
+  goes_on : (ends : Option Flow) (new : List Value) → IfSome ends (FlowFits structs home.unit.vars home.unit.result) → ends ≡ Some (Flow.On new) →
+      Fit new
   goes_on ends new fit is = subst (λ ends. IfSome ends (FlowFits structs home.unit.vars home.unit.result)) is fit
 
   by_first : (s : Stmt) (body : List Stmt) (now : List Value) →
       IfSome (does scope s now) (FlowFits structs home.unit.vars home.unit.result) → (does scope s now ≡ None → StmtTraps structs home s now)
       → ((new : List Value) → Fit new → in_order (map (does scope) body) new ≡ None → BlockTraps structs home body new)
-      → (first : Option Flow) → does scope s now ≡ first → after first (in_order (map (does scope) body)) ≡ None → BlockTraps structs home (s ∷ body) now
+      → (first : Option Flow) → does scope s now ≡ first → flow_then first (in_order (map (does scope) body)) ≡ None
+      → BlockTraps structs home (s ∷ body) now
   by_first s body now fit inner more None is none = BlockTraps.first (inner is)
   by_first s body now fit inner more (Some (Flow.On new)) is none = BlockTraps.later is (more new (goes_on (does scope s now) new fit is) none)
   by_first s body now fit inner more (Some (Flow.Back new given)) is none = made_some none
@@ -173,9 +199,9 @@ module _ (structs : List StructDef) (home : Home) (sound : Sound structs home.ea
   by_test : (arm : Arm) (arms : List Arm) (other : List Stmt) (now : List Value) →
       (truth scope (out-Arm arm).test now ≡ None → ExprTraps structs home (own now) (out-Arm arm).test)
       → (in_order (map (does scope) (out-Arm arm).body) now ≡ None → BlockTraps structs home (out-Arm arm).body now)
-      → (chosen (map (choice_of scope) arms) (in_order (map (does scope) other)) now ≡ None → ArmsTrap structs home arms other now)
+      → (first_true_choice (map (choice_of scope) arms) (in_order (map (does scope) other)) now ≡ None → ArmsTrap structs home arms other now)
       → (holds : Option Bool) → truth scope (out-Arm arm).test now ≡ holds
-      → option_and_then (λ holds. if holds then in_order (map (does scope) (out-Arm arm).body) now else chosen (map (choice_of scope) arms)
+      → option_and_then (λ holds. if holds then in_order (map (does scope) (out-Arm arm).body) now else first_true_choice (map (choice_of scope) arms)
       (in_order (map (does scope) other)) now) holds ≡ None
       → ArmsTrap structs home (arm ∷ arms) other now
   by_test arm arms other now inner body more None is none = ArmsTrap.testing (inner is)
@@ -184,7 +210,7 @@ module _ (structs : List StructDef) (home : Home) (sound : Sound structs home.ea
 
   arms_trap : (arms : List Arm) (other : List Stmt) → EachArm S arms → Each S other → all_of (map arm_fitted arms) ≡ true →
       all_of (map (fits site) other) ≡ true → (now : List Value) → Fit now
-      → chosen (map (choice_of scope) arms) (in_order (map (does scope) other)) now ≡ None → ArmsTrap structs home arms other now
+      → first_true_choice (map (choice_of scope) arms) (in_order (map (does scope) other)) now ≡ None → ArmsTrap structs home arms other now
   arms_trap [] other each others fitted other_fitted now fit none = ArmsTrap.none_taken (block_traps other others other_fitted now fit none)
   arms_trap (arm ∷ arms) other each others fitted other_fitted now fit none =
       let here = arm_parts arm (and_left (arm_fitted arm) (all_of (map arm_fitted arms)) fitted) in
@@ -194,7 +220,7 @@ module _ (structs : List StructDef) (home : Home) (sound : Sound structs home.ea
       (block_traps body (All-head OfArm arm arms each) (and_right (is_truth (type_of site test)) (all_of (map (fits site) body)) here) now fit)
       (arms_trap arms other (All-tail OfArm arm arms each) others (and_right (arm_fitted arm) (all_of (map arm_fitted arms)) fitted) other_fitted now fit)
       (truth scope test now) refl
-      (subst (λ (choice : Choice). option_and_then (λ holds. if holds then choice.body now else chosen (map (choice_of scope) arms)
+      (subst (λ (choice : Choice). option_and_then (λ holds. if holds then choice.body now else first_true_choice (map (choice_of scope) arms)
       (in_order (map (does scope) other)) now) (choice.test now) ≡ None) (choice_out scope arm) none)
 
   -- ---- loops
@@ -222,9 +248,11 @@ module _ (structs : List StructDef) (home : Home) (sound : Sound structs home.ea
     last_by now fit (Some true) is none = LoopTraps.spent is
     last_by now fit (Some false) is none = made_some none
 
-    over_by : (n : ℕ) (now new : List Value) → condition scope goes true now ≡ Some true → in_order (map (does scope) body) now ≡ Some (Flow.On new) → Fit new
+    over_by : (n : ℕ) (now new : List Value) → condition scope goes true now ≡ Some true
+        → in_order (map (does scope) body) now ≡ Some (Flow.On new) → Fit new
         → (turned n new ≡ None → LoopTraps structs home goes body ends n new) → (is_over : Option Bool) → condition scope ends false new ≡ is_over
-        → option_and_then (λ is_over. if is_over then Some (Flow.On new) else turned n new) is_over ≡ None → LoopTraps structs home goes body ends (suc n) now
+        → option_and_then (λ is_over. if is_over then Some (Flow.On new) else turned n new) is_over ≡ None
+        → LoopTraps structs home goes body ends (suc n) now
     over_by n now new more done fit again None is none = behind_traps goes ends body n now new more done fit ends_fit is
     over_by n now new more done fit again (Some true) is none = made_some none
     over_by n now new more done fit again (Some false) is none = LoopTraps.again more done is (again none)
@@ -232,7 +260,7 @@ module _ (structs : List StructDef) (home : Home) (sound : Sound structs home.ea
     done_by : (n : ℕ) (now : List Value) → Fit now → condition scope goes true now ≡ Some true →
         ((new : List Value) → Fit new → turned n new ≡ None → LoopTraps structs home goes body ends n new)
         → (done : Option Flow) → in_order (map (does scope) body) now ≡ done
-        → after done (λ new. option_and_then (λ is_over. if is_over then Some (Flow.On new) else turned n new)
+        → flow_then done (λ new. option_and_then (λ is_over. if is_over then Some (Flow.On new) else turned n new)
         (condition scope ends false new)) ≡ None → LoopTraps structs home goes body ends (suc n) now
     done_by n now fit more again None is none = LoopTraps.turn more (block_traps body each fitted now fit is)
     done_by n now fit more again (Some (Flow.On new)) is none =
@@ -240,9 +268,10 @@ module _ (structs : List StructDef) (home : Home) (sound : Sound structs home.ea
         over_by n now new more is new_fit (again new new_fit) (condition scope ends false new) refl none
     done_by n now fit more again (Some (Flow.Back new given)) is none = made_some none
 
-    turn_by : (n : ℕ) (now : List Value) → Fit now → ((new : List Value) → Fit new → turned n new ≡ None → LoopTraps structs home goes body ends n new)
+    turn_by : (n : ℕ) (now : List Value) → Fit now
+        → ((new : List Value) → Fit new → turned n new ≡ None → LoopTraps structs home goes body ends n new)
         → (more : Option Bool) → condition scope goes true now ≡ more
-        → option_and_then (λ more. if more then after (in_order (map (does scope) body) now)
+        → option_and_then (λ more. if more then flow_then (in_order (map (does scope) body) now)
         (λ new. option_and_then (λ is_over. if is_over then Some (Flow.On new) else turned n new) (condition scope ends false new)) else
         Some (Flow.On now)) more ≡ None
         → LoopTraps structs home goes body ends (suc n) now
@@ -282,7 +311,7 @@ module _ (structs : List StructDef) (home : Home) (sound : Sound structs home.ea
     assign = λ place path e fitted now fit none.
         StmtTraps.act (assigned_traps structs home sound calls (own now) fit fit _ path e (says_is place (StmtKind-F.Assign path e))
         (and_right _ (are_same (type_of_path site path) (type_of site e)) (rw (fold-roll-Stmt, fold-roll-StmtKind) at fitted))
-        (none_of_map Flow.On (assigned (spot_of scope path) (value_in scope e (own now)) (own now)) (rw (fold-roll-Stmt, fold-roll-StmtKind) at none)));
+        (none_of_map Flow.On (assigned (path_meaning_of scope path) (value_in scope e (own now)) (own now)) (rw (fold-roll-Stmt, fold-roll-StmtKind) at none)));
     call = λ place f inputs outputs fitted now fit none.
         StmtTraps.act (called_traps structs home sound calls (own now) fit fit _ f inputs outputs
         (says_is place (StmtKind-F.Call f inputs outputs)) (slice_get home.earlier f) refl (rw (fold-roll-Stmt, fold-roll-StmtKind) at fitted)

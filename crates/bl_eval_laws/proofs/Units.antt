@@ -128,7 +128,8 @@ frame_fits structs unit arguments structs_stand vars_stand given =
 
 -- ---- results
 
-left_gives : (unit : UnitDef) (flow : Option Flow) (left : Left) → IfSome flow (Ends true) → option_map (left_by unit) flow ≡ Some left → left.result ≡ None → ⊥
+left_gives : (unit : UnitDef) (flow : Option Flow) (left : Left) → IfSome flow (Ends true) → option_map (left_by unit) flow ≡ Some left →
+    left.result ≡ None → ⊥
 left_gives unit None left h is none = cc
 left_gives unit (Some (Flow.On now)) left h is none = cc
 left_gives unit (Some (Flow.Back now given)) left h is none =
@@ -174,7 +175,8 @@ module _ (structs : List StructDef) (units : List UnitDef) (entry : ℕ) (keeps 
   inside : (k f : ℕ) (callee : UnitDef) → slice_get (take k units) f ≡ Some callee → f < k
   inside k f callee there = omega (arith, slice_get_within (take k units) f callee there, length-take k units)
 
-  calls_by : (k : ℕ) (unit : UnitDef) → ((f : ℕ) (callee : UnitDef) → f < k → Calls structs (home_at units f callee)) → Calls structs (home_at units k unit)
+  calls_by : (k : ℕ) (unit : UnitDef) → ((f : ℕ) (callee : UnitDef) → f < k → Calls structs (home_at units f callee)) →
+      Calls structs (home_at units k unit)
   calls_by k unit lower = record {
     traps = λ f callee values there function fit none.
         let before : f < k = inside k f callee there in

@@ -15,7 +15,7 @@ use Rattle.bl_tree.specs.Typing.{Site, are_same, fits, is_assignable, site_of, t
 use Rattle.bl_tree.proofs.StmtInduction.{stmt}
 use Rattle.bl_eval.specs.Functions.{acted}
 use Rattle.bl_eval.specs.Meaning.{View, meaning_of, plain}
-use Rattle.bl_eval.specs.Standing.{Stands, StandsAct, outcome_in_unit, outcome_of, value_in_unit, value_of}
+use Rattle.bl_eval.specs.Standing.{ActStandsInUnit, ExprStandsInUnit, outcome_in_unit, outcome_of, value_in_unit, value_of}
 use Rattle.bl_eval.proofs.PassLemmas.{and_right}
 use Rattle.bl_eval.proofs.UnitFits.{sound_at}
 use Rattle.bl_eval_laws.specs.Traps.{Home, home_at, is_act, says, scope_at, ActTraps, ActTrapsIn, ExprTrapsIn}
@@ -35,9 +35,11 @@ module _ (structs : List StructDef) (units : List UnitDef) (entry k : ℕ) (view
 
   value_here : (e : Expr) (unit : UnitDef) → slice_get units k ≡ Some unit →
       value_in_unit structs units k e view ≡ option_map plain (meaning_of (scope_at structs (home_at units k unit)) e view)
-  value_here e unit there = ap (λ (at : Option UnitDef). option_and_then (λ site. value_of site e view) (option_map (site_of structs (take k units)) at)) there
+  value_here e unit there =
+      ap (λ (at : Option UnitDef). option_and_then (λ site. value_of site e view) (option_map (site_of structs (take k units)) at)) there
 
-  pub value_traps : (e : Expr) → Stands structs units k view e → (value_in_unit structs units k e view ≡ None) ↔ ExprTrapsIn structs units k view e
+  pub value_traps : (e : Expr) → ExprStandsInUnit structs units k view e → (value_in_unit structs units k e view ≡ None)
+      ↔ ExprTrapsIn structs units k view e
   value_traps e stands = (
     λ none. let found = typed_at (type_of (site_of structs (take k units) stands.unit) e) stands.typed in (
       stands.unit,
@@ -57,7 +59,7 @@ module _ (structs : List StructDef) (units : List UnitDef) (entry k : ℕ) (view
   outcome_here s unit there = ap (λ (at : Option UnitDef). option_and_then (λ site. outcome_of site s view)
       (option_map (site_of structs (take k units)) at)) there
 
-  module _ (s : Stmt) (stands : StandsAct structs units k view s) where
+  module _ (s : Stmt) (stands : ActStandsInUnit structs units k view s) where
     abbrev home : Home
     home = home_at units k stands.unit
 

@@ -1,5 +1,24 @@
 -- Why an expression or an act traps.
-use Rattle.std.specs.Prelude.{◌≡◌, ℕ, suc, ℤ, Bool, true, false, List, [], ◌∷◌, ◌++◌, map, take, slice_get, Option, Some, None, option_and_then}
+use Rattle.std.specs.Prelude.{
+  ◌≡◌,
+  ℕ,
+  suc,
+  ℤ,
+  Bool,
+  true,
+  false,
+  List,
+  [],
+  ◌∷◌,
+  ◌++◌,
+  map,
+  take,
+  slice_get,
+  Option,
+  Some,
+  None,
+  option_and_then,
+}
 use Rattle.bl_tree.specs.declared.scalar.Op.{Op}
 use Rattle.bl_tree.specs.declared.scalar.Scalar.{Scalar as ScalarType}
 use Rattle.bl_tree.specs.declared.tree.Arm.{Arm, out-Arm}
@@ -20,7 +39,7 @@ use Rattle.bl_tree.specs.Scalar.{in_range}
 use Rattle.bl_eval.specs.declared.datum.Operand.{Operand}
 use Rattle.bl_eval.specs.Changes.{part_of_path}
 use Rattle.bl_eval.specs.Functions.{Flow, callees_of, condition, does, frame_of, in_order, most_turns, own, scope_among, truth}
-use Rattle.bl_eval.specs.Meaning.{Scope, View, decides, meaning_of, operand, reading, spot_of, values_of}
+use Rattle.bl_eval.specs.Meaning.{Scope, View, decides, meaning_of, operand, path_meaning_of, reading, values_of}
 use Rattle.bl_eval.specs.Values.{part_of, position_of}
 
 -- what an expression says
@@ -40,6 +59,7 @@ pub record Home : Type 0 where
 abbrev pub home_of : Home → ℕ → UnitDef → Home
 home_of home f callee = record { earlier = take f home.earlier; unit = callee }
 
+-- the scope of what stands in the unit: its variables, and the functions before it
 abbrev pub scope_at : List StructDef → Home → Scope
 scope_at structs home = scope_among structs (callees_of structs home.earlier) home.unit
 
@@ -50,7 +70,7 @@ number_at structs home view e = operand (meaning_of (scope_at structs home) e) v
 -- the values of a call's inputs and those that its outputs have at the call
 abbrev pub arguments_at : List StructDef → Home → View → List Expr → List Path → Option (List Value)
 arguments_at structs home view inputs outputs = values_of
-    (map (meaning_of (scope_at structs home)) inputs ++ map reading (map (spot_of (scope_at structs home)) outputs)) view
+    (map (meaning_of (scope_at structs home)) inputs ++ map reading (map (path_meaning_of (scope_at structs home)) outputs)) view
 
 -- the element that an index names
 abbrev pub element_at : ℤ → Value → Option Value
@@ -69,10 +89,12 @@ mutual
         number_at structs home view a ≡ Some x
         → in_range target x.n ≡ false → ExprTraps structs home view e
     -- what stands in it traps; a right operand is looked at only where the left does not decide
-    in_one : {home : Home} {view : View} {e a : Expr} {op : Op} → what e ≡ ExprKind-F.One op a → ExprTraps structs home view a → ExprTraps structs home view e
+    in_one : {home : Home} {view : View} {e a : Expr} {op : Op} → what e ≡ ExprKind-F.One op a → ExprTraps structs home view a →
+        ExprTraps structs home view e
     in_left : {home : Home} {view : View} {e a b : Expr} {op : Op} → what e ≡ ExprKind-F.Two op a b → ExprTraps structs home view a →
         ExprTraps structs home view e
-    in_right : {home : Home} {view : View} {e a b : Expr} {op : Op} {x : Operand} → what e ≡ ExprKind-F.Two op a b → number_at structs home view a ≡ Some x
+    in_right : {home : Home} {view : View} {e a b : Expr} {op : Op} {x : Operand} → what e ≡ ExprKind-F.Two op a b
+        → number_at structs home view a ≡ Some x
         → decides op x.n ≡ false → ExprTraps structs home view b → ExprTraps structs home view e
     in_cast : {home : Home} {view : View} {e a : Expr} {target : ScalarType} → what e ≡ ExprKind-F.Cast target a →
         ExprTraps structs home view a → ExprTraps structs home view e
@@ -81,7 +103,8 @@ mutual
     in_input : {home : Home} {view : View} {e : Expr} {f : ℕ} {inputs : List Expr} → what e ≡ ExprKind-F.Call f inputs →
         SomeTraps structs home view inputs → ExprTraps structs home view e
     in_call : {home : Home} {view : View} {e : Expr} {f : ℕ} {inputs : List Expr} {values : List Value} → what e ≡ ExprKind-F.Call f inputs
-        → values_of (map (meaning_of (scope_at structs home)) inputs) view ≡ Some values → CallTraps structs home f values → ExprTraps structs home view e
+        → values_of (map (meaning_of (scope_at structs home)) inputs) view ≡ Some values → CallTraps structs home f values
+        → ExprTraps structs home view e
 
   -- one of the expressions traps
   pub data SomeTraps (structs : List StructDef) : Home → View → List Expr → Type 0 where
@@ -93,6 +116,7 @@ mutual
     from : {home : Home} {view : View} {path : Path} {value : Value} → slice_get view.now (out-Path path).root ≡ Some value
         → PartsTrap structs home view (out-Path path).parts value → PathTraps structs home view path
 
+  -- the parts do not lead into the value: an index in them traps or is outside of its array
   pub data PartsTrap (structs : List StructDef) : Home → View → List Part → Value → Type 0 where
     -- an index outside of its array
     outside : {home : Home} {view : View} {part : Part} {parts : List Part} {value : Value} {e : Expr} {x : Operand} → out-Part part ≡ Part-F.Index e

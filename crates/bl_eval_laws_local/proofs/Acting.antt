@@ -27,8 +27,8 @@ use Rattle.bl_tree.specs.Reduce.{joined}
 use Rattle.bl_tree.specs.Static.{index_mentions, mentions, path_mentions, set_of, static_of, whole}
 use Rattle.bl_effects.proofs.SetLemmas.{In, in_set, set_in}
 use Rattle.bl_eval.specs.declared.datum.Left.{Left}
-use Rattle.bl_eval.specs.Functions.{acted, assigned, called, declared, initial_value, put_all, put_back}
-use Rattle.bl_eval.specs.Meaning.{Callee, Scope, meaning_of, plain, reading, spot_of, value_in, values_of}
+use Rattle.bl_eval.specs.Functions.{acted, assigned, declared, initial_value, outcome_of_call, put_all, put_back}
+use Rattle.bl_eval.specs.Meaning.{Callee, Scope, meaning_of, path_meaning_of, plain, reading, value_in, values_of}
 use Rattle.bl_eval.specs.Values.{put_at}
 use Rattle.bl_eval_laws_local.specs.Local.{ActsAreLocal, Alike, LeftAlike, SameAt, at_path, seen}
 use Rattle.bl_eval_laws_local.proofs.Locality.{alike_first, alike_second, local, local_path, reading_same, same_first, same_second, values_are_local_too}
@@ -108,8 +108,9 @@ naming_out s =
 module _ (scope : Scope) (before before' xs ys : List Value) where
   -- a value is put at a path, where what is there is alike
   placed : (path : Path) (paths : List Static) (positions : List ℕ) (value : Value) (us vs : List Value) →
-      (spot_of scope path).positions (seen xs before) ≡ Some positions → at_path us (static_of path) ≡ at_path vs (static_of path) → Alike paths us vs →
-      LeftAlike paths (put_at (spot_of scope path).root positions value us) (put_at (spot_of scope path).root positions value vs)
+      (path_meaning_of scope path).positions (seen xs before) ≡ Some positions → at_path us (static_of path) ≡ at_path vs (static_of path)
+      → Alike paths us vs →
+      LeftAlike paths (put_at (path_meaning_of scope path).root positions value us) (put_at (path_meaning_of scope path).root positions value vs)
   placed path paths positions value us vs e there same =
       let p = local_path scope before before' path in
       let f = p.begins xs positions e in
@@ -118,27 +119,30 @@ module _ (scope : Scope) (before before' xs ys : List Value) where
       (put_alike paths (static_of path) f.rest value us vs there same))
 
   assigned_there : (path : Path) (paths : List Static) (value : Option Value) (positions : Option (List ℕ)) →
-      (spot_of scope path).positions (seen xs before) ≡ positions → at_path xs (static_of path) ≡ at_path ys (static_of path) → Alike paths xs ys →
-      LeftAlike paths (option_and_then (λ value. option_and_then (λ ks. put_at (spot_of scope path).root ks value xs) positions) value)
-      (option_and_then (λ value. option_and_then (λ ks. put_at (spot_of scope path).root ks value ys) positions) value)
+      (path_meaning_of scope path).positions (seen xs before) ≡ positions → at_path xs (static_of path) ≡ at_path ys (static_of path)
+      → Alike paths xs ys →
+      LeftAlike paths (option_and_then (λ value. option_and_then (λ ks. put_at (path_meaning_of scope path).root ks value xs) positions) value)
+      (option_and_then (λ value. option_and_then (λ ks. put_at (path_meaning_of scope path).root ks value ys) positions) value)
   assigned_there path paths None positions e there same = tt
   assigned_there path paths (Some value) None e there same = tt
   assigned_there path paths (Some value) (Some positions) e there same = placed path paths positions value xs ys e there same
 
   assigned_alike : (path : Path) (e : Expr) → Alike (index_mentions path ++ mentions e) xs ys → Alike (static_of path ∷ []) xs ys →
       SameAt (roots_in_path path ++ roots_in e) before before' →
-      LeftAlike (static_of path ∷ []) (assigned (spot_of scope path) (value_in scope e (seen xs before)) (seen xs before))
-      (assigned (spot_of scope path) (value_in scope e (seen ys before')) (seen ys before'))
+      LeftAlike (static_of path ∷ []) (assigned (path_meaning_of scope path) (value_in scope e (seen xs before)) (seen xs before))
+      (assigned (path_meaning_of scope path) (value_in scope e (seen ys before')) (seen ys before'))
   assigned_alike path e read written near =
       let value = values_are_local_too scope e xs ys before before' (alike_second (index_mentions path) (mentions e) xs ys read)
       (same_second (roots_in_path path) (roots_in e) before before' near) in
       let leads = (local_path scope before before' path).leads xs ys (alike_first (index_mentions path) (mentions e) xs ys read)
       (same_first (roots_in_path path) (roots_in e) before before' near) in
-      subst (λ value. LeftAlike (static_of path ∷ []) (assigned (spot_of scope path) (value_in scope e (seen xs before)) (seen xs before))
-      (assigned (spot_of scope path) value (seen ys before'))) value
-      (subst (λ positions. LeftAlike (static_of path ∷ []) (assigned (spot_of scope path) (value_in scope e (seen xs before)) (seen xs before))
-      (option_and_then (λ value. option_and_then (λ ks. put_at (spot_of scope path).root ks value ys) positions) (value_in scope e (seen xs before)))) leads
-      (assigned_there path (static_of path ∷ []) (value_in scope e (seen xs before)) ((spot_of scope path).positions (seen xs before)) refl written.0 written))
+      subst (λ value. LeftAlike (static_of path ∷ []) (assigned (path_meaning_of scope path) (value_in scope e (seen xs before)) (seen xs before))
+      (assigned (path_meaning_of scope path) value (seen ys before'))) value
+      (subst (λ positions. LeftAlike (static_of path ∷ []) (assigned (path_meaning_of scope path) (value_in scope e (seen xs before)) (seen xs before))
+      (option_and_then (λ value. option_and_then (λ ks. put_at (path_meaning_of scope path).root ks value ys) positions)
+      (value_in scope e (seen xs before)))) leads
+      (assigned_there path (static_of path ∷ []) (value_in scope e (seen xs before))
+      ((path_meaning_of scope path).positions (seen xs before)) refl written.0 written))
 
   initial_alike : (k : ℕ) (initial : Option Expr) → Alike (optional_mentions initial) xs ys → SameAt (optional_roots initial) before before' →
       initial_value scope k initial (seen xs before) ≡ initial_value scope k initial (seen ys before')
@@ -160,7 +164,8 @@ module _ (scope : Scope) (before before' xs ys : List Value) where
   -- ---- calls
 
   outputs_same : (outputs : List Path) → Alike (joined (map path_mentions outputs)) xs ys → SameAt (joined (map roots_in_path outputs)) before before' →
-      values_of (map reading (map (spot_of scope) outputs)) (seen xs before) ≡ values_of (map reading (map (spot_of scope) outputs)) (seen ys before')
+      values_of (map reading (map (path_meaning_of scope) outputs)) (seen xs before)
+      ≡ values_of (map reading (map (path_meaning_of scope) outputs)) (seen ys before')
   outputs_same [] same near = refl
   outputs_same (path ∷ rest) same near =
       let one = reading_same scope before before' path (local_path scope before before' path) xs ys
@@ -170,10 +175,11 @@ module _ (scope : Scope) (before before' xs ys : List Value) where
       (same_second (roots_in_path path) (joined (map roots_in_path rest)) before before' near) in
       λ i. option_and_then (λ datum. option_map (λ values. plain datum ∷ values) (others i)) (one i)
 
-  arguments_same : (inputs : List Expr) (outputs : List Path) → Alike (joined (map mentions inputs)) xs ys → Alike (joined (map path_mentions outputs)) xs ys →
+  arguments_same : (inputs : List Expr) (outputs : List Path) → Alike (joined (map mentions inputs)) xs ys →
+      Alike (joined (map path_mentions outputs)) xs ys →
       SameAt (joined (map roots_in inputs)) before before' → SameAt (joined (map roots_in_path outputs)) before before' →
-      values_of (map (meaning_of scope) inputs ++ map reading (map (spot_of scope) outputs)) (seen xs before)
-      ≡ values_of (map (meaning_of scope) inputs ++ map reading (map (spot_of scope) outputs)) (seen ys before')
+      values_of (map (meaning_of scope) inputs ++ map reading (map (path_meaning_of scope) outputs)) (seen xs before)
+      ≡ values_of (map (meaning_of scope) inputs ++ map reading (map (path_meaning_of scope) outputs)) (seen ys before')
   arguments_same [] outputs ins outs near there = outputs_same outputs outs there
   arguments_same (e ∷ rest) outputs ins outs near there =
       let one = local scope before before' e xs ys (alike_first (mentions e) (joined (map mentions rest)) xs ys ins)
@@ -203,9 +209,9 @@ module _ (scope : Scope) (before before' xs ys : List Value) where
   or_as_before paths us vs (Some a) (Some b) left same = left
 
   back_there : (path : Path) (paths : List Static) (value : Value) (us vs : List Value) (positions : Option (List ℕ)) →
-      (spot_of scope path).positions (seen xs before) ≡ positions → In (static_of path) paths → Alike paths us vs →
-      LeftAlike paths (option_and_then (λ ks. put_at (spot_of scope path).root ks value us) positions)
-      (option_and_then (λ ks. put_at (spot_of scope path).root ks value vs) positions)
+      (path_meaning_of scope path).positions (seen xs before) ≡ positions → In (static_of path) paths → Alike paths us vs →
+      LeftAlike paths (option_and_then (λ ks. put_at (path_meaning_of scope path).root ks value us) positions)
+      (option_and_then (λ ks. put_at (path_meaning_of scope path).root ks value vs) positions)
   back_there path paths value us vs None e m same = tt
   back_there path paths value us vs (Some positions) e m same =
       placed path paths positions value us vs e (alike_in paths (static_of path) us vs m same) same
@@ -213,23 +219,26 @@ module _ (scope : Scope) (before before' xs ys : List Value) where
   back_alike : (path : Path) (paths : List Static) (value : Value) (us vs : List Value) → Alike (path_mentions path) xs ys →
       SameAt (roots_in_path path) before before' →
       In (static_of path) paths → Alike paths us vs →
-      Alike paths (put_back (spot_of scope path) value (seen xs before) us) (put_back (spot_of scope path) value (seen ys before') vs)
+      Alike paths (put_back (path_meaning_of scope path) value (seen xs before) us) (put_back (path_meaning_of scope path) value (seen ys before') vs)
   back_alike path paths value us vs read near m same =
       let leads = (local_path scope before before' path).leads xs ys read.1 near in
-      or_as_before paths us vs (option_and_then (λ ks. put_at (spot_of scope path).root ks value us) ((spot_of scope path).positions (seen xs before)))
-      (option_and_then (λ ks. put_at (spot_of scope path).root ks value vs) ((spot_of scope path).positions (seen ys before')))
+      or_as_before paths us vs
+      (option_and_then (λ ks. put_at (path_meaning_of scope path).root ks value us) ((path_meaning_of scope path).positions (seen xs before)))
+      (option_and_then (λ ks. put_at (path_meaning_of scope path).root ks value vs) ((path_meaning_of scope path).positions (seen ys before')))
       (subst (λ positions. LeftAlike paths
-      (option_and_then (λ ks. put_at (spot_of scope path).root ks value us) ((spot_of scope path).positions (seen xs before)))
-      (option_and_then (λ ks. put_at (spot_of scope path).root ks value vs) positions)) leads
-      (back_there path paths value us vs ((spot_of scope path).positions (seen xs before)) refl m same)) same
+      (option_and_then (λ ks. put_at (path_meaning_of scope path).root ks value us) ((path_meaning_of scope path).positions (seen xs before)))
+      (option_and_then (λ ks. put_at (path_meaning_of scope path).root ks value vs) positions)) leads
+      (back_there path paths value us vs ((path_meaning_of scope path).positions (seen xs before)) refl m same)) same
 
   all_back : (outputs : List Path) (paths : List Static) (values : List Value) (us vs : List Value) → Alike (joined (map path_mentions outputs)) xs ys →
       SameAt (joined (map roots_in_path outputs)) before before' → Members paths outputs → Alike paths us vs →
-      Alike paths (put_all (map (spot_of scope) outputs) values (seen xs before) us) (put_all (map (spot_of scope) outputs) values (seen ys before') vs)
+      Alike paths (put_all (map (path_meaning_of scope) outputs) values (seen xs before) us)
+      (put_all (map (path_meaning_of scope) outputs) values (seen ys before') vs)
   all_back [] paths values us vs read near m same = same
   all_back (path ∷ rest) paths [] us vs read near m same = same
   all_back (path ∷ rest) paths (value ∷ values) us vs read near m same =
-      all_back rest paths values (put_back (spot_of scope path) value (seen xs before) us) (put_back (spot_of scope path) value (seen ys before') vs)
+      all_back rest paths values (put_back (path_meaning_of scope path) value (seen xs before) us)
+      (put_back (path_meaning_of scope path) value (seen ys before') vs)
       (alike_second (path_mentions path) (joined (map path_mentions rest)) xs ys read)
       (same_second (roots_in_path path) (joined (map roots_in_path rest)) before before' near) m.1
       (back_alike path paths value us vs (alike_first (path_mentions path) (joined (map path_mentions rest)) xs ys read)
@@ -237,31 +246,35 @@ module _ (scope : Scope) (before before' xs ys : List Value) where
 
   left_there : (outputs : List Path) (left : Option Left) → Alike (joined (map path_mentions outputs)) xs ys → Alike (map static_of outputs) xs ys →
       SameAt (joined (map roots_in_path outputs)) before before' →
-      LeftAlike (map static_of outputs) (option_map (λ left. put_all (map (spot_of scope) outputs) left.outputs (seen xs before) xs) left)
-      (option_map (λ left. put_all (map (spot_of scope) outputs) left.outputs (seen ys before') ys) left)
+      LeftAlike (map static_of outputs) (option_map (λ left. put_all (map (path_meaning_of scope) outputs) left.outputs (seen xs before) xs) left)
+      (option_map (λ left. put_all (map (path_meaning_of scope) outputs) left.outputs (seen ys before') ys) left)
   left_there outputs None read same near = tt
   left_there outputs (Some left) read same near = all_back outputs (map static_of outputs) left.outputs xs ys read near (members outputs) same
 
   called_there : (outputs : List Path) (callee : Callee) (values : Option (List Value)) → Alike (joined (map path_mentions outputs)) xs ys →
       Alike (map static_of outputs) xs ys → SameAt (joined (map roots_in_path outputs)) before before' →
       LeftAlike (map static_of outputs)
-      (option_and_then (λ values. option_map (λ left. put_all (map (spot_of scope) outputs) left.outputs (seen xs before) xs) (callee values)) values)
-      (option_and_then (λ values. option_map (λ left. put_all (map (spot_of scope) outputs) left.outputs (seen ys before') ys) (callee values)) values)
+      (option_and_then (λ values. option_map (λ left. put_all (map (path_meaning_of scope) outputs) left.outputs (seen xs before) xs) (callee values)) values)
+      (option_and_then (λ values. option_map (λ left. put_all (map (path_meaning_of scope) outputs) left.outputs (seen ys before') ys)
+      (callee values)) values)
   called_there outputs callee None read same near = tt
   called_there outputs callee (Some values) read same near = left_there outputs (callee values) read same near
 
   called_alike : (callee : Option Callee) (inputs : List Expr) (outputs : List Path) → Alike (joined (map mentions inputs)) xs ys →
       Alike (joined (map path_mentions outputs)) xs ys → Alike (map static_of outputs) xs ys → SameAt (argument_roots inputs outputs) before before' →
-      LeftAlike (map static_of outputs) (option_and_then (called (map (meaning_of scope) inputs) (map (spot_of scope) outputs) (seen xs before)) callee)
-      (option_and_then (called (map (meaning_of scope) inputs) (map (spot_of scope) outputs) (seen ys before')) callee)
+      LeftAlike (map static_of outputs)
+      (option_and_then (outcome_of_call (map (meaning_of scope) inputs) (map (path_meaning_of scope) outputs) (seen xs before)) callee)
+      (option_and_then (outcome_of_call (map (meaning_of scope) inputs) (map (path_meaning_of scope) outputs) (seen ys before')) callee)
   called_alike None inputs outputs ins outs same near = tt
   called_alike (Some callee) inputs outputs ins outs same near =
       let there = same_second (joined (map roots_in inputs)) (joined (map roots_in_path outputs)) before before' near in
       subst (λ values. LeftAlike (map static_of outputs)
-      (called (map (meaning_of scope) inputs) (map (spot_of scope) outputs) (seen xs before) callee)
-      (option_and_then (λ values. option_map (λ left. put_all (map (spot_of scope) outputs) left.outputs (seen ys before') ys) (callee values)) values))
+      (outcome_of_call (map (meaning_of scope) inputs) (map (path_meaning_of scope) outputs) (seen xs before) callee)
+      (option_and_then (λ values. option_map (λ left. put_all (map (path_meaning_of scope) outputs) left.outputs (seen ys before') ys)
+      (callee values)) values))
       (arguments_same inputs outputs ins outs (same_first (joined (map roots_in inputs)) (joined (map roots_in_path outputs)) before before' near) there)
-      (called_there outputs callee (values_of (map (meaning_of scope) inputs ++ map reading (map (spot_of scope) outputs)) (seen xs before)) outs same there)
+      (called_there outputs callee
+      (values_of (map (meaning_of scope) inputs ++ map reading (map (path_meaning_of scope) outputs)) (seen xs before)) outs same there)
 
   -- ---- by kinds
 

@@ -36,9 +36,9 @@ use Rattle.bl_eval.specs.declared.datum.Operand.{Operand}
 use Rattle.bl_eval.specs.Changes.{part_of_path}
 use Rattle.bl_eval.specs.Meaning.{
   Meaning,
+  PathMeaning,
   Position,
   Scope,
-  Spot,
   View,
   call_datum,
   cast_datum,
@@ -49,6 +49,7 @@ use Rattle.bl_eval.specs.Meaning.{
   one_datum,
   operand_in,
   part_means,
+  path_meaning_of,
   path_means,
   plain,
   position_in,
@@ -56,7 +57,6 @@ use Rattle.bl_eval.specs.Meaning.{
   read_at,
   reading,
   scalar_of,
-  spot_of,
   two_datum,
   values_of,
 }
@@ -165,12 +165,12 @@ step_at part q e = fold_out-Part (List Static) Step (List Static) Reach kind_men
 
 module _ (scope : Scope) where
   abbrev meant : Part-F ExprKind Part Expr Path → Position
-  meant q = part_means (map-Part ExprKind Part Expr Path Meaning Position Meaning Spot
-      (fold-ExprKind Meaning Position Meaning Spot (kind_means scope) part_means expr_means path_means)
-      (part_of_path scope) (meaning_of scope) (spot_of scope) q)
+  meant q = part_means (map-Part ExprKind Part Expr Path Meaning Position Meaning PathMeaning
+      (fold-ExprKind Meaning Position Meaning PathMeaning (kind_means scope) part_means expr_means path_means)
+      (part_of_path scope) (meaning_of scope) (path_meaning_of scope) q)
 
   part_at : (part : Part) (q : Part-F ExprKind Part Expr Path) → out-Part part ≡ q → part_of_path scope part ≡ meant q
-  part_at part q e = fold_out-Part Meaning Position Meaning Spot (kind_means scope) part_means expr_means path_means part ∙ ap meant e
+  part_at part q e = fold_out-Part Meaning Position Meaning PathMeaning (kind_means scope) part_means expr_means path_means part ∙ ap meant e
 
   -- the positions of a path begin with its fields
   one_on : (k : ℕ) (fields : List ℕ) (later : Option (List ℕ)) (positions : List ℕ) → option_map (λ ks. k ∷ ks) later ≡ Some positions →
@@ -201,17 +201,17 @@ module _ (scope : Scope) where
 
   -- ---- expressions and paths, by their kinds
 
-  abbrev parts_meant : ExprKind-F ExprKind Part Expr Path → ExprKind-F Meaning Position Meaning Spot
-  parts_meant = map-ExprKind ExprKind Part Expr Path Meaning Position Meaning Spot
-      (fold-ExprKind Meaning Position Meaning Spot (kind_means scope) part_means expr_means path_means)
-      (part_of_path scope) (meaning_of scope) (spot_of scope)
+  abbrev parts_meant : ExprKind-F ExprKind Part Expr Path → ExprKind-F Meaning Position Meaning PathMeaning
+  parts_meant = map-ExprKind ExprKind Part Expr Path Meaning Position Meaning PathMeaning
+      (fold-ExprKind Meaning Position Meaning PathMeaning (kind_means scope) part_means expr_means path_means)
+      (part_of_path scope) (meaning_of scope) (path_meaning_of scope)
 
   kind_at : (place : Place) (layer : ExprKind-F ExprKind Part Expr Path) (view : View) →
       meaning_of scope (expr place layer) view ≡ kind_means scope (parts_meant layer) view
   kind_at place layer view = rw (fold-roll-Expr, fold-roll-ExprKind) refl
 
   spot_is : (place : Place) (root : ℕ) (parts : List Part) (ty : Ty) →
-      spot_of scope (roll-Path (record { place = place; root = root; parts = parts; ty = ty }))
+      path_meaning_of scope (roll-Path (record { place = place; root = root; parts = parts; ty = ty }))
       ≡ record { root = root; ty = ty; positions = positions_of (map (part_of_path scope) parts) }
   spot_is place root parts ty = rw fold-roll-Path refl
 
@@ -241,7 +241,8 @@ module _ (scope : Scope) where
             (subst (λ roots. SameAt roots before before') (part_roots_at part (Part-F.Index e) is) near))
             ∙ sym (ap (λ position. position (seen ys before')) (part_at part (Part-F.Index e) is))
 
-    parts_same : (parts : List Part) → EachIndex Local parts → (xs ys : List Value) → Alike (joined (map (λ step. step.reads) (map step_of parts))) xs ys →
+    parts_same : (parts : List Part) → EachIndex Local parts → (xs ys : List Value) →
+        Alike (joined (map (λ step. step.reads) (map step_of parts))) xs ys →
         SameAt (joined (map roots_in_part parts)) before before' →
         positions_of (map (part_of_path scope) parts) (seen xs before) ≡ positions_of (map (part_of_path scope) parts) (seen ys before')
     parts_same [] each xs ys same near = refl
@@ -257,10 +258,10 @@ module _ (scope : Scope) where
     -- where a path leads, and what it begins with
     pub record LocalPath (path : Path) : Type 0 where
       pub leads : (xs ys : List Value) → Alike (index_mentions path) xs ys → SameAt (roots_in_path path) before before' →
-          (spot_of scope path).positions (seen xs before) ≡ (spot_of scope path).positions (seen ys before')
-      pub begins : (xs : List Value) (positions : List ℕ) → (spot_of scope path).positions (seen xs before) ≡ Some positions →
+          (path_meaning_of scope path).positions (seen xs before) ≡ (path_meaning_of scope path).positions (seen ys before')
+      pub begins : (xs : List Value) (positions : List ℕ) → (path_meaning_of scope path).positions (seen xs before) ≡ Some positions →
           Front (static_of path).fields positions
-      pub root : (spot_of scope path).root ≡ (static_of path).root
+      pub root : (path_meaning_of scope path).root ≡ (static_of path).root
 
     path_local : (place : Place) (root : ℕ) (parts : List Part) (ty : Ty) → EachIndex Local parts →
         LocalPath (roll-Path (record { place = place; root = root; parts = parts; ty = ty }))
@@ -279,30 +280,32 @@ module _ (scope : Scope) where
 
     -- what is there is in what is at the static path
     read_as : (path : Path) → LocalPath path → (now : List Value) (positions : List ℕ) (f : Front (static_of path).fields positions) →
-        read_at (spot_of scope path).root now positions ≡ option_and_then (value_at f.rest) (at_path now (static_of path))
+        read_at (path_meaning_of scope path).root now positions ≡ option_and_then (value_at f.rest) (at_path now (static_of path))
     read_as path p now positions f =
         ap (λ root. read_at root now positions) p.root ∙ ap (read_at (static_of path).root now) f.is
         ∙ read_within (static_of path).root (static_of path).fields f.rest now
 
-    read_same : (path : Path) → LocalPath path → (xs ys : List Value) → at_path xs (static_of path) ≡ at_path ys (static_of path) → (positions : List ℕ) →
-        (spot_of scope path).positions (seen xs before) ≡ Some positions →
-        read_at (spot_of scope path).root xs positions ≡ read_at (spot_of scope path).root ys positions
+    read_same : (path : Path) → LocalPath path → (xs ys : List Value) →
+        at_path xs (static_of path) ≡ at_path ys (static_of path) → (positions : List ℕ) →
+        (path_meaning_of scope path).positions (seen xs before) ≡ Some positions →
+        read_at (path_meaning_of scope path).root xs positions ≡ read_at (path_meaning_of scope path).root ys positions
     read_same path p xs ys same positions e =
         let f = p.begins xs positions e in
         read_as path p xs positions f ∙ ap (option_and_then (value_at f.rest)) same ∙ sym (read_as path p ys positions f)
 
     there_same : (path : Path) → LocalPath path → (xs ys : List Value) → at_path xs (static_of path) ≡ at_path ys (static_of path) →
-        (positions : Option (List ℕ)) → (spot_of scope path).positions (seen xs before) ≡ positions →
-        option_and_then (read_at (spot_of scope path).root xs) positions ≡ option_and_then (read_at (spot_of scope path).root ys) positions
+        (positions : Option (List ℕ)) → (path_meaning_of scope path).positions (seen xs before) ≡ positions →
+        option_and_then (read_at (path_meaning_of scope path).root xs) positions ≡ option_and_then (read_at (path_meaning_of scope path).root ys) positions
     there_same path p xs ys same None e = refl
     there_same path p xs ys same (Some positions) e = read_same path p xs ys same positions e
 
     pub reading_same : (path : Path) → LocalPath path → (xs ys : List Value) → Alike (path_mentions path) xs ys →
-        SameAt (roots_in_path path) before before' → reading (spot_of scope path) (seen xs before) ≡ reading (spot_of scope path) (seen ys before')
+        SameAt (roots_in_path path) before before' → reading (path_meaning_of scope path) (seen xs before)
+        ≡ reading (path_meaning_of scope path) (seen ys before')
     reading_same path p xs ys same near =
-        ap (option_map (datum_of (scalar_in (spot_of scope path).ty)))
-        (there_same path p xs ys same.0 ((spot_of scope path).positions (seen xs before)) refl
-        ∙ ap (option_and_then (read_at (spot_of scope path).root ys)) (p.leads xs ys same.1 near))
+        ap (option_map (datum_of (scalar_in (path_meaning_of scope path).ty)))
+        (there_same path p xs ys same.0 ((path_meaning_of scope path).positions (seen xs before)) refl
+        ∙ ap (option_and_then (read_at (path_meaning_of scope path).root ys)) (p.leads xs ys same.1 near))
 
     values_same : (inputs : List Expr) → All Local inputs → (xs ys : List Value) → Alike (joined (map mentions inputs)) xs ys →
         SameAt (joined (map roots_in inputs)) before before' →

@@ -34,7 +34,8 @@ none_below : (fields rest : List ℕ) (new v : Value) → value_at fields v ≡ 
 none_below [] rest new v e = absurd cc
 none_below (k ∷ fields) rest new v e = by_parts (λ old h. none_below fields rest new old h) (parts_in v) e
   where
-    by_part : (all : List Value) → ((old : Value) → value_at fields old ≡ None → with_value_at (fields ++ rest) new old ≡ None) → (old : Option Value) →
+    by_part : (all : List Value) → ((old : Value) → value_at fields old ≡ None → with_value_at (fields ++ rest) new old ≡ None) →
+        (old : Option Value) →
         option_and_then (value_at fields) old ≡ None →
         option_and_then (λ old. option_map (λ part. Parts (slice_set all k part)) (with_value_at (fields ++ rest) new old)) old ≡ None
     by_part all inner None e = refl
@@ -63,7 +64,8 @@ opened k fields v mid e = by_parts (parts_in v) refl e
     by_part all is None at e = absurd cc
     by_part all is (Some old) at e = record { all = all; old = old; is = is; at = at; inner = e }
 
-    by_parts : (all : Option (List Value)) → parts_in v ≡ all → option_and_then (value_at fields) (option_and_then (λ all. slice_get all k) all) ≡ Some mid →
+    by_parts : (all : Option (List Value)) → parts_in v ≡ all →
+        option_and_then (value_at fields) (option_and_then (λ all. slice_get all k) all) ≡ Some mid →
         Opened k fields v mid
     by_parts None is e = absurd cc
     by_parts (Some all) is e = by_part all is (slice_get all k) refl e
@@ -94,7 +96,8 @@ set_alike qs (u ∷ xs) (v ∷ ys) (suc k) zero a b x y at at' same h = h
 set_alike qs (u ∷ xs) (v ∷ ys) (suc k) (suc j) a b x y at at' same h = set_alike qs xs ys k j a b x y at at' (λ e. same (ap suc e)) h
 
 -- what is put below the fields, seen at other positions
-made_alike : (qs fields : List ℕ) (k j : ℕ) (xs ys : List Value) (x y : Value) (o o' : Option Value) → slice_get xs k ≡ Some x → slice_get ys k ≡ Some y →
+made_alike : (qs fields : List ℕ) (k j : ℕ) (xs ys : List Value) (x y : Value) (o o' : Option Value) → slice_get xs k ≡ Some x →
+    slice_get ys k ≡ Some y →
     option_and_then (value_at qs) (slice_get xs j) ≡ option_and_then (value_at qs) (slice_get ys j) → AfterSame fields o o' →
     (j ≡ k → AfterSame qs o o') →
     AfterSame (j ∷ qs) (option_map (λ part. Parts (slice_set xs k part)) o) (option_map (λ part. Parts (slice_set ys k part)) o')
@@ -144,7 +147,8 @@ put_same (k ∷ fields) rest (j ∷ qs) new v w e h =
 at_path_is : (now : List Value) (path : Static) → value_at (path.root ∷ path.fields) (Parts now) ≡ at_path now path
 at_path_is now path = value_in_parts path.root path.fields (Parts now) now (parts_of now)
 
-put_is : (root : ℕ) (ks : List ℕ) (new : Value) (now : List Value) → with_value_at (root ∷ ks) new (Parts now) ≡ option_map Parts (put_at root ks new now)
+put_is : (root : ℕ) (ks : List ℕ) (new : Value) (now : List Value) →
+    with_value_at (root ∷ ks) new (Parts now) ≡ option_map Parts (put_at root ks new now)
 put_is root ks new now =
     ap (λ all. option_and_then (λ all. option_and_then (λ old. option_map (λ part. Parts (slice_set all root part)) (with_value_at ks new old))
     (slice_get all root)) all) (parts_of now)
@@ -167,7 +171,8 @@ LeftSame path (Some xs) (Some ys) = at_path xs path ≡ at_path ys path
 LeftSame path None (Some ys) = ⊥
 LeftSame path (Some xs) None = ⊥
 
-left_same : (path : Static) (o o' : Option (List Value)) → AfterSame (path.root ∷ path.fields) (option_map Parts o) (option_map Parts o') → LeftSame path o o'
+left_same : (path : Static) (o o' : Option (List Value)) → AfterSame (path.root ∷ path.fields) (option_map Parts o) (option_map Parts o') →
+    LeftSame path o o'
 left_same path None None a = tt
 left_same path None (Some ys) a = elim a [ ]
 left_same path (Some xs) None a = elim a [ ]
@@ -185,7 +190,8 @@ put_alike_at path other rest new xs ys e h =
     (put_same (path.root ∷ path.fields) rest (other.root ∷ other.fields) new (Parts xs) (Parts ys)
     (at_path_is xs path ∙ e ∙ sym (at_path_is ys path)) (at_path_is xs other ∙ h ∙ sym (at_path_is ys other)))))
 
-all_alike : (paths : List Static) (xs ys xs' ys' : List Value) → ((path : Static) → at_path xs path ≡ at_path ys path → at_path xs' path ≡ at_path ys' path) →
+all_alike : (paths : List Static) (xs ys xs' ys' : List Value) →
+    ((path : Static) → at_path xs path ≡ at_path ys path → at_path xs' path ≡ at_path ys' path) →
     Alike paths xs ys → Alike paths xs' ys'
 all_alike [] xs ys xs' ys' keeps same = tt
 all_alike (path ∷ rest) xs ys xs' ys' keeps same = (keeps path same.0, all_alike rest xs ys xs' ys' keeps same.1)

@@ -10,7 +10,7 @@ use Rattle.bl_tree.specs.Apart.{naming_of, roots_in, roots_in_path}
 use Rattle.bl_tree.specs.Effects.{reads, writes}
 use Rattle.bl_tree.specs.Static.{index_mentions, mentions, path_mentions}
 use Rattle.bl_eval.specs.Functions.{acted}
-use Rattle.bl_eval.specs.Meaning.{Scope, View, reading, spot_of, value_in}
+use Rattle.bl_eval.specs.Meaning.{Scope, View, path_meaning_of, reading, value_in}
 use Rattle.bl_eval.specs.Values.{value_at}
 
 -- the value at a static path of the variables
@@ -48,10 +48,10 @@ ValuesAreLocal =
 pub record PathsAreLocal : Type 0 where
   pub leads : (scope : Scope) (path : Path) (xs ys before before' : List Value) → Alike (index_mentions path) xs ys →
       SameAt (roots_in_path path) before before' →
-      (spot_of scope path).positions (seen xs before) ≡ (spot_of scope path).positions (seen ys before')
+      (path_meaning_of scope path).positions (seen xs before) ≡ (path_meaning_of scope path).positions (seen ys before')
   pub reads : (scope : Scope) (path : Path) (xs ys before before' : List Value) → Alike (path_mentions path) xs ys →
       SameAt (roots_in_path path) before before' →
-      reading (spot_of scope path) (seen xs before) ≡ reading (spot_of scope path) (seen ys before')
+      reading (path_meaning_of scope path) (seen xs before) ≡ reading (path_meaning_of scope path) (seen ys before')
 
 -- the variables that an act names
 abbrev pub named_by : Stmt → List ℕ

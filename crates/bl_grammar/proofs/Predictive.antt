@@ -67,7 +67,8 @@ module _ {K P T : Type 0} (Produces : P → Option T → List (Symbol K P) → T
   Spells symbols tokens left = Derives Produces matches symbols tokens left
 
   -- what stands for the one and then what stands for the other
-  pub join : {xs ys : List (Symbol K P)} {tokens between left : List T} → Spells xs tokens between → Spells ys between left → Spells (xs ++ ys) tokens left
+  pub join : {xs ys : List (Symbol K P)} {tokens between left : List T} → Spells xs tokens between → Spells ys between left →
+      Spells (xs ++ ys) tokens left
   join done d = d
   join (terminal m r) d = terminal m (join r d)
   join (part made inner r) d = part made inner (join r d)
@@ -89,7 +90,8 @@ module _ {K P T : Type 0} (Produces : P → Option T → List (Symbol K P) → T
     pub first : Spells production tokens between
     pub rest : Spells symbols between left
 
-  pub expansion : {A : P} {symbols : List (Symbol K P)} {tokens left : List T} → Spells (Nonterminal A ∷ symbols) tokens left → Expansion A symbols tokens left
+  pub expansion : {A : P} {symbols : List (Symbol K P)} {tokens left : List T} → Spells (Nonterminal A ∷ symbols) tokens left →
+      Expansion A symbols tokens left
   expansion (part made inner r) = record { production = _; made = made; between = _; first = inner; rest = r }
 
   -- what stands for a production stands for its part
@@ -129,7 +131,8 @@ module _ {K P T : Type 0} (Produces : P → Option T → List (Symbol K P) → T
     leads_append (Terminal k ∷ q) ss t l = inl (subst (λ (x : T). matches k x ≡ true) (sym (same_some _ _ l.1)) l.2)
     leads_append (Nonterminal B ∷ q) ss t l =
         ⊎_elim (λ h. inl (or_left _ _ (subst (λ (x : T). tables.begins B x ≡ true) (sym (same_some _ _ h.1)) h.2)))
-        (λ h. ⊎_elim (λ heads. inl (or_right (tables.begins B t) _ (and_both _ _ h.0 heads))) (λ v. inr (and_both _ _ h.0 v.0, v.1)) (leads_append q ss t h.1))
+        (λ h. ⊎_elim (λ heads. inl (or_right (tables.begins B t) _ (and_both _ _ h.0 heads))) (λ v. inr (and_both _ _ h.0 v.0, v.1))
+        (leads_append q ss t h.1))
         l
 
     -- a production in place of its part keeps a stack good
@@ -196,7 +199,8 @@ module _ {K P T : Type 0} (Produces : P → Option T → List (Symbol K P) → T
     token_then k ss left rest = let s = right.samples k in record { tokens = tables.sample k ∷ rest.tokens; spells = terminal s.0 rest.spells; neutral = s.1 }
 
     complete_lower : (n : ℕ) → ((A : P) → tables.height A < n → Completes A) → (ss : List (Symbol K P)) →
-        Predictive.AreLower Produces matches tables n ss → (left : List T) → Predictive.IsNeutral Produces matches tables (next_of left) → Completed ss left
+        Predictive.AreLower Produces matches tables n ss → (left : List T) → Predictive.IsNeutral Produces matches tables (next_of left) →
+        Completed ss left
     complete_lower n each [] lower left neutral = record { tokens = left; spells = done; neutral = neutral }
     complete_lower n each (Terminal k ∷ ss) lower left neutral = token_then k ss left (complete_lower n each ss lower left neutral)
     complete_lower n each (Nonterminal A ∷ ss) lower left neutral = one_then A ss left (each A lower.0) (complete_lower n each ss lower.1 left neutral)
@@ -230,7 +234,8 @@ module _ {K P T : Type 0} (Produces : P → Option T → List (Symbol K P) → T
         ranked : (0 < tables.rank A) × (0 < tables.limit) × (tables.rank A ≤ tables.limit)
         ranked = right.ranked A
 
-        above : (b : Bool) (n : ℕ) → (b ≡ true → n < tables.limit) → (b ≡ false → n < tables.rank A) → n < cond b (tables.limit + length ss) (tables.rank A)
+        above : (b : Bool) (n : ℕ) → (b ≡ true → n < tables.limit) → (b ≡ false → n < tables.rank A) →
+            n < cond b (tables.limit + length ss) (tables.rank A)
         above true n absent not_absent = omega (arith, absent refl)
         above false n absent not_absent = not_absent refl
 

@@ -14,28 +14,28 @@ module _ {K P T : Type 0}
   Spells symbols tokens = Derives Produces matches symbols tokens []
 
   -- after these tokens the stack stands for just what completes a text of the part
-  pub record Stands (A : P) (front : List T) (stack : List (Symbol K P)) : Type 0 where
+  pub record StackStands (A : P) (front : List T) (stack : List (Symbol K P)) : Type 0 where
     pub good : Good Produces matches tables stack
     pub there : (more : List T) → Spells (Nonterminal A ∷ []) (front ++ more) → Spells stack more
     pub back : (more : List T) → Spells stack more → Spells (Nonterminal A ∷ []) (front ++ more)
 
   -- before this token both stacks stand for the same
-  pub record Expands (token : T) (stack opened : List (Symbol K P)) : Type 0 where
+  pub record StackExpands (token : T) (stack opened : List (Symbol K P)) : Type 0 where
     pub good : Good Produces matches tables opened
     pub there : (more : List T) → Spells stack (token ∷ more) → Spells opened (token ∷ more)
     pub back : (more : List T) → Spells opened (token ∷ more) → Spells stack (token ∷ more)
 
   -- the other stack stands for what the one stands for after this token
-  pub record Takes (token : T) (stack rest : List (Symbol K P)) : Type 0 where
+  pub record StackTakes (token : T) (stack rest : List (Symbol K P)) : Type 0 where
     pub good : Good Produces matches tables rest
     pub there : (more : List T) → Spells stack (token ∷ more) → Spells rest more
     pub back : (more : List T) → Spells rest more → Spells stack (token ∷ more)
 
   -- the stack stands for nothing that begins with this token
-  abbrev pub Refuses : T → List (Symbol K P) → Type 0
-  Refuses token stack = (more : List T) → ¬ Spells stack (token ∷ more)
+  abbrev pub StackRefuses : T → List (Symbol K P) → Type 0
+  StackRefuses token stack = (more : List T) → ¬ Spells stack (token ∷ more)
 
   -- whether the token is taken, and what is left then
-  abbrev pub Answers : T → List (Symbol K P) → Bool → List (Symbol K P) → Type 0
-  Answers token stack true rest = Takes token stack rest
-  Answers token stack false rest = Refuses token stack
+  abbrev pub StackAnswers : T → List (Symbol K P) → Bool → List (Symbol K P) → Type 0
+  StackAnswers token stack true rest = StackTakes token stack rest
+  StackAnswers token stack false rest = StackRefuses token stack

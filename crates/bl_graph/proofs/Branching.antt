@@ -10,7 +10,6 @@ use Rattle.std.proofs.Common.{
   Bool,
   true,
   false,
-  cond,
   nat_eq,
   List,
   [],
@@ -51,16 +50,14 @@ use Rattle.bl_tree.specs.Instant.{branches_instant, instant as ends_at_once}
 use Rattle.bl_tree.specs.Static.{index_mentions, mentions, set_of, static_of, whole}
 use Rattle.bl_nodes.specs.Laws.{plain_branch, stmt}
 use Rattle.bl_nodes.specs.Nodes.{ActAt, DepthJoinAt, ForkAt, Node, SurfaceJoinAt, is_instant, nodes_in, nodes_in_each, nodes_of, where_so}
-use Rattle.bl_nodes.specs.Plain.{Act, Await, Block, Bodies, Body, Cobegin, Label, Last, Plain, Position, Run, bodies_from, inside, label_at, plain, plain_block}
+use Rattle.bl_nodes.specs.Plain.{Act, Await, Block, Bodies, Body, Cobegin, Label, Last, Position, Run, bodies_from, inside, label_at, plain, plain_block}
 use Rattle.bl_nodes.proofs.Equations.{plain_statements}
 use Rattle.bl_nodes.proofs.Instants.{instant_is}
-use Rattle.bl_graph.specs.declared.flow.Flow.{Flow}
-use Rattle.bl_graph.specs.declared.flow.Span.{Span}
 use Rattle.bl_graph.specs.declared.part.Branches.{Branches}
 use Rattle.bl_graph.specs.declared.part.Links.{Links}
 use Rattle.bl_graph.specs.declared.part.Part.{Part as Made}
 use Rattle.bl_graph.specs.Listed.{edges_in_each, flows_in_each}
-use Rattle.bl_graph.specs.Marks.{Mark, Marked, entered, join_mark, marked, part_in, parts_of, resumed, unreached, where_marked}
+use Rattle.bl_graph.specs.Marks.{entered, join_mark, marked, part_in, parts_of, resumed, unreached, where_marked}
 use Rattle.bl_graph.specs.inner.Flows.{InOrder}
 use Rattle.bl_graph.specs.inner.Instants.{ends_of_branch}
 use Rattle.bl_graph.specs.inner.Made.{
@@ -82,7 +79,6 @@ use Rattle.bl_graph.specs.inner.Made.{
   flows_within,
   kinded,
   spans_of,
-  whole_in,
   whole_of,
 }
 use Rattle.bl_graph.specs.inner.Parts.{
@@ -100,11 +96,10 @@ use Rattle.bl_graph.specs.inner.Parts.{
   pause_part,
 }
 use Rattle.bl_graph.proofs.Building.{counted, empty_at, leads_in}
-use Rattle.bl_graph.proofs.Crossing.{counts, crossed_adds, flows_apart}
-use Rattle.bl_graph.proofs.Following.{Same}
+use Rattle.bl_graph.proofs.Crossing.{crossed_adds, flows_apart}
 use Rattle.bl_graph.proofs.Joining.{bodies_with, branch_makes, names_with, with_branch}
 use Rattle.bl_graph.proofs.Making.{act_makes, await_makes, flows_where, re_add, run_makes}
-use Rattle.bl_graph.proofs.Marking.{names, names_each, names_in}
+use Rattle.bl_graph.proofs.Marking.{names, names_each}
 use Rattle.bl_graph.proofs.Numbering.{adds_none, adds_then, names_back, names_front, out_pairs, pairs_append}
 
 -- ---- branches

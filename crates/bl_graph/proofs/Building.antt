@@ -2,7 +2,6 @@
 use Rattle.std.proofs.Common.{
   ◌≡◌,
   ℕ,
-  zero,
   suc,
   ◌+◌,
   ◌-◌,
@@ -12,7 +11,6 @@ use Rattle.std.proofs.Common.{
   true,
   false,
   not,
-  cond,
   nat_eq,
   ◌||◌,
   List,
@@ -29,7 +27,6 @@ use Rattle.std.proofs.Common.{
   nat_lt,
   length,
   get_or,
-  Option,
   Some,
   refl,
   rules,
@@ -40,27 +37,23 @@ use Rattle.std.proofs.Common.{
   arith,
   append_assoc,
   append-nil,
-  zero-add,
 }
-use Rattle.std.specs.Prelude.{Contains}
-use Rattle.std.proofs.lemmas.List.{length-append, length-map, map-append, take_all, take_more, take_rest}
+use Rattle.std.proofs.lemmas.List.{length-append, map-append, take_all, take_more, take_rest}
 use Rattle.bl_tree.specs.declared.graph.Edge.{Edge}
 use Rattle.bl_tree.specs.declared.place.Place.{Place}
 use Rattle.bl_tree.specs.declared.static_path.Static.{Static}
 use Rattle.bl_tree.specs.declared.tree.Arm.{Arm, out-Arm}
-use Rattle.bl_tree.specs.declared.tree.Branch.{Branch, out-Branch}
 use Rattle.bl_tree.specs.declared.tree.Expr.{Expr, fold-roll-Expr, out-Expr}
 use Rattle.bl_tree.specs.declared.tree.ExprKind.{fold-roll-ExprKind}
 use Rattle.bl_tree.specs.declared.tree.Guard.{Guard}
-use Rattle.bl_tree.specs.declared.tree.Path.{Path}
-use Rattle.bl_tree.specs.declared.tree.Stmt.{Stmt, fold-roll-Stmt, out-Stmt, roll-Stmt, roll-out-Stmt}
-use Rattle.bl_tree.specs.declared.tree.StmtKind.{StmtKind, fold-roll-StmtKind, out-StmtKind, roll-StmtKind, roll-out-StmtKind}
+use Rattle.bl_tree.specs.declared.tree.Stmt.{Stmt, fold-roll-Stmt, out-Stmt, roll-out-Stmt}
+use Rattle.bl_tree.specs.declared.tree.StmtKind.{fold-roll-StmtKind}
 use Rattle.bl_tree.specs.declared.tree.StmtKind.TheOpen.{StmtKind-F}
-use Rattle.bl_tree.specs.Effects.{reads, writes}
+use Rattle.bl_tree.specs.Effects.{reads}
 use Rattle.bl_tree.specs.Instant.{is_instant_block}
 use Rattle.bl_tree.specs.Static.{mentions, set_of}
 use Rattle.bl_tree.proofs.StmtInduction.{Cases, induct}
-use Rattle.bl_nodes.specs.Laws.{plain_arm, plain_branch, stmt}
+use Rattle.bl_nodes.specs.Laws.{plain_arm, stmt}
 use Rattle.bl_nodes.specs.Nodes.{
   CheckAt,
   DepthEndAt,
@@ -76,8 +69,6 @@ use Rattle.bl_nodes.specs.Nodes.{
   where_so,
 }
 use Rattle.bl_nodes.specs.Plain.{
-  Act,
-  Await,
   Block,
   Done,
   If,
@@ -96,7 +87,6 @@ use Rattle.bl_nodes.specs.Plain.{
   label_at,
   never,
   passed_one,
-  place_of_test,
   plain,
   plain_block,
 }
@@ -347,7 +337,8 @@ pub choice_made : (place : Place) (reads : List Static) (body : List Stmt) (more
     → one ≡ l1.control ++ link_if (not empty) first start → two ≡ one ++ link_if more first next
     → result ≡ choice_part place reads (empty || not more) first inside
     → ChoiceMade place reads body more first result l0 (record { control = two; by_data = l1.by_data })
-choice_made place reads body more empty first start next inside result l0 l1 one two is here bare made grows more_grows same l at e rest naming read empty_rest leads_rest named =
+choice_made place reads body more empty first start next inside result l0 l1 one two is here bare made grows more_grows same l at e rest naming read
+    empty_rest leads_rest named =
     let b : Block = plain_block body at in
     let last : Links = record { control = two; by_data = l1.by_data } in
     let whole : Plain = If l place e b rest in

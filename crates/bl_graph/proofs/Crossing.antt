@@ -24,7 +24,6 @@ use Rattle.std.proofs.Common.{
   ◌++◌,
   map,
   length,
-  Option,
   Some,
   None,
   refl,
@@ -36,19 +35,19 @@ use Rattle.std.proofs.Common.{
   append_assoc,
   zero-add,
 }
-use Rattle.std.specs.Prelude.{◌≢◌, All, Contains, slice_get}
+use Rattle.std.specs.Prelude.{◌≢◌, Contains, slice_get}
 use Rattle.std.proofs.lemmas.List.Elements.{All-contains, Contains-append_cases, Contains-append_left, Contains-append_right}
 use Rattle.bl_tree.specs.declared.graph.Edge.{Edge}
 use Rattle.bl_tree.specs.Static.{meets}
 use Rattle.bl_nodes.specs.Nodes.{Node, node_reads, node_writes, nodes_in, nodes_in_each}
-use Rattle.bl_nodes.specs.Plain.{Block, Bodies, Body, Last}
+use Rattle.bl_nodes.specs.Plain.{Bodies, Body, Last}
 use Rattle.bl_graph.specs.declared.flow.Flow.{Flow}
 use Rattle.bl_graph.specs.declared.flow.Span.{Span}
 use Rattle.bl_graph.specs.Graph.{edge_between}
 use Rattle.bl_graph.specs.Listed.{Pair, across, between, flows_in, flows_in_each, pair, together, touching}
 use Rattle.bl_graph.specs.Marks.{Mark, Marked, part_in, parts_of}
 use Rattle.bl_graph.specs.inner.Flows.{FlowBetween, FlowsAdded, InBranch}
-use Rattle.bl_graph.specs.inner.Made.{Adds, Crossed, HasEdge, HasPair, Names, Naming, flow_of, flows_between, flows_within, spans_of}
+use Rattle.bl_graph.specs.inner.Made.{Adds, Crossed, Names, Naming, flow_of, flows_between, flows_within, spans_of}
 use Rattle.bl_graph.specs.inner.Parts.{shifted}
 use Rattle.bl_graph.proofs.Following.{Same, same_both, same_is, same_itself, same_swap, same_then}
 use Rattle.bl_graph.proofs.Marking.{names, names_in}
@@ -79,7 +78,10 @@ pub record Element {A : Type 0} (xs : List A) (i : ℕ) : Type 0 where
 pub element_at : {A : Type 0} (xs : List A) (i : ℕ) → i < length xs → Element xs i
 element_at [] i below = absurd (omega arith)
 element_at (x ∷ xs) zero below = record { element = x; is = refl }
-element_at (x ∷ xs) (suc i) below = let less : i < length xs = omega arith in let more = element_at xs i less in record { element = more.element; is = more.is }
+element_at (x ∷ xs) (suc i) below =
+    let less : i < length xs = omega arith in
+    let more = element_at xs i less in
+    record { element = more.element; is = more.is }
 
 pub below_at : {A : Type 0} (xs : List A) (i : ℕ) (x : A) → slice_get xs i ≡ Some x → i < length xs
 below_at [] i x is = cc

@@ -509,7 +509,8 @@ body_differs l at guard e body d =
     ∷ moved (begun_by guard) (part_in body).nodes) d.1 in
     moved_differ (begun_by guard) (part_in body).nodes last.1.1
 
-pub branches_differ : (l : Label) (at : Place) (bodies : Bodies) → Differ (names (part_of (Cobegin l at bodies)).nodes) → Differ (names (parts_of bodies).nodes)
+pub branches_differ : (l : Label) (at : Place) (bodies : Bodies) → Differ (names (part_of (Cobegin l at bodies)).nodes) →
+    Differ (names (parts_of bodies).nodes)
 branches_differ l at bodies d =
     let last = second_differ (where_marked (is_instant (Cobegin l at bodies)) (marked (join_mark (parts_of bodies).left) (SurfaceJoinAt l at)))
     (marked (parts_of bodies).left (DepthJoinAt l at) ∷ (parts_of bodies).nodes) d.1 in

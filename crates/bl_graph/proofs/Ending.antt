@@ -49,9 +49,9 @@ use Rattle.bl_graph.specs.Edges.{EdgeAll}
 use Rattle.bl_graph.specs.Graph.{Between, IsTickGraph, edge_between, shown}
 use Rattle.bl_graph.specs.Listed.{Pair, edges_in, flows_in, pair}
 use Rattle.bl_graph.specs.Marks.{Marked, part_in}
-use Rattle.bl_graph.specs.inner.Made.{Adds, BlockMade, HasPair, Makes, Names, Naming, flow_of, whole_in}
+use Rattle.bl_graph.specs.inner.Made.{Adds, BlockMade, HasPair, Makes, Names, flow_of, whole_in}
 use Rattle.bl_graph.proofs.Branching.{names_list}
-use Rattle.bl_graph.proofs.Crossing.{below_at, there_at}
+use Rattle.bl_graph.proofs.Crossing.{below_at}
 use Rattle.bl_graph.proofs.Flowing.{flows_are_listed}
 use Rattle.bl_graph.proofs.Listing.{edges_are_listed}
 use Rattle.bl_graph.proofs.Marking.{names, names_in}

@@ -159,7 +159,8 @@ moved_part deep e body zs full d sub =
     closed_part deep (moved e (part_in body).nodes) zs (EdgeAll body) d sub (λ n m edge. in_moved e body n (edge_in body n m edge).0)
     (moved_closed e body full deep)
 
-pub block_part : (deep : Bool) (body : Block) (zs : List Marked) → FullIn body → Differ (names zs) → Sub (part_in body).nodes zs → Closed deep zs (EdgeAll body)
+pub block_part : (deep : Bool) (body : Block) (zs : List Marked) → FullIn body → Differ (names zs) → Sub (part_in body).nodes zs →
+    Closed deep zs (EdgeAll body)
 block_part deep body zs full d sub =
     closed_part deep (part_in body).nodes zs (EdgeAll body) d sub (λ n m edge. in_block body n (edge_in body n m edge).0) (full.closed deep)
 
@@ -183,7 +184,8 @@ single_full l s = record {
   outs = λ n k out there. there;
 }
 
-pub pausing_outs : (first other n : Node) (k : Mark) → (first ≡ other → ⊥) → n ≡ other → At (marked entered first ∷ marked resumed other ∷ []) n k →
+pub pausing_outs : (first other n : Node) (k : Mark) → (first ≡ other → ⊥) → n ≡ other →
+    At (marked entered first ∷ marked resumed other ∷ []) n k →
     At (marked resumed other ∷ []) n k
 pausing_outs first other n k apart out (inl h) = absurd (apart (sym h.0 ∙ out))
 pausing_outs first other n k apart out (inr h) = h
@@ -211,7 +213,8 @@ run_full l at target a inputs outputs = let given = arguments_of target inputs o
 pub if_closed : (l : Label) (at : Place) (e : Expr) (body other : Block) → FullIn body → FullIn other →
     Differ (names (part_of (If l at e body other)).nodes) → (deep : Bool) → Closed deep (part_of (If l at e body other)).nodes (Edge (If l at e body other))
 if_closed l at e body other one two d deep n m is (inl h) =
-    block_part deep body (part_of (If l at e body other)).nodes one d (λ k j there. inr (at_left (part_in body).nodes (part_in other).nodes k j there)) n m is h
+    block_part deep body (part_of (If l at e body other)).nodes one d
+    (λ k j there. inr (at_left (part_in body).nodes (part_in other).nodes k j there)) n m is h
 if_closed l at e body other one two d deep n m is (inr (inl h)) =
     block_part deep other (part_of (If l at e body other)).nodes two d (λ k j there. inr (at_right (part_in body).nodes (part_in other).nodes k j there))
     n m is h
@@ -273,7 +276,8 @@ if_full l at e body other one two d = record {
 pub turn_closed : (body : Block) (first last : Node) (first_mark last_mark : Mark) (zs : List Marked) → FullIn body → Differ (names zs) →
     Sub (moved (again_by (some_of (part_in body).outs)) (part_in body).nodes) zs → At zs first first_mark → At zs last last_mark →
     (first_mark.depth ≡ true → (some_of (part_in body).outs).depth ≡ true) → (is_empty body ≡ true → last_mark.surface ≡ true) →
-    ((some_of (part_in body).outs).surface ≡ true → last_mark.surface ≡ true) → ((some_of (part_in body).outs).depth ≡ true → last_mark.depth ≡ true) →
+    ((some_of (part_in body).outs).surface ≡ true → last_mark.surface ≡ true) →
+    ((some_of (part_in body).outs).depth ≡ true → last_mark.depth ≡ true) →
     (deep : Bool) → Closed deep zs (Turn body first last)
 turn_closed body first last fm lm zs full d sub at_first at_last first_deep empty_last some_last deep_last false n m is (inl h) = elim h.1 [
   | inl into ↦ is_in false (moved (again_by (some_of (part_in body).outs)) (part_in body).nodes) zs m sub
@@ -330,7 +334,8 @@ pub while_full : (l : Label) (at : Place) (e : Expr) (body : Block) → FullIn b
     Full (While l at e body)
 while_full l at e body full d = let again = again_by (some_of (part_in body).outs) in record {
   enters = λ n same. is_first false (marked again (TestAt l at e)) (moved again (part_in body).nodes) n same refl;
-  resumes = λ n h. is_later true (marked again (TestAt l at e)) (moved again (part_in body).nodes) n (to_depth again (part_in body).nodes n (full.resumes n h));
+  resumes = λ n h. is_later true (marked again (TestAt l at e)) (moved again (part_in body).nodes) n
+      (to_depth again (part_in body).nodes n (full.resumes n h));
   closed = while_closed l at e body full d;
   outs = λ n k out there. inl (out, sym (one_mark (part_of (While l at e body)).nodes n again k d (inl (out, refl)) there));
 }

@@ -109,7 +109,8 @@ Sides deep xs ys n m = (Is deep xs n × Is deep ys m) ⊎ (Is deep ys n × Is de
 abbrev Either : List Marked → List Marked → Node → Node → Type 0
 Either xs ys n m = (Sides false xs ys n m ⊎ Sides true xs ys n m) × Touches n m
 
-sides_more : (deep : Bool) (xs vs ys ws : List Marked) (n m : Node) → ((k : Node) → Is deep xs k → Is deep vs k) → ((k : Node) → Is deep ys k → Is deep ws k) →
+sides_more : (deep : Bool) (xs vs ys ws : List Marked) (n m : Node) → ((k : Node) → Is deep xs k → Is deep vs k) →
+    ((k : Node) → Is deep ys k → Is deep ws k) →
     Sides deep xs ys n m → Sides deep vs ws n m
 sides_more deep xs vs ys ws n m one two (inl h) = inl (one n h.0, two m h.1)
 sides_more deep xs vs ys ws n m one two (inr h) = inr (two n h.0, one m h.1)

@@ -48,8 +48,7 @@ use Rattle.bl_nodes.specs.Plain.{
   block_from,
   is_empty,
 }
-use Rattle.bl_graph.specs.declared.flow.Flow.{Flow}
-use Rattle.bl_graph.specs.Listed.{Pair, each_to, each_to_all, edges_in, edges_of, entry_of, flows_in, flows_of, resumes_in, resumes_of}
+use Rattle.bl_graph.specs.Listed.{Pair, each_to, each_to_all, edges_in, edges_of, flows_in, flows_of, resumes_in, resumes_of}
 use Rattle.bl_graph.specs.Marks.{Mark, Marked, entered, inner, moved, part_in, part_of, some_of}
 use Rattle.bl_graph.specs.inner.Made.{flow_of}
 use Rattle.bl_graph.specs.inner.Parts.{is_nothing}

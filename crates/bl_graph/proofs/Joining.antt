@@ -7,7 +7,6 @@ use Rattle.std.proofs.Common.{
   Bool,
   true,
   false,
-  not,
   cond,
   ◌||◌,
   List,
@@ -32,7 +31,6 @@ use Rattle.bl_tree.specs.declared.graph.Edge.{Edge}
 use Rattle.bl_tree.specs.declared.place.Place.{Place}
 use Rattle.bl_nodes.specs.Nodes.{DepthJoinAt, ForkAt, Node, SurfaceJoinAt, nodes_in, nodes_in_each, where_so}
 use Rattle.bl_nodes.specs.Plain.{Block, Bodies, Body, Branch, Label, Last, bodies_from, inside, is_empty}
-use Rattle.bl_graph.specs.declared.flow.Flow.{Flow}
 use Rattle.bl_graph.specs.declared.flow.Span.{Span}
 use Rattle.bl_graph.specs.declared.part.Branches.{Branches}
 use Rattle.bl_graph.specs.declared.part.Links.{Links}
@@ -49,7 +47,6 @@ use Rattle.bl_graph.specs.inner.Made.{
   Makes,
   MakesEach,
   Names,
-  NamesEach,
   Naming,
   Pairwise,
   flow_of,
@@ -59,21 +56,16 @@ use Rattle.bl_graph.specs.inner.Made.{
 }
 use Rattle.bl_graph.specs.inner.Parts.{
   branch_links,
-  depth_links,
-  into_block,
   joined_branch,
-  leave_mark,
   leaving_outs,
-  links_from,
   number_if,
   numbered,
   surface_links,
 }
 use Rattle.bl_graph.proofs.Making.{flows_append}
-use Rattle.bl_graph.proofs.Marking.{names, names_in}
+use Rattle.bl_graph.proofs.Marking.{names_in}
 use Rattle.bl_graph.proofs.Numbering.{
   adds_listed,
-  adds_none,
   adds_then,
   depth_pairs,
   from_pairs,

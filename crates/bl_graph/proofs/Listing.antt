@@ -217,13 +217,15 @@ node_depth (x ∷ ms) t n m k (inl h) is same = p_left (cond x.mark.depth (pair 
 node_depth (x ∷ ms) t n m k (inr h) is same =
     p_right (cond x.mark.depth (pair x.node t ∷ []) []) (depth_to ms t) n m (node_depth ms t n m k h is same)
 
-into_listed : (body : Block) (next : List Node) (F : Node → Type 0) (m : Node) → ((k : Node) → F k → Has next k) → Into body F m → Has (entry_of body next) m
+into_listed : (body : Block) (next : List Node) (F : Node → Type 0) (m : Node) → ((k : Node) → F k → Has next k) → Into body F m →
+    Has (entry_of body next) m
 into_listed Done next F m more (inl h) = elim h [ ]
 into_listed Done next F m more (inr h) = more m h.1
 into_listed (Then s rest) next F m more (inl h) = inl h
 into_listed (Then s rest) next F m more (inr h) = never h.0
 
-listed_into : (body : Block) (next : List Node) (F : Node → Type 0) (m : Node) → ((k : Node) → Has next k → F k) → Has (entry_of body next) m → Into body F m
+listed_into : (body : Block) (next : List Node) (F : Node → Type 0) (m : Node) → ((k : Node) → Has next k → F k) → Has (entry_of body next) m →
+    Into body F m
 listed_into Done next F m more h = inr (refl, more m h)
 listed_into (Then s rest) next F m more (inl h) = inl h
 listed_into (Then s rest) next F m more (inr h) = elim h [ ]
@@ -472,7 +474,8 @@ mutual
         ]
       ]
 
-  listed_each : (bodies : Bodies) (l : Label) (at : Place) (so : Bool) (n m : Node) → HasPair (edges_in_each bodies l at so) n m → EdgeEach bodies l at so n m
+  listed_each : (bodies : Bodies) (l : Label) (at : Place) (so : Bool) (n m : Node) → HasPair (edges_in_each bodies l at so) n m →
+      EdgeEach bodies l at so n m
   listed_each Last l at so n m h = elim h [ ]
   listed_each (Body weak body rest) l at so n m h =
       let forks = from_to (ForkAt l at) (entry_of body (where_so so (SurfaceJoinAt l at))) in

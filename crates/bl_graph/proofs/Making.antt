@@ -2,7 +2,6 @@
 use Rattle.std.proofs.Common.{
   ◌≡◌,
   ℕ,
-  suc,
   ◌+◌,
   Bool,
   true,
@@ -15,7 +14,6 @@ use Rattle.std.proofs.Common.{
   ◌∷◌,
   ◌++◌,
   map,
-  length,
   Option,
   Some,
   refl,
@@ -23,14 +21,11 @@ use Rattle.std.proofs.Common.{
   sym,
   ◌∙◌,
   subst,
-  arith,
   append_assoc,
-  append-nil,
 }
 use Rattle.bl_tree.specs.declared.graph.Edge.{Edge}
 use Rattle.bl_tree.specs.declared.graph.NodeKind.TheVariants as kind
 use Rattle.bl_tree.specs.declared.place.Place.{Place}
-use Rattle.bl_tree.specs.declared.static_path.Static.{Static}
 use Rattle.bl_tree.specs.declared.tree.Expr.{Expr}
 use Rattle.bl_tree.specs.declared.tree.Guard.{Guard}
 use Rattle.bl_tree.specs.declared.tree.Guard.TheVariants.{Abort, Reset}
@@ -42,10 +37,8 @@ use Rattle.bl_nodes.specs.Nodes.{
   ActAt,
   CheckAt,
   DepthEndAt,
-  EnterAt,
   HeadAt,
   Node,
-  PauseAt,
   ResumeAt,
   StartAt,
   SurfaceEndAt,
@@ -53,22 +46,16 @@ use Rattle.bl_nodes.specs.Nodes.{
   are_instant,
   arguments_of,
   entry,
-  node_reads,
-  node_writes,
   nodes_in,
-  nodes_of,
   where_so,
 }
 use Rattle.bl_nodes.specs.Plain.{Act, Await, Block, Done, If, Label, Plain, Repeat, Run, Then, Until, When, While, is_empty}
-use Rattle.bl_graph.specs.declared.flow.Flow.{Flow}
 use Rattle.bl_graph.specs.declared.part.Links.{Links}
 use Rattle.bl_graph.specs.declared.part.Out.{Out}
 use Rattle.bl_graph.specs.declared.part.Part.{Part as Made}
-use Rattle.bl_graph.specs.Graph.{edge_between}
 use Rattle.bl_graph.specs.Listed.{
   Pair,
   each_to,
-  each_to_all,
   edges_in,
   edges_of,
   ends_of,
@@ -79,7 +66,6 @@ use Rattle.bl_graph.specs.Listed.{
   guard_to,
   pair,
   resumes_in,
-  resumes_of,
   turn_of,
 }
 use Rattle.bl_graph.specs.Marks.{
@@ -88,7 +74,6 @@ use Rattle.bl_graph.specs.Marks.{
   again_by,
   begun_by,
   body_ends,
-  either,
   entered,
   inner,
   last_end,
@@ -107,7 +92,6 @@ use Rattle.bl_graph.specs.inner.Parts.{
   again_of,
   bare,
   bare_if,
-  beside,
   choice_part,
   endless_part,
   ends_by,
@@ -119,8 +103,6 @@ use Rattle.bl_graph.specs.inner.Parts.{
   into_block,
   is_nothing,
   link_if,
-  linked,
-  links_all,
   links_each,
   links_from,
   moved_flow,
@@ -150,12 +132,10 @@ use Rattle.bl_graph.proofs.Following.{
   resumes_after,
   same_back,
   same_both,
-  same_is,
   same_itself,
   same_swap,
-  same_then,
 }
-use Rattle.bl_graph.proofs.Marking.{names, names_in}
+use Rattle.bl_graph.proofs.Marking.{names}
 use Rattle.bl_graph.proofs.Numbering.{
   adds_listed,
   adds_none,
@@ -167,8 +147,6 @@ use Rattle.bl_graph.proofs.Numbering.{
   into_pairs,
   moved_flows,
   moved_pairs,
-  names_back,
-  names_front,
   number_pairs,
   one_edge,
   out_pairs,

@@ -2,12 +2,10 @@
 use Rattle.std.proofs.Common.{
   ◌≡◌,
   ℕ,
-  suc,
   ◌+◌,
   Bool,
   true,
   false,
-  not,
   cond,
   ◌&&◌,
   ◌||◌,
@@ -34,10 +32,8 @@ use Rattle.std.proofs.Common.{
 use Rattle.std.specs.Prelude.{Contains, ⊤}
 use Rattle.std.proofs.lemmas.List.Elements.{Contains-append_left, Contains-append_right, Contains-append_cases, Contains-push, Contains-push_cases}
 use Rattle.bl_tree.specs.declared.graph.Edge.{Edge}
-use Rattle.bl_tree.specs.Reduce.{joined}
-use Rattle.bl_nodes.specs.Nodes.{Node, entry, nodes_in, nodes_of, where_so}
+use Rattle.bl_nodes.specs.Nodes.{Node, where_so}
 use Rattle.bl_nodes.specs.Plain.{Block, Done, Then, is_empty}
-use Rattle.bl_graph.specs.declared.flow.Flow.{Flow}
 use Rattle.bl_graph.specs.declared.part.Out.{Out}
 use Rattle.bl_graph.specs.Graph.{edge_between}
 use Rattle.bl_graph.specs.Listed.{Pair, depth_to, each_to, each_to_all, entry_of, from_to, pair, surface_to}

@@ -121,7 +121,8 @@ here n begins = record { from = n; begins = begins; walk = stay n }
 pub reached_on : {F : Node → Type 0} {E : Node → Node → Type 0} (n m : Node) → Reached F E n → E n m → Reached F E m
 reached_on n m r edge = record { from = r.from; begins = r.begins; walk = walk_on r.walk (on n m m edge (stay m)) }
 
-pub reached_through : {P F : Node → Type 0} {E G : Node → Node → Type 0} → ((n m : Node) → E n m → G n m) → ((m : Node) → P m → Reached F G m) →
+pub reached_through : {P F : Node → Type 0} {E G : Node → Node → Type 0} → ((n m : Node) → E n m → G n m) →
+    ((m : Node) → P m → Reached F G m) →
     (n : Node) → Reached P E n → Reached F G n
 reached_through more begins n r =
     let first = begins r.from r.begins in record { from = first.from; begins = first.begins; walk = walk_on first.walk (walk_more more r.walk) }
@@ -281,7 +282,8 @@ module _ (l : Label) (at : Place) (guard : Guard) (e : Expr) (body : Block) (sou
         surface = λ n is. elim (is_split false (marked entered (StartAt l at)) (where_marked so surface_end ++ check ∷ depth_end ∷ inner) n is) [
           | inl own ↦ here n own.0
           | inr rest ↦ elim (is_cases false (where_marked so surface_end) (check ∷ depth_end ∷ inner) n rest) [
-            | inl w ↦ let h = is_where false so surface_end n w in reached_at n (SurfaceEndAt l at) h.1 (end_surface (SurfaceEndAt l at) (inl (h.0, refl)) h.2)
+            | inl w ↦ let h = is_where false so surface_end n w in
+                reached_at n (SurfaceEndAt l at) h.1 (end_surface (SurfaceEndAt l at) (inl (h.0, refl)) h.2)
             | inr more ↦ elim (is_split false check (depth_end ∷ inner) n more) [
               | inl own ↦ never own.1
               | inr further ↦ elim (is_split false depth_end inner n further) [
@@ -455,7 +457,8 @@ repeat_sound l at body sound = let again = again_by (some_of (part_in body).outs
     record {
       surface = λ n is. elim (is_split false (marked again (HeadAt l at)) inner n is) [
         | inl own ↦ here n own.0
-        | inr rest ↦ body_surface body (HeadAt l at) (HeadAt l at) sound looped (here (HeadAt l at) refl) n (moved_surface again (part_in body).nodes n rest).1
+        | inr rest ↦ body_surface body (HeadAt l at) (HeadAt l at) sound looped (here (HeadAt l at) refl) n
+            (moved_surface again (part_in body).nodes n rest).1
       ];
       depth = λ n is. elim (is_split true (marked again (HeadAt l at)) inner n is) [
         | inl own ↦ reached_at n (HeadAt l at) own.0 (deep own.1)

@@ -20,7 +20,8 @@ pub reached_keeps : {F : Node → Type 0} {E : Node → Node → Type 0} (H : No
 reached_keeps H begins keeps m reached = walk_keeps H keeps reached.walk (begins reached.from reached.begins)
 
 -- what holds where a walk begins, and goes on along each edge, holds where it ends
-pub walk_keeps_both : {E : Node → Node → Type 0} (H : Node → Type 0) → ((n m : Node) → H n → E n m → H m) → {a b : Node} → Walk E a b → H a → H b
+pub walk_keeps_both : {E : Node → Node → Type 0} (H : Node → Type 0) → ((n m : Node) → H n → E n m → H m) → {a b : Node} → Walk E a b →
+    H a → H b
 walk_keeps_both H keeps (stay n) h = h
 walk_keeps_both H keeps (on n by m edge rest) h = walk_keeps_both H keeps rest (keeps n by h edge)
 

@@ -133,7 +133,11 @@ mutual
   written_in_each (Body weak body rest) path l at so h =
       elim (Contains-append_cases (surface_writes_in body) (surface_writes_in_each rest) path h) [
         | inl one ↦ let way = written_in body path one in
-            record { writer = way.writer; walk = into_block body (ForkAt l at) path (λ n m h. inl h) (λ m h. inr (inl (refl, inl h))) way; writes = way.writes }
+            record {
+              writer = way.writer;
+              walk = into_block body (ForkAt l at) path (λ n m h. inl h) (λ m h. inr (inl (refl, inl h))) way;
+              writes = way.writes;
+            }
         | inr one ↦ let way = written_in_each rest path l at so one in
             record { writer = way.writer; walk = walk_more (later weak body rest l at so) way.walk; writes = way.writes }
       ]

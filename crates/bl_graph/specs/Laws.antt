@@ -57,7 +57,8 @@ pub record WritersAreReached : Type 0 where
 
 -- nodes that stand in different branches of one `cobegin` have different labels: the positions of their statements differ
 abbrev pub BranchesPart : Type 0
-BranchesPart = (body : List Stmt) (at : Position) (n m : Node) → BesideAll (plain_block body at) n m → (label_of n).position ≡ (label_of m).position → ⊥
+BranchesPart = (body : List Stmt) (at : Position) (n m : Node) → BesideAll (plain_block body at) n m → (label_of n).position ≡ (label_of m).position →
+    ⊥
 
 -- each node of a block is marked as reached exactly where it is
 pub record MarksTellIn (body : Block) : Type 0 where

@@ -48,9 +48,11 @@ pub use Rattle.bl_graph.specs.declared.flow.Mark.{Mark}
 abbrev pub entered : Mark
 entered = record { surface = true; depth = false }
 
+-- reached from where the part goes on in a later tick alone
 abbrev pub resumed : Mark
 resumed = record { surface = false; depth = true }
 
+-- reached by neither
 abbrev pub unreached : Mark
 unreached = record { surface = false; depth = false }
 
@@ -73,6 +75,7 @@ pub record Marked : Type 0 where
   pub node : Node
   pub mark : Mark
 
+-- the node with this mark
 abbrev pub marked : Mark → Node → Marked
 marked mark node = record { node = node; mark = mark }
 

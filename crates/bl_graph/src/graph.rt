@@ -1,7 +1,7 @@
 //! The tick graph of an activity.
 
 ghost use Rattle.std.specs.Prelude.{◌≡◌, ◌<◌, ◌++◌, length, map, slice_get, IfOk, OnOk, Some};
-ghost use Rattle.bl_effects.specs.Table.{Tells};
+ghost use Rattle.bl_effects.specs.Table.{TableTellsEffects};
 ghost use Rattle.bl_graph.specs.Graph.{IsTickGraph};
 ghost use Rattle.bl_nodes.specs.Plain.{plain_body};
 ghost use Rattle.bl_tree.specs.declared.tree.Unit.{Unit as UnitDef};
@@ -23,7 +23,7 @@ pub fn graph_of(
     unit: u32,
 ) -> Result<Graph, NoMemory>
     requires is_there { unit < length program.now.units }
-    requires effects { Tells effects.now program.now.units }
+    requires effects { TableTellsEffects effects.now program.now.units }
     ensures { IfOk result (λ graph. (of : UnitDef) → slice_get program.now.units unit ≡ Some of
         → IsTickGraph (plain_body of.body) graph.nodes graph.edges) }
 {

@@ -1,5 +1,27 @@
 -- Files over memory after a call handed over the front of one of them.
-use Rattle.std.proofs.Common.{◌≡◌, ◌≢◌, ℕ, ◌<◌, ◌≤◌, false, cond, List, [], ◌++◌, length, take, drop, Option, Some, None, option_map, unwrap_or, ap, ◌∙◌, arith}
+use Rattle.std.proofs.Common.{
+  ◌≡◌,
+  ◌≢◌,
+  ℕ,
+  ◌<◌,
+  ◌≤◌,
+  false,
+  cond,
+  List,
+  [],
+  ◌++◌,
+  length,
+  take,
+  drop,
+  Option,
+  Some,
+  None,
+  option_map,
+  unwrap_or,
+  ap,
+  ◌∙◌,
+  arith,
+}
 use Rattle.std.proofs.lemmas.Bool.{false_from_ne_true}
 use Rattle.std.proofs.lemmas.List.{nil_from_length, take-append-le, take-take, length-take-le}
 use Rattle.std.proofs.lemmas.Map.Text.{is_eq-slice_cmp}
@@ -29,7 +51,8 @@ IsKept-same : (a b : Option (List ℕ)) → b ≡ a → IsKept a b
 IsKept-same None b e = tt
 IsKept-same (Some bytes) b e = e
 
-pub KeepsOthers-insert : (files new : LeftByName) (name bytes : List ℕ) → new ≡ map.insert files name bytes → KeepsOthers name (map.get files) (map.get new)
+pub KeepsOthers-insert : (files new : LeftByName) (name bytes : List ℕ) → new ≡ map.insert files name bytes →
+    KeepsOthers name (map.get files) (map.get new)
 KeepsOthers-insert files new name bytes e = λ q differ. IsKept-same _ _ (rw e (get-insert-other files name bytes q differ))
 
 front_back : (n : ℕ) (bytes rest : List ℕ) → n ≤ length bytes → take n (take n bytes ++ rest) ≡ take n bytes

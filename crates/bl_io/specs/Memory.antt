@@ -21,7 +21,8 @@ files_code = code_by (LeftByName × FaultPlan) (coded× left_code plan_code) (λ
 
 -- a sink over memory is stored as the pair of its fields
 abbrev pub sink_code : Coded MemorySink
-sink_code = code_by (List ℕ × FaultPlan) (coded× (coded_list coded_ℕ) plan_code) (λ s. (s.held, s.plan)) (λ p. record { held = p.0; plan = p.1 }) (λ _. refl)
+sink_code = code_by (List ℕ × FaultPlan) (coded× (coded_list coded_ℕ) plan_code) (λ s. (s.held, s.plan)) (λ p. record { held = p.0; plan = p.1 })
+    (λ _. refl)
 
 -- no file was added
 abbrev pub no_files : MemoryFiles

@@ -66,7 +66,8 @@ impl Files for SureFiles {
 
         // Which answer comes, and all that stands after it.
         ensures exact { result ≡ Ok (handed (length room.old) no_limit (left_at self.old name.now)) }
-        ensures present { IsSome (map.get self.old name.now) → IfOk result (λ n. self.new ≡ map.insert self.old name.now (drop n (left_at self.old name.now))) }
+        ensures present { IsSome (map.get self.old name.now) →
+            IfOk result (λ n. self.new ≡ map.insert self.old name.now (drop n (left_at self.old name.now))) }
         ensures absent { map.get self.old name.now ≡ None → self.new ≡ self.old }
         ensures room { IfOk result (λ n. room.new ≡ take n (left_at self.old name.now) ++ drop n room.old) }
     {

@@ -1,6 +1,7 @@
 //! What stands at a place of the text: a blank, a comment or a token.
 
-ghost use Rattle.std.specs.Prelude.{◌≡◌, ◌≢◌, ℕ, ◌+◌, ◌<◌, ◌≤◌, true, false, ◌↔◌, List, [], ◌∷◌, length, slice_get, slice_index, Some, IsTrue};
+ghost use Rattle.std.specs.Prelude.{◌≡◌, ◌≢◌, ℕ, ◌+◌, ◌<◌, ◌≤◌, true, false, ◌↔◌, List, []};
+ghost use Rattle.std.specs.Prelude.{◌∷◌, length, slice_get, slice_index, Some, IsTrue};
 ghost use Rattle.std.specs.Prelude.{MatchOption, MatchResult};
 ghost use Rattle.bl_tree.specs.declared.place.Place.{Place};
 ghost use Rattle.bl_lex.specs.Spelling.{signs, is_blank, is_word_byte, begins_with_digit};
@@ -123,7 +124,8 @@ fn is_fraction(text: &[u8], at: usize) -> bool
 }
 
 fn number_form(numeral: Numeral, before_fraction: bool) -> Form
-    ensures { (text word : List ℕ) (end : ℕ) → IsNumeral word numeral → (IsTrue before_fraction ↔ FractionAt text end) → WordIs text end word result }
+    ensures { (text word : List ℕ) (end : ℕ) → IsNumeral word numeral → (IsTrue before_fraction ↔ FractionAt text end) →
+        WordIs text end word result }
 {
     match numeral {
         Numeral::Decimal(value) => {
@@ -278,7 +280,8 @@ fn short_sign_at(text: &[u8], at: usize) -> Option<u8>
 /// The sign of two bytes.
 #[tactic(auto, unfolding(crate::specs::Spelling::signs))]
 fn long_sign(first: u8, second: u8) -> Option<u8>
-    ensures { MatchOption result ((k : ℕ) → slice_get signs k ≢ Some (first ∷ second ∷ [])) (λ k. slice_get signs k ≡ Some (first ∷ second ∷ [])) }
+    ensures { MatchOption result ((k : ℕ) → slice_get signs k ≢ Some (first ∷ second ∷ []))
+        (λ k. slice_get signs k ≡ Some (first ∷ second ∷ [])) }
 {
     match (first, second) {
         (b'=', b'=') => Some(sign::EQUAL),

@@ -1,6 +1,7 @@
 //! The walk over the text, from piece to piece.
 
-ghost use Rattle.std.specs.Prelude.{◌≡◌, ℕ, ◌≤◌, ◌==◌, ◌↔◌, List, [], ◌++◌, length, count_by, IsTrue, IfOk, IfErr, OnOk, MatchResult};
+ghost use Rattle.std.specs.Prelude.{◌≡◌, ℕ, ◌≤◌, ◌==◌, ◌↔◌, List, [], ◌++◌, length, count_by, IsTrue};
+ghost use Rattle.std.specs.Prelude.{IfOk, IfErr, OnOk, MatchResult};
 ghost use Rattle.bl_lex.specs.declared.sign.TheConstants.{OPEN_BRACKET};
 ghost use Rattle.bl_lex.specs.Pieces.{line_feed};
 ghost use Rattle.bl_lex.specs.Tokens.{Part, Lexes};

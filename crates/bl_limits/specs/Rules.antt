@@ -27,6 +27,7 @@ pub record LongChain (units : List UnitDef) (at : Place) : Type 0 where
   pub long : 100 < chain_at units position
   pub at_name : at ≡ unit.place
 
+-- Frames fails: the entry has too many instances, or a chain of calls is too long
 abbrev pub FailsFrames : List UnitDef → ℕ → Place → Type 0
 FailsFrames units entry at = ManyInstances units entry at ⊎ LongChain units at
 
@@ -56,6 +57,7 @@ pub record DeepVariable (structs : List StructDef) (units : List UnitDef) (at : 
   pub deep : 100 < nesting structs var.ty
   pub at_name : at ≡ var.place
 
+-- Cells fails: the entry has too many cells, or a struct or a variable is nested too deep
 abbrev pub FailsCells : List StructDef → List UnitDef → ℕ → Place → Type 0
 FailsCells structs units entry at = LargeState structs units entry at ⊎ (DeepStruct structs at ⊎ DeepVariable structs units at)
 

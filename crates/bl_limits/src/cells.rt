@@ -1,7 +1,7 @@
 //! Rule Cells: too large a state, and types that are nested too deep.
 
 ghost use Rattle.std.specs.Prelude.{◌≡◌};
-ghost use Rattle.bl_measures.specs.Tells.{Tells};
+ghost use Rattle.bl_measures.specs.Tells.{MeasuresTell};
 ghost use Rattle.bl_tree.specs.Rules.{first_of};
 ghost use Rattle.bl_limits.specs.inner.Failures.{large_state, struct_failures, unit_variable_failures, variable_failures};
 
@@ -30,7 +30,7 @@ pub fn of_entry(
     entry: u32,
     first: Option<Failure>,
 ) -> Option<Failure>
-    requires tells { Tells measures.now structs.now units.now }
+    requires tells { MeasuresTell measures.now structs.now units.now }
     ensures { result ≡ first_of first (large_state structs.now units.now entry) }
 {
     CELLS.judge_unit(measures.cells(entry), units, entry, first)
@@ -43,7 +43,7 @@ pub fn of_structs(
     units: &[Unit],
     first: Option<Failure>,
 ) -> Option<Failure>
-    requires tells { Tells measures.now structs.now units.now }
+    requires tells { MeasuresTell measures.now structs.now units.now }
     ensures { result ≡ first_of first (struct_failures structs.now) }
 {
     let mut first = first;
@@ -60,7 +60,7 @@ pub fn of_variables(
     units: &[Unit],
     first: Option<Failure>,
 ) -> Option<Failure>
-    requires tells { Tells measures.now structs.now units.now }
+    requires tells { MeasuresTell measures.now structs.now units.now }
     ensures { result ≡ first_of first (variable_failures structs.now units.now) }
 {
     let mut first = first;
@@ -77,7 +77,7 @@ fn of_unit(
     vars: &[Var],
     first: Option<Failure>,
 ) -> Option<Failure>
-    requires tells { Tells measures.now structs.now units.now }
+    requires tells { MeasuresTell measures.now structs.now units.now }
     ensures { result ≡ first_of first (unit_variable_failures structs.now vars.now) }
 {
     let mut first = first;

@@ -1,7 +1,7 @@
 //! Rule Frames: too many activity instances, and too long a chain of units that call or run one another.
 
 ghost use Rattle.std.specs.Prelude.{◌≡◌};
-ghost use Rattle.bl_measures.specs.Tells.{Tells};
+ghost use Rattle.bl_measures.specs.Tells.{MeasuresTell};
 ghost use Rattle.bl_tree.specs.Rules.{first_of};
 ghost use Rattle.bl_limits.specs.inner.Failures.{chain_failures, many_instances};
 
@@ -30,7 +30,7 @@ pub fn of_entry(
     entry: u32,
     first: Option<Failure>,
 ) -> Option<Failure>
-    requires tells { Tells measures.now structs.now units.now }
+    requires tells { MeasuresTell measures.now structs.now units.now }
     ensures { result ≡ first_of first (many_instances units.now entry) }
 {
     INSTANCES.judge_unit(measures.instances(entry), units, entry, first)
@@ -43,7 +43,7 @@ pub fn of_chains(
     units: &[Unit],
     first: Option<Failure>,
 ) -> Option<Failure>
-    requires tells { Tells measures.now structs.now units.now }
+    requires tells { MeasuresTell measures.now structs.now units.now }
     ensures { result ≡ first_of first (chain_failures units.now) }
 {
     let mut first = first;

@@ -30,7 +30,7 @@ use Rattle.bl_measures.specs.Calls.{calls_of}
 use Rattle.bl_measures.specs.Runs.{runs_of}
 use Rattle.bl_measures.specs.Saturated.{saturated}
 use Rattle.bl_measures.specs.Statements.{statements_of}
-use Rattle.bl_measures.specs.Tells.{Tells}
+use Rattle.bl_measures.specs.Tells.{MeasuresTell}
 use Rattle.bl_measures.specs.Types.{size_by, struct_sizes}
 use Rattle.bl_measures.specs.Units.{cells_by, cells_with, chain_by, greatest_at, instances_by, total_at, variables_by, variables_of}
 use Rattle.bl_measures.proofs.Numbers.{greatest_alike, known_twice, max_alike, sum_alike, total_alike}
@@ -74,7 +74,7 @@ mapped_push f held then xs x n told grown is =
     grown ∙ ap (λ front. front ++ n ∷ []) told ∙ ap (λ last. map f xs ++ last ∷ []) is ∙ sym (map-append f xs (x ∷ []))
 
 -- what the measures tell with one unit more
-pub tells_more : (structs : List StructDef) (units : List UnitDef) (unit : UnitDef) (before after : Measures) → Tells before structs units
+pub tells_more : (structs : List StructDef) (units : List UnitDef) (unit : UnitDef) (before after : Measures) → MeasuresTell before structs units
     → after.struct_sizes ≡ before.struct_sizes
     → after.struct_nestings ≡ before.struct_nestings
     → after.variables ≡ before.variables ++ saturated (variables_by before.struct_sizes unit) ∷ []
@@ -82,7 +82,7 @@ pub tells_more : (structs : List StructDef) (units : List UnitDef) (unit : UnitD
     → after.instances ≡ before.instances ++ saturated (instances_by before.instances unit) ∷ []
     → after.chains ≡ before.chains ++ saturated (chain_by before.chains unit) ∷ []
     → after.cells ≡ before.cells ++ saturated (cells_by before.struct_sizes before.cells unit) ∷ []
-    → Tells after structs (units ++ unit ∷ [])
+    → MeasuresTell after structs (units ++ unit ∷ [])
 tells_more structs units unit before after told sizes nestings variables statements instances chains cells =
     let exact = struct_sizes structs in
     record {
@@ -103,5 +103,5 @@ tells_more structs units unit before after told sizes nestings variables stateme
 -- the same in a loop over the units
 pub tells_next : (structs : List StructDef) (units : List UnitDef) (k : ℕ) (unit : UnitDef) (after : Measures) → k < length units →
     unit ≡ get_or units k unit
-    → Tells after structs (take k units ++ unit ∷ []) → Tells after structs (take (k + 1) units)
-tells_next structs units k unit after within is told = subst (Tells after structs) (sym (take_one units k unit within is)) told
+    → MeasuresTell after structs (take k units ++ unit ∷ []) → MeasuresTell after structs (take (k + 1) units)
+tells_next structs units k unit after within is told = subst (MeasuresTell after structs) (sym (take_one units k unit within is)) told

@@ -13,6 +13,7 @@ use Rattle.bl_tree.specs.Reduce.{joined}
 
 -- ---- expressions
 
+-- the calls in a kind of expression, from those in its parts
 abbrev pub kind_calls : ExprKind-F (List ℕ) (List ℕ) (List ℕ) (List ℕ) → List ℕ
 kind_calls (ExprKind-F.Literal n s) = []
 kind_calls (ExprKind-F.Read path) = path
@@ -22,13 +23,16 @@ kind_calls (ExprKind-F.Two op a b) = a ++ b
 kind_calls (ExprKind-F.Cast target a) = a
 kind_calls (ExprKind-F.Call f inputs) = f ∷ joined inputs
 
+-- the calls in a part of a path: those of an index
 abbrev pub part_calls : Part-F (List ℕ) (List ℕ) (List ℕ) (List ℕ) → List ℕ
 part_calls (Part-F.Field k) = []
 part_calls (Part-F.Index e) = e
 
+-- the calls in an expression are those in its kind
 abbrev pub expr_layer_calls : Expr-F (List ℕ) (List ℕ) (List ℕ) (List ℕ) → List ℕ
 expr_layer_calls e = e.what
 
+-- the calls in a path are those in its parts
 abbrev pub path_layer_calls : Path-F (List ℕ) (List ℕ) (List ℕ) (List ℕ) → List ℕ
 path_layer_calls path = joined path.parts
 
@@ -44,10 +48,12 @@ calls_in_part = fold-Part (List ℕ) (List ℕ) (List ℕ) (List ℕ) kind_calls
 abbrev pub calls_in_path : Path → List ℕ
 calls_in_path = fold-Path (List ℕ) (List ℕ) (List ℕ) (List ℕ) kind_calls part_calls expr_layer_calls path_layer_calls
 
+-- the functions that an expression calls, where there is one
 abbrev pub optional_calls : Option Expr → List ℕ
 optional_calls (Some e) = calls_in_expr e
 optional_calls None = []
 
+-- the functions that the indices of a target call, where there is one
 abbrev pub target_calls : Option Path → List ℕ
 target_calls (Some path) = calls_in_path path
 target_calls None = []
@@ -58,6 +64,7 @@ argument_calls inputs outputs = joined (map calls_in_expr inputs) ++ joined (map
 
 -- ---- statements
 
+-- the calls in a kind of statement, from those in its blocks
 abbrev pub stmt_kind_calls : StmtKind-F (List ℕ) (List ℕ) (List ℕ) (List ℕ) → List ℕ
 stmt_kind_calls (StmtKind-F.Declare k initial) = optional_calls initial
 stmt_kind_calls (StmtKind-F.Assign path e) = calls_in_path path ++ calls_in_expr e
@@ -72,12 +79,15 @@ stmt_kind_calls (StmtKind-F.Until body e) = joined body ++ calls_in_expr e
 stmt_kind_calls (StmtKind-F.While e body) = calls_in_expr e ++ joined body
 stmt_kind_calls (StmtKind-F.Return e) = optional_calls e
 
+-- the calls in an arm: those in its condition and in its statements
 abbrev pub arm_calls : Arm-F (List ℕ) (List ℕ) (List ℕ) (List ℕ) → List ℕ
 arm_calls arm = calls_in_expr arm.test ++ joined arm.body
 
+-- the calls in a branch, from those in its statements
 abbrev pub branch_calls : Branch-F (List ℕ) (List ℕ) (List ℕ) (List ℕ) → List ℕ
 branch_calls branch = joined branch.body
 
+-- the calls in a statement are those in its kind
 abbrev pub stmt_layer_calls : Stmt-F (List ℕ) (List ℕ) (List ℕ) (List ℕ) → List ℕ
 stmt_layer_calls s = s.what
 
@@ -85,9 +95,11 @@ stmt_layer_calls s = s.what
 abbrev pub calls_in : Stmt → List ℕ
 calls_in = fold-Stmt (List ℕ) (List ℕ) (List ℕ) (List ℕ) stmt_kind_calls arm_calls branch_calls stmt_layer_calls
 
+-- the functions that are called in an arm, in its condition too
 abbrev pub calls_in_arm : Arm → List ℕ
 calls_in_arm = fold-Arm (List ℕ) (List ℕ) (List ℕ) (List ℕ) stmt_kind_calls arm_calls branch_calls stmt_layer_calls
 
+-- the functions that are called in a branch
 abbrev pub calls_in_branch : Branch → List ℕ
 calls_in_branch = fold-Branch (List ℕ) (List ℕ) (List ℕ) (List ℕ) stmt_kind_calls arm_calls branch_calls stmt_layer_calls
 

@@ -22,6 +22,7 @@ kind_statements (StmtKind-F.Until body e) = 1 + total body
 kind_statements (StmtKind-F.While e body) = 1 + total body
 kind_statements (StmtKind-F.Return e) = 1
 
+-- the statements of an arm, from those of its block
 abbrev pub arm_statements : Arm-F ℕ ℕ ℕ ℕ → ℕ
 arm_statements arm = total arm.body
 
@@ -29,6 +30,7 @@ arm_statements arm = total arm.body
 abbrev pub branch_statements : Branch-F ℕ ℕ ℕ ℕ → ℕ
 branch_statements branch = 1 + total branch.body
 
+-- a statement counts as its kind does
 abbrev pub stmt_layer_statements : Stmt-F ℕ ℕ ℕ ℕ → ℕ
 stmt_layer_statements s = s.what
 
@@ -36,9 +38,11 @@ stmt_layer_statements s = s.what
 abbrev pub statements_in : Stmt → ℕ
 statements_in = fold-Stmt ℕ ℕ ℕ ℕ kind_statements arm_statements branch_statements stmt_layer_statements
 
+-- the statements in an arm
 abbrev pub statements_in_arm : Arm → ℕ
 statements_in_arm = fold-Arm ℕ ℕ ℕ ℕ kind_statements arm_statements branch_statements stmt_layer_statements
 
+-- the statements in a branch, and one more for itself
 abbrev pub statements_in_branch : Branch → ℕ
 statements_in_branch = fold-Branch ℕ ℕ ℕ ℕ kind_statements arm_statements branch_statements stmt_layer_statements
 

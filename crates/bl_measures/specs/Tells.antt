@@ -9,7 +9,7 @@ use Rattle.bl_measures.specs.Types.{struct_nestings, struct_sizes}
 use Rattle.bl_measures.specs.Units.{all_cells, all_chains, all_instances, variables_of}
 
 -- the measures are those of these structs and units, each as far as 64 bits tell it
-pub record Tells (measures : Measures) (structs : List StructDef) (units : List UnitDef) : Type 0 where
+pub record MeasuresTell (measures : Measures) (structs : List StructDef) (units : List UnitDef) : Type 0 where
   -- how many scalars each struct has
   pub sizes : measures.struct_sizes ≡ map saturated (struct_sizes structs)
   -- how deep each struct is nested

@@ -8,6 +8,7 @@ use Rattle.bl_measures.specs.InOrder.{answers}
 
 -- ---- size
 
+-- how many scalars a value of a type has, from those of an element and those of the structs
 abbrev pub level_size : List ℕ → Ty-F ℕ → ℕ
 level_size known (Ty-F.Scalar s) = 1
 level_size known (Ty-F.Struct k) = slice_index known k
@@ -31,6 +32,7 @@ size structs ty = size_by (struct_sizes structs) ty
 
 -- ---- nesting
 
+-- how deep a type is nested, from the nesting of its elements and that of the structs
 abbrev pub level_nesting : List ℕ → Ty-F ℕ → ℕ
 level_nesting known (Ty-F.Scalar s) = 0
 level_nesting known (Ty-F.Struct k) = slice_index known k

@@ -5,7 +5,7 @@ ghost use Rattle.bl_tree.specs.declared.tree.StructDef.{StructDef};
 ghost use Rattle.bl_tree.specs.declared.tree.Unit.{Unit as UnitDef};
 ghost use Rattle.bl_measures.specs.Saturated.{saturated};
 ghost use Rattle.bl_measures.specs.Statements.{statements_of};
-ghost use Rattle.bl_measures.specs.Tells.{Tells};
+ghost use Rattle.bl_measures.specs.Tells.{MeasuresTell};
 ghost use Rattle.bl_measures.specs.Types.{nesting, size};
 ghost use Rattle.bl_measures.specs.Units.{cells_at, cells_by, cells_with, chain_at, chain_by, greatest_at, instances_at, instances_by, total_at, variables_by};
 
@@ -84,7 +84,7 @@ fn cells_with(kind: UnitKind, variables: u64, statements: u64, running: u64, cal
 impl Measures {
     /// The measures of the program. Fails only for want of memory.
     pub fn of(alloc: Global, program: &Program) -> Result<Measures, NoMemory>
-        ensures { IfOk result (λ measures. Tells measures program.now.structs program.now.units) }
+        ensures { IfOk result (λ measures. MeasuresTell measures program.now.structs program.now.units) }
     {
         Measures::of_parts(alloc, &program.structs, &program.units)
     }
@@ -95,7 +95,7 @@ impl Measures {
         structs: &[StructDef],
         units: &[Unit],
     ) -> Result<Measures, NoMemory>
-        ensures { IfOk result (λ measures. Tells measures structs.now units.now) }
+        ensures { IfOk result (λ measures. MeasuresTell measures structs.now units.now) }
     {
         let mut measures = Measures::of_structs(alloc, structs)?;
         for unit in units {
@@ -106,7 +106,7 @@ impl Measures {
 
     /// The measures of structs, without units.
     fn of_structs(alloc: Global, structs: &[StructDef]) -> Result<Measures, NoMemory>
-        ensures { IfOk result (λ measures. Tells measures structs.now []) }
+        ensures { IfOk result (λ measures. MeasuresTell measures structs.now []) }
     {
         Ok(Measures {
             struct_sizes: struct_sizes(alloc, structs)?,
@@ -148,21 +148,21 @@ impl Measures {
 
     /// How many scalars a value of the type has.
     pub fn size(&self, ty: &Ty) -> u64
-        ensures { (structs : List StructDef) (units : List UnitDef) → Tells self.now structs units → result ≡ saturated (size structs ty.now) }
+        ensures { (structs : List StructDef) (units : List UnitDef) → MeasuresTell self.now structs units → result ≡ saturated (size structs ty.now) }
     {
         size_by(&self.struct_sizes, ty)
     }
 
     /// How deep the type is nested: 0 for a scalar, one more for each array and struct.
     pub fn nesting(&self, ty: &Ty) -> u64
-        ensures { (structs : List StructDef) (units : List UnitDef) → Tells self.now structs units → result ≡ saturated (nesting structs ty.now) }
+        ensures { (structs : List StructDef) (units : List UnitDef) → MeasuresTell self.now structs units → result ≡ saturated (nesting structs ty.now) }
     {
         nesting_by(&self.struct_nestings, ty)
     }
 
     /// How many activity instances the unit at the position expands to, itself among them. It is 0 where there is no unit.
     pub fn instances(&self, unit: u32) -> u64
-        ensures { (structs : List StructDef) (units : List UnitDef) → Tells self.now structs units → result ≡ saturated (instances_at units unit) }
+        ensures { (structs : List StructDef) (units : List UnitDef) → MeasuresTell self.now structs units → result ≡ saturated (instances_at units unit) }
     {
         at(&self.instances, unit)
     }
@@ -170,14 +170,15 @@ impl Measures {
     /// How many units the longest chain has that begins with the unit at the position and in which each calls or runs the
     /// next. It is 0 where there is no unit.
     pub fn chain(&self, unit: u32) -> u64
-        ensures { (structs : List StructDef) (units : List UnitDef) → Tells self.now structs units → result ≡ saturated (chain_at units unit) }
+        ensures { (structs : List StructDef) (units : List UnitDef) → MeasuresTell self.now structs units → result ≡ saturated (chain_at units unit) }
     {
         at(&self.chains, unit)
     }
 
     /// The cells of the unit at the position, and 0 where there is none.
     pub fn cells(&self, unit: u32) -> u64
-        ensures { (structs : List StructDef) (units : List UnitDef) → Tells self.now structs units → result ≡ saturated (cells_at structs units unit) }
+        ensures { (structs : List StructDef) (units : List UnitDef) → MeasuresTell self.now structs units
+            → result ≡ saturated (cells_at structs units unit) }
     {
         at(&self.cells, unit)
     }

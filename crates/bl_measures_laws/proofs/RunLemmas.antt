@@ -92,7 +92,8 @@ starts_of_kind = fold-StmtKind Starts Starts Starts Starts stmt_kind_starts arm_
 abbrev start_parts : StmtKind-F StmtKind Arm Branch Stmt → StmtKind-F Starts Starts Starts Starts
 start_parts = map-StmtKind StmtKind Arm Branch Stmt Starts Starts Starts Starts starts_of_kind starts_of_arm starts_of_branch starts_of
 
-starts_at : (place : Place) (layer : StmtKind-F StmtKind Arm Branch Stmt) → starts_of (stmt place layer) ≡ place.start ∷ stmt_kind_starts (start_parts layer)
+starts_at : (place : Place) (layer : StmtKind-F StmtKind Arm Branch Stmt) →
+    starts_of (stmt place layer) ≡ place.start ∷ stmt_kind_starts (start_parts layer)
 starts_at place layer = rw (fold-roll-Stmt, fold-roll-StmtKind) refl
 
 abbrev Begins : Stmt → Type 0

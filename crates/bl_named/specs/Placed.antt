@@ -59,9 +59,11 @@ pub record Earlier : Type 0 where
   pub units : ℕ
   pub variables : ℕ
 
+-- at the start of a program nothing is declared
 abbrev pub nothing_earlier : Earlier
 nothing_earlier = record { structs = 0; constants = 0; units = 0; variables = 0 }
 
+-- what must be there, and passes the test
 abbrev pub holds_of : {A : Type 0} → (A → Bool) → Option A → Bool
 holds_of test (Some x) = test x
 holds_of test None = false
@@ -73,10 +75,12 @@ holds_if test None = true
 
 -- ---- types
 
+-- whether the constant that a length names is an earlier one
 abbrev pub length_placed : Earlier → NamedLength → Bool
 length_placed earlier (count.Number n) = true
 length_placed earlier (count.Constant at k) = nat_lt k earlier.constants
 
+-- whether the structs and constants that one level of a type names are earlier ones, where those of its element are
 abbrev pub type_level_placed : Earlier → NamedType-F Bool → Bool
 type_level_placed earlier (NamedType-F.Scalar s) = true
 type_level_placed earlier (NamedType-F.Struct k) = nat_lt k earlier.structs
@@ -88,10 +92,12 @@ type_placed earlier = fold-NamedType Bool (type_level_placed earlier)
 
 -- ---- expressions
 
+-- whether the variable or constant with which a target begins is an earlier one
 abbrev pub root_placed : Earlier → Root → Bool
 root_placed earlier (root.Variable k) = nat_lt k earlier.variables
 root_placed earlier (root.Constant k) = nat_lt k earlier.constants
 
+-- whether what one layer of an expression names is earlier, where what its operands name is
 abbrev pub kind_placed : Earlier → NamedExprKind-F Bool Bool Bool Bool → Bool
 kind_placed earlier (NamedExprKind-F.Number minus n) = true
 kind_placed earlier (NamedExprKind-F.Truth b) = true
@@ -102,13 +108,16 @@ kind_placed earlier (NamedExprKind-F.Two op a b) = a && b
 kind_placed earlier (NamedExprKind-F.Cast s a) = a
 kind_placed earlier (NamedExprKind-F.Call at f inputs) = nat_lt f earlier.units && all_of inputs
 
+-- the names of fields belong to types; an index is placed where its expression is
 abbrev pub part_placed : NamedPart-F Bool Bool Bool Bool → Bool
 part_placed (NamedPart-F.Field name) = true
 part_placed (NamedPart-F.Index e) = e
 
+-- an expression is placed where its kind is, wherever it stands
 abbrev pub expr_layer_placed : NamedExpr-F Bool Bool Bool Bool → Bool
 expr_layer_placed e = e.what
 
+-- a target is placed where its root and all of its indices are
 abbrev pub target_layer_placed : Earlier → NamedTarget-F Bool Bool Bool Bool → Bool
 target_layer_placed earlier target = root_placed earlier target.root && all_of target.parts
 
@@ -116,23 +125,29 @@ target_layer_placed earlier target = root_placed earlier target.root && all_of t
 abbrev pub expr_placed : Earlier → NamedExpr → Bool
 expr_placed earlier = fold-NamedExpr Bool Bool Bool Bool (kind_placed earlier) part_placed expr_layer_placed (target_layer_placed earlier)
 
+-- whether the variables, constants and units that a target names are earlier ones
 abbrev pub target_placed : Earlier → NamedTarget → Bool
 target_placed earlier = fold-NamedTarget Bool Bool Bool Bool (kind_placed earlier) part_placed expr_layer_placed (target_layer_placed earlier)
 
+-- the same of a part of a target
 abbrev pub step_placed : Earlier → NamedPart → Bool
 step_placed earlier = fold-NamedPart Bool Bool Bool Bool (kind_placed earlier) part_placed expr_layer_placed (target_layer_placed earlier)
 
+-- whether the variable with which a path begins is an earlier one
 abbrev pub path_placed : Earlier → NamedPath → Bool
 path_placed earlier path = nat_lt path.root earlier.variables
 
 -- ---- declarations
 
+-- whether what the type of a variable names is earlier, where a type is written
 abbrev pub var_placed : Earlier → NamedVar → Bool
 var_placed earlier var = holds_if (type_placed earlier) var.ty
 
+-- whether what the type and the value of a constant name is earlier
 abbrev pub constant_placed : Earlier → NamedConstant → Bool
 constant_placed earlier constant = holds_if (type_placed earlier) constant.ty && expr_placed earlier constant.value
 
+-- whether what the types of a struct's fields name is earlier
 abbrev pub struct_placed : Earlier → NamedStruct → Bool
 struct_placed earlier def = list_all (λ field. type_placed earlier field.ty) def.fields
 
@@ -147,9 +162,11 @@ abbrev pub in_turn : List Step → Step
 in_turn [] earlier = Some earlier
 in_turn (step ∷ rest) earlier = option_and_then (in_turn rest) (step earlier)
 
+-- after one more variable of the unit
 abbrev pub with_variable : Earlier → Earlier
 with_variable earlier = record earlier { variables = earlier.variables + 1 }
 
+-- after one more constant of the program
 abbrev pub with_constant : Earlier → Earlier
 with_constant earlier = record earlier { constants = earlier.constants + 1 }
 
@@ -157,6 +174,7 @@ with_constant earlier = record earlier { constants = earlier.constants + 1 }
 abbrev pub declares_none : Bool → Step
 declares_none placed earlier = if placed then Some earlier else None
 
+-- whether the unit that is called or run is an earlier one, and what its inputs and outputs name is earlier
 abbrev pub arguments_placed : Earlier → ℕ → List NamedExpr → List NamedPath → Bool
 arguments_placed earlier f inputs outputs = nat_lt f earlier.units && (list_all (expr_placed earlier) inputs && list_all (path_placed earlier) outputs)
 
@@ -185,26 +203,33 @@ stmt_kind_step vars constants (NamedStmtKind-F.Until body e) earlier = tested e 
 stmt_kind_step vars constants (NamedStmtKind-F.While e body) earlier = tested e body earlier
 stmt_kind_step vars constants (NamedStmtKind-F.Return e) earlier = declares_none (holds_if (expr_placed earlier) e) earlier
 
+-- an arm of an `if`: its condition and then its block
 abbrev pub arm_step : NamedArm-F Step Step Step Step → Step
 arm_step arm = tested arm.test arm.body
 
+-- a branch: its block
 abbrev pub branch_step : NamedBranch-F Step Step Step Step → Step
 branch_step branch = in_turn branch.body
 
+-- a statement declares what its kind does, wherever it stands
 abbrev pub stmt_layer_step : NamedStmt-F Step Step Step Step → Step
 stmt_layer_step s = s.what
 
+-- from what is declared before a statement to what is declared before the next
 abbrev pub stmt_step : List NamedVar → List NamedConstant → NamedStmt → Step
 stmt_step vars constants = fold-NamedStmt Step Step Step Step (stmt_kind_step vars constants) arm_step branch_step stmt_layer_step
 
+-- the same of an arm
 abbrev pub step_of_arm : List NamedVar → List NamedConstant → NamedArm → Step
 step_of_arm vars constants = fold-NamedArm Step Step Step Step (stmt_kind_step vars constants) arm_step branch_step stmt_layer_step
 
+-- the same of a branch
 abbrev pub step_of_branch : List NamedVar → List NamedConstant → NamedBranch → Step
 step_of_branch vars constants = fold-NamedBranch Step Step Step Step (stmt_kind_step vars constants) arm_step branch_step stmt_layer_step
 
 -- ---- items
 
+-- how many parameters a unit has: they stand first among its variables
 abbrev pub parameters : NamedUnit → ℕ
 parameters unit = unit.inputs + unit.outputs
 
@@ -216,6 +241,7 @@ roles_placed unit =
     && (list_all (λ var. is_output var.role) (take unit.outputs (drop unit.inputs unit.vars))
     && list_all (λ var. is_variable var.role || is_fixed var.role) (drop (parameters unit) unit.vars)))
 
+-- whether the variables of a unit stand in order of their roles, and what the types of its parameters and of its result name is earlier
 abbrev pub head_placed : Earlier → NamedUnit → Bool
 head_placed earlier unit =
     roles_placed unit && (list_all (var_placed earlier) (take (parameters unit) unit.vars) && holds_if (type_placed earlier) unit.result)
@@ -229,6 +255,7 @@ abbrev pub behind_unit : NamedUnit → Earlier → Option Earlier
 behind_unit unit earlier =
     if nat_eq earlier.variables (length unit.vars) then Some (record earlier { units = earlier.units + 1; variables = 0 }) else None
 
+-- a unit: its head, then its body, in which every variable must be declared
 abbrev pub unit_step : List NamedConstant → NamedUnit → Step
 unit_step constants unit earlier =
     if head_placed earlier unit

@@ -9,12 +9,15 @@ use Rattle.bl_named.specs.declared.stmt.NamedBranch.{NamedBranch, fold-NamedBran
 use Rattle.bl_named.specs.declared.stmt.NamedStmt.{NamedStmt, fold-NamedStmt}
 use Rattle.bl_named.specs.declared.stmt.NamedStmtKind.TheOpen.{NamedStmtKind-F, NamedArm-F, NamedBranch-F, NamedStmt-F}
 
+-- where things begin in the source, in bytes, in source order
 abbrev pub Starts : Type 0
 Starts = List ℕ
 
+-- where an expression begins
 abbrev pub start_of : NamedExpr → ℕ
 start_of e = (out-NamedExpr e).place.start
 
+-- where the statements inside one layer of a statement and the conditions of its loops begin, from those of its arms, branches and blocks
 abbrev pub stmt_kind_starts : NamedStmtKind-F Starts Starts Starts Starts → Starts
 stmt_kind_starts (NamedStmtKind-F.Declare k value) = []
 stmt_kind_starts (NamedStmtKind-F.Const k) = []
@@ -30,12 +33,15 @@ stmt_kind_starts (NamedStmtKind-F.Until body e) = joined body ++ (start_of e ∷
 stmt_kind_starts (NamedStmtKind-F.While e body) = start_of e ∷ joined body
 stmt_kind_starts (NamedStmtKind-F.Return e) = []
 
+-- where the statements in an arm begin, and the conditions of loops there
 abbrev pub arm_starts : NamedArm-F Starts Starts Starts Starts → Starts
 arm_starts arm = joined arm.body
 
+-- the same of a branch
 abbrev pub branch_starts : NamedBranch-F Starts Starts Starts Starts → Starts
 branch_starts branch = joined branch.body
 
+-- where a statement begins, and then all that stands in it
 abbrev pub stmt_layer_starts : NamedStmt-F Starts Starts Starts Starts → Starts
 stmt_layer_starts s = s.place.start ∷ s.what
 
@@ -47,9 +53,11 @@ starts_of = fold-NamedStmt Starts Starts Starts Starts stmt_kind_starts arm_star
 abbrev pub starts_of_arm : NamedArm → Starts
 starts_of_arm = fold-NamedArm Starts Starts Starts Starts stmt_kind_starts arm_starts branch_starts stmt_layer_starts
 
+-- where the statements in a branch begin, and the conditions of loops there
 abbrev pub starts_of_branch : NamedBranch → Starts
 starts_of_branch = fold-NamedBranch Starts Starts Starts Starts stmt_kind_starts arm_starts branch_starts stmt_layer_starts
 
+-- where the statements of a unit and the conditions of its loops begin
 abbrev pub unit_starts : NamedUnit → Starts
 unit_starts unit = joined (map starts_of unit.body)
 

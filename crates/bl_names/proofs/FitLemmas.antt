@@ -6,7 +6,7 @@ use Rattle.bl_scopes.specs.declared.kind.Wanted.{Wanted}
 use Rattle.bl_scopes.specs.declared.scopes.Declaration.{Declaration}
 use Rattle.bl_scopes.specs.Kinds.{suits}
 use Rattle.bl_scopes.specs.Marks.{Mark, Marks, opens, closes, declares, uses, marks_of}
-use Rattle.bl_scopes.specs.Rules.{Passes, Stands}
+use Rattle.bl_scopes.specs.Rules.{MarkStands, Passes}
 use Rattle.bl_scopes.specs.Scopes.{Scopes, after, bound, enter, file_scope}
 use Rattle.bl_raw.specs.declared.item.RawItem.{RawItem}
 use Rattle.bl_raw.specs.declared.name.Name.{Name}
@@ -43,7 +43,7 @@ fits_behind scopes first second still fits = subst (λ s. Fits s second) (still 
 
 module _ (items : List RawItem) (passes : Passes items) where
   stands_at : (before : Marks) (mark : Mark) (rest : Marks) → marks_of items ≡ before ++ (mark ∷ rest) →
-      Stands (marks_of items) mark (after file_scope before)
+      MarkStands (marks_of items) mark (after file_scope before)
   stands_at before mark rest there = record { before = before; rest = rest; there = there; are_open = refl }
 
   use_fits : (before : Marks) (name : Name) (wanted : Wanted) (rest : Marks) → marks_of items ≡ before ++ (uses name wanted ∷ rest)

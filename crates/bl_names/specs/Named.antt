@@ -68,10 +68,12 @@ abbrev pub made_of_all : {A : Type 0} → List (Piece A) → Scopes → List A
 made_of_all [] scopes = []
 made_of_all (piece ∷ rest) scopes = piece.made scopes ∷ made_of_all rest (after scopes piece.marks)
 
+-- the variables that parts declare one after another
 abbrev pub vars_of_all : {A : Type 0} → List (Piece A) → Scopes → List NamedVar
 vars_of_all [] scopes = []
 vars_of_all (piece ∷ rest) scopes = piece.vars scopes ++ vars_of_all rest (after scopes piece.marks)
 
+-- the constants that parts declare one after another
 abbrev pub constants_of_all : {A : Type 0} → List (Piece A) → Scopes → List NamedConstant
 constants_of_all [] scopes = []
 constants_of_all (piece ∷ rest) scopes = piece.constants scopes ++ constants_of_all rest (after scopes piece.marks)
@@ -80,6 +82,7 @@ constants_of_all (piece ∷ rest) scopes = piece.constants scopes ++ constants_o
 abbrev pub all : {A : Type 0} → List (Piece A) → Piece (List A)
 all pieces = record { marks = marks_of_all pieces; made = made_of_all pieces; vars = vars_of_all pieces; constants = constants_of_all pieces }
 
+-- no variable, or no constant, whatever scopes are open
 abbrev pub none : {A : Type 0} → Scopes → List A
 none scopes = []
 
@@ -118,9 +121,11 @@ scoped before marks body made = record {
   constants = λ scopes. constants_of_all body (opened (after scopes before));
 }
 
+-- a variable with this name, type and role, with positions in its type
 abbrev pub named_var : Scopes → Name → Option RawType → Role → NamedVar
 named_var scopes name ty role = record { name = name; ty = option_map (named_type scopes) ty; role = role }
 
+-- a constant with positions in its type and in its value
 abbrev pub named_constant : Scopes → RawConstant → NamedConstant
 named_constant scopes constant = record { name = constant.name; ty = option_map (named_type scopes) constant.ty; value = named_expr scopes constant.value }
 
@@ -133,6 +138,7 @@ declaring name ty role value marks = record {
   constants = none;
 }
 
+-- a constant of a block is declared with the next position
 abbrev pub constant_piece : RawConstant → Piece NamedStmtKind
 constant_piece constant = record {
   marks = constant_marks constant;
@@ -141,6 +147,7 @@ constant_piece constant = record {
   constants = λ scopes. named_constant scopes constant ∷ [];
 }
 
+-- what a statement does, from its arms, branches and blocks; each of these has a scope of its own
 abbrev pub kind_piece : RawStmtKind-F (Piece NamedStmtKind) (Piece NamedArm) (Piece NamedBranch) (Piece NamedStmt) → Piece NamedStmtKind
 kind_piece (RawStmtKind-F.Var name ty value) =
     declaring name ty role.Variable value (declared_after (optional type_marks ty ++ optional expr_marks value) name kind.Variable)
@@ -176,15 +183,18 @@ kind_piece (RawStmtKind-F.While e body) =
     scoped (expr_marks e) (expr_marks e ++ in_scope (marks_of_all body)) body (λ scopes made. what.While (named_expr scopes e) made)
 kind_piece (RawStmtKind-F.Return e) = plain (optional expr_marks e) (λ scopes. what.Return (option_map (named_expr scopes) e))
 
+-- an arm of an `if`: its condition, and then its block in a scope of its own
 abbrev pub arm_piece : RawArm-F (Piece NamedStmtKind) (Piece NamedArm) (Piece NamedBranch) (Piece NamedStmt) → Piece NamedArm
 arm_piece arm =
     scoped (expr_marks arm.test) (expr_marks arm.test ++ in_scope (marks_of_all arm.body)) arm.body
     (λ scopes made. roll-NamedArm (record { test = named_expr scopes arm.test; body = made }))
 
+-- a branch: its block in a scope of its own
 abbrev pub branch_piece : RawBranch-F (Piece NamedStmtKind) (Piece NamedArm) (Piece NamedBranch) (Piece NamedStmt) → Piece NamedBranch
 branch_piece branch = scoped [] (in_scope (marks_of_all branch.body)) branch.body
     (λ scopes made. roll-NamedBranch (record { weak = branch.weak; body = made }))
 
+-- a statement is made at its place of what it does
 abbrev pub stmt_layer_piece : RawStmt-F (Piece NamedStmtKind) (Piece NamedArm) (Piece NamedBranch) (Piece NamedStmt) → Piece NamedStmt
 stmt_layer_piece s = record {
   marks = s.what.marks;
@@ -201,9 +211,11 @@ stmt_piece = fold-RawStmt (Piece NamedStmtKind) (Piece NamedArm) (Piece NamedBra
 abbrev pub piece_of_kind : RawStmtKind → Piece NamedStmtKind
 piece_of_kind = fold-RawStmtKind (Piece NamedStmtKind) (Piece NamedArm) (Piece NamedBranch) (Piece NamedStmt) kind_piece arm_piece branch_piece stmt_layer_piece
 
+-- an arm of an `if` with all that stands in it
 abbrev pub piece_of_arm : RawArm → Piece NamedArm
 piece_of_arm = fold-RawArm (Piece NamedStmtKind) (Piece NamedArm) (Piece NamedBranch) (Piece NamedStmt) kind_piece arm_piece branch_piece stmt_layer_piece
 
+-- a branch with all that stands in it
 abbrev pub piece_of_branch : RawBranch → Piece NamedBranch
 piece_of_branch = fold-RawBranch (Piece NamedStmtKind) (Piece NamedArm) (Piece NamedBranch) (Piece NamedStmt) kind_piece arm_piece branch_piece stmt_layer_piece
 
@@ -211,20 +223,25 @@ piece_of_branch = fold-RawBranch (Piece NamedStmtKind) (Piece NamedArm) (Piece N
 abbrev pub block_piece : List RawStmt → Piece (List NamedStmt)
 block_piece body = all (map stmt_piece body)
 
+-- the arms of an `if`, one after another
 abbrev pub arms_piece : List RawArm → Piece (List NamedArm)
 arms_piece arms = all (map piece_of_arm arms)
 
+-- the branches of a `cobegin`, one after another
 abbrev pub branches_piece : List RawBranch → Piece (List NamedBranch)
 branches_piece branches = all (map piece_of_branch branches)
 
 -- ---- items
 
+-- a field with positions in its type
 abbrev pub named_field : Scopes → RawField → NamedField
 named_field scopes field = record { name = field.name; ty = named_type scopes field.ty }
 
+-- a struct with positions in the types of its fields
 abbrev pub named_struct : Scopes → RawStruct → NamedStruct
 named_struct scopes def = record { name = def.name; fields = map (named_field scopes) def.fields }
 
+-- a parameter, which is made as a variable and declares it
 abbrev pub param_piece : Role → RawParam → Piece NamedVar
 param_piece role param = record {
   marks = param_marks param;
@@ -266,16 +283,19 @@ named_unit scopes = unit_inside (opened scopes)
 abbrev pub constants_in_unit : Scopes → RawUnit → List NamedConstant
 constants_in_unit scopes def = (inside_piece def).constants (opened scopes)
 
+-- the struct that an item is, where it is one
 abbrev pub structs_of : Scopes → RawItem → List NamedStruct
 structs_of scopes (item.Struct def) = named_struct scopes def ∷ []
 structs_of scopes (item.Constant constant) = []
 structs_of scopes (item.Unit def) = []
 
+-- the constant that an item is, or those in the body of the unit that it is
 abbrev pub constants_of : Scopes → RawItem → List NamedConstant
 constants_of scopes (item.Struct def) = []
 constants_of scopes (item.Constant constant) = named_constant scopes constant ∷ []
 constants_of scopes (item.Unit def) = constants_in_unit scopes def
 
+-- the unit that an item is, where it is one
 abbrev pub units_of : Scopes → RawItem → List NamedUnit
 units_of scopes (item.Struct def) = []
 units_of scopes (item.Constant constant) = []

@@ -28,6 +28,7 @@ use Rattle.bl_scopes.specs.declared.kind.Kind.TheVariants as kind
 use Rattle.bl_scopes.specs.declared.scopes.Declaration.{Declaration}
 use Rattle.bl_scopes.specs.Scopes.{Scopes, bound}
 
+-- the position of a declaration; 0 where there is none
 abbrev pub position_of : Option Declaration → ℕ
 position_of (Some declaration) = declaration.position
 position_of None = 0
@@ -36,10 +37,12 @@ position_of None = 0
 abbrev pub position : Scopes → Name → ℕ
 position scopes name = position_of (bound scopes name.text)
 
+-- a root for a position of something of this kind: what is no constant counts as a variable
 abbrev pub root_at : Kind → ℕ → Root
 root_at kind.Constant k = root.Constant k
 root_at _ k = root.Variable k
 
+-- the root that a declaration stands for; without one the first variable
 abbrev pub root_of : Option Declaration → Root
 root_of (Some declaration) = root_at declaration.kind declaration.position
 root_of None = root.Variable 0
@@ -50,10 +53,12 @@ named_root scopes name = root_of (bound scopes name.text)
 
 -- ---- types
 
+-- a length is a number, or the position of a constant at the place of its name
 abbrev pub named_length : Scopes → RawLength → NamedLength
 named_length scopes (raw_length.Number n) = named_count.Number n
 named_length scopes (raw_length.Constant name) = named_count.Constant name.place (position scopes name)
 
+-- one level of a type, from its element
 abbrev pub named_type_level : Scopes → RawType-F NamedType → NamedType
 named_type_level scopes (RawType-F.Scalar s) = type.Scalar s
 named_type_level scopes (RawType-F.Struct name) = type.Struct (position scopes name)
@@ -65,6 +70,7 @@ named_type scopes = fold-RawType NamedType (named_type_level scopes)
 
 -- ---- expressions
 
+-- one layer of an expression, from its operands
 abbrev pub named_kind : Scopes → RawExprKind-F NamedExprKind NamedPart NamedExpr NamedTarget → NamedExprKind
 named_kind scopes (RawExprKind-F.Number minus n) = what.Number minus n
 named_kind scopes (RawExprKind-F.Truth b) = what.Truth b
@@ -75,13 +81,16 @@ named_kind scopes (RawExprKind-F.Two op a b) = what.Two op a b
 named_kind scopes (RawExprKind-F.Cast s a) = what.Cast s a
 named_kind scopes (RawExprKind-F.Call f inputs) = what.Call f.place (position scopes f) inputs
 
+-- a field keeps its name, since fields belong to types; an index keeps its expression
 abbrev pub named_part : RawPart-F NamedExprKind NamedPart NamedExpr NamedTarget → NamedPart
 named_part (RawPart-F.Field name) = part.Field name
 named_part (RawPart-F.Index e) = part.Index e
 
+-- an expression keeps its place
 abbrev pub named_expr_layer : RawExpr-F NamedExprKind NamedPart NamedExpr NamedTarget → NamedExpr
 named_expr_layer e = roll-NamedExpr (record { place = e.place; what = e.what })
 
+-- a target keeps its place, and has a position for the name with which it begins
 abbrev pub named_target_layer : Scopes → RawTarget-F NamedExprKind NamedPart NamedExpr NamedTarget → NamedTarget
 named_target_layer scopes target = roll-NamedTarget (record { place = target.place; root = named_root scopes target.root; parts = target.parts })
 
@@ -93,6 +102,7 @@ named_expr scopes = fold-RawExpr NamedExprKind NamedPart NamedExpr NamedTarget (
 abbrev pub named_target : Scopes → RawTarget → NamedTarget
 named_target scopes = fold-RawTarget NamedExprKind NamedPart NamedExpr NamedTarget (named_kind scopes) named_part named_expr_layer (named_target_layer scopes)
 
+-- a part of a target
 abbrev pub named_step : Scopes → RawPart → NamedPart
 named_step scopes = fold-RawPart NamedExprKind NamedPart NamedExpr NamedTarget (named_kind scopes) named_part named_expr_layer (named_target_layer scopes)
 

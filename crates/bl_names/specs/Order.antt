@@ -5,6 +5,7 @@ use Rattle.bl_named.specs.declared.item.Item.TheVariants as kind
 use Rattle.bl_raw.specs.declared.item.RawItem.{RawItem}
 use Rattle.bl_raw.specs.declared.item.RawItem.TheVariants as item
 
+-- whether an item is a struct, a constant or a unit
 abbrev pub kind_of_item : RawItem → Item
 kind_of_item (item.Struct def) = kind.Struct
 kind_of_item (item.Constant def) = kind.Constant

@@ -70,7 +70,8 @@ module _ (items : List RawItem) where
       (each_bound (before ++ (declares name kind ∷ [])) rest (there ∙ sym (append_assoc before (declares name kind ∷ []) rest))
       (subst (λ s. Fits s rest) (sym here) fits.1))
   each_bound before (uses name wanted ∷ rest) there fits =
-      let here : after file_scope (before ++ (uses name wanted ∷ [])) ≡ after file_scope before = after-append file_scope before (uses name wanted ∷ []) in (
+      let here : after file_scope (before ++ (uses name wanted ∷ [])) ≡ after file_scope before =
+      after-append file_scope before (uses name wanted ∷ []) in (
         record {
           declaration = fits.0.declaration;
           binds = record {

@@ -83,7 +83,6 @@ use Rattle.bl_names_laws.specs.Leads.{
   length_leads,
   part_leads,
   path_leads,
-  step_leads,
   struct_at,
   target_layer_leads,
   target_leads,
@@ -92,6 +91,7 @@ use Rattle.bl_names_laws.specs.Leads.{
   unit_at,
   variable_at,
 }
+use Rattle.bl_names_laws.specs.inner.Leads.{step_leads}
 use Rattle.bl_names_laws.proofs.Bindings.{bindings, bindings_behind}
 use Rattle.bl_names_laws.proofs.ExprMade.{NamedLayer, RawLayer, expr_made, field_made, index_made, named_parts, target_made}
 use Rattle.bl_names_laws.proofs.Listed.{

@@ -87,15 +87,14 @@ use Rattle.bl_names.proofs.RawStmtInduction.{Cases, induct, stmt}
 use Rattle.bl_names.proofs.StillLemmas.{still_expr, still_type}
 use Rattle.bl_names_laws.specs.Filled.{
   arm_filled,
-  arm_is_filled,
   branch_filled,
-  branch_is_filled,
   declaration_filled,
   is_filled,
   is_told,
   kind_filled,
   layer_filled,
 }
+use Rattle.bl_names_laws.specs.inner.Filled.{arm_is_filled, branch_is_filled}
 use Rattle.bl_names_laws.specs.Keeps.{body_filled}
 use Rattle.bl_names_laws.proofs.Along.{along_under, none_counted}
 use Rattle.bl_names_laws.proofs.Made.{NamedLayer, RawLayer, named_arm_at, named_at, named_branch_at, named_parts, raw_arm_at, raw_at, raw_branch_at, raw_parts}

@@ -1,5 +1,27 @@
 -- The positions in structs, constants and units lead to what the uses in their places are bound to.
-use Rattle.std.proofs.Common.{◌≡◌, ℕ, suc, ◌+◌, List, [], ◌∷◌, ◌++◌, map, length, take, Some, None, refl, sym, ap, subst, ◌∙◌, append-nil, append_assoc, arith}
+use Rattle.std.proofs.Common.{
+  ◌≡◌,
+  ℕ,
+  suc,
+  ◌+◌,
+  List,
+  [],
+  ◌∷◌,
+  ◌++◌,
+  map,
+  length,
+  take,
+  Some,
+  None,
+  refl,
+  sym,
+  ap,
+  subst,
+  ◌∙◌,
+  append-nil,
+  append_assoc,
+  arith,
+}
 use Rattle.std.specs.Prelude.{option_and_then, option_map, if◌then◌else◌}
 use Rattle.std.proofs.Math.Seq.{take-append_seam}
 use Rattle.std.proofs.lemmas.List.{length-append}
@@ -131,7 +153,8 @@ module _ (named : Named) where
   -- what is made of parameters is what they declare
   role_made : (role : Role) (params : List RawParam) (scopes : Scopes) → (role_piece role params).made scopes ≡ (role_piece role params).vars scopes
   role_made role [] scopes = refl
-  role_made role (param ∷ params) scopes = ap (λ rest. (param_piece role param).made scopes ∷ rest) (role_made role params (after scopes (param_marks param)))
+  role_made role (param ∷ params) scopes =
+      ap (λ rest. (param_piece role param).made scopes ∷ rest) (role_made role params (after scopes (param_marks param)))
 
   role_long : (role : Role) (params : List RawParam) (scopes : Scopes) → length ((role_piece role params).vars scopes) ≡ length params
   role_long role [] scopes = refl
@@ -296,7 +319,8 @@ module _ (named : Named) where
     pub more_constants : new.counts.constants ≡ scopes.counts.constants + length constants
     pub more_units : new.counts.units ≡ scopes.counts.units + length units
 
-  struct_item : (scopes : Scopes) (def : RawStruct) → Below scopes → scopes.counts.variables ≡ 0 → ((vars : List NamedVar) → Listed named vars scopes) →
+  struct_item : (scopes : Scopes) (def : RawStruct) → Below scopes → scopes.counts.variables ≡ 0 →
+      ((vars : List NamedVar) → Listed named vars scopes) →
       Fits scopes (struct_marks def) → Within named.structs scopes.counts.structs (named_struct scopes def ∷ []) →
       ItemLed (item.Struct def) scopes (after scopes (struct_marks def)) (named_struct scopes def ∷ []) [] []
   struct_item scopes def below none listed fits structs =
@@ -314,7 +338,8 @@ module _ (named : Named) where
         more_units = none_more scopes.counts.units;
       })
 
-  constant_item : (scopes : Scopes) (def : RawConstant) → Below scopes → scopes.counts.variables ≡ 0 → ((vars : List NamedVar) → Listed named vars scopes) →
+  constant_item : (scopes : Scopes) (def : RawConstant) → Below scopes → scopes.counts.variables ≡ 0 →
+      ((vars : List NamedVar) → Listed named vars scopes) →
       Fits scopes (constant_marks def) → Within named.constants scopes.counts.constants (named_constant scopes def ∷ []) →
       ItemLed (item.Constant def) scopes (after scopes (constant_marks def)) [] (named_constant scopes def ∷ []) []
   constant_item scopes def below none listed fits constants =
@@ -359,7 +384,8 @@ module _ (named : Named) where
   item_led (item.Constant def) scopes below none listed fits structs constants units = constant_item scopes def below none listed fits constants
   item_led (item.Unit def) scopes below none listed fits structs constants units = unit_item scopes def below none listed fits constants units
 
-  items_led : (items : List RawItem) (scopes : Scopes) → Below scopes → scopes.counts.variables ≡ 0 → ((vars : List NamedVar) → Listed named vars scopes) →
+  items_led : (items : List RawItem) (scopes : Scopes) → Below scopes → scopes.counts.variables ≡ 0 →
+      ((vars : List NamedVar) → Listed named vars scopes) →
       Fits scopes (marks_of items) → Within named.structs scopes.counts.structs (along structs_of scopes items) →
       Within named.constants scopes.counts.constants (along constants_of scopes items) →
       Within named.units scopes.counts.units (along units_of scopes items) →

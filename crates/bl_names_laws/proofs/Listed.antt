@@ -66,7 +66,8 @@ module _ (named : Named) (vars : List NamedVar) where
         | false ↦ λ same h. found_listed rest name declaration listed.1 h
       ] refl is
 
-  around_listed : (outer : List Declared) (name : List ℕ) (declaration : Declaration) → OuterListed outer → bound_around outer name ≡ Some declaration →
+  around_listed : (outer : List Declared) (name : List ℕ) (declaration : Declaration) → OuterListed outer →
+      bound_around outer name ≡ Some declaration →
       DeclarationListed name declaration
   around_listed [] name declaration listed is = absurd (cc)
   around_listed (scope ∷ outer) name declaration listed is =
@@ -79,7 +80,8 @@ module _ (named : Named) (vars : List NamedVar) where
   pub bound_listed : (scopes : Scopes) (name : List ℕ) (declaration : Declaration) → Listed scopes → bound scopes name ≡ Some declaration →
       DeclarationListed name declaration
   bound_listed scopes name declaration listed is =
-      elim (found scopes.inner name) as (λ first. found scopes.inner name ≡ first → option_or first (bound_around scopes.outer name) ≡ Some declaration →
+      elim (found scopes.inner name) as
+      (λ first. found scopes.inner name ≡ first → option_or first (bound_around scopes.outer name) ≡ Some declaration →
       DeclarationListed name declaration) [
         | Some d ↦ λ there h. found_listed scopes.inner name declaration listed.0 (there ∙ h)
         | None ↦ λ there h. around_listed scopes.outer name declaration listed.1 h

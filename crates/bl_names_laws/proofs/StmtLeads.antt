@@ -82,8 +82,6 @@ use Rattle.bl_names_laws.specs.Leads.{
   constant_leads,
   expr_leads,
   leads_if,
-  leads_of_arm,
-  leads_of_branch,
   path_leads,
   stmt_kind_leads,
   stmt_layer_leads,
@@ -92,6 +90,7 @@ use Rattle.bl_names_laws.specs.Leads.{
   type_leads,
   var_leads,
 }
+use Rattle.bl_names_laws.specs.inner.Leads.{leads_of_arm, leads_of_branch}
 use Rattle.bl_names_laws.proofs.Bindings.{bindings, bindings_append, bindings_behind, bindings_declared, bindings_own}
 use Rattle.bl_names_laws.proofs.ExprLeads.{activity_leads, arguments_led, expr_led, function_leads, optional_led, path_led, target_led, type_led}
 use Rattle.bl_names_laws.proofs.Listed.{Listed, declare_listed}

@@ -19,6 +19,7 @@ abbrev pub roots_of : Root → Roots
 roots_of (root.Variable k) = k ∷ []
 roots_of (root.Constant k) = []
 
+-- the variables that one layer of an expression names, from those of its operands
 abbrev pub kind_roots : NamedExprKind-F Roots Roots Roots Roots → Roots
 kind_roots (NamedExprKind-F.Number minus n) = []
 kind_roots (NamedExprKind-F.Truth b) = []
@@ -29,13 +30,16 @@ kind_roots (NamedExprKind-F.Two op a b) = a ++ b
 kind_roots (NamedExprKind-F.Cast s a) = a
 kind_roots (NamedExprKind-F.Call at f inputs) = joined inputs
 
+-- a field names no variable; an index names those of its expression
 abbrev pub part_roots : NamedPart-F Roots Roots Roots Roots → Roots
 part_roots (NamedPart-F.Field name) = []
 part_roots (NamedPart-F.Index e) = e
 
+-- an expression names what its kind names, wherever it stands
 abbrev pub expr_layer_roots : NamedExpr-F Roots Roots Roots Roots → Roots
 expr_layer_roots e = e.what
 
+-- a target names its root, where that is a variable, and what its indices name
 abbrev pub target_layer_roots : NamedTarget-F Roots Roots Roots Roots → Roots
 target_layer_roots target = roots_of target.root ++ joined target.parts
 
@@ -43,23 +47,29 @@ target_layer_roots target = roots_of target.root ++ joined target.parts
 abbrev pub roots_in : NamedExpr → Roots
 roots_in = fold-NamedExpr Roots Roots Roots Roots kind_roots part_roots expr_layer_roots target_layer_roots
 
+-- the variables that a target names, its indices included
 abbrev pub roots_in_target : NamedTarget → Roots
 roots_in_target = fold-NamedTarget Roots Roots Roots Roots kind_roots part_roots expr_layer_roots target_layer_roots
 
+-- the variables that a part of a target names
 abbrev pub roots_in_step : NamedPart → Roots
 roots_in_step = fold-NamedPart Roots Roots Roots Roots kind_roots part_roots expr_layer_roots target_layer_roots
 
+-- a path names its root alone, as it has no indices
 abbrev pub roots_in_path : NamedPath → Roots
 roots_in_path path = path.root ∷ []
 
+-- the variables that an expression names, where there is one
 abbrev pub optional_roots : Option NamedExpr → Roots
 optional_roots (Some e) = roots_in e
 optional_roots None = []
 
+-- the variable that takes the result of a `run`, where one does
 abbrev pub taker_roots : Option NamedPath → Roots
 taker_roots (Some path) = roots_in_path path
 taker_roots None = []
 
+-- the variables that the inputs and outputs of a call or `run` name
 abbrev pub argument_roots : List NamedExpr → List NamedPath → Roots
 argument_roots inputs outputs = joined (map roots_in inputs) ++ joined (map roots_in_path outputs)
 
@@ -79,12 +89,15 @@ stmt_kind_naming (NamedStmtKind-F.Until body e) = and_naming (roots_in e) body
 stmt_kind_naming (NamedStmtKind-F.While e body) = and_naming (roots_in e) body
 stmt_kind_naming (NamedStmtKind-F.Return e) = naming (optional_roots e)
 
+-- an arm of an `if` names what its condition and its block name
 abbrev pub arm_naming : NamedArm-F Naming Naming Naming Naming → Naming
 arm_naming arm = and_naming (roots_in arm.test) arm.body
 
+-- a branch declares and names what its block does
 abbrev pub branch_naming : NamedBranch-F Naming Naming Naming Naming → Naming
 branch_naming branch = together branch.body
 
+-- a statement declares and names what its kind does, wherever it stands
 abbrev pub stmt_layer_naming : NamedStmt-F Naming Naming Naming Naming → Naming
 stmt_layer_naming s = s.what
 
@@ -92,9 +105,11 @@ stmt_layer_naming s = s.what
 abbrev pub naming_of : NamedStmt → Naming
 naming_of = fold-NamedStmt Naming Naming Naming Naming stmt_kind_naming arm_naming branch_naming stmt_layer_naming
 
+-- the same of an arm
 abbrev pub naming_of_arm : NamedArm → Naming
 naming_of_arm = fold-NamedArm Naming Naming Naming Naming stmt_kind_naming arm_naming branch_naming stmt_layer_naming
 
+-- the same of a branch
 abbrev pub naming_of_branch : NamedBranch → Naming
 naming_of_branch = fold-NamedBranch Naming Naming Naming Naming stmt_kind_naming arm_naming branch_naming stmt_layer_naming
 

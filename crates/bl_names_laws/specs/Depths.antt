@@ -11,6 +11,7 @@ use Rattle.bl_named.specs.declared.stmt.NamedBranch.{NamedBranch, fold-NamedBran
 use Rattle.bl_named.specs.declared.stmt.NamedStmt.{NamedStmt, fold-NamedStmt}
 use Rattle.bl_named.specs.declared.stmt.NamedStmtKind.TheOpen.{NamedStmtKind-F, NamedArm-F, NamedBranch-F, NamedStmt-F}
 
+-- the depth of one layer of an expression, from the depths of its operands: an operator, cast or call is one deeper than the deepest of them
 abbrev pub kind_depth : NamedExprKind-F ℕ ℕ ℕ ℕ → ℕ
 kind_depth (NamedExprKind-F.Number minus n) = 0
 kind_depth (NamedExprKind-F.Truth b) = 0
@@ -21,13 +22,16 @@ kind_depth (NamedExprKind-F.Two op a b) = 1 + max a b
 kind_depth (NamedExprKind-F.Cast s a) = 1 + a
 kind_depth (NamedExprKind-F.Call at f inputs) = 1 + greatest inputs
 
+-- a field has no depth; an index is one deeper than its expression
 abbrev pub part_depth : NamedPart-F ℕ ℕ ℕ ℕ → ℕ
 part_depth (NamedPart-F.Field name) = 0
 part_depth (NamedPart-F.Index e) = 1 + e
 
+-- an expression is as deep as its kind, wherever it stands
 abbrev pub expr_layer_depth : NamedExpr-F ℕ ℕ ℕ ℕ → ℕ
 expr_layer_depth e = e.what
 
+-- a target is as deep as the deepest of its indices
 abbrev pub target_layer_depth : NamedTarget-F ℕ ℕ ℕ ℕ → ℕ
 target_layer_depth target = greatest target.parts
 
@@ -35,12 +39,15 @@ target_layer_depth target = greatest target.parts
 abbrev pub expr_depth : NamedExpr → ℕ
 expr_depth = fold-NamedExpr ℕ ℕ ℕ ℕ kind_depth part_depth expr_layer_depth target_layer_depth
 
+-- the most operators, casts, calls and indexes inside one another in a target
 abbrev pub target_depth : NamedTarget → ℕ
 target_depth = fold-NamedTarget ℕ ℕ ℕ ℕ kind_depth part_depth expr_layer_depth target_layer_depth
 
+-- the same of a part of a target
 abbrev pub step_depth : NamedPart → ℕ
 step_depth = fold-NamedPart ℕ ℕ ℕ ℕ kind_depth part_depth expr_layer_depth target_layer_depth
 
+-- the depth of an expression, and 0 where there is none
 abbrev pub optional_depth : Option NamedExpr → ℕ
 optional_depth (Some e) = expr_depth e
 optional_depth None = 0
@@ -61,12 +68,15 @@ stmt_kind_depth (NamedStmtKind-F.Until body e) = block (expr_depth e) body
 stmt_kind_depth (NamedStmtKind-F.While e body) = block (expr_depth e) body
 stmt_kind_depth (NamedStmtKind-F.Return e) = leaf (optional_depth e)
 
+-- an arm of an `if` is a block with its condition beside it
 abbrev pub arm_depth : NamedArm-F Depth Depth Depth Depth → Depth
 arm_depth arm = block (expr_depth arm.test) arm.body
 
+-- a branch is a block
 abbrev pub branch_depth : NamedBranch-F Depth Depth Depth Depth → Depth
 branch_depth branch = block 0 branch.body
 
+-- a statement is as deep as its kind, wherever it stands
 abbrev pub stmt_layer_depth : NamedStmt-F Depth Depth Depth Depth → Depth
 stmt_layer_depth s = s.what
 
@@ -74,9 +84,11 @@ stmt_layer_depth s = s.what
 abbrev pub depth_of : NamedStmt → Depth
 depth_of = fold-NamedStmt Depth Depth Depth Depth stmt_kind_depth arm_depth branch_depth stmt_layer_depth
 
+-- the same of an arm
 abbrev pub depth_of_arm : NamedArm → Depth
 depth_of_arm = fold-NamedArm Depth Depth Depth Depth stmt_kind_depth arm_depth branch_depth stmt_layer_depth
 
+-- the same of a branch
 abbrev pub depth_of_branch : NamedBranch → Depth
 depth_of_branch = fold-NamedBranch Depth Depth Depth Depth stmt_kind_depth arm_depth branch_depth stmt_layer_depth
 

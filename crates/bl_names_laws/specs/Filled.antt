@@ -4,8 +4,6 @@ use Rattle.std.specs.Prelude.{Bool, true, false, not, ◌&&◌, ◌||◌, is_som
 use Rattle.bl_tree.specs.Reduce.{all_of}
 use Rattle.bl_tree.specs.Typing.{is_inhabited, is_fixed}
 use Rattle.bl_named.specs.declared.item.NamedVar.{NamedVar}
-use Rattle.bl_named.specs.declared.stmt.NamedArm.{NamedArm, fold-NamedArm}
-use Rattle.bl_named.specs.declared.stmt.NamedBranch.{NamedBranch, fold-NamedBranch}
 use Rattle.bl_named.specs.declared.stmt.NamedStmt.{NamedStmt, fold-NamedStmt}
 use Rattle.bl_named.specs.declared.stmt.NamedStmtKind.TheOpen.{NamedStmtKind-F, NamedArm-F, NamedBranch-F, NamedStmt-F}
 
@@ -13,10 +11,12 @@ use Rattle.bl_named.specs.declared.stmt.NamedStmtKind.TheOpen.{NamedStmtKind-F, 
 abbrev pub is_told : NamedVar → Bool → Bool
 is_told var has_value = has_value || (is_some var.ty && not (is_fixed var.role))
 
+-- whether a declaration stands for a variable of the unit that has the type or value that it needs
 abbrev pub declaration_filled : Option NamedVar → Bool → Bool
 declaration_filled (Some var) has_value = is_told var has_value
 declaration_filled None has_value = false
 
+-- whether one layer of a statement has what the grammar wants, where all in its arms, branches and blocks does
 abbrev pub kind_filled : List NamedVar → NamedStmtKind-F Bool Bool Bool Bool → Bool
 kind_filled vars (NamedStmtKind-F.Declare k value) = declaration_filled (slice_get vars k) (is_some value)
 kind_filled vars (NamedStmtKind-F.If arms other) = is_inhabited arms && (all_of arms && all_of other)
@@ -27,21 +27,18 @@ kind_filled vars (NamedStmtKind-F.Until body e) = all_of body
 kind_filled vars (NamedStmtKind-F.While e body) = all_of body
 kind_filled vars _ = true
 
+-- whether the block of an arm does
 abbrev pub arm_filled : NamedArm-F Bool Bool Bool Bool → Bool
 arm_filled arm = all_of arm.body
 
+-- whether the block of a branch does
 abbrev pub branch_filled : NamedBranch-F Bool Bool Bool Bool → Bool
 branch_filled branch = all_of branch.body
 
+-- a statement does where its kind does, wherever it stands
 abbrev pub layer_filled : NamedStmt-F Bool Bool Bool Bool → Bool
 layer_filled s = s.what
 
 -- whether a statement, where these are the variables of its unit, has what the grammar wants
 abbrev pub is_filled : List NamedVar → NamedStmt → Bool
 is_filled vars = fold-NamedStmt Bool Bool Bool Bool (kind_filled vars) arm_filled branch_filled layer_filled
-
-abbrev pub arm_is_filled : List NamedVar → NamedArm → Bool
-arm_is_filled vars = fold-NamedArm Bool Bool Bool Bool (kind_filled vars) arm_filled branch_filled layer_filled
-
-abbrev pub branch_is_filled : List NamedVar → NamedBranch → Bool
-branch_is_filled vars = fold-NamedBranch Bool Bool Bool Bool (kind_filled vars) arm_filled branch_filled layer_filled

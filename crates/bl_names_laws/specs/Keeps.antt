@@ -18,9 +18,11 @@ use Rattle.bl_raw.specs.Starts.{ascends}
 abbrev pub has_name : NamedVar → Bool
 has_name var = is_name var.name.text
 
+-- the texts of the names of variables, in order
 abbrev pub names_of : List NamedVar → List (List ℕ)
 names_of vars = map (λ var. var.name.text) vars
 
+-- the texts of the names of a struct's fields, in order
 abbrev pub field_names : NamedStruct → List (List ℕ)
 field_names def = map (λ field. field.name.text) def.fields
 
@@ -61,18 +63,21 @@ struct_stands def = fields_named def && fields_differ def
 abbrev pub unit_stands : NamedUnit → Bool
 unit_stands unit = (variables_named unit && parameters_differ unit) && (body_filled unit && (body_shallow unit && body_apart unit))
 
+-- the texts of the names of all structs, and then of all units
 abbrev pub all_names : Named → List (List ℕ)
 all_names named = map (λ def. def.name.text) named.structs ++ map (λ unit. unit.name.text) named.units
 
 -- what holds of the named tree of every text in which names are declared once, known and of the right kind
-pub record Keeps (named : Named) : Type 0 where
+pub record NamedKeeps (named : Named) : Type 0 where
   -- every position is that of what is declared before
   pub placed : IsPlaced named
   -- the names of structs and units are names
   pub names : IsTrue (list_all is_name (all_names named))
   -- and differ
   pub distinct : IsTrue (are_distinct (all_names named))
+  -- each struct has a field, and the names of its fields are names and differ
   pub structs : IsTrue (list_all struct_stands named.structs)
+  -- in each unit names are names, parameters differ, nothing is missing or nested too deep, and branches keep apart
   pub units : IsTrue (list_all unit_stands named.units)
   -- statements and conditions of loops begin one after another, so no two of them have one place
   pub in_order : IsTrue (ascends (all_starts named))

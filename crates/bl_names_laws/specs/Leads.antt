@@ -4,7 +4,6 @@ use Rattle.bl_tree.specs.Reduce.{joined}
 use Rattle.bl_raw.specs.declared.name.Name.{Name}
 use Rattle.bl_named.specs.declared.expr.NamedExpr.{NamedExpr, fold-NamedExpr}
 use Rattle.bl_named.specs.declared.expr.NamedExprKind.TheOpen.{NamedExprKind-F, NamedPart-F, NamedExpr-F, NamedTarget-F}
-use Rattle.bl_named.specs.declared.expr.NamedPart.{NamedPart, fold-NamedPart}
 use Rattle.bl_named.specs.declared.expr.NamedTarget.{NamedTarget, fold-NamedTarget}
 use Rattle.bl_named.specs.declared.expr.Root.{Root}
 use Rattle.bl_named.specs.declared.expr.Root.TheVariants as root
@@ -16,8 +15,6 @@ use Rattle.bl_named.specs.declared.item.NamedStruct.{NamedStruct}
 use Rattle.bl_named.specs.declared.item.NamedUnit.{NamedUnit}
 use Rattle.bl_named.specs.declared.item.NamedVar.{NamedVar}
 use Rattle.bl_named.specs.declared.named.Named.{Named}
-use Rattle.bl_named.specs.declared.stmt.NamedArm.{NamedArm, fold-NamedArm}
-use Rattle.bl_named.specs.declared.stmt.NamedBranch.{NamedBranch, fold-NamedBranch}
 use Rattle.bl_named.specs.declared.stmt.NamedPath.{NamedPath}
 use Rattle.bl_named.specs.declared.stmt.NamedStmt.{NamedStmt, fold-NamedStmt}
 use Rattle.bl_named.specs.declared.stmt.NamedStmtKind.TheOpen.{NamedStmtKind-F, NamedArm-F, NamedBranch-F, NamedStmt-F}
@@ -35,12 +32,15 @@ Leads = List (Option Name)
 abbrev pub struct_at : Named → ℕ → Option Name
 struct_at named k = option_map (λ def. def.name) (slice_get named.structs k)
 
+-- the name of the constant at a position
 abbrev pub constant_at : Named → ℕ → Option Name
 constant_at named k = option_map (λ constant. constant.name) (slice_get named.constants k)
 
+-- the name of the unit at a position
 abbrev pub unit_at : Named → ℕ → Option Name
 unit_at named k = option_map (λ unit. unit.name) (slice_get named.units k)
 
+-- the name of the variable at a position among these, which are those of one unit
 abbrev pub variable_at : List NamedVar → ℕ → Option Name
 variable_at vars k = option_map (λ var. var.name) (slice_get vars k)
 
@@ -51,10 +51,12 @@ leads_if leads None = []
 
 -- ---- types
 
+-- what a length leads to: its constant, where it names one
 abbrev pub length_leads : Named → NamedLength → Leads
 length_leads named (count.Number n) = []
 length_leads named (count.Constant at k) = constant_at named k ∷ []
 
+-- what one level of a type leads to, from what its element does
 abbrev pub type_level_leads : Named → NamedType-F Leads → Leads
 type_level_leads named (NamedType-F.Scalar s) = []
 type_level_leads named (NamedType-F.Struct k) = struct_at named k ∷ []
@@ -66,10 +68,12 @@ type_leads named = fold-NamedType Leads (type_level_leads named)
 
 -- ---- expressions, in a unit that has these variables
 
+-- the name of the variable or constant with which a target begins
 abbrev pub at_root : Named → List NamedVar → Root → Option Name
 at_root named vars (root.Variable k) = variable_at vars k
 at_root named vars (root.Constant k) = constant_at named k
 
+-- what one layer of an expression leads to, from what its operands do
 abbrev pub kind_leads : Named → List NamedVar → NamedExprKind-F Leads Leads Leads Leads → Leads
 kind_leads named vars (NamedExprKind-F.Number minus n) = []
 kind_leads named vars (NamedExprKind-F.Truth b) = []
@@ -80,13 +84,16 @@ kind_leads named vars (NamedExprKind-F.Two op a b) = a ++ b
 kind_leads named vars (NamedExprKind-F.Cast s a) = a
 kind_leads named vars (NamedExprKind-F.Call at f inputs) = unit_at named f ∷ joined inputs
 
+-- the names of fields belong to types; an index leads to what its expression does
 abbrev pub part_leads : NamedPart-F Leads Leads Leads Leads → Leads
 part_leads (NamedPart-F.Field name) = []
 part_leads (NamedPart-F.Index e) = e
 
+-- an expression leads to what its kind does, wherever it stands
 abbrev pub expr_layer_leads : NamedExpr-F Leads Leads Leads Leads → Leads
 expr_layer_leads e = e.what
 
+-- a target leads to its root, and to what its indices do
 abbrev pub target_layer_leads : Named → List NamedVar → NamedTarget-F Leads Leads Leads Leads → Leads
 target_layer_leads named vars target = at_root named vars target.root ∷ joined target.parts
 
@@ -97,9 +104,6 @@ expr_leads named vars = fold-NamedExpr Leads Leads Leads Leads (kind_leads named
 -- of a target, its root first
 abbrev pub target_leads : Named → List NamedVar → NamedTarget → Leads
 target_leads named vars = fold-NamedTarget Leads Leads Leads Leads (kind_leads named vars) part_leads expr_layer_leads (target_layer_leads named vars)
-
-abbrev pub step_leads : Named → List NamedVar → NamedPart → Leads
-step_leads named vars = fold-NamedPart Leads Leads Leads Leads (kind_leads named vars) part_leads expr_layer_leads (target_layer_leads named vars)
 
 -- the variable that stands for an output or takes a result
 abbrev pub path_leads : List NamedVar → NamedPath → Leads
@@ -117,6 +121,7 @@ constant_leads named vars constant = leads_if (type_leads named) constant.ty ++ 
 
 -- ---- statements, in a unit that has these variables
 
+-- what the inputs and then the outputs of a call or `run` lead to
 abbrev pub argument_leads : Named → List NamedVar → List NamedExpr → List NamedPath → Leads
 argument_leads named vars inputs outputs = joined (map (expr_leads named vars) inputs) ++ joined (map (path_leads vars) outputs)
 
@@ -137,12 +142,15 @@ stmt_kind_leads named vars (NamedStmtKind-F.Until body e) = joined body ++ expr_
 stmt_kind_leads named vars (NamedStmtKind-F.While e body) = expr_leads named vars e ++ joined body
 stmt_kind_leads named vars (NamedStmtKind-F.Return e) = leads_if (expr_leads named vars) e
 
+-- an arm of an `if` leads to what its condition and its block do
 abbrev pub arm_layer_leads : Named → List NamedVar → NamedArm-F Leads Leads Leads Leads → Leads
 arm_layer_leads named vars arm = expr_leads named vars arm.test ++ joined arm.body
 
+-- a branch leads to what its block does
 abbrev pub branch_layer_leads : NamedBranch-F Leads Leads Leads Leads → Leads
 branch_layer_leads branch = joined branch.body
 
+-- a statement leads to what its kind does, wherever it stands
 abbrev pub stmt_layer_leads : NamedStmt-F Leads Leads Leads Leads → Leads
 stmt_layer_leads s = s.what
 
@@ -150,16 +158,9 @@ stmt_layer_leads s = s.what
 abbrev pub stmt_leads : Named → List NamedVar → NamedStmt → Leads
 stmt_leads named vars = fold-NamedStmt Leads Leads Leads Leads (stmt_kind_leads named vars) (arm_layer_leads named vars) branch_layer_leads stmt_layer_leads
 
--- the same of an arm and of a branch
-abbrev pub leads_of_arm : Named → List NamedVar → NamedArm → Leads
-leads_of_arm named vars = fold-NamedArm Leads Leads Leads Leads (stmt_kind_leads named vars) (arm_layer_leads named vars) branch_layer_leads stmt_layer_leads
-
-abbrev pub leads_of_branch : Named → List NamedVar → NamedBranch → Leads
-leads_of_branch named vars =
-    fold-NamedBranch Leads Leads Leads Leads (stmt_kind_leads named vars) (arm_layer_leads named vars) branch_layer_leads stmt_layer_leads
-
 -- ---- items
 
+-- what the type of a field leads to
 abbrev pub field_leads : Named → NamedField → Leads
 field_leads named field = type_leads named field.ty
 

@@ -4,3 +4,4 @@ pub mod Depths
 pub mod Filled
 pub mod Keeps
 pub mod Leads
+pub mod inner

@@ -237,7 +237,8 @@ test_apart l own n labelled is (inl later) =
 test_apart l own n labelled is (inr past) = own_apart l past.number own n labelled is past.begins
 
 -- a node in a block is none of the later tests, and in no later block
-arm_apart : (l : Label) (k : ℕ) (n : Node) → Begins (inside l k) (label_of n).position → Later (record { position = l.position; passed = suc k }) n → ⊥
+arm_apart : (l : Label) (k : ℕ) (n : Node) → Begins (inside l k) (label_of n).position → Later (record { position = l.position; passed = suc k }) n →
+    ⊥
 arm_apart l k n begins (inl later) = is_no_further l.position k begins.rest (sym later.0 ∙ begins.is)
 arm_apart l k n begins (inr past) = past_apart l.position k n begins past
 

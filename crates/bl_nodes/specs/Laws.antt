@@ -37,10 +37,11 @@ use Rattle.bl_nodes.specs.Plain.{
 abbrev pub stmt : Place → StmtKind-F StmtKind Arm Branch Stmt → Stmt
 stmt place layer = roll-Stmt (record { place = place; what = roll-StmtKind layer })
 
--- an arm and a branch with plain blocks
+-- an arm with a plain block
 abbrev pub plain_arm : Arm → PlainArm
 plain_arm arm = record { test = (out-Arm arm).test; body = plain_block (out-Arm arm).body }
 
+-- a branch with a plain block
 abbrev pub plain_branch : Branch → PlainBranch
 plain_branch branch = record { weak = (out-Branch branch).weak; body = plain_block (out-Branch branch).body }
 

@@ -37,6 +37,7 @@ pub record Arguments : Type 0 where
   pub inputs : List Expr
   pub outputs : List Path
 
+-- a node of a body: where something of a statement is done, with the statement's label and place
 pub data Node : Type 0 where
   ActAt : Label → Stmt → Node
   -- a condition: of an `if` or an `elseif`, of an `await` that was woken, of a loop
@@ -58,6 +59,7 @@ pub data Node : Type 0 where
 
 -- ---- what a node shows
 
+-- the label of the statement that the node belongs to
 abbrev pub label_of : Node → Label
 label_of (ActAt l s) = l
 label_of (TestAt l at e) = l
@@ -73,6 +75,7 @@ label_of (ForkAt l at) = l
 label_of (SurfaceJoinAt l at) = l
 label_of (DepthJoinAt l at) = l
 
+-- the place in the source that the node has
 abbrev pub place_of_node : Node → Place
 place_of_node (ActAt l s) = (out-Stmt s).place
 place_of_node (TestAt l at e) = at
@@ -88,6 +91,7 @@ place_of_node (ForkAt l at) = at
 place_of_node (SurfaceJoinAt l at) = at
 place_of_node (DepthJoinAt l at) = at
 
+-- what kind of node it is
 abbrev pub kind_of_node : Node → NodeKind
 kind_of_node (ActAt l s) = kind.Act
 kind_of_node (TestAt l at e) = kind.Test
@@ -122,6 +126,7 @@ node_writes _ = []
 
 -- ---- the nodes of plain statements
 
+-- the arguments of a `run` with this target, these inputs and these outputs
 abbrev pub arguments_of : Option Path → List Expr → List Path → Arguments
 arguments_of target inputs outputs = record { target = target; inputs = inputs; outputs = outputs }
 
@@ -138,6 +143,7 @@ entry (Until l at body e) = HeadAt l at
 entry (While l at e body) = TestAt l at e
 entry (Again l at body e) = TestAt l at e
 
+-- whether one of the branches is strong
 abbrev pub some_strong : Bodies → Bool
 some_strong Last = false
 some_strong (Body weak body rest) = not weak || some_strong rest
@@ -156,19 +162,22 @@ abbrev mutual
   is_instant (While l at e body) = true
   is_instant (Again l at body e) = true
 
+  -- whether a block may: each of its statements may
   pub are_instant : Block → Bool
   are_instant Done = true
   are_instant (Then s rest) = is_instant s && are_instant rest
 
-  -- whether all strong branches may, and whether some branch may
+  -- whether all strong branches may
   pub strong_instant : Bodies → Bool
   strong_instant Last = true
   strong_instant (Body weak body rest) = (weak || are_instant body) && strong_instant rest
 
+  -- whether some branch may
   pub some_instant : Bodies → Bool
   some_instant Last = false
   some_instant (Body weak body rest) = are_instant body || some_instant rest
 
+-- the node, where the test is true
 abbrev pub where_so : Bool → Node → List Node
 where_so test node = if test then node ∷ [] else []
 
@@ -189,10 +198,12 @@ abbrev mutual
   nodes_of (While l at e body) = TestAt l at e ∷ nodes_in body
   nodes_of (Again l at body e) = HeadAt l at ∷ TestAt l at e ∷ nodes_in body
 
+  -- the nodes of a block
   pub nodes_in : Block → List Node
   nodes_in Done = []
   nodes_in (Then s rest) = nodes_of s ++ nodes_in rest
 
+  -- the nodes of branches
   pub nodes_in_each : Bodies → List Node
   nodes_in_each Last = []
   nodes_in_each (Body weak body rest) = nodes_in body ++ nodes_in_each rest

@@ -21,6 +21,7 @@ pub record Label : Type 0 where
   pub position : Position
   pub passed : ℕ
 
+-- the label of a statement at the position
 abbrev pub label_at : Position → Label
 label_at position = record { position = position; passed = 0 }
 
@@ -60,11 +61,12 @@ is_empty (Then s rest) = false
 
 -- ---- the plain statements of a body
 
--- an arm of an `if`, and a branch of a `cobegin`, whose blocks are still to be put at a position
+-- an arm of an `if`, whose block is still to be put at a position
 pub record Arm : Type 0 where
   pub test : Expr
   pub body : Position → Block
 
+-- a branch of a `cobegin`, whose block is still to be put at a position
 pub record Branch : Type 0 where
   pub weak : Bool
   pub body : Position → Block
@@ -74,6 +76,7 @@ abbrev pub block_from : List (Position → Plain) → ℕ → Position → Block
 block_from [] k block = Done
 block_from (s ∷ rest) k block = Then (s (block ++ k ∷ [])) (block_from rest (suc k) block)
 
+-- the statements of the block at the position, from its first on
 abbrev pub block_at : List (Position → Plain) → Position → Block
 block_at body block = block_from body 0 block
 
@@ -81,9 +84,11 @@ block_at body block = block_from body 0 block
 abbrev pub inside : Label → ℕ → Position
 inside at block = at.position ++ block ∷ []
 
+-- the label with one condition more before its own
 abbrev pub passed_one : Label → Label
 passed_one at = record { position = at.position; passed = suc at.passed }
 
+-- where the condition of an arm stands
 abbrev pub place_of_test : Arm → Place
 place_of_test arm = (out-Expr arm.test).place
 
@@ -106,6 +111,7 @@ abbrev pub bodies_from : List Branch → ℕ → Label → Bodies
 bodies_from [] k at = Last
 bodies_from (branch ∷ rest) k at = Body branch.weak (branch.body (inside at k)) (bodies_from rest (suc k) at)
 
+-- the statement of an act at a place, as it is written
 abbrev pub act_of : Place → StmtKind-F (Place → Position → Plain) Arm Branch (Position → Plain) → Stmt
 act_of place (StmtKind-F.Declare k initial) = roll-Stmt (record { place = place; what = roll-StmtKind (StmtKind-F.Declare k initial) })
 act_of place (StmtKind-F.Assign path e) = roll-Stmt (record { place = place; what = roll-StmtKind (StmtKind-F.Assign path e) })
@@ -113,6 +119,7 @@ act_of place (StmtKind-F.Call f inputs outputs) = roll-Stmt (record { place = pl
 act_of place (StmtKind-F.Return e) = roll-Stmt (record { place = place; what = roll-StmtKind (StmtKind-F.Return e) })
 act_of place _ = roll-Stmt (record { place = place; what = roll-StmtKind (StmtKind-F.Return Option.None) })
 
+-- the plain statement of a kind of statement at a place, where its blocks are still to be put at a position
 abbrev pub kind_plain : StmtKind-F (Place → Position → Plain) Arm Branch (Position → Plain) → Place → Position → Plain
 kind_plain (StmtKind-F.Declare k initial) place at = Act (label_at at) (act_of place (StmtKind-F.Declare k initial))
 kind_plain (StmtKind-F.Assign path e) place at = Act (label_at at) (act_of place (StmtKind-F.Assign path e))
@@ -127,12 +134,15 @@ kind_plain (StmtKind-F.Until body e) place at = Until (label_at at) place (block
 kind_plain (StmtKind-F.While e body) place at = While (label_at at) place e (block_at body (inside (label_at at) 0))
 kind_plain (StmtKind-F.Return e) place at = Act (label_at at) (act_of place (StmtKind-F.Return e))
 
+-- an arm, from its plain statements
 abbrev pub arm_plain : Arm-F (Place → Position → Plain) Arm Branch (Position → Plain) → Arm
 arm_plain arm = record { test = arm.test; body = block_at arm.body }
 
+-- a branch, from its plain statements
 abbrev pub branch_plain : Branch-F (Place → Position → Plain) Arm Branch (Position → Plain) → Branch
 branch_plain branch = record { weak = branch.weak; body = block_at branch.body }
 
+-- a statement at a position is its kind there, at its place
 abbrev pub stmt_plain : Stmt-F (Place → Position → Plain) Arm Branch (Position → Plain) → Position → Plain
 stmt_plain s at = s.what s.place at
 
@@ -140,9 +150,10 @@ stmt_plain s at = s.what s.place at
 abbrev pub plain : Stmt → Position → Plain
 plain = fold-Stmt (Place → Position → Plain) Arm Branch (Position → Plain) kind_plain arm_plain branch_plain stmt_plain
 
--- the plain statements of a block at a position, and of a unit's body
+-- the plain statements of a block at a position
 abbrev pub plain_block : List Stmt → Position → Block
 plain_block body = block_at (map plain body)
 
+-- the plain statements of a unit's body
 abbrev pub plain_body : List Stmt → Block
 plain_body body = plain_block body []

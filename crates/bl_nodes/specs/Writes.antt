@@ -1,8 +1,7 @@
--- What plain statements may write: before their next pause, and ever.
-use Rattle.std.specs.Prelude.{List, [], ◌++◌, map, if◌then◌else◌}
+-- What plain statements may write before they pause.
+use Rattle.std.specs.Prelude.{List, [], ◌++◌, if◌then◌else◌}
 use Rattle.bl_tree.specs.declared.static_path.Static.{Static}
-use Rattle.bl_tree.specs.Reduce.{joined}
-use Rattle.bl_nodes.specs.Nodes.{ActAt, EnterAt, arguments_of, is_instant, node_reads, node_writes, nodes_in, nodes_of}
+use Rattle.bl_nodes.specs.Nodes.{ActAt, EnterAt, arguments_of, is_instant, node_writes}
 use Rattle.bl_nodes.specs.Plain.{
   Act,
   Again,
@@ -46,19 +45,3 @@ abbrev mutual
   pub surface_writes_in_each : Bodies → List Static
   surface_writes_in_each Last = []
   surface_writes_in_each (Body weak body rest) = surface_writes_in body ++ surface_writes_in_each rest
-
--- what a statement may ever write: what its nodes do
-abbrev pub all_writes : Plain → List Static
-all_writes s = joined (map node_writes (nodes_of s))
-
--- and read
-abbrev pub all_reads : Plain → List Static
-all_reads s = joined (map node_reads (nodes_of s))
-
--- the same of a block
-abbrev pub all_writes_in : Block → List Static
-all_writes_in body = joined (map node_writes (nodes_in body))
-
--- and what it may ever read
-abbrev pub all_reads_in : Block → List Static
-all_reads_in body = joined (map node_reads (nodes_in body))

@@ -59,7 +59,8 @@ over (v ∷ vs) rest off e =
     record {
       good = good_accesses rest e.good;
       spells =
-          fold_in Produces matches h.0 (by_test _ h.0 (sym (name_picks v.class (off v vs refl)) ∙ (sym (pick_is NameUse v refl) ∙ h.1)) (Some v)) h.2.spells;
+          fold_in Produces matches h.0
+          (by_test _ h.0 (sym (name_picks v.class (off v vs refl)) ∙ (sym (pick_is NameUse v refl) ∙ h.1)) (Some v)) h.2.spells;
     }
 
 off_view : (tokens : List Token) (k : ℕ) → NoneNext (Mark OPEN_PAREN ∷ []) tokens k → (v : View) (vs : List View) →

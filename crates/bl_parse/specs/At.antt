@@ -9,10 +9,12 @@ use Rattle.bl_raw.specs.declared.name.Name.{Name}
 abbrev pub kind_at : List Token → ℕ → Option TokenKind
 kind_at tokens k = option_map (λ token. token.kind) (slice_get tokens k)
 
+-- where a token begins; 0 where there is none
 abbrev pub start_of : Option Token → ℕ
 start_of (Some token) = token.place.start
 start_of None = 0
 
+-- where a token ends; 0 where there is none
 abbrev pub end_of : Option Token → ℕ
 end_of (Some token) = token.place.end
 end_of None = 0

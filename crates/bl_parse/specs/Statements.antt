@@ -177,6 +177,7 @@ mutual
     placed : {s : RawStmt} {what : RawStmtKind} {from to : ℕ} → SpellsKind text tokens what from to
         → s ≡ roll-RawStmt (record { place = span tokens from to; what = what }) → SpellsStmt text tokens s from to
 
+  -- the tokens from a position up to another spell what a statement does, whichever kind of statement it is
   pub data SpellsKind (text : List ℕ) (tokens : List Token) : RawStmtKind → ℕ → ℕ → Type 0 where
     -- `var`, a name, a type, and maybe a value
     typed : {what : RawStmtKind} {from m n o to : ℕ} {name : Name} {ty : RawType} {initial : Option RawExpr} → Takes tokens (Word VAR) from m

@@ -1,6 +1,7 @@
 //! Expressions: a loop over the operators of a level and tighter ones, and a function for each kind of operand.
 
-ghost use Rattle.std.specs.Prelude.{◌≡◌, ◌+◌, ◌<◌, ◌≤◌, ℕ, [], ◌∷◌, Some, length, false, IfOk, OnOk, IfSome, IsSome, IsNone, IsTrue, ◌&&◌, nat_le};
+ghost use Rattle.std.specs.Prelude.{◌≡◌, ◌+◌, ◌<◌, ◌≤◌, ℕ, [], ◌∷◌, Some, length, false, IfOk, OnOk};
+ghost use Rattle.std.specs.Prelude.{IfSome, IsSome, IsNone, IsTrue, ◌&&◌, nat_le};
 ghost use Rattle.bl_tree.specs.declared.scalar.Op.{Op};
 ghost use Rattle.bl_tree.specs.declared.token.TokenKind.{TokenKind};
 ghost use Rattle.bl_lex.specs.declared.word.TheConstants.{AS, PREV};
@@ -311,7 +312,8 @@ fn previous(source: &Source, at: &mut usize) -> Result<RawExpr, NoMemory>
 fn in_parentheses(source: &Source, at: &mut usize) -> Result<RawExpr, NoMemory>
     requires awaits { Awaits (grammar.sign OPEN_PAREN ∷ the Part.Expr ∷ grammar.sign CLOSE_PAREN ∷ []) source.now.tokens.now at.old }
     ensures spelled { IfOk result (λ e. SpellsExpr source.now.text.now source.now.tokens.now 10 e at.old at.new) }
-    ensures follows { OnOk result (Turns (grammar.sign OPEN_PAREN ∷ the Part.Expr ∷ grammar.sign CLOSE_PAREN ∷ []) source.now.tokens.now at.old [] at.new) }
+    ensures follows { OnOk result
+        (Turns (grammar.sign OPEN_PAREN ∷ the Part.Expr ∷ grammar.sign CLOSE_PAREN ∷ []) source.now.tokens.now at.old [] at.new) }
     ensures ahead { OnOk result (at.old < at.new) }
 {
     source.take(at, TokenKind::Sign(sign::OPEN_PAREN));
@@ -460,7 +462,8 @@ fn read_part(source: &Source, at: &mut usize) -> Result<RawPart, NoMemory>
 fn index(source: &Source, at: &mut usize) -> Result<RawPart, NoMemory>
     requires awaits { Awaits (grammar.sign OPEN_BRACKET ∷ the Part.Expr ∷ grammar.sign CLOSE_BRACKET ∷ []) source.now.tokens.now at.old }
     ensures spelled { IfOk result (λ part. SpellsPart source.now.text.now source.now.tokens.now part at.old at.new) }
-    ensures follows { OnOk result (Turns (grammar.sign OPEN_BRACKET ∷ the Part.Expr ∷ grammar.sign CLOSE_BRACKET ∷ []) source.now.tokens.now at.old [] at.new) }
+    ensures follows { OnOk result
+        (Turns (grammar.sign OPEN_BRACKET ∷ the Part.Expr ∷ grammar.sign CLOSE_BRACKET ∷ []) source.now.tokens.now at.old [] at.new) }
     ensures ahead { OnOk result (at.old < at.new) }
 {
     source.take(at, TokenKind::Sign(sign::OPEN_BRACKET));

@@ -400,9 +400,11 @@ fn branching(source: &Source, at: &mut usize) -> Result<RawStmtKind, NoMemory>
 
 #[cycle(statements)]
 fn arms(source: &Source, at: &mut usize) -> Result<List<RawArm>, NoMemory>
-    requires awaits { Awaits (grammar.word IF ∷ the Part.Expr ∷ grammar.word THEN ∷ the Part.Block ∷ the Part.Elseifs ∷ []) source.now.tokens.now at.old }
+    requires awaits { Awaits
+        (grammar.word IF ∷ the Part.Expr ∷ grammar.word THEN ∷ the Part.Block ∷ the Part.Elseifs ∷ []) source.now.tokens.now at.old }
     ensures spelled { IfOk result (λ arms. SpellsArms source.now.text.now source.now.tokens.now arms at.old at.new) }
-    ensures follows { OnOk result (Turns (grammar.word IF ∷ the Part.Expr ∷ grammar.word THEN ∷ the Part.Block ∷ the Part.Elseifs ∷ []) source.now.tokens.now
+    ensures follows { OnOk result
+        (Turns (grammar.word IF ∷ the Part.Expr ∷ grammar.word THEN ∷ the Part.Block ∷ the Part.Elseifs ∷ []) source.now.tokens.now
         at.old [] at.new) }
     ensures ahead { OnOk result (at.old < at.new) }
 {
@@ -419,7 +421,8 @@ fn arms(source: &Source, at: &mut usize) -> Result<List<RawArm>, NoMemory>
 fn arm(source: &Source, at: &mut usize, head: u8) -> Result<RawArm, NoMemory>
     requires awaits { Awaits (grammar.word head ∷ the Part.Expr ∷ grammar.word THEN ∷ the Part.Block ∷ []) source.now.tokens.now at.old }
     ensures spelled { IfOk result (λ arm. SpellsArm source.now.text.now source.now.tokens.now head arm at.old at.new) }
-    ensures follows { OnOk result (Turns (grammar.word head ∷ the Part.Expr ∷ grammar.word THEN ∷ the Part.Block ∷ []) source.now.tokens.now at.old [] at.new) }
+    ensures follows { OnOk result
+        (Turns (grammar.word head ∷ the Part.Expr ∷ grammar.word THEN ∷ the Part.Block ∷ []) source.now.tokens.now at.old [] at.new) }
     ensures ahead { OnOk result (at.old < at.new) }
 {
     source.take(at, TokenKind::Word(head));

@@ -40,9 +40,11 @@ pub fn read_type(source: &Source, at: &mut usize) -> Result<RawType, NoMemory>
 /// Reads the type of an array.
 #[cycle(types)]
 fn array(source: &Source, at: &mut usize) -> Result<RawType, NoMemory>
-    requires awaits { Awaits (grammar.sign OPEN_BRACKET ∷ the Part.Length ∷ grammar.sign CLOSE_BRACKET ∷ the Part.Ty ∷ []) source.now.tokens.now at.old }
+    requires awaits { Awaits
+        (grammar.sign OPEN_BRACKET ∷ the Part.Length ∷ grammar.sign CLOSE_BRACKET ∷ the Part.Ty ∷ []) source.now.tokens.now at.old }
     ensures spelled { IfOk result (λ ty. SpellsType source.now.text.now source.now.tokens.now ty at.old at.new) }
-    ensures follows { OnOk result (Turns (grammar.sign OPEN_BRACKET ∷ the Part.Length ∷ grammar.sign CLOSE_BRACKET ∷ the Part.Ty ∷ []) source.now.tokens.now
+    ensures follows { OnOk result
+        (Turns (grammar.sign OPEN_BRACKET ∷ the Part.Length ∷ grammar.sign CLOSE_BRACKET ∷ the Part.Ty ∷ []) source.now.tokens.now
         at.old [] at.new) }
     ensures ahead { OnOk result (at.old < at.new) }
 {

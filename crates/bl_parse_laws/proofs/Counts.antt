@@ -46,8 +46,8 @@ use Rattle.bl_syntax.specs.Depth.{
   run_with,
   open_after,
   run_after,
-  last_kind,
 }
+use Rattle.bl_syntax.specs.inner.Depth.{last_kind}
 use Rattle.bl_syntax.specs.Rules.{PassesDepth}
 use Rattle.bl_syntax.proofs.Depths.{open_next, last_next, run_next}
 use Rattle.bl_parse.specs.At.{Takes}

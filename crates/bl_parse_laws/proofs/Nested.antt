@@ -377,7 +377,8 @@ module _ {text : List ℕ} {tokens : List Token} (limit : Limits tokens) where
   -- a unit is a block, in which its body stands
   unit_opens : {u : RawUnit} {from to : ℕ} (h : SpellsUnit text tokens u from to) → open_at tokens h.r ≡ open_at tokens h.m + 1
   unit_opens h =
-      let head = flat.then (flat.token h.name.token refl) (flat.then (flat.params h.inputs) (flat.then (flat.output_params h.outputs) (flat.result h.result))) in
+      let head = flat.then (flat.token h.name.token refl)
+      (flat.then (flat.params h.inputs) (flat.then (flat.output_params h.outputs) (flat.result h.result))) in
       head.same ∙ opens h.kind.token (unit_opening h.kind.is)
 
   item : {one : RawItem} {from to : ℕ} → SpellsItem text tokens one from to → item_shallow one ≡ true

@@ -4,7 +4,7 @@ ghost use Rattle.std.specs.Prelude.{◌≡◌, IfErr, IfOk, OnOk, true};
 ghost use Rattle.bl_scopes.specs.Rules.{Passes as NamesPass};
 ghost use Rattle.bl_program.specs.Cause.{IsCause};
 ghost use Rattle.bl_program.specs.Programs.{IsProgramOf, named_of};
-ghost use Rattle.bl_raw.specs.Keeps.{Keeps as RawKeeps};
+ghost use Rattle.bl_raw.specs.Keeps.{RawKeeps};
 ghost use Rattle.bl_tree.specs.Program.{Keeps};
 ghost use Rattle.bl_types.specs.Rules.{Passes as TypesPass};
 ghost use Rattle.bl_types_laws.specs.Standing.{are_shallow};

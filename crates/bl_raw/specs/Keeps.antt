@@ -7,7 +7,7 @@ use Rattle.bl_raw.specs.Names.{item_stands}
 use Rattle.bl_raw.specs.Starts.{all_starts, ascends}
 
 -- what holds of the items of every tree that a text spells within the limits of rule Depth
-pub record Keeps (items : List RawItem) : Type 0 where
+pub record RawKeeps (items : List RawItem) : Type 0 where
   -- every name is a name; each struct has a field, each `if` an arm, each `cobegin` a branch, each `var` a type or a value
   pub stand : IsTrue (list_all item_stands items)
   -- blocks nest at most 100 deep, and operators, casts, calls and indexes at most 200 deep

@@ -26,6 +26,7 @@ use Rattle.bl_raw.specs.declared.types.RawType.TheOpen.{RawType-F}
 abbrev pub named : Name → Bool
 named name = is_name name.text
 
+-- what is optional may be missing, and passes the test where it is there
 abbrev pub optional : {A : Type 0} → (A → Bool) → Option A → Bool
 optional test (Some x) = test x
 optional test None = true
@@ -37,10 +38,12 @@ is_filled (x ∷ xs) = true
 
 -- ---- types
 
+-- a length is a number, or the name of a constant
 abbrev pub length_named : RawLength → Bool
 length_named (Number n) = true
 length_named (OfConstant name) = named name
 
+-- whether every name in one level of a type is one, where those of its element are
 abbrev pub type_level_named : RawType-F Bool → Bool
 type_level_named (RawType-F.Scalar s) = true
 type_level_named (RawType-F.Struct name) = named name
@@ -52,6 +55,7 @@ type_named = fold-RawType Bool type_level_named
 
 -- ---- expressions
 
+-- whether every name in one layer of an expression is one, where those of its operands are
 abbrev pub kind_named : RawExprKind-F Bool Bool Bool Bool → Bool
 kind_named (RawExprKind-F.Number minus n) = true
 kind_named (RawExprKind-F.Truth b) = true
@@ -62,13 +66,16 @@ kind_named (RawExprKind-F.Two op a b) = a && b
 kind_named (RawExprKind-F.Cast s a) = a
 kind_named (RawExprKind-F.Call f inputs) = named f && all_of inputs
 
+-- whether the name of a field is one; an index is so where its expression is
 abbrev pub part_named : RawPart-F Bool Bool Bool Bool → Bool
 part_named (RawPart-F.Field name) = named name
 part_named (RawPart-F.Index e) = e
 
+-- an expression is so where its kind is, wherever it stands
 abbrev pub expr_layer_named : RawExpr-F Bool Bool Bool Bool → Bool
 expr_layer_named e = e.what
 
+-- a target is so where the name with which it begins is one and all of its parts are so
 abbrev pub target_layer_named : RawTarget-F Bool Bool Bool Bool → Bool
 target_layer_named target = named target.root && all_of target.parts
 
@@ -86,12 +93,15 @@ path_named path = named path.root && list_all named path.fields
 
 -- ---- statements
 
+-- whether the name of a constant is one, and every name in its type and its value
 abbrev pub constant_named : RawConstant → Bool
 constant_named constant = named constant.name && (optional type_named constant.ty && expr_named constant.value)
 
+-- whether every name in the inputs and outputs of a call or `run` is one
 abbrev pub arguments_named : List RawExpr → List RawPath → Bool
 arguments_named inputs outputs = list_all expr_named inputs && list_all path_named outputs
 
+-- whether every name in one layer of a statement is one and what the grammar wants is there, where all in its arms, branches and blocks stands
 abbrev pub stmt_kind_stands : RawStmtKind-F Bool Bool Bool Bool → Bool
 stmt_kind_stands (RawStmtKind-F.Var name ty value) =
     named name && (optional type_named ty && (optional expr_named value && (is_some ty || is_some value)))
@@ -109,12 +119,15 @@ stmt_kind_stands (RawStmtKind-F.Until body e) = all_of body && expr_named e
 stmt_kind_stands (RawStmtKind-F.While e body) = expr_named e && all_of body
 stmt_kind_stands (RawStmtKind-F.Return e) = optional expr_named e
 
+-- whether every name in the condition of an arm is one, and all statements of its block stand
 abbrev pub arm_stands : RawArm-F Bool Bool Bool Bool → Bool
 arm_stands arm = expr_named arm.test && all_of arm.body
 
+-- whether all statements of a branch stand
 abbrev pub branch_stands : RawBranch-F Bool Bool Bool Bool → Bool
 branch_stands branch = all_of branch.body
 
+-- a statement stands where its kind does, wherever its place is
 abbrev pub stmt_layer_stands : RawStmt-F Bool Bool Bool Bool → Bool
 stmt_layer_stands s = s.what
 
@@ -124,6 +137,7 @@ stmt_stands = fold-RawStmt Bool Bool Bool Bool stmt_kind_stands arm_stands branc
 
 -- ---- items
 
+-- whether the name of a field is one, and every name in its type
 abbrev pub field_named : RawField → Bool
 field_named field = named field.name && type_named field.ty
 
@@ -131,9 +145,11 @@ field_named field = named field.name && type_named field.ty
 abbrev pub struct_stands : RawStruct → Bool
 struct_stands def = named def.name && (is_filled def.fields && list_all field_named def.fields)
 
+-- whether the name of a parameter is one, and every name in its type
 abbrev pub param_named : RawParam → Bool
 param_named param = named param.name && type_named param.ty
 
+-- whether every name in a unit is one, and its statements stand
 abbrev pub unit_stands : RawUnit → Bool
 unit_stands unit =
     (named unit.name && (list_all param_named unit.inputs && list_all param_named unit.outputs))

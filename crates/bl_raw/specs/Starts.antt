@@ -8,12 +8,15 @@ use Rattle.bl_raw.specs.declared.item.RawItem.TheVariants.{Struct, Constant, Uni
 use Rattle.bl_raw.specs.declared.stmt.RawStmt.{RawStmt, fold-RawStmt}
 use Rattle.bl_raw.specs.declared.stmt.RawStmtKind.TheOpen.{RawStmtKind-F, RawArm-F, RawBranch-F, RawStmt-F}
 
+-- where things begin in the source, in bytes, in source order
 abbrev pub Starts : Type 0
 Starts = List ℕ
 
+-- where an expression begins
 abbrev pub start_of : RawExpr → ℕ
 start_of e = (out-RawExpr e).place.start
 
+-- where the statements inside one layer of a statement and the conditions of its loops begin, from those of its arms, branches and blocks
 abbrev pub stmt_kind_starts : RawStmtKind-F Starts Starts Starts Starts → Starts
 stmt_kind_starts (RawStmtKind-F.Var name ty value) = []
 stmt_kind_starts (RawStmtKind-F.Let name ty value) = []
@@ -30,12 +33,15 @@ stmt_kind_starts (RawStmtKind-F.Until body e) = joined body ++ (start_of e ∷ [
 stmt_kind_starts (RawStmtKind-F.While e body) = start_of e ∷ joined body
 stmt_kind_starts (RawStmtKind-F.Return e) = []
 
+-- where the statements in an arm begin, and the conditions of loops there
 abbrev pub arm_starts : RawArm-F Starts Starts Starts Starts → Starts
 arm_starts arm = joined arm.body
 
+-- the same of a branch
 abbrev pub branch_starts : RawBranch-F Starts Starts Starts Starts → Starts
 branch_starts branch = joined branch.body
 
+-- where a statement begins, and then all that stands in it
 abbrev pub stmt_layer_starts : RawStmt-F Starts Starts Starts Starts → Starts
 stmt_layer_starts s = s.place.start ∷ s.what
 
@@ -43,6 +49,7 @@ stmt_layer_starts s = s.place.start ∷ s.what
 abbrev pub starts_of : RawStmt → Starts
 starts_of = fold-RawStmt Starts Starts Starts Starts stmt_kind_starts arm_starts branch_starts stmt_layer_starts
 
+-- where the statements of an item begin, and the conditions of loops there; only units have any
 abbrev pub item_starts : RawItem → Starts
 item_starts (Struct def) = []
 item_starts (Constant constant) = []

@@ -1,5 +1,5 @@
 //! Source programs as they are written: trees whose names are texts with their places (docs/LANGUAGE.md, "Raw trees").
-//! There are types alone, and the definition of what such a tree keeps (`specs/Keeps.antt`, `Keeps`), which
+//! There are types alone, and the definition of what such a tree keeps (`specs/Keeps.antt`, `RawKeeps`), which
 //! `bl_parse_laws` shows of each tree that a text spells.
 #![tactic(auto)]
 

@@ -4,10 +4,6 @@ use Rattle.std.proofs.Common.{
   ℕ,
   ◌+◌,
   ◌<◌,
-  Bool,
-  true,
-  false,
-  ◌&&◌,
   List,
   [],
   ◌∷◌,
@@ -17,7 +13,10 @@ use Rattle.std.proofs.Common.{
   drop,
   ap,
   refl,
-  suc,
+  min,
+  Bool,
+  true,
+  false,
   ℤ,
   sym,
   ◌∙◌,
@@ -28,24 +27,14 @@ use Rattle.std.proofs.Common.{
   Some,
   ◌≤◌,
 }
+use Rattle.std.specs.Prelude.{nat_le}
+use Rattle.std.proofs.lemmas.Bool.Decides.{nat_tests}
 use Rattle.std.proofs.lemmas.List.{drop_all}
 use Rattle.std.specs.List.{slice_get}
 use Rattle.bl_tree.specs.declared.row.Column.{Column}
 use Rattle.bl_tree.specs.declared.scalar.Scalar.{Scalar}
-use Rattle.bl_tree.specs.Ports.{row_fits}
-use Rattle.bl_tree.specs.Scalar.{in_range}
 use Rattle.bl_rows.specs.Text.{values_text, value_text, lines_from, line_text}
 use Rattle.bl_rows.proofs.Seq.{drop-at, drop-got}
-
-second_holds : (a b : Bool) → (a && b) ≡ true → b ≡ true
-second_holds true b h = h
-second_holds false b h = absurd (cc)
-
-pub fits_length : (outs : List Column) (row : List ℤ) → row_fits outs row ≡ true → length row ≡ length outs
-fits_length [] [] h = refl
-fits_length [] (z ∷ row) h = absurd (cc)
-fits_length (c ∷ outs) [] h = absurd (cc)
-fits_length (c ∷ outs) (z ∷ row) h = ap suc (fits_length outs row (second_holds (in_range c.ty z) (row_fits outs row) h))
 
 -- one number more is printed
 pub printed_more : (outs : List Column) (row : List ℤ) (k : ℕ) (c : Column) (z : ℤ) (printed comma now all : List ℕ) →
@@ -59,13 +48,17 @@ printed_more outs row k c z printed comma now all inside e f h k2 t x same_type 
     let h2 : printed ++ (44 ∷ (value_text c.ty z ++ values_text (drop (k + 1) outs) (drop (k + 1) row))) ≡ all = rw (a, b) at h in
     rw (g, k2, same_type, same_number) (simp append_assoc h2)
 
--- nothing is left after the last number
-pub printed_all : (outs : List Column) (row : List ℤ) (k : ℕ) → length row ≤ k → values_text (drop k outs) (drop k row) ≡ []
-printed_all outs row k h = rw (drop_all k row h) (none_left (drop k outs))
+-- nothing is left after the last number, or the last column
+pub printed_all : (outs : List Column) (row : List ℤ) (k : ℕ) → min (length outs) (length row) ≤ k → values_text (drop k outs) (drop k row) ≡ []
+printed_all outs row k h = go (nat_le (length outs) (length row)) refl
   where
     none_left : (outs : List Column) → values_text outs [] ≡ []
     none_left [] = refl
     none_left (c ∷ outs) = refl
+
+    go : (b : Bool) → nat_le (length outs) (length row) ≡ b → values_text (drop k outs) (drop k row) ≡ []
+    go true e = let few : length outs ≤ length row = grind (arith, nat_tests) in rw (drop_all k outs (omega arith)) refl
+    go false e = let few : length row < length outs = grind (arith, nat_tests) in rw (drop_all k row (omega arith)) (none_left (drop k outs))
 
 -- a line feed after all that was to be printed
 pub line_ended : (printed rest now d v : List ℕ) → rest ≡ [] → printed ++ rest ≡ d ++ v → now ≡ printed ++ (10 ∷ []) →

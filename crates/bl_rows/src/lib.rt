@@ -1,9 +1,10 @@
 //! Rows of input read from bytes in any cut, and traces printed (docs/FORMATS.md, "Rows" and "Traces"). `Rows::feed`
 //! and `finish` give the rows of the joined bytes however they are cut, up to the first bad line, with its kind and its
-//! number (`specs/Reading.antt`, `rows_of`). `header` and `line` are the lines of a trace (`specs/Text.antt`,
-//! `text_of`). Want of memory aside.
+//! number (`specs/Reading.antt`, `rows_of`). `header` and `line` are the lines of a trace, and `text` is the whole of it
+//! (`specs/Text.antt`, `text_of`). `input_columns` and `output_columns` are those of a unit. Want of memory aside.
 #![tactic(auto)]
 
+mod columns;
 mod fault;
 mod found;
 mod number;
@@ -12,6 +13,7 @@ mod rows;
 mod trace;
 mod verdict;
 
+pub use columns::{input_columns, output_columns};
 pub use fault::RowFault;
 pub use rows::Rows;
-pub use trace::{header, line};
+pub use trace::{header, line, text};

@@ -2,7 +2,7 @@
 
 ghost use Rattle.std.specs.Prelude.{◌≡◌, IfErr, IfOk, OnOk};
 ghost use Rattle.bl_program.specs.Programs.{IsProgramOf};
-ghost use Rattle.bl_raw.specs.Keeps.{Keeps as RawKeeps};
+ghost use Rattle.bl_raw.specs.Keeps.{RawKeeps};
 ghost use Rattle.bl_rules.specs.Accepted.{HasProgram};
 ghost use Rattle.bl_rules.specs.Rules.{Fails, Passes, ProgramFails, ProgramPasses, TreeFails, TreePasses};
 ghost use Rattle.bl_tree.specs.Rules.{IsCause};

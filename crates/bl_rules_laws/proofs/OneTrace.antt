@@ -6,7 +6,7 @@ use Rattle.bl_lex.specs.Rules.{Passes as TextPasses}
 use Rattle.bl_lex.specs.Tokens.{Lexes}
 use Rattle.bl_syntax.specs.Rules.{PassesDepth}
 use Rattle.bl_raw.specs.declared.raw.Raw.{Raw}
-use Rattle.bl_raw.specs.Keeps.{Keeps as RawKeeps}
+use Rattle.bl_raw.specs.Keeps.{RawKeeps}
 use Rattle.bl_parse.specs.Programs.{Spells}
 use Rattle.bl_scopes.specs.Rules.{Passes as NamesPass}
 use Rattle.bl_types.specs.Rules.{Passes as TypesPass}

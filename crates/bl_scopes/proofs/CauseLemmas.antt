@@ -37,7 +37,7 @@ use Rattle.bl_scopes.specs.inner.Failures.{declared_twice, failure, failure_at, 
 use Rattle.bl_scopes.specs.inner.Judged.{first_failure}
 use Rattle.bl_scopes.specs.Kinds.{suits}
 use Rattle.bl_scopes.specs.Marks.{Mark, Marks, opens, closes, declares, uses, marks_of}
-use Rattle.bl_scopes.specs.Rules.{Fails, FailsDuplicate, FailsKind, FailsUnknown, Passes, Stands}
+use Rattle.bl_scopes.specs.Rules.{Fails, FailsDuplicate, FailsKind, FailsUnknown, MarkStands, Passes}
 use Rattle.bl_scopes.specs.Scopes.{Scopes, after, bound, file_scope, found}
 use Rattle.bl_scopes.proofs.TellLemmas.{failures, first_is_told, told, told_from, told_to}
 
@@ -83,7 +83,7 @@ FailsAs items f = Fails items f.rule f.at (further_places f.further)
 
 module _ (items : List RawItem) where
   stands_at : (before : Marks) (mark : Mark) (rest : Marks) → marks_of items ≡ before ++ (mark ∷ rest) →
-      Stands (marks_of items) mark (after file_scope before)
+      MarkStands (marks_of items) mark (after file_scope before)
   stands_at before mark rest there = record { before = before; rest = rest; there = there; are_open = refl }
 
   fails_here : (before : Marks) (mark : Mark) (rest : Marks) (f : Failure) → marks_of items ≡ before ++ (mark ∷ rest)
@@ -150,7 +150,7 @@ module _ (items : List RawItem) where
       (subst (Fails items f.rule f.at) (sym among.further) (fails_here happens.before happens.mark happens.rest f happens.there happens.says)))
 
   -- what is said of a mark that stands in the program is among its failures
-  is_among : (f : Failure) (mark : Mark) (scopes : Scopes) → Stands (marks_of items) mark scopes → failure_at scopes mark ≡ Some f
+  is_among : (f : Failure) (mark : Mark) (scopes : Scopes) → MarkStands (marks_of items) mark scopes → failure_at scopes mark ≡ Some f
       → (of : Rule) (at : Place) (also : List Place) → of ≡ f.rule → at ≡ f.at → also ≡ further_places f.further →
       Among (failures items) of at also
   is_among f mark scopes stands says of at also rule_is at_is also_is = record {

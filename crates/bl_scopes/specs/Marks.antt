@@ -36,6 +36,7 @@ pub data Mark : Type 0 where
   declares : Name → Kind → Mark
   uses : Name → Wanted → Mark
 
+-- what a part of a program does to names, in the order in which it takes effect
 abbrev pub Marks : Type 0
 Marks = List Mark
 
@@ -43,16 +44,19 @@ Marks = List Mark
 abbrev pub in_scope : Marks → Marks
 in_scope marks = opens ∷ (marks ++ (closes ∷ []))
 
+-- what is optional does nothing where it is missing
 abbrev pub optional : {A : Type 0} → (A → Marks) → Option A → Marks
 optional marks (Some x) = marks x
 optional marks None = []
 
 -- ---- types
 
+-- a length uses the name of a constant, or no name
 abbrev pub length_marks : RawLength → Marks
 length_marks (raw_length.Number n) = []
 length_marks (raw_length.Constant name) = uses name wanted.Length ∷ []
 
+-- the names that one level of a type uses, from those of its element
 abbrev pub type_level_marks : RawType-F Marks → Marks
 type_level_marks (RawType-F.Scalar s) = []
 type_level_marks (RawType-F.Struct name) = uses name wanted.Type ∷ []
@@ -64,6 +68,7 @@ type_marks = fold-RawType Marks type_level_marks
 
 -- ---- expressions
 
+-- the names that one layer of an expression uses, from those of its operands
 abbrev pub kind_marks : RawExprKind-F Marks Marks Marks (Wanted → Marks) → Marks
 kind_marks (RawExprKind-F.Number minus n) = []
 kind_marks (RawExprKind-F.Truth b) = []
@@ -79,9 +84,11 @@ abbrev pub part_marks : RawPart-F Marks Marks Marks (Wanted → Marks) → Marks
 part_marks (RawPart-F.Field name) = []
 part_marks (RawPart-F.Index e) = e
 
+-- an expression uses what its kind uses, wherever it stands
 abbrev pub expr_layer_marks : RawExpr-F Marks Marks Marks (Wanted → Marks) → Marks
 expr_layer_marks e = e.what
 
+-- a target uses the name with which it begins, of which this is needed, and then what its indices use
 abbrev pub target_layer_marks : RawTarget-F Marks Marks Marks (Wanted → Marks) → Wanted → Marks
 target_layer_marks target needed = uses target.root needed ∷ joined target.parts
 
@@ -93,14 +100,17 @@ expr_marks = fold-RawExpr Marks Marks Marks (Wanted → Marks) kind_marks part_m
 abbrev pub target_marks : RawTarget → Wanted → Marks
 target_marks = fold-RawTarget Marks Marks Marks (Wanted → Marks) kind_marks part_marks expr_layer_marks target_layer_marks
 
+-- the names that a part of a target uses
 abbrev pub marks_of_part : RawPart → Marks
 marks_of_part = fold-RawPart Marks Marks Marks (Wanted → Marks) kind_marks part_marks expr_layer_marks target_layer_marks
 
+-- a path uses the name with which it begins, which must be a variable
 abbrev pub path_marks : RawPath → Marks
 path_marks path = uses path.root wanted.Variable ∷ []
 
 -- ---- statements
 
+-- the names that the inputs and then the outputs of a call or `run` use
 abbrev pub argument_marks : List RawExpr → List RawPath → Marks
 argument_marks inputs outputs = joined (map expr_marks inputs) ++ joined (map path_marks outputs)
 
@@ -129,12 +139,15 @@ stmt_kind_marks (RawStmtKind-F.Until body e) = in_scope (joined body) ++ expr_ma
 stmt_kind_marks (RawStmtKind-F.While e body) = expr_marks e ++ in_scope (joined body)
 stmt_kind_marks (RawStmtKind-F.Return e) = optional expr_marks e
 
+-- the condition of an arm sees the names around it, and its block is a scope
 abbrev pub arm_layer_marks : RawArm-F Marks Marks Marks Marks → Marks
 arm_layer_marks arm = expr_marks arm.test ++ in_scope (joined arm.body)
 
+-- a branch is a scope
 abbrev pub branch_layer_marks : RawBranch-F Marks Marks Marks Marks → Marks
 branch_layer_marks branch = in_scope (joined branch.body)
 
+-- a statement does to names what its kind does, wherever it stands
 abbrev pub stmt_layer_marks : RawStmt-F Marks Marks Marks Marks → Marks
 stmt_layer_marks s = s.what
 
@@ -146,14 +159,17 @@ stmt_marks = fold-RawStmt Marks Marks Marks Marks stmt_kind_marks arm_layer_mark
 abbrev pub marks_of_arm : RawArm → Marks
 marks_of_arm = fold-RawArm Marks Marks Marks Marks stmt_kind_marks arm_layer_marks branch_layer_marks stmt_layer_marks
 
+-- what a branch does to names, all that stands in it included
 abbrev pub marks_of_branch : RawBranch → Marks
 marks_of_branch = fold-RawBranch Marks Marks Marks Marks stmt_kind_marks arm_layer_marks branch_layer_marks stmt_layer_marks
 
 -- ---- items
 
+-- the names that the type of a field uses
 abbrev pub field_type_marks : RawField → Marks
 field_type_marks field = type_marks field.ty
 
+-- a field is declared among those of its struct
 abbrev pub field_mark : RawField → Mark
 field_mark field = declares field.name kind.Field
 
@@ -165,6 +181,7 @@ struct_marks def = declared_after (joined (map field_type_marks def.fields) ++ i
 abbrev pub param_marks : RawParam → Marks
 param_marks param = declared_after (type_marks param.ty) param.name kind.Variable
 
+-- as what the name of a unit is declared
 abbrev pub kind_of_unit : UnitKind → Kind
 kind_of_unit unit.Function = kind.Function
 kind_of_unit unit.Activity = kind.Activity
@@ -178,6 +195,7 @@ inside_unit def =
 abbrev pub unit_marks : RawUnit → Marks
 unit_marks def = declared_after (in_scope (inside_unit def)) def.name (kind_of_unit def.kind)
 
+-- what an item does to names
 abbrev pub item_marks : RawItem → Marks
 item_marks (item.Struct def) = struct_marks def
 item_marks (item.Constant constant) = constant_marks constant

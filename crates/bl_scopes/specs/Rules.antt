@@ -14,7 +14,7 @@ use Rattle.bl_scopes.specs.Marks.{Mark, Marks, declares, marks_of, uses}
 use Rattle.bl_scopes.specs.Scopes.{Scopes, after, bound, file_scope, found}
 
 -- a mark stands in a program where these scopes are open
-pub record Stands (marks : Marks) (mark : Mark) (scopes : Scopes) : Type 0 where
+pub record MarkStands (marks : Marks) (mark : Mark) (scopes : Scopes) : Type 0 where
   pub before : Marks
   pub rest : Marks
   pub there : marks ≡ before ++ (mark ∷ rest)
@@ -23,7 +23,7 @@ pub record Stands (marks : Marks) (mark : Mark) (scopes : Scopes) : Type 0 where
 -- a use stands for a declaration: the one of its name, visible there, in the innermost scope around it that has one
 pub record Binds (items : List RawItem) (use_of : Name) (wanted : Wanted) (declaration : Declaration) : Type 0 where
   pub scopes : Scopes
-  pub stands : Stands (marks_of items) (uses use_of wanted) scopes
+  pub stands : MarkStands (marks_of items) (uses use_of wanted) scopes
   pub is_bound : bound scopes use_of.text ≡ Some declaration
 
 -- Duplicate: a name is declared where its scope declares it already, or a field twice in one struct; at the later, also the earlier
@@ -31,7 +31,7 @@ pub record FailsDuplicate (items : List RawItem) (at : Place) (also : List Place
   pub name : Name
   pub kind : Kind
   pub scopes : Scopes
-  pub stands : Stands (marks_of items) (declares name kind) scopes
+  pub stands : MarkStands (marks_of items) (declares name kind) scopes
   pub earlier : Declaration
   pub twice : found scopes.inner name.text ≡ Some earlier
   pub at_later : at ≡ name.place
@@ -42,7 +42,7 @@ pub record FailsUnknown (items : List RawItem) (at : Place) (also : List Place) 
   pub name : Name
   pub wanted : Wanted
   pub scopes : Scopes
-  pub stands : Stands (marks_of items) (uses name wanted) scopes
+  pub stands : MarkStands (marks_of items) (uses name wanted) scopes
   pub unbound : bound scopes name.text ≡ None
   pub at_use : at ≡ name.place
   pub alone : also ≡ []

@@ -26,9 +26,11 @@ named entries = map (λ entry. (entry.0.now, entry.1)) entries
 abbrev pub found : Declared → List ℕ → Option Declaration
 found scope name = lookup (bytes_eq name) scope
 
+-- nothing is declared yet
 abbrev pub no_counts : Counts
 no_counts = record { structs = 0; constants = 0; units = 0; variables = 0 }
 
+-- how many things that share positions with this kind are declared so far; fields have no positions
 abbrev pub count_of : Counts → Kind → ℕ
 count_of counts kind.Struct = counts.structs
 count_of counts kind.Constant = counts.constants
@@ -56,6 +58,7 @@ pub record Scopes : Type 0 where
 abbrev pub file_scope : Scopes
 file_scope = record { inner = []; outer = []; counts = no_counts }
 
+-- the declaration of a name in the innermost of these scopes that has one
 abbrev pub bound_around : List Declared → List ℕ → Option Declaration
 bound_around [] name = None
 bound_around (scope ∷ outer) name = option_or (found scope name) (bound_around outer name)
@@ -64,13 +67,16 @@ bound_around (scope ∷ outer) name = option_or (found scope name) (bound_around
 abbrev pub bound : Scopes → List ℕ → Option Declaration
 bound scopes name = option_or (found scopes.inner name) (bound_around scopes.outer name)
 
+-- the scopes that are open after one ends: the next one around it is the innermost then, or an empty one where none is around it
 abbrev pub left : List Declared → Counts → Scopes
 left [] counts = record { inner = []; outer = []; counts = counts }
 left (scope ∷ outer) counts = record { inner = scope; outer = outer; counts = counts }
 
+-- a name is declared at its place, as this kind of thing and with this position
 abbrev pub declaration_of : Name → Kind → ℕ → Declaration
 declaration_of name kind position = record { kind = kind; place = name.place; position = position }
 
+-- a scope with one more name
 abbrev pub with_name : Declared → Name → Kind → ℕ → Declared
 with_name scope name kind position = scope ++ ((name.text, declaration_of name kind position) ∷ [])
 

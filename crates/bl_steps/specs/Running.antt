@@ -24,6 +24,7 @@ pub record State : Type 0 where
 abbrev pub setting : Tree → Setting
 setting tree = setting_in tree.setting
 
+-- the control tree and the store of a running program
 abbrev pub state : Tree → State
 state tree = record { control = control_of tree.node; store = store_of tree.frames.items }
 

@@ -210,7 +210,8 @@ fn copying<'a>(
     stood: bool,
     inner: &Node<'a>,
 ) -> Result<Option<Act<'a>>, NoMemory>
-    ensures { IfOk result (λ act. told_all act ≡ map told_point (copying i (located at.now) callee stood (control_of inner.now) (kind_of (located at.now)))) }
+    ensures { IfOk result (λ act. told_all act
+        ≡ map told_point (copying i (located at.now) callee stood (control_of inner.now) (kind_of (located at.now)))) }
 {
     match &at.stmt.what {
         StmtKind::Run(_, _, inputs, _) => copies(alloc, i, at.stmt.place, callee, inputs),

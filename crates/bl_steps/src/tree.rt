@@ -62,7 +62,8 @@ impl<'a> Tree<'a> {
     /// Begins a tick over the row of inputs. After want of memory the tree is as before.
     pub fn wake(&mut self, row: &Row) -> Result<(), NoMemory>
         ensures setting { setting self.new ≡ setting self.old }
-        ensures state { OnOk result (state self.new ≡ record { control = woken (state self.old).control; store = woken_store row.now (state self.old).store }) }
+        ensures state { OnOk result
+            (state self.new ≡ record { control = woken (state self.old).control; store = woken_store row.now (state self.old).store }) }
         ensures memory { OnErr result (state self.new ≡ state self.old) }
     {
         let node = woken(self.alloc, &self.node)?;

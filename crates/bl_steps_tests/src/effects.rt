@@ -1,7 +1,7 @@
 //! What a table of effects tells of the first statement of a program.
 
 ghost use Rattle.std.specs.Prelude.{IfSome};
-ghost use Rattle.bl_effects.specs.Table.{Has};
+ghost use Rattle.bl_effects.specs.Table.{TableHasPlace};
 ghost use Rattle.bl_tree.specs.Within.{StandsInUnits, place_of};
 
 use bl_effects::Effects;
@@ -47,7 +47,7 @@ fn are_paths(paths: &[Static], named: &[Named]) -> bool {
 }
 
 fn is_told_of(effects: &Effects, s: &Stmt, told: &Told) -> bool
-    requires { Has effects.now (place_of s.now) }
+    requires { TableHasPlace effects.now (place_of s.now) }
 {
     are_paths(effects.reads(s.place), told.reads)
         && are_paths(effects.writes(s.place), told.writes)

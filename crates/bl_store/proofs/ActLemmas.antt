@@ -10,8 +10,8 @@ use Rattle.bl_tree.specs.Apart.{argument_roots, optional_roots, roots_in, roots_
 use Rattle.bl_tree.specs.Reduce.{joined}
 use Rattle.bl_eval.specs.declared.datum.Datum.{Datum}
 use Rattle.bl_eval.specs.declared.datum.Left.{Left}
-use Rattle.bl_eval.specs.Functions.{acted, assigned, call_of, called, declared, initial_value, put_all, put_back}
-use Rattle.bl_eval.specs.Meaning.{Callee, Meaning, Scope, Spot, View, meaning_of, plain, reading, spot_of, value_in, values_of}
+use Rattle.bl_eval.specs.Functions.{acted, assigned, call_of, declared, initial_value, outcome_of_call, put_all, put_back}
+use Rattle.bl_eval.specs.Meaning.{Callee, Meaning, PathMeaning, Scope, View, meaning_of, path_meaning_of, plain, reading, value_in, values_of}
 use Rattle.bl_eval.specs.Values.{put_at, with_value_at}
 use Rattle.bl_store.specs.Agree.{roots_of_act}
 use Rattle.bl_store.proofs.AgreeLemmas.{set_both}
@@ -45,7 +45,7 @@ module _ (root : ℕ) (xs ys : List Value) (at : slice_get xs root ≡ slice_get
       (λ old. option_map (λ value. slice_set ys root value) (with_value_at ks new old)) found) ys) k) at
 
 module _ (a b : View) where
-  abbrev EachSpot : List Spot → Type 0
+  abbrev EachSpot : List PathMeaning → Type 0
   EachSpot [] = Unit {0}
   EachSpot (spot ∷ rest) = SameSpot a b spot × EachSpot rest
 
@@ -53,13 +53,13 @@ module _ (a b : View) where
   EachMeaning [] = Unit {0}
   EachMeaning (means ∷ rest) = (means a ≡ means b) × EachMeaning rest
 
-  back_same : (spot : Spot) (new : Value) (xs ys : List Value) → SameSpot a b spot → Follows a b xs ys →
+  back_same : (spot : PathMeaning) (new : Value) (xs ys : List Value) → SameSpot a b spot → Follows a b xs ys →
       Follows a b (put_back spot new a xs) (put_back spot new b ys)
   back_same spot new xs ys is follows k same =
       ap (λ positions. slice_get (unwrap_or (option_and_then (λ ks. put_at spot.root ks new xs) positions) xs) k) is.positions
       ∙ back_by spot.root xs ys (follows spot.root is.variable) k (follows k same) new (spot.positions b)
 
-  all_same : (spots : List Spot) (values xs ys : List Value) → EachSpot spots → Follows a b xs ys →
+  all_same : (spots : List PathMeaning) (values xs ys : List Value) → EachSpot spots → Follows a b xs ys →
       Follows a b (put_all spots values a xs) (put_all spots values b ys)
   all_same [] values xs ys each follows = follows
   all_same (spot ∷ spots) [] xs ys each follows = follows
@@ -72,7 +72,7 @@ module _ (a b : View) where
   each_append [] rest one other = other
   each_append (means ∷ first) rest one other = (one.0, each_append first rest one.1 other)
 
-  each_reading : (spots : List Spot) → EachSpot spots → EachMeaning (map reading spots)
+  each_reading : (spots : List PathMeaning) → EachSpot spots → EachMeaning (map reading spots)
   each_reading [] each = tt
   each_reading (spot ∷ spots) each = (reading_same a b spot each.0, each_reading spots each.1)
 
@@ -91,7 +91,7 @@ module _ (scope : Scope) (a b : View) where
     each_input inputs (same_second (roots_in e) (joined (map roots_in inputs)) a b same),
   )
 
-  each_output : (outputs : List Path) → Same (joined (map roots_in_path outputs)) a b → EachSpot a b (map (spot_of scope) outputs)
+  each_output : (outputs : List Path) → Same (joined (map roots_in_path outputs)) a b → EachSpot a b (map (path_meaning_of scope) outputs)
   each_output [] same = tt
   each_output (path ∷ outputs) same = (
     spot_same scope a b path (same_first (roots_in_path path) (joined (map roots_in_path outputs)) a b same),
@@ -148,7 +148,7 @@ module _ (scope : Scope) (a b : View) (X : Type 0) (asked : List Value → X)
   assigned_at root new None at = refl
   assigned_at root new (Some ks) at = put_same root ks new at
 
-  assigned_by : (spot : Spot) (value : Option Value) → SameSpot a b spot →
+  assigned_by : (spot : PathMeaning) (value : Option Value) → SameSpot a b spot →
       option_map asked (assigned spot value a) ≡ option_map asked (assigned spot value b)
   assigned_by spot None is = refl
   assigned_by spot (Some value) is =
@@ -156,15 +156,16 @@ module _ (scope : Scope) (a b : View) (X : Type 0) (asked : List Value → X)
       ∙ assigned_at spot.root value (spot.positions b) is.variable
 
   assigned_same : (path : Path) (e : Expr) → Same (roots_in_path path ++ roots_in e) a b
-      → option_map asked (assigned (spot_of scope path) (value_in scope e a) a) ≡ option_map asked (assigned (spot_of scope path) (value_in scope e b) b)
+      → option_map asked (assigned (path_meaning_of scope path) (value_in scope e a) a)
+      ≡ option_map asked (assigned (path_meaning_of scope path) (value_in scope e b) b)
   assigned_same path e same =
-      ap (λ (datum : Option Datum). option_map asked (assigned (spot_of scope path) (option_map plain datum) a))
+      ap (λ (datum : Option Datum). option_map asked (assigned (path_meaning_of scope path) (option_map plain datum) a))
       (expr_same scope a b e (same_second (roots_in_path path) (roots_in e) a b same))
-      ∙ assigned_by (spot_of scope path) (value_in scope e b) (spot_same scope a b path (same_first (roots_in_path path) (roots_in e) a b same))
+      ∙ assigned_by (path_meaning_of scope path) (value_in scope e b) (spot_same scope a b path (same_first (roots_in_path path) (roots_in e) a b same))
 
   -- ---- calls
 
-  left_by : (spots : List Spot) (left : Option Left) → EachSpot a b spots
+  left_by : (spots : List PathMeaning) (left : Option Left) → EachSpot a b spots
       → option_map asked (option_map (λ (left : Left). put_all spots left.outputs a a.now) left)
       ≡ option_map asked (option_map (λ (left : Left). put_all spots left.outputs b b.now) left)
   left_by spots None each = refl
@@ -172,14 +173,15 @@ module _ (scope : Scope) (a b : View) (X : Type 0) (asked : List Value → X)
       ap Some (hangs (put_all spots left.outputs a a.now) (put_all spots left.outputs b b.now)
       (all_same a b spots left.outputs a.now b.now each (λ k same. same)))
 
-  called_by : (spots : List Spot) (callee : Callee) (values : Option (List Value)) → EachSpot a b spots
+  called_by : (spots : List PathMeaning) (callee : Callee) (values : Option (List Value)) → EachSpot a b spots
       → option_map asked (option_and_then (λ values. option_map (λ (left : Left). put_all spots left.outputs a a.now) (callee values)) values)
       ≡ option_map asked (option_and_then (λ values. option_map (λ (left : Left). put_all spots left.outputs b b.now) (callee values)) values)
   called_by spots callee None each = refl
   called_by spots callee (Some values) each = left_by spots (callee values) each
 
-  call_by : (inputs : List Meaning) (spots : List Spot) (callee : Option Callee) → EachMeaning a b inputs → EachSpot a b spots
-      → option_map asked (option_and_then (called inputs spots a) callee) ≡ option_map asked (option_and_then (called inputs spots b) callee)
+  call_by : (inputs : List Meaning) (spots : List PathMeaning) (callee : Option Callee) → EachMeaning a b inputs → EachSpot a b spots
+      → option_map asked (option_and_then (outcome_of_call inputs spots a) callee)
+      ≡ option_map asked (option_and_then (outcome_of_call inputs spots b) callee)
   call_by inputs spots None given each = refl
   call_by inputs spots (Some callee) given each =
       ap (λ values. option_map asked (option_and_then (λ values. option_map (λ (left : Left). put_all spots left.outputs a a.now) (callee values)) values))
@@ -189,7 +191,7 @@ module _ (scope : Scope) (a b : View) (X : Type 0) (asked : List Value → X)
   call_same : (f : ℕ) (inputs : List Expr) (outputs : List Path) → Same (argument_roots inputs outputs) a b
       → option_map asked (call_of scope f inputs outputs a) ≡ option_map asked (call_of scope f inputs outputs b)
   call_same f inputs outputs same =
-      call_by (map (meaning_of scope) inputs) (map (spot_of scope) outputs) (slice_get scope.callees f)
+      call_by (map (meaning_of scope) inputs) (map (path_meaning_of scope) outputs) (slice_get scope.callees f)
       (each_input scope a b inputs (same_first (joined (map roots_in inputs)) (joined (map roots_in_path outputs)) a b same))
       (each_output scope a b outputs (same_second (joined (map roots_in inputs)) (joined (map roots_in_path outputs)) a b same))
 

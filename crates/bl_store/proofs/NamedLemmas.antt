@@ -20,9 +20,9 @@ use Rattle.bl_eval.specs.declared.datum.Datum.{Datum}
 use Rattle.bl_eval.specs.Changes.{part_of_path}
 use Rattle.bl_eval.specs.Meaning.{
   Meaning,
+  PathMeaning,
   Position,
   Scope,
-  Spot,
   View,
   call_datum,
   cast_datum,
@@ -34,13 +34,13 @@ use Rattle.bl_eval.specs.Meaning.{
   operand,
   operand_in,
   part_means,
+  path_meaning_of,
   path_means,
   plain,
   position_in,
   positions_of,
   reading,
   scalar_of,
-  spot_of,
   two_datum,
   values_of,
 }
@@ -62,11 +62,11 @@ pub same_others : (k : ℕ) (rest : List ℕ) (a b : View) → Same (k ∷ rest)
 same_others k rest a b same = (same.0.1, same.1.1)
 
 -- the path leads to the same place, and what it leads into is the same
-pub record SameSpot (a b : View) (spot : Spot) : Type 0 where
+pub record SameSpot (a b : View) (spot : PathMeaning) : Type 0 where
   pub positions : spot.positions a ≡ spot.positions b
   pub variable : slice_get a.now spot.root ≡ slice_get b.now spot.root
 
-pub reading_same : (a b : View) (spot : Spot) → SameSpot a b spot → reading spot a ≡ reading spot b
+pub reading_same : (a b : View) (spot : PathMeaning) → SameSpot a b spot → reading spot a ≡ reading spot b
 reading_same a b spot same =
     ap (λ (ks : Option (List ℕ)). option_map (datum_of (scalar_in spot.ty))
     (option_and_then (λ ks. option_and_then (value_at ks) (slice_get a.now spot.root)) ks)) same.positions
@@ -89,14 +89,14 @@ module _ (scope : Scope) (a b : View) where
   P e = Same (roots_in e) a b → meaning_of scope e a ≡ meaning_of scope e b
 
   abbrev Q : Path → Type 0
-  Q path = Same (roots_in_path path) a b → SameSpot a b (spot_of scope path)
+  Q path = Same (roots_in_path path) a b → SameSpot a b (path_meaning_of scope path)
 
   literal_same : (place : Place) (n : ℤ) (s : ScalarType) → P (expr place (ExprKind-F.Literal n s))
   literal_same place n s same = rw (fold-roll-Expr, fold-roll-ExprKind) refl
 
   read_same : (place : Place) (path : Path) → Q path → P (expr place (ExprKind-F.Read path))
   read_same place path leads same =
-      rw (fold-roll-Expr, fold-roll-ExprKind) (reading_same a b (spot_of scope path) (leads (rw (fold-roll-Expr, fold-roll-ExprKind) at same)))
+      rw (fold-roll-Expr, fold-roll-ExprKind) (reading_same a b (path_meaning_of scope path) (leads (rw (fold-roll-Expr, fold-roll-ExprKind) at same)))
 
   prev_at : (k : ℕ) → Same (k ∷ []) a b → option_map (datum_of (scalar_of (slice_get scope.vars k))) (slice_get a.before k)
       ≡ option_map (datum_of (scalar_of (slice_get scope.vars k))) (slice_get b.before k)
@@ -139,12 +139,12 @@ module _ (scope : Scope) (a b : View) where
   part_same : (part : Part) (layer : Part-F ExprKind Part Expr Path) → out-Part part ≡ layer → OfIndex P layer →
       Same (roots_in_part part) a b → part_of_path scope part a ≡ part_of_path scope part b
   part_same part (Part-F.Field k) is of same = rw (
-    fold_out-Part Meaning Position Meaning Spot
+    fold_out-Part Meaning Position Meaning PathMeaning
         (kind_means scope) part_means expr_means path_means part,
     is,
   ) refl
   part_same part (Part-F.Index e) is of same =
-      rw (fold_out-Part Meaning Position Meaning Spot (kind_means scope) part_means expr_means path_means part, is)
+      rw (fold_out-Part Meaning Position Meaning PathMeaning (kind_means scope) part_means expr_means path_means part, is)
       (ap (option_and_then position_in) (operand_same e of
       (rw (fold_out-Part Roots Roots Roots Roots kind_roots part_roots expr_layer_roots path_layer_roots part, is) at same)))
 
@@ -186,5 +186,5 @@ module _ (scope : Scope) (a b : View) where
   pub expr_same : (e : Expr) → Same (roots_in e) a b → meaning_of scope e a ≡ meaning_of scope e b
   expr_same = induct P Q cases
 
-  pub spot_same : (path : Path) → Same (roots_in_path path) a b → SameSpot a b (spot_of scope path)
+  pub spot_same : (path : Path) → Same (roots_in_path path) a b → SameSpot a b (path_meaning_of scope path)
   spot_same = induct_path P Q cases

@@ -12,6 +12,7 @@ use Rattle.bl_ctree.specs.Instances.{begins_at}
 abbrev pub key_at : ℕ → Place → ℕ × (ℕ × ℕ)
 key_at caller place = (caller, (place.start, place.end))
 
+-- the order of such keys: by caller, then by the start and by the end of the place
 abbrev pub key_cmp : ℕ × (ℕ × ℕ) → ℕ × (ℕ × ℕ) → Ordering
 key_cmp x y = ordering_then (nat_cmp x.0 y.0) (ordering_then (nat_cmp x.1.0 y.1.0) (nat_cmp x.1.1 y.1.1))
 

@@ -11,8 +11,10 @@ use Rattle.bl_store.specs.Seen.{Sight}
 abbrev pub asked_among : (Frame → List Value) → List ℕ → Setting → Store → ℕ → List Value
 asked_among values asked w store i = filled (variable_among values w store i) asked (blanks (length (vars_at w i)))
 
+-- what the statements of an instance see, where only these variables are asked for: the others are blank
 abbrev pub asked_at : List ℕ → Setting → Store → ℕ → View
 asked_at asked w store i = record { now = asked_among (λ frame. frame.now) asked w store i; before = asked_among (λ frame. frame.before) asked w store i }
 
+-- the unit of an instance and what is asked for of its variables; none where there is no such instance
 abbrev pub glimpse : List ℕ → Setting → Store → ℕ → Option Sight
 glimpse asked w store i = option_map (λ instance. record { unit = instance.unit; view = asked_at asked w store i }) (slice_get w.instances i)

@@ -20,12 +20,15 @@ use Rattle.bl_store.specs.declared.writing.Put.{Put}
 abbrev pub setting_in : SettingNode → Setting
 setting_in w = record { structs = w.program.now.structs; units = w.program.now.units; instances = w.instances }
 
+-- a home, as a location
 abbrev pub location_of : Home → Location
 location_of h = record { instance = h.instance; path = record { root = h.root; fields = h.fields } }
 
+-- the values of one instance
 abbrev pub frame_of : FrameNode → Frame
 frame_of frame = record { now = frame.now.items; before = frame.before.items; result = frame.result }
 
+-- the store with these frames, one for each instance
 abbrev pub store_of : List FrameNode → Store
 store_of frames = map frame_of frames
 
@@ -41,6 +44,7 @@ pub record Called : Type 0 where
   pub instance : ℕ
   pub unit : UnitDef
 
+-- the instance that a `run` statement begins, with its unit
 abbrev pub called : Callee → Called
 called c = record { instance = c.instance; unit = c.unit.now }
 
@@ -60,11 +64,13 @@ pub record Sight : Type 0 where
   pub unit : ℕ
   pub view : View
 
+-- what a view shows of an instance
 abbrev pub seen_by : ViewNode → Sight
 seen_by v = record { unit = v.now.unit; view = view_of v.now v.before }
 
 -- ---- what an act writes
 
+-- the store with one value at its home
 abbrev pub put_one : Put → Store → Store
 put_one p store = put (location_of p.at) p.value store
 

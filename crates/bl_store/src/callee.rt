@@ -5,8 +5,8 @@ ghost use Rattle.bl_ctree.specs.Instances.{callee_of, unit_at};
 ghost use Rattle.bl_store.specs.Seen.{called, called_at, setting_in};
 
 use crate::setting::Setting;
-use crate::slices::element;
 use bl_tree::Place;
+use bl_tree::slices::element;
 use bl_tree::tree::Unit;
 
 /// An instance that a `run` statement begins.

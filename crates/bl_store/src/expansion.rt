@@ -1,6 +1,7 @@
 //! The instances to which a program expands.
 
-ghost use Rattle.std.specs.Prelude.{◌≡◌, ◌<◌, ◌≤◌, ◌+◌, ◌^◌, [], ◌∷◌, ◌++◌, ◌||◌, All, cond, length, map, not, IfOk, OnOk};
+ghost use Rattle.std.specs.Prelude.{◌≡◌, ◌<◌, ◌≤◌, ◌+◌, ◌^◌, [], ◌∷◌, ◌++◌, ◌||◌, All};
+ghost use Rattle.std.specs.Prelude.{cond, length, map, not, IfOk, OnOk};
 ghost use Rattle.std.specs.List.{list_any};
 ghost use Rattle.bl_ctree.specs.Instances.{called_from, expanded, instances_below, instances_of, one_a_place, origin_under, runs_of, setting_of};
 ghost use Rattle.bl_tree.specs.Rules.{same_place};
@@ -9,10 +10,10 @@ ghost use Rattle.bl_store.specs.Seen.{setting_in};
 
 use crate::index::Callees;
 use crate::setting::Setting;
-use crate::slices::element;
 use bl_ctree::instance::{Instance, Origin, Run};
 use bl_ctree::paths::copies_of;
 use bl_ctree::runs::all_in;
+use bl_tree::slices::element;
 use bl_tree::tree::Unit;
 use bl_tree::{List, NoMemory, Place, Program};
 use std::alloc::{AllocError, Global};
@@ -150,7 +151,8 @@ fn from_unit(
 ) -> Result<List<Instance>, NoMemory>
     requires few { length (instances_below (expanded units.now longest) 1 (runs_of unit.now)) + 1 < 2 ^ 32 }
     requires short { longest < 2 ^ 32 }
-    ensures { IfOk result (λ all. all ≡ record { unit = k; depth = 0; origin = None } ∷ instances_below (expanded units.now longest) 1 (runs_of unit.now)) }
+    ensures { IfOk result (λ all. all ≡ record { unit = k; depth = 0; origin = None }
+        ∷ instances_below (expanded units.now longest) 1 (runs_of unit.now)) }
 {
     let mut all = List::new(alloc);
     all.push(Instance {

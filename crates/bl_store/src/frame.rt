@@ -8,8 +8,8 @@ ghost use Rattle.bl_store.specs.Seen.{frame_of, location_of, side, store_of};
 
 use crate::home::Home;
 use crate::parts::{part_at, put_part};
-use crate::slices::element;
 use bl_tree::Value;
+use bl_tree::slices::element;
 
 /// The values of one instance.
 #[derive(Drop)]

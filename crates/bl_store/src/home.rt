@@ -6,8 +6,8 @@ ghost use Rattle.bl_tree.specs.Static.{is_front, overlaps};
 ghost use Rattle.bl_store.specs.Seen.{location_of, setting_in};
 
 use crate::setting::Setting;
-use crate::slices::element;
 use bl_ctree::instance::Origin;
+use bl_tree::slices::element;
 use bl_tree::tree::Unit;
 use bl_tree::{List, NoMemory, Static};
 use std::alloc::Global;
@@ -97,7 +97,8 @@ pub fn home_of(
     root: usize,
     fields: &[u32],
 ) -> Result<Home, NoMemory>
-    ensures { IfOk result (λ made. location_of made ≡ home (setting_in w.now) (record { instance = i; path = record { root = root; fields = fields.now } })) }
+    ensures { IfOk result (λ made. location_of made
+        ≡ home (setting_in w.now) (record { instance = i; path = record { root = root; fields = fields.now } })) }
 {
     let mut own = List::new(alloc);
     append(fields, &mut own)?;

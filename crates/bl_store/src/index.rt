@@ -38,7 +38,8 @@ impl Callees {
     }
 
     fn insert(&mut self, key: (u32, (u32, u32)), k: u32) -> Result<(), NoMemory>
-        ensures { OnOk result ((q : _) → lookup (is_at (key_cmp q)) self.new ≡ cond (is_at (key_cmp key) q) (Some k) (lookup (is_at (key_cmp q)) self.old)) }
+        ensures { OnOk result ((q : _) →
+            lookup (is_at (key_cmp q)) self.new ≡ cond (is_at (key_cmp key) q) (Some k) (lookup (is_at (key_cmp q)) self.old)) }
     {
         if let Err(e) = self.by_place.insert(key, k) {
             return Err(AllocError::from(e).into());

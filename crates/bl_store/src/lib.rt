@@ -15,7 +15,6 @@ mod naming;
 mod parts;
 pub mod perform;
 pub mod setting;
-mod slices;
 pub mod ticks;
 pub mod view;
 pub mod writing;

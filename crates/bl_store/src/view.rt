@@ -9,9 +9,9 @@ ghost use Rattle.bl_store.specs.Seen.{count_of, seen_by, setting_in, side, store
 use crate::frame::{Frame, Moment, find};
 use crate::home::home_of;
 use crate::setting::Setting;
-use crate::slices::element;
 use crate::writing::set_element;
 use bl_eval::{Values, copy};
+use bl_tree::slices::element;
 use bl_tree::{List, NoMemory, Value};
 use std::alloc::Global;
 

@@ -214,6 +214,10 @@ pub told-few : (bytes : List ℕ) (columns : List Column) → length (rows_of by
 unfolding rows_of
 told-few bytes columns = let h = scan-few columns at_start (lines_of bytes) (omega arith) in omega arith
 
+pub lines-few : (bytes : List ℕ) (columns : List Column) → length (rows_in (begun columns) bytes) ≤ 1000000
+unfolding rows_in
+lines-few bytes columns = let h = scan-few columns at_start (whole_lines bytes) (omega arith) in omega arith
+
 -- ---- parts of rows
 
 pub fit-later : (columns : List Column) (a b : List (List ℤ)) → RowsFit columns (a ++ b) → RowsFit columns b

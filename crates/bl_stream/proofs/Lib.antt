@@ -5,5 +5,6 @@ pub mod Reaches
 pub mod Readers
 pub mod RowLoop
 pub mod Steps
+pub mod Takings
 pub mod Texts
 pub mod Traces

@@ -180,7 +180,7 @@ reads-none most (Some bytes) =
     record { read = []; piece = []; rest = bytes; are = refl; few = omega arith; short = omega arith; left = refl }
 
 -- the piece behind what was read so far, or none
-reads-piece : (ins : List Column) (every left left2 : Option (List ℕ)) (read room : List ℕ) (n size : ℕ) → HasRead every read left →
+pub reads-piece : (ins : List Column) (every left left2 : Option (List ℕ)) (read room : List ℕ) (n size : ℕ) → HasRead every read left →
     fault_in (begun ins) read ≡ None → n ≤ size → size ≤ PIECE → HandsOver left n room left2 → ReadsLines most_lines every left2
 reads-piece ins None left left2 read room n size so good within short next = tt
 reads-piece ins (Some bytes) left left2 read room n size so good within short next =
@@ -203,7 +203,7 @@ going-reads report start file every before left left2 now s r room n size going 
     reads-piece (inputs_of file) every left left2 going.read room n size going.has_read going.stands.fed.good within short next
 
 -- a file that is as it was
-still-there : (every left left2 : Option (List ℕ)) (read : List ℕ) → HasRead every read left → left2 ≡ left → (ins : List Column) →
+pub still-there : (every left left2 : Option (List ℕ)) (read : List ℕ) → HasRead every read left → left2 ≡ left → (ins : List Column) →
     fault_in (begun ins) read ≡ None → ReadsLines most_lines every left2
 still-there None left left2 read so same ins good = tt
 still-there (Some bytes) left left2 read so same ins good = record {

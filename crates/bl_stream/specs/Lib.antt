@@ -1,3 +1,4 @@
+pub mod Gathered
 pub mod Reports
 pub mod Streams
 pub mod inner

@@ -7,15 +7,20 @@
 //! the sink's count rose; with it, and where memory is refused, a front of the text was written. No piece of the file is
 //! asked for once line 1,000,001 has begun (`ReadsLines`).
 //!
+//! `gather` reads all rows of a file before any of them is used, those that were handed over whole where a read failed, and
+//! `finish_over` says how a run over them ends (`specs/Gathered.antt`).
+//!
 //! Laws: the rows that bytes give fit the columns.
 #![tactic(auto)]
 
 mod finish;
+mod gathered;
 pub mod laws;
 mod pieces;
 mod streaming;
 mod ticks;
 
 pub use finish::Finish;
+pub use gathered::{Gathering, RowsEnd, finish_over, gather};
 pub use streaming::{count, run_silently, stream};
 pub use ticks::Report;

@@ -145,8 +145,12 @@ fn run_last<O: Sink>(
     }
 }
 
-// Appends the rows that a piece makes whole, and gives the fault of the piece. Want of memory is kept apart.
-fn feed(reader: &mut Rows, piece: &[u8], rows: &mut Vec<Row>) -> Result<Option<RowFault>, NoMemory>
+/// Appends the rows that a piece makes whole, and gives the fault of the piece. Want of memory is kept apart.
+pub fn feed(
+    reader: &mut Rows,
+    piece: &[u8],
+    rows: &mut Vec<Row>,
+) -> Result<Option<RowFault>, NoMemory>
     requires { reader.old.ended ≡ false }
     ensures fault { IfOk result (λ fault. fault ≡ fault_in reader.old piece.now) }
     ensures rows { OnOk result (rows.new.items ≡ rows.old.items ++ rows_in reader.old piece.now) }
@@ -167,8 +171,8 @@ fn feed(reader: &mut Rows, piece: &[u8], rows: &mut Vec<Row>) -> Result<Option<R
     }
 }
 
-// Appends the row of the unfinished line, and gives the fault of the file that ends here.
-fn finish(reader: &mut Rows, rows: &mut Vec<Row>) -> Result<Option<RowFault>, NoMemory>
+/// Appends the row of the unfinished line, and gives the fault of the file that ends here.
+pub fn finish(reader: &mut Rows, rows: &mut Vec<Row>) -> Result<Option<RowFault>, NoMemory>
     requires { reader.old.ended ≡ false }
     ensures fault { IfOk result (λ fault. fault ≡ (rows_after reader.old []).fault) }
     ensures rows { OnOk result (rows.new.items ≡ rows.old.items ++ (rows_after reader.old []).rows) }

@@ -34,7 +34,8 @@ use Rattle.std.proofs.Math.Seq.{take-suc}
 use Rattle.std.specs.Prelude.{Option, Some, None}
 use Rattle.bl_tree.specs.declared.token.Token.{Token}
 use Rattle.bl_tree.specs.declared.token.TokenKind.{TokenKind}
-use Rattle.bl_syntax.specs.Depth.{blocks_after, run_with, open_after, run_after, last_kind, IsTooDeep}
+use Rattle.bl_syntax.specs.Depth.{blocks_after, run_with, open_after, run_after, IsTooDeep}
+use Rattle.bl_syntax.specs.inner.Depth.{last_kind}
 use Rattle.bl_syntax.specs.Rules.{PassesDepth, FailsDepth}
 
 pub open_next : (blocks : ℕ) (front : List Token) (t : Token) → open_after blocks (front ++ t ∷ []) ≡ blocks_after (open_after blocks front) t.kind

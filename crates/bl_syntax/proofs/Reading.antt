@@ -55,7 +55,8 @@ use Rattle.bl_syntax.specs.declared.grammar.Part.{Part}
 use Rattle.bl_syntax.specs.declared.grammar.Part.TheVariants.{Program}
 use Rattle.bl_syntax.specs.Grammar.{Piece, the, class_of, is_fresh, view_of, views_after, views, last_line, same_class, matches, Produces, IsProgram}
 use Rattle.bl_syntax.specs.Tables.{absent, pick}
-use Rattle.bl_syntax.specs.Stack.{tables, IsGood, Stands, Expands, Answers, level, vanish, may_vanish, fault_at_end}
+use Rattle.bl_syntax.specs.inner.Stacks.{StackExpands}
+use Rattle.bl_syntax.specs.Stack.{tables, IsGood, StackStands, StackAnswers, level, vanish, may_vanish, fault_at_end}
 use Rattle.bl_syntax.specs.Rules.{SpellsProgram, BeginsProgram, FailsAtToken, FailsSyntax}
 use Rattle.bl_syntax.proofs.Predictive.{predictive}
 
@@ -64,44 +65,45 @@ use Rattle.bl_syntax.proofs.Predictive.{predictive}
 pub popped : (xs ys : List Piece) (s : Piece) → xs ≡ ys ++ s ∷ [] → reverse xs ≡ s ∷ reverse ys
 popped xs ys s is = ap reverse is ∙ reverse-append ys (s ∷ [])
 
-pub start : Stands [] (the Program ∷ [])
+pub start : StackStands [] (the Program ∷ [])
 start = RunLaws.starts Produces matches tables predictive Program
 
-pub opened : (next : View) (stack : List Piece) → IsGood stack → Expands next stack stack
+pub opened : (next : View) (stack : List Piece) → IsGood stack → StackExpands next stack stack
 opened next stack good = RunLaws.opened Produces matches tables predictive next stack good
 
-pub expand : (next : View) (stack rest production : List Piece) (part : Part) → Expands next stack (Nonterminal part ∷ rest) →
-    pick part next ≡ Some production → Expands next stack (production ++ rest)
+pub expand : (next : View) (stack rest production : List Piece) (part : Part) → StackExpands next stack (Nonterminal part ∷ rest) →
+    pick part next ≡ Some production → StackExpands next stack (production ++ rest)
 expand next stack rest production part now picked = RunLaws.expand Produces matches tables predictive next stack part rest production now picked
 
 pub terminal_answer : (next : View) (stack rest : List Piece) (class : Class) (taken : Bool) →
-    Expands next stack (Terminal class ∷ rest) → taken ≡ same_class class next.class → Answers next stack taken rest
+    StackExpands next stack (Terminal class ∷ rest) → taken ≡ same_class class next.class → StackAnswers next stack taken rest
 terminal_answer next stack rest class true now is = RunLaws.take Produces matches tables predictive next stack class rest now (sym is)
 terminal_answer next stack rest class false now is = RunLaws.refuse_other Produces matches tables predictive next stack class rest now (sym is)
 
-pub none_picked : (next : View) (stack rest : List Piece) (part : Part) → Expands next stack (Nonterminal part ∷ rest) →
-    pick part next ≡ None → Answers next stack false rest
+pub none_picked : (next : View) (stack rest : List Piece) (part : Part) → StackExpands next stack (Nonterminal part ∷ rest) →
+    pick part next ≡ None → StackAnswers next stack false rest
 none_picked next stack rest part now none = RunLaws.refuse_unpicked Produces matches tables predictive next stack part rest now none
 
-pub none_left : (next : View) (stack rest : List Piece) → Expands next stack [] → Answers next stack false rest
+pub none_left : (next : View) (stack rest : List Piece) → StackExpands next stack [] → StackAnswers next stack false rest
 none_left next stack rest now = RunLaws.refuse_more Produces matches tables predictive next stack now
 
 -- what was on top of a stack whose list ends with it
-module _ (next : View) (stack xs ys : List Piece) (s : Piece) (now : Expands next stack (reverse xs)) (top : xs ≡ ys ++ s ∷ []) where
-  opened_at : (symbol : Piece) → s ≡ symbol → Expands next stack (symbol ∷ reverse ys)
-  opened_at symbol is = subst (λ (x : Piece). Expands next stack (x ∷ reverse ys)) is
-      (subst (λ (zs : List Piece). Expands next stack zs) (popped xs ys s top) now)
+module _ (next : View) (stack xs ys : List Piece) (s : Piece) (now : StackExpands next stack (reverse xs)) (top : xs ≡ ys ++ s ∷ []) where
+  opened_at : (symbol : Piece) → s ≡ symbol → StackExpands next stack (symbol ∷ reverse ys)
+  opened_at symbol is = subst (λ (x : Piece). StackExpands next stack (x ∷ reverse ys)) is
+      (subst (λ (zs : List Piece). StackExpands next stack zs) (popped xs ys s top) now)
 
-  pub at_terminal : (class : Class) (taken : Bool) → s ≡ Terminal class → taken ≡ same_class class next.class → Answers next stack taken (reverse ys)
+  pub at_terminal : (class : Class) (taken : Bool) → s ≡ Terminal class → taken ≡ same_class class next.class →
+      StackAnswers next stack taken (reverse ys)
   at_terminal class taken is same = terminal_answer next stack (reverse ys) class taken (opened_at (Terminal class) is) same
 
-  pub at_none : (part : Part) → s ≡ Nonterminal part → None ≡ pick part next → Answers next stack false (reverse ys)
+  pub at_none : (part : Part) → s ≡ Nonterminal part → None ≡ pick part next → StackAnswers next stack false (reverse ys)
   at_none part is none = none_picked next stack (reverse ys) part (opened_at (Nonterminal part) is) (sym none)
 
   module _ (part : Part) (is : s ≡ Nonterminal part) (production : List Piece) (picked : Some production ≡ pick part next)
       (news : List Piece) (pushed : news ≡ production ++ reverse ys) where
-    pub at_part : Expands next stack news
-    at_part = subst (λ (zs : List Piece). Expands next stack zs) (sym pushed)
+    pub at_part : StackExpands next stack news
+    at_part = subst (λ (zs : List Piece). StackExpands next stack zs) (sym pushed)
         (expand next stack (reverse ys) production part (opened_at (Nonterminal part) is) (sym picked))
 
     pub nearer : level news < level (reverse xs)
@@ -163,15 +165,15 @@ tokens_for None [] neutral = record { more = []; seen = refl }
 tokens_for None (w ∷ ws) neutral = one_token None w ws 0 (sym neutral) (tokens_on 0 ws)
 
 -- what was read begins a program
-begins_program : (front : List Token) (stack : List Piece) → Stands (views front) stack → BeginsProgram front
+begins_program : (front : List Token) (stack : List Piece) → StackStands (views front) stack → BeginsProgram front
 begins_program front stack stands =
     let h : Completed Produces matches tables predictive stack [] = complete Produces matches tables predictive stack in
     let t : Tokens (last_line None front) h.tokens = tokens_for (last_line None front) h.tokens h.neutral in
     (t.more, subst IsProgram (ap (λ ws. views front ++ ws) (sym t.seen) ∙ sym (views_append None front t.more)) (stands.back h.tokens h.spells))
 
 -- with a token that the stack refuses it doesn't
-begins_none : (front : List Token) (t : Token) (stack rest : List Piece) → Stands (views front) stack →
-    Answers (view_of (last_line None front) t) stack false rest → ¬ BeginsProgram (front ++ t ∷ [])
+begins_none : (front : List Token) (t : Token) (stack rest : List Piece) → StackStands (views front) stack →
+    StackAnswers (view_of (last_line None front) t) stack false rest → ¬ BeginsProgram (front ++ t ∷ [])
 begins_none front t stack rest stands refuses b =
     let seen : views (front ++ t ∷ [] ++ b.0) ≡ views front ++ (view_of (last_line None front) t ∷ views_after (Some t.line) b.0) =
     ap views (append_assoc front (t ∷ []) b.0) ∙ views_append None front (t ∷ b.0) in
@@ -186,32 +188,32 @@ line_after tokens i d inside = sym (line_next None (take i tokens) (get_or token
 
 module _ (tokens : List Token) (i : ℕ) (d : Token) (inside : i < length tokens) (line : Option ℕ)
     (on : line ≡ last_line None (take i tokens)) (view : View) (is : view ≡ view_of line (get_or tokens i d))
-    (stack rest : List Piece) (stands : Stands (views (take i tokens)) stack) where
+    (stack rest : List Piece) (stands : StackStands (views (take i tokens)) stack) where
   seen_so : view ≡ view_of (last_line None (take i tokens)) (get_or tokens i d)
   seen_so = is ∙ ap (λ l. view_of l (get_or tokens i d)) on
 
-  fault_at_token : Answers view stack false rest → FailsAtToken tokens (get_or tokens i d).place
+  fault_at_token : StackAnswers view stack false rest → FailsAtToken tokens (get_or tokens i d).place
   fault_at_token refuses = record {
     before = take i tokens;
     token = get_or tokens i d;
     after = drop (suc i) tokens;
     stands = sym (take-append-drop i tokens) ∙ ap (λ ys. take i tokens ++ ys) (drop-cons tokens i d inside);
     begins = begins_program (take i tokens) stack stands;
-    ends = begins_none (take i tokens) (get_or tokens i d) stack rest stands (subst (λ (v : View). Answers v stack false rest) seen_so refuses);
+    ends = begins_none (take i tokens) (get_or tokens i d) stack rest stands (subst (λ (v : View). StackAnswers v stack false rest) seen_so refuses);
     at = refl;
   }
 
-  read_one : Answers view stack true rest → Stands (views (take (i + 1) tokens)) rest
-  read_one takes = subst (λ (ts : List Token). Stands (views ts) rest) (one_more tokens i d inside)
-      (subst (λ (vs : List View). Stands vs rest) (sym (views_append None (take i tokens) (get_or tokens i d ∷ [])))
+  read_one : StackAnswers view stack true rest → StackStands (views (take (i + 1) tokens)) rest
+  read_one takes = subst (λ (ts : List Token). StackStands (views ts) rest) (one_more tokens i d inside)
+      (subst (λ (vs : List View). StackStands vs rest) (sym (views_append None (take i tokens) (get_or tokens i d ∷ [])))
       (RunLaws.next Produces matches tables predictive Program (views (take i tokens))
-      (view_of (last_line None (take i tokens)) (get_or tokens i d)) stack rest stands (subst (λ (v : View). Answers v stack true rest) seen_so takes)))
+      (view_of (last_line None (take i tokens)) (get_or tokens i d)) stack rest stands (subst (λ (v : View). StackAnswers v stack true rest) seen_so takes)))
 
-  pub fault_here : (size : ℕ) (taken : Bool) → Answers view stack taken rest → taken ≡ false → FailsSyntax size tokens (get_or tokens i d).place
-  fault_here size taken answers is_no = inl (fault_at_token (subst (λ (b : Bool). Answers view stack b rest) is_no answers))
+  pub fault_here : (size : ℕ) (taken : Bool) → StackAnswers view stack taken rest → taken ≡ false → FailsSyntax size tokens (get_or tokens i d).place
+  fault_here size taken answers is_no = inl (fault_at_token (subst (λ (b : Bool). StackAnswers view stack b rest) is_no answers))
 
-  pub read_next : (taken : Bool) → Answers view stack taken rest → taken ≡ true → Stands (views (take (i + 1) tokens)) rest
-  read_next taken answers is_yes = read_one (subst (λ (b : Bool). Answers view stack b rest) is_yes answers)
+  pub read_next : (taken : Bool) → StackAnswers view stack taken rest → taken ≡ true → StackStands (views (take (i + 1) tokens)) rest
+  read_next taken answers is_yes = read_one (subst (λ (b : Bool). StackAnswers view stack b rest) is_yes answers)
 
 -- the end
 
@@ -244,7 +246,7 @@ all_reverse (x ∷ xs) =
     ap (list_all may_vanish) (reverse-append (x ∷ []) xs) ∙ all_append (reverse xs) (x ∷ []) ∙ and_comm (list_all may_vanish (reverse xs)) _
     ∙ ap (λ b. b && list_all may_vanish (reverse xs)) (and_true (may_vanish x)) ∙ ap (λ b. may_vanish x && b) (all_reverse xs)
 
-pub fault_at_the_end : (tokens : List Token) (items : List Piece) (size : ℕ) → Stands (views tokens) (reverse items) →
+pub fault_at_the_end : (tokens : List Token) (items : List Piece) (size : ℕ) → StackStands (views tokens) (reverse items) →
     MatchOption (fault_at_end (list_all may_vanish items) size) (SpellsProgram tokens) (FailsSyntax size tokens)
 fault_at_the_end tokens items size stands = by_end (list_all may_vanish items) (vanish_all (reverse items) ∙ all_reverse items)
   where
@@ -257,7 +259,7 @@ fault_at_the_end tokens items size stands = by_end (list_all may_vanish items) (
     })
 
 pub whole : (tokens : List Token) (i : ℕ) (items : List Piece) (size : ℕ) (found : Option Place) → length tokens ≤ i →
-    Stands (views (take i tokens)) (reverse items) → found ≡ fault_at_end (list_all may_vanish items) size
+    StackStands (views (take i tokens)) (reverse items) → found ≡ fault_at_end (list_all may_vanish items) size
     → MatchOption found (SpellsProgram tokens) (FailsSyntax size tokens)
 whole tokens i items size found long stands is =
-    rw is (fault_at_the_end tokens items size (subst (λ (ts : List Token). Stands (views ts) (reverse items)) (take_all i tokens long) stands))
+    rw is (fault_at_the_end tokens items size (subst (λ (ts : List Token). StackStands (views ts) (reverse items)) (take_all i tokens long) stands))

@@ -149,11 +149,6 @@ abbrev pub run_after : ℕ → Option TokenKind → List Token → ℕ
 run_after run before [] = run
 run_after run before (token ∷ tokens) = run_after (run_with run before token.kind) (Some token.kind) tokens
 
--- the kind of the last token, if there is one, and else this one
-abbrev pub last_kind : Option TokenKind → List Token → Option TokenKind
-last_kind before [] = before
-last_kind before (token ∷ tokens) = last_kind (Some token.kind) tokens
-
 -- the tokens end deeper than is allowed
 abbrev pub IsTooDeep : List Token → Type 0
 IsTooDeep tokens = (100 < open_after 0 tokens) ⊎ (200 < run_after 0 None tokens)

@@ -5,3 +5,4 @@ pub mod Stack
 pub mod Depth
 pub mod Rules
 pub mod Expects
+pub mod inner

@@ -37,16 +37,12 @@ abbrev pub IsGood : List Piece → Type 0
 IsGood stack = Predictive.Good Produces matches tables stack
 
 -- after these tokens the stack stands for just what completes a program
-abbrev pub Stands : List View → List Piece → Type 0
-Stands front stack = Runs.Stands Produces matches tables Program front stack
-
--- before this token both stacks stand for the same
-abbrev pub Expands : View → List Piece → List Piece → Type 0
-Expands next stack opened = Runs.Expands Produces matches tables next stack opened
+abbrev pub StackStands : List View → List Piece → Type 0
+StackStands front stack = Runs.StackStands Produces matches tables Program front stack
 
 -- whether the token is taken, and what is left then
-abbrev pub Answers : View → List Piece → Bool → List Piece → Type 0
-Answers next stack taken rest = Runs.Answers Produces matches tables next stack taken rest
+abbrev pub StackAnswers : View → List Piece → Bool → List Piece → Type 0
+StackAnswers next stack taken rest = Runs.StackAnswers Produces matches tables next stack taken rest
 
 -- how far the stack is from the next token that is read
 abbrev pub level : List Piece → ℕ

@@ -11,7 +11,7 @@ ghost use Rattle.bl_syntax.specs.declared.grammar.Part.{Part};
 ghost use Rattle.bl_syntax.specs.Grammar.{Piece, the, Derives, IsProgram};
 ghost use Rattle.bl_syntax.specs.Tables.{absent, pick};
 ghost use Rattle.bl_syntax.specs.Expects.{Expects, StandsNext};
-ghost use Rattle.bl_syntax.specs.Stack.{Stands};
+ghost use Rattle.bl_syntax.specs.Stack.{StackStands};
 ghost use Rattle.bl_syntax.specs.Rules.{Fails, FailsFirst, Passes};
 
 /// Tokens fail first by one rule and at one place; those that pass fail by none.
@@ -25,7 +25,7 @@ pub fn first_failure_is_one()
 
 /// In a program the tokens that symbols stand for are determined: the grammar is read in one way.
 pub fn a_program_is_read_in_one_way()
-    ensures { (front tokens between other : List View) (symbols rest : List Piece) → Stands front (symbols ++ rest)
+    ensures { (front tokens between other : List View) (symbols rest : List Piece) → StackStands front (symbols ++ rest)
         → Derives symbols tokens between → Derives rest between [] → Derives symbols tokens other → Derives rest other [] → between ≡ other }
 {}
 

@@ -2,7 +2,7 @@
 
 ghost use Rattle.std.specs.Prelude.{◌≡◌, ℕ, true, List, [], ◌∷◌, ◌++◌, reverse, IfOk, OnOk};
 ghost use Rattle.std.specs.List.{list_all};
-ghost use Rattle.bl_syntax.specs.Stack.{IsGood, Stands, Answers, may_vanish};
+ghost use Rattle.bl_syntax.specs.Stack.{IsGood, StackStands, StackAnswers, may_vanish};
 ghost use Rattle.bl_syntax.specs.Grammar.{the};
 
 use crate::choice::{Piece, is_same, may_be_absent, pick};
@@ -20,7 +20,7 @@ pub struct Stack {
 impl Stack {
     /// A whole program must follow.
     pub fn new(alloc: Global) -> Result<Stack, NoMemory>
-        ensures { IfOk result (λ stack. Stands [] (reverse stack.symbols.items)) }
+        ensures { IfOk result (λ stack. StackStands [] (reverse stack.symbols.items)) }
     {
         let mut symbols = Vec::new(alloc);
         if symbols.push(Symbol::Nonterminal(Part::Program)).is_err() {
@@ -32,7 +32,7 @@ impl Stack {
     /// Whether the token can follow. If so, it is taken off.
     pub fn take(&mut self, next: View) -> Result<bool, NoMemory>
         requires { IsGood (reverse self.old.symbols.items) }
-        ensures { IfOk result (λ taken. Answers next (reverse self.old.symbols.items) taken (reverse self.new.symbols.items)) }
+        ensures { IfOk result (λ taken. StackAnswers next (reverse self.old.symbols.items) taken (reverse self.new.symbols.items)) }
     {
         while let Some(symbol) = self.symbols.pop() {
             match symbol {

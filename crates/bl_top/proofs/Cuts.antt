@@ -62,7 +62,7 @@ further_same : (limit : ℕ) (left : Option (List ℕ)) → StandsFurther limit 
 further_same limit None = tt
 further_same limit (Some bytes) = (0, omega arith, refl)
 
-lines_same : (most : ℕ) (left : Option (List ℕ)) → ReadsLines most left left
+pub lines_same : (most : ℕ) (left : Option (List ℕ)) → ReadsLines most left left
 lines_same most None = tt
 lines_same most (Some bytes) =
     record { read = []; piece = []; rest = bytes; are = refl; few = omega arith; short = omega arith; left = refl }

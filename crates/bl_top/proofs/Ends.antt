@@ -1,15 +1,15 @@
 -- How `build` and `run` end, and so the call.
-use Rattle.std.proofs.Common.{◌≡◌, ℕ, ◌≤◌, List, subst}
+use Rattle.std.proofs.Common.{◌≡◌, ℕ, ◌≤◌, List, subst, sym}
 use Rattle.std.specs.Prelude.{Option, Some, None}
 use Rattle.bl_io.specs.Held.{Appends, AppendsPart}
 use Rattle.bl_io.specs.Left.{IsKept}
 use Rattle.bl_stream.specs.Streams.{Course}
-use Rattle.bl_top.specs.Answers.{Answers, builds, checks, execs, no_job, runs, short}
+use Rattle.bl_top.specs.Answers.{Answers, builds, checks, execs, no_job, runs, short, walks}
 use Rattle.bl_top.specs.Build.{BuildEnds, Writes, fault, nothing, stopped, want, whole, written}
 use Rattle.bl_top.specs.Calls.{Call, HasRisen, Output}
 use Rattle.bl_top.specs.Check.{CheckEnds, accepted, accepted_line, stopped as check_ends}
 use Rattle.bl_top.specs.Exec.{ExecEnds}
-use Rattle.bl_top.specs.inner.Outcomes.{chosen_line}
+use Rattle.bl_top.specs.inner.Outcomes.{chosen_line, line_in, lines_in}
 use Rattle.bl_top.specs.inner.Programs.{IsBuilt, IsProgram}
 use Rattle.bl_top.specs.Notes.{line_of}
 use Rattle.bl_top.specs.Reads.{LeftBehind, source_limit}
@@ -18,13 +18,16 @@ use Rattle.bl_top.specs.Rows.{Streams}
 use Rattle.bl_top.specs.Run.{RunEnds, ran, stopped as run_stopped}
 use Rattle.bl_top.specs.Sources.{IsTextOf, IsTextOfParts}
 use Rattle.bl_top.specs.Traces.{HasCourse}
+use Rattle.bl_top.specs.Walk.{WalkEnds}
+use Rattle.bl_top.specs.declared.answer.Answer.{Answer}
+use Rattle.bl_top.specs.declared.outcome.Outcome.{Outcome}
 use Rattle.bl_top.specs.declared.status.Status.{Status}
 use Rattle.bl_top.specs.declared.status.Status.TheVariants as status
 use Rattle.bl_top.proofs.Courses.{runs_as}
 use Rattle.bl_top.proofs.Fronts.{text_of_source, tree_of_program}
 use Rattle.bl_top.proofs.Streams.{streams_from}
 use Rattle.bl_tree.specs.declared.program.Program.{Program}
-use Rattle.bl_words.specs.Jobs.{JobSpec, Word, build, check, exec, run}
+use Rattle.bl_words.specs.Jobs.{JobSpec, Word, build, check, exec, run, walk}
 
 -- ---- results
 
@@ -108,6 +111,17 @@ answers_run c job source rows ended line asked ends = rw asked (runs ends)
 pub answers_exec : (c : Call) (job : Option JobSpec) (text rows : Word) (ended : Status) (line : List ℕ) →
     job ≡ Some (exec text rows) → ExecEnds c text rows ended line → Answers c job ended line
 answers_exec c job text rows ended line asked ends = rw asked (execs ends)
+
+pub answers_walk : (c : Call) (job : Option JobSpec) (source rows : Word) (seed : ℕ) (ended : Status) (lines : List ℕ) →
+    job ≡ Some (walk source rows seed) → WalkEnds c source rows seed ended lines → Answers c job ended lines
+answers_walk c job source rows seed ended lines asked ends = rw asked (walks ends)
+
+-- an answer that is an outcome alone
+pub answers_alone : (c : Call) (job : Option JobSpec) (answer : Answer) (outcome : Outcome) → answer.outcome ≡ outcome →
+    lines_in answer ≡ line_in outcome → Answers c job outcome.status (line_in outcome) → Answers c job answer.outcome.status (lines_in answer)
+answers_alone c job answer outcome same lines answers =
+    subst (λ ls. Answers c job answer.outcome.status ls) (sym lines)
+    (subst (λ (o : Outcome). Answers c job o.status (line_in outcome)) (sym same) answers)
 
 pub answers_none : (c : Call) (job : Option JobSpec) (ended : Status) (own : List ℕ) → job ≡ None → ended ≡ status.Usage →
     IsKept c.out.before c.out.after → Answers c job ended (chosen_line ended own)

@@ -8,3 +8,4 @@ pub mod Fronts
 pub mod Lines
 pub mod Streams
 pub mod Texts
+pub mod Walks

@@ -26,7 +26,7 @@ whole_front None text after grew = tt
 whole_front (Some bytes) text after grew = (length text, omega arith, grew ∙ ap (λ t. Some (bytes ++ t)) (sym (take_all (length text) text (omega arith))))
 
 -- rows alone never tell of a fault of the file or of `out`
-no_fault : (l : Last) (f : Option RowFault) → (finish_of l f ≡ finish.ReadFault) ⊎ (finish_of l f ≡ finish.WriteFault) → ⊥
+pub no_fault : (l : Last) (f : Option RowFault) → (finish_of l f ≡ finish.ReadFault) ⊎ (finish_of l f ≡ finish.WriteFault) → ⊥
 no_fault Open None e = elim e [ inl is ↦ cc | inr is ↦ cc ]
 no_fault Open (Some (fault.BadHeader line)) e = elim e [ inl is ↦ cc | inr is ↦ cc ]
 no_fault Open (Some (fault.BadRow line)) e = elim e [ inl is ↦ cc | inr is ↦ cc ]
@@ -75,7 +75,7 @@ streams_end course left rest rows out (finish.BadRows line) outcome is s r w = e
   | inr none ↦ rw none (no_memory (in_part course left rest out (finish.BadRows line) (λ is. cc) s))
 ]
 
-rose_earlier : (first second last : ℕ) → first ≤ second → Rose second last → Rose first last
+pub rose_earlier : (first second last : ℕ) → first ≤ second → Rose second last → Rose first last
 rose_earlier first second last below rose = λ counts. let up : second < last = rose counts in omega (arith, below, up)
 
 -- a count that stood lower before

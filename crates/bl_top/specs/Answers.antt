@@ -9,7 +9,8 @@ use Rattle.bl_top.specs.Notes.{Written, line_of}
 use Rattle.bl_top.specs.Run.{RunEnds}
 use Rattle.bl_top.specs.declared.status.Status.{Status}
 use Rattle.bl_top.specs.declared.status.Status.TheVariants as status
-use Rattle.bl_words.specs.Jobs.{JobSpec, Word, build, check, exec, job_of, run}
+use Rattle.bl_top.specs.Walk.{WalkEnds}
+use Rattle.bl_words.specs.Jobs.{JobSpec, Word, build, check, exec, job_of, run, walk}
 
 -- the status with which a job ends, with its whole cause and with what grew on `out`, and all lines that it has for `notes`, that of
 -- the status last
@@ -17,6 +18,8 @@ pub data Answers (c : Call) : Option JobSpec → Status → List ℕ → Type 0 
   checks : {source : Word} {ended : Status} {lines : List ℕ} → CheckEnds c source ended lines → Answers c (Some (check source)) ended lines
   builds : {source : Word} {ended : Status} {lines : List ℕ} → BuildEnds c source ended lines → Answers c (Some (build source)) ended lines
   runs : {source rows : Word} {ended : Status} {lines : List ℕ} → RunEnds c source rows ended lines → Answers c (Some (run source rows)) ended lines
+  walks : {source rows : Word} {seed : ℕ} {ended : Status} {lines : List ℕ} → WalkEnds c source rows seed ended lines →
+      Answers c (Some (walk source rows seed)) ended lines
   execs : {text rows : Word} {ended : Status} {lines : List ℕ} → ExecEnds c text rows ended lines → Answers c (Some (exec text rows)) ended lines
   -- the words ask for no job
   no_job : IsKept c.out.before c.out.after → Answers c None status.Usage (line_of status.Usage)

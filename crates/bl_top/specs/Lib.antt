@@ -12,3 +12,4 @@ pub mod Rows
 pub mod Run
 pub mod Sources
 pub mod Traces
+pub mod Walk

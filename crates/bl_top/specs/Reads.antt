@@ -2,7 +2,7 @@
 use Rattle.std.specs.Prelude.{◌≡◌, ℕ, List, [], ◌∷◌, drop, Option, Some, None, IfSome}
 use Rattle.bl_io.specs.Left.{IsKept, KeepsOthers, StandsFurther}
 use Rattle.bl_stream.specs.Streams.{ReadsLines}
-use Rattle.bl_words.specs.Jobs.{JobSpec, Word, build, check, exec, run}
+use Rattle.bl_words.specs.Jobs.{JobSpec, Word, build, check, exec, run, walk}
 
 -- the greatest length of a source, and how far one is read: one byte past it
 abbrev pub longest_source : ℕ
@@ -59,6 +59,7 @@ files_read None = []
 files_read (Some (check source)) = source_file source ∷ []
 files_read (Some (build source)) = source_file source ∷ []
 files_read (Some (run source rows)) = source_file source ∷ rows_file rows ∷ []
+files_read (Some (walk source rows seed)) = source_file source ∷ rows_file rows ∷ []
 files_read (Some (exec text rows)) = text_file text ∷ rows_file rows ∷ []
 
 -- these files are read, one after the other and each within its limit, and no other is

@@ -4,23 +4,26 @@ ghost use Rattle.std.specs.Prelude.{◌≤◌, map, string_bytes};
 ghost use Rattle.bl_io.specs.Count.{NeverFell};
 ghost use Rattle.bl_top.specs.Answers.{Answered, Answers};
 ghost use Rattle.bl_top.specs.Calls.{Output};
-ghost use Rattle.bl_top.specs.inner.Outcomes.{line_in};
+ghost use Rattle.bl_top.specs.inner.Outcomes.{lines_in};
 ghost use Rattle.bl_top.specs.Reads.{Reads, files_read};
 ghost use Rattle.bl_words.specs.Jobs.{job_of};
 
+use crate::answer::Answer;
 use crate::build::build;
 use crate::check::check;
 use crate::exec::exec;
-use crate::notes::with_note;
+use crate::notes::with_notes;
 use crate::outcome::Outcome;
 use crate::run::run;
 use crate::status::Status;
+use crate::walk::walk;
 use bl_io::{Files, Sink};
 use bl_words::Job;
 use std::alloc::Global;
 
-/// Does the job that the words after the program's name ask for: writes its result on `out`, and on `notes` the line
-/// that goes with its status (docs/FORMATS.md, "Notes"). Files are read by the names in the words alone.
+/// Does the job that the words after the program's name ask for: writes its result on `out`, and on `notes` the lines of
+/// the job, last the one that goes with its status (docs/FORMATS.md, "Notes"). Files are read by the names in the words
+/// alone.
 pub fn blechc<F: Files, O: Sink, N: Sink>(
     alloc: Global,
     words: &[String],
@@ -49,12 +52,12 @@ pub fn blechc<F: Files, O: Sink, N: Sink>(
     ensures out_count { O.faults out.old ≤ O.faults out.new }
     ensures notes_count { N.faults notes.old ≤ N.faults notes.new }
 {
-    let outcome = answer(alloc, words, files, out);
-    with_note(&outcome, notes)
+    let done = answer(alloc, words, files, out);
+    with_notes(&done, notes)
 }
 
-/// The end of the job itself, before its line is written.
-fn answer<F: Files, O: Sink>(alloc: Global, words: &[String], files: &mut F, out: &mut O) -> Outcome
+/// The end of the job itself, before its lines are written.
+fn answer<F: Files, O: Sink>(alloc: Global, words: &[String], files: &mut F, out: &mut O) -> Answer
     ensures answers { (notes : Output) → Answers (record {
       left = F.left files.old;
       rest = F.left files.new;
@@ -65,17 +68,24 @@ fn answer<F: Files, O: Sink>(alloc: Global, words: &[String], files: &mut F, out
         after = O.held out.new;
       };
       notes = notes;
-    }) (job_of (map string_bytes words.now)) result.status (line_in result) }
+    }) (job_of (map string_bytes words.now)) result.outcome.status (lines_in result) }
     ensures reads { Reads (files_read (job_of (map string_bytes words.now))) (F.left files.old) (F.left files.new) }
     ensures file_counts { NeverFell (F.faults files.old) (F.faults files.new) }
     ensures out_count { O.faults out.old ≤ O.faults out.new }
 {
     match bl_words::job_of(alloc, words) {
-        Ok(Some(Job::Check { source })) => check(alloc, source, files, out),
-        Ok(Some(Job::Build { source })) => build(alloc, source, files, out),
-        Ok(Some(Job::Run { source, rows })) => run(alloc, source, rows, files, out),
-        Ok(Some(Job::Exec { text, rows })) => exec(alloc, text, rows, files, out),
-        Ok(None) => Outcome::plain(alloc, Status::Usage),
-        Err(_) => Outcome::plain(alloc, Status::NoMemory),
+        Ok(Some(Job::Check { source })) => Answer::alone(alloc, check(alloc, source, files, out)),
+        Ok(Some(Job::Build { source })) => Answer::alone(alloc, build(alloc, source, files, out)),
+        Ok(Some(Job::Run { source, rows })) => Answer::alone(
+            alloc,
+            run(alloc, source, rows, files, out),
+        ),
+        Ok(Some(Job::Walk { source, rows, seed })) => walk(alloc, source, rows, seed, files, out),
+        Ok(Some(Job::Exec { text, rows })) => Answer::alone(
+            alloc,
+            exec(alloc, text, rows, files, out),
+        ),
+        Ok(None) => Answer::alone(alloc, Outcome::plain(alloc, Status::Usage)),
+        Err(_) => Answer::alone(alloc, Outcome::plain(alloc, Status::NoMemory)),
     }
 }

@@ -1,15 +1,36 @@
-//! The line on `notes` that goes with a status.
+//! The lines of a job on `notes`, that of its status last.
 
 ghost use Rattle.std.specs.Prelude.{◌≡◌, ◌≤◌};
-ghost use Rattle.bl_top.specs.inner.Outcomes.{line_in};
+ghost use Rattle.bl_top.specs.inner.Outcomes.{line_in, lines_in};
 ghost use Rattle.bl_top.specs.Notes.{Written, line_of};
 
+use crate::answer::Answer;
 use crate::outcome::Outcome;
 use crate::status::Status;
 use bl_io::{IoFault, Sink, write_all};
 
+/// The status after the lines of an answer were written on `notes`: the same, or that of the write.
+pub fn with_notes<N: Sink>(answer: &Answer, notes: &mut N) -> Status
+    ensures written { Written (record {
+      faults = record { before = N.faults notes.old; after = N.faults notes.new };
+      before = N.held notes.old;
+      after = N.held notes.new;
+    }) (lines_in answer.now) answer.now.outcome.status result }
+    ensures count { N.faults notes.old ≤ N.faults notes.new }
+{
+    let told = answer.told.as_slice();
+    if told.is_empty() {
+        return with_note(&answer.outcome, notes);
+    }
+    match write_all(notes, told) {
+        Ok(()) => with_note(&answer.outcome, notes),
+        Err(IoFault::Failed) => Status::WriteFault,
+        Err(IoFault::NoMemory) => Status::NoMemory,
+    }
+}
+
 /// The status after its line was written on `notes`: the same, or that of the write.
-pub fn with_note<N: Sink>(outcome: &Outcome, notes: &mut N) -> Status
+fn with_note<N: Sink>(outcome: &Outcome, notes: &mut N) -> Status
     ensures written { Written (record {
       faults = record { before = N.faults notes.old; after = N.faults notes.new };
       before = N.held notes.old;

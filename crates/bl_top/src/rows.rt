@@ -42,7 +42,8 @@ pub fn run_over<F: Files, O: Sink>(
     end_of(alloc, finish)
 }
 
-fn end_of(alloc: Global, finish: Finish) -> Outcome
+/// How a job ends whose run over rows ended so.
+pub fn end_of(alloc: Global, finish: Finish) -> Outcome
     ensures { IsEndOf finish result }
 {
     match finish {

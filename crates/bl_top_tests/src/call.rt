@@ -1,6 +1,6 @@
 //! One call of the program over memory.
 
-use bl_io::{MemFiles, MemSink, SureSink};
+use bl_io::{MemFiles, MemSink};
 use bl_top::blechc;
 use std::alloc::Global;
 use std::test::Fail;
@@ -10,6 +10,8 @@ use std::test::Fail;
 pub enum Command {
     Build,
     Run,
+    /// By seed 0.
+    Walk,
 }
 
 impl Command {
@@ -17,6 +19,7 @@ impl Command {
         match self {
             Command::Build => &["build", "text"],
             Command::Run => &["run", "text", "rows"],
+            Command::Walk => &["walk", "text", "rows", "0"],
         }
     }
 }
@@ -44,6 +47,7 @@ pub struct Case<'a> {
     pub rows: Option<&'a [u8]>,
     pub reads: Course,
     pub writes: Course,
+    pub notes: Course,
 }
 
 /// A call on two files that are there.
@@ -54,6 +58,7 @@ pub fn smooth<'a>(command: Command, text: &'a [u8], rows: &'a str) -> Case<'a> {
         rows: Some(rows.as_bytes()),
         reads: SMOOTH,
         writes: SMOOTH,
+        notes: SMOOTH,
     }
 }
 
@@ -61,7 +66,7 @@ pub fn smooth<'a>(command: Command, text: &'a [u8], rows: &'a str) -> Case<'a> {
 #[derive(Drop)]
 pub struct Answer {
     pub status: u8,
-    pub notes: SureSink,
+    pub notes: MemSink,
     pub out: MemSink,
 }
 
@@ -106,7 +111,7 @@ fn status_of(
     words: &[String],
     files: &mut MemFiles,
     out: &mut MemSink,
-    notes: &mut SureSink,
+    notes: &mut MemSink,
 ) -> u8 {
     blechc(alloc, words, files, out, notes).code()
 }
@@ -116,7 +121,7 @@ pub fn answer_of(alloc: Global, case: &Case) -> Result<Answer, Fail> {
     let words = words_of(alloc, case.command)?;
     let mut files = files_of(alloc, case)?;
     let mut out = sink_of(alloc, case.writes)?;
-    let mut notes = SureSink::new(alloc);
+    let mut notes = sink_of(alloc, case.notes)?;
     let status = status_of(alloc, &words, &mut files, &mut out, &mut notes);
     Ok(Answer { status, notes, out })
 }

@@ -5,6 +5,7 @@ use std::alloc::Global;
 use std::test::Fail;
 
 /// The status, the line on `notes` and all that stands on `out`.
+#[derive(Drop)]
 pub struct End {
     pub status: u8,
     pub line: &'static str,

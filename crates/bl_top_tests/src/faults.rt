@@ -85,11 +85,13 @@ impl Fault {
             rows: bytes_of(self.rows),
             reads: failing(self.failing),
             writes: SMOOTH,
+            notes: SMOOTH,
         }
     }
 }
 
-fn failing(call: u32) -> Course {
+/// Nothing but this call fails.
+pub fn failing(call: u32) -> Course {
     Course {
         is_narrow: false,
         failing: call,

@@ -10,3 +10,5 @@ mod cuts;
 mod end;
 #[cfg(test)]
 mod faults;
+#[cfg(test)]
+mod walks;

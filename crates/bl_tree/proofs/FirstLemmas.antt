@@ -120,7 +120,8 @@ same_true a b is =
 
 before_true : (a b : Place) → is_before a b ≡ true → IsBefore a b
 before_true a b is =
-    elim (nat_lt a.start b.start) as (λ less. nat_lt a.start b.start ≡ less → (less || (nat_eq a.start b.start && nat_lt a.end b.end)) ≡ true → IsBefore a b) [
+    elim (nat_lt a.start b.start) as
+    (λ less. nat_lt a.start b.start ≡ less → (less || (nat_eq a.start b.start && nat_lt a.end b.end)) ≡ true → IsBefore a b) [
       | true ↦ λ less h. inl (grind (arith, nat_tests))
       | false ↦ λ less h.
           let both = and_true (nat_eq a.start b.start) (nat_lt a.end b.end) h in
@@ -148,7 +149,8 @@ before_trans a b c one two =
 before_not : (a b : Place) → IsBefore a b → IsBefore b a → ⊥
 before_not a b one two =
     ⊎_elim
-    (λ (p : a.start < b.start). ⊎_elim (λ (q : b.start < a.start). omega arith) (λ (q : (b.start ≡ a.start) × (b.end < a.end)). let e = q.0 in omega arith) two)
+    (λ (p : a.start < b.start). ⊎_elim (λ (q : b.start < a.start). omega arith)
+    (λ (q : (b.start ≡ a.start) × (b.end < a.end)). let e = q.0 in omega arith) two)
     (λ (p : (a.start ≡ b.start) × (a.end < b.end)). let e = p.0 in let l = p.1 in
     ⊎_elim (λ (q : b.start < a.start). omega arith) (λ (q : (b.start ≡ a.start) × (b.end < a.end)). let m = q.1 in omega arith) two) one
 
@@ -189,7 +191,8 @@ come_before_is : (xs ys : List Place) → come_before xs ys ≡ true → AreNoLa
 come_before_is [] ys is = tt
 come_before_is (x ∷ xs) [] is = absurd (cc)
 come_before_is (x ∷ xs) (y ∷ ys) is =
-    elim (same_place x y) as (λ test. same_place x y ≡ test → cond test (come_before xs ys) (is_before x y) ≡ true → AreNoLater (x ∷ xs) (y ∷ ys)) [
+    elim (same_place x y) as
+    (λ test. same_place x y ≡ test → cond test (come_before xs ys) (is_before x y) ≡ true → AreNoLater (x ∷ xs) (y ∷ ys)) [
       | false ↦ λ apart h. inl (before_true x y h)
       | true ↦ λ same h. inr (same_true x y same, come_before_is xs ys h)
     ] refl is
@@ -198,7 +201,8 @@ come_before_not : (xs ys : List Place) → come_before xs ys ≡ false → AreNo
 come_before_not xs [] is = tt
 come_before_not [] (y ∷ ys) is = absurd (cc)
 come_before_not (x ∷ xs) (y ∷ ys) is =
-    elim (same_place x y) as (λ test. same_place x y ≡ test → cond test (come_before xs ys) (is_before x y) ≡ false → AreNoLater (y ∷ ys) (x ∷ xs)) [
+    elim (same_place x y) as
+    (λ test. same_place x y ≡ test → cond test (come_before xs ys) (is_before x y) ≡ false → AreNoLater (y ∷ ys) (x ∷ xs)) [
       | false ↦ λ apart h. inl (before_false x y apart h)
       | true ↦ λ same h. inr (sym (same_true x y same), come_before_not xs ys h)
     ] refl is

@@ -268,7 +268,8 @@ checked_of-in_range Minus t a b takes h k = tt
 checked_of-in_range BitNot t a b takes h k = tt
 checked_of-in_range Not t a b takes h k = tt
 
-pub checked_one_of-in_range : (op : Op) (t : Scalar) (a : ℤ) → TakesOne op t → InRange t a → IfSome (checked_one_of op t a) (InRange (type_of_result op t))
+pub checked_one_of-in_range : (op : Op) (t : Scalar) (a : ℤ) → TakesOne op t → InRange t a →
+    IfSome (checked_one_of op t a) (InRange (type_of_result op t))
 checked_one_of-in_range Minus t a takes h = fitted-in_range t _
 checked_one_of-in_range BitNot t a takes h = complement-in_range t a takes h
 checked_one_of-in_range Not t a takes h = number_of-in_range _

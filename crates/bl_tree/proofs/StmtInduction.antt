@@ -35,7 +35,8 @@ pub record Cases (P : Stmt → Type 0) : Type 0 where
   pub assign : (place : Place) (path : Path) (e : Expr) → P (stmt place (StmtKind-F.Assign path e))
   pub call : (place : Place) (f : ℕ) (inputs : List Expr) (outputs : List Path) → P (stmt place (StmtKind-F.Call f inputs outputs))
   pub await : (place : Place) (e : Expr) → P (stmt place (StmtKind-F.Await e))
-  pub run : (place : Place) (target : Option Path) (a : ℕ) (inputs : List Expr) (outputs : List Path) → P (stmt place (StmtKind-F.Run target a inputs outputs))
+  pub run : (place : Place) (target : Option Path) (a : ℕ) (inputs : List Expr) (outputs : List Path) →
+      P (stmt place (StmtKind-F.Run target a inputs outputs))
   pub branching : (place : Place) (arms : List Arm) (other : List Stmt) → EachArm P arms → Each P other → P (stmt place (StmtKind-F.If arms other))
   pub cobegin : (place : Place) (branches : List Branch) → EachBranch P branches → P (stmt place (StmtKind-F.Cobegin branches))
   pub guarded : (place : Place) (guard : Guard) (e : Expr) (body : List Stmt) → Each P body → P (stmt place (StmtKind-F.When guard e body))

@@ -29,6 +29,7 @@ argument_mentions inputs outputs = joined (map mentions inputs) ++ joined (map p
 
 -- ---- reads
 
+-- what one layer of a statement reads, from what its arms, branches and blocks read; the condition of `until` is read behind its block
 abbrev pub kind_reads : StmtKind-F (List Static) (List Static) (List Static) (List Static) → List Static
 kind_reads (StmtKind-F.Declare k initial) = optional_mentions initial
 kind_reads (StmtKind-F.Assign path e) = index_mentions path ++ mentions e
@@ -43,9 +44,11 @@ kind_reads (StmtKind-F.Until body e) = joined body ++ mentions e
 kind_reads (StmtKind-F.While e body) = mentions e ++ joined body
 kind_reads (StmtKind-F.Return e) = optional_mentions e
 
+-- an arm of an `if` reads what its condition and its block read
 abbrev pub arm_reads : Arm-F (List Static) (List Static) (List Static) (List Static) → List Static
 arm_reads arm = mentions arm.test ++ joined arm.body
 
+-- a branch reads, or writes, what its block does
 abbrev pub branch_paths : Branch-F (List Static) (List Static) (List Static) (List Static) → List Static
 branch_paths branch = joined branch.body
 
@@ -60,6 +63,7 @@ reads = fold-Stmt (List Static) (List Static) (List Static) (List Static) kind_r
 
 -- ---- writes
 
+-- what one layer of a statement writes, from what its arms, branches and blocks write; a declaration writes its whole variable
 abbrev pub kind_writes : StmtKind-F (List Static) (List Static) (List Static) (List Static) → List Static
 kind_writes (StmtKind-F.Declare k initial) = whole k ∷ []
 kind_writes (StmtKind-F.Assign path e) = static_of path ∷ []
@@ -74,6 +78,7 @@ kind_writes (StmtKind-F.Until body e) = joined body
 kind_writes (StmtKind-F.While e body) = joined body
 kind_writes (StmtKind-F.Return e) = []
 
+-- an arm of an `if` writes what its block writes
 abbrev pub arm_writes : Arm-F (List Static) (List Static) (List Static) (List Static) → List Static
 arm_writes arm = joined arm.body
 

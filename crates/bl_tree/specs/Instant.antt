@@ -31,12 +31,15 @@ kind_instant (StmtKind-F.Until body e) = all_of body
 kind_instant (StmtKind-F.While e body) = true
 kind_instant (StmtKind-F.Return e) = true
 
+-- an arm of an `if` may end at once where all statements of its block may
 abbrev pub arm_instant : Arm-F Bool Bool Ends Bool → Bool
 arm_instant arm = all_of arm.body
 
+-- a branch, with whether all statements of its block may end at once
 abbrev pub branch_ends : Branch-F Bool Bool Ends Bool → Ends
 branch_ends branch = record { weak = branch.weak; instant = all_of branch.body }
 
+-- a statement may end at once where its kind may, wherever it stands
 abbrev pub stmt_instant : Stmt-F Bool Bool Ends Bool → Bool
 stmt_instant s = s.what
 

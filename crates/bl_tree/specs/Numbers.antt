@@ -164,6 +164,7 @@ right_digits false n k = 0
 abbrev pub shifted_left : ℕ → ℕ → ℕ → ℕ
 shifted_left w n k = left_digits (nat_lt k w) w n k
 
+-- n shifted to the right by k: its last k digits are gone, and by w or more nothing is left
 abbrev pub shifted_right : ℕ → ℕ → ℕ → ℕ
 shifted_right w n k = right_digits (nat_lt k w) n k
 

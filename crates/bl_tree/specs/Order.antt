@@ -9,5 +9,6 @@ use Rattle.bl_tree.specs.declared.static_path.Static.{Static}
 abbrev pub static_cmp : Static → Static → Ordering
 static_cmp = then_cmp (on (λ s. s.root) nat_cmp) (on (λ s. s.fields) (slice_cmp nat_cmp))
 
+-- this is a total order of static paths
 pub static_cmp_total : IsTotalOrder static_cmp
 static_cmp_total = then_total (on_total (λ s. s.root) nat_cmp_total) (on_total (λ s. s.fields) nat_list_cmp_total)

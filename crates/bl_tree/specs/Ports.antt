@@ -29,11 +29,13 @@ columns_of vars = map column_of vars
 abbrev pub input_columns : UnitDef → List Column
 input_columns unit = columns_of (inputs_of unit)
 
+-- the columns of a unit's outputs, in order
 abbrev pub output_columns : UnitDef → List Column
 output_columns unit = columns_of (outputs_of unit)
 
 -- ---- rows
 
+-- the types of columns, in order
 abbrev pub types_of : List Column → List ScalarType
 types_of columns = map (λ column. column.ty) columns
 

@@ -40,6 +40,7 @@ use Rattle.bl_tree.specs.Words.{are_distinct, is_name}
 
 -- ---- structs
 
+-- the names of a struct's fields, in order
 abbrev pub field_names : StructDef → List (List ℕ)
 field_names def = map (λ field. field.name) def.fields
 
@@ -50,20 +51,24 @@ struct_stands before def =
     && ((list_all is_name (field_names def) && are_distinct (field_names def))
     && list_all (λ field. type_stands before field.ty) def.fields)
 
+-- whether each of these structs stands, the first at this position
 abbrev pub structs_stand_from : ℕ → List StructDef → Bool
 structs_stand_from before [] = true
 structs_stand_from before (def ∷ rest) = struct_stands before def && structs_stand_from (before + 1) rest
 
 -- ---- units
 
+-- whether a variable is an input parameter
 abbrev pub is_input : Role → Bool
 is_input Input = true
 is_input _ = false
 
+-- whether a variable is an output parameter
 abbrev pub is_output : Role → Bool
 is_output Output = true
 is_output _ = false
 
+-- the variables that the body of a unit declares
 abbrev pub locals_of : UnitDef → List Var
 locals_of unit = drop (unit.inputs + unit.outputs) unit.vars
 
@@ -75,9 +80,11 @@ roles_stand unit =
     && (list_all (λ var. is_output var.role) (outputs_of unit)
     && list_all (λ var. is_variable var.role || is_fixed var.role) (locals_of unit)))
 
+-- the inputs and then the outputs of a unit
 abbrev pub parameters_of : UnitDef → List Var
 parameters_of unit = take (unit.inputs + unit.outputs) unit.vars
 
+-- the names of variables, in order
 abbrev pub names_of : List Var → List (List ℕ)
 names_of vars = map (λ var. var.name) vars
 
@@ -98,6 +105,7 @@ units_stand_after structs earlier (unit ∷ rest) =
 
 -- ---- the whole
 
+-- the names of all structs, and then those of all units
 abbrev pub all_names : List StructDef → List UnitDef → List (List ℕ)
 all_names structs units = map (λ def. def.name) structs ++ map (λ unit. unit.name) units
 

@@ -90,6 +90,7 @@ name_of rule.Cells = codes "Cells"
 
 -- ---- places in order
 
+-- whether two places have the same start and the same end
 abbrev pub same_place : Place → Place → Bool
 same_place a b = nat_eq a.start b.start && nat_eq a.end b.end
 
@@ -125,7 +126,8 @@ compared rule at also = if tells_walk rule then at ∷ [] else at ∷ also
 pub record FailsFirst (Fails : Rule → Place → List Place → Type 0) (rule : Rule) (at : Place) (also : List Place) : Type 0 where
   pub fails : Fails rule at also
   pub least_rule : (other : Rule) (elsewhere : Place) (further : List Place) → Fails other elsewhere further → number_of rule ≤ number_of other
-  pub least_places : (elsewhere : Place) (further : List Place) → Fails rule elsewhere further → AreNoLater (compared rule at also) (compared rule elsewhere further)
+  pub least_places : (elsewhere : Place) (further : List Place) → Fails rule elsewhere further →
+      AreNoLater (compared rule at also) (compared rule elsewhere further)
 
 -- no rule fails
 abbrev pub Passes : (Rule → Place → List Place → Type 0) → Type 0

@@ -1,5 +1,5 @@
 -- The types without parts: which whole numbers each has, and which of them a rule asks for.
-use Rattle.std.specs.Prelude.{ℕ, ◌-◌, ◌^◌, ℤ, pos, neg_ℤ, ◌≤ℤ◌, Bool, true, false, ◌&&◌, int_le, IsTrue}
+use Rattle.std.specs.Prelude.{ℕ, ◌-◌, ◌^◌, ℤ, pos, neg_ℤ, ◌≤ℤ◌, Bool, true, false, ◌&&◌, int_le}
 use Rattle.bl_tree.specs.declared.scalar.Width.{Width}
 use Rattle.bl_tree.specs.declared.scalar.Width.TheVariants.{W8, W16, W32, W64}
 use Rattle.bl_tree.specs.declared.scalar.Scalar.{Scalar}
@@ -69,7 +69,3 @@ is_bool OfBool = true
 is_bool (Int w) = false
 is_bool (Nat w) = false
 is_bool (Bits w) = false
-
--- t is a whole-number type
-abbrev pub IsWhole : Scalar → Type 0
-IsWhole t = IsTrue (is_whole t)

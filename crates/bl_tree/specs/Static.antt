@@ -73,6 +73,7 @@ abbrev pub leading_fields : List Step → List ℕ
 leading_fields [] = []
 leading_fields (step ∷ rest) = before_index step.field (leading_fields rest)
 
+-- the static paths that one layer of an expression reads, in source order, from what its operands read
 abbrev pub kind_mentions : ExprKind-F (List Static) Step (List Static) Reach → List Static
 kind_mentions (ExprKind-F.Literal n s) = []
 kind_mentions (ExprKind-F.Read path) = path.static ∷ path.indices
@@ -82,13 +83,16 @@ kind_mentions (ExprKind-F.Two op a b) = joined (a ∷ b ∷ [])
 kind_mentions (ExprKind-F.Cast target a) = a
 kind_mentions (ExprKind-F.Call f inputs) = joined inputs
 
+-- a field gives its number and reads nothing; an index gives no field and reads what its expression reads
 abbrev pub part_step : Part-F (List Static) Step (List Static) Reach → Step
 part_step (Part-F.Field k) = record { field = Some k; reads = [] }
 part_step (Part-F.Index e) = record { field = None; reads = e }
 
+-- an expression reads what its kind reads, wherever it stands
 abbrev pub expr_mentions : Expr-F (List Static) Step (List Static) Reach → List Static
 expr_mentions e = e.what
 
+-- a path gives its root with the fields up to the first index, and what all of its indices read
 abbrev pub path_reach : Path-F (List Static) Step (List Static) Reach → Reach
 path_reach path = record {
   static = record { root = path.root; fields = leading_fields path.parts };
@@ -99,6 +103,7 @@ path_reach path = record {
 abbrev pub mentions : Expr → List Static
 mentions = fold-Expr (List Static) Step (List Static) Reach kind_mentions part_step expr_mentions path_reach
 
+-- what a part of a path gives
 abbrev pub step_of : Part → Step
 step_of = fold-Part (List Static) Step (List Static) Reach kind_mentions part_step expr_mentions path_reach
 
@@ -106,6 +111,7 @@ step_of = fold-Part (List Static) Step (List Static) Reach kind_mentions part_st
 abbrev pub part_mentions : Part → List Static
 part_mentions part = (step_of part).reads
 
+-- what a path gives
 abbrev pub reach_of : Path → Reach
 reach_of = fold-Path (List Static) Step (List Static) Reach kind_mentions part_step expr_mentions path_reach
 
@@ -120,7 +126,3 @@ index_mentions path = (reach_of path).indices
 -- what reading a path reads: its static path, and what its indices read
 abbrev pub path_mentions : Path → List Static
 path_mentions path = static_of path ∷ index_mentions path
-
--- the set of the static paths that an expression reads
-abbrev pub reads_of_expr : Expr → List Static
-reads_of_expr e = set_of (mentions e)

@@ -27,18 +27,22 @@ scalar_at _ = None
 abbrev pub scalar_in : Ty → Option ScalarType
 scalar_in ty = scalar_at (out-Ty ty)
 
+-- whether one level of a type is this scalar type
 abbrev pub same_as_scalar : ScalarType → Ty-F Ty → Bool
 same_as_scalar s (Ty-F.Scalar t) = same_scalar s t
 same_as_scalar s _ = false
 
+-- whether one level of a type is the struct at this position
 abbrev pub same_as_struct : ℕ → Ty-F Ty → Bool
 same_as_struct k (Ty-F.Struct m) = nat_eq k m
 same_as_struct k _ = false
 
+-- whether one level of a type is an array of this length whose element passes the test
 abbrev pub same_as_array : ℕ → (Ty → Bool) → Ty-F Ty → Bool
 same_as_array n element (Ty-F.Array m inner) = nat_eq n m && element inner
 same_as_array n element _ = false
 
+-- whether a type is this level, with a test for its element where it is an array
 abbrev pub same_level : Ty-F (Ty → Bool) → Ty → Bool
 same_level (Ty-F.Scalar s) other = same_as_scalar s (out-Ty other)
 same_level (Ty-F.Struct k) other = same_as_struct k (out-Ty other)
@@ -48,6 +52,7 @@ same_level (Ty-F.Array n element) other = same_as_array n element (out-Ty other)
 abbrev pub same_type : Ty → Ty → Bool
 same_type = fold-Ty (Ty → Bool) same_level
 
+-- whether one level of a type names one of the first structs alone and has a length from 1 to 65536, where its element stands
 abbrev pub type_stands_level : ℕ → Ty-F Bool → Bool
 type_stands_level structs (Ty-F.Scalar s) = true
 type_stands_level structs (Ty-F.Struct k) = nat_lt k structs

@@ -57,10 +57,12 @@ pub record Site : Type 0 where
 abbrev pub site_of : List StructDef → List UnitDef → UnitDef → Site
 site_of structs earlier unit = record { structs = structs; earlier = earlier; kind = unit.kind; vars = unit.vars; result = unit.result }
 
+-- whether a unit is an activity
 abbrev pub is_activity : UnitKind → Bool
 is_activity Function = false
 is_activity Activity = true
 
+-- whether a unit is a function
 abbrev pub is_function : UnitKind → Bool
 is_function kind = not (is_activity kind)
 
@@ -71,6 +73,7 @@ may_change Output = true
 may_change Variable = true
 may_change Fixed = false
 
+-- declared by `var`
 abbrev pub is_variable : Role → Bool
 is_variable Variable = true
 is_variable _ = false
@@ -80,12 +83,15 @@ abbrev pub is_fixed : Role → Bool
 is_fixed Fixed = true
 is_fixed _ = false
 
+-- the variable at a position, where the unit has one there
 abbrev pub var_at : Site → ℕ → Option Var
 var_at site k = slice_get site.vars k
 
+-- the input parameters of a unit, which stand first among its variables
 abbrev pub inputs_of : UnitDef → List Var
 inputs_of unit = take unit.inputs unit.vars
 
+-- the output parameters of a unit, which stand behind the inputs
 abbrev pub outputs_of : UnitDef → List Var
 outputs_of unit = take unit.outputs (drop unit.inputs unit.vars)
 
@@ -110,6 +116,7 @@ abbrev pub part_type : Site → Part-F (Option Ty) (Ty → Option Ty) (Option Ty
 part_type site (Part-F.Field k) ty = field_in site.structs k (out-Ty ty)
 part_type site (Part-F.Index index) ty = where_whole index (element_in (out-Ty ty))
 
+-- the type at the end of a path, from the type of its root and what each part makes of a type
 abbrev pub after_parts : List (Ty → Option Ty) → Ty → Option Ty
 after_parts [] ty = Some ty
 after_parts (part ∷ rest) ty = option_and_then (after_parts rest) (part ty)
@@ -118,6 +125,7 @@ after_parts (part ∷ rest) ty = option_and_then (after_parts rest) (part ty)
 abbrev pub where_same : Ty → Ty → Option Ty
 where_same written found = if same_type written found then Some found else None
 
+-- the type of a path: that of its root, led along its parts, where it is the type that the tree writes beside it
 abbrev pub path_type : Site → Path-F (Option Ty) (Ty → Option Ty) (Option Ty) (Option Ty) → Option Ty
 path_type site path = option_and_then (where_same path.ty) (option_and_then (λ var. after_parts path.parts var.ty) (var_at site path.root))
 
@@ -125,9 +133,11 @@ path_type site path = option_and_then (where_same path.ty) (option_and_then (λ 
 abbrev pub one_type : Op → ScalarType → Option Ty
 one_type op s = if takes_one op s then Some (scalar (type_of_result op s)) else None
 
+-- the type of what an operator gives for two operands, where they have one type and the operator takes it
 abbrev pub two_type : Op → ScalarType → ScalarType → Option Ty
 two_type op s t = if same_scalar s t && takes_two op s then Some (scalar (type_of_result op s)) else None
 
+-- a cast goes between whole-number types, and gives the one that it names
 abbrev pub cast_type : ScalarType → ScalarType → Option Ty
 cast_type target s = if is_whole target && is_whole s then Some (scalar target) else None
 
@@ -146,9 +156,11 @@ abbrev pub call_type : List (Option Ty) → UnitDef → Option Ty
 call_type inputs callee =
     if is_function callee.kind && (nat_eq callee.outputs 0 && types_match inputs (inputs_of callee)) then option_map scalar callee.result else None
 
+-- a literal has the type written beside it, where its number is in the range of that type
 abbrev pub literal_type : ScalarType → Bool → Option Ty
 literal_type s fits = if fits then Some (scalar s) else None
 
+-- the type of one layer of an expression, from the types of its operands; none where they don't fit
 abbrev pub kind_type : Site → ExprKind-F (Option Ty) (Ty → Option Ty) (Option Ty) (Option Ty) → Option Ty
 kind_type site (ExprKind-F.Literal n s) = literal_type s (in_range s n)
 kind_type site (ExprKind-F.Read path) = path
@@ -159,6 +171,7 @@ kind_type site (ExprKind-F.Two op a b) =
 kind_type site (ExprKind-F.Cast target a) = option_and_then (cast_type target) (option_and_then scalar_in a)
 kind_type site (ExprKind-F.Call f inputs) = option_and_then (call_type inputs) (slice_get site.earlier f)
 
+-- an expression has the type of its kind, wherever it stands
 abbrev pub expr_type : Expr-F (Option Ty) (Ty → Option Ty) (Option Ty) (Option Ty) → Option Ty
 expr_type e = e.what
 
@@ -166,15 +179,18 @@ expr_type e = e.what
 abbrev pub type_of : Site → Expr → Option Ty
 type_of site = fold-Expr (Option Ty) (Ty → Option Ty) (Option Ty) (Option Ty) (kind_type site) (part_type site) expr_type (path_type site)
 
+-- the type of a path; none where its parts don't fit
 abbrev pub type_of_path : Site → Path → Option Ty
 type_of_path site = fold-Path (Option Ty) (Ty → Option Ty) (Option Ty) (Option Ty) (kind_type site) (part_type site) expr_type (path_type site)
 
 -- ---- statements
 
+-- whether both have types, and these are one
 abbrev pub are_same : Option Ty → Option Ty → Bool
 are_same (Some a) (Some b) = same_type a b
 are_same _ _ = false
 
+-- whether there is a type and it is bool
 abbrev pub is_truth : Option Ty → Bool
 is_truth (Some ty) = is_some (option_and_then (λ s. if is_bool s then Some s else None) (scalar_in ty))
 is_truth None = false
@@ -183,16 +199,20 @@ is_truth None = false
 abbrev pub is_assignable : Site → Path → Bool
 is_assignable site path = is_some (option_and_then (λ var. if may_change var.role then Some var else None) (var_at site (out-Path path).root))
 
+-- whether a part of a path is a field
 abbrev pub part_is_field : Part-F (Unit {0}) Bool (Unit {0}) Bool → Bool
 part_is_field (Part-F.Field k) = true
 part_is_field (Part-F.Index e) = false
 
+-- nothing is asked of the kind of an expression here
 abbrev pub kind_ignored : ExprKind-F (Unit {0}) Bool (Unit {0}) Bool → Unit {0}
 kind_ignored kind = tt
 
+-- nothing is asked of an expression here
 abbrev pub expr_ignored : Expr-F (Unit {0}) Bool (Unit {0}) Bool → Unit {0}
 expr_ignored e = tt
 
+-- whether all parts of a path are fields
 abbrev pub path_is_plain : Path-F (Unit {0}) Bool (Unit {0}) Bool → Bool
 path_is_plain path = all_of path.parts
 
@@ -214,15 +234,18 @@ arguments_fit site inputs outputs callee =
 abbrev pub is_procedure : UnitDef → Bool
 is_procedure callee = is_function callee.kind && is_none callee.result
 
+-- whether a call statement may call the unit at its position with these arguments; there must be one
 abbrev pub call_fits : Site → List Expr → List Path → Option UnitDef → Bool
 call_fits site inputs outputs (Some callee) = is_procedure callee && arguments_fit site inputs outputs callee
 call_fits site inputs outputs None = false
 
+-- whether the target of a `run` fits the result of its activity: the result may be dropped, but without one there is no target
 abbrev pub target_fits : Site → Option ScalarType → Option Path → Bool
 target_fits site result None = true
 target_fits site (Some result) (Some path) = is_outlet site path && are_same (Some (scalar result)) (type_of_path site path)
 target_fits site None (Some path) = false
 
+-- whether an activity may run the unit at its position, an activity too, with this target and these arguments
 abbrev pub run_fits : Site → Option Path → List Expr → List Path → Option UnitDef → Bool
 run_fits site target inputs outputs (Some callee) =
     (is_activity site.kind && is_activity callee.kind)
@@ -235,15 +258,18 @@ declaration_fits site (Some e) (Some var) = (is_variable var.role || is_fixed va
 declaration_fits site None (Some var) = is_variable var.role
 declaration_fits site _ None = false
 
+-- whether a `return` has a value of the unit's result type, or neither has one
 abbrev pub return_fits : Site → Option Expr → Option ScalarType → Bool
 return_fits site (Some e) (Some result) = are_same (Some (scalar result)) (type_of site e)
 return_fits site None None = true
 return_fits site _ _ = false
 
+-- whether a list has an item
 abbrev pub is_inhabited : {A : Type 0} → List A → Bool
 is_inhabited [] = false
 is_inhabited (x ∷ xs) = true
 
+-- whether one layer of a statement fits, where all in its arms, branches and blocks does
 abbrev pub kind_fits : Site → StmtKind-F Bool Bool Bool Bool → Bool
 kind_fits site (StmtKind-F.Declare k initial) = declaration_fits site initial (var_at site k)
 kind_fits site (StmtKind-F.Assign path e) = is_assignable site path && are_same (type_of_path site path) (type_of site e)
@@ -258,12 +284,15 @@ kind_fits site (StmtKind-F.Until body e) = all_of body && is_truth (type_of site
 kind_fits site (StmtKind-F.While e body) = is_truth (type_of site e) && all_of body
 kind_fits site (StmtKind-F.Return e) = return_fits site e site.result
 
+-- whether an arm of an `if` has a condition of type bool, and its block fits
 abbrev pub arm_fits : Site → Arm-F Bool Bool Bool Bool → Bool
 arm_fits site arm = is_truth (type_of site arm.test) && all_of arm.body
 
+-- whether the block of a branch fits
 abbrev pub branch_fits : Branch-F Bool Bool Bool Bool → Bool
 branch_fits branch = all_of branch.body
 
+-- a statement fits where its kind does, wherever it stands
 abbrev pub stmt_fits : Stmt-F Bool Bool Bool Bool → Bool
 stmt_fits s = s.what
 

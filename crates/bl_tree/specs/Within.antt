@@ -14,6 +14,7 @@ use Rattle.bl_tree.specs.Reduce.{joined}
 
 -- ---- the statements of a program
 
+-- the statements that stand directly in the blocks of one layer of a statement, in source order
 abbrev pub kind_children : StmtKind-F StmtKind Arm Branch Stmt → List Stmt
 kind_children (StmtKind-F.If arms other) = joined (map (λ arm. (out-Arm arm).body) arms) ++ other
 kind_children (StmtKind-F.Cobegin branches) = joined (map (λ branch. (out-Branch branch).body) branches)
@@ -46,6 +47,7 @@ pub record StandsInUnits (units : List UnitDef) (s : Stmt) : Type 0 where
 
 -- ---- effects by place
 
+-- where a statement stands in the source
 abbrev pub place_of : Stmt → Place
 place_of s = (out-Stmt s).place
 
@@ -66,6 +68,7 @@ PlacesDecide units = (s t : Stmt) → StandsInUnits units s → StandsInUnits un
 
 -- ---- `run` statements by place
 
+-- whether what a statement does is to run an activity
 abbrev pub is_run_kind : StmtKind-F StmtKind Arm Branch Stmt → Bool
 is_run_kind (StmtKind-F.Run target a inputs outputs) = true
 is_run_kind _ = false
@@ -74,6 +77,7 @@ is_run_kind _ = false
 abbrev pub is_run : Stmt → Bool
 is_run s = is_run_kind (out-StmtKind (out-Stmt s).what)
 
+-- the branches of what a statement does, and none where that is no `cobegin`
 abbrev pub kind_branches : StmtKind-F StmtKind Arm Branch Stmt → List Branch
 kind_branches (StmtKind-F.Cobegin branches) = branches
 kind_branches _ = []
@@ -91,5 +95,6 @@ pub record RunsIn (outer : Stmt) (k : ℕ) (s : Stmt) : Type 0 where
 
 -- two `run` statements of one place are the same, and they don't stand in two branches of one `cobegin`
 pub record RunsDecide (units : List UnitDef) : Type 0 where
-  pub same : (s t : Stmt) → StandsInUnits units s → StandsInUnits units t → IsTrue (is_run s) → IsTrue (is_run t) → place_of s ≡ place_of t → ∥ s ≡ t ∥₁
+  pub same : (s t : Stmt) → StandsInUnits units s → StandsInUnits units t → IsTrue (is_run s) → IsTrue (is_run t) →
+      place_of s ≡ place_of t → ∥ s ≡ t ∥₁
   pub apart : (outer s t : Stmt) (j k : ℕ) → StandsInUnits units outer → RunsIn outer j s → RunsIn outer k t → place_of s ≡ place_of t → j ≡ k

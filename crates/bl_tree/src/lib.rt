@@ -21,6 +21,7 @@ pub mod program;
 pub mod row;
 pub mod rule;
 pub mod scalar;
+pub mod slices;
 pub mod static_path;
 mod text;
 pub mod token;

@@ -1,5 +1,6 @@
 pub mod CallLemmas
 pub mod CauseLemmas
+pub mod FieldLemmas
 pub mod GatherLemmas
 pub mod JudgedLemmas
 pub mod LastLemmas

@@ -56,17 +56,21 @@ pub record Initial : Type 0 where
   pub valued : Valued
   pub failures : List Failure
 
+-- the type of a form that has one
 abbrev pub type_of_form : Form → Option Ty
 type_of_form (Of ty e) = Some ty
 type_of_form _ = None
 
+-- the tree of a form that has a type
 abbrev pub expr_of_form : Form → Option Expr
 expr_of_form (Of ty e) = Some e
 expr_of_form _ = None
 
+-- an initial value of a type that is written, after earlier failures
 abbrev pub typed_initial : Ty → List Failure → Settled → Initial
 typed_initial ty earlier value = record { valued = record { ty = Some ty; value = value.made }; failures = earlier ++ value.failures }
 
+-- an initial value that gives the type, after earlier failures
 abbrev pub closed_initial : List Failure → Formed → Initial
 closed_initial earlier formed = record {
   valued = record { ty = type_of_form formed.form; value = expr_of_form formed.form };
@@ -90,9 +94,11 @@ not_scalar at None = []
 abbrev pub constant_of : NamedExpr → Valued → Constant
 constant_of e valued = record { ty = option_and_then scalar_in valued.ty; value = number_or_zero (folded e valued.value) }
 
+-- what fails in a constant: its type isn't scalar, or its value is no constant number
 abbrev pub constant_failures : Place → NamedExpr → Valued → List Failure
 constant_failures name e valued = not_scalar name valued.ty ++ not_constant e valued.value
 
+-- what is known with one constant more
 abbrev pub with_constant : Environment → Constant → Environment
 with_constant env constant = record env { constants = env.constants ++ constant ∷ [] }
 
@@ -107,9 +113,11 @@ after_constant constant env =
 
 -- ---- variables
 
+-- what is known with one variable more; none stands for a type that it could not be given
 abbrev pub with_variable : Environment → NamedVar → Option Ty → Environment
 with_variable env var ty = record env { vars = env.vars ++ record { name = var.name.text; place = var.name.place; ty = ty; role = var.role } ∷ [] }
 
+-- the lengths of a type that fail, where a type is written
 abbrev pub optional_lengths : Environment → Option NamedType → List Failure
 optional_lengths env (Some written) = bad_lengths env.constants written
 optional_lengths env None = []
@@ -118,6 +126,7 @@ optional_lengths env None = []
 abbrev pub after_variable : NamedVar → Environment → Declaring
 after_variable var env = record { env = with_variable env var (option_map (written_type env.constants) var.ty); failures = optional_lengths env var.ty }
 
+-- whether a variable of this role is an input or an output
 abbrev pub is_parameter : Role → Bool
 is_parameter Input = true
 is_parameter Output = true
@@ -128,6 +137,7 @@ is_parameter Fixed = false
 abbrev pub and_then : Declaring → (Environment → Declaring) → Declaring
 and_then first then_ = record { env = (then_ first.env).env; failures = first.failures ++ (then_ first.env).failures }
 
+-- what is known stays, and nothing fails
 abbrev pub unchanged : Environment → Declaring
 unchanged env = record { env = env; failures = [] }
 
@@ -142,12 +152,15 @@ after_parameters (var ∷ rest) env = and_then (after_parameter var env) (after_
 
 -- ---- structs
 
+-- a field with its type
 abbrev pub field_of : Environment → NamedField → Field
 field_of env field = record { name = field.name.text; ty = written_type env.constants field.ty }
 
+-- the lengths in a field's type that fail
 abbrev pub field_lengths : Environment → NamedField → List Failure
 field_lengths env field = bad_lengths env.constants field.ty
 
+-- a struct with the types of its fields
 abbrev pub struct_of : Environment → NamedStruct → StructDef
 struct_of env def = record { name = def.name.text; place = def.name.place; fields = map (field_of env) def.fields }
 

@@ -98,6 +98,7 @@ pub record Formed : Type 0 where
   pub form : Form
   pub failures : List Failure
 
+-- a form without a type, in which nothing more fails
 abbrev pub failing : Formed
 failing = record { form = Failing; failures = [] }
 
@@ -105,6 +106,7 @@ failing = record { form = Failing; failures = [] }
 abbrev pub fails_type : Place → Formed
 fails_type at = record { form = Failing; failures = fails_at rule.Type at }
 
+-- an expression of this type, in which nothing fails
 abbrev pub has_type : Ty → Expr → Formed
 has_type ty e = record { form = Of ty e; failures = [] }
 
@@ -141,6 +143,7 @@ abbrev pub fitting : Option Ty → Place → Form → Settled
 fitting (Some wanted) at form = wanted_as wanted at form
 fitting None at form = unwanted form
 
+-- an expression where a type or nothing is wanted, behind what fails in it
 abbrev pub in_context : Option Ty → Judged → Settled
 in_context wanted judged = behind judged.failures (fitting wanted judged.place judged.form)
 
@@ -157,6 +160,7 @@ closed_form (Of ty e) = has_type ty e
 
 -- ---- operators
 
+-- an operator of one operand: it stays open, takes the type of its operand, or fails
 abbrev pub one_formed : Place → Op → Form → Formed
 one_formed at op Failing = failing
 one_formed at op (Open a) = if keeps_one_open op then record { form = Open (one at op a); failures = [] } else fails_type (out-Expr a).place
@@ -171,6 +175,7 @@ abbrev pub operands_made : Place → Op → Option Ty → Option Expr → Option
 operands_made at op ty (Some a) (Some b) = formed_as ty at (two at op a b)
 operands_made at op ty _ _ = failing
 
+-- an operator of two operands in their places, where this is the type of what it gives
 abbrev pub two_of : Place → Op → Option Ty → Settled → Settled → Formed
 two_of at op ty a b = after_failures a.failures (after_failures b.failures (operands_made at op ty a.made b.made))
 
@@ -192,6 +197,7 @@ abbrev pub beside_none : Op → Form → Formed
 beside_none op (Open e) = record { form = Failing; failures = (beside op (scalar int32) e).failures }
 beside_none op _ = failing
 
+-- an operator of two operands, from their forms
 abbrev pub two_formed : Place → Op → Form → Form → Formed
 two_formed at op Failing b = beside_none op b
 two_formed at op (Open a) Failing = beside_none op (Open a)
@@ -201,9 +207,11 @@ two_formed at op (Of ty a) Failing = failing
 two_formed at op (Of ty a) (Open b) = two_of at op (type_of_two op ty ty) (kept a) (beside op ty b)
 two_formed at op (Of ty a) (Of other b) = two_of at op (type_of_two op ty other) (kept a) (kept b)
 
+-- the tree of a cast at a place
 abbrev pub cast : Place → ScalarType → Expr → Expr
 cast at target a = roll-Expr (record { place = at; what = what.Cast target a })
 
+-- a cast of an operand that is made has the target type
 abbrev pub cast_made : Place → ScalarType → Option Expr → Form
 cast_made at target (Some a) = Of (scalar target) (cast at target a)
 cast_made at target None = Failing
@@ -212,6 +220,7 @@ cast_made at target None = Failing
 abbrev pub cast_settled : Place → ScalarType → Settled → Formed
 cast_settled at target a = record { form = cast_made at target a.made; failures = a.failures }
 
+-- a cast, from the form of its operand
 abbrev pub cast_formed : Place → ScalarType → Form → Formed
 cast_formed at target Failing = failing
 cast_formed at target (Open a) = cast_settled at target (settled_if (is_whole target) target a)
@@ -219,6 +228,7 @@ cast_formed at target (Of ty a) = formed_as (option_and_then (cast_type target) 
 
 -- ---- variables
 
+-- the tree of `prev` at a place, of the variable with number k
 abbrev pub previous : Place → ℕ → Expr
 previous at k = roll-Expr (record { place = at; what = what.Prev k })
 
@@ -226,10 +236,12 @@ previous at k = roll-Expr (record { place = at; what = what.Prev k })
 abbrev pub previous_fits : UnitKind → Role → Ty → Bool
 previous_fits kind role ty = is_activity kind && (is_variable role && is_some (scalar_in ty))
 
+-- `prev` of a variable of this role and type, in a unit of this kind
 abbrev pub previous_typed : UnitKind → Place → ℕ → Role → Option Ty → Formed
 previous_typed kind at k role (Some ty) = record { form = Of ty (previous at k); failures = unless (previous_fits kind role ty) rule.Prev at }
 previous_typed kind at k role None = failing
 
+-- `prev` of a variable, where it is known
 abbrev pub previous_formed : UnitKind → Place → ℕ → Option Variable → Formed
 previous_formed kind at k (Some var) = previous_typed kind at k var.role var.ty
 previous_formed kind at k None = failing
@@ -246,6 +258,7 @@ abbrev pub field_among : List ℕ → List Field → ℕ → Option FieldAt
 field_among name [] k = None
 field_among name (field ∷ rest) k = if bytes_eq field.name name then Some (record { position = k; ty = field.ty }) else field_among name rest (k + 1)
 
+-- the field of the name in a type; none where that is no struct or has none of the name
 abbrev pub field_in : List StructDef → List ℕ → Ty-F Ty → Option FieldAt
 field_in structs name (Ty-F.Struct s) = option_and_then (λ def. field_among name def.fields 0) (slice_get structs s)
 field_in structs name _ = None
@@ -298,6 +311,7 @@ to_element at index reached = record {
   failures = no_array at reached ++ (as_index at index).failures;
 }
 
+-- a step to an element, after what fails in its index
 abbrev pub after_index : Judged → Stepped → Stepped
 after_index index step = record { ty = step.ty; part = step.part; failures = index.failures ++ step.failures }
 
@@ -324,27 +338,34 @@ pub record Targeted : Type 0 where
   pub found : Found
   pub failures : List Failure
 
+-- the tree of a path at a place: its variable, its parts and the type of what it names
 abbrev pub path : Place → ℕ → List Part → Ty → Path
 path at k parts ty = roll-Path (record { place = at; root = k; parts = parts; ty = ty })
 
+-- a path that leads to something of the type; nothing where it leads nowhere
 abbrev pub path_found : Place → ℕ → List Part → Option Ty → Found
 path_found at k parts (Some ty) = found.Place (path at k parts ty)
 path_found at k parts None = found.Nothing
 
+-- the type of a variable, where it is known
 abbrev pub type_of_variable : Option Variable → Option Ty
 type_of_variable var = option_and_then (λ var. var.ty) var
 
+-- the type of a constant, where it is known
 abbrev pub type_of_constant : Option Constant → Option Ty
 type_of_constant constant = option_and_then (λ constant. option_map scalar constant.ty) constant
 
+-- the number that a constant stands for, and zero where it is not known
 abbrev pub value_of_constant : Option Constant → ℤ
 value_of_constant (Some constant) = constant.value
 value_of_constant None = pos 0
 
+-- a constant number of the type; nothing where it has no scalar type
 abbrev pub constant_found : ℤ → Option ScalarType → Found
 constant_found n (Some s) = found.Constant s n
 constant_found n None = found.Nothing
 
+-- what a target at the place leads to: the root, and then one step after another
 abbrev pub targeted_from : Environment → Place → Root → List (Option Ty → Stepped) → Targeted
 targeted_from env at (root.Variable k) steps =
     let reached : Led = stepped steps (type_of_variable (slice_get env.vars k)) in
@@ -353,6 +374,7 @@ targeted_from env at (root.Constant k) steps =
     let reached : Led = stepped steps (type_of_constant (slice_get env.constants k)) in
     record { found = constant_found (value_of_constant (slice_get env.constants k)) (option_and_then scalar_in reached.ty); failures = reached.failures }
 
+-- the tree of an expression at a place that reads a path
 abbrev pub read : Place → Path → Expr
 read at path = roll-Expr (record { place = at; what = what.Read path })
 
@@ -364,10 +386,12 @@ reading at (found.Place path) = Of (out-Path path).ty (read at path)
 
 -- ---- calls
 
+-- the type that is wanted of the next argument; none beyond the parameters
 abbrev pub first_type : List Var → Option Ty
 first_type [] = None
 first_type (var ∷ rest) = Some var.ty
 
+-- the parameters of the arguments after the next
 abbrev pub but_first : List Var → List Var
 but_first [] = []
 but_first (var ∷ rest) = rest
@@ -381,9 +405,11 @@ fitted (argument ∷ rest) params = in_context (first_type params) argument ∷ 
 abbrev pub all_made : List Settled → List Expr
 all_made arguments = filter_map (λ settled. settled.made) arguments
 
+-- what fails in arguments, in order
 abbrev pub all_failures : List Settled → List Failure
 all_failures arguments = joined (map (λ settled. settled.failures) arguments)
 
+-- the inputs of the unit that is called; none where it is not known
 abbrev pub params_of : Option UnitDef → List Var
 params_of (Some unit) = inputs_of unit
 params_of None = []
@@ -397,6 +423,7 @@ abbrev pub misnamed : Place → ℕ → Option UnitDef → List Failure
 misnamed at inputs (Some callee) = miscounted at inputs 0 callee ++ unless (is_some callee.result) rule.Return at
 misnamed at inputs None = []
 
+-- the tree of a call at a place: the number of the function, and the inputs
 abbrev pub call : Place → ℕ → List Expr → Expr
 call at f inputs = roll-Expr (record { place = at; what = what.Call f inputs })
 
@@ -405,6 +432,7 @@ abbrev pub call_form : Place → ℕ → List Expr → Bool → Option ScalarTyp
 call_form at f inputs true (Some s) = Of (scalar s) (call at f inputs)
 call_form at f inputs _ _ = Failing
 
+-- a call, from its arguments and the unit that is called
 abbrev pub call_formed : Place → Place → ℕ → List Settled → Option UnitDef → Formed
 call_formed at name f arguments callee = record {
   form = call_form at f (all_made arguments) (nat_eq (length (all_made arguments)) (length arguments)) (option_and_then (λ unit. unit.result) callee);
@@ -418,6 +446,7 @@ abbrev pub written_number : Bool → ℕ → ℤ
 written_number true n = neg_ℤ (pos (min n (2 ^ 64)))
 written_number false n = pos (min n (2 ^ 64))
 
+-- a kind of expression at a place, from what is known of its parts
 abbrev pub judged_kind : Environment → NamedExprKind-F (Place → Formed) (Option Ty → Stepped) Judged Targeted → Place → Formed
 judged_kind env (NamedExprKind-F.Number minus n) at = record { form = Open (literal at (written_number minus n) int32); failures = [] }
 judged_kind env (NamedExprKind-F.Truth truth) at = has_type (scalar OfBool) (literal at (number_of truth) OfBool)
@@ -429,13 +458,16 @@ judged_kind env (NamedExprKind-F.Cast target a) at = after_failures a.failures (
 judged_kind env (NamedExprKind-F.Call name f inputs) at =
     call_formed at name f (fitted inputs (params_of (slice_get env.units f))) (slice_get env.units f)
 
+-- a part of a target, from the type of what is reached before it
 abbrev pub judged_part : Environment → NamedPart-F (Place → Formed) (Option Ty → Stepped) Judged Targeted → Option Ty → Stepped
 judged_part env (NamedPart-F.Field name) ty = to_field env.structs name ty
 judged_part env (NamedPart-F.Index index) ty = after_index index (to_element index.place index.form ty)
 
+-- an expression, from what its kind comes to at its place
 abbrev pub judged_layer : NamedExpr-F (Place → Formed) (Option Ty → Stepped) Judged Targeted → Judged
 judged_layer e = let formed : Formed = e.what e.place in record { place = e.place; form = formed.form; failures = formed.failures }
 
+-- a target, from the steps of its parts
 abbrev pub judged_target : Environment → NamedTarget-F (Place → Formed) (Option Ty → Stepped) Judged Targeted → Targeted
 judged_target env target = targeted_from env target.place target.root target.parts
 
@@ -444,8 +476,8 @@ abbrev pub judged : Environment → NamedExpr → Judged
 judged env = fold-NamedExpr (Place → Formed) (Option Ty → Stepped) Judged Targeted (judged_kind env) (judged_part env) judged_layer (judged_target env)
 
 -- a call in an expression; the name of the function stands at the second place
-abbrev pub called : Environment → Place → Place → ℕ → List NamedExpr → Formed
-called env at name f inputs = call_formed at name f (fitted (map (judged env) inputs) (params_of (slice_get env.units f))) (slice_get env.units f)
+abbrev pub call_judged : Environment → Place → Place → ℕ → List NamedExpr → Formed
+call_judged env at name f inputs = call_formed at name f (fitted (map (judged env) inputs) (params_of (slice_get env.units f))) (slice_get env.units f)
 
 -- a part of a target, from the type of what is reached before it
 abbrev pub step_of : Environment → NamedPart → Option Ty → Stepped

@@ -15,6 +15,7 @@ use Rattle.bl_types.specs.Failures.{unless}
 
 -- ---- what a constant's value is made of
 
+-- whether a kind of expression is constant, from whether its operands are
 abbrev pub constant_kind : NamedExprKind-F Bool (Unit {0}) Bool Bool → Bool
 constant_kind (NamedExprKind-F.Number minus n) = true
 constant_kind (NamedExprKind-F.Truth truth) = true
@@ -24,16 +25,20 @@ constant_kind (NamedExprKind-F.Two op a b) = a && b
 constant_kind (NamedExprKind-F.Cast target a) = a
 constant_kind _ = false
 
+-- nothing is asked of a part: a target with one is not constant
 abbrev pub constant_part : NamedPart-F Bool (Unit {0}) Bool Bool → Unit {0}
 constant_part part = tt
 
+-- an expression is constant where its kind is
 abbrev pub constant_layer : NamedExpr-F Bool (Unit {0}) Bool Bool → Bool
 constant_layer e = e.what
 
+-- whether a root with these parts is a constant without a part
 abbrev pub whole_constant : Root → List (Unit {0}) → Bool
 whole_constant (root.Constant k) [] = true
 whole_constant _ _ = false
 
+-- a target is constant where it is a constant without a part
 abbrev pub constant_target : NamedTarget-F Bool (Unit {0}) Bool Bool → Bool
 constant_target target = whole_constant target.root target.parts
 
@@ -51,6 +56,7 @@ constant_target_of = fold-NamedTarget Bool (Unit {0}) Bool Bool constant_kind co
 abbrev pub nowhere : Scope
 nowhere = record { structs = []; vars = []; callees = [] }
 
+-- the values where there are no variables
 abbrev pub no_values : View
 no_values = record { now = []; before = [] }
 
@@ -66,6 +72,7 @@ as_operand a = record { ty = a.ty; n = a.n }
 abbrev pub folded : NamedExpr → Option Expr → Option Operand
 folded e value = if is_constant e then option_and_then number_in value else None
 
+-- the number, and zero where there is none
 abbrev pub number_or_zero : Option Operand → ℤ
 number_or_zero (Some a) = a.n
 number_or_zero None = pos 0

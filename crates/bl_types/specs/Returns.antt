@@ -16,17 +16,21 @@ use Rattle.bl_types.specs.Failures.{fails_at, unless}
 
 -- ---- whether a block surely returns: its last statement is a `return`, or an `if` with an `else` all of whose arms surely return
 
+-- whether a kind of statement surely returns, from whether its blocks do
 abbrev pub kind_returns : NamedStmtKind-F Bool Bool Bool Bool → Bool
 kind_returns (NamedStmtKind-F.Return e) = true
 kind_returns (NamedStmtKind-F.If arms other) = all_of arms && last_of other
 kind_returns _ = false
 
+-- whether an arm surely returns: its last statement does
 abbrev pub arm_returns : NamedArm-F Bool Bool Bool Bool → Bool
 arm_returns arm = last_of arm.body
 
+-- a branch never counts as one that surely returns
 abbrev pub branch_returns : NamedBranch-F Bool Bool Bool Bool → Bool
 branch_returns branch = false
 
+-- a statement surely returns where its kind does
 abbrev pub layer_returns : NamedStmt-F Bool Bool Bool Bool → Bool
 layer_returns s = s.what
 
@@ -34,11 +38,13 @@ layer_returns s = s.what
 abbrev pub surely_returns : NamedStmt → Bool
 surely_returns = fold-NamedStmt Bool Bool Bool Bool kind_returns arm_returns branch_returns layer_returns
 
+-- whether the block of an arm surely returns
 abbrev pub arm_surely_returns : NamedArm → Bool
 arm_surely_returns = fold-NamedArm Bool Bool Bool Bool kind_returns arm_returns branch_returns layer_returns
 
 -- ---- each `return` in a part of a body, where none may stand; at the `return`
 
+-- the failures of a kind of statement at a place, from those of its blocks
 abbrev pub kind_strays : NamedStmtKind-F (Place → List Failure) (List Failure) (List Failure) (List Failure) → Place → List Failure
 kind_strays (NamedStmtKind-F.Return e) at = fails_at rule.Return at
 kind_strays (NamedStmtKind-F.If arms other) at = joined arms ++ joined other
@@ -49,12 +55,15 @@ kind_strays (NamedStmtKind-F.Until body e) at = joined body
 kind_strays (NamedStmtKind-F.While e body) at = joined body
 kind_strays _ at = []
 
+-- the failures in an arm, from those in its statements
 abbrev pub arm_layer_strays : NamedArm-F (Place → List Failure) (List Failure) (List Failure) (List Failure) → List Failure
 arm_layer_strays arm = joined arm.body
 
+-- the failures in a branch, from those in its statements
 abbrev pub branch_layer_strays : NamedBranch-F (Place → List Failure) (List Failure) (List Failure) (List Failure) → List Failure
 branch_layer_strays branch = joined branch.body
 
+-- the failures in a statement are those of its kind at its place
 abbrev pub layer_strays : NamedStmt-F (Place → List Failure) (List Failure) (List Failure) (List Failure) → List Failure
 layer_strays s = s.what s.place
 
@@ -62,18 +71,22 @@ layer_strays s = s.what s.place
 abbrev pub strays_in : NamedStmt → List Failure
 strays_in = fold-NamedStmt (Place → List Failure) (List Failure) (List Failure) (List Failure) kind_strays arm_layer_strays branch_layer_strays layer_strays
 
+-- the failures in an arm
 abbrev pub strays_in_arm : NamedArm → List Failure
 strays_in_arm = fold-NamedArm (Place → List Failure) (List Failure) (List Failure)
     (List Failure) kind_strays arm_layer_strays branch_layer_strays layer_strays
 
+-- the failures in a branch
 abbrev pub strays_in_branch : NamedBranch → List Failure
 strays_in_branch = fold-NamedBranch (Place → List Failure) (List Failure) (List Failure)
     (List Failure) kind_strays arm_layer_strays branch_layer_strays layer_strays
 
+-- whether a kind of statement is a `return`
 abbrev pub is_return_kind : {A B C D : Type 0} → NamedStmtKind-F A B C D → Bool
 is_return_kind (NamedStmtKind-F.Return e) = true
 is_return_kind _ = false
 
+-- whether a statement is a `return`
 abbrev pub is_return : NamedStmt → Bool
 is_return s = is_return_kind (out-NamedStmtKind (out-NamedStmt s).what)
 

@@ -53,12 +53,15 @@ pub record Settled : Type 0 where
   pub made : Option Expr
   pub failures : List Failure
 
+-- the tree of a number at a place, of this type
 abbrev pub literal : Place → ℤ → ScalarType → Expr
 literal at n s = roll-Expr (record { place = at; what = what.Literal n s })
 
+-- the tree of an operator at a place, with its operand
 abbrev pub one : Place → Op → Expr → Expr
 one at op a = roll-Expr (record { place = at; what = what.One op a })
 
+-- the tree of an operator at a place, with its two operands
 abbrev pub two : Place → Op → Expr → Expr → Expr
 two at op a b = roll-Expr (record { place = at; what = what.Two op a b })
 
@@ -97,12 +100,15 @@ settled_kind s (ExprKind-F.One op a) at = behind a.failures (one_made s at op a.
 settled_kind s (ExprKind-F.Two op a b) at = behind a.failures (behind b.failures (two_made s at op a.made b.made))
 settled_kind s _ at = nothing
 
+-- nothing is asked of a part: no open expression has one
 abbrev pub settled_part : Part-F (Place → Settled) (Unit {0}) Settled (Unit {0}) → Unit {0}
 settled_part part = tt
 
+-- an expression, from what its kind comes to at its place
 abbrev pub settled_layer : Expr-F (Place → Settled) (Unit {0}) Settled (Unit {0}) → Settled
 settled_layer e = e.what e.place
 
+-- nothing is asked of a path: no open expression has one
 abbrev pub settled_path : Path-F (Place → Settled) (Unit {0}) Settled (Unit {0}) → Unit {0}
 settled_path path = tt
 
@@ -112,6 +118,7 @@ settled s = fold-Expr (Place → Settled) (Unit {0}) Settled (Unit {0}) (settled
 
 -- ---- an open expression where some type is wanted
 
+-- an open expression, of which this type is wanted where the test is true; else it doesn't fit
 abbrev pub settled_if : Bool → ScalarType → Expr → Settled
 settled_if true s e = settled s e
 settled_if false s e = unfit (out-Expr e).place
@@ -121,5 +128,6 @@ abbrev pub given_scalar : Option ScalarType → Expr → Settled
 given_scalar (Some s) e = settled_if (is_whole s) s e
 given_scalar None e = unfit (out-Expr e).place
 
+-- an open expression where this type is wanted of it
 abbrev pub given : Ty → Expr → Settled
 given ty e = given_scalar (scalar_in ty) e

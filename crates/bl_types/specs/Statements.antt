@@ -102,6 +102,7 @@ in_order (part ∷ rest) env =
     let further : Block _ = in_order rest first.env in
     record { env = further.env; made = with_made first.made further.made; failures = first.failures ++ further.failures }
 
+-- what a part comes to, from what is known after it, what is made of it and what fails in it
 abbrev pub walked : {A : Type 0} → Environment → Option A → List Failure → Walked A
 walked env made failures = record { env = env; made = made; failures = failures }
 
@@ -120,10 +121,12 @@ abbrev pub immutable_variable : Place → Option Variable → List Failure
 immutable_variable at (Some var) = if may_change var.role then [] else record { rule = rule.Immutable; at = at; further = One var.place } ∷ []
 immutable_variable at None = []
 
+-- what fails in a change of the root at the place, where that is a variable
 abbrev pub immutable : Environment → Place → Root → List Failure
 immutable env at (root.Variable k) = immutable_variable at (slice_get env.vars k)
 immutable env at (root.Constant k) = []
 
+-- the type of what a target leads to, where that is a path
 abbrev pub type_found : Found → Option Ty
 type_found (found.Place path) = Some (out-Path path).ty
 type_found _ = None
@@ -158,12 +161,15 @@ abbrev pub all_lent : Environment → List NamedPath → List Var → List Lent
 all_lent env [] params = []
 all_lent env (path ∷ rest) params = lent env (first_type params) path ∷ all_lent env rest (but_first params)
 
+-- the paths that are made
 abbrev pub paths_made : List Lent → List Path
 paths_made all = filter_map (λ lent. lent.made) all
 
+-- what fails in paths, in order
 abbrev pub paths_failures : List Lent → List Failure
 paths_failures all = joined (map (λ lent. lent.failures) all)
 
+-- the outputs of the unit that is called; none where it is not known
 abbrev pub outputs_wanted : Option UnitDef → List Var
 outputs_wanted (Some unit) = outputs_of unit
 outputs_wanted None = []
@@ -178,10 +184,12 @@ pub record Arguments : Type 0 where
   pub complete : Bool
   pub failures : List Failure
 
+-- the failure of a wrong number of inputs or outputs, where the unit that is called is known
 abbrev pub counted : Place → ℕ → ℕ → Option UnitDef → List Failure
 counted at inputs outputs (Some callee) = miscounted at inputs outputs callee
 counted at inputs outputs None = []
 
+-- the arguments of a call at the place, from its inputs and outputs and the unit that is called
 abbrev pub arguments_from : Place → List Settled → List Lent → Option UnitDef → Arguments
 arguments_from at inputs outputs callee = record {
   inputs = all_made inputs;
@@ -201,9 +209,11 @@ abbrev pub has_result : Place → Option UnitDef → List Failure
 has_result at (Some callee) = unless (is_none callee.result) rule.Return at
 has_result at None = []
 
+-- a call of these arguments, where all of them have types that fit
 abbrev pub if_complete : Arguments → (List Expr → List Path → StmtKind) → Option StmtKind
 if_complete arguments make = if arguments.complete then Some (make arguments.inputs arguments.outputs) else None
 
+-- a call statement, from its arguments
 abbrev pub call_walked : Place → ℕ → Arguments → Environment → Walked StmtKind
 call_walked at f arguments env = walked env (if_complete arguments (what.Call f)) (arguments.failures ++ has_result at (slice_get env.units f))
 
@@ -212,6 +222,7 @@ pub record RunTarget : Type 0 where
   pub made : Option (Option Path)
   pub failures : List Failure
 
+-- the type of what the unit gives; none where it has no result
 abbrev pub result_type : Option UnitDef → Option Ty
 result_type callee = option_and_then (λ unit. option_map scalar unit.result) callee
 
@@ -220,24 +231,29 @@ abbrev pub no_result : Place → Option UnitDef → List Failure
 no_result at (Some callee) = unless (is_some callee.result) rule.Return at
 no_result at None = []
 
+-- the target of a run of this unit, of which the type of the result is wanted
 abbrev pub run_target : Environment → Option UnitDef → Option NamedPath → RunTarget
 run_target env callee None = record { made = Some None; failures = [] }
 run_target env callee (Some path) =
     let target : Lent = lent env (result_type callee) path in
     record { made = option_map (λ path. Some path) target.made; failures = target.failures ++ no_result path.place callee }
 
+-- a run is made where its target and all its arguments are
 abbrev pub run_made : Option (Option Path) → ℕ → Arguments → Option StmtKind
 run_made (Some target) a arguments = if_complete arguments (what.Run target a)
 run_made None a arguments = None
 
+-- a run at the place, from its target and its arguments
 abbrev pub run_walked : Place → ℕ → RunTarget → Arguments → Environment → Walked StmtKind
 run_walked at a target arguments env = walked env (run_made target.made a arguments) (misplaced env.kind at ++ (target.failures ++ arguments.failures))
 
 -- ---- declarations, assignments and returns
 
+-- a declaration of the variable with number k that has this initial value
 abbrev pub declared_with : NamedVar → ℕ → Initial → Environment → Walked StmtKind
 declared_with var k value env = walked (with_variable env var value.valued.ty) (option_map (λ e. what.Declare k (Some e)) value.valued.value) value.failures
 
+-- a declaration of the variable with number k without an initial value
 abbrev pub declared_without : ℕ → Declaring → Walked StmtKind
 declared_without k after = walked after.env (Some (what.Declare k None)) after.failures
 
@@ -247,6 +263,7 @@ declare k (Some var) (Some e) env = declared_with var k (initial env var.ty e) e
 declare k (Some var) None env = declared_without k (after_variable var env)
 declare k None e env = walked env None []
 
+-- after a constant, where there is one
 abbrev pub after_optional_constant : Option NamedConstant → Environment → Declaring
 after_optional_constant (Some constant) env = after_constant constant env
 after_optional_constant None env = unchanged env
@@ -255,10 +272,12 @@ after_optional_constant None env = unchanged env
 abbrev pub constant_walked : Declaring → Walked StmtKind
 constant_walked after = walked after.env None after.failures
 
+-- an assignment is made where the target is a path and the value is made
 abbrev pub assign_made : Found → Option Expr → Option StmtKind
 assign_made (found.Place path) (Some e) = Some (what.Assign path e)
 assign_made _ _ = None
 
+-- an assignment, from what its target leads to: the type of that is wanted of the value
 abbrev pub assign : NamedTarget → Targeted → NamedExpr → Environment → Walked StmtKind
 assign target leads e env =
     let value : Settled = in_context (type_found leads.found) (judged env e) in
@@ -284,6 +303,7 @@ under earlier test body make = walked body.env (option_map (λ e. make e body.ma
 abbrev pub until : Block Stmt → Settled → Walked StmtKind
 until body test = walked body.env (option_map (λ e. what.Until body.made e) test.made) (body.failures ++ test.failures)
 
+-- an `if`, from its arms and its `else` block
 abbrev pub choice : Block Arm → Block Stmt → Walked StmtKind
 choice arms other = walked other.env (Some (what.If arms.made other.made)) (arms.failures ++ other.failures)
 
@@ -291,6 +311,7 @@ choice arms other = walked other.env (Some (what.If arms.made other.made)) (arms
 abbrev pub Walk : Type 0 → Type 0
 Walk A = Environment → Walked A
 
+-- a kind of statement at a place, from what its parts come to
 abbrev pub walked_kind : List NamedConstant → List NamedVar →
     NamedStmtKind-F (Place → Walk StmtKind) (Walk Arm) (Walk Branch) (Walk Stmt) → Place → Walk StmtKind
 walked_kind constants vars (NamedStmtKind-F.Declare k e) at env = declare k (slice_get vars k) e env
@@ -311,19 +332,24 @@ walked_kind constants vars (NamedStmtKind-F.Until body e) at env = let all : Blo
 walked_kind constants vars (NamedStmtKind-F.While e body) at env = under [] (condition env e) (in_order body env) what.While
 walked_kind constants vars (NamedStmtKind-F.Return e) at env = returned at e env.result env
 
+-- an arm with this condition and these statements
 abbrev pub arm_of : Expr → List Stmt → Arm
 arm_of test body = roll-Arm (record { test = test; body = body })
 
+-- an arm, from what its statements come to
 abbrev pub walked_arm : NamedArm-F (Place → Walk StmtKind) (Walk Arm) (Walk Branch) (Walk Stmt) → Walk Arm
 walked_arm arm env = under [] (condition env arm.test) (in_order arm.body env) arm_of
 
+-- a branch, from what its statements come to
 abbrev pub walked_branch : NamedBranch-F (Place → Walk StmtKind) (Walk Arm) (Walk Branch) (Walk Stmt) → Walk Branch
 walked_branch branch env =
     let all : Block Stmt = in_order branch.body env in walked all.env (Some (roll-Branch (record { weak = branch.weak; body = all.made }))) all.failures
 
+-- a statement of this kind at the place
 abbrev pub stmt_made : Place → StmtKind → Stmt
 stmt_made at what = roll-Stmt (record { place = at; what = what })
 
+-- a statement, from what its kind comes to at its place
 abbrev pub walked_layer : NamedStmt-F (Place → Walk StmtKind) (Walk Arm) (Walk Branch) (Walk Stmt) → Walk Stmt
 walked_layer s env = let kind : Walked StmtKind = s.what s.place env in walked kind.env (option_map (stmt_made s.place) kind.made) kind.failures
 
@@ -338,10 +364,12 @@ kind_walked constants vars s =
     fold-NamedStmtKind (Place → Walk StmtKind) (Walk Arm) (Walk Branch) (Walk Stmt) (walked_kind constants vars) walked_arm walked_branch walked_layer
     (out-NamedStmt s).what (out-NamedStmt s).place
 
+-- an arm, where these are the constants of the program and the variables of its unit
 abbrev pub arm_walked : List NamedConstant → List NamedVar → NamedArm → Walk Arm
 arm_walked constants vars = fold-NamedArm (Place → Walk StmtKind) (Walk Arm) (Walk Branch) (Walk Stmt)
     (walked_kind constants vars) walked_arm walked_branch walked_layer
 
+-- a branch, where these are the constants of the program and the variables of its unit
 abbrev pub branch_walked : List NamedConstant → List NamedVar → NamedBranch → Walk Branch
 branch_walked constants vars = fold-NamedBranch (Place → Walk StmtKind) (Walk Arm) (Walk Branch) (Walk Stmt)
     (walked_kind constants vars) walked_arm walked_branch walked_layer

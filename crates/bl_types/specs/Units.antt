@@ -55,10 +55,12 @@ pub record Result : Type 0 where
 abbrev pub result_typed : Place → List Failure → Ty → Result
 result_typed name earlier ty = record { result = scalar_in ty; failures = earlier ++ unless (is_some (scalar_in ty)) rule.Type name }
 
+-- the result that is written, and what fails in it; none where none is written
 abbrev pub result_of : Environment → Place → Option NamedType → Result
 result_of env name (Some written) = result_typed name (bad_lengths env.constants written) (written_type env.constants written)
 result_of env name None = record { result = None; failures = [] }
 
+-- a variable with this type
 abbrev pub var_typed : Variable → Ty → Var
 var_typed var ty = record { name = var.name; place = var.place; ty = ty; role = var.role }
 
@@ -66,6 +68,7 @@ var_typed var ty = record { name = var.name; place = var.place; ty = ty; role = 
 abbrev pub var_of : Variable → Option Var
 var_of var = option_map (var_typed var) var.ty
 
+-- those of the variables that have types
 abbrev pub vars_of : List Variable → List Var
 vars_of vars = filter_map var_of vars
 
@@ -73,6 +76,7 @@ vars_of vars = filter_map var_of vars
 abbrev pub entered : NamedUnit → Environment → Environment
 entered unit env = record env { vars = []; kind = unit.kind; result = None }
 
+-- a unit with this body, from what is known at its end
 abbrev pub unit_of : NamedUnit → List Stmt → Environment → UnitDef
 unit_of unit body env = record {
   name = unit.name.text;
@@ -105,10 +109,12 @@ after_unit constants unit env =
 
 -- ---- the entry
 
+-- whether the outermost level of a written type is a scalar type
 abbrev pub is_scalar_level : NamedType-F NamedType → Bool
 is_scalar_level (NamedType-F.Scalar s) = true
 is_scalar_level _ = false
 
+-- whether a type is written and is scalar
 abbrev pub is_scalar : Option NamedType → Bool
 is_scalar (Some written) = is_scalar_level (out-NamedType written)
 is_scalar None = false

@@ -36,10 +36,12 @@ use Rattle.bl_types.specs.Failures.{fails_at}
 abbrev pub as_length : ℕ → Option ℕ
 as_length n = if nat_le 1 n && nat_le n 65536 then Some n else None
 
+-- a number that is not below zero
 abbrev pub natural : ℤ → Option ℕ
 natural (pos n) = Some n
 natural (negsuc n) = None
 
+-- whether there is a type, and it is one of whole numbers
 abbrev pub is_whole_type : Option ScalarType → Bool
 is_whole_type (Some s) = is_whole s
 is_whole_type None = false
@@ -53,14 +55,17 @@ abbrev pub written_length : List Constant → NamedLength → Option ℕ
 written_length constants (length_of.Number n) = as_length n.value
 written_length constants (length_of.Constant at k) = option_and_then constant_length (slice_get constants k)
 
+-- where a length is written
 abbrev pub place_of_length : NamedLength → Place
 place_of_length (length_of.Number n) = n.place
 place_of_length (length_of.Constant at k) = at
 
+-- the number, and zero where there is none
 abbrev pub or_zero : Option ℕ → ℕ
 or_zero (Some n) = n
 or_zero None = 0
 
+-- a level of a written type, from the type of its elements
 abbrev pub type_level : List Constant → NamedType-F Ty → Ty
 type_level constants (NamedType-F.Scalar s) = type.Scalar s
 type_level constants (NamedType-F.Struct k) = type.Struct k
@@ -75,6 +80,7 @@ abbrev pub bad_length : Place → Option ℕ → List Failure
 bad_length at (Some n) = []
 bad_length at None = fails_at rule.Constant at
 
+-- the lengths that fail in a level of a written type, and those in its elements
 abbrev pub length_level : List Constant → NamedType-F (List Failure) → List Failure
 length_level constants (NamedType-F.Scalar s) = []
 length_level constants (NamedType-F.Struct k) = []

@@ -217,10 +217,10 @@ pub fn structure(alloc: Global, def: &NamedStruct, state: &mut State) -> Result<
     ensures { OnOk result (state.new ≡ after state.old (after_struct def.now)) }
 {
     let fields = fields(alloc, &def.fields, &state.env, &mut state.notes)?;
-    state.env.structs.push(StructDef {
+    let made = StructDef {
         name: Text::copy_of(alloc, &def.name.text)?,
         place: def.name.place,
         fields,
-    })?;
-    Ok(())
+    };
+    state.env.structs.push(alloc, made)
 }

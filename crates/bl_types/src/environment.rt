@@ -1,6 +1,7 @@
 //! What the names before a place of the text stand for.
 
 use crate::failure::Notes;
+use crate::structs::Structs;
 use bl_tree::tree::{Role, StructDef, Ty, Unit, UnitKind};
 use bl_tree::{List, Place, Scalar, Text};
 
@@ -27,7 +28,7 @@ pub struct Variable {
 /// What the names before a place of the text stand for, by their positions.
 #[derive(Drop)]
 pub struct Environment {
-    pub structs: List<StructDef>,
+    pub structs: Structs,
     pub constants: List<Constant>,
     pub units: List<Unit>,
     /// The variables of the unit in which the place stands.

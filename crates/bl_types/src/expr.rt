@@ -5,7 +5,7 @@ ghost use Rattle.std.specs.Prelude.{◌≡◌, IfOk, OnOk, Some, is_some, map, n
 ghost use Rattle.bl_tree.specs.declared.scalar.Scalar.TheVariants.{Bool as OfBool};
 ghost use Rattle.bl_tree.specs.Numbers.{number_of};
 ghost use Rattle.bl_tree.specs.Types.{scalar};
-ghost use Rattle.bl_types.specs.Expressions.{all_failures, all_made, call_form, called, fitted, fitting, in_context, judged, miscounted, misnamed};
+ghost use Rattle.bl_types.specs.Expressions.{all_failures, all_made, call_form, call_judged, fitted, fitting, in_context, judged, miscounted, misnamed};
 ghost use Rattle.bl_types.specs.Expressions.{previous_fits, previous_formed, reading, step_of, stepped, targeted, written_number};
 ghost use Rattle.bl_types.specs.Failures.{noted};
 ghost use Rattle.bl_types.specs.Settled.{literal};
@@ -16,12 +16,13 @@ use crate::failure::Notes;
 use crate::form::{Form, Found, Reached, Step};
 use crate::operators::{fitting, of_cast, of_one, of_two, unwanted};
 use crate::settle::{INT32, literal};
-use crate::slices::{but_first, element, first_type, inputs_of};
+use crate::slices::{but_first, first_type, inputs_of};
 use crate::target::{
     constant_found, path_found, to_element, to_field, type_of_constant, type_of_variable,
 };
 use crate::types::{copy_of, scalar_in};
 use bl_named::expr::{NamedExpr, NamedExprKind, NamedPart, NamedTarget, Root};
+use bl_tree::slices::element;
 use bl_tree::tree::{Expr, ExprKind, Role, Ty, Unit, UnitKind, Var};
 use bl_tree::{List, NoMemory, Place, Rule, Scalar};
 use std::alloc::Global;
@@ -227,8 +228,8 @@ fn call(
     env: &Environment,
     notes: &mut Notes,
 ) -> Result<Form, NoMemory>
-    ensures form { IfOk result (λ form. form ≡ (called env.now at name f inputs.now).form) }
-    ensures notes { OnOk result (notes.new ≡ noted notes.old (called env.now at name f inputs.now).failures) }
+    ensures form { IfOk result (λ form. form ≡ (call_judged env.now at name f inputs.now).form) }
+    ensures notes { OnOk result (notes.new ≡ noted notes.old (call_judged env.now at name f inputs.now).failures) }
 {
     let callee = element(&env.units, f as usize);
     let made = arguments(alloc, inputs, inputs_of(callee), env, notes)?;

@@ -19,6 +19,7 @@ mod returns;
 mod settle;
 mod slices;
 mod stmt;
+mod structs;
 mod target;
 mod types;
 mod unit;

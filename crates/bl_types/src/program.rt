@@ -6,15 +6,16 @@ ghost use Rattle.bl_types.specs.Declarations.{after_constant, after_struct};
 ghost use Rattle.bl_types.specs.Programs.{after_item, after_items, after_next, after_program, failures_of, start, typed_program};
 ghost use Rattle.bl_types.specs.Rules.{IsCause, Passes};
 ghost use Rattle.bl_types.specs.inner.States.{after, passed};
-ghost use Rattle.bl_types.specs.Units.{after_unit};
+ghost use Rattle.bl_types.specs.Units.{after_unit, entry_among};
 
 use crate::declare::{constant, structure};
 use crate::environment::{Environment, State, Typed};
 use crate::failure::Notes;
-use crate::slices::element;
+use crate::structs::Structs;
 use crate::unit::{entries, entry, unit};
 use bl_named::Named;
 use bl_named::item::{Item, NamedConstant, NamedStruct, NamedUnit};
+use bl_tree::slices::element;
 use bl_tree::tree::UnitKind;
 use bl_tree::{List, NoMemory, Place, Refusal};
 use std::alloc::Global;
@@ -37,7 +38,7 @@ fn fresh(alloc: Global) -> State
 {
     State {
         env: Environment {
-            structs: List::new(alloc),
+            structs: Structs::new(alloc),
             constants: List::new(alloc),
             units: List::new(alloc),
             vars: List::new(alloc),
@@ -144,21 +145,24 @@ fn verdict(alloc: Global, named: &Named, state: State) -> Result<Typed, Refusal>
 {
     let State { env, notes } = state;
     match notes.first {
-        None => match entry(&named.units) {
-            Ok(entry) => Ok(typed(env, entry)),
+        None => match typed(alloc, env, &named.units) {
+            Ok(typed) => Ok(typed),
             Err(NoMemory) => Err(Refusal::NoMemory),
         },
         Some(failure) => Err(failure.refusal(alloc)),
     }
 }
 
-fn typed(env: Environment, entry: u32) -> Typed
-    ensures { result ≡ record { structs = env.structs; units = env.units; entry = entry } }
+/// The structs and units that are known after the program, which has these units.
+fn typed(alloc: Global, env: Environment, named: &[NamedUnit]) -> Result<Typed, NoMemory>
+    ensures { IfOk result (λ typed. typed ≡ record { structs = env.structs; units = env.units; entry = entry_among named.now 0 }) }
 {
+    let entry = entry(named)?;
     let Environment { structs, units, .. } = env;
-    Typed {
+    let structs = structs.into_list(alloc)?;
+    Ok(Typed {
         structs,
         units,
         entry,
-    }
+    })
 }

@@ -1,23 +1,11 @@
 //! Elements and parts of slices, where there may be none.
 
-ghost use Rattle.std.specs.Prelude.{◌≡◌, ◌++◌, OnOk, [], drop, option_map, slice_get, take};
+ghost use Rattle.std.specs.Prelude.{◌≡◌, ◌++◌, OnOk, [], drop, option_map, take};
 ghost use Rattle.bl_types.specs.Expressions.{but_first, first_type, params_of, with_made};
 ghost use Rattle.bl_types.specs.Statements.{outputs_wanted};
 
 use bl_tree::tree::{Ty, Unit, Var};
 use bl_tree::{List, NoMemory};
-
-/// The element at the position, where there is one.
-#[tactic(auto, using(std::proofs::lemmas::Option::gets))]
-pub fn element<T>(items: &[T], k: usize) -> Option<&T>
-    ensures { option_map (λ x. x.now) result ≡ slice_get items.now k }
-{
-    if k < items.len() {
-        Some(&items[k])
-    } else {
-        None
-    }
-}
 
 /// Adds the element, where there is one.
 pub fn keep<T: Drop>(list: &mut List<T>, one: Option<T>) -> Result<(), NoMemory>

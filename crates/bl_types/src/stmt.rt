@@ -13,10 +13,11 @@ use crate::declare::{constant, declare, initial, variable};
 use crate::environment::State;
 use crate::expr::{in_context, target};
 use crate::form::Found;
-use crate::slices::{element, keep};
+use crate::slices::keep;
 use bl_named::expr::{NamedExpr, NamedTarget, Root};
 use bl_named::item::{NamedConstant, NamedVar};
 use bl_named::stmt::{NamedArm, NamedBranch, NamedStmt, NamedStmtKind};
+use bl_tree::slices::element;
 use bl_tree::tree::{Arm, Branch, Expr, Guard, Stmt, StmtKind, Ty};
 use bl_tree::{List, NoMemory, Place, Rule, Scalar};
 use std::alloc::Global;
@@ -401,7 +402,8 @@ fn branches(
     source: Source<'_>,
     state: &mut State,
 ) -> Result<List<Branch>, NoMemory>
-    ensures made { IfOk result (λ made. made ≡ (in_order (map (branch_walked source.entry.constants.now source.entry.vars.now) all.now) state.old.env).made) }
+    ensures made { IfOk result
+        (λ made. made ≡ (in_order (map (branch_walked source.entry.constants.now source.entry.vars.now) all.now) state.old.env).made) }
     ensures state { OnOk result (state.new ≡ passed state.old
         (in_order (map (branch_walked source.entry.constants.now source.entry.vars.now) all.now) state.old.env).env
         (in_order (map (branch_walked source.entry.constants.now source.entry.vars.now) all.now) state.old.env).failures) }

@@ -3,57 +3,21 @@
 
 ghost use Rattle.std.specs.Prelude.{◌≡◌, IfOk, OnOk, Some, option_and_then, option_map};
 ghost use Rattle.bl_tree.specs.Types.{scalar_in};
-ghost use Rattle.bl_types.specs.Expressions.{as_index, constant_found, element_type, field_among, field_in, no_array, path_found, to_element, to_field};
+ghost use Rattle.bl_types.specs.Expressions.{as_index, constant_found, element_type, no_array, path_found, to_element, to_field};
 ghost use Rattle.bl_types.specs.Expressions.{type_of_constant, type_of_variable, value_of_constant, whole_or_unfit};
 ghost use Rattle.bl_tree.specs.declared.tree.Part.TheVariants.{Field as ToField, Index as ToElement};
-ghost use Rattle.bl_tree.specs.declared.tree.Ty.{out-Ty};
 ghost use Rattle.bl_types.specs.Failures.{noted};
 
 use crate::environment::{Constant, Variable};
 use crate::failure::Notes;
 use crate::form::{Form, Found, Reached, Step};
 use crate::settle::{INT32, settle};
-use crate::slices::element;
+use crate::structs::Structs;
 use crate::types::{copy_of, scalar_in};
 use bl_raw::name::Name;
-use bl_tree::tree::{Expr, Field, Part, Path, StructDef, Ty};
+use bl_tree::tree::{Expr, Part, Path, Ty};
 use bl_tree::{NoMemory, Place, Rule};
 use std::alloc::Global;
-
-/// A field of a struct.
-#[derive(Clone, Copy)]
-struct FieldAt<'a> {
-    position: usize,
-    ty: &'a Ty,
-}
-
-/// The field of the name among these.
-fn field_among<'a>(fields: &'a [Field], name: &str) -> Option<FieldAt<'a>>
-    ensures { option_map (λ field. record { position = field.position; ty = field.ty.now }) result ≡ field_among name.now fields.now 0 }
-{
-    for (k, field) in fields.iter().enumerate() {
-        if field.name.as_str() == name {
-            return Some(FieldAt {
-                position: k,
-                ty: &field.ty,
-            });
-        }
-    }
-    None
-}
-
-/// The field of the name in a type, where that is a struct that has one.
-fn field_in<'a>(structs: &'a [StructDef], name: &str, ty: &Ty) -> Option<FieldAt<'a>>
-    ensures { option_map (λ field. record { position = field.position; ty = field.ty.now }) result ≡ field_in structs.now name.now (out-Ty ty.now) }
-{
-    match ty {
-        Ty::Struct(s) => match element(structs, *s as usize) {
-            Some(def) => field_among(&def.fields, name),
-            None => None,
-        },
-        _ => None,
-    }
-}
 
 fn field_step(alloc: Global, position: usize, ty: &Ty) -> Result<Step, NoMemory>
     ensures ty { IfOk result (λ step. step.ty ≡ Some ty.now) }
@@ -72,7 +36,7 @@ fn field_step(alloc: Global, position: usize, ty: &Ty) -> Result<Step, NoMemory>
 /// Fails at the field's name where what is reached has no such field.
 pub fn to_field(
     alloc: Global,
-    structs: &[StructDef],
+    structs: &Structs,
     name: &Name,
     ty: Option<Ty>,
     notes: &mut Notes,
@@ -84,7 +48,7 @@ pub fn to_field(
     let Some(ty) = ty else {
         return Ok(Step::lost());
     };
-    match field_in(structs, &name.text, &ty) {
+    match structs.field_in(&name.text, &ty) {
         Some(field) => field_step(alloc, field.position, field.ty),
         None => {
             notes.fail(Rule::Type, name.place);

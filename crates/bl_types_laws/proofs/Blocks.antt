@@ -54,17 +54,16 @@ use Rattle.bl_types_laws.specs.Standing.{
   Around,
   BlockPassed,
   Known,
-  Passed,
+  PartPassed,
   VariablesThere,
   arm_named,
   branch_named,
   kind_named,
-  named_arm,
-  named_branch,
   stmt_layer_named,
   stmt_named,
 }
 use Rattle.bl_types_laws.specs.Within.{calls_functions, known_in}
+use Rattle.bl_types_laws.specs.inner.Named.{named_arm, named_branch}
 use Rattle.bl_types_laws.proofs.Arguments.{condition_fits}
 use Rattle.bl_types_laws.proofs.Declared.{constant_walk_fits, declare_fits}
 use Rattle.bl_types_laws.proofs.Forms.{map_found, nil_left, nil_right}
@@ -105,8 +104,8 @@ inhabited_mapped f (x ∷ xs) = refl
 
 -- what must be made, as what may be
 may_be_made : {A : Type 0} (site : Site) (good : A → Bool) (env : Environment) (counts : Earlier) (after : Walked A) →
-    Passed true site good env counts after →
-    Passed false site good env counts after
+    PartPassed true site good env counts after →
+    PartPassed false site good env counts after
 may_be_made site good env counts after passed = record {
   grown = passed.grown;
   known = passed.known;
@@ -118,7 +117,7 @@ may_be_made site good env counts after passed = record {
 -- a block of which something is made
 whole_passed : {A : Type 0} (site : Site) (good : A → Bool) (inhabited : Bool) (env : Environment) (counts : Earlier) (body : Block Stmt) (a : A) →
     BlockPassed site (fits site) inhabited env counts body →
-    (all_of (map (fits site) body.made) ≡ true → good a ≡ true) → Passed true site good env counts (walked body.env (Some a) body.failures)
+    (all_of (map (fits site) body.made) ≡ true → good a ≡ true) → PartPassed true site good env counts (walked body.env (Some a) body.failures)
 whole_passed site good inhabited env counts body a passed fit = record {
   grown = passed.grown;
   known = passed.known;
@@ -159,7 +158,7 @@ module _ (constants : List NamedConstant) (vars : List NamedVar) (site : Site) w
       ((test : Expr) (body : List Stmt) → is_truth (type_of site test) ≡ true → all_of (map (fits site) body) ≡ true →
       good (make test body) ≡ true) →
       (earlier ++ ((condition env e).failures ++ (in_order (map (walked_stmt constants vars) body) env).failures)) ≡ [] →
-      Passed true site good env counts (under earlier (condition env e) (in_order (map (walked_stmt constants vars) body) env) make)
+      PartPassed true site good env counts (under earlier (condition env e) (in_order (map (walked_stmt constants vars) body) env) make)
   under_passed good earlier e body make each named calls env around known counts step fit none =
       let test : Settled = condition env e in
       let all : Block Stmt = in_order (map (walked_stmt constants vars) body) env in
@@ -194,8 +193,8 @@ module _ (constants : List NamedConstant) (vars : List NamedVar) (site : Site) w
   abbrev good : Place → StmtKind → Bool
   good place kind = fits site (stmt_made place kind)
 
-  in_place : (place : Place) (env : Environment) (counts : Earlier) (kind : Walked StmtKind) → Passed false site (good place) env counts kind →
-      Passed false site (fits site) env counts (walked kind.env (option_map (stmt_made place) kind.made) kind.failures)
+  in_place : (place : Place) (env : Environment) (counts : Earlier) (kind : Walked StmtKind) → PartPassed false site (good place) env counts kind →
+      PartPassed false site (fits site) env counts (walked kind.env (option_map (stmt_made place) kind.made) kind.failures)
   in_place place env counts kind passed = record {
     grown = passed.grown;
     known = passed.known;
@@ -209,7 +208,7 @@ module _ (constants : List NamedConstant) (vars : List NamedVar) (site : Site) w
   by_kind : (place : Place) (layer : Layer) → (named_by layer ≡ true → WalkFits false site (good place) (walked_by constants vars layer place)
       (step_by constants vars layer)) → P (stmt place layer)
   by_kind place layer fit named env around known counts step none =
-      subst (λ (walk : Walk Stmt). Passed false site (fits site) env counts (walk env)) (sym (walked_is constants vars place layer))
+      subst (λ (walk : Walk Stmt). PartPassed false site (fits site) env counts (walk env)) (sym (walked_is constants vars place layer))
       (in_place place env counts (walked_by constants vars layer place env)
       (fit (sym (named_is place layer) ∙ named) env around known counts (ap (λ (step : Step). step (known_in env)) (sym (step_is constants vars place layer))
       ∙ step)
@@ -361,7 +360,7 @@ module _ (constants : List NamedConstant) (vars : List NamedVar) (site : Site) w
       let step_as : step_of_arm vars constants (roll-NamedArm (record { test = test; body = body })) ≡ tested test (map (stmt_step vars constants) body) =
       rw fold-roll-NamedArm refl in
       let named' : (calls_functions site.earlier test && all_of (map (stmt_named constants vars site.earlier) body)) ≡ true = sym named_as ∙ named in
-      subst (λ (walk : Walk Arm). Passed true site (good_arm site) env counts (walk env)) (sym walked_as)
+      subst (λ (walk : Walk Arm). PartPassed true site (good_arm site) env counts (walk env)) (sym walked_as)
       (under_passed (good_arm site) [] test body arm_of each
       (and_right (calls_functions site.earlier test) (all_of (map (stmt_named constants vars site.earlier) body)) named')
       (and_left (calls_functions site.earlier test) (all_of (map (stmt_named constants vars site.earlier) body)) named')
@@ -378,7 +377,7 @@ module _ (constants : List NamedConstant) (vars : List NamedVar) (site : Site) w
       let step_as : step_of_branch vars constants (roll-NamedBranch (record { weak = weak; body = body })) ≡ in_turn (map (stmt_step vars constants) body) =
       rw fold-roll-NamedBranch refl in
       let all : Block Stmt = in_order (map (walked_stmt constants vars) body) env in
-      subst (λ (walk : Walk Branch). Passed true site (good_branch site) env counts (walk env)) (sym walked_as)
+      subst (λ (walk : Walk Branch). PartPassed true site (good_branch site) env counts (walk env)) (sym walked_as)
       (whole_passed site (good_branch site) false env counts all (roll-Branch (record { weak = weak; body = all.made }))
       (body_fits body each (sym named_as ∙ named) env around known counts (ap (λ (step : Step). step (known_in env)) (sym step_as) ∙ step)
       (ap (λ (walk : Walk Branch). (walk env).failures) (sym walked_as) ∙ none))

@@ -32,7 +32,7 @@ use Rattle.bl_types.specs.declared.environment.Variable.{Variable}
 use Rattle.bl_types.specs.Declarations.{optional_lengths, Initial, after_variable, constant_of, initial, with_constant, with_variable}
 use Rattle.bl_types.specs.Statements.{after_optional_constant, constant_walked, declare, declared_with, declared_without}
 use Rattle.bl_types.specs.Written.{written_type}
-use Rattle.bl_types_laws.specs.Standing.{Around, Grown, Known, Passed, VariableKnown, VariablesThere, declared_by}
+use Rattle.bl_types_laws.specs.Standing.{Around, Grown, Known, PartPassed, VariableKnown, VariablesThere, declared_by}
 use Rattle.bl_types_laws.specs.Within.{ConstantStands, VariableThere, calls_functions, known_in}
 use Rattle.bl_types_laws.proofs.Expressions.{some_of}
 use Rattle.bl_types_laws.proofs.Forms.{map_found, same_type_self}
@@ -141,7 +141,7 @@ module _ (site : Site) (good : StmtKind → Bool) where
       Around env site → Known env →
       k ≡ length env.vars → expr_placed (known_in env) e ≡ true →
       (counts : Earlier) → Some (variable_counted (known_in env)) ≡ Some counts → (initial env var.ty e).failures ≡ [] →
-      Passed false site good env counts (declared_with var k (initial env var.ty e) env)
+      PartPassed false site good env counts (declared_with var k (initial env var.ty e) env)
   with_value k var e fits role calls env around known next placed counts count none =
       let value : Initial = initial env var.ty e in
       let own : calls_functions env.units e ≡ true = ap (λ units. calls_functions units e) around.units ∙ calls in
@@ -170,7 +170,7 @@ module _ (site : Site) (good : StmtKind → Bool) where
       (is_variable var.role && is_some var.ty) ≡ true → (env : Environment) → Around env site → Known env → k ≡ length env.vars →
       var_placed (known_in env) var ≡ true →
       (counts : Earlier) → Some (variable_counted (known_in env)) ≡ Some counts → optional_lengths env var.ty ≡ [] →
-      Passed false site good env counts (declared_without k (after_variable var env))
+      PartPassed false site good env counts (declared_without k (after_variable var env))
   without_value k var fits declared env around known next placed counts count none =
       let ty : Option Ty = option_map (written_type env.constants) var.ty in
       let written = some_of var.ty (and_right (is_variable var.role) (is_some var.ty) declared) in

@@ -6,11 +6,11 @@ use Rattle.bl_tree.specs.declared.tree.StmtKind.TheOpen.{StmtKind-F}
 use Rattle.bl_tree.specs.declared.tree.Unit.{Unit as UnitDef}
 use Rattle.bl_tree.specs.Reduce.{joined}
 use Rattle.bl_raw.specs.declared.item.RawItem.{RawItem}
-use Rattle.bl_raw.specs.Keeps.{Keeps as RawKeeps}
+use Rattle.bl_raw.specs.Keeps.{RawKeeps}
 use Rattle.bl_raw.specs.Starts.{ascends}
 use Rattle.bl_scopes.specs.Rules.{Passes as NamesPass}
 use Rattle.bl_names.specs.Named.{named_program}
-use Rattle.bl_names_laws.specs.Keeps.{Keeps as NamedKeeps}
+use Rattle.bl_names_laws.specs.Keeps.{NamedKeeps}
 use Rattle.bl_scopes.specs.Scopes.{file_scope}
 use Rattle.bl_types.specs.Programs.{after_program, fresh, text_end, typed_program}
 use Rattle.bl_types.specs.Rules.{Passes as TypesPass}
@@ -47,7 +47,8 @@ in_order items bytes suits shapes keeps passes types =
     let named = named_program items bytes in
     let made : Made file_scope items fresh (after_program named).env = turns named suits shapes items file_scope fresh (at_start items bytes passes)
     keeps.structs keeps.units (nil_left (after_program named).failures (entries false (text_end named) named.units) (no_failure named types)) in
-    (λ i. ascends (joined (map (λ (unit : UnitDef). joined (map (sym same_starts i) unit.body)) (made.units i)))) ∙ picked_ascends made.starts keeps.in_order
+    (λ i. ascends (joined (map (λ (unit : UnitDef). joined (map (sym same_starts i) unit.body)) (made.units i))))
+    ∙ picked_ascends made.starts keeps.in_order
 
 -- the same, of what the laws of the crates below say
 pub begin_in_order : ((items : List RawItem) (bytes : ℕ) → RawKeeps items → NamesPass items → NamedKeeps (named_program items bytes)) →

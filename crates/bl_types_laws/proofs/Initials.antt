@@ -157,7 +157,8 @@ module _ (env : Environment) (site : Site) (within : Within env site) where
       closed_fits site value.failures value.form (expressions_fit env site within e placed calls
       (nil_left value.failures (closed_form value.form).failures none)) (nil_right value.failures (closed_form value.form).failures none)
 
-  constant_by_value : (name : Place) (e : NamedExpr) (valued : Valued) → InitialFits site valued → (is_constant e ≡ true → MadeNameless valued.value) →
+  constant_by_value : (name : Place) (e : NamedExpr) (valued : Valued) → InitialFits site valued →
+      (is_constant e ≡ true → MadeNameless valued.value) →
       constant_failures name e valued ≡ [] →
       ConstantStands (constant_of e valued)
   constant_by_value name e valued fit nameless none =

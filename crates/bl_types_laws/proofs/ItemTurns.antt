@@ -16,7 +16,7 @@ use Rattle.bl_types.specs.declared.environment.Constant.{Constant}
 use Rattle.bl_types.specs.declared.environment.Variable.{Variable}
 use Rattle.bl_types.specs.Programs.{failures_of, fresh}
 use Rattle.bl_types.specs.Rules.{Passes}
-use Rattle.bl_types_laws.specs.Standing.{Between}
+use Rattle.bl_types_laws.specs.Standing.{BetweenUnits}
 use Rattle.bl_types_laws.proofs.Premises.{Shapes, Suits}
 use Rattle.bl_types_laws.proofs.ConstantTurn.{constant_turn}
 use Rattle.bl_types_laws.proofs.Ends.{ends_whole}
@@ -58,7 +58,7 @@ no_constant k constant is = absurd (cc)
 no_struct : (k : ℕ) (def : StructDef) → slice_get [] k ≡ Some def → ⊥
 no_struct k def is = absurd (cc)
 
-fresh_between : Between fresh
+fresh_between : BetweenUnits fresh
 fresh_between = record {
   vars = refl;
   known = record {

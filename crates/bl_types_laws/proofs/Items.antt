@@ -13,7 +13,7 @@ use Rattle.bl_named.specs.Placed.{constant_placed, expr_placed, holds_if, struct
 use Rattle.bl_types.specs.declared.environment.Environment.{Environment}
 use Rattle.bl_types.specs.declared.environment.Variable.{Variable}
 use Rattle.bl_types.specs.Declarations.{after_constant, after_struct, constant_of, initial, struct_of}
-use Rattle.bl_types_laws.specs.Standing.{Around, Between, VariableKnown}
+use Rattle.bl_types_laws.specs.Standing.{Around, BetweenUnits, VariableKnown}
 use Rattle.bl_types_laws.specs.Within.{calls_functions, known_in}
 use Rattle.bl_types_laws.proofs.Declared.{constant_known}
 use Rattle.bl_types_laws.proofs.Initials.{constant_fits}
@@ -24,9 +24,9 @@ use Rattle.bl_types_laws.proofs.Walks.{site_in, within_in}
 nothing_known : (n : ℕ) (xs : List Variable) → xs ≡ [] → (k : ℕ) (known : Variable) → slice_get xs k ≡ Some known → VariableKnown n known
 nothing_known n xs none k known is = absurd (let there : slice_get [] k ≡ Some known = ap (λ xs. slice_get xs k) (sym none) ∙ is in cc)
 
-pub struct_between : (def : NamedStruct) (env : Environment) → Between env → struct_placed (known_in env) def ≡ true →
+pub struct_between : (def : NamedStruct) (env : Environment) → BetweenUnits env → struct_placed (known_in env) def ≡ true →
     (after_struct def env).failures ≡ [] →
-    Between (after_struct def env).env
+    BetweenUnits (after_struct def env).env
 struct_between def env between placed none = record {
   vars = between.vars;
   known = record {
@@ -39,12 +39,12 @@ struct_between def env between placed none = record {
   heads = between.heads;
 }
 
-around_self : (env : Environment) → Between env → Around env (site_in env)
+around_self : (env : Environment) → BetweenUnits env → Around env (site_in env)
 around_self env between = record { later = []; structs = sym (append-nil env.structs); units = refl; kind = refl; result = refl; heads = between.heads }
 
-pub constant_between : (constant : NamedConstant) (env : Environment) → Between env → constant_placed (known_in env) constant ≡ true →
+pub constant_between : (constant : NamedConstant) (env : Environment) → BetweenUnits env → constant_placed (known_in env) constant ≡ true →
     calls_functions env.units constant.value ≡ true → (after_constant constant env).failures ≡ [] →
-    Between (after_constant constant env).env
+    BetweenUnits (after_constant constant env).env
 constant_between constant env between placed calls none = record {
   vars = between.vars;
   known = constant_known env (constant_of constant.value (initial env constant.ty constant.value).valued) between.known

@@ -46,7 +46,7 @@ use Rattle.bl_types.specs.declared.environment.Environment.{Environment}
 use Rattle.bl_types.specs.Declarations.{Declaring, after_constant, after_struct}
 use Rattle.bl_types.specs.Programs.{after_item, after_items, after_next}
 use Rattle.bl_types.specs.Units.{after_unit, drives}
-use Rattle.bl_types_laws.specs.Standing.{Between, are_shallow}
+use Rattle.bl_types_laws.specs.Standing.{BetweenUnits, are_shallow}
 use Rattle.bl_types_laws.specs.Within.{known_in}
 use Rattle.bl_types_laws.proofs.Ends.{Ends, ends_next}
 use Rattle.bl_types_laws.proofs.Occurrences.{unit_starts}
@@ -71,7 +71,7 @@ pub record At (named : Named) (scopes : Scopes) (items : List RawItem) (env : En
   pub constants : Ends named.constants scopes.counts.constants (along constants_of scopes items)
   pub units : Ends named.units scopes.counts.units (along units_of scopes items)
   pub counts : known_in env ≡ earlier scopes
-  pub between : Between env
+  pub between : BetweenUnits env
   pub kinds : map (λ (unit : UnitDef). unit.kind) env.units ≡ map (λ (unit : NamedUnit). unit.kind) units.before
 
 -- what is made of the items that are still to come

@@ -38,8 +38,9 @@ use Rattle.bl_types.specs.Returns.{
   surely_returns as named_surely_returns,
 }
 use Rattle.bl_types.specs.Statements.{Block, Walk, Walked, arm_of, arm_walked, condition, in_order, returned, stmt_made, walked_arm, walked_stmt}
-use Rattle.bl_types_laws.specs.Standing.{Around, Known, named_arm, stmt_named}
+use Rattle.bl_types_laws.specs.Standing.{Around, Known, stmt_named}
 use Rattle.bl_types_laws.specs.Within.{calls_functions, known_in}
+use Rattle.bl_types_laws.specs.inner.Named.{named_arm}
 use Rattle.bl_types_laws.proofs.Arguments.{condition_fits}
 use Rattle.bl_types_laws.proofs.Blocks.{arm_fits_there, arms_fit, named_by, named_is, statement_fits}
 use Rattle.bl_types_laws.proofs.Expressions.{wanted_fits}

@@ -43,7 +43,8 @@ use Rattle.bl_types.specs.Units.{can_be_driven, is_scalar, unit_of, var_typed, v
 use Rattle.bl_types.specs.Written.{written_type}
 use Rattle.bl_types_laws.proofs.TypesStand.{scalar_optional}
 use Rattle.bl_tree.specs.Types.{scalar_in}
-use Rattle.bl_types_laws.specs.Standing.{has_scalar, VariableKnown, VariablesNamed}
+use Rattle.bl_types_laws.specs.Standing.{VariableKnown}
+use Rattle.bl_types_laws.specs.inner.Named.{VariablesNamed, has_scalar}
 use Rattle.bl_types_laws.proofs.Heads.{is_local, is_typed_parameter, locals_pass, parameter_is, parameters_append}
 use Rattle.bl_types_laws.proofs.Turns.{push_named}
 

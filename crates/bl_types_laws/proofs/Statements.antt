@@ -78,7 +78,7 @@ use Rattle.bl_types.specs.Statements.{
   walked,
 }
 use Rattle.bl_types_laws.specs.Fitting.{FoundFits, IsLent, IsMade}
-use Rattle.bl_types_laws.specs.Standing.{Around, Known, Passed}
+use Rattle.bl_types_laws.specs.Standing.{Around, Known, PartPassed}
 use Rattle.bl_types_laws.specs.Within.{Within, calls_functions, known_in, target_calls}
 use Rattle.bl_types_laws.proofs.Arguments.{complete_if, arguments_good, condition_fits, truth_is}
 use Rattle.bl_types_laws.proofs.Expressions.{targets_fit, there_at, wanted_fits}
@@ -339,7 +339,7 @@ module _ (site : Site) (at : Place) where
       holds_if (calls_functions site.earlier) e ≡ true →
       Around env site → Known env → (counts : Earlier) →
       declares_none (holds_if (expr_placed (known_in env)) e) (known_in env) ≡ Some counts → (returned at e result env).failures ≡ [] →
-      Passed false site good env counts (returned at e result env)
+      PartPassed false site good env counts (returned at e result env)
   return_by (Some e) (Some s) env result named around known counts step none =
       let placed = placed_of env (expr_placed (known_in env) e) counts step in
       let value : Settled = in_context (Some (scalar s)) (judged env e) in

@@ -101,8 +101,9 @@ use Rattle.bl_names.proofs.StillLemmas.{
   still_value,
 }
 use Rattle.bl_eval.proofs.PassLemmas.{and_left, and_right, both}
-use Rattle.bl_types_laws.specs.Standing.{arm_named, branch_named, declared_by, kind_named, named_arm, named_branch, stmt_layer_named, stmt_named}
+use Rattle.bl_types_laws.specs.Standing.{arm_named, branch_named, declared_by, kind_named, stmt_layer_named, stmt_named}
 use Rattle.bl_types_laws.specs.Within.{calls_functions}
+use Rattle.bl_types_laws.specs.inner.Named.{named_arm, named_branch}
 use Rattle.bl_types_laws.proofs.ExprCalls.{activity_is, expr_is, exprs_are, function_is, optional_is, target_is}
 use Rattle.bl_types_laws.proofs.Suits.{
   Suits,

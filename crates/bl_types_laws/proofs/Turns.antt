@@ -56,8 +56,8 @@ use Rattle.bl_types.specs.Statements.{
 }
 use Rattle.bl_types_laws.proofs.TypesStand.{scalar_initial, scalar_optional}
 use Rattle.bl_types.specs.Units.{is_scalar}
-use Rattle.bl_types_laws.specs.Standing.{has_scalar, VariablesNamed, NamedAs}
 use Rattle.bl_types_laws.specs.Within.{known_in}
+use Rattle.bl_types_laws.specs.inner.Named.{NamedAs, VariablesNamed, has_scalar}
 use Rattle.bl_types_laws.proofs.StmtLayers.{Layer, step_by, step_is, walked_by, walked_is}
 use Rattle.bl_types_laws.proofs.Declared.{constant_counts, variable_counts}
 use Rattle.bl_types_laws.proofs.NamedStmtInduction.{Cases, induct, stmt}

@@ -96,8 +96,9 @@ use Rattle.bl_types.specs.Written.{
   written_length,
   written_type,
 }
-use Rattle.bl_types_laws.specs.Standing.{has_scalar, FieldsStand, VariableKnown}
+use Rattle.bl_types_laws.specs.Standing.{FieldsStand, VariableKnown}
 use Rattle.bl_types_laws.specs.Within.{known_in}
+use Rattle.bl_types_laws.specs.inner.Named.{has_scalar}
 use Rattle.bl_types_laws.proofs.Forms.{map_found, nil_left, nil_right}
 use Rattle.bl_types_laws.proofs.MorePlaced.{more_below}
 use Rattle.bl_types_laws.proofs.Typed.{kind_at, part_at}

@@ -64,8 +64,9 @@ use Rattle.bl_types.specs.Declarations.{is_parameter, Declaring, after_parameter
 use Rattle.bl_types.specs.Returns.{return_failures}
 use Rattle.bl_types.specs.Statements.{Block, walked_block}
 use Rattle.bl_types.specs.Units.{can_be_driven, after_head, after_unit, entered, left, result_of, unit_of, vars_of}
-use Rattle.bl_types_laws.specs.Standing.{Around, Between, BlockPassed, Known, UnitPassed, VariablesNamed, VariablesThere, stmt_named, unit_named}
+use Rattle.bl_types_laws.specs.Standing.{Around, BetweenUnits, BlockPassed, Known, UnitPassed, VariablesThere, stmt_named, unit_named}
 use Rattle.bl_types_laws.specs.Within.{has_parameters, known_in}
+use Rattle.bl_types_laws.specs.inner.Named.{VariablesNamed}
 use Rattle.bl_types_laws.proofs.Blocks.{all_mapped, statements_fit}
 use Rattle.bl_types_laws.proofs.Forms.{nil_left, nil_right}
 use Rattle.bl_types_laws.proofs.Heads.{is_typed_parameter, all_weaker, ParametersPassed, head_passes, length-vars_of, typed_parameters}
@@ -192,7 +193,7 @@ later_stand structs later env body front same known =
 
 left_between : (unit : NamedUnit) (made : List Stmt) (env body : Environment) → Known body → body.units ≡ env.units →
     list_all has_parameters env.units ≡ true →
-    has_parameters (unit_of unit made body) ≡ true → Between (left unit made body)
+    has_parameters (unit_of unit made body) ≡ true → BetweenUnits (left unit made body)
 left_between unit made env body known units heads has = record {
   vars = refl;
   known = record { vars = λ k variable is. absurd (nothing_there k variable is); fields = known.fields; constants = known.constants };
@@ -215,7 +216,7 @@ left_counts unit made body inner counts is are =
     ∙ same_Some (record inner { units = inner.units + 1; variables = 0 }) counts are
 
 module _ (constants : List NamedConstant) (unit : NamedUnit) (env : Environment) (structs later : List StructDef) (front : structs ≡ env.structs ++ later)
-    (between : Between env) (named : unit_named constants env.units unit ≡ true) where
+    (between : BetweenUnits env) (named : unit_named constants env.units unit ≡ true) where
   body_passes : (head : Environment) (inner : Earlier) → HeadPassed unit env head →
       in_turn (map (stmt_step unit.vars constants) unit.body) (known_in head) ≡ Some inner →
       (walked_block constants unit.vars unit.body head).failures ≡ [] →
@@ -303,7 +304,7 @@ module _ (constants : List NamedConstant) (unit : NamedUnit) (env : Environment)
 -- each statement of a unit in which nothing fails fits
 pub unit_passes : (constants : List NamedConstant) (unit : NamedUnit) (env : Environment) (structs later : List StructDef) →
     structs ≡ env.structs ++ later →
-    Between env → unit_named constants env.units unit ≡ true → (counts : Earlier) →
+    BetweenUnits env → unit_named constants env.units unit ≡ true → (counts : Earlier) →
     unit_step constants unit (known_in env) ≡ Some counts → (after_unit constants unit env).failures ≡ [] →
     UnitPassed structs unit env counts (after_unit constants unit env).env
 unit_passes constants unit env structs later front between named = unit_step_by constants unit env structs later front between named

@@ -37,7 +37,7 @@ use Rattle.bl_types.specs.declared.environment.Environment.{Environment}
 use Rattle.bl_types.specs.declared.environment.Variable.{Variable}
 use Rattle.bl_types.specs.Statements.{Block, Walked, in_order, walked}
 use Rattle.bl_types.specs.Units.{var_of, var_typed, vars_of}
-use Rattle.bl_types_laws.specs.Standing.{Around, BlockPassed, Grown, Known, Passed, VariableKnown, VariablesThere}
+use Rattle.bl_types_laws.specs.Standing.{Around, BlockPassed, Grown, Known, PartPassed, VariableKnown, VariablesThere}
 use Rattle.bl_types_laws.specs.Within.{Within, calls_functions, has_parameters, known_in}
 use Rattle.bl_types_laws.proofs.Forms.{nil_left, nil_right}
 
@@ -158,7 +158,7 @@ not_must is = absurd (cc)
 abbrev pub WalkFits : {A : Type 0} → Bool → Site → (A → Bool) → (Environment → Walked A) → (Earlier → Option Earlier) → Type 0
 WalkFits must site good walk step =
     (env : Environment) → Around env site → Known env → (counts : Earlier) → step (known_in env) ≡ Some counts → (walk env).failures ≡ [] →
-    Passed must site good env counts (walk env)
+    PartPassed must site good env counts (walk env)
 
 module _ {X A : Type 0} (must : Bool) (site : Site) (good : A → Bool) (walk : X → Environment → Walked A) (step : X → Earlier → Option Earlier) where
   abbrev Each : X → Type 0
@@ -203,7 +203,7 @@ module _ {X A : Type 0} (must : Bool) (site : Site) (good : A → Bool) (walk : 
 
 pub passed_still : {A : Type 0} (site : Site) (good : A → Bool) (env : Environment) (counts : Earlier) (made : Option A) (failures : List Failure) →
     Around env site → Known env → known_in env ≡ counts →
-    (Within env site → (a : A) → made ≡ Some a → good a ≡ true) → Passed false site good env counts (walked env made failures)
+    (Within env site → (a : A) → made ≡ Some a → good a ≡ true) → PartPassed false site good env counts (walked env made failures)
 passed_still site good env counts made failures around known is fit = record {
   grown = grown_self env;
   known = known;

@@ -9,10 +9,10 @@ use Rattle.bl_tree.specs.Reduce.{joined}
 use Rattle.bl_tree.specs.Words.{are_distinct, is_name}
 use Rattle.bl_scopes.specs.Rules.{Passes as NamesPass}
 use Rattle.bl_scopes.specs.Scopes.{file_scope}
-use Rattle.bl_names_laws.specs.Keeps.{Keeps as NamedKeeps, all_names as named_names}
+use Rattle.bl_names_laws.specs.Keeps.{NamedKeeps, all_names as named_names}
 use Rattle.bl_raw.specs.declared.item.RawItem.{RawItem}
 use Rattle.bl_raw.specs.Starts.{ascends}
-use Rattle.bl_raw.specs.Keeps.{Keeps as RawKeeps}
+use Rattle.bl_raw.specs.Keeps.{RawKeeps}
 use Rattle.bl_names.specs.Named.{named_program}
 use Rattle.bl_types.specs.declared.environment.Environment.{Environment}
 use Rattle.bl_types.specs.Programs.{after_program, fresh, text_end, typed_program}

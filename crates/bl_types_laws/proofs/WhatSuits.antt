@@ -8,7 +8,7 @@ use Rattle.bl_tree.specs.declared.tree.Unit.{Unit as UnitDef}
 use Rattle.bl_tree.specs.declared.tree.UnitKind.{UnitKind}
 use Rattle.bl_tree.specs.Typing.{is_function}
 use Rattle.bl_raw.specs.declared.item.RawItem.{RawItem}
-use Rattle.bl_raw.specs.Keeps.{Keeps as RawKeeps}
+use Rattle.bl_raw.specs.Keeps.{RawKeeps}
 use Rattle.bl_named.specs.declared.item.NamedConstant.{NamedConstant}
 use Rattle.bl_named.specs.declared.item.NamedUnit.{NamedUnit}
 use Rattle.bl_named.specs.Placed.{Earlier, expr_placed, holds_of}

@@ -18,7 +18,6 @@ use Rattle.std.specs.Prelude.{
   Option,
   Some,
   None,
-  option_and_then,
 }
 use Rattle.std.specs.List.{list_all}
 use Rattle.bl_tree.specs.declared.tree.StructDef.{StructDef}
@@ -28,14 +27,12 @@ use Rattle.bl_tree.specs.Depths.{is_shallow}
 use Rattle.bl_tree.specs.Program.{is_entry, names_of, roles_stand}
 use Rattle.bl_tree.specs.Reduce.{all_of}
 use Rattle.bl_tree.specs.Returns.{unit_returns}
-use Rattle.bl_tree.specs.Types.{scalar_in, type_stands}
+use Rattle.bl_tree.specs.Types.{type_stands}
 use Rattle.bl_tree.specs.Typing.{Site, fits, is_activity, is_fixed, is_function, is_inhabited, is_variable, site_of}
 use Rattle.bl_named.specs.declared.expr.NamedExpr.{NamedExpr}
 use Rattle.bl_named.specs.declared.item.NamedConstant.{NamedConstant}
 use Rattle.bl_named.specs.declared.item.NamedUnit.{NamedUnit}
 use Rattle.bl_named.specs.declared.item.NamedVar.{NamedVar}
-use Rattle.bl_named.specs.declared.stmt.NamedArm.{NamedArm, fold-NamedArm}
-use Rattle.bl_named.specs.declared.stmt.NamedBranch.{NamedBranch, fold-NamedBranch}
 use Rattle.bl_named.specs.declared.stmt.NamedStmt.{NamedStmt, fold-NamedStmt}
 use Rattle.bl_named.specs.declared.stmt.NamedStmtKind.TheOpen.{NamedStmtKind-F, NamedArm-F, NamedBranch-F, NamedStmt-F}
 use Rattle.bl_named.specs.Placed.{Earlier, holds_if, holds_of, parameters}
@@ -43,7 +40,7 @@ use Rattle.bl_types.specs.declared.environment.Constant.{Constant}
 use Rattle.bl_types.specs.declared.environment.Environment.{Environment}
 use Rattle.bl_types.specs.declared.environment.Variable.{Variable}
 use Rattle.bl_types.specs.Statements.{Block, Walked}
-use Rattle.bl_types.specs.Units.{drives, is_scalar}
+use Rattle.bl_types.specs.Units.{drives}
 use Rattle.bl_types_laws.specs.Within.{ConstantStands, VariableThere, calls_functions, has_parameters, known_in, target_calls}
 
 -- ---- what naming a spelled tree gives
@@ -53,6 +50,7 @@ abbrev pub declared_by : NamedVar → Option NamedExpr → Bool
 declared_by var (Some e) = is_variable var.role || is_fixed var.role
 declared_by var None = is_variable var.role && is_some var.ty
 
+-- whether a kind of statement is named well, from whether its blocks are
 abbrev pub kind_named : List NamedConstant → List NamedVar → List UnitDef → NamedStmtKind-F Bool Bool Bool Bool → Bool
 kind_named constants vars units (NamedStmtKind-F.Declare k e) = holds_of (λ var. declared_by var e) (slice_get vars k) && holds_if (calls_functions units) e
 kind_named constants vars units (NamedStmtKind-F.Const k) = holds_of (λ constant. calls_functions units constant.value) (slice_get constants k)
@@ -70,12 +68,15 @@ kind_named constants vars units (NamedStmtKind-F.Until body e) = all_of body && 
 kind_named constants vars units (NamedStmtKind-F.While e body) = calls_functions units e && all_of body
 kind_named constants vars units (NamedStmtKind-F.Return e) = holds_if (calls_functions units) e
 
+-- whether an arm is named well, from whether its statements are
 abbrev pub arm_named : List UnitDef → NamedArm-F Bool Bool Bool Bool → Bool
 arm_named units arm = calls_functions units arm.test && all_of arm.body
 
+-- whether a branch is named well, from whether its statements are
 abbrev pub branch_named : NamedBranch-F Bool Bool Bool Bool → Bool
 branch_named branch = all_of branch.body
 
+-- a statement is named well where its kind is
 abbrev pub stmt_layer_named : NamedStmt-F Bool Bool Bool Bool → Bool
 stmt_layer_named s = s.what
 
@@ -83,12 +84,6 @@ stmt_layer_named s = s.what
 -- type, and each `if` and `cobegin` has a part
 abbrev pub stmt_named : List NamedConstant → List NamedVar → List UnitDef → NamedStmt → Bool
 stmt_named constants vars units = fold-NamedStmt Bool Bool Bool Bool (kind_named constants vars units) (arm_named units) branch_named stmt_layer_named
-
-abbrev pub named_arm : List NamedConstant → List NamedVar → List UnitDef → NamedArm → Bool
-named_arm constants vars units = fold-NamedArm Bool Bool Bool Bool (kind_named constants vars units) (arm_named units) branch_named stmt_layer_named
-
-abbrev pub named_branch : List NamedConstant → List NamedVar → List UnitDef → NamedBranch → Bool
-named_branch constants vars units = fold-NamedBranch Bool Bool Bool Bool (kind_named constants vars units) (arm_named units) branch_named stmt_layer_named
 
 -- ---- what is known before and after
 
@@ -121,23 +116,6 @@ pub record Known (env : Environment) : Type 0 where
 abbrev pub VariablesThere : Environment → Site → Type 0
 VariablesThere env site = (k : ℕ) (known : Variable) → slice_get env.vars k ≡ Some known → VariableThere site k known
 
--- whether a type is there, and is scalar
-abbrev pub has_scalar : Option Ty → Bool
-has_scalar ty = is_some (option_and_then scalar_in ty)
-
--- a variable is that of the unit at this position, and has a scalar type where one is written
-pub record NamedAs (vars : List NamedVar) (k : ℕ) (known : Variable) : Type 0 where
-  pub var : NamedVar
-  pub is_there : slice_get vars k ≡ Some var
-  pub name : known.name ≡ var.name.text
-  pub place : known.place ≡ var.name.place
-  pub role : known.role ≡ var.role
-  pub scalar : is_scalar var.ty ≡ true → has_scalar known.ty ≡ true
-
--- each of the variables is that of the unit at its position
-abbrev pub VariablesNamed : List NamedVar → List Variable → Type 0
-VariablesNamed vars variables = (k : ℕ) (known : Variable) → slice_get variables k ≡ Some known → NamedAs vars k known
-
 -- variables and constants are added alone
 pub record Grown (before after : Environment) : Type 0 where
   pub vars : List Variable
@@ -151,7 +129,7 @@ pub record Grown (before after : Environment) : Type 0 where
 
 -- what is known after a part of a body: as much as is counted, and what is made of the part is good where the variables are those
 -- of the site; it is made, where it must be
-pub record Passed {A : Type 0} (must : Bool) (site : Site) (good : A → Bool) (before : Environment) (counts : Earlier) (after : Walked A) : Type 0 where
+pub record PartPassed {A : Type 0} (must : Bool) (site : Site) (good : A → Bool) (before : Environment) (counts : Earlier) (after : Walked A) : Type 0 where
   pub grown : Grown before after.env
   pub known : Known after.env
   pub counts_are : known_in after.env ≡ counts
@@ -170,7 +148,7 @@ pub record BlockPassed {A : Type 0} (site : Site) (good : A → Bool) (inhabited
 -- ---- units
 
 -- what is known between units: no variable, and units whose parameters are among their variables
-pub record Between (env : Environment) : Type 0 where
+pub record BetweenUnits (env : Environment) : Type 0 where
   pub vars : env.vars ≡ []
   pub known : Known env
   pub heads : list_all has_parameters env.units ≡ true
@@ -183,7 +161,7 @@ unit_named constants units unit = list_all (λ var. is_some var.ty) (take (param
 -- what is known after a unit: as much as is counted, and the unit with its types, each of whose
 -- statements fits, and whose variables have types that stand, and the names and roles that are named
 pub record UnitPassed (structs : List StructDef) (unit : NamedUnit) (before : Environment) (counts : Earlier) (after : Environment) : Type 0 where
-  pub between : Between after
+  pub between : BetweenUnits after
   pub counts_are : known_in after ≡ counts
   pub same_structs : after.structs ≡ before.structs
   pub made : UnitDef

@@ -7,9 +7,11 @@ use Rattle.bl_tree.specs.declared.tree.StmtKind.TheOpen.{StmtKind-F, Arm-F, Bran
 use Rattle.bl_tree.specs.declared.tree.Unit.{Unit as UnitDef}
 use Rattle.bl_tree.specs.Reduce.{joined}
 
+-- the places of statements by where they begin in the text, in bytes
 abbrev pub Starts : Type 0
 Starts = List ℕ
 
+-- where the statements in the blocks of a kind of statement begin
 abbrev pub stmt_kind_starts : StmtKind-F Starts Starts Starts Starts → Starts
 stmt_kind_starts (StmtKind-F.Declare k value) = []
 stmt_kind_starts (StmtKind-F.Assign path e) = []
@@ -24,12 +26,15 @@ stmt_kind_starts (StmtKind-F.Until body e) = joined body
 stmt_kind_starts (StmtKind-F.While e body) = joined body
 stmt_kind_starts (StmtKind-F.Return e) = []
 
+-- where the statements in an arm begin, from those of each
 abbrev pub arm_layer_starts : Arm-F Starts Starts Starts Starts → Starts
 arm_layer_starts arm = joined arm.body
 
+-- where the statements in a branch begin, from those of each
 abbrev pub branch_layer_starts : Branch-F Starts Starts Starts Starts → Starts
 branch_layer_starts branch = joined branch.body
 
+-- where a statement begins, and then those in it
 abbrev pub stmt_layer_starts : Stmt-F Starts Starts Starts Starts → Starts
 stmt_layer_starts s = s.place.start ∷ s.what
 
@@ -37,13 +42,15 @@ stmt_layer_starts s = s.place.start ∷ s.what
 abbrev pub starts_of : Stmt → Starts
 starts_of = fold-Stmt Starts Starts Starts Starts stmt_kind_starts arm_layer_starts branch_layer_starts stmt_layer_starts
 
--- the same of an arm and of a branch
+-- where the statements in an arm begin
 abbrev pub starts_of_arm : Arm → Starts
 starts_of_arm = fold-Arm Starts Starts Starts Starts stmt_kind_starts arm_layer_starts branch_layer_starts stmt_layer_starts
 
+-- where the statements in a branch begin
 abbrev pub starts_of_branch : Branch → Starts
 starts_of_branch = fold-Branch Starts Starts Starts Starts stmt_kind_starts arm_layer_starts branch_layer_starts stmt_layer_starts
 
+-- where the statements of a unit begin, in source order
 abbrev pub unit_starts : UnitDef → Starts
 unit_starts unit = joined (map starts_of unit.body)
 

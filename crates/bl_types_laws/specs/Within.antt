@@ -51,6 +51,7 @@ known_in env = record { structs = length env.structs; constants = length env.con
 
 -- ---- calls
 
+-- whether the calls in a kind of expression name functions, from whether those in its parts do
 abbrev pub kind_calls : List UnitDef → NamedExprKind-F Bool Bool Bool Bool → Bool
 kind_calls units (NamedExprKind-F.Number minus n) = true
 kind_calls units (NamedExprKind-F.Truth b) = true
@@ -61,13 +62,16 @@ kind_calls units (NamedExprKind-F.Two op a b) = a && b
 kind_calls units (NamedExprKind-F.Cast s a) = a
 kind_calls units (NamedExprKind-F.Call at f inputs) = holds_of (λ unit. is_function unit.kind) (slice_get units f) && all_of inputs
 
+-- whether the calls in a part do: those of an index
 abbrev pub part_calls : NamedPart-F Bool Bool Bool Bool → Bool
 part_calls (NamedPart-F.Field name) = true
 part_calls (NamedPart-F.Index e) = e
 
+-- the calls in an expression are those in its kind
 abbrev pub expr_layer_calls : NamedExpr-F Bool Bool Bool Bool → Bool
 expr_layer_calls e = e.what
 
+-- the calls in a target are those in its parts
 abbrev pub target_layer_calls : NamedTarget-F Bool Bool Bool Bool → Bool
 target_layer_calls target = all_of target.parts
 
@@ -75,5 +79,6 @@ target_layer_calls target = all_of target.parts
 abbrev pub calls_functions : List UnitDef → NamedExpr → Bool
 calls_functions units = fold-NamedExpr Bool Bool Bool Bool (kind_calls units) part_calls expr_layer_calls target_layer_calls
 
+-- whether each call in the indices of a target names a function among the units
 abbrev pub target_calls : List UnitDef → NamedTarget → Bool
 target_calls units = fold-NamedTarget Bool Bool Bool Bool (kind_calls units) part_calls expr_layer_calls target_layer_calls

@@ -31,7 +31,7 @@ ghost use Rattle.bl_types.specs.Statements.{all_lent, immutable, lent, paths_fai
 ghost use Rattle.bl_types.specs.Units.{after_unit, entries, entry_among};
 ghost use Rattle.bl_types.specs.Written.{bad_lengths, written_type};
 ghost use Rattle.bl_types_laws.specs.Fitting.{AllLent, FormFits, FoundFits, InitialFits, IsLent, SettledFits};
-ghost use Rattle.bl_types_laws.specs.Standing.{Around, Between, BlockPassed, FieldsStand, IsDriven, Known, Passed, UnitPassed, stmt_named, unit_named};
+ghost use Rattle.bl_types_laws.specs.Standing.{Around, BetweenUnits, BlockPassed, FieldsStand, IsDriven, Known, PartPassed, UnitPassed, stmt_named, unit_named};
 ghost use Rattle.bl_types_laws.specs.Within.{ConstantStands, Within, calls_functions, known_in, target_calls};
 
 /// An expression in which no rule on types fails is open or has a type, and the type that is wanted of it where one is;
@@ -53,7 +53,8 @@ pub fn paths_fit()
     ensures all { (env : Environment) (site : Site) → Within env site → (paths : List NamedPath) (params : List Var) →
         list_all (path_placed (known_in env)) paths ≡ true → length paths ≡ length params → paths_failures (all_lent env paths params) ≡ [] →
         AllLent site params (all_lent env paths params) }
-    ensures assigned { (env : Environment) (site : Site) → Within env site → (target : NamedTarget) (path : Path) → target_placed (known_in env) target ≡ true →
+    ensures assigned { (env : Environment) (site : Site) → Within env site → (target : NamedTarget) (path : Path) →
+        target_placed (known_in env) target ≡ true →
         (targeted env target).found ≡ Place path → immutable env (out-NamedTarget target).place (out-NamedTarget target).root ≡ [] →
         is_assignable site path ≡ true }
 {}
@@ -61,9 +62,11 @@ pub fn paths_fit()
 /// An initial value in which no rule fails has a type, and is made with it; a constant in which none fails has a scalar type, and
 /// its number is one of that type.
 pub fn declarations_fit()
-    ensures initial { (env : Environment) (site : Site) → Within env site → (ty : Option NamedType) (e : NamedExpr) → expr_placed (known_in env) e ≡ true →
+    ensures initial { (env : Environment) (site : Site) → Within env site → (ty : Option NamedType) (e : NamedExpr) →
+        expr_placed (known_in env) e ≡ true →
         calls_functions env.units e ≡ true → (initial env ty e).failures ≡ [] → InitialFits site (initial env ty e).valued }
-    ensures constant { (env : Environment) (site : Site) → Within env site → (constant : NamedConstant) → expr_placed (known_in env) constant.value ≡ true →
+    ensures constant { (env : Environment) (site : Site) → Within env site → (constant : NamedConstant) →
+        expr_placed (known_in env) constant.value ≡ true →
         calls_functions env.units constant.value ≡ true → (after_constant constant env).failures ≡ [] →
         ConstantStands (constant_of constant.value (initial env constant.ty constant.value).valued) }
 {}
@@ -71,9 +74,10 @@ pub fn declarations_fit()
 /// Where no rule fails in a statement, as many variables and constants are known after it as are counted, and what is made of it fits the
 /// site whose variables are those that are known after it. So it is with each of the statements of a block.
 pub fn statements_fit()
-    ensures one { (constants : List NamedConstant) (vars : List NamedVar) (site : Site) (s : NamedStmt) → stmt_named constants vars site.earlier s ≡ true →
+    ensures one { (constants : List NamedConstant) (vars : List NamedVar) (site : Site) (s : NamedStmt) →
+        stmt_named constants vars site.earlier s ≡ true →
         (env : Environment) → Around env site → Known env → (counts : Earlier) → stmt_step vars constants s (known_in env) ≡ Some counts →
-        (walked_stmt constants vars s env).failures ≡ [] → Passed false site (fits site) env counts (walked_stmt constants vars s env) }
+        (walked_stmt constants vars s env).failures ≡ [] → PartPassed false site (fits site) env counts (walked_stmt constants vars s env) }
     ensures all { (constants : List NamedConstant) (vars : List NamedVar) (site : Site) (body : List NamedStmt) →
         list_all (stmt_named constants vars site.earlier) body ≡ true → (env : Environment) → Around env site → Known env → (counts : Earlier) →
         in_turn (map (stmt_step vars constants) body) (known_in env) ≡ Some counts → (walked_block constants vars body env).failures ≡ [] →
@@ -84,8 +88,9 @@ pub fn statements_fit()
 /// the whole program, of which those that are known are the first. Its variables have types that stand, and names and roles as they
 /// are named; it returns as its result asks. Where rule Entry doesn't fail, the entry is a unit that the environment can drive.
 pub fn units_fit()
-    ensures one { (constants : List NamedConstant) (unit : NamedUnit) (env : Environment) (structs later : List StructDef) → structs ≡ env.structs ++ later →
-        Between env → unit_named constants env.units unit ≡ true → (counts : Earlier) → unit_step constants unit (known_in env) ≡ Some counts →
+    ensures one { (constants : List NamedConstant) (unit : NamedUnit) (env : Environment) (structs later : List StructDef) →
+        structs ≡ env.structs ++ later → BetweenUnits env → unit_named constants env.units unit ≡ true → (counts : Earlier) →
+        unit_step constants unit (known_in env) ≡ Some counts →
         (after_unit constants unit env).failures ≡ [] → UnitPassed structs unit env counts (after_unit constants unit env).env }
     ensures entry { (end : TextPlace) (units : List NamedUnit) → entries false end units ≡ [] → IsDriven units (entry_among units 0) }
 {}
@@ -93,7 +98,8 @@ pub fn units_fit()
 /// A written type none of whose lengths fails names structs that are declared before it, and its lengths are from 1 to 65536; so do the
 /// types of the fields of a struct, and the type of an expression, where those of fields and variables do.
 pub fn types_stand()
-    ensures written { (earlier : Earlier) (constants : List Constant) (ty : NamedType) → type_placed earlier ty ≡ true → bad_lengths constants ty ≡ [] →
+    ensures written { (earlier : Earlier) (constants : List Constant) (ty : NamedType) → type_placed earlier ty ≡ true →
+        bad_lengths constants ty ≡ [] →
         type_stands earlier.structs (written_type constants ty) ≡ true }
     ensures fields { (def : NamedStruct) (env : Environment) → struct_placed (known_in env) def ≡ true → (after_struct def env).failures ≡ [] →
         list_all (λ (field : Field). type_stands (length env.structs) field.ty) (struct_of env def).fields ≡ true }
@@ -103,8 +109,8 @@ pub fn types_stand()
 
 /// What is known between units is so after a struct and after a constant in which no rule fails, as it is after a unit.
 pub fn items_fit()
-    ensures structure { (def : NamedStruct) (env : Environment) → Between env → struct_placed (known_in env) def ≡ true → (after_struct def env).failures ≡ [] →
-        Between (after_struct def env).env }
-    ensures constant { (constant : NamedConstant) (env : Environment) → Between env → constant_placed (known_in env) constant ≡ true →
-        calls_functions env.units constant.value ≡ true → (after_constant constant env).failures ≡ [] → Between (after_constant constant env).env }
+    ensures structure { (def : NamedStruct) (env : Environment) → BetweenUnits env → struct_placed (known_in env) def ≡ true →
+        (after_struct def env).failures ≡ [] → BetweenUnits (after_struct def env).env }
+    ensures constant { (constant : NamedConstant) (env : Environment) → BetweenUnits env → constant_placed (known_in env) constant ≡ true →
+        calls_functions env.units constant.value ≡ true → (after_constant constant env).failures ≡ [] → BetweenUnits (after_constant constant env).env }
 {}

@@ -3,7 +3,7 @@
 ghost use Rattle.std.specs.Prelude.{◌≡◌, ℕ, List, true};
 ghost use Rattle.bl_tree.specs.Program.{Keeps};
 ghost use Rattle.bl_raw.specs.declared.item.RawItem.{RawItem};
-ghost use Rattle.bl_raw.specs.Keeps.{Keeps as RawKeeps};
+ghost use Rattle.bl_raw.specs.Keeps.{RawKeeps};
 ghost use Rattle.bl_scopes.specs.Rules.{Passes as NamesPass};
 ghost use Rattle.bl_names.specs.Named.{named_program};
 ghost use Rattle.bl_types.specs.Programs.{typed_program};

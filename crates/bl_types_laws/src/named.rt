@@ -3,7 +3,7 @@
 ghost use Rattle.std.specs.Prelude.{◌≡◌, ℕ, true, List, length, map, take, slice_get, Some};
 ghost use Rattle.bl_tree.specs.declared.tree.Unit.{Unit as UnitDef};
 ghost use Rattle.bl_raw.specs.declared.item.RawItem.{RawItem};
-ghost use Rattle.bl_raw.specs.Keeps.{Keeps as RawKeeps};
+ghost use Rattle.bl_raw.specs.Keeps.{RawKeeps};
 ghost use Rattle.bl_named.specs.declared.item.NamedConstant.{NamedConstant};
 ghost use Rattle.bl_named.specs.declared.item.NamedUnit.{NamedUnit};
 ghost use Rattle.bl_named.specs.Placed.{Earlier, expr_placed, unit_step};
@@ -21,7 +21,8 @@ pub fn what_is_named_suits()
         counts.units ≡ k → unit_step (named_program items bytes).constants unit counts ≡ Some after →
         unit_named (named_program items bytes).constants earlier unit ≡ true }
     ensures constants { (items : List RawItem) (bytes : ℕ) → RawKeeps items → Passes items → (k : ℕ) (constant : NamedConstant) →
-        slice_get (named_program items bytes).constants k ≡ Some constant → (earlier : List UnitDef) (counts : Earlier) → counts.units ≡ length earlier →
+        slice_get (named_program items bytes).constants k ≡ Some constant → (earlier : List UnitDef) (counts : Earlier) →
+        counts.units ≡ length earlier →
         map (λ (u : UnitDef). u.kind) earlier ≡ map (λ (u : NamedUnit). u.kind) (take (length earlier) (named_program items bytes).units) →
         expr_placed counts constant.value ≡ true → calls_functions earlier constant.value ≡ true }
 {}

@@ -2,7 +2,7 @@
 
 ghost use Rattle.std.specs.Prelude.{ℕ, List, IsTrue};
 ghost use Rattle.bl_raw.specs.declared.item.RawItem.{RawItem};
-ghost use Rattle.bl_raw.specs.Keeps.{Keeps as RawKeeps};
+ghost use Rattle.bl_raw.specs.Keeps.{RawKeeps};
 ghost use Rattle.bl_raw.specs.Starts.{ascends};
 ghost use Rattle.bl_scopes.specs.Rules.{Passes as NamesPass};
 ghost use Rattle.bl_names.specs.Named.{named_program};

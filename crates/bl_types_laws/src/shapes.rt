@@ -17,6 +17,7 @@ ghost use Rattle.bl_types.specs.Statements.{walked_block};
 pub fn what_is_made_keeps_shape()
     ensures shallow { (constants : List NamedConstant) (vars : List NamedVar) (body : List NamedStmt) (env : Environment) → names_shallow body ≡ true →
         is_shallow 100 (walked_block constants vars body env).made ≡ true }
-    ensures apart { (constants : List NamedConstant) (vars : List NamedVar) (body : List NamedStmt) (env : Environment) → list_all names_apart body ≡ true →
+    ensures apart { (constants : List NamedConstant) (vars : List NamedVar) (body : List NamedStmt) (env : Environment) →
+        list_all names_apart body ≡ true →
         list_all is_apart (walked_block constants vars body env).made ≡ true }
 {}

@@ -1,5 +1,6 @@
 pub mod Matches
 pub mod Program
 pub mod Reading
+pub mod Seeds
 pub mod Values
 pub mod Walks

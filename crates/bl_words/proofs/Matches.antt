@@ -35,7 +35,13 @@ differs label name other = go (bytes_eq label name) refl
     go false e = refl
 
 -- no job is read of a command with a name that is none of these
-pub unnamed_read : (name : Text) (first second : Option Text) → (name ≡ codes "check" → ⊥) → (name ≡ codes "build" → ⊥) →
-    (name ≡ codes "run" → ⊥) → (name ≡ codes "exec" → ⊥) → named_read name first second ≡ None
-unnamed_read name first second check build run exec =
-    rw (differs (codes "check") name check, differs (codes "build") name build, differs (codes "run") name run, differs (codes "exec") name exec) refl
+pub unnamed_read : (name : Text) (first second third : Option Text) → (name ≡ codes "check" → ⊥) → (name ≡ codes "build" → ⊥) →
+    (name ≡ codes "run" → ⊥) → (name ≡ codes "walk" → ⊥) → (name ≡ codes "exec" → ⊥) → named_read name first second third ≡ None
+unnamed_read name first second third check build run walk exec =
+    rw (
+      differs (codes "check") name check,
+      differs (codes "build") name build,
+      differs (codes "run") name run,
+      differs (codes "walk") name walk,
+      differs (codes "exec") name exec,
+    ) refl

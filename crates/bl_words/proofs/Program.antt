@@ -1,5 +1,26 @@
 -- The program's command line, and what every command's reading stands on.
-use Rattle.std.proofs.Common.{◌≡◌, ◌∙◌, ◌==◌, ◌⊎◌, ap, inl, inr, false, true, ℕ, sym, List, [], ◌∷◌, Option, Some, None, codes, find, true≢false}
+use Rattle.std.proofs.Common.{
+  ◌≡◌,
+  ◌∙◌,
+  ◌==◌,
+  ◌⊎◌,
+  ap,
+  inl,
+  inr,
+  false,
+  true,
+  ℕ,
+  sym,
+  List,
+  [],
+  ◌∷◌,
+  Option,
+  Some,
+  None,
+  codes,
+  find,
+  true≢false,
+}
 use Rattle.std.specs.List.{list_all}
 use Rattle.std.specs.Str.{bytes_eq}
 use Rattle.clap.specs.Faults.{fault_of, level_fault}
@@ -26,7 +47,8 @@ built_command command = built_leaf (inherited program.top command.top)
 -- the parse takes the words and gives the job, or refuses them and there is none
 abbrev pub ReadsAs : Option JobSpec → List Text → Type 0
 ReadsAs job words =
-    ((fault_of command_line words ≡ []) × (job_read (subcommand_of command_line words) ≡ job)) ⊎ ((fault_of command_line words ≡ [] → ⊥) × (job ≡ None))
+    ((fault_of command_line words ≡ []) × (job_read (subcommand_of command_line words) ≡ job))
+    ⊎ ((fault_of command_line words ≡ [] → ⊥) × (job ≡ None))
 
 pub no_hyphen : (byte : ℕ) (rest : Text) (words : List Text) → list_all is_plain_word ((byte ∷ rest) ∷ words) ≡ true → (byte == 45) ≡ false
 no_hyphen byte rest words plain = is_false (byte == 45) (both (is_plain_word (byte ∷ rest)) (list_all is_plain_word words) plain).0

@@ -1,5 +1,24 @@
 -- What the parser reads of plain words is the job that they ask for.
-use Rattle.std.proofs.Common.{◌≡◌, Bool, false, true, inl, inr, refl, sym, subst, List, [], ◌∷◌, Option, Some, None, codes, find, if◌then◌else◌}
+use Rattle.std.proofs.Common.{
+  ◌≡◌,
+  Bool,
+  false,
+  true,
+  inl,
+  inr,
+  refl,
+  sym,
+  subst,
+  List,
+  [],
+  ◌∷◌,
+  Option,
+  Some,
+  None,
+  codes,
+  find,
+  if◌then◌else◌,
+}
 use Rattle.std.specs.List.{list_all}
 use Rattle.std.specs.Str.{bytes_eq}
 use Rattle.std.proofs.lemmas.Slice.Eq.{bytes_eq-Decides}
@@ -11,10 +30,10 @@ use Rattle.clap.specs.Walk.{Text, answers_to}
 use Rattle.clap.specs.declared.error.Error.{Error}
 use Rattle.clap.specs.declared.error.kind.ErrorKind.TheVariants.{OutOfMemory}
 use Rattle.clap.proofs.OnLiterals.{clap_on_literals}
-use Rattle.bl_words.specs.inner.CommandLine.{command_line, job_read, named_read, one_read, two_read}
-use Rattle.bl_words.specs.Jobs.{JobSpec, Word, build, check, command_job, exec, is_plain_word, job_of, of_one, of_two, run}
+use Rattle.bl_words.specs.inner.CommandLine.{command_line, job_read, named_read, one_read, three_read, two_read}
+use Rattle.bl_words.specs.Jobs.{JobSpec, Word, build, check, command_job, exec, is_plain_word, job_of, of_one, of_three, of_two, run, seeded}
 use Rattle.bl_words.proofs.Program.{ReadsAs, commands, name_refused, others_plain, program, takes_reads}
-use Rattle.bl_words.proofs.Values.{one, one_taken, two, two_taken}
+use Rattle.bl_words.proofs.Values.{one, one_taken, three, three_taken, two, two_taken}
 
 -- the words whose first is this name, and else those of the other commands
 trying : (label name : Text) (values : List Text) (job others : Option JobSpec) → ReadsAs job (label ∷ values) →
@@ -26,8 +45,8 @@ trying label name values job others same other = go (bytes_eq label name) refl
     go true e = rw e (subst (λ n. ReadsAs job (n ∷ values)) ((bytes_eq-Decides label name).0 e) same)
     go false e = rw e (other e)
 
--- a command with one value, and one with two
-one_reads : (label : Text) (job : Word → JobSpec) (read : (first second : Option Text) → named_read label first second ≡ one_read job first)
+-- a command with one value, one with two, and one with three
+one_reads : (label : Text) (job : Word → JobSpec) (read : (first second third : Option Text) → named_read label first second third ≡ one_read job first)
     (named : find (answers_to label) commands ≡ Some (label, []))
     (is : find (λ c. answers_to label (label_of c)) program.subs ≡ Some (one label)) (own : bytes_eq label (codes "help") ≡ false)
     (values : List Text) → list_all is_plain_word values ≡ true
@@ -36,7 +55,7 @@ one_reads label job read named is own values plain =
     takes_reads label (one label) named is own (of_one job values) values (one_taken label job read values plain)
 
 two_reads : (label : Text) (job : Word → Word → JobSpec)
-    (read : (first second : Option Text) → named_read label first second ≡ two_read job first second)
+    (read : (first second third : Option Text) → named_read label first second third ≡ two_read job first second)
     (named : find (answers_to label) commands ≡ Some (label, []))
     (is : find (λ c. answers_to label (label_of c)) program.subs ≡ Some (two label)) (own : bytes_eq label (codes "help") ≡ false)
     (values : List Text) → list_all is_plain_word values ≡ true
@@ -44,14 +63,24 @@ two_reads : (label : Text) (job : Word → Word → JobSpec)
 two_reads label job read named is own values plain =
     takes_reads label (two label) named is own (of_two job values) values (two_taken label job read values plain)
 
+three_reads : (label : Text) (job : Word → Word → Word → Option JobSpec)
+    (read : (first second third : Option Text) → named_read label first second third ≡ three_read job first second third)
+    (named : find (answers_to label) commands ≡ Some (label, []))
+    (is : find (λ c. answers_to label (label_of c)) program.subs ≡ Some (three label)) (own : bytes_eq label (codes "help") ≡ false)
+    (values : List Text) → list_all is_plain_word values ≡ true
+    → ReadsAs (of_three job values) (label ∷ values)
+three_reads label job read named is own values plain =
+    takes_reads label (three label) named is own (of_three job values) values (three_taken label job read values plain)
+
 command_reads : (name : Text) (values : List Text) → list_all is_plain_word (name ∷ values) ≡ true → ReadsAs (command_job name values) (name ∷ values)
 command_reads name values plain =
     let others = others_plain name values plain in
-    trying (codes "check") name values _ _ (one_reads (codes "check") check (λ f s. refl) refl refl refl values others) (λ not_check.
-    trying (codes "build") name values _ _ (one_reads (codes "build") build (λ f s. refl) refl refl refl values others) (λ not_build.
-    trying (codes "run") name values _ _ (two_reads (codes "run") run (λ f s. refl) refl refl refl values others) (λ not_run.
-    trying (codes "exec") name values _ _ (two_reads (codes "exec") exec (λ f s. refl) refl refl refl values others) (λ not_exec.
-    inr (name_refused name values plain (rw (not_check, not_build, not_run, not_exec) refl), refl)))))
+    trying (codes "check") name values _ _ (one_reads (codes "check") check (λ f s t. refl) refl refl refl values others) (λ not_check.
+    trying (codes "build") name values _ _ (one_reads (codes "build") build (λ f s t. refl) refl refl refl values others) (λ not_build.
+    trying (codes "run") name values _ _ (two_reads (codes "run") run (λ f s t. refl) refl refl refl values others) (λ not_run.
+    trying (codes "walk") name values _ _ (three_reads (codes "walk") seeded (λ f s t. refl) refl refl refl values others) (λ not_walk.
+    trying (codes "exec") name values _ _ (two_reads (codes "exec") exec (λ f s t. refl) refl refl refl values others) (λ not_exec.
+    inr (name_refused name values plain (rw (not_check, not_build, not_run, not_walk, not_exec) refl), refl))))))
 
 reads : (words : List Text) → list_all is_plain_word words ≡ true → ReadsAs (job_of words) words
 unfolding clap_on_literals

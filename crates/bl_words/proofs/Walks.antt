@@ -16,7 +16,8 @@ value_met : (rules : List Rule) (names : Names) (position byte : ℕ) (rest : Te
     → word_met rules names false idle position (byte ∷ rest) h ≡ (h, value)
 value_met rules names position byte rest h plain none = rw (none, plain, plain) refl
 
-no_word_fault : (s : Shape) (names : Names) (byte : ℕ) (rest : Text) (h : Held) → (byte == 45) ≡ false → find (answers_to (byte ∷ rest)) names ≡ None
+no_word_fault : (s : Shape) (names : Names) (byte : ℕ) (rest : Text) (h : Held) → (byte == 45) ≡ false
+    → find (answers_to (byte ∷ rest)) names ≡ None
     → word_fault s names false idle (byte ∷ rest) h ≡ []
 no_word_fault s names byte rest h plain none = rw (none, plain, plain) refl
 

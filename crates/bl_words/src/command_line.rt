@@ -2,10 +2,11 @@
 ghost use Rattle.std.specs.Prelude.{◌≡◌, IfOk, codes, false, option_map};
 ghost use Rattle.clap.specs.Words.{app_of, first_value, found_of, subcommand_rows_of};
 ghost use Rattle.clap.specs.declared.builder.command.Command.TheViews.{out-Command};
-ghost use Rattle.bl_words.specs.inner.CommandLine.{command_line, job_read, one_command, one_read, two_command, two_read};
-ghost use Rattle.bl_words.specs.Jobs.{build, check, exec, run, spec_of};
+ghost use Rattle.bl_words.specs.inner.CommandLine.{command_line, job_read, one_command, one_read, three_command, three_read, two_command, two_read};
+ghost use Rattle.bl_words.specs.Jobs.{build, check, exec, run, seeded, spec_of};
 
 use crate::job::Job;
+use crate::seed::seed_of;
 use clap::{Arg, ArgMatches, Command};
 use std::alloc::{AllocError, Global};
 
@@ -23,6 +24,7 @@ pub(crate) fn command_line<'a>(alloc: Global) -> Result<Command<'a>, AllocError>
         .subcommand(one_command(alloc, "check")?)?
         .subcommand(one_command(alloc, "build")?)?
         .subcommand(two_command(alloc, "run")?)?
+        .subcommand(three_command(alloc, "walk")?)?
         .subcommand(two_command(alloc, "exec")?)
 }
 
@@ -42,6 +44,14 @@ fn two_command<'a>(alloc: Global, name: &'a str) -> Result<Command<'a>, AllocErr
     one_command(alloc, name)?.arg(second)
 }
 
+fn three_command<'a>(alloc: Global, name: &'a str) -> Result<Command<'a>, AllocError>
+    ensures { IfOk result (λ command. (app_of command ≡ three_command name.now)
+        × ((out-Command command).has_globals ≡ false)) }
+{
+    let third = Arg::new(alloc, "third").required(true);
+    two_command(alloc, name)?.arg(third)
+}
+
 /// The job of the command that was read.
 pub(crate) fn job_read<'a>(matches: &ArgMatches<'a>) -> Option<Job<'a>>
     ensures { option_map spec_of result ≡ job_read (subcommand_rows_of matches.now) }
@@ -51,6 +61,7 @@ pub(crate) fn job_read<'a>(matches: &ArgMatches<'a>) -> Option<Job<'a>>
         "check" => check_read(values),
         "build" => build_read(values),
         "run" => run_read(values),
+        "walk" => walk_read(values),
         "exec" => exec_read(values),
         _ => None,
     }
@@ -80,6 +91,17 @@ fn run_read<'a>(values: &ArgMatches<'a>) -> Option<Job<'a>>
     let source = values.get_str("first")?;
     let rows = values.get_str("second")?;
     Some(Job::Run { source, rows })
+}
+
+fn walk_read<'a>(values: &ArgMatches<'a>) -> Option<Job<'a>>
+    ensures { option_map spec_of result
+        ≡ three_read seeded (first_value (found_of values.now) (codes "first"))
+        (first_value (found_of values.now) (codes "second")) (first_value (found_of values.now) (codes "third")) }
+{
+    let source = values.get_str("first")?;
+    let rows = values.get_str("second")?;
+    let seed = seed_of(values.get_str("third")?)?;
+    Some(Job::Walk { source, rows, seed })
 }
 
 fn exec_read<'a>(values: &ArgMatches<'a>) -> Option<Job<'a>>

@@ -28,6 +28,15 @@ pub enum Job<'a> {
         /// The name of the file of rows.
         rows: &'a str,
     },
+    /// Run a source file over rows of input, in the interleaving that a seed picks.
+    Walk {
+        /// The name of the source file.
+        source: &'a str,
+        /// The name of the file of rows.
+        rows: &'a str,
+        /// How the steps are picked.
+        seed: u64,
+    },
     /// Run a C text over rows of input.
     Exec {
         /// The name of the file with the C text.
@@ -49,8 +58,9 @@ impl From<AllocError> for NoMemory {
 }
 
 /// The job that `words` ask for, those after the program's name; `None` where they ask for none. The first word is
-/// a command's name, exactly as it is written, and the command says how many words follow it. No word may be
-/// empty or begin with `-`. There is no command `help`; a file may have that name or a command's.
+/// a command's name, exactly as it is written, and the command says how many words follow it; a seed is one or more
+/// decimal digits that write a number below 2 to the 64. No word may be empty or begin with `-`. There is no command
+/// `help`; a file may have that name or a command's.
 pub fn job_of<'a>(alloc: Global, words: &'a [String]) -> Result<Option<Job<'a>>, NoMemory>
     ensures { IfOk result (λ job. option_map spec_of job
         ≡ job_of (map string_bytes words.entry.now)) }

@@ -8,6 +8,7 @@ ghost use Rattle.bl_words.specs.Usage.{usage_line};
 
 mod command_line;
 mod job;
+mod seed;
 
 pub use job::{Job, NoMemory, files_have_plain_names, job_of};
 
@@ -16,5 +17,5 @@ pub use job::{Job, NoMemory, files_have_plain_names, job_of};
 pub fn usage() -> &'static str
     ensures { result.now ≡ usage_line }
 {
-    "usage: blechc check P | build P | run P ROWS | exec C ROWS\n"
+    "usage: blechc check P | build P | run P ROWS | walk P ROWS SEED | exec C ROWS\n"
 }

@@ -9,6 +9,7 @@ abbrev pub given_code : Option CExpr → Coded Code
 given_code None here = ins.Push (pos 0) ∷ []
 given_code (Some value) here = code_of value here
 
+-- the code of a `return`
 abbrev pub return_code : Option CExpr → Coded Code
 return_code value here = ins.Count ∷ (given_code value here ++ ins.Return ∷ [])
 

@@ -14,9 +14,11 @@ use Rattle.bl_bytecode_compiler.specs.declared.here.Laid.{Laid as CodeLaid}
 use Rattle.bl_bytecode_compiler.specs.declared.here.Slot.{Slot as CodeSlot}
 use Rattle.bl_bytecode_compiler.specs.Entries.{entry_for}
 
+-- a member and where it stands in its struct, as the specification has it
 abbrev pub laid_of : CodeLaid → Laid
 laid_of l = record { at = l.at; it = l.it.now }
 
+-- a parameter or local and where it stands in its frame, as the specification has it
 abbrev pub slot_of : CodeSlot → Slot
 slot_of s = record { at = s.at; pointer = s.pointer; ty = s.ty.now }
 

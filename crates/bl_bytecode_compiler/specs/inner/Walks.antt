@@ -39,6 +39,7 @@ abbrev pub type_along : Option CType → List (Option Laid) → Option CType
 type_along ty [] = ty
 type_along ty (found ∷ rest) = type_along (type_found found) rest
 
+-- the element that a step chooses in a member that was found, none without an index
 abbrev pub term_if : Ground Entry → Option Laid → Option CIndex → List (Term Code)
 term_if here None index = []
 term_if here (Some l) None = []

@@ -65,6 +65,7 @@ abbrev pub Suffices : ℕ → ℕ → Stepped → Type 0
 Suffices numbers calls (goes to) = (height to ≤ numbers) × (length to.waiting ≤ calls)
 Suffices numbers calls _ = Unit {0}
 
+-- a machine has room for what a step comes to
 abbrev pub Roomy : Shown → Stepped → Type 0
 Roomy m end = Suffices m.numbers m.calls end
 

@@ -62,6 +62,7 @@ pub record State : Type 0 where
   pub stack : List Frame
   pub order : List ℕ
 
+-- the state of a search as the code keeps it
 abbrev pub state_of : Search → State
 state_of search = record { seen = search.seen; stack = search.stack.items; order = search.order }
 

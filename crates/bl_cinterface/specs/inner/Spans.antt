@@ -13,6 +13,7 @@ use Rattle.bl_cinterface.specs.declared.repeat.Span.{Span}
 
 -- ---- structs
 
+-- the types of these scalars
 abbrev pub kinds_in : List Inner → List Scalar
 kinds_in cells = map (λ cell. cell.kind) cells
 
@@ -28,9 +29,11 @@ scalars_of structs = table_of (inner_after no_entries structs)
 abbrev pub kinds_of_member : List CStruct → CMember → List Scalar
 kinds_of_member structs m = kinds_in (inner_of_member (scalars_of structs) m)
 
+-- the types of the scalars in a value of a type, after these structs
 abbrev pub kinds_of_type : List CStruct → CType → List Scalar
 kinds_of_type structs ty = kinds_in (inner_of_type (scalars_of structs) ty)
 
+-- the types of the scalars of members in order, after these structs
 abbrev pub kinds_of_members : List CStruct → List CMember → List Scalar
 kinds_of_members structs ms = kinds_in (flat_map (inner_of_member (scalars_of structs)) ms)
 
@@ -41,6 +44,7 @@ abbrev pub placed : Text → List CStruct → Option ℕ
 placed name [] = None
 placed name (s ∷ rest) = if bytes_eq s.name name then Some 0 else option_map suc (placed name rest)
 
+-- a number, where it is below the end
 abbrev pub if_below : ℕ → Option ℕ → Option ℕ
 if_below end None = None
 if_below end (Some at) = if nat_lt at end then Some at else None

@@ -52,9 +52,11 @@ least_by failure best xs = first_of best (map failure xs)
 abbrev pub of_pause : Place → Failure
 of_pause at = record { rule = rule.Pause; at = at; further = Nothing }
 
+-- the failure of a unit by the rule Pause, where it has one
 abbrev pub pause_of : UnitDef → List Failure
 pause_of unit = if is_activity unit.kind && is_instant_block unit.body then of_pause unit.place ∷ [] else []
 
+-- the failures of all units by the rule Pause
 abbrev pub pause_failures : List UnitDef → List Failure
 pause_failures units = joined (map pause_of units)
 
@@ -62,9 +64,11 @@ pause_failures units = joined (map pause_of units)
 abbrev pub of_loop : Place → Failure
 of_loop at = record { rule = rule.Instant; at = at; further = Nothing }
 
+-- the places of a unit's loops that fail the rule Instant: none in a function
 abbrev pub loops_of : UnitDef → List Place
 loops_of unit = if is_activity unit.kind then instant_loops unit else []
 
+-- the places of all loops that fail the rule Instant
 abbrev pub instant_failures : List UnitDef → List Place
 instant_failures units = joined (map loops_of units)
 
@@ -77,9 +81,11 @@ abbrev pub added : Option Failure → Place → Option Place → Option Failure
 added best at (Some also) = lesser best (of_alias (record { at = at; also = also }))
 added best at None = best
 
+-- the failures of a unit by the rule Alias
 abbrev pub aliases_of_unit : UnitDef → List Aliased
 aliases_of_unit unit = joined (map aliases_in unit.body)
 
+-- the failures of all units by the rule Alias
 abbrev pub alias_failures : List UnitDef → List Aliased
 alias_failures units = joined (map aliases_of_unit units)
 
@@ -100,6 +106,7 @@ abbrev pub clashes_under : Option Var → List Marked → Marked → List Failur
 clashes_under (Some var) earlier second = clashes_at var.place earlier second
 clashes_under None earlier second = []
 
+-- a write and the earlier ones, where the variables of the unit are these
 abbrev pub clashes_with : List Var → List Marked → Marked → List Failure
 clashes_with vars earlier second = clashes_under (slice_get vars second.path.root) earlier second
 
@@ -107,12 +114,15 @@ clashes_with vars earlier second = clashes_under (slice_get vars second.path.roo
 abbrev pub clashes : List Var → Split → List Failure
 clashes vars split = joined (map (clashes_with vars split.earlier) split.writes)
 
+-- the failures of all branches of a unit
 abbrev pub all_clashes : List Var → List Split → List Failure
 all_clashes vars splits = joined (map (clashes vars) splits)
 
+-- the failures of a unit by the rule Conflict
 abbrev pub clashes_of_unit : UnitDef → List Failure
 clashes_of_unit unit = all_clashes unit.vars (splits_of unit)
 
+-- the failures of all units by the rule Conflict
 abbrev pub conflict_failures : List UnitDef → List Failure
 conflict_failures units = joined (map clashes_of_unit units)
 
@@ -123,30 +133,39 @@ failures units =
 
 -- ---- parts of the tree
 
+-- what the rule Instant asks of an arm
 abbrev pub loops_of_arm : Arm → Loops
 loops_of_arm = fold-Arm (Place → Loops) Loops BranchLoops Loops kind_loops arm_loops branch_loops stmt_loops
 
+-- what the rule Instant asks of a branch
 abbrev pub loops_of_branch : Branch → BranchLoops
 loops_of_branch = fold-Branch (Place → Loops) Loops BranchLoops Loops kind_loops arm_loops branch_loops stmt_loops
 
+-- the places of the loops in branches that may end in the tick in which they begin
 abbrev pub branches_loops : List BranchLoops → List Place
 branches_loops branches = joined (map (λ branch. branch.places) branches)
 
+-- the failures of the calls in an arm by the rule Alias
 abbrev pub aliases_of_arm : Arm → List Aliased
 aliases_of_arm = fold-Arm (List Aliased) (List Aliased) (List Aliased) (List Aliased) kind_aliases arm_aliases branch_aliases stmt_aliases
 
+-- the failures of the calls in a branch by the rule Alias
 abbrev pub aliases_of_branch : Branch → List Aliased
 aliases_of_branch = fold-Branch (List Aliased) (List Aliased) (List Aliased) (List Aliased) kind_aliases arm_aliases branch_aliases stmt_aliases
 
+-- what the acts in an arm write, and the branches that stand in it
 abbrev pub parallel_of_arm : Arm → Parallel
 parallel_of_arm = fold-Arm (Place → Parallel) Parallel Parallel Parallel kind_parallel arm_parallel branch_parallel stmt_parallel
 
+-- what the acts in a branch write, and the branches that stand in it
 abbrev pub parallel_of_branch : Branch → Parallel
 parallel_of_branch = fold-Branch (Place → Parallel) Parallel Parallel Parallel kind_parallel arm_parallel branch_parallel stmt_parallel
 
+-- a static path that the act at the place writes
 abbrev pub written : Place → Static → Marked
 written at path = record { place = at; path = path }
 
+-- the path that an input reads, with the input's place, where it is an aggregate
 abbrev pub marked_read : Place → Path → List Marked
 marked_read at path = if is_none (scalar_in (out-Path path).ty) then record { place = at; path = static_of path } ∷ [] else []
 

@@ -49,9 +49,11 @@ next_wanted (next.Argument call) = part Arg call.room ∷ part ArgRest call.room
 next_wanted (next.Place of place) = part Steps place.room ∷ use_wanted of
 next_wanted (next.Whole e) = []
 
+-- what is expected behind what is read of an expression
 abbrev pub partial_wanted : Partial → List Wanted
 partial_wanted p = next_wanted p.next ++ behind p.outer.items
 
+-- whether the innermost expression is read to its end
 abbrev pub is_whole_next : Next → Bool
 is_whole_next (next.Whole e) = true
 is_whole_next _ = false
@@ -66,6 +68,7 @@ abbrev pub Stays : Result Partial CRefusal → List Wanted → Type 0
 Stays result symbols = (rest : List Wanted) (pieces : List Token) → Expects (symbols ++ rest) pieces →
     MatchResult result (λ p. Expects (partial_wanted p ++ rest) pieces) WantsMemory
 
+-- where these symbols are expected, so is what the expression that is read in part awaits
 abbrev pub Awaits : Partial → List Wanted → Type 0
 Awaits p symbols = (rest : List Wanted) (pieces : List Token) → Expects (symbols ++ rest) pieces → Expects (partial_wanted p ++ rest) pieces
 
@@ -75,6 +78,7 @@ closed_wanted (Then test) room = part Else room ∷ []
 closed_wanted (opened.Else test then_part) room = []
 closed_wanted (Turns turn test) room = sign (codes "}") ∷ []
 
+-- what is expected behind the brace that closes the open part of a statement
 abbrev pub frame_wanted : Frame → List Wanted
 frame_wanted f = closed_wanted f.opened f.room ++ part Stmts f.room ∷ sign (codes "}") ∷ []
 
@@ -82,6 +86,7 @@ frame_wanted f = closed_wanted f.opened f.room ++ part Stmts f.room ∷ sign (co
 abbrev pub outside : List Frame → List Wanted
 outside items = unwound frame_wanted items
 
+-- what is expected behind what is read of a function's body
 abbrev pub nest_wanted : Nest → List Wanted
 nest_wanted n = part Stmts n.room ∷ sign (codes "}") ∷ outside n.outer.items
 
@@ -90,6 +95,7 @@ abbrev pub Nests : Result Nest CRefusal → List Wanted → List Token → List 
 Nests result symbols old new = (rest : List Wanted) → Expects (symbols ++ rest) old →
     MatchResult result (λ n. Expects (nest_wanted n ++ rest) new) WantsMemory
 
+-- the same where no token is read
 abbrev pub NestStays : Result Nest CRefusal → List Wanted → Type 0
 NestStays result symbols = (rest : List Wanted) (pieces : List Token) → Expects (symbols ++ rest) pieces →
     MatchResult result (λ n. Expects (nest_wanted n ++ rest) pieces) WantsMemory

@@ -16,6 +16,7 @@ opened_tokens (Then test) = codes "if" ∷ (condition_tokens test ++ codes "{" �
 opened_tokens (Else test then_part) = codes "if" ∷ (condition_tokens test ++ (braced (map stmt_tokens then_part) ++ codes "else" ∷ codes "{" ∷ []))
 opened_tokens (Turns turn test) = turn_declared turn ++ (condition_tokens test ++ turn_counted turn)
 
+-- whether what is read of an open statement has a spelling
 abbrev pub spells_opened : Opened → Bool
 spells_opened (Then test) = spells_expr test
 spells_opened (Else test then_part) = spells_expr test && all_of (map spells_stmt then_part)
@@ -25,6 +26,7 @@ spells_opened (Turns turn test) = is_turn_name turn && spells_expr test
 abbrev pub frame_tokens : Frame → List Token
 frame_tokens f = joined (map stmt_tokens f.before) ++ opened_tokens f.opened
 
+-- whether the statements before an open one and what is read of it have a spelling
 abbrev pub spells_frame : Frame → Bool
 spells_frame f = all_of (map spells_stmt f.before) && spells_opened f.opened
 
@@ -32,5 +34,6 @@ spells_frame f = all_of (map spells_stmt f.before) && spells_opened f.opened
 abbrev pub nest_tokens : Nest → List Token
 nest_tokens n = joined (map frame_tokens n.outer.items) ++ joined (map stmt_tokens n.body)
 
+-- whether all that is read of a function's body has a spelling
 abbrev pub spells_nest : Nest → Bool
 spells_nest n = all_of (map spells_frame n.outer.items) && all_of (map spells_stmt n.body)

@@ -25,6 +25,7 @@ args_before (arg ∷ args) = with_commas (map arg_tokens (arg ∷ args)) ++ code
 abbrev pub called_front : CallFront → List Token
 called_front c = c.name ∷ codes "(" ∷ args_before c.args
 
+-- whether the name and the arguments that are read of a call have a spelling
 abbrev pub spells_called : CallFront → Bool
 spells_called c = is_callee c.name && all_of (map spells_arg c.args)
 
@@ -32,6 +33,7 @@ spells_called c = is_callee c.name && all_of (map spells_arg c.args)
 abbrev pub place_front : PlaceFront → List Token
 place_front p = root_tokens p.through p.name ++ joined (map step_tokens p.steps)
 
+-- whether what is read of a place has a spelling
 abbrev pub spells_root : PlaceFront → Bool
 spells_root p = is_name p.name && all_of (map spells_step p.steps)
 
@@ -40,6 +42,7 @@ abbrev pub use_tokens : Use → List Token
 use_tokens Value = []
 use_tokens (Address call) = called_front call ++ codes "&" ∷ []
 
+-- whether what stands before a place has a spelling
 abbrev pub spells_use : Use → Bool
 spells_use Value = true
 spells_use (Address call) = spells_called call
@@ -52,6 +55,7 @@ held_tokens (held.Second left o) = codes "(" ∷ (expr_tokens left ++ operator_s
 held_tokens (held.Argument call) = called_front call
 held_tokens (held.Index i) = (use_tokens i.of ++ place_front i.place) ++ codes "." ∷ i.member ∷ index_front i.signed
 
+-- whether what is read of the part around an expression has a spelling
 abbrev pub spells_held : Held → Bool
 spells_held held.Negation = true
 spells_held (held.First room) = true
@@ -66,6 +70,7 @@ next_tokens (next.Argument call) = called_front call
 next_tokens (next.Place of place) = use_tokens of ++ place_front place
 next_tokens (next.Whole e) = expr_tokens e
 
+-- whether what is read behind the innermost open bracket has a spelling
 abbrev pub spells_next : Next → Bool
 spells_next (next.Wanted room) = true
 spells_next (next.Argument call) = spells_called call
@@ -80,6 +85,7 @@ on_stack outer = joined (map held_tokens outer)
 abbrev pub partial_tokens : Partial → List Token
 partial_tokens p = on_stack p.outer.items ++ next_tokens p.next
 
+-- whether all that is read of an expression has a spelling
 abbrev pub spells_partial : Partial → Bool
 spells_partial p = all_of (map spells_held p.outer.items) && spells_next p.next
 

@@ -50,6 +50,7 @@ operator = Terminal (one_of Operators)
 abbrev pub index_function : Wanted
 index_function = Terminal (one_of IndexFunctions)
 
+-- the function that takes an index: that for int types, or that for unsigned ones
 abbrev pub index_word : Bool → Token
 index_word true = codes "bl_ix_s"
 index_word false = codes "bl_ix_u"
@@ -97,13 +98,15 @@ by_width a b c d W64 = d
 abbrev pub exactly_one : Token → Token → Token → Token → List Class
 exactly_one a b c d = exactly a ∷ exactly b ∷ exactly c ∷ exactly d ∷ []
 
--- the words of constants, and those of the least numbers of int types
+-- the words of constants of int types
 abbrev pub signed_starts : List Class
 signed_starts = exactly_one (codes "INT8_C") (codes "INT16_C") (codes "INT32_C") (codes "INT64_C")
 
+-- the words of constants of unsigned types
 abbrev pub unsigned_starts : List Class
 unsigned_starts = exactly_one (codes "UINT8_C") (codes "UINT16_C") (codes "UINT32_C") (codes "UINT64_C")
 
+-- the words of the least numbers of int types
 abbrev pub least_starts : List Class
 least_starts = exactly_one (codes "INT8_MIN") (codes "INT16_MIN") (codes "INT32_MIN") (codes "INT64_MIN")
 

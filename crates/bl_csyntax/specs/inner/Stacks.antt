@@ -15,12 +15,12 @@ use Rattle.bl_grammar.specs.Runs
 use Rattle.bl_csyntax.specs.declared.grammar.Class.TheVariants as row
 
 -- before this piece both stacks stand for the same
-abbrev pub Expands : Token → List Wanted → List Wanted → Type 0
-Expands next stack opened = Runs.Expands Produces matches tables next stack opened
+abbrev pub StackExpands : Token → List Wanted → List Wanted → Type 0
+StackExpands next stack opened = Runs.StackExpands Produces matches tables next stack opened
 
 -- whether the piece is taken, and what is left then
-abbrev pub Answers : Token → List Wanted → Bool → List Wanted → Type 0
-Answers next stack taken rest = Runs.Answers Produces matches tables next stack taken rest
+abbrev pub StackAnswers : Token → List Wanted → Bool → List Wanted → Type 0
+StackAnswers next stack taken rest = Runs.StackAnswers Produces matches tables next stack taken rest
 
 -- how far the stack is from the next piece that is read
 abbrev pub level : List Wanted → ℕ

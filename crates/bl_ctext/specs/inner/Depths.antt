@@ -18,6 +18,7 @@ abbrev pub none_or_depth : Option ℕ → ℕ
 none_or_depth None = 0
 none_or_depth (Some n) = n
 
+-- one step of the fold for each part: its depth, where those of its own parts are known
 abbrev pub arg_nesting : EachIs ℕ CArg-F → ℕ
 arg_nesting (CArg-F.Value value) = value
 arg_nesting (CArg-F.Address at) = at
@@ -30,40 +31,51 @@ kind_nesting (CExprKind-F.Call call) = call
 kind_nesting (CExprKind-F.Not operand) = operand + 1
 kind_nesting (CExprKind-F.Two o left right) = max left right + 1
 
+-- a call adds its parentheses to the depth of its deepest argument
 abbrev pub call_nesting : EachIs ℕ CCall-F → ℕ
 call_nesting c = greatest c.args + 1
 
+-- an expression is as deep as its form
 abbrev pub expr_nesting : EachIs ℕ CExpr-F → ℕ
 expr_nesting e = e.what
 
+-- an index adds its bracket and the parenthesis of its function
 abbrev pub index_nesting : EachIs ℕ CIndex-F → ℕ
 index_nesting i = i.at + 2
 
+-- a place has at most the parentheses of (*p), or the depth of its deepest step
 abbrev pub place_nesting : EachIs ℕ CPlace-F → ℕ
 place_nesting p = max 1 (greatest p.steps)
 
+-- a step is as deep as its index, where it has one
 abbrev pub step_nesting : EachIs ℕ CStep-F → ℕ
 step_nesting s = none_or_depth s.index
 
--- the depth of an expression, of a place and of a call
+-- the depth of an expression
 abbrev pub expr_depth : CExpr → ℕ
 expr_depth = fold-CExpr _ _ _ _ _ _ _ arg_nesting kind_nesting call_nesting expr_nesting index_nesting place_nesting step_nesting
 
+-- the depth of an expression's form
 abbrev pub kind_depth : CExprKind → ℕ
 kind_depth = fold-CExprKind _ _ _ _ _ _ _ arg_nesting kind_nesting call_nesting expr_nesting index_nesting place_nesting step_nesting
 
+-- the depth of a place
 abbrev pub place_depth : CPlace → ℕ
 place_depth = fold-CPlace _ _ _ _ _ _ _ arg_nesting kind_nesting call_nesting expr_nesting index_nesting place_nesting step_nesting
 
+-- the depth of a step of a place
 abbrev pub step_depth : CStep → ℕ
 step_depth = fold-CStep _ _ _ _ _ _ _ arg_nesting kind_nesting call_nesting expr_nesting index_nesting place_nesting step_nesting
 
+-- the depth of an index
 abbrev pub index_depth : CIndex → ℕ
 index_depth = fold-CIndex _ _ _ _ _ _ _ arg_nesting kind_nesting call_nesting expr_nesting index_nesting place_nesting step_nesting
 
+-- the depth of a call
 abbrev pub call_depth : CCall → ℕ
 call_depth = fold-CCall _ _ _ _ _ _ _ arg_nesting kind_nesting call_nesting expr_nesting index_nesting place_nesting step_nesting
 
+-- the depth of an argument
 abbrev pub arg_depth : CArg → ℕ
 arg_depth = fold-CArg _ _ _ _ _ _ _ arg_nesting kind_nesting call_nesting expr_nesting index_nesting place_nesting step_nesting
 
@@ -72,10 +84,12 @@ abbrev pub braced_nesting : Option (List ℕ) → ℕ
 braced_nesting None = 0
 braced_nesting (Some depths) = greatest depths + 1
 
+-- the depth of a returned value that may be absent
 abbrev pub result_depth : Option CExpr → ℕ
 result_depth None = 0
 result_depth (Some e) = expr_depth e
 
+-- one step of the fold for statements
 abbrev pub stmt_kind_nesting : CStmtKind-F ℕ ℕ → ℕ
 stmt_kind_nesting (CStmtKind-F.Set at value) = max (place_depth at) (expr_depth value)
 stmt_kind_nesting (CStmtKind-F.Clear at name) = max (place_depth at) 1
@@ -86,6 +100,7 @@ stmt_kind_nesting (CStmtKind-F.Loop turn test body) = max (expr_depth test + 2) 
 stmt_kind_nesting CStmtKind-F.Break = 0
 stmt_kind_nesting (CStmtKind-F.Return value) = result_depth value
 
+-- a statement is as deep as its form
 abbrev pub stmt_nesting : CStmt-F ℕ ℕ → ℕ
 stmt_nesting s = s.what
 
@@ -93,6 +108,7 @@ stmt_nesting s = s.what
 abbrev pub stmt_depth : CStmt → ℕ
 stmt_depth = fold-CStmt _ _ stmt_kind_nesting stmt_nesting
 
+-- the depth of a statement's form
 abbrev pub stmt_kind_depth : CStmtKind → ℕ
 stmt_kind_depth = fold-CStmtKind _ _ stmt_kind_nesting stmt_nesting
 

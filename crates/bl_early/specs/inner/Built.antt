@@ -10,10 +10,12 @@ abbrev pub item_within : ℕ → Item → Bool
 item_within count (Number n ty) = is_literal ty n
 item_within count (Of k) = nat_lt k count
 
+-- whether a source can be written in a unit with so many parameters
 abbrev pub source_within : ℕ → Source → Bool
 source_within count (Just item) = item_within count item
 source_within count (Sum left right) = item_within count left && item_within count right
 
+-- whether a step can be written in a unit with so many parameters
 abbrev pub step_within : ℕ → Step → Bool
 step_within count (Set k source) = nat_lt k count && source_within count source
 step_within count (Pause item) = item_within count item
@@ -23,10 +25,11 @@ abbrev pub passes : {A : Type 0} → (A → Bool) → Option A → Bool
 passes test None = false
 passes test (Some a) = test a
 
--- whether the expression is an item, or a source, that names parameters alone
+-- whether an expression is an item that names parameters alone
 abbrev pub is_item : ℕ → Expr → Bool
 is_item count e = passes (item_within count) (item_of e)
 
+-- whether an expression is a source that names parameters alone
 abbrev pub is_source : ℕ → Expr → Bool
 is_source count e = passes (source_within count) (source_of e)
 
@@ -34,13 +37,15 @@ is_source count e = passes (source_within count) (source_of e)
 abbrev pub is_step : ℕ → Stmt → Bool
 is_step count s = passes (step_within count) (step_of s)
 
--- the item, the source or the step, where there is one
+-- the item for which an expression stands, where it stands for one
 abbrev pub item_at : Expr → Item
 item_at e = unwrap_or (item_of e) (Of 0)
 
+-- the source for which an expression stands, where it stands for one
 abbrev pub source_at : Expr → Source
 source_at e = unwrap_or (source_of e) (Just (Of 0))
 
+-- the step for which a statement stands, where it stands for one
 abbrev pub step_at : Stmt → Step
 step_at s = unwrap_or (step_of s) (Pause (Of 0))
 
@@ -48,9 +53,10 @@ step_at s = unwrap_or (step_of s) (Pause (Of 0))
 abbrev pub steps_at : List Stmt → List Step
 steps_at body = map step_at body
 
--- whether a statement is a step, or a pause
+-- whether a statement is a step
 abbrev pub is_any_step : Stmt → Bool
 is_any_step s = is_some (step_of s)
 
+-- whether a statement is a step that pauses
 abbrev pub has_pause : Stmt → Bool
 has_pause s = passes is_pause (step_of s)

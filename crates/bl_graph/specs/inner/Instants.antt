@@ -9,8 +9,10 @@ use Rattle.bl_tree.specs.Instant.{Ends, arm_instant, branch_ends, kind_instant, 
 abbrev pub instant_of_kind : StmtKind → Bool
 instant_of_kind = fold-StmtKind Bool Bool Ends Bool kind_instant arm_instant branch_ends stmt_instant
 
+-- whether an arm may end in the tick in which it begins
 abbrev pub instant_of_arm : Arm → Bool
 instant_of_arm = fold-Arm Bool Bool Ends Bool kind_instant arm_instant branch_ends stmt_instant
 
+-- whether a branch is weak, and whether it may end in the tick in which it begins
 abbrev pub ends_of_branch : Branch → Ends
 ends_of_branch = fold-Branch Bool Bool Ends Bool kind_instant arm_instant branch_ends stmt_instant

@@ -131,9 +131,11 @@ pub record Whole : Type 0 where
   pub edges : List Pair
   pub flows : List Pair
 
+-- what a statement comes to
 abbrev pub whole_of : Plain → Whole
 whole_of p = record { nodes = (part_of p).nodes; outs = (part_of p).outs; resumes = resumes_of p; edges = edges_of p; flows = flows_of p }
 
+-- what a block comes to
 abbrev pub whole_in : Block → Whole
 whole_in body = record {
   nodes = (part_in body).nodes;
@@ -215,6 +217,7 @@ abbrev pub flows_within : Bodies → List Pair
 flows_within Last = []
 flows_within (Body weak body rest) = flows_in body ++ flows_within rest
 
+-- the data edges between nodes of different branches
 abbrev pub flows_between : Bodies → List Pair
 flows_between Last = []
 flows_between (Body weak body rest) = across (part_in body).nodes (parts_of rest).nodes ++ flows_between rest

@@ -11,6 +11,7 @@ pub record Note : Type 0 where
   pub node : ℕ
   pub path : Static
 
+-- the node, noted with this path
 abbrev pub note : ℕ → Static → Note
 note node path = record { node = node; path = path }
 

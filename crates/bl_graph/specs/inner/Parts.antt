@@ -44,6 +44,7 @@ leave_mark (out ∷ rest) = either (leaving out.mark) (leave_mark rest)
 abbrev pub moved_flow : Mark → Flow → Flow
 moved_flow entry flow = record { node = flow.node; mark = inner entry flow.mark; reads = flow.reads; writes = flow.writes }
 
+-- a node that leads on from a part, with its mark in what is around it
 abbrev pub moved_out : Mark → Out → Out
 moved_out entry out = record { node = out.node; mark = inner entry out.mark }
 
@@ -69,6 +70,7 @@ link_if test from to = if test then edge_between from to false ∷ [] else []
 abbrev pub surface_links : List Out → ℕ → List Edge
 surface_links outs to = joined (map (λ out. link_if out.mark.surface out.node to) outs)
 
+-- the control edges to a node from each of these that is in the depth
 abbrev pub depth_links : List Out → ℕ → List Edge
 depth_links outs to = joined (map (λ out. link_if out.mark.depth out.node to) outs)
 
@@ -98,9 +100,11 @@ past first instant = if instant then first + 2 else first + 1
 abbrev pub node : Place → NodeKind → Mark → List Static → List Static → Flow
 node place kind mark reads writes = record { node = record { place = place; kind = kind }; mark = mark; reads = reads; writes = writes }
 
+-- a node that reads and writes nothing
 abbrev pub bare : Place → NodeKind → Mark → Flow
 bare place kind mark = node place kind mark [] []
 
+-- such a node, where the test is true
 abbrev pub bare_if : Bool → Place → NodeKind → Mark → List Flow
 bare_if test place kind mark = if test then bare place kind mark ∷ [] else []
 
@@ -108,6 +112,7 @@ bare_if test place kind mark = if test then bare place kind mark ∷ [] else []
 abbrev pub out : ℕ → Mark → Out
 out number mark = record { node = number; mark = mark }
 
+-- a node that leads on, where the test is true
 abbrev pub out_if : Bool → ℕ → Mark → List Out
 out_if test number mark = if test then out number mark ∷ [] else []
 
@@ -177,6 +182,7 @@ guarded_part at guard reads empty instant first check body = record {
 abbrev pub again_of : Part → Mark
 again_of body = again_by (some_mark body.outs)
 
+-- how the test after a loop's body is reached, where the body may be empty
 abbrev pub turned : Bool → Part → Mark
 turned empty body = record { surface = empty || (some_mark body.outs).surface; depth = (some_mark body.outs).depth }
 
@@ -188,6 +194,7 @@ endless_part at body = record {
   resumes = body.resumes;
 }
 
+-- a loop that tests after its body
 abbrev pub until_part : Place → List Static → Bool → ℕ → Part → Part
 until_part at reads empty test body = record {
   flows = bare at kind.Head (again_of body) ∷ node at kind.Test (turned empty body) reads [] ∷ map (moved_flow (again_of body)) body.flows;
@@ -195,6 +202,7 @@ until_part at reads empty test body = record {
   resumes = body.resumes;
 }
 
+-- a loop that tests before its body
 abbrev pub while_part : Place → List Static → ℕ → Part → Part
 while_part at reads test body = record {
   flows = node at kind.Test (again_of body) reads [] ∷ map (moved_flow (again_of body)) body.flows;

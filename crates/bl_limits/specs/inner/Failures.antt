@@ -25,6 +25,7 @@ abbrev pub at_unit : Rule → ℕ → ℕ → Option UnitDef → List Failure
 at_unit rule limit n (Some unit) = above limit n (failure_at rule unit.place)
 at_unit rule limit n None = []
 
+-- the failure of an entry that expands to too many instances
 abbrev pub many_instances : List UnitDef → ℕ → List Failure
 many_instances units entry = at_unit rule.Frames 4_096 (instances_at units entry) (slice_get units entry)
 
@@ -34,21 +35,27 @@ numbered rule limit place [] numbers = []
 numbered rule limit place (x ∷ rest) [] = []
 numbered rule limit place (x ∷ rest) (n ∷ numbers) = above limit n (failure_at rule (place x)) ++ numbered rule limit place rest numbers
 
+-- the failures of units that head too long a chain
 abbrev pub chain_failures : List UnitDef → List Failure
 chain_failures units = numbered rule.Frames 100 (λ (unit : UnitDef). unit.place) units (all_chains units)
 
+-- the failure of an entry with too many cells
 abbrev pub large_state : List StructDef → List UnitDef → ℕ → List Failure
 large_state structs units entry = at_unit rule.Cells 1_000_000 (cells_at structs units entry) (slice_get units entry)
 
+-- the failures of structs that are nested too deep
 abbrev pub struct_failures : List StructDef → List Failure
 struct_failures structs = numbered rule.Cells 100 (λ (def : StructDef). def.place) structs (struct_nestings structs)
 
+-- the failure of a variable that is nested too deep
 abbrev pub of_variable : List StructDef → Var → List Failure
 of_variable structs var = above 100 (nesting structs var.ty) (failure_at rule.Cells var.place)
 
+-- the failures of a unit's variables
 abbrev pub unit_variable_failures : List StructDef → List Var → List Failure
 unit_variable_failures structs vars = joined (map (of_variable structs) vars)
 
+-- the failures of the variables of all units
 abbrev pub variable_failures : List StructDef → List UnitDef → List Failure
 variable_failures structs units = joined (map (λ (unit : UnitDef). unit_variable_failures structs unit.vars) units)
 

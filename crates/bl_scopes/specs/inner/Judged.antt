@@ -20,6 +20,7 @@ judged judge mark = record {
   first = kept judge.first (failure_at judge.scopes mark);
 }
 
+-- what a judge remembers after marks one after another
 abbrev pub judged_by : Judge → Marks → Judge
 judged_by judge [] = judge
 judged_by judge (mark ∷ rest) = judged_by (judged judge mark) rest

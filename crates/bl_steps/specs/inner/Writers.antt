@@ -43,12 +43,15 @@ is_beside k at write = not (nat_eq write.branch k) && overlap at write.home
 
 -- ---- as they are kept
 
+-- a write that is kept: its branch and its home
 abbrev pub write_of : WriteNode → Write
 write_of write = record { branch = write.branch; home = location_of write.home }
 
+-- the variable in which a home lies, by the numbers of its instance and of its own
 abbrev pub key_at : Location → ℕ × ℕ
 key_at at = (at.instance, at.path.root)
 
+-- the order of such keys: by instance, then by variable
 abbrev pub key_cmp : ℕ × ℕ → ℕ × ℕ → Ordering
 key_cmp x y = ordering_then (nat_cmp x.0 y.0) (nat_cmp x.1 y.1)
 

@@ -20,6 +20,7 @@ Shifts n origin = IfSome origin (λ o. n + o.caller < 2 ^ 32)
 
 -- ---- places that were seen
 
+-- the order of places: by start, then by end
 abbrev pub place_cmp : ℕ × ℕ → ℕ × ℕ → Ordering
 place_cmp x y = ordering_then (nat_cmp x.0 y.0) (nat_cmp x.1 y.1)
 

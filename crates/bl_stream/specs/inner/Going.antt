@@ -52,6 +52,7 @@ pub record Start : Type 0 where
 abbrev pub runner_at : Start → Parts → Running
 runner_at start file = record { parts = file; cells = start.cells; ready = start.ready; live = true }
 
+-- where a runner stands
 abbrev pub start_of : Running → Start
 start_of r = record { cells = r.cells; ready = r.ready }
 

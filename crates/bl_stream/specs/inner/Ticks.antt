@@ -4,6 +4,7 @@ use Rattle.bl_tree.specs.declared.row.Last.TheVariants as last
 use Rattle.bl_crun.specs.declared.tick.Tick.{Tick}
 use Rattle.bl_crun.specs.declared.tick.Tick.TheVariants as tick
 
+-- how a trace stands or ends behind a tick that was so
 abbrev pub last_by : Tick → Last
 last_by tick.Row = last.Open
 last_by tick.Ended = last.Ended

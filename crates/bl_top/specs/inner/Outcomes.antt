@@ -1,5 +1,5 @@
 -- Ends of jobs as values of the program, before their line is written.
-use Rattle.std.specs.Prelude.{◌≡◌, ℕ, ◌⊎◌, List}
+use Rattle.std.specs.Prelude.{◌≡◌, ℕ, ◌⊎◌, List, ◌++◌}
 use Rattle.bl_cparse.specs.declared.refusal.CRefusal.{CRefusal}
 use Rattle.bl_cparse.specs.declared.refusal.CRefusal.TheVariants as text
 use Rattle.bl_crun.specs.declared.fault.LoadFault.{LoadFault}
@@ -8,6 +8,7 @@ use Rattle.bl_stream.specs.declared.finish.Finish.{Finish}
 use Rattle.bl_stream.specs.declared.finish.Finish.TheVariants as finish
 use Rattle.bl_top.specs.Notes.{bad_rows_line, line_of, not_subset_line, too_large_line}
 use Rattle.bl_top.specs.Refusals.{refusal_line}
+use Rattle.bl_top.specs.declared.answer.Answer.{Answer}
 use Rattle.bl_top.specs.declared.outcome.Outcome.{Outcome}
 use Rattle.bl_top.specs.declared.status.Status.{Status}
 use Rattle.bl_top.specs.declared.status.Status.TheVariants as status
@@ -25,6 +26,10 @@ chosen_line ended own = line_of ended
 -- the line of an outcome
 abbrev pub line_in : Outcome → List ℕ
 line_in outcome = chosen_line outcome.status outcome.line.items
+
+-- all lines of an answer, that of its status last
+abbrev pub lines_in : Answer → List ℕ
+lines_in answer = answer.told.items ++ line_in answer.outcome
 
 -- the outcome has the status and the job's own line, or memory was refused for the line
 abbrev pub IsTold : Status → List ℕ → Outcome → Type 0

@@ -5,7 +5,7 @@ use Rattle.std.specs.Str.{bytes_eq}
 use Rattle.clap.specs.Words.{App, Row, Rule, Shape, Text, first_of, new_app, new_rule}
 use Rattle.clap.specs.Words.{with_rule, with_subcommand}
 use Rattle.clap.specs.Simple.{on_top}
-use Rattle.bl_words.specs.Jobs.{JobSpec, build, check, exec, run}
+use Rattle.bl_words.specs.Jobs.{JobSpec, build, check, exec, run, seeded}
 
 -- a value that has to be there, read back by this name
 abbrev pub required_value : Text → Rule
@@ -19,6 +19,10 @@ one_command name = with_rule (new_app name) (required_value (codes "first"))
 abbrev pub two_command : Text → App
 two_command name = with_rule (one_command name) (required_value (codes "second"))
 
+-- the command of this name with three values
+abbrev pub three_command : Text → App
+three_command name = with_rule (two_command name) (required_value (codes "third"))
+
 -- a command that has to be named, and no help and no version
 abbrev pub with_own_words_only : Shape → Shape
 with_own_words_only s = record s {
@@ -31,11 +35,12 @@ with_own_words_only s = record s {
 
 -- the program with all its commands
 abbrev pub command_line : App
-command_line = with_subcommand (with_subcommand (with_subcommand (with_subcommand
+command_line = with_subcommand (with_subcommand (with_subcommand (with_subcommand (with_subcommand
     (on_top with_own_words_only (new_app (codes "blechc")))
     (one_command (codes "check")).top)
     (one_command (codes "build")).top)
     (two_command (codes "run")).top)
+    (three_command (codes "walk")).top)
     (two_command (codes "exec")).top
 
 -- the job of one value that was read
@@ -46,15 +51,20 @@ one_read job first = option_map job first
 abbrev pub two_read : (Text → Text → JobSpec) → Option Text → Option Text → Option JobSpec
 two_read job first second = option_and_then (λ word. option_map (job word) second) first
 
+-- the job of three values that were read, where they ask for one
+abbrev pub three_read : (Text → Text → Text → Option JobSpec) → Option Text → Option Text → Option Text → Option JobSpec
+three_read job first second third = option_and_then (λ a. option_and_then (λ b. option_and_then (job a b) third) second) first
+
 -- the job of the command of this name, by the values that were read for it
-abbrev pub named_read : Text → Option Text → Option Text → Option JobSpec
-named_read name first second = if bytes_eq (codes "check") name then one_read check first
+abbrev pub named_read : Text → Option Text → Option Text → Option Text → Option JobSpec
+named_read name first second third = if bytes_eq (codes "check") name then one_read check first
     else (if bytes_eq (codes "build") name then one_read build first
     else (if bytes_eq (codes "run") name then two_read run first second
-    else (if bytes_eq (codes "exec") name then two_read exec first second else None)))
+    else (if bytes_eq (codes "walk") name then three_read seeded first second third
+    else (if bytes_eq (codes "exec") name then two_read exec first second else None))))
 
 -- the job of the command that was read
 abbrev pub job_read : Option (Text × List Row) → Option JobSpec
 job_read None = None
 job_read (Some command) = named_read command.0 (first_of (codes "first") command.1)
-    (first_of (codes "second") command.1)
+    (first_of (codes "second") command.1) (first_of (codes "third") command.1)

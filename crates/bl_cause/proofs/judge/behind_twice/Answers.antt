@@ -1,4 +1,4 @@
-use Rattle.bl_cause.proofs.GraphLemmas.{cycle_first, neither_fails, no_walks}
+use Rattle.bl_cause.proofs.GraphLemmas.{no_walks}
 use Rattle.bl_cause.proofs.judge.behind_twice.Goals as goal
 
 pub orders-requires : goal.orders-requires

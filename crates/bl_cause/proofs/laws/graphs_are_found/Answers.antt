@@ -5,7 +5,8 @@ use Rattle.bl_cause.proofs.laws.graphs_are_found.Goals as goal
 
 pub returns-clause-graphs : goal.returns-clause-graphs
 returns-clause-graphs c = λ units graphs are at unit is activity.
-    let own = each_at IsGraphOf (activities units) graphs (graph_position units at) unit are (filtered_at (λ it. is_activity it.kind) units at unit is activity) in
+    let own = each_at IsGraphOf (activities units) graphs (graph_position units at) unit are
+    (filtered_at (λ it. is_activity it.kind) units at unit is activity) in
     record { graph = own.0; stands = own.1; of_unit = own.2 }
 
 pub returns-clause-orders : goal.returns-clause-orders

@@ -1,5 +1,4 @@
 use Rattle.std.proofs.Common.{subst}
-use Rattle.bl_tree.specs.declared.rule.Refusal.{Refusal}
 use Rattle.bl_tree.specs.Rules.{IsCause, Passes}
 use Rattle.bl_cause.specs.inner.Graphs.{GraphsFail}
 use Rattle.bl_cause.proofs.AlikeLemmas.{program_cause, program_passes}

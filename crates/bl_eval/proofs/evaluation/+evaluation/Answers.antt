@@ -1,4 +1,23 @@
-use Rattle.std.proofs.Common.{◌+◌, ◌*◌, ◌++◌, ◌∷◌, [], ◌<◌, ◌≤◌, max, arith, ap, sym, ◌∙◌, map, take, length, Some, true, false}
+use Rattle.std.proofs.Common.{
+  ◌+◌,
+  ◌*◌,
+  ◌++◌,
+  ◌∷◌,
+  [],
+  ◌<◌,
+  ◌≤◌,
+  max,
+  arith,
+  ap,
+  sym,
+  ◌∙◌,
+  map,
+  take,
+  length,
+  Some,
+  true,
+  false,
+}
 use Rattle.std.proofs.lemmas.List.{length-take-le}
 use Rattle.std.proofs.lemmas.Option.{slice_get_within}
 use Rattle.std.specs.Prelude.{option_map, option_and_then}
@@ -8,7 +27,7 @@ use Rattle.bl_tree.specs.declared.tree.Part.{size-Part}
 use Rattle.bl_tree.specs.declared.tree.Path.{out-Path}
 use Rattle.bl_eval.specs.Changes.{all_changed, choice_of, current_of, ended, part_of_path, scope_in, view_in}
 use Rattle.bl_eval.specs.Functions.{condition, does, in_order, truth}
-use Rattle.bl_eval.specs.Meaning.{meaning_of, positions_of, spot_of}
+use Rattle.bl_eval.specs.Meaning.{meaning_of, path_meaning_of, positions_of}
 use Rattle.bl_eval.proofs.MeaningLemmas.{
   callee_none,
   called_is,
@@ -132,7 +151,8 @@ choice-returns-in-None t c =
     (in_order (map (does (scope_in c.args.site.now)) c.args.other.now)) c.args.arms.now c.loop-arm.arm-index c.arm-item.result
     c.loop-arm.frame.items c.loop-arm-test.true c.arm-item.is
     (ap (λ choice. choice.test c.loop-arm.frame.items) (choice_out (scope_in c.args.site.now) c.arm-item.result)
-    ∙ ap (truth (scope_in c.args.site.now) (out-Arm c.arm-item.result).test) (sym c.as_slice.ensures.value) ∙ sym c.in_ok-condition.ensures ∙ c.in-None.is)
+    ∙ ap (truth (scope_in c.args.site.now) (out-Arm c.arm-item.result).test) (sym c.as_slice.ensures.value) ∙ sym c.in_ok-condition.ensures
+    ∙ c.in-None.is)
     ∙ c.loop-arm.invariant
 
 pub choice-block-requires : goal.choice-block-requires
@@ -268,7 +288,7 @@ targets-positions-requires t c =
 
 pub targets-returns-in-None : goal.targets-returns-in-None
 targets-returns-in-None t c =
-    sym (targets_stop (spot_of (scope_in c.args.site.now))
+    sym (targets_stop (path_meaning_of (scope_in c.args.site.now))
     (view_in c.args.view.now) c.args.outputs.now c.loop-path.path-index c.path-item.result c.loop-path.targets c.loop-path-test.true c.path-item.is
     (ap (λ spot. spot.positions (view_in c.args.view.now)) (spot_out (scope_in c.args.site.now) c.path-item.result)
     ∙ ap (λ parts. positions_of (map (part_of_path (scope_in c.args.site.now)) parts) (view_in c.args.view.now)) (sym c.deref.ensures)
@@ -277,7 +297,7 @@ targets-returns-in-None t c =
 
 pub targets-loop-path-preserved : goal.targets-loop-path-preserved
 targets-loop-path-preserved t c =
-    targets_step (spot_of (scope_in c.args.site.now)) (view_in c.args.view.now) c.args.outputs.now c.loop-path.path-index c.path-item.result
+    targets_step (path_meaning_of (scope_in c.args.site.now)) (view_in c.args.view.now) c.args.outputs.now c.loop-path.path-index c.path-item.result
     (out-Path c.path-item.result).root c.in-Some.positions c.push.new.self
     c.loop-path.targets c.loop-path-test.true c.path-item.is (ap (λ spot. spot.root) (spot_out (scope_in c.args.site.now) c.path-item.result))
     (ap (λ spot. spot.positions (view_in c.args.view.now)) (spot_out (scope_in c.args.site.now) c.path-item.result)

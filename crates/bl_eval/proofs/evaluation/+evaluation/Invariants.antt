@@ -3,8 +3,8 @@ use Rattle.std.specs.Prelude.{option_map}
 use Rattle.bl_tree.specs.declared.tree.Expr.{size-Expr}
 use Rattle.bl_tree.specs.declared.tree.Part.{size-Part}
 use Rattle.bl_eval.specs.Changes.{choice_of, part_of_path, scope_in, targets_of, view_in}
-use Rattle.bl_eval.specs.Functions.{chosen, condition, does, in_order, looped, most_turns}
-use Rattle.bl_eval.specs.Meaning.{meaning_of, positions_of, spot_of, values_of}
+use Rattle.bl_eval.specs.Functions.{condition, does, first_true_choice, in_order, looped, most_turns}
+use Rattle.bl_eval.specs.Meaning.{meaning_of, path_meaning_of, positions_of, values_of}
 use Rattle.bl_eval.proofs.Weights.{arms_weight, block_weight, exprs_depth, optional_depth, parts_depth, paths_depth, stmt_weight, units_weight, what_weight}
 use Rattle.bl_eval.proofs.evaluation.+evaluation.Given as goal
 
@@ -61,8 +61,8 @@ invariant-positions-loop-part l =
 
 abbrev pub invariant-targets-loop-path : goal.invariant-targets-loop-path
 invariant-targets-loop-path l =
-    option_map (λ rest. l.targets ++ rest) (targets_of (map (spot_of (scope_in l.site)) (drop l.path-index l.outputs)) (view_in l.view))
-    ≡ targets_of (map (spot_of (scope_in l.site)) l.outputs) (view_in l.view)
+    option_map (λ rest. l.targets ++ rest) (targets_of (map (path_meaning_of (scope_in l.site)) (drop l.path-index l.outputs)) (view_in l.view))
+    ≡ targets_of (map (path_meaning_of (scope_in l.site)) l.outputs) (view_in l.view)
 
 abbrev pub invariant-block-loop-s : goal.invariant-block-loop-s
 invariant-block-loop-s l =
@@ -70,8 +70,8 @@ invariant-block-loop-s l =
 
 abbrev pub invariant-choice-loop-arm : goal.invariant-choice-loop-arm
 invariant-choice-loop-arm l =
-    chosen (map (choice_of (scope_in l.site)) (drop l.arm-index l.arms)) (in_order (map (does (scope_in l.site)) l.other)) l.frame.items
-    ≡ chosen (map (choice_of (scope_in l.site)) l.arms) (in_order (map (does (scope_in l.site)) l.other)) l.initial.frame.items
+    first_true_choice (map (choice_of (scope_in l.site)) (drop l.arm-index l.arms)) (in_order (map (does (scope_in l.site)) l.other)) l.frame.items
+    ≡ first_true_choice (map (choice_of (scope_in l.site)) l.arms) (in_order (map (does (scope_in l.site)) l.other)) l.initial.frame.items
 
 abbrev pub invariant-turns-loop : goal.invariant-turns-loop
 invariant-turns-loop l =

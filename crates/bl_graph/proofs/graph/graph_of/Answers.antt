@@ -1,7 +1,5 @@
 use Rattle.std.proofs.Common.{◌≡◌, Some, ap, sym, subst, ◌∙◌}
 use Rattle.std.specs.Prelude.{slice_get}
-use Rattle.bl_nodes.specs.Plain.{plain_body}
-use Rattle.bl_graph.specs.Graph.{IsTickGraph}
 use Rattle.bl_graph.proofs.Ending.{graph_joins, graph_shows, unit_at}
 use Rattle.bl_graph.proofs.graph.graph_of.Goals as goal
 

@@ -2,7 +2,7 @@ use Rattle.std.proofs.Common.{◌&&◌, ◌||◌, not, cond, ap, sym, map, ◌�
 use Rattle.bl_tree.specs.Instant.{instant}
 use Rattle.bl_tree.specs.Reduce.{all_of}
 use Rattle.bl_graph.specs.inner.Instants.{ends_of_branch, instant_of_arm}
-use Rattle.bl_graph.proofs.Ends.{all_end, all_step, any_end, any_step, branches_end, ends_branch_out, instant_arm_out}
+use Rattle.bl_graph.proofs.Ends.{all_step, any_step, branches_end, ends_branch_out, instant_arm_out}
 use Rattle.bl_graph.proofs.instant.+instants.Goals as goal
 
 pub is_instant_block-loop-s-preserved : goal.is_instant_block-loop-s-preserved

@@ -5,5 +5,6 @@ use Rattle.bl_limits.proofs.cells.of_variables.Goals as goal
 
 pub loop-unit-preserved : goal.loop-unit-preserved
 loop-unit-preserved c =
-    rw (c.of_unit-first.ensures, c.deref.ensures) (first-next (λ (unit : UnitDef). unit_variable_failures c.args.structs.now unit.vars) _ _ c.unit-item.result c.loop-unit.first _
+    rw (c.of_unit-first.ensures, c.deref.ensures)
+    (first-next (λ (unit : UnitDef). unit_variable_failures c.args.structs.now unit.vars) _ _ c.unit-item.result c.loop-unit.first _
     (next_of c.args.units.now c.loop-unit.unit-index c.unit-item.result c.loop-unit-test.true c.unit-item.is) c.loop-unit.invariant)

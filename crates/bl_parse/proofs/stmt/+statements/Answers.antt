@@ -40,7 +40,8 @@ block-stmt-requires t c = (
     c.begins_stmt.ensures.inside c.statements-test.true,
   ),
   first (after c.requires.awaits (then (c.statements.invariant.follows)
-      (block_opens (sym (stmt_starts (kind_at c.args.source.now.tokens.now c.statements.at)) ∙ (sym c.begins_stmt.ensures.among ∙ c.statements-test.true))))),
+      (block_opens (sym (stmt_starts (kind_at c.args.source.now.tokens.now c.statements.at))
+      ∙ (sym c.begins_stmt.ensures.among ∙ c.statements-test.true))))),
 )
 
 pub block-statements-preserved : goal.block-statements-preserved

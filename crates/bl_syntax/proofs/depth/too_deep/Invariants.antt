@@ -1,7 +1,8 @@
 use Rattle.std.proofs.Common.{◌≡◌, ◌≤◌, take}
 use Rattle.std.specs.Prelude.{None}
 use Rattle.bl_syntax.specs.Rules.{PassesDepth}
-use Rattle.bl_syntax.specs.Depth.{open_after, run_after, last_kind}
+use Rattle.bl_syntax.specs.Depth.{open_after, run_after}
+use Rattle.bl_syntax.specs.inner.Depth.{last_kind}
 use Rattle.bl_syntax.proofs.depth.too_deep.Given as goal
 
 abbrev pub invariant-loop-token : goal.invariant-loop-token

@@ -1,11 +1,11 @@
 use Rattle.std.proofs.Common.{◌≡◌, take, reverse}
 use Rattle.std.specs.Prelude.{None}
 use Rattle.bl_syntax.specs.Grammar.{views, last_line}
-use Rattle.bl_syntax.specs.Stack.{Stands}
+use Rattle.bl_syntax.specs.Stack.{StackStands}
 use Rattle.bl_syntax.proofs.rules.first_fault.Given as goal
 
 abbrev pub invariant-loop-token : goal.invariant-loop-token
 invariant-loop-token l = record {
   line : l.line ≡ last_line None (take l.token-index l.tokens);
-  stands : Stands (views (take l.token-index l.tokens)) (reverse l.stack.symbols.items);
+  stands : StackStands (views (take l.token-index l.tokens)) (reverse l.stack.symbols.items);
 }

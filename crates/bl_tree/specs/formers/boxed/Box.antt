@@ -26,6 +26,7 @@ use Rattle.bl_tree.specs.contracts.boxed.Box.TheInside as inside
 abbrev pub the_former : Former {0} → Former {0}
 the_former value = value
 
+-- the shape of a box is weighed where that of its value is
 abbrev pub the_weighed : {value : Former {0}} → Weighed value → Weighed (the_former value)
 the_weighed weighed = weighed
 
@@ -34,9 +35,11 @@ abbrev field : Former {0}
 field = via (pair (const (Ptr × Global)) this) Inside (λ X fields. ((fields.inner.ptr, fields.inner.alloc), fields.inner.value))
     (λ X parts. record { inner = record { ptr = parts.0.0; alloc = parts.0.1; value = parts.1 } }) (λ X fields. refl) (λ X fields. refl)
 
+-- the same pointer and allocator, with another value
 abbrev holding : {X Y : Type 0} → StdBox X Global → Y → StdBox Y Global
 holding owner y = record { ptr = owner.ptr; alloc = owner.alloc; value = y }
 
+-- a standard box of the type, from the global allocator
 abbrev box_of : RattleType → RattleType
 box_of R = std_box.the_row R heap.the_row ghosts
 

@@ -23,6 +23,7 @@ use Rattle.bl_tree.specs.contracts.list.List.TheInside as inside
 abbrev pub the_former : Former {0} → Former {0}
 the_former element = list element
 
+-- the shape of a list is weighed where that of its elements is
 abbrev pub the_weighed : {element : Former {0}} → Weighed element → Weighed (the_former element)
 the_weighed weighed = w_list weighed
 
@@ -30,15 +31,18 @@ the_weighed weighed = w_list weighed
 pub the_empty : Elements ⊥
 the_empty = []
 
+-- the items of a list are its elements
 abbrev pub the_items : (X : Type 0) → Elements X → Elements X
 the_items X elements = elements
 
+-- the children of a list are its items, in order
 pub the_items_listed : (X : Type 0) (elements : Elements X) → listed _ (children (the_former this) X elements) ≡ the_items X elements
 the_items_listed X elements = list-listed X elements
 
 -- the one field, seen as the vector that it is
 abbrev field : Former {0}
-field = via (vec.the_former this Global) Inside (λ X fields. fields.elements) (λ X vector. record { elements = vector }) (λ X fields. refl) (λ X fields. refl)
+field = via (vec.the_former this Global) Inside (λ X fields. fields.elements) (λ X vector. record { elements = vector }) (λ X fields. refl)
+    (λ X fields. refl)
 
 module _ (R S : RattleType) (h : R.Denot → S.Denot) where
   pub the_places : Alike R S h → Alike (whole.the_row R) (whole.the_row S) ((the_former this).map R.Denot S.Denot h)

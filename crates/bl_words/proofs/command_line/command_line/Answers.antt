@@ -25,5 +25,7 @@ returns c =
     let with_build = c.in_ok-subcommand-2.ensures.shape build.1 ∙ ap₂ with_subcommand with_check (ap (λ (a : App). a.top) build.0) in
     let run = c.in_ok-two_command.ensures in
     let with_run = c.in_ok-subcommand-3.ensures.shape run.1 ∙ ap₂ with_subcommand with_build (ap (λ (a : App). a.top) run.0) in
+    let walk = c.in_ok-three_command.ensures in
+    let with_walk = c.in_ok-subcommand-4.ensures.shape walk.1 ∙ ap₂ with_subcommand with_run (ap (λ (a : App). a.top) walk.0) in
     let exec = c.in_ok-two_command-2.ensures in
-    IfOk-weaker c.subcommand-4.result _ _ (λ m h. h.shape exec.1 ∙ ap₂ with_subcommand with_run (ap (λ (a : App). a.top) exec.0)) c.subcommand-4.ensures
+    IfOk-weaker c.subcommand-5.result _ _ (λ m h. h.shape exec.1 ∙ ap₂ with_subcommand with_walk (ap (λ (a : App). a.top) exec.0)) c.subcommand-5.ensures

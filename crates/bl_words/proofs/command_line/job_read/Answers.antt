@@ -1,9 +1,9 @@
 use Rattle.std.proofs.Common.{◌∙◌, Some, sym, ap, ap₂, codes}
 use Rattle.clap.specs.Walk.{rows_of}
-use Rattle.clap.specs.Words.{first_of, found_of}
+use Rattle.clap.specs.Words.{first_of, first_value, found_of}
 use Rattle.clap.proofs.WalkLemmas.{first_value-rows}
-use Rattle.bl_words.specs.inner.CommandLine.{job_read, one_read, two_read}
-use Rattle.bl_words.specs.Jobs.{build, check, exec, run}
+use Rattle.bl_words.specs.inner.CommandLine.{job_read, one_read, three_read, two_read}
+use Rattle.bl_words.specs.Jobs.{build, check, exec, run, seeded}
 use Rattle.bl_words.proofs.Matches.{command_is, unnamed_read}
 use Rattle.bl_words.proofs.command_line.job_read.Goals as goal
 
@@ -28,6 +28,16 @@ returns-in-run c =
     c.run_read.ensures ∙ ap₂ (two_read run) (first_value-rows found (codes "first")) (first_value-rows found (codes "second"))
     ∙ sym (ap job_read command ∙ ap (λ name. job_read (Some (name, rows_of found))) c.in-run.is)
 
+pub returns-in-walk : goal.returns-in-walk
+returns-in-walk c =
+    let found = found_of c.in_ok-name.values.now in
+    let command = command_is c.args.matches.now c.in_ok-name.name.now (rows_of found) c.in_ok-name.ensures.name c.in_ok-name.ensures.rows in
+    c.walk_read.ensures
+    ∙ ap₂ (λ a b. three_read seeded a b (first_value found (codes "third"))) (first_value-rows found (codes "first"))
+    (first_value-rows found (codes "second"))
+    ∙ ap (three_read seeded _ _) (first_value-rows found (codes "third"))
+    ∙ sym (ap job_read command ∙ ap (λ name. job_read (Some (name, rows_of found))) c.in-walk.is)
+
 pub returns-in-exec : goal.returns-in-exec
 returns-in-exec c =
     let found = found_of c.in_ok-name.values.now in
@@ -40,4 +50,5 @@ returns-in_default c =
     let rows = rows_of (found_of c.in_ok-name.values.now) in
     let command = command_is c.args.matches.now c.in_ok-name.name.now rows c.in_ok-name.ensures.name c.in_ok-name.ensures.rows in
     sym (ap job_read command ∙ unnamed_read c.in_ok-name.name.now (first_of (codes "first") rows)
-    (first_of (codes "second") rows) c.in_default.not-check c.in_default.not-build c.in_default.not-run c.in_default.not-exec)
+    (first_of (codes "second") rows) (first_of (codes "third") rows)
+    c.in_default.not-check c.in_default.not-build c.in_default.not-run c.in_default.not-walk c.in_default.not-exec)

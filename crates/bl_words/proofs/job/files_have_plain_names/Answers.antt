@@ -1,7 +1,26 @@
-use Rattle.std.proofs.Common.{◌≡◌, Bool, IfSome, false, true, refl, List, [], ◌∷◌, Option, codes, if◌then◌else◌, map, string_bytes}
+use Rattle.std.proofs.Common.{
+  ◌≡◌,
+  ◌&&◌,
+  ℕ,
+  Bool,
+  IfSome,
+  Some,
+  None,
+  false,
+  true,
+  refl,
+  List,
+  [],
+  ◌∷◌,
+  Option,
+  codes,
+  if◌then◌else◌,
+  map,
+  string_bytes,
+}
 use Rattle.std.specs.List.{list_all}
 use Rattle.std.specs.Str.{bytes_eq}
-use Rattle.bl_words.specs.Jobs.{JobSpec, Word, build, check, command_job, exec, files_of, is_plain_word, job_of, of_one, of_two, run}
+use Rattle.bl_words.specs.Jobs.{JobSpec, Word, build, check, command_job, exec, files_of, is_plain_word, job_of, of_one, of_three, of_two, run, seed_of, seeded}
 use Rattle.bl_words.proofs.Program.{others_plain}
 use Rattle.bl_words.proofs.job.files_have_plain_names.Goals as goal
 
@@ -22,7 +41,28 @@ two_plain job files (first ∷ []) plain = tt
 two_plain job files (first ∷ second ∷ []) plain = rw (files first second) plain
 two_plain job files (first ∷ second ∷ next ∷ more) plain = tt
 
-trying : (b : Bool) (job others : Option JobSpec) → IfSome job HasPlainFiles → IfSome others HasPlainFiles → IfSome (if b then job else others) HasPlainFiles
+seed_plain : (source rows word : Word) → list_all is_plain_word (source ∷ rows ∷ []) ≡ true → IfSome (seeded source rows word) HasPlainFiles
+seed_plain source rows word plain = go (seed_of word) refl
+  where
+    go : (seed : Option ℕ) → seed_of word ≡ seed → IfSome (seeded source rows word) HasPlainFiles
+    go (Some n) e = rw e plain
+    go None e = rw e tt
+
+two_of_three : (a b c : Bool) → (a && (b && (c && true))) ≡ true → (a && (b && true)) ≡ true
+two_of_three true true c e = refl
+two_of_three true false c e = e
+two_of_three false b c e = e
+
+three_plain : (values : List Word) → list_all is_plain_word values ≡ true → IfSome (of_three seeded values) HasPlainFiles
+three_plain [] plain = tt
+three_plain (first ∷ []) plain = tt
+three_plain (first ∷ second ∷ []) plain = tt
+three_plain (first ∷ second ∷ third ∷ []) plain =
+    seed_plain first second third (two_of_three (is_plain_word first) (is_plain_word second) (is_plain_word third) plain)
+three_plain (first ∷ second ∷ third ∷ next ∷ more) plain = tt
+
+trying : (b : Bool) (job others : Option JobSpec) → IfSome job HasPlainFiles → IfSome others HasPlainFiles →
+    IfSome (if b then job else others) HasPlainFiles
 trying true job others holds other = holds
 trying false job others holds other = other
 
@@ -31,7 +71,8 @@ command_plain name values plain =
     trying (bytes_eq (codes "check") name) _ _ (one_plain check (λ first. refl) values plain) (
     trying (bytes_eq (codes "build") name) _ _ (one_plain build (λ first. refl) values plain) (
     trying (bytes_eq (codes "run") name) _ _ (two_plain run (λ first second. refl) values plain) (
-    trying (bytes_eq (codes "exec") name) _ _ (two_plain exec (λ first second. refl) values plain) tt)))
+    trying (bytes_eq (codes "walk") name) _ _ (three_plain values plain) (
+    trying (bytes_eq (codes "exec") name) _ _ (two_plain exec (λ first second. refl) values plain) tt))))
 
 job_plain : (words : List Word) → IfSome (job_of words) HasPlainFiles
 job_plain [] = tt

@@ -1,13 +1,13 @@
 use Rattle.std.proofs.Common.{[], take, subst, sym}
-use Rattle.bl_effects.specs.inner.Gathered.{Records}
+use Rattle.bl_effects.specs.inner.Gathered.{TableRecords}
 use Rattle.bl_tree.specs.Within.{PlacesDecide, StandsInUnits}
-use Rattle.bl_effects.specs.Table.{Tells}
+use Rattle.bl_effects.specs.Table.{TableTellsEffects}
 use Rattle.bl_effects.proofs.ProgramLemmas.{told_all, units_none, units_step}
 use Rattle.bl_effects.proofs.table.Effects.of.Goals as goal
 
 pub loop-unit-init : goal.loop-unit-init
 loop-unit-init c =
-    subst (λ effects. Records (StandsInUnits (take 0 c.deref-unit-items.result.now)) [] effects) (sym c.new-effects.ensures)
+    subst (λ effects. TableRecords (StandsInUnits (take 0 c.deref-unit-items.result.now)) [] effects) (sym c.new-effects.ensures)
     (units_none c.deref-unit-items.result.now)
 
 pub loop-unit-preserved : goal.loop-unit-preserved
@@ -17,6 +17,6 @@ loop-unit-preserved c =
 
 pub returns : goal.returns
 returns c =
-    subst (Tells c.loop-unit.effects) c.deref-unit-items.ensures
+    subst (TableTellsEffects c.loop-unit.effects) c.deref-unit-items.ensures
     (told_all c.deref-unit-items.result.now c.loop-unit.unit-index c.loop-unit.effects c.loop-unit-test.false c.loop-unit.invariant
     (subst PlacesDecide (sym c.deref-unit-items.ensures) c.args.program.now.keeps.places_decide))

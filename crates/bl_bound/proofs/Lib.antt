@@ -1,0 +1,3 @@
+pub mod CapLemmas
+pub mod CostLemmas
+pub mod TextLemmas

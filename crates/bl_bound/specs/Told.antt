@@ -1,0 +1,14 @@
+-- What is told of how many statements the functions of a file can execute.
+use Rattle.std.specs.Prelude.{ℕ, ◌^◌, List, map, nat_lt, if◌then◌else◌}
+use Rattle.bl_tree.specs.declared.c.CFunc.{CFunc}
+use Rattle.bl_cmeaning.specs.Cost.{costs}
+use Rattle.bl_bound.specs.declared.cost.Cost.{Cost}
+use Rattle.bl_bound.specs.declared.cost.Cost.TheVariants.{Number, Over}
+
+-- a number that 128 bits hold is told exactly; of any other it is told that it is over them
+abbrev pub told : ℕ → Cost
+told n = if nat_lt n (2 ^ 128) then Number n else Over
+
+-- what is told of each of these functions, in order
+abbrev pub told_costs : List CFunc → List Cost
+told_costs functions = map (λ cost. told cost.1) (costs functions)

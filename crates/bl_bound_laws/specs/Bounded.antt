@@ -1,0 +1,11 @@
+-- How many statements the ticks of a C text execute at most.
+use Rattle.std.specs.Prelude.{◌≤◌, ℤ, List, All}
+use Rattle.bl_cmeaning_laws_places.specs.Behaviour.{Behaviour}
+use Rattle.bl_bound_laws.specs.Counts.{counts_after}
+
+-- no tick executes more statements than the bound, which is the cost of `bl_tick`: whatever the cells have and whatever comes in, a tick
+-- that traps or ends the run included
+pub record IsBounded (behaviour : Behaviour) : Type 0 where
+  pub ticks : (cells ins : List ℤ) → (behaviour.tick cells ins).count ≤ behaviour.bound
+  -- and so each tick of a run over rows
+  pub runs : (rows : List (List ℤ)) → All (λ n. n ≤ behaviour.bound) (counts_after behaviour.tick behaviour.start rows)

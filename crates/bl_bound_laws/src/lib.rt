@@ -1,0 +1,33 @@
+//! Laws of how many C statements a tick executes. None of these functions does anything: the contract is the law. No
+//! tick of a run over any rows executes more than the file's bound, one that ends the run or traps included
+//! (`specs/Counts.antt`, `counts_of`), and so it is with what C texts mean (`specs/Bounded.antt`, `IsBounded`).
+#![tactic(auto)]
+
+ghost use Rattle.std.specs.Prelude.{◌≤◌, ℕ, ℤ, List, All};
+ghost use Rattle.bl_ctext.specs.SpellsC.{SpellsC};
+ghost use Rattle.bl_cmeaning.specs.Cost.{bound};
+ghost use Rattle.bl_cmeaning.specs.Parts.{parts_of};
+ghost use Rattle.bl_cmeaning_laws_places.specs.Behaviour.{Behaviour, behaviour_of};
+ghost use Rattle.bl_cmeaning_laws_places.specs.Bytes.{Behaves};
+ghost use Rattle.bl_bound_laws.specs.Bounded.{IsBounded};
+ghost use Rattle.bl_bound_laws.specs.Counts.{counts_of};
+
+use bl_cmeaning::laws::within_bound;
+use bl_cmeaning_laws_places::bytes::bytes_behave_as_their_file;
+use bl_ctext::CFile;
+
+/// No tick of a run executes more statements than the file's bound, over all rows.
+pub fn runs_are_bounded(_file: &CFile)
+    ensures runs { (rows : List (List ℤ)) → All (λ n. n ≤ bound (parts_of _file.now)) (counts_of (parts_of _file.now) rows) }
+    ensures behaves { IsBounded (behaviour_of (parts_of _file.now)) }
+{
+    within_bound(_file);
+}
+
+/// And so behave the bytes that spell it.
+pub fn texts_are_bounded(_file: &CFile)
+    ensures { (bytes : List ℕ) (behaviour : Behaviour) → SpellsC _file.now bytes → Behaves bytes behaviour → IsBounded behaviour }
+{
+    runs_are_bounded(_file);
+    bytes_behave_as_their_file();
+}

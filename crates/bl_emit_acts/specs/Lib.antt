@@ -1,0 +1,5 @@
+pub mod Expressions
+pub mod Places
+pub mod Sites
+pub mod Trees
+pub mod Types

@@ -1,0 +1,46 @@
+-- Where the variables of a unit stand in C.
+use Rattle.std.specs.Prelude.{ℕ, Bool, true, false, ◌&&◌, List, ◌∷◌, Option, Some, None, codes, is_some}
+use Rattle.bl_tree.specs.declared.c.CPlace.{CPlace}
+use Rattle.bl_tree.specs.declared.c.CStep.{CStep}
+use Rattle.bl_tree.specs.declared.tree.Role.{Role}
+use Rattle.bl_tree.specs.declared.tree.Role.TheVariants.{Input, Output, Variable, Fixed}
+use Rattle.bl_tree.specs.declared.tree.Var.{Var}
+use Rattle.bl_tree.specs.Types.{scalar_in}
+use Rattle.bl_tree.specs.Typing.{Site, is_activity, is_function, var_at}
+use Rattle.bl_emit_acts.specs.declared.home.Home.{Home}
+use Rattle.bl_emit_acts.specs.declared.home.Home.TheVariants.{Held, Given, Lent}
+use Rattle.bl_emit_acts.specs.Trees.{c_place, c_step}
+use Rattle.bl_emit_acts.specs.Types.{variable_name}
+
+-- A scalar input is a parameter by value, and an aggregate one a pointer. A function with a result copies the latter first, since it
+-- may hand on no pointer that it was given
+abbrev pub home_of_input : Bool → Bool → Home
+home_of_input true copies = Given
+home_of_input false true = Held
+home_of_input false false = Lent
+
+-- the home of a variable by its role; an output is a pointer
+abbrev pub home_of_role : Role → Bool → Bool → Home
+home_of_role Input scalar copies = home_of_input scalar copies
+home_of_role Output scalar copies = Lent
+home_of_role Variable scalar copies = Held
+home_of_role Fixed scalar copies = Held
+
+-- whether the unit of the site copies its aggregate inputs
+abbrev pub copies_inputs : Site → Bool
+copies_inputs site = is_function site.kind && is_some site.result
+
+-- the home of a variable of the site
+abbrev pub home_of : Site → Option Var → Home
+home_of site (Some var) = home_of_role var.role (is_some (scalar_in var.ty)) (copies_inputs site)
+home_of site None = Held
+
+-- the place to which these steps lead from the variable at a position: an activity is given a pointer to what it remembers, a function has it
+abbrev pub place_at : Bool → Home → ℕ → List CStep → CPlace
+place_at activity Held k steps = c_place activity (codes "m") (c_step (variable_name k) ∷ steps)
+place_at activity Given k steps = c_place false (variable_name k) steps
+place_at activity Lent k steps = c_place true (variable_name k) steps
+
+-- the same at a site
+abbrev pub place_in : Site → ℕ → List CStep → CPlace
+place_in site k steps = place_at (is_activity site.kind) (home_of site (var_at site k)) k steps

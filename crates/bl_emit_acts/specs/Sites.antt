@@ -1,0 +1,7 @@
+-- Sites as the code has them.
+use Rattle.bl_tree.specs.Typing.{Site}
+use Rattle.bl_emit_acts.specs.declared.site.Site.{Site as Declared}
+
+-- what the statements of a unit see
+abbrev pub site_in : Declared → Site
+site_in site = record { structs = site.structs.now; earlier = site.earlier.now; kind = site.kind; vars = site.vars.now; result = site.result }

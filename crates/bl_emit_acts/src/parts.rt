@@ -1,0 +1,116 @@
+//! Small parts of C trees. What is made has no place in a text.
+
+ghost use Rattle.std.specs.Prelude.{◌≡◌, ◌++◌, IfOk};
+ghost use Rattle.std.specs.Fmt.{decimal};
+ghost use Rattle.bl_emit_acts.specs.Trees.{c_called, c_element, c_index, c_literal, c_not, c_place, c_read, c_step, c_two};
+
+use bl_tree::c::{CArg, CCall, CExpr, CExprKind, CIndex, CPlace, CStep};
+use bl_tree::{Box, List, NoMemory, Op, Place, Scalar, Text};
+use itoa::Buffer;
+use std::alloc::Global;
+
+/// The place of all that stands in no text.
+pub const NOWHERE: Place = Place { start: 0, end: 0 };
+
+/// A prefix that keeps a name of the source apart from the names of C.
+pub fn prefixed(alloc: Global, prefix: &str, name: &str) -> Result<Text, NoMemory>
+    ensures { IfOk result (λ text. text ≡ prefix.now ++ name.now) }
+{
+    let mut text = String::from_str(alloc, prefix)?;
+    text.push_str(name)?;
+    Ok(Text::from_string(text))
+}
+
+/// A prefix and a number.
+pub fn numbered(alloc: Global, prefix: &str, number: u32) -> Result<Text, NoMemory>
+    ensures { IfOk result (λ text. text ≡ prefix.now ++ decimal number) }
+{
+    let mut buffer = Buffer::new();
+    prefixed(alloc, prefix, buffer.format(number))
+}
+
+/// A member, which is no array.
+pub fn step(member: Text) -> CStep
+    ensures { result ≡ c_step member }
+{
+    CStep {
+        member,
+        index: None,
+    }
+}
+
+/// An element of a member that is an array of a length.
+pub fn element(
+    alloc: Global,
+    member: &str,
+    signed: bool,
+    at: CExpr,
+    length: u32,
+) -> Result<CStep, NoMemory>
+    ensures { IfOk result (λ step. step ≡ c_element member.now (c_index signed at length)) }
+{
+    Ok(CStep {
+        member: Text::copy_of(alloc, member)?,
+        index: Some(Box::new(alloc, CIndex { signed, at, length })?),
+    })
+}
+
+/// What the steps lead to, from a variable or from what a pointer leads to.
+pub fn target(through: bool, name: Text, steps: List<CStep>) -> CPlace
+    ensures { result ≡ c_place through name steps }
+{
+    CPlace {
+        through,
+        name,
+        steps,
+    }
+}
+
+pub fn read(place: CPlace) -> CExpr
+    ensures { result ≡ c_read place }
+{
+    CExpr {
+        place: NOWHERE,
+        what: CExprKind::Read(place),
+    }
+}
+
+pub fn literal(ty: Scalar, n: i128) -> CExpr
+    ensures { result ≡ c_literal ty n }
+{
+    CExpr {
+        place: NOWHERE,
+        what: CExprKind::Literal(ty, n),
+    }
+}
+
+pub fn negated(alloc: Global, operand: CExpr) -> Result<CExpr, NoMemory>
+    ensures { IfOk result (λ e. e ≡ c_not operand) }
+{
+    Ok(CExpr {
+        place: NOWHERE,
+        what: CExprKind::Not(Box::new(alloc, operand)?),
+    })
+}
+
+/// A comparison, `&&` or `||`.
+pub fn two(alloc: Global, op: Op, left: CExpr, right: CExpr) -> Result<CExpr, NoMemory>
+    ensures { IfOk result (λ e. e ≡ c_two op left right) }
+{
+    let left = Box::new(alloc, left)?;
+    let right = Box::new(alloc, right)?;
+    Ok(CExpr {
+        place: NOWHERE,
+        what: CExprKind::Two(op, left, right),
+    })
+}
+
+/// The value of a call.
+pub fn called(name: Text, args: List<CArg>) -> CExpr
+    ensures { result ≡ c_called name args }
+{
+    CExpr {
+        place: NOWHERE,
+        what: CExprKind::Call(CCall { name, args }),
+    }
+}

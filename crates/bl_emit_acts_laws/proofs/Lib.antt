@@ -1,0 +1,14 @@
+mod Arguments
+mod Evaluated
+mod Expressions
+mod Names
+mod Numbers
+mod Operators
+mod Parts
+mod Places
+mod Shown
+mod Steps
+mod Whole
+mod Forks
+mod Writes
+mod Written

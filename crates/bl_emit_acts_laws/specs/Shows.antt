@@ -1,0 +1,82 @@
+-- What the C of an expression or a path does, beside what it means.
+use Rattle.std.specs.Prelude.{◌≡◌, ℕ, ℤ, pos, ◌+◌, true, List, [], ◌∷◌, Option, Some, None, option_and_then, option_map, slice_get}
+use Rattle.bl_tree.specs.declared.scalar.Scalar.{Scalar as ScalarType}
+use Rattle.bl_tree.specs.declared.tree.StructDef.{StructDef}
+use Rattle.bl_tree.specs.declared.tree.Ty.{Ty}
+use Rattle.bl_tree.specs.declared.tree.Unit.{Unit as UnitDef}
+use Rattle.bl_tree.specs.declared.tree.Var.{Var}
+use Rattle.bl_tree.specs.declared.value.Value.{Value}
+use Rattle.bl_tree.specs.Types.{scalar_in}
+use Rattle.bl_tree.specs.Typing.{Site, inputs_of, is_function, var_at}
+use Rattle.bl_eval.specs.declared.datum.Datum.{Datum}
+use Rattle.bl_eval.specs.declared.datum.Datum.TheVariants.{Scalar as OfScalar, Whole as OfWhole}
+use Rattle.bl_eval.specs.declared.datum.Left.{Left}
+use Rattle.bl_eval.specs.Meaning.{Callee, PathMeaning, View, read_at}
+use Rattle.bl_eval.specs.Values.{number_in, values_fit}
+use Rattle.bl_cmeaning.specs.Meaning.{Passed, by_address, by_value, Scope, applied, location_c, value_c}
+use Rattle.bl_cmeaning.specs.Memory.{CValue, Location, Memory}
+use Rattle.bl_cmeaning.specs.Memory as memory
+use Rattle.bl_emit_acts.specs.declared.made.Made.{Made}
+use Rattle.bl_emit_acts.specs.declared.made.Made.TheVariants.{Number, Whole}
+use Rattle.bl_emit_acts.specs.Types.{unit_name}
+use Rattle.bl_emit_acts_laws.specs.Holds.{Holds, location_in, type_after, way_to}
+
+-- the number that an expression gives
+abbrev pub number_given : Datum → ℤ
+number_given (OfScalar s n) = n
+number_given (OfWhole value) = pos 0
+
+-- a place with what an expression gives, where neither traps
+abbrev pub PlaceShows : List StructDef → Ty → Memory → Option Location → Option Datum → Type 0
+PlaceShows structs ty here None None = Unit {0}
+PlaceShows structs ty here (Some place) (Some (OfWhole value)) = Holds structs ty value (memory.value_at here place)
+PlaceShows structs ty here _ _ = ⊥
+
+-- What is made of an expression of a type does what the expression means: a number is exactly its number, or traps exactly where it does; a place
+-- has its value, or traps exactly where it does
+abbrev pub Shows : List StructDef → Ty → Scope → Memory → Made → Option Datum → Type 0
+Shows structs ty scope here (Number s code) datum =
+    (scalar_in ty ≡ Some s) × (option_map memory.number_in (value_c code scope here).answer ≡ option_map number_given datum)
+Shows structs ty scope here (Whole place) datum =
+    (scalar_in ty ≡ None) × PlaceShows structs ty here (location_c place scope here).answer datum
+
+-- where a path leads in C, beside the positions that it stands for: to the part of its variable that lies at them
+pub record Reaches (site : Site) (now : List Value) (scope : Scope) (ty : Ty) (root : ℕ) (positions : Option (List ℕ)) (place : Location) : Type 0 where
+  pub var : Var
+  pub is_there : var_at site root ≡ Some var
+  pub ks : List ℕ
+  pub are : positions ≡ Some ks
+  pub typed : type_after site.structs ks (Some var.ty) ≡ Some ty
+  pub at : place ≡ location_in scope site root (way_to site.structs ks (Some var.ty))
+  pub value : Value
+  pub is : read_at root now ks ≡ Some value
+
+-- and it traps exactly where the path leads to no value
+abbrev pub Leads : Site → View → Scope → Ty → Option Location → PathMeaning → Type 0
+Leads site view scope ty None spot = option_and_then (read_at spot.root view.now) (spot.positions view) ≡ None
+Leads site view scope ty (Some place) spot = Reaches site view.now scope ty spot.root (spot.positions view) place
+
+-- ---- functions
+
+-- an argument has the value: a number by value, a struct or an array by its place
+abbrev pub ArgHolds : List StructDef → Memory → Ty → Value → Passed → Type 0
+ArgHolds structs here ty value (by_value held) = (s : ScalarType) × (scalar_in ty ≡ Some s) × (number_in value ≡ Some (memory.number_in held))
+ArgHolds structs here ty value (by_address place) = (scalar_in ty ≡ None) × Holds structs ty value (memory.value_at here place)
+
+-- each argument has its value
+abbrev pub ArgsHold : List StructDef → Memory → List Var → List Value → List Passed → Type 0
+ArgsHold structs here [] [] [] = Unit {0}
+ArgsHold structs here (var ∷ vars) (value ∷ values) (arg ∷ args) = ArgHolds structs here var.ty value arg × ArgsHold structs here vars values args
+ArgsHold structs here _ _ _ = ⊥
+
+-- the number that a function returns
+abbrev pub number_returned : Option Left → Option ℤ
+number_returned left = option_map number_given (option_and_then (λ left. left.result) left)
+
+-- the functions of C are those of the program: each returns what the program's returns, or traps where that does
+pub record FunctionsAgree (structs : List StructDef) (earlier : List UnitDef) (callees : List Callee) (scope : Scope) : Type 0 where
+  pub each : (f : ℕ) (unit : UnitDef) (callee : Callee) (s : ScalarType) (values : List Value) (passed : List Passed) (here : Memory) →
+      slice_get earlier f ≡ Some unit → slice_get callees f ≡ Some callee → is_function unit.kind ≡ true → unit.outputs ≡ 0 → unit.result
+      ≡ Some s →
+      values_fit structs (inputs_of unit) values ≡ true → ArgsHold structs here (inputs_of unit) values passed →
+      (applied (scope.known (unit_name unit.name)) (scope.depth + 1) passed here).result ≡ number_returned (callee values)

@@ -1,0 +1,100 @@
+-- Where the statements of a body may rest between ticks, and a counter for each of these places: how an activity is laid out.
+use Rattle.std.specs.Prelude.{ℕ, suc, ◌+◌, max, List, [], ◌∷◌, ◌++◌}
+use Rattle.bl_nodes.specs.Plain.{
+  Act,
+  Again,
+  Await,
+  Block,
+  Bodies,
+  Body,
+  Cobegin,
+  Done,
+  If,
+  Last,
+  Plain,
+  Repeat,
+  Run,
+  Then,
+  Until,
+  When,
+  While,
+}
+
+-- ---- places
+
+abbrev mutual
+  -- how many resting places stand in a statement: an `await` is one, so is a `run` and the end of a branch. They are numbered in source
+  -- order, the end of a branch before what stands in the branch
+  pub places_of : Plain → ℕ
+  places_of (Act l s) = 0
+  places_of (Await l at e) = 1
+  places_of (Run l at target a inputs outputs) = 1
+  places_of (If l at e body other) = places_in body + places_in other
+  places_of (Cobegin l at bodies) = places_in_each bodies
+  places_of (When l at guard e body) = places_in body
+  places_of (Repeat l at body) = places_in body
+  places_of (Until l at body e) = places_in body
+  places_of (While l at e body) = places_in body
+  places_of (Again l at body e) = places_in body
+
+  -- in a block
+  pub places_in : Block → ℕ
+  places_in Done = 0
+  places_in (Then s rest) = places_of s + places_in rest
+
+  -- in branches, with their ends
+  pub places_in_each : Bodies → ℕ
+  places_in_each Last = 0
+  places_in_each (Body weak body rest) = suc (places_in body) + places_in_each rest
+
+-- ---- counters
+
+abbrev mutual
+  -- how many counters a statement takes: one for all that rest one after another or instead of one another, and others for what rests
+  -- beside it
+  pub width_of : Plain → ℕ
+  width_of (Act l s) = 0
+  width_of (Await l at e) = 1
+  width_of (Run l at target a inputs outputs) = 1
+  width_of (If l at e body other) = max (width_in body) (width_in other)
+  width_of (Cobegin l at bodies) = width_in_each bodies
+  width_of (When l at guard e body) = width_in body
+  width_of (Repeat l at body) = width_in body
+  width_of (Until l at body e) = width_in body
+  width_of (While l at e body) = width_in body
+  width_of (Again l at body e) = width_in body
+
+  -- a block takes as many as the widest of its statements
+  pub width_in : Block → ℕ
+  width_in Done = 0
+  width_in (Then s rest) = max (width_of s) (width_in rest)
+
+  -- branches take what each of them takes, which is one at least, since the end of a branch is a place too
+  pub width_in_each : Bodies → ℕ
+  width_in_each Last = 0
+  width_in_each (Body weak body rest) = max 1 (width_in body) + width_in_each rest
+
+abbrev mutual
+  -- the counter of each place of a statement that is laid out from a counter on. What isn't in a branch behind the first of its `cobegin`
+  -- counts at that counter
+  pub counters_of : Plain → ℕ → List ℕ
+  counters_of (Act l s) low = []
+  counters_of (Await l at e) low = low ∷ []
+  counters_of (Run l at target a inputs outputs) low = low ∷ []
+  counters_of (If l at e body other) low = counters_in body low ++ counters_in other low
+  counters_of (Cobegin l at bodies) low = counters_in_each bodies low
+  counters_of (When l at guard e body) low = counters_in body low
+  counters_of (Repeat l at body) low = counters_in body low
+  counters_of (Until l at body e) low = counters_in body low
+  counters_of (While l at e body) low = counters_in body low
+  counters_of (Again l at body e) low = counters_in body low
+
+  -- all statements of a block are laid out from one counter on
+  pub counters_in : Block → ℕ → List ℕ
+  counters_in Done low = []
+  counters_in (Then s rest) low = counters_of s low ++ counters_in rest low
+
+  -- each branch is laid out behind the counters of those before it
+  pub counters_in_each : Bodies → ℕ → List ℕ
+  counters_in_each Last low = []
+  counters_in_each (Body weak body rest) low = low ∷ (counters_in body low ++ counters_in_each rest (low + max 1 (width_in body)))

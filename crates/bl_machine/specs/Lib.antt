@@ -1,0 +1,6 @@
+pub mod Blocks
+pub mod Counters
+pub mod Layout
+pub mod Machines
+pub mod Slots
+pub mod inner

@@ -1,0 +1,38 @@
+-- Machines: for each activity of a program its nodes in the order in which one pass takes them, and numbers for where it may rest.
+use Rattle.std.specs.Prelude.{◌≡◌, ℕ, List, Contains, length}
+use Rattle.bl_tree.specs.declared.program.Program.{Program}
+use Rattle.bl_tree.specs.declared.tree.Unit.{Unit as UnitDef}
+use Rattle.bl_cause.specs.Activities.{EachTwo, activities}
+use Rattle.bl_nodes.specs.Plain.{plain_body}
+use Rattle.bl_machine.specs.declared.machine.Activity.{Activity}
+use Rattle.bl_machine.specs.Blocks.{Ordered}
+use Rattle.bl_machine.specs.Layout.{counters_in}
+use Rattle.bl_machine.specs.Slots.{Counters, numbered}
+
+-- what contracts see of a machine
+pub record SeenMachine : Type 0 where
+  -- the program whose activities these are
+  pub program : Program
+  pub activities : List Activity
+
+-- the blocks are an order of the body's nodes, and the slots tell its resting places apart
+pub record IsActivityOf (unit : UnitDef) (activity : Activity) : Type 0 where
+  pub order : Ordered (plain_body unit.body) activity.blocks
+  pub counters : Counters (plain_body unit.body) activity.slots
+
+-- one for each activity among the units, in their order
+abbrev pub AreActivitiesOf : List UnitDef → List Activity → Type 0
+AreActivitiesOf units machine = EachTwo IsActivityOf (activities units) machine
+
+-- what each machine keeps
+abbrev pub IsMachine : SeenMachine → Type 0
+IsMachine machine = AreActivitiesOf machine.program.units machine.activities
+
+-- each node is a block of its own, and the activity is laid out from counter 0 on
+pub record IsPlainActivityOf (unit : UnitDef) (activity : Activity) : Type 0 where
+  pub single : (block : List ℕ) → Contains activity.blocks block → length block ≡ 1
+  pub slots : activity.slots ≡ numbered (counters_in (plain_body unit.body) 0)
+
+-- so it is of each activity
+abbrev pub IsPlainMachine : SeenMachine → Type 0
+IsPlainMachine machine = EachTwo IsPlainActivityOf (activities machine.program.units) machine.activities

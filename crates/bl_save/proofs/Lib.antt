@@ -1,0 +1,6 @@
+mod Cells
+mod Faults
+mod Numbers
+mod Shaped
+mod States
+mod Walks

@@ -1,0 +1,61 @@
+-- A controller's state as bytes, and how bytes that are none show it.
+use Rattle.std.specs.Prelude.{◌≡◌, ℕ, ◌+◌, ◌<◌, ◌≤◌, ℤ, true, List, ◌++◌, length, take}
+use Rattle.bl_tree.specs.Ports.{in_ranges}
+use Rattle.bl_cmeaning.specs.Cells.{cells_of, numbers_of}
+use Rattle.bl_cmeaning.specs.Memory.{Memory}
+use Rattle.bl_cmeaning.specs.Parts.{Parts}
+use Rattle.bl_cmeaning.specs.Trace.{starts}
+use Rattle.bl_cinterface.specs.Layout.{kinds_of}
+use Rattle.bl_crun.specs.Running.{Running}
+use Rattle.bl_save.specs.Bytes.{state_bytes}
+use Rattle.bl_save.specs.declared.fault.StateFault.{StateFault}
+use Rattle.bl_save.specs.declared.fault.StateFault.TheVariants.{BadState}
+
+-- these bytes are the saved state of a file whose cells have these numbers, each in the range of its type. A file whose start traps has none
+pub record SavedState (file : Parts) (numbers : List ℤ) (bytes : List ℕ) : Type 0 where
+  pub starts : starts file ≡ true
+  pub fit : in_ranges (kinds_of file) numbers ≡ true
+  pub written : bytes ≡ state_bytes (kinds_of file) numbers
+
+-- these bytes are the saved state of a memory of a file
+abbrev pub Saves : Parts → Memory → List ℕ → Type 0
+Saves file memory bytes = SavedState file (numbers_of (cells_of file) memory) bytes
+
+-- with further bytes these are a saved state of a file
+pub record BeginsState (file : Parts) (front : List ℕ) : Type 0 where
+  pub rest : List ℕ
+  pub numbers : List ℤ
+  pub saved : SavedState file numbers (front ++ rest)
+
+-- bytes that are no saved state of a file show it here: the least n such that the first n + 1 bytes begin none, or the number of bytes
+-- where all of them begin one
+pub record ShowsBadState (file : Parts) (bytes : List ℕ) (at : ℕ) : Type 0 where
+  pub none : (numbers : List ℤ) → SavedState file numbers bytes → ⊥
+  pub within : at ≤ length bytes
+  pub before : (n : ℕ) → n < at → BeginsState file (take (n + 1) bytes)
+  pub here : at < length bytes → BeginsState file (take (at + 1) bytes) → ⊥
+
+-- bytes are the saved state of at most one memory of a file
+abbrev pub OneMemory : Parts → Type 0
+OneMemory file = (numbers others : List ℤ) (bytes : List ℕ) → SavedState file numbers bytes → SavedState file others bytes → numbers ≡ others
+
+-- ---- runners
+
+-- a runner that a state can be saved from and restored to: its start hasn't trapped, and each of its cells has a number
+pub record IsReady (r : Running) : Type 0 where
+  pub starts : starts r.parts ≡ true
+  pub whole : length r.cells ≡ length (cells_of r.parts)
+
+-- a runner whose cells have other numbers
+abbrev pub with_numbers : Running → List ℤ → Running
+with_numbers r numbers = record { parts = r.parts; cells = numbers; ready = r.ready; live = r.live }
+
+-- a runner is as before but for its cells, which have the numbers of a saved state
+pub record HasRestored (before : Running) (bytes : List ℕ) (after : Running) : Type 0 where
+  pub numbers : List ℤ
+  pub saved : SavedState before.parts numbers bytes
+  pub runner : after ≡ with_numbers before numbers
+
+-- why a state isn't restored to a runner
+abbrev pub IsFaultOf : Parts → List ℕ → StateFault → Type 0
+IsFaultOf file bytes (BadState at) = ShowsBadState file bytes at

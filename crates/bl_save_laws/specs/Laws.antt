@@ -1,0 +1,34 @@
+-- What holds of saved states, and of runs that go on from them.
+use Rattle.std.specs.Prelude.{◌≡◌, ℕ, ℤ, true, List, ◌++◌}
+use Rattle.bl_tree.specs.declared.row.Last.TheVariants.{Open}
+use Rattle.bl_cmeaning.specs.Parts.{Parts}
+use Rattle.bl_cmeaning.specs.Trace.{c_trace, c_trace_from, cells_after, start_cells, starts, trace_then}
+use Rattle.bl_crun.specs.Running.{Running, after_tick, loaded}
+use Rattle.bl_save.specs.States.{IsReady, SavedState, ShowsBadState, with_numbers}
+
+-- a memory of a file has at most one saved state
+abbrev pub OneState : Parts → Type 0
+OneState file = (numbers : List ℤ) (bytes others : List ℕ) → SavedState file numbers bytes → SavedState file numbers others → bytes ≡ others
+
+-- bytes that are no saved state show it at one place
+abbrev pub OnePlace : Parts → Type 0
+OnePlace file = (bytes : List ℕ) (here there : ℕ) → ShowsBadState file bytes here → ShowsBadState file bytes there → here ≡ there
+
+-- a run of a file whose start doesn't trap may be stopped while it is open, and gone on with later: the trace over all rows is that of the
+-- first, and then the one over the others that goes on from the cells that they leave
+abbrev pub TraceGoesOn : Parts → Type 0
+TraceGoesOn file = (first rest : List (List ℤ)) → starts file ≡ true → (c_trace file first).last ≡ Open →
+    c_trace file (first ++ rest) ≡ trace_then (c_trace file first) (c_trace_from file rest (cells_after file first (start_cells file)))
+
+-- so it may where the cells that they leave were saved, and the run goes on from what the saved state stands for
+abbrev pub StateGoesOn : Parts → Type 0
+StateGoesOn file = (first rest : List (List ℤ)) (bytes : List ℕ) (numbers : List ℤ) → (c_trace file first).last ≡ Open →
+    SavedState file (cells_after file first (start_cells file)) bytes → SavedState file numbers bytes →
+    c_trace file (first ++ rest) ≡ trace_then (c_trace file first) (c_trace_from file rest numbers)
+
+-- a runner that was just loaded is ready where the start of its file doesn't trap, and is so after ticks and where its cells have the
+-- numbers of a saved state
+pub record StaysReady (file : Parts) : Type 0 where
+  pub loaded : starts file ≡ true → IsReady (loaded file)
+  pub ticked : (r : Running) (ins : List ℤ) → IsReady r → IsReady (after_tick r ins)
+  pub restored : (r : Running) (numbers : List ℤ) (bytes : List ℕ) → SavedState r.parts numbers bytes → IsReady (with_numbers r numbers)

@@ -1,0 +1,5 @@
+pub mod Choices
+pub mod Laws
+pub mod Lines
+pub mod Walks
+pub mod inner
