@@ -11,16 +11,8 @@ use Rattle.bl_tree.specs.declared.c.CIndex.{CIndex, fold-CIndex, fold-roll-CInde
 use Rattle.bl_tree.specs.declared.c.CPlace.{CPlace, fold-CPlace, fold-roll-CPlace}
 use Rattle.bl_tree.specs.declared.c.CStep.{CStep, fold-CStep, fold-roll-CStep, roll-CStep}
 use Rattle.bl_cmeaning.proofs.Induction.{Optional, ExprCases, induct_expr, induct_place, induct_call}
-use Rattle.bl_csyntax_laws.specs.Placeless.{
-  nowhere,
-  placeless_arg,
-  placeless_call,
-  placeless_expr,
-  placeless_index,
-  placeless_kind,
-  placeless_place,
-  placeless_step,
-}
+use Rattle.bl_csyntax_laws.specs.Placeless.{nowhere, placeless_call, placeless_expr, placeless_place}
+use Rattle.bl_csyntax_laws.specs.inner.Placeless.{placeless_arg, placeless_index, placeless_kind, placeless_step}
 use Rattle.bl_cmeaning_laws_places.proofs.Lists.{map-after}
 
 module _ (A K C E I P S : Type 0)

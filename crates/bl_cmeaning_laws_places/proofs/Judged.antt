@@ -66,16 +66,8 @@ use Rattle.bl_cmeaning.specs.Faults.{
 }
 use Rattle.bl_cmeaning.proofs.Folds.{judged_kind}
 use Rattle.bl_cmeaning.proofs.Induction.{ExprCases, Optional, induct_call, induct_expr, induct_place}
-use Rattle.bl_csyntax_laws.specs.Placeless.{
-  nowhere,
-  placeless_arg,
-  placeless_call,
-  placeless_expr,
-  placeless_index,
-  placeless_kind,
-  placeless_place,
-  placeless_step,
-}
+use Rattle.bl_csyntax_laws.specs.Placeless.{nowhere, placeless_call, placeless_expr, placeless_place}
+use Rattle.bl_csyntax_laws.specs.inner.Placeless.{placeless_arg, placeless_index, placeless_kind, placeless_step}
 use Rattle.bl_csyntax_laws.proofs.Layers.{
   Args,
   Kinds,

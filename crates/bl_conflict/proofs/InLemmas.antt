@@ -1,5 +1,5 @@
 -- What stands in lists that are put together.
-use Rattle.std.proofs.Common.{◌≡◌, List, [], ◌∷◌, ◌++◌, map, ◌⊎◌, inl, inr, ⊎_elim, refl, sym, ap, subst}
+use Rattle.std.proofs.Common.{◌≡◌, List, [], ◌∷◌, ◌++◌, map, ◌⊎◌, inl, inr, ⊎_elim, refl, ap, subst}
 use Rattle.bl_tree.proofs.FirstLemmas.{In}
 use Rattle.bl_tree.specs.Reduce.{joined}
 

@@ -1,9 +1,7 @@
 //! Rule Conflict: acts in two branches of one `cobegin` that write overlapping static paths.
 #![tactic(auto, using(crate::proofs::FirstLemmas::firsts))]
 
-ghost use Rattle.std.specs.BTreeSet.{contains};
-ghost use Rattle.std.specs.Ordering.{nat_cmp};
-ghost use Rattle.std.specs.Prelude.{◌≡◌, ◌≤◌, ◌++◌, ◌∷◌, ℕ, List as Elements, true, [], length, map, take, drop, IfOk, OnOk};
+ghost use Rattle.std.specs.Prelude.{◌≡◌, ◌≤◌, ◌++◌, ◌∷◌, List as Elements, [], length, map, take, drop, IfOk, OnOk};
 ghost use Rattle.bl_conflict.specs.inner.Failures.{all_clashes, clashes, clash_of, clashes_at, clashes_with, clashes_of_unit, conflict_failures};
 ghost use Rattle.bl_conflict.specs.inner.Failures.{parallel_of_arm, parallel_of_branch, written};
 ghost use Rattle.bl_effects.specs.declared.marked.Marked.{Marked as MarkedPath};
@@ -14,12 +12,12 @@ ghost use Rattle.bl_effects.specs.Rules.{Split, parallel_of, splits_after, toget
 ghost use Rattle.bl_tree.specs.Static.{static_of};
 
 use crate::marks::overlaps;
+use crate::touched::Touched;
 use bl_effects::{Marked, static_of};
 use bl_tree::rule::lesser;
 use bl_tree::tree::{Arm, Branch, Path, Stmt, StmtKind, Unit, Var};
 use bl_tree::{Failure, Further, List, NoMemory, Place, Rule};
-use std::alloc::{AllocError, Global};
-use std::collections::BTreeSet;
+use std::alloc::Global;
 
 /// The first so far, or the first pair of acts that conflict, with the declaration of a root that both write.
 pub fn first(
@@ -131,42 +129,32 @@ fn branches(
     ensures best { IfOk result (λ found. found ≡ first_of best (all_clashes vars.now (splits_after [] (map parallel_of_branch all.now)))) }
 {
     let start = writes.len();
-    let mut roots = BTreeSet::new(alloc);
+    let mut touched = Touched::new(alloc);
     let mut best = best;
     for branch in all {
         let mark = writes.len();
         best = block(alloc, vars, &branch.body, writes, best)?;
-        best = clash(vars, &roots, writes, start, mark, best);
-        note(&mut roots, &writes[mark..])?;
+        best = clash(vars, &touched, writes, start, mark, best);
+        note(&mut touched, &writes[mark..])?;
     }
     Ok(best)
 }
 
-/// Adds the roots of what is written.
-fn note(roots: &mut BTreeSet<u32>, writes: &[Marked]) -> Result<(), NoMemory>
-    ensures knows { OnOk result (Knows roots.new writes.now) }
-    ensures keeps { OnOk result ((earlier : Elements MarkedPath) → Knows roots.old earlier → Knows roots.new earlier) }
+/// Adds what is written.
+fn note(touched: &mut Touched, writes: &[Marked]) -> Result<(), NoMemory>
+    ensures knows { OnOk result (Knows touched.new writes.now) }
+    ensures keeps { OnOk result ((earlier : Elements MarkedPath) → Knows touched.old earlier → Knows touched.new earlier) }
 {
     for write in writes {
-        add_root(roots, write.path.root)?;
+        touched.add(&write.path)?;
     }
     Ok(())
 }
 
-fn add_root(roots: &mut BTreeSet<u32>, root: u32) -> Result<(), NoMemory>
-    ensures has { OnOk result (contains nat_cmp roots.new root ≡ true) }
-    ensures keeps { OnOk result ((q : ℕ) → contains nat_cmp roots.old q ≡ true → contains nat_cmp roots.new q ≡ true) }
-{
-    match roots.insert(root) {
-        Ok(_) => Ok(()),
-        Err(e) => Err(AllocError::from(e).into()),
-    }
-}
-
-/// Compares what is written from `mark` on with what is written from `start` to `mark`, whose roots are known.
+/// Compares what is written from `mark` on with what is written from `start` to `mark`, which `touched` has.
 fn clash(
     vars: &[Var],
-    roots: &BTreeSet<u32>,
+    touched: &Touched,
     writes: &[Marked],
     start: usize,
     mark: usize,
@@ -174,44 +162,44 @@ fn clash(
 ) -> Option<Failure>
     requires from { start ≤ mark }
     requires to { mark ≤ length writes.now }
-    requires known { Knows roots.now (drop start (take mark writes.now)) }
+    requires known { Knows touched.now (drop start (take mark writes.now)) }
     ensures { result ≡ first_of best (clashes vars.now (record { earlier = drop start (take mark writes.now); writes = drop mark writes.now })) }
 {
     let earlier = &writes[..mark];
     let earlier = &earlier[start..];
-    clash_all(vars, roots, earlier, &writes[mark..], best)
+    clash_all(vars, touched, earlier, &writes[mark..], best)
 }
 
 fn clash_all(
     vars: &[Var],
-    roots: &BTreeSet<u32>,
+    touched: &Touched,
     earlier: &[Marked],
     writes: &[Marked],
     best: Option<Failure>,
 ) -> Option<Failure>
-    requires { Knows roots.now earlier.now }
+    requires { Knows touched.now earlier.now }
     ensures { result ≡ first_of best (clashes vars.now (record { earlier = earlier.now; writes = writes.now })) }
 {
     let mut best = best;
     for second in writes {
-        best = clash_with(vars, roots, earlier, second, best);
+        best = clash_with(vars, touched, earlier, second, best);
     }
     best
 }
 
-/// Compares one write with those of earlier branches, where one of them has its root. None fails whose root has no
-/// declaration.
+/// Compares one write with those of earlier branches, where one of them may overlap it. None fails whose root has
+/// no declaration.
 fn clash_with(
     vars: &[Var],
-    roots: &BTreeSet<u32>,
+    touched: &Touched,
     earlier: &[Marked],
     second: &Marked,
     best: Option<Failure>,
 ) -> Option<Failure>
-    requires { Knows roots.now earlier.now }
+    requires { Knows touched.now earlier.now }
     ensures { result ≡ first_of best (clashes_with vars.now earlier.now second.now) }
 {
-    if !roots.contains(&second.path.root) {
+    if !touched.may_meet(&second.path) {
         return best;
     }
     match vars.get(second.path.root as usize) {

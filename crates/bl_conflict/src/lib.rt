@@ -13,6 +13,7 @@ mod conflict;
 mod instant;
 mod marks;
 mod pause;
+mod touched;
 
 use bl_tree::tree::Unit;
 use bl_tree::{Failure, NoMemory, Program, Refusal};

@@ -57,16 +57,8 @@ use Rattle.bl_ctext.specs.Spellable.{
   spells_call,
   spells_arg,
 }
-use Rattle.bl_csyntax_laws.specs.Placeless.{
-  nowhere,
-  placeless_expr,
-  placeless_kind,
-  placeless_place,
-  placeless_step,
-  placeless_index,
-  placeless_call,
-  placeless_arg,
-}
+use Rattle.bl_csyntax_laws.specs.Placeless.{nowhere, placeless_expr, placeless_place, placeless_call}
+use Rattle.bl_csyntax_laws.specs.inner.Placeless.{placeless_kind, placeless_step, placeless_index, placeless_arg}
 use Rattle.bl_csyntax_laws.proofs.Rows.{Only}
 
 abbrev pub Args : Type 0

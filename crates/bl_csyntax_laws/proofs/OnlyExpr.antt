@@ -82,16 +82,8 @@ use Rattle.bl_ctext.specs.Spellable.{
 }
 use Rattle.bl_ctext.proofs.Bytes.{and-fst, and-snd}
 use Rattle.bl_ctext.proofs.PrefixedNames.{name-callee}
-use Rattle.bl_csyntax_laws.specs.Placeless.{
-  nowhere,
-  placeless_expr,
-  placeless_kind,
-  placeless_place,
-  placeless_step,
-  placeless_index,
-  placeless_call,
-  placeless_arg,
-}
+use Rattle.bl_csyntax_laws.specs.Placeless.{nowhere, placeless_expr, placeless_place, placeless_call}
+use Rattle.bl_csyntax_laws.specs.inner.Placeless.{placeless_kind, placeless_step, placeless_index, placeless_arg}
 use Rattle.bl_csyntax_laws.proofs.Tests.{is, among, are_reserved, first, tail, second, no_truth, lacks, callee_off, name_off}
 use Rattle.bl_csyntax_laws.proofs.Rows.{Only, InRow, InCommas, stands, each_shown, rows_same, commas_same}
 use Rattle.bl_csyntax_laws.proofs.Words.{operator_same, operator_off, literal_same}

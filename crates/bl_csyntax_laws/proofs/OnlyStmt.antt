@@ -67,7 +67,8 @@ use Rattle.bl_ctext.specs.Spelling.{
 }
 use Rattle.bl_ctext.specs.Spellable.{is_literal, spells_expr, spells_kind, spells_place, spells_step, spells_call, spells_result, spells_stmt, spells_stmt_kind}
 use Rattle.bl_ctext.proofs.Bytes.{and-fst, and-snd}
-use Rattle.bl_csyntax_laws.specs.Placeless.{nowhere, placeless_expr, placeless_place, placeless_call, placeless_result, placeless_stmt, placeless_stmt_kind}
+use Rattle.bl_csyntax_laws.specs.Placeless.{nowhere, placeless_expr, placeless_place, placeless_call, placeless_result, placeless_stmt}
+use Rattle.bl_csyntax_laws.specs.inner.Placeless.{placeless_stmt_kind}
 use Rattle.bl_csyntax_laws.proofs.Tests.{is, among, first, tail, second, no_truth, lacks, callee_off, name_off}
 use Rattle.bl_csyntax_laws.proofs.Rows.{Only, InRow, stands, stands_is, each_shown, closed_same, braced_same}
 use Rattle.bl_csyntax_laws.proofs.Layers.{by_level, Kinds, OnlyLevel, Levels, only_whole, kind_level, kind_ok}

@@ -1,1 +1,2 @@
 pub mod Placeless
+pub mod inner

@@ -4,14 +4,14 @@ use Rattle.bl_tree.specs.declared.place.Place.{Place}
 use Rattle.bl_tree.specs.declared.c.CStruct.{CStruct}
 use Rattle.bl_tree.specs.declared.c.CFunc.{CFunc}
 use Rattle.bl_tree.specs.declared.c.CPlace.{CPlace, fold-CPlace, roll-CPlace}
-use Rattle.bl_tree.specs.declared.c.CStep.{CStep, fold-CStep, roll-CStep}
-use Rattle.bl_tree.specs.declared.c.CIndex.{CIndex, fold-CIndex, roll-CIndex}
+use Rattle.bl_tree.specs.declared.c.CStep.{CStep, roll-CStep}
+use Rattle.bl_tree.specs.declared.c.CIndex.{CIndex, roll-CIndex}
 use Rattle.bl_tree.specs.declared.c.CExpr.{CExpr, CExpr-F, fold-CExpr, roll-CExpr}
-use Rattle.bl_tree.specs.declared.c.CExprKind.{CExprKind, fold-CExprKind, roll-CExprKind}
+use Rattle.bl_tree.specs.declared.c.CExprKind.{CExprKind, roll-CExprKind}
 use Rattle.bl_tree.specs.declared.c.CCall.{CCall, fold-CCall, roll-CCall}
-use Rattle.bl_tree.specs.declared.c.CArg.{CArg, fold-CArg, roll-CArg}
+use Rattle.bl_tree.specs.declared.c.CArg.{CArg, roll-CArg}
 use Rattle.bl_tree.specs.declared.c.CStmt.{CStmt, CStmt-F, fold-CStmt, roll-CStmt}
-use Rattle.bl_tree.specs.declared.c.CStmtKind.{CStmtKind, CStmtKind-F, fold-CStmtKind, roll-CStmtKind}
+use Rattle.bl_tree.specs.declared.c.CStmtKind.{CStmtKind, CStmtKind-F, roll-CStmtKind}
 use Rattle.bl_ctext.specs.declared.file.CFile.{CFile}
 
 -- the one place that every part is given
@@ -26,29 +26,13 @@ expr_aside e = roll-CExpr (record { place = nowhere; what = e.what })
 abbrev pub placeless_expr : CExpr → CExpr
 placeless_expr = fold-CExpr _ _ _ _ _ _ _ roll-CArg roll-CExprKind roll-CCall expr_aside roll-CIndex roll-CPlace roll-CStep
 
--- an expression's form without its places
-abbrev pub placeless_kind : CExprKind → CExprKind
-placeless_kind = fold-CExprKind _ _ _ _ _ _ _ roll-CArg roll-CExprKind roll-CCall expr_aside roll-CIndex roll-CPlace roll-CStep
-
 -- a place in C without the places in the text of the expressions in it
 abbrev pub placeless_place : CPlace → CPlace
 placeless_place = fold-CPlace _ _ _ _ _ _ _ roll-CArg roll-CExprKind roll-CCall expr_aside roll-CIndex roll-CPlace roll-CStep
 
--- a step of a place without the places of the expressions in it
-abbrev pub placeless_step : CStep → CStep
-placeless_step = fold-CStep _ _ _ _ _ _ _ roll-CArg roll-CExprKind roll-CCall expr_aside roll-CIndex roll-CPlace roll-CStep
-
--- an index without the places of the expressions in it
-abbrev pub placeless_index : CIndex → CIndex
-placeless_index = fold-CIndex _ _ _ _ _ _ _ roll-CArg roll-CExprKind roll-CCall expr_aside roll-CIndex roll-CPlace roll-CStep
-
 -- a call without the places of the expressions in it
 abbrev pub placeless_call : CCall → CCall
 placeless_call = fold-CCall _ _ _ _ _ _ _ roll-CArg roll-CExprKind roll-CCall expr_aside roll-CIndex roll-CPlace roll-CStep
-
--- an argument without the places of the expressions in it
-abbrev pub placeless_arg : CArg → CArg
-placeless_arg = fold-CArg _ _ _ _ _ _ _ roll-CArg roll-CExprKind roll-CCall expr_aside roll-CIndex roll-CPlace roll-CStep
 
 -- a returned value that may be absent, without its places
 abbrev pub placeless_result : Option CExpr → Option CExpr
@@ -72,10 +56,6 @@ stmt_aside s = roll-CStmt (record { place = nowhere; what = s.what })
 -- a statement without its places
 abbrev pub placeless_stmt : CStmt → CStmt
 placeless_stmt = fold-CStmt _ _ stmt_kind_aside stmt_aside
-
--- a statement's form without its places
-abbrev pub placeless_stmt_kind : CStmtKind → CStmtKind
-placeless_stmt_kind = fold-CStmtKind _ _ stmt_kind_aside stmt_aside
 
 -- a struct without its place
 abbrev pub placeless_struct : CStruct → CStruct

@@ -36,8 +36,8 @@ branch_of = fold-Branch (Place → Position → Plain) Arm Branch (Position → 
 set_is : (place k : ℕ) (e : Expr) → plain (set place k e) ≡ λ p. Act (label_at p) (set place k e)
 set_is place k e = rw (fold-roll-Stmt, fold-roll-StmtKind) refl
 
-declares_is : (k : ℕ) → plain (two_way.declares k) ≡ λ p. Act (label_at p) (two_way.declares k)
-declares_is k = rw (fold-roll-Stmt, fold-roll-StmtKind) refl
+declares_is : (place k : ℕ) → plain (two_way.declares place k) ≡ λ p. Act (label_at p) (two_way.declares place k)
+declares_is place k = rw (fold-roll-Stmt, fold-roll-StmtKind) refl
 
 pause_is : (place : ℕ) → plain (pause place) ≡ λ p. Await (label_at p) (at place) always
 pause_is place = rw (fold-roll-Stmt, fold-roll-StmtKind) refl
@@ -86,4 +86,4 @@ forked = fork_is 9 (strong (two_way.left_repeat ∷ []) ∷ strong (two_way.righ
     ∙ (λ i p. Cobegin (label_at p) (at 9) (bodies_from (branches_are i) 0 (label_at p)))
 
 pub two_way_plain : plain_body two_way.body ≡ two_way.plain_statements
-two_way_plain i = block_at (declares_is two_way.x i ∷ declares_is two_way.y i ∷ forked i ∷ []) []
+two_way_plain i = block_at (declares_is 8 two_way.x i ∷ declares_is 10 two_way.y i ∷ forked i ∷ []) []

@@ -1,4 +1,4 @@
--- Parts of typed programs, made by hand. Their names are empty and their places tell nothing but the statements apart.
+-- Parts of typed programs, made by hand. Places tell nothing but the statements apart, and names are empty where nothing asks for them.
 use Rattle.std.specs.Prelude.{ℕ, pos, false, List, []}
 use Rattle.bl_tree.specs.declared.place.Place.{Place}
 use Rattle.bl_tree.specs.declared.scalar.Op.{Op}
@@ -75,6 +75,10 @@ pause place = stmt place (StmtKind-F.Await always)
 abbrev pub strong : List Stmt → Branch
 strong body = roll-Branch (record { weak = false; body = body })
 
--- a variable of type `int32`
+-- a variable of type `int32` with a name
+abbrev pub named : List ℕ → Role → Var
+named name role = record { name = name; place = at 0; ty = int32; role = role }
+
+-- one without
 abbrev pub var : Role → Var
-var role = record { name = []; place = at 0; ty = int32; role = role }
+var role = named [] role

@@ -1,6 +1,6 @@
 -- Two branches that need each other in one tick: `cobegin repeat x = i + 1 o = y await true end with repeat y = x * 2 await true end
 -- end`, where i is an input, o an output, and x and y are variables.
-use Rattle.std.specs.Prelude.{List, [], ◌∷◌, ◌++◌, ℕ, false, None}
+use Rattle.std.specs.Prelude.{List, [], ◌∷◌, ◌++◌, ℕ, false, None, codes}
 use Rattle.bl_tree.specs.declared.scalar.Op.TheVariants.{Add, Mul}
 use Rattle.bl_tree.specs.declared.tree.Role.TheVariants.{Input, Output, Variable}
 use Rattle.bl_tree.specs.declared.tree.Stmt.{Stmt}
@@ -8,7 +8,7 @@ use Rattle.bl_tree.specs.declared.tree.StmtKind.TheOpen.{StmtKind-F}
 use Rattle.bl_tree.specs.declared.tree.Unit.{Unit as UnitDef}
 use Rattle.bl_tree.specs.declared.tree.UnitKind.TheVariants.{Activity}
 use Rattle.bl_nodes.specs.Plain.{Act, Await, Block, Bodies, Body, Cobegin, Done, Label, Last, Plain, Position, Repeat, Then, label_at}
-use Rattle.bl_ctree_laws_examples.specs.Made.{always, at, number, pause, set, stmt, strong, two, value, var}
+use Rattle.bl_ctree_laws_examples.specs.Made.{always, at, named, number, pause, set, stmt, strong, two, value}
 
 -- the input
 abbrev pub i : ℕ
@@ -46,21 +46,25 @@ left_repeat = stmt 6 (StmtKind-F.Repeat (sets_x ∷ sets_o ∷ pause 3 ∷ []))
 abbrev pub right_repeat : Stmt
 right_repeat = stmt 7 (StmtKind-F.Repeat (sets_y ∷ pause 5 ∷ []))
 
+-- both beside each other
+abbrev pub both_loops : Stmt
+both_loops = stmt 9 (StmtKind-F.Cobegin (strong (left_repeat ∷ []) ∷ strong (right_repeat ∷ []) ∷ []))
+
 -- `var x: int32`, or another variable
-abbrev pub declares : ℕ → Stmt
-declares k = stmt 8 (StmtKind-F.Declare k None)
+abbrev pub declares : ℕ → ℕ → Stmt
+declares place k = stmt place (StmtKind-F.Declare k None)
 
 -- the body of the activity
 abbrev pub body : List Stmt
-body = declares x ∷ declares y ∷ stmt 9 (StmtKind-F.Cobegin (strong (left_repeat ∷ []) ∷ strong (right_repeat ∷ []) ∷ [])) ∷ []
+body = declares 8 x ∷ declares 10 y ∷ both_loops ∷ []
 
 -- the activity
 abbrev pub activity : UnitDef
 activity = record {
-  name = [];
+  name = codes "M";
   place = at 0;
   kind = Activity;
-  vars = var Input ∷ var Output ∷ var Variable ∷ var Variable ∷ [];
+  vars = named (codes "i") Input ∷ named (codes "o") Output ∷ named (codes "x") Variable ∷ named (codes "y") Variable ∷ [];
   inputs = 1;
   outputs = 1;
   result = None;
@@ -104,5 +108,5 @@ branches = Body false (Then left_loop Done) (Body false (Then right_loop Done) L
 -- the body
 abbrev pub plain_statements : Block
 plain_statements =
-    Then (Act (label_at (0 ∷ [])) (declares x)) (Then (Act (label_at (1 ∷ [])) (declares y))
+    Then (Act (label_at (0 ∷ [])) (declares 8 x)) (Then (Act (label_at (1 ∷ [])) (declares 10 y))
     (Then (Cobegin (label_at (2 ∷ [])) (at 9) branches) Done))

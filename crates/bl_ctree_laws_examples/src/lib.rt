@@ -5,7 +5,9 @@
 //! many steps a tick can have.
 #![tactic(auto)]
 
-ghost use Rattle.std.specs.Prelude.{◌≡◌, ◌⊎◌, Bool, [], false, true};
+ghost use Rattle.std.specs.Prelude.{◌≡◌, ◌⊎◌, ◌∷◌, Bool, [], false, true};
+ghost use Rattle.bl_tree.specs.Effects.{reads, writes};
+ghost use Rattle.bl_tree.specs.Static.{mentions, whole};
 ghost use Rattle.bl_nodes.specs.Plain.{plain_body};
 ghost use Rattle.bl_nodes.specs.Steps.{StepLabel};
 ghost use Rattle.bl_ctree.specs.Instances.{instances_of};
@@ -17,7 +19,8 @@ ghost use Rattle.bl_ctree_laws.specs.Steps.{Moves, Unmet};
 ghost use Rattle.bl_ctree_laws.specs.Trees.{Tree, is_settled};
 ghost use Rattle.bl_ctree_laws_examples.specs.Calls.{instances, units};
 ghost use Rattle.bl_ctree_laws_examples.specs.Reset as reset;
-ghost use Rattle.bl_ctree_laws_examples.specs.TwoWay.{body, inside, left, plain_statements, right, sets_o, sets_x, sets_y, x};
+ghost use Rattle.bl_ctree_laws_examples.specs.Made.{always};
+ghost use Rattle.bl_ctree_laws_examples.specs.TwoWay.{body, i, inside, left, o, plain_statements, right, sets_o, sets_x, sets_y, x, y};
 ghost use Rattle.bl_ctree_laws_examples.specs.TwoWayTrees.{acting, before_o, before_x, before_y, both, left_done, program, right_done};
 ghost use Rattle.bl_ctree_laws_examples.specs.TwoWayTrees.{left_paused, o_is_set, pausing, reaches_pause, right_paused, x_is_set, y_is_set};
 
@@ -26,6 +29,17 @@ use bl_ctree_laws::commuting::steps_commute;
 /// The statements that the examples of two branches speak of are those of the activity.
 pub fn two_branches_are_plain()
     ensures { plain_body body ≡ plain_statements }
+{}
+
+/// What the acts and conditions of the two branches read and write.
+pub fn acts_read_and_write()
+    ensures x_reads { reads sets_x ≡ whole i ∷ [] }
+    ensures x_writes { writes sets_x ≡ whole x ∷ [] }
+    ensures o_reads { reads sets_o ≡ whole y ∷ [] }
+    ensures o_writes { writes sets_o ≡ whole o ∷ [] }
+    ensures y_reads { reads sets_y ≡ whole x ∷ [] }
+    ensures y_writes { writes sets_y ≡ whole y ∷ [] }
+    ensures pauses { mentions always ≡ [] }
 {}
 
 /// `y = x * 2` waits as long as the other branch may still write x, and `o = y` as long as the other may still write y.

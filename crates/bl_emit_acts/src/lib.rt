@@ -1,9 +1,12 @@
-//! The C of expressions and paths (docs/C_SUBSET.md, "What `blechc` writes"). `expression` makes exactly the defined C
-//! expression (`specs/Expressions.antt`, `made_of`), and `place` the defined place (`stands`); want of memory aside.
-//! `c_type` gives the C type of a type (`specs/Types.antt`), and `specs/Places.antt` says where variables stand. What the
-//! C means is `bl_emit_acts_laws`.
+//! The C of expressions, paths and acts (docs/C_SUBSET.md, "What `blechc` writes"). `expression` makes exactly the
+//! defined C expression (`specs/Expressions.antt`, `made_of`), `place` the defined place (`stands`), and `act` the defined
+//! statements of an assignment, a declaration or a call of a function without a result (`specs/Acts.antt`, `act_code`);
+//! want of memory aside. `c_type` gives the C type of a type (`specs/Types.antt`), `definition` and `array` give the C
+//! struct of a struct or an array (`specs/Structs.antt`), and `specs/Places.antt` says where variables stand. What the C
+//! means is `bl_emit_acts_laws`.
 #![tactic(auto)]
 
+mod acts;
 mod expressions;
 mod home;
 mod made;
@@ -11,11 +14,14 @@ mod operators;
 mod parts;
 mod places;
 mod site;
+mod structs;
 mod types;
 
+pub use acts::{act, copied};
 pub use expressions::{expression, place};
 pub use home::Home;
 pub use made::Made;
 pub use places::variable;
 pub use site::Site;
+pub use structs::{array, definition};
 pub use types::c_type;

@@ -3,7 +3,7 @@
 ghost use Rattle.std.specs.Prelude.{◌≡◌, [], ◌++◌, IfOk, OnOk, string_bytes};
 ghost use Rattle.bl_tree.specs.Scalar as scalars;
 ghost use Rattle.bl_tree.specs.Types as types;
-ghost use Rattle.bl_emit_acts.specs.Types.{c_scalar, c_type as type_in_c, definition_name, type_name, type_word};
+ghost use Rattle.bl_emit_acts.specs.Types.{array_name, c_scalar, c_type as type_in_c, definition_name, type_name, type_word};
 
 use bl_tree::c::CType;
 use bl_tree::slices::element;
@@ -92,11 +92,29 @@ fn write_name(text: &mut String, structs: &[StructDef], ty: &Ty) -> Result<(), N
     }
 }
 
-fn name_of_type(alloc: Global, structs: &[StructDef], ty: &Ty) -> Result<Text, NoMemory>
+/// The name of the C struct of a struct or an array. Fails only for want of memory.
+pub fn name_of_type(alloc: Global, structs: &[StructDef], ty: &Ty) -> Result<Text, NoMemory>
     ensures { IfOk result (λ name. name ≡ type_name structs.now ty.now) }
 {
     let mut name = String::new(alloc);
     write_name(&mut name, structs, ty)?;
+    Ok(Text::from_string(name))
+}
+
+/// The name of the C struct of an array of so many elements of a type. Fails only for want of memory.
+pub fn name_of_array(
+    alloc: Global,
+    structs: &[StructDef],
+    n: u32,
+    element: &Ty,
+) -> Result<Text, NoMemory>
+    ensures { IfOk result (λ name. name ≡ array_name n (type_name structs.now element.now)) }
+{
+    let mut buffer = Buffer::new();
+    let mut name = String::from_str(alloc, "r")?;
+    name.push_str(buffer.format(n))?;
+    name.push_str("_")?;
+    write_name(&mut name, structs, element)?;
     Ok(Text::from_string(name))
 }
 

@@ -41,11 +41,11 @@ module _ (structs : List StructDef) (scope : Scope) (here : Memory) where
   -- an argument beside what an expression gives
   abbrev pub ArgShows : Ty → Option Passed → Option Datum → Type 0
   ArgShows ty None None = Unit {0}
-  ArgShows ty (Some passed) (Some datum) = ArgHolds structs here ty (plain datum) passed
+  ArgShows ty (Some passed) (Some datum) = ArgHolds structs scope.depth here ty (plain datum) passed
   ArgShows ty _ _ = ⊥
 
   number_arg : (ty : Ty) (s : ScalarType) (held : CValue) (datum : Datum) → scalar_in ty ≡ Some s → DatumFits structs ty datum →
-      memory.number_in held ≡ number_given datum → ArgHolds structs here ty (plain datum) (by_value held)
+      memory.number_in held ≡ number_given datum → ArgHolds structs scope.depth here ty (plain datum) (by_value held)
   number_arg ty s held (OfScalar t n) is fit same = (s, is, ap number_level (outs-Number n) ∙ ap Some (sym same))
   number_arg ty s held (OfWhole value) is fit same = absurd (let none = fit.0 in cc)
 
@@ -56,19 +56,19 @@ module _ (structs : List StructDef) (scope : Scope) (here : Memory) where
   by_number ty s (Some held) None is fit same = absurd (cc)
   by_number ty s (Some held) (Some datum) is fit same = number_arg ty s held datum is fit (same_Some (memory.number_in held) (number_given datum) same)
 
-  by_place : (ty : Ty) (o : Option Location) (datum : Option Datum) → scalar_in ty ≡ None → PlaceShows structs ty here o datum →
+  by_place : (ty : Ty) (o : Option Location) (datum : Option Datum) → scalar_in ty ≡ None → PlaceShows structs ty scope.depth here o datum →
       ArgShows ty (option_map by_address o) datum
   by_place ty None None is shown = tt
   by_place ty None (Some (OfScalar t n)) is shown = absurd shown
   by_place ty None (Some (OfWhole value)) is shown = absurd shown
   by_place ty (Some place) None is shown = absurd shown
   by_place ty (Some place) (Some (OfScalar t n)) is shown = absurd shown
-  by_place ty (Some place) (Some (OfWhole value)) is shown = (is, shown)
+  by_place ty (Some place) (Some (OfWhole value)) is shown = (is, shown.0, shown.1)
 
-  passes_value : (code : CExpr) → (passes (Value code) scope here).answer ≡ option_map by_value (value_c code scope here).answer
+  pub passes_value : (code : CExpr) → (passes (Value code) scope here).answer ≡ option_map by_value (value_c code scope here).answer
   passes_value code = ap (λ (c : Counted Passed). c.answer) (value-arg scope here code) ∙ mapped-answer by_value (value_c code scope here)
 
-  passes_address : (place : CPlace) → (passes (Address place) scope here).answer ≡ option_map by_address (location_c place scope here).answer
+  pub passes_address : (place : CPlace) → (passes (Address place) scope here).answer ≡ option_map by_address (location_c place scope here).answer
   passes_address place = ap (λ (c : Counted Passed). c.answer) (address-arg scope here place) ∙ mapped-answer by_address (location_c place scope here)
 
   pub arg_shows : (ty : Ty) (made : Made) (datum : Option Datum) → Shows structs ty scope here made datum → IfSome datum (DatumFits structs ty) →
@@ -83,11 +83,11 @@ module _ (structs : List StructDef) (scope : Scope) (here : Memory) where
   -- the arguments beside the values of the inputs
   abbrev pub ArgsShow : List Var → Option (List Passed) → Option (List Datum_value) → Type 0
   ArgsShow vars None None = Unit {0}
-  ArgsShow vars (Some passed) (Some values) = ArgsHold structs here vars values passed
+  ArgsShow vars (Some passed) (Some values) = ArgsHold structs scope.depth here vars values passed
   ArgsShow vars _ _ = ⊥
 
   rest_shows : (var : Var) (vars : List Var) (passed : Passed) (datum : Datum) (others : Option (List Passed)) (values : Option (List Datum_value)) →
-      ArgHolds structs here var.ty (plain datum) passed → ArgsShow vars others values →
+      ArgHolds structs scope.depth here var.ty (plain datum) passed → ArgsShow vars others values →
       ArgsShow (var ∷ vars) (option_map (λ others. passed ∷ others) others) (option_map (λ values. plain datum ∷ values) values)
   rest_shows var vars passed datum None None one more = tt
   rest_shows var vars passed datum None (Some values) one more = absurd more

@@ -87,19 +87,9 @@ use Rattle.bl_emit_acts.specs.Expressions.{arg_of, c_both, c_cast, c_one, code_o
 use Rattle.bl_emit_acts.specs.Expressions.{steps_of, type_at, type_made}
 use Rattle.bl_emit_acts.specs.Trees.{c_element, c_index, c_place, c_read}
 use Rattle.bl_emit_acts.specs.Types.{copy_name, elements_name, unit_name}
-use Rattle.bl_emit_acts_laws.specs.Holds.{
-  CopiesHold,
-  Holds,
-  VariablesHold,
-  copied_in,
-  copied_in_part,
-  copied_in_path,
-  home_at,
-  lead_in,
-  location_in,
-  start_in,
-  way_to,
-}
+use Rattle.bl_emit_acts_laws.specs.Holds.{CopiesHold, Holds, VariablesHold, VariablesLive, copied_in, copied_in_path, home_at, is_live, lead_in}
+use Rattle.bl_emit_acts_laws.specs.Holds.{location_in, start_in, way_to}
+use Rattle.bl_emit_acts_laws.specs.inner.Holds.{copied_in_part}
 use Rattle.bl_emit_acts_laws.specs.Shows.{FunctionsAgree, Leads, PlaceShows, Reaches, Shows, number_given}
 use Rattle.bl_emit_acts_laws.proofs.Arguments.{ArgsShow, arg_shows, args_show, call_gives, pass_all}
 use Rattle.bl_emit_acts_laws.proofs.Evaluated.{element-way, literal-value, place-location, read-value, step-way, ways}
@@ -132,11 +122,11 @@ module _ (structs : List StructDef) (scope : Scope) (here : Memory) where
 
   -- a place that holds a value of a type shows it
   pub held_shows : (ty : Ty) (place : CPlace) (value : Value) (at : Location) → (location_c place scope here).answer ≡ Some at →
-      Holds structs ty value (memory.value_at here at) → Fits structs ty value → (s : Option ScalarType) → scalar_in ty ≡ s →
-      Shows structs ty scope here (made_at s place) (Some (datum_of s value))
-  held_shows ty place value at is holds fit None scalar_is =
-      (scalar_is, subst (λ o. PlaceShows structs ty here o (Some (OfWhole value))) (sym is) holds)
-  held_shows ty place value at is holds fit (Some s) scalar_is = (
+      is_live scope.depth at.root ≡ true → Holds structs ty value (memory.value_at here at) → Fits structs ty value → (s : Option ScalarType) →
+      scalar_in ty ≡ s → Shows structs ty scope here (made_at s place) (Some (datum_of s value))
+  held_shows ty place value at is live holds fit None scalar_is =
+      (scalar_is, subst (λ o. PlaceShows structs ty scope.depth here o (Some (OfWhole value))) (sym is) (live, holds))
+  held_shows ty place value at is live holds fit (Some s) scalar_is = (
     scalar_is,
     read_answer place ∙ (ap (option_map (λ p. memory.number_in (memory.value_at here p))) is
         ∙ ap Some (number_held structs ty s value (memory.value_at here at) (out-Value value) refl scalar_is holds
@@ -146,13 +136,13 @@ module _ (structs : List StructDef) (scope : Scope) (here : Memory) where
   -- and one that traps traps
   pub trapped_shows : (ty : Ty) (place : CPlace) → (location_c place scope here).answer ≡ None → (s : Option ScalarType) → scalar_in ty ≡ s →
       Shows structs ty scope here (made_at s place) None
-  trapped_shows ty place is None scalar_is = (scalar_is, subst (λ o. PlaceShows structs ty here o None) (sym is) tt)
+  trapped_shows ty place is None scalar_is = (scalar_is, subst (λ o. PlaceShows structs ty scope.depth here o None) (sym is) tt)
   trapped_shows ty place is (Some s) scalar_is =
       (scalar_is, read_answer place ∙ ap (option_map (λ p. memory.number_in (memory.value_at here p))) is)
 
 -- ---- callees
 
-callee_there : (structs : List StructDef) (units : List UnitDef) (callees : List Callee) (f : ℕ) (unit : UnitDef) →
+pub callee_there : (structs : List StructDef) (units : List UnitDef) (callees : List Callee) (f : ℕ) (unit : UnitDef) →
     AllZip (CalleeFits structs) units callees →
     slice_get units f ≡ Some unit → (callee : Callee) × (slice_get callees f ≡ Some callee)
 callee_there structs [] callees f unit all there = absurd (cc)
@@ -164,6 +154,7 @@ module _ (structs : List StructDef) (earlier : List UnitDef) (unit : UnitDef) (c
     (now_fits : values_fit structs unit.vars view.now ≡ true) (before_fits : values_fit structs unit.vars view.before ≡ true)
     (copied : ℕ → Bool) (scope : Scope) (here : Memory)
     (variables : VariablesHold (site_of structs earlier unit) view.now scope here)
+    (live : VariablesLive (site_of structs earlier unit) scope)
     (copies : CopiesHold (site_of structs earlier unit) view.before copied scope here)
     (functions : FunctionsAgree structs earlier callees scope) where
   abbrev site : Site
@@ -199,7 +190,7 @@ module _ (structs : List StructDef) (earlier : List UnitDef) (unit : UnitDef) (c
   -- ---- what is read
 
   -- what a place that a path leads to holds
-  reached_holds : (ty : Ty) (root : ℕ) (positions : Option (List ℕ)) (place : Location) (r : Reaches site view.now scope ty root positions place) →
+  pub reached_holds : (ty : Ty) (root : ℕ) (positions : Option (List ℕ)) (place : Location) (r : Reaches site view.now scope ty root positions place) →
       Holds structs ty r.value (memory.value_at here place)
   reached_holds ty root positions place r =
       let root_value = some_found (value_at r.ks) (slice_get view.now root) r.value r.is in
@@ -214,7 +205,7 @@ module _ (structs : List StructDef) (earlier : List UnitDef) (unit : UnitDef) (c
       (memory.value_at here (location_in scope site root way))
       (λ rest. value_along here start lead [] (way ++ rest) ∙ sym (value_along here start lead way rest)) inner)
 
-  spot_value : (ty : Ty) (spot : PathMeaning) (place : Location) → spot.ty ≡ ty →
+  pub spot_value : (ty : Ty) (spot : PathMeaning) (place : Location) → spot.ty ≡ ty →
       (r : Reaches site view.now scope ty spot.root (spot.positions view) place) →
       reading spot view ≡ Some (datum_of (scalar_in ty) r.value)
   spot_value ty spot place is r =
@@ -236,12 +227,13 @@ module _ (structs : List StructDef) (earlier : List UnitDef) (unit : UnitDef) (c
       let there : lies spot ≡ Some r.value = ap (option_and_then (read_at spot.root view.now)) r.are ∙ r.is in
       let fits : Fits structs ty r.value = subst (λ o. IfSome o (Fits structs ty)) there fit in
       subst (Shows structs ty scope here (made_at (scalar_in ty) place)) (sym (spot_value ty spot at typed r))
-      (held_shows structs scope here ty place r.value at is (reached_holds ty spot.root (spot.positions view) at r) fits (scalar_in ty) refl)
+      (held_shows structs scope here ty place r.value at is
+      (ap (λ (place : Location). is_live scope.depth place.root) r.at ∙ live.each spot.root r.var r.is_there) (reached_holds ty spot.root (spot.positions view) at r) fits (scalar_in ty) refl)
 
   spot_is : (path : Path) (ty : Ty) → type_of_path site path ≡ Some ty → SpotFits structs unit.vars view ty (path_meaning_of sees path)
   spot_is = spot_fits structs earlier unit callees sound view now_fits before_fits
 
-  lies_fit : (path : Path) (ty : Ty) → type_of_path site path ≡ Some ty → IfSome (lies (path_meaning_of sees path)) (Fits structs ty)
+  pub lies_fit : (path : Path) (ty : Ty) → type_of_path site path ≡ Some ty → IfSome (lies (path_meaning_of sees path)) (Fits structs ty)
   lies_fit path ty typed =
       let found = spot_is path ty typed in
       if_then (λ ks. LeadsIn structs found.var.ty ks ty) (Fits structs ty) (read_at (path_meaning_of sees path).root view.now)
@@ -368,7 +360,7 @@ module _ (structs : List StructDef) (earlier : List UnitDef) (unit : UnitDef) (c
 
   -- ---- calls
 
-  abbrev InputsShown : List Expr → Type 0
+  abbrev pub InputsShown : List Expr → Type 0
   InputsShown inputs = (vars : List Var) → types_match (map (type_of site) inputs) vars ≡ true →
       ArgsShow structs scope here vars (pass_all structs scope here (map arg_of (map (made_of site) inputs))).answer
       (values_of (map (meaning_of sees) inputs) view)
@@ -389,7 +381,7 @@ module _ (structs : List StructDef) (earlier : List UnitDef) (unit : UnitDef) (c
       (arg_shows structs scope here var.ty (made_of site e) (meaning_of sees e view) one (fits_of e var.ty is'))
       (more vars (and_right (same_type t var.ty) (types_match (map (type_of site) inputs) vars) typed))
 
-  inputs_shown : (inputs : List Expr) → All P inputs → all_of (map (copied_in copied) inputs) ≡ true → InputsShown inputs
+  pub inputs_shown : (inputs : List Expr) → All P inputs → all_of (map (copied_in copied) inputs) ≡ true → InputsShown inputs
   inputs_shown [] each all [] typed = tt
   inputs_shown [] each all (var ∷ vars) typed = absurd (cc)
   inputs_shown (e ∷ inputs) each all vars typed =

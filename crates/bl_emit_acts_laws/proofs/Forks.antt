@@ -55,11 +55,11 @@ module _ (structs : List StructDef) (stand : structs_stand_from 0 structs ≡ tr
 
 -- ---- names of fields differ
 
-or_left : (a b : Bool) → (a || b) ≡ false → a ≡ false
+pub or_left : (a b : Bool) → (a || b) ≡ false → a ≡ false
 or_left false b h = refl
 or_left true b h = absurd (cc)
 
-or_right : (a b : Bool) → (a || b) ≡ false → b ≡ false
+pub or_right : (a b : Bool) → (a || b) ≡ false → b ≡ false
 or_right false b h = h
 or_right true b h = absurd (cc)
 

@@ -12,3 +12,15 @@ mod Whole
 mod Forks
 mod Writes
 mod Written
+mod Cells
+mod Statements
+mod Zeros
+mod Values
+mod Acts
+mod Aliases
+mod Calls
+mod Outlets
+mod Outputs
+mod WholeActs
+mod Frames
+mod Begun

@@ -18,16 +18,16 @@ use Rattle.bl_emit_acts_laws.proofs.Writes.{put_holds}
 pub expressions : (structs : List StructDef) (units : List UnitDef) (entry : ℕ) → ExpressionsShow structs units entry
 expressions structs units entry k unit e ty view copied scope here keeps b typed named =
     made_shows structs (take k units) unit (callees_of structs (take k units)) (sound_at structs units entry k unit keeps b.is_there) view
-    b.fitting.now b.fitting.before copied scope here b.variables b.copies b.functions e named ty typed
+    b.fitting.now b.fitting.before copied scope here b.variables b.live b.copies b.functions e named ty typed
 
 pub places : (structs : List StructDef) (units : List UnitDef) (entry : ℕ) → PlacesLead structs units entry
 places structs units entry k unit path ty view copied scope here keeps b typed named =
     (place_leads structs (take k units) unit (callees_of structs (take k units)) (sound_at structs units entry k unit keeps b.is_there) view
-    b.fitting.now b.fitting.before copied scope here b.variables b.copies b.functions path named ty typed).0
+    b.fitting.now b.fitting.before copied scope here b.variables b.live b.copies b.functions path named ty typed).0
 
 pub writes : (structs : List StructDef) (units : List UnitDef) (entry : ℕ) → WritesHold structs units entry
 writes structs units entry k unit scope here now made root var ks ty new held keeps w =
-    put_holds (site_of structs (take k units) unit) keeps.structs_stand scope here root var w.known ks ty w.typed new held w.holds now made w.variables w.apart
+    put_holds (site_of structs (take k units) unit) keeps.structs_stand scope here root var w.known w.written ks ty w.typed new held w.holds now made w.variables w.apart
     (λ value at. fits_at value at (pass_at (λ (var : Var). value_fits structs var.ty) unit.vars now root var w.fits w.known)) w.put
   where
     fits_at : (value : Value) → slice_get now root ≡ Some value → Found (λ (var : Var). value_fits structs var.ty) var (slice_get now root) →

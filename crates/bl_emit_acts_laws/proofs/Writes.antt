@@ -9,7 +9,7 @@ use Rattle.std.specs.Prelude.{bytes_eq, nat_eq, option_map, slice_get, slice_set
 use Rattle.bl_tree.specs.declared.tree.Ty.{Ty}
 use Rattle.bl_tree.specs.declared.tree.Var.{Var}
 use Rattle.bl_tree.specs.declared.value.Value.{Value}
-use Rattle.bl_tree.specs.Program.{structs_stand_from}
+use Rattle.bl_tree.specs.Program.{is_input, structs_stand_from}
 use Rattle.bl_tree.specs.Typing.{Site, is_activity, var_at}
 use Rattle.bl_eval.specs.Values.{put_at, with_value_at}
 use Rattle.bl_eval.proofs.OperatorFits.{some_found}
@@ -64,7 +64,7 @@ module _ (here : Memory) (place : Location) (new : CValue) where
   after = set_at here place new
 
   -- what stands at a way from the root of the place that was set
-  same_object : (parts : List Part) → after place.root parts ≡ number_or (left_after place.parts parts) new (here place.root parts)
+  pub same_object : (parts : List Part) → after place.root parts ≡ number_or (left_after place.parts parts) new (here place.root parts)
   same_object parts = ap (λ b. (if b then with_part (here place.root) place.parts new else here place.root) parts) (same_root_itself place.root)
 
   other_by : (root : Root) (parts way : List Part) (same : Bool) → same_root place.root root ≡ same → (not same || ways_part place.parts parts)
@@ -80,7 +80,7 @@ module _ (here : Memory) (place : Location) (new : CValue) where
   apart_same other apart way = other_by other.root other.parts way (same_root place.root other.root) refl apart
 
 module _ (site : Site) (stand : structs_stand_from 0 site.structs ≡ true) (scope : Scope) (here : Memory) (root : ℕ) (var : Var)
-    (there : var_at site root ≡ Some var) (ks : List ℕ) (ty : Ty) (typed : type_after site.structs ks (Some var.ty) ≡ Some ty) (new : Value)
+    (there : var_at site root ≡ Some var) (writable : is_input var.role ≡ false) (ks : List ℕ) (ty : Ty) (typed : type_after site.structs ks (Some var.ty) ≡ Some ty) (new : Value)
     (held : CValue)
     (holds : Holds site.structs ty new held) (now made : List Value) (variables : VariablesHold site now scope here) (apart : VariablesApart site scope)
     (fits : (value : Value) → slice_get now root ≡ Some value → Fits site.structs var.ty value) (put : put_at root ks new now ≡ Some made) where
@@ -147,7 +147,7 @@ module _ (site : Site) (stand : structs_stand_from 0 site.structs ≡ true) (sco
       place_apart k other differ known =
           let goal = location_in scope site k [] in
           ap (λ parts. not (same_root start.root goal.root) || ways_part parts goal.parts) (from_base way)
-          ∙ either (same_root start.root goal.root) base goal.parts (apart.each root k var other there known differ)
+          ∙ either (same_root start.root goal.root) base goal.parts (apart.each root k var other there known writable differ)
 
   -- ---- all of them
 

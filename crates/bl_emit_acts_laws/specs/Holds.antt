@@ -1,21 +1,21 @@
 -- Values of a program in the memory of C.
-use Rattle.std.specs.Prelude.{◌≡◌, ℕ, ℤ, Bool, true, false, not, ◌&&◌, ◌||◌, nat_eq, List, [], ◌∷◌, ◌++◌, Option, Some, None}
+use Rattle.std.specs.Prelude.{◌≡◌, ℕ, ℤ, Bool, true, false, not, ◌&&◌, ◌||◌, nat_eq, nat_le, List, [], ◌∷◌, ◌++◌, Option, Some, None}
 use Rattle.std.specs.Prelude.{codes, option_and_then}
 use Rattle.std.specs.Prelude.{slice_get}
 use Rattle.bl_tree.specs.declared.tree.Expr.{Expr, fold-Expr}
 use Rattle.bl_tree.specs.declared.tree.ExprKind.TheOpen.{ExprKind-F, Part-F, Path-F, Expr-F}
-use Rattle.bl_tree.specs.declared.tree.Part.{Part as Step, fold-Part}
 use Rattle.bl_tree.specs.declared.tree.Path.{Path, fold-Path}
 use Rattle.bl_tree.specs.declared.tree.StructDef.{StructDef}
 use Rattle.bl_tree.specs.declared.tree.Ty.{Ty, out-Ty}
 use Rattle.bl_tree.specs.declared.tree.Ty.TheOpen.{Ty-F}
 use Rattle.bl_tree.specs.declared.tree.Var.{Var}
 use Rattle.bl_tree.specs.declared.value.Value.{Value}
+use Rattle.bl_tree.specs.Program.{is_input}
 use Rattle.bl_tree.specs.Reduce.{all_of}
 use Rattle.bl_tree.specs.Typing.{Site, field_in, is_activity, var_at}
 use Rattle.bl_eval.specs.Values.{number_in, value_at}
 use Rattle.bl_cmeaning.specs.Meaning.{Scope, further, start_of}
-use Rattle.bl_cmeaning.specs.Memory.{CValue, Location, Memory, Part, element, member}
+use Rattle.bl_cmeaning.specs.Memory.{CValue, Location, Memory, Part, Root, element, member, variable}
 use Rattle.bl_cmeaning.specs.Memory as memory
 use Rattle.bl_emit_acts.specs.declared.home.Home.{Home}
 use Rattle.bl_emit_acts.specs.declared.home.Home.TheVariants.{Held, Given, Lent}
@@ -131,10 +131,6 @@ copied_in copied = fold-Expr Bool Bool Bool Bool (kind_copied copied) part_copie
 abbrev pub copied_in_path : (ℕ → Bool) → Path → Bool
 copied_in_path copied = fold-Path Bool Bool Bool Bool (kind_copied copied) part_copied expr_copied path_copied
 
--- and of a part of one
-abbrev pub copied_in_part : (ℕ → Bool) → Step → Bool
-copied_in_part copied = fold-Part Bool Bool Bool Bool (kind_copied copied) part_copied expr_copied path_copied
-
 -- ---- where variables don't meet
 
 -- whether two ways part, so that neither is a front of the other
@@ -146,7 +142,16 @@ ways_part _ _ = false
 abbrev pub are_apart : Location → Location → Bool
 are_apart p q = not (memory.same_root p.root q.root) || ways_part p.parts q.parts
 
--- the variables of a unit have nothing in common
+-- whether what begins at a root is there while a function runs at this depth: no variable of a function that this one calls
+abbrev pub is_live : ℕ → Root → Bool
+is_live depth (variable d name) = nat_le d depth
+is_live depth _ = true
+
+-- the places of a unit's variables are there
+pub record VariablesLive (site : Site) (scope : Scope) : Type 0 where
+  pub each : (k : ℕ) (var : Var) → var_at site k ≡ Some var → is_live scope.depth (location_in scope site k []).root ≡ true
+
+-- a variable that may be written has nothing in common with any other. Inputs may: one struct may be handed over as two of them
 pub record VariablesApart (site : Site) (scope : Scope) : Type 0 where
-  pub each : (j k : ℕ) (a b : Var) → var_at site j ≡ Some a → var_at site k ≡ Some b → nat_eq j k ≡ false →
+  pub each : (j k : ℕ) (a b : Var) → var_at site j ≡ Some a → var_at site k ≡ Some b → is_input a.role ≡ false → nat_eq j k ≡ false →
       are_apart (location_in scope site j []) (location_in scope site k []) ≡ true

@@ -1,26 +1,36 @@
--- What holds of the C of every typed program's expressions and paths.
-use Rattle.std.specs.Prelude.{◌≡◌, ℕ, Bool, true, List, take, Some, slice_get}
+-- What holds of the C of every typed program's expressions, paths and acts.
+use Rattle.std.specs.Prelude.{◌≡◌, ℕ, Bool, true, false, nat_eq, List, [], map, take, Some, None, slice_get}
+use Rattle.std.specs.List.{list_any}
 use Rattle.bl_tree.specs.declared.tree.Expr.{Expr}
 use Rattle.bl_tree.specs.declared.tree.Path.{Path}
+use Rattle.bl_tree.specs.declared.tree.Stmt.{Stmt, out-Stmt}
+use Rattle.bl_tree.specs.declared.tree.StmtKind.{out-StmtKind}
+use Rattle.bl_tree.specs.declared.tree.StmtKind.TheOpen.{StmtKind-F}
 use Rattle.bl_tree.specs.declared.tree.StructDef.{StructDef}
 use Rattle.bl_tree.specs.declared.tree.Ty.{Ty}
 use Rattle.bl_tree.specs.declared.tree.Unit.{Unit as UnitDef}
 use Rattle.bl_tree.specs.declared.tree.Var.{Var}
 use Rattle.bl_tree.specs.declared.value.Value.{Value}
-use Rattle.bl_tree.specs.Program.{Keeps}
-use Rattle.bl_tree.specs.Typing.{site_of, type_of, type_of_path, var_at}
+use Rattle.bl_tree.specs.Program.{Keeps, is_input}
+use Rattle.bl_tree.specs.Typing.{Site, fits, site_of, type_of, type_of_path, var_at}
+use Rattle.bl_effects.specs.Rules.{Aliased, aliases_of}
 use Rattle.bl_eval.specs.Functions.{callees_of}
 use Rattle.bl_eval.specs.Meaning.{View, meaning_of, path_meaning_of}
-use Rattle.bl_eval.specs.Standing.{ViewFits, scope_of}
+use Rattle.bl_eval.specs.Standing.{ViewFits, outcome_of, scope_of}
 use Rattle.bl_eval.specs.Values.{put_at, values_fit}
-use Rattle.bl_cmeaning.specs.Meaning.{Scope, location_c}
+use Rattle.bl_cmeaning.specs.Course.{goes_on}
+use Rattle.bl_cmeaning.specs.Meaning.{Scope, block_c, location_c}
 use Rattle.bl_cmeaning.specs.Memory.{CValue, Memory, set_at}
+use Rattle.bl_emit_acts.specs.Acts.{act_code, c_copied, is_copied}
 use Rattle.bl_emit_acts.specs.Expressions.{made_of, stands}
+use Rattle.bl_emit_acts_laws.specs.Acts.{BegunWith, Comes, CopiesApart, ProceduresAgree, before_after, copied_in_layer, is_act}
+use Rattle.bl_emit_acts_laws.specs.Frames.{FrameApart, PointersStand}
 use Rattle.bl_emit_acts_laws.specs.Holds.{
   CopiesHold,
   Holds,
   VariablesApart,
   VariablesHold,
+  VariablesLive,
   copied_in,
   copied_in_path,
   location_in,
@@ -30,12 +40,13 @@ use Rattle.bl_emit_acts_laws.specs.Holds.{
 use Rattle.bl_emit_acts_laws.specs.Shows.{FunctionsAgree, Leads, Shows}
 
 -- the memory of C beside the values of a unit's variables: the unit is at the position, the values are of its variables' types, each stands
--- at its place, so do the copies, and the earlier functions are there
+-- at its place, which is there, so do the copies, and the earlier functions are there
 pub record Beside (structs : List StructDef) (units : List UnitDef) (k : ℕ) (unit : UnitDef) (view : View) (copied : ℕ → Bool) (scope : Scope)
     (here : Memory) : Type 0 where
   pub is_there : slice_get units k ≡ Some unit
   pub fitting : ViewFits (site_of structs (take k units) unit) view
   pub variables : VariablesHold (site_of structs (take k units) unit) view.now scope here
+  pub live : VariablesLive (site_of structs (take k units) unit) scope
   pub copies : CopiesHold (site_of structs (take k units) unit) view.before copied scope here
   pub functions : FunctionsAgree structs (take k units) (callees_of structs (take k units)) scope
 
@@ -64,6 +75,7 @@ pub record Writes (structs : List StructDef) (units : List UnitDef) (k : ℕ) (u
   pub variables : VariablesHold (site_of structs (take k units) unit) now scope here
   pub apart : VariablesApart (site_of structs (take k units) unit) scope
   pub known : var_at (site_of structs (take k units) unit) root ≡ Some var
+  pub written : is_input var.role ≡ false
   pub typed : type_after structs ks (Some var.ty) ≡ Some ty
   pub holds : Holds structs ty new held
   pub put : put_at root ks new now ≡ Some made
@@ -75,3 +87,40 @@ WritesHold structs units entry =
     (held : CValue) → Keeps structs units entry → Writes structs units k unit scope here now made root var ks ty new held →
     VariablesHold (site_of structs (take k units) unit) made scope
     (set_at here (location_in scope (site_of structs (take k units) unit) root (way_to structs ks (Some var.ty))) held)
+
+-- the same as `Beside`, of memory in which acts are done: what is written has nothing in common with other variables or copies, and the earlier
+-- functions without a result are there too
+pub record BesideActs (structs : List StructDef) (units : List UnitDef) (k : ℕ) (unit : UnitDef) (view : View) (copied : ℕ → Bool) (scope : Scope)
+    (here : Memory) : Type 0 where
+  pub beside : Beside structs units k unit view copied scope here
+  pub apart : VariablesApart (site_of structs (take k units) unit) scope
+  pub copies_apart : CopiesApart (site_of structs (take k units) unit) copied scope
+  pub procedures : ProceduresAgree structs (take k units) (callees_of structs (take k units)) scope
+
+-- where the pointers of a unit lead to what keeps apart, so do its variables and copies
+abbrev pub FramesApart : Type 0
+FramesApart = (site : Site) (copied : ℕ → Bool) (scope : Scope) → PointersStand site scope → FrameApart site copied scope
+
+-- once the C that copies them has run, the copies of these variables have what the variables have, as when a tick begins
+abbrev pub CopiesBegin : Type 0
+CopiesBegin =
+    (site : Site) (copied : ℕ → Bool) (scope : Scope) (now : List Value) (ks : List ℕ) (here : Memory) → CopiesApart site copied scope →
+    VariablesHold site now scope here → ((k : ℕ) → list_any (nat_eq k) ks ≡ true → (var : Var) × (var_at site k ≡ Some var) × (copied k ≡ true)) →
+    ((block_c (map (c_copied site) ks) scope here).end ≡ goes_on) × BegunWith site scope here now ks (block_c (map (c_copied site) ks) scope here).memory
+
+-- what overlaps in the arguments of an act
+abbrev pub overlaps_in : {A B C D : Type 0} → StmtKind-F A B C D → List Aliased
+overlaps_in (StmtKind-F.Call f inputs outputs) = aliases_of None inputs outputs
+overlaps_in _ = []
+
+-- the C of an act that fits, whose arguments don't overlap, traps exactly where the act traps; else it goes on, and leaves memory that stands for
+-- the values after the act and is as it was wherever none of them stands
+abbrev pub ActsCome : List StructDef → List UnitDef → ℕ → Type 0
+ActsCome structs units entry =
+    (k : ℕ) (unit : UnitDef) (s : Stmt) (view : View) (copies : List Bool) (scope : Scope) (here : Memory) → Keeps structs units entry →
+    BesideActs structs units k unit view (is_copied copies) scope here → is_act (out-StmtKind (out-Stmt s).what) ≡ true →
+    fits (site_of structs (take k units) unit) s ≡ true → copied_in_layer (is_copied copies) (out-StmtKind (out-Stmt s).what) ≡ true →
+    overlaps_in (out-StmtKind (out-Stmt s).what) ≡ [] →
+    Comes (site_of structs (take k units) unit) (is_copied copies) scope here
+    (λ now. before_after (out-StmtKind (out-Stmt s).what) now view.before)
+    (outcome_of (site_of structs (take k units) unit) s view) (block_c (act_code (site_of structs (take k units) unit) copies s) scope here)

@@ -19,18 +19,19 @@ use Rattle.bl_cmeaning.specs.Memory as memory
 use Rattle.bl_emit_acts.specs.declared.made.Made.{Made}
 use Rattle.bl_emit_acts.specs.declared.made.Made.TheVariants.{Number, Whole}
 use Rattle.bl_emit_acts.specs.Types.{unit_name}
-use Rattle.bl_emit_acts_laws.specs.Holds.{Holds, location_in, type_after, way_to}
+use Rattle.bl_emit_acts_laws.specs.Holds.{Holds, is_live, location_in, type_after, way_to}
 
 -- the number that an expression gives
 abbrev pub number_given : Datum → ℤ
 number_given (OfScalar s n) = n
 number_given (OfWhole value) = pos 0
 
--- a place with what an expression gives, where neither traps
-abbrev pub PlaceShows : List StructDef → Ty → Memory → Option Location → Option Datum → Type 0
-PlaceShows structs ty here None None = Unit {0}
-PlaceShows structs ty here (Some place) (Some (OfWhole value)) = Holds structs ty value (memory.value_at here place)
-PlaceShows structs ty here _ _ = ⊥
+-- a place, which is there, with what an expression gives, where neither traps
+abbrev pub PlaceShows : List StructDef → Ty → ℕ → Memory → Option Location → Option Datum → Type 0
+PlaceShows structs ty depth here None None = Unit {0}
+PlaceShows structs ty depth here (Some place) (Some (OfWhole value)) =
+    (is_live depth place.root ≡ true) × Holds structs ty value (memory.value_at here place)
+PlaceShows structs ty depth here _ _ = ⊥
 
 -- What is made of an expression of a type does what the expression means: a number is exactly its number, or traps exactly where it does; a place
 -- has its value, or traps exactly where it does
@@ -38,7 +39,7 @@ abbrev pub Shows : List StructDef → Ty → Scope → Memory → Made → Optio
 Shows structs ty scope here (Number s code) datum =
     (scalar_in ty ≡ Some s) × (option_map memory.number_in (value_c code scope here).answer ≡ option_map number_given datum)
 Shows structs ty scope here (Whole place) datum =
-    (scalar_in ty ≡ None) × PlaceShows structs ty here (location_c place scope here).answer datum
+    (scalar_in ty ≡ None) × PlaceShows structs ty scope.depth here (location_c place scope here).answer datum
 
 -- where a path leads in C, beside the positions that it stands for: to the part of its variable that lies at them
 pub record Reaches (site : Site) (now : List Value) (scope : Scope) (ty : Ty) (root : ℕ) (positions : Option (List ℕ)) (place : Location) : Type 0 where
@@ -58,16 +59,18 @@ Leads site view scope ty (Some place) spot = Reaches site view.now scope ty spot
 
 -- ---- functions
 
--- an argument has the value: a number by value, a struct or an array by its place
-abbrev pub ArgHolds : List StructDef → Memory → Ty → Value → Passed → Type 0
-ArgHolds structs here ty value (by_value held) = (s : ScalarType) × (scalar_in ty ≡ Some s) × (number_in value ≡ Some (memory.number_in held))
-ArgHolds structs here ty value (by_address place) = (scalar_in ty ≡ None) × Holds structs ty value (memory.value_at here place)
+-- an argument has the value: a number by value, a struct or an array by its place, which is there while a function runs at this depth
+abbrev pub ArgHolds : List StructDef → ℕ → Memory → Ty → Value → Passed → Type 0
+ArgHolds structs depth here ty value (by_value held) = (s : ScalarType) × (scalar_in ty ≡ Some s) × (number_in value ≡ Some (memory.number_in held))
+ArgHolds structs depth here ty value (by_address place) =
+    (scalar_in ty ≡ None) × (is_live depth place.root ≡ true) × Holds structs ty value (memory.value_at here place)
 
 -- each argument has its value
-abbrev pub ArgsHold : List StructDef → Memory → List Var → List Value → List Passed → Type 0
-ArgsHold structs here [] [] [] = Unit {0}
-ArgsHold structs here (var ∷ vars) (value ∷ values) (arg ∷ args) = ArgHolds structs here var.ty value arg × ArgsHold structs here vars values args
-ArgsHold structs here _ _ _ = ⊥
+abbrev pub ArgsHold : List StructDef → ℕ → Memory → List Var → List Value → List Passed → Type 0
+ArgsHold structs depth here [] [] [] = Unit {0}
+ArgsHold structs depth here (var ∷ vars) (value ∷ values) (arg ∷ args) =
+    ArgHolds structs depth here var.ty value arg × ArgsHold structs depth here vars values args
+ArgsHold structs depth here _ _ _ = ⊥
 
 -- the number that a function returns
 abbrev pub number_returned : Option Left → Option ℤ
@@ -78,5 +81,5 @@ pub record FunctionsAgree (structs : List StructDef) (earlier : List UnitDef) (c
   pub each : (f : ℕ) (unit : UnitDef) (callee : Callee) (s : ScalarType) (values : List Value) (passed : List Passed) (here : Memory) →
       slice_get earlier f ≡ Some unit → slice_get callees f ≡ Some callee → is_function unit.kind ≡ true → unit.outputs ≡ 0 → unit.result
       ≡ Some s →
-      values_fit structs (inputs_of unit) values ≡ true → ArgsHold structs here (inputs_of unit) values passed →
+      values_fit structs (inputs_of unit) values ≡ true → ArgsHold structs scope.depth here (inputs_of unit) values passed →
       (applied (scope.known (unit_name unit.name)) (scope.depth + 1) passed here).result ≡ number_returned (callee values)

@@ -1,11 +1,18 @@
-//! Laws of the C of expressions and paths. None of these functions does anything: the contract is the law. Where each
+//! Laws of the C of expressions, paths and acts. None of these functions does anything: the contract is the law. Where each
 //! variable of a unit has its value at its place in C's memory (`specs/Holds.antt`, `VariablesHold`), the C of an
 //! expression gives exactly the expression's value, or traps exactly where it traps, and the C place of a path is that of
 //! the part to which the path leads (`specs/Shows.antt`, `Shows` and `Leads`). Once that place is set, each variable has
-//! what the program's put leaves (`specs/Laws.antt`, `WritesHold`).
+//! what the program's put leaves (`specs/Laws.antt`, `WritesHold`). Where no output of a call overlaps another or an
+//! aggregate input, the C of an act traps exactly where the act traps; else it goes on, the memory after it has the values
+//! after the act, and all numbers are as they were that belong to no variable that may be written and to no copy of one
+//! (`specs/Acts.antt`, `Comes` and `LeftIn`; `specs/Laws.antt`, `ActsCome`). The C that sets copies as a tick begins leaves
+//! in each what its variable has (`CopiesBegin`). The laws ask that earlier functions do in C what they do in the program
+//! (`FunctionsAgree`, `ProceduresAgree`), and that what may be written has nothing in common with other variables and copies
+//! (`VariablesApart`, `CopiesApart`), which holds where the unit's pointers lead to what keeps apart (`specs/Frames.antt`,
+//! `PointersStand`; `FramesApart`).
 #![tactic(auto)]
 
-ghost use Rattle.bl_emit_acts_laws.specs.Laws.{ExpressionsShow, PlacesLead, WritesHold};
+ghost use Rattle.bl_emit_acts_laws.specs.Laws.{ActsCome, CopiesBegin, ExpressionsShow, FramesApart, PlacesLead, WritesHold};
 
 use bl_tree::Program;
 
@@ -22,4 +29,20 @@ pub fn places_lead(_program: &Program)
 /// Once a part of a variable is set in C's memory to what holds a value, each variable holds what the program's put leaves.
 pub fn writes_hold(_program: &Program)
     ensures { WritesHold _program.now.structs _program.now.units _program.now.entry }
+{}
+
+/// The C of an assignment, a declaration or a call of a typed program does in memory what the act does to the variables.
+pub fn acts_come(_program: &Program)
+    ensures { ActsCome _program.now.structs _program.now.units _program.now.entry }
+{}
+
+/// The variables of a unit that may be written, and the copies, keep apart where the pointers that it was given lead to what
+/// keeps apart.
+pub fn frames_apart()
+    ensures { FramesApart }
+{}
+
+/// Once the C that copies them has run, the copies of variables have what the variables have, as when a tick begins.
+pub fn copies_begin()
+    ensures { CopiesBegin }
 {}

@@ -13,7 +13,7 @@ mod datum;
 mod evaluation;
 pub mod laws;
 mod operators;
-mod parts;
+pub mod parts;
 mod steps;
 mod values;
 mod zero;

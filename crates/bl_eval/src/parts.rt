@@ -1,4 +1,4 @@
-//! Parts of values.
+//! Parts of values, by positions: of fields, and of elements counted from 0.
 
 ghost use Rattle.std.specs.Prelude.{◌≡◌, option_map};
 ghost use Rattle.bl_eval.specs.Meaning.{read_at};
@@ -38,7 +38,7 @@ pub fn find<'a>(now: &'a [Value], root: usize, positions: &[usize]) -> Option<&'
 
 /// The value with a new part at the positions; the value as it was where they lead outside.
 #[cycle(replacement)]
-fn with_part(value: Value, positions: &[usize], new: Value) -> Value
+pub fn with_part(value: Value, positions: &[usize], new: Value) -> Value
     ensures { result ≡ replaced positions.now new value }
 {
     match positions {

@@ -1,30 +1,7 @@
-//! A program by its text, and the first statement of the loop that ends it.
+//! The first statement of the loop that ends a program.
 
-use bl_lex::lex;
-use bl_parse::parse;
-use bl_parse_laws::kept::what_is_spelled_keeps;
-use bl_program::check;
 use bl_tree::Program;
 use bl_tree::tree::{Stmt, StmtKind};
-use std::alloc::Global;
-
-/// The program that a short text spells; none where a rule refuses it or memory ends.
-pub fn program_of(alloc: Global, text: &[u8]) -> Option<Program> {
-    what_is_spelled_keeps();
-    if text.len() > 1_000 {
-        return None;
-    }
-    let Ok(tokens) = lex(alloc, text) else {
-        return None;
-    };
-    let Ok(raw) = parse(alloc, text, &tokens) else {
-        return None;
-    };
-    let Ok(program) = check(alloc, &raw) else {
-        return None;
-    };
-    Some(program)
-}
 
 /// The first statement in the loop that is the body of a program's last unit.
 pub fn first_of(program: &Program) -> Option<&Stmt> {

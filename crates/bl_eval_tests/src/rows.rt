@@ -1,7 +1,8 @@
 //! What the first statement of a program's loop makes of the output, by the text of its ports and its own.
 
-use crate::program::{first_of, program_of};
+use crate::program::first_of;
 use bl_eval::{Did, Values, act};
+use bl_rules::accept;
 use bl_tree::{List, NoMemory, Value};
 use std::alloc::{AllocError, Global};
 
@@ -72,15 +73,16 @@ fn end_of(did: Did, now: &Values) -> End {
 fn ended(alloc: Global, row: &Row) -> Result<End, NoMemory> {
     let (statement, numbers, _) = row;
     let text = text(alloc, statement)?;
-    let Some(program) = program_of(alloc, &text) else {
+    let Ok(accepted) = accept(alloc, &text) else {
         return Ok(End::None);
     };
-    let Some(first) = first_of(&program) else {
+    let program = accepted.program();
+    let Some(first) = first_of(program) else {
         return Ok(End::None);
     };
     let before = values(alloc, *numbers)?;
     let mut now = values(alloc, *numbers)?;
-    let did = act(alloc, &program, &mut now, &before, first)?;
+    let did = act(alloc, program, &mut now, &before, first)?;
     Ok(end_of(did, &now))
 }
 

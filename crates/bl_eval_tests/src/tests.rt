@@ -1,7 +1,8 @@
 //! The set `o = o + i`, as an expression and as an act, where the sum is in its type and where it isn't.
 
-use crate::program::{first_of, program_of};
+use crate::program::first_of;
 use bl_eval::{Did, Got, Values, act, value};
+use bl_rules::accept;
 use bl_tree::tree::{Expr, Stmt, StmtKind};
 use bl_tree::{List, NoMemory, Value};
 use std::alloc::Global;
@@ -51,10 +52,11 @@ struct Ended {
 
 /// How the set ends from these values.
 fn tried(alloc: Global, input: i128, output: i128) -> Result<Option<Ended>, NoMemory> {
-    let Some(program) = program_of(alloc, ADDS.as_bytes()) else {
+    let Ok(accepted) = accept(alloc, ADDS.as_bytes()) else {
         return Ok(None);
     };
-    let Some(set) = first_of(&program) else {
+    let program = accepted.program();
+    let Some(set) = first_of(program) else {
         return Ok(None);
     };
     let Some(e) = given_by(set) else {
@@ -62,8 +64,8 @@ fn tried(alloc: Global, input: i128, output: i128) -> Result<Option<Ended>, NoMe
     };
     let before = values(alloc, input, output)?;
     let mut now = values(alloc, input, output)?;
-    let given = number_of(value(alloc, &program, &now, &before, e)?);
-    let did = act(alloc, &program, &mut now, &before, set)?;
+    let given = number_of(value(alloc, program, &now, &before, e)?);
+    let did = act(alloc, program, &mut now, &before, set)?;
     Ok(Some(Ended {
         given,
         is_done: did == Did::Done,

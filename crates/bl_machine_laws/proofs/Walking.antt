@@ -143,7 +143,7 @@ walk_par s stood (on_one m more) = on (moves.in_par m) (walk_par s stood more)
 -- ---- turns
 
 -- a point is a step
-point_moves : {w : Setting} {i : ℕ} {c : Tree} {d : Bool} {a : Deed} {n : Node} {c' : Tree} →
+pub point_moves : {w : Setting} {i : ℕ} {c : Tree} {d : Bool} {a : Deed} {n : Node} {c' : Tree} →
     Point w i c d a n c' → Moves Anyway w i c d a (labels.Here n) c'
 point_moves turns.acts = moves.acts
 point_moves turns.takes = moves.takes

@@ -23,10 +23,11 @@ use Rattle.bl_ctree_laws.specs.Trees.{
   no_tree,
 }
 
--- the nodes at which an `await` and a `when` go on in a later tick
+-- the node at which an `await` goes on in a later tick
 abbrev pub test_of : Pause → Node
 test_of s = TestAt s.label s.place s.test
 
+-- the node at which a `when` goes on in a later tick
 abbrev pub check_of : Watch → Node
 check_of s = CheckAt s.label s.place s.test
 

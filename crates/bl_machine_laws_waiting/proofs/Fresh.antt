@@ -1,4 +1,4 @@
--- What waits after a turn waited before it, or edges lead to it from the node that had the turn.
+-- What waits after a turn waited before it at another node, or edges lead to it from the node that had the turn.
 use Rattle.std.proofs.Common.{
   ◌≡◌,
   ◌⊎◌,
@@ -33,6 +33,7 @@ use Rattle.bl_nodes.specs.Nodes.{
   are_instant,
   entry,
   is_instant,
+  label_of,
   some_instant,
   some_strong,
   strong_instant,
@@ -50,7 +51,8 @@ use Rattle.bl_nodes.specs.Plain.{
   is_empty,
 }
 use Rattle.bl_nodes.specs.Steps.{end_node, join_node, run_node}
-use Rattle.bl_graph.specs.Edges.{EdgeEach, Guarded, In, Into, OutAll}
+use Rattle.bl_graph.specs.DataEdges.{BesideEach}
+use Rattle.bl_graph.specs.Edges.{EdgeEach, Guarded, In, InEach, Into, OutAll}
 use Rattle.bl_graph.specs.Walks.{After, Walk, on, stay}
 use Rattle.bl_ctree.specs.Instances.{Setting}
 use Rattle.bl_ctree_laws.specs.Pending.{Deed, may_end}
@@ -76,18 +78,19 @@ use Rattle.bl_ctree_laws.specs.Trees.{
   do_block,
   has_strong,
   is_nil,
+  no_tree,
   seq,
   some_ended,
   strong_ended,
 }
 use Rattle.bl_ctree_laws_progress.specs.Live.{Live, Lives, fork_stmt}
-use Rattle.bl_ctree_laws_progress.specs.Places.{Place, ahead_of, guarded, in_branch}
+use Rattle.bl_ctree_laws_progress.specs.Places.{Place, ahead_of, guarded, in_branch, later_on}
 use Rattle.bl_machine_laws.specs.Steps.{TurnsAreWalks, TurnsWait, Walks}
 use Rattle.bl_machine_laws.specs.Steps as walks
 use Rattle.bl_machine_laws.specs.Turns as turns
 use Rattle.bl_machine_laws.specs.Turns.{Answered, OneTurns, Point, Turns}
 use Rattle.bl_machine_laws.specs.Waiting.{Is, SomeWaits, Waits, check_of, first_in}
-use Rattle.bl_machine_laws_waiting.proofs.Quiet.{along, differ, done_ends, in_part, part_closed}
+use Rattle.bl_machine_laws_waiting.proofs.Quiet.{after_closed, along, and_first, and_second, differ, done_ends, each_in_part, in_part, part_closed}
 
 -- ---- walks
 
@@ -115,7 +118,7 @@ turn_open Done next = refl
 turn_open (Then s Done) next = refl
 turn_open (Then s (Then t rest)) next = refl
 
-seq_open : (c : Tree) (s : Plain) (rest : Block) → is_nil (seq c (Then s rest)) ≡ false
+pub seq_open : (c : Tree) (s : Plain) (rest : Block) → is_nil (seq c (Then s rest)) ≡ false
 seq_open Nil s rest = block_nil (Then s rest)
 seq_open (Wait p) s rest = refl
 seq_open (Test p) s rest = refl
@@ -304,37 +307,41 @@ fork_leads (BodyOf weak body rest) l at instant y (inl h) = inr (inl (refl, begi
     begins (Then s after) is = inl is
 fork_leads (BodyOf weak body rest) l at instant y (inr h) = inr (inr (inr (inr (fork_leads rest l at instant y h))))
 
+at_edge : {E : Node → Node → Type 0} {n y : Node} → E n y → After E n y
+at_edge {y = y} edge = record { by = y; edge = edge; rest = stay y }
+
+-- what waits in what a point leaves comes after it
 point_fresh : {w : Setting} {i : ℕ} {c : Tree} {d : Bool} {a : Deed} {n : Node} {c' : Tree} (g : Place) (next : Option Node) (y : Node) →
-    Live w i c g → Point w i c d a n c' → is_nil c' ≡ false → Waits c' next y → Waits c next y ⊎ g.edges n y
+    Live w i c g → Point w i c d a n c' → is_nil c' ≡ false → Waits c' next y → After g.edges n y
 point_fresh g next y live turns.acts lasts h = differ true refl lasts
 point_fresh g next y live (turns.takes {body = body}) lasts h =
     ⊎_elim
-    (λ begins. inr (live.0.edges _ y (inr (inr (refl, inl begins)))))
+    (λ begins. at_edge (live.0.edges _ y (inr (inr (refl, inl begins)))))
     (λ empty. differ (is_empty body) empty.0 (sym (block_nil body) ∙ lasts))
     (first_into body next y (block_waits body next y h))
 point_fresh g next y live (turns.passes {other = other}) lasts h =
     ⊎_elim
-    (λ begins. inr (live.0.edges _ y (inr (inr (refl, inr begins)))))
+    (λ begins. at_edge (live.0.edges _ y (inr (inr (refl, inr begins)))))
     (λ empty. differ (is_empty other) empty.0 (sym (block_nil other) ∙ lasts))
     (first_into other next y (block_waits other next y h))
 point_fresh g next y live turns.pauses lasts h = absurd h
 point_fresh g next y live (turns.repeats {body = body}) lasts h =
-    inr (live.0.edges _ y (inr (inl (refl, turn_waits_into body _ next y h))))
+    at_edge (live.0.edges _ y (inr (inl (refl, turn_waits_into body _ next y h))))
 point_fresh g next y live (turns.repeats_until {body = body}) lasts h =
-    inr (live.0.edges _ y (inr (inl (inl (refl, turn_waits_into body _ next y h)))))
+    at_edge (live.0.edges _ y (inr (inl (inl (refl, turn_waits_into body _ next y h)))))
 point_fresh g next y live turns.leaves lasts h = differ true refl lasts
-point_fresh g next y live turns.turns lasts h = inr (live.0.edges _ y (inr (inr (refl, h))))
+point_fresh g next y live turns.turns lasts h = at_edge (live.0.edges _ y (inr (inr (refl, h))))
 point_fresh g next y live (turns.enters {body = body}) lasts h =
-    inr (live.0.edges _ y (inr (inl (refl, turn_waits_into body _ next y h))))
+    at_edge (live.0.edges _ y (inr (inl (refl, turn_waits_into body _ next y h))))
 point_fresh g next y live turns.skips lasts h = differ true refl lasts
 point_fresh g next y live (turns.forks {l = l} {at = at} {bodies = bodies}) lasts (inl h) =
-    inr (live.0.edges _ y (fork_leads bodies l at (is_instant (Cobegin l at bodies)) y h))
+    at_edge (live.0.edges _ y (fork_leads bodies l at (is_instant (Cobegin l at bodies)) y h))
 point_fresh g next y live (turns.forks {l = l} {at = at} {bodies = bodies}) lasts (inr h) =
-    inr (subst (g.edges (ForkAt l at)) (sym h.1) (live.0.edges (ForkAt l at) (SurfaceJoinAt l at)
+    at_edge (subst (g.edges (ForkAt l at)) (sym h.1) (live.0.edges (ForkAt l at) (SurfaceJoinAt l at)
     (subst (λ b. EdgeEach bodies l at b (ForkAt l at) (SurfaceJoinAt l at)) (sym (done_instant l at bodies h.0))
     (empty_joins bodies l at (done_empty bodies h.0)))))
 point_fresh g next y live (turns.guards {l = l} {at = at} {body = body}) lasts h =
-    inr (live.0.edges _ y (inr (inl (refl, ends body (block_waits body _ y h)))))
+    at_edge (live.0.edges _ y (inr (inl (refl, ends body (block_waits body _ y h)))))
   where
     ends : (body : Block) → Is (first_in body (Some (end_node false l at))) y →
         Into body (λ k. ((are_instant body ≡ true) × (k ≡ end_node false l at)) ⊎ (k ≡ end_node true l at)) y
@@ -342,10 +349,12 @@ point_fresh g next y live (turns.guards {l = l} {at = at} {body = body}) lasts h
     ends (Then s rest) is = inl is
 point_fresh g next y live turns.goes_on lasts h = differ true refl lasts
 point_fresh g next y live turns.waits lasts h = absurd h
-point_fresh g next y live turns.lets lasts h = inl (inr h)
+point_fresh {w} {i} g next y live (turns.lets {s = s} {stood = stood} {c = c}) lasts h =
+    in_part w i (later_on (guarded s g)) c (Some (end_node stood s.label s.place)) y live.0 after_closed
+    (λ nil. differ (is_nil c) nil live.1.unended) h
 point_fresh g next y live (turns.aborts is) lasts h = differ true refl lasts
 point_fresh g next y live (turns.resets {s = s} {stood = stood} is) lasts h =
-    inr (live.1.fits.edges (check_of s) y (inr (inr (inr (inl (
+    at_edge (live.1.fits.edges (check_of s) y (inr (inr (inr (inl (
       refl,
       subst (λ k. Guarded k s.label s.place s.body y) (sym is) (anew s.body (block_waits s.body _ y (subst (λ b.
           Waits (do_block s.body) (Some (end_node b s.label s.place)) y) live.1.has_stood h))),
@@ -360,7 +369,7 @@ point_fresh g next y live (turns.joins settled done) lasts h = differ true refl 
 
 -- ---- turns
 
-nil_is : (c : Tree) → is_nil c ≡ true → c ≡ Nil
+pub nil_is : (c : Tree) → is_nil c ≡ true → c ≡ Nil
 nil_is Nil e = refl
 nil_is (Wait s) e = differ false e refl
 nil_is (Test s) e = differ false e refl
@@ -399,21 +408,38 @@ FollowsBy c next g = may_end c ≡ true → (m : Node) → g.out m → (y : Node
 nil_may : (c : Tree) → is_nil c ≡ true → may_end c ≡ true
 nil_may c e = ap may_end (nil_is c e)
 
--- what a turn of one branch makes of their ends
-record SameEnds (branches branches' : Trees) : Type 0 where
-  strong : has_strong branches' ≡ has_strong branches
-  all : strong_ended branches' ≡ strong_ended branches
-  some : some_ended branches' ≡ some_ended branches
+-- so many branches have ended that the `cobegin` ends: then all strong ones have
+strong_free : (branches : Trees) → has_strong branches ≡ false → strong_ended branches ≡ true
+strong_free no_tree e = refl
+strong_free (beside true c rest) e = strong_free rest e
+strong_free (beside false c rest) e = differ true refl e
 
-same_done : (branches branches' : Trees) → SameEnds branches branches' → are_done branches' ≡ true → are_done branches ≡ true
-same_done branches branches' same e =
-    ap (λ b. if b then strong_ended branches else some_ended branches) (sym same.strong)
-    ∙ ap (λ b. if has_strong branches' then b else some_ended branches) (sym same.all)
-    ∙ ap (λ b. if has_strong branches' then strong_ended branches' else b) (sym same.some)
-    ∙ e
+pub done_strong : (branches : Trees) → are_done branches ≡ true → strong_ended branches ≡ true
+done_strong branches e = by_kind (has_strong branches) refl
+  where
+    by_kind : (b : Bool) → has_strong branches ≡ b → strong_ended branches ≡ true
+    by_kind true is = ap (λ b. if b then strong_ended branches else some_ended branches) (sym is) ∙ e
+    by_kind false is = strong_free branches is
+
+pub is_weak : (weak : Bool) (c : Tree) → (weak || is_nil c) ≡ true → is_nil c ≡ false → weak ≡ true
+is_weak true c e unended = refl
+is_weak false c e unended = differ (is_nil c) e unended
+
+-- ---- nodes of two branches
+
+pub crossing : (stood weak : Bool) (body : Block) (rest : Bodies) (n m : Node) → In stood body n → InEach stood rest m →
+    BesideEach (BodyOf weak body rest) n m
+crossing false weak body rest n m one other = inr (inl (inl (one, other)))
+crossing true weak body rest n m one other = inr (inr (inl (inl (one, other))))
+
+-- the positions of nodes that stand in different branches differ
+abbrev pub Parted : (Node → Node → Type 0) → Type 0
+Parted links = (n m : Node) → links n m → (label_of n).position ≡ (label_of m).position → ⊥
+
+-- ---- turns
 
 module _ {w : Setting} (rank : ℕ → Node → ℕ) (paces : Paces w) (shrinks : EndsShrink) (lists : TurnsAreWalks) (waiting : TurnsWait) where
-  ends_walk : {i : ℕ} {c : Tree} {done : List Answered} {c' : Tree} → Walks w i c done c' → may_end c' ≡ true → may_end c ≡ true
+  pub ends_walk : {i : ℕ} {c : Tree} {done : List Answered} {c' : Tree} → Walks w i c done c' → may_end c' ≡ true → may_end c ≡ true
   ends_walk walks.stay e = e
   ends_walk {i} {c} (walks.on {d = d} {a = a} {n = n} {c' = c'} m more) e = shrinks w i c d a n c' paces m (ends_walk more e)
 
@@ -437,77 +463,93 @@ module _ {w : Setting} (rank : ℕ → Node → ℕ) (paces : Paces w) (shrinks 
       join_edge true instantly m inside out = inr (inr (inr (inl ((inside, inr out), refl))))
       join_edge false instantly m inside out = inr (inr (inl ((inside, inr out), (instantly refl, refl))))
 
-  ends_or_same : {i : ℕ} {branches : Trees} {done : List Answered} {n : Node} {branches' : Trees} (g : Place) (stood instant : Bool)
+  -- what has a turn in a branch is of the branch
+  inside : {i : ℕ} {c : Tree} {done : List Answered} {n : Node} {c' : Tree} (g : Place) (stood : Bool) (body : Block) →
+      Live w i c (in_branch stood body g) → Turns w rank i c done n c' → In stood body n
+  inside {i} {c} {done} {n} {c'} g stood body live t =
+      in_part w i (in_branch stood body g) c None n live (part_closed stood body) (λ e m is. absurd is) (waiting w rank i c done n c' None t)
+
+  one_inside : {i : ℕ} {branches : Trees} {done : List Answered} {n : Node} {branches' : Trees} (g : Place) (stood : Bool) (bodies : Bodies) →
+      Lives w i branches bodies stood g → OneTurns w rank i branches done n branches' → InEach stood bodies n
+  one_inside g stood Last live (turns.first t) = absurd live
+  one_inside g stood Last live (turns.later t) = absurd live
+  one_inside g stood (BodyOf weak body rest) live (turns.first t) = inl (inside g stood body live.0 t)
+  one_inside g stood (BodyOf weak body rest) live (turns.later t) = inr (one_inside g stood rest live.2 t)
+
+  -- where after a turn so many branches have ended as are needed, edges lead from its node to the join: each node of a weak branch has one,
+  -- and a strong branch has ended
+  joins_after : {i : ℕ} {branches : Trees} {done : List Answered} {n : Node} {branches' : Trees} (g : Place) (stood instant : Bool)
       (bodies : Bodies) (l : Label) (at : Source) → (stood ≡ false → instant ≡ true) → Lives w i branches bodies stood g →
-      OneTurns w rank i branches done n branches' →
-      After (EdgeEach bodies l at instant) n (join_node stood l at) ⊎ SameEnds branches branches'
-  ends_or_same g stood instant Last l at instantly live (turns.first t) = absurd live
-  ends_or_same g stood instant Last l at instantly live (turns.later t) = absurd live
-  ends_or_same {n = n} g stood instant (BodyOf weak body rest) l at instantly live (turns.first {weak = weak'} {c = c} {others = others} {c' = c'} t) =
+      OneTurns w rank i branches done n branches' → strong_ended branches' ≡ true → After (EdgeEach bodies l at instant) n (join_node stood l at)
+  joins_after g stood instant Last l at instantly live (turns.first t) ended = absurd live
+  joins_after g stood instant Last l at instantly live (turns.later t) ended = absurd live
+  joins_after {n = n} g stood instant (BodyOf weak body rest) l at instantly live
+      (turns.first {weak = weak'} {c = c} {others = others} {c' = c'} t) ended =
       by_end (is_nil c') refl
     where
-      by_end : (b : Bool) → is_nil c' ≡ b →
-          After (EdgeEach (BodyOf weak body rest) l at instant) n (join_node stood l at) ⊎ SameEnds (beside weak' c others) (beside weak' c' others)
-      by_end true e = inl (branch_joins g stood weak instant body rest l at instantly live.0 t e)
+      weak_edge : (stood : Bool) → (stood ≡ false → instant ≡ true) → In stood body n → weak ≡ true →
+          EdgeEach (BodyOf weak body rest) l at instant n (join_node stood l at)
+      weak_edge true instantly within is = inr (inr (inr (inl ((within, inl is), refl))))
+      weak_edge false instantly within is = inr (inr (inl ((within, inl is), (instantly refl, refl))))
+
+      by_end : (b : Bool) → is_nil c' ≡ b → After (EdgeEach (BodyOf weak body rest) l at instant) n (join_node stood l at)
+      by_end true e = branch_joins g stood weak instant body rest l at instantly live.0 t e
       by_end false e =
-          let same : is_nil c' ≡ is_nil c = e ∙ sym (unended t) in inr (record {
-            strong = refl;
-            all = ap (λ b. (weak' || b) && strong_ended others) same;
-            some = ap (λ b. b || some_ended others) same;
-          })
-  ends_or_same g stood instant (BodyOf weak body rest) l at instantly live (turns.later {weak = weak'} {c = c} t) =
-      ⊎_elim (λ after. inl (after_map (λ a b edge. inr (inr (inr (inr edge)))) after)) (λ same. inr (more same))
-      (ends_or_same g stood instant rest l at instantly live.2 t)
-    where
-      more : {others others' : Trees} → SameEnds others others' → SameEnds (beside weak' c others) (beside weak' c others')
-      more same = record {
-        strong = ap (λ b. not weak' || b) same.strong;
-        all = ap (λ b. (weak' || is_nil c) && b) same.all;
-        some = ap (λ b. is_nil c || b) same.some;
-      }
+          at_edge (weak_edge stood instantly (inside g stood body live.0 t)
+          (sym live.1 ∙ is_weak weak' c' (and_first (weak' || is_nil c') (strong_ended others) ended) e))
+  joins_after g stood instant (BodyOf weak body rest) l at instantly live (turns.later {weak = weak'} {c = c} {others' = others'} t) ended =
+      after_map (λ a b edge. inr (inr (inr (inr edge))))
+      (joins_after g stood instant rest l at instantly live.2 t (and_second (weak' || is_nil c) (strong_ended others') ended))
 
   mutual
-    -- what waits after a turn waited before it, or edges lead to it from the turn's node
+    -- what waits after a turn waited before it at another node, or edges lead to it from the turn's node
     pub fresh : {i : ℕ} {c : Tree} {done : List Answered} {n : Node} {c' : Tree} (g : Place) (next : Option Node) (y : Node) → Live w i c g →
-        FollowsBy c next g → Turns w rank i c done n c' → Waits c' next y → Waits c next y ⊎ After g.edges n y
-    fresh {c = c} {n = n} {c' = c'} g next y live follows (turns.point p) h = by_end (is_nil c') refl
+        Parted g.links → FollowsBy c next g → Turns w rank i c done n c' → Waits c' next y →
+        (Waits c next y × (y ≡ n → ⊥)) ⊎ After g.edges n y
+    fresh {c = c} {n = n} {c' = c'} g next y live parted follows (turns.point p) h = by_end (is_nil c') refl
       where
-        by_end : (b : Bool) → is_nil c' ≡ b → Waits c next y ⊎ After g.edges n y
+        by_end : (b : Bool) → is_nil c' ≡ b → (Waits c next y × (y ≡ n → ⊥)) ⊎ After g.edges n y
         by_end true e =
             let leads = turn_leads {rank = rank} g live (turns.point p) e in
             inr (walk_edge leads.walk (follows (ends_before (turns.point p) (nil_may c' e)) leads.end leads.out y (nil_waits c' next y e h)))
-        by_end false e =
-            ⊎_elim (λ waited. inl waited) (λ edge. inr (record { by = y; edge = edge; rest = stay y })) (point_fresh g next y live p e h)
-    fresh g next y live follows (turns.runs called is passes lasts) h = absurd h
-    fresh g next y live follows (turns.resumes passes lasts) h = absurd h
-    fresh {i} {c} {done} {n} {c'} g next y live follows (turns.returns {s = s} {callee = callee} {stood = stood} {c = inner} {done = acts} passes) h =
+        by_end false e = inr (point_fresh g next y live p e h)
+    fresh g next y live parted follows (turns.runs called is passes lasts) h = absurd h
+    fresh g next y live parted follows (turns.resumes passes lasts) h = absurd h
+    fresh {i} {c} {done} {n} {c'} g next y live parted follows
+        (turns.returns {s = s} {callee = callee} {stood = stood} {c = inner} {done = acts} passes) h =
         let whole_turn : Turns w rank i c done n c' = turns.returns {s = s} {callee = callee} {stood = stood} {c = inner} {done = acts} passes in
         let leads = turn_leads {rank = rank} g live whole_turn refl in
         inr (walk_edge leads.walk (follows (ends_before whole_turn refl) leads.end leads.out y h))
-    fresh g next y live follows (turns.in_seq {s = s} {rest = rest} {c' = c'} t) h =
-        fresh (ahead_of (entry s) g) (Some (entry s)) y live.0 (λ may m out k is. subst (g.edges m) (sym is) out) t (seq_waits c' s rest next y h)
-    fresh g next y live follows (turns.in_par {s = s} {stood = stood} t) (inl h) =
-        ⊎_elim (λ waited. inl (inl waited)) (λ after. inr (after_map (λ a b edge. live.1.fits.edges a b edge) after))
-        (one_fresh g stood s.bodies s.label s.place (is_instant (fork_stmt s)) y live.0 t h)
-    fresh {n = n} g next y live follows (turns.in_par {s = s} {stood = stood} {branches = branches} {branches' = branches'} t) (inr h) =
-        ⊎_elim (λ after. inr (subst (After g.edges n) (sym h.1) (after_map (λ a b edge. live.1.fits.edges a b edge) after)))
-        (λ same. inl (inr (same_done branches branches' same h.0, h.1)))
-        (ends_or_same g stood (is_instant (fork_stmt s)) s.bodies s.label s.place
-        (live.1.joins (ends_before (turns.in_par {s = s} {stood = stood} t) (done_ends branches' h.0))).0 live.0 t)
-    fresh g next y live follows (turns.in_guard {s = s} {stood = stood} t) h =
-        fresh (guarded s g) (Some (end_node stood s.label s.place)) y live.0 (λ may m out k is. subst (g.edges m) (sym is)
+    fresh g next y live parted follows (turns.in_seq {s = s} {rest = rest} {c' = c'} t) h =
+        fresh (ahead_of (entry s) g) (Some (entry s)) y live.0 parted (λ may m out k is. subst (g.edges m) (sym is) out) t (seq_waits c' s rest next y h)
+    fresh g next y live parted follows (turns.in_par {s = s} {stood = stood} t) (inl h) =
+        ⊎_elim (λ waited. inl (inl waited.0, waited.1)) (λ after. inr (after_map (λ a b edge. live.1.fits.edges a b edge) after))
+        (one_fresh g stood s.bodies s.label s.place (is_instant (fork_stmt s)) y live.0 parted live.1.fits.beside t h)
+    fresh {n = n} g next y live parted follows (turns.in_par {s = s} {stood = stood} {branches = branches} {branches' = branches'} t) (inr h) =
+        inr (subst (After g.edges n) (sym h.1) (after_map (λ a b edge. live.1.fits.edges a b edge)
+        (joins_after g stood (is_instant (fork_stmt s)) s.bodies s.label s.place
+        (live.1.joins (ends_before (turns.in_par {s = s} {stood = stood} t) (done_ends branches' h.0))).0 live.0 t (done_strong branches' h.0))))
+    fresh g next y live parted follows (turns.in_guard {s = s} {stood = stood} t) h =
+        fresh (guarded s g) (Some (end_node stood s.label s.place)) y live.0 parted (λ may m out k is. subst (g.edges m) (sym is)
         (end_edge s stood (g.edges m) (λ e. (live.1.closes may).0 e) out)) t h
 
     one_fresh : {i : ℕ} {branches : Trees} {done : List Answered} {n : Node} {branches' : Trees} (g : Place) (stood : Bool) (bodies : Bodies) (l : Label)
-        (at : Source) (instant : Bool) (y : Node) → Lives w i branches bodies stood g → OneTurns w rank i branches done n branches' →
-        SomeWaits branches' y → SomeWaits branches y ⊎ After (EdgeEach bodies l at instant) n y
-    one_fresh g stood Last l at instant y live (turns.first t) h = absurd live
-    one_fresh g stood Last l at instant y live (turns.later t) h = absurd live
-    one_fresh g stood (BodyOf weak body rest) l at instant y live (turns.first t) (inl h) =
-        ⊎_elim (λ waited. inl (inl waited)) (λ after. inr (after_map (λ a b edge. inl edge) after))
-        (fresh (in_branch stood body g) None y live.0 (λ may m out k is. absurd is) t h)
-    one_fresh g stood (BodyOf weak body rest) l at instant y live (turns.first t) (inr h) = inl (inr h)
-    one_fresh g stood (BodyOf weak body rest) l at instant y live (turns.later t) (inl h) = inl (inl h)
-    one_fresh g stood (BodyOf weak body rest) l at instant y live (turns.later t) (inr h) =
-        ⊎_elim (λ waited. inl (inr waited)) (λ after. inr (after_map (λ a b edge. inr (inr (inr (inr edge)))) after))
-        (one_fresh g stood rest l at instant y live.2 t h)
+        (at : Source) (instant : Bool) (y : Node) → Lives w i branches bodies stood g → Parted g.links →
+        ((n m : Node) → BesideEach bodies n m → g.links n m) → OneTurns w rank i branches done n branches' →
+        SomeWaits branches' y → (SomeWaits branches y × (y ≡ n → ⊥)) ⊎ After (EdgeEach bodies l at instant) n y
+    one_fresh g stood Last l at instant y live parted links (turns.first t) h = absurd live
+    one_fresh g stood Last l at instant y live parted links (turns.later t) h = absurd live
+    one_fresh g stood (BodyOf weak body rest) l at instant y live parted links (turns.first t) (inl h) =
+        ⊎_elim (λ waited. inl (inl waited.0, waited.1)) (λ after. inr (after_map (λ a b edge. inl edge) after))
+        (fresh (in_branch stood body g) None y live.0 parted (λ may m out k is. absurd is) t h)
+    one_fresh {i} {n = n} g stood (BodyOf weak body rest) l at instant y live parted links (turns.first {others = others} t) (inr h) =
+        let link = links n y (crossing stood weak body rest n y (inside g stood body live.0 t) (each_in_part w i g stood others rest y live.2 h)) in
+        inl (inr h, λ is. parted n y link (ap (λ x. (label_of x).position) (sym is)))
+    one_fresh {i} {n = n} g stood (BodyOf weak body rest) l at instant y live parted links (turns.later {c = c} t) (inl h) =
+        let within : In stood body y =
+        in_part w i (in_branch stood body g) c None y live.0 (part_closed stood body) (λ e m is. absurd is) h in
+        let link = links y n (crossing stood weak body rest y n within (one_inside g stood rest live.2 t)) in
+        inl (inl h, λ is. parted y n link (ap (λ x. (label_of x).position) is))
+    one_fresh g stood (BodyOf weak body rest) l at instant y live parted links (turns.later t) (inr h) =
+        ⊎_elim (λ waited. inl (inr waited.0, waited.1)) (λ after. inr (after_map (λ a b edge. inr (inr (inr (inr edge)))) after))
+        (one_fresh g stood rest l at instant y live.2 parted (λ n m k. links n m (inr (inr (inr k)))) t h)

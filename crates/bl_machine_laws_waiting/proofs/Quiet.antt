@@ -240,7 +240,7 @@ pub part_closed : (stood : Bool) (body : Block) → Closed (EdgeAll body) (In st
 part_closed true body n m there edge = record { from = there.from; begins = there.begins; walk = reached_on there.walk edge }
 part_closed false body n m there edge = record { from = there.from; begins = there.begins; walk = reached_on there.walk edge }
 
-after_closed : {E : Node → Node → Type 0} {n : Node} → Closed E (After E n)
+pub after_closed : {E : Node → Node → Type 0} {n : Node} → Closed E (After E n)
 after_closed m k there edge = record { by = there.by; edge = there.edge; rest = reached_on there.rest edge }
 
 -- what has ended may end
@@ -316,7 +316,7 @@ mutual
   in_part w i g (Run s callee Body stood c) next n live closed follows h = absurd h
   in_part w i g (Run s callee Check stood c) next n live closed follows h = subst g.now (sym h) live.2.now
 
-  each_in_part : (w : Setting) (i : ℕ) (g : Place) (stood : Bool) (branches : Trees) (bodies : Bodies) (n : Node) → Lives w i branches bodies stood g →
+  pub each_in_part : (w : Setting) (i : ℕ) (g : Place) (stood : Bool) (branches : Trees) (bodies : Bodies) (n : Node) → Lives w i branches bodies stood g →
       SomeWaits branches n → InEach stood bodies n
   each_in_part w i g stood no_tree bodies n live h = absurd h
   each_in_part w i g stood (beside weak c branches) Last n live h = absurd live

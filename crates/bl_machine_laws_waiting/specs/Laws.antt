@@ -1,7 +1,8 @@
 -- What waits in trees that stand in the tick graph of their body.
 use Rattle.std.specs.Prelude.{◌≡◌, ◌⊎◌, ℕ, Bool, true, false, List, None, ⊤}
+use Rattle.bl_tree.specs.declared.tree.Unit.{Unit as UnitDef}
 use Rattle.bl_nodes.specs.Nodes.{Node}
-use Rattle.bl_nodes.specs.Plain.{Block}
+use Rattle.bl_nodes.specs.Plain.{Block, plain_body}
 use Rattle.bl_graph.specs.Edges.{EdgeAll, In}
 use Rattle.bl_graph.specs.Walks.{After}
 use Rattle.bl_ctree.specs.Control.{Body, Check}
@@ -70,8 +71,10 @@ abbrev pub WaitsInPart : Type 0
 WaitsInPart =
     (w : Setting) (i : ℕ) (stood : Bool) (body : Block) (c : Tree) (n : Node) → Live w i c (whole stood body) → Waits c None n → In stood body n
 
--- what waits after a turn waited before it, or control edges lead to it from the node that had the turn
+-- what waits after a turn waited before it at another node, or control edges lead to it from the node that had the turn. So where numbers
+-- rise along control edges no node waits again after its own turn
 abbrev pub TurnsLeadOn : Type 0
 TurnsLeadOn =
-    (w : Setting) (rank : ℕ → Node → ℕ) (i : ℕ) (stood : Bool) (body : Block) (c : Tree) (done : List Answered) (n : Node) (c' : Tree) (y : Node) →
-    Paces w → Live w i c (whole stood body) → Turns w rank i c done n c' → Waits c' None y → Waits c None y ⊎ After (EdgeAll body) n y
+    (w : Setting) (rank : ℕ → Node → ℕ) (i : ℕ) (stood : Bool) (unit : UnitDef) (c : Tree) (done : List Answered) (n : Node) (c' : Tree) (y : Node) →
+    Paces w → Live w i c (whole stood (plain_body unit.body)) → Turns w rank i c done n c' → Waits c' None y →
+    (Waits c None y × (y ≡ n → ⊥)) ⊎ After (EdgeAll (plain_body unit.body)) n y

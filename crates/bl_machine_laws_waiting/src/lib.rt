@@ -1,14 +1,15 @@
 //! What waits in a tree that stands in its body's tick graph. There is no code here. Laws, as contracts of functions that do
 //! nothing (`specs/Laws.antt`): nothing waits in a tree between ticks; in one in which something is left to do, and each called
 //! instance has been passed, something waits; all that waits is a node of the part of the graph that acts in this tick; and what
-//! waits after a turn waited before it, or control edges lead to it from the node that had the turn. In a woken tree what waits is
-//! what rested, and its numbers are those that it had (`specs/Waking.antt`).
+//! waits after a turn waited before it at another node, or control edges lead to it from the node that had the turn. In a woken
+//! tree what waits is what rested, and its numbers are those that it had (`specs/Waking.antt`).
 #![tactic(auto)]
 
 ghost use Rattle.bl_machine_laws_waiting.specs.Laws.{SettledIsQuiet, TurnsLeadOn, UnsettledWaits, WaitsInPart};
 ghost use Rattle.bl_machine_laws_waiting.specs.Waking.{WakingKeepsNumbers, WokenRested};
 
 use bl_ctree_laws::shrinking::steps_shrink;
+use bl_graph::branches_part;
 use bl_machine_laws::{turns_are_walks, turns_wait};
 
 /// Nothing waits where nothing is left to do.
@@ -26,10 +27,11 @@ pub fn waits_in_part()
     ensures { WaitsInPart }
 {}
 
-/// A turn makes nothing wait but what its node leads to.
+/// A turn makes nothing wait but what its node leads to, and leaves its node to wait no more.
 pub fn turns_lead_on()
     ensures { TurnsLeadOn }
 {
+    branches_part();
     steps_shrink();
     turns_are_walks();
     turns_wait();

@@ -20,18 +20,8 @@ use Rattle.bl_tree.proofs.StmtInduction.{Each, EachArm, EachBranch, induct, stmt
 use Rattle.bl_raw.specs.Starts.{ascends}
 use Rattle.bl_ctree.specs.declared.instance.Run.{Run}
 use Rattle.bl_ctree.specs.Instances.{arm_runs, branch_runs, kind_runs, runs_in, runs_in_arm, runs_in_branch, stmt_layer_runs}
-use Rattle.bl_types_laws.specs.Starts.{
-  Starts,
-  all_starts,
-  arm_layer_starts,
-  branch_layer_starts,
-  starts_of,
-  starts_of_arm,
-  starts_of_branch,
-  stmt_kind_starts,
-  stmt_layer_starts,
-  unit_starts,
-}
+use Rattle.bl_types_laws.specs.Starts.{Starts, all_starts, arm_layer_starts, branch_layer_starts, starts_of, stmt_kind_starts, stmt_layer_starts, unit_starts}
+use Rattle.bl_types_laws.specs.inner.Starts.{starts_of_arm, starts_of_branch}
 use Rattle.bl_measures_laws.specs.Laws.{OrderedRunsStandApart}
 
 -- ---- lists picked from others

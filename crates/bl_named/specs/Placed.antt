@@ -31,7 +31,6 @@ use Rattle.bl_tree.specs.Reduce.{all_of}
 use Rattle.bl_tree.specs.Typing.{is_fixed, is_variable}
 use Rattle.bl_named.specs.declared.expr.NamedExpr.{NamedExpr, fold-NamedExpr}
 use Rattle.bl_named.specs.declared.expr.NamedExprKind.TheOpen.{NamedExprKind-F, NamedPart-F, NamedExpr-F, NamedTarget-F}
-use Rattle.bl_named.specs.declared.expr.NamedPart.{NamedPart, fold-NamedPart}
 use Rattle.bl_named.specs.declared.expr.NamedTarget.{NamedTarget, fold-NamedTarget}
 use Rattle.bl_named.specs.declared.expr.Root.{Root}
 use Rattle.bl_named.specs.declared.expr.Root.TheVariants as root
@@ -42,8 +41,6 @@ use Rattle.bl_named.specs.declared.item.NamedStruct.{NamedStruct}
 use Rattle.bl_named.specs.declared.item.NamedUnit.{NamedUnit}
 use Rattle.bl_named.specs.declared.item.NamedVar.{NamedVar}
 use Rattle.bl_named.specs.declared.named.Named.{Named}
-use Rattle.bl_named.specs.declared.stmt.NamedArm.{NamedArm, fold-NamedArm}
-use Rattle.bl_named.specs.declared.stmt.NamedBranch.{NamedBranch, fold-NamedBranch}
 use Rattle.bl_named.specs.declared.stmt.NamedPath.{NamedPath}
 use Rattle.bl_named.specs.declared.stmt.NamedStmt.{NamedStmt, fold-NamedStmt}
 use Rattle.bl_named.specs.declared.stmt.NamedStmtKind.TheOpen.{NamedStmtKind-F, NamedArm-F, NamedBranch-F, NamedStmt-F}
@@ -128,10 +125,6 @@ expr_placed earlier = fold-NamedExpr Bool Bool Bool Bool (kind_placed earlier) p
 -- whether the variables, constants and units that a target names are earlier ones
 abbrev pub target_placed : Earlier → NamedTarget → Bool
 target_placed earlier = fold-NamedTarget Bool Bool Bool Bool (kind_placed earlier) part_placed expr_layer_placed (target_layer_placed earlier)
-
--- the same of a part of a target
-abbrev pub step_placed : Earlier → NamedPart → Bool
-step_placed earlier = fold-NamedPart Bool Bool Bool Bool (kind_placed earlier) part_placed expr_layer_placed (target_layer_placed earlier)
 
 -- whether the variable with which a path begins is an earlier one
 abbrev pub path_placed : Earlier → NamedPath → Bool
@@ -218,14 +211,6 @@ stmt_layer_step s = s.what
 -- from what is declared before a statement to what is declared before the next
 abbrev pub stmt_step : List NamedVar → List NamedConstant → NamedStmt → Step
 stmt_step vars constants = fold-NamedStmt Step Step Step Step (stmt_kind_step vars constants) arm_step branch_step stmt_layer_step
-
--- the same of an arm
-abbrev pub step_of_arm : List NamedVar → List NamedConstant → NamedArm → Step
-step_of_arm vars constants = fold-NamedArm Step Step Step Step (stmt_kind_step vars constants) arm_step branch_step stmt_layer_step
-
--- the same of a branch
-abbrev pub step_of_branch : List NamedVar → List NamedConstant → NamedBranch → Step
-step_of_branch vars constants = fold-NamedBranch Step Step Step Step (stmt_kind_step vars constants) arm_step branch_step stmt_layer_step
 
 -- ---- items
 

@@ -4,8 +4,6 @@ use Rattle.bl_tree.specs.Reduce.{joined}
 use Rattle.bl_named.specs.declared.expr.NamedExpr.{NamedExpr, out-NamedExpr}
 use Rattle.bl_named.specs.declared.item.NamedUnit.{NamedUnit}
 use Rattle.bl_named.specs.declared.named.Named.{Named}
-use Rattle.bl_named.specs.declared.stmt.NamedArm.{NamedArm, fold-NamedArm}
-use Rattle.bl_named.specs.declared.stmt.NamedBranch.{NamedBranch, fold-NamedBranch}
 use Rattle.bl_named.specs.declared.stmt.NamedStmt.{NamedStmt, fold-NamedStmt}
 use Rattle.bl_named.specs.declared.stmt.NamedStmtKind.TheOpen.{NamedStmtKind-F, NamedArm-F, NamedBranch-F, NamedStmt-F}
 
@@ -48,14 +46,6 @@ stmt_layer_starts s = s.place.start ∷ s.what
 -- where a statement, those in it and the conditions of its loops begin, in source order
 abbrev pub starts_of : NamedStmt → Starts
 starts_of = fold-NamedStmt Starts Starts Starts Starts stmt_kind_starts arm_starts branch_starts stmt_layer_starts
-
--- the same of an arm and of a branch
-abbrev pub starts_of_arm : NamedArm → Starts
-starts_of_arm = fold-NamedArm Starts Starts Starts Starts stmt_kind_starts arm_starts branch_starts stmt_layer_starts
-
--- where the statements in a branch begin, and the conditions of loops there
-abbrev pub starts_of_branch : NamedBranch → Starts
-starts_of_branch = fold-NamedBranch Starts Starts Starts Starts stmt_kind_starts arm_starts branch_starts stmt_layer_starts
 
 -- where the statements of a unit and the conditions of its loops begin
 abbrev pub unit_starts : NamedUnit → Starts

@@ -75,17 +75,8 @@ use Rattle.bl_names.proofs.StillLemmas.{
   still_use,
   still_value,
 }
-use Rattle.bl_names_laws.specs.Apart.{
-  arm_naming,
-  branch_naming,
-  naming_of,
-  naming_of_arm,
-  naming_of_branch,
-  optional_roots,
-  roots_in,
-  stmt_kind_naming,
-  stmt_layer_naming,
-}
+use Rattle.bl_names_laws.specs.Apart.{arm_naming, branch_naming, naming_of, optional_roots, roots_in, stmt_kind_naming, stmt_layer_naming}
+use Rattle.bl_names_laws.specs.inner.Apart.{naming_of_arm, naming_of_branch}
 use Rattle.bl_names_laws.proofs.Along.{all_append}
 use Rattle.bl_names_laws.proofs.ExprRoots.{arguments_only, expr_only, optional_only, taker_only, target_only}
 use Rattle.bl_names_laws.proofs.Foreign.{all_weaker, apart_from_all, begins_at, between, from, outside, pair, together_append}

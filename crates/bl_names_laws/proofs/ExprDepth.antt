@@ -16,7 +16,8 @@ use Rattle.bl_raw.specs.Depths as raw
 use Rattle.bl_scopes.specs.Scopes.{Scopes}
 use Rattle.bl_names.specs.Naming.{named_expr, named_step, named_target, position}
 use Rattle.bl_names.proofs.RawExprInduction.{Cases, OfIndex, expr, induct, induct_target}
-use Rattle.bl_names_laws.specs.Depths.{expr_depth, kind_depth, optional_depth, part_depth, step_depth, target_depth, target_layer_depth}
+use Rattle.bl_names_laws.specs.Depths.{expr_depth, kind_depth, optional_depth, part_depth, target_depth, target_layer_depth}
+use Rattle.bl_names_laws.specs.inner.Depths.{step_depth}
 use Rattle.bl_names_laws.proofs.ExprMade.{NamedLayer, RawLayer, expr_made, field_made, index_made, named_parts, target_made}
 
 -- ---- the depth of a raw expression by its parts

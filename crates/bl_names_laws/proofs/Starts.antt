@@ -11,19 +11,8 @@ use Rattle.bl_named.specs.declared.expr.NamedTarget.{NamedTarget}
 use Rattle.bl_named.specs.declared.stmt.NamedStmtKind.{out-NamedStmtKind}
 use Rattle.bl_named.specs.declared.stmt.NamedStmtKind.TheOpen.{NamedStmtKind-F}
 use Rattle.bl_named.specs.declared.stmt.NamedStmtKind.TheVariants as what
-use Rattle.bl_named.specs.Starts.{
-  Starts,
-  all_starts,
-  arm_starts,
-  branch_starts,
-  start_of,
-  starts_of,
-  starts_of_arm,
-  starts_of_branch,
-  stmt_kind_starts,
-  stmt_layer_starts,
-  unit_starts,
-}
+use Rattle.bl_named.specs.Starts.{Starts, all_starts, arm_starts, branch_starts, start_of, starts_of, stmt_kind_starts, stmt_layer_starts, unit_starts}
+use Rattle.bl_named.specs.inner.Starts.{starts_of_arm, starts_of_branch}
 use Rattle.bl_raw.specs.declared.expr.RawExpr.{RawExpr, fold_out-RawExpr, out-RawExpr}
 use Rattle.bl_raw.specs.declared.expr.RawExprKind.{RawExprKind, fold-RawExprKind}
 use Rattle.bl_raw.specs.declared.item.RawItem.{RawItem}

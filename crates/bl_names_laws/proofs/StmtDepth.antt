@@ -35,7 +35,8 @@ use Rattle.bl_names.specs.Named.{
 use Rattle.bl_names.specs.Naming.{named_expr, named_path, named_target, position}
 use Rattle.bl_names.proofs.PieceLemmas.{arm_is, branch_is, parts, stmt_is}
 use Rattle.bl_names.proofs.RawStmtInduction.{Cases, induct, stmt}
-use Rattle.bl_names_laws.specs.Depths.{arm_depth, branch_depth, depth_of, depth_of_arm, depth_of_branch, is_shallow, stmt_kind_depth, stmt_layer_depth}
+use Rattle.bl_names_laws.specs.Depths.{arm_depth, branch_depth, depth_of, is_shallow, stmt_kind_depth, stmt_layer_depth}
+use Rattle.bl_names_laws.specs.inner.Depths.{depth_of_arm, depth_of_branch}
 use Rattle.bl_names_laws.specs.Keeps.{body_shallow}
 use Rattle.bl_names_laws.proofs.Along.{along_holds}
 use Rattle.bl_names_laws.proofs.ExprDepth.{expr_same, inputs_same, optional_same, target_same}

@@ -4,12 +4,9 @@ use Rattle.bl_tree.specs.Apart.{Naming, Roots, and_naming, declares, naming, of_
 use Rattle.bl_tree.specs.Reduce.{joined}
 use Rattle.bl_named.specs.declared.expr.NamedExpr.{NamedExpr, fold-NamedExpr}
 use Rattle.bl_named.specs.declared.expr.NamedExprKind.TheOpen.{NamedExprKind-F, NamedPart-F, NamedExpr-F, NamedTarget-F}
-use Rattle.bl_named.specs.declared.expr.NamedPart.{NamedPart, fold-NamedPart}
 use Rattle.bl_named.specs.declared.expr.NamedTarget.{NamedTarget, fold-NamedTarget}
 use Rattle.bl_named.specs.declared.expr.Root.{Root}
 use Rattle.bl_named.specs.declared.expr.Root.TheVariants as root
-use Rattle.bl_named.specs.declared.stmt.NamedArm.{NamedArm, fold-NamedArm}
-use Rattle.bl_named.specs.declared.stmt.NamedBranch.{NamedBranch, fold-NamedBranch}
 use Rattle.bl_named.specs.declared.stmt.NamedPath.{NamedPath}
 use Rattle.bl_named.specs.declared.stmt.NamedStmt.{NamedStmt, fold-NamedStmt}
 use Rattle.bl_named.specs.declared.stmt.NamedStmtKind.TheOpen.{NamedStmtKind-F, NamedArm-F, NamedBranch-F, NamedStmt-F}
@@ -50,10 +47,6 @@ roots_in = fold-NamedExpr Roots Roots Roots Roots kind_roots part_roots expr_lay
 -- the variables that a target names, its indices included
 abbrev pub roots_in_target : NamedTarget → Roots
 roots_in_target = fold-NamedTarget Roots Roots Roots Roots kind_roots part_roots expr_layer_roots target_layer_roots
-
--- the variables that a part of a target names
-abbrev pub roots_in_step : NamedPart → Roots
-roots_in_step = fold-NamedPart Roots Roots Roots Roots kind_roots part_roots expr_layer_roots target_layer_roots
 
 -- a path names its root alone, as it has no indices
 abbrev pub roots_in_path : NamedPath → Roots
@@ -104,14 +97,6 @@ stmt_layer_naming s = s.what
 -- the variables that a statement declares, those that it names, and whether its branches keep apart
 abbrev pub naming_of : NamedStmt → Naming
 naming_of = fold-NamedStmt Naming Naming Naming Naming stmt_kind_naming arm_naming branch_naming stmt_layer_naming
-
--- the same of an arm
-abbrev pub naming_of_arm : NamedArm → Naming
-naming_of_arm = fold-NamedArm Naming Naming Naming Naming stmt_kind_naming arm_naming branch_naming stmt_layer_naming
-
--- the same of a branch
-abbrev pub naming_of_branch : NamedBranch → Naming
-naming_of_branch = fold-NamedBranch Naming Naming Naming Naming stmt_kind_naming arm_naming branch_naming stmt_layer_naming
 
 -- whether the branches of every `cobegin` of the statement keep apart
 abbrev pub is_apart : NamedStmt → Bool

@@ -4,10 +4,7 @@ use Rattle.bl_tree.specs.Depths.{Depth, leaf, of_all, block}
 use Rattle.bl_tree.specs.Reduce.{greatest}
 use Rattle.bl_named.specs.declared.expr.NamedExpr.{NamedExpr, fold-NamedExpr}
 use Rattle.bl_named.specs.declared.expr.NamedExprKind.TheOpen.{NamedExprKind-F, NamedPart-F, NamedExpr-F, NamedTarget-F}
-use Rattle.bl_named.specs.declared.expr.NamedPart.{NamedPart, fold-NamedPart}
 use Rattle.bl_named.specs.declared.expr.NamedTarget.{NamedTarget, fold-NamedTarget}
-use Rattle.bl_named.specs.declared.stmt.NamedArm.{NamedArm, fold-NamedArm}
-use Rattle.bl_named.specs.declared.stmt.NamedBranch.{NamedBranch, fold-NamedBranch}
 use Rattle.bl_named.specs.declared.stmt.NamedStmt.{NamedStmt, fold-NamedStmt}
 use Rattle.bl_named.specs.declared.stmt.NamedStmtKind.TheOpen.{NamedStmtKind-F, NamedArm-F, NamedBranch-F, NamedStmt-F}
 
@@ -42,10 +39,6 @@ expr_depth = fold-NamedExpr ℕ ℕ ℕ ℕ kind_depth part_depth expr_layer_dep
 -- the most operators, casts, calls and indexes inside one another in a target
 abbrev pub target_depth : NamedTarget → ℕ
 target_depth = fold-NamedTarget ℕ ℕ ℕ ℕ kind_depth part_depth expr_layer_depth target_layer_depth
-
--- the same of a part of a target
-abbrev pub step_depth : NamedPart → ℕ
-step_depth = fold-NamedPart ℕ ℕ ℕ ℕ kind_depth part_depth expr_layer_depth target_layer_depth
 
 -- the depth of an expression, and 0 where there is none
 abbrev pub optional_depth : Option NamedExpr → ℕ
@@ -83,14 +76,6 @@ stmt_layer_depth s = s.what
 -- how deep the blocks of a statement are nested, and how deep the expressions in it
 abbrev pub depth_of : NamedStmt → Depth
 depth_of = fold-NamedStmt Depth Depth Depth Depth stmt_kind_depth arm_depth branch_depth stmt_layer_depth
-
--- the same of an arm
-abbrev pub depth_of_arm : NamedArm → Depth
-depth_of_arm = fold-NamedArm Depth Depth Depth Depth stmt_kind_depth arm_depth branch_depth stmt_layer_depth
-
--- the same of a branch
-abbrev pub depth_of_branch : NamedBranch → Depth
-depth_of_branch = fold-NamedBranch Depth Depth Depth Depth stmt_kind_depth arm_depth branch_depth stmt_layer_depth
 
 -- whether blocks nest at most 100 deep, that of the unit and empty ones included, and expressions at most 200 deep
 abbrev pub is_shallow : List NamedStmt → Bool

@@ -1,2 +1,4 @@
+pub mod Apart
+pub mod Depths
 pub mod Filled
 pub mod Leads

@@ -1,5 +1,5 @@
 //! What tells the statements of a body apart, and the nodes of its tick graph: plain statements with labels, on which the
-//! tick graph and the control trees are to stand (docs/LANGUAGE.md, "Tick graphs"; `specs/Plain.antt`, `Nodes.antt`). Also
+//! tick graph and the control trees stand (docs/LANGUAGE.md, "Tick graphs"; `specs/Plain.antt`, `Nodes.antt`). Also
 //! defined here: what a plain statement may write before its next pause and ever (`Writes.antt`), and the labels of steps
 //! (`Steps.antt`). There is no code here.
 //!

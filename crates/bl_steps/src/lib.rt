@@ -2,7 +2,7 @@
 //! and stepped (docs/LANGUAGE.md, "Control trees"). `actions` lists exactly these points, from left to right in source
 //! order (`Points.antt` of `bl_ctree`, `points`). `act` leaves exactly the tree and the store that the chosen one is to
 //! leave (`specs/Running.antt`, `stepped`); where its action traps, and after want of memory, all is as it was
-//! (`Acted`). `settled`, `ended` and `outs` tell how the tick stands. No command runs it yet.
+//! (`Acted`). `settled`, `ended` and `outs` tell how the tick stands.
 #![tactic(auto)]
 
 mod action;

@@ -1,9 +1,9 @@
 //! Programs driven over rows of inputs, and what is seen of their runs.
 
-ghost use Rattle.std.specs.Prelude.{◌≡◌, ◌<◌, slice_get};
+ghost use Rattle.std.specs.Prelude.{◌≡◌, ◌<◌, ◌^◌, length, slice_get};
+ghost use Rattle.bl_ctree.specs.Instances.{instances_of};
 ghost use Rattle.bl_steps.specs.Outputs.{count_of_outputs, outputs_of_unit};
 ghost use Rattle.bl_steps.specs.Running.{setting};
-ghost use Rattle.bl_steps_tests.specs.Few.{AreFew};
 
 use bl_eval::Did;
 use bl_steps::Tree;
@@ -156,7 +156,7 @@ pub fn run(
     order: Order,
     rows: &[&[i128]],
 ) -> Result<Seen, NoMemory>
-    requires { AreFew program.now.units program.now.entry }
+    requires { length (instances_of program.now.units program.now.entry) < 2 ^ 32 }
 {
     let mut seen = Seen {
         outs: List::new(alloc),

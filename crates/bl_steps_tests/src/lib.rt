@@ -8,8 +8,4 @@ mod drive;
 #[cfg(test)]
 mod effects;
 #[cfg(test)]
-mod few;
-#[cfg(test)]
-mod program;
-#[cfg(test)]
 mod tests;

@@ -2,8 +2,8 @@
 
 use crate::drive::{ORDERS, Order, Seen, Stand, run};
 use crate::effects::{Told, is_told};
-use crate::few::are_few;
-use crate::program::program_of;
+use bl_rules::accept;
+use bl_rules_laws::accepted_texts_have_few_instances;
 use bl_tree::NoMemory;
 use std::alloc::Global;
 
@@ -103,20 +103,18 @@ static CASES: [Case; 10] = [
     },
 ];
 
-/// What is seen of a text's program; nothing where there is none, or many activities run in it.
+/// What is seen of a text's program; nothing where there is none.
 fn seen_of(
     alloc: Global,
     text: &str,
     order: Order,
     rows: &[&[i128]],
 ) -> Result<Option<Seen>, NoMemory> {
-    let Some(program) = program_of(alloc, text.as_bytes()) else {
+    accepted_texts_have_few_instances();
+    let Ok(accepted) = accept(alloc, text.as_bytes()) else {
         return Ok(None);
     };
-    if !are_few(alloc, &program)? {
-        return Ok(None);
-    }
-    Ok(Some(run(alloc, &program, order, rows)?))
+    Ok(Some(run(alloc, accepted.program(), order, rows)?))
 }
 
 /// Whether a run in this order comes to what the case says.
@@ -220,7 +218,7 @@ fn actions_are_taken_in_their_order(rt: HostRuntime) -> Result<(), NoMemory> {
 
 /// An activity whose first statement is an `if`, one arm of which may end at once.
 const CHOOSING: &str = "struct S var a: int32 var b: int32 end
-activity A (s: S, c: bool)(o: int32, p: int32) if c then o = s.b else p = o await c end end
+activity A (s: S, c: bool)(o: int32, p: int32) if c then o = s.b else p = o await c end await c end
 @[EntryPoint] activity M ()(o: int32) await true end";
 
 static CHOICE: Told = Told {
@@ -231,9 +229,9 @@ static CHOICE: Told = Told {
 
 #[test]
 fn effects_are_told(rt: HostRuntime) -> Result<(), NoMemory> {
-    let Some(program) = program_of(rt.alloc(), CHOOSING.as_bytes()) else {
+    let Ok(accepted) = accept(rt.alloc(), CHOOSING.as_bytes()) else {
         return Err(NoMemory);
     };
-    assert!(rt; is_told(rt.alloc(), &program, &CHOICE)?);
+    assert!(rt; is_told(rt.alloc(), accepted.program(), &CHOICE)?);
     Ok(())
 }

@@ -1,13 +1,12 @@
 //! The values of one instance, and changes of them.
 
-ghost use Rattle.std.specs.Prelude.{◌≡◌, option_map, option_and_then, slice_get};
-ghost use Rattle.bl_eval.specs.Values.{value_at};
+ghost use Rattle.std.specs.Prelude.{◌≡◌, option_map};
 ghost use Rattle.bl_ctree.specs.Store.{put, value_among};
 ghost use Rattle.bl_store.specs.Own.{now_there};
 ghost use Rattle.bl_store.specs.Seen.{frame_of, location_of, side, store_of};
 
 use crate::home::Home;
-use crate::parts::{part_at, put_part};
+use bl_eval::parts;
 use bl_tree::Value;
 use bl_tree::slices::element;
 
@@ -38,19 +37,12 @@ fn values_at(frame: &Frame, moment: Moment) -> &[Value]
     }
 }
 
-/// What lies at the fields in one of the values.
-pub fn within<'a>(values: &'a [Value], root: usize, fields: &[u32]) -> Option<&'a Value>
-    ensures { option_map (λ found. found.now) result ≡ option_and_then (value_at fields.now) (slice_get values.now root) }
-{
-    part_at(element(values, root)?, fields)
-}
-
 /// The value at a home.
 pub fn find<'a>(frames: &'a [Frame], moment: Moment, at: &Home) -> Option<&'a Value>
     ensures { option_map (λ found. found.now) result ≡ value_among (side moment) (store_of frames.now) (location_of at.now) }
 {
     let frame = element(frames, at.instance as usize)?;
-    within(values_at(frame, moment), at.root, &at.fields)
+    parts::find(values_at(frame, moment), at.root, &at.fields)
 }
 
 /// The own value of a variable of an instance.
@@ -66,6 +58,6 @@ pub fn put(frames: &mut Vec<Frame>, at: &Home, value: Value)
 {
     let i = at.instance as usize;
     if i < frames.len() {
-        put_part(&mut frames[i].now, at.root, &at.fields, value);
+        parts::put(&mut frames[i].now, at.root, &at.fields, value);
     }
 }

@@ -19,10 +19,21 @@ pub struct Home {
     /// The variable.
     pub root: usize,
     /// Positions of fields, from the outermost inwards.
-    pub fields: List<u32>,
+    pub fields: List<usize>,
 }
 
-fn append(fields: &[u32], into: &mut List<u32>) -> Result<(), NoMemory>
+/// The positions of the fields of a static path. Fails only for want of memory, as what follows.
+pub fn positions_of(alloc: Global, fields: &[u32]) -> Result<List<usize>, NoMemory>
+    ensures { IfOk result (λ made. made ≡ fields.now) }
+{
+    let mut made = List::new(alloc);
+    for field in fields {
+        made.push(*field as usize)?;
+    }
+    Ok(made)
+}
+
+fn append(fields: &[usize], into: &mut List<usize>) -> Result<(), NoMemory>
     ensures { OnOk result (into.new ≡ into.old ++ fields.now) }
 {
     for field in fields {
@@ -31,12 +42,11 @@ fn append(fields: &[u32], into: &mut List<u32>) -> Result<(), NoMemory>
     Ok(())
 }
 
-/// Where the fields lead on from the caller's path. Fails only for want of memory, as what follows.
-fn under(alloc: Global, caller: u32, fields: &[u32], path: &Static) -> Result<Home, NoMemory>
+/// Where the fields lead on from the caller's path.
+fn under(alloc: Global, caller: u32, fields: &[usize], path: &Static) -> Result<Home, NoMemory>
     ensures { IfOk result (λ made. location_of made ≡ under caller fields.now path.now) }
 {
-    let mut all = List::new(alloc);
-    append(&path.fields, &mut all)?;
+    let mut all = positions_of(alloc, &path.fields)?;
     append(fields, &mut all)?;
     Ok(Home {
         instance: caller,
@@ -95,17 +105,14 @@ pub fn home_of(
     w: &Setting,
     i: u32,
     root: usize,
-    fields: &[u32],
+    fields: List<usize>,
 ) -> Result<Home, NoMemory>
-    ensures { IfOk result (λ made. location_of made
-        ≡ home (setting_in w.now) (record { instance = i; path = record { root = root; fields = fields.now } })) }
+    ensures { IfOk result (λ made. location_of made ≡ home (setting_in w.now) (record { instance = i; path = record { root = root; fields = fields } })) }
 {
-    let mut own = List::new(alloc);
-    append(fields, &mut own)?;
     let mut at = Home {
         instance: i,
         root,
-        fields: own,
+        fields,
     };
     let depth = depth_at(w, i);
     for _ in 0..depth {
@@ -128,12 +135,13 @@ pub fn append_homes(
     ensures { OnOk result (map location_of into.new ≡ map location_of into.old ++ homes (setting_in w.now) i paths.now) }
 {
     for path in paths {
-        into.push(home_of(alloc, w, i, path.root as usize, &path.fields)?)?;
+        let fields = positions_of(alloc, &path.fields)?;
+        into.push(home_of(alloc, w, i, path.root as usize, fields)?)?;
     }
     Ok(())
 }
 
-fn is_front(a: &[u32], b: &[u32]) -> bool
+fn is_front(a: &[usize], b: &[usize]) -> bool
     ensures { result ≡ is_front a.now b.now }
 {
     for k in 0..a.len() {

@@ -12,7 +12,6 @@ pub mod frame;
 pub mod home;
 mod index;
 mod naming;
-mod parts;
 pub mod perform;
 pub mod setting;
 pub mod ticks;

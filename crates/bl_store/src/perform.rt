@@ -14,15 +14,15 @@ ghost use Rattle.bl_store.specs.Own.{now_there, with_value_before};
 ghost use Rattle.bl_store.specs.Seen.{location_of, seen_by, setting_in, store_of};
 
 use crate::frame::{Frame, now_at, put};
-use crate::home::{Home, home_of};
+use crate::home::{Home, home_of, positions_of};
 use crate::naming::{all_named, named, named_by_act};
-use crate::parts::with_part;
 use crate::setting::Setting;
 use crate::view::{View, look};
 use crate::writing::{put_all, puts, set_before, set_inputs, set_result};
 use bl_ctree::paths::statics_of;
 use bl_effects::sets::set_of;
 use bl_effects::static_of;
+use bl_eval::parts::with_part;
 use bl_eval::{Did, Got, act, copy, value};
 use bl_tree::slices::element;
 use bl_tree::tree::{Expr, Path, Stmt, StmtKind};
@@ -244,7 +244,7 @@ fn declares(
             Ok(Did::Done)
         }
         Some(value) => {
-            let at = home_of(alloc, w, i, k as usize, &[])?;
+            let at = home_of(alloc, w, i, k as usize, List::new(alloc))?;
             let value = copy(alloc, value)?;
             declare(alloc, frames, i as usize, k as usize, &at, value)
         }
@@ -367,7 +367,13 @@ fn gives(
         Some(value) => {
             let value = copy(alloc, value)?;
             let to = static_of(alloc, path)?;
-            let at = home_of(alloc, w, i, to.root as usize, &to.fields)?;
+            let at = home_of(
+                alloc,
+                w,
+                i,
+                to.root as usize,
+                positions_of(alloc, &to.fields)?,
+            )?;
             put(frames, &at, value);
             Ok(Did::Done)
         }

@@ -33,7 +33,7 @@ fn variable(
 ) -> Result<Value, NoMemory>
     ensures { IfOk result (λ value. value ≡ variable_among (side moment) (setting_in w.now) (store_of frames.now) i k) }
 {
-    let at = home_of(alloc, w, i, k, &[])?;
+    let at = home_of(alloc, w, i, k, List::new(alloc))?;
     match find(frames, moment, &at) {
         Some(value) => copy(alloc, value),
         None => Ok(Value::Parts(List::new(alloc))),

@@ -6,10 +6,10 @@ ghost use Rattle.bl_ctree.specs.Store.{Store, put_path, put_written, with_frame,
 ghost use Rattle.bl_store.specs.Own.{with_before};
 ghost use Rattle.bl_store.specs.Seen.{put_all, setting_in, store_of};
 
-use crate::frame::{Frame, put, within};
-use crate::home::{Home, home_of};
+use crate::frame::{Frame, put};
+use crate::home::{Home, home_of, positions_of};
 use crate::setting::Setting;
-use bl_eval::copy;
+use bl_eval::{copy, parts};
 use bl_tree::{List, NoMemory, Static, Value};
 use std::alloc::Global;
 use std::mem;
@@ -32,10 +32,12 @@ fn append_put(
 ) -> Result<(), NoMemory>
     ensures { OnOk result ((store : Store) → put_all into.new store ≡ put_path (setting_in w.now) i variables.now path.now (put_all into.old store)) }
 {
-    match within(variables, path.root as usize, &path.fields) {
+    let root = path.root as usize;
+    let fields = positions_of(alloc, &path.fields)?;
+    match parts::find(variables, root, &fields) {
         None => Ok(()),
         Some(value) => {
-            let at = home_of(alloc, w, i, path.root as usize, &path.fields)?;
+            let at = home_of(alloc, w, i, root, fields)?;
             let value = copy(alloc, value)?;
             into.push(Put { at, value })?;
             Ok(())

@@ -34,18 +34,8 @@ use Rattle.bl_crun.specs.declared.tick.Tick.{Tick}
 use Rattle.bl_crun.specs.declared.tick.Tick.TheVariants as tick
 use Rattle.bl_io.specs.Held.{Appends}
 use Rattle.bl_rows.specs.Text.{line_text, text_of}
-use Rattle.bl_stream.specs.Reports.{
-  after_rows,
-  end_text,
-  if_row,
-  report_from,
-  report_header,
-  report_of,
-  text_from,
-  tick_text,
-  trace_from,
-  unless_trap,
-}
+use Rattle.bl_stream.specs.Reports.{after_rows, end_text, if_row, report_from, report_header, report_of, tick_text, trace_from, unless_trap}
+use Rattle.bl_stream.specs.inner.Reports.{text_from}
 use Rattle.bl_stream.specs.Streams.{AppendsFront}
 use Rattle.bl_stream.specs.declared.ticks.Report.{Report}
 use Rattle.bl_stream.specs.declared.ticks.Report.TheVariants.{Trace, Counts, Nothing}

@@ -1,14 +1,14 @@
 -- What a runner still does over rows, and what is written of it.
 use Rattle.std.specs.Prelude.{◌≡◌, ℕ, ◌+◌, ℤ, false, List, [], ◌∷◌, ◌++◌, codes, decimal}
+use Rattle.bl_tree.specs.declared.row.Trace.{Trace as TraceRows}
 use Rattle.bl_tree.specs.declared.row.Column.{Column}
 use Rattle.bl_tree.specs.declared.row.Last.TheVariants.{Open}
-use Rattle.bl_tree.specs.declared.row.Trace.{Trace as TraceRows}
 use Rattle.bl_cmeaning.specs.Cells.{outputs_of}
 use Rattle.bl_cmeaning.specs.Trace.{trace_after}
 use Rattle.bl_crun.specs.Running.{Running, after_tick, answer_of, count_after, reply_at, state_in, tick_at}
 use Rattle.bl_crun.specs.declared.tick.Tick.{Tick}
 use Rattle.bl_crun.specs.declared.tick.Tick.TheVariants as tick
-use Rattle.bl_rows.specs.Text.{header_text, last_text, line_text, lines_from}
+use Rattle.bl_rows.specs.Text.{header_text, line_text}
 use Rattle.bl_stream.specs.declared.ticks.Report.{Report}
 use Rattle.bl_stream.specs.declared.ticks.Report.TheVariants.{Trace, Counts, Nothing}
 
@@ -30,10 +30,6 @@ pub record HasRun (r : Running) (rows : List (List ℤ)) (now : Running) : Type 
   pub parts : now.parts ≡ r.parts
 
 -- ---- texts
-
--- the text of a trace behind its header, where its first row has this number
-abbrev pub text_from : ℕ → List Column → TraceRows → List ℕ
-text_from tick outs t = lines_from tick outs t.rows ++ last_text t.last
 
 -- the line of a tick's count: both numbers, and a line feed
 abbrev pub count_text : ℕ → ℕ → List ℕ

@@ -1,3 +1,4 @@
 pub mod Going
+pub mod Reports
 pub mod Taking
 pub mod Ticks

@@ -17,11 +17,13 @@ use Rattle.bl_top.specs.Exec.{
   ExecEnds,
   HasFile,
   Rejects,
+  TextStops,
   ill_formed,
   no_file,
   no_memory,
   ran,
   rejected,
+  stopped,
   too_long,
   too_many_cells,
   unread,
@@ -114,6 +116,17 @@ unless_rejected left built c text rows ended line fits kept why = elim why [
   | inr none ↦ rw (none.0, none.1) (built_want kept)
 ]
 
+built_stops : EachBehaves → (left : Option (List ℕ)) (built : List ℕ) (c : Call) (text rows : Word) (ended : Status) (line : List ℕ) →
+    IsTextOf left built → c.left text ≡ Some built → length built ≤ longest_text → TextStops (c.left text) (c.file text) ended line →
+    IsKept c.out.before c.out.after → BuiltEnds left c text rows ended line
+built_stops each left built c text rows ended line is stands fits (rejected bytes source rejects) kept =
+    let same = told_source (c.left text) built bytes stands source in
+    unless_rejected left built c text rows ended line fits kept
+    (built_rejected each (typed_of is.raw).structs (typed_of is.raw).units (typed_of is.raw).entry built ended line is.is
+    (subst (λ b. Rejects b ended line) (sym same) rejects))
+built_stops each left built c text rows _ _ is stands fits (unread risen) kept = built_unread risen kept
+built_stops each left built c text rows _ _ is stands fits want kept = built_want kept
+
 pub built_ends : OneBehaviour → EachBehaves → BytesFit → LinesFit → (left : Option (List ℕ)) (built : List ℕ) (c : Call) (text rows : Word)
     (ended : Status) (line : List ℕ) → IsTextOf left built → c.left text ≡ Some built → length built ≤ longest_text →
     ExecEnds c text rows ended line → BuiltEnds left c text rows ended line
@@ -121,10 +134,5 @@ built_ends one each fit so_far left built c text rows ended line is stands fits 
     let same = told_source (c.left text) built bytes stands source in
     built_ran (course_by behaviour)
     (built_runs one fit so_far left built behaviour is (subst (λ b. Behaves b behaviour) (sym same) loads.behaves)) between behind streams
-built_ends one each fit so_far left built c text rows ended line is stands fits (rejected bytes source rejects kept) =
-    let same = told_source (c.left text) built bytes stands source in
-    unless_rejected left built c text rows ended line fits kept
-    (built_rejected each (typed_of is.raw).structs (typed_of is.raw).units (typed_of is.raw).entry built ended line is.is
-    (subst (λ b. Rejects b ended line) (sym same) rejects))
-built_ends one each fit so_far left built c text rows _ _ is stands fits (unread risen kept) = built_unread risen kept
-built_ends one each fit so_far left built c text rows _ _ is stands fits (want kept) = built_want kept
+built_ends one each fit so_far left built c text rows ended line is stands fits (stopped why kept) =
+    built_stops each left built c text rows ended line is stands fits why kept

@@ -81,6 +81,23 @@ pub reads_first : (file : FileRead) (files : List FileRead) (before after : Word
     StandsWithin file.limit (before file.name) (after file.name) → KeepsOthers file.name before after → Reads (file ∷ files) before after
 reads_first file files before after within others = (after, within, others, reads_nothing files after)
 
+-- two files, and then nothing
+pub reads_two : (file second : FileRead) (files : List FileRead) (before between after : Word → Option (List ℕ)) →
+    StandsWithin file.limit (before file.name) (between file.name) → KeepsOthers file.name before between →
+    StandsWithin second.limit (between second.name) (after second.name) → KeepsOthers second.name between after →
+    Reads (file ∷ second ∷ files) before after
+reads_two file second files before between after within others more kept =
+    (between, within, others, reads_first second files between after more kept)
+
+-- three files
+pub reads_three : (file second third : FileRead) (before between behind after : Word → Option (List ℕ)) →
+    StandsWithin file.limit (before file.name) (between file.name) → KeepsOthers file.name before between →
+    StandsWithin second.limit (between second.name) (behind second.name) → KeepsOthers second.name between behind →
+    StandsWithin third.limit (behind third.name) (after third.name) → KeepsOthers third.name behind after →
+    Reads (file ∷ second ∷ third ∷ []) before after
+reads_three file second third before between behind after within others more kept last rest =
+    (between, within, others, reads_two second third [] between behind after more kept last rest)
+
 -- one file, and then another
 pub reads_both : (file second : FileRead) (before between after : Word → Option (List ℕ)) →
     StandsWithin file.limit (before file.name) (between file.name) → KeepsOthers file.name before between →

@@ -1,9 +1,8 @@
--- How `exec` ends.
+-- How jobs on C texts end.
 use Rattle.std.proofs.Common.{◌≡◌, ◌≢◌, ◌∙◌, ℕ, ◌≤◌, ◌++◌, List, take, length, refl, sym, ap, subst, inl, inr, arith}
 use Rattle.std.proofs.lemmas.Bool.{cases_lt}
 use Rattle.std.specs.Prelude.{Option}
 use Rattle.bl_cmeaning.specs.Parts.{Parts, parts_of}
-use Rattle.bl_cmeaning.specs.Sizes.{cells_needed}
 use Rattle.bl_cparse.specs.HasPlaces.{HasPlaces}
 use Rattle.bl_cparse.specs.Places.{LeavesPrelude, RefusesAt, RefusesNone, SpellsNone}
 use Rattle.bl_cparse.specs.declared.refusal.CRefusal.{CRefusal}
@@ -16,33 +15,46 @@ use Rattle.bl_ctext.specs.Prelude.{prelude}
 use Rattle.bl_ctext.specs.SpellsC.{SpellsC}
 use Rattle.bl_ctext.specs.declared.file.CFile.{CFile}
 use Rattle.bl_io.specs.Left.{GivesUpTo, IsKept}
-use Rattle.bl_top.specs.Calls.{Call, HasRisen}
+use Rattle.bl_top.specs.Calls.{Call, Count, HasRisen, Output}
+use Rattle.bl_top.specs.Bound.{BoundEnds, TellsBounds, costs_told, stopped as bound_stopped}
+use Rattle.bl_top.specs.Build.{Writes}
 use Rattle.bl_top.specs.Exec.{
-  ExecEnds,
   HasFile,
   Loads,
   Rejects,
+  TextEnds,
+  TextStops,
   ill_formed,
   no_file,
   ran,
   rejected,
   no_memory,
+  stopped,
   too_long,
   too_many_cells,
   unread,
   want,
 }
 use Rattle.bl_top.specs.inner.Outcomes.{IsEndAtLoad, IsEndAtText, IsTold, chosen_line, line_in}
-use Rattle.bl_top.specs.Notes.{not_subset_line, too_large_line}
+use Rattle.bl_top.specs.inner.Texts.{HasBounds, HasLoaded, IsFileIn, IsFileOf}
+use Rattle.bl_top.specs.Notes.{line_of, not_subset_line, too_large_line}
 use Rattle.bl_top.specs.Reads.{LeftBehind, longest_text, text_limit}
 use Rattle.bl_top.specs.Rows.{Streams}
-use Rattle.bl_top.specs.Traces.{course_by}
 use Rattle.bl_top.specs.declared.outcome.Outcome.{Outcome}
 use Rattle.bl_top.specs.declared.status.Status.{Status}
 use Rattle.bl_top.specs.declared.status.Status.TheVariants as status
 use Rattle.bl_top.proofs.Cuts.{front_within, sourced, whole_of_short}
+use Rattle.bl_top.proofs.Ends.{writes_as}
 use Rattle.bl_top.proofs.Streams.{streams_from}
+use Rattle.bl_bound.specs.Text.{bound_text}
+use Rattle.bl_bound_laws.specs.Bounded.{IsBounded}
+use Rattle.bl_cmeaning_laws_places.specs.Bytes.{Behaves}
+use Rattle.bl_stream.specs.Streams.{Course}
 use Rattle.bl_words.specs.Jobs.{Word}
+
+-- however bytes that spell a file behave, no tick executes more statements than the bound
+abbrev pub EachBounded : CFile → Type 0
+EachBounded file = (bytes : List ℕ) (behaviour : Behaviour) → SpellsC file bytes → Behaves bytes behaviour → IsBounded behaviour
 
 -- ---- a text that isn't run
 
@@ -73,28 +85,21 @@ text_rejected text (refusal.NotSubset at) outcome fits none inside behind is =
     (no_file at fits (record { none = none; inside = inside; behind = λ rest e. behind rest e none }))
 text_rejected text refusal.NoMemory outcome fits none inside behind is = rw is no_memory
 
-has_file : (text : List ℕ) (file : CFile) → length text ≤ longest_text → SpellsC file text → HasPlaces text file → HasFile text (parts_of file)
+abbrev has_file : (text : List ℕ) (file : CFile) → length text ≤ longest_text → SpellsC file text → HasPlaces text file → HasFile text (parts_of file)
 has_file text file fits spells placed = record { short = fits; spelled = file; spells = spells; placed = placed; parts = refl }
 
-pub file_rejected : (text : List ℕ) (file : CFile) (why : LoadFault) (outcome : Outcome) → length text ≤ longest_text →
-    SpellsC file text → HasPlaces text file → IsCause (parts_of file) why →
-    IsEndAtLoad why outcome → Rejects text outcome.status (line_in outcome)
-file_rejected text file (load.IllFormed at) outcome fits spells placed cause is =
-    told_as text status.NotSubset (not_subset_line at.start) outcome (λ own. refl) is
-    (ill_formed (parts_of file) at (has_file text file fits spells placed) cause)
-file_rejected text file (load.TooLarge cells) outcome fits spells placed cause is =
-    told_as text status.TooLarge (too_large_line cells) outcome (λ own. refl) is
-    (too_many_cells (parts_of file) cells (has_file text file fits spells placed) cause)
-file_rejected text file load.NoMemory outcome fits spells placed cause is = rw is no_memory
-
-pub file_loads : (text : List ℕ) (file : CFile) (ready : Parts) → length text ≤ longest_text → SpellsC file text →
-    HasPlaces text file → Runs (parts_of file) → ready ≡ parts_of file → Loads text (behaviour_of ready)
-file_loads text file ready fits spells placed runs same = record {
-  file = parts_of file;
-  has = has_file text file fits spells placed;
-  behaves = record { file = file; spells = spells; well_formed = runs.formed; is = ap behaviour_of same };
-  small = subst (λ parts. cells_needed parts ≤ 1000000) (sym same) runs.small;
-}
+abbrev file_loads : (text : List ℕ) (file : CFile) → IsFileIn text file → EachBounded file → Runs (parts_of file) →
+    Loads text (behaviour_of (parts_of file))
+file_loads text file is bounded runs =
+    let behaves : Behaves text (behaviour_of (parts_of file)) = record { file = file; spells = is.spells; well_formed = runs.formed; is = refl } in
+    record {
+      file = parts_of file;
+      has = has_file text file is.short is.spells is.placed;
+      is = refl;
+      behaves = behaves;
+      small = runs.small;
+      bounded = bounded text (behaviour_of (parts_of file)) is.spells behaves;
+    }
 
 -- ---- fronts of a text
 
@@ -109,34 +114,88 @@ whole_rejects whole got front _ _ (ill_formed file at has is) = rw (short_whole 
 whole_rejects whole got front _ _ (too_many_cells file cells has is) = rw (short_whole whole got front has.short) (too_many_cells file cells has is)
 whole_rejects whole got front _ _ no_memory = no_memory
 
-whole_loads : (whole got : List ℕ) (behaviour : Behaviour) → got ≡ take text_limit whole → Loads got behaviour → Loads whole behaviour
-whole_loads whole got behaviour front loads = subst (λ t. Loads t behaviour) (sym (short_whole whole got front loads.has.short)) loads
+whole_file : (whole got : List ℕ) (file : CFile) → got ≡ take text_limit whole → IsFileIn got file → IsFileIn whole file
+whole_file whole got file front is = subst (λ t. IsFileIn t file) (sym (short_whole whole got front is.short)) is
 
--- ---- the command
+-- ---- a job at its text
 
-pub exec_rejected : (c : Call) (text rows : Word) (got : List ℕ) (after : Option (List ℕ)) (ended : Status) (line : List ℕ) →
-    GivesUpTo text_limit (c.left text) got after → Rejects got ended line →
-    IsKept c.out.before c.out.after → ExecEnds c text rows ended line
-exec_rejected c text rows got after ended line read because kept =
-    let some = sourced text_limit (λ t. Rejects t ended line) (c.left text) got after read because
+pub file_of_source : (left : Option (List ℕ)) (got : List ℕ) (after : Option (List ℕ)) (file : CFile) → GivesUpTo text_limit left got after →
+    IsFileIn got file → IsFileOf left file
+file_of_source left got after file read is =
+    let some = sourced text_limit (λ t. IsFileIn t file) left got after read is (λ whole front. whole_file whole got file front is) in
+    record { text = some.0; of_source = some.1.0; is = some.1.1 }
+
+pub stops_rejected : (left : Option (List ℕ)) (count : Count) (got : List ℕ) (after : Option (List ℕ)) (ended : Status) (line : List ℕ) →
+    GivesUpTo text_limit left got after → Rejects got ended line → TextStops left count ended line
+stops_rejected left count got after ended line read because =
+    let some = sourced text_limit (λ t. Rejects t ended line) left got after read because
     (λ whole front. whole_rejects whole got front ended line because) in
-    rejected some.0 some.1.0 some.1.1 kept
+    rejected some.0 some.1.0 some.1.1
 
-pub exec_ran : (c : Call) (text rows : Word) (got : List ℕ) (behaviour : Behaviour) (between : Word → Option (List ℕ)) (second : ℕ)
-    (ended : Status) (line : List ℕ) → GivesUpTo text_limit (c.left text) got (between text) →
-    Loads got behaviour → LeftBehind text_limit text c.left between → (c.file rows).before ≤ second →
-    Streams (course_by behaviour) (between rows) (c.rest rows) (record { before = second; after = (c.file rows).after }) c.out ended
-    line → ExecEnds c text rows ended line
-exec_ran c text rows got behaviour between second ended line read loads behind below streams =
-    let some = sourced text_limit (λ t. Loads t behaviour) (c.left text) got (between text) read loads
-    (λ whole front. whole_loads whole got behaviour front loads) in
-    ran some.0 behaviour some.1.0 some.1.1 between behind
-    (streams_from (course_by behaviour) (between rows) (c.rest rows) (c.file rows).before second (c.file rows).after c.out ended line below streams)
+pub stops_unread : (left : Option (List ℕ)) (count : Count) (ended : Status) (own : List ℕ) → ended ≡ status.ReadFault → HasRisen count →
+    TextStops left count ended (chosen_line ended own)
+stops_unread left count ended own e risen = rw e (unread risen)
 
-pub exec_unread : (c : Call) (text rows : Word) (ended : Status) (own : List ℕ) → ended ≡ status.ReadFault →
-    HasRisen (c.file text) → IsKept c.out.before c.out.after → ExecEnds c text rows ended (chosen_line ended own)
-exec_unread c text rows ended own e risen kept = rw e (unread risen kept)
+pub stops_wanting : (left : Option (List ℕ)) (count : Count) (ended : Status) (own : List ℕ) → ended ≡ status.NoMemory →
+    TextStops left count ended (chosen_line ended own)
+stops_wanting left count ended own e = rw e want
 
-pub exec_wants : (c : Call) (text rows : Word) (ended : Status) (own : List ℕ) → ended ≡ status.NoMemory →
-    IsKept c.out.before c.out.after → ExecEnds c text rows ended (chosen_line ended own)
-exec_wants c text rows ended own e kept = rw e (want kept)
+load_rejects : (text : List ℕ) (file : CFile) (why : LoadFault) (outcome : Outcome) → IsFileIn text file → IsCause (parts_of file) why →
+    IsEndAtLoad why outcome → Rejects text outcome.status (line_in outcome)
+load_rejects text file (load.IllFormed at) outcome is cause told =
+    told_as text status.NotSubset (not_subset_line at.start) outcome (λ own. refl) told
+    (ill_formed (parts_of file) at (has_file text file is.short is.spells is.placed) cause)
+load_rejects text file (load.TooLarge cells) outcome is cause told =
+    told_as text status.TooLarge (too_large_line cells) outcome (λ own. refl) told
+    (too_many_cells (parts_of file) cells (has_file text file is.short is.spells is.placed) cause)
+load_rejects text file load.NoMemory outcome is cause told = rw told no_memory
+
+pub stops_at_load : (left : Option (List ℕ)) (count : Count) (file : CFile) (why : LoadFault) (outcome : Outcome) → IsFileOf left file →
+    IsCause (parts_of file) why → IsEndAtLoad why outcome → TextStops left count outcome.status (line_in outcome)
+stops_at_load left count file why outcome of cause told = rejected of.text of.of_source (load_rejects of.text file why outcome of.is cause told)
+
+pub has_loaded : (left : Option (List ℕ)) (file : CFile) (ready : Parts) → IsFileOf left file → EachBounded file → Runs (parts_of file) →
+    ready ≡ parts_of file → HasLoaded left ready
+has_loaded left file ready of bounded runs same = subst (HasLoaded left) (sym same) (record {
+  text = of.text;
+  of_source = of.of_source;
+  loads = file_loads of.text file of.is bounded runs;
+  is = refl;
+})
+
+pub has_bounds : (left : Option (List ℕ)) (file : CFile) (written : List ℕ) → IsFileOf left file → EachBounded file → Runs (parts_of file) →
+    written ≡ bound_text file.funcs → HasBounds left written
+has_bounds left file written of bounded runs told = record {
+  text = of.text;
+  of_source = of.of_source;
+  tells = record { behaviour = behaviour_of (parts_of file); loads = file_loads of.text file of.is bounded runs; told = told };
+}
+
+-- ---- the commands
+
+pub text_ran : (c : Call) (text rows : Word) (course : Behaviour → Course) (parts : Parts) (between : Word → Option (List ℕ)) (second : ℕ)
+    (ended : Status) (line : List ℕ) → HasLoaded (c.left text) parts → LeftBehind text_limit text c.left between → (c.file rows).before ≤ second →
+    Streams (course (behaviour_of parts)) (between rows) (c.rest rows) (record { before = second; after = (c.file rows).after }) c.out ended line →
+    TextEnds c text rows course ended line
+text_ran c text rows course parts between second ended line has behind below streams =
+    ran has.text (behaviour_of parts) has.of_source has.loads between behind
+    (streams_from (course (behaviour_of parts)) (between rows) (c.rest rows) (c.file rows).before second (c.file rows).after c.out ended line below
+    streams)
+
+pub text_stopped : (c : Call) (text rows : Word) (course : Behaviour → Course) (ended : Status) (line : List ℕ) →
+    TextStops (c.left text) (c.file text) ended line → IsKept c.out.before c.out.after → TextEnds c text rows course ended line
+text_stopped c text rows course ended line stops kept = stopped stops kept
+
+bounds_written : (text : List ℕ) (out : Output) (ended : Status) (written : List ℕ) → TellsBounds text written → Writes (λ w. w ≡ written) out ended →
+    Writes (TellsBounds text) out ended
+bounds_written text out ended written tells writes =
+    writes_as (λ w. w ≡ written) (TellsBounds text) out ended (λ w same. subst (TellsBounds text) (sym same) tells) writes
+
+pub bound_told : (c : Call) (text : Word) (written : List ℕ) (ended : Status) (line : List ℕ) → HasBounds (c.left text) written →
+    Writes (λ w. w ≡ written) c.out ended → line ≡ line_of ended → BoundEnds c text ended line
+bound_told c text written ended line has writes same =
+    rw same (costs_told has.text has.of_source (bounds_written has.text c.out ended written has.tells writes))
+
+pub bound_stops : (c : Call) (text : Word) (ended : Status) (line : List ℕ) → TextStops (c.left text) (c.file text) ended line →
+    IsKept c.out.before c.out.after → BoundEnds c text ended line
+bound_stops c text ended line stops kept = bound_stopped stops kept

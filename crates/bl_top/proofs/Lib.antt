@@ -6,6 +6,7 @@ pub mod Ends
 pub mod Execs
 pub mod Fronts
 pub mod Lines
+pub mod Saves
 pub mod Streams
 pub mod Texts
 pub mod Walks

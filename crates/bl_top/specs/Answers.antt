@@ -1,16 +1,19 @@
 -- How the job that words ask for ends, and so a call.
 use Rattle.std.specs.Prelude.{ℕ, List, Option, Some, None}
 use Rattle.bl_io.specs.Left.{IsKept}
+use Rattle.bl_top.specs.Bound.{BoundEnds}
 use Rattle.bl_top.specs.Build.{BuildEnds}
 use Rattle.bl_top.specs.Calls.{Call}
 use Rattle.bl_top.specs.Check.{CheckEnds}
+use Rattle.bl_top.specs.Count.{CountEnds}
 use Rattle.bl_top.specs.Exec.{ExecEnds}
 use Rattle.bl_top.specs.Notes.{Written, line_of}
 use Rattle.bl_top.specs.Run.{RunEnds}
+use Rattle.bl_top.specs.Save.{ResumeEnds, SaveEnds, SaveFromEnds}
 use Rattle.bl_top.specs.declared.status.Status.{Status}
 use Rattle.bl_top.specs.declared.status.Status.TheVariants as status
 use Rattle.bl_top.specs.Walk.{WalkEnds}
-use Rattle.bl_words.specs.Jobs.{JobSpec, Word, build, check, exec, job_of, run, walk}
+use Rattle.bl_words.specs.Jobs.{JobSpec, Word, bound, build, check, count, exec, job_of, resume, run, save, save_from, walk}
 
 -- the status with which a job ends, with its whole cause and with what grew on `out`, and all lines that it has for `notes`, that of
 -- the status last
@@ -21,6 +24,13 @@ pub data Answers (c : Call) : Option JobSpec → Status → List ℕ → Type 0 
   walks : {source rows : Word} {seed : ℕ} {ended : Status} {lines : List ℕ} → WalkEnds c source rows seed ended lines →
       Answers c (Some (walk source rows seed)) ended lines
   execs : {text rows : Word} {ended : Status} {lines : List ℕ} → ExecEnds c text rows ended lines → Answers c (Some (exec text rows)) ended lines
+  bounds : {text : Word} {ended : Status} {lines : List ℕ} → BoundEnds c text ended lines → Answers c (Some (bound text)) ended lines
+  counts : {text rows : Word} {ended : Status} {lines : List ℕ} → CountEnds c text rows ended lines → Answers c (Some (count text rows)) ended lines
+  saves : {text rows : Word} {ended : Status} {lines : List ℕ} → SaveEnds c text rows ended lines → Answers c (Some (save text rows)) ended lines
+  saves_from : {text state rows : Word} {ended : Status} {lines : List ℕ} → SaveFromEnds c text state rows ended lines →
+      Answers c (Some (save_from text state rows)) ended lines
+  resumes : {text state rows : Word} {ended : Status} {lines : List ℕ} → ResumeEnds c text state rows ended lines →
+      Answers c (Some (resume text state rows)) ended lines
   -- the words ask for no job
   no_job : IsKept c.out.before c.out.after → Answers c None status.Usage (line_of status.Usage)
   -- memory was refused before they were read

@@ -1,8 +1,10 @@
 pub mod Answers
+pub mod Bound
 pub mod Build
 pub mod Built
 pub mod Calls
 pub mod Check
+pub mod Count
 pub mod Exec
 pub mod inner
 pub mod Notes
@@ -10,6 +12,7 @@ pub mod Reads
 pub mod Refusals
 pub mod Rows
 pub mod Run
+pub mod Save
 pub mod Sources
 pub mod Traces
 pub mod Walk

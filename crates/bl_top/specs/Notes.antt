@@ -19,6 +19,8 @@ code_of status.NoMemory = 7
 code_of status.NotSubset = 8
 code_of status.TooLarge = 11
 code_of status.Unbuilt = 12
+code_of status.SaveEnded = 14
+code_of status.BadState = 15
 
 -- ---- lines, each with its line feed
 
@@ -35,6 +37,8 @@ line_of status.NoMemory = codes "no memory" ++ 10 ∷ []
 line_of status.NotSubset = []
 line_of status.TooLarge = []
 line_of status.Unbuilt = codes "not built" ++ 10 ∷ []
+line_of status.SaveEnded = codes "ended" ++ 10 ∷ []
+line_of status.BadState = []
 
 -- words and a number
 abbrev pub numbered_line : List ℕ → ℕ → List ℕ
@@ -51,6 +55,10 @@ not_subset_line at = numbered_line (codes "not subset: at ") at
 -- how long a text is as far as it was read, or how many cells a file needs
 abbrev pub too_large_line : ℕ → List ℕ
 too_large_line size = numbered_line (codes "too large: ") size
+
+-- where bytes show that they are no saved state
+abbrev pub bad_state_line : ℕ → List ℕ
+bad_state_line at = numbered_line (codes "bad state: at ") at
 
 -- ---- on `notes`
 

@@ -2,7 +2,7 @@
 use Rattle.std.specs.Prelude.{◌≡◌, ℕ, List, [], ◌∷◌, drop, Option, Some, None, IfSome}
 use Rattle.bl_io.specs.Left.{IsKept, KeepsOthers, StandsFurther}
 use Rattle.bl_stream.specs.Streams.{ReadsLines}
-use Rattle.bl_words.specs.Jobs.{JobSpec, Word, build, check, exec, run, walk}
+use Rattle.bl_words.specs.Jobs.{JobSpec, Word, bound, build, check, count, exec, resume, run, save, save_from, walk}
 
 -- the greatest length of a source, and how far one is read: one byte past it
 abbrev pub longest_source : ℕ
@@ -19,6 +19,10 @@ longest_text = 67108864
 -- how many bytes of a C text are asked for: one more than it may have
 abbrev pub text_limit : ℕ
 text_limit = 67108865
+
+-- the same of a saved state, which has at most 1,000,000 cells of eight bytes behind ten others
+abbrev pub state_limit : ℕ
+state_limit = 8000011
 
 -- how many lines a file of rows may have: line 1,000,001 is bad at its first byte
 abbrev pub most_rows : ℕ
@@ -49,6 +53,10 @@ source_file name = record { name = name; limit = in_bytes source_limit }
 abbrev pub text_file : Word → FileRead
 text_file name = record { name = name; limit = in_bytes text_limit }
 
+-- the file of a saved state, with its limit
+abbrev pub state_file : Word → FileRead
+state_file name = record { name = name; limit = in_bytes state_limit }
+
 -- the file of rows, with its limit
 abbrev pub rows_file : Word → FileRead
 rows_file name = record { name = name; limit = in_lines most_rows }
@@ -61,6 +69,11 @@ files_read (Some (build source)) = source_file source ∷ []
 files_read (Some (run source rows)) = source_file source ∷ rows_file rows ∷ []
 files_read (Some (walk source rows seed)) = source_file source ∷ rows_file rows ∷ []
 files_read (Some (exec text rows)) = text_file text ∷ rows_file rows ∷ []
+files_read (Some (bound text)) = text_file text ∷ []
+files_read (Some (count text rows)) = text_file text ∷ rows_file rows ∷ []
+files_read (Some (save text rows)) = text_file text ∷ rows_file rows ∷ []
+files_read (Some (save_from text state rows)) = text_file text ∷ state_file state ∷ rows_file rows ∷ []
+files_read (Some (resume text state rows)) = text_file text ∷ state_file state ∷ rows_file rows ∷ []
 
 -- these files are read, one after the other and each within its limit, and no other is
 abbrev pub Reads : List FileRead → (Word → Option (List ℕ)) → (Word → Option (List ℕ)) → Type 0

@@ -1,3 +1,4 @@
 pub mod Outcomes
 pub mod Programs
+pub mod Texts
 pub mod Walked

@@ -9,12 +9,16 @@ ghost use Rattle.bl_top.specs.Reads.{Reads, files_read};
 ghost use Rattle.bl_words.specs.Jobs.{job_of};
 
 use crate::answer::Answer;
+use crate::bound::bound;
 use crate::build::build;
 use crate::check::check;
+use crate::count::count;
 use crate::exec::exec;
 use crate::notes::with_notes;
 use crate::outcome::Outcome;
+use crate::resume::resume;
 use crate::run::run;
+use crate::save::{save, save_from};
 use crate::status::Status;
 use crate::walk::walk;
 use bl_io::{Files, Sink};
@@ -84,6 +88,23 @@ fn answer<F: Files, O: Sink>(alloc: Global, words: &[String], files: &mut F, out
         Ok(Some(Job::Exec { text, rows })) => Answer::alone(
             alloc,
             exec(alloc, text, rows, files, out),
+        ),
+        Ok(Some(Job::Bound { text })) => Answer::alone(alloc, bound(alloc, text, files, out)),
+        Ok(Some(Job::Count { text, rows })) => Answer::alone(
+            alloc,
+            count(alloc, text, rows, files, out),
+        ),
+        Ok(Some(Job::Save { text, rows })) => Answer::alone(
+            alloc,
+            save(alloc, text, rows, files, out),
+        ),
+        Ok(Some(Job::SaveFrom { text, state, rows })) => Answer::alone(
+            alloc,
+            save_from(alloc, text, state, rows, files, out),
+        ),
+        Ok(Some(Job::Resume { text, state, rows })) => Answer::alone(
+            alloc,
+            resume(alloc, text, state, rows, files, out),
         ),
         Ok(None) => Answer::alone(alloc, Outcome::plain(alloc, Status::Usage)),
         Err(_) => Answer::alone(alloc, Outcome::plain(alloc, Status::NoMemory)),

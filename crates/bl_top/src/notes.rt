@@ -53,7 +53,11 @@ fn line_of(outcome: &Outcome) -> &[u8]
     ensures { result.now ≡ line_in outcome.now }
 {
     match outcome.status {
-        Status::Refused | Status::BadRows | Status::NotSubset | Status::TooLarge => &outcome.line,
+        Status::Refused
+        | Status::BadRows
+        | Status::NotSubset
+        | Status::TooLarge
+        | Status::BadState => &outcome.line,
         status => fixed_line(status).as_bytes(),
     }
 }
@@ -67,6 +71,7 @@ fn fixed_line(status: Status) -> &'static str
         Status::ReadFault => "read fault\n",
         Status::NoMemory => "no memory\n",
         Status::Unbuilt => "not built\n",
+        Status::SaveEnded => "ended\n",
         _ => "",
     }
 }

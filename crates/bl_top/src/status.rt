@@ -26,6 +26,10 @@ pub enum Status {
     TooLarge,
     /// The source isn't in a form that is built today.
     Unbuilt,
+    /// A run whose state was to be saved has ended, so it has none to go on from.
+    SaveEnded,
+    /// A file holds no saved state of the C text (docs/FORMATS.md, "Saved states").
+    BadState,
 }
 
 impl Status {
@@ -45,6 +49,8 @@ impl Status {
             Status::NotSubset => 8,
             Status::TooLarge => 11,
             Status::Unbuilt => 12,
+            Status::SaveEnded => 14,
+            Status::BadState => 15,
         }
     }
 }

@@ -67,7 +67,8 @@ next_placed k field rest (Some i) =
 
 among_from : (b : Bool) (k : ℕ) (field : Field) (rest : List Field) (found : Option FieldAt) (o : Option ℕ)
     → found ≡ option_and_then (placed (k + 1) rest) o
-    → (if b then Some (record { position = k; ty = field.ty }) else found) ≡ option_and_then (placed k (field ∷ rest)) (if b then Some 0 else option_map suc o)
+    → (if b then Some (record { position = k; ty = field.ty }) else found)
+    ≡ option_and_then (placed k (field ∷ rest)) (if b then Some 0 else option_map suc o)
 among_from true k field rest found o is =
     let same : k ≡ k + 0 = omega arith in ap (λ j. Some (record { position = j; ty = field.ty })) same
 among_from false k field rest found o is = is ∙ next_placed k field rest o
@@ -80,11 +81,13 @@ among name (field ∷ rest) k =
 -- ---- what a look-up gives
 
 -- no field has the name
-pub missing : (name : List ℕ) (fields : List Field) (has : Option ℕ) → has ≡ first_named name fields → None ≡ has → None ≡ field_among name fields 0
+pub missing : (name : List ℕ) (fields : List Field) (has : Option ℕ)
+    → has ≡ first_named name fields → None ≡ has → None ≡ field_among name fields 0
 missing name fields has is none = ap (option_and_then (placed 0 fields)) (none ∙ is) ∙ sym (among name fields 0)
 
 -- a position with no field
-pub past : (name : List ℕ) (fields : List Field) (k : ℕ) → Some k ≡ first_named name fields → None ≡ slice_get fields k → None ≡ field_among name fields 0
+pub past : (name : List ℕ) (fields : List Field) (k : ℕ)
+    → Some k ≡ first_named name fields → None ≡ slice_get fields k → None ≡ field_among name fields 0
 past name fields k is none =
     ap (option_map (λ (field : Field). record { position = 0 + k; ty = field.ty })) none ∙ ap (option_and_then (placed 0 fields)) is
     ∙ sym (among name fields 0)

@@ -1,7 +1,8 @@
 //! The structs of a program, and where their fields stand by their names.
 
 ghost use Rattle.std.specs.HashMap.{get_by_text};
-ghost use Rattle.std.specs.Prelude.{◌≡◌, ◌++◌, ◌∷◌, [], ℕ, List as Elements, IfOk, OnOk, Some, bytes_eq, cond, length, option_map, string_bytes};
+ghost use Rattle.std.specs.Prelude.{◌≡◌, ◌++◌, ◌∷◌, [], ℕ, List as Elements, IfOk, OnOk, Some, bytes_eq, cond};
+ghost use Rattle.std.specs.Prelude.{length, option_map, string_bytes};
 ghost use Rattle.bl_tree.specs.declared.tree.Ty.{out-Ty};
 ghost use Rattle.bl_types.specs.Expressions.{field_among, field_in};
 ghost use Rattle.bl_types.specs.inner.Fields.{Tells};

@@ -28,7 +28,8 @@ use Rattle.bl_named.specs.declared.stmt.NamedBranch.{NamedBranch, fold-roll-Name
 use Rattle.bl_named.specs.declared.stmt.NamedStmt.{NamedStmt, fold-roll-NamedStmt}
 use Rattle.bl_named.specs.declared.stmt.NamedStmtKind.{NamedStmtKind, fold-NamedStmtKind, fold-roll-NamedStmtKind, map-NamedStmtKind}
 use Rattle.bl_named.specs.declared.stmt.NamedStmtKind.TheOpen.{NamedStmtKind-F}
-use Rattle.bl_named.specs.Placed.{Earlier, Step, expr_placed, in_turn, step_of_arm, step_of_branch, stmt_step, tested}
+use Rattle.bl_named.specs.Placed.{Earlier, Step, expr_placed, in_turn, stmt_step, tested}
+use Rattle.bl_named.specs.inner.Placed.{step_of_arm, step_of_branch}
 use Rattle.bl_types.specs.declared.environment.Environment.{Environment}
 use Rattle.bl_types.specs.Settled.{Settled}
 use Rattle.bl_types.specs.Statements.{

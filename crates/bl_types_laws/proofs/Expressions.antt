@@ -50,17 +50,8 @@ use Rattle.bl_named.specs.declared.expr.NamedPart.{NamedPart, fold-NamedPart, fo
 use Rattle.bl_named.specs.declared.expr.NamedTarget.{NamedTarget, fold-roll-NamedTarget, roll-NamedTarget}
 use Rattle.bl_named.specs.declared.expr.Root.{Root}
 use Rattle.bl_named.specs.declared.expr.Root.TheVariants as root
-use Rattle.bl_named.specs.Placed.{
-  expr_layer_placed,
-  expr_placed,
-  holds_of,
-  kind_placed,
-  part_placed,
-  root_placed,
-  step_placed,
-  target_layer_placed,
-  target_placed,
-}
+use Rattle.bl_named.specs.Placed.{expr_layer_placed, expr_placed, holds_of, kind_placed, part_placed, root_placed, target_layer_placed, target_placed}
+use Rattle.bl_named.specs.inner.Placed.{step_placed}
 use Rattle.bl_types.specs.declared.environment.Environment.{Environment}
 use Rattle.bl_types.specs.Expressions.{
   Formed,

@@ -24,7 +24,9 @@ use Rattle.bl_named.specs.declared.expr.NamedTarget.{NamedTarget, fold-roll-Name
 use Rattle.bl_named.specs.declared.expr.Root.{Root}
 use Rattle.bl_named.specs.declared.expr.Root.TheVariants as root
 use Rattle.bl_names_laws.specs.Apart as named
+use Rattle.bl_names_laws.specs.inner.Apart as apart
 use Rattle.bl_names_laws.specs.Depths as nested
+use Rattle.bl_names_laws.specs.inner.Depths as levels
 use Rattle.bl_types.specs.declared.environment.Environment.{Environment}
 use Rattle.bl_types.specs.declared.form.Form.{Form}
 use Rattle.bl_types.specs.Expressions.{
@@ -175,11 +177,11 @@ module _ (env : Environment) where
       (step_by_in (out-NamedPart part) of ty))
 
   steps_in : (parts : List NamedPart) → EachIndex P parts → (ty : Option Ty) →
-      SizeMost (size_all part_depth part_roots (stepped (map (step_of env) parts) ty).parts) (size_all nested.step_depth named.roots_in_step parts)
+      SizeMost (size_all part_depth part_roots (stepped (map (step_of env) parts) ty).parts) (size_all levels.step_depth apart.roots_in_step parts)
   steps_in [] each ty = size_empty empty
   steps_in (part ∷ rest) each ty =
       made_first part_depth part_roots (step_of env part ty).part (stepped (map (step_of env) rest) (step_of env part ty).ty).parts (step_size part)
-      (size_all nested.step_depth named.roots_in_step rest)
+      (size_all levels.step_depth apart.roots_in_step rest)
       (step_in part (All-head (λ part. OfIndex P (out-NamedPart part)) part rest each) ty)
       (steps_in rest (All-tail (λ part. OfIndex P (out-NamedPart part)) part rest each) (step_of env part ty).ty)
 
@@ -196,16 +198,16 @@ module _ (env : Environment) where
   constant_in value None size = tt
 
   root_in : (place : Place) (root : Root) (parts : List NamedPart) → EachIndex P parts →
-      FoundIn (rooted (named.roots_of root) (size_all nested.step_depth named.roots_in_step parts))
+      FoundIn (rooted (named.roots_of root) (size_all levels.step_depth apart.roots_in_step parts))
       (targeted_from env place root (map (step_of env) parts)).found
   root_in place (root.Variable k) parts each =
       path_in place k (stepped (map (step_of env) parts) (type_of_variable (slice_get env.vars k))).parts
       (stepped (map (step_of env) parts) (type_of_variable (slice_get env.vars k))).ty
-      (size_all nested.step_depth named.roots_in_step parts) (steps_in parts each (type_of_variable (slice_get env.vars k)))
+      (size_all levels.step_depth apart.roots_in_step parts) (steps_in parts each (type_of_variable (slice_get env.vars k)))
   root_in place (root.Constant k) parts each =
       constant_in (value_of_constant (slice_get env.constants k)) (option_and_then scalar_in
       (stepped (map (step_of env) parts) (type_of_constant (slice_get env.constants k))).ty)
-      (rooted (named.roots_of (root.Constant k)) (size_all nested.step_depth named.roots_in_step parts))
+      (rooted (named.roots_of (root.Constant k)) (size_all levels.step_depth apart.roots_in_step parts))
 
   target_case : (place : Place) (root : Root) (parts : List NamedPart) → EachIndex P parts →
       Q (roll-NamedTarget (record { place = place; root = root; parts = parts }))
@@ -214,7 +216,7 @@ module _ (env : Environment) where
       ≡ targeted_from env place root (map (step_of env) parts) = rw fold-roll-NamedTarget refl in
       subst (λ size. FoundIn size (targeted env (roll-NamedTarget (record { place = place; root = root; parts = parts }))).found)
       (sym (target_size_is place root parts))
-      (subst (λ (targeted : Targeted). FoundIn (rooted (named.roots_of root) (size_all nested.step_depth named.roots_in_step parts)) targeted.found)
+      (subst (λ (targeted : Targeted). FoundIn (rooted (named.roots_of root) (size_all levels.step_depth apart.roots_in_step parts)) targeted.found)
       (sym targeted_is) (root_in place root parts each))
 
   literal_in : (place : Place) (n : ℤ) (s : ScalarType) → SizeMost (size_of (literal place n s)) empty

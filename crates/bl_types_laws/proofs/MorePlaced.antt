@@ -14,17 +14,8 @@ use Rattle.bl_named.specs.declared.expr.NamedPart.{NamedPart, fold_out-NamedPart
 use Rattle.bl_named.specs.declared.expr.NamedTarget.{NamedTarget, fold-roll-NamedTarget, roll-NamedTarget}
 use Rattle.bl_named.specs.declared.expr.Root.{Root}
 use Rattle.bl_named.specs.declared.expr.Root.TheVariants as root
-use Rattle.bl_named.specs.Placed.{
-  Earlier,
-  expr_layer_placed,
-  expr_placed,
-  kind_placed,
-  part_placed,
-  root_placed,
-  step_placed,
-  target_layer_placed,
-  target_placed,
-}
+use Rattle.bl_named.specs.Placed.{Earlier, expr_layer_placed, expr_placed, kind_placed, part_placed, root_placed, target_layer_placed, target_placed}
+use Rattle.bl_named.specs.inner.Placed.{step_placed}
 use Rattle.bl_types.specs.declared.environment.Environment.{Environment}
 use Rattle.bl_types_laws.specs.Standing.{Grown}
 use Rattle.bl_types_laws.specs.Within.{known_in}

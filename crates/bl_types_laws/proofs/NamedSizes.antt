@@ -11,7 +11,9 @@ use Rattle.bl_named.specs.declared.expr.NamedTarget.{NamedTarget, fold-roll-Name
 use Rattle.bl_named.specs.declared.expr.Root.{Root}
 use Rattle.bl_named.specs.declared.stmt.NamedPath.{NamedPath}
 use Rattle.bl_names_laws.specs.Apart as names
+use Rattle.bl_names_laws.specs.inner.Apart as apart
 use Rattle.bl_names_laws.specs.Depths as depths
+use Rattle.bl_names_laws.specs.inner.Depths as levels
 use Rattle.bl_types_laws.proofs.NamedExprInduction.{expr}
 use Rattle.bl_types_laws.proofs.Sizes.{Size, rooted, size_all}
 
@@ -28,7 +30,7 @@ abbrev pub target_size : NamedTarget → Size
 target_size target = record { depth = depths.target_depth target; roots = names.roots_in_target target }
 
 abbrev pub step_size : NamedPart → Size
-step_size part = record { depth = depths.step_depth part; roots = names.roots_in_step part }
+step_size part = record { depth = levels.step_depth part; roots = apart.roots_in_step part }
 
 -- a path leads by fields alone
 abbrev pub named_path_size : NamedPath → Size
@@ -41,13 +43,13 @@ abbrev depth_kind : Layer → ℕ
 depth_kind layer = depths.kind_depth
     (map-NamedExprKind NamedExprKind NamedPart NamedExpr NamedTarget ℕ ℕ ℕ ℕ
     (fold-NamedExprKind ℕ ℕ ℕ ℕ depths.kind_depth depths.part_depth depths.expr_layer_depth depths.target_layer_depth)
-    depths.step_depth depths.expr_depth depths.target_depth layer)
+    levels.step_depth depths.expr_depth depths.target_depth layer)
 
 abbrev roots_kind : Layer → Roots
 roots_kind layer = names.kind_roots
     (map-NamedExprKind NamedExprKind NamedPart NamedExpr NamedTarget Roots Roots Roots Roots
     (fold-NamedExprKind Roots Roots Roots Roots names.kind_roots names.part_roots names.expr_layer_roots names.target_layer_roots)
-    names.roots_in_step names.roots_in names.roots_in_target layer)
+    apart.roots_in_step names.roots_in names.roots_in_target layer)
 
 abbrev pub named_kind_size : Layer → Size
 named_kind_size layer = record { depth = depth_kind layer; roots = roots_kind layer }
@@ -62,13 +64,13 @@ abbrev depth_step : PartLayer → ℕ
 depth_step layer = depths.part_depth
     (map-NamedPart NamedExprKind NamedPart NamedExpr NamedTarget ℕ ℕ ℕ ℕ
     (fold-NamedExprKind ℕ ℕ ℕ ℕ depths.kind_depth depths.part_depth depths.expr_layer_depth depths.target_layer_depth)
-    depths.step_depth depths.expr_depth depths.target_depth layer)
+    levels.step_depth depths.expr_depth depths.target_depth layer)
 
 abbrev roots_step : PartLayer → Roots
 roots_step layer = names.part_roots
     (map-NamedPart NamedExprKind NamedPart NamedExpr NamedTarget Roots Roots Roots Roots
     (fold-NamedExprKind Roots Roots Roots Roots names.kind_roots names.part_roots names.expr_layer_roots names.target_layer_roots)
-    names.roots_in_step names.roots_in names.roots_in_target layer)
+    apart.roots_in_step names.roots_in names.roots_in_target layer)
 
 abbrev pub step_kind_size : PartLayer → Size
 step_kind_size layer = record { depth = depth_step layer; roots = roots_step layer }
@@ -81,10 +83,10 @@ step_size_is part =
 
 pub target_size_is : (place : Place) (root : Root) (parts : List NamedPart) →
     target_size (roll-NamedTarget (record { place = place; root = root; parts = parts }))
-    ≡ rooted (names.roots_of root) (size_all depths.step_depth names.roots_in_step parts)
+    ≡ rooted (names.roots_of root) (size_all levels.step_depth apart.roots_in_step parts)
 target_size_is place root parts =
-    let depth_is : depths.target_depth (roll-NamedTarget (record { place = place; root = root; parts = parts })) ≡ greatest (map depths.step_depth parts) =
+    let depth_is : depths.target_depth (roll-NamedTarget (record { place = place; root = root; parts = parts })) ≡ greatest (map levels.step_depth parts) =
     rw fold-roll-NamedTarget refl in
     let roots_are : names.roots_in_target (roll-NamedTarget (record { place = place; root = root; parts = parts })) ≡ names.roots_of root
-    ++ joined (map names.roots_in_step parts) = rw fold-roll-NamedTarget refl in
+    ++ joined (map apart.roots_in_step parts) = rw fold-roll-NamedTarget refl in
     λ i. record { depth = depth_is i; roots = roots_are i }

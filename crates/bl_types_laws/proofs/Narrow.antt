@@ -20,18 +20,8 @@ use Rattle.bl_named.specs.declared.expr.NamedExprKind.TheOpen.{NamedExprKind-F, 
 use Rattle.bl_named.specs.declared.expr.NamedPart.{NamedPart, fold_out-NamedPart, map-NamedPart, out-NamedPart}
 use Rattle.bl_named.specs.declared.expr.NamedTarget.{NamedTarget, fold-roll-NamedTarget, roll-NamedTarget}
 use Rattle.bl_named.specs.declared.expr.Root.{Root}
-use Rattle.bl_named.specs.Placed.{
-  Earlier,
-  expr_layer_placed,
-  expr_placed,
-  holds_of,
-  kind_placed,
-  part_placed,
-  root_placed,
-  step_placed,
-  target_layer_placed,
-  target_placed,
-}
+use Rattle.bl_named.specs.Placed.{Earlier, expr_layer_placed, expr_placed, holds_of, kind_placed, part_placed, root_placed, target_layer_placed, target_placed}
+use Rattle.bl_named.specs.inner.Placed.{step_placed}
 use Rattle.bl_types_laws.specs.Within.{calls_functions, target_calls}
 use Rattle.bl_types_laws.proofs.NamedExprInduction.{Cases, EachIndex, OfIndex, expr, induct}
 use Rattle.bl_types_laws.proofs.ExprCalls.{Layer, PartLayer, calls_at, calls_by, calls_part, calls_step, step_at}

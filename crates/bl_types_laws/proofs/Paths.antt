@@ -59,7 +59,8 @@ use Rattle.bl_named.specs.declared.expr.NamedTarget.{NamedTarget, fold_out-Named
 use Rattle.bl_named.specs.declared.expr.Root.{Root}
 use Rattle.bl_named.specs.declared.expr.Root.TheVariants as root
 use Rattle.bl_named.specs.declared.stmt.NamedPath.{NamedPath}
-use Rattle.bl_named.specs.Placed.{expr_layer_placed, kind_placed, part_placed, path_placed, root_placed, step_placed, target_layer_placed, target_placed}
+use Rattle.bl_named.specs.Placed.{expr_layer_placed, kind_placed, part_placed, path_placed, root_placed, target_layer_placed, target_placed}
+use Rattle.bl_named.specs.inner.Placed.{step_placed}
 use Rattle.bl_types.specs.declared.environment.Environment.{Environment}
 use Rattle.bl_types.specs.declared.environment.Variable.{Variable}
 use Rattle.bl_types.specs.declared.form.Found.TheVariants as found

@@ -25,6 +25,7 @@ use Rattle.bl_named.specs.declared.stmt.NamedStmt.{NamedStmt, fold-roll-NamedStm
 use Rattle.bl_named.specs.declared.stmt.NamedStmtKind.{NamedStmtKind, fold-NamedStmtKind, fold-roll-NamedStmtKind, map-NamedStmtKind}
 use Rattle.bl_named.specs.declared.stmt.NamedStmtKind.TheOpen.{NamedStmtKind-F}
 use Rattle.bl_named.specs.Starts as named
+use Rattle.bl_named.specs.inner.Starts as spots
 use Rattle.bl_types.specs.declared.environment.Environment.{Environment}
 use Rattle.bl_types.specs.declared.form.Found.{Found}
 use Rattle.bl_types.specs.declared.form.Found.TheVariants as found
@@ -180,7 +181,7 @@ abbrev named_layer : Layer → Starts
 named_layer layer = named.stmt_kind_starts
     (map-NamedStmtKind NamedStmtKind NamedArm NamedBranch NamedStmt Starts Starts Starts Starts
     (fold-NamedStmtKind Starts Starts Starts Starts named.stmt_kind_starts named.arm_starts named.branch_starts named.stmt_layer_starts)
-    named.starts_of_arm named.starts_of_branch named.starts_of layer)
+    spots.starts_of_arm spots.starts_of_branch named.starts_of layer)
 
 named_is : (place : Place) (layer : Layer) → named.starts_of (stmt place layer) ≡ place.start ∷ named_layer layer
 named_is place layer = rw (fold-roll-NamedStmt, fold-roll-NamedStmtKind) refl
@@ -193,10 +194,10 @@ module _ (constants : List NamedConstant) (vars : List NamedVar) where
   P s = (env : Environment) → Picked (starts_if starts_of (walked_stmt constants vars s env).made) (named.starts_of s)
 
   abbrev Q : NamedArm → Type 0
-  Q arm = (env : Environment) → Picked (starts_if starts_of_arm (arm_walked constants vars arm env).made) (named.starts_of_arm arm)
+  Q arm = (env : Environment) → Picked (starts_if starts_of_arm (arm_walked constants vars arm env).made) (spots.starts_of_arm arm)
 
   abbrev R : NamedBranch → Type 0
-  R branch = (env : Environment) → Picked (starts_if starts_of_branch (branch_walked constants vars branch env).made) (named.starts_of_branch branch)
+  R branch = (env : Environment) → Picked (starts_if starts_of_branch (branch_walked constants vars branch env).made) (spots.starts_of_branch branch)
 
   abbrev walked_body : List NamedStmt → Environment → Block Stmt
   walked_body body env = in_order (map (walked_stmt constants vars) body) env
@@ -217,8 +218,8 @@ module _ (constants : List NamedConstant) (vars : List NamedVar) where
       let arm : NamedArm = roll-NamedArm (record { test = test; body = body }) in
       let walked_as : arm_walked constants vars arm ≡ walked_arm (record { test = test; body = map (walked_stmt constants vars) body }) =
       rw fold-roll-NamedArm refl in
-      let starts_as : named.starts_of_arm arm ≡ named_block body = rw fold-roll-NamedArm refl in
-      subst (λ (walk : Walk Arm). Picked (starts_if starts_of_arm (walk env).made) (named.starts_of_arm arm)) (sym walked_as)
+      let starts_as : spots.starts_of_arm arm ≡ named_block body = rw fold-roll-NamedArm refl in
+      subst (λ (walk : Walk Arm). Picked (starts_if starts_of_arm (walk env).made) (spots.starts_of_arm arm)) (sym walked_as)
       (subst (λ l. Picked (starts_if starts_of_arm (option_map (λ e. arm_of e (walked_body body env).made) (condition env test).made)) l) (sym starts_as)
       (arm_picked (condition env test).made (walked_body body env).made (named_block body) (body_picked body each env)))
 
@@ -228,9 +229,9 @@ module _ (constants : List NamedConstant) (vars : List NamedVar) where
       let made : Branch = roll-Branch (record { weak = weak; body = (walked_body body env).made }) in
       let walked_as : branch_walked constants vars branch ≡ walked_branch (record { weak = weak; body = map (walked_stmt constants vars) body }) =
       rw fold-roll-NamedBranch refl in
-      let starts_as : named.starts_of_branch branch ≡ named_block body = rw fold-roll-NamedBranch refl in
+      let starts_as : spots.starts_of_branch branch ≡ named_block body = rw fold-roll-NamedBranch refl in
       let made_as : starts_of_branch made ≡ block_starts (walked_body body env).made = rw fold-roll-Branch refl in
-      subst (λ (walk : Walk Branch). Picked (starts_if starts_of_branch (walk env).made) (named.starts_of_branch branch)) (sym walked_as)
+      subst (λ (walk : Walk Branch). Picked (starts_if starts_of_branch (walk env).made) (spots.starts_of_branch branch)) (sym walked_as)
       (subst (λ l. Picked (starts_of_branch made) l) (sym starts_as) (subst (λ l. Picked l (named_block body)) (sym made_as) (body_picked body each env)))
 
   branching_case : (place : Place) (arms : List NamedArm) (other : List NamedStmt) → All Q arms → All P other →
@@ -241,14 +242,14 @@ module _ (constants : List NamedConstant) (vars : List NamedVar) where
       let last : Block Stmt = walked_body other tests.env in
       kind_picked (what.If tests.made last.made) (StmtKind-F.If tests.made last.made) (named_layer (NamedStmtKind-F.If arms other))
       (what.outs-If tests.made last.made)
-      (picked_append (picked_order starts_of_arm named.starts_of_arm (arm_walked constants vars) arms each env) (body_picked other rest tests.env)))
+      (picked_append (picked_order starts_of_arm spots.starts_of_arm (arm_walked constants vars) arms each env) (body_picked other rest tests.env)))
 
   cobegin_case : (place : Place) (branches : List NamedBranch) → All R branches → P (stmt place (NamedStmtKind-F.Cobegin branches))
   cobegin_case place branches each = by_kind place (NamedStmtKind-F.Cobegin branches)
       (λ env.
       let all : Block Branch = in_order (map (branch_walked constants vars) branches) env in
       kind_picked (what.Cobegin all.made) (StmtKind-F.Cobegin all.made) (named_layer (NamedStmtKind-F.Cobegin branches)) (what.outs-Cobegin all.made)
-      (picked_order starts_of_branch named.starts_of_branch (branch_walked constants vars) branches each env))
+      (picked_order starts_of_branch spots.starts_of_branch (branch_walked constants vars) branches each env))
 
   picked_cases : Cases P Q R
   picked_cases = record {

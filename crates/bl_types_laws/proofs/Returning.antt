@@ -26,7 +26,8 @@ use Rattle.bl_named.specs.declared.stmt.NamedBranch.{NamedBranch, fold-NamedBran
 use Rattle.bl_named.specs.declared.stmt.NamedStmt.{NamedStmt, fold-roll-NamedStmt}
 use Rattle.bl_named.specs.declared.stmt.NamedStmtKind.{NamedStmtKind, fold-NamedStmtKind, fold-roll-NamedStmtKind, map-NamedStmtKind}
 use Rattle.bl_named.specs.declared.stmt.NamedStmtKind.TheOpen.{NamedStmtKind-F}
-use Rattle.bl_named.specs.Placed.{Earlier, Step, declares_none, expr_placed, holds_if, in_turn, step_of_arm, stmt_step, tested}
+use Rattle.bl_named.specs.Placed.{Earlier, Step, declares_none, expr_placed, holds_if, in_turn, stmt_step, tested}
+use Rattle.bl_named.specs.inner.Placed.{step_of_arm}
 use Rattle.bl_types.specs.declared.environment.Environment.{Environment}
 use Rattle.bl_types.specs.Expressions.{in_context, judged}
 use Rattle.bl_types.specs.Returns.{

@@ -28,7 +28,9 @@ use Rattle.bl_named.specs.declared.stmt.NamedStmt.{NamedStmt, fold-roll-NamedStm
 use Rattle.bl_named.specs.declared.stmt.NamedStmtKind.{NamedStmtKind, fold-NamedStmtKind, fold-roll-NamedStmtKind, map-NamedStmtKind}
 use Rattle.bl_named.specs.declared.stmt.NamedStmtKind.TheOpen.{NamedStmtKind-F}
 use Rattle.bl_names_laws.specs.Apart as named
+use Rattle.bl_names_laws.specs.inner.Apart as apart
 use Rattle.bl_names_laws.specs.Depths as nested
+use Rattle.bl_names_laws.specs.inner.Depths as levels
 use Rattle.bl_types.specs.declared.environment.Environment.{Environment}
 use Rattle.bl_types.specs.declared.form.Found.{Found}
 use Rattle.bl_types.specs.declared.form.Found.TheVariants as found
@@ -156,14 +158,14 @@ branch_shape_is weak body =
 abbrev named_depth_kind : Layer → Depth
 named_depth_kind layer = nested.stmt_kind_depth
     (map-NamedStmtKind NamedStmtKind NamedArm NamedBranch NamedStmt Depth Depth Depth Depth
-    (fold-NamedStmtKind Depth Depth Depth Depth nested.stmt_kind_depth nested.arm_depth nested.branch_depth nested.stmt_layer_depth) nested.depth_of_arm
-    nested.depth_of_branch nested.depth_of layer)
+    (fold-NamedStmtKind Depth Depth Depth Depth nested.stmt_kind_depth nested.arm_depth nested.branch_depth nested.stmt_layer_depth) levels.depth_of_arm
+    levels.depth_of_branch nested.depth_of layer)
 
 abbrev named_naming_kind : Layer → Naming
 named_naming_kind layer = named.stmt_kind_naming
     (map-NamedStmtKind NamedStmtKind NamedArm NamedBranch NamedStmt Naming Naming Naming Naming
-    (fold-NamedStmtKind Naming Naming Naming Naming named.stmt_kind_naming named.arm_naming named.branch_naming named.stmt_layer_naming) named.naming_of_arm
-    named.naming_of_branch named.naming_of layer)
+    (fold-NamedStmtKind Naming Naming Naming Naming named.stmt_kind_naming named.arm_naming named.branch_naming named.stmt_layer_naming) apart.naming_of_arm
+    apart.naming_of_branch named.naming_of layer)
 
 abbrev named_kind_shape : Layer → Shape
 named_kind_shape layer = record { depth = named_depth_kind layer; naming = named_naming_kind layer }
@@ -313,12 +315,12 @@ module _ (constants : List NamedConstant) (vars : List NamedVar) where
   P s = (env : Environment) → ShapeIn depths.depth_of names.naming_of (named_shape s) (walked_stmt constants vars s env).made
 
   abbrev Q : NamedArm → Type 0
-  Q arm = (env : Environment) → ShapeIn arm_depth arm_naming (record { depth = nested.depth_of_arm arm; naming = named.naming_of_arm arm })
+  Q arm = (env : Environment) → ShapeIn arm_depth arm_naming (record { depth = levels.depth_of_arm arm; naming = apart.naming_of_arm arm })
       (arm_walked constants vars arm env).made
 
   abbrev R : NamedBranch → Type 0
   R branch = (env : Environment) → ShapeIn branch_depth branch_naming
-      (record { depth = nested.depth_of_branch branch; naming = named.naming_of_branch branch })
+      (record { depth = levels.depth_of_branch branch; naming = apart.naming_of_branch branch })
       (branch_walked constants vars branch env).made
 
   abbrev walked_body : List NamedStmt → Environment → Block Stmt
@@ -345,9 +347,9 @@ module _ (constants : List NamedConstant) (vars : List NamedVar) where
       let arm : NamedArm = roll-NamedArm (record { test = test; body = body }) in
       let walked_as : arm_walked constants vars arm ≡ walked_arm (record { test = test; body = map (walked_stmt constants vars) body }) =
       rw fold-roll-NamedArm refl in
-      let depth_is : nested.depth_of_arm arm ≡ (tested_shape (named_size test) (named_bodies body)).depth = rw fold-roll-NamedArm refl in
-      let naming_is : named.naming_of_arm arm ≡ (tested_shape (named_size test) (named_bodies body)).naming = rw fold-roll-NamedArm refl in
-      subst (λ (walk : Walk Arm). ShapeIn arm_depth arm_naming (record { depth = nested.depth_of_arm arm; naming = named.naming_of_arm arm }) (walk env).made)
+      let depth_is : levels.depth_of_arm arm ≡ (tested_shape (named_size test) (named_bodies body)).depth = rw fold-roll-NamedArm refl in
+      let naming_is : apart.naming_of_arm arm ≡ (tested_shape (named_size test) (named_bodies body)).naming = rw fold-roll-NamedArm refl in
+      subst (λ (walk : Walk Arm). ShapeIn arm_depth arm_naming (record { depth = levels.depth_of_arm arm; naming = apart.naming_of_arm arm }) (walk env).made)
       (sym walked_as)
       (subst (λ shape. ShapeIn arm_depth arm_naming shape (option_map (λ e. arm_of e (walked_body body env).made) (condition env test).made))
       (λ i. record { depth = sym depth_is i; naming = sym naming_is i })
@@ -358,10 +360,10 @@ module _ (constants : List NamedConstant) (vars : List NamedVar) where
       let branch : NamedBranch = roll-NamedBranch (record { weak = weak; body = body }) in
       let walked_as : branch_walked constants vars branch ≡ walked_branch (record { weak = weak; body = map (walked_stmt constants vars) body }) =
       rw fold-roll-NamedBranch refl in
-      let depth_is : nested.depth_of_branch branch ≡ (block_shape (named_bodies body)).depth = rw fold-roll-NamedBranch refl in
-      let naming_is : named.naming_of_branch branch ≡ (block_shape (named_bodies body)).naming = rw fold-roll-NamedBranch refl in
+      let depth_is : levels.depth_of_branch branch ≡ (block_shape (named_bodies body)).depth = rw fold-roll-NamedBranch refl in
+      let naming_is : apart.naming_of_branch branch ≡ (block_shape (named_bodies body)).naming = rw fold-roll-NamedBranch refl in
       subst (λ (walk : Walk Branch). ShapeIn branch_depth branch_naming (record
-      { depth = nested.depth_of_branch branch; naming = named.naming_of_branch branch }) (walk env).made) (sym walked_as)
+      { depth = levels.depth_of_branch branch; naming = apart.naming_of_branch branch }) (walk env).made) (sym walked_as)
       (subst (λ shape. ShapeIn branch_depth branch_naming shape (Some (roll-Branch (record { weak = weak; body = (walked_body body env).made }))))
       (λ i. record { depth = sym depth_is i; naming = sym naming_is i })
       (subst (λ shape. ShapeMost shape (block_shape (named_bodies body))) (sym (branch_shape_is weak (walked_body body env).made))
@@ -374,18 +376,18 @@ module _ (constants : List NamedConstant) (vars : List NamedVar) where
       let tests : Block Arm = in_order (map (arm_walked constants vars) arms) env in
       let last : Block Stmt = walked_body other tests.env in
       kind_most place (what.If tests.made last.made) (StmtKind-F.If tests.made last.made)
-      (choice_shape (shapes_of nested.depth_of_arm named.naming_of_arm arms) (named_bodies other)) (what.outs-If tests.made last.made)
-      (choice_most (shapes_of arm_depth arm_naming tests.made) (bodies last.made) (shapes_of nested.depth_of_arm named.naming_of_arm arms) (named_bodies other)
-      (in_order_in arm_depth arm_naming nested.depth_of_arm named.naming_of_arm (arm_walked constants vars) arms each env) (body_in other rest tests.env)))
+      (choice_shape (shapes_of levels.depth_of_arm apart.naming_of_arm arms) (named_bodies other)) (what.outs-If tests.made last.made)
+      (choice_most (shapes_of arm_depth arm_naming tests.made) (bodies last.made) (shapes_of levels.depth_of_arm apart.naming_of_arm arms) (named_bodies other)
+      (in_order_in arm_depth arm_naming levels.depth_of_arm apart.naming_of_arm (arm_walked constants vars) arms each env) (body_in other rest tests.env)))
 
   cobegin_case : (place : Place) (branches : List NamedBranch) → All R branches → P (stmt place (NamedStmtKind-F.Cobegin branches))
   cobegin_case place branches each = by_kind place (NamedStmtKind-F.Cobegin branches)
       (λ env.
       let all : Block Branch = in_order (map (branch_walked constants vars) branches) env in
-      kind_most place (what.Cobegin all.made) (StmtKind-F.Cobegin all.made) (branches_shape (shapes_of nested.depth_of_branch named.naming_of_branch branches))
+      kind_most place (what.Cobegin all.made) (StmtKind-F.Cobegin all.made) (branches_shape (shapes_of levels.depth_of_branch apart.naming_of_branch branches))
       (what.outs-Cobegin all.made)
-      (branching_most (shapes_of branch_depth branch_naming all.made) (shapes_of nested.depth_of_branch named.naming_of_branch branches)
-      (in_order_in branch_depth branch_naming nested.depth_of_branch named.naming_of_branch (branch_walked constants vars) branches each env)))
+      (branching_most (shapes_of branch_depth branch_naming all.made) (shapes_of levels.depth_of_branch apart.naming_of_branch branches)
+      (in_order_in branch_depth branch_naming levels.depth_of_branch apart.naming_of_branch (branch_walked constants vars) branches each env)))
 
   shape_cases : Cases P Q R
   shape_cases = record {

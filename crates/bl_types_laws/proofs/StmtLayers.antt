@@ -13,7 +13,8 @@ use Rattle.bl_named.specs.declared.stmt.NamedBranch.{NamedBranch}
 use Rattle.bl_named.specs.declared.stmt.NamedStmt.{NamedStmt, fold-roll-NamedStmt}
 use Rattle.bl_named.specs.declared.stmt.NamedStmtKind.{NamedStmtKind, fold-NamedStmtKind, fold-roll-NamedStmtKind, map-NamedStmtKind}
 use Rattle.bl_named.specs.declared.stmt.NamedStmtKind.TheOpen.{NamedStmtKind-F}
-use Rattle.bl_named.specs.Placed.{Step, arm_step, branch_step, step_of_arm, step_of_branch, stmt_kind_step, stmt_layer_step, stmt_step}
+use Rattle.bl_named.specs.Placed.{Step, arm_step, branch_step, stmt_kind_step, stmt_layer_step, stmt_step}
+use Rattle.bl_named.specs.inner.Placed.{step_of_arm, step_of_branch}
 use Rattle.bl_types.specs.Statements.{Walk, arm_walked, branch_walked, walked_arm, walked_branch, walked_kind, walked_layer, walked_stmt}
 use Rattle.bl_types_laws.proofs.NamedStmtInduction.{stmt}
 

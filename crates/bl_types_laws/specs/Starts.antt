@@ -1,10 +1,8 @@
 -- Where the statements of typed units begin.
 use Rattle.std.specs.Prelude.{ℕ, List, [], ◌∷◌, ◌++◌, map}
-use Rattle.bl_tree.specs.declared.tree.Arm.{Arm, fold-Arm}
-use Rattle.bl_tree.specs.declared.tree.Branch.{Branch, fold-Branch}
+use Rattle.bl_tree.specs.declared.tree.Unit.{Unit as UnitDef}
 use Rattle.bl_tree.specs.declared.tree.Stmt.{Stmt, fold-Stmt}
 use Rattle.bl_tree.specs.declared.tree.StmtKind.TheOpen.{StmtKind-F, Arm-F, Branch-F, Stmt-F}
-use Rattle.bl_tree.specs.declared.tree.Unit.{Unit as UnitDef}
 use Rattle.bl_tree.specs.Reduce.{joined}
 
 -- the places of statements by where they begin in the text, in bytes
@@ -41,14 +39,6 @@ stmt_layer_starts s = s.place.start ∷ s.what
 -- where a statement and those in it begin, in source order
 abbrev pub starts_of : Stmt → Starts
 starts_of = fold-Stmt Starts Starts Starts Starts stmt_kind_starts arm_layer_starts branch_layer_starts stmt_layer_starts
-
--- where the statements in an arm begin
-abbrev pub starts_of_arm : Arm → Starts
-starts_of_arm = fold-Arm Starts Starts Starts Starts stmt_kind_starts arm_layer_starts branch_layer_starts stmt_layer_starts
-
--- where the statements in a branch begin
-abbrev pub starts_of_branch : Branch → Starts
-starts_of_branch = fold-Branch Starts Starts Starts Starts stmt_kind_starts arm_layer_starts branch_layer_starts stmt_layer_starts
 
 -- where the statements of a unit begin, in source order
 abbrev pub unit_starts : UnitDef → Starts

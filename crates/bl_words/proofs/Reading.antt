@@ -30,10 +30,11 @@ use Rattle.clap.specs.Walk.{Text, answers_to}
 use Rattle.clap.specs.declared.error.Error.{Error}
 use Rattle.clap.specs.declared.error.kind.ErrorKind.TheVariants.{OutOfMemory}
 use Rattle.clap.proofs.OnLiterals.{clap_on_literals}
-use Rattle.bl_words.specs.inner.CommandLine.{command_line, job_read, named_read, one_read, three_read, two_read}
-use Rattle.bl_words.specs.Jobs.{JobSpec, Word, build, check, command_job, exec, is_plain_word, job_of, of_one, of_three, of_two, run, seeded}
+use Rattle.bl_words.specs.inner.CommandLine.{command_line, job_read, named_read, one_read, three_read, two_or_three_read, two_read}
+use Rattle.bl_words.specs.Jobs.{JobSpec, Word, bound, build, check, command_job, count, exec, is_plain_word, job_of, of_one, of_three, of_two}
+use Rattle.bl_words.specs.Jobs.{of_two_or_three, resumed, run, save, save_from, seeded}
 use Rattle.bl_words.proofs.Program.{ReadsAs, commands, name_refused, others_plain, program, takes_reads}
-use Rattle.bl_words.proofs.Values.{one, one_taken, three, three_taken, two, two_taken}
+use Rattle.bl_words.proofs.Values.{one, one_taken, three, three_taken, two, two_or_three, two_or_three_taken, two_taken}
 
 -- the words whose first is this name, and else those of the other commands
 trying : (label name : Text) (values : List Text) (job others : Option JobSpec) → ReadsAs job (label ∷ values) →
@@ -45,7 +46,7 @@ trying label name values job others same other = go (bytes_eq label name) refl
     go true e = rw e (subst (λ n. ReadsAs job (n ∷ values)) ((bytes_eq-Decides label name).0 e) same)
     go false e = rw e (other e)
 
--- a command with one value, one with two, and one with three
+-- a command with one value, one with two, one with three, and one with two or three
 one_reads : (label : Text) (job : Word → JobSpec) (read : (first second third : Option Text) → named_read label first second third ≡ one_read job first)
     (named : find (answers_to label) commands ≡ Some (label, []))
     (is : find (λ c. answers_to label (label_of c)) program.subs ≡ Some (one label)) (own : bytes_eq label (codes "help") ≡ false)
@@ -72,6 +73,16 @@ three_reads : (label : Text) (job : Word → Word → Word → Option JobSpec)
 three_reads label job read named is own values plain =
     takes_reads label (three label) named is own (of_three job values) values (three_taken label job read values plain)
 
+either_reads : (label : Text) (job : Word → Word → JobSpec) (further : Word → Word → Word → JobSpec)
+    (read : (first second third : Option Text) → named_read label first second third ≡ two_or_three_read job further first second third)
+    (named : find (answers_to label) commands ≡ Some (label, []))
+    (is : find (λ c. answers_to label (label_of c)) program.subs ≡ Some (two_or_three label)) (own : bytes_eq label (codes "help") ≡ false)
+    (values : List Text) → list_all is_plain_word values ≡ true
+    → ReadsAs (of_two_or_three job further values) (label ∷ values)
+either_reads label job further read named is own values plain =
+    takes_reads label (two_or_three label) named is own (of_two_or_three job further values) values
+    (two_or_three_taken label job further read values plain)
+
 command_reads : (name : Text) (values : List Text) → list_all is_plain_word (name ∷ values) ≡ true → ReadsAs (command_job name values) (name ∷ values)
 command_reads name values plain =
     let others = others_plain name values plain in
@@ -80,7 +91,14 @@ command_reads name values plain =
     trying (codes "run") name values _ _ (two_reads (codes "run") run (λ f s t. refl) refl refl refl values others) (λ not_run.
     trying (codes "walk") name values _ _ (three_reads (codes "walk") seeded (λ f s t. refl) refl refl refl values others) (λ not_walk.
     trying (codes "exec") name values _ _ (two_reads (codes "exec") exec (λ f s t. refl) refl refl refl values others) (λ not_exec.
-    inr (name_refused name values plain (rw (not_check, not_build, not_run, not_walk, not_exec) refl), refl))))))
+    trying (codes "bound") name values _ _ (one_reads (codes "bound") bound (λ f s t. refl) refl refl refl values others) (λ not_bound.
+    trying (codes "count") name values _ _ (two_reads (codes "count") count (λ f s t. refl) refl refl refl values others) (λ not_count.
+    trying (codes "save") name values _ _ (either_reads (codes "save") save save_from (λ f s t. refl) refl refl refl values others) (λ not_save.
+    trying (codes "resume") name values _ _ (three_reads (codes "resume") resumed (λ f s t. refl) refl refl refl values others) (λ not_resume.
+    inr (
+      name_refused name values plain (rw (not_check, not_build, not_run, not_walk, not_exec, not_bound, not_count, not_save, not_resume) refl),
+      refl,
+    ))))))))))
 
 reads : (words : List Text) → list_all is_plain_word words ≡ true → ReadsAs (job_of words) words
 unfolding clap_on_literals

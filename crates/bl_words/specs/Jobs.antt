@@ -23,6 +23,16 @@ pub data JobSpec : Type 0 where
   walk : Word → Word → ℕ → JobSpec
   -- run the C text of the first name over the file of rows of the second
   exec : Word → Word → JobSpec
+  -- say how many C statements each function of the C text of this name can execute
+  bound : Word → JobSpec
+  -- say how many C statements each tick of the C text of the first name executes over the file of rows of the second
+  count : Word → Word → JobSpec
+  -- run the C text of the first name over the file of rows of the second, and write the state after them
+  save : Word → Word → JobSpec
+  -- the same from the state that the file of the second name holds, over the file of rows of the third
+  save_from : Word → Word → Word → JobSpec
+  -- run the C text of the first name from the state that the file of the second name holds, over the file of rows of the third
+  resume : Word → Word → Word → JobSpec
 
 -- the files that the job reads, in the order of its words
 abbrev pub files_of : JobSpec → List Word
@@ -31,6 +41,11 @@ files_of (build source) = source ∷ []
 files_of (run source rows) = source ∷ rows ∷ []
 files_of (walk source rows seed) = source ∷ rows ∷ []
 files_of (exec text rows) = text ∷ rows ∷ []
+files_of (bound text) = text ∷ []
+files_of (count text rows) = text ∷ rows ∷ []
+files_of (save text rows) = text ∷ rows ∷ []
+files_of (save_from text state rows) = text ∷ state ∷ rows ∷ []
+files_of (resume text state rows) = text ∷ state ∷ rows ∷ []
 
 -- the word is not empty and does not begin with a hyphen (45)
 abbrev pub is_plain_word : Word → Bool
@@ -52,6 +67,12 @@ abbrev pub of_three : (Word → Word → Word → Option JobSpec) → List Word 
 of_three job (first ∷ second ∷ third ∷ []) = job first second third
 of_three job _ = None
 
+-- a job that two words ask for, another that three words ask for, and no other number of words
+abbrev pub of_two_or_three : (Word → Word → JobSpec) → (Word → Word → Word → JobSpec) → List Word → Option JobSpec
+of_two_or_three job further (first ∷ second ∷ []) = Some (job first second)
+of_two_or_three job further (first ∷ second ∷ third ∷ []) = Some (further first second third)
+of_two_or_three job further _ = None
+
 -- the number below 2 to the 64 that decimal digits write, of which there is one or more
 abbrev pub seed_of : Word → Option ℕ
 seed_of word =
@@ -61,13 +82,21 @@ seed_of word =
 abbrev pub seeded : Word → Word → Word → Option JobSpec
 seeded source rows word = option_map (walk source rows) (seed_of word)
 
+-- a run from a state, whatever the three words are
+abbrev pub resumed : Word → Word → Word → Option JobSpec
+resumed text state rows = Some (resume text state rows)
+
 -- the job of the command with this name, on the words after the name
 abbrev pub command_job : Word → List Word → Option JobSpec
 command_job name values = if bytes_eq (codes "check") name then of_one check values
     else (if bytes_eq (codes "build") name then of_one build values
     else (if bytes_eq (codes "run") name then of_two run values
     else (if bytes_eq (codes "walk") name then of_three seeded values
-    else (if bytes_eq (codes "exec") name then of_two exec values else None))))
+    else (if bytes_eq (codes "exec") name then of_two exec values
+    else (if bytes_eq (codes "bound") name then of_one bound values
+    else (if bytes_eq (codes "count") name then of_two count values
+    else (if bytes_eq (codes "save") name then of_two_or_three save save_from values
+    else (if bytes_eq (codes "resume") name then of_three resumed values else None))))))))
 
 -- the first word names the command, and no word is empty or begins with a hyphen
 abbrev pub job_of : List Word → Option JobSpec
@@ -82,3 +111,8 @@ spec_of (job.Build source) = build source.now
 spec_of (job.Run source rows) = run source.now rows.now
 spec_of (job.Walk source rows seed) = walk source.now rows.now seed
 spec_of (job.Exec text rows) = exec text.now rows.now
+spec_of (job.Bound text) = bound text.now
+spec_of (job.Count text rows) = count text.now rows.now
+spec_of (job.Save text rows) = save text.now rows.now
+spec_of (job.SaveFrom text state rows) = save_from text.now state.now rows.now
+spec_of (job.Resume text state rows) = resume text.now state.now rows.now

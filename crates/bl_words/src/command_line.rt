@@ -3,7 +3,8 @@ ghost use Rattle.std.specs.Prelude.{◌≡◌, IfOk, codes, false, option_map};
 ghost use Rattle.clap.specs.Words.{app_of, first_value, found_of, subcommand_rows_of};
 ghost use Rattle.clap.specs.declared.builder.command.Command.TheViews.{out-Command};
 ghost use Rattle.bl_words.specs.inner.CommandLine.{command_line, job_read, one_command, one_read, three_command, three_read, two_command, two_read};
-ghost use Rattle.bl_words.specs.Jobs.{build, check, exec, run, seeded, spec_of};
+ghost use Rattle.bl_words.specs.inner.CommandLine.{two_or_three_command, two_or_three_read};
+ghost use Rattle.bl_words.specs.Jobs.{bound, build, check, count, exec, resumed, run, save, save_from, seeded, spec_of};
 
 use crate::job::Job;
 use crate::seed::seed_of;
@@ -25,7 +26,11 @@ pub(crate) fn command_line<'a>(alloc: Global) -> Result<Command<'a>, AllocError>
         .subcommand(one_command(alloc, "build")?)?
         .subcommand(two_command(alloc, "run")?)?
         .subcommand(three_command(alloc, "walk")?)?
-        .subcommand(two_command(alloc, "exec")?)
+        .subcommand(two_command(alloc, "exec")?)?
+        .subcommand(one_command(alloc, "bound")?)?
+        .subcommand(two_command(alloc, "count")?)?
+        .subcommand(two_or_three_command(alloc, "save")?)?
+        .subcommand(three_command(alloc, "resume")?)
 }
 
 fn one_command<'a>(alloc: Global, name: &'a str) -> Result<Command<'a>, AllocError>
@@ -52,6 +57,14 @@ fn three_command<'a>(alloc: Global, name: &'a str) -> Result<Command<'a>, AllocE
     two_command(alloc, name)?.arg(third)
 }
 
+fn two_or_three_command<'a>(alloc: Global, name: &'a str) -> Result<Command<'a>, AllocError>
+    ensures { IfOk result (λ command. (app_of command ≡ two_or_three_command name.now)
+        × ((out-Command command).has_globals ≡ false)) }
+{
+    let third = Arg::new(alloc, "third");
+    two_command(alloc, name)?.arg(third)
+}
+
 /// The job of the command that was read.
 pub(crate) fn job_read<'a>(matches: &ArgMatches<'a>) -> Option<Job<'a>>
     ensures { option_map spec_of result ≡ job_read (subcommand_rows_of matches.now) }
@@ -63,6 +76,10 @@ pub(crate) fn job_read<'a>(matches: &ArgMatches<'a>) -> Option<Job<'a>>
         "run" => run_read(values),
         "walk" => walk_read(values),
         "exec" => exec_read(values),
+        "bound" => bound_read(values),
+        "count" => count_read(values),
+        "save" => save_read(values),
+        "resume" => resume_read(values),
         _ => None,
     }
 }
@@ -112,4 +129,50 @@ fn exec_read<'a>(values: &ArgMatches<'a>) -> Option<Job<'a>>
     let text = values.get_str("first")?;
     let rows = values.get_str("second")?;
     Some(Job::Exec { text, rows })
+}
+
+fn bound_read<'a>(values: &ArgMatches<'a>) -> Option<Job<'a>>
+    ensures { option_map spec_of result
+        ≡ one_read bound (first_value (found_of values.now) (codes "first")) }
+{
+    let text = values.get_str("first")?;
+    Some(Job::Bound { text })
+}
+
+fn count_read<'a>(values: &ArgMatches<'a>) -> Option<Job<'a>>
+    ensures { option_map spec_of result
+        ≡ two_read count (first_value (found_of values.now) (codes "first"))
+        (first_value (found_of values.now) (codes "second")) }
+{
+    let text = values.get_str("first")?;
+    let rows = values.get_str("second")?;
+    Some(Job::Count { text, rows })
+}
+
+fn save_read<'a>(values: &ArgMatches<'a>) -> Option<Job<'a>>
+    ensures { option_map spec_of result
+        ≡ two_or_three_read save save_from (first_value (found_of values.now) (codes "first"))
+        (first_value (found_of values.now) (codes "second")) (first_value (found_of values.now) (codes "third")) }
+{
+    let text = values.get_str("first")?;
+    let second = values.get_str("second")?;
+    match values.get_str("third") {
+        Some(rows) => Some(Job::SaveFrom {
+            text,
+            state: second,
+            rows,
+        }),
+        None => Some(Job::Save { text, rows: second }),
+    }
+}
+
+fn resume_read<'a>(values: &ArgMatches<'a>) -> Option<Job<'a>>
+    ensures { option_map spec_of result
+        ≡ three_read resumed (first_value (found_of values.now) (codes "first"))
+        (first_value (found_of values.now) (codes "second")) (first_value (found_of values.now) (codes "third")) }
+{
+    let text = values.get_str("first")?;
+    let state = values.get_str("second")?;
+    let rows = values.get_str("third")?;
+    Some(Job::Resume { text, state, rows })
 }

@@ -44,6 +44,43 @@ pub enum Job<'a> {
         /// The name of the file of rows.
         rows: &'a str,
     },
+    /// Say how many C statements each function of a C text can execute.
+    Bound {
+        /// The name of the file with the C text.
+        text: &'a str,
+    },
+    /// Say how many C statements each tick of a C text executes over rows of input.
+    Count {
+        /// The name of the file with the C text.
+        text: &'a str,
+        /// The name of the file of rows.
+        rows: &'a str,
+    },
+    /// Run a C text over rows of input, and write the state after them.
+    Save {
+        /// The name of the file with the C text.
+        text: &'a str,
+        /// The name of the file of rows.
+        rows: &'a str,
+    },
+    /// Run a C text from a saved state over rows of input, and write the state after them.
+    SaveFrom {
+        /// The name of the file with the C text.
+        text: &'a str,
+        /// The name of the file with the saved state.
+        state: &'a str,
+        /// The name of the file of rows.
+        rows: &'a str,
+    },
+    /// Run a C text from a saved state over rows of input.
+    Resume {
+        /// The name of the file with the C text.
+        text: &'a str,
+        /// The name of the file with the saved state.
+        state: &'a str,
+        /// The name of the file of rows.
+        rows: &'a str,
+    },
 }
 
 /// Memory ran out before the words were read.
@@ -58,9 +95,10 @@ impl From<AllocError> for NoMemory {
 }
 
 /// The job that `words` ask for, those after the program's name; `None` where they ask for none. The first word is
-/// a command's name, exactly as it is written, and the command says how many words follow it; a seed is one or more
-/// decimal digits that write a number below 2 to the 64. No word may be empty or begin with `-`. There is no command
-/// `help`; a file may have that name or a command's.
+/// a command's name, exactly as it is written, and the command says how many words follow it; after `save` a word
+/// between the C text and the rows names a saved state and may be left out. A seed is one or more decimal digits that
+/// write a number below 2 to the 64. No word may be empty or begin with `-`. There is no command `help`; a file may
+/// have that name or a command's.
 pub fn job_of<'a>(alloc: Global, words: &'a [String]) -> Result<Option<Job<'a>>, NoMemory>
     ensures { IfOk result (λ job. option_map spec_of job
         ≡ job_of (map string_bytes words.entry.now)) }

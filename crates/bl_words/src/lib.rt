@@ -17,5 +17,6 @@ pub use job::{Job, NoMemory, files_have_plain_names, job_of};
 pub fn usage() -> &'static str
     ensures { result.now ≡ usage_line }
 {
-    "usage: blechc check P | build P | run P ROWS | walk P ROWS SEED | exec C ROWS\n"
+    "usage: blechc check P | build P | run P ROWS | walk P ROWS SEED | exec C ROWS | bound C | count C ROWS \
+     | save C ROWS | save C STATE ROWS | resume C STATE ROWS\n"
 }

@@ -12,10 +12,11 @@ pub record Laid : Type 0 where
   pub width : ℕ
   pub counters : ℕ → List ℕ
 
--- a part without a place, and one with one
+-- a part without a place to rest
 abbrev pub none_laid : Laid
 none_laid = record { width = 0; counters = λ low. [] }
 
+-- a part with one place to rest
 abbrev pub one_laid : Laid
 one_laid = record { width = 1; counters = λ low. low ∷ [] }
 
@@ -48,6 +49,7 @@ abbrev pub branch_counters : List Laid → ℕ → List ℕ
 branch_counters [] low = []
 branch_counters (branch ∷ rest) low = low ∷ (branch.counters low ++ branch_counters rest (low + branch.width))
 
+-- how one kind of statement is laid out, where its parts are
 abbrev pub kind_laid : StmtKind-F Laid Laid Laid Laid → Laid
 kind_laid (StmtKind-F.Declare k initial) = none_laid
 kind_laid (StmtKind-F.Assign path e) = none_laid
@@ -62,6 +64,7 @@ kind_laid (StmtKind-F.Until body e) = block_laid body
 kind_laid (StmtKind-F.While e body) = block_laid body
 kind_laid (StmtKind-F.Return e) = none_laid
 
+-- how an arm is laid out, where its statements are
 abbrev pub arm_laid : Arm-F Laid Laid Laid Laid → Laid
 arm_laid arm = block_laid arm.body
 
@@ -69,19 +72,23 @@ arm_laid arm = block_laid arm.body
 abbrev pub branch_laid : Branch-F Laid Laid Laid Laid → Laid
 branch_laid branch = record { width = max 1 (greatest (widths branch.body)); counters = λ low. counters_from low branch.body }
 
+-- a statement is laid out as its kind is
 abbrev pub stmt_laid : Stmt-F Laid Laid Laid Laid → Laid
 stmt_laid s = s.what
 
--- a statement, its kind, an arm and a branch
+-- how a statement is laid out
 abbrev pub laid : Stmt → Laid
 laid = fold-Stmt Laid Laid Laid Laid kind_laid arm_laid branch_laid stmt_laid
 
+-- how a kind of statement is laid out
 abbrev pub laid_kind : StmtKind → Laid
 laid_kind = fold-StmtKind Laid Laid Laid Laid kind_laid arm_laid branch_laid stmt_laid
 
+-- how an arm is laid out
 abbrev pub laid_arm : Arm → Laid
 laid_arm = fold-Arm Laid Laid Laid Laid kind_laid arm_laid branch_laid stmt_laid
 
+-- how a branch is laid out
 abbrev pub laid_branch : Branch → Laid
 laid_branch = fold-Branch Laid Laid Laid Laid kind_laid arm_laid branch_laid stmt_laid
 

@@ -4,9 +4,11 @@ use Rattle.bl_cparse.specs.declared.refusal.CRefusal.{CRefusal}
 use Rattle.bl_cparse.specs.declared.refusal.CRefusal.TheVariants as text
 use Rattle.bl_crun.specs.declared.fault.LoadFault.{LoadFault}
 use Rattle.bl_crun.specs.declared.fault.LoadFault.TheVariants as load
+use Rattle.bl_save.specs.declared.fault.StateFault.{StateFault}
+use Rattle.bl_save.specs.declared.fault.StateFault.TheVariants as state
 use Rattle.bl_stream.specs.declared.finish.Finish.{Finish}
 use Rattle.bl_stream.specs.declared.finish.Finish.TheVariants as finish
-use Rattle.bl_top.specs.Notes.{bad_rows_line, line_of, not_subset_line, too_large_line}
+use Rattle.bl_top.specs.Notes.{bad_rows_line, bad_state_line, line_of, not_subset_line, too_large_line}
 use Rattle.bl_top.specs.Refusals.{refusal_line}
 use Rattle.bl_top.specs.declared.answer.Answer.{Answer}
 use Rattle.bl_top.specs.declared.outcome.Outcome.{Outcome}
@@ -21,6 +23,7 @@ chosen_line status.Refused own = own
 chosen_line status.BadRows own = own
 chosen_line status.NotSubset own = own
 chosen_line status.TooLarge own = own
+chosen_line status.BadState own = own
 chosen_line ended own = line_of ended
 
 -- the line of an outcome
@@ -50,6 +53,10 @@ abbrev pub IsEndAtLoad : LoadFault → Outcome → Type 0
 IsEndAtLoad (load.IllFormed at) outcome = IsTold status.NotSubset (not_subset_line at.start) outcome
 IsEndAtLoad (load.TooLarge cells) outcome = IsTold status.TooLarge (too_large_line cells) outcome
 IsEndAtLoad load.NoMemory outcome = outcome.status ≡ status.NoMemory
+
+-- of bytes that are no saved state for this
+abbrev pub IsEndAtState : StateFault → Outcome → Type 0
+IsEndAtState (state.BadState at) outcome = IsTold status.BadState (bad_state_line at) outcome
 
 -- the status of a run that ended so
 abbrev pub status_of : Finish → Status

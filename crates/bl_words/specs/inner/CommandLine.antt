@@ -5,7 +5,7 @@ use Rattle.std.specs.Str.{bytes_eq}
 use Rattle.clap.specs.Words.{App, Row, Rule, Shape, Text, first_of, new_app, new_rule}
 use Rattle.clap.specs.Words.{with_rule, with_subcommand}
 use Rattle.clap.specs.Simple.{on_top}
-use Rattle.bl_words.specs.Jobs.{JobSpec, build, check, exec, run, seeded}
+use Rattle.bl_words.specs.Jobs.{JobSpec, bound, build, check, count, exec, resumed, run, save, save_from, seeded}
 
 -- a value that has to be there, read back by this name
 abbrev pub required_value : Text → Rule
@@ -23,6 +23,10 @@ two_command name = with_rule (one_command name) (required_value (codes "second")
 abbrev pub three_command : Text → App
 three_command name = with_rule (two_command name) (required_value (codes "third"))
 
+-- the command of this name with two values, and a third that may be left out
+abbrev pub two_or_three_command : Text → App
+two_or_three_command name = with_rule (two_command name) (new_rule (codes "third"))
+
 -- a command that has to be named, and no help and no version
 abbrev pub with_own_words_only : Shape → Shape
 with_own_words_only s = record s {
@@ -36,12 +40,17 @@ with_own_words_only s = record s {
 -- the program with all its commands
 abbrev pub command_line : App
 command_line = with_subcommand (with_subcommand (with_subcommand (with_subcommand (with_subcommand
+    (with_subcommand (with_subcommand (with_subcommand (with_subcommand
     (on_top with_own_words_only (new_app (codes "blechc")))
     (one_command (codes "check")).top)
     (one_command (codes "build")).top)
     (two_command (codes "run")).top)
     (three_command (codes "walk")).top)
-    (two_command (codes "exec")).top
+    (two_command (codes "exec")).top)
+    (one_command (codes "bound")).top)
+    (two_command (codes "count")).top)
+    (two_or_three_command (codes "save")).top)
+    (three_command (codes "resume")).top
 
 -- the job of one value that was read
 abbrev pub one_read : (Text → JobSpec) → Option Text → Option JobSpec
@@ -55,13 +64,22 @@ two_read job first second = option_and_then (λ word. option_map (job word) seco
 abbrev pub three_read : (Text → Text → Text → Option JobSpec) → Option Text → Option Text → Option Text → Option JobSpec
 three_read job first second third = option_and_then (λ a. option_and_then (λ b. option_and_then (job a b) third) second) first
 
+-- the job of two values that were read, or the other one where a third was
+abbrev pub two_or_three_read : (Text → Text → JobSpec) → (Text → Text → Text → JobSpec) → Option Text → Option Text → Option Text → Option JobSpec
+two_or_three_read job further first second None = two_read job first second
+two_or_three_read job further first second (Some third) = two_read (λ a b. further a b third) first second
+
 -- the job of the command of this name, by the values that were read for it
 abbrev pub named_read : Text → Option Text → Option Text → Option Text → Option JobSpec
 named_read name first second third = if bytes_eq (codes "check") name then one_read check first
     else (if bytes_eq (codes "build") name then one_read build first
     else (if bytes_eq (codes "run") name then two_read run first second
     else (if bytes_eq (codes "walk") name then three_read seeded first second third
-    else (if bytes_eq (codes "exec") name then two_read exec first second else None))))
+    else (if bytes_eq (codes "exec") name then two_read exec first second
+    else (if bytes_eq (codes "bound") name then one_read bound first
+    else (if bytes_eq (codes "count") name then two_read count first second
+    else (if bytes_eq (codes "save") name then two_or_three_read save save_from first second third
+    else (if bytes_eq (codes "resume") name then three_read resumed first second third else None))))))))
 
 -- the job of the command that was read
 abbrev pub job_read : Option (Text × List Row) → Option JobSpec

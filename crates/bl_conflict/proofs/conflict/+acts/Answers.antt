@@ -33,7 +33,7 @@ branches-clash-best-requires-clause-known t c =
     let x = parallel_of_branch branch in
     let body = ap (λ body. together (map parallel_of body)) c.deref.ensures ∙ sym (branch_out branch) in
     let writes : c.block.new.writes ≡ c.loop-branch.writes ++ x.writes = c.in_ok-best.ensures.writes ∙ ap (λ p. c.loop-branch.writes ++ p.writes) body in
-    subst (Knows c.loop-branch.roots)
+    subst (Knows c.loop-branch.touched)
     (sym (front_is c.loop-branch.writes c.block.new.writes c.deref-in-loop-branch.result.now x.writes c.len-start.result
     c.len-mark.result writes c.deref-in-loop-branch.ensures c.len-mark.ensures))
     c.loop-branch.invariant.1.1.1
@@ -47,9 +47,9 @@ branches-loop-branch-preserved t c =
     let writes : c.block.new.writes ≡ c.loop-branch.writes ++ x.writes = c.in_ok-best.ensures.writes ∙ ap (λ p. c.loop-branch.writes ++ p.writes) body in
     let best : c.in_ok-best.best ≡ first_of c.loop-branch.best (all_clashes c.args.vars.now x.splits) =
     c.in_ok-best.ensures.best ∙ ap (λ p. first_of c.loop-branch.best (all_clashes c.args.vars.now p.splits)) body in
-    let known = known_both c.note.new.roots (drop c.len-start.result c.loop-branch.writes) x.writes
+    let known = known_both c.note.new.touched (drop c.len-start.result c.loop-branch.writes) x.writes
     (c.in_ok-note.ensures.keeps (drop c.len-start.result c.loop-branch.writes) c.loop-branch.invariant.1.1.1)
-    (subst (Knows c.note.new.roots)
+    (subst (Knows c.note.new.touched)
     (rest_is c.deref-in-loop-branch-2.result.now x.writes c.len-mark.result
     (behind_is c.loop-branch.writes c.block.new.writes c.deref-in-loop-branch-2.result.now x.writes c.len-mark.result writes
     c.deref-in-loop-branch-2.ensures c.len-mark.ensures))
@@ -61,7 +61,7 @@ branches-loop-branch-preserved t c =
           branch_step c.args.vars.now c.loop-branch.writes c.block.new.writes c.deref-in-loop-branch.result.now c.len-start.result
               c.len-mark.result _ _ x c.loop-branch.best c.in_ok-best.best c.clash-best.result _
               step writes c.deref-in-loop-branch.ensures c.len-mark.ensures c.loop-branch.invariant.0 best c.clash-best.ensures c.loop-branch.invariant.1.1.0,
-          subst (Knows c.note.new.roots) (sym (grown_is c.loop-branch.writes c.block.new.writes x.writes c.len-start.result writes
+          subst (Knows c.note.new.touched) (sym (grown_is c.loop-branch.writes c.block.new.writes x.writes c.len-start.result writes
               c.loop-branch.invariant.0)) known,
         ),
       ),

@@ -25,4 +25,4 @@ invariant-branches-loop-branch l =
     × ((first_of l.best (all_clashes l.vars (splits_after (drop l.start l.writes)
     (map parallel_of_branch (drop l.branch-index l.all))))
     ≡ first_of l.initial.best (all_clashes l.vars (splits_after [] (map parallel_of_branch l.all))))
-    × Knows l.roots (drop l.start l.writes)))
+    × Knows l.touched (drop l.start l.writes)))

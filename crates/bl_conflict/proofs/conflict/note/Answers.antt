@@ -7,8 +7,8 @@ pub loop-write-preserved : goal.loop-write-preserved
 loop-write-preserved c =
     let x = c.write-item.result in
     let before = take c.loop-write.write-index c.args.writes.now in (
-      subst (Knows c.add_root.new.roots) (sym (take_next c.args.writes.now c.loop-write.write-index x c.loop-write-test.true c.write-item.is))
-          (known_both c.add_root.new.roots before (x ∷ []) (known_still c.loop-write.roots c.add_root.new.roots before
-          c.in_ok-add_root.ensures.keeps c.loop-write.invariant.0) (c.in_ok-add_root.ensures.has, tt)),
-      λ earlier known. known_still c.loop-write.roots c.add_root.new.roots earlier c.in_ok-add_root.ensures.keeps (c.loop-write.invariant.1 earlier known),
+      subst (Knows c.add.new.self) (sym (take_next c.args.writes.now c.loop-write.write-index x c.loop-write-test.true c.write-item.is))
+          (known_both c.add.new.self before (x ∷ []) (known_still c.loop-write.touched c.add.new.self before
+          c.in_ok-add.ensures.keeps c.loop-write.invariant.0) (c.in_ok-add.ensures.has, tt)),
+      λ earlier known. known_still c.loop-write.touched c.add.new.self earlier c.in_ok-add.ensures.keeps (c.loop-write.invariant.1 earlier known),
     )

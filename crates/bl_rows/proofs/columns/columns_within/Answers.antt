@@ -39,7 +39,8 @@ window vars first count begin end b e = go (nat_le first (length vars)) refl
         let same : begin ≡ first = omega arith in
         let size : length (drop first vars) ≡ length vars - first = length-drop first vars in
         let many : end - begin ≡ min count (length (drop first vars)) = omega arith in
-        ap (λ n. take n (drop begin vars)) many ∙ ap (λ n. take (min count (length (drop first vars))) (drop n vars)) same ∙ take_min count (drop first vars)
+        ap (λ n. take n (drop begin vars)) many ∙
+        ap (λ n. take (min count (length (drop first vars))) (drop n vars)) same ∙ take_min count (drop first vars)
     go false t =
         let high : length vars ≤ first = grind (arith, nat_tests) in
         let same : begin ≡ length vars = omega arith in

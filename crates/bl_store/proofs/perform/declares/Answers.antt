@@ -2,7 +2,7 @@ use Rattle.std.proofs.Common.{List, Option, ap, subst, sym, refl, Some, [], ◌�
 use Rattle.std.specs.Prelude.{option_map, slice_get}
 use Rattle.bl_tree.specs.declared.value.Value.{Value}
 use Rattle.bl_ctree.specs.Positions.{stmt_kind}
-use Rattle.bl_ctree.specs.Store.{Store, put_written, remember, with_frame}
+use Rattle.bl_ctree.specs.Store.{Store, home, put_written, remember, with_frame}
 use Rattle.bl_tree.specs.Static.{whole}
 use Rattle.bl_store.specs.Agree.{roots_of_act}
 use Rattle.bl_store.specs.Deeds.{Carried, outcome_by}
@@ -54,5 +54,7 @@ returns c =
     ∙ ap (option_map (λ (values : List Value). with_frame c.args.i (remember c.args.k)
     (put_written w c.args.i values (whole c.args.k ∷ []) store))) c.in-Some.is
     ∙ ap (λ store. Some (with_frame c.args.i (remember c.args.k) store))
-    (one_put w c.args.i c.args.k c.in-Some.variables value (location_of c.in_ok-at-in-Some-element.at) store found c.in_ok-at-in-Some-element.ensures) in
+    (one_put w c.args.i c.args.k c.in-Some.variables value (location_of c.in_ok-at-in-Some-element.at) store found
+    (c.in_ok-at-in-Some-element.ensures
+    ∙ ap (λ fields. home w (record { instance = c.args.i; path = record { root = c.args.k; fields = fields } })) c.new.ensures)) in
     subst (λ (outcome : Option Store). Carried outcome store (store_of c.declare.new.frames.items) c.declare.result) (sym outcome) c.declare.ensures

@@ -1,7 +1,8 @@
 -- Each command's end is that of the job; where there is none nothing is written.
 use Rattle.std.proofs.Common.{rules}
 use Rattle.bl_top.proofs.Cuts.{kept_same, reads_nothing}
-use Rattle.bl_top.proofs.Ends.{answers_alone, answers_build, answers_check, answers_exec, answers_none, answers_run, answers_short, answers_walk}
+use Rattle.bl_top.proofs.Ends.{answers_alone, answers_bound, answers_build, answers_check, answers_count, answers_exec, answers_none, answers_resume}
+use Rattle.bl_top.proofs.Ends.{answers_run, answers_save, answers_save_from, answers_short, answers_walk}
 use Rattle.bl_top.proofs.call.answer.Goals as goal
 
 pub returns-in-Ok-Some-Check-clause-answers : goal.returns-in-Ok-Some-Check-clause-answers
@@ -26,6 +27,32 @@ pub returns-in-Ok-Some-Exec-clause-answers : goal.returns-in-Ok-Some-Exec-clause
 returns-in-Ok-Some-Exec-clause-answers g c = λ notes.
     answers_alone _ _ c.alone-in-Ok-Some-Exec.result c.exec.result c.alone-in-Ok-Some-Exec.ensures.outcome c.alone-in-Ok-Some-Exec.ensures.lines
     (answers_exec _ _ _ _ _ _ (search rules) (c.exec.ensures.ends notes))
+
+pub returns-in-Ok-Some-Bound-clause-answers : goal.returns-in-Ok-Some-Bound-clause-answers
+returns-in-Ok-Some-Bound-clause-answers g c = λ notes.
+    answers_alone _ _ c.alone-in-Ok-Some-Bound.result c.bound.result c.alone-in-Ok-Some-Bound.ensures.outcome c.alone-in-Ok-Some-Bound.ensures.lines
+    (answers_bound _ _ _ _ _ (search rules) (c.bound.ensures.ends notes))
+
+pub returns-in-Ok-Some-Count-clause-answers : goal.returns-in-Ok-Some-Count-clause-answers
+returns-in-Ok-Some-Count-clause-answers g c = λ notes.
+    answers_alone _ _ c.alone-in-Ok-Some-Count.result c.count.result c.alone-in-Ok-Some-Count.ensures.outcome c.alone-in-Ok-Some-Count.ensures.lines
+    (answers_count _ _ _ _ _ _ (search rules) (c.count.ensures.ends notes))
+
+pub returns-in-Ok-Some-Save-clause-answers : goal.returns-in-Ok-Some-Save-clause-answers
+returns-in-Ok-Some-Save-clause-answers g c = λ notes.
+    answers_alone _ _ c.alone-in-Ok-Some-Save.result c.save.result c.alone-in-Ok-Some-Save.ensures.outcome c.alone-in-Ok-Some-Save.ensures.lines
+    (answers_save _ _ _ _ _ _ (search rules) (c.save.ensures.ends notes))
+
+pub returns-in-Ok-Some-SaveFrom-clause-answers : goal.returns-in-Ok-Some-SaveFrom-clause-answers
+returns-in-Ok-Some-SaveFrom-clause-answers g c = λ notes.
+    answers_alone _ _ c.alone-in-Ok-Some-SaveFrom.result c.save_from.result c.alone-in-Ok-Some-SaveFrom.ensures.outcome
+    c.alone-in-Ok-Some-SaveFrom.ensures.lines
+    (answers_save_from _ _ _ _ _ _ _ (search rules) (c.save_from.ensures.ends notes))
+
+pub returns-in-Ok-Some-Resume-clause-answers : goal.returns-in-Ok-Some-Resume-clause-answers
+returns-in-Ok-Some-Resume-clause-answers g c = λ notes.
+    answers_alone _ _ c.alone-in-Ok-Some-Resume.result c.resume.result c.alone-in-Ok-Some-Resume.ensures.outcome c.alone-in-Ok-Some-Resume.ensures.lines
+    (answers_resume _ _ _ _ _ _ _ (search rules) (c.resume.ensures.ends notes))
 
 pub returns-in-Ok-None-clause-answers : goal.returns-in-Ok-None-clause-answers
 returns-in-Ok-None-clause-answers g c = λ notes.

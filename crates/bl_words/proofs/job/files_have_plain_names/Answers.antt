@@ -20,7 +20,9 @@ use Rattle.std.proofs.Common.{
 }
 use Rattle.std.specs.List.{list_all}
 use Rattle.std.specs.Str.{bytes_eq}
-use Rattle.bl_words.specs.Jobs.{JobSpec, Word, build, check, command_job, exec, files_of, is_plain_word, job_of, of_one, of_three, of_two, run, seed_of, seeded}
+use Rattle.bl_words.specs.Jobs.{JobSpec, Word, bound, build, check, command_job, count}
+use Rattle.bl_words.specs.Jobs.{exec, files_of, is_plain_word, job_of, of_one, of_three, of_two, of_two_or_three}
+use Rattle.bl_words.specs.Jobs.{resumed, run, save, save_from, seed_of, seeded}
 use Rattle.bl_words.proofs.Program.{others_plain}
 use Rattle.bl_words.proofs.job.files_have_plain_names.Goals as goal
 
@@ -53,6 +55,21 @@ two_of_three true true c e = refl
 two_of_three true false c e = e
 two_of_three false b c e = e
 
+-- where three words ask for a job whose files are the first two of them, or all three
+two_or_three_plain : (values : List Word) → list_all is_plain_word values ≡ true → IfSome (of_two_or_three save save_from values) HasPlainFiles
+two_or_three_plain [] plain = tt
+two_or_three_plain (first ∷ []) plain = tt
+two_or_three_plain (first ∷ second ∷ []) plain = plain
+two_or_three_plain (first ∷ second ∷ third ∷ []) plain = plain
+two_or_three_plain (first ∷ second ∷ third ∷ next ∷ more) plain = tt
+
+resume_plain : (values : List Word) → list_all is_plain_word values ≡ true → IfSome (of_three resumed values) HasPlainFiles
+resume_plain [] plain = tt
+resume_plain (first ∷ []) plain = tt
+resume_plain (first ∷ second ∷ []) plain = tt
+resume_plain (first ∷ second ∷ third ∷ []) plain = plain
+resume_plain (first ∷ second ∷ third ∷ next ∷ more) plain = tt
+
 three_plain : (values : List Word) → list_all is_plain_word values ≡ true → IfSome (of_three seeded values) HasPlainFiles
 three_plain [] plain = tt
 three_plain (first ∷ []) plain = tt
@@ -72,7 +89,11 @@ command_plain name values plain =
     trying (bytes_eq (codes "build") name) _ _ (one_plain build (λ first. refl) values plain) (
     trying (bytes_eq (codes "run") name) _ _ (two_plain run (λ first second. refl) values plain) (
     trying (bytes_eq (codes "walk") name) _ _ (three_plain values plain) (
-    trying (bytes_eq (codes "exec") name) _ _ (two_plain exec (λ first second. refl) values plain) tt))))
+    trying (bytes_eq (codes "exec") name) _ _ (two_plain exec (λ first second. refl) values plain) (
+    trying (bytes_eq (codes "bound") name) _ _ (one_plain bound (λ first. refl) values plain) (
+    trying (bytes_eq (codes "count") name) _ _ (two_plain count (λ first second. refl) values plain) (
+    trying (bytes_eq (codes "save") name) _ _ (two_or_three_plain values plain) (
+    trying (bytes_eq (codes "resume") name) _ _ (resume_plain values plain) tt))))))))
 
 job_plain : (words : List Word) → IfSome (job_of words) HasPlainFiles
 job_plain [] = tt

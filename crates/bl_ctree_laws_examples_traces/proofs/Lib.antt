@@ -1,0 +1,5 @@
+pub mod Ordering
+pub mod Passing
+pub mod Placed
+pub mod Running
+pub mod Standing

@@ -1,0 +1,9 @@
+pub mod Asking
+pub mod Casts
+pub mod Ends
+pub mod Finding
+pub mod Going
+pub mod Lists
+pub mod Playing
+pub mod Ranges
+pub mod Rounds

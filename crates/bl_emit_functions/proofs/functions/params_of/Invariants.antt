@@ -1,0 +1,6 @@
+use Rattle.std.proofs.Common.{◌≡◌, ◌++◌, drop}
+use Rattle.bl_emit_functions.specs.Functions.{params_from}
+use Rattle.bl_emit_functions.proofs.functions.params_of.Given as goal
+
+abbrev pub invariant-loop-k : goal.invariant-loop-k
+invariant-loop-k l = l.made ++ params_from l.structs l.k (drop l.k l.vars) ≡ params_from l.structs 0 l.vars

@@ -1,0 +1,153 @@
+-- The C functions of functions.
+use Rattle.std.specs.Prelude.{ℕ, zero, suc, ◌+◌, Bool, true, false, ◌||◌, List, [], ◌∷◌, ◌++◌, map, Option, Some, None, codes, is_none, option_map}
+use Rattle.std.specs.List.{list_any}
+use Rattle.bl_tree.specs.declared.text.Text.{Text}
+use Rattle.bl_tree.specs.declared.c.CFunc.{CFunc}
+use Rattle.bl_tree.specs.declared.c.CLocal.{CLocal}
+use Rattle.bl_tree.specs.declared.c.CMember.{CMember}
+use Rattle.bl_tree.specs.declared.c.CParam.{CParam}
+use Rattle.bl_tree.specs.declared.c.CStmt.{CStmt}
+use Rattle.bl_tree.specs.declared.c.CStruct.{CStruct}
+use Rattle.bl_tree.specs.declared.c.CType.TheVariants.{Scalar as OfScalar, Struct as OfStruct}
+use Rattle.bl_tree.specs.declared.scalar.Scalar.{Scalar as ScalarType}
+use Rattle.bl_tree.specs.declared.scalar.Scalar.TheVariants.{Bool as OfBool}
+use Rattle.bl_tree.specs.declared.tree.Stmt.{Stmt}
+use Rattle.bl_tree.specs.declared.tree.StructDef.{StructDef}
+use Rattle.bl_tree.specs.declared.tree.Unit.{Unit as UnitDef}
+use Rattle.bl_tree.specs.declared.tree.Var.{Var}
+use Rattle.bl_tree.specs.Program.{is_output, parameters_of}
+use Rattle.bl_tree.specs.Returns.{is_return}
+use Rattle.bl_tree.specs.Types.{scalar_in}
+use Rattle.bl_tree.specs.Typing.{Site, inputs_of, site_of}
+use Rattle.bl_emit_acts.specs.Acts.{c_set}
+use Rattle.bl_emit_acts.specs.declared.home.Home.{Home}
+use Rattle.bl_emit_acts.specs.declared.home.Home.TheVariants.{Held, Given, Lent}
+use Rattle.bl_emit_acts.specs.Places.{home_of, place_in}
+use Rattle.bl_emit_acts.specs.Trees.{c_place, c_read, nowhere}
+use Rattle.bl_emit_acts.specs.Types.{c_scalar, c_type, unit_name, variable_name}
+use Rattle.bl_emit_functions.specs.declared.coded.Coded.{Coded}
+use Rattle.bl_emit_functions.specs.declared.coded.Free.{Free}
+use Rattle.bl_emit_functions.specs.Statements.{block_codes, codes_of}
+use Rattle.bl_emit_functions.specs.Trees.{c_return_zero, flag_name}
+
+-- ---- parameters
+
+-- a parameter: a scalar input by value, all others by pointer
+abbrev pub param_of : List StructDef → ℕ → Var → CParam
+param_of structs k var = record { ty = c_type structs var.ty; pointer = is_output var.role || is_none (scalar_in var.ty); name = variable_name k }
+
+-- the parameters for variables, the first of which is at this position of its unit
+abbrev pub params_from : List StructDef → ℕ → List Var → List CParam
+params_from structs k [] = []
+params_from structs k (var ∷ rest) = param_of structs k var ∷ params_from structs (k + 1) rest
+
+-- ---- variables
+
+-- the member of a variable
+abbrev pub held_member : List StructDef → ℕ → Var → CMember
+held_member structs k var = record { ty = c_type structs var.ty; name = variable_name k; length = None }
+
+-- whether the unit holds what has this home
+abbrev pub is_held : Home → Bool
+is_held Held = true
+is_held Given = false
+is_held Lent = false
+
+-- the member of a variable that the unit holds; others have none
+abbrev pub member_of : Bool → List StructDef → ℕ → Var → List CMember
+member_of true structs k var = held_member structs k var ∷ []
+member_of false structs k var = []
+
+-- the members of the variables that the unit holds, of those from this position on
+abbrev pub members_from : Site → ℕ → List Var → List CMember
+members_from site k [] = []
+members_from site k (var ∷ rest) = member_of (is_held (home_of site (Some var))) site.structs k var ++ members_from site (k + 1) rest
+
+-- the members of the variables that a function holds
+abbrev pub members_of : List StructDef → List UnitDef → UnitDef → List CMember
+members_of structs earlier unit = members_from (site_of structs earlier unit) 0 unit.vars
+
+-- the name of the struct of the variables that a unit holds
+abbrev pub memory_name : Text → Text
+memory_name name = codes "m_" ++ name
+
+-- the struct of these members; none where there are none
+abbrev pub struct_of : Text → List CMember → List CStruct
+struct_of name [] = []
+struct_of name (member ∷ rest) = record { place = nowhere; name = memory_name name; members = member ∷ rest } ∷ []
+
+-- the struct of the variables that a function holds
+abbrev pub memory_struct : List StructDef → List UnitDef → UnitDef → List CStruct
+memory_struct structs earlier unit = struct_of unit.name (members_of structs earlier unit)
+
+-- whether the unit holds one of the variables
+abbrev pub holds_any : Site → List Var → Bool
+holds_any site vars = list_any (λ var. is_held (home_of site (Some var))) vars
+
+-- the local that is the struct of the variables, where there are any
+abbrev pub memory_local : Text → Bool → List CLocal
+memory_local name true = record { ty = OfStruct (memory_name name); name = codes "m" } ∷ []
+memory_local name false = []
+
+-- a flag as a local
+abbrev pub flag_local : ℕ → CLocal
+flag_local k = record { ty = OfScalar OfBool; name = flag_name k }
+
+-- so many flags
+abbrev pub flag_locals : ℕ → List CLocal
+flag_locals zero = []
+flag_locals (suc n) = flag_locals n ++ flag_local n ∷ []
+
+-- ---- bodies
+
+-- a variable becomes what the parameter of its name points to
+abbrev pub c_input_copied : Site → ℕ → CStmt
+c_input_copied site k = c_set (place_in site k []) (c_read (c_place true (variable_name k) []))
+
+-- an input that the unit holds is copied from what its parameter points to; others aren't
+abbrev pub input_copied : Site → Home → ℕ → List CStmt
+input_copied site Held k = c_input_copied site k ∷ []
+input_copied site Given k = []
+input_copied site Lent k = []
+
+-- the copies of these inputs, the first of which is at this position
+abbrev pub copies_from : Site → ℕ → List Var → List CStmt
+copies_from site k [] = []
+copies_from site k (var ∷ rest) = input_copied site (home_of site (Some var)) k ++ copies_from site (k + 1) rest
+
+-- whether the last statement is a `return`; the first answer where there is none
+abbrev pub returns_last : Bool → List Stmt → Bool
+returns_last last [] = last
+returns_last last (s ∷ rest) = returns_last (is_return s) rest
+
+-- A function with a result ends in C with a `return`: a C compiler doesn't see that each way through the body before it returns
+abbrev pub end_code : Option ScalarType → Bool → List CStmt
+end_code (Some s) false = c_return_zero (c_scalar s) ∷ []
+end_code (Some s) true = []
+end_code None returns = []
+
+-- no number is taken yet
+abbrev pub none_taken : Free
+none_taken = record { flags = 0; turns = 0 }
+
+-- the C of the statements of a function
+abbrev pub body_coded : Site → UnitDef → Coded
+body_coded site unit = block_codes (map (codes_of site) unit.body) none_taken
+
+-- the body of the C function of a function
+abbrev pub body_code : Site → UnitDef → List CStmt
+body_code site unit =
+    copies_from site 0 (inputs_of unit) ++ ((body_coded site unit).code ++ end_code unit.result (returns_last false unit.body))
+
+-- the C function of a function
+abbrev pub function_code : List StructDef → List UnitDef → UnitDef → CFunc
+function_code structs earlier unit = record {
+  place = nowhere;
+  fixed = true;
+  result = option_map c_scalar unit.result;
+  name = unit_name unit.name;
+  params = params_from structs 0 (parameters_of unit);
+  locals = memory_local unit.name (holds_any (site_of structs earlier unit) unit.vars)
+      ++ flag_locals (body_coded (site_of structs earlier unit) unit).free.flags;
+  body = body_code (site_of structs earlier unit) unit;
+}

@@ -1,0 +1,321 @@
+//! The C functions of functions, and the structs of their variables.
+
+ghost use Rattle.std.specs.Prelude.{◌≡◌, ◌∷◌, ◌++◌, [], IfOk, Some, false, map, option_map, take};
+ghost use Rattle.bl_tree.specs.Program.{is_output, parameters_of};
+ghost use Rattle.bl_tree.specs.Returns.{is_return};
+ghost use Rattle.bl_tree.specs.Typing.{inputs_of, site_of};
+ghost use Rattle.bl_emit_acts.specs.Places.{home_of};
+ghost use Rattle.bl_emit_acts.specs.Sites.{site_in};
+ghost use Rattle.bl_emit_acts.specs.Types.{c_scalar};
+ghost use Rattle.bl_emit_functions.specs.Functions as functions;
+ghost use Rattle.bl_emit_functions.specs.Trees.{c_return_zero};
+
+use crate::coded::{Coded, Free};
+use crate::homes::{home_of_var, scalar_in, scalar_in_c};
+use crate::parts::{
+    NOWHERE, joined, literal, numbered, prefixed, read, returning, set, single, whole,
+};
+use crate::statements::block;
+use bl_emit_acts::{Home, Site, c_type, variable};
+use bl_tree::c::{CFunc, CLocal, CMember, CParam, CStmt, CStruct, CType};
+use bl_tree::tree::{Role, Stmt, StmtKind, StructDef, Unit, Var};
+use bl_tree::{List, NoMemory, Scalar, Text};
+use std::alloc::Global;
+
+/// The first so many variables.
+fn first(vars: &[Var], count: usize) -> &[Var]
+    ensures { result.now ≡ take count vars.now }
+{
+    if count <= vars.len() {
+        &vars[..count]
+    } else {
+        vars
+    }
+}
+
+/// The C function of a function. `earlier` are the units before it. Fails only for want of memory.
+pub fn function(
+    alloc: Global,
+    structs: &[StructDef],
+    earlier: &[Unit],
+    unit: &Unit,
+) -> Result<CFunc, NoMemory>
+    ensures { IfOk result (λ made. made ≡ functions.function_code structs.now earlier.now unit.now) }
+{
+    let site = site(structs, earlier, unit);
+    let coded = body_coded(alloc, &site, unit)?;
+    let flags = coded.free.flags;
+    let name = prefixed(alloc, "a_", unit.name.as_str())?;
+    let params = params(alloc, structs, unit)?;
+    let locals = locals(alloc, &site, unit, flags)?;
+    let body = body(alloc, &site, unit, coded.code)?;
+    Ok(CFunc {
+        place: NOWHERE,
+        fixed: true,
+        result: type_in_c(unit.result),
+        name,
+        params,
+        locals,
+        body,
+    })
+}
+
+/// What the statements of a unit see.
+fn site<'a>(structs: &'a [StructDef], earlier: &'a [Unit], unit: &'a Unit) -> Site<'a>
+    ensures { site_in result ≡ site_of structs.now earlier.now unit.now }
+{
+    Site {
+        structs,
+        earlier,
+        kind: unit.kind,
+        vars: unit.vars.as_slice(),
+        result: unit.result,
+    }
+}
+
+fn type_in_c(ty: Option<Scalar>) -> Option<Scalar>
+    ensures { result ≡ option_map c_scalar ty }
+{
+    match ty {
+        Some(s) => Some(scalar_in_c(s)),
+        None => None,
+    }
+}
+
+// ---- parameters
+
+fn is_output_role(role: Role) -> bool
+    ensures { result ≡ is_output role }
+{
+    matches!(role, Role::Output)
+}
+
+/// A scalar input is given by value, all others by pointer.
+fn param(alloc: Global, structs: &[StructDef], k: u64, var: &Var) -> Result<CParam, NoMemory>
+    ensures { IfOk result (λ made. made ≡ functions.param_of structs.now k var.now) }
+{
+    let ty = c_type(alloc, structs, &var.ty)?;
+    let name = numbered(alloc, "v", k)?;
+    Ok(CParam {
+        ty,
+        pointer: is_output_role(var.role) || scalar_in(&var.ty).is_none(),
+        name,
+    })
+}
+
+fn params(alloc: Global, structs: &[StructDef], unit: &Unit) -> Result<List<CParam>, NoMemory>
+    ensures { IfOk result (λ made. made ≡ functions.params_from structs.now 0 (parameters_of unit.now)) }
+{
+    let count = unit.inputs as usize + unit.outputs as usize;
+    params_of(alloc, structs, first(&unit.vars, count))
+}
+
+fn params_of(alloc: Global, structs: &[StructDef], vars: &[Var]) -> Result<List<CParam>, NoMemory>
+    ensures { IfOk result (λ made. made ≡ functions.params_from structs.now 0 vars.now) }
+{
+    let mut made = List::new(alloc);
+    for k in 0..vars.len() {
+        made.push(param(alloc, structs, k as u64, &vars[k])?)?;
+    }
+    Ok(made)
+}
+
+// ---- variables
+
+/// The struct of the variables that a function holds; none where it holds none. Fails only for want of memory.
+pub fn memory(
+    alloc: Global,
+    structs: &[StructDef],
+    earlier: &[Unit],
+    unit: &Unit,
+) -> Result<List<CStruct>, NoMemory>
+    ensures { IfOk result (λ made. made ≡ functions.memory_struct structs.now earlier.now unit.now) }
+{
+    let members = members(alloc, &site(structs, earlier, unit), &unit.vars)?;
+    let mut made = List::new(alloc);
+    if !members.is_empty() {
+        made.push(CStruct {
+            place: NOWHERE,
+            name: prefixed(alloc, "m_", unit.name.as_str())?,
+            members,
+        })?;
+    }
+    Ok(made)
+}
+
+/// The members of the variables that the unit holds.
+fn members(alloc: Global, site: &Site, vars: &[Var]) -> Result<List<CMember>, NoMemory>
+    ensures { IfOk result (λ made. made ≡ functions.members_from (site_in site.entry.now) 0 vars.now) }
+{
+    let mut made = List::new(alloc);
+    let mut k: u64 = 0;
+    for var in vars {
+        made = with_member(alloc, made, site, k, var)?;
+        k = k.checked_add(1).ok_or(NoMemory)?;
+    }
+    Ok(made)
+}
+
+/// Members, and behind them that of a variable, where the unit holds it.
+fn with_member(
+    alloc: Global,
+    members: List<CMember>,
+    site: &Site,
+    k: u64,
+    var: &Var,
+) -> Result<List<CMember>, NoMemory>
+    ensures { IfOk result (λ made. made ≡ members
+        ++ functions.member_of (functions.is_held (home_of (site_in site.entry.now) (Some var.now))) (site_in site.entry.now).structs k var.now) }
+{
+    let mut made = members;
+    if is_held(site, var) {
+        made.push(member(alloc, site.structs, k, var)?)?;
+    }
+    Ok(made)
+}
+
+fn is_held(site: &Site, var: &Var) -> bool
+    ensures { result ≡ functions.is_held (home_of (site_in site.entry.now) (Some var.now)) }
+{
+    matches!(home_of_var(site, var), Home::Held)
+}
+
+fn member(alloc: Global, structs: &[StructDef], k: u64, var: &Var) -> Result<CMember, NoMemory>
+    ensures { IfOk result (λ made. made ≡ functions.held_member structs.now k var.now) }
+{
+    let ty = c_type(alloc, structs, &var.ty)?;
+    let name = numbered(alloc, "v", k)?;
+    Ok(CMember {
+        ty,
+        name,
+        length: None,
+    })
+}
+
+fn holds_any(site: &Site, vars: &[Var]) -> bool
+    ensures { result ≡ functions.holds_any (site_in site.entry.now) vars.now }
+{
+    for var in vars {
+        if is_held(site, var) {
+            return true;
+        }
+    }
+    false
+}
+
+/// The struct of the variables that the function holds, and so many flags.
+fn locals(alloc: Global, site: &Site, unit: &Unit, flags: u64) -> Result<List<CLocal>, NoMemory>
+    ensures { IfOk result (λ made. made ≡ functions.memory_local unit.now.name (functions.holds_any (site_in site.entry.now) unit.now.vars)
+        ++ functions.flag_locals flags) }
+{
+    let made = memory_local(alloc, unit, holds_any(site, &unit.vars))?;
+    with_flags(alloc, made, flags)
+}
+
+fn memory_local(alloc: Global, unit: &Unit, holds: bool) -> Result<List<CLocal>, NoMemory>
+    ensures { IfOk result (λ made. made ≡ functions.memory_local unit.now.name holds) }
+{
+    let mut made = List::new(alloc);
+    if holds {
+        made.push(CLocal {
+            ty: CType::Struct(prefixed(alloc, "m_", unit.name.as_str())?),
+            name: Text::copy_of(alloc, "m")?,
+        })?;
+    }
+    Ok(made)
+}
+
+fn with_flags(alloc: Global, locals: List<CLocal>, flags: u64) -> Result<List<CLocal>, NoMemory>
+    ensures { IfOk result (λ made. made ≡ locals ++ functions.flag_locals flags) }
+{
+    let mut made = locals;
+    for k in 0..flags {
+        made.push(CLocal {
+            ty: CType::Scalar(Scalar::Bool),
+            name: numbered(alloc, "q", k)?,
+        })?;
+    }
+    Ok(made)
+}
+
+// ---- bodies
+
+const NONE_TAKEN: Free = Free { flags: 0, turns: 0 };
+
+fn body_coded(alloc: Global, site: &Site, unit: &Unit) -> Result<Coded, NoMemory>
+    ensures { IfOk result (λ coded. coded ≡ functions.body_coded (site_in site.entry.now) unit.now) }
+{
+    block(alloc, site, &unit.body, NONE_TAKEN)
+}
+
+/// The copies of inputs, the C of the statements, and a `return` where one is missing.
+fn body(
+    alloc: Global,
+    site: &Site,
+    unit: &Unit,
+    statements: List<CStmt>,
+) -> Result<List<CStmt>, NoMemory>
+    ensures { IfOk result (λ made. made ≡ functions.copies_from (site_in site.entry.now) 0 (inputs_of unit.now)
+        ++ (statements ++ functions.end_code unit.now.result (functions.returns_last false unit.now.body))) }
+{
+    let copies = copies(alloc, site, first(&unit.vars, unit.inputs as usize))?;
+    let end = end(alloc, unit.result, returns_last(&unit.body))?;
+    joined(copies, joined(statements, end)?)
+}
+
+/// The copies of the inputs that the unit holds.
+fn copies(alloc: Global, site: &Site, inputs: &[Var]) -> Result<List<CStmt>, NoMemory>
+    ensures { IfOk result (λ made. made ≡ functions.copies_from (site_in site.entry.now) 0 inputs.now) }
+{
+    let mut made = List::new(alloc);
+    let mut k: u32 = 0;
+    for var in inputs {
+        if is_held(site, var) {
+            made.push(copy(alloc, site, k)?)?;
+        }
+        k = k.checked_add(1).ok_or(NoMemory)?;
+    }
+    Ok(made)
+}
+
+/// The variable becomes what its parameter points to.
+fn copy(alloc: Global, site: &Site, k: u32) -> Result<CStmt, NoMemory>
+    ensures { IfOk result (λ s. s ≡ functions.c_input_copied (site_in site.entry.now) k) }
+{
+    let to = variable(alloc, site, k, List::new(alloc))?;
+    let from = whole(alloc, true, numbered(alloc, "v", k as u64)?);
+    set(alloc, to, read(from))
+}
+
+fn is_return_statement(s: &Stmt) -> bool
+    ensures { result ≡ is_return s.now }
+{
+    matches!(&s.what, StmtKind::Return(_))
+}
+
+/// Whether the last statement is a `return`.
+fn returns_last(body: &[Stmt]) -> bool
+    ensures { result ≡ functions.returns_last false body.now }
+{
+    let mut last = false;
+    for s in body {
+        last = is_return_statement(s);
+    }
+    last
+}
+
+/// A `return` of 0 or false for a function with a result, where its last statement is none.
+fn end(alloc: Global, ty: Option<Scalar>, returns: bool) -> Result<List<CStmt>, NoMemory>
+    ensures { IfOk result (λ made. made ≡ functions.end_code ty returns) }
+{
+    match ty {
+        Some(s) if !returns => single(alloc, return_zero(alloc, scalar_in_c(s))?),
+        _ => Ok(List::new(alloc)),
+    }
+}
+
+fn return_zero(alloc: Global, s: Scalar) -> Result<CStmt, NoMemory>
+    ensures { IfOk result (λ made. made ≡ c_return_zero s) }
+{
+    returning(alloc, Some(literal(s, 0)))
+}

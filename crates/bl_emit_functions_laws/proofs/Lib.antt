@@ -1,0 +1,6 @@
+mod Bodies
+mod Courses
+mod Flags
+mod Memories
+mod NoPrev
+mod Whole

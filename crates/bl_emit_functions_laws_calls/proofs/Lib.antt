@@ -1,0 +1,10 @@
+mod Apart
+mod Ends
+mod Frame
+mod Handing
+mod Kept
+mod Lists
+mod Params
+mod Procedure
+mod Standing
+mod Zeros

@@ -1,0 +1,25 @@
+-- What is declared so far.
+use Rattle.std.specs.Prelude.{List, [], ◌∷◌, ◌++◌, bytes_eq, if◌then◌else◌}
+use Rattle.std.specs.List.{list_any}
+use Rattle.bl_tree.specs.declared.text.Text.{Text}
+use Rattle.bl_tree.specs.declared.c.CStruct.{CStruct}
+
+-- structs, and the names that are taken
+pub record Collected : Type 0 where
+  pub structs : List CStruct
+  pub taken : List Text
+
+-- no struct yet
+abbrev pub nothing : Collected
+nothing = record { structs = []; taken = [] }
+
+-- with a struct more, unless its name is taken
+abbrev pub added : Collected → CStruct → Collected
+added collected s =
+    if list_any (bytes_eq s.name) collected.taken then collected
+    else record { structs = collected.structs ++ s ∷ []; taken = collected.taken ++ s.name ∷ [] }
+
+-- with these structs, one after another
+abbrev pub after : Collected → List CStruct → Collected
+after collected [] = collected
+after collected (s ∷ rest) = after (added collected s) rest

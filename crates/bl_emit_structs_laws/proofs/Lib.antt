@@ -1,0 +1,5 @@
+mod Known
+mod Members
+mod Named
+mod Needed
+mod Once

@@ -1,0 +1,156 @@
+//! The points of the branches of a `cobegin`, kept from one step to the next.
+
+ghost use Rattle.std.specs.Prelude.{◌≡◌, ◌≢◌, ◌+◌, [], IfOk, IsTrue, length, map, option_map, slice_get};
+ghost use Rattle.bl_store.specs.Seen.{location_of};
+ghost use Rattle.bl_listing.specs.Listing.{IsRight, enabled, flagged, list_at, shown, trues};
+ghost use Rattle.bl_listing.specs.Spots.{spot_of};
+
+use crate::beside::flags;
+use crate::point::Point;
+use bl_store::Home;
+use bl_tree::{List, NoMemory};
+use std::alloc::Global;
+
+/// What is kept of the branches of a `cobegin`, in order.
+#[derive(Drop)]
+pub struct Listing<'a> {
+    /// What each may still write.
+    pub homes: List<List<Home>>,
+    /// The points of each by itself.
+    pub points: List<List<Point<'a>>>,
+    /// Which of these read nothing that another branch may still write.
+    pub free: List<List<bool>>,
+    /// How many these are.
+    pub counts: List<usize>,
+}
+
+/// What is found of one branch.
+#[derive(Drop)]
+pub struct Found<'a> {
+    pub homes: List<Home>,
+    pub points: List<Point<'a>>,
+}
+
+/// How many are true.
+pub fn trues(flags: &[bool]) -> usize
+    ensures { result ≡ trues flags.now }
+{
+    let mut count = 0;
+    for k in 0..flags.len() {
+        if flags[k] {
+            count += 1;
+        }
+    }
+    count
+}
+
+/// The point with number n of those whose flag is true.
+fn nth<'b, 'a>(points: &'b [Point<'a>], flags: &[bool], n: usize) -> Option<&'b Point<'a>>
+    ensures { option_map (λ point. spot_of point.now) result ≡ slice_get (flagged flags.now (map spot_of points.now)) n }
+{
+    let mut left = n;
+    for k in 0..points.len() {
+        if k >= flags.len() {
+            return None;
+        }
+        if flags[k] {
+            if left == 0 {
+                return Some(&points[k]);
+            }
+            left -= 1;
+        }
+    }
+    None
+}
+
+fn sum(a: usize, b: usize) -> Result<usize, NoMemory>
+    ensures { IfOk result (λ n. n ≡ a + b) }
+{
+    match a.checked_add(b) {
+        Some(n) => Ok(n),
+        None => Err(NoMemory),
+    }
+}
+
+impl<'a> Listing<'a> {
+    /// Of branches that may still write to these homes, and have these points each by itself. Fails only for want of memory.
+    pub fn of(
+        alloc: Global,
+        homes: List<List<Home>>,
+        points: List<List<Point<'a>>>,
+    ) -> Result<Listing<'a>, NoMemory>
+        ensures homes { IfOk result (λ made. (shown made).homes ≡ map (map location_of) homes) }
+        ensures spots { IfOk result (λ made. (shown made).spots ≡ map (map spot_of) points.entry) }
+        ensures right { IfOk result (λ made. IsRight (shown made)) }
+    {
+        let mut free = List::new(alloc);
+        let mut counts = List::new(alloc);
+        for k in 0..points.len() {
+            let flags = flags(alloc, &points[k], &homes, k)?;
+            counts.push(trues(&flags))?;
+            free.push(flags)?;
+        }
+        Ok(Listing {
+            homes,
+            points,
+            free,
+            counts,
+        })
+    }
+
+    /// How many points may act. Fails only where the number is too large for memory.
+    pub fn count(&self) -> Result<usize, NoMemory>
+        requires { IsRight (shown self.now) }
+        ensures { IfOk result (λ n. n ≡ length (enabled (shown self.now))) }
+    {
+        let mut total: usize = 0;
+        for k in 0..self.counts.len() {
+            let more = sum(total, self.counts[k])?;
+            total = more;
+        }
+        Ok(total)
+    }
+
+    /// Whether some point may act.
+    pub fn has_enabled(&self) -> bool
+        requires { IsRight (shown self.now) }
+        ensures { IsTrue result → enabled (shown self.now) ≢ [] }
+    {
+        for k in 0..self.counts.len() {
+            let count = self.counts[k];
+            if count > 0 {
+                return true;
+            }
+        }
+        false
+    }
+
+    fn nth_of(&self, k: usize, n: usize) -> Option<&Point<'a>>
+        ensures { option_map (λ point. spot_of point.now) result
+            ≡ slice_get (flagged (list_at (shown self.now).free k) (list_at (shown self.now).spots k)) n }
+    {
+        if k >= self.points.len() {
+            return None;
+        }
+        if k >= self.free.len() {
+            return None;
+        }
+        nth(&self.points[k], &self.free[k], n)
+    }
+
+    /// The point with number n of those that may act, one branch after another.
+    pub fn choose(&self, n: usize) -> Option<&Point<'a>>
+        requires { IsRight (shown self.now) }
+        ensures { option_map (λ point. spot_of point.now) result ≡ slice_get (enabled (shown self.now)) n }
+    {
+        let mut left = n;
+        for k in 0..self.counts.len() {
+            let count = self.counts[k];
+            if left < count {
+                return self.nth_of(k, left);
+            }
+            left -= count;
+        }
+        None
+    }
+}

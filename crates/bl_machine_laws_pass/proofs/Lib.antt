@@ -1,0 +1,9 @@
+pub mod Calling
+pub mod Finding
+pub mod Holes
+pub mod Numbers
+pub mod Ordering
+pub mod Passing
+pub mod Points
+pub mod Steadying
+pub mod Ticking

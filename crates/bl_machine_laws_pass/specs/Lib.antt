@@ -1,0 +1,5 @@
+pub mod Low
+pub mod Orders
+pub mod Pass
+pub mod Steady
+pub mod Ticks

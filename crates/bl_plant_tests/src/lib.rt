@@ -1,0 +1,5 @@
+//! Tests of `bl_plant`: a tank, a ramp and a script are asked and told. There is nothing else here.
+#![tactic(auto)]
+
+#[cfg(test)]
+mod calls;

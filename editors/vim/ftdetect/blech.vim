@@ -1,0 +1,1 @@
+autocmd BufRead,BufNewFile *.blech,*.blc setfiletype blech
