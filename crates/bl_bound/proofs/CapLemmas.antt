@@ -43,7 +43,7 @@ use Rattle.bl_cmeaning.specs.Course.{turn_limit}
 use Rattle.bl_cmeaning.specs.Tables.{entry_or, with_entry}
 use Rattle.bl_bound.specs.declared.cost.Cost.{Cost}
 use Rattle.bl_bound.specs.declared.cost.Cost.TheVariants.{Number, Over}
-use Rattle.bl_bound.specs.inner.Capped.{amount, amount_if, capped}
+use Rattle.bl_bound.specs.inner.Capped.{amount, capped}
 
 -- ---- numbers
 

@@ -45,14 +45,14 @@ use Rattle.bl_tree.specs.declared.c.CStmtKind.{fold-roll-CStmtKind}
 use Rattle.bl_tree.specs.declared.c.CStmtKind.TheOpen.{CStmtKind-F}
 use Rattle.bl_tree.specs.Reduce.{total}
 use Rattle.bl_cmeaning.specs.Calls.{calls_in, calls_in_call, calls_in_place, calls_or_none}
-use Rattle.bl_cmeaning.specs.Cost.{Costs, block_cost, cost_of_calls, cost_of_function, cost_of_stmt, costs, costs_after, other_cost}
+use Rattle.bl_cmeaning.specs.Cost.{Costs, block_cost, cost_of_calls, cost_of_function, cost_of_stmt, costs, costs_after}
 use Rattle.bl_cmeaning.specs.Course.{turn_limit}
-use Rattle.bl_cmeaning.specs.Tables.{Table, no_entries, with_entry}
+use Rattle.bl_cmeaning.specs.Tables.{Table, with_entry}
 use Rattle.bl_cmeaning.proofs.Induction.{Optional, StmtCases, induct_stmt, stmt}
 use Rattle.bl_bound.specs.declared.cost.Cost.{Cost}
 use Rattle.bl_bound.specs.declared.cost.Cost.TheVariants.{Number, Over}
 use Rattle.bl_bound.specs.inner.Capped.{amount, amounts, capped}
-use Rattle.bl_bound.specs.Told.{told, told_costs}
+use Rattle.bl_bound.specs.Told.{told}
 use Rattle.bl_bound.proofs.CapLemmas.{AlikeCapped, amount-capped, calls-alike, capped-twice, max-alike, next_of, sum-alike, sum-next, total-alike, with-alike}
 
 -- ---- blocks

@@ -22,13 +22,12 @@ use Rattle.std.proofs.Common.{
   None,
   refl,
 }
-use Rattle.std.proofs.Common.{ap, sym, ◌∙◌, subst, append_assoc, length-append, arith}
+use Rattle.std.proofs.Common.{ap, sym, ◌∙◌, append_assoc, length-append, arith}
 use Rattle.bl_tree.specs.declared.c.CExpr.{CExpr}
-use Rattle.bl_tree.specs.declared.c.CStmt.{CStmt}
 use Rattle.bl_cmeaning_laws.specs.Reaching.{Ground}
 use Rattle.bl_bytecode.specs.declared.instruction.Instruction.{Instruction}
 use Rattle.bl_bytecode.specs.declared.instruction.Instruction.TheVariants as ins
-use Rattle.bl_bytecode.specs.Code.{Code, Entry, code_of, code_of_block, code_of_stmt, if_code, loop_code}
+use Rattle.bl_bytecode.specs.Code.{Code, Entry, code_of}
 use Rattle.bl_bytecode_compiler.specs.inner.Coded.{turning_code}
 
 module _ (here : Ground Entry) where

@@ -22,7 +22,7 @@ use Rattle.std.proofs.Common.{
   Option,
   Some,
 }
-use Rattle.std.proofs.Common.{None, refl, ap, sym, ◌∙◌, subst, append_assoc, append-nil, length-append, arith}
+use Rattle.std.proofs.Common.{ap, sym, ◌∙◌, append_assoc}
 use Rattle.std.proofs.lemmas.List.{length-reverse, reverse-append, reverse-reverse, set_at}
 
 -- an instruction in place of another

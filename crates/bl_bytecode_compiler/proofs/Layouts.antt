@@ -24,24 +24,19 @@ use Rattle.std.proofs.Common.{
   sym,
 }
 use Rattle.std.proofs.Common.{◌∙◌, subst, append-nil, append_assoc, length-append, arith}
-use Rattle.std.specs.Prelude.{bytes_eq, option_map, if◌then◌else◌}
-use Rattle.std.specs.Option.{option_or}
+use Rattle.std.specs.Prelude.{bytes_eq, option_map}
 use Rattle.std.proofs.lemmas.List.{drop_all}
 use Rattle.bl_tree.specs.declared.text.Text.{Text}
 use Rattle.bl_tree.specs.declared.c.CFunc.{CFunc}
-use Rattle.bl_tree.specs.declared.c.CLocal.{CLocal}
-use Rattle.bl_tree.specs.declared.c.CMember.{CMember}
-use Rattle.bl_tree.specs.declared.c.CParam.{CParam}
 use Rattle.bl_tree.specs.declared.c.CStmt.{CStmt}
 use Rattle.bl_tree.specs.declared.c.CStruct.{CStruct}
 use Rattle.bl_tree.specs.Reduce.{total}
 use Rattle.bl_cmeaning.specs.Saturated.{AlikeSaturated, saturated}
-use Rattle.bl_cmeaning.specs.Sizes.{Sizes, size_of_member, size_of_param, size_of_type}
-use Rattle.bl_cmeaning.specs.Tables.{Table, found, no_entries, table_of, with_entry}
-use Rattle.bl_cmeaning.proofs.DeclaredLemmas.{table-next}
+use Rattle.bl_cmeaning.specs.Sizes.{Sizes}
+use Rattle.bl_cmeaning.specs.Tables.{Table, no_entries, table_of, with_entry}
 use Rattle.bl_cmeaning.proofs.MapLemmas.{entry_mapped, same_table}
-use Rattle.bl_cmeaning_laws.specs.Layout.{Laid, Layouts, Slot, capped, capped_sizes, frame_cells, layout_of, layouts, locals_laid, members_laid}
-use Rattle.bl_cmeaning_laws.specs.Layout.{params_laid, slots_of}
+use Rattle.bl_cmeaning_laws.specs.Layout.{Layouts, Slot, capped, capped_sizes, frame_cells, layout_of, layouts}
+use Rattle.bl_cmeaning_laws.specs.Layout.{slots_of}
 use Rattle.bl_bytecode.specs.declared.instruction.Instruction.TheVariants as ins
 use Rattle.bl_bytecode.specs.Code.{Code, Entry, code_of_block, entries_from, entry_of, function_code, functions_code}
 

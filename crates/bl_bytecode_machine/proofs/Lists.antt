@@ -1,5 +1,5 @@
 -- Lists of one, of two and of more numbers.
-use Rattle.std.proofs.Common.{◌≡◌, ◌≤◌, ℤ, pos, Bool, true, false, ◌&&◌, Option, None, refl, arith, List, [], ◌∷◌, length, get_or}
+use Rattle.std.proofs.Common.{◌≡◌, ◌≤◌, ℤ, pos, Bool, true, false, Option, None, refl, arith, List, [], ◌∷◌, length, get_or}
 use Rattle.std.specs.Prelude.{if◌then◌else◌}
 use Rattle.bl_ctext.specs.declared.builtin.Builtin.{Builtin}
 use Rattle.bl_ctext.specs.declared.builtin.Builtin.TheVariants.{Two, One, Cast, Index, Turn, Stop}

@@ -32,7 +32,7 @@ use Rattle.bl_tree.specs.declared.c.CArg.{CArg}
 use Rattle.bl_tree.specs.declared.c.CType.{CType}
 use Rattle.bl_tree.specs.Reduce.{any_of, joined}
 use Rattle.bl_cmeaning.proofs.FirstLemmas.{earlier_of-assoc, first_place-append}
-use Rattle.bl_cmeaning.specs.Faults.{Context, Judged, Steps, judge_steps, earlier_of, first_place, Variable, Signature, JudgedArg, fit_each, fits_arg, fit_args}
+use Rattle.bl_cmeaning.specs.Faults.{Context, Steps, judge_steps, earlier_of, first_place, Variable, Signature, JudgedArg, fit_each, fit_args}
 use Rattle.bl_cmeaning.specs.inner.Checked.{is_handed, judged_args, fit_from, fits_nth, fits_param_at, wants_up_to}
 
 each-step : (widens : Bool) (params : List Variable) (k : ℕ) (a : JudgedArg) (rest : List JudgedArg) →

@@ -23,7 +23,7 @@ use Rattle.std.proofs.Common.{
   None,
   refl,
 }
-use Rattle.std.proofs.Common.{subst, ◌∙◌, arith}
+use Rattle.std.proofs.Common.{subst, arith}
 use Rattle.std.specs.Prelude.{All, if◌then◌else◌, option_map, unwrap_or, is_none, bytes_eq, codes}
 use Rattle.std.specs.Option.{option_or}
 use Rattle.std.proofs.lemmas.List.Elements.{All-head, All-tail}

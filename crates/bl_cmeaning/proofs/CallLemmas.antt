@@ -23,7 +23,7 @@ use Rattle.std.proofs.Common.{
 use Rattle.bl_tree.specs.declared.text.Text.{Text}
 use Rattle.bl_tree.specs.Reduce.{joined, greatest}
 use Rattle.bl_cmeaning.specs.Calls.{most}
-use Rattle.bl_cmeaning.specs.Tables.{Table, entry_or}
+use Rattle.bl_cmeaning.specs.Tables.{Table}
 use Rattle.bl_cmeaning.proofs.ArgLemmas.{next_of}
 
 pub most-append : (t : Table ℕ) (xs ys : List Text) → most t (xs ++ ys) ≡ max (most t xs) (most t ys)

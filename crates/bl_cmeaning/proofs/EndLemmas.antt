@@ -22,11 +22,10 @@ use Rattle.std.proofs.Common.{
   get_or,
   Option,
 }
-use Rattle.std.proofs.Common.{Some, None, refl, sym, subst, ap, ◌∙◌, arith}
+use Rattle.std.proofs.Common.{Some, None, refl}
 use Rattle.std.specs.Prelude.{All, not, is_none, nat_lt, nat_le, if◌then◌else◌}
 use Rattle.std.specs.List.{list_all}
 use Rattle.std.proofs.lemmas.List.Elements.{All-nil, All-cons, All-head, All-tail}
-use Rattle.bl_tree.specs.declared.text.Text.{Text}
 use Rattle.bl_tree.specs.declared.place.Place.{Place}
 use Rattle.bl_tree.specs.declared.scalar.Scalar.{Scalar}
 use Rattle.bl_tree.specs.declared.c.CExpr.{CExpr}
@@ -35,7 +34,6 @@ use Rattle.bl_tree.specs.declared.c.CStmt.{CStmt, fold-roll-CStmt}
 use Rattle.bl_tree.specs.declared.c.CStmtKind.{fold-roll-CStmtKind}
 use Rattle.bl_tree.specs.declared.c.CStmtKind.TheOpen.{CStmtKind-F}
 use Rattle.bl_tree.specs.declared.c.CFunc.{CFunc}
-use Rattle.bl_tree.specs.Reduce.{joined}
 use Rattle.bl_tree.specs.Numbers.{is_one}
 use Rattle.bl_cmeaning.specs.Memory.{Memory, CValue, number_in, set_at, zeros}
 use Rattle.bl_cmeaning.specs.Course.{End, Outcome, breaks, ended_by, ending, following_end, goes_on, going, returns, traps, turn_end, turn_limit}
@@ -43,11 +41,11 @@ use Rattle.bl_cmeaning.specs.Course.{turn_or_none, turns}
 use Rattle.bl_cmeaning.specs.Meaning.{Counted, Evaluates, given, next, Scope, Runs, block_of, executed, call_end, once_more, runs_c, block_c}
 use Rattle.bl_cmeaning.specs.Meaning.{value_c, location_c, call_c}
 use Rattle.bl_cmeaning.specs.Ends.{EndsAs, EndsInside, AlwaysEnds}
-use Rattle.bl_cmeaning.specs.Tables.{Table, no_entries, table_of, with_entry}
+use Rattle.bl_cmeaning.specs.Tables.{Table, no_entries, with_entry}
 use Rattle.bl_cmeaning.specs.Faults.{Clause, distinct_names, declared_before, scalar_parameter, static_functions, short_chain, returns_result}
-use Rattle.bl_cmeaning.specs.Faults.{all_distinct, is_declared, is_scalar, Fault, Context, Variable, Signature, unless, block_faults, faults_in_stmt}
+use Rattle.bl_cmeaning.specs.Faults.{all_distinct, is_declared, is_scalar, Context, Signature, unless, block_faults, faults_in_stmt}
 use Rattle.bl_cmeaning.specs.Faults.{surely_returns, last_returns, faults_in_head, variable_names, names_table, faults_in_function}
-use Rattle.bl_cmeaning.specs.Faults.{function_faults_after, faults_in, WellFormed, condition_faults, context_in, repeated, variables_of}
+use Rattle.bl_cmeaning.specs.Faults.{function_faults_after, faults_in, condition_faults, context_in, repeated}
 use Rattle.bl_cmeaning.specs.Faults.{depth_of_function, signature_in, struct_table, struct_faults_after}
 use Rattle.bl_cmeaning.specs.Loops.{turns_in_block}
 use Rattle.bl_cmeaning.specs.Parts.{Parts}

@@ -22,11 +22,10 @@ use Rattle.std.proofs.Common.{
   ◌∙◌,
   arith,
 }
-use Rattle.std.specs.Prelude.{nat_lt, nat_le, ◌==◌, if◌then◌else◌}
 use Rattle.std.proofs.lemmas.Grind.{common_steps}
 use Rattle.bl_tree.specs.declared.place.Place.{Place}
 use Rattle.bl_tree.specs.Reduce.{joined}
-use Rattle.bl_cmeaning.specs.Faults.{Fault, is_before, earlier_of, first_place}
+use Rattle.bl_cmeaning.specs.Faults.{Fault, earlier_of, first_place}
 
 pub earlier_of-assoc : (a b c : Option Place) → earlier_of a (earlier_of b c) ≡ earlier_of (earlier_of a b) c
 earlier_of-assoc None b c = refl

@@ -1,23 +1,23 @@
 -- Induction over C expressions and C statements: one case for each kind, with what is known of the parts inside.
-use Rattle.std.proofs.Common.{◌≡◌, ℕ, ℤ, List, [], ◌∷◌, map, subst, ap, sym, ◌∙◌}
+use Rattle.std.proofs.Common.{ℕ, ℤ, List, map, subst}
 use Rattle.std.specs.Prelude.{All, Bool, Option, Some, None}
 use Rattle.bl_tree.specs.declared.text.Text.{Text}
 use Rattle.bl_tree.specs.declared.place.Place.{Place}
 use Rattle.bl_tree.specs.declared.scalar.Op.{Op}
 use Rattle.bl_tree.specs.declared.scalar.Scalar.{Scalar}
-use Rattle.bl_tree.specs.declared.c.CArg.{CArg, ind-CArg, roll-CArg}
+use Rattle.bl_tree.specs.declared.c.CArg.{CArg, roll-CArg}
 use Rattle.bl_tree.specs.declared.c.CCall.{CCall, ind-CCall, roll-CCall}
 use Rattle.bl_tree.specs.declared.c.CExpr.{CExpr, ind-CExpr, roll-CExpr}
 use Rattle.bl_tree.specs.declared.c.CExprKind.{CExprKind, roll-CExprKind}
 use Rattle.bl_tree.specs.declared.c.CIndex.{CIndex, roll-CIndex}
 use Rattle.bl_tree.specs.declared.c.CPlace.{CPlace, ind-CPlace, roll-CPlace}
 use Rattle.bl_tree.specs.declared.c.CStep.{CStep, roll-CStep}
-use Rattle.bl_tree.specs.declared.c.CArg.TheOpen.{CArg-F, CExprKind-F, CCall-F, CExpr-F, CIndex-F, CPlace-F, CStep-F}
-use Rattle.bl_tree.specs.declared.c.CArg.TheFolds.{map-CArg, map-CExprKind, map-CCall, map-CExpr, map-CIndex, map-CPlace, map-CStep}
+use Rattle.bl_tree.specs.declared.c.CArg.TheOpen.{CArg-F, CExprKind-F, CStep-F}
+use Rattle.bl_tree.specs.declared.c.CArg.TheFolds.{map-CArg, map-CExprKind, map-CStep}
 use Rattle.bl_tree.specs.declared.c.CStmt.{CStmt, ind-CStmt, roll-CStmt}
 use Rattle.bl_tree.specs.declared.c.CStmtKind.{CStmtKind, roll-CStmtKind}
 use Rattle.bl_tree.specs.declared.c.CStmtKind.TheFolds.{map-CStmtKind}
-use Rattle.bl_tree.specs.declared.c.CStmtKind.TheOpen.{CStmtKind-F, CStmt-F}
+use Rattle.bl_tree.specs.declared.c.CStmtKind.TheOpen.{CStmtKind-F}
 use Rattle.bl_tree.proofs.StmtInduction.{each_such}
 
 -- P of what may be there

@@ -23,14 +23,14 @@ use Rattle.std.proofs.Common.{
   max,
 }
 use Rattle.std.proofs.Common.{refl, ap, sym, subst, ◌∙◌, add-one, arith}
-use Rattle.std.specs.Prelude.{is_some, is_none}
+use Rattle.std.specs.Prelude.{is_some}
 use Rattle.std.specs.Borrow.{Bor}
 use Rattle.std.specs.List.{list_all}
 use Rattle.bl_tree.specs.Reduce.{greatest}
 use Rattle.bl_cmeaning.proofs.ArgLemmas.{next_of}
 use Rattle.std.proofs.Math.Seq.{drop-cons}
 use Rattle.bl_tree.specs.declared.place.Place.{Place}
-use Rattle.bl_cmeaning.specs.Faults.{Fault, all_distinct, distinct_names, earlier_of, first_place, repeated, unless}
+use Rattle.bl_cmeaning.specs.Faults.{all_distinct, distinct_names, earlier_of, first_place, repeated, unless}
 use Rattle.bl_cmeaning.specs.inner.Maps.{bytes_of, named}
 use Rattle.bl_cmeaning.specs.Tables.{Table, with_entry}
 use Rattle.bl_cmeaning.proofs.FirstLemmas.{earlier_of-assoc, first_place-append}

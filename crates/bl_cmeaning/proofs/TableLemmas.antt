@@ -1,5 +1,5 @@
 -- The table of the prelude's functions in the code is that of the definitions.
-use Rattle.std.proofs.Common.{◌≡◌, ℕ, List, Option, None, map, refl, ap}
+use Rattle.std.proofs.Common.{◌≡◌, ℕ, List, map, refl, ap}
 use Rattle.bl_ctext.specs.declared.builtin.TheConstants.{BUILTINS}
 use Rattle.bl_ctext.specs.Builtins.{builtins}
 use Rattle.bl_cmeaning.specs.Builtin.{builtin_of}

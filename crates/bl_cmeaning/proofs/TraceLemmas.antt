@@ -1,10 +1,9 @@
 -- How traces join.
-use Rattle.std.proofs.Common.{◌≡◌, ℤ, List, [], ◌∷◌, ◌++◌, refl, ap, ◌∙◌}
-use Rattle.bl_tree.specs.declared.row.Last.{Last}
-use Rattle.bl_tree.specs.declared.row.Last.TheVariants.{Open, Ended, Trap}
+use Rattle.std.proofs.Common.{◌≡◌, ℤ, List, [], ◌∷◌, ◌++◌, refl, ap}
+use Rattle.bl_tree.specs.declared.row.Last.TheVariants.{Open}
 use Rattle.bl_tree.specs.declared.row.Trace.{Trace}
 use Rattle.bl_cmeaning.specs.Parts.{Parts}
-use Rattle.bl_cmeaning.specs.Trace.{Reply, row, ended, trapped, Tick, tick_c, traced, c_trace_from, cells_after, trace_then}
+use Rattle.bl_cmeaning.specs.Trace.{Reply, row, ended, trapped, tick_c, traced, c_trace_from, cells_after, trace_then}
 use Rattle.bl_cmeaning.specs.Laws.{GoesOn}
 
 -- one tick before a trace that goes on

@@ -1,5 +1,5 @@
 -- The scalars of the three objects, and the inputs and outputs that two of them declare.
-use Rattle.std.specs.Prelude.{ℕ, zero, suc, ℤ, pos, List, [], ◌∷◌, ◌++◌, map, flat_map, filter_map, drop, unwrap_or, Option, Some, None, codes}
+use Rattle.std.specs.Prelude.{ℕ, zero, suc, ℤ, List, [], ◌∷◌, ◌++◌, map, flat_map, filter_map, drop, unwrap_or, Option, Some, None, codes}
 use Rattle.bl_tree.specs.declared.text.Text.{Text}
 use Rattle.bl_tree.specs.declared.scalar.Scalar.{Scalar}
 use Rattle.bl_tree.specs.declared.c.CType.{CType}
@@ -8,7 +8,7 @@ use Rattle.bl_tree.specs.declared.c.CMember.{CMember}
 use Rattle.bl_tree.specs.declared.c.CStruct.{CStruct}
 use Rattle.bl_tree.specs.declared.row.Column.{Column}
 use Rattle.bl_cmeaning.specs.Parts.{Parts}
-use Rattle.bl_cmeaning.specs.Memory.{Part, member, element, Root, state_object, input_object, output_object, Location, Memory, CValue, scalar}
+use Rattle.bl_cmeaning.specs.Memory.{Part, member, element, Root, state_object, input_object, output_object, Location, Memory, scalar}
 use Rattle.bl_cmeaning.specs.Memory.{number_in, cleared, value_at, set_at}
 use Rattle.bl_cmeaning.specs.Tables.{found, Table, no_entries, with_entry, entry_or}
 

@@ -1,5 +1,5 @@
 -- The most statements that a C function can execute.
-use Rattle.std.specs.Prelude.{ℕ, ◌+◌, ◌*◌, max, List, [], ◌∷◌, ◌++◌, map, Option, Some, None, codes, unwrap_or}
+use Rattle.std.specs.Prelude.{ℕ, ◌+◌, ◌*◌, max, List, [], ◌∷◌, map, Option, Some, None, codes, unwrap_or}
 use Rattle.bl_tree.specs.declared.text.Text.{Text}
 use Rattle.bl_tree.specs.declared.c.CStmtKind.TheOpen.{CStmtKind-F, CStmt-F}
 use Rattle.bl_tree.specs.declared.c.CStmt.{CStmt, fold-CStmt}

@@ -22,7 +22,7 @@ use Rattle.std.specs.Prelude.{
   map,
 }
 use Rattle.std.specs.Prelude.{length, drop, Option, Some, None, is_some, is_none, option_map, option_and_then, bytes_eq, codes, if◌then◌else◌}
-use Rattle.std.specs.List.{list_any, list_all, starts_with}
+use Rattle.std.specs.List.{list_all, starts_with}
 use Rattle.bl_tree.specs.declared.text.Text.{Text}
 use Rattle.bl_tree.specs.declared.place.Place.{Place}
 use Rattle.bl_tree.specs.declared.scalar.Width.{Width}
@@ -50,7 +50,7 @@ use Rattle.bl_tree.specs.declared.c.CStmt.{CStmt, fold-CStmt}
 use Rattle.bl_tree.specs.Reduce.{any_of, joined, greatest}
 use Rattle.bl_ctext.specs.Folds.{OpenPart}
 use Rattle.bl_cmeaning.specs.Parts.{Parts}
-use Rattle.bl_cmeaning.specs.Tables.{found, Table, no_entries, table_of, with_entry, entry_or}
+use Rattle.bl_cmeaning.specs.Tables.{Table, no_entries, table_of, with_entry, entry_or}
 use Rattle.bl_ctext.specs.declared.builtin.Builtin.{Builtin}
 use Rattle.bl_ctext.specs.declared.builtin.Builtin.TheVariants.{Stop}
 use Rattle.bl_cmeaning.specs.Builtin.{builtin_of, builtin_params, builtin_result}

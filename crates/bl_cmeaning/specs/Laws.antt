@@ -1,7 +1,6 @@
 -- What holds of every C file and every run of it.
 use Rattle.std.specs.Prelude.{◌≡◌, ◌≤◌, ℤ, List, ◌++◌}
 use Rattle.bl_tree.specs.declared.row.Last.TheVariants.{Open}
-use Rattle.bl_tree.specs.declared.row.Trace.{Trace}
 use Rattle.bl_cmeaning.specs.Parts.{Parts}
 use Rattle.bl_cmeaning.specs.Trace.{tick_c, c_trace_from, cells_after, trace_then}
 use Rattle.bl_cmeaning.specs.Cost.{bound}

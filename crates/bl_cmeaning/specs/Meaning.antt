@@ -34,7 +34,7 @@ use Rattle.bl_tree.specs.declared.c.CParam.{CParam}
 use Rattle.bl_tree.specs.declared.c.CFunc.{CFunc}
 use Rattle.bl_tree.specs.Numbers.{checked_of, checked_one_of, is_one}
 use Rattle.bl_ctext.specs.Folds.{OpenPart}
-use Rattle.bl_cmeaning.specs.Memory.{Part, member, element, Root, variable, Location, CValue, Memory, scalar, number_in, zeros, value_at, set_at, without_frame}
+use Rattle.bl_cmeaning.specs.Memory.{Part, member, element, variable, Location, CValue, Memory, scalar, number_in, zeros, value_at, set_at, without_frame}
 use Rattle.bl_cmeaning.specs.Tables.{Table, no_entries, table_of, with_entry, entry_or}
 use Rattle.bl_ctext.specs.declared.builtin.Builtin.{Builtin}
 use Rattle.bl_cmeaning.specs.Builtin.{builtin_of, builtin_value, index_within}

@@ -19,19 +19,15 @@ use Rattle.std.specs.Prelude.{
   codes,
   if◌then◌else◌,
 }
-use Rattle.bl_tree.specs.declared.text.Text.{Text}
 use Rattle.bl_tree.specs.declared.c.CType.{CType}
 use Rattle.bl_tree.specs.declared.c.CType.TheVariants.{Scalar as OfScalar, Struct as OfStruct}
 use Rattle.bl_tree.specs.declared.c.CMember.{CMember}
 use Rattle.bl_tree.specs.declared.c.CStruct.{CStruct}
 use Rattle.bl_tree.specs.declared.c.CParam.{CParam}
-use Rattle.bl_tree.specs.declared.c.CLocal.{CLocal}
-use Rattle.bl_tree.specs.declared.c.CStmtKind.TheOpen.{CStmtKind-F, CStmt-F}
-use Rattle.bl_tree.specs.declared.c.CStmt.{CStmt, fold-CStmt}
 use Rattle.bl_tree.specs.declared.c.CFunc.{CFunc}
 use Rattle.bl_tree.specs.Reduce.{total, greatest}
 use Rattle.bl_cmeaning.specs.Parts.{Parts}
-use Rattle.bl_cmeaning.specs.Tables.{found, Table, no_entries, table_of, with_entry, entry_or}
+use Rattle.bl_cmeaning.specs.Tables.{Table, no_entries, with_entry, entry_or}
 use Rattle.bl_cmeaning.specs.Loops.{turns_in_block}
 use Rattle.bl_cmeaning.specs.Calls.{calls_in_block, most}
 

@@ -1,5 +1,5 @@
 -- What is found by a name.
-use Rattle.std.specs.Prelude.{Bool, List, [], ◌∷◌, Option, Some, None, bytes_eq, unwrap_or, if◌then◌else◌}
+use Rattle.std.specs.Prelude.{List, [], ◌∷◌, Option, Some, None, bytes_eq, unwrap_or, if◌then◌else◌}
 use Rattle.std.specs.Option.{option_or}
 use Rattle.bl_tree.specs.declared.text.Text.{Text}
 

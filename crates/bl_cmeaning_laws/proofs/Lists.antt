@@ -31,7 +31,7 @@ use Rattle.std.proofs.lemmas.Slice.Eq.{bytes_eq-Decides}
 use Rattle.bl_tree.specs.declared.text.Text.{Text}
 use Rattle.bl_cmeaning.specs.Cells.{below}
 use Rattle.bl_cmeaning.specs.Faults.{all_distinct}
-use Rattle.bl_cmeaning.specs.Tables.{Table, found, no_entries, with_entry}
+use Rattle.bl_cmeaning.specs.Tables.{Table, found, with_entry}
 
 pub and-left : (a b : Bool) → (a && b) ≡ true → a ≡ true
 and-left true b h = refl

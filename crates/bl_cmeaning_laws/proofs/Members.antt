@@ -21,7 +21,7 @@ use Rattle.std.proofs.Common.{
   subst,
   ◌∙◌,
 }
-use Rattle.std.specs.Prelude.{flat_map, is_some, is_none, bytes_eq, unwrap_or, nat_le, if◌then◌else◌}
+use Rattle.std.specs.Prelude.{flat_map, is_some, is_none, bytes_eq, unwrap_or, if◌then◌else◌}
 use Rattle.std.specs.List.{list_all}
 use Rattle.std.specs.Option.{option_or}
 use Rattle.std.proofs.lemmas.Slice.Eq.{bytes_eq-Decides}
@@ -32,11 +32,11 @@ use Rattle.bl_tree.specs.declared.c.CType.TheVariants.{Scalar as OfScalar, Struc
 use Rattle.bl_tree.specs.declared.c.CMember.{CMember}
 use Rattle.bl_tree.specs.declared.c.CStruct.{CStruct}
 use Rattle.bl_cmeaning.specs.Cells.{Inner, inner_of_length, inner_of_type, inner_of_member, inner_after}
-use Rattle.bl_cmeaning.specs.Faults.{Clause, distinct_names, declared_before, short_chain, interface_members, Fault, WellFormed, all_distinct}
-use Rattle.bl_cmeaning.specs.Faults.{depth_of_struct, faults_in, faults_in_struct, function_faults_after, interface_fits, is_declared, member_table}
+use Rattle.bl_cmeaning.specs.Faults.{Clause, distinct_names, declared_before, WellFormed, all_distinct}
+use Rattle.bl_cmeaning.specs.Faults.{depth_of_struct, faults_in, faults_in_struct, is_declared, member_table}
 use Rattle.bl_cmeaning.specs.Faults.{struct_faults_after, struct_table, unless}
 use Rattle.bl_cmeaning.specs.Parts.{Parts}
-use Rattle.bl_cmeaning.specs.Tables.{Table, entry_or, found, no_entries, table_of, with_entry}
+use Rattle.bl_cmeaning.specs.Tables.{Table, found, no_entries, table_of, with_entry}
 use Rattle.bl_cmeaning.proofs.EndLemmas.{nil-left, nil-right}
 use Rattle.bl_cmeaning.proofs.MapLemmas.{next_entry, same_table}
 use Rattle.bl_cmeaning_laws.specs.Fitting.{scalars}

@@ -31,24 +31,21 @@ use Rattle.std.proofs.lemmas.Slice.Eq.{bytes_eq-Decides}
 use Rattle.bl_tree.specs.declared.text.Text.{Text}
 use Rattle.bl_tree.specs.declared.scalar.Scalar.{Scalar}
 use Rattle.bl_tree.specs.declared.scalar.Scalar.TheVariants.{Bool as OfBool, Int, Nat, Bits}
-use Rattle.bl_tree.specs.declared.scalar.Width.{Width}
 use Rattle.bl_tree.specs.declared.scalar.Width.TheVariants.{W8, W16, W32, W64}
 use Rattle.bl_tree.specs.declared.c.CType.{CType}
 use Rattle.bl_tree.specs.declared.c.CType.TheVariants.{Struct as OfStruct}
-use Rattle.bl_tree.specs.declared.c.CMember.{CMember}
 use Rattle.bl_tree.specs.declared.c.CStruct.{CStruct}
 use Rattle.bl_tree.specs.Scalar.{in_range}
 use Rattle.bl_cmeaning.specs.Parts.{Parts}
-use Rattle.bl_cmeaning.specs.Tables.{Table}
-use Rattle.bl_cmeaning.specs.Faults.{WellFormed, struct_table}
-use Rattle.bl_cmeaning.specs.Memory.{Part, Root, state_object, input_object, output_object, variable, Location, CValue, Memory, same_root, with_part}
-use Rattle.bl_cmeaning.specs.Memory.{set_at, value_at, cleared, zeros}
-use Rattle.bl_cmeaning.specs.Cells.{Inner, inner_of_type, inner_of, cells_at, cells_of}
-use Rattle.bl_cmeaning_laws.specs.Fitting.{ValueSpot, whole, row, scalars, holds, fits, walk, whole_type, whole_spot, RootTypes, place_type, fits_where}
-use Rattle.bl_cmeaning_laws.specs.Fitting.{MemoryFits, ObjectsAre, cell_holds, ClearedFits, ReadingFits, SettingFits, CellsFit}
+use Rattle.bl_cmeaning.specs.Faults.{struct_table}
+use Rattle.bl_cmeaning.specs.Memory.{Part, Root, state_object, input_object, output_object, variable, CValue, Memory, same_root, with_part}
+use Rattle.bl_cmeaning.specs.Memory.{cleared, zeros}
+use Rattle.bl_cmeaning.specs.Cells.{inner_of_type, inner_of, cells_at, cells_of}
+use Rattle.bl_cmeaning_laws.specs.Fitting.{ValueSpot, whole, row, scalars, holds, fits, walk, whole_type, whole_spot, RootTypes, fits_where}
+use Rattle.bl_cmeaning_laws.specs.Fitting.{MemoryFits, cell_holds, ClearedFits, ReadingFits, SettingFits, CellsFit}
 use Rattle.bl_cmeaning_laws.proofs.Lists.{all-append, all-map, all-same, all-true, and-both, and-left, and-right}
 use Rattle.bl_cmeaning_laws.proofs.Members.{AllLaidOut, Scalars, Structs, laid-out}
-use Rattle.bl_cmeaning_laws.proofs.Places.{read-walk, set-walk, spot_fits, walk-nowhere}
+use Rattle.bl_cmeaning_laws.proofs.Places.{read-walk, set-walk, walk-nowhere}
 
 -- ---- cleared memory
 

@@ -22,7 +22,7 @@ use Rattle.std.proofs.Common.{
   ◌∙◌,
   arith,
 }
-use Rattle.std.specs.Prelude.{flat_map, bytes_eq, nat_lt, ◌==◌, unwrap_or, option_and_then, if◌then◌else◌}
+use Rattle.std.specs.Prelude.{flat_map, bytes_eq, nat_lt, unwrap_or, option_and_then, if◌then◌else◌}
 use Rattle.std.specs.List.{list_all}
 use Rattle.std.proofs.lemmas.Grind.{common_steps}
 use Rattle.std.proofs.lemmas.Slice.Eq.{bytes_eq-Decides}
@@ -32,9 +32,9 @@ use Rattle.bl_tree.specs.declared.c.CType.TheVariants.{Scalar as OfScalar, Struc
 use Rattle.bl_tree.specs.declared.c.CMember.{CMember}
 use Rattle.bl_cmeaning.specs.Cells.{Inner, inside, below, inner_of_length, inner_of_member, inner_of_type}
 use Rattle.bl_cmeaning.specs.Memory.{Part, member, element, CValue, same_part, left_after, number_or, with_part}
-use Rattle.bl_cmeaning.specs.Tables.{Table, found, no_entries, table_of}
-use Rattle.bl_cmeaning_laws.specs.Fitting.{ValueSpot, whole, row, fits, holds, spot_if, spot_of, spot_of_length, step_in, walk, whole_type}
-use Rattle.bl_cmeaning_laws.proofs.Lists.{all-append, all-below-at, all-below-but, all-flat, all-found, all-found-but, all-map, all-same}
+use Rattle.bl_cmeaning.specs.Tables.{Table, found, no_entries}
+use Rattle.bl_cmeaning_laws.specs.Fitting.{ValueSpot, whole, row, fits, holds, spot_if, spot_of, spot_of_length, step_in, walk}
+use Rattle.bl_cmeaning_laws.proofs.Lists.{all-below-at, all-below-but, all-flat, all-found, all-found-but, all-map, all-same}
 use Rattle.bl_cmeaning_laws.proofs.Members.{AllLaidOut, LaidOut, Scalars, Structs}
 
 -- the scalars of what a way has led to

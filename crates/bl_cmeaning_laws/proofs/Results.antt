@@ -43,7 +43,7 @@ use Rattle.bl_tree.proofs.NumberLemmas.{checked_of-in_range, checked_one_of-in_r
 use Rattle.bl_ctext.specs.declared.builtin.Builtin.{Builtin}
 use Rattle.bl_ctext.specs.declared.builtin.Builtin.TheVariants.{Two, One, Cast, Index, Turn, Stop}
 use Rattle.bl_ctext.specs.Builtins.{builtins}
-use Rattle.bl_cmeaning.specs.Builtin.{builtin_of, builtin_params, builtin_result, builtin_value, in_c, index_within, only_if, widest}
+use Rattle.bl_cmeaning.specs.Builtin.{builtin_of, builtin_params, builtin_result, builtin_value, in_c, only_if, widest}
 use Rattle.bl_cmeaning.specs.Tables.{found}
 use Rattle.bl_cmeaning_laws.specs.Fitting.{BuiltinsFit}
 use Rattle.bl_cmeaning_laws.specs.Flat.{is_typed}

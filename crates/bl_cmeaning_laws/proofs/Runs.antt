@@ -1,14 +1,14 @@
 -- Ticks and the start of a file, by the numbers alone.
-use Rattle.std.proofs.Common.{◌≡◌, ◌+◌, ◌≤◌, ℤ, pos, true, List, [], ◌∷◌, ◌++◌, length, replicate, ap, sym, subst, ◌∙◌}
+use Rattle.std.proofs.Common.{◌≡◌, ◌+◌, ◌≤◌, ℤ, pos, true, [], ◌∷◌, ◌++◌, length, replicate, ap, sym, subst, ◌∙◌}
 use Rattle.std.specs.Prelude.{codes, is_some}
 use Rattle.bl_ctext.specs.Spellable.{is_spellable}
-use Rattle.bl_cmeaning.specs.Cells.{cells_of, memory_of, numbers_of, ports_of, with_inputs}
+use Rattle.bl_cmeaning.specs.Cells.{cells_of, memory_of, ports_of, with_inputs}
 use Rattle.bl_cmeaning.specs.Memory.{Memory, cleared, state_object, input_object, output_object}
 use Rattle.bl_cmeaning.specs.Meaning.{Called}
 use Rattle.bl_cmeaning.specs.Parts.{Parts}
 use Rattle.bl_cmeaning.specs.Sizes.{cells_needed}
 use Rattle.bl_cmeaning.specs.Trace.{entered, object, reply_of, started, tick_c}
-use Rattle.bl_cmeaning_laws.specs.Laws.{Fitting, StartsRun, TicksRun, entered_flat, input_at, output_at}
+use Rattle.bl_cmeaning_laws.specs.Laws.{StartsRun, TicksRun, entered_flat, input_at, output_at}
 use Rattle.bl_cmeaning_laws.specs.Flat.{Cells, Left, with_args}
 use Rattle.bl_cmeaning_laws.proofs.Entry.{Standing, begins-standing, call-from, ends-standing, init-passes, interface, objects-declared, tick-passes}
 use Rattle.bl_cmeaning_laws.proofs.Numbers.{cleared-are, cleared-fit, inputs-stand, memory-stands, outputs-stand, ranges-are}

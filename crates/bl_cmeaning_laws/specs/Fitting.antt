@@ -35,7 +35,7 @@ use Rattle.bl_cmeaning.specs.Parts.{Parts}
 use Rattle.bl_cmeaning.specs.Tables.{Table, no_entries, table_of}
 use Rattle.bl_cmeaning.specs.Memory.{Part, member, element, Root, state_object, input_object, output_object, Location, CValue, Memory, number_in}
 use Rattle.bl_cmeaning.specs.Memory.{value_at, set_at, cleared}
-use Rattle.bl_cmeaning.specs.Cells.{Inner, inside, below, inner_of_type, inner_after, Cell, cells_of}
+use Rattle.bl_cmeaning.specs.Cells.{Inner, inside, inner_of_type, inner_after, Cell, cells_of}
 use Rattle.bl_cmeaning.specs.Faults.{WellFormed, struct_table}
 
 -- ---- values

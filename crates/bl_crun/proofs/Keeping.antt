@@ -23,7 +23,7 @@ use Rattle.std.proofs.Common.{
   refl,
 }
 use Rattle.std.proofs.Common.{ap, sym, subst, ◌∙◌, arith}
-use Rattle.std.specs.Prelude.{codes, is_some, min, option_map}
+use Rattle.std.specs.Prelude.{codes, is_some, min}
 use Rattle.bl_bytecode.specs.Code.{Code}
 use Rattle.bl_tree.specs.Ports.{in_ranges, row_fits, types_of}
 use Rattle.bl_cmeaning_laws.specs.Flat.{Left, with_args}

@@ -39,7 +39,7 @@ use Rattle.bl_tree.specs.declared.scalar.Scalar.TheVariants as scalar
 use Rattle.bl_tree.specs.declared.scalar.Op.{Op}
 use Rattle.bl_tree.specs.declared.scalar.Op.TheVariants as op
 use Rattle.bl_ctext.specs.Token.{Token}
-use Rattle.bl_ctext.specs.Spelling.{scalar_word, operator_sign, constant_word, negatives, negative_tokens, literal_tokens}
+use Rattle.bl_ctext.specs.Spelling.{scalar_word, operator_sign, constant_word, negatives, literal_tokens}
 use Rattle.bl_ctext.specs.Spellable.{is_c_scalar, is_c_operator, is_literal}
 use Rattle.bl_csyntax_laws.proofs.Tests.{is, among, first, tail, second}
 

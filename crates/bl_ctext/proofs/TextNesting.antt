@@ -51,7 +51,7 @@ use Rattle.bl_ctext.specs.Spellable.{spells_type, spells_member, spells_struct, 
 use Rattle.bl_ctext.specs.inner.Depths.{expr_depth, place_depth, call_depth, result_depth, stmt_depth, stmt_kind_depth, func_depth}
 use Rattle.bl_ctext.proofs.ExprNesting.{each_shown, expr-nests, place-nests, ccall-nests}
 use Rattle.bl_ctext.proofs.Nesting.{is_bracket, Closes, Nests, EachNests, closes-nil, closes-open, closes-close, closes-plain, closes-append}
-use Rattle.bl_ctext.proofs.Nesting.{nests-append, nests-more, nests-joined, nests-with_commas, each_nests-append, nests-most_open}
+use Rattle.bl_ctext.proofs.Nesting.{nests-append, nests-more, nests-joined, nests-with_commas, nests-most_open}
 use Rattle.bl_ctext.proofs.Bytes.{and-fst, and-snd}
 use Rattle.bl_ctext.proofs.PlainWords.{name-plain, struct_name-plain, function_name-plain, turn_name-plain, decimal-plain}
 

@@ -1,5 +1,5 @@
 -- What holds of every program, tree and store.
-use Rattle.std.specs.Prelude.{ℕ, ℤ, Bool, true, List, [], ◌∷◌, ◌++◌, ◌≡◌, ◌≢◌, ◌↔◌, Some}
+use Rattle.std.specs.Prelude.{ℕ, ℤ, Bool, true, List, [], ◌∷◌, ◌++◌, ◌≡◌, ◌↔◌, Some}
 use Rattle.bl_tree.specs.Static.{fields_precede}
 use Rattle.bl_ctree.specs.Actions.{Action, Effect, Silent, Acts, Asks, Copies, Gives, perform}
 use Rattle.bl_ctree.specs.Control.{Control, do_all, forget, is_settled, seq, woken}

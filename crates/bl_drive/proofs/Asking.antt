@@ -52,7 +52,7 @@ pub gone-not : (k : ℕ) (r : Role) → r.part.gone ≡ false → gone_in k r �
 gone-not k r stays =
     ap (λ (b : Bool). if b && nat_eq (length r.part.given) k then record { name = record { number = r.plant.name }; rows = k } ∷ [] else []) stays
 
-gone-by : (k : ℕ) (r : Role) (b c : Bool) → r.part.gone ≡ b → nat_eq (length r.part.given) k ≡ c →
+pub gone-by : (k : ℕ) (r : Role) (b c : Bool) → r.part.gone ≡ b → nat_eq (length r.part.given) k ≡ c →
     gone_in k r ≡ (if b && c then record { name = record { number = r.plant.name }; rows = k } ∷ [] else [])
 gone-by k r b c e f =
     ap (λ (z : Bool). if z && nat_eq (length r.part.given) k then record { name = record { number = r.plant.name }; rows = k } ∷ [] else []) e

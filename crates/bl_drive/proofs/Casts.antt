@@ -53,7 +53,7 @@ if-true b x y e = ap (λ (z : Bool). if z then x else y) e
 if-false : {A : Type 0} (b : Bool) (x y : A) → b ≡ false → (if b then x else y) ≡ y
 if-false b x y e = ap (λ (z : Bool). if z then x else y) e
 
-or-false : (a b : Bool) → a ≡ false → b ≡ false → (a || b) ≡ false
+pub or-false : (a b : Bool) → a ≡ false → b ≡ false → (a || b) ≡ false
 or-false a b ea eb = ap (λ z. z || b) ea ∙ eb
 
 pub or-left : (a b : Bool) → (a || b) ≡ false → a ≡ false

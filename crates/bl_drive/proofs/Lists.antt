@@ -3,7 +3,7 @@ use Rattle.std.proofs.Common.{◌≡◌, ℕ, suc, ◌+◌, ◌<◌, ◌≤◌, 
 use Rattle.std.proofs.Common.{get_or, set, take, drop, refl, ap, sym, subst, ◌∙◌, Option, Some, None, option_map, add-one, drop-cons}
 use Rattle.std.specs.List.{slice_get, position_from, remove, drop-map, take-map}
 use Rattle.std.proofs.lemmas.List.{map-set, map-append}
-use Rattle.std.proofs.lemmas.Option.{slice_get-map, slice_get_read}
+use Rattle.std.proofs.lemmas.Option.{slice_get-get_or, slice_get-map, slice_get_read}
 use Rattle.std.proofs.Math.ListN.{drop_of_length-le}
 
 -- what is seen of the element at a place
@@ -54,3 +54,11 @@ place-later t f xs k x whole low is at fails =
 pub place-none : {A B : Type 0} (t : B → Bool) (f : A → B) (xs : List A) (k : ℕ) (whole : Option ℕ) → length xs ≤ k →
     position_from t k (drop k (map f xs)) ≡ whole → None ≡ whole
 place-none t f xs k whole past at = sym (ap (position_from t k) (drop-map f k xs ∙ ap (map f) (drop_of_length-le xs past))) ∙ at
+
+-- ---- an element that is read
+
+pub read-same : {A : Type 0} (xs : List A) (k : ℕ) (d e : A) → k < length xs → get_or xs k d ≡ get_or xs k e
+read-same xs k d e low = same-some (get_or xs k d) (get_or xs k e) (sym (slice_get-get_or xs k d low) ∙ slice_get-get_or xs k e low)
+
+pub read-again : {A : Type 0} (xs : List A) (k : ℕ) (d : A) → k < length xs → get_or xs k d ≡ get_or xs k (get_or xs k d)
+read-again xs k d low = read-same xs k d (get_or xs k d) low

@@ -1,10 +1,11 @@
 -- Numbers in the ranges of their inputs, and how many numbers the seats have.
 use Rattle.std.proofs.Common.{◌≡◌, ℕ, zero, suc, ◌+◌, ◌<◌, ◌≤◌, ℤ, pos, Bool, true, false, ◌&&◌, List, [], ◌∷◌, ◌++◌}
-use Rattle.std.proofs.Common.{length, map, get_or, take, drop, replicate, Option, Some, None, refl, ap, sym, ◌∙◌, arith, length-append, take-suc, take_all}
+use Rattle.std.proofs.Common.{length, map, get_or, take, drop, replicate, Some, refl, ap, sym, ◌∙◌, arith, length-append, take-suc, take_all}
 use Rattle.std.specs.List.{AllByRecursion, slice_get}
 use Rattle.std.proofs.lemmas.Grind.{flat_map-append}
 use Rattle.std.proofs.lemmas.List.{append-nil, length-replicate}
 use Rattle.bl_plant.specs.Plants.{Shown}
+use Rattle.bl_drive.specs.Drives.{width_of, widths_of}
 use Rattle.bl_drive.specs.Roles.{Plays, Role, first_named, last_of}
 use Rattle.bl_drive.specs.declared.driven.Gone.{Gone}
 use Rattle.bl_drive.specs.declared.seat.Seat.{Seat}
@@ -96,14 +97,6 @@ front-all inputs k seats past wide fit =
 
 -- ---- how many numbers seats have
 
-abbrev width_of : Option Shown → ℕ
-width_of None = 0
-width_of (Some p) = p.width
-
-abbrev widths_by : List Shown → List ℕ → ℕ
-widths_by plants [] = 0
-widths_by plants (name ∷ names) = width_of (first_named name plants) + widths_by plants names
-
 abbrev IsWide : Role → Type 0
 IsWide r = AllByRecursion (λ row. length row ≡ r.plant.width) r.part.given
 
@@ -119,7 +112,7 @@ all-wide outs told a b [] (r ∷ rest) earlier later = (later.0.widths, all-wide
 all-wide outs told a b (d ∷ done) rest earlier later = (earlier.0.widths, all-wide outs told a b done rest earlier.1 later)
 
 cast-wide : (plants : List Shown) (cast : List Role) → AllByRecursion (λ (r : Role). first_named r.plant.name plants ≡ Some r.plant) cast →
-    AllByRecursion IsWide cast → length (numbers_in (map seat_of cast)) ≡ widths_by plants (map (λ (r : Role). r.plant.name) cast)
+    AllByRecursion IsWide cast → length (numbers_in (map seat_of cast)) ≡ widths_of plants (map (λ (r : Role). r.plant.name) cast)
 cast-wide plants [] meant wide = refl
 cast-wide plants (r ∷ cast) meant wide =
     length-append (seat_of r).columns (numbers_in (map seat_of cast))
@@ -128,13 +121,13 @@ cast-wide plants (r ∷ cast) meant wide =
     ∙ sym (ap width_of meant.0))
     ∙ ap (λ n. width_of (first_named r.plant.name plants) + n) (cast-wide plants cast meant.1 wide.1)
 
-wide-by : (s : Scene) (k : ℕ) (plants : List Shown) (seats : List Seat) (gone : List Gone) → Stands s k plants seats gone →
-    length (numbers_in seats) ≡ widths_by s.plants s.names
+pub wide-by : (s : Scene) (k : ℕ) (plants : List Shown) (seats : List Seat) (gone : List Gone) → Stands s k plants seats gone →
+    length (numbers_in seats) ≡ widths_of s.plants s.names
 wide-by s k plants seats gone st =
     ap (λ z. length (numbers_in z)) st.seats_are
     ∙ cast-wide s.plants (st.done ++ st.rest) st.cast.meant
     (all-wide s.outs s.outs (suc (length s.ins)) (length s.ins) st.done st.rest st.earlier st.later)
-    ∙ ap (widths_by s.plants) st.cast.named
+    ∙ ap (widths_of s.plants) st.cast.named
 
 -- it stays while plants are asked
 pub wide-kept : (s : Scene) (j k : ℕ) (plants now : List Shown) (seats next : List Seat) (gone later : List Gone) →

@@ -1,3 +1,4 @@
 pub mod Driven
+pub mod Drives
 pub mod Roles
 pub mod inner

@@ -1,6 +1,6 @@
 -- The definitions that carry along whether a statement may end at once agree with the one that says it.
-use Rattle.std.proofs.Common.{◌≡◌, ℕ, Bool, List, [], ◌∷◌, ◌||◌, map, refl, sym, ap, ◌∙◌}
-use Rattle.std.specs.Prelude.{All, Option}
+use Rattle.std.proofs.Common.{◌≡◌, Bool, List, [], ◌∷◌, ◌||◌, map, refl, sym, ap, ◌∙◌}
+use Rattle.std.specs.Prelude.{All}
 use Rattle.std.proofs.lemmas.List.Elements.{All-head, All-tail}
 use Rattle.bl_tree.specs.declared.place.Place.{Place}
 use Rattle.bl_tree.specs.declared.tree.Arm.{Arm, fold-Arm, fold_out-Arm, out-Arm}
@@ -9,9 +9,9 @@ use Rattle.bl_tree.specs.declared.tree.Stmt.{Stmt, fold-roll-Stmt}
 use Rattle.bl_tree.specs.declared.tree.StmtKind.{StmtKind, fold-StmtKind, fold-roll-StmtKind, map-StmtKind}
 use Rattle.bl_tree.specs.declared.tree.StmtKind.TheOpen.{StmtKind-F}
 use Rattle.bl_tree.specs.Reduce.{all_of, any_of}
-use Rattle.bl_tree.proofs.StmtInduction.{Cases, Each, EachArm, EachBranch, induct, stmt}
+use Rattle.bl_tree.proofs.StmtInduction.{Each, induct, stmt}
 use Rattle.bl_effects.specs.inner.Gathered.{ends_of_branch, instant_of_arm, instant_of_kind}
-use Rattle.bl_tree.specs.Instant.{Ends, arm_instant, branch_ends, instant, kind_instant, stmt_instant}
+use Rattle.bl_tree.specs.Instant.{Ends, instant, kind_instant}
 use Rattle.bl_effects.specs.Rules.{BranchLoops, Loops, arm_loops, branch_loops, kind_loops, loop_instants, loops_in, stmt_loops}
 use Rattle.bl_effects.specs.Surface.{BranchSurface, Surface, arm_surface, branch_surface, instants_of, kind_surface, stmt_surface, surface_of}
 use Rattle.bl_effects.proofs.GatherLemmas.{ends_branch_out, instant_arm_out}

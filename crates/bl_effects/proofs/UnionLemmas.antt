@@ -30,9 +30,9 @@ use Rattle.bl_tree.specs.declared.tree.StmtKind.TheOpen.{StmtKind-F}
 use Rattle.bl_tree.specs.Reduce.{joined}
 use Rattle.bl_tree.specs.declared.static_path.Static.{Static}
 use Rattle.bl_tree.specs.Effects.{arm_reads, arm_writes, branch_paths, kind_reads, kind_writes, reads, stmt_set, writes}
-use Rattle.bl_effects.specs.inner.Gathered.{reads_of_arm, reads_of_branch, reads_of_kind, writes_of_arm, writes_of_branch, writes_of_kind}
+use Rattle.bl_effects.specs.inner.Gathered.{reads_of_arm, reads_of_branch, writes_of_arm, writes_of_branch}
 use Rattle.bl_tree.specs.Static.{mentions, set_of}
-use Rattle.bl_tree.specs.Within.{Within, children, deeper, itself, kind_children}
+use Rattle.bl_tree.specs.Within.{Within, deeper, itself, kind_children}
 use Rattle.bl_effects.proofs.GatherLemmas.{read_parts, reads_arm_out, reads_branch_out, writes_arm_out, writes_branch_out, written_parts}
 use Rattle.bl_effects.proofs.SetLemmas.{set_members}
 

@@ -68,7 +68,8 @@ aliased_clear : (others : List Marked) (one : Marked) → aliased_with others on
 aliased_clear [] one h = refl
 aliased_clear (x ∷ xs) one h = by (overlaps one.path x.path) (aliased_clear xs one) h
   where
-    by : (b : Bool) → (aliased_with xs one ≡ [] → list_any (λ (other : Marked). overlaps one.path other.path) xs ≡ false) → option_to_list {X = Aliased} (option_map (λ (other : Marked). record { at = one.place; also = other.place })
+    by : (b : Bool) → (aliased_with xs one ≡ [] → list_any (λ (other : Marked). overlaps one.path other.path) xs ≡ false)
+        → option_to_list {X = Aliased} (option_map (λ (other : Marked). record { at = one.place; also = other.place })
         (if b then Some x else find (λ (other : Marked). overlaps one.path other.path) xs)) ≡ [] →
         (b || list_any (λ (other : Marked). overlaps one.path other.path) xs) ≡ false
     by true again h = absurd (cc)
@@ -87,9 +88,11 @@ Clear inputs before (path ∷ paths) =
 pub clear_of : (inputs before : List Marked) (paths : List Path) → outputs_aliased inputs before (map marked_path paths) ≡ [] → Clear inputs before paths
 clear_of inputs before [] h = tt
 clear_of inputs before (path ∷ paths) h =
-    let split = nothing_in (aliased_with (before ++ inputs) (marked_path path)) (outputs_aliased inputs (before ++ marked_path path ∷ []) (map marked_path paths)) h in
+    let split = nothing_in (aliased_with (before ++ inputs) (marked_path path))
+    (outputs_aliased inputs (before ++ marked_path path ∷ []) (map marked_path paths)) h in
     let all : (touches path before || touches path inputs) ≡ false =
-    sym (list_any-append (λ (other : Marked). overlaps (static_of path) other.path) before inputs) ∙ aliased_clear (before ++ inputs) (marked_path path) split.0 in (
+    sym (list_any-append (λ (other : Marked). overlaps (static_of path) other.path) before inputs) ∙ aliased_clear
+    (before ++ inputs) (marked_path path) split.0 in (
       or_left (touches path before) (touches path inputs) all,
       or_right (touches path before) (touches path inputs) all,
       clear_of inputs (before ++ marked_path path ∷ []) paths split.1,
@@ -142,7 +145,8 @@ module _ (structs : List StructDef) (units : List UnitDef) (entry : ℕ) (k : �
     pub fronts_apart : (nat_eq r s && (is_front ks js || is_front js ks)) ≡ false →
         are_apart (location_in scope my_site r (way_to structs ks (Some a.ty))) (location_in scope my_site s (way_to structs js (Some c.ty))) ≡ true
     fronts_apart h =
-        roots_apart structs units entry k unit view copies scope here keeps b r s a c (way_to structs ks (Some a.ty)) (way_to structs js (Some c.ty)) there other
+        roots_apart structs units entry k unit view copies scope here keeps b r s a c (way_to structs ks (Some a.ty))
+        (way_to structs js (Some c.ty)) there other
         writable (λ same. parted same (sym (ap (λ b. b && (is_front ks js || is_front js ks)) same) ∙ h))
 
   -- what stands at an output's place
@@ -160,7 +164,8 @@ module _ (structs : List StructDef) (units : List UnitDef) (entry : ℕ) (k : �
       let read' = output_reads p x o in
       apart_flip w.place o.place
       (ap₂ are_apart w.at o.at
-      ∙ fronts_apart (spot q).root (spot p).root w.leads.var o.leads.var w.leads.is_there o.leads.is_there w.writable w.leads.ks o.leads.ks y.ty x.ty w.leads.typed
+      ∙ fronts_apart (spot q).root (spot p).root w.leads.var o.leads.var w.leads.is_there o.leads.is_there w.writable
+      w.leads.ks o.leads.ks y.ty x.ty w.leads.typed
       o.leads.typed read.0 read'.0 read.1 read'.1 (sym (ap₂ overlaps w.leads.static o.leads.static) ∙ h))
 
   later_part : (inputs before : List Marked) (i : ℕ) (p : Path) (x : Var) (o : Output p x) → slice_get before i ≡ Some (marked_path p) →
@@ -235,7 +240,8 @@ module _ (structs : List StructDef) (units : List UnitDef) (entry : ℕ) (k : �
         root_same ks is = (static_front my_site keeps.structs_stand my_sees view path ks is).0
 
         by : (same : Bool) → is_front (static_of path).fields r.ks ≡ true →
-            (nat_eq (spot q).root (static_of path).root && (is_front w.leads.ks (static_of path).fields || is_front (static_of path).fields w.leads.ks)) ≡ false →
+            (nat_eq (spot q).root (static_of path).root && (is_front w.leads.ks (static_of path).fields || is_front
+            (static_of path).fields w.leads.ks)) ≡ false →
             (nat_eq (spot q).root (spot path).root && (is_front w.leads.ks r.ks || is_front r.ks w.leads.ks)) ≡ false
         by same front h =
             cases (nat_eq (spot q).root (spot path).root)

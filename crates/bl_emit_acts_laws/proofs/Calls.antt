@@ -171,7 +171,8 @@ module _ (structs : List StructDef) (units : List UnitDef) (entry : ℕ) (k : �
   -- ---- what a call leaves
 
   module _ (after : Memory) where
-    puts_hold : (paths : List Path) (vars : List Var) (all : Outputs paths vars) (news : List Value) → OutputsHold structs after vars news (all_places paths vars all) →
+    puts_hold : (paths : List Path) (vars : List Var) (all : Outputs paths vars) (news : List Value)
+        → OutputsHold structs after vars news (all_places paths vars all) →
         values_fit structs vars news ≡ true → (now : List Value) (m : Memory) → values_fit structs unit.vars now ≡ true → VariablesHold my_site now scope m →
         VariablesHold my_site (put_all (map spot paths) news view now) scope (set_all after m (all_places paths vars all))
     puts_hold [] [] all [] hold fit now m fits variables = variables
@@ -252,7 +253,8 @@ module _ (structs : List StructDef) (units : List UnitDef) (entry : ℕ) (k : �
                 holds_same structs var.ty value (value_at here at) (value_at after at)
                 (λ way. sym (kept at.root (at.parts ++ way) (number_itself scope.depth)
                 (outside at.root (at.parts ++ way)
-                (λ i other known writable. apart_lies (location_in scope my_site i []) at way (b.copies_apart.variables i j other known copied_j)) paths vars all)))
+                (λ i other known writable. apart_lies (location_in scope my_site i []) at way (b.copies_apart.variables i j other known copied_j))
+                paths vars all)))
                 (b.beside.copies.each j var value copied_j there stored);
           };
           kept = λ root way foreign. kept root way foreign.live (outside root way foreign.variables paths vars all);

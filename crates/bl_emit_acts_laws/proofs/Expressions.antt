@@ -228,7 +228,8 @@ module _ (structs : List StructDef) (earlier : List UnitDef) (unit : UnitDef) (c
       let fits : Fits structs ty r.value = subst (λ o. IfSome o (Fits structs ty)) there fit in
       subst (Shows structs ty scope here (made_at (scalar_in ty) place)) (sym (spot_value ty spot at typed r))
       (held_shows structs scope here ty place r.value at is
-      (ap (λ (place : Location). is_live scope.depth place.root) r.at ∙ live.each spot.root r.var r.is_there) (reached_holds ty spot.root (spot.positions view) at r) fits (scalar_in ty) refl)
+      (ap (λ (place : Location). is_live scope.depth place.root) r.at ∙ live.each spot.root r.var r.is_there)
+      (reached_holds ty spot.root (spot.positions view) at r) fits (scalar_in ty) refl)
 
   spot_is : (path : Path) (ty : Ty) → type_of_path site path ≡ Some ty → SpotFits structs unit.vars view ty (path_meaning_of sees path)
   spot_is = spot_fits structs earlier unit callees sound view now_fits before_fits

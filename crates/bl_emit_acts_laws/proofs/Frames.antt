@@ -92,7 +92,8 @@ module _ (site : Site) (copied : ℕ → Bool) (scope : Scope) (stand : Pointers
   own_own : (m n : List ℕ) (p q : Location) → p.root ≡ variable scope.depth m → q.root ≡ variable scope.depth n → bytes_eq m n ≡ false →
       are_apart p q ≡ true
   own_own m n p q is other differ =
-      roots_differ p q (ap (λ root. same_root root q.root) is ∙ (ap (λ root. same_root (variable scope.depth m) root) other ∙ own_differ scope.depth m n differ))
+      roots_differ p q (ap (λ root. same_root root q.root) is ∙ (ap (λ root. same_root (variable scope.depth m) root) other
+      ∙ own_differ scope.depth m n differ))
 
   -- where a variable of a home stands
   abbrev place_of : Bool → Home → ℕ → Location

@@ -5,17 +5,17 @@ mod Names
 mod Numbers
 mod Operators
 mod Parts
-mod Places
+pub mod Places
 mod Shown
 mod Steps
 mod Whole
 mod Forks
 mod Writes
 mod Written
-mod Cells
-mod Statements
+pub mod Cells
+pub mod Statements
 mod Zeros
-mod Values
+pub mod Values
 mod Acts
 mod Aliases
 mod Calls

@@ -229,7 +229,8 @@ module _ (site : Site) (stand : structs_stand_from 0 site.structs ≡ true) (see
 
   -- the static path of a path in its parts
   static_out : (path : Path) → static_of path ≡ record { root = (out-Path path).root; fields = leading_fields (map step_of (out-Path path).parts) }
-  static_out path = ap (λ (reach : Reach). reach.static) (fold_out-Path (List Static) Step (List Static) Reach kind_mentions part_step expr_mentions path_reach path)
+  static_out path = ap (λ (reach : Reach). reach.static) (fold_out-Path (List Static) Step
+      (List Static) Reach kind_mentions part_step expr_mentions path_reach path)
 
   root_out : (path : Path) → (path_meaning_of sees path).root ≡ (out-Path path).root
   root_out path = ap (λ (spot : PathMeaning). spot.root) (spot_out sees path)

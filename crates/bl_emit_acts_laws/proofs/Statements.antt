@@ -122,7 +122,8 @@ module _ (scope : Scope) (here : Memory) where
   abbrev pub call_after : Called → Option Memory
   call_after c = option_map (λ n. c.memory) c.result
 
-  call_by : (c : Called) (result : Option ℤ) → Ends (record { memory = c.memory; end = call_end result; count = 1 + c.count }) (option_map (λ n. c.memory) result)
+  call_by : (c : Called) (result : Option ℤ) → Ends (record { memory = c.memory; end = call_end result; count = 1 + c.count })
+      (option_map (λ n. c.memory) result)
   call_by c None = refl
   call_by c (Some n) = (refl, refl)
 

@@ -27,7 +27,8 @@ places structs units entry k unit path ty view copied scope here keeps b typed n
 
 pub writes : (structs : List StructDef) (units : List UnitDef) (entry : ℕ) → WritesHold structs units entry
 writes structs units entry k unit scope here now made root var ks ty new held keeps w =
-    put_holds (site_of structs (take k units) unit) keeps.structs_stand scope here root var w.known w.written ks ty w.typed new held w.holds now made w.variables w.apart
+    put_holds (site_of structs (take k units) unit) keeps.structs_stand scope here root var w.known w.written ks ty
+    w.typed new held w.holds now made w.variables w.apart
     (λ value at. fits_at value at (pass_at (λ (var : Var). value_fits structs var.ty) unit.vars now root var w.fits w.known)) w.put
   where
     fits_at : (value : Value) → slice_get now root ≡ Some value → Found (λ (var : Var). value_fits structs var.ty) var (slice_get now root) →

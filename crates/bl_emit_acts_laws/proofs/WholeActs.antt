@@ -35,7 +35,8 @@ module _ (structs : List StructDef) (units : List UnitDef) (entry : ℕ) (k : �
   CameOf layer = Comes my_site (is_copied copies) scope here (λ now. before_after layer now view.before)
       (acted (scope_among structs (callees_of structs (take k units)) unit) layer view) (block_c (layer_code my_site copies layer) scope here)
 
-  initial_named : (initial : Option Expr) → copied_in_layer {A = StmtKind} {B = Arm} {C = Branch} {D = Stmt} (is_copied copies) (StmtKind-F.Declare 0 initial) ≡ true →
+  initial_named : (initial : Option Expr) → copied_in_layer {A = StmtKind} {B = Arm} {C = Branch} {D = Stmt}
+      (is_copied copies) (StmtKind-F.Declare 0 initial) ≡ true →
       (e : Expr) → initial ≡ Some e → copied_in (is_copied copies) e ≡ true
   initial_named initial named e is =
       subst (λ initial. copied_in_layer {A = StmtKind} {B = Arm} {C = Branch} {D = Stmt} (is_copied copies) (StmtKind-F.Declare 0 initial) ≡ true) is named
@@ -56,7 +57,8 @@ module _ (structs : List StructDef) (units : List UnitDef) (entry : ℕ) (k : �
       (and_left (copied_in_path (is_copied copies) path) (copied_in (is_copied copies) e) named)
       (and_right (copied_in_path (is_copied copies) path) (copied_in (is_copied copies) e) named)
   layer_comes place (StmtKind-F.Call f inputs outputs) act fitted named clear =
-      called_comes structs units entry k unit view copies scope here keeps b f inputs outputs (slice_get (take k units) f) refl (rw (fold-roll-Stmt, fold-roll-StmtKind) at fitted)
+      called_comes structs units entry k unit view copies scope here keeps b f inputs outputs (slice_get (take k units) f) refl
+      (rw (fold-roll-Stmt, fold-roll-StmtKind) at fitted)
       (and_left (all_of (map (copied_in (is_copied copies)) inputs)) (all_of (map (copied_in_path (is_copied copies)) outputs)) named)
       (and_right (all_of (map (copied_in (is_copied copies)) inputs)) (all_of (map (copied_in_path (is_copied copies)) outputs)) named) clear
   layer_comes place _ act fitted named clear = absurd (cc)

@@ -80,7 +80,8 @@ module _ (here : Memory) (place : Location) (new : CValue) where
   apart_same other apart way = other_by other.root other.parts way (same_root place.root other.root) refl apart
 
 module _ (site : Site) (stand : structs_stand_from 0 site.structs ≡ true) (scope : Scope) (here : Memory) (root : ℕ) (var : Var)
-    (there : var_at site root ≡ Some var) (writable : is_input var.role ≡ false) (ks : List ℕ) (ty : Ty) (typed : type_after site.structs ks (Some var.ty) ≡ Some ty) (new : Value)
+    (there : var_at site root ≡ Some var) (writable : is_input var.role ≡ false) (ks : List ℕ) (ty : Ty)
+    (typed : type_after site.structs ks (Some var.ty) ≡ Some ty) (new : Value)
     (held : CValue)
     (holds : Holds site.structs ty new held) (now made : List Value) (variables : VariablesHold site now scope here) (apart : VariablesApart site scope)
     (fits : (value : Value) → slice_get now root ≡ Some value → Fits site.structs var.ty value) (put : put_at root ks new now ≡ Some made) where

@@ -14,7 +14,7 @@ use Rattle.bl_eval.specs.declared.datum.Left.{Left}
 use Rattle.bl_eval.specs.Meaning.{Callee, PathMeaning, View, read_at}
 use Rattle.bl_eval.specs.Values.{number_in, values_fit}
 use Rattle.bl_cmeaning.specs.Meaning.{Passed, by_address, by_value, Scope, applied, location_c, value_c}
-use Rattle.bl_cmeaning.specs.Memory.{CValue, Location, Memory}
+use Rattle.bl_cmeaning.specs.Memory.{Location, Memory}
 use Rattle.bl_cmeaning.specs.Memory as memory
 use Rattle.bl_emit_acts.specs.declared.made.Made.{Made}
 use Rattle.bl_emit_acts.specs.declared.made.Made.TheVariants.{Number, Whole}

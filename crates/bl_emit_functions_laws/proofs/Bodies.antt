@@ -136,7 +136,8 @@ module _ (number : Datum → ℤ) (Stand : List Value → Memory → Type 0) (Ke
       subst (λ (e : End). let o : Outcome Memory = following_end n m e (block_c (break_code test) scope) in OverAt k here now (ends now) o.end o.memory)
       (sym h.0) (breaks_at k here ends test asks now m h.1 h.2)
   until_by k here ends test asks (Some (Flow.Back now result)) n e m h =
-      subst (λ (e : End). let o : Outcome Memory = following_end n m e (block_c (break_code test) scope) in At k here (Some (Flow.Back now result)) o.end o.memory)
+      subst (λ (e : End). let o : Outcome Memory = following_end n m e (block_c (break_code test) scope) in At k here
+      (Some (Flow.Back now result)) o.end o.memory)
       (sym h.0) (refl, h.1, h.2)
 
   -- a turn of a loop that ends behind its body where a condition is true
@@ -215,7 +216,8 @@ module _ (number : Datum → ℤ) (Stand : List Value → Memory → Type 0) (Ke
           omega (arith, grown, rest.0),
           λ few. alone_leaves number Stand Kept same onward fewer scope free.flags (first_true_choice (choice ∷ []) other)
               (c_if arm.test (arm.body free).code (else_code code))
-              (if_leaves number Stand Kept same onward fewer scope free.flags choice.test choice.body other arm.test (arm.body free).code (else_code code) all.0.0 (body (omega (arith, rest.0, few)))
+              (if_leaves number Stand Kept same onward fewer scope free.flags choice.test choice.body other arm.test
+              (arm.body free).code (else_code code) all.0.0 (body (omega (arith, rest.0, few)))
               (subst (λ (code : List CStmt). Does_so free.flags other (block_c code scope)) (sym (else_same code))
               (weaker free.flags (arm.body free).free.flags other (block_c code scope) grown (rest.1 few)))),
         )
@@ -266,12 +268,17 @@ module _ (number : Datum → ℤ) (Stand : List Value → Memory → Type 0) (Ke
           OneDoes (codes_of_arm site arm) (choice_of sees arm)
       arm_does_so arm each fitted apart =
           let fits_so = sym (fold_out-Arm Bool Bool Bool Bool (kind_fits site) (arm_fits site) branch_fits stmt_fits arm) ∙ fitted in
-          let none = sym (fold_out-Arm (List Aliased) (List Aliased) (List Aliased) (List Aliased) kind_aliases arm_aliases branch_aliases stmt_aliases arm) ∙ apart in
+          let none = sym (fold_out-Arm (List Aliased) (List Aliased) (List Aliased)
+          (List Aliased) kind_aliases arm_aliases branch_aliases stmt_aliases arm) ∙ apart in
           let test = and_left (is_truth (type_of site (out-Arm arm).test)) (all_of (map (fits site) (out-Arm arm).body)) fits_so in
           let body = and_right (is_truth (type_of site (out-Arm arm).test)) (all_of (map (fits site) (out-Arm arm).body)) fits_so in
           let good = block_good (out-Arm arm).body each body none in
           subst (λ (codes : ArmCodes). OneDoes codes (choice_of sees arm)) (sym (arm_out arm))
-          (subst (λ (choice : Choice). OneDoes (record { test = code_made site (out-Arm arm).test; body = block_codes (map (codes_of site) (out-Arm arm).body) })
+          (subst (λ (choice : Choice). OneDoes (record {
+            test = code_made site (out-Arm arm).test;
+            body = block_codes
+                (map (codes_of site) (out-Arm arm).body);
+          })
           choice) (sym (choice_out sees arm))
           (tests (out-Arm arm).test test, (λ free. (good free).1), (λ free. (good free).0)))
 
@@ -309,7 +316,8 @@ module _ (number : Datum → ℤ) (Stand : List Value → Memory → Type 0) (Ke
       no_activity : (b : Bool) → (is_activity site.kind && b) ≡ true → ⊥
       no_activity b h = let no = sym (and_left (is_activity site.kind) b h) ∙ function in cc
 
-      no_run : (target : Option Path) (inputs : List Expr) (outputs : List Path) (callee : Option UnitDef) → run_fits site target inputs outputs callee ≡ true → ⊥
+      no_run : (target : Option Path) (inputs : List Expr) (outputs : List Path) (callee : Option UnitDef)
+          → run_fits site target inputs outputs callee ≡ true → ⊥
       no_run target inputs outputs None h = cc
       no_run target inputs outputs (Some callee) h = no_activity _ (and_left _ _ h)
 
@@ -360,7 +368,8 @@ module _ (number : Datum → ℤ) (Stand : List Value → Memory → Type 0) (Ke
       cases = record {
         declare = λ place k initial fitted apart free. rw (fold-roll-Stmt, fold-roll-StmtKind) (omega arith, λ few. declares place k initial fitted free.flags);
         assign = λ place path e fitted apart free. rw (fold-roll-Stmt, fold-roll-StmtKind) (omega arith, λ few. assigns place path e fitted free.flags);
-        call = λ place f inputs outputs fitted apart free. rw (fold-roll-Stmt, fold-roll-StmtKind) (omega arith, λ few. calls place f inputs outputs fitted apart free.flags);
+        call = λ place f inputs outputs fitted apart free. rw (fold-roll-Stmt, fold-roll-StmtKind)
+            (omega arith, λ few. calls place f inputs outputs fitted apart free.flags);
         await = λ place e fitted apart. absurd (no_activity _ (rw (fold-roll-Stmt, fold-roll-StmtKind) at fitted));
         run = λ place target a inputs outputs fitted apart. absurd (no_run _ _ _ _ (rw (fold-roll-Stmt, fold-roll-StmtKind) at fitted));
         branching = λ place arms other each others fitted apart.
@@ -376,7 +385,8 @@ module _ (number : Datum → ℤ) (Stand : List Value → Memory → Type 0) (Ke
         repeat = λ place body each fitted apart.
             let good = block_good body each (rw (fold-roll-Stmt, fold-roll-StmtKind) at fitted) (rw (fold-roll-Stmt, fold-roll-StmtKind) at apart) in
             both_are _ _ _ _ (repeat_does place body) (repeat_codes place body)
-            (loop_good (condition sees None true) (condition sees None false) (in_order (map (does sees) body)) (block_codes (map (codes_of site) body)) (c_truth true) []
+            (loop_good (condition sees None true) (condition sees None false) (in_order (map (does sees) body))
+            (block_codes (map (codes_of site) body)) (c_truth true) []
             true_asks good (λ free few. plain_turn free.flags (in_order (map (does sees) body)) (block_codes (map (codes_of site) body) (turn_taken free)).code
             ((good (turn_taken free)).1 few)));
         until = λ place body e each fitted apart.

@@ -152,7 +152,8 @@ module _ (scope : Scope) (here : Memory) (Q : End → Memory → Type 0) where
 
   by_answer : (block : List CStmt) (other : Option (List CStmt)) (n : ℕ) (a : Option CValue) →
       Chosen scope here Q block other (option_map (λ v. is_one (number_in v)) a) →
-      Of (ended_by here n a (λ v. (if is_one (number_in v) then block_of (map runs_c block) else block_of (unwrap_or (option_map (map runs_c) other) [])) scope here))
+      Of (ended_by here n a (λ v. (if is_one (number_in v) then block_of (map runs_c block) else block_of
+      (unwrap_or (option_map (map runs_c) other) [])) scope here))
   by_answer block other n None h = h
   by_answer block other n (Some v) h = by_choice block other (is_one (number_in v)) h
 

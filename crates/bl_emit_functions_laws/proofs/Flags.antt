@@ -173,7 +173,8 @@ module _ (number : Datum → ℤ) (Stand : List Value → Memory → Type 0) (Ke
           Alike (following_end n after e (block_c rest scope)) (block_c rest scope (set_at m (flag_at scope k) (scalar (bit b))))
       by n after e h =
           subst (λ (e : End). Alike (following_end n after e (block_c rest scope)) (block_c rest scope (set_at m (flag_at scope k) (scalar (bit b))))) (sym h.0)
-          (subst (λ (after : Memory). Alike (following_end n after goes_on (block_c rest scope)) (block_c rest scope (set_at m (flag_at scope k) (scalar (bit b)))))
+          (subst (λ (after : Memory). Alike (following_end n after goes_on (block_c rest scope))
+          (block_c rest scope (set_at m (flag_at scope k) (scalar (bit b)))))
           (sym h.1) (refl, refl))
 
   module _ (f : ℕ) where

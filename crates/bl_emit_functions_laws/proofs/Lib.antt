@@ -1,5 +1,5 @@
 mod Bodies
-mod Courses
+pub mod Courses
 mod Flags
 mod Memories
 mod NoPrev

@@ -214,7 +214,8 @@ module _ (structs : List StructDef) (units : List UnitDef) (entry : ℕ) (k : �
         (and_right (is_assignable site path) (are_same (type_of_path site path) (type_of site e)) (rw (fold-roll-Stmt, fold-roll-StmtKind) at fitted)) in
         rw (fold-roll-Stmt, fold-roll-StmtKind)
         (act_at place (StmtKind-F.Assign path e) refl fitted
-        (both_true _ _ (path_named site runs.is_function copied path typed.0 typed.1) (expr_named site runs.is_function copied e typed.0 typed.2)) refl now here n
+        (both_true _ _ (path_named site runs.is_function copied path typed.0 typed.1) (expr_named site runs.is_function copied e typed.0 typed.2))
+        refl now here n
         stand)
 
     call_at : (f : ℕ) (inputs : List Expr) (outputs : List Path) → fits site (stmt place (StmtKind-F.Call f inputs outputs)) ≡ true →

@@ -3,7 +3,7 @@
 //! else it goes on or returns as they do, with their number, leaves memory that stands for the values after them, and leaves
 //! all numbers as they were that belong to no variable that may be written and to no flag of theirs (`FlowComes`). The law
 //! asks that the earlier functions do in C what they do in the program, and that the pointers of the function lead to what
-//! keeps apart (`Runs`). That a whole C function does what its function does isn't shown yet.
+//! keeps apart (`Runs`). `bl_emit_functions_laws_units` says so of whole functions.
 #![tactic(auto)]
 
 ghost use Rattle.bl_emit_functions_laws.specs.Laws.{StatementsCome};

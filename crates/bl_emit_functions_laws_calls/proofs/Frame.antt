@@ -22,7 +22,7 @@ use Rattle.bl_eval.specs.Functions.{frame_of}
 use Rattle.bl_eval.specs.Values.{number_at as number_level, number_in, parts_at, value_at as value_within, zero_of}
 use Rattle.bl_eval.proofs.PassLemmas.{and_left, and_right, get_front, get_take}
 use Rattle.bl_cmeaning.specs.Meaning.{Meaning, Passed, Scope, by_address, by_value}
-use Rattle.bl_cmeaning.specs.Memory.{CValue, Location, Memory, Part, Root, in_frame, member, value_at, variable, without_frame, zeros}
+use Rattle.bl_cmeaning.specs.Memory.{CValue, Location, Memory, Part, member, value_at, variable, without_frame, zeros}
 use Rattle.bl_cmeaning.specs.Memory as memory
 use Rattle.bl_cmeaning.specs.Tables.{Table}
 use Rattle.bl_emit_acts.specs.declared.home.Home.{Home}

@@ -1,10 +1,10 @@
 mod Apart
 mod Ends
-mod Frame
+pub mod Frame
 mod Handing
-mod Kept
-mod Lists
-mod Params
-mod Procedure
-mod Standing
+pub mod Kept
+pub mod Lists
+pub mod Params
+pub mod Procedure
+pub mod Standing
 mod Zeros

@@ -55,13 +55,15 @@ and_false : (b : Bool) → (b && false) ≡ false
 and_false true = refl
 and_false false = refl
 
-live_older : (depth : ℕ) (root : Root) → is_live depth root ≡ true → is_older (depth + 1) root ≡ true
+-- what is there while a caller runs was there before what it calls began
+pub live_older : (depth : ℕ) (root : Root) → is_live depth root ≡ true → is_older (depth + 1) root ≡ true
 live_older depth state_object h = refl
 live_older depth input_object h = refl
 live_older depth output_object h = refl
 live_older depth (variable d name) h = let less : d ≤ depth = leb-true d depth h in lt-ltb d (depth + 1) (omega (arith, less))
 
-older_live : (depth : ℕ) (root : Root) → is_older depth root ≡ true → is_live depth root ≡ true
+-- and the other way round
+pub older_live : (depth : ℕ) (root : Root) → is_older depth root ≡ true → is_live depth root ≡ true
 older_live depth state_object h = refl
 older_live depth input_object h = refl
 older_live depth output_object h = refl
@@ -116,7 +118,8 @@ output_home Output scalar copies h = refl
 output_home Variable scalar copies h = absurd (cc)
 output_home Fixed scalar copies h = absurd (cc)
 
-lent_output : (role : Role) (scalar copies : Bool) → home_of_role role scalar copies ≡ Lent → is_input role ≡ false → is_output role ≡ true
+-- what is lent and no input is an output
+pub lent_output : (role : Role) (scalar copies : Bool) → home_of_role role scalar copies ≡ Lent → is_input role ≡ false → is_output role ≡ true
 lent_output Input scalar copies h no_input = absurd (cc)
 lent_output Output scalar copies h no_input = refl
 lent_output Variable scalar copies h no_input = absurd (cc)

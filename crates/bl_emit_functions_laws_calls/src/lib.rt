@@ -2,8 +2,8 @@
 //! the contract is the law. A call of the C function of a function without a result traps exactly where the function does;
 //! else it leaves the function's outputs at their places, and all else as it was that was there before (`specs/Laws.antt`,
 //! `ProceduresCome`). The law asks that the earlier functions do in C what they do in the program, that no arguments of the
-//! function's calls overlap, and that it has no more variables and flags than there are names (`MayRun`). That a function
-//! with a result does the same isn't shown yet.
+//! function's calls overlap, and that it has no more variables and flags than there are names (`MayRun`). The same of
+//! functions with a result is in `bl_emit_functions_laws_results`.
 #![tactic(auto)]
 
 ghost use Rattle.bl_emit_functions_laws_calls.specs.Laws.{BodiesEnd, CallsKeep, FramesBegin, HandsOver, ProceduresCome};

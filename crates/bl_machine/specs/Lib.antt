@@ -3,4 +3,5 @@ pub mod Counters
 pub mod Layout
 pub mod Machines
 pub mod Slots
+pub mod Uses
 pub mod inner

@@ -23,6 +23,7 @@ use Rattle.bl_nodes.specs.Plain.{Block, Plain, Then}
 use Rattle.bl_nodes.specs.Steps.{StepLabel}
 use Rattle.bl_ctree.specs.Control.{Body}
 use Rattle.bl_ctree.specs.Instances.{Setting}
+use Rattle.bl_ctree.specs.Store.{Store}
 use Rattle.bl_ctree_laws.specs.Pending.{Deed}
 use Rattle.bl_ctree_laws.specs.Steps as moves
 use Rattle.bl_ctree_laws.specs.Steps.{Anyway, Moves, OneMoves}
@@ -49,6 +50,8 @@ use Rattle.bl_ctree_laws.specs.Trees.{
 }
 use Rattle.bl_machine_laws.specs.Turns as turns
 use Rattle.bl_machine_laws.specs.Turns.{Answered, OneTurns, Turns}
+use Rattle.bl_machine_laws_pass.specs.Follows as follows
+use Rattle.bl_machine_laws_pass.specs.Follows.{Breaks, OneBreaks, OneTakes, Takes}
 use Rattle.bl_machine_laws_waiting.proofs.Fresh.{seq_open}
 use Rattle.bl_machine_laws_waiting.proofs.Quiet.{differ}
 
@@ -153,6 +156,36 @@ module _ {w : Setting} {rank : ℕ → Node → ℕ} {i : ℕ} {done : List Answ
         OneTurns w rank i (fill_one hs t) done n (fill_one hs t')
     lift_one_turn (this weak h others) t t' e turn = turns.first (lift_turn h t t' e turn)
     lift_one_turn (next weak c hs) t t' e turn = turns.later (lift_one_turn hs t t' e turn)
+
+module _ {w : Setting} {rank : ℕ → Node → ℕ} {i : ℕ} {store left : Store} {n : Node} where
+  mutual
+    pub lift_takes : (h : Hole) (t t' : Tree) → is_nil t ≡ false → Takes w rank i t store n t' left →
+        Takes w rank i (fill h t) store n (fill h t') left
+    lift_takes top t t' e turn = turn
+    lift_takes (in_block h s rest) t t' e turn =
+        subst (λ (x : Tree). Takes w rank i x store n (seq (fill h t') (Then s rest)) left) (sym (seq_is (fill h t) s rest (fill_open h t e)))
+        (follows.in_seq (lift_takes h t t' e turn))
+    lift_takes (in_fork s stood hs) t t' e turn = follows.in_par (lift_one_takes hs t t' e turn)
+    lift_takes (in_watch s stood h) t t' e turn = follows.in_guard (lift_takes h t t' e turn)
+
+    lift_one_takes : (hs : Holes) (t t' : Tree) → is_nil t ≡ false → Takes w rank i t store n t' left →
+        OneTakes w rank i (fill_one hs t) store n (fill_one hs t') left
+    lift_one_takes (this weak h others) t t' e turn = follows.first (lift_takes h t t' e turn)
+    lift_one_takes (next weak c hs) t t' e turn = follows.later (lift_one_takes hs t t' e turn)
+
+module _ {w : Setting} {rank : ℕ → Node → ℕ} {i : ℕ} {store : Store} {n : Node} where
+  mutual
+    pub lift_breaks : (h : Hole) (t : Tree) → is_nil t ≡ false → Breaks w rank i t store n → Breaks w rank i (fill h t) store n
+    lift_breaks top t e turn = turn
+    lift_breaks (in_block h s rest) t e turn =
+        subst (λ (x : Tree). Breaks w rank i x store n) (sym (seq_is (fill h t) s rest (fill_open h t e)))
+        (follows.seq_traps (lift_breaks h t e turn))
+    lift_breaks (in_fork s stood hs) t e turn = follows.par_traps (lift_one_breaks hs t e turn)
+    lift_breaks (in_watch s stood h) t e turn = follows.guard_traps (lift_breaks h t e turn)
+
+    lift_one_breaks : (hs : Holes) (t : Tree) → is_nil t ≡ false → Breaks w rank i t store n → OneBreaks w rank i (fill_one hs t) store n
+    lift_one_breaks (this weak h others) t e turn = follows.first_traps (lift_breaks h t e turn)
+    lift_one_breaks (next weak c hs) t e turn = follows.later_traps (lift_one_breaks hs t e turn)
 
 -- ---- what acts in the whole tree acts in the place, or beside it, whatever stands in the place
 

@@ -58,19 +58,21 @@ use Rattle.bl_ctree_laws_progress.specs.Places.{AllCallable, whole}
 use Rattle.bl_ctree_laws_ready.specs.Ranks.{Lower, ranks_in}
 use Rattle.bl_machine_laws.specs.Steps.{TurnsAreWalks, TurnsWait}
 use Rattle.bl_machine_laws.specs.Turns as turns
-use Rattle.bl_machine_laws.specs.Turns.{Answered, Passes, Point, Turns, did}
+use Rattle.bl_machine_laws.specs.Turns.{Answered, Passes, Turns, did}
 use Rattle.bl_machine_laws.specs.Waiting.{Waits}
 use Rattle.bl_machine_laws.proofs.Walking.{point_moves}
 use Rattle.bl_machine_laws_waiting.specs.Laws.{TurnsLeadOn, WaitsInPart}
 use Rattle.bl_machine_laws_waiting.proofs.Fresh.{ends_walk, nil_is}
 use Rattle.bl_machine_laws_waiting.proofs.Quiet.{differ, something_waits}
+use Rattle.bl_machine_laws_pass.specs.Follows as follows
+use Rattle.bl_machine_laws_pass.specs.Follows.{Breaks, Fails, First, Follows, Takes}
 use Rattle.bl_machine_laws_pass.specs.Low.{LowSteps, LowTrap, Lowest, on, stay}
 use Rattle.bl_machine_laws_pass.specs.Orders.{Orders}
 use Rattle.bl_machine_laws_pass.specs.Pass.{InstancesHavePasses, PassOrTrap, WaitsFrom, comes_to_end, is_cut}
 use Rattle.bl_machine_laws_pass.specs.Steady.{Steady}
 use Rattle.bl_machine_laws_pass.proofs.Calling.{Beyond, call_steps, call_trap, ends_lowest, low_append, one_not_lower, trap_after}
 use Rattle.bl_machine_laws_pass.proofs.Finding.{Found, Ready, calls, copies, find, ready_left, simple}
-use Rattle.bl_machine_laws_pass.proofs.Holes.{Has, Hole, fill, lift_moves, lift_turn, unsettled_open}
+use Rattle.bl_machine_laws_pass.proofs.Holes.{Has, Hole, fill, lift_breaks, lift_moves, lift_takes, lift_turn, unsettled_open}
 use Rattle.bl_machine_laws_pass.proofs.Numbers.{Least, after_rises, bound_of, least, least_waits, lesser, nothing}
 use Rattle.bl_machine_laws_pass.proofs.Points.{PointFails, PointMade, answered, plain_answer, point_over}
 use Rattle.bl_machine_laws_pass.proofs.Steadying.{block_steady, candidate, steady_passed, turn_steady}
@@ -82,14 +84,11 @@ pub record TurnMade (w : Setting) (rank : ℕ → Node → ℕ) (i : ℕ) (c : T
   pub left : Store
   pub turn : Turns w rank i c done n tree
   pub steps : LowSteps w rank i c store done tree left
+  pub takes : Takes w rank i c store n tree left
 
 pub data TurnOrTrap (w : Setting) (rank : ℕ → Node → ℕ) (i : ℕ) (c : Tree) (store : Store) (n : Node) : Type 0 where
   is_made : TurnMade w rank i c store n → TurnOrTrap w rank i c store n
-  traps : LowTrap w rank i c store → TurnOrTrap w rank i c store n
-
--- nothing that waits has a lesser number than the node
-abbrev First : (ℕ → Node → ℕ) → ℕ → Tree → Node → Type 0
-First rank i c n = WaitsFrom rank i (rank i n) c
+  traps : LowTrap w rank i c store → Breaks w rank i c store n → TurnOrTrap w rank i c store n
 
 -- a called instance has passes
 abbrev HasPasses : Setting → (ℕ → Node → ℕ) → ℕ → Type 0
@@ -119,6 +118,7 @@ module _ (moving : MovingIsUnsettled) (w : Setting) (rank : ℕ → Node → ℕ
     left = made.left;
     turn = lift_turn h t made.after unended (turns.point made.point);
     steps = on (lift_moves h t made.after unended (point_moves made.point)) lowest made.performs stay;
+    takes = lift_takes h t made.after unended (follows.point made.point made.performs);
   })
   point_turn h t n store unended lowest (inr failed) = traps (record {
     done = [];
@@ -132,7 +132,7 @@ module _ (moving : MovingIsUnsettled) (w : Setting) (rank : ℕ → Node → ℕ
     moves = lift_moves h t failed.after unended (point_moves failed.point);
     lowest = lowest;
     fails = failed.fails;
-  })
+  }) (lift_breaks h t unended (follows.point_traps failed.point failed.fails))
 
   -- the inputs are copied, or an expression of them traps; what follows is a turn or a trap
   module _ (h : Hole) (t t' : Tree) (n : Node) (callee : ℕ) (a : Deed) (unended : is_nil t ≡ false) (move : Moves Anyway w i t true a (Here n) t')
@@ -141,10 +141,10 @@ module _ (moving : MovingIsUnsettled) (w : Setting) (rank : ℕ → Node → ℕ
         LowSteps w rank i (fill h t) store (did a true) (fill h t') left
     copied store left performs = on (lift_moves h t t' unended move) lowest performs stay
 
-    copy_turn : (store : Store) → ((p : Performed) → done_by w a store ≡ Some p → p.answer ≡ true) →
+    copy_turn : (store : Store) → (done_by w a store ≡ None → Breaks w rank i t store n) → ((p : Performed) → done_by w a store ≡ Some p → p.answer ≡ true) →
         ((left : Store) → done_by w a store ≡ Some (record { answer = true; store = left }) → TurnOrTrap w rank i (fill h t) store n) →
         TurnOrTrap w rank i (fill h t) store n
-    copy_turn store plain more = by_answer (done_by w a store) refl
+    copy_turn store breaks plain more = by_answer (done_by w a store) refl
       where
         by_answer : (x : Option Performed) → done_by w a store ≡ x → TurnOrTrap w rank i (fill h t) store n
         by_answer None is = traps (record {
@@ -159,7 +159,7 @@ module _ (moving : MovingIsUnsettled) (w : Setting) (rank : ℕ → Node → ℕ
           moves = lift_moves h t t' unended move;
           lowest = lowest;
           fails = is;
-        })
+        }) (lift_breaks h t unended (breaks is))
         by_answer (Some p) is = more p.store (answered w a store p true is (plain p is))
 
 -- ---- turns of an instance whose callees have passes
@@ -189,7 +189,8 @@ module _ (moving : MovingIsUnsettled) (shrinks : EndsShrink) (lists : TurnsAreWa
       (first_lowest moving w rank i (fill h t) n steady first) (point_over store point)
   turn_at h t n store (calls {l = l} {at = at} {target = target} {a = a} {inputs = inputs} {outputs = outputs} {callee = callee} {unit = unit} called is)
       steady first =
-      copy_turn moving w rank i h t begun n callee copy refl move lowest store (λ p performs. plain_answer w copy store p refl performs)
+      copy_turn moving w rank i h t begun n callee copy refl move lowest store (follows.inputs_trap called)
+      (λ p performs. plain_answer w copy store p refl performs)
       (λ left performs. by_pass left performs
       (inner callee at called unit false body left is (begins w callee unit callable is) (block_steady (plain_body unit.body))))
     where
@@ -220,12 +221,16 @@ module _ (moving : MovingIsUnsettled) (shrinks : EndsShrink) (lists : TurnsAreWa
         turn = lift_turn h t (Run s callee Body false pass.tree) refl (turns.runs called is pass.passes (lasts callee unit pass.done pass.tree is pass.passes));
         steps = low_append (copied moving w rank i h t begun n callee copy refl move lowest store left performs)
             (call_steps moving w rank i h t refl s callee false called (beyond moving w rank i (fill h t) n steady first) pass.steps);
+        takes = lift_takes h t (Run s callee Body false pass.tree) refl
+            (follows.runs called is performs pass.follows (lasts callee unit pass.done pass.tree is pass.passes));
       })
-      by_pass left performs (is_cut trap) =
+      by_pass left performs (is_cut trap fails) =
           traps (trap_after (copied moving w rank i h t begun n callee copy refl move lowest store left performs)
           (call_trap moving w rank i h t refl s callee false called (beyond moving w rank i (fill h t) n steady first) trap))
+          (lift_breaks h t refl (follows.run_traps called is performs fails))
   turn_at h t n store (copies {s = s} {callee = callee} {stood = stood} {c = c} {unit = unit} called is live still) steady first =
-      copy_turn moving w rank i h t begun n callee copy refl move lowest store (λ p performs. plain_answer w copy store p refl performs)
+      copy_turn moving w rank i h t begun n callee copy refl move lowest store (follows.copy_traps)
+      (λ p performs. plain_answer w copy store p refl performs)
       (λ left performs. by_pass left performs (inner callee s.place called unit stood c left is live still))
     where
       begun : Tree
@@ -244,17 +249,19 @@ module _ (moving : MovingIsUnsettled) (shrinks : EndsShrink) (lists : TurnsAreWa
       lowest = first_lowest moving w rank i (fill h t) n steady first
 
       made : (left : Store) → done_by w copy store ≡ Some (record { answer = true; store = left }) → (done : List Answered) (tree : Tree) (left' : Store) →
-          Passes w rank callee 0 c done tree → LowSteps w rank callee c left done tree left' → (b : Bool) → is_nil tree ≡ b →
+          Passes w rank callee 0 c done tree → LowSteps w rank callee c left done tree left' → Follows w rank callee 0 c left tree left' →
+          (b : Bool) → is_nil tree ≡ b →
           TurnOrTrap w rank i (fill h t) store n
-      made left performs done tree left' passes steps false e = is_made (record {
+      made left performs done tree left' passes steps follow false e = is_made (record {
         done = did copy true ++ done;
         tree = fill h (Run s callee Body stood tree);
         left = left';
         turn = lift_turn h t (Run s callee Body stood tree) refl (turns.resumes passes e);
         steps = low_append (copied moving w rank i h t begun n callee copy refl move lowest store left performs)
             (call_steps moving w rank i h t refl s callee stood called (beyond moving w rank i (fill h t) n steady first) steps);
+        takes = lift_takes h t (Run s callee Body stood tree) refl (follows.resumes performs follow e);
       })
-      made left performs done tree left' passes steps true e = is_made (record {
+      made left performs done tree left' passes steps follow true e = is_made (record {
         done = did copy true ++ (done ++ did give true);
         tree = fill h Nil;
         left = given_to w i s.arguments.target (result_at left' callee) left';
@@ -264,14 +271,18 @@ module _ (moving : MovingIsUnsettled) (shrinks : EndsShrink) (lists : TurnsAreWa
             (subst (λ (x : Tree). LowSteps w rank callee c left done x left') (nil_is tree e) steps))
             (on (lift_moves h (Run s callee Body stood Nil) Nil refl moves.run_ends)
             (ends_lowest moving w rank i h t refl s callee stood called (beyond moving w rank i (fill h t) n steady first)) refl stay));
+        takes = lift_takes h t Nil refl
+            (follows.returns performs (subst (λ (x : Tree). Follows w rank callee 0 c left x left') (nil_is tree e) follow) refl);
       })
 
       by_pass : (left : Store) → done_by w copy store ≡ Some (record { answer = true; store = left }) → PassOrTrap w rank callee 0 c left →
           TurnOrTrap w rank i (fill h t) store n
-      by_pass left performs (comes_to_end pass) = made left performs pass.done pass.tree pass.left pass.passes pass.steps (is_nil pass.tree) refl
-      by_pass left performs (is_cut trap) =
+      by_pass left performs (comes_to_end pass) =
+          made left performs pass.done pass.tree pass.left pass.passes pass.steps pass.follows (is_nil pass.tree) refl
+      by_pass left performs (is_cut trap fails) =
           traps (trap_after (copied moving w rank i h t begun n callee copy refl move lowest store left performs)
           (call_trap moving w rank i h t refl s callee stood called (beyond moving w rank i (fill h t) n steady first) trap))
+          (lift_breaks h t refl (follows.resume_traps performs fails))
 
   -- where the node stands
   pub turn_of : (c : Tree) (n : Node) (store : Store) → Found w i c n → Steady c → First rank i c n → TurnOrTrap w rank i c store n
@@ -327,20 +338,22 @@ module _ (moving : MovingIsUnsettled) (shrinks : EndsShrink) (lists : TurnsAreWa
       PassOrTrap w rank i k c store
   pass_by k c store live steady from later = by_rest (is_settled c) refl
     where
-      by_pass : (n : Node) → Waits c None n → (made : TurnMade w rank i c store n) →
+      by_pass : (n : Node) → Waits c None n → First rank i c n → (made : TurnMade w rank i c store n) →
           PassOrTrap w rank i (suc (rank i n)) made.tree made.left → PassOrTrap w rank i k c store
-      by_pass n h made (comes_to_end pass) = comes_to_end (record {
+      by_pass n h first made (comes_to_end pass) = comes_to_end (record {
         done = made.done ++ pass.done;
         tree = pass.tree;
         left = pass.left;
         passes = turns.goes (from n h) made.turn pass.passes;
         steps = low_append made.steps pass.steps;
+        follows = follows.goes (from n h) first made.takes pass.follows;
       })
-      by_pass n h made (is_cut trap) = is_cut (trap_after made.steps trap)
+      by_pass n h first made (is_cut trap fails) =
+          is_cut (trap_after made.steps trap) (follows.goes_on (from n h) first made.takes fails)
 
       by_turn : (n : Node) → Waits c None n → First rank i c n → TurnOrTrap w rank i c store n → PassOrTrap w rank i k c store
-      by_turn n h first (traps trap) = is_cut trap
-      by_turn n h first (is_made made) = by_pass n h made
+      by_turn n h first (traps trap breaks) = is_cut trap (follows.breaks (from n h) first breaks)
+      by_turn n h first (is_made made) = by_pass n h first made
           (later n h made.tree made.left (low_live kept stood body paces callable made.steps live) (turn_steady made.turn steady)
           (after_turn c made.done n made.tree live first made.turn))
 
@@ -352,7 +365,7 @@ module _ (moving : MovingIsUnsettled) (shrinks : EndsShrink) (lists : TurnsAreWa
           (find (rank i) (whole stood body) c None n live steady (orders.rising.control i unit is) (unsettled_open c left) h first) steady first)
 
       by_rest : (b : Bool) → is_settled c ≡ b → PassOrTrap w rank i k c store
-      by_rest true e = comes_to_end (record { done = []; tree = c; left = store; passes = turns.rests e; steps = stay })
+      by_rest true e = comes_to_end (record { done = []; tree = c; left = store; passes = turns.rests e; steps = stay; follows = follows.rests e })
       by_rest false e = by_least e (least_waits (rank i) c None)
 
   abbrev top : ℕ

@@ -38,6 +38,7 @@ use Rattle.bl_ctree_laws_ready.specs.Never.{ReachedLowestMayAct}
 use Rattle.bl_machine_laws.specs.Turns as turns
 use Rattle.bl_machine_laws.specs.Turns.{Answered}
 use Rattle.bl_machine_laws_waiting.proofs.Quiet.{differ}
+use Rattle.bl_machine_laws_pass.specs.Follows as follows
 use Rattle.bl_machine_laws_pass.specs.Low.{LowSteps, LowTrap, Lowest, on, stay}
 use Rattle.bl_machine_laws_pass.specs.Orders.{Orders}
 use Rattle.bl_machine_laws_pass.specs.Pass.{InstancesHavePasses, PassOrTrap, WholePass, comes_to_end, is_cut}
@@ -218,13 +219,13 @@ module _ (lowest : ReachedLowestMayAct) (complete : PlainStepsAreSteps) (sound :
       ends (comes_to_end pass) =
           inl (pass_there lowest complete inside armed follow structs units entry rank keeps passes orders (orderly structs units entry keeps passes).fitted
           rows row sound could moving answers c store reaches eq pass)
-      ends (is_cut trap) =
+      ends (is_cut trap fails) =
           inr (trap_there lowest complete inside armed follow structs units entry rank keeps passes orders (orderly structs units entry keeps passes).fitted
           rows row c store reaches eq trap)
 
       by_rest : (b : Bool) → is_settled tree ≡ b → TickPasses W rank row c store ⊎ TickTraps W rank row c store
       by_rest true e =
-          ends (comes_to_end (record { done = []; tree = tree; left = woken_store row store; passes = turns.rests e; steps = stay }))
+          ends (comes_to_end (record { done = []; tree = tree; left = woken_store row store; passes = turns.rests e; steps = stay; follows = follows.rests e }))
       by_rest false e =
           let now = (live structs units entry keeps passes).inside rows row [] (control.woken c) (woken_store row store) reaches in
           let lives : Live W 0 tree (whole now.stood (entry_block W)) = subst (λ (x : Tree). Live W 0 x (whole now.stood (entry_block W))) eq now.lives in

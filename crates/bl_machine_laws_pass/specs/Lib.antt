@@ -1,3 +1,4 @@
+pub mod Follows
 pub mod Low
 pub mod Orders
 pub mod Pass

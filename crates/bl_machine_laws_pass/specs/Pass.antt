@@ -12,6 +12,7 @@ use Rattle.bl_ctree_laws_progress.specs.Live.{Live}
 use Rattle.bl_ctree_laws_progress.specs.Places.{AllCallable, whole}
 use Rattle.bl_machine_laws.specs.Turns.{Answered, Passes}
 use Rattle.bl_machine_laws.specs.Waiting.{Waits}
+use Rattle.bl_machine_laws_pass.specs.Follows.{Fails, Follows}
 use Rattle.bl_machine_laws_pass.specs.Low.{LowSteps, LowTrap}
 use Rattle.bl_machine_laws_pass.specs.Orders.{Orders}
 use Rattle.bl_machine_laws_pass.specs.Steady.{Steady}
@@ -27,11 +28,12 @@ pub record WholePass (w : Setting) (rank : ℕ → Node → ℕ) (i k : ℕ) (c 
   pub left : Store
   pub passes : Passes w rank i k c done tree
   pub steps : LowSteps w rank i c store done tree left
+  pub follows : Follows w rank i k c store tree left
 
--- a pass comes to its end, or one of its deeds traps
+-- a pass comes to its end, or one of its deeds traps: turns lead to it, and so do the lowest steps
 pub data PassOrTrap (w : Setting) (rank : ℕ → Node → ℕ) (i k : ℕ) (c : Tree) (store : Store) : Type 0 where
   comes_to_end : WholePass w rank i k c store → PassOrTrap w rank i k c store
-  is_cut : LowTrap w rank i c store → PassOrTrap w rank i k c store
+  is_cut : LowTrap w rank i c store → Fails w rank i k c store → PassOrTrap w rank i k c store
 
 -- over each tree that stands at its place, and in which no pass of a call is under way, a pass can be made from each store: turn by turn, in
 -- the order of the numbers, each node acts for which something waits

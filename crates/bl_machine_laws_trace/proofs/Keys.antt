@@ -19,7 +19,8 @@ use Rattle.bl_nodes.specs.Nodes.{
 }
 use Rattle.bl_nodes.specs.Plain.{plain_block}
 use Rattle.bl_ctree_laws_ready.proofs.Keys.{bodies_differ_so, one_of_each, sort_of}
-use Rattle.bl_machine_laws_trace.specs.Keys.{NodesHaveKeys, sort}
+use Rattle.bl_pass.specs.Numbered.{sort}
+use Rattle.bl_machine_laws_trace.specs.Keys.{NodesHaveKeys}
 use Rattle.bl_machine_laws_trace.proofs.Positions.{one_place, stands_at}
 
 sort_is : (n : Node) → sort_of n ≡ sort n

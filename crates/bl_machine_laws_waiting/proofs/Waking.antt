@@ -31,7 +31,8 @@ use Rattle.bl_ctree_laws.specs.Trees.{
 }
 use Rattle.bl_ctree_laws_progress.specs.Live.{Live, Lives}
 use Rattle.bl_ctree_laws_progress.specs.Places.{Place, ahead_of, guarded, in_branch, later_on}
-use Rattle.bl_machine_laws.specs.Numbers.{Next, Over, Rests, Slots, into, numbers_in, numbers_of, uses_in_branch}
+use Rattle.bl_machine.specs.Uses.{Slots, uses_in_branch}
+use Rattle.bl_machine_laws.specs.Numbers.{Next, Over, Rests, into, numbers_in, numbers_of}
 use Rattle.bl_machine_laws.specs.Waiting.{Sleeps, SomeSleeps, SomeWaits, Waits, first_in}
 use Rattle.bl_machine_laws_waiting.proofs.Quiet.{and_first, and_second, differ, not_true}
 

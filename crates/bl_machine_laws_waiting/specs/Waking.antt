@@ -6,7 +6,8 @@ use Rattle.bl_ctree.specs.Instances.{Setting}
 use Rattle.bl_ctree_laws.specs.Trees.{Tree, is_settled, woken}
 use Rattle.bl_ctree_laws_progress.specs.Live.{Live}
 use Rattle.bl_ctree_laws_progress.specs.Places.{whole}
-use Rattle.bl_machine_laws.specs.Numbers.{Over, Slots, numbers_of}
+use Rattle.bl_machine.specs.Uses.{Slots}
+use Rattle.bl_machine_laws.specs.Numbers.{Over, numbers_of}
 use Rattle.bl_machine_laws.specs.Waiting.{Sleeps, Waits}
 
 -- all that waits when a tick goes on from where it rested is what rested: each at its resume node

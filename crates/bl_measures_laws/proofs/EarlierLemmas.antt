@@ -46,7 +46,6 @@ use Rattle.bl_tree.specs.declared.tree.Branch.{Branch, fold-Branch, fold_out-Bra
 use Rattle.bl_tree.specs.declared.tree.Expr.{Expr, fold-roll-Expr}
 use Rattle.bl_tree.specs.declared.tree.ExprKind.{ExprKind, fold-roll-ExprKind}
 use Rattle.bl_tree.specs.declared.tree.ExprKind.TheOpen.{ExprKind-F, Part-F}
-use Rattle.bl_tree.specs.declared.tree.Guard.{Guard}
 use Rattle.bl_tree.specs.declared.tree.Part.{Part, fold-Part, fold-roll-Part, out-Part, roll-Part, roll-out-Part}
 use Rattle.bl_tree.specs.declared.tree.Path.{Path, fold-roll-Path, roll-Path}
 use Rattle.bl_tree.specs.declared.tree.Stmt.{Stmt, fold-roll-Stmt}
@@ -56,9 +55,8 @@ use Rattle.bl_tree.specs.declared.tree.StructDef.{StructDef}
 use Rattle.bl_tree.specs.declared.tree.Ty.{Ty, out-Ty}
 use Rattle.bl_tree.specs.declared.tree.Unit.{Unit as UnitDef}
 use Rattle.bl_tree.specs.declared.tree.Var.{Var}
-use Rattle.bl_tree.specs.Program.{roles_stand, unit_stands, units_stand_after}
+use Rattle.bl_tree.specs.Program.{unit_stands, units_stand_after}
 use Rattle.bl_tree.specs.Reduce.{all_of, joined}
-use Rattle.bl_tree.specs.Scalar.{in_range, is_whole}
 use Rattle.bl_tree.specs.Types.{same_type, scalar, scalar_in}
 use Rattle.bl_tree.specs.Typing.{
   Site,
@@ -122,7 +120,6 @@ use Rattle.bl_measures.specs.Calls.{
   target_calls,
 }
 use Rattle.bl_measures.specs.Runs.{arm_runs, branch_runs, kind_runs, runs_in, runs_in_arm, runs_in_branch, runs_of, stmt_layer_runs}
-use Rattle.bl_measures.specs.Uses.{Earlier, UsesEarlier}
 use Rattle.bl_measures_laws.specs.Laws.{UnitsUseEarlierOnes}
 
 -- ---- tests

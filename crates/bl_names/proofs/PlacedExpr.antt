@@ -40,7 +40,8 @@ use Rattle.bl_named.specs.declared.expr.NamedTarget.{NamedTarget, fold-roll-Name
 use Rattle.bl_named.specs.declared.types.NamedType.{NamedType, fold_out-NamedType, map-NamedType, out-NamedType}
 use Rattle.bl_named.specs.declared.types.NamedType.TheOpen.{NamedType-F}
 use Rattle.bl_named.specs.declared.types.NamedType.TheVariants as type
-use Rattle.bl_named.specs.Placed.{Earlier, expr_layer_placed, expr_placed, holds_if, kind_placed, length_placed, part_placed, path_placed, root_placed, target_layer_placed, target_placed, type_level_placed, type_placed}
+use Rattle.bl_named.specs.Placed.{Earlier, expr_layer_placed, expr_placed, holds_if, kind_placed, length_placed, part_placed, path_placed}
+use Rattle.bl_named.specs.Placed.{root_placed, target_layer_placed, target_placed, type_level_placed, type_placed}
 use Rattle.bl_named.specs.inner.Placed.{step_placed}
 use Rattle.bl_scopes.specs.declared.kind.Kind.{Kind}
 use Rattle.bl_scopes.specs.declared.kind.Kind.TheVariants as kinds

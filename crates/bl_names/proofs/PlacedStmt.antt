@@ -43,7 +43,8 @@ use Rattle.bl_named.specs.declared.stmt.NamedStmt.{NamedStmt, fold-roll-NamedStm
 use Rattle.bl_named.specs.declared.stmt.NamedStmtKind.{NamedStmtKind, fold-NamedStmtKind, fold_out-NamedStmtKind, map-NamedStmtKind, out-NamedStmtKind}
 use Rattle.bl_named.specs.declared.stmt.NamedStmtKind.TheOpen.{NamedStmtKind-F}
 use Rattle.bl_named.specs.declared.stmt.NamedStmtKind.TheVariants as what
-use Rattle.bl_named.specs.Placed.{Earlier, Step, arm_step, branch_step, constant_placed, declares_none, expr_placed, holds_of, in_turn, path_placed, stmt_kind_step, stmt_layer_step, stmt_step, tested, type_placed, var_placed, with_constant, with_variable}
+use Rattle.bl_named.specs.Placed.{Earlier, Step, arm_step, branch_step, constant_placed, declares_none, expr_placed, holds_of, in_turn, path_placed}
+use Rattle.bl_named.specs.Placed.{stmt_kind_step, stmt_layer_step, stmt_step, tested, type_placed, var_placed, with_constant, with_variable}
 use Rattle.bl_named.specs.inner.Placed.{step_of_arm, step_of_branch}
 use Rattle.bl_scopes.specs.declared.kind.Kind.TheVariants as kind
 use Rattle.bl_scopes.specs.declared.kind.Wanted.TheVariants as wanted

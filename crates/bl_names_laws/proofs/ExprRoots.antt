@@ -40,7 +40,8 @@ use Rattle.bl_names.proofs.FitLemmas.{Fits, IsFit, fits_behind, fits_first}
 use Rattle.bl_names.proofs.PlacedExpr.{IsRead, value_read}
 use Rattle.bl_names.proofs.RawExprInduction.{Cases, EachIndex, OfIndex, expr, induct, induct_target}
 use Rattle.bl_names.proofs.StillLemmas.{Still, still_expr, still_exprs}
-use Rattle.bl_names_laws.specs.Apart.{argument_roots, kind_roots, optional_roots, part_roots, roots_in, roots_in_path, roots_in_target, roots_of, taker_roots, target_layer_roots}
+use Rattle.bl_names_laws.specs.Apart.{argument_roots, kind_roots, optional_roots, part_roots, roots_in, roots_in_path, roots_in_target, roots_of}
+use Rattle.bl_names_laws.specs.Apart.{taker_roots, target_layer_roots}
 use Rattle.bl_names_laws.specs.inner.Apart.{roots_in_step}
 use Rattle.bl_names_laws.proofs.Along.{all_append}
 use Rattle.bl_names_laws.proofs.ExprMade.{NamedLayer, RawLayer, expr_made, field_made, index_made, named_parts, target_made}

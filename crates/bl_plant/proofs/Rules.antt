@@ -36,8 +36,8 @@ use Rattle.std.proofs.Common.{
 use Rattle.std.proofs.lemmas.Bool.{le-ltb, lt-ltb}
 use Rattle.std.proofs.lemmas.Option.{slice_get_read}
 use Rattle.std.specs.List.{slice_get}
-use Rattle.bl_plant.specs.Kinds.{AreWide, level_after, level_then, ramp, ramp_at, ramp_rule, ramp_then, rows_in, script, script_rule, tank, tank_rule}
-use Rattle.bl_plant.specs.Plants.{Gives, IsSame, Shown, with_given, with_told}
+use Rattle.bl_plant.specs.Kinds.{level_after, level_then, ramp, ramp_at, ramp_then, rows_in, script, tank}
+use Rattle.bl_plant.specs.Plants.{Gives, with_given}
 use Rattle.bl_plant.specs.declared.log.Log.{Log}
 use Rattle.bl_plant.specs.declared.plant.Give.{Give}
 use Rattle.bl_plant.specs.declared.plant.Give.TheVariants as give

@@ -8,7 +8,6 @@ use Rattle.bl_ctree.specs.Control.{Control}
 use Rattle.bl_ctree.specs.Instances.{Setting}
 use Rattle.bl_ctree.specs.Nodes.{control_of}
 use Rattle.bl_ctree.specs.Points.{Point, points}
-use Rattle.bl_ctree.specs.Positions.{place_of}
 use Rattle.bl_ctree.specs.Store.{Store}
 use Rattle.bl_store.specs.Seen.{setting_in, store_of}
 use Rattle.bl_steps.specs.declared.action.Action.{Action}

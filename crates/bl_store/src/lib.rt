@@ -3,7 +3,8 @@
 //! expands (`Instances.antt` of `bl_ctree`). `asks` tells whether a condition is true, and `carry_out` makes of the
 //! store what any other action makes of it (`specs/Deeds.antt`, `deed_on`); after a trap or want of memory the store is
 //! as it was (`Carried`). `specs/Seen.antt` (`store_of`) says what the store of the code shows. An expression or act
-//! hangs on the variables that it names alone (`specs/Agree.antt`), so only these are copied.
+//! reads the variables that it names alone (`specs/Agree.antt`), so only these are copied. `setting_of` asks for fewer
+//! than 2^32 instances, which each `Setting` then has.
 #![tactic(auto)]
 
 pub mod callee;

@@ -29,7 +29,6 @@ use Rattle.bl_stream.specs.Gathered.{Gathers, broken, whole}
 use Rattle.bl_stream.specs.Streams.{AreLeft, HasRead}
 use Rattle.bl_stream.specs.declared.gathered.RowsEnd.{RowsEnd}
 use Rattle.bl_stream.specs.declared.gathered.RowsEnd.TheVariants.{Read, Unread}
-use Rattle.bl_stream.specs.inner.Going.{HasFed}
 use Rattle.bl_stream.specs.inner.Taking.{Taken, TakesOn, at_fault}
 use Rattle.bl_stream.proofs.Fits.{lines-few, told-few}
 use Rattle.bl_stream.proofs.Reaches.{reads-low}

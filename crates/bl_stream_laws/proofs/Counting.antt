@@ -1,6 +1,5 @@
 -- The lines of a counted run are those of its counts.
-use Rattle.std.proofs.Common.{◌≡◌, ◌∙◌, ℕ, ◌+◌, ◌-◌, ◌^◌, min, ℤ, Bool, true, false, List, [], ◌∷◌, ◌++◌, refl, sym, ap, subst, append-nil, append_assoc, codes}
-use Rattle.std.specs.Prelude.{Option}
+use Rattle.std.proofs.Common.{◌≡◌, ◌∙◌, ℕ, ◌+◌, ◌-◌, ℤ, Bool, true, false, List, [], ◌∷◌, ◌++◌, refl, sym, ap, subst, append-nil, append_assoc, codes}
 use Rattle.bl_bound_laws.specs.Counts.{counts_after, counts_from, counts_if}
 use Rattle.bl_cmeaning.specs.Cells.{inputs_of}
 use Rattle.bl_cmeaning.specs.Parts.{Parts}
@@ -11,10 +10,9 @@ use Rattle.bl_io.specs.Held.{Appends}
 use Rattle.bl_rows.specs.Reading.{rows_of}
 use Rattle.bl_rows.specs.Text.{last_text}
 use Rattle.bl_stream.specs.Reports.{count_text, end_text, if_row, report_from, report_of}
-use Rattle.bl_stream.specs.Streams.{AppendsFront, Reported, Streamed, all, broken, cut, front, ran, rows_so_far, unread}
-use Rattle.bl_stream.specs.declared.finish.Finish.{Finish}
+use Rattle.bl_stream.specs.Streams.{AppendsFront, all, broken, cut, front, ran, rows_so_far, unread}
 use Rattle.bl_stream.specs.declared.ticks.Report.TheVariants.{Counts}
-use Rattle.bl_stream_laws.specs.Counts.{count_lines, counts_by, counts_text, told_count}
+use Rattle.bl_stream_laws.specs.Counts.{count_lines, counts_text, told_count}
 use Rattle.bl_stream_laws.specs.Laws.{CountsAreTold}
 use Rattle.bl_tree.specs.declared.row.Trace.{Trace}
 

@@ -1,6 +1,6 @@
 -- What a silent run comes to.
-use Rattle.std.proofs.Common.{◌≡◌, ◌≢◌, ◌∙◌, ℕ, ℤ, Bool, true, false, List, [], ◌∷◌, refl, sym, ap, subst, inl, inr}
-use Rattle.std.specs.Prelude.{◌⊎◌, Option, Some, None}
+use Rattle.std.proofs.Common.{◌≡◌, ◌∙◌, ℕ, ℤ, true, false, List, [], ◌∷◌, refl, sym, ap, subst, inl, inr}
+use Rattle.std.specs.Prelude.{Option, Some, None}
 use Rattle.bl_cmeaning.specs.Cells.{inputs_of}
 use Rattle.bl_cmeaning.specs.Parts.{Parts}
 use Rattle.bl_cmeaning.specs.Trace.{Reply, row, ended, trapped, c_trace_from, cells_after, tick_c, traced}
@@ -11,14 +11,13 @@ use Rattle.bl_rows.specs.declared.fault.RowFault.TheVariants as fault
 use Rattle.bl_save.specs.States.{IsReady}
 use Rattle.bl_save_laws.specs.Laws.{StaysReady}
 use Rattle.bl_stream.specs.Reports.{HasRun, after_rows}
-use Rattle.bl_stream.specs.Streams.{AreLeft, Reported, Streamed, all, broken, course_from}
-use Rattle.bl_stream.specs.Streams.{cut, finish_of, front, last_over, ran, unread as unread_rows, while_open}
+use Rattle.bl_stream.specs.Streams.{AreLeft, broken}
+use Rattle.bl_stream.specs.Streams.{cut, finish_of, ran, while_open}
 use Rattle.bl_stream.specs.declared.finish.Finish.{Finish}
 use Rattle.bl_stream.specs.declared.finish.Finish.TheVariants as finish
-use Rattle.bl_stream.specs.declared.ticks.Report.TheVariants.{Nothing}
 use Rattle.bl_stream_laws.specs.Laws.{RunsAreSilent}
 use Rattle.bl_stream_laws.specs.Resumed.{LeavesOpen, RunsSilently, bad_rows, no_memory, goes_on}
-use Rattle.bl_stream_laws.specs.Resumed.{ended as silently_ended, resumed_by, runner_from, silent_by, trapped as silently_trapped, unread}
+use Rattle.bl_stream_laws.specs.Resumed.{ended as silently_ended, runner_from, trapped as silently_trapped, unread}
 use Rattle.bl_tree.specs.declared.row.Last.{Last}
 use Rattle.bl_tree.specs.declared.row.Last.TheVariants.{Open, Ended, Trap}
 use Rattle.bl_tree.specs.declared.row.Trace.{Trace}

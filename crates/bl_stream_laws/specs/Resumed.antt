@@ -1,5 +1,5 @@
 -- Runs that go on from numbers of the cells.
-use Rattle.std.specs.Prelude.{◌≡◌, ◌⊎◌, ℕ, ℤ, true, false, List, [], Option, None}
+use Rattle.std.specs.Prelude.{◌≡◌, ℕ, ℤ, true, false, List, [], Option, None}
 use Rattle.bl_cmeaning.specs.Cells.{inputs_of, outputs_of}
 use Rattle.bl_cmeaning.specs.Parts.{Parts}
 use Rattle.bl_cmeaning.specs.Trace.{c_trace_from, cells_after}

@@ -1,4 +1,4 @@
-//! Tests of `bl_stream` for what no command shows yet: the numbers of statements of ticks, a run that writes nothing, and
+//! Tests of `bl_stream` for what no command shows: the numbers of statements of ticks, a run that writes nothing, and
 //! a runner that goes on over a second file. There is nothing else here.
 #![tactic(auto)]
 

@@ -4,13 +4,14 @@ use Rattle.std.specs.Prelude.{Option, Some, None}
 use Rattle.bl_io.specs.Held.{Appends, AppendsPart}
 use Rattle.bl_io.specs.Left.{IsKept}
 use Rattle.bl_stream.specs.Streams.{Course}
-use Rattle.bl_top.specs.Answers.{Answers, bounds, builds, checks, counts, execs, no_job, resumes, runs, saves, saves_from, short, walks}
+use Rattle.bl_top.specs.Answers.{Answers, bounds, builds, checks, counts, execs, gens, no_job, resumes, runs, saves, saves_from, short, walks}
 use Rattle.bl_top.specs.Build.{BuildEnds, Writes, fault, nothing, stopped, want, whole, written}
 use Rattle.bl_top.specs.Calls.{Call, HasRisen, Output}
 use Rattle.bl_top.specs.Check.{CheckEnds, accepted, accepted_line, stopped as check_ends}
 use Rattle.bl_top.specs.Bound.{BoundEnds}
 use Rattle.bl_top.specs.Count.{CountEnds}
 use Rattle.bl_top.specs.Exec.{ExecEnds}
+use Rattle.bl_top.specs.Gen.{GenEnds}
 use Rattle.bl_top.specs.Save.{ResumeEnds, SaveEnds, SaveFromEnds}
 use Rattle.bl_top.specs.inner.Outcomes.{chosen_line, line_in, lines_in}
 use Rattle.bl_top.specs.inner.Programs.{IsBuilt, IsProgram}
@@ -30,7 +31,7 @@ use Rattle.bl_top.proofs.Courses.{runs_as}
 use Rattle.bl_top.proofs.Fronts.{text_of_source, tree_of_program}
 use Rattle.bl_top.proofs.Streams.{streams_from}
 use Rattle.bl_tree.specs.declared.program.Program.{Program}
-use Rattle.bl_words.specs.Jobs.{JobSpec, Word, bound, build, check, count, exec, resume, run, save, save_from, walk}
+use Rattle.bl_words.specs.Jobs.{JobSpec, Word, bound, build, check, count, exec, gen, resume, run, save, save_from, walk}
 
 -- ---- results
 
@@ -114,6 +115,10 @@ answers_run c job source rows ended line asked ends = rw asked (runs ends)
 pub answers_exec : (c : Call) (job : Option JobSpec) (text rows : Word) (ended : Status) (line : List ℕ) →
     job ≡ Some (exec text rows) → ExecEnds c text rows ended line → Answers c job ended line
 answers_exec c job text rows ended line asked ends = rw asked (execs ends)
+
+pub answers_gen : (c : Call) (job : Option JobSpec) (stages : ℕ) (ended : Status) (line : List ℕ) → job ≡ Some (gen stages) →
+    GenEnds c stages ended line → Answers c job ended line
+answers_gen c job stages ended line asked ends = rw asked (gens ends)
 
 pub answers_bound : (c : Call) (job : Option JobSpec) (text : Word) (ended : Status) (line : List ℕ) → job ≡ Some (bound text) →
     BoundEnds c text ended line → Answers c job ended line

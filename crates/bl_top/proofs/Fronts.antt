@@ -4,7 +4,7 @@ use Rattle.std.specs.Prelude.{◌⊎◌, Option, Some, None}
 use Rattle.bl_io.specs.Left.{GivesUpTo}
 use Rattle.bl_early.specs.Form.{is_early}
 use Rattle.bl_program.specs.Programs.{typed_of}
-use Rattle.bl_rules.specs.Accepted.{HasProgram, HasTree}
+use Rattle.bl_rules.specs.Accepted.{HasProgram}
 use Rattle.bl_rules.specs.Rules.{Fails, FirstFailing, Passes, in_bytes, in_tokens, in_tree}
 use Rattle.bl_tree.specs.declared.program.Program.{Program}
 use Rattle.bl_tree.specs.declared.place.Place.{Place}
@@ -33,7 +33,6 @@ use Rattle.bl_top.specs.Refusals.{
 use Rattle.bl_top.specs.inner.Outcomes.{IsRefusedBy, chosen_line, line_in}
 use Rattle.bl_top.specs.inner.Programs.{IsBuilt, IsProgram}
 use Rattle.bl_top.specs.Sources.{IsOfNoForm, IsTextOf, IsTextOfParts, IsTreeOf}
-use Rattle.bl_raw.specs.declared.raw.Raw.{Raw}
 use Rattle.bl_tree.specs.declared.tree.StructDef.{StructDef}
 use Rattle.bl_tree.specs.declared.tree.Unit.{Unit as UnitDef}
 

@@ -5,6 +5,7 @@ pub mod Cuts
 pub mod Ends
 pub mod Execs
 pub mod Fronts
+pub mod Generated
 pub mod Lines
 pub mod Saves
 pub mod Streams

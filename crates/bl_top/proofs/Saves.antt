@@ -1,5 +1,5 @@
 -- How `save` and `resume` end.
-use Rattle.std.proofs.Common.{◌≡◌, ◌≢◌, ◌∙◌, ℕ, ◌<◌, ◌≤◌, ℤ, Bool, true, false, List, [], take, refl, sym, ap, subst, inl, inr, arith}
+use Rattle.std.proofs.Common.{◌≡◌, ◌≢◌, ◌∙◌, ℕ, ◌≤◌, ℤ, Bool, true, false, List, [], refl, sym, ap, subst, inl, inr, arith}
 use Rattle.std.specs.Prelude.{Option, Some, None}
 use Rattle.bl_cmeaning.specs.Parts.{Parts}
 use Rattle.bl_cmeaning.specs.Cells.{inputs_of}

@@ -56,7 +56,7 @@ use Rattle.bl_top.specs.inner.Walked.{ArePorts, IsWalk, WalksRows, WritesWalk, f
 use Rattle.bl_top.specs.Notes.{line_of}
 use Rattle.bl_top.specs.Reads.{LeftBehind, source_limit}
 use Rattle.bl_top.specs.Refusals.{IsNotAccepted}
-use Rattle.bl_top.specs.Rows.{RanInPart, Streams, no_memory, unwritten as streams_unwritten}
+use Rattle.bl_top.specs.Rows.{RanInPart, no_memory, unwritten as streams_unwritten}
 use Rattle.bl_top.specs.Sources.{RunsAs}
 use Rattle.bl_top.specs.Traces.{HasCourse}
 use Rattle.bl_top.specs.Walk.{WalkEnds, ran, steps, stopped, unwritten, want}

@@ -7,13 +7,14 @@ use Rattle.bl_top.specs.Calls.{Call}
 use Rattle.bl_top.specs.Check.{CheckEnds}
 use Rattle.bl_top.specs.Count.{CountEnds}
 use Rattle.bl_top.specs.Exec.{ExecEnds}
+use Rattle.bl_top.specs.Gen.{GenEnds}
 use Rattle.bl_top.specs.Notes.{Written, line_of}
 use Rattle.bl_top.specs.Run.{RunEnds}
 use Rattle.bl_top.specs.Save.{ResumeEnds, SaveEnds, SaveFromEnds}
 use Rattle.bl_top.specs.declared.status.Status.{Status}
 use Rattle.bl_top.specs.declared.status.Status.TheVariants as status
 use Rattle.bl_top.specs.Walk.{WalkEnds}
-use Rattle.bl_words.specs.Jobs.{JobSpec, Word, bound, build, check, count, exec, job_of, resume, run, save, save_from, walk}
+use Rattle.bl_words.specs.Jobs.{JobSpec, Word, bound, build, check, count, exec, gen, job_of, resume, run, save, save_from, walk}
 
 -- the status with which a job ends, with its whole cause and with what grew on `out`, and all lines that it has for `notes`, that of
 -- the status last
@@ -24,6 +25,7 @@ pub data Answers (c : Call) : Option JobSpec → Status → List ℕ → Type 0 
   walks : {source rows : Word} {seed : ℕ} {ended : Status} {lines : List ℕ} → WalkEnds c source rows seed ended lines →
       Answers c (Some (walk source rows seed)) ended lines
   execs : {text rows : Word} {ended : Status} {lines : List ℕ} → ExecEnds c text rows ended lines → Answers c (Some (exec text rows)) ended lines
+  gens : {stages : ℕ} {ended : Status} {lines : List ℕ} → GenEnds c stages ended lines → Answers c (Some (gen stages)) ended lines
   bounds : {text : Word} {ended : Status} {lines : List ℕ} → BoundEnds c text ended lines → Answers c (Some (bound text)) ended lines
   counts : {text rows : Word} {ended : Status} {lines : List ℕ} → CountEnds c text rows ended lines → Answers c (Some (count text rows)) ended lines
   saves : {text rows : Word} {ended : Status} {lines : List ℕ} → SaveEnds c text rows ended lines → Answers c (Some (save text rows)) ended lines

@@ -6,6 +6,7 @@ pub mod Calls
 pub mod Check
 pub mod Count
 pub mod Exec
+pub mod Gen
 pub mod inner
 pub mod Notes
 pub mod Reads

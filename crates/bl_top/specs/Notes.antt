@@ -52,7 +52,7 @@ bad_rows_line line = numbered_line (codes "rows: line ") line
 abbrev pub not_subset_line : ℕ → List ℕ
 not_subset_line at = numbered_line (codes "not subset: at ") at
 
--- how long a text is as far as it was read, or how many cells a file needs
+-- how long a text is as far as it was read, how many cells a file needs, or how many stages a program would have
 abbrev pub too_large_line : ℕ → List ℕ
 too_large_line size = numbered_line (codes "too large: ") size
 

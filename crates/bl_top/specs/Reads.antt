@@ -2,13 +2,9 @@
 use Rattle.std.specs.Prelude.{◌≡◌, ℕ, List, [], ◌∷◌, drop, Option, Some, None, IfSome}
 use Rattle.bl_io.specs.Left.{IsKept, KeepsOthers, StandsFurther}
 use Rattle.bl_stream.specs.Streams.{ReadsLines}
-use Rattle.bl_words.specs.Jobs.{JobSpec, Word, bound, build, check, count, exec, resume, run, save, save_from, walk}
+use Rattle.bl_words.specs.Jobs.{JobSpec, Word, bound, build, check, count, exec, gen, resume, run, save, save_from, walk}
 
--- the greatest length of a source, and how far one is read: one byte past it
-abbrev pub longest_source : ℕ
-longest_source = 1048576
-
--- how many bytes of a source are asked for: one more than it may have
+-- how far a source is read: one byte past the 1,048,576 bytes that it may have
 abbrev pub source_limit : ℕ
 source_limit = 1048577
 
@@ -69,6 +65,7 @@ files_read (Some (build source)) = source_file source ∷ []
 files_read (Some (run source rows)) = source_file source ∷ rows_file rows ∷ []
 files_read (Some (walk source rows seed)) = source_file source ∷ rows_file rows ∷ []
 files_read (Some (exec text rows)) = text_file text ∷ rows_file rows ∷ []
+files_read (Some (gen stages)) = []
 files_read (Some (bound text)) = text_file text ∷ []
 files_read (Some (count text rows)) = text_file text ∷ rows_file rows ∷ []
 files_read (Some (save text rows)) = text_file text ∷ rows_file rows ∷ []

@@ -14,6 +14,7 @@ use crate::build::build;
 use crate::check::check;
 use crate::count::count;
 use crate::exec::exec;
+use crate::generate::generate;
 use crate::notes::with_notes;
 use crate::outcome::Outcome;
 use crate::resume::resume;
@@ -22,7 +23,7 @@ use crate::save::{save, save_from};
 use crate::status::Status;
 use crate::walk::walk;
 use bl_io::{Files, Sink};
-use bl_words::Job;
+use bl_words::{Job, programs_have_stages};
 use std::alloc::Global;
 
 /// Does the job that the words after the program's name ask for: writes its result on `out`, and on `notes` the lines of
@@ -77,6 +78,7 @@ fn answer<F: Files, O: Sink>(alloc: Global, words: &[String], files: &mut F, out
     ensures file_counts { NeverFell (F.faults files.old) (F.faults files.new) }
     ensures out_count { O.faults out.old ≤ O.faults out.new }
 {
+    programs_have_stages(words);
     match bl_words::job_of(alloc, words) {
         Ok(Some(Job::Check { source })) => Answer::alone(alloc, check(alloc, source, files, out)),
         Ok(Some(Job::Build { source })) => Answer::alone(alloc, build(alloc, source, files, out)),
@@ -89,6 +91,7 @@ fn answer<F: Files, O: Sink>(alloc: Global, words: &[String], files: &mut F, out
             alloc,
             exec(alloc, text, rows, files, out),
         ),
+        Ok(Some(Job::Gen { stages })) => Answer::alone(alloc, generate(alloc, stages, out)),
         Ok(Some(Job::Bound { text })) => Answer::alone(alloc, bound(alloc, text, files, out)),
         Ok(Some(Job::Count { text, rows })) => Answer::alone(
             alloc,

@@ -66,7 +66,7 @@ pub fn accepted_of<F: Files>(
 }
 
 /// How a job ends whose source is refused.
-fn refused(alloc: Global, refusal: &Refusal) -> Outcome
+pub fn refused(alloc: Global, refusal: &Refusal) -> Outcome
     ensures { IsRefusedBy refusal.now result }
 {
     match refusal {

@@ -22,7 +22,7 @@ pub enum Status {
     NoMemory,
     /// The text spells no C file of the subset, or one that isn't well formed (docs/C_SUBSET.md).
     NotSubset,
-    /// The C text is too long, or its file needs too many cells.
+    /// The C text is too long, its file needs too many cells, or a program would have too many stages.
     TooLarge,
     /// The source isn't in a form that is built today.
     Unbuilt,

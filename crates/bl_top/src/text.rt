@@ -106,7 +106,8 @@ fn not_subset(alloc: Global, at: u32) -> Outcome
     Outcome::numbered(alloc, Status::NotSubset, "not subset: at ", u64::from(at))
 }
 
-fn too_large(alloc: Global, size: u64) -> Outcome
+/// How the job ends of what is too large, and how large that is.
+pub fn too_large(alloc: Global, size: u64) -> Outcome
     ensures { IsTold Status.TooLarge (too_large_line size) result }
 {
     Outcome::numbered(alloc, Status::TooLarge, "too large: ", size)

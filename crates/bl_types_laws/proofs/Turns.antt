@@ -19,7 +19,8 @@ use Rattle.bl_named.specs.declared.stmt.NamedArm.{NamedArm, fold-roll-NamedArm, 
 use Rattle.bl_named.specs.declared.stmt.NamedBranch.{NamedBranch, fold-roll-NamedBranch, roll-NamedBranch}
 use Rattle.bl_named.specs.declared.stmt.NamedStmt.{NamedStmt}
 use Rattle.bl_named.specs.declared.stmt.NamedStmtKind.TheOpen.{NamedStmtKind-F}
-use Rattle.bl_named.specs.Placed.{Earlier, Step, constant_placed, declares_none, expr_placed, holds_if, holds_of, in_turn, stmt_step, tested, var_placed, with_constant as constant_counted, with_variable as variable_counted}
+use Rattle.bl_named.specs.Placed.{Earlier, Step, constant_placed, declares_none, expr_placed, holds_if, holds_of, in_turn, stmt_step, tested}
+use Rattle.bl_named.specs.Placed.{var_placed, with_constant as constant_counted, with_variable as variable_counted}
 use Rattle.bl_named.specs.inner.Placed.{step_of_arm, step_of_branch}
 use Rattle.bl_types.specs.declared.environment.Environment.{Environment}
 use Rattle.bl_types.specs.declared.environment.Variable.{Variable}

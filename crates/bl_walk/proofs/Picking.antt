@@ -1,12 +1,11 @@
 -- Picked steps are steps, and lists of them go on.
 use Rattle.std.proofs.Common.{◌≡◌, zero, suc, ℕ, true, List, [], ◌∷◌, ◌++◌, refl, subst}
-use Rattle.std.specs.Prelude.{Some, None, slice_get}
-use Rattle.bl_ctree.specs.Actions.{Action, Acts, Asks, Copies, Effect, Gives, Performed, Silent, perform}
+use Rattle.std.specs.Prelude.{Some, slice_get}
+use Rattle.bl_ctree.specs.Actions.{Action, Acts, Asks, Copies, Effect, Gives, Silent}
 use Rattle.bl_ctree.specs.Control.{Control}
 use Rattle.bl_ctree.specs.Instances.{Setting}
 use Rattle.bl_ctree.specs.Laws.{PointsMove, StepsAreListed, can_answer}
-use Rattle.bl_ctree.specs.Points.{Among, Point, here, points, there}
-use Rattle.bl_ctree.specs.Steps.{Step, Traps}
+use Rattle.bl_ctree.specs.Points.{Among, here, points, there}
 use Rattle.bl_ctree.specs.Store.{Store}
 use Rattle.bl_ctree.specs.Ticks.{End, Rests, Steps, none, step, traps}
 use Rattle.bl_walk.specs.declared.choice.Choice.{Choice}

@@ -40,8 +40,8 @@ use Rattle.bl_ctree.specs.Instances.{Setting}
 use Rattle.bl_ctree.specs.Laws.{SettledIsStill, StillIsUnlisted}
 use Rattle.bl_ctree.specs.Points.{Point, points}
 use Rattle.bl_ctree.specs.Reaches.{ReachesInside}
-use Rattle.bl_ctree.specs.Store.{Store, outputs_row, woken_store}
-use Rattle.bl_ctree.specs.Ticks.{End, Ended, Paused, Rests, Steps, Trapped, outcome_at, resting_outcome}
+use Rattle.bl_ctree.specs.Store.{outputs_row, woken_store}
+use Rattle.bl_ctree.specs.Ticks.{End, Ended, Rests, Steps, Trapped, resting_outcome}
 use Rattle.bl_steps.specs.Running.{Acted, State, action_of, stepped, stepped_by}
 use Rattle.bl_steps.specs.declared.action.Action.{Action as Told}
 use Rattle.bl_walk.specs.declared.choice.Choice.{Choice}

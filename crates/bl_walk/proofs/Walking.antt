@@ -33,7 +33,7 @@ use Rattle.bl_tree.specs.declared.row.Trace.{Trace}
 use Rattle.bl_tree.specs.declared.tree.StructDef.{StructDef}
 use Rattle.bl_tree.specs.declared.tree.Unit.{Unit as UnitDef}
 use Rattle.bl_ctree.specs.Actions.{Action}
-use Rattle.bl_ctree.specs.Control.{Control, Idle, is_settled}
+use Rattle.bl_ctree.specs.Control.{Control, Idle}
 use Rattle.bl_ctree.specs.Instances.{Setting, setting_of}
 use Rattle.bl_ctree.specs.Laws.{StillIsUnlisted}
 use Rattle.bl_ctree.specs.Means.{
@@ -52,13 +52,13 @@ use Rattle.bl_ctree.specs.Means.{
 use Rattle.bl_ctree.specs.Measure.{steps as steps_within}
 use Rattle.bl_ctree.specs.Reaches.{Bounded, NeverStuck, after_tick, at_first}
 use Rattle.bl_ctree.specs.Store.{Store, first_store, outputs_row}
-use Rattle.bl_ctree.specs.Ticks.{Rests, Tick, End}
+use Rattle.bl_ctree.specs.Ticks.{Tick, End}
 use Rattle.bl_steps.specs.Running.{State}
 use Rattle.bl_walk.specs.declared.choice.Choice.{Choice}
 use Rattle.bl_walk.specs.Choices.{choice_of}
 use Rattle.bl_walk.specs.inner.Ticks.{Between, Steady, Ticked, ends as tick_ends, pauses as tick_pauses, traps as tick_traps}
 use Rattle.bl_walk.specs.Laws.{BeginsNoMoreTicks, ClosedStayClosed, FrontsShowFronts, ShowsNoMoreRows, UnsettledGoOn, WalksAreAllowed, WalksAreMeant}
-use Rattle.bl_walk.specs.Walks.{Appended, HasWalked, PickedTick, Walks, ends, goes_on, places_of, stays_open, traps}
+use Rattle.bl_walk.specs.Walks.{Appended, PickedTick, Walks, ends, goes_on, places_of, stays_open, traps}
 
 -- ---- laws
 

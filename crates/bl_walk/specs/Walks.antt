@@ -1,5 +1,5 @@
 -- Walks: runs of a program in which a choice picks each step.
-use Rattle.std.specs.Prelude.{ℕ, ℤ, List, [], ◌∷◌, ◌++◌, length, map, slice_get, Option, Some, None, ◌≡◌}
+use Rattle.std.specs.Prelude.{ℕ, ℤ, List, [], ◌∷◌, ◌++◌, length, map, slice_get, Some, None, ◌≡◌}
 use Rattle.bl_tree.specs.declared.place.Place.{Place}
 use Rattle.bl_tree.specs.declared.row.Last.TheVariants.{Open, Ended as HasEnded, Trap as HasTrapped}
 use Rattle.bl_tree.specs.declared.row.Trace.{Trace}

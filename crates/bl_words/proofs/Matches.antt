@@ -36,15 +36,17 @@ differs label name other = go (bytes_eq label name) refl
 
 -- no job is read of a command with a name that is none of these
 pub unnamed_read : (name : Text) (first second third : Option Text) → (name ≡ codes "check" → ⊥) → (name ≡ codes "build" → ⊥) →
-    (name ≡ codes "run" → ⊥) → (name ≡ codes "walk" → ⊥) → (name ≡ codes "exec" → ⊥) → (name ≡ codes "bound" → ⊥) →
+    (name ≡ codes "run" → ⊥) → (name ≡ codes "walk" → ⊥) → (name ≡ codes "exec" → ⊥) →
+    (name ≡ codes "gen" → ⊥) → (name ≡ codes "bound" → ⊥) →
     (name ≡ codes "count" → ⊥) → (name ≡ codes "save" → ⊥) → (name ≡ codes "resume" → ⊥) → named_read name first second third ≡ None
-unnamed_read name first second third check build run walk exec bound count save resume =
+unnamed_read name first second third check build run walk exec gen bound count save resume =
     rw (
       differs (codes "check") name check,
       differs (codes "build") name build,
       differs (codes "run") name run,
       differs (codes "walk") name walk,
       differs (codes "exec") name exec,
+      differs (codes "gen") name gen,
       differs (codes "bound") name bound,
       differs (codes "count") name count,
       differs (codes "save") name save,

@@ -30,11 +30,11 @@ use Rattle.clap.specs.Walk.{Text, answers_to}
 use Rattle.clap.specs.declared.error.Error.{Error}
 use Rattle.clap.specs.declared.error.kind.ErrorKind.TheVariants.{OutOfMemory}
 use Rattle.clap.proofs.OnLiterals.{clap_on_literals}
-use Rattle.bl_words.specs.inner.CommandLine.{command_line, job_read, named_read, one_read, three_read, two_or_three_read, two_read}
-use Rattle.bl_words.specs.Jobs.{JobSpec, Word, bound, build, check, command_job, count, exec, is_plain_word, job_of, of_one, of_three, of_two}
-use Rattle.bl_words.specs.Jobs.{of_two_or_three, resumed, run, save, save_from, seeded}
+use Rattle.bl_words.specs.inner.CommandLine.{command_line, job_read, named_read, one_if_read, one_read, three_read, two_or_three_read, two_read}
+use Rattle.bl_words.specs.Jobs.{JobSpec, Word, bound, build, check, command_job, count, exec, is_plain_word, job_of, of_one, of_one_if, of_three, of_two}
+use Rattle.bl_words.specs.Jobs.{of_two_or_three, resumed, run, save, save_from, seeded, staged}
 use Rattle.bl_words.proofs.Program.{ReadsAs, commands, name_refused, others_plain, program, takes_reads}
-use Rattle.bl_words.proofs.Values.{one, one_taken, three, three_taken, two, two_or_three, two_or_three_taken, two_taken}
+use Rattle.bl_words.proofs.Values.{one, one_if_taken, one_taken, three, three_taken, two, two_or_three, two_or_three_taken, two_taken}
 
 -- the words whose first is this name, and else those of the other commands
 trying : (label name : Text) (values : List Text) (job others : Option JobSpec) → ReadsAs job (label ∷ values) →
@@ -54,6 +54,15 @@ one_reads : (label : Text) (job : Word → JobSpec) (read : (first second third 
     → ReadsAs (of_one job values) (label ∷ values)
 one_reads label job read named is own values plain =
     takes_reads label (one label) named is own (of_one job values) values (one_taken label job read values plain)
+
+one_if_reads : (label : Text) (job : Word → Option JobSpec)
+    (read : (first second third : Option Text) → named_read label first second third ≡ one_if_read job first)
+    (named : find (answers_to label) commands ≡ Some (label, []))
+    (is : find (λ c. answers_to label (label_of c)) program.subs ≡ Some (one label)) (own : bytes_eq label (codes "help") ≡ false)
+    (values : List Text) → list_all is_plain_word values ≡ true
+    → ReadsAs (of_one_if job values) (label ∷ values)
+one_if_reads label job read named is own values plain =
+    takes_reads label (one label) named is own (of_one_if job values) values (one_if_taken label job read values plain)
 
 two_reads : (label : Text) (job : Word → Word → JobSpec)
     (read : (first second third : Option Text) → named_read label first second third ≡ two_read job first second)
@@ -91,14 +100,15 @@ command_reads name values plain =
     trying (codes "run") name values _ _ (two_reads (codes "run") run (λ f s t. refl) refl refl refl values others) (λ not_run.
     trying (codes "walk") name values _ _ (three_reads (codes "walk") seeded (λ f s t. refl) refl refl refl values others) (λ not_walk.
     trying (codes "exec") name values _ _ (two_reads (codes "exec") exec (λ f s t. refl) refl refl refl values others) (λ not_exec.
+    trying (codes "gen") name values _ _ (one_if_reads (codes "gen") staged (λ f s t. refl) refl refl refl values others) (λ not_gen.
     trying (codes "bound") name values _ _ (one_reads (codes "bound") bound (λ f s t. refl) refl refl refl values others) (λ not_bound.
     trying (codes "count") name values _ _ (two_reads (codes "count") count (λ f s t. refl) refl refl refl values others) (λ not_count.
     trying (codes "save") name values _ _ (either_reads (codes "save") save save_from (λ f s t. refl) refl refl refl values others) (λ not_save.
     trying (codes "resume") name values _ _ (three_reads (codes "resume") resumed (λ f s t. refl) refl refl refl values others) (λ not_resume.
     inr (
-      name_refused name values plain (rw (not_check, not_build, not_run, not_walk, not_exec, not_bound, not_count, not_save, not_resume) refl),
+      name_refused name values plain (rw (not_check, not_build, not_run, not_walk, not_exec, not_gen, not_bound, not_count, not_save, not_resume) refl),
       refl,
-    ))))))))))
+    )))))))))))
 
 reads : (words : List Text) → list_all is_plain_word words ≡ true → ReadsAs (job_of words) words
 unfolding clap_on_literals

@@ -27,9 +27,9 @@ use Rattle.clap.specs.Simple.{Shape, rows_at}
 use Rattle.clap.specs.Walk.{Text, first_of, nothing_held}
 use Rattle.clap.specs.declared.error.kind.ErrorKind.TheVariants.{MissingRequiredArgument, UnknownArgument}
 use Rattle.clap.proofs.OnLiterals.{clap_on_literals}
-use Rattle.bl_words.specs.inner.CommandLine.{named_read, one_command, one_read, three_command, three_read, two_command, two_or_three_command, two_or_three_read}
-use Rattle.bl_words.specs.inner.CommandLine.{two_read}
-use Rattle.bl_words.specs.Jobs.{JobSpec, Word, is_plain_word, of_one, of_three, of_two, of_two_or_three}
+use Rattle.bl_words.specs.inner.CommandLine.{named_read, one_command, one_if_read, one_read, three_command, three_read, two_command}
+use Rattle.bl_words.specs.inner.CommandLine.{two_or_three_command, two_or_three_read, two_read}
+use Rattle.bl_words.specs.Jobs.{JobSpec, Word, is_plain_word, of_one, of_one_if, of_three, of_two, of_two_or_three}
 use Rattle.bl_words.proofs.Program.{TakesAs, built_command, no_hyphen, others_plain}
 
 -- the commands as the parser builds them
@@ -77,6 +77,27 @@ module _ (name : Text) (job : Word → JobSpec) (read : (first second third : Op
       )
   one_taken ((byte ∷ rest) ∷ ([] ∷ more)) plain = absurd (true≢false (sym (others_plain (byte ∷ rest) ([] ∷ more) plain)))
   one_taken ((byte ∷ rest) ∷ ((next ∷ others) ∷ more)) plain =
+      let first = no_hyphen byte rest ((next ∷ others) ∷ more) plain in
+      let second = no_hyphen next others more (others_plain (byte ∷ rest) ((next ∷ others) ∷ more) plain) in
+      let refused = one_too_many name byte rest next others more first second in
+      inr (λ none. let bad : UnknownArgument ∷ [] ≡ [] = sym refused ∙ none in cc, refl)
+
+module _ (name : Text) (job : Word → Option JobSpec)
+    (read : (first second third : Option Text) → named_read name first second third ≡ one_if_read job first) where
+  pub one_if_taken : (values : List Text) → list_all is_plain_word values ≡ true → TakesAs (one name) (of_one_if job values) values
+  unfolding clap_on_literals
+  one_if_taken [] plain = inr (λ none. cc, refl)
+  one_if_taken ([] ∷ more) plain = absurd (true≢false (sym plain))
+  one_if_taken ((byte ∷ rest) ∷ []) plain =
+      let first = no_hyphen byte rest [] plain in
+      let rows = (rows_at (one name) ((byte ∷ rest) ∷ [])).1 in
+      inl (
+        one_fine name byte rest first,
+        read (first_of (codes "first") rows) (first_of (codes "second") rows) (first_of (codes "third") rows)
+            ∙ ap (one_if_read job) (one_value name byte rest first),
+      )
+  one_if_taken ((byte ∷ rest) ∷ ([] ∷ more)) plain = absurd (true≢false (sym (others_plain (byte ∷ rest) ([] ∷ more) plain)))
+  one_if_taken ((byte ∷ rest) ∷ ((next ∷ others) ∷ more)) plain =
       let first = no_hyphen byte rest ((next ∷ others) ∷ more) plain in
       let second = no_hyphen next others more (others_plain (byte ∷ rest) ((next ∷ others) ∷ more) plain) in
       let refused = one_too_many name byte rest next others more first second in

@@ -1,5 +1,5 @@
 -- The job that the words of a command line ask for.
-use Rattle.std.specs.Prelude.{◌==◌, ℕ, ◌^◌, nat_lt, Bool, false, not, ◌&&◌, List, [], ◌∷◌, length, Option, Some, None, option_map}
+use Rattle.std.specs.Prelude.{◌==◌, ◌≤◌, ℕ, ◌^◌, nat_lt, Bool, false, not, ◌&&◌, List, [], ◌∷◌, length, Option, Some, None, option_map, option_and_then}
 use Rattle.std.specs.Prelude.{if◌then◌else◌, codes}
 use Rattle.std.specs.List.{list_all}
 use Rattle.std.specs.Str.{all_ascii_digits, bytes_eq}
@@ -23,6 +23,8 @@ pub data JobSpec : Type 0 where
   walk : Word → Word → ℕ → JobSpec
   -- run the C text of the first name over the file of rows of the second
   exec : Word → Word → JobSpec
+  -- make the program of so many stages, run it, and tell its outputs
+  gen : ℕ → JobSpec
   -- say how many C statements each function of the C text of this name can execute
   bound : Word → JobSpec
   -- say how many C statements each tick of the C text of the first name executes over the file of rows of the second
@@ -41,6 +43,7 @@ files_of (build source) = source ∷ []
 files_of (run source rows) = source ∷ rows ∷ []
 files_of (walk source rows seed) = source ∷ rows ∷ []
 files_of (exec text rows) = text ∷ rows ∷ []
+files_of (gen stages) = []
 files_of (bound text) = text ∷ []
 files_of (count text rows) = text ∷ rows ∷ []
 files_of (save text rows) = text ∷ rows ∷ []
@@ -56,6 +59,11 @@ is_plain_word (byte ∷ rest) = not (byte == 45)
 abbrev pub of_one : (Word → JobSpec) → List Word → Option JobSpec
 of_one job (first ∷ []) = Some (job first)
 of_one job _ = None
+
+-- a job that one word may ask for, and no other number of words
+abbrev pub of_one_if : (Word → Option JobSpec) → List Word → Option JobSpec
+of_one_if job (first ∷ []) = job first
+of_one_if job _ = None
 
 -- a job that two words ask for, and no other number of words
 abbrev pub of_two : (Word → Word → JobSpec) → List Word → Option JobSpec
@@ -78,6 +86,18 @@ abbrev pub seed_of : Word → Option ℕ
 seed_of word =
     if all_ascii_digits word && (nat_lt 0 (length word) && nat_lt (digits_value 10 word) (2 ^ 64)) then Some (digits_value 10 word) else None
 
+-- a number of stages, which is from 1 to 2 to the 32 less 1
+abbrev pub stages_in : ℕ → Option ℕ
+stages_in number = if nat_lt 0 number && nat_lt number (2 ^ 32) then Some number else None
+
+-- the number of stages that decimal digits write, of which there is one or more
+abbrev pub stages_of : Word → Option ℕ
+stages_of word = option_and_then stages_in (seed_of word)
+
+-- a program to be made, where the word is a number of stages
+abbrev pub staged : Word → Option JobSpec
+staged word = option_map gen (stages_of word)
+
 -- a walk, where the third word is a seed
 abbrev pub seeded : Word → Word → Word → Option JobSpec
 seeded source rows word = option_map (walk source rows) (seed_of word)
@@ -93,16 +113,22 @@ command_job name values = if bytes_eq (codes "check") name then of_one check val
     else (if bytes_eq (codes "run") name then of_two run values
     else (if bytes_eq (codes "walk") name then of_three seeded values
     else (if bytes_eq (codes "exec") name then of_two exec values
+    else (if bytes_eq (codes "gen") name then of_one_if staged values
     else (if bytes_eq (codes "bound") name then of_one bound values
     else (if bytes_eq (codes "count") name then of_two count values
     else (if bytes_eq (codes "save") name then of_two_or_three save save_from values
-    else (if bytes_eq (codes "resume") name then of_three resumed values else None))))))))
+    else (if bytes_eq (codes "resume") name then of_three resumed values else None)))))))))
 
 -- the first word names the command, and no word is empty or begins with a hyphen
 abbrev pub job_of : List Word → Option JobSpec
 job_of [] = None
 job_of (name ∷ values) =
     if list_all is_plain_word (name ∷ values) then command_job name values else None
+
+-- a program that the job makes has at least one stage
+abbrev pub HasStages : JobSpec → Type 0
+HasStages (gen stages) = 1 ≤ stages
+HasStages _ = Unit {0}
 
 -- the job that a value of the program stands for
 abbrev pub spec_of : Job → JobSpec
@@ -111,6 +137,7 @@ spec_of (job.Build source) = build source.now
 spec_of (job.Run source rows) = run source.now rows.now
 spec_of (job.Walk source rows seed) = walk source.now rows.now seed
 spec_of (job.Exec text rows) = exec text.now rows.now
+spec_of (job.Gen stages) = gen stages
 spec_of (job.Bound text) = bound text.now
 spec_of (job.Count text rows) = count text.now rows.now
 spec_of (job.Save text rows) = save text.now rows.now

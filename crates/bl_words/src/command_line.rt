@@ -2,12 +2,13 @@
 ghost use Rattle.std.specs.Prelude.{◌≡◌, IfOk, codes, false, option_map};
 ghost use Rattle.clap.specs.Words.{app_of, first_value, found_of, subcommand_rows_of};
 ghost use Rattle.clap.specs.declared.builder.command.Command.TheViews.{out-Command};
-ghost use Rattle.bl_words.specs.inner.CommandLine.{command_line, job_read, one_command, one_read, three_command, three_read, two_command, two_read};
+ghost use Rattle.bl_words.specs.inner.CommandLine.{command_line, job_read, one_command, one_if_read, one_read, three_command, three_read, two_command, two_read};
 ghost use Rattle.bl_words.specs.inner.CommandLine.{two_or_three_command, two_or_three_read};
-ghost use Rattle.bl_words.specs.Jobs.{bound, build, check, count, exec, resumed, run, save, save_from, seeded, spec_of};
+ghost use Rattle.bl_words.specs.Jobs.{bound, build, check, count, exec, resumed, run, save, save_from, seeded, spec_of, staged};
 
 use crate::job::Job;
 use crate::seed::seed_of;
+use crate::stages::stages_of;
 use clap::{Arg, ArgMatches, Command};
 use std::alloc::{AllocError, Global};
 
@@ -27,6 +28,7 @@ pub(crate) fn command_line<'a>(alloc: Global) -> Result<Command<'a>, AllocError>
         .subcommand(two_command(alloc, "run")?)?
         .subcommand(three_command(alloc, "walk")?)?
         .subcommand(two_command(alloc, "exec")?)?
+        .subcommand(one_command(alloc, "gen")?)?
         .subcommand(one_command(alloc, "bound")?)?
         .subcommand(two_command(alloc, "count")?)?
         .subcommand(two_or_three_command(alloc, "save")?)?
@@ -76,6 +78,7 @@ pub(crate) fn job_read<'a>(matches: &ArgMatches<'a>) -> Option<Job<'a>>
         "run" => run_read(values),
         "walk" => walk_read(values),
         "exec" => exec_read(values),
+        "gen" => gen_read(values),
         "bound" => bound_read(values),
         "count" => count_read(values),
         "save" => save_read(values),
@@ -129,6 +132,14 @@ fn exec_read<'a>(values: &ArgMatches<'a>) -> Option<Job<'a>>
     let text = values.get_str("first")?;
     let rows = values.get_str("second")?;
     Some(Job::Exec { text, rows })
+}
+
+fn gen_read<'a>(values: &ArgMatches<'a>) -> Option<Job<'a>>
+    ensures { option_map spec_of result
+        ≡ one_if_read staged (first_value (found_of values.now) (codes "first")) }
+{
+    let stages = stages_of(values.get_str("first")?)?;
+    Some(Job::Gen { stages })
 }
 
 fn bound_read<'a>(values: &ArgMatches<'a>) -> Option<Job<'a>>

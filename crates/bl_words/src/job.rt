@@ -1,7 +1,7 @@
 //! The jobs, and how words ask for them.
 ghost use Rattle.std.specs.Prelude.{◌≡◌, IfOk, IfSome, map, option_map, string_bytes, true};
 ghost use Rattle.std.specs.List.{list_all};
-ghost use Rattle.bl_words.specs.Jobs.{files_of, is_plain_word, job_of, spec_of};
+ghost use Rattle.bl_words.specs.Jobs.{HasStages, files_of, is_plain_word, job_of, spec_of};
 
 use crate::command_line::{command_line, job_read};
 use clap::error::ErrorKind;
@@ -43,6 +43,11 @@ pub enum Job<'a> {
         text: &'a str,
         /// The name of the file of rows.
         rows: &'a str,
+    },
+    /// Make a program of so many stages, run it, and tell its outputs.
+    Gen {
+        /// How many stages it has.
+        stages: u32,
     },
     /// Say how many C statements each function of a C text can execute.
     Bound {
@@ -97,7 +102,7 @@ impl From<AllocError> for NoMemory {
 /// The job that `words` ask for, those after the program's name; `None` where they ask for none. The first word is
 /// a command's name, exactly as it is written, and the command says how many words follow it; after `save` a word
 /// between the C text and the rows names a saved state and may be left out. A seed is one or more decimal digits that
-/// write a number below 2 to the 64. No word may be empty or begin with `-`. There is no command `help`; a file may
+/// write a number below 2 to the 64, and a number of stages is one from 1 to 2 to the 32 less 1. No word may be empty or begin with `-`. There is no command `help`; a file may
 /// have that name or a command's.
 pub fn job_of<'a>(alloc: Global, words: &'a [String]) -> Result<Option<Job<'a>>, NoMemory>
     ensures { IfOk result (λ job. option_map spec_of job
@@ -135,4 +140,9 @@ fn is_plain(word: &str) -> bool
 pub fn files_have_plain_names(words: &[String])
     ensures { IfSome (job_of (map string_bytes words.now)) (λ job.
         list_all is_plain_word (files_of job) ≡ true) }
+{}
+
+/// A program that is asked for has at least one stage.
+pub fn programs_have_stages(words: &[String])
+    ensures { IfSome (job_of (map string_bytes words.now)) HasStages }
 {}

@@ -9,14 +9,15 @@ ghost use Rattle.bl_words.specs.Usage.{usage_line};
 mod command_line;
 mod job;
 mod seed;
+mod stages;
 
-pub use job::{Job, NoMemory, files_have_plain_names, job_of};
+pub use job::{Job, NoMemory, files_have_plain_names, job_of, programs_have_stages};
 
 /// The line for words that ask for no job, its line feed included: each command with its words, those that
 /// stand for something else in capitals.
 pub fn usage() -> &'static str
     ensures { result.now ≡ usage_line }
 {
-    "usage: blechc check P | build P | run P ROWS | walk P ROWS SEED | exec C ROWS | bound C | count C ROWS \
+    "usage: blechc check P | build P | run P ROWS | walk P ROWS SEED | exec C ROWS | gen N | bound C | count C ROWS \
      | save C ROWS | save C STATE ROWS | resume C STATE ROWS\n"
 }

@@ -1,5 +1,5 @@
 -- Maps with names as keys, as tables.
-use Rattle.std.specs.Prelude.{ℕ, List, map, Option, bytes_eq}
+use Rattle.std.specs.Prelude.{ℕ, List, map, bytes_eq}
 use Rattle.std.specs.Borrow.{Bor}
 use Rattle.std.specs.HashMap.{HashMap, get_by}
 use Rattle.bl_tree.specs.declared.text.Text.{Text}

@@ -1,8 +1,9 @@
 -- How a tick goes on while the plants that are named are asked.
-use Rattle.std.specs.Prelude.{◌≡◌, ◌+◌, ℕ, suc, ℤ, true, false, List, ◌∷◌, length, take, drop, Some, Result, Ok, Err, slice_get}
+use Rattle.std.specs.Prelude.{◌≡◌, ℕ, suc, ℤ, true, false, List, ◌∷◌, length, take, drop, Some, Result, Ok, Err, slice_get}
 use Rattle.std.specs.List.{flat_map}
 use Rattle.bl_io.specs.Count.{Rose}
 use Rattle.bl_plant.specs.Plants.{Shown}
+use Rattle.bl_drive.specs.Drives.{IsFirstOutside}
 use Rattle.bl_drive.specs.Roles.{Role}
 use Rattle.bl_drive.specs.declared.driven.Gone.{Gone}
 use Rattle.bl_drive.specs.declared.fault.DriveFault.{DriveFault}
@@ -11,7 +12,6 @@ use Rattle.bl_drive.specs.declared.seat.Seat.{Seat}
 use Rattle.bl_drive.specs.inner.Stands.{Scene, Stands}
 use Rattle.bl_tree.specs.declared.row.Column.{Column}
 use Rattle.bl_tree.specs.Ports.{in_ranges, types_of}
-use Rattle.bl_tree.specs.Scalar.{in_range}
 
 -- the next plant has failed, and counted it
 pub record HasFailedNext (s : Scene) (k : ℕ) (plants : List Shown) (seats : List Seat) (gone : List Gone) (name : ℕ) : Type 0 where
@@ -34,16 +34,6 @@ IsAsked s k plants seats gone (Err (fault.Range column number)) = ⊥
 IsAsked s k plants seats gone (Err fault.NoMemory) = Stands s k plants seats gone
 
 -- ---- ranges
-
--- a number is the first of these that isn't in the range of its input, where they are for the inputs from one on
-pub record IsFirstOutside (inputs : List Column) (first : ℕ) (numbers : List ℤ) (column : ℕ) (number : ℤ) : Type 0 where
-  pub at : ℕ
-  pub is : slice_get numbers at ≡ Some number
-  pub column_is : column ≡ first + at + 1
-  pub input : Column
-  pub input_is : slice_get inputs (first + at) ≡ Some input
-  pub outside : in_range input.ty number ≡ false
-  pub front : in_ranges (types_of (take at (drop first inputs))) (take at numbers) ≡ true
 
 -- whether numbers are in the ranges of the inputs from one on
 abbrev pub IsTested : List Column → ℕ → List ℤ → Result (Unit {0}) DriveFault → Type 0

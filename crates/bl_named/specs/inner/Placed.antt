@@ -5,7 +5,8 @@ use Rattle.bl_named.specs.declared.item.NamedConstant.{NamedConstant}
 use Rattle.bl_named.specs.declared.item.NamedVar.{NamedVar}
 use Rattle.bl_named.specs.declared.stmt.NamedArm.{NamedArm, fold-NamedArm}
 use Rattle.bl_named.specs.declared.stmt.NamedBranch.{NamedBranch, fold-NamedBranch}
-use Rattle.bl_named.specs.Placed.{Earlier, Step, arm_step, branch_step, expr_layer_placed, kind_placed, part_placed, stmt_kind_step, stmt_layer_step, target_layer_placed}
+use Rattle.bl_named.specs.Placed.{Earlier, Step, arm_step, branch_step, expr_layer_placed, kind_placed, part_placed, stmt_kind_step, stmt_layer_step}
+use Rattle.bl_named.specs.Placed.{target_layer_placed}
 
 -- whether what a part of a target names is declared earlier
 abbrev pub step_placed : Earlier → NamedPart → Bool

@@ -3,7 +3,8 @@ use Rattle.bl_tree.specs.Apart.{Naming, Roots}
 use Rattle.bl_named.specs.declared.expr.NamedPart.{NamedPart, fold-NamedPart}
 use Rattle.bl_named.specs.declared.stmt.NamedArm.{NamedArm, fold-NamedArm}
 use Rattle.bl_named.specs.declared.stmt.NamedBranch.{NamedBranch, fold-NamedBranch}
-use Rattle.bl_names_laws.specs.Apart.{arm_naming, branch_naming, expr_layer_roots, kind_roots, part_roots, stmt_kind_naming, stmt_layer_naming, target_layer_roots}
+use Rattle.bl_names_laws.specs.Apart.{arm_naming, branch_naming, expr_layer_roots, kind_roots, part_roots, stmt_kind_naming, stmt_layer_naming}
+use Rattle.bl_names_laws.specs.Apart.{target_layer_roots}
 
 -- the variables that a part of a target names
 abbrev pub roots_in_step : NamedPart → Roots

@@ -5,7 +5,7 @@ use Rattle.std.specs.Str.{bytes_eq}
 use Rattle.clap.specs.Words.{App, Row, Rule, Shape, Text, first_of, new_app, new_rule}
 use Rattle.clap.specs.Words.{with_rule, with_subcommand}
 use Rattle.clap.specs.Simple.{on_top}
-use Rattle.bl_words.specs.Jobs.{JobSpec, bound, build, check, count, exec, resumed, run, save, save_from, seeded}
+use Rattle.bl_words.specs.Jobs.{JobSpec, bound, build, check, count, exec, resumed, run, save, save_from, seeded, staged}
 
 -- a value that has to be there, read back by this name
 abbrev pub required_value : Text → Rule
@@ -39,7 +39,7 @@ with_own_words_only s = record s {
 
 -- the program with all its commands
 abbrev pub command_line : App
-command_line = with_subcommand (with_subcommand (with_subcommand (with_subcommand (with_subcommand
+command_line = with_subcommand (with_subcommand (with_subcommand (with_subcommand (with_subcommand (with_subcommand
     (with_subcommand (with_subcommand (with_subcommand (with_subcommand
     (on_top with_own_words_only (new_app (codes "blechc")))
     (one_command (codes "check")).top)
@@ -47,6 +47,7 @@ command_line = with_subcommand (with_subcommand (with_subcommand (with_subcomman
     (two_command (codes "run")).top)
     (three_command (codes "walk")).top)
     (two_command (codes "exec")).top)
+    (one_command (codes "gen")).top)
     (one_command (codes "bound")).top)
     (two_command (codes "count")).top)
     (two_or_three_command (codes "save")).top)
@@ -55,6 +56,10 @@ command_line = with_subcommand (with_subcommand (with_subcommand (with_subcomman
 -- the job of one value that was read
 abbrev pub one_read : (Text → JobSpec) → Option Text → Option JobSpec
 one_read job first = option_map job first
+
+-- the job of one value that was read, where it asks for one
+abbrev pub one_if_read : (Text → Option JobSpec) → Option Text → Option JobSpec
+one_if_read job first = option_and_then job first
 
 -- the job of two values that were read
 abbrev pub two_read : (Text → Text → JobSpec) → Option Text → Option Text → Option JobSpec
@@ -76,10 +81,11 @@ named_read name first second third = if bytes_eq (codes "check") name then one_r
     else (if bytes_eq (codes "run") name then two_read run first second
     else (if bytes_eq (codes "walk") name then three_read seeded first second third
     else (if bytes_eq (codes "exec") name then two_read exec first second
+    else (if bytes_eq (codes "gen") name then one_if_read staged first
     else (if bytes_eq (codes "bound") name then one_read bound first
     else (if bytes_eq (codes "count") name then two_read count first second
     else (if bytes_eq (codes "save") name then two_or_three_read save save_from first second third
-    else (if bytes_eq (codes "resume") name then three_read resumed first second third else None))))))))
+    else (if bytes_eq (codes "resume") name then three_read resumed first second third else None)))))))))
 
 -- the job of the command that was read
 abbrev pub job_read : Option (Text × List Row) → Option JobSpec

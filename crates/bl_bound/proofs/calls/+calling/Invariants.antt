@@ -1,4 +1,4 @@
-use Rattle.std.proofs.Common.{◌≡◌, ℕ, ◌+◌, drop, map}
+use Rattle.std.proofs.Common.{◌≡◌, ◌+◌, drop, map}
 use Rattle.bl_tree.specs.Reduce.{joined}
 use Rattle.bl_cmeaning.specs.Calls.{calls_in_arg, calls_in_step}
 use Rattle.bl_cmeaning.specs.Cost.{cost_of_calls}

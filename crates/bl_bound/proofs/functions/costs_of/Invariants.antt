@@ -1,5 +1,4 @@
-use Rattle.std.proofs.Common.{◌≡◌, List, ◌++◌, drop}
-use Rattle.bl_bound.specs.declared.cost.Cost.{Cost}
+use Rattle.std.proofs.Common.{◌≡◌, ◌++◌, drop}
 use Rattle.bl_bound.specs.inner.Capped.{costs_in}
 use Rattle.bl_bound.specs.Told.{told_costs}
 use Rattle.bl_bound.proofs.CostLemmas.{told_after}

@@ -1,5 +1,4 @@
-use Rattle.std.proofs.Common.{◌≡◌, ◌+◌, ◌++◌, ℕ, List, None, ap, codes, drop, length, option_map, rules, sym, ◌∙◌}
-use Rattle.bl_tree.specs.declared.text.Text.{Text}
+use Rattle.std.proofs.Common.{◌≡◌, ◌+◌, ◌++◌, ℕ, List, None, ap, codes, drop, length, option_map, rules, ◌∙◌}
 use Rattle.bl_cmeaning.specs.inner.Maps.{text_at}
 use Rattle.bl_cmeaning.specs.Sizes.{sizes}
 use Rattle.bl_cmeaning.specs.Tables.{with_entry}
@@ -7,7 +6,6 @@ use Rattle.bl_cmeaning.proofs.ArgLemmas.{next_of}
 use Rattle.bl_bytecode.specs.Code.{Entry, entries_from, entry_of, functions_code}
 use Rattle.bl_bytecode.specs.Laws.{code_of_file, entry_in_file}
 use Rattle.bl_bytecode_compiler.specs.declared.here.Entry.{Entry as CodeEntry}
-use Rattle.bl_cmeaning_laws.specs.Layout.{frame_cells}
 use Rattle.bl_bytecode_compiler.specs.inner.Views.{entries_in, sizes_in, structs_in}
 use Rattle.bl_bytecode_compiler.specs.Entries.{entry_for}
 use Rattle.bl_bytecode_compiler.proofs.Layouts.{entries-done, entries-next, file-begins, function-next, functions-done, made-with, sizes-capped}

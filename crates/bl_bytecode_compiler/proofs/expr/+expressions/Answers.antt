@@ -1,6 +1,5 @@
 use Rattle.std.proofs.Common.{◌-◌, ◌++◌, ◌∙◌, ap, arith, get_or, map, option_map, sym}
 use Rattle.bl_tree.specs.declared.c.CCall.{out-CCall}
-use Rattle.bl_tree.specs.declared.c.CPlace.{out-CPlace}
 use Rattle.bl_tree.specs.declared.c.CStep.{out-CStep}
 use Rattle.bl_tree.specs.Reduce.{joined}
 use Rattle.bl_bytecode.specs.Code.{term_code}

@@ -1,4 +1,4 @@
-use Rattle.std.proofs.Common.{◌≡◌, ℕ, List, Bool, true, false, ap, sym, ◌∙◌}
+use Rattle.std.proofs.Common.{◌≡◌, ℕ, List, false, ap, sym, ◌∙◌}
 use Rattle.std.specs.Prelude.{is_some, bytes_eq, Some}
 use Rattle.std.specs.Map.{update}
 use Rattle.std.proofs.lemmas.Map.Text.{hash_map_updates_str}

@@ -1,4 +1,4 @@
-use Rattle.std.proofs.Common.{◌≡◌, ◌≤◌, ◌+◌, ap, arith, drop, ◌∙◌}
+use Rattle.std.proofs.Common.{◌+◌, ap, drop, ◌∙◌}
 use Rattle.bl_cmeaning.proofs.ArgLemmas.{next_of}
 use Rattle.bl_cmeaning.specs.Sizes.{size_of_param}
 use Rattle.bl_cmeaning_laws.specs.Layout.{capped}

@@ -1,4 +1,4 @@
-use Rattle.std.proofs.Common.{◌≡◌, ◌++◌, ℕ, drop, option_map}
+use Rattle.std.proofs.Common.{◌≡◌, ◌++◌, drop, option_map}
 use Rattle.bl_bytecode_compiler.specs.inner.Views.{ground_of}
 use Rattle.bl_bytecode_compiler.specs.inner.Walks.{found_along, founds_of}
 use Rattle.bl_bytecode_compiler.proofs.place.found_in.Given as goal

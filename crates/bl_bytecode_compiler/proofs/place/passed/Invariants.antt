@@ -1,4 +1,4 @@
-use Rattle.std.proofs.Common.{◌≡◌, ℕ, drop}
+use Rattle.std.proofs.Common.{◌≡◌, drop}
 use Rattle.bl_bytecode_compiler.specs.inner.Walks.{founds_of, passed_along}
 use Rattle.bl_bytecode_compiler.proofs.place.passed.Given as goal
 

@@ -1,4 +1,4 @@
-use Rattle.std.proofs.Common.{ap, option_map, sym, ◌∙◌}
+use Rattle.std.proofs.Common.{ap, ◌∙◌}
 use Rattle.bl_cmeaning_laws.specs.Reaching.{start_of_slot}
 use Rattle.bl_bytecode.specs.Code.{start_code}
 use Rattle.bl_bytecode_compiler.specs.inner.Views.{ground_of}

@@ -1,8 +1,6 @@
-use Rattle.std.proofs.Common.{◌≡◌}
 use Rattle.std.specs.Prelude.{codes}
 use Rattle.bl_cmeaning.specs.inner.Maps.{text_at}
 use Rattle.bl_cmeaning.specs.Parts.{parts_from}
-use Rattle.bl_cmeaning.specs.Saturated.{saturated}
 use Rattle.bl_cmeaning.specs.Sizes.{sizes}
 use Rattle.bl_cmeaning.proofs.SizeLemmas.{whole}
 use Rattle.bl_cmeaning.proofs.check.cells_of.Goals as goal

@@ -1,4 +1,4 @@
-use Rattle.std.proofs.Common.{◌≡◌, ℕ, drop}
+use Rattle.std.proofs.Common.{drop}
 use Rattle.bl_cmeaning.specs.inner.Maps.{text_at}
 use Rattle.bl_cmeaning.specs.Saturated.{AlikeSaturated}
 use Rattle.bl_cmeaning.specs.Sizes.{sizes, sizes_after}

@@ -1,4 +1,4 @@
-use Rattle.std.proofs.Common.{◌≡◌, drop, Some}
+use Rattle.std.proofs.Common.{◌≡◌, drop}
 use Rattle.bl_emit_acts.specs.Sites.{site_in}
 use Rattle.bl_emit_functions.specs.Functions.{holds_any}
 use Rattle.bl_emit_functions.proofs.functions.holds_any.Given as goal

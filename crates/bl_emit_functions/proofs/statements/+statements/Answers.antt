@@ -3,7 +3,8 @@ use Rattle.std.specs.Prelude.{IfOk}
 use Rattle.bl_emit_acts.specs.Sites.{site_in}
 use Rattle.bl_emit_functions.specs.declared.coded.Coded.{Coded}
 use Rattle.bl_emit_functions.proofs.Choices.{if_many, if_none, if_one}
-use Rattle.bl_emit_functions.proofs.statements.+statements.Goals.{statement-in_default-via-then-as_slice-lt1, statement-in_default-via-else-as_slice-lt1+else-this-lt2}
+use Rattle.bl_emit_functions.proofs.statements.+statements.Goals.{statement-in_default-via-then-as_slice-lt1}
+use Rattle.bl_emit_functions.proofs.statements.+statements.Goals.{statement-in_default-via-else-as_slice-lt1+else-this-lt2}
 use Rattle.bl_emit_functions.proofs.statements.+statements.Goals as goal
 
 pub statement-returns-in_ok-other-in-len1 : goal.statement-returns-in_ok-other-in-len1

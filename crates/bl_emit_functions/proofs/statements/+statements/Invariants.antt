@@ -1,4 +1,4 @@
-use Rattle.std.proofs.Common.{◌≡◌, ◌++◌, map, drop}
+use Rattle.std.proofs.Common.{◌≡◌, map, drop}
 use Rattle.bl_emit_acts.specs.Sites.{site_in}
 use Rattle.bl_emit_functions.specs.Statements.{arms_taken, block_codes, code_then, codes_of, codes_of_arm}
 use Rattle.bl_emit_functions.proofs.statements.+statements.Given as goal

@@ -1,6 +1,5 @@
 -- The first rule that fails of a typed program, judge by judge.
-use Rattle.bl_rules.proofs.Causes.{graphs_cause, limits_cause, units_cause}
-use Rattle.bl_rules.proofs.Layers.{all_pass}
+use Rattle.bl_rules.proofs.Causes.{units_cause}
 use Rattle.bl_rules.proofs.judge.accept_program.Goals as goal
 
 pub returns-in-Err-clause-cause : goal.returns-in-Err-clause-cause

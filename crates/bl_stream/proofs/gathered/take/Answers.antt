@@ -1,4 +1,4 @@
-use Rattle.std.proofs.Common.{◌≡◌, arith, length, refl, sym, subst, take, ◌∙◌}
+use Rattle.std.proofs.Common.{◌≡◌, arith, length, sym, subst, take, ◌∙◌}
 use Rattle.std.proofs.lemmas.List.{length-take-le}
 use Rattle.bl_io.specs.Left.{HandsOver}
 use Rattle.bl_rows.specs.Reading.{fault_in}
@@ -53,7 +53,8 @@ returns-in_ok-feed-in-Ok-clause-takes g c = λ ins all taken.
     (piece-takes ins all left next c.args.reader.now c.feed.new.reader c.args.rows.now.items c.feed.new.rows.items taken
     (take c.in-Ok.n c.next.new.room)
     (read-more all left next taken.read c.next.new.room c.in-Ok.n taken.has_read c.in-Ok.ensures.front)
-    c.in_ok-feed-in-Ok.ensures.rows c.in_ok-feed-in-Ok.ensures.any_cut c.in_ok-feed-in-Ok.field-0 c.in_ok-feed-in-Ok.ensures.fault c.in_ok-feed-in-Ok.ensures.state
+    c.in_ok-feed-in-Ok.ensures.rows c.in_ok-feed-in-Ok.ensures.any_cut c.in_ok-feed-in-Ok.field-0 c.in_ok-feed-in-Ok.ensures.fault
+    c.in_ok-feed-in-Ok.ensures.state
     c.in_ok-feed-in-Ok.ensures.joins c.in_ok-feed-in-Ok.ensures.stop c.in_ok-feed-in-Ok.ensures.unended c.in_ok-feed-in-Ok.ensures.short)
 
 pub returns-in_ok-feed-in-Ok-clause-reads : goal.returns-in_ok-feed-in-Ok-clause-reads

@@ -1,8 +1,11 @@
 -- Each command's end is that of the job; where there is none nothing is written.
-use Rattle.std.proofs.Common.{rules}
+use Rattle.std.proofs.Common.{◌≡◌, Some, map, rules, string_bytes}
 use Rattle.bl_top.proofs.Cuts.{kept_same, reads_nothing}
-use Rattle.bl_top.proofs.Ends.{answers_alone, answers_bound, answers_build, answers_check, answers_count, answers_exec, answers_none, answers_resume}
+use Rattle.bl_top.proofs.Ends.{answers_alone, answers_bound, answers_build, answers_check, answers_count, answers_exec, answers_gen, answers_none}
+use Rattle.bl_top.proofs.Ends.{answers_resume}
 use Rattle.bl_top.proofs.Ends.{answers_run, answers_save, answers_save_from, answers_short, answers_walk}
+use Rattle.bl_top.proofs.Generated.{stages_asked}
+use Rattle.bl_words.specs.Jobs.{gen, job_of}
 use Rattle.bl_top.proofs.call.answer.Goals as goal
 
 pub returns-in-Ok-Some-Check-clause-answers : goal.returns-in-Ok-Some-Check-clause-answers
@@ -27,6 +30,19 @@ pub returns-in-Ok-Some-Exec-clause-answers : goal.returns-in-Ok-Some-Exec-clause
 returns-in-Ok-Some-Exec-clause-answers g c = λ notes.
     answers_alone _ _ c.alone-in-Ok-Some-Exec.result c.exec.result c.alone-in-Ok-Some-Exec.ensures.outcome c.alone-in-Ok-Some-Exec.ensures.lines
     (answers_exec _ _ _ _ _ _ (search rules) (c.exec.ensures.ends notes))
+
+pub generate-requires : goal.generate-requires
+generate-requires g c =
+    let asked : job_of (map string_bytes c.args.words.now) ≡ Some (gen c.in-Ok-Some-Gen.stages) = search rules in
+    stages_asked (job_of (map string_bytes c.args.words.now)) c.in-Ok-Some-Gen.stages asked c.programs_have_stages.ensures
+
+pub returns-in-Ok-Some-Gen-clause-answers : goal.returns-in-Ok-Some-Gen-clause-answers
+returns-in-Ok-Some-Gen-clause-answers g c = λ notes.
+    answers_alone _ _ c.alone-in-Ok-Some-Gen.result c.generate.result c.alone-in-Ok-Some-Gen.ensures.outcome c.alone-in-Ok-Some-Gen.ensures.lines
+    (answers_gen _ _ _ _ _ (search rules) (c.generate.ensures.ends _ _ _ notes))
+
+pub returns-in-Ok-Some-Gen-clause-reads : goal.returns-in-Ok-Some-Gen-clause-reads
+returns-in-Ok-Some-Gen-clause-reads g c = reads_nothing _ _
 
 pub returns-in-Ok-Some-Bound-clause-answers : goal.returns-in-Ok-Some-Bound-clause-answers
 returns-in-Ok-Some-Bound-clause-answers g c = λ notes.

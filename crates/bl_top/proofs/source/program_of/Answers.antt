@@ -1,5 +1,4 @@
 -- Why a job stops at its source, and its program.
-use Rattle.std.proofs.Common.{sym, ap, ◌∙◌}
 use Rattle.bl_top.proofs.Fronts.{is_built, stops_before, stops_unbuilt}
 use Rattle.bl_top.proofs.source.program_of.Goals as goal
 

@@ -1,7 +1,6 @@
 -- Each end of the write makes the answer.
 use Rattle.std.proofs.Common.{ap, subst, ◌∙◌, rules, Err}
 use Rattle.bl_io.specs.Held.{Appends, AppendsPart}
-use Rattle.bl_top.specs.inner.Outcomes.{IsEndOf}
 use Rattle.bl_top.specs.inner.Walked.{failed, refused, wrote}
 use Rattle.bl_top.specs.declared.outcome.Outcome.{Outcome}
 use Rattle.bl_top.proofs.walk.write_walk.Goals as goal

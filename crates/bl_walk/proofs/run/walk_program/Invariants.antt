@@ -1,5 +1,4 @@
 use Rattle.std.proofs.Common.{◌≡◌, drop}
-use Rattle.bl_ctree.specs.Instances.{setting_of}
 use Rattle.bl_steps.specs.Running.{setting, state}
 use Rattle.bl_walk.specs.inner.Ticks.{Between}
 use Rattle.bl_walk.proofs.Walking.{Onward}

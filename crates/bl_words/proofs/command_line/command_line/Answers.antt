@@ -29,12 +29,14 @@ returns c =
     let with_walk = c.in_ok-subcommand-4.ensures.shape walk.1 ∙ ap₂ with_subcommand with_run (ap (λ (a : App). a.top) walk.0) in
     let exec = c.in_ok-two_command-2.ensures in
     let with_exec = c.in_ok-subcommand-5.ensures.shape exec.1 ∙ ap₂ with_subcommand with_walk (ap (λ (a : App). a.top) exec.0) in
-    let bound = c.in_ok-one_command-3.ensures in
-    let with_bound = c.in_ok-subcommand-6.ensures.shape bound.1 ∙ ap₂ with_subcommand with_exec (ap (λ (a : App). a.top) bound.0) in
+    let gen = c.in_ok-one_command-3.ensures in
+    let with_gen = c.in_ok-subcommand-6.ensures.shape gen.1 ∙ ap₂ with_subcommand with_exec (ap (λ (a : App). a.top) gen.0) in
+    let bound = c.in_ok-one_command-4.ensures in
+    let with_bound = c.in_ok-subcommand-7.ensures.shape bound.1 ∙ ap₂ with_subcommand with_gen (ap (λ (a : App). a.top) bound.0) in
     let count = c.in_ok-two_command-3.ensures in
-    let with_count = c.in_ok-subcommand-7.ensures.shape count.1 ∙ ap₂ with_subcommand with_bound (ap (λ (a : App). a.top) count.0) in
+    let with_count = c.in_ok-subcommand-8.ensures.shape count.1 ∙ ap₂ with_subcommand with_bound (ap (λ (a : App). a.top) count.0) in
     let save = c.in_ok-two_or_three_command.ensures in
-    let with_save = c.in_ok-subcommand-8.ensures.shape save.1 ∙ ap₂ with_subcommand with_count (ap (λ (a : App). a.top) save.0) in
+    let with_save = c.in_ok-subcommand-9.ensures.shape save.1 ∙ ap₂ with_subcommand with_count (ap (λ (a : App). a.top) save.0) in
     let resume = c.in_ok-three_command-2.ensures in
-    IfOk-weaker c.subcommand-9.result _ _ (λ m h. h.shape resume.1 ∙ ap₂ with_subcommand with_save (ap (λ (a : App). a.top) resume.0))
-    c.subcommand-9.ensures
+    IfOk-weaker c.subcommand-10.result _ _ (λ m h. h.shape resume.1 ∙ ap₂ with_subcommand with_save (ap (λ (a : App). a.top) resume.0))
+    c.subcommand-10.ensures

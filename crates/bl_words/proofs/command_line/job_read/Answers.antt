@@ -2,8 +2,8 @@ use Rattle.std.proofs.Common.{◌∙◌, Some, sym, ap, ap₂, codes}
 use Rattle.clap.specs.Walk.{rows_of}
 use Rattle.clap.specs.Words.{first_of, first_value, found_of}
 use Rattle.clap.proofs.WalkLemmas.{first_value-rows}
-use Rattle.bl_words.specs.inner.CommandLine.{job_read, one_read, three_read, two_or_three_read, two_read}
-use Rattle.bl_words.specs.Jobs.{bound, build, check, count, exec, resumed, run, save, save_from, seeded}
+use Rattle.bl_words.specs.inner.CommandLine.{job_read, one_if_read, one_read, three_read, two_or_three_read, two_read}
+use Rattle.bl_words.specs.Jobs.{bound, build, check, count, exec, resumed, run, save, save_from, seeded, staged}
 use Rattle.bl_words.proofs.Matches.{command_is, unnamed_read}
 use Rattle.bl_words.proofs.command_line.job_read.Goals as goal
 
@@ -45,6 +45,13 @@ returns-in-exec c =
     c.exec_read.ensures ∙ ap₂ (two_read exec) (first_value-rows found (codes "first")) (first_value-rows found (codes "second"))
     ∙ sym (ap job_read command ∙ ap (λ name. job_read (Some (name, rows_of found))) c.in-exec.is)
 
+pub returns-in-gen : goal.returns-in-gen
+returns-in-gen c =
+    let found = found_of c.in_ok-name.values.now in
+    let command = command_is c.args.matches.now c.in_ok-name.name.now (rows_of found) c.in_ok-name.ensures.name c.in_ok-name.ensures.rows in
+    c.gen_read.ensures ∙ ap (one_if_read staged) (first_value-rows found (codes "first"))
+    ∙ sym (ap job_read command ∙ ap (λ name. job_read (Some (name, rows_of found))) c.in-gen.is)
+
 pub returns-in-bound : goal.returns-in-bound
 returns-in-bound c =
     let found = found_of c.in_ok-name.values.now in
@@ -85,5 +92,5 @@ returns-in_default c =
     let command = command_is c.args.matches.now c.in_ok-name.name.now rows c.in_ok-name.ensures.name c.in_ok-name.ensures.rows in
     sym (ap job_read command ∙ unnamed_read c.in_ok-name.name.now (first_of (codes "first") rows)
     (first_of (codes "second") rows) (first_of (codes "third") rows)
-    c.in_default.not-check c.in_default.not-build c.in_default.not-run c.in_default.not-walk c.in_default.not-exec
+    c.in_default.not-check c.in_default.not-build c.in_default.not-run c.in_default.not-walk c.in_default.not-exec c.in_default.not-gen
     c.in_default.not-bound c.in_default.not-count c.in_default.not-save c.in_default.not-resume)

@@ -21,8 +21,8 @@ use Rattle.std.proofs.Common.{
 use Rattle.std.specs.List.{list_all}
 use Rattle.std.specs.Str.{bytes_eq}
 use Rattle.bl_words.specs.Jobs.{JobSpec, Word, bound, build, check, command_job, count}
-use Rattle.bl_words.specs.Jobs.{exec, files_of, is_plain_word, job_of, of_one, of_three, of_two, of_two_or_three}
-use Rattle.bl_words.specs.Jobs.{resumed, run, save, save_from, seed_of, seeded}
+use Rattle.bl_words.specs.Jobs.{exec, files_of, is_plain_word, job_of, of_one, of_one_if, of_three, of_two, of_two_or_three}
+use Rattle.bl_words.specs.Jobs.{resumed, run, save, save_from, seed_of, seeded, staged, stages_of}
 use Rattle.bl_words.proofs.Program.{others_plain}
 use Rattle.bl_words.proofs.job.files_have_plain_names.Goals as goal
 
@@ -49,6 +49,19 @@ seed_plain source rows word plain = go (seed_of word) refl
     go : (seed : Option ℕ) → seed_of word ≡ seed → IfSome (seeded source rows word) HasPlainFiles
     go (Some n) e = rw e plain
     go None e = rw e tt
+
+-- a program that is made is of no file
+staged_plain : (word : Word) → IfSome (staged word) HasPlainFiles
+staged_plain word = go (stages_of word) refl
+  where
+    go : (stages : Option ℕ) → stages_of word ≡ stages → IfSome (staged word) HasPlainFiles
+    go (Some n) e = rw e refl
+    go None e = rw e tt
+
+gen_plain : (values : List Word) → IfSome (of_one_if staged values) HasPlainFiles
+gen_plain [] = tt
+gen_plain (first ∷ []) = staged_plain first
+gen_plain (first ∷ second ∷ more) = tt
 
 two_of_three : (a b c : Bool) → (a && (b && (c && true))) ≡ true → (a && (b && true)) ≡ true
 two_of_three true true c e = refl
@@ -90,10 +103,11 @@ command_plain name values plain =
     trying (bytes_eq (codes "run") name) _ _ (two_plain run (λ first second. refl) values plain) (
     trying (bytes_eq (codes "walk") name) _ _ (three_plain values plain) (
     trying (bytes_eq (codes "exec") name) _ _ (two_plain exec (λ first second. refl) values plain) (
+    trying (bytes_eq (codes "gen") name) _ _ (gen_plain values) (
     trying (bytes_eq (codes "bound") name) _ _ (one_plain bound (λ first. refl) values plain) (
     trying (bytes_eq (codes "count") name) _ _ (two_plain count (λ first second. refl) values plain) (
     trying (bytes_eq (codes "save") name) _ _ (two_or_three_plain values plain) (
-    trying (bytes_eq (codes "resume") name) _ _ (resume_plain values plain) tt))))))))
+    trying (bytes_eq (codes "resume") name) _ _ (resume_plain values plain) tt)))))))))
 
 job_plain : (words : List Word) → IfSome (job_of words) HasPlainFiles
 job_plain [] = tt

@@ -1,4 +1,4 @@
-use Rattle.std.proofs.Common.{ap, sym, ◌∙◌}
+use Rattle.std.proofs.Common.{◌∙◌}
 use Rattle.bl_bytecode_compiler.proofs.Emitting.{set-reversed}
 use Rattle.bl_bytecode_compiler.proofs.front.Front.set.Goals as goal
 

@@ -1,4 +1,4 @@
-use Rattle.std.proofs.Common.{◌≡◌, ℕ, drop, map, max}
+use Rattle.std.proofs.Common.{◌≡◌, drop, map, max}
 use Rattle.bl_tree.specs.Reduce.{joined}
 use Rattle.bl_cmeaning.specs.Calls.{calls_in_arg, calls_in_step, most}
 use Rattle.bl_cmeaning.specs.inner.Maps.{text_at}

@@ -1,8 +1,8 @@
-use Rattle.std.proofs.Common.{◌≡◌, ℕ, List, Bool, true, false, map, ap, sym, ◌∙◌}
+use Rattle.std.proofs.Common.{◌≡◌, ℕ, List, false, map, ap, sym, ◌∙◌}
 use Rattle.std.specs.Prelude.{is_some, bytes_eq, Some}
 use Rattle.std.specs.Map.{update}
 use Rattle.std.proofs.lemmas.Map.Text.{hash_map_updates_str}
-use Rattle.bl_cmeaning.specs.inner.Checked.{members_in_map, structs_of}
+use Rattle.bl_cmeaning.specs.inner.Checked.{members_in_map}
 use Rattle.bl_cmeaning.specs.Faults.{member_table}
 use Rattle.bl_cmeaning.specs.inner.Maps.{text_at}
 use Rattle.bl_cmeaning.specs.Tables.{table_of, with_entry}

@@ -1,9 +1,9 @@
-use Rattle.std.proofs.Common.{◌≡◌, ◌+◌, ◌∷◌, rules, ap, sym, ◌∙◌, ◌&&◌, ◌||◌, drop, map, option_map}
+use Rattle.std.proofs.Common.{◌≡◌, ◌+◌, ◌∷◌, rules, ap, ◌∙◌, ◌&&◌, drop, map, option_map}
 use Rattle.bl_tree.specs.declared.c.CExpr.{the_lemmas}
-use Rattle.bl_cmeaning.proofs.FirstLemmas.{first_place-append, earlier_of-assoc}
+use Rattle.bl_cmeaning.proofs.FirstLemmas.{first_place-append}
 use Rattle.bl_cmeaning.proofs.ArgLemmas.{next_of, fit-next, handed-next, first-next, fit-done, type-next, place-next}
 use Rattle.bl_cmeaning.specs.inner.Checked.{context_of, judged_args, signature_for, type_of, fits_nth}
-use Rattle.bl_cmeaning.specs.Faults.{judged_arg, judged_step, judge_steps, earlier_of, first_place}
+use Rattle.bl_cmeaning.specs.Faults.{judged_arg, judged_step}
 use Rattle.bl_cmeaning.proofs.check.expr.+judging.Goals as goal
 
 pub judge_expr-returns-in-Not-clause-first : goal.judge_expr-returns-in-Not-clause-first

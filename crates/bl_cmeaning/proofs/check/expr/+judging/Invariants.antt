@@ -1,4 +1,4 @@
-use Rattle.std.proofs.Common.{◌≡◌, ℕ, List, ◌+◌, drop, map, ◌&&◌, ◌||◌, option_map}
+use Rattle.std.proofs.Common.{◌≡◌, drop, map, ◌&&◌, ◌||◌, option_map}
 use Rattle.bl_tree.specs.Reduce.{any_of, joined}
 use Rattle.bl_cmeaning.specs.inner.Checked.{context_of, fit_from, is_handed, judged_args, signature_for, type_of}
 use Rattle.bl_cmeaning.specs.Faults.{earlier_of, first_place, fit_args, judge_steps, judged_step}

@@ -1,6 +1,6 @@
 use Rattle.std.proofs.Common.{◌≡◌, ◌∙◌, ◌++◌, Bool, false, ap, map}
 use Rattle.bl_cmeaning.specs.inner.Checked.{functions_of, structs_of, variables_in_map}
-use Rattle.bl_cmeaning.specs.Faults.{Context, Variable, block_faults, context_in, faults_in_stmt, first_place, keeps_all, names_table, repeated}
+use Rattle.bl_cmeaning.specs.Faults.{Context, Variable, block_faults, faults_in_stmt, first_place, keeps_all, names_table, repeated}
 use Rattle.bl_cmeaning.specs.Faults.{variable_names, variables_of}
 use Rattle.bl_cmeaning.specs.Loops.{turns_in_block}
 use Rattle.bl_cmeaning.specs.inner.Maps.{named, text_at}

@@ -1,4 +1,4 @@
-use Rattle.std.proofs.Common.{◌≡◌, ℕ, ◌+◌, ◌∷◌, List, drop, refl, ap, sym, ◌∙◌}
+use Rattle.std.proofs.Common.{◌≡◌, ℕ, ◌+◌, ◌∷◌, List, drop, refl, ap, ◌∙◌}
 use Rattle.bl_cmeaning.specs.inner.Checked.{functions_of, structs_of}
 use Rattle.bl_cmeaning.specs.Faults.{depth_of_function, signature_in}
 use Rattle.bl_cmeaning.specs.inner.Maps.{text_at}

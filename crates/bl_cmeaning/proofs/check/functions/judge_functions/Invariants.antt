@@ -1,4 +1,4 @@
-use Rattle.std.proofs.Common.{◌≡◌, ℕ, drop}
+use Rattle.std.proofs.Common.{◌≡◌, drop}
 use Rattle.bl_cmeaning.specs.inner.Checked.{functions_of, structs_of}
 use Rattle.bl_cmeaning.specs.Faults.{earlier_of, first_place, function_faults_after}
 use Rattle.bl_cmeaning.specs.inner.Maps.{text_at}

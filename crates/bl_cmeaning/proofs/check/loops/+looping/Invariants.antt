@@ -1,4 +1,4 @@
-use Rattle.std.proofs.Common.{◌≡◌, ℕ, drop, ◌++◌}
+use Rattle.std.proofs.Common.{◌≡◌, drop, ◌++◌}
 use Rattle.bl_cmeaning.specs.Loops.{turns_in_block}
 use Rattle.bl_cmeaning.specs.inner.Maps.{named}
 use Rattle.bl_cmeaning.proofs.check.loops.+looping.Given as goal

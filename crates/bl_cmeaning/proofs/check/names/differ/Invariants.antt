@@ -1,4 +1,4 @@
-use Rattle.std.proofs.Common.{◌≡◌, ℕ, ◌&&◌, drop}
+use Rattle.std.proofs.Common.{◌≡◌, ◌&&◌, drop}
 use Rattle.bl_cmeaning.specs.Faults.{all_distinct}
 use Rattle.bl_cmeaning.specs.inner.Maps.{bytes_of, text_at}
 use Rattle.bl_cmeaning.specs.Tables.{no_entries}

@@ -1,4 +1,4 @@
-use Rattle.std.proofs.Common.{◌≡◌, ℕ, drop}
+use Rattle.std.proofs.Common.{◌≡◌, drop}
 use Rattle.bl_cmeaning.specs.Faults.{earlier_of, first_place, repeated}
 use Rattle.bl_cmeaning.specs.inner.Maps.{named, text_at}
 use Rattle.bl_cmeaning.proofs.check.names.first_repeated.Given as goal

@@ -1,4 +1,4 @@
-use Rattle.std.proofs.Common.{◌≡◌, ℕ, drop, map}
+use Rattle.std.proofs.Common.{◌≡◌, drop, map}
 use Rattle.bl_cmeaning.specs.Faults.{last_or, last_returns, surely_returns}
 use Rattle.bl_cmeaning.proofs.check.stmt.+returning.Given as goal
 

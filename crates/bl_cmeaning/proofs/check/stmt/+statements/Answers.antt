@@ -1,4 +1,4 @@
-use Rattle.std.proofs.Common.{◌≡◌, ◌+◌, ◌∷◌, rules, ap, subst, drop, map}
+use Rattle.std.proofs.Common.{◌≡◌, ◌+◌, rules, subst, drop, map}
 use Rattle.bl_tree.specs.declared.c.CStmtKind.{the_lemmas}
 use Rattle.bl_cmeaning.proofs.FirstLemmas.{first_place-append, fault-next}
 use Rattle.bl_cmeaning.proofs.ArgLemmas.{next_of}

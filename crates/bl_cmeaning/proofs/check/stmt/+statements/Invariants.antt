@@ -1,4 +1,4 @@
-use Rattle.std.proofs.Common.{◌≡◌, ℕ, drop, map}
+use Rattle.std.proofs.Common.{◌≡◌, drop, map}
 use Rattle.bl_cmeaning.specs.inner.Checked.{context_of}
 use Rattle.bl_cmeaning.specs.Faults.{block_faults, earlier_of, faults_in_stmt, first_place}
 use Rattle.bl_cmeaning.proofs.check.stmt.+statements.Given as goal

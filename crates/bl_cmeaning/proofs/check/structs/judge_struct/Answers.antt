@@ -1,4 +1,4 @@
-use Rattle.std.proofs.Common.{◌≡◌, ◌∙◌, ap, [], map}
+use Rattle.std.proofs.Common.{◌≡◌, ◌∙◌, ap, map}
 use Rattle.bl_cmeaning.specs.Faults.{all_distinct, distinct_names, declared_before, short_chain, interface_members}
 use Rattle.bl_cmeaning.specs.inner.Maps.{bytes_of}
 use Rattle.bl_cmeaning.specs.Tables.{no_entries}

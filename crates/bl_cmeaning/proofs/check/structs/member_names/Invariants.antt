@@ -1,9 +1,5 @@
-use Rattle.std.proofs.Common.{◌≡◌, ℕ, ◌&&◌, ◌++◌, drop, map, max}
-use Rattle.std.specs.List.{list_all}
-use Rattle.bl_tree.specs.Reduce.{greatest}
-use Rattle.bl_cmeaning.specs.inner.Checked.{structs_of}
-use Rattle.bl_cmeaning.specs.Faults.{depth_of_type, is_declared, is_port}
-use Rattle.bl_cmeaning.specs.inner.Maps.{bytes_of, text_at}
+use Rattle.std.proofs.Common.{◌≡◌, ◌++◌, drop, map}
+use Rattle.bl_cmeaning.specs.inner.Maps.{bytes_of}
 use Rattle.bl_cmeaning.proofs.check.structs.member_names.Given as goal
 
 abbrev pub invariant-loop-member : goal.invariant-loop-member

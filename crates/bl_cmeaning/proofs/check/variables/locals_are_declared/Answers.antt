@@ -1,6 +1,5 @@
-use Rattle.std.proofs.Common.{◌||◌}
 use Rattle.bl_cmeaning.specs.inner.Checked.{structs_of}
-use Rattle.bl_cmeaning.specs.Faults.{is_declared, is_scalar}
+use Rattle.bl_cmeaning.specs.Faults.{is_declared}
 use Rattle.bl_cmeaning.proofs.NameLemmas.{all-next}
 use Rattle.bl_cmeaning.proofs.check.variables.locals_are_declared.Goals as goal
 

@@ -1,4 +1,4 @@
-use Rattle.std.proofs.Common.{◌≡◌, ◌∙◌, ap, sym, Some, [], ◌∷◌, ◌+◌, ◌<◌, length, take, arith, add-one, length-append, suc}
+use Rattle.std.proofs.Common.{◌∙◌, ap, sym, [], ◌∷◌, ◌<◌, length, take, arith, add-one, length-append, suc}
 use Rattle.std.specs.List.{slice_get}
 use Rattle.bl_plant.specs.Kinds.{rows_in}
 use Rattle.bl_plant.specs.declared.log.Log.{Log}

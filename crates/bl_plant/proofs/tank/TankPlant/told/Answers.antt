@@ -1,4 +1,4 @@
-use Rattle.std.proofs.Common.{◌≡◌, ◌∙◌, ap, sym, ℤ, pos, to_z, of_z, ◌+ℤ◌, ◌-ℤ◌, ◌≤ℤ◌, subst, rules}
+use Rattle.std.proofs.Common.{◌∙◌, ap, sym, ℤ, pos, to_z, of_z, ◌+ℤ◌, ◌-ℤ◌, ◌≤ℤ◌, subst, rules}
 use Rattle.std.proofs.lemmas.Int.{to_z-of_z}
 use Rattle.std.specs.Int.{int_max, int_min, w128}
 use Rattle.bl_plant.specs.Kinds.{level_after, level_then}

@@ -1,0 +1,9 @@
+pub mod Chains
+pub mod Expressions
+pub mod Growing
+pub mod Memories
+pub mod Shapes
+pub mod Statements
+pub mod Structs
+pub mod Under
+pub mod Walk

@@ -1,0 +1,243 @@
+-- The C of the blocks of a pass: one `if` for each block, with what its nodes do and what changes then.
+use Rattle.std.specs.Prelude.{ℕ, zero, suc, pos, Bool, true, false, List, [], ◌∷◌, ◌++◌, map, Option, Some, None, if◌then◌else◌}
+use Rattle.std.specs.Prelude.{length, is_some, nat_le, slice_get, unwrap_or}
+use Rattle.bl_tree.specs.declared.text.Text.{Text}
+use Rattle.bl_tree.specs.declared.c.CArg.{CArg}
+use Rattle.bl_tree.specs.declared.c.CArg.TheVariants.{Address}
+use Rattle.bl_tree.specs.declared.c.CExpr.{CExpr}
+use Rattle.bl_tree.specs.declared.c.CStmt.{CStmt}
+use Rattle.bl_tree.specs.declared.scalar.Op.{Op}
+use Rattle.bl_tree.specs.declared.scalar.Op.TheVariants.{And, Eq, Ge, Le, Or}
+use Rattle.bl_tree.specs.declared.scalar.Scalar.{Scalar}
+use Rattle.bl_tree.specs.declared.scalar.Scalar.TheVariants.{Nat}
+use Rattle.bl_tree.specs.declared.scalar.Width.TheVariants.{W8, W16, W32}
+use Rattle.bl_tree.specs.declared.tree.Path.{Path}
+use Rattle.bl_tree.specs.declared.tree.Stmt.{Stmt, out-Stmt}
+use Rattle.bl_tree.specs.declared.tree.StmtKind.{out-StmtKind}
+use Rattle.bl_tree.specs.declared.tree.StmtKind.TheOpen.{StmtKind-F}
+use Rattle.bl_tree.specs.declared.tree.Unit.{Unit as UnitDef}
+use Rattle.bl_tree.specs.Typing.{Site}
+use Rattle.bl_nodes.specs.Nodes.{ActAt, Arguments, CheckAt, EnterAt, Node, ResumeAt, TestAt}
+use Rattle.bl_machine.specs.declared.slots.Slot.{Slot}
+use Rattle.bl_emit_acts.specs.Acts.{act_code, c_calling, c_clear, c_set, call_args, code_made, name_of_callee}
+use Rattle.bl_emit_acts.specs.Expressions.{c_compare, stands}
+use Rattle.bl_emit_acts.specs.Trees.{c_call, c_literal, c_not, c_read, c_two}
+use Rattle.bl_emit_functions.specs.Statements.{else_code}
+use Rattle.bl_emit_functions.specs.Trees.{c_if, c_truth}
+use Rattle.bl_pass.specs.Rules.{Age, Asked, Change, Needed, Rule}
+use Rattle.bl_pass.specs.Rules.{Ended, Ends, Finishes, Flagged, Flags, Forgets, Frees, Holds, IsNew, IsOld, Marks, Rested, RestedIn, Whatever}
+use Rattle.bl_emit_pass.specs.Names.{callee_frame, callee_memory, counter_place, ended_place, flag_place, frame_name, given_place}
+use Rattle.bl_emit_pass.specs.Names.{mark_place, over_place, rested_place, result_place}
+
+-- ---- numbers of counters
+
+-- the narrowest unsigned type for a counter of so many values beside 0
+abbrev pub type_for : ℕ → Scalar
+type_for n = if nat_le n 255 then Nat W8 else if nat_le n 65535 then Nat W16 else Nat W32
+
+-- how many values each counter has, in the order of counters
+abbrev pub Sizes : Type 0
+Sizes = List ℕ
+
+-- the type of a counter
+abbrev pub counter_type : Sizes → ℕ → Scalar
+counter_type sizes k = type_for (unwrap_or (slice_get sizes k) 0)
+
+-- a value of a counter
+abbrev pub counter_value : Sizes → ℕ → ℕ → CExpr
+counter_value sizes k v = c_literal (counter_type sizes k) (pos v)
+
+-- ---- what the C of a block needs to know
+
+-- an activity as its blocks see it
+pub record View : Type 0 where
+  -- its variables, and the units before it
+  pub site : Site
+  -- which of its variables have a copy of what they were when the tick began
+  pub copies : List Bool
+  -- the numbers of its nodes in C names
+  pub number : Node → ℕ
+  -- how many values its counters have
+  pub sizes : Sizes
+  -- which counters have a copy of what they held when the tick began
+  pub is_read : ℕ → Bool
+  -- whether a unit before it, an activity, remembers variables
+  pub remembers : ℕ → Bool
+
+-- ---- guards
+
+-- the answers of many tests, two by two
+abbrev pub in_pairs : Op → List CExpr → List CExpr
+in_pairs op [] = []
+in_pairs op (a ∷ []) = a ∷ []
+in_pairs op (a ∷ b ∷ rest) = c_two op a b ∷ in_pairs op rest
+
+-- as often as there are tests at most, until one answer is left: a tree whose depth grows slowly. Without tests it is the first argument
+abbrev pub in_tree : CExpr → Op → ℕ → List CExpr → CExpr
+in_tree none op fuel [] = none
+in_tree none op fuel (a ∷ []) = a
+in_tree none op zero (a ∷ b ∷ rest) = a
+in_tree none op (suc fuel) (a ∷ b ∷ rest) = in_tree none op fuel (in_pairs op (a ∷ b ∷ rest))
+
+-- all of the tests, or some one
+abbrev pub all_tests : List CExpr → CExpr
+all_tests tests = in_tree (c_truth true) And (length tests) tests
+
+abbrev pub some_test : List CExpr → CExpr
+some_test tests = in_tree (c_truth false) Or (length tests) tests
+
+-- whether the instance is at the number
+abbrev pub at_slot : View → Slot → CExpr
+at_slot view slot = c_two Eq (c_read (counter_place slot.counter)) (counter_value view.sizes slot.counter slot.value)
+
+-- whether it rested at the number when the tick began
+abbrev pub rested_at : View → Slot → CExpr
+rested_at view slot = c_two Eq (c_read (rested_place slot.counter)) (counter_value view.sizes slot.counter slot.value)
+
+-- whether the counter held one of the values from the first to the last
+abbrev pub rested_between : View → ℕ → ℕ → ℕ → CExpr
+rested_between view k least greatest =
+    let s = counter_type view.sizes k in
+    c_two And (c_compare Ge s (c_read (rested_place k)) (counter_value view.sizes k least))
+    (c_compare Le s (c_read (rested_place k)) (counter_value view.sizes k greatest))
+
+-- the last of some values
+abbrev pub last_value : ℕ → List Slot → ℕ
+last_value v [] = v
+last_value v (slot ∷ rest) = last_value slot.value rest
+
+-- whether it rested at one of these numbers, which have one counter and values that follow one another
+abbrev pub rested_in : View → List Slot → CExpr
+rested_in view [] = c_truth false
+rested_in view (slot ∷ []) = rested_at view slot
+rested_in view (slot ∷ more ∷ rest) = rested_between view slot.counter slot.value (last_value more.value rest)
+
+-- whether as many branches have ended as are needed
+abbrev pub ends_test : View → Needed → CExpr
+ends_test view needed =
+    if needed.all then all_tests (map (at_slot view) needed.slots) else some_test (map (at_slot view) needed.slots)
+
+-- the same, of a `cobegin` of that age
+abbrev pub aged_test : View → Age → CExpr → CExpr
+aged_test view (IsNew n) ends = c_two And (c_read (mark_place (view.number n))) ends
+aged_test view (IsOld n) ends = c_two And (c_not (c_read (mark_place (view.number n)))) ends
+aged_test view Whatever ends = ends
+
+-- what is asked before the node acts
+abbrev pub guard_of : View → Node → Asked → CExpr
+guard_of view n Flagged = c_read (flag_place (view.number n))
+guard_of view n (Rested slot) = rested_at view slot
+guard_of view n (RestedIn slots) = rested_in view slots
+guard_of view n (Ended age needed) = aged_test view age (ends_test view needed)
+
+-- ---- changes
+
+-- a counter gets 0
+abbrev pub freed : View → ℕ → CStmt
+freed view k = c_set (counter_place k) (counter_value view.sizes k 0)
+
+-- so does its copy, where it has one
+abbrev pub forgotten : View → ℕ → Bool → List CStmt
+forgotten view k true = freed view k ∷ c_set (rested_place k) (counter_value view.sizes k 0) ∷ []
+forgotten view k false = freed view k ∷ []
+
+-- a flag or a mark is set
+abbrev pub flagged_now : View → Node → CStmt
+flagged_now view n = c_set (flag_place (view.number n)) (c_truth true)
+
+-- the C of a change
+abbrev pub change_code : View → Change → List CStmt
+change_code view (Flags n) = flagged_now view n ∷ []
+change_code view (Holds slot) = c_set (counter_place slot.counter) (counter_value view.sizes slot.counter slot.value) ∷ []
+change_code view (Frees k) = freed view k ∷ []
+change_code view (Forgets k) = forgotten view k (view.is_read k)
+change_code view (Marks n) = c_set (mark_place (view.number n)) (c_truth true) ∷ []
+change_code view (Ends start surface depth) =
+    c_if (c_read (mark_place (view.number start))) (flagged_now view surface ∷ []) (Some (flagged_now view depth ∷ [])) ∷ []
+change_code view Finishes = c_set over_place (c_truth true) ∷ []
+
+-- of changes one after another
+abbrev pub changes_code : View → List Change → List CStmt
+changes_code view [] = []
+changes_code view (change ∷ rest) = change_code view change ++ changes_code view rest
+
+-- ---- runs
+
+-- whether a unit has a result
+abbrev pub has_result : Option UnitDef → Bool
+has_result (Some unit) = is_some unit.result
+has_result None = false
+
+-- the name that a unit has in the program
+abbrev pub name_in : Option UnitDef → Text
+name_in (Some unit) = unit.name
+name_in None = []
+
+-- an argument, where the test is true
+abbrev pub arg_where : Bool → CArg → List CArg
+arg_where true arg = arg ∷ []
+arg_where false arg = []
+
+-- the arguments of the call of an activity: where it rests, what it remembers, its inputs and outputs, its result, and whether it has ended
+abbrev pub run_args : View → ℕ → ℕ → Arguments → List CArg
+run_args view k a arguments =
+    Address (callee_frame k)
+    ∷ (arg_where (view.remembers a) (Address (callee_memory k))
+    ++ (call_args view.site arguments.inputs arguments.outputs
+    ++ (arg_where (has_result (slice_get view.site.earlier a)) (Address (given_place k)) ++ Address (ended_place k) ∷ [])))
+
+-- the call: the activity hasn't ended before it
+abbrev pub run_code : View → ℕ → ℕ → Arguments → List CStmt
+run_code view k a arguments =
+    c_set (ended_place k) (c_truth false)
+    ∷ c_calling (c_call (name_of_callee (slice_get view.site.earlier a)) (run_args view k a arguments)) ∷ []
+
+-- the target gets the result
+abbrev pub target_code : View → ℕ → Option Path → List CStmt
+target_code view k (Some path) = c_set (stands view.site path).place (c_read (given_place k)) ∷ []
+target_code view k None = []
+
+-- ---- blocks
+
+-- an act; a `return` sets the result, where it has one
+abbrev pub layer_acted : {A B C D : Type 0} → View → Stmt → StmtKind-F A B C D → List CStmt
+layer_acted view s (StmtKind-F.Return (Some e)) = c_set result_place (code_made view.site e) ∷ []
+layer_acted view s (StmtKind-F.Return None) = []
+layer_acted view s _ = act_code view.site view.copies s
+
+abbrev pub acted : View → Stmt → List CStmt
+acted view s = layer_acted view s (out-StmtKind (out-Stmt s).what)
+
+-- a test: changes where it is true, and others where it is false
+abbrev pub tested : View → CExpr → Rule → List CStmt
+tested view test rule = c_if test (changes_code view rule.so) (else_code (changes_code view rule.otherwise)) ∷ []
+
+-- what a `run` at a node does where it begins, and where it goes on; the number is that of the node at which it begins
+abbrev pub begun_code : View → ℕ → ℕ → Arguments → Rule → List CStmt
+begun_code view k a arguments rule =
+    c_clear (callee_frame k) (frame_name (name_in (slice_get view.site.earlier a)))
+    ∷ (run_code view k a arguments ++ changes_code view rule.so)
+
+abbrev pub resumed_code : View → ℕ → ℕ → Arguments → Rule → List CStmt
+resumed_code view k a arguments rule =
+    run_code view k a arguments
+    ++ c_if (c_read (ended_place k)) (target_code view k arguments.target ++ changes_code view rule.so) None ∷ []
+
+-- what a block of one node does, by its rule; of a `run` the number tells the activity that it calls
+abbrev pub node_code : View → ℕ → Rule → Node → List CStmt
+node_code view a rule (ActAt l s) = acted view s ++ changes_code view rule.so
+node_code view a rule (TestAt l at e) = tested view (code_made view.site e) rule
+node_code view a rule (CheckAt l at e) = tested view (code_made view.site e) rule
+node_code view a rule (EnterAt l at arguments) = begun_code view (view.number (EnterAt l at arguments)) a arguments rule
+node_code view a rule (ResumeAt l at arguments) = resumed_code view (view.number (EnterAt l at arguments)) a arguments rule
+node_code view a rule n = changes_code view rule.so
+
+-- the `if` of a block of one node
+abbrev pub block_code : View → ℕ → Rule → CStmt
+block_code view a rule = c_if (guard_of view rule.node rule.asked) (node_code view a rule rule.node) None
+
+-- the blocks of nodes that have these rules, each with the activity that it calls
+abbrev pub blocks_code : View → List ℕ → List Rule → List CStmt
+blocks_code view [] rules = []
+blocks_code view callees [] = []
+blocks_code view (a ∷ callees) (rule ∷ rules) = block_code view a rule ∷ blocks_code view callees rules

@@ -1,0 +1,5 @@
+pub mod Activities
+pub mod Blocks
+pub mod Names
+pub mod Prevs
+pub mod Programs

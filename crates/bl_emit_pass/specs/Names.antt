@@ -1,0 +1,85 @@
+-- Where the C function of an activity keeps the registers of a pass, and their names.
+use Rattle.std.specs.Prelude.{ℕ, true, false, [], ◌∷◌, ◌++◌, codes}
+use Rattle.std.specs.Fmt.{decimal}
+use Rattle.bl_tree.specs.declared.text.Text.{Text}
+use Rattle.bl_tree.specs.declared.c.CPlace.{CPlace}
+use Rattle.bl_emit_acts.specs.Trees.{c_place, c_step}
+
+-- ---- structs and functions
+
+-- the struct of where an activity rests: its counters, and the like structs of the activities that it runs
+abbrev pub frame_name : Text → Text
+frame_name name = codes "f_" ++ name
+
+-- the member for a counter
+abbrev pub counter_name : ℕ → Text
+counter_name k = codes "c" ++ decimal k
+
+-- the member for what a `run` keeps, by the number of the node at which it begins: in the struct of counters its callee's counters, in the
+-- struct of variables its callee's variables
+abbrev pub callee_name : ℕ → Text
+callee_name k = codes "x" ++ decimal k
+
+-- ---- locals
+
+-- what a counter held when the tick began
+abbrev pub rested_name : ℕ → Text
+rested_name k = codes "w" ++ decimal k
+
+-- the flag of the node with this number
+abbrev pub flag_name : ℕ → Text
+flag_name k = codes "g" ++ decimal k
+
+-- the mark of the `cobegin` or `when` that begins at the node with this number
+abbrev pub mark_name : ℕ → Text
+mark_name k = codes "u" ++ decimal k
+
+-- whether the body of the activity that a `run` calls has ended, by the number of the node at which the `run` begins
+abbrev pub ended_name : ℕ → Text
+ended_name k = codes "e" ++ decimal k
+
+-- its result
+abbrev pub given_name : ℕ → Text
+given_name k = codes "r" ++ decimal k
+
+-- ---- places
+
+-- a counter
+abbrev pub counter_place : ℕ → CPlace
+counter_place k = c_place true (codes "f") (c_step (counter_name k) ∷ [])
+
+-- what it held when the tick began
+abbrev pub rested_place : ℕ → CPlace
+rested_place k = c_place false (rested_name k) []
+
+-- the flag of the node with this number
+abbrev pub flag_place : ℕ → CPlace
+flag_place k = c_place false (flag_name k) []
+
+-- the mark of the `cobegin` or `when` that begins at the node with this number
+abbrev pub mark_place : ℕ → CPlace
+mark_place k = c_place false (mark_name k) []
+
+-- whether the body has ended: the caller's variable
+abbrev pub over_place : CPlace
+over_place = c_place true (codes "e") []
+
+-- the result: the caller's variable
+abbrev pub result_place : CPlace
+result_place = c_place true (codes "r") []
+
+-- whether the body of the activity that a `run` calls has ended, by the number of the node at which the `run` begins
+abbrev pub ended_place : ℕ → CPlace
+ended_place k = c_place false (ended_name k) []
+
+-- its result
+abbrev pub given_place : ℕ → CPlace
+given_place k = c_place false (given_name k) []
+
+-- where the activity that a `run` calls rests
+abbrev pub callee_frame : ℕ → CPlace
+callee_frame k = c_place true (codes "f") (c_step (callee_name k) ∷ [])
+
+-- what it remembers
+abbrev pub callee_memory : ℕ → CPlace
+callee_memory k = c_place true (codes "m") (c_step (callee_name k) ∷ [])

@@ -1,0 +1,9 @@
+mod Apart
+mod Cells
+mod Changes
+mod Evaluated
+mod Guards
+mod Intervals
+mod Numbers
+mod Setting
+mod Statements

@@ -1,0 +1,4 @@
+pub mod Faultless
+pub mod Levels
+pub mod Types
+pub mod Whole

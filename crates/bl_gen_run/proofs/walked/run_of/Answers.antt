@@ -1,0 +1,52 @@
+-- The program has one trace, and this is it.
+use Rattle.std.proofs.Common.{◌≡◌, ◌≤◌, ◌∙◌, ℕ, List, refl, subst, sym, arith}
+use Rattle.bl_ctree.specs.Means.{Means, shown}
+use Rattle.bl_ctree_laws_traces.specs.OneTrace.{HasOneTrace}
+use Rattle.bl_gen.specs.Outputs.{input_rows}
+use Rattle.bl_gen.specs.Text.{most_stages, program_text}
+use Rattle.bl_gen_run.specs.Runs.{HasTrace, IsRun, run_text}
+use Rattle.bl_rules.specs.Accepted.{HasProgram}
+use Rattle.bl_tree.specs.declared.program.Program.{Program}
+use Rattle.bl_tree.specs.declared.row.Last.{Last}
+use Rattle.bl_tree.specs.declared.row.Trace.{Trace}
+use Rattle.bl_gen_run.proofs.walked.run_of.Goals as goal
+
+-- a trace that the meaning allows is the one
+the_trace : (stages : ℕ) (program : Program) (trace : Trace) → HasProgram (program_text stages) program →
+    HasOneTrace program.structs program.units program.entry → Means program.structs program.units program.entry input_rows (shown trace) →
+    HasTrace stages trace
+the_trace stages program trace has one means =
+    let only = (one.each input_rows).only in record {
+      program = program;
+      has = has;
+      one = λ shows. (
+        λ allowed. only shows allowed ∙ sym (only (shown trace) means),
+        λ same. subst (λ s. Means program.structs program.units program.entry input_rows s) (sym same) means,
+      );
+    }
+
+is_run : (stages : ℕ) (trace : Trace) (text : List ℕ) (last : Last) → stages ≤ most_stages → HasTrace stages trace →
+    text ≡ run_text stages trace.rows trace.last → last ≡ trace.last → IsRun stages text last
+is_run stages trace text last within has text_is last_is =
+    record { within = within; trace = trace; has = has; text_is = text_is; last_is = last_is }
+
+pub trace_of-requires-clause-few : goal.trace_of-requires-clause-few
+trace_of-requires-clause-few c =
+    let few = c.accepted_texts_have_few_instances.ensures (program_text c.args.stages) c.args.accepted.now.program c.requires.program in
+    omega (arith, few)
+
+pub trace_of-requires-clause-bounded : goal.trace_of-requires-clause-bounded
+trace_of-requires-clause-bounded c =
+    (c.accepted_texts_have_one_trace.ensures (program_text c.args.stages) c.args.accepted.now.program c.requires.program).bounded
+
+pub trace_of-requires-clause-never_stuck : goal.trace_of-requires-clause-never_stuck
+trace_of-requires-clause-never_stuck c =
+    (c.accepted_texts_have_one_trace.ensures (program_text c.args.stages) c.args.accepted.now.program c.requires.program).never_stuck
+
+pub returns : goal.returns
+returns c =
+    is_run c.args.stages c.in_ok-trace.trace _ _ c.requires.within
+    (the_trace c.args.stages c.args.accepted.now.program c.in_ok-trace.trace c.requires.program
+    (c.accepted_texts_have_one_trace.ensures (program_text c.args.stages) c.args.accepted.now.program c.requires.program)
+    c.in_ok-trace.ensures)
+    c.in_ok-text.ensures refl

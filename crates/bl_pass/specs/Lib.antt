@@ -1,0 +1,4 @@
+pub mod Laid
+pub mod Numbered
+pub mod Registers
+pub mod Rules

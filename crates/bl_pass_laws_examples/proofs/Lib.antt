@@ -1,0 +1,5 @@
+pub mod Numbers
+pub mod PassesAlone
+pub mod PassesCalling
+pub mod PassesInTurn
+pub mod Turning

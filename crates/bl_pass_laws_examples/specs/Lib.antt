@@ -1,0 +1,9 @@
+pub mod Aborting
+pub mod Blinking
+pub mod Calling
+pub mod Fields
+pub mod Laws
+pub mod Resetting
+pub mod TwoBranches
+pub mod Weakly
+pub mod Worked

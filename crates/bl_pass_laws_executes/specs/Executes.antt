@@ -1,0 +1,149 @@
+-- What the text of one call does: a pass by rules over a store, node by node in the order of their numbers.
+use Rattle.std.specs.Prelude.{◌≡◌, ◌<◌, ℕ, suc, Bool, true, false, Contains, Some, None, ⊤}
+use Rattle.bl_tree.specs.declared.place.Place.{Place}
+use Rattle.bl_tree.specs.declared.tree.Stmt.{out-Stmt}
+use Rattle.bl_tree.specs.declared.tree.Unit.{Unit as UnitDef}
+use Rattle.bl_nodes.specs.Nodes.{
+  ActAt,
+  Arguments,
+  CheckAt,
+  DepthEndAt,
+  DepthJoinAt,
+  EnterAt,
+  ForkAt,
+  HeadAt,
+  Node,
+  PauseAt,
+  ResumeAt,
+  StartAt,
+  SurfaceEndAt,
+  SurfaceJoinAt,
+  TestAt,
+}
+use Rattle.bl_nodes.specs.Plain.{Label, plain_body}
+use Rattle.bl_ctree.specs.Actions.{Acts, Asks, Copies, Gives, Silent}
+use Rattle.bl_ctree.specs.Instances.{Setting, callee_of, unit_at}
+use Rattle.bl_ctree.specs.Store.{Store}
+use Rattle.bl_ctree_laws.specs.Ends.{done_by}
+use Rattle.bl_ctree_laws.specs.Pending.{Deed, deed}
+use Rattle.bl_machine.specs.Uses.{Slots}
+use Rattle.bl_machine_laws_pass.specs.Follows.{Does}
+use Rattle.bl_pass.specs.Registers.{Registers, after_rule, is_due, started, with_at}
+use Rattle.bl_pass.specs.Rules.{Rule, rules}
+use Rattle.bl_pass_laws.specs.Laws.{entry_flag}
+use Rattle.bl_pass_laws_frames.specs.Frames.{Frames}
+
+-- ---- deeds of nodes
+
+-- the node is none of a `run`
+abbrev pub IsPoint : Node → Type 0
+IsPoint (EnterAt l at arguments) = ⊥
+IsPoint (ResumeAt l at arguments) = ⊥
+IsPoint _ = ⊤
+
+-- the deed of such a node of the instance
+abbrev pub deed_at : ℕ → Node → Deed
+deed_at i (ActAt l s) = deed i (out-Stmt s).place (Acts s)
+deed_at i (TestAt l at e) = deed i at (Asks e)
+deed_at i (PauseAt l at) = deed i at Silent
+deed_at i (EnterAt l at arguments) = deed i at Silent
+deed_at i (ResumeAt l at arguments) = deed i at Silent
+deed_at i (HeadAt l at) = deed i at Silent
+deed_at i (StartAt l at) = deed i at Silent
+deed_at i (CheckAt l at e) = deed i at (Asks e)
+deed_at i (SurfaceEndAt l at) = deed i at Silent
+deed_at i (DepthEndAt l at) = deed i at Silent
+deed_at i (ForkAt l at) = deed i at Silent
+deed_at i (SurfaceJoinAt l at) = deed i at Silent
+deed_at i (DepthJoinAt l at) = deed i at Silent
+
+-- ---- registers as a pass begins
+
+-- those of an instance that begins: its counters hold 0, and its entry is flagged
+abbrev pub begun_registers : (ℕ → Node → ℕ) → ℕ → UnitDef → Registers
+begun_registers rank i unit = started (λ k. 0) (entry_flag (rank i) (plain_body unit.body))
+
+-- those of one that goes on: its counters hold what its frame has
+abbrev pub resumed_registers : Frames → ℕ → Registers
+resumed_registers frames i = started (frames i) (λ k. false)
+
+-- ---- passes by rules
+
+-- the rule is one of the instance, which is one of the unit
+abbrev pub HasRule : (ℕ → Slots) → ℕ → UnitDef → Rule → Type 0
+HasRule slots i unit rule = Contains (rules (slots i) (plain_body unit.body)) rule
+
+mutual
+  -- Executes w rank slots i k frames store r frames' left r': the nodes of the instance with numbers from k on have their turns, one after another,
+  -- each where its rule is due. What is done leaves the store so; the registers r become r', and the frames of what is called frames'
+  pub data Executes (w : Setting) (rank : ℕ → Node → ℕ) (slots : ℕ → Slots) :
+      ℕ → ℕ → Frames → Store → Registers → Frames → Store → Registers → Type 0 where
+    -- no node is left
+    ends : {i k : ℕ} {frames : Frames} {store : Store} {r : Registers} {unit : UnitDef} → unit_at w i ≡ Some unit →
+        ((rule : Rule) → HasRule slots i unit rule → rank i rule.node < k) → Executes w rank slots i k frames store r frames store r
+    -- the rule of the node with the number isn't due, or there is no such node
+    skips : {i k : ℕ} {frames : Frames} {store : Store} {r : Registers} {frames' : Frames} {left : Store} {r' : Registers} {unit : UnitDef} →
+        unit_at w i ≡ Some unit → ((rule : Rule) → HasRule slots i unit rule → rank i rule.node ≡ k → is_due (rank i) rule r ≡ false) →
+        Executes w rank slots i (suc k) frames store r frames' left r' → Executes w rank slots i k frames store r frames' left r'
+    -- it is due: what is to be done there is done, and the registers change as the rule tells
+    acts : {i k : ℕ} {frames : Frames} {store : Store} {r : Registers} {answer : Bool} {inner : Frames} {between : Store} {frames' : Frames}
+        {left : Store} {r' : Registers} {unit : UnitDef} → unit_at w i ≡ Some unit → (rule : Rule) → HasRule slots i unit rule → rank i rule.node ≡ k →
+        is_due (rank i) rule r ≡ true → Performs w rank slots i rule.node frames store answer inner between →
+        Executes w rank slots i (suc k) inner between (after_rule (rank i) rule answer r) frames' left r' →
+        Executes w rank slots i k frames store r frames' left r'
+
+  -- Performs w rank slots i n frames store answer frames' left: what is to be done at the node is done, with this answer
+  pub data Performs (w : Setting) (rank : ℕ → Node → ℕ) (slots : ℕ → Slots) : ℕ → Node → Frames → Store → Bool → Frames → Store → Type 0 where
+    does : {i : ℕ} {n : Node} {frames : Frames} {store : Store} {answer : Bool} {left : Store} → IsPoint n → Does w (deed_at i n) store answer left →
+        Performs w rank slots i n frames store answer frames left
+    -- a `run` begins: the inputs are copied, and what it calls has its first pass, which doesn't end it
+    enters : {i : ℕ} {l : Label} {at : Place} {arguments : Arguments} {frames : Frames} {store given : Store} {frames' : Frames} {left : Store}
+        {r' : Registers} {callee : ℕ} {unit : UnitDef} → callee_of w i at ≡ Some callee → unit_at w callee ≡ Some unit →
+        Does w (deed i at (Copies callee arguments.inputs)) store true given →
+        Executes w rank slots callee 0 frames given (begun_registers rank callee unit) frames' left r' → r'.over ≡ false →
+        Performs w rank slots i (EnterAt l at arguments) frames store true (with_at callee r'.counters frames') left
+    -- it goes on: the answer tells whether the body of what it calls has ended
+    resumes : {i : ℕ} {l : Label} {at : Place} {arguments : Arguments} {frames : Frames} {store given : Store} {frames' : Frames} {left : Store}
+        {r' : Registers} {callee : ℕ} → callee_of w i at ≡ Some callee → Does w (deed i at (Copies callee arguments.inputs)) store true given →
+        Executes w rank slots callee 0 frames given (resumed_registers frames callee) frames' left r' → r'.over ≡ false →
+        Performs w rank slots i (ResumeAt l at arguments) frames store false (with_at callee r'.counters frames') left
+    -- where it has, the target gets the result
+    returns : {i : ℕ} {l : Label} {at : Place} {arguments : Arguments} {frames : Frames} {store given : Store} {frames' : Frames}
+        {ended left : Store} {r' : Registers} {callee : ℕ} → callee_of w i at ≡ Some callee →
+        Does w (deed i at (Copies callee arguments.inputs)) store true given →
+        Executes w rank slots callee 0 frames given (resumed_registers frames callee) frames' ended r' → r'.over ≡ true →
+        Does w (deed i at (Gives callee arguments.target)) ended true left →
+        Performs w rank slots i (ResumeAt l at arguments) frames store true (with_at callee r'.counters frames') left
+
+mutual
+  -- IsCut w rank slots i k frames store r: nodes of the instance have their turns as above, until a deed traps
+  pub data IsCut (w : Setting) (rank : ℕ → Node → ℕ) (slots : ℕ → Slots) : ℕ → ℕ → Frames → Store → Registers → Type 0 where
+    skips_on : {i k : ℕ} {frames : Frames} {store : Store} {r : Registers} {unit : UnitDef} → unit_at w i ≡ Some unit →
+        ((rule : Rule) → HasRule slots i unit rule → rank i rule.node ≡ k → is_due (rank i) rule r ≡ false) →
+        IsCut w rank slots i (suc k) frames store r → IsCut w rank slots i k frames store r
+    goes_on : {i k : ℕ} {frames : Frames} {store : Store} {r : Registers} {answer : Bool} {inner : Frames} {between : Store} {unit : UnitDef} →
+        unit_at w i ≡ Some unit → (rule : Rule) → HasRule slots i unit rule → rank i rule.node ≡ k → is_due (rank i) rule r ≡ true →
+        Performs w rank slots i rule.node frames store answer inner between →
+        IsCut w rank slots i (suc k) inner between (after_rule (rank i) rule answer r) → IsCut w rank slots i k frames store r
+    traps : {i k : ℕ} {frames : Frames} {store : Store} {r : Registers} {unit : UnitDef} → unit_at w i ≡ Some unit → (rule : Rule) →
+        HasRule slots i unit rule → rank i rule.node ≡ k → is_due (rank i) rule r ≡ true → Stops w rank slots i rule.node frames store →
+        IsCut w rank slots i k frames store r
+
+  -- Stops w rank slots i n frames store: a deed that is to be done at the node traps
+  pub data Stops (w : Setting) (rank : ℕ → Node → ℕ) (slots : ℕ → Slots) : ℕ → Node → Frames → Store → Type 0 where
+    point_stops : {i : ℕ} {n : Node} {frames : Frames} {store : Store} → IsPoint n → done_by w (deed_at i n) store ≡ None →
+        Stops w rank slots i n frames store
+    -- the inputs of a `run` do
+    inputs_stop : {i : ℕ} {l : Label} {at : Place} {arguments : Arguments} {frames : Frames} {store : Store} {callee : ℕ} →
+        callee_of w i at ≡ Some callee → done_by w (deed i at (Copies callee arguments.inputs)) store ≡ None →
+        Stops w rank slots i (EnterAt l at arguments) frames store
+    copies_stop : {i : ℕ} {l : Label} {at : Place} {arguments : Arguments} {frames : Frames} {store : Store} {callee : ℕ} →
+        callee_of w i at ≡ Some callee → done_by w (deed i at (Copies callee arguments.inputs)) store ≡ None →
+        Stops w rank slots i (ResumeAt l at arguments) frames store
+    -- or a deed of the pass of what it calls
+    begun_stops : {i : ℕ} {l : Label} {at : Place} {arguments : Arguments} {frames : Frames} {store given : Store} {callee : ℕ} {unit : UnitDef} →
+        callee_of w i at ≡ Some callee → unit_at w callee ≡ Some unit → Does w (deed i at (Copies callee arguments.inputs)) store true given →
+        IsCut w rank slots callee 0 frames given (begun_registers rank callee unit) → Stops w rank slots i (EnterAt l at arguments) frames store
+    resumed_stops : {i : ℕ} {l : Label} {at : Place} {arguments : Arguments} {frames : Frames} {store given : Store} {callee : ℕ} →
+        callee_of w i at ≡ Some callee → Does w (deed i at (Copies callee arguments.inputs)) store true given →
+        IsCut w rank slots callee 0 frames given (resumed_registers frames callee) → Stops w rank slots i (ResumeAt l at arguments) frames store

@@ -1,0 +1,3 @@
+pub mod Executes
+pub mod Laws
+pub mod Standing

@@ -1,0 +1,11 @@
+pub mod Acting
+pub mod Bools
+pub mod Changing
+pub mod Counting
+pub mod Leading
+pub mod Lying
+pub mod Members
+pub mod Numbered
+pub mod Parts
+pub mod Sitting
+pub mod Telling

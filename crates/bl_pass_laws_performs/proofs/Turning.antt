@@ -1,0 +1,69 @@
+-- Turns over a store are turns, and passes are passes; and trees stay in their graphs.
+use Rattle.std.proofs.Common.{ℕ, Bool, true, List, [], ◌++◌}
+use Rattle.bl_nodes.specs.Nodes.{Node}
+use Rattle.bl_nodes.specs.Plain.{Block}
+use Rattle.bl_ctree.specs.Actions.{Copies, Gives}
+use Rattle.bl_ctree.specs.Instances.{Setting}
+use Rattle.bl_ctree.specs.Store.{Store}
+use Rattle.bl_ctree_laws.specs.Pending.{deed}
+use Rattle.bl_ctree_laws.specs.Shrinks.{Paces}
+use Rattle.bl_ctree_laws.specs.Trees.{Tree, Trees}
+use Rattle.bl_ctree_laws_progress.specs.Laws.{StepsKeepLive}
+use Rattle.bl_ctree_laws_progress.specs.Live.{Live}
+use Rattle.bl_ctree_laws_progress.specs.Places.{AllCallable, whole}
+use Rattle.bl_machine_laws.specs.Steps as steps
+use Rattle.bl_machine_laws.specs.Steps.{Walks}
+use Rattle.bl_machine_laws.specs.Turns as turns
+use Rattle.bl_machine_laws.specs.Turns.{Answered, OneTurns, Passes, Turns, did}
+use Rattle.bl_machine_laws_pass.specs.Follows as follows
+use Rattle.bl_machine_laws_pass.specs.Follows.{Follows, OneTakes, Takes}
+
+record Turned (w : Setting) (rank : ℕ → Node → ℕ) (i : ℕ) (c : Tree) (n : Node) (c' : Tree) : Type 0 where
+  done : List Answered
+  turn : Turns w rank i c done n c'
+
+record OneTurned (w : Setting) (rank : ℕ → Node → ℕ) (i : ℕ) (branches : Trees) (n : Node) (branches' : Trees) : Type 0 where
+  done : List Answered
+  turn : OneTurns w rank i branches done n branches'
+
+pub record PassedBy (w : Setting) (rank : ℕ → Node → ℕ) (i k : ℕ) (c c' : Tree) : Type 0 where
+  pub done : List Answered
+  pub passes : Passes w rank i k c done c'
+
+mutual
+  turned : {w : Setting} {rank : ℕ → Node → ℕ} {i : ℕ} {c : Tree} {store : Store} {n : Node} {c' : Tree} {left : Store} →
+      Takes w rank i c store n c' left → Turned w rank i c n c'
+  turned (follows.point {d = d} {a = a} p does) = record { done = did a d; turn = turns.point p }
+  turned {i = i} (follows.runs {at = at} {inputs = inputs} {callee = callee} called is does follow unended) =
+      let inner = passed follow in
+      record { done = did (deed i at (Copies callee inputs)) true ++ inner.done; turn = turns.runs called is inner.passes unended }
+  turned {i = i} (follows.resumes {s = s} {callee = callee} does follow unended) =
+      let inner = passed follow in
+      record { done = did (deed i s.place (Copies callee s.arguments.inputs)) true ++ inner.done; turn = turns.resumes inner.passes unended }
+  turned {i = i} (follows.returns {s = s} {callee = callee} does follow gives) =
+      let inner = passed follow in record {
+        done = did (deed i s.place (Copies callee s.arguments.inputs)) true
+            ++ (inner.done ++ did (deed i s.place (Gives callee s.arguments.target)) true);
+        turn = turns.returns inner.passes;
+      }
+  turned (follows.in_seq t) = let one = turned t in record { done = one.done; turn = turns.in_seq one.turn }
+  turned (follows.in_par t) = let one = one_turned t in record { done = one.done; turn = turns.in_par one.turn }
+  turned (follows.in_guard t) = let one = turned t in record { done = one.done; turn = turns.in_guard one.turn }
+
+  one_turned : {w : Setting} {rank : ℕ → Node → ℕ} {i : ℕ} {branches : Trees} {store : Store} {n : Node} {branches' : Trees} {left : Store} →
+      OneTakes w rank i branches store n branches' left → OneTurned w rank i branches n branches'
+  one_turned (follows.first t) = let one = turned t in record { done = one.done; turn = turns.first one.turn }
+  one_turned (follows.later t) = let one = one_turned t in record { done = one.done; turn = turns.later one.turn }
+
+  pub passed : {w : Setting} {rank : ℕ → Node → ℕ} {i k : ℕ} {c : Tree} {store : Store} {c' : Tree} {left : Store} →
+      Follows w rank i k c store c' left → PassedBy w rank i k c c'
+  passed (follows.rests settled) = record { done = []; passes = turns.rests settled }
+  passed (follows.goes least first takes more) =
+      let one = turned takes in
+      let rest = passed more in record { done = one.done ++ rest.done; passes = turns.goes least one.turn rest.passes }
+
+pub walk_live : {w : Setting} {i : ℕ} {c : Tree} {done : List Answered} {c' : Tree} (kept : StepsKeepLive) (stood : Bool) (body : Block) → Paces w →
+    AllCallable w → Walks w i c done c' → Live w i c (whole stood body) → Live w i c' (whole stood body)
+walk_live kept stood body paces callable steps.stay live = live
+walk_live {w} {i} {c} kept stood body paces callable (steps.on {d = d} {a = a} {n = n} {c' = c'} move more) live =
+    walk_live kept stood body paces callable more (kept w i stood body c d a n c' paces callable live move)

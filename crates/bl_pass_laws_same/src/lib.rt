@@ -1,0 +1,28 @@
+//! Where a program stands between ticks is told by its counters (`specs/Laws.antt`): two trees of an instance with the same numbers go
+//! on as one, where what they have called does (`NumbersTell`), and so do two trees of a program whose instances have the same numbers
+//! (`CountersTell`). For this a tree is left of its body as it is written (`specs/Left.antt`): so a body begins, and waking, turns and
+//! whole passes leave it so (`StaysLeft`). There is no code here.
+#![tactic(auto)]
+
+ghost use Rattle.bl_pass_laws_same.specs.Laws.{CountersTell, NumbersTell, StaysLeft};
+
+use bl_pass_laws_spots::spots_differ;
+
+/// Trees of an instance are left of its body as it is written.
+pub fn stays_left()
+    ensures { StaysLeft }
+{}
+
+/// Between ticks an instance with the same numbers stands where it stood.
+pub fn numbers_tell()
+    ensures { NumbersTell }
+{
+    spots_differ();
+}
+
+/// And so does a whole program whose instances have the same numbers.
+pub fn counters_tell()
+    ensures { CountersTell }
+{
+    spots_differ();
+}

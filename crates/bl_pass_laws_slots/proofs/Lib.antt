@@ -1,0 +1,4 @@
+pub mod Branching
+pub mod Finding
+pub mod Laying
+pub mod Numbering

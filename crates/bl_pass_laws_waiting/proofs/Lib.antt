@@ -1,0 +1,9 @@
+pub mod Acting
+pub mod Beginning
+pub mod Changes
+pub mod Dozing
+pub mod Keeping
+pub mod Lists
+pub mod Rules
+pub mod Sleeping
+pub mod Trees
