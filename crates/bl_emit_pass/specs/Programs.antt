@@ -30,7 +30,8 @@ use Rattle.bl_nodes.specs.Plain.{plain_body}
 use Rattle.bl_machine.specs.declared.machine.Activity.{Activity as InMachine}
 use Rattle.bl_machine.specs.Blocks.{up_to}
 use Rattle.bl_pass.specs.Numbered.{sizes_of, slots_of}
-use Rattle.bl_emit_pass.specs.Activities.{Activity, activity_function, frame_struct, pointer_param, remembered_struct, remembers_any, scalar_local, struct_member}
+use Rattle.bl_emit_pass.specs.Activities.{Activity, activity_function, frame_struct, pointer_param, remembered_struct, remembers_any, scalar_local}
+use Rattle.bl_emit_pass.specs.Activities.{struct_member}
 use Rattle.bl_emit_pass.specs.Names.{frame_name}
 
 -- ---- which units are needed

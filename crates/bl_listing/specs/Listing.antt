@@ -79,6 +79,11 @@ abbrev pub each_branch : Branches → List Seen
 each_branch no_branch = []
 each_branch (branch weak c rest) = record { weak = weak; tree = c } ∷ each_branch rest
 
+-- branches of a `cobegin`, and the instance in which they stand
+pub record Fork : Type 0 where
+  pub instance : ℕ
+  pub branches : List Seen
+
 -- the branches of a `cobegin`; none of every other tree
 abbrev pub top_of : Control → List Seen
 top_of Nil = []
@@ -91,6 +96,10 @@ top_of (Seq c rest) = []
 top_of (Par s stood branches) = each_branch branches
 top_of (Guard s phase stood c) = []
 top_of (Run s callee phase stood c) = []
+
+-- the branches of a tree that stands in the instance
+abbrev pub fork_of : ℕ → Control → Fork
+fork_of i c = record { instance = i; branches = top_of c }
 
 -- a `cobegin` of which the branch with number k becomes this tree; every other tree as it is
 abbrev pub with_branch : Control → ℕ → Control → Control
@@ -105,17 +114,23 @@ with_branch (Par s stood branches) k d = Par s stood (branches_of (moved (each_b
 with_branch (Guard s phase stood c) k d = Guard s phase stood c
 with_branch (Run s callee phase stood c) k d = Run s callee phase stood c
 
--- the points of a branch of the whole tree
-abbrev pub spots_in : Setting → ℕ → Control → List Spot
-spots_in w k c = map (spot_below w (k ∷ [])) (points w 0 c)
+-- the points of the branch with number k of branches that stand in the instance
+abbrev pub spots_in : Setting → ℕ → ℕ → Control → List Spot
+spots_in w i k c = map (spot_below w (k ∷ [])) (points w i c)
 
 -- those of each of the branches, the first of which has number k
-abbrev pub spots_from : Setting → ℕ → List Seen → List (List Spot)
-spots_from w k [] = []
-spots_from w k (b ∷ rest) = spots_in w k b.tree ∷ spots_from w (suc k) rest
+abbrev pub spots_from : Setting → ℕ → ℕ → List Seen → List (List Spot)
+spots_from w i k [] = []
+spots_from w i k (b ∷ rest) = spots_in w i k b.tree ∷ spots_from w i (suc k) rest
+
+-- what is kept of branches that may still write to these homes, and have these points each by itself
+abbrev pub kept_of : List (List Location) → List (List Spot) → Shown
+kept_of homes spots = record { homes = homes; spots = spots; free = flags_from homes 0 spots; counts = map trues (flags_from homes 0 spots) }
 
 -- what is kept of these branches
-pub record Lists (w : Setting) (branches : List Seen) (l : Shown) : Type 0 where
-  pub homes : l.homes ≡ map (homes_seen w 0) branches
-  pub spots : l.spots ≡ spots_from w 0 branches
-  pub right : IsRight l
+abbrev pub listing_in : Setting → Fork → Shown
+listing_in w fork = kept_of (map (homes_seen w fork.instance) fork.branches) (spots_from w fork.instance 0 fork.branches)
+
+-- the listing is that of these branches
+abbrev pub Lists : Setting → Fork → Shown → Type 0
+Lists w fork l = l ≡ listing_in w fork

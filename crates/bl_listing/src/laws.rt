@@ -1,11 +1,12 @@
 //! Laws of listings. These functions do nothing: the contract is the law.
 
-ghost use Rattle.bl_listing.specs.Laws.{BranchesAreListed, PointsAreListed, ReplacedIsListed};
+ghost use Rattle.bl_listing.specs.Laws.{BranchesAreListed, ListedIsRight, PointsAreListed, ReplacedIsListed};
 
 use bl_ctree::laws::settled_trees_are_still;
 
 /// A listing tells the points of its branches, and so of a tree that is a `cobegin`.
 pub fn listings_tell_points()
+    ensures right { ListedIsRight }
     ensures branches { BranchesAreListed }
     ensures points { PointsAreListed }
 {

@@ -2,7 +2,7 @@
 
 ghost use Rattle.std.specs.Prelude.{◌≡◌, ◌≢◌, ◌+◌, [], IfOk, IsTrue, length, map, option_map, slice_get};
 ghost use Rattle.bl_store.specs.Seen.{location_of};
-ghost use Rattle.bl_listing.specs.Listing.{IsRight, enabled, flagged, list_at, shown, trues};
+ghost use Rattle.bl_listing.specs.Listing.{IsRight, enabled, flagged, flags_of, kept_of, list_at, shown, trues};
 ghost use Rattle.bl_listing.specs.Spots.{spot_of};
 
 use crate::beside::flags;
@@ -79,9 +79,7 @@ impl<'a> Listing<'a> {
         homes: List<List<Home>>,
         points: List<List<Point<'a>>>,
     ) -> Result<Listing<'a>, NoMemory>
-        ensures homes { IfOk result (λ made. (shown made).homes ≡ map (map location_of) homes) }
-        ensures spots { IfOk result (λ made. (shown made).spots ≡ map (map spot_of) points.entry) }
-        ensures right { IfOk result (λ made. IsRight (shown made)) }
+        ensures { IfOk result (λ made. shown made ≡ kept_of (map (map location_of) homes) (map (map spot_of) points.entry)) }
     {
         let mut free = List::new(alloc);
         let mut counts = List::new(alloc);
@@ -96,6 +94,13 @@ impl<'a> Listing<'a> {
             free,
             counts,
         })
+    }
+
+    /// Which of these points of the branch with number k read nothing that the other branches may still write. Fails only for want of memory.
+    pub fn flags(&self, alloc: Global, points: &[Point], k: usize) -> Result<List<bool>, NoMemory>
+        ensures { IfOk result (λ made. made ≡ flags_of (shown self.now).homes k (map spot_of points.now)) }
+    {
+        flags(alloc, points, &self.homes, k)
     }
 
     /// How many points may act. Fails only where the number is too large for memory.

@@ -139,6 +139,7 @@ abbrev mutual
 pub record StaysRooted : Type 0 where
   pub begins : (slots : Slots) (unit : UnitDef) → Laid slots (plain_body unit.body) →
       Rooted slots (rules slots (plain_body unit.body)) (in_none (plain_body unit.body)) (do_block (plain_body unit.body))
-  pub wakes : (slots : Slots) (body : Block) (c : Tree) → Rooted slots (rules slots body) (in_none body) c → Rooted slots (rules slots body) (in_none body) (woken c)
+  pub wakes : (slots : Slots) (body : Block) (c : Tree) → Rooted slots (rules slots body) (in_none body) c → Rooted slots
+      (rules slots body) (in_none body) (woken c)
   pub turns : (w : Setting) (rank : ℕ → Node → ℕ) (i : ℕ) (slots : Slots) (body : Block) (c : Tree) (done : List Answered) (n : Node) (c' : Tree) →
       Turns w rank i c done n c' → Rooted slots (rules slots body) (in_none body) c → Rooted slots (rules slots body) (in_none body) c'

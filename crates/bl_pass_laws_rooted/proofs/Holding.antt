@@ -228,7 +228,8 @@ module _ (slots : Slots) (all : List Rule) (whole : List Spot)
           (λ slot h. homes slot (in_right slot (rests_of slots s) (rests_in slots rest) h)),
     )
 
-    pub held_each : (around : Around) (l : Label) (k : ℕ) (bodies : Bodies) → Differ (spots_in_each l k bodies) → Inside (spots_in_each l k bodies) → Among around (spots_in_each l k bodies) →
+    pub held_each : (around : Around) (l : Label) (k : ℕ) (bodies : Bodies) → Differ (spots_in_each l k bodies)
+        → Inside (spots_in_each l k bodies) → Among around (spots_in_each l k bodies) →
         Covers around (spots_in_each l k bodies) (rules_in_each slots l k bodies) → FirstHomes around l k bodies →
         HeldEach slots all around l k bodies
     held_each around l k Last differ inside among covers homes = tt
@@ -237,7 +238,8 @@ module _ (slots : Slots) (all : List Rule) (whole : List Spot)
         let ts : List Rule = rules_in_each slots l (suc k) rest in
         let own : Covers around (spots_in body ++ spots_in_each l (suc k) rest) (rs ++ ts) = λ rule p here has asks. covers rule p here (inr has) asks in
         let inner : Inside (spots_in body ++ spots_in_each l (suc k) rest) = λ p h. inside p (inr h) in (
-          one_held (in_branch k around) (EndOf l k) (spots_in_each l k (BodyOf weak body rest)) (rs ++ ts) (inl refl) (among_same k (spots_in_each l k (BodyOf weak body rest)) among)
+          one_held (in_branch k around) (EndOf l k) (spots_in_each l k (BodyOf weak body rest)) (rs ++ ts) (inl refl)
+              (among_same k (spots_in_each l k (BodyOf weak body rest)) among)
               (homes (slots.ending l k) (inl refl))
               (λ rule h asks. elim (in_cases rule rs ts h) [
                 | inl a ↦ end_unasked k rest weak differ inside (all_ask_from slots body (Holds (slots.ending l k)) rule (slots.ending l k) a asks)

@@ -179,7 +179,8 @@ stays_rooted differ = record {
       rooted_block slots (rules slots body) (in_none body) body
       (held_in slots (rules slots body) (spots_in body)
       (λ p q one two same. laid.alone p q (has_contains (spots_in body) p one) (has_contains (spots_in body) q two) same) (in_none body) body Finishes
-      (differ unit.body []) (λ p h. h) (λ p h. has_contains (spots_in body) p h) (λ rule p here has asks. inr (contains_in rule (rules slots body) here)) (λ slot h. tt));
+      (differ unit.body []) (λ p h. h) (λ p h. has_contains (spots_in body) p h)
+      (λ rule p here has asks. inr (contains_in rule (rules slots body) here)) (λ slot h. tt));
   wakes = λ slots body c rooted. woken_rooted slots (rules slots body) (in_none body) c rooted;
   turns = λ w rank i slots body c done n c' turn rooted. turn_rooted slots (rules slots body) (in_none body) turn rooted;
 }

@@ -218,7 +218,8 @@ module _ (slots : Slots) (all : List Rule) where
 
   mutual
     -- a rule that asks of its number is that of a `when` around it
-    pub checked : (c : Tree) (next : Change) (around : Around) (rule : Rule) (p : Spot) → Sits slots all c next → Rooted slots all around c → Contains all rule → Has (resting c) p →
+    pub checked : (c : Tree) (next : Change) (around : Around) (rule : Rule) (p : Spot) → Sits slots all c next
+        → Rooted slots all around c → Contains all rule → Has (resting c) p →
         AsksOf rule.asked (slot_at slots p) → around.checks rule.node ⊎ Sleeps (woken c) rule.node
     checked Nil next around rule p sits rooted there h asks = absurd h
     checked (Wait s) next around rule p sits rooted there (inl is) asks =
@@ -244,7 +245,8 @@ module _ (slots : Slots) (all : List Rule) where
     checked (Run s callee phase stood c) next around rule p sits rooted there (inr other) asks = absurd other
 
     some_checked : (l : Label) (k : ℕ) (bodies : Bodies) (branches : Trees) (around : Around) (rule : Rule) (p : Spot) →
-        SitEach slots all l k bodies branches → HeldEach slots all around l k bodies → AllRooted slots all around l k branches → Contains all rule → Has (resting_each l k branches) p →
+        SitEach slots all l k bodies branches → HeldEach slots all around l k bodies → AllRooted slots all around l k branches
+        → Contains all rule → Has (resting_each l k branches) p →
         AsksOf rule.asked (slot_at slots p) → around.checks rule.node ⊎ SomeSleeps (all_woken branches) rule.node
     some_checked l k bodies no_tree around rule p sits held rooted there h asks = absurd h
     some_checked l k Last (beside weak c branches) around rule p sits held rooted there h asks = absurd sits

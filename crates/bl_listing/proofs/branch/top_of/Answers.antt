@@ -1,8 +1,7 @@
 use Rattle.std.proofs.Common.{map, ap, sym, ◌∙◌}
 use Rattle.bl_ctree.specs.Nodes.{seen_of}
 use Rattle.bl_listing.specs.Listing.{top_of}
-use Rattle.bl_listing.proofs.ListingLemmas.{each_of}
-use Rattle.bl_listing.proofs.NodeLemmas.{par_is}
+use Rattle.bl_listing.proofs.NodeLemmas.{each_of, par_is}
 use Rattle.bl_listing.proofs.branch.top_of.Goals as goal
 
 pub returns-in-Par : goal.returns-in-Par

@@ -1,5 +1,8 @@
-use Rattle.bl_listing.proofs.ListingLemmas.{listed_enabled, listed_points}
+use Rattle.bl_listing.proofs.ListingLemmas.{kept_right, listed_enabled, listed_points}
 use Rattle.bl_listing.proofs.laws.listings_tell_points.Goals as goal
+
+pub returns-clause-right : goal.returns-clause-right
+returns-clause-right c = kept_right
 
 pub returns-clause-branches : goal.returns-clause-branches
 returns-clause-branches c = listed_enabled
