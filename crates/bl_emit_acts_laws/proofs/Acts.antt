@@ -146,7 +146,8 @@ module _ (structs : List StructDef) (units : List UnitDef) (entry : ℕ) (k : �
   -- ---- a part of a variable is set
 
   wrote : (root : ℕ) (var : Var) (ks : List ℕ) (ty : Ty) (new : Value) (held : CValue) (made : List Value) → var_at site root ≡ Some var →
-      is_input var.role ≡ false → type_after structs ks (Some var.ty) ≡ Some ty → Holds structs ty new held → put_at root ks new view.now ≡ Some made →
+      is_input var.role ≡ false → type_after structs ks (Some var.ty) ≡ Some ty
+      → Holds structs ty new held → put_at root ks new view.now ≡ Some made →
       LeftIn site copied scope here made view.before (set_at here (location_in scope site root (way_to structs ks (Some var.ty))) held)
   wrote root var ks ty new held made known writable typed holds put =
       let way = way_to structs ks (Some var.ty) in
@@ -312,7 +313,8 @@ module _ (structs : List StructDef) (units : List UnitDef) (entry : ℕ) (k : �
         (holds_same structs var.ty value (value_at m at) (value_at recalled copy) (λ way. sym (same_object m copy (value_at m at) way))
         (left.variables.each j var value there found))
 
-    copy_by : (copied j ≡ true) → (i : ℕ) (same : Bool) → nat_eq j i ≡ same → (other : Var) (v : Value) → copied i ≡ true → var_at site i ≡ Some other →
+    copy_by : (copied j ≡ true) → (i : ℕ) (same : Bool) → nat_eq j i ≡ same → (other : Var)
+        (v : Value) → copied i ≡ true → var_at site i ≡ Some other →
         slice_get before i ≡ Some v → Holds structs other.ty v (value_at recalled (copy_location scope i))
     copy_by has i true is other v copied_i known stored =
         let i_is : j ≡ i = eqb-true j i is in
@@ -337,7 +339,8 @@ module _ (structs : List StructDef) (units : List UnitDef) (entry : ℕ) (k : �
       kept = λ root way foreign. set_elsewhere m copy (value_at m at) root way (foreign.copies j has) ∙ left.kept root way foreign;
     }
 
-    stays_by : copied j ≡ false → (i : ℕ) (same : Bool) → nat_eq j i ≡ same → (other : Var) (v : Value) → copied i ≡ true → var_at site i ≡ Some other →
+    stays_by : copied j ≡ false → (i : ℕ) (same : Bool) → nat_eq j i ≡ same → (other : Var)
+        (v : Value) → copied i ≡ true → var_at site i ≡ Some other →
         slice_get before i ≡ Some v → Holds structs other.ty v (value_at m (copy_location scope i))
     stays_by has i true is other v copied_i known stored =
         absurd (let no = sym has ∙ (ap copied (eqb-true j i is) ∙ copied_i) in cc)

@@ -1,5 +1,6 @@
 -- Where the arguments of a call don't overlap, the places that it hands over have nothing in common.
-use Rattle.std.proofs.Common.{◌≡◌, ℕ, zero, suc, length, Bool, true, false, ◌&&◌, ◌||◌, List, [], ◌∷◌, ◌++◌, map, take, Option, Some, None, refl, sym, ap, ap₂}
+use Rattle.std.proofs.Common.{◌≡◌, ℕ, zero, suc, length, Bool, true, false, ◌&&◌, ◌||◌, List, [], ◌∷◌, ◌++◌, map, take}
+use Rattle.std.proofs.Common.{Option, Some, None, refl, sym, ap, ap₂}
 use Rattle.std.proofs.Common.{◌∙◌, subst}
 use Rattle.std.proofs.lemmas.Bool.{eqb-true}
 use Rattle.std.proofs.lemmas.List.Folds.{list_any-append}
@@ -102,7 +103,8 @@ any_at : (path : Path) (others : List Marked) (i : ℕ) (other : Marked) → tou
     overlaps (static_of path) other.path ≡ false
 any_at path [] i other h there = absurd (cc)
 any_at path (x ∷ xs) zero other h there =
-    subst (λ (m : Marked). overlaps (static_of path) m.path ≡ false) (same_Some x other there) (or_left (overlaps (static_of path) x.path) (touches path xs) h)
+    subst (λ (m : Marked). overlaps (static_of path) m.path ≡ false) (same_Some x other there)
+    (or_left (overlaps (static_of path) x.path) (touches path xs) h)
 any_at path (x ∷ xs) (suc i) other h there = any_at path xs i other (or_right (overlaps (static_of path) x.path) (touches path xs) h) there
 
 module _ (structs : List StructDef) (units : List UnitDef) (entry : ℕ) (k : ℕ) (unit : UnitDef) (view : View) (copies : List Bool) (scope : Scope)
@@ -127,7 +129,8 @@ module _ (structs : List StructDef) (units : List UnitDef) (entry : ℕ) (k : �
 
   -- ---- parts of variables, of which neither is in the other
 
-  module _ (r s : ℕ) (a c : Var) (there : var_at my_site r ≡ Some a) (other : var_at my_site s ≡ Some c) (writable : is_input a.role ≡ false) (ks js : List ℕ)
+  module _ (r s : ℕ) (a c : Var) (there : var_at my_site r ≡ Some a) (other : var_at my_site s ≡ Some c)
+      (writable : is_input a.role ≡ false) (ks js : List ℕ)
       (ty tz : Ty) (typed : type_after structs ks (Some a.ty) ≡ Some ty) (typed' : type_after structs js (Some c.ty) ≡ Some tz) (u v : Value)
       (read : read_at r view.now ks ≡ Some u) (read' : read_at s view.now js ≡ Some v) where
     parted : nat_eq r s ≡ true → (is_front ks js || is_front js ks) ≡ false →
@@ -158,7 +161,8 @@ module _ (structs : List StructDef) (units : List UnitDef) (entry : ℕ) (k : �
 
   -- ---- outputs among themselves
 
-  outputs_part : (p q : Path) (x y : Var) (o : Output p x) (w : Output q y) → overlaps (static_of q) (static_of p) ≡ false → are_apart o.place w.place ≡ true
+  outputs_part : (p q : Path) (x y : Var) (o : Output p x) (w : Output q y) → overlaps (static_of q)
+      (static_of p) ≡ false → are_apart o.place w.place ≡ true
   outputs_part p q x y o w h =
       let read = output_reads q y w in
       let read' = output_reads p x o in
@@ -198,7 +202,8 @@ module _ (structs : List StructDef) (units : List UnitDef) (entry : ℕ) (k : �
 
     -- an input that touches no output is handed over by value, or by a place that is apart
     abbrev InputApart : Expr → Type 0
-    InputApart e = (ty : Ty) (passed : Passed) → type_of my_site e ≡ Some ty → copied_in (is_copied copies) e ≡ true → touches q (marked_input e) ≡ false →
+    InputApart e = (ty : Ty) (passed : Passed) → type_of my_site e ≡ Some ty → copied_in
+        (is_copied copies) e ≡ true → touches q (marked_input e) ≡ false →
         (passes (arg_of (made_of my_site e)) scope here).answer ≡ Some passed → Kept passed
 
     number_kept : (passed : Passed) (o : Option CValue) → option_map by_value o ≡ Some passed → Kept passed
@@ -299,13 +304,15 @@ module _ (structs : List StructDef) (units : List UnitDef) (entry : ℕ) (k : �
     kept_by at (ExprKind-F.Read path) = read_kept at path
     kept_by at (ExprKind-F.Literal n s) = scalar_kept (expr at (ExprKind-F.Literal n s)) (λ ty typed.
         alone s ty (where_holds (in_range s n) (Some (scalar s)) ty (rw (fold-roll-Expr, fold-roll-ExprKind) at typed)).1)
-    kept_by at (ExprKind-F.Prev j) = scalar_kept (expr at (ExprKind-F.Prev j)) (λ ty typed. prev_scalar j ty (rw (fold-roll-Expr, fold-roll-ExprKind) at typed))
+    kept_by at (ExprKind-F.Prev j) = scalar_kept (expr at (ExprKind-F.Prev j))
+        (λ ty typed. prev_scalar j ty (rw (fold-roll-Expr, fold-roll-ExprKind) at typed))
       where
         some_there : (o : Option ScalarType) → is_some o ≡ true → (s : ScalarType) × (o ≡ Some s)
         some_there None h = absurd (cc)
         some_there (Some s) h = (s, refl)
 
-        prev_scalar : (j : ℕ) (ty : Ty) → option_and_then (prev_type unit.kind) (var_at my_site j) ≡ Some ty → (s : ScalarType) × (scalar_in ty ≡ Some s)
+        prev_scalar : (j : ℕ) (ty : Ty) → option_and_then (prev_type unit.kind)
+            (var_at my_site j) ≡ Some ty → (s : ScalarType) × (scalar_in ty ≡ Some s)
         prev_scalar j ty typed =
             let found = some_found (prev_type unit.kind) (var_at my_site j) ty typed in
             let var : Var = found.0 in
@@ -375,7 +382,8 @@ module _ (structs : List StructDef) (units : List UnitDef) (entry : ℕ) (k : �
         by : ((vars : List Var) (passed : List Passed) → types_match (map (type_of my_site) inputs) vars ≡ true →
             all_of (map (copied_in (is_copied copies)) inputs) ≡ true → touches q (marked_inputs inputs) ≡ false →
             (pass_all structs scope here (args_of inputs)).answer ≡ Some passed → Apart passed) →
-            (typed : Option Ty) → type_of my_site e ≡ typed → (vars : List Var) → types_match (typed ∷ map (type_of my_site) inputs) vars ≡ true → Apart passed
+            (typed : Option Ty) → type_of my_site e ≡ typed → (vars : List Var) → types_match
+            (typed ∷ map (type_of my_site) inputs) vars ≡ true → Apart passed
         by again None is [] matched = absurd (cc)
         by again None is (var ∷ vars) matched = absurd (cc)
         by again (Some ty) is [] matched = absurd (cc)
@@ -412,7 +420,8 @@ module _ (structs : List StructDef) (units : List UnitDef) (entry : ℕ) (k : �
         (each_live paths vars all.1)
 
     -- a call whose arguments don't overlap may hand over their places
-    pub may_pass : (paths : List Path) (vars : List Var) (all : Outputs paths vars) → outputs_aliased (marked_inputs inputs) [] (map marked_path paths) ≡ [] →
+    pub may_pass : (paths : List Path) (vars : List Var) (all : Outputs paths vars) → outputs_aliased
+        (marked_inputs inputs) [] (map marked_path paths) ≡ [] →
         MayPass scope.depth passed (all_places paths vars all)
     may_pass paths vars all none =
         let clear = clear_of (marked_inputs inputs) [] paths none in

@@ -93,7 +93,8 @@ module _ (site : Site) (copied : ℕ → Bool) (scope : Scope) (apart : CopiesAp
         ∙ same_object m copy (value_at m (at j)) way))
         (variables.each j var value there stored)
 
-    copy_there : (i : ℕ) (later : Bool) → list_any (nat_eq i) ks ≡ later → (nat_eq i j || list_any (nat_eq i) ks) ≡ true → (var : Var) (value : Value) →
+    copy_there : (i : ℕ) (later : Bool) → list_any (nat_eq i) ks ≡ later
+        → (nat_eq i j || list_any (nat_eq i) ks) ≡ true → (var : Var) (value : Value) →
         var_at site i ≡ Some var → slice_get now i ≡ Some value → Holds site.structs var.ty value (value_at after (copy_location scope i))
     copy_there i true is h var value there stored = rest.copies.each i var value is there stored
     copy_there i false is h var value there stored =

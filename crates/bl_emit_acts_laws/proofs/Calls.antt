@@ -1,5 +1,6 @@
 -- The C of a call of a function without a result leaves what the call leaves.
-use Rattle.std.proofs.Common.{◌≡◌, ℕ, ◌+◌, arith, Bool, true, false, ◌&&◌, ◌||◌, List, [], ◌∷◌, ◌++◌, map, take, Option, Some, None, refl, sym, ap, ap₂}
+use Rattle.std.proofs.Common.{◌≡◌, ℕ, ◌+◌, arith, Bool, true, false, ◌&&◌, ◌||◌, List, [], ◌∷◌, ◌++◌, map, take, Option}
+use Rattle.std.proofs.Common.{Some, None, refl, sym, ap, ap₂}
 use Rattle.std.proofs.Common.{◌∙◌, subst, IfSome}
 use Rattle.std.proofs.lemmas.Bool.{le-leb}
 use Rattle.std.proofs.lemmas.List.{append-nil}
@@ -151,7 +152,8 @@ module _ (structs : List StructDef) (units : List UnitDef) (entry : ℕ) (k : �
       listed-answer (passes x scope here) (pass_all structs scope here (xs ++ ys))
       ∙ (ap (λ rest. option_and_then (λ (a : Passed). option_map (λ others. a ∷ others) rest) (passes x scope here).answer) (pass_both xs ys)
       ∙ (by (passes x scope here).answer (pass_all structs scope here xs).answer (pass_all structs scope here ys).answer
-      ∙ ap (λ first. joined_answer first (pass_all structs scope here ys).answer) (sym (listed-answer (passes x scope here) (pass_all structs scope here xs)))))
+      ∙ ap (λ first. joined_answer first (pass_all structs scope here ys).answer)
+      (sym (listed-answer (passes x scope here) (pass_all structs scope here xs)))))
     where
       by : (a : Option Passed) (o p : Option (List Passed)) →
           option_and_then (λ (a : Passed). option_map (λ others. a ∷ others) (joined_answer o p)) a
@@ -173,7 +175,8 @@ module _ (structs : List StructDef) (units : List UnitDef) (entry : ℕ) (k : �
   module _ (after : Memory) where
     puts_hold : (paths : List Path) (vars : List Var) (all : Outputs paths vars) (news : List Value)
         → OutputsHold structs after vars news (all_places paths vars all) →
-        values_fit structs vars news ≡ true → (now : List Value) (m : Memory) → values_fit structs unit.vars now ≡ true → VariablesHold my_site now scope m →
+        values_fit structs vars news ≡ true → (now : List Value) (m : Memory)
+        → values_fit structs unit.vars now ≡ true → VariablesHold my_site now scope m →
         VariablesHold my_site (put_all (map spot paths) news view now) scope (set_all after m (all_places paths vars all))
     puts_hold [] [] all [] hold fit now m fits variables = variables
     puts_hold [] [] all (new ∷ news) hold fit now m fits variables = absurd hold
@@ -216,7 +219,8 @@ module _ (structs : List StructDef) (units : List UnitDef) (entry : ℕ) (k : �
 
     -- what lies in no variable that may be written lies in no output
     outside : (root : Root) (way : List Part) →
-        ((j : ℕ) (var : Var) → var_at my_site j ≡ Some var → is_input var.role ≡ false → lies_in (location_in scope my_site j []) root way ≡ false) →
+        ((j : ℕ) (var : Var) → var_at my_site j ≡ Some var → is_input var.role ≡ false
+        → lies_in (location_in scope my_site j []) root way ≡ false) →
         (paths : List Path) (vars : List Var) (all : Outputs paths vars) → list_any (λ place. lies_in place root way) (all_places paths vars all) ≡ false
     outside root way none [] [] all = refl
     outside root way none [] (var ∷ vars) all = refl
@@ -269,7 +273,8 @@ module _ (structs : List StructDef) (units : List UnitDef) (entry : ℕ) (k : �
       let fits = subst (λ o. IfSome o (CalleeFits structs callee)) meant (callee_at structs (take k units) my_callees f callee sound.callees_fit there) in
       by (means values) (fits values fit)
     where
-      by : (o : Option Left) → IfSome o (LeftFits structs callee) → IfSome o (λ (left : Left). values_fit structs (outputs_of callee) left.outputs ≡ true)
+      by : (o : Option Left) → IfSome o (LeftFits structs callee) → IfSome o
+          (λ (left : Left). values_fit structs (outputs_of callee) left.outputs ≡ true)
       by None h = tt
       by (Some left) h = h.0
 
@@ -297,14 +302,16 @@ module _ (structs : List StructDef) (units : List UnitDef) (entry : ℕ) (k : �
 
     after_by : (values : List Value) (c : Called) (left : Option Left) → means (values ++ read) ≡ left →
         CallComes structs (outputs_of callee) scope.depth places here left c →
-        IfSome left (λ (left : Left). values_fit structs (outputs_of callee) left.outputs ≡ true) → (o : Outcome Memory) → Ends o (call_after scope here c) →
+        IfSome left (λ (left : Left). values_fit structs (outputs_of callee) left.outputs ≡ true)
+        → (o : Outcome Memory) → Ends o (call_after scope here c) →
         Comes my_site copied scope here (λ now. view.before) (option_map (λ (left : Left). put_all (map spot paths) left.outputs view view.now) left) o
     after_by values c None is comes fit o ends = subst (λ r. Ends o (option_map (λ n. c.memory) r)) comes ends
     after_by values c (Some left) is comes fit o ends =
         let h : Ends o (Some c.memory) = subst (λ r. Ends o (option_map (λ n. c.memory) r)) comes.returned ends in
         (h.0, left_in o.memory paths (outputs_of callee) all left c (sym h.1) comes fit)
 
-    call_by : (n : ℕ) (passed : Option (List Passed)) (values : Option (List Value)) → (pass_all structs scope here (input_args inputs)).answer ≡ passed →
+    call_by : (n : ℕ) (passed : Option (List Passed)) (values : Option (List Value))
+        → (pass_all structs scope here (input_args inputs)).answer ≡ passed →
         ArgsShow structs scope here (inputs_of callee) passed values → IfSome values (λ values. values_fit structs (inputs_of callee) values ≡ true) →
         (o : Outcome Memory) →
         Ends o (call_after scope here (called_after scope here (unit_name callee.name) n (joined_answer passed (Some (map by_address places))))) →

@@ -1,5 +1,6 @@
 -- The variables and copies of a unit keep apart, where its pointers lead to what does.
-use Rattle.std.proofs.Common.{◌≡◌, ℕ, ◌<◌, ◌≤◌, ◌^◌, arith, Bool, true, false, not, ◌&&◌, ◌||◌, List, [], ◌∷◌, ◌++◌, drop, Some, refl, sym, ap, ◌∙◌}
+use Rattle.std.proofs.Common.{◌≡◌, ℕ, ◌<◌, ◌≤◌, ◌^◌, arith, Bool, true, false, not, ◌&&◌, ◌||◌, List, [], ◌∷◌}
+use Rattle.std.proofs.Common.{◌++◌, drop, Some, refl, sym, ap, ◌∙◌}
 use Rattle.std.proofs.lemmas.Bool.{eq-eqb, eqb-true, le-leb, ltb-true}
 use Rattle.std.proofs.lemmas.Fmt.{decimal_injective}
 use Rattle.std.proofs.lemmas.Option.{slice_get_within}
@@ -28,7 +29,8 @@ no_such : true ≡ false → ⊥
 no_such h = cc
 
 -- names of one letter with different numbers differ
-names_differ : (letter : ℕ) (j k : ℕ) → j < 2 ^ 64 → k < 2 ^ 64 → nat_eq j k ≡ false → bytes_eq (letter ∷ decimal j) (letter ∷ decimal k) ≡ false
+names_differ : (letter : ℕ) (j k : ℕ) → j < 2 ^ 64 → k < 2 ^ 64 → nat_eq j k ≡ false
+    → bytes_eq (letter ∷ decimal j) (letter ∷ decimal k) ≡ false
 names_differ letter j k less most differ = by (bytes_eq (letter ∷ decimal j) (letter ∷ decimal k)) refl
   where
     by : (same : Bool) → bytes_eq (letter ∷ decimal j) (letter ∷ decimal k) ≡ same → same ≡ false
@@ -141,7 +143,8 @@ module _ (site : Site) (copied : ℕ → Bool) (scope : Scope) (stand : Pointers
         further_apart (lent_at scope j) (lent_at scope k) (lead_in Lent j ++ []) (lead_in Lent k ++ [])
         (stand.lent_apart j k a b there other is at writable differ)
 
-  copy_by : (j k : ℕ) (var : Var) → var_at site j ≡ Some var → (activity : Bool) (x : Home) → is_activity site.kind ≡ activity → home_at site j ≡ x →
+  copy_by : (j k : ℕ) (var : Var) → var_at site j ≡ Some var → (activity : Bool) (x : Home)
+      → is_activity site.kind ≡ activity → home_at site j ≡ x →
       are_apart (place_of activity x j) (copy_location scope k) ≡ true
   copy_by j k var there false Held kind is = own_own (codes "m") (copy_name k) (place_of false Held j) (copy_location scope k) refl refl refl
   copy_by j k var there true Held kind is =
@@ -153,7 +156,8 @@ module _ (site : Site) (copied : ℕ → Bool) (scope : Scope) (stand : Pointers
       apart_flip (copy_location scope k) (place_of activity Lent j)
       (own_older (copy_name k) (copy_location scope k) (place_of activity Lent j) refl (stand.lent_older j var there is))
 
-  live_by : (k : ℕ) (var : Var) → var_at site k ≡ Some var → (activity : Bool) (x : Home) → is_activity site.kind ≡ activity → home_at site k ≡ x →
+  live_by : (k : ℕ) (var : Var) → var_at site k ≡ Some var → (activity : Bool) (x : Home)
+      → is_activity site.kind ≡ activity → home_at site k ≡ x →
       is_live scope.depth (place_of activity x k).root ≡ true
   live_by k var there false Held kind is = number_itself scope.depth
   live_by k var there true Held kind is = older_live scope.depth (remembered_at scope).root (stand.held_older kind)

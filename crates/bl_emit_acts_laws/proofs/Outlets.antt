@@ -1,5 +1,6 @@
 -- Paths by fields alone lead to something in every value, and where paths keep apart, so do their places.
-use Rattle.std.proofs.Common.{◌≡◌, ℕ, Bool, true, false, ◌&&◌, ◌||◌, List, [], ◌∷◌, ◌++◌, map, Option, Some, None, refl, sym, ap, ap₂}
+use Rattle.std.proofs.Common.{◌≡◌, ℕ, Bool, true, false, ◌&&◌, ◌||◌, List, [], ◌∷◌, ◌++◌, map, Option, Some, None, refl}
+use Rattle.std.proofs.Common.{sym, ap, ap₂}
 use Rattle.std.proofs.Common.{◌∙◌, subst}
 use Rattle.std.proofs.lemmas.Bool.{eq-eqb, eqb-true}
 use Rattle.std.proofs.lemmas.Option.{same_Some}
@@ -64,7 +65,8 @@ module _ (structs : List StructDef) (stand : structs_stand_from 0 structs ≡ tr
   type_there (Some c) ks b h = (c, refl)
 
   -- two ways that go on from parts of a value part where the parts differ, or where they part behind them
-  heads_part : (k j : ℕ) (ks js : List ℕ) (a d : Ty) (value u : Value) → Fits structs a value → part_type structs k a ≡ Some d → part_of j value ≡ Some u →
+  heads_part : (k j : ℕ) (ks js : List ℕ) (a d : Ty) (value u : Value) → Fits structs a value
+      → part_type structs k a ≡ Some d → part_of j value ≡ Some u →
       (j ≡ k → ways_part (way_to structs ks (Some d)) (way_to structs js (Some d)) ≡ true) →
       ways_part (way_to structs (k ∷ ks) (Some a)) (way_to structs (j ∷ js) (Some a)) ≡ true
   heads_part k j ks js a d value u fit typed there again = by (nat_eq j k) refl
@@ -179,7 +181,8 @@ module _ (site : Site) (stand : structs_stand_from 0 site.structs ≡ true) (see
 
   field_one : (part : Part) (a c : Ty) → is_field part ≡ true → type_of_part site part a ≡ Some c → FieldOne part a c
   field_one part a c =
-      subst (λ part. is_field part ≡ true → type_of_part site part a ≡ Some c → FieldOne part a c) (roll-out-Part part) (field_one_by (out-Part part) a c)
+      subst (λ part. is_field part ≡ true → type_of_part site part a ≡ Some c → FieldOne part a c)
+      (roll-out-Part part) (field_one_by (out-Part part) a c)
 
   -- parts that are fields
   record Fielded (parts : List Part) (a b : Ty) : Type 0 where
@@ -202,7 +205,8 @@ module _ (site : Site) (stand : structs_stand_from 0 site.structs ≡ true) (see
         (found.0, ap (option_and_then (value_at more.ks)) has.is_there ∙ found.1);
   }
 
-  fielded : (parts : List Part) (a b : Ty) → all_of (map is_field parts) ≡ true → after_parts (map (type_of_part site) parts) a ≡ Some b → Fielded parts a b
+  fielded : (parts : List Part) (a b : Ty) → all_of (map is_field parts) ≡ true → after_parts
+      (map (type_of_part site) parts) a ≡ Some b → Fielded parts a b
   fielded [] a b all typed = record {
     ks = [];
     positions = refl;
@@ -241,7 +245,8 @@ module _ (site : Site) (stand : structs_stand_from 0 site.structs ≡ true) (see
       let root : ℕ = (out-Path path).root in
       let whole = some_found (where_same (out-Path path).ty) (option_and_then (λ (var : Var). after_parts (map (type_of_part site) parts) var.ty)
       (var_at site root)) ty
-      (sym (fold_out-Path (Option Ty) (Ty → Option Ty) (Option Ty) (Option Ty) (kind_type site) (type_part site) expr_type (path_type site) path) ∙ typed) in
+      (sym (fold_out-Path (Option Ty) (Ty → Option Ty) (Option Ty) (Option Ty) (kind_type site)
+      (type_part site) expr_type (path_type site) path) ∙ typed) in
       let found = some_found (λ (var : Var). after_parts (map (type_of_part site) parts) var.ty) (var_at site root) whole.0 whole.1 in
       let var : Var = found.0 in
       let is = where_holds (same_type (out-Path path).ty whole.0) (Some whole.0) ty whole.2 in
@@ -267,7 +272,8 @@ module _ (site : Site) (stand : structs_stand_from 0 site.structs ≡ true) (see
       option_and_then (λ k. option_map (λ ks. k ∷ ks) rest) (part_of_path sees part view) ≡ Some ks →
       is_front (before_index (step_of part).field fields) ks ≡ true
 
-  field_front : (k : ℕ) (fields : List ℕ) (rest : Option (List ℕ)) (ks : List ℕ) → ((js : List ℕ) → rest ≡ Some js → is_front fields js ≡ true) →
+  field_front : (k : ℕ) (fields : List ℕ) (rest : Option (List ℕ)) (ks : List ℕ)
+      → ((js : List ℕ) → rest ≡ Some js → is_front fields js ≡ true) →
       option_map (λ ks. k ∷ ks) rest ≡ Some ks → is_front (k ∷ fields) ks ≡ true
   field_front k fields None ks again is = absurd (cc)
   field_front k fields (Some js) ks again is =

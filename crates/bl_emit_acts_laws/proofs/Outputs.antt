@@ -78,7 +78,8 @@ module _ (structs : List StructDef) (units : List UnitDef) (entry : ℕ) (k : �
 
   -- ---- places in variables that keep apart
 
-  pub value_now : (root : ℕ) (var : Var) → var_at my_site root ≡ Some var → Found (λ (var : Var). value_fits structs var.ty) var (slice_get view.now root)
+  pub value_now : (root : ℕ) (var : Var) → var_at my_site root ≡ Some var → Found
+      (λ (var : Var). value_fits structs var.ty) var (slice_get view.now root)
   value_now root var there = pass_at (λ (var : Var). value_fits structs var.ty) unit.vars view.now root var b.beside.fitting.now there
 
   -- two places in variables, of which the first may be written, have nothing in common where the variables differ or the ways part

@@ -1,5 +1,6 @@
 -- What the C of an act leaves in memory, beside what the act does.
-use Rattle.std.specs.Prelude.{◌≡◌, ℕ, pos, ◌+◌, Bool, true, false, ◌&&◌, nat_eq, is_some, List, [], ◌∷◌, ◌++◌, map, slice_get, slice_set}
+use Rattle.std.specs.Prelude.{◌≡◌, ℕ, pos, ◌+◌, Bool, true, false, ◌&&◌, nat_eq, is_some, List, [], ◌∷◌, ◌++◌, map}
+use Rattle.std.specs.Prelude.{slice_get, slice_set}
 use Rattle.std.specs.Prelude.{Option, Some, None, flat_map, option_map, unwrap_or}
 use Rattle.std.specs.List.{list_all, list_any}
 use Rattle.bl_tree.specs.declared.tree.StmtKind.TheOpen.{StmtKind-F}
@@ -50,7 +51,8 @@ copy_location scope k = start_of scope false (copy_name k)
 pub record CopiesApart (site : Site) (copied : ℕ → Bool) (scope : Scope) : Type 0 where
   pub variables : (j k : ℕ) (var : Var) → var_at site j ≡ Some var → copied k ≡ true →
       are_apart (location_in scope site j []) (copy_location scope k) ≡ true
-  pub others : (j k : ℕ) (a b : Var) → var_at site j ≡ Some a → var_at site k ≡ Some b → copied j ≡ true → copied k ≡ true → nat_eq j k ≡ false →
+  pub others : (j k : ℕ) (a b : Var) → var_at site j ≡ Some a → var_at site k ≡ Some b
+      → copied j ≡ true → copied k ≡ true → nat_eq j k ≡ false →
       are_apart (copy_location scope j) (copy_location scope k) ≡ true
 
 -- whether all that an act names under a `prev` is copied
@@ -74,7 +76,8 @@ before_after _ now before = before
 -- a number of memory that is there and belongs to no variable of the unit that may be written, and to no copy of one
 pub record Foreign (site : Site) (copied : ℕ → Bool) (scope : Scope) (root : Root) (way : List Part) : Type 0 where
   pub live : is_live scope.depth root ≡ true
-  pub variables : (k : ℕ) (var : Var) → var_at site k ≡ Some var → is_input var.role ≡ false → lies_in (location_in scope site k []) root way ≡ false
+  pub variables : (k : ℕ) (var : Var) → var_at site k ≡ Some var → is_input var.role ≡ false
+      → lies_in (location_in scope site k []) root way ≡ false
   pub copies : (k : ℕ) → copied k ≡ true → lies_in (copy_location scope k) root way ≡ false
 
 -- memory stands for these values of the variables, now and before; all that an act may not write is as it was

@@ -105,7 +105,8 @@ FramesApart = (site : Site) (copied : ℕ → Bool) (scope : Scope) → Pointers
 abbrev pub CopiesBegin : Type 0
 CopiesBegin =
     (site : Site) (copied : ℕ → Bool) (scope : Scope) (now : List Value) (ks : List ℕ) (here : Memory) → CopiesApart site copied scope →
-    VariablesHold site now scope here → ((k : ℕ) → list_any (nat_eq k) ks ≡ true → (var : Var) × (var_at site k ≡ Some var) × (copied k ≡ true)) →
+    VariablesHold site now scope here → ((k : ℕ) → list_any (nat_eq k) ks ≡ true
+    → (var : Var) × (var_at site k ≡ Some var) × (copied k ≡ true)) →
     ((block_c (map (c_copied site) ks) scope here).end ≡ goes_on) × BegunWith site scope here now ks (block_c (map (c_copied site) ks) scope here).memory
 
 -- what overlaps in the arguments of an act

@@ -118,7 +118,8 @@ module _ (context : Context) where
       ≡ clear_faults name (judged_place place context nowhere))
       (statement.rolls-Clear place name) (clear-open place name looped)
 
-  pub clear-is : (through : Bool) (place : CPlace) (name : Text) → PlaceIs context through (OfStruct name) place → is_some (context.structs name) ≡ true →
+  pub clear-is : (through : Bool) (place : CPlace) (name : Text) → PlaceIs context through
+      (OfStruct name) place → is_some (context.structs name) ≡ true →
       Allowed context through → StmtIs context (c_clear place name)
   clear-is through place name at there allowed looped =
       clear-judged place name looped ∙ ap (clear_faults name) (at nowhere)
@@ -132,7 +133,8 @@ module _ (context : Context) where
 
   calling-judged : (call : CCall) (looped : Bool) → faults_in_stmt (c_calling call) context looped ≡ (judged_call call context nowhere).faults
   calling-judged call looped =
-      subst (λ (k : CStmtKind). faults_in_stmt (roll-CStmt (record { place = nowhere; what = k })) context looped ≡ (judged_call call context nowhere).faults)
+      subst (λ (k : CStmtKind). faults_in_stmt (roll-CStmt (record { place = nowhere; what = k })) context looped ≡
+      (judged_call call context nowhere).faults)
       (statement.rolls-Call call) (calling-open call looped)
 
   -- no argument hands on a pointer where nothing may be changed
@@ -156,4 +158,5 @@ module _ (context : Context) where
       NoneHanded (judged_args context args nowhere) → StmtIs context (c_calling (c_call name args))
   calling-is name args s known fit none plain looped =
       calling-judged (c_call name args) looped ∙ ap (λ (c : JudgedCall). c.faults) (call-judged context name args nowhere)
-      ∙ ap (λ o. (call_of context o (judged_args context args nowhere) nowhere).faults) known ∙ call_faults s (judged_args context args nowhere) fit none plain
+      ∙ ap (λ o. (call_of context o (judged_args context args nowhere) nowhere).faults) known
+      ∙ call_faults s (judged_args context args nowhere) fit none plain

@@ -1,5 +1,6 @@
 -- Parts of types that are declared in C: fields and elements.
-use Rattle.std.proofs.Common.{◌≡◌, ℕ, zero, suc, ◌+◌, Bool, true, false, not, ◌||◌, List, [], ◌∷◌, ◌++◌, map, length, Option, Some, None}
+use Rattle.std.proofs.Common.{◌≡◌, ℕ, zero, suc, ◌+◌, Bool, true, false, not, ◌||◌, List, [], ◌∷◌, ◌++◌, map, length}
+use Rattle.std.proofs.Common.{Option, Some, None}
 use Rattle.std.proofs.Common.{refl, sym, ap, ◌∙◌, subst, arith}
 use Rattle.std.proofs.lemmas.Bool.Decides.{nat_tests}
 use Rattle.std.proofs.lemmas.List.Elements.{Contains-append_left, Contains-append_right, Contains-push}
@@ -204,7 +205,8 @@ module _ (structs : List StructDef) (stand : structs_stand_from 0 structs ≡ tr
               (subst (λ ty. Contains (arrays_of structs ty) x) (sym same) has_x)))),
         )
 
-    by_field : (s : ℕ) (def : StructDef) (o : Option Field) → out-Ty a ≡ Ty-F.Struct s → slice_get structs s ≡ Some def → slice_get def.fields k ≡ o →
+    by_field : (s : ℕ) (def : StructDef) (o : Option Field) → out-Ty a ≡ Ty-F.Struct s
+        → slice_get structs s ≡ Some def → slice_get def.fields k ≡ o →
         option_map (λ (field : Field). field.ty) o ≡ Some c → FieldIs a c k
     by_field s def None is there has typed = absurd (cc)
     by_field s def (Some field) is there has typed = field_found s def field is there has (same_Some field.ty c typed)

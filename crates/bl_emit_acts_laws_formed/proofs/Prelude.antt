@@ -19,7 +19,8 @@ use Rattle.bl_emit_acts.specs.Expressions.{cast_word, function_name, operator_wo
 use Rattle.bl_emit_acts.specs.Types.{c_scalar, unit_name}
 
 -- what holds of each whole-number type
-pub each_whole : (P : ScalarType → Type 0) → P (Int W8) → P (Int W16) → P (Int W32) → P (Int W64) → P (Nat W8) → P (Nat W16) → P (Nat W32) → P (Nat W64) →
+pub each_whole : (P : ScalarType → Type 0) → P (Int W8) → P (Int W16) → P (Int W32) → P (Int W64)
+    → P (Nat W8) → P (Nat W16) → P (Nat W32) → P (Nat W64) →
     P (Bits W8) → P (Bits W16) → P (Bits W32) → P (Bits W64) → (s : ScalarType) → is_whole s ≡ true → P s
 each_whole P a b c d e f g h i j k l (Int W8) whole = a
 each_whole P a b c d e f g h i j k l (Int W16) whole = b
@@ -36,7 +37,8 @@ each_whole P a b c d e f g h i j k l (Bits W64) whole = l
 each_whole P a b c d e f g h i j k l OfBool whole = absurd (cc)
 
 -- what holds of each bits type
-pub each_bits : (P : ScalarType → Type 0) → P (Bits W8) → P (Bits W16) → P (Bits W32) → P (Bits W64) → (s : ScalarType) → is_bits s ≡ true → P s
+pub each_bits : (P : ScalarType → Type 0) → P (Bits W8) → P (Bits W16) → P (Bits W32)
+    → P (Bits W64) → (s : ScalarType) → is_bits s ≡ true → P s
 each_bits P a b c d (Bits W8) bits = a
 each_bits P a b c d (Bits W16) bits = b
 each_bits P a b c d (Bits W32) bits = c
@@ -134,7 +136,8 @@ own_fits =
 -- and the widest one of the sign
 pub widest_fits : (s : ScalarType) → is_whole s ≡ true → fits_param true (OfScalar (widest (is_int s))) (OfScalar (c_scalar s)) ≡ true
 widest_fits =
-    each_whole (λ s. fits_param true (OfScalar (widest (is_int s))) (OfScalar (c_scalar s)) ≡ true) refl refl refl refl refl refl refl refl refl refl refl refl
+    each_whole (λ s. fits_param true (OfScalar (widest (is_int s))) (OfScalar (c_scalar s)) ≡ true)
+    refl refl refl refl refl refl refl refl refl refl refl refl
 
 -- an index of a type is taken by the function of its sign
 pub index_suits : (s : ScalarType) → is_whole s ≡ true → indexes (is_int s) (OfScalar (c_scalar s)) ≡ true

@@ -1,5 +1,6 @@
 -- Nothing fails in the C of acts.
-use Rattle.std.proofs.Common.{◌≡◌, ℕ, ◌+◌, pos, Bool, true, false, ◌&&◌, ◌||◌, List, [], ◌∷◌, ◌++◌, map, length, Option, Some, None}
+use Rattle.std.proofs.Common.{◌≡◌, ℕ, ◌+◌, pos, Bool, true, false, ◌&&◌, ◌||◌, List, [], ◌∷◌, ◌++◌, map, length, Option}
+use Rattle.std.proofs.Common.{Some, None}
 use Rattle.std.proofs.Common.{refl, sym, ap, ◌∙◌, subst, take-add}
 use Rattle.std.proofs.lemmas.List.{map-append}
 use Rattle.std.proofs.lemmas.Option.{same_Some}
@@ -49,8 +50,10 @@ use Rattle.bl_emit_acts_laws_formed.proofs.TypeNames.{type_declared, whole_type}
 
 -- what is asked of the earlier units
 pub record EarlierStand (site : Site) : Type 0 where
-  pub inputs : (f : ℕ) (callee : UnitDef) → slice_get site.earlier f ≡ Some callee → list_all (λ (var : Var). is_input var.role) (inputs_of callee) ≡ true
-  pub outputs : (f : ℕ) (callee : UnitDef) → slice_get site.earlier f ≡ Some callee → list_all (λ (var : Var). is_output var.role) (outputs_of callee) ≡ true
+  pub inputs : (f : ℕ) (callee : UnitDef) → slice_get site.earlier f ≡ Some callee → list_all
+      (λ (var : Var). is_input var.role) (inputs_of callee) ≡ true
+  pub outputs : (f : ℕ) (callee : UnitDef) → slice_get site.earlier f ≡ Some callee → list_all
+      (λ (var : Var). is_output var.role) (outputs_of callee) ≡ true
 
 pub no_more : (keeps : Bool) → (keeps && false) ≡ false
 no_more true = refl
@@ -234,8 +237,10 @@ module _ (site : Site) (copied : ℕ → Bool) (context : Context) (declared : D
 
   first_output : (path : Path) (outputs : List Path) → InActivity site (copied_in_path copied path) → OutputsSuit outputs
       → (t : Option Ty) → type_of_path site path ≡ t →
-      (vars : List Var) → types_match (t ∷ map (type_of_path site) outputs) vars ≡ true → list_all (λ (var : Var). is_output var.role) vars ≡ true →
-      ((fit_each false (map (parameter_for structs) vars) (outputs_judged (path ∷ outputs)) ≡ true) × (faults_of_args (outputs_judged (path ∷ outputs)) ≡ []))
+      (vars : List Var) → types_match (t ∷ map (type_of_path site) outputs) vars ≡ true
+      → list_all (λ (var : Var). is_output var.role) vars ≡ true →
+      ((fit_each false (map (parameter_for structs) vars) (outputs_judged (path ∷ outputs)) ≡ true) ×
+      (faults_of_args (outputs_judged (path ∷ outputs)) ≡ []))
       × NoneHanded context (outputs_judged (path ∷ outputs))
   first_output path outputs named more None is [] typed roles = absurd (cc)
   first_output path outputs named more (Some t) is [] typed roles = absurd (cc)
@@ -318,7 +323,8 @@ module _ (site : Site) (copied : ℕ → Bool) (context : Context) (declared : D
   parameters_are : (callee : UnitDef) → parameters_of callee ≡ inputs_of callee ++ outputs_of callee
   parameters_are callee = take-add callee.inputs callee.outputs callee.vars
 
-  call_by : (f : ℕ) (inputs : List Expr) (outputs : List Path) (o : Option UnitDef) → slice_get site.earlier f ≡ o → call_fits site inputs outputs o ≡ true →
+  call_by : (f : ℕ) (inputs : List Expr) (outputs : List Path) (o : Option UnitDef)
+      → slice_get site.earlier f ≡ o → call_fits site inputs outputs o ≡ true →
       InActivity site (all_of (map (copied_in copied) inputs)) → InActivity site (all_of (map (copied_in_path copied) outputs)) →
       StmtIs context (c_calling (c_call (name_of_callee o) (call_args site inputs outputs)))
   call_by f inputs outputs None there fits named path_named = absurd (cc)

@@ -1,5 +1,6 @@
 -- Structs and arrays in C: their types, and that these are declared.
-use Rattle.std.proofs.Common.{◌≡◌, ℕ, zero, suc, ◌<◌, Bool, true, List, [], ◌∷◌, map, length, Some, None, refl, sym, ap, ◌∙◌, subst, arith}
+use Rattle.std.proofs.Common.{◌≡◌, ℕ, zero, suc, ◌<◌, Bool, true, List, [], ◌∷◌, map, length, Some, None, refl, sym, ap, ◌∙◌}
+use Rattle.std.proofs.Common.{subst, arith}
 use Rattle.std.proofs.lemmas.Bool.Decides.{nat_tests}
 use Rattle.std.proofs.lemmas.List.Elements.{Contains-push}
 use Rattle.std.specs.Prelude.{Contains, is_some, nat_lt, slice_get}
@@ -62,6 +63,7 @@ module _ (structs : List StructDef) (context : Context)
       (Contains-push (arrays_of structs element) (c_array structs n element))))
 
   -- the struct of a type with parts is declared
-  pub type_declared : (ty : Ty) → type_stands (length structs) ty ≡ true → scalar_in ty ≡ None → AreDeclared context.structs (arrays_of structs ty) →
+  pub type_declared : (ty : Ty) → type_stands (length structs) ty ≡ true → scalar_in ty ≡ None
+      → AreDeclared context.structs (arrays_of structs ty) →
       is_some (context.structs (type_name structs ty)) ≡ true
   type_declared ty = by_layer ty (out-Ty ty) refl

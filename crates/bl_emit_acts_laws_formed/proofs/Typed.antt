@@ -1,5 +1,6 @@
 -- What is made of expressions and paths has the C types of what they are made of.
-use Rattle.std.proofs.Common.{◌≡◌, ℕ, ◌+◌, ℤ, Bool, true, false, ◌&&◌, List, [], ◌∷◌, ◌++◌, map, take, Option, Some, None, refl, sym, ap, ◌∙◌}
+use Rattle.std.proofs.Common.{◌≡◌, ℕ, ◌+◌, ℤ, Bool, true, false, ◌&&◌, List, [], ◌∷◌, ◌++◌, map, take, Option, Some, None}
+use Rattle.std.proofs.Common.{refl, sym, ap, ◌∙◌}
 use Rattle.std.proofs.Common.{arith, subst, codes}
 use Rattle.std.proofs.lemmas.Bool.{eqb-true}
 use Rattle.std.proofs.lemmas.List.Elements.{All-head, All-tail}
@@ -120,7 +121,8 @@ pub record PathIs (context : Context) (site : Site) (ty : Ty) (root : ℕ) (stoo
 
 module _ (site : Site) (copied : ℕ → Bool) (context : Context) (declared : Declared site copied context)
     (stand : structs_stand_from 0 site.structs ≡ true)
-    (inputs_stand : (f : ℕ) (callee : UnitDef) → slice_get site.earlier f ≡ Some callee → list_all (λ (var : Var). is_input var.role) (inputs_of callee) ≡ true)
+    (inputs_stand : (f : ℕ) (callee : UnitDef) → slice_get site.earlier f ≡ Some callee → list_all
+    (λ (var : Var). is_input var.role) (inputs_of callee) ≡ true)
   where
     abbrev structs : List StructDef
     structs = site.structs
@@ -312,7 +314,8 @@ module _ (site : Site) (copied : ℕ → Bool) (context : Context) (declared : D
     inputs_judged inputs at = judged_args context (map arg_of (map (made_of site) inputs)) at
 
     abbrev InputsSuit : List Expr → Place → Type 0
-    InputsSuit inputs at = (vars : List Var) → types_match (map (type_of site) inputs) vars ≡ true → list_all (λ (var : Var). is_input var.role) vars ≡ true →
+    InputsSuit inputs at = (vars : List Var) → types_match (map (type_of site) inputs) vars ≡ true
+        → list_all (λ (var : Var). is_input var.role) vars ≡ true →
         SuitAll vars (inputs_judged inputs at)
 
     first_input : (e : Expr) (inputs : List Expr) (at : Place) → P e → InActivity site (copied_in copied e)
@@ -433,8 +436,10 @@ module _ (site : Site) (copied : ℕ → Bool) (context : Context) (declared : D
         let element = element_known structs stand context declared.types.definitions a c 0 n inner.1 known in
         rw fold-roll-Part (
           found.3,
-          λ at. (λ i. judged_step (c_element elements_name (c_index (is_int (o.0 i)) (code_of (made_of site e)) (long i))) context at (Some (c_type structs a)))
-              ∙ element-is context elements_name (is_int s) (code_of (made_of site e)) n at (c_type structs c) (OfScalar (c_scalar s)) (Some (c_type structs a))
+          λ at. (λ i. judged_step (c_element elements_name (c_index (is_int (o.0 i)) (code_of (made_of site e)) (long i))) context at
+              (Some (c_type structs a)))
+              ∙ element-is context elements_name (is_int s) (code_of (made_of site e)) n at
+              (c_type structs c) (OfScalar (c_scalar s)) (Some (c_type structs a))
               o.1 (index_suits s found.2) (element.0 at),
           element.1,
         )
@@ -443,7 +448,8 @@ module _ (site : Site) (copied : ℕ → Bool) (context : Context) (declared : D
         → type_of_part site part a ≡ Some c → Arrays a →
         PartIs part a c
     part_is part a c = subst
-        (λ part. OfIndex P (out-Part part) → InActivity site (copied_in_part copied part) → type_of_part site part a ≡ Some c → Arrays a → PartIs part a c)
+        (λ part. OfIndex P (out-Part part) → InActivity site (copied_in_part copied part)
+        → type_of_part site part a ≡ Some c → Arrays a → PartIs part a c)
         (roll-out-Part part)
         (λ is. part_by (out-Part part) a c (subst (OfIndex P) (out-roll-Part (out-Part part)) is))
 

@@ -41,7 +41,8 @@ module _ (structs : List StructDef) (units : List UnitDef) (entry : ℕ) (keeps 
   pub inputs_stand : (k : ℕ) (unit : UnitDef) → slice_get units k ≡ Some unit → list_all (λ (var : Var). is_input var.role) (inputs_of unit) ≡ true
   inputs_stand k unit there = and_left _ _ (and_right _ _ (roles_at k unit there))
 
-  pub outputs_stand : (k : ℕ) (unit : UnitDef) → slice_get units k ≡ Some unit → list_all (λ (var : Var). is_output var.role) (outputs_of unit) ≡ true
+  pub outputs_stand : (k : ℕ) (unit : UnitDef) → slice_get units k ≡ Some unit → list_all
+      (λ (var : Var). is_output var.role) (outputs_of unit) ≡ true
   outputs_stand k unit there = and_left _ _ (and_right _ _ (and_right _ _ (roles_at k unit there)))
 
   pub body_stands : (k : ℕ) (unit : UnitDef) → slice_get units k ≡ Some unit → list_all (fits (site_of structs (take k units) unit)) unit.body ≡ true

@@ -21,7 +21,8 @@ use Rattle.bl_emit_acts_laws_formed.specs.Formed.{BlockIs, ExprIs, PlaceIs}
 -- what is made of an expression has the C type of the expression's type, and nothing fails in it
 abbrev pub ExpressionsTyped : List StructDef → List UnitDef → ℕ → Type 0
 ExpressionsTyped structs units entry =
-    (k : ℕ) (unit : UnitDef) (e : Expr) (ty : Ty) (copied : ℕ → Bool) (context : Context) → Keeps structs units entry → slice_get units k ≡ Some unit →
+    (k : ℕ) (unit : UnitDef) (e : Expr) (ty : Ty) (copied : ℕ → Bool) (context : Context)
+    → Keeps structs units entry → slice_get units k ≡ Some unit →
     Declared (site_of structs (take k units) unit) copied context → type_of (site_of structs (take k units) unit) e ≡ Some ty →
     InActivity (site_of structs (take k units) unit) (copied_in copied e) → ExprIs context (c_type structs ty)
     (code_made (site_of structs (take k units) unit) e)

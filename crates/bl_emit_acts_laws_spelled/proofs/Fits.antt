@@ -1,5 +1,6 @@
 -- What is made of expressions and paths has a spelling, which is no deeper than what it is made of allows.
-use Rattle.std.proofs.Common.{◌≡◌, ℕ, zero, suc, ◌+◌, ◌*◌, ◌^◌, ◌<◌, ◌≤◌, max, ℤ, Bool, true, false, ◌&&◌, List, [], ◌∷◌, map, length, Option, Some, None}
+use Rattle.std.proofs.Common.{◌≡◌, ℕ, zero, suc, ◌+◌, ◌*◌, ◌^◌, ◌<◌, ◌≤◌, max, ℤ, Bool, true, false, ◌&&◌, List}
+use Rattle.std.proofs.Common.{[], ◌∷◌, map, length, Option, Some, None}
 use Rattle.std.proofs.Common.{refl, sym, ap, ◌∙◌, subst, arith, codes}
 use Rattle.std.proofs.lemmas.List.Elements.{All-head, All-tail}
 use Rattle.std.proofs.lemmas.Option.{same_Some, slice_get_within}
@@ -88,7 +89,8 @@ module _ (site : Site) (stand : structs_stand_from 0 site.structs ≡ true) (few
 
   -- the place of a path fits, and the type behind it is known
   abbrev Q : Path → Type 0
-  Q path = (ty : Ty) → type_of_path site path ≡ Some ty → (place_fits (room (path_depth path)) (stands site path).place ≡ true) × ((stands site path).ty ≡ ty)
+  Q path = (ty : Ty) → type_of_path site path ≡ Some ty → (place_fits (room (path_depth path)) (stands site path).place ≡ true) ×
+      ((stands site path).ty ≡ ty)
 
   below : (k : ℕ) (var : Var) → var_at site k ≡ Some var → k < 2 ^ 64
   below k var there = let within : k < length site.vars = slice_get_within site.vars k var there in omega (arith, within, few)
@@ -109,7 +111,8 @@ module _ (site : Site) (stand : structs_stand_from 0 site.structs ≡ true) (few
 
   -- ---- what is read
 
-  read_by : (d : ℕ) (ty : Ty) (place : CPlace) (s : Option ScalarType) → scalar_in ty ≡ s → place_fits d place ≡ true → MadeFits d ty (made_at s place)
+  read_by : (d : ℕ) (ty : Ty) (place : CPlace) (s : Option ScalarType) → scalar_in ty ≡ s
+      → place_fits d place ≡ true → MadeFits d ty (made_at s place)
   read_by d ty place None scalar_is fit = (scalar_is, fit)
   read_by d ty place (Some s) scalar_is fit = (scalar_is, read-fits d nowhere place fit)
 
@@ -229,7 +232,8 @@ module _ (site : Site) (stand : structs_stand_from 0 site.structs ≡ true) (few
       raised (Whole place) fit = (fit.0, place_fits-more d e place le fit.1)
 
   abbrev ArgsFit : List Expr → Type 0
-  ArgsFit inputs = (vars : List Var) → types_match (map (type_of site) inputs) vars ≡ true → (d : ℕ) → room (greatest (map expr_depth inputs)) ≤ d →
+  ArgsFit inputs = (vars : List Var) → types_match (map (type_of site) inputs) vars ≡ true
+      → (d : ℕ) → room (greatest (map expr_depth inputs)) ≤ d →
       list_all (arg_fits d) (map arg_of (map (made_of site) inputs)) ≡ true
 
   first_arg : (e : Expr) (inputs : List Expr) → P e → ArgsFit inputs → (t : Option Ty) → type_of site e ≡ t → (vars : List Var) →
@@ -301,7 +305,8 @@ module _ (site : Site) (stand : structs_stand_from 0 site.structs ≡ true) (few
         let all : list_all words.is_name (field_names def) ≡ true = and_left _ _ (and_left _ _ (and_right _ _ (struct_at structs 0 s def stand there))) in
         named_at def.fields k all has
       where
-        named_at : (fields : List Field) (k : ℕ) → list_all words.is_name (map (λ (f : Field). f.name) fields) ≡ true → slice_get fields k ≡ Some field →
+        named_at : (fields : List Field) (k : ℕ) → list_all words.is_name
+            (map (λ (f : Field). f.name) fields) ≡ true → slice_get fields k ≡ Some field →
             words.is_name field.name ≡ true
         named_at [] k all there = absurd (cc)
         named_at (f ∷ fields) zero all there =
@@ -325,7 +330,8 @@ module _ (site : Site) (stand : structs_stand_from 0 site.structs ≡ true) (few
           },
         )
 
-    by_field : (s : ℕ) (def : StructDef) (o : Option Field) → out-Ty a ≡ Ty-F.Struct s → slice_get structs s ≡ Some def → slice_get def.fields k ≡ o →
+    by_field : (s : ℕ) (def : StructDef) (o : Option Field) → out-Ty a ≡ Ty-F.Struct s
+        → slice_get structs s ≡ Some def → slice_get def.fields k ≡ o →
         option_map (λ (field : Field). field.ty) o ≡ Some c → FieldFits
     by_field s def None is there has typed = absurd (cc)
     by_field s def (Some field) is there has typed = field_found s def field is there has (same_Some field.ty c typed)
@@ -353,7 +359,8 @@ module _ (site : Site) (stand : structs_stand_from 0 site.structs ≡ true) (few
   index_typed None t c is = absurd (cc)
   index_typed (Some ty) t c is = by (scalar_in ty) is
     where
-      by : (o : Option ScalarType) → option_and_then (λ s. if is_whole s then t else None) o ≡ Some c → (ty' : Ty) × (Some ty ≡ Some ty') × (t ≡ Some c)
+      by : (o : Option ScalarType) → option_and_then (λ s. if is_whole s then t else None) o ≡ Some c
+          → (ty' : Ty) × (Some ty ≡ Some ty') × (t ≡ Some c)
       by None h = absurd (cc)
       by (Some s) h = (ty, refl, (where_holds (is_whole s) t c h).1)
 
@@ -382,7 +389,8 @@ module _ (site : Site) (stand : structs_stand_from 0 site.structs ≡ true) (few
         record { most = known.most; stands = length.1 },
       )
 
-  part_is : (part : Part) (a c : Ty) (d : ℕ) → room (depth_of_part part) ≤ d → OfIndex P (out-Part part) → type_of_part site part a ≡ Some c → Stands a →
+  part_is : (part : Part) (a c : Ty) (d : ℕ) → room (depth_of_part part) ≤ d → OfIndex P
+      (out-Part part) → type_of_part site part a ≡ Some c → Stands a →
       PartFits d part a c
   part_is part a c d = subst
       (λ part. room (depth_of_part part) ≤ d → OfIndex P (out-Part part) → type_of_part site part a ≡ Some c → Stands a → PartFits d part a c)

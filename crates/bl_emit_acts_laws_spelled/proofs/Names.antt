@@ -1,5 +1,6 @@
 -- A letter with a number behind it begins a name of the subset: no word of C or of the grammar has a digit as its second byte.
-use Rattle.std.proofs.Common.{◌≡◌, ℕ, ◌<◌, ◌^◌, Bool, true, false, not, ◌&&◌, ◌||◌, nat_eq, List, [], ◌∷◌, ◌++◌, map, length, take, Some}
+use Rattle.std.proofs.Common.{◌≡◌, ℕ, ◌<◌, ◌^◌, Bool, true, false, not, ◌&&◌, ◌||◌, nat_eq, List, [], ◌∷◌, ◌++◌}
+use Rattle.std.proofs.Common.{map, length, take, Some}
 use Rattle.std.proofs.Common.{refl, sym, ap, ◌∙◌, arith, codes}
 use Rattle.std.proofs.lemmas.Bool.{eqb-true}
 use Rattle.std.proofs.lemmas.Bool.Decides.{nat_tests}
@@ -61,7 +62,8 @@ no_digit x d other digit = by (nat_eq x d) refl
     by false is = refl
     by true is = let same : x ≡ d = eqb-true x d is in let none : false ≡ true = sym other ∙ ap is_ascii_digit same ∙ digit in absurd (cc)
 
-differs : (w : List ℕ) (b d : ℕ) (word : List ℕ) → has_other_second w ≡ true → is_ascii_digit d ≡ true → pointwise nat_eq w (b ∷ d ∷ word) ≡ false
+differs : (w : List ℕ) (b d : ℕ) (word : List ℕ) → has_other_second w ≡ true
+    → is_ascii_digit d ≡ true → pointwise nat_eq w (b ∷ d ∷ word) ≡ false
 differs [] b d word h digit = refl
 differs (x ∷ []) b d word h digit = and-both (nat_eq x b) false refl
 differs (x ∷ y ∷ w) b d word h digit =

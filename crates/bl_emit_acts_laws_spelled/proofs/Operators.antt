@@ -95,7 +95,8 @@ module _ (d e : ℕ) (low : 2 ≤ d) (room : d + 2 ≤ e) where
         (both (arg_fits d (Value a)) (arg_fits d (Value b) && true) (value-fits d a one) (both (arg_fits d (Value b)) true (value-fits d b other) refl)),
   )
 
-  cast_next : (f : ℕ) → d + 1 ≤ f → (from to : ScalarType) (a : CExpr) → is_whole to ≡ true → expr_fits d a ≡ true → expr_fits f (c_cast from to a) ≡ true
+  cast_next : (f : ℕ) → d + 1 ≤ f → (from to : ScalarType) (a : CExpr) → is_whole to ≡ true
+      → expr_fits d a ≡ true → expr_fits f (c_cast from to a) ≡ true
   cast_next f le from to a whole one =
       calling-fits d f (function_name (cast_word (is_int from)) to) (Value a ∷ []) le
       (builtin-callee (function_name (cast_word (is_int from)) to) (Cast (is_int from) to) (cast_named (is_int from) to whole))

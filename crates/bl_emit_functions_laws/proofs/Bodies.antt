@@ -1,5 +1,6 @@
 -- The C of a function's statements does what the statements do, where that of its expressions and acts does.
-use Rattle.std.proofs.Common.{◌≡◌, ℕ, ◌^◌, ◌<◌, ◌≤◌, ℤ, Bool, true, false, ◌&&◌, List, [], ◌∷◌, ◌++◌, map, Option, Some, None, refl, sym, ap, ◌∙◌, subst, arith}
+use Rattle.std.proofs.Common.{◌≡◌, ℕ, ◌^◌, ◌<◌, ◌≤◌, ℤ, Bool, true, false, ◌&&◌, List, [], ◌∷◌, ◌++◌, map}
+use Rattle.std.proofs.Common.{Option, Some, None, refl, sym, ap, ◌∙◌, subst, arith}
 use Rattle.std.proofs.lemmas.List.Elements.{All-cons, All-head, All-nil, All-tail}
 use Rattle.std.proofs.lemmas.List.{append-nil}
 use Rattle.std.specs.Prelude.{option_map, unwrap_or}
@@ -118,7 +119,8 @@ module _ (number : Datum → ℤ) (Stand : List Value → Memory → Type 0) (Ke
       )
   break_by k here now m stand kept test (Some false) = (refl, stand, kept)
 
-  breaks_at : (k : ℕ) (here : Memory) (ends : List Value → Option Bool) (test : CExpr) → Asks ends test → (now : List Value) (m : Memory) → Stand now m →
+  breaks_at : (k : ℕ) (here : Memory) (ends : List Value → Option Bool) (test : CExpr)
+      → Asks ends test → (now : List Value) (m : Memory) → Stand now m →
       Kept k here m → OverAt k here now (ends now) (block_c (break_code test) scope m).end (block_c (break_code test) scope m).memory
   breaks_at k here ends test asks now m stand kept =
       let alone = alone_alike scope (c_if test (c_break ∷ []) None) m in
@@ -126,7 +128,8 @@ module _ (number : Datum → ℤ) (Stand : List Value → Memory → Type 0) (Ke
       subst (λ e. OverAt k here now (ends now) e (block_c (break_code test) scope m).memory) (sym alone.0)
       (subst (λ after. OverAt k here now (ends now) o.end after) (sym alone.1)
       (if_comes scope m (OverAt k here now (ends now)) test (c_break ∷ []) None
-      (subst (Chosen scope m (OverAt k here now (ends now)) (c_break ∷ []) None) (sym (asks now m stand)) (break_by k here now m stand kept test (ends now)))))
+      (subst (Chosen scope m (OverAt k here now (ends now)) (c_break ∷ []) None) (sym (asks now m stand))
+      (break_by k here now m stand kept test (ends now)))))
 
   until_by : (k : ℕ) (here : Memory) (ends : List Value → Option Bool) (test : CExpr) → Asks ends test → (flow : Option Flow) (n : ℕ) (e : End)
       (m : Memory) → At k here flow e m →
@@ -237,7 +240,8 @@ module _ (number : Datum → ℤ) (Stand : List Value → Memory → Type 0) (Ke
         (assigns : (place : Place) (path : Path) (e : Expr) → fits site (stmt place (StmtKind-F.Assign path e)) ≡ true → (n : ℕ) →
         Does_so n (does sees (stmt place (StmtKind-F.Assign path e))) (block_c (c_set (stands site path).place (code_made site e) ∷ []) scope))
         (calls : (place : Place) (f : ℕ) (inputs : List Expr) (outputs : List Path) →
-        fits site (stmt place (StmtKind-F.Call f inputs outputs)) ≡ true → aliases_in (stmt place (StmtKind-F.Call f inputs outputs)) ≡ [] → (n : ℕ) →
+        fits site (stmt place (StmtKind-F.Call f inputs outputs)) ≡ true → aliases_in
+        (stmt place (StmtKind-F.Call f inputs outputs)) ≡ [] → (n : ℕ) →
         Does_so n (does sees (stmt place (StmtKind-F.Call f inputs outputs))) (block_c (c_calling (call_made site f inputs outputs) ∷ []) scope)) where
       abbrev S : Stmt → Type 0
       S s = fits site s ≡ true → aliases_in s ≡ [] → Good (does sees s) (codes_of site s)
@@ -294,7 +298,8 @@ module _ (number : Datum → ℤ) (Stand : List Value → Memory → Type 0) (Ke
             arms_do arms (All-tail OfArm arm arms each) (and_right (arm_fitted arm) (all_of (map arm_fitted arms)) fitted) none.1,
           )
 
-      only_good : (does : Does) (code : List CStmt) → ((n : ℕ) → Does_so n does (block_c code scope)) → Good does (λ free. record { code = code; free = free })
+      only_good : (does : Does) (code : List CStmt) → ((n : ℕ) → Does_so n does (block_c code scope))
+          → Good does (λ free. record { code = code; free = free })
       only_good does code h free = (omega arith, λ few. h free.flags)
 
       true_asks : Asks (condition sees None true) (c_truth true)
@@ -366,7 +371,8 @@ module _ (number : Datum → ℤ) (Stand : List Value → Memory → Type 0) (Ke
 
       cases : Cases S
       cases = record {
-        declare = λ place k initial fitted apart free. rw (fold-roll-Stmt, fold-roll-StmtKind) (omega arith, λ few. declares place k initial fitted free.flags);
+        declare = λ place k initial fitted apart free. rw (fold-roll-Stmt, fold-roll-StmtKind)
+            (omega arith, λ few. declares place k initial fitted free.flags);
         assign = λ place path e fitted apart free. rw (fold-roll-Stmt, fold-roll-StmtKind) (omega arith, λ few. assigns place path e fitted free.flags);
         call = λ place f inputs outputs fitted apart free. rw (fold-roll-Stmt, fold-roll-StmtKind)
             (omega arith, λ few. calls place f inputs outputs fitted apart free.flags);

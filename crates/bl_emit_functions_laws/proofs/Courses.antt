@@ -1,5 +1,6 @@
 -- How C statements follow one another, choose and repeat, whatever their memory stands for.
-use Rattle.std.proofs.Common.{◌≡◌, ℕ, zero, suc, ◌+◌, ◌≤◌, ℤ, pos, Bool, true, false, List, [], ◌∷◌, ◌++◌, map, Option, Some, None, refl, sym, ap, ◌∙◌, subst}
+use Rattle.std.proofs.Common.{◌≡◌, ℕ, zero, suc, ◌+◌, ◌≤◌, ℤ, pos, Bool, true, false, List, [], ◌∷◌, ◌++◌, map, Option}
+use Rattle.std.proofs.Common.{Some, None, refl, sym, ap, ◌∙◌, subst}
 use Rattle.std.specs.Prelude.{option_and_then, option_map, unwrap_or, if◌then◌else◌}
 use Rattle.bl_tree.specs.declared.text.Text.{Text}
 use Rattle.bl_tree.specs.declared.c.CExpr.{CExpr}
@@ -25,7 +26,8 @@ result_number given (Some datum) = given datum
 result_number given None = pos 0
 
 -- C that ends so, with this memory, does what the statements of a function do that come to this flow
-abbrev pub EndsAt : (Datum → ℤ) → (List Value → Memory → Type 0) → (ℕ → Memory → Memory → Type 0) → ℕ → Memory → Option Flow → End → Memory → Type 0
+abbrev pub EndsAt : (Datum → ℤ) → (List Value → Memory → Type 0) → (ℕ → Memory → Memory → Type 0)
+    → ℕ → Memory → Option Flow → End → Memory → Type 0
 EndsAt given Stand Kept k here None e m = e ≡ traps
 EndsAt given Stand Kept k here (Some (Flow.On now)) e m = (e ≡ goes_on) × Stand now m × Kept k here m
 EndsAt given Stand Kept k here (Some (Flow.Back now result)) e m = (e ≡ returns (result_number given result)) × Stand now m × Kept k here m
@@ -212,7 +214,8 @@ module _ (given : Datum → ℤ) (Stand : List Value → Memory → Type 0) (Kep
         (append_alike scope a b m) (compose j k there here flow next o.count o.end o.memory (block_c b scope) h lift more)
 
     -- one list of statements does what the first does, the other what the second does: both do both
-    pub seq_leaves : (j k : ℕ) (first second : Does) (a b : List CStmt) → j ≤ k → Leaves j first (block_c a scope) → Leaves k second (block_c b scope) →
+    pub seq_leaves : (j k : ℕ) (first second : Does) (a b : List CStmt) → j ≤ k → Leaves j first
+        (block_c a scope) → Leaves k second (block_c b scope) →
         Leaves j (λ now. flow_then (first now) second) (block_c (a ++ b) scope)
     seq_leaves j k first second a b less one other now here stand =
         seq_at j j here here (first now) second a b here (one now here stand) (λ m kept. kept)
@@ -231,14 +234,16 @@ module _ (given : Datum → ℤ) (Stand : List Value → Memory → Type 0) (Kep
     abbrev pub Tests : (List Value → Option Bool) → CExpr → Type 0
     Tests holds test = (now : List Value) (here : Memory) → Stand now here → truth_c scope test here ≡ holds now
 
-    chosen_by : (k : ℕ) (now : List Value) (here : Memory) (one_way other_way : Does) (block : List CStmt) (other : Option (List CStmt)) (holds : Option Bool) →
+    chosen_by : (k : ℕ) (now : List Value) (here : Memory) (one_way other_way : Does) (block : List CStmt)
+        (other : Option (List CStmt)) (holds : Option Bool) →
         AtOf k here (one_way now) (block_c block scope here) → AtOf k here (other_way now) (block_c (unwrap_or other []) scope here) →
         Chosen scope here (At k here (option_and_then (λ holds. if holds then one_way now else other_way now) holds)) block other holds
     chosen_by k now here one_way other_way block other None one two = refl
     chosen_by k now here one_way other_way block other (Some true) one two = one
     chosen_by k now here one_way other_way block other (Some false) one two = two
 
-    pub if_leaves : (k : ℕ) (holds : List Value → Option Bool) (one_way other_way : Does) (test : CExpr) (block : List CStmt) (other : Option (List CStmt)) →
+    pub if_leaves : (k : ℕ) (holds : List Value → Option Bool) (one_way other_way : Does)
+        (test : CExpr) (block : List CStmt) (other : Option (List CStmt)) →
         Tests holds test → Leaves k one_way (block_c block scope) → Leaves k other_way (block_c (unwrap_or other []) scope) →
         Leaves k (λ now. option_and_then (λ holds. if holds then one_way now else other_way now) (holds now)) (runs_c (c_if test block other) scope)
     if_leaves k holds one_way other_way test block other tests one two now here stand =
@@ -331,7 +336,8 @@ module _ (given : Datum → ℤ) (Stand : List Value → Memory → Type 0) (Kep
 
     -- the number that C gives, beside what the function gives
     abbrev pub Numbers : (List Value → Option Datum) → CExpr → Type 0
-    Numbers gives e = (now : List Value) (here : Memory) → Stand now here → option_map number_in (value_c e scope here).answer ≡ option_map given (gives now)
+    Numbers gives e = (now : List Value) (here : Memory) → Stand now here → option_map number_in
+        (value_c e scope here).answer ≡ option_map given (gives now)
 
     return_by : (k : ℕ) (now : List Value) (here : Memory) → Stand now here → (n : ℕ) (a : Option CValue) (datum : Option Datum) →
         option_map number_in a ≡ option_map given datum →

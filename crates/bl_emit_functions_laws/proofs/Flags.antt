@@ -1,5 +1,6 @@
 -- Several arms one behind the other do what the first does whose condition is true, by a flag that tells whether none was taken.
-use Rattle.std.proofs.Common.{◌≡◌, ℕ, ◌^◌, ◌<◌, ◌≤◌, ℤ, pos, Bool, true, false, ◌&&◌, List, [], ◌∷◌, ◌++◌, Option, Some, None, refl, sym, ap, ap₂}
+use Rattle.std.proofs.Common.{◌≡◌, ℕ, ◌^◌, ◌<◌, ◌≤◌, ℤ, pos, Bool, true, false, ◌&&◌, List, [], ◌∷◌, ◌++◌}
+use Rattle.std.proofs.Common.{Option, Some, None, refl, sym, ap, ap₂}
 use Rattle.std.proofs.Common.{◌∙◌, subst, arith}
 use Rattle.std.proofs.lemmas.Bool.{eq-eqb}
 use Rattle.std.proofs.lemmas.Cmp.{nat_list_eq_equiv}
@@ -172,7 +173,8 @@ module _ (number : Datum → ℤ) (Stand : List Value → Memory → Type 0) (Ke
       by : (n : ℕ) (after : Memory) (e : End) → (e ≡ goes_on) × (after ≡ set_at m (flag_at scope k) (scalar (bit b))) →
           Alike (following_end n after e (block_c rest scope)) (block_c rest scope (set_at m (flag_at scope k) (scalar (bit b))))
       by n after e h =
-          subst (λ (e : End). Alike (following_end n after e (block_c rest scope)) (block_c rest scope (set_at m (flag_at scope k) (scalar (bit b))))) (sym h.0)
+          subst (λ (e : End). Alike (following_end n after e (block_c rest scope))
+          (block_c rest scope (set_at m (flag_at scope k) (scalar (bit b))))) (sym h.0)
           (subst (λ (after : Memory). Alike (following_end n after goes_on (block_c rest scope))
           (block_c rest scope (set_at m (flag_at scope k) (scalar (bit b)))))
           (sym h.1) (refl, refl))

@@ -1,5 +1,6 @@
 -- Memory that stands for the values of a function's variables, and the flags in it.
-use Rattle.std.proofs.Common.{◌≡◌, ℕ, ◌<◌, ◌≤◌, ◌^◌, arith, Bool, true, false, ◌&&◌, List, [], ◌++◌, drop, Some, refl, sym, ap, ap₂, ◌∙◌, None, Option}
+use Rattle.std.proofs.Common.{◌≡◌, ℕ, ◌<◌, ◌≤◌, ◌^◌, arith, Bool, true, false, ◌&&◌, List, [], ◌++◌, drop, Some, refl}
+use Rattle.std.proofs.Common.{sym, ap, ap₂, ◌∙◌, None, Option}
 use Rattle.std.proofs.lemmas.Bool.{eqb-true, le-leb, ltb-true}
 use Rattle.std.proofs.lemmas.Fmt.{decimal_injective}
 use Rattle.std.proofs.lemmas.Slice.Eq.{bytes_eq-Decides}

@@ -1,5 +1,6 @@
 -- The law of the statements of a whole program's functions.
-use Rattle.std.proofs.Common.{◌≡◌, ℕ, ◌≤◌, ◌^◌, Bool, true, ◌||◌, List, [], ◌∷◌, map, take, Option, Some, None, refl, sym, ap, ◌∙◌, subst, IfSome}
+use Rattle.std.proofs.Common.{◌≡◌, ℕ, ◌≤◌, ◌^◌, Bool, true, ◌||◌, List, [], ◌∷◌, map, take, Option, Some, None, refl, sym}
+use Rattle.std.proofs.Common.{ap, ◌∙◌, subst, IfSome}
 use Rattle.std.proofs.lemmas.List.Elements.{All-cons, All-nil}
 use Rattle.std.proofs.lemmas.Option.{same_Some}
 use Rattle.std.specs.Prelude.{All, is_some, option_and_then, option_map, slice_get, if◌then◌else◌}
@@ -126,7 +127,8 @@ module _ (structs : List StructDef) (units : List UnitDef) (entry : ℕ) (k : �
   beside_acts : (now : List Value) (here : Memory) → Stand now here → BesideActs structs units k unit (own now) copied scope here
   beside_acts now here stand = record { beside = beside now here stand; apart = frame.variables; copies_apart = frame.copies; procedures = runs.procedures }
 
-  gives : (e : Expr) (ty : Ty) (s : ScalarType) → type_of site e ≡ Some ty → scalar_in ty ≡ Some s → (now : List Value) (here : Memory) → Stand now here →
+  gives : (e : Expr) (ty : Ty) (s : ScalarType) → type_of site e ≡ Some ty → scalar_in ty ≡ Some s
+      → (now : List Value) (here : Memory) → Stand now here →
       option_map number_in (value_c (code_made site e) scope here).answer ≡ option_map number_given (meaning_of sees e (own now))
   gives e ty s typed is now here stand =
       number_made structs ty s scope here (made_of site e) (meaning_of sees e (own now)) is
@@ -149,7 +151,8 @@ module _ (structs : List StructDef) (units : List UnitDef) (entry : ℕ) (k : �
 
   -- ---- acts
 
-  came : (made : Option (List Value)) (here : Memory) (o : Outcome Memory) (before : List Value → List Value) (n : ℕ) → IfSome made (AllFit structs unit.vars) →
+  came : (made : Option (List Value)) (here : Memory) (o : Outcome Memory) (before : List Value → List Value)
+      (n : ℕ) → IfSome made (AllFit structs unit.vars) →
       Comes site copied scope here before made o → AtOf n here (option_map Flow.On made) o
   came None here o before n fit h = h
   came (Some now) here o before n fit h = (

@@ -75,7 +75,8 @@ pub data Where (site : Site) (depth : ℕ) (here : Memory) (values : List Value)
       Where site depth here values passed n j var
   place : (at : Location) (value : Value) → slice_get passed j ≡ Some (by_address at) → slice_get values j ≡ Some value →
       is_older depth at.root ≡ true → Holds site.structs var.ty value (value_at here at) → j < n →
-      (home_at site j ≡ Given → ⊥) → (is_copied_input site j var ≡ false → home_at site j ≡ Lent) → (is_input var.role || is_output var.role) ≡ true →
+      (home_at site j ≡ Given → ⊥) → (is_copied_input site j var ≡ false → home_at site j ≡ Lent)
+      → (is_input var.role || is_output var.role) ≡ true →
       Where site depth here values passed n j var
   local : n ≤ j → is_input var.role ≡ false → home_at site j ≡ Held → Where site depth here values passed n j var
 
@@ -273,7 +274,8 @@ module _ (structs : List StructDef) (earlier : List UnitDef) (unit : UnitDef) (s
   older_same : (at : Location) (way : List Part) → is_older depth at.root ≡ true → value_at begun at way ≡ value_at here at way
   older_same at way older = (keep known code depth passed here).begins at.root (at.parts ++ way) older
 
-  frame_value : (j : ℕ) (value known : Value) → slice_get values j ≡ Some known → slice_get (frame_of structs unit values) j ≡ Some value → known ≡ value
+  frame_value : (j : ℕ) (value known : Value) → slice_get values j ≡ Some known → slice_get
+      (frame_of structs unit values) j ≡ Some value → known ≡ value
   frame_value j value known is at =
       same_Some known value (sym (get_front values (map (λ (var : Var). zero_of structs var.ty) (locals_of unit)) j known is) ∙ at)
 

@@ -51,7 +51,8 @@ length_both : {A : Type 0} (xs ys : List A) → length (xs ++ ys) ≡ length xs 
 length_both [] ys = omega arith
 length_both (x ∷ xs) ys = let more : length (xs ++ ys) ≡ length xs + length ys = length_both xs ys in omega (arith, more)
 
-all_front : {A : Type 0} (test : A → Bool) (xs ys : List A) → list_all test (xs ++ ys) ≡ true → (list_all test xs ≡ true) × (list_all test ys ≡ true)
+all_front : {A : Type 0} (test : A → Bool) (xs ys : List A) → list_all test (xs ++ ys) ≡ true
+    → (list_all test xs ≡ true) × (list_all test ys ≡ true)
 all_front test [] ys h = (refl, h)
 all_front test (x ∷ xs) ys h =
     let rest = all_front test xs ys (and_right (test x) (list_all test (xs ++ ys)) h) in

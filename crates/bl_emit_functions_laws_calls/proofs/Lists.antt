@@ -1,5 +1,6 @@
 -- Elements of parts of lists.
-use Rattle.std.proofs.Common.{◌≡◌, ℕ, zero, suc, ◌+◌, ◌<◌, ◌≤◌, arith, Bool, true, List, [], ◌∷◌, ◌++◌, length, map, take, drop, Some, sym, ap, ◌∙◌}
+use Rattle.std.proofs.Common.{◌≡◌, ℕ, zero, suc, ◌+◌, ◌<◌, ◌≤◌, arith, Bool, true, List, [], ◌∷◌, ◌++◌, length, map}
+use Rattle.std.proofs.Common.{take, drop, Some, sym, ap, ◌∙◌}
 use Rattle.std.proofs.lemmas.Option.{same_Some, slice_get-map}
 use Rattle.std.specs.Prelude.{option_map, slice_get}
 use Rattle.std.specs.List.{list_all}
@@ -33,7 +34,8 @@ module _ {A : Type 0} (test : A → Bool) where
   rest_all (suc n) (y ∷ xs) (suc j) x all there more = rest_all n xs j x all there (omega (arith, more))
 
 -- what stands behind some values is made of the variables behind as many
-pub made_behind : {A B : Type 0} (f : A → B) (values : List B) (n : ℕ) (vars : List A) (j : ℕ) (value : B) (var : A) → length values ≡ n → n ≤ j →
+pub made_behind : {A B : Type 0} (f : A → B) (values : List B) (n : ℕ) (vars : List A)
+    (j : ℕ) (value : B) (var : A) → length values ≡ n → n ≤ j →
     slice_get vars j ≡ Some var → slice_get (values ++ map f (drop n vars)) j ≡ Some value → f var ≡ value
 made_behind f [] zero vars j value var as_many more there at =
     same_Some (f var) value (sym (slice_get-map f vars j ∙ ap (option_map f) there) ∙ at)

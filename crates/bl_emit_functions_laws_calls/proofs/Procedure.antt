@@ -125,7 +125,8 @@ lent_output Output scalar copies h no_input = refl
 lent_output Variable scalar copies h no_input = absurd (cc)
 lent_output Fixed scalar copies h no_input = absurd (cc)
 
-any_none : (test : Location → Bool) (xs : List Location) (j : ℕ) (x : Location) → list_any test xs ≡ false → slice_get xs j ≡ Some x → test x ≡ false
+any_none : (test : Location → Bool) (xs : List Location) (j : ℕ) (x : Location)
+    → list_any test xs ≡ false → slice_get xs j ≡ Some x → test x ≡ false
 any_none test [] j x h there = absurd (cc)
 any_none test (y ∷ xs) zero x h there = ap test (sym (same_Some y x there)) ∙ or_first (test y) (list_any test xs) h
   where

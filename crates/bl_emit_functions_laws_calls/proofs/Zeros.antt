@@ -89,7 +89,8 @@ all_zeros (def ∷ rest) zeros each =
     all_zeros rest (zeros ++ struct_zero zeros def ∷ []) (push_zero zeros (struct_zero zeros def) each (struct_is_zero zeros each def))
 
 -- what is 0 everywhere holds the zero of a type
-pub zero_holds : (structs : List StructDef) (ty : Ty) (held : CValue) → ((way : List Part) → held way ≡ pos 0) → Holds structs ty (zero_of structs ty) held
+pub zero_holds : (structs : List StructDef) (ty : Ty) (held : CValue) → ((way : List Part) → held way ≡ pos 0)
+    → Holds structs ty (zero_of structs ty) held
 zero_holds structs ty held all = record {
   each = λ ks n is.
       all (way_to structs ks (Some ty))

@@ -1,5 +1,6 @@
 -- What holds of calls of C functions.
-use Rattle.std.specs.Prelude.{◌≡◌, ℕ, ◌+◌, ◌≤◌, ◌^◌, Bool, true, false, ◌&&◌, ◌||◌, List, [], ◌++◌, length, map, nat_eq, take, Option, Some, None, slice_get}
+use Rattle.std.specs.Prelude.{◌≡◌, ℕ, ◌+◌, ◌≤◌, ◌^◌, Bool, true, false, ◌&&◌, ◌||◌, List, [], ◌++◌, length, map}
+use Rattle.std.specs.Prelude.{nat_eq, take, Option, Some, None, slice_get}
 use Rattle.std.specs.Prelude.{is_none, is_some}
 use Rattle.bl_tree.specs.declared.c.CFunc.{CFunc}
 use Rattle.bl_tree.specs.declared.scalar.Scalar.{Scalar as ScalarType}
@@ -116,9 +117,11 @@ is_copied_input site k var = is_input var.role && is_held (home_at site k)
 -- values with which its body begins. Those inputs stand where their pointers lead
 pub record FrameBegun (site : Site) (scope : Scope) (now : List Value) (here : Memory) : Type 0 where
   pub pointers : PointersStand site scope
-  pub variables : (k : ℕ) (var : Var) (value : Value) → var_at site k ≡ Some var → slice_get now k ≡ Some value → is_copied_input site k var ≡ false →
+  pub variables : (k : ℕ) (var : Var) (value : Value) → var_at site k ≡ Some var
+      → slice_get now k ≡ Some value → is_copied_input site k var ≡ false →
       Holds site.structs var.ty value (value_at here (location_in scope site k []))
-  pub inputs : (k : ℕ) (var : Var) (value : Value) → var_at site k ≡ Some var → slice_get now k ≡ Some value → is_copied_input site k var ≡ true →
+  pub inputs : (k : ℕ) (var : Var) (value : Value) → var_at site k ≡ Some var
+      → slice_get now k ≡ Some value → is_copied_input site k var ≡ true →
       (is_older scope.depth (lent_at scope k).root ≡ true) × Holds site.structs var.ty value (value_at here (lent_at scope k))
 
 -- the frame of the C function of each function begins so

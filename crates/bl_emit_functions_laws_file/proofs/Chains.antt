@@ -67,7 +67,8 @@ module _ (weight : Text → ℕ) (prelude : (word : Text) (s : ScalarType) → w
 
 -- ---- chains
 
-chain_is : (units : List UnitDef) (k : ℕ) (unit : UnitDef) → slice_get units k ≡ Some unit → chain_at units k ≡ chain_by (take k (all_chains units)) unit
+chain_is : (units : List UnitDef) (k : ℕ) (unit : UnitDef) → slice_get units k ≡ Some unit
+    → chain_at units k ≡ chain_by (take k (all_chains units)) unit
 chain_is units k unit there = answer_at chain_by units k unit 0 there
 
 -- an element of the front of a list
@@ -104,7 +105,8 @@ module _ (structs : List StructDef) (units : List UnitDef) (k : ℕ) (depths : T
   callees_by unit f = callee_by f (slice_get (take k units) f) refl
 
   -- the C function of a unit heads no longer chain than the unit
-  pub no_longer : (unit : UnitDef) → slice_get units k ≡ Some unit → depth_of_function depths (function_code structs (take k units) unit) ≤ chain_at units k
+  pub no_longer : (unit : UnitDef) → slice_get units k ≡ Some unit → depth_of_function depths
+      (function_code structs (take k units) unit) ≤ chain_at units k
   no_longer unit there =
       let n : ℕ = greatest (map by (calls_of unit)) in
       let all : most depths (calls_in_block (body_code (site_of structs (take k units) unit) unit)) ≤ n =

@@ -1,5 +1,6 @@
 -- A table that tells the chains still does so once a C function joins it.
-use Rattle.std.proofs.Common.{◌≡◌, ℕ, zero, suc, ◌<◌, ◌≤◌, ◌⊎◌, inr, ⊎_elim, Bool, true, false, not, ◌||◌, List, [], ◌∷◌, ◌++◌, map, take}
+use Rattle.std.proofs.Common.{◌≡◌, ℕ, zero, suc, ◌<◌, ◌≤◌, ◌⊎◌, inr, ⊎_elim, Bool, true, false, not, ◌||◌, List, []}
+use Rattle.std.proofs.Common.{◌∷◌, ◌++◌, map, take}
 use Rattle.std.proofs.Common.{Option, Some, None, refl, sym, ap, ◌∙◌, subst, arith}
 use Rattle.std.proofs.lemmas.Bool.{cases_lt}
 use Rattle.std.proofs.lemmas.List.Folds.{list_all-append}
@@ -87,7 +88,8 @@ unnamed_other (c ∷ name) named = refl
 prelude_other : (name word : Text) (s : ScalarType) → bytes_eq (unit_name name) (function_name word s) ≡ false
 prelude_other name word s = refl
 
-at_most : (o : Option ℕ) (b : Bool) (d most : ℕ) → unwrap_or o 0 ≤ most → (b ≡ true → d ≤ most) → unwrap_or (option_or o (if b then Some d else None)) 0 ≤ most
+at_most : (o : Option ℕ) (b : Bool) (d most : ℕ) → unwrap_or o 0 ≤ most → (b ≡ true → d ≤ most)
+    → unwrap_or (option_or o (if b then Some d else None)) 0 ≤ most
 at_most (Some n) b d most old new = old
 at_most None true d most old new = new refl
 at_most None false d most old new = old

@@ -1,5 +1,6 @@
 -- The structs of the variables of a program's functions: no two have one name.
-use Rattle.std.proofs.Common.{◌≡◌, ℕ, suc, ◌⊎◌, ⊎_elim, Bool, true, false, not, ◌&&◌, ◌||◌, List, [], ◌∷◌, ◌++◌, map, take, drop}
+use Rattle.std.proofs.Common.{◌≡◌, ℕ, suc, ◌⊎◌, ⊎_elim, Bool, true, false, not, ◌&&◌, ◌||◌, List, [], ◌∷◌, ◌++◌}
+use Rattle.std.proofs.Common.{map, take, drop}
 use Rattle.std.proofs.Common.{Some, refl, subst, arith}
 use Rattle.std.proofs.lemmas.List.Elements.{Contains-append_cases}
 use Rattle.std.specs.Prelude.{Contains, bytes_eq, slice_get}
@@ -77,7 +78,8 @@ module _ (structs : List StructDef) (units : List UnitDef) (hold : MemoriesHold 
   none_has : (s : CStruct) → Contains [] s → ⊥
   none_has s (k, within, is) = omega (arith, within)
 
-  each : (xs : List UnitDef) (k : ℕ) → drop k units ≡ xs → (s : CStruct) → Contains (memories_after structs (take k units) xs) s → IsMemory structs units s
+  each : (xs : List UnitDef) (k : ℕ) → drop k units ≡ xs → (s : CStruct) → Contains
+      (memories_after structs (take k units) xs) s → IsMemory structs units s
   each [] k is s has = absurd (none_has s has)
   each (unit ∷ xs) k is s has = by (is_function unit.kind) refl (each xs (suc k) found.1 s) has
     where
@@ -88,7 +90,8 @@ module _ (structs : List StructDef) (units : List UnitDef) (hold : MemoriesHold 
           Contains (memories_after structs (take k units ++ unit ∷ []) xs) s → IsMemory structs units s
       behind = subst (λ earlier. Contains (memories_after structs earlier xs) s → IsMemory structs units s) (take_next units k unit found.0)
 
-      by : (function : Bool) → is_function unit.kind ≡ function → (Contains (memories_after structs (take (suc k) units) xs) s → IsMemory structs units s) →
+      by : (function : Bool) → is_function unit.kind ≡ function
+          → (Contains (memories_after structs (take (suc k) units) xs) s → IsMemory structs units s) →
           Contains (memory_where function structs (take k units) unit ++ memories_after structs (take k units ++ unit ∷ []) xs) s → IsMemory structs units s
       by true function later has =
           ⊎_elim

@@ -173,7 +173,8 @@ module _ (weight : Text → ℕ) (prelude : (word : Text) (s : ScalarType) → w
     pub own_few : (n k : ℕ) → PlaceFew n (place_in site k [])
     own_few n k = own_light weight prelude site by callees n k
 
-    all_few : (body : List Stmt) → Each S body → (n : ℕ) → Under by n (joined (map named_in body)) → CodesFew n (block_codes (map (codes_of site) body))
+    all_few : (body : List Stmt) → Each S body → (n : ℕ) → Under by n (joined (map named_in body))
+        → CodesFew n (block_codes (map (codes_of site) body))
     all_few [] each n few free = none_few n
     all_few (s ∷ body) each n few free =
         then_few n (codes_of site s free).code (block_codes (map (codes_of site) body) (codes_of site s free).free).code

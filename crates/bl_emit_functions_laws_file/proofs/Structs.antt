@@ -1,5 +1,6 @@
 -- The structs before the functions of a program: nothing fails in them, and each is declared.
-use Rattle.std.proofs.Common.{◌≡◌, ℕ, zero, suc, ◌+◌, ◌<◌, ◌≤◌, ◌⊎◌, inl, inr, ⊎_elim, Bool, true, false, List, [], ◌∷◌, ◌++◌, map, take, drop, length}
+use Rattle.std.proofs.Common.{◌≡◌, ℕ, zero, suc, ◌+◌, ◌<◌, ◌≤◌, ◌⊎◌, inl, inr, ⊎_elim, Bool, true, false, List, []}
+use Rattle.std.proofs.Common.{◌∷◌, ◌++◌, map, take, drop, length}
 use Rattle.std.proofs.Common.{Option, Some, None, refl, sym, ap, ◌∙◌, subst, arith, append_assoc}
 use Rattle.std.proofs.lemmas.Bool.{cases_lt}
 use Rattle.std.proofs.lemmas.List.{get_or_past}
@@ -96,7 +97,8 @@ module _ (structs : List StructDef) (units : List UnitDef) (start : ℕ) (passes
       (λ (few : slice_index (struct_nestings structs) k ≤ 100). omega (arith, few))
       (cases_lt 100 (slice_index (struct_nestings structs) k))
 
-  variable_nests : (k j : ℕ) (unit : UnitDef) (var : Var) → slice_get units k ≡ Some unit → slice_get unit.vars j ≡ Some var → nesting structs var.ty ≤ 299
+  variable_nests : (k j : ℕ) (unit : UnitDef) (var : Var) → slice_get units k ≡ Some unit
+      → slice_get unit.vars j ≡ Some var → nesting structs var.ty ≤ 299
   variable_nests k j unit var there has =
       ⊎_elim
       (λ (deep : 100 < nesting structs var.ty). absurd (passes rule.Cells var.place [] (

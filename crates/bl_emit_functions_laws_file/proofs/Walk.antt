@@ -1,5 +1,6 @@
 -- The functions of a program one after another: nothing fails in each.
-use Rattle.std.proofs.Common.{◌≡◌, ℕ, zero, suc, ◌+◌, ◌<◌, ◌≤◌, ◌⊎◌, ⊎_elim, Bool, true, false, not, List, [], ◌∷◌, ◌++◌, map, take, drop, length}
+use Rattle.std.proofs.Common.{◌≡◌, ℕ, zero, suc, ◌+◌, ◌<◌, ◌≤◌, ◌⊎◌, ⊎_elim, Bool, true, false, not, List, []}
+use Rattle.std.proofs.Common.{◌∷◌, ◌++◌, map, take, drop, length}
 use Rattle.std.proofs.Common.{Option, Some, None, refl, sym, ap, ◌∙◌, subst, arith}
 use Rattle.std.proofs.lemmas.Bool.{cases_lt}
 use Rattle.std.proofs.lemmas.Bool.Decides.{nat_tests}
@@ -35,7 +36,8 @@ take_next (y ∷ xs) zero x there = ap (λ y. y ∷ []) (same_Some y x there)
 take_next (y ∷ xs) (suc k) x there = ap (λ rest. y ∷ rest) (take_next xs k x there)
 
 -- where a list goes on, its next element is there, and behind it the rest
-pub drop_next : {A : Type 0} (xs : List A) (k : ℕ) (x : A) (rest : List A) → drop k xs ≡ x ∷ rest → (slice_get xs k ≡ Some x) × (drop (suc k) xs ≡ rest)
+pub drop_next : {A : Type 0} (xs : List A) (k : ℕ) (x : A) (rest : List A) → drop k xs ≡ x ∷ rest
+    → (slice_get xs k ≡ Some x) × (drop (suc k) xs ≡ rest)
 drop_next [] zero x rest is = absurd (cc)
 drop_next [] (suc k) x rest is = absurd (cc)
 drop_next (y ∷ xs) zero x rest is = (first is, behind is)
@@ -107,7 +109,8 @@ module _ (structs : List StructDef) (units : List UnitDef) (entry : ℕ) (keeps 
         (knows.free k unit there (omega arith)) ((bytes_eq-Decides (unit_name unit.name) (unit_name unit.name)).1 refl)))
         (cases_lt f k)
 
-    other_name : (j : ℕ) (other : UnitDef) → slice_get units j ≡ Some other → suc k ≤ j → (b : Bool) → bytes_eq unit.name other.name ≡ b → b ≡ false
+    other_name : (j : ℕ) (other : UnitDef) → slice_get units j ≡ Some other → suc k ≤ j
+        → (b : Bool) → bytes_eq unit.name other.name ≡ b → b ≡ false
     other_name j other found later false is = refl
     other_name j other found later true is =
         let place : k ≡ j = one_place units k j unit other differ there found ((bytes_eq-Decides unit.name other.name).0 is) in

@@ -80,7 +80,8 @@ StructsPrecede structs units entry =
 -- The same of a file that begins with these structs and these functions: nothing fails in the functions, where neither rule Frames nor Cells fails
 abbrev pub FilesFormed : List StructDef → List UnitDef → ℕ → Type 0
 FilesFormed structs units entry =
-    (more : List CStruct) (rest : List CFunc) → Keeps structs units entry → Passes structs units entry → AllNumbered structs units → 2 ≤ length rest →
+    (more : List CStruct) (rest : List CFunc) → Keeps structs units entry → Passes structs units entry
+    → AllNumbered structs units → 2 ≤ length rest →
     function_faults_after (struct_table (structs_before structs units ++ more)) no_entries no_entries (functions_after structs [] units ++ rest)
     ≡ function_faults_after (struct_table (structs_before structs units ++ more)) (signatures_after no_entries (functions_after structs [] units))
     (depths_after no_entries (functions_after structs [] units)) rest

@@ -1,5 +1,6 @@
 -- No clause fails in the C function of a function.
-use Rattle.std.proofs.Common.{◌≡◌, ℕ, zero, suc, ◌+◌, ◌<◌, pos, Bool, true, false, ◌&&◌, ◌||◌, List, [], ◌∷◌, ◌++◌, map, take, length}
+use Rattle.std.proofs.Common.{◌≡◌, ℕ, zero, suc, ◌+◌, ◌<◌, pos, Bool, true, false, ◌&&◌, ◌||◌, List, [], ◌∷◌, ◌++◌}
+use Rattle.std.proofs.Common.{map, take, length}
 use Rattle.std.proofs.Common.{Option, Some, None, refl, sym, ap, ◌∙◌, subst, arith}
 use Rattle.std.proofs.lemmas.Option.{slice_get_within}
 use Rattle.std.specs.Prelude.{is_none, is_some, option_map, slice_get}
@@ -87,14 +88,16 @@ module _ (structs : List StructDef) (units : List UnitDef) (entry k : ℕ) (unit
       (read-is context true (c_type structs var.ty) (c_place true (variable_name j) []) (pointer_place context (variable_name j) (c_type structs var.ty) param))
       (ap (λ b. context.keeps && b) leads ∙ no_more context.keeps))
 
-  copies_are : (base : ℕ) (vars : List Var) → ((j : ℕ) (var : Var) → slice_get vars j ≡ Some var → (slice_get (parameters_of unit) (base + j) ≡ Some var)
+  copies_are : (base : ℕ) (vars : List Var) → ((j : ℕ) (var : Var) → slice_get vars j ≡ Some var
+      → (slice_get (parameters_of unit) (base + j) ≡ Some var)
       × (slice_get unit.vars (base + j) ≡ Some var) × (is_input var.role ≡ true)) → BlockIs context (copies_from site base vars)
   copies_are base [] each = block_nil context
   copies_are base (var ∷ rest) each =
       let none : base + 0 ≡ base = omega arith in
       let own = each 0 var refl in
       block_append context (input_copied site (home_of site (Some var)) base) (copies_from site (base + 1) rest)
-      (copied_is base var (subst (λ n. slice_get (parameters_of unit) n ≡ Some var) none own.0) (subst (λ n. slice_get unit.vars n ≡ Some var) none own.1) own.2
+      (copied_is base var (subst (λ n. slice_get (parameters_of unit) n ≡ Some var) none own.0)
+      (subst (λ n. slice_get unit.vars n ≡ Some var) none own.1) own.2
       (home_of site (Some var)) refl)
       (copies_are (base + 1) rest (λ j v found. let other = each (suc j) v found in
       let same : base + suc j ≡ (base + 1) + j = omega arith in (

@@ -1,5 +1,6 @@
 -- No clause fails in the head of the C function of a function.
-use Rattle.std.proofs.Common.{◌≡◌, ℕ, zero, suc, ◌+◌, ◌<◌, ◌≤◌, ◌^◌, Bool, true, false, not, ◌&&◌, ◌||◌, List, [], ◌∷◌, ◌++◌, map, take, length, Option, Some}
+use Rattle.std.proofs.Common.{◌≡◌, ℕ, zero, suc, ◌+◌, ◌<◌, ◌≤◌, ◌^◌, Bool, true, false, not, ◌&&◌, ◌||◌, List, []}
+use Rattle.std.proofs.Common.{◌∷◌, ◌++◌, map, take, length, Option, Some}
 use Rattle.std.proofs.Common.{None, refl, sym, ap, ◌∙◌, subst, arith, codes}
 use Rattle.std.proofs.lemmas.Bool.Decides.{nat_tests}
 use Rattle.std.proofs.lemmas.List.{map-append}
@@ -170,7 +171,8 @@ no_local name false n k = flags_other (variable_name k) n (λ j less. refl)
 no_local name true n k = flags_other (variable_name k) n (λ j less. refl)
 
 module _ (structs : List StructDef) where
-  later_params : (j base : ℕ) (vars : List Var) → j < base → base + length vars ≤ 2 ^ 64 → is_among (variable_name j) (param_names structs base vars) ≡ false
+  later_params : (j base : ℕ) (vars : List Var) → j < base → base + length vars ≤ 2 ^ 64 → is_among
+      (variable_name j) (param_names structs base vars) ≡ false
   later_params j base [] less few = refl
   later_params j base (v ∷ vars) less few =
       let small : base < 2 ^ 64 = omega (arith, few) in
@@ -193,7 +195,8 @@ module _ (structs : List StructDef) where
   -- ---- what holds of each parameter
 
   params_all : (test : CParam → Bool) (base : ℕ) (vars : List Var) →
-      ((k j : ℕ) (var : Var) → slice_get vars j ≡ Some var → test (param_of structs k var) ≡ true) → list_all test (params_from structs base vars) ≡ true
+      ((k j : ℕ) (var : Var) → slice_get vars j ≡ Some var → test (param_of structs k var) ≡ true)
+      → list_all test (params_from structs base vars) ≡ true
   params_all test base [] each = refl
   params_all test base (v ∷ vars) each =
       both (test (param_of structs base v)) (list_all test (params_from structs (base + 1) vars)) (each base 0 v refl)
@@ -309,7 +312,8 @@ module _ (structs : List StructDef) (units : List UnitDef) (entry k : ℕ) (unit
 
   -- ---- types
 
-  declared_level : (ty : Ty) (s : Option ScalarType) → scalar_in ty ≡ s → type_stands (length structs) ty ≡ true → AreDeclared table (arrays_of structs ty) →
+  declared_level : (ty : Ty) (s : Option ScalarType) → scalar_in ty ≡ s → type_stands
+      (length structs) ty ≡ true → AreDeclared table (arrays_of structs ty) →
       is_declared table (c_type structs ty) ≡ true
   declared_level ty (Some s) is stands arrays = ap (is_declared table) (c_scalar_type structs ty s is)
   declared_level ty None is stands arrays =
@@ -375,7 +379,8 @@ module _ (structs : List StructDef) (units : List UnitDef) (entry k : ℕ) (unit
   absent (Some x) is = absurd (cc)
 
   -- nothing fails before the statements
-  pub head_is : (depths : Table ℕ) → functions f.name ≡ None → depth_of_function depths f ≤ 300 → faults_in_head table functions depths false f ≡ []
+  pub head_is : (depths : Table ℕ) → functions f.name ≡ None → depth_of_function depths f ≤ 300
+      → faults_in_head table functions depths false f ≡ []
   head_is depths new short =
       let one = kept (is_none (functions f.name)) distinct_names f.place (absent (functions f.name) new) in
       let two = kept (all_distinct no_entries (variable_names f)) distinct_names f.place names_differ in

@@ -1,5 +1,6 @@
 -- What is found by the names of a function's parameters, locals and members.
-use Rattle.std.proofs.Common.{◌≡◌, ℕ, zero, suc, ◌+◌, ◌<◌, ◌≤◌, ◌^◌, Bool, true, false, ◌||◌, List, [], ◌∷◌, ◌++◌, map, drop, Some, None}
+use Rattle.std.proofs.Common.{◌≡◌, ℕ, zero, suc, ◌+◌, ◌<◌, ◌≤◌, ◌^◌, Bool, true, false, ◌||◌, List, [], ◌∷◌}
+use Rattle.std.proofs.Common.{◌++◌, map, drop, Some, None}
 use Rattle.std.proofs.Common.{refl, sym, ap, ◌∙◌, subst, arith, codes}
 use Rattle.std.proofs.Common.{◌⊎◌, inl, inr}
 use Rattle.std.proofs.lemmas.Bool.{cases_lt}
@@ -100,7 +101,8 @@ module _ (structs : List StructDef) where
       ∙ ap (λ n. found (variable_name n) (param_entries (base + 1) vars)) same ∙ found_param (base + 1) vars k var there low
 
   -- no parameter has a name that doesn't begin as theirs do
-  pub no_param : (base : ℕ) (vars : List Var) (name : Text) → ((k : ℕ) → bytes_eq (variable_name k) name ≡ false) → found name (param_entries base vars) ≡ None
+  pub no_param : (base : ℕ) (vars : List Var) (name : Text) → ((k : ℕ) → bytes_eq (variable_name k) name ≡ false)
+      → found name (param_entries base vars) ≡ None
   no_param base [] name other = refl
   no_param base (v ∷ vars) name other =
       found_next name (variable_name base, parameter_for structs v) (param_entries (base + 1) vars) (other base) ∙ no_param (base + 1) vars name other

@@ -100,7 +100,8 @@ module _ (context : Context) where
       ≡ return_faults value context.result context nowhere)
       (statement.rolls-Return value) (return-open value looped)
 
-  pub return-is : (value : CExpr) (t : ScalarType) → context.result ≡ Some t → ExprIs context (OfScalar t) value → StmtIs context (c_return (Some value))
+  pub return-is : (value : CExpr) (t : ScalarType) → context.result ≡ Some t → ExprIs context
+      (OfScalar t) value → StmtIs context (c_return (Some value))
   return-is value t result is looped =
       return-judged (Some value) looped ∙ ap (λ o. return_faults (Some value) o context nowhere) result
       ∙ ap (λ (e : Judged). e.faults ++ unless (agree e.ty (Some (OfScalar t))) returns_result value.place) is

@@ -1,5 +1,6 @@
 -- Nothing fails in the C of the statements of a function.
-use Rattle.std.proofs.Common.{◌≡◌, ℕ, ◌+◌, ◌<◌, ◌≤◌, pos, Bool, true, false, ◌&&◌, List, [], ◌∷◌, ◌++◌, length, map, Option, Some, None, refl, sym}
+use Rattle.std.proofs.Common.{◌≡◌, ℕ, ◌+◌, ◌<◌, ◌≤◌, pos, Bool, true, false, ◌&&◌, List, [], ◌∷◌, ◌++◌, length}
+use Rattle.std.proofs.Common.{map, Option, Some, None, refl, sym}
 use Rattle.std.proofs.Common.{ap, ◌∙◌, subst, arith}
 use Rattle.std.proofs.lemmas.List.Elements.{All-head, All-tail}
 use Rattle.std.proofs.lemmas.Option.{same_Some}
@@ -244,7 +245,8 @@ module _ (context : Context) (most : ℕ) (flags : (k : ℕ) → k < most → co
         let found = truth_there (type_of site e) h in
         subst (λ t. ExprIs context t (code_made site e)) (c_scalar_type structs found.0 OfBool found.2) (code_of_type e found.0 found.1)
 
-    number-is : (e : Expr) (s : ScalarType) → are_same (Some (scalar s)) (type_of site e) ≡ true → ExprIs context (OfScalar (c_scalar s)) (code_made site e)
+    number-is : (e : Expr) (s : ScalarType) → are_same (Some (scalar s)) (type_of site e) ≡ true
+        → ExprIs context (OfScalar (c_scalar s)) (code_made site e)
     number-is e s h =
         let same = same_types site (is_copied []) context declared stand earlier typed_vars plain (Some (scalar s)) (type_of site e) h in
         let scalar_is : scalar_in same.0 ≡ Some s = ap scalar_in (sym (same_Some (scalar s) same.0 same.1)) ∙ scalar_alone s in

@@ -1,5 +1,6 @@
 -- What counts the turns of a function's loops: each loop has a name of its own.
-use Rattle.std.proofs.Common.{◌≡◌, ℕ, zero, suc, ◌+◌, ◌<◌, ◌≤◌, ◌^◌, Bool, true, false, List, [], ◌∷◌, ◌++◌, map, drop, Option, Some, None}
+use Rattle.std.proofs.Common.{◌≡◌, ℕ, zero, suc, ◌+◌, ◌<◌, ◌≤◌, ◌^◌, Bool, true, false, List, [], ◌∷◌, ◌++◌, map}
+use Rattle.std.proofs.Common.{drop, Option, Some, None}
 use Rattle.std.proofs.Common.{refl, sym, ap, ◌∙◌, subst, arith, append_assoc}
 use Rattle.std.proofs.lemmas.Fmt.{decimal_injective}
 use Rattle.std.proofs.lemmas.List.{append-nil}
@@ -92,7 +93,8 @@ break-turns = by_form statement.Break CStmtKind-F.Break [] statement.rolls-Break
 abbrev turns_of_other : Option (List CStmt) → Turns
 turns_of_other other = turns_or_none (option_map (map turns_in) other)
 
-if-turns : (test : CExpr) (block : List CStmt) (other : Option (List CStmt)) → turns_in (c_if test block other) ≡ turns_in_block block ++ turns_of_other other
+if-turns : (test : CExpr) (block : List CStmt) (other : Option (List CStmt)) → turns_in
+    (c_if test block other) ≡ turns_in_block block ++ turns_of_other other
 if-turns test block other =
     by_form (statement.If test block other) (CStmtKind-F.If test block other) (turns_in_block block ++ turns_of_other other)
     (statement.rolls-If test block other) (by other)
@@ -134,7 +136,8 @@ pub record Counted (codes : Codes) : Type 0 where
   pub are : (free : Free) → turns_in_block (codes free).code ≡ numbered free.turns (count free)
 
 -- two parts, the second of which begins where the first ends
-both_numbered : (t m n : ℕ) (first second : Turns) (u : ℕ) → u ≡ t + m → first ≡ numbered t m → second ≡ numbered u n → first ++ second ≡ numbered t (m + n)
+both_numbered : (t m n : ℕ) (first second : Turns) (u : ℕ) → u ≡ t + m → first ≡ numbered t m
+    → second ≡ numbered u n → first ++ second ≡ numbered t (m + n)
 both_numbered t m n first second u is one other =
     (λ i. one i ++ other i) ∙ ap (λ u. numbered t m ++ numbered u n) is ∙ sym (numbered-append t m n)
 
@@ -175,7 +178,8 @@ module _ (flag : ℕ) where
   taken_count [] all free = 0
   taken_count (arm ∷ arms) all free = all.0.count free + taken_count arms all.1 (arm.body free).free
 
-  taken_after : (arms : List ArmCodes) (all : AllCounted arms) (free : Free) → (arms_taken flag arms free).free.turns ≡ free.turns + taken_count arms all free
+  taken_after : (arms : List ArmCodes) (all : AllCounted arms) (free : Free)
+      → (arms_taken flag arms free).free.turns ≡ free.turns + taken_count arms all free
   taken_after [] all free = omega arith
   taken_after (arm ∷ arms) all free =
       let a = all.0.after free in let b = taken_after arms all.1 (arm.body free).free in omega (arith, a, b)
@@ -235,7 +239,8 @@ loop_counted test last codes none one = record {
       let body : Coded = codes (turn_taken free) in
       one-turns _ _ (loop-turns (turn_name free.turns) test (body.code ++ last)
       ∙ ap (λ turns. (turn_name free.turns, nowhere) ∷ turns)
-      (block-turns body.code last ∙ ap (λ turns. turns_in_block body.code ++ turns) none ∙ append-nil (turns_in_block body.code) ∙ one.are (turn_taken free)));
+      (block-turns body.code last ∙ ap (λ turns. turns_in_block body.code ++ turns) none ∙ append-nil
+      (turns_in_block body.code) ∙ one.are (turn_taken free)));
 }
 
 -- ---- names that differ

@@ -1,5 +1,6 @@
 -- In the C function of a function all is declared that its statements name.
-use Rattle.std.proofs.Common.{◌≡◌, ℕ, zero, suc, ◌+◌, ◌-◌, ◌<◌, ◌≤◌, ◌^◌, Bool, true, false, not, ◌&&◌, ◌||◌, List, [], ◌∷◌, ◌++◌, map, take, drop, length}
+use Rattle.std.proofs.Common.{◌≡◌, ℕ, zero, suc, ◌+◌, ◌-◌, ◌<◌, ◌≤◌, ◌^◌, Bool, true, false, not, ◌&&◌, ◌||◌}
+use Rattle.std.proofs.Common.{List, [], ◌∷◌, ◌++◌, map, take, drop, length}
 use Rattle.std.proofs.Common.{Option, Some, None, refl, sym, ap, ◌∙◌, subst, arith, codes, ◌⊎◌, ⊎_elim}
 use Rattle.std.proofs.lemmas.Bool.{cases_lt, eqb-true}
 use Rattle.std.proofs.lemmas.List.Elements.{Contains-append_left, Contains-append_right}
@@ -69,7 +70,8 @@ last_of_four false b c d h = absurd (cc)
 parameter_at : (unit : UnitDef) → roles_stand unit ≡ true → (k : ℕ) (var : Var) → slice_get unit.vars k ≡ Some var →
     (is_variable var.role || is_fixed var.role) ≡ false → slice_get (parameters_of unit) k ≡ Some var
 parameter_at unit roles k var there parameter =
-    ⊎_elim (λ less. get_take unit.vars (unit.inputs + unit.outputs) k less ∙ there) (λ more. absurd (never more)) (cases_lt k (unit.inputs + unit.outputs))
+    ⊎_elim (λ less. get_take unit.vars (unit.inputs + unit.outputs) k less ∙ there)
+    (λ more. absurd (never more)) (cases_lt k (unit.inputs + unit.outputs))
   where
     dropped : {A : Type 0} (n : ℕ) (xs : List A) (k : ℕ) → n ≤ k → slice_get (drop n xs) (k - n) ≡ slice_get xs k
     dropped zero xs k le = let same : k - 0 ≡ k = omega arith in ap (slice_get xs) same
@@ -264,7 +266,8 @@ module _ (structs : List StructDef) (units : List UnitDef) (entry k : ℕ) (unit
   plain_by OfVariable s copies is other = refl
   plain_by Fixed s copies is other = refl
 
-  not_output : (j : ℕ) (var : Var) → slice_get unit.vars j ≡ Some var → unit.outputs ≡ 0 → (role : Role) → var.role ≡ role → is_output role ≡ false
+  not_output : (j : ℕ) (var : Var) → slice_get unit.vars j ≡ Some var → unit.outputs ≡ 0
+      → (role : Role) → var.role ≡ role → is_output role ≡ false
   not_output j var in_vars none Input is = refl
   not_output j var in_vars none OfVariable is = refl
   not_output j var in_vars none Fixed is = refl

@@ -1,5 +1,6 @@
 -- Inputs that are copied one after another have what their arguments have.
-use Rattle.std.proofs.Common.{◌≡◌, ℕ, suc, ◌+◌, ◌<◌, ◌≤◌, ◌^◌, arith, Bool, true, false, ◌&&◌, List, [], ◌∷◌, ◌++◌, length}
+use Rattle.std.proofs.Common.{◌≡◌, ℕ, suc, ◌+◌, ◌<◌, ◌≤◌, ◌^◌, arith, Bool, true, false, ◌&&◌, List, [], ◌∷◌}
+use Rattle.std.proofs.Common.{◌++◌, length}
 use Rattle.std.proofs.Common.{Some, None, refl, sym, ap, ◌∙◌, subst}
 use Rattle.std.proofs.lemmas.Bool.{eq-eqb, eqb-true}
 use Rattle.std.proofs.lemmas.List.{append-nil}
@@ -110,9 +111,11 @@ module _ (site : Site) (function : is_activity site.kind ≡ false) (scope : Sco
 
   -- the copied inputs before a position have what their arguments have, and all else is as it was
   pub record Copied (j : ℕ) (m : Memory) : Type 0 where
-    pub others : (k : ℕ) (var : Var) (value : Value) → var_at site k ≡ Some var → slice_get now k ≡ Some value → is_copied_input site k var ≡ false →
+    pub others : (k : ℕ) (var : Var) (value : Value) → var_at site k ≡ Some var
+        → slice_get now k ≡ Some value → is_copied_input site k var ≡ false →
         Holds site.structs var.ty value (value_at m (at k))
-    pub done : (k : ℕ) (var : Var) (value : Value) → var_at site k ≡ Some var → slice_get now k ≡ Some value → is_copied_input site k var ≡ true →
+    pub done : (k : ℕ) (var : Var) (value : Value) → var_at site k ≡ Some var
+        → slice_get now k ≡ Some value → is_copied_input site k var ≡ true →
         k < j → Holds site.structs var.ty value (value_at m (at k))
     pub kept : (root : Root) (way : List Part) → Outside root way → m root way ≡ here root way
     pub older : (root : Root) (way : List Part) → is_older scope.depth root ≡ true → m root way ≡ here root way
@@ -173,7 +176,8 @@ module _ (site : Site) (function : is_activity site.kind ≡ false) (scope : Sco
         other_root scope.depth j m lent (lent_at scope k).root (((lent_at scope k).parts ++ []) ++ way)
         (older_differs scope.depth (codes "m") (lent_at scope k).root (begun.pointers.lent_older k other known is))
 
-    stays : (k : ℕ) (other : Var) → var_at site k ≡ Some other → (k ≡ j → ⊥) → (way : List Part) → value_at next (at k) way ≡ value_at m (at k) way
+    stays : (k : ℕ) (other : Var) → var_at site k ≡ Some other → (k ≡ j → ⊥) → (way : List Part)
+        → value_at next (at k) way ≡ value_at m (at k) way
     stays k other known differ way =
         ap (λ (m : Memory). value_at m (at k) way) next_is
         ∙ by_home k other known differ way (is_activity site.kind) (home_at site k) function refl

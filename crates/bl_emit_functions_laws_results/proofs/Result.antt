@@ -103,7 +103,8 @@ none_put unit s function result all = by_kind (is_activity unit.kind) function a
     by_result None b c is all = absurd (cc)
     by_result (Some t) b c is all = and_left b c all
 
-    by_kind : (activity : Bool) → not activity ≡ true → (if activity then activity_returns unit else function_returns unit) ≡ true → unit.outputs ≡ 0
+    by_kind : (activity : Bool) → not activity ≡ true → (if activity then activity_returns unit else function_returns unit) ≡ true
+        → unit.outputs ≡ 0
     by_kind true is all = absurd (cc)
     by_kind false is all =
         eqb-true unit.outputs 0 (by_result unit.result (nat_eq unit.outputs 0) (last_of (map surely_returns unit.body)) result all)
@@ -120,7 +121,8 @@ held_lent Given h is = cc
 held_lent Lent h is = cc
 
 -- where there are no outputs, only inputs are lent
-lent_input : (structs : List StructDef) (earlier : List UnitDef) (unit : UnitDef) → roles_stand unit ≡ true → unit.outputs ≡ 0 → (j : ℕ) (var : Var) →
+lent_input : (structs : List StructDef) (earlier : List UnitDef) (unit : UnitDef)
+    → roles_stand unit ≡ true → unit.outputs ≡ 0 → (j : ℕ) (var : Var) →
     var_at (site_of structs earlier unit) j ≡ Some var → is_input var.role ≡ false → home_at (site_of structs earlier unit) j ≡ Lent → ⊥
 lent_input structs earlier unit standing none j var there writable lent = by (nat_lt j unit.inputs) refl
   where
@@ -302,7 +304,8 @@ module _ (structs : List StructDef) (units : List UnitDef) (entry k : ℕ) (unit
       (record { fits = frame_fits; variables = first.1.variables }))
       (subst (λ result. EndsFor result flow) result (bodies k unit sees frame keeps there function))
 
-pub results_come_all : (structs : List StructDef) (units : List UnitDef) (entry : ℕ) → InputsBegin structs units entry → StatementsCome structs units entry →
+pub results_come_all : (structs : List StructDef) (units : List UnitDef) (entry : ℕ)
+    → InputsBegin structs units entry → StatementsCome structs units entry →
     BodiesEnd structs units entry → CallsKeep → HandsOver structs units entry → FramesBegin structs units entry → ResultsCome structs units entry
 results_come_all structs units entry inputs statements bodies calls hands frames k unit s known depth values passed here keeps there function result may_run
     fit holds =

@@ -27,7 +27,8 @@ use Rattle.bl_emit_functions_laws_calls.specs.Laws.{FrameBegun, MayRun, is_copie
 pub record InputsBegun (site : Site) (scope : Scope) (here : Memory) (now : List Value) (after : Memory) : Type 0 where
   pub variables : VariablesHold site now scope after
   pub kept : (root : Root) (way : List Part) →
-      ((k : ℕ) (var : Var) → var_at site k ≡ Some var → is_copied_input site k var ≡ true → lies_in (location_in scope site k []) root way ≡ false) →
+      ((k : ℕ) (var : Var) → var_at site k ≡ Some var → is_copied_input site k var ≡ true
+      → lies_in (location_in scope site k []) root way ≡ false) →
       after root way ≡ here root way
 
 -- The C that copies a function's inputs goes on, and leaves each of them as its argument is

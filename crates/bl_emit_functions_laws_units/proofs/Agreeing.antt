@@ -82,7 +82,8 @@ function_of unit h =
 
 -- ---- one function after another
 
-returned_by : (depth : ℕ) (here : Memory) (left : Option Left) (called : Called) → CallReturns depth here left called → called.result ≡ number_returned left
+returned_by : (depth : ℕ) (here : Memory) (left : Option Left) (called : Called)
+    → CallReturns depth here left called → called.result ≡ number_returned left
 returned_by depth here None called h = h
 returned_by depth here (Some left) called h = h.is_returned ∙ sym (ap (option_map number_given) h.is_given)
 

@@ -1,5 +1,6 @@
 -- What holds of the C functions of all functions of a typed program.
-use Rattle.std.specs.Prelude.{◌≡◌, ℕ, zero, suc, ◌≤◌, ◌^◌, Bool, true, false, List, [], ◌∷◌, ◌++◌, take, Some, None, slice_get, length}
+use Rattle.std.specs.Prelude.{◌≡◌, ℕ, zero, suc, ◌≤◌, ◌^◌, Bool, true, false, List, [], ◌∷◌, ◌++◌, take, Some, None}
+use Rattle.std.specs.Prelude.{slice_get, length}
 use Rattle.bl_tree.specs.declared.text.Text.{Text}
 use Rattle.bl_tree.specs.declared.c.CFunc.{CFunc}
 use Rattle.bl_tree.specs.declared.place.Place.{Place}
@@ -55,7 +56,8 @@ pub record AllAgree (structs : List StructDef) (units : List UnitDef) (k : ℕ) 
 -- They do wherever they are known, at any depth in the chain of calls
 abbrev pub FunctionsCome : List StructDef → List UnitDef → ℕ → Type 0
 FunctionsCome structs units entry =
-    (k : ℕ) (scope : Scope) → Keeps structs units entry → NoneOverlaps units → AllNamesSuffice structs units → KnownUpTo structs units k scope.known →
+    (k : ℕ) (scope : Scope) → Keeps structs units entry → NoneOverlaps units
+    → AllNamesSuffice structs units → KnownUpTo structs units k scope.known →
     AllAgree structs units k scope
 
 -- ---- the functions of a C text

@@ -1,5 +1,6 @@
 -- The places of registers keep apart from one another, from variables and from copies.
-use Rattle.std.proofs.Common.{◌≡◌, ℕ, ◌<◌, ◌^◌, arith, Bool, true, false, not, ◌&&◌, ◌||◌, List, [], ◌∷◌, ◌++◌, drop, Some, refl, sym, ap, ◌∙◌}
+use Rattle.std.proofs.Common.{◌≡◌, ℕ, ◌<◌, ◌^◌, arith, Bool, true, false, not, ◌&&◌, ◌||◌, List, [], ◌∷◌, ◌++◌}
+use Rattle.std.proofs.Common.{drop, Some, refl, sym, ap, ◌∙◌}
 use Rattle.std.proofs.lemmas.Bool.{eq-eqb, eqb-true, le-leb, ltb-true}
 use Rattle.std.proofs.lemmas.Fmt.{decimal_injective}
 use Rattle.std.proofs.lemmas.Slice.Eq.{bytes_eq-Decides}
@@ -27,7 +28,8 @@ no_such : true ≡ false → ⊥
 no_such h = cc
 
 -- names of one letter with different numbers differ
-names_differ : (letter : ℕ) (j k : ℕ) → j < 2 ^ 64 → k < 2 ^ 64 → nat_eq j k ≡ false → bytes_eq (letter ∷ decimal j) (letter ∷ decimal k) ≡ false
+names_differ : (letter : ℕ) (j k : ℕ) → j < 2 ^ 64 → k < 2 ^ 64 → nat_eq j k ≡ false
+    → bytes_eq (letter ∷ decimal j) (letter ∷ decimal k) ≡ false
 names_differ letter j k less most differ = by (bytes_eq (letter ∷ decimal j) (letter ∷ decimal k)) refl
   where
     by : (same : Bool) → bytes_eq (letter ∷ decimal j) (letter ∷ decimal k) ≡ same → same ≡ false
@@ -176,7 +178,8 @@ module _ (scope : Scope) (frame : FrameStands scope) where
 
     -- so does what lies behind a pointer that leads elsewhere
     behind_by : (place : Location) (more : List Part) → is_older scope.depth place.root ≡ true → ApartFromPointers site scope place →
-        (k : ℕ) (var : Var) → var_at site k ≡ Some var → (activity : Bool) (x : Home) → is_activity site.kind ≡ activity → home_at site k ≡ x →
+        (k : ℕ) (var : Var) → var_at site k ≡ Some var → (activity : Bool) (x : Home)
+        → is_activity site.kind ≡ activity → home_at site k ≡ x →
         are_apart (further place more) (place_of activity x k) ≡ true
     behind_by place more old from k var there false Held kind is =
         apart_flip (place_of false Held k) (further place more)

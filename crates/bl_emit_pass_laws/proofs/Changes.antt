@@ -153,7 +153,8 @@ module _ (view : View) (has : Registered) (scope : Scope) (agree : CopiesAgree v
       set_comes has scope apart m (with_counter k 0 r) (with_none k r) (Before k) (pos 0) (rested_place k) (counter_value view.sizes k 0)
       (local_answer scope m (rested_name k)) (value_answer m k 0) its hold (copy_in has k r)
 
-  forgets_come : (r : Registers) (m : Memory) → RegistersHold has scope r m → (k : ℕ) → has.counters k ≡ true → (copied : Bool) → has.copied k ≡ copied →
+  forgets_come : (r : Registers) (m : Memory) → RegistersHold has scope r m → (k : ℕ)
+      → has.counters k ≡ true → (copied : Bool) → has.copied k ≡ copied →
       Leaves (with_none k r) m (forgotten view k copied)
   forgets_come r m hold k its true is =
       both_leave (freed view k ∷ []) (c_set (rested_place k) (counter_value view.sizes k 0) ∷ []) m (with_counter k 0 r) (with_none k r)

@@ -1,5 +1,6 @@
 -- The C of a guard has the value of what is asked: flags, numbers, and the ends of branches.
-use Rattle.std.proofs.Common.{◌≡◌, ℕ, zero, suc, ◌≤◌, ℤ, pos, Bool, true, false, not, ◌&&◌, ◌||◌, List, [], ◌∷◌, map, Option, Some, refl, sym, ap, ap₂}
+use Rattle.std.proofs.Common.{◌≡◌, ℕ, zero, suc, ◌≤◌, ℤ, pos, Bool, true, false, not, ◌&&◌, ◌||◌, List, [], ◌∷◌, map}
+use Rattle.std.proofs.Common.{Option, Some, refl, sym, ap, ap₂}
 use Rattle.std.proofs.Common.{◌∙◌, arith}
 use Rattle.std.proofs.lemmas.Bool.{eq-eqb, eqb-true}
 use Rattle.std.proofs.lemmas.Bool.Decides.{Decides-int_eq}
@@ -158,7 +159,8 @@ module _ (scope : Scope) (here : Memory) where
     pairs_show (d ∷ []) (a ∷ b ∷ bs) h = absurd (h.1)
     pairs_show (d ∷ e ∷ es) (a ∷ []) h = absurd (h.1)
 
-    tree_shows : (fuel : ℕ) (es : List CExpr) (bs : List Bool) → length es ≤ suc fuel → AllShow es bs → Shows (in_tree none op fuel es) (reduced f u bs)
+    tree_shows : (fuel : ℕ) (es : List CExpr) (bs : List Bool) → length es ≤ suc fuel
+        → AllShow es bs → Shows (in_tree none op fuel es) (reduced f u bs)
     tree_shows zero [] [] few h = empty
     tree_shows (suc fuel) [] [] few h = empty
     tree_shows zero (d ∷ []) (a ∷ []) few h = h.0 ∙ ap (λ b. Some (number_of b)) (sym (unit a))
@@ -166,7 +168,8 @@ module _ (scope : Scope) (here : Memory) where
     tree_shows zero (d ∷ e ∷ es) (a ∷ b ∷ bs) few h = absurd (omega (arith, few))
     tree_shows (suc fuel) (d ∷ e ∷ es) (a ∷ b ∷ bs) few h =
         let shorter : length (in_pairs op es) ≤ length es = pairs_shorter op es in
-        tree_shows fuel (in_pairs op (d ∷ e ∷ es)) (paired f (a ∷ b ∷ bs)) (omega (arith, few, shorter)) (pairs_show (d ∷ e ∷ es) (a ∷ b ∷ bs) h)
+        tree_shows fuel (in_pairs op (d ∷ e ∷ es)) (paired f (a ∷ b ∷ bs))
+        (omega (arith, few, shorter)) (pairs_show (d ∷ e ∷ es) (a ∷ b ∷ bs) h)
         ∙ ap (λ b. Some (number_of b)) (paired_same f u assoc (a ∷ b ∷ bs))
     tree_shows fuel [] (a ∷ bs) few h = absurd h
     tree_shows fuel (d ∷ es) [] few h = absurd h

@@ -58,7 +58,8 @@ module _ (scope : Scope) (m : Memory) where
 
   abbrev stepped : Location → Counted (List Part) → Option Location
   stepped start first =
-      (next (next first (λ a. next (each_of [] scope m) (λ others. given (Some (a ∷ others))))) (λ ways. given (Some (further start (way_of ways))))).answer
+      (next (next first (λ a. next (each_of [] scope m) (λ others. given (Some (a ∷ others)))))
+      (λ ways. given (Some (further start (way_of ways))))).answer
 
   pub counter_answer : (k : ℕ) → (location_c (counter_place k) scope m).answer ≡ Some (register_at scope (Counter k))
   counter_answer k =
@@ -134,7 +135,8 @@ module _ (has : Registered) (scope : Scope) (apart : RegistersApart has scope) w
 
   -- the C that sets a register
   pub set_comes : (m : Memory) (r after : Registers) (x : Register) (n : ℤ) (place : CPlace) (value : CExpr) →
-      (location_c place scope m).answer ≡ Some (register_at scope x) → (value_c value scope m).answer ≡ Some (scalar n) → has_register has x ≡ true →
+      (location_c place scope m).answer ≡ Some (register_at scope x) → (value_c value scope m).answer ≡ Some
+      (scalar n) → has_register has x ≡ true →
       RegistersHold has scope r m → SetIn has r after x n → GoesTo (RegistersLeft has scope after m) (block_c (c_set place value ∷ []) scope m)
   set_comes m r after x n place value at is there hold set =
       let o = runs_c (c_set place value) scope m in
