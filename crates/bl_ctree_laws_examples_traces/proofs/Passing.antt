@@ -110,7 +110,8 @@ both_write =
     ∙ (λ j. of_branches (strong_writes (left_repeat ∷ []) j ∷ strong_writes (right_repeat ∷ []) j ∷ []))
     ∙ (λ j. of_branches (together (loop_writes 6 (sets_x ∷ sets_o ∷ pause 3 ∷ []) j ∷ [])
     ∷ together (loop_writes 7 (sets_y ∷ pause 5 ∷ []) j ∷ []) ∷ []))
-    ∙ (λ j. of_branches (together (together (set_writes 1 x (two Add (value input) (number 1)) j ∷ set_writes 2 o (value y) j ∷ pause_writes 3 j ∷ []) ∷ [])
+    ∙ (λ j. of_branches (together
+    (together (set_writes 1 x (two Add (value input) (number 1)) j ∷ set_writes 2 o (value y) j ∷ pause_writes 3 j ∷ []) ∷ [])
     ∷ together (together (set_writes 4 y (two Mul (value x) (number 2)) j ∷ pause_writes 5 j ∷ []) ∷ []) ∷ []))
 
 splits_are : splits_of activity ≡ left_split ∷ right_split ∷ []

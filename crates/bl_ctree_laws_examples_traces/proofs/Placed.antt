@@ -1,5 +1,6 @@
 -- The statements of the activity stand at places of their own, and none of them is a `run`.
-use Rattle.std.proofs.Common.{◌≡◌, ℕ, nat_eq, Bool, false, List, [], ◌∷◌, refl, sym, ap, subst, ◌∙◌, Some, slice_get, if◌then◌else◌, IsTrue}
+use Rattle.std.proofs.Common.{◌≡◌, ℕ, nat_eq, Bool, false, List, [], ◌∷◌, refl, sym, ap}
+use Rattle.std.proofs.Common.{subst, ◌∙◌, Some, slice_get, if◌then◌else◌, IsTrue}
 use Rattle.std.specs.Prelude.{All, Contains}
 use Rattle.std.proofs.lemmas.List.Elements.{All-nil, All-cons, All-contains, Contains-get_or}
 use Rattle.std.proofs.lemmas.Option.{get_or_from_slice_get, slice_get_within}
@@ -103,7 +104,8 @@ simple k layer is run branches = record {
 }
 
 -- what has nothing in it
-leaf : (P : Stmt → Type 0) (k : ℕ) (layer : StmtKind-F StmtKind Arm Branch Stmt) → kind_children layer ≡ [] → P (stmt k layer) → Throughout P (stmt k layer)
+leaf : (P : Stmt → Type 0) (k : ℕ) (layer : StmtKind-F StmtKind Arm Branch Stmt) → kind_children layer ≡ [] → P (stmt k layer) →
+    Throughout P (stmt k layer)
 leaf P k layer none here = throughout P (stmt k layer) here (subst (All (Throughout P)) (sym (ap kind_children (layer_is k layer) ∙ none)) (All-nil _))
 
 -- a loop

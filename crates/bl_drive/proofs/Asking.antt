@@ -1,6 +1,7 @@
 -- Where a drive stands once one more plant was asked.
 use Rattle.std.proofs.Common.{◌≡◌, ℕ, zero, suc, ◌<◌, ℤ, pos, Bool, true, false, ◌&&◌, List, [], ◌∷◌, ◌++◌}
-use Rattle.std.proofs.Common.{length, map, set, replicate, nat_eq, if◌then◌else◌, refl, ap, sym, subst, ◌∙◌, append_assoc, arith, add-one, length-append}
+use Rattle.std.proofs.Common.{length, map, set, replicate, nat_eq, if◌then◌else◌, refl, ap, sym, subst}
+use Rattle.std.proofs.Common.{◌∙◌, append_assoc, arith, add-one, length-append}
 use Rattle.std.specs.List.{AllByRecursion, flat_map}
 use Rattle.std.proofs.Math.Seq.{set-append_seam}
 use Rattle.std.proofs.lemmas.Bool.{eq-eqb}
@@ -89,7 +90,8 @@ pub stands-on : (s : Scene) (done : List Role) (r : Role) (part : Part) (rest : 
     seats ≡ map seat_of (done ++ playing r.plant part ∷ rest) → AllByRecursion (Plays s.outs s.outs (suc (length s.ins))) done →
     Plays s.outs s.outs (suc (length s.ins)) (playing r.plant part) → AllByRecursion (Plays s.outs s.outs (length s.ins)) rest →
     s.ins ≡ inputs_before (done ++ playing r.plant part ∷ rest) (length s.ins) →
-    gone ≡ gone_before (done ++ playing r.plant part ∷ rest) (length s.ins) ++ (gone_at (length s.ins) done ++ gone_in (length s.ins) (playing r.plant part)) →
+    gone ≡ gone_before (done ++ playing r.plant part ∷ rest) (length s.ins) ++
+    (gone_at (length s.ins) done ++ gone_in (length s.ins) (playing r.plant part)) →
     length s.outs ≡ length s.ins → Stands s (suc (length done)) plants seats gone
 stands-on s done r part rest plants seats gone cast left seats_are earlier now later ins gone_is long =
     let t : Role = playing r.plant part in
@@ -106,7 +108,8 @@ stands-on s done r part rest plants seats gone cast left seats_are earlier now l
       ins = ins ∙ ap (λ z. inputs_before z (length s.ins)) (sym same);
       gone =
           gone_is ∙ ap (λ z. gone_before z (length s.ins) ++ (gone_at (length s.ins) done ++ gone_in (length s.ins) t)) (sym same)
-          ∙ ap (λ z. gone_before ((done ++ t ∷ []) ++ rest) (length s.ins) ++ (gone_at (length s.ins) done ++ z)) (sym (append-nil (gone_in (length s.ins) t)))
+          ∙ ap (λ z. gone_before ((done ++ t ∷ []) ++ rest) (length s.ins) ++ (gone_at (length s.ins) done ++ z))
+          (sym (append-nil (gone_in (length s.ins) t)))
           ∙ ap (λ z. gone_before ((done ++ t ∷ []) ++ rest) (length s.ins) ++ z) (sym (flat_map-append (gone_in (length s.ins)) done (t ∷ [])));
       long = long;
     }

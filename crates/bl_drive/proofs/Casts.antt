@@ -207,7 +207,8 @@ around-role plants names done r rest cast =
     (meant-seam done r rest cast.meant)
   where
     meant-seam : (done : List Role) (r : Role) (rest : List Role) →
-        AllByRecursion (λ (x : Role). first_named x.plant.name plants ≡ Some x.plant) (done ++ r ∷ rest) → first_named r.plant.name plants ≡ Some r.plant
+        AllByRecursion (λ (x : Role). first_named x.plant.name plants ≡ Some x.plant) (done ++ r ∷ rest) → first_named r.plant.name plants
+        ≡ Some r.plant
     meant-seam [] r rest all = all.0
     meant-seam (d ∷ done) r rest all = meant-seam done r rest all.1
 

@@ -1,5 +1,6 @@
 -- How a tick leaves a drive once all plants were asked.
-use Rattle.std.proofs.Common.{◌≡◌, ◌⊎◌, inl, inr, ℕ, suc, ◌<◌, ◌≤◌, ◌+◌, ℤ, pos, true, false, List, [], ◌∷◌, ◌++◌, length, map, take}
+use Rattle.std.proofs.Common.{◌≡◌, ◌⊎◌, inl, inr, ℕ, suc, ◌<◌, ◌≤◌, ◌+◌, ℤ, pos, true, false}
+use Rattle.std.proofs.Common.{List, [], ◌∷◌, ◌++◌, length, map, take}
 use Rattle.std.proofs.Common.{replicate, nat_eq, refl, ap, sym, subst, ◌∙◌, arith, add-one}
 use Rattle.std.proofs.Common.{length-append, take_all}
 use Rattle.std.specs.List.{AllByRecursion}
@@ -77,7 +78,8 @@ pub record AllAsked (s : Setting) (plants : List Shown) (seats : List Seat) (d :
 
 no-rest : (done rest : List Role) (r : Role) (seats : List Seat) → length done ≡ length seats → seats ≡ map seat_of (done ++ r ∷ rest) → ⊥
 no-rest done rest r seats long are =
-    let whole : length seats ≡ length done + suc (length rest) = ap length are ∙ length-map (done ++ r ∷ rest) seat_of ∙ length-append done (r ∷ rest) in
+    let whole : length seats ≡ length done + suc (length rest) = ap length are ∙ length-map (done ++ r ∷ rest) seat_of
+    ∙ length-append done (r ∷ rest) in
     omega (arith, whole, long)
 
 all-asked-by : (s : Setting) (plants : List Shown) (seats : List Seat) (d : Driven) (ins : List ℤ) (done rest : List Role) →

@@ -124,7 +124,8 @@ filled-within k first seats row now seat low is at wide are =
     omega (arith, most, same, long, wide, at)
 
 -- the row is filled
-pub filled-all : (k : ℕ) (seats : List Seat) (row now : List ℤ) → length seats ≤ k → length (numbers_in seats) ≡ length row → now ≡ filled k seats row →
+pub filled-all : (k : ℕ) (seats : List Seat) (row now : List ℤ) → length seats ≤ k → length (numbers_in seats) ≡ length row → now
+    ≡ filled k seats row →
     now ≡ numbers_in seats
 filled-all k seats row now past wide are =
     are ∙ ap (λ z. numbers_in z ++ drop (length (numbers_in z)) row) (take_all k seats past)

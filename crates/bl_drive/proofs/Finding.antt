@@ -68,13 +68,16 @@ drop-seam : {A : Type 0} (before : List A) (p : A) (after : List A) → drop (su
 drop-seam [] p after = refl
 drop-seam (x ∷ before) p after = drop-seam before p after
 
-pub remove-around : (before : List Shown) (p : Shown) (after now : List Shown) (at : ℕ) → at ≡ length before → now ≡ remove (before ++ p ∷ after) at →
+pub remove-around : (before : List Shown) (p : Shown) (after now : List Shown) (at : ℕ) → at ≡ length before → now
+    ≡ remove (before ++ p ∷ after) at →
     now ≡ before ++ after
 remove-around before p after now at is gone =
-    gone ∙ ap (remove (before ++ p ∷ after)) is ∙ ap (λ z. z ++ drop (suc (length before)) (before ++ p ∷ after)) (take-append_seam before (p ∷ after))
+    gone ∙ ap (remove (before ++ p ∷ after)) is ∙ ap (λ z. z ++ drop (suc (length before)) (before ++ p ∷ after))
+    (take-append_seam before (p ∷ after))
     ∙ ap (λ z. before ++ z) (drop-seam before p after)
 
-pub kept-within : {A : Type 0} (f : A → Shown) (xs ys : List A) (at : ℕ) (q : Shown) → at < length xs → map f ys ≡ set (map f xs) at q → at < length ys
+pub kept-within : {A : Type 0} (f : A → Shown) (xs ys : List A) (at : ℕ) (q : Shown) → at < length xs → map f ys ≡ set (map f xs) at q →
+    at < length ys
 kept-within f xs ys at q low is =
     let same : length ys ≡ length xs = sym (length-map ys f) ∙ ap length is ∙ length-set (map f xs) at q ∙ length-map xs f in
     omega (arith, low, same)

@@ -1,5 +1,6 @@
 -- A round of asking goes on with the next seat.
-use Rattle.std.proofs.Common.{◌≡◌, ℕ, suc, ◌+◌, ◌<◌, ◌≤◌, true, List, Some, length, get_or, take, drop, ap, sym, subst, ◌∙◌, add-one, length-append}
+use Rattle.std.proofs.Common.{◌≡◌, ℕ, suc, ◌+◌, ◌<◌, ◌≤◌, true, List, Some, length, get_or, take}
+use Rattle.std.proofs.Common.{drop, ap, sym, subst, ◌∙◌, add-one, length-append}
 use Rattle.std.proofs.lemmas.List.Folds.{length-flat_map-take}
 use Rattle.std.proofs.lemmas.Option.{slice_get-get_or}
 use Rattle.bl_plant.specs.Plants.{Shown}

@@ -32,7 +32,8 @@ map-remove f xs i =
 
 -- ---- the first that passes a test
 
-next : {A B : Type 0} (f : A → B) (xs : List A) (k : ℕ) (x : A) → k < length xs → x ≡ get_or xs k x → drop k (map f xs) ≡ f x ∷ drop (k + 1) (map f xs)
+next : {A B : Type 0} (f : A → B) (xs : List A) (k : ℕ) (x : A) → k < length xs → x ≡ get_or xs k x → drop k (map f xs)
+    ≡ f x ∷ drop (k + 1) (map f xs)
 next f xs k x low is =
     drop-map f k xs ∙ ap (map f) (drop-cons xs k x low ∙ ap (λ z. z ∷ drop (suc k) xs) (sym is))
     ∙ ap (λ z. f x ∷ z) (sym (drop-map f (suc k) xs) ∙ ap (λ n. drop n (map f xs)) (sym (add-one k)))
@@ -41,12 +42,14 @@ from-next : {B : Type 0} (t : B → Bool) (k : ℕ) (b : Bool) (y : B) (ys : Lis
     position_from t k (y ∷ ys) ≡ cond b (Some k) (position_from t (k + 1) ys)
 from-next t k b y ys is = ap (λ z. cond z (Some k) (position_from t (k + 1) ys)) is
 
-pub place-here : {A B : Type 0} (t : B → Bool) (f : A → B) (xs : List A) (k : ℕ) (x : A) (whole : Option ℕ) → k < length xs → x ≡ get_or xs k x →
+pub place-here : {A B : Type 0} (t : B → Bool) (f : A → B) (xs : List A) (k : ℕ) (x : A) (whole : Option ℕ) → k < length xs → x
+    ≡ get_or xs k x →
     position_from t k (drop k (map f xs)) ≡ whole → t (f x) ≡ true → Some k ≡ whole
 place-here t f xs k x whole low is at passes =
     sym (from-next t k true (f x) (drop (k + 1) (map f xs)) passes) ∙ sym (ap (position_from t k) (next f xs k x low is)) ∙ at
 
-pub place-later : {A B : Type 0} (t : B → Bool) (f : A → B) (xs : List A) (k : ℕ) (x : A) (whole : Option ℕ) → k < length xs → x ≡ get_or xs k x →
+pub place-later : {A B : Type 0} (t : B → Bool) (f : A → B) (xs : List A) (k : ℕ) (x : A) (whole : Option ℕ) → k < length xs → x
+    ≡ get_or xs k x →
     position_from t k (drop k (map f xs)) ≡ whole → t (f x) ≡ false → position_from t (k + 1) (drop (k + 1) (map f xs)) ≡ whole
 place-later t f xs k x whole low is at fails =
     sym (from-next t k false (f x) (drop (k + 1) (map f xs)) fails) ∙ sym (ap (position_from t k) (next f xs k x low is)) ∙ at

@@ -1,5 +1,6 @@
 -- Names and what they mean, one after the other.
-use Rattle.std.proofs.Common.{◌≡◌, ◌⊎◌, inl, inr, ℕ, zero, suc, ◌+◌, ◌-◌, ◌<◌, ◌≤◌, ◌^◌, min, Bool, true, false, ◌||◌, cond, List, [], ◌∷◌, ◌++◌}
+use Rattle.std.proofs.Common.{◌≡◌, ◌⊎◌, inl, inr, ℕ, zero, suc, ◌+◌, ◌-◌, ◌<◌, ◌≤◌, ◌^◌, min, Bool}
+use Rattle.std.proofs.Common.{true, false, ◌||◌, cond, List, [], ◌∷◌, ◌++◌}
 use Rattle.std.proofs.Common.{length, map, take, drop, get_or, Some, None, is_some, nat_eq, refl, ap, sym, subst, ◌∙◌, append_assoc, arith, add-one}
 use Rattle.std.proofs.Common.{take-suc, take_all, Result, Ok, Err}
 use Rattle.std.specs.List.{IsDistinct, find, list_any, position_from, slice_get}
@@ -54,7 +55,8 @@ named-at plants name at e =
     let is : at ≡ found.0 = let z = found.1.0 in omega (arith, z) in
     (subst (λ n. n < length plants) (sym is) found.1.1.0, found.1.1.1 ∙ ap (slice_get plants) (sym is))
 
-pub named-none : (plants : List Shown) (name : ℕ) → None ≡ position_from (λ (p : Shown). nat_eq p.name name) 0 plants → first_named name plants ≡ None
+pub named-none : (plants : List Shown) (name : ℕ) → None ≡ position_from (λ (p : Shown). nat_eq p.name name) 0 plants →
+    first_named name plants ≡ None
 named-none plants name e = found-none (λ (p : Shown). nat_eq p.name name) plants 0 (sym e)
 
 element : {A : Type 0} (xs : List A) (k : ℕ) → k < length xs → (x : A) × (slice_get xs k ≡ Some x)
@@ -207,7 +209,8 @@ both-named plants names (Err fault.NoMemory) there bad = bad
 
 -- ---- widths
 
-widths-snoc : (plants : List Shown) (names : List ℕ) (n : ℕ) → widths_of plants (names ++ n ∷ []) ≡ widths_of plants names + width_of (first_named n plants)
+widths-snoc : (plants : List Shown) (names : List ℕ) (n : ℕ) → widths_of plants (names ++ n ∷ [])
+    ≡ widths_of plants names + width_of (first_named n plants)
 widths-snoc plants [] n = omega arith
 widths-snoc plants (m ∷ names) n =
     ap (λ z. width_of (first_named m plants) + z) (widths-snoc plants names n)

@@ -1,5 +1,6 @@
 -- A number outside its range is one that was given in this tick.
-use Rattle.std.proofs.Common.{◌≡◌, ℕ, zero, suc, ◌+◌, ◌<◌, ◌≤◌, ℤ, pos, Bool, true, false, ◌&&◌, List, [], ◌∷◌, ◌++◌, length, take, replicate}
+use Rattle.std.proofs.Common.{◌≡◌, ℕ, zero, suc, ◌+◌, ◌<◌, ◌≤◌, ℤ, pos, Bool, true, false, ◌&&◌}
+use Rattle.std.proofs.Common.{List, [], ◌∷◌, ◌++◌, length, take, replicate}
 use Rattle.std.proofs.Common.{Option, Some, refl, ap, sym, ◌∙◌, append_assoc, arith, length-append, take_all}
 use Rattle.std.specs.List.{AllByRecursion, flat_map, list_all, slice_get}
 use Rattle.std.proofs.lemmas.Grind.{flat_map-append}

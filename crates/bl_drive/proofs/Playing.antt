@@ -131,7 +131,8 @@ plays-finished r outs row q stays plays gives =
       gone = λ e. record {
         earlier = omega (arith, here.given);
         rule =
-            both-some r.plant.rule (λ rule. rule (after_part r).log ≡ None) (λ rule. Unit {0}) (λ rule. rule (log_at r outs (length r.part.given)) ≡ None)
+            both-some r.plant.rule (λ rule. rule (after_part r).log ≡ None) (λ rule. Unit {0})
+            (λ rule. rule (log_at r outs (length r.part.given)) ≡ None)
             (λ rule new u.
             ap (λ z. rule (log_by r z (take (length r.part.given) outs))) (take-length r.part.given)
             ∙ ap (λ z. rule (log_by r r.part.given z)) (ap (λ n. take n outs) here.given ∙ take-length outs ∙ sym here.told) ∙ new)

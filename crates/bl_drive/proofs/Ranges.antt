@@ -83,7 +83,8 @@ front-more inputs seats k seat low is before now =
     ∙ ranges-both inputs (numbers_in (take k seats)) seat.columns (length seat.columns) before now
 
 -- the seats before one stay
-pub front-kept : (inputs : List Column) (k : ℕ) (seats now : List Seat) → take k now ≡ take k seats → FrontFits inputs k seats → FrontFits inputs k now
+pub front-kept : (inputs : List Column) (k : ℕ) (seats now : List Seat) → take k now ≡ take k seats → FrontFits inputs k seats →
+    FrontFits inputs k now
 front-kept inputs k seats now same fit = ap (λ z. in_ranges (types_of (take (length (numbers_in z)) inputs)) (numbers_in z)) same ∙ fit
 
 -- all seats' numbers are

@@ -1,5 +1,6 @@
 -- Where a drive stands before its first tick.
-use Rattle.std.proofs.Common.{◌≡◌, ℕ, ◌+◌, ◌<◌, ◌≤◌, ℤ, pos, Bool, true, false, ◌||◌, cond, List, [], ◌∷◌, ◌++◌, length, map}
+use Rattle.std.proofs.Common.{◌≡◌, ℕ, ◌+◌, ◌<◌, ◌≤◌, ℤ, pos, Bool, true, false, ◌||◌, cond}
+use Rattle.std.proofs.Common.{List, [], ◌∷◌, ◌++◌, length, map}
 use Rattle.std.proofs.Common.{get_or, take, replicate, Option, Some, None, is_some, IfSome, nat_eq, if◌then◌else◌, refl, ap, sym, subst, ◌∙◌}
 use Rattle.std.proofs.Common.{append_assoc, le_refl}
 use Rattle.std.specs.List.{AllByRecursion, IsDistinct, find, list_any, slice_get}
@@ -123,7 +124,8 @@ seats-all f plants xs k seats past so_far = so_far ∙ ap (map (new_seat plants)
 
 -- ---- the list of plants
 
-role-holds : (P : Role → Type 0) (n : ℕ) (cast : List Role) (r : Role) → AllByRecursion P cast → role_of n cast ≡ Some r → P r × (r.plant.name ≡ n)
+role-holds : (P : Role → Type 0) (n : ℕ) (cast : List Role) (r : Role) → AllByRecursion P cast → role_of n cast ≡ Some r → P r
+    × (r.plant.name ≡ n)
 role-holds P n [] r all e = cc
 role-holds P n (d ∷ cast) r all e = split (nat_eq d.plant.name n)
     (λ holds.
@@ -152,7 +154,8 @@ find-behind t (x ∷ before) p after none passes =
     ∙ find-behind t before p after (or-right (t x) (list_any t before) none) passes
 
 left-one : (plants : List Shown) (cast : List Role) (before after : List Shown) (p : Shown) → AllByRecursion (IsNew plants) cast →
-    plants ≡ before ++ p ∷ after → list_any (λ (q : Shown). nat_eq q.name p.name) before ≡ false → (o : Option Role) → role_of p.name cast ≡ o →
+    plants ≡ before ++ p ∷ after → list_any (λ (q : Shown). nat_eq q.name p.name) before ≡ false → (o : Option Role) → role_of p.name cast
+    ≡ o →
     left_by o p ≡ p ∷ []
 left-one plants cast before after p all are none None is = refl
 left-one plants cast before after p all are none (Some r) is =

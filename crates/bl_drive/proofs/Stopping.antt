@@ -116,7 +116,8 @@ all-front : {A : Type 0} (P : A → Type 0) (xs : List A) (y : A) → AllByRecur
 all-front P [] y all = (tt, all.0)
 all-front P (x ∷ xs) y all = let both = all-front P xs y all.1 in ((all.0, both.0), both.1)
 
-get-mid : (asked : List Role) (role : Role) (rest : List Role) → slice_get (map seat_of ((asked ++ role ∷ []) ++ rest)) (length asked) ≡ Some (seat_of role)
+get-mid : (asked : List Role) (role : Role) (rest : List Role) → slice_get (map seat_of ((asked ++ role ∷ []) ++ rest)) (length asked)
+    ≡ Some (seat_of role)
 get-mid [] role rest = refl
 get-mid (d ∷ asked) role rest = get-mid asked role rest
 

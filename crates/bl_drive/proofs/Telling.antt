@@ -188,7 +188,8 @@ told-there h k plants seats n seat again is is_too stays =
       around = is-around h k plants seats n (ap (λ (x : Seat). x.finished) (sym same) ∙ stays);
     })
 
-map-change : {A B : Type 0} (f : A → B) (done : List A) (r t : A) (rest : List A) → f t ≡ f r → map f (done ++ r ∷ rest) ≡ map f (done ++ t ∷ rest)
+map-change : {A B : Type 0} (f : A → B) (done : List A) (r t : A) (rest : List A) → f t ≡ f r → map f (done ++ r ∷ rest)
+    ≡ map f (done ++ t ∷ rest)
 map-change f [] r t rest e = ap (λ z. z ∷ map f rest) (sym e)
 map-change f (d ∷ done) r t rest e = ap (λ z. f d ∷ z) (map-change f done r t rest e)
 

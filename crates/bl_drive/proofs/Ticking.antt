@@ -1,5 +1,6 @@
 -- A tick, from asking to its end.
-use Rattle.std.proofs.Common.{◌≡◌, ℕ, suc, ◌<◌, ◌+◌, ◌^◌, ℤ, Bool, true, false, List, [], ◌∷◌, ◌++◌, length, map, nat_eq, Result, Ok, Err}
+use Rattle.std.proofs.Common.{◌≡◌, ℕ, suc, ◌<◌, ◌+◌, ◌^◌, ℤ, Bool, true, false, List, [], ◌∷◌}
+use Rattle.std.proofs.Common.{◌++◌, length, map, nat_eq, Result, Ok, Err}
 use Rattle.std.proofs.Common.{refl, ap, sym, subst, ◌∙◌, arith, add-one}
 use Rattle.std.specs.List.{AllByRecursion, IsDistinct}
 use Rattle.std.specs.Prelude.{IfErr, OnErr, OnOk}
@@ -78,7 +79,8 @@ row-stops s ticks runner plants seats d gone inputs e (Err x) is runs within sam
 
 -- want of memory behind that
 pub short-row : (s : Setting) (ticks : ℕ) (runner : Running) (plants : List Shown) (seats : List Seat) (d : Driven) (gone : List Gone)
-    (inputs : List Column) (ins : List ℤ) (r : Result Tick DriveFault) → IsErrAnd r (λ x. x ≡ fault.NoMemory) → RunsOn s runner d → length d.ins < s.ticks →
+    (inputs : List Column) (ins : List ℤ) (r : Result Tick DriveFault) → IsErrAnd r (λ x. x ≡ fault.NoMemory) → RunsOn s runner d →
+    length d.ins < s.ticks →
     RowEnds (scene_of s d) inputs plants seats gone (Ok ins) →
     TickEnds s ticks runner plants seats (record { ins = d.ins; trace = d.trace; gone = gone }) r
 short-row s ticks runner plants seats d gone inputs ins (Ok t) is runs within ends = absurd is

@@ -1,5 +1,6 @@
 -- How a drive ends.
-use Rattle.std.specs.Prelude.{◌≡◌, ◌≢◌, ◌⊎◌, ℕ, ◌+◌, suc, ◌<◌, ◌≤◌, ℤ, true, false, List, [], ◌∷◌, ◌++◌, length, take, drop, fold}
+use Rattle.std.specs.Prelude.{◌≡◌, ◌≢◌, ◌⊎◌, ℕ, ◌+◌, suc, ◌<◌, ◌≤◌, ℤ, true, false, List}
+use Rattle.std.specs.Prelude.{[], ◌∷◌, ◌++◌, length, take, drop, fold}
 use Rattle.std.specs.Prelude.{Option, Some, None, Result, Ok, Err, is_some, nat_eq, slice_get}
 use Rattle.std.specs.List.{AllByRecursion, IsDistinct, list_any}
 use Rattle.bl_cmeaning.specs.Cells.{inputs_of}

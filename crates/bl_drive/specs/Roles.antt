@@ -1,5 +1,6 @@
 -- What the plants that are named did in a drive.
-use Rattle.std.specs.Prelude.{◌≡◌, ◌<◌, ◌≤◌, ℕ, zero, suc, ℤ, pos, Bool, true, false, ◌&&◌, if◌then◌else◌, List, [], ◌∷◌, ◌++◌, length, map, take, replicate}
+use Rattle.std.specs.Prelude.{◌≡◌, ◌<◌, ◌≤◌, ℕ, zero, suc, ℤ, pos, Bool, true, false, ◌&&◌, if◌then◌else◌, List}
+use Rattle.std.specs.Prelude.{[], ◌∷◌, ◌++◌, length, map, take, replicate}
 use Rattle.std.specs.Prelude.{Option, Some, None, IfSome, nat_eq, slice_get}
 use Rattle.std.specs.List.{AllByRecursion, IsDistinct, find, flat_map, list_any}
 use Rattle.bl_plant.specs.Plants.{Shown}

@@ -118,14 +118,14 @@ module _ (site : Site) (copied : ℕ → Bool) (scope : Scope) (stand : Pointers
     apart_by false Held Given kind is at = own_own (codes "m") (variable_name k) (place_of false Held j) (place_of false Given k) refl refl refl
     apart_by true Held Given kind is at =
         apart_flip (place_of true Given k) (place_of true Held j)
-        (own_older (variable_name k) (place_of true Given k) (place_of true Held j) refl (stand.held_older kind))
+        (own_older (variable_name k) (place_of true Given k) (place_of true Held j) refl (stand.held_older j a there is kind))
     apart_by false Held Lent kind is at =
         own_older (codes "m") (place_of false Held j) (place_of false Lent k) refl (stand.lent_older k b other at)
     apart_by true Held Lent kind is at =
         further_apart (remembered_at scope) (lent_at scope k) (lead_in Held j ++ []) (lead_in Lent k ++ []) (stand.held_apart kind k b other at)
     apart_by false Given Held kind is at = own_own (variable_name j) (codes "m") (place_of false Given j) (place_of false Held k) refl refl refl
     apart_by true Given Held kind is at =
-        own_older (variable_name j) (place_of true Given j) (place_of true Held k) refl (stand.held_older kind)
+        own_older (variable_name j) (place_of true Given j) (place_of true Held k) refl (stand.held_older k b other at kind)
     apart_by activity Given Given kind is at =
         own_own (variable_name j) (variable_name k) (place_of activity Given j) (place_of activity Given k) refl refl v_differ
     apart_by activity Given Lent kind is at =
@@ -149,7 +149,7 @@ module _ (site : Site) (copied : ℕ → Bool) (scope : Scope) (stand : Pointers
   copy_by j k var there false Held kind is = own_own (codes "m") (copy_name k) (place_of false Held j) (copy_location scope k) refl refl refl
   copy_by j k var there true Held kind is =
       apart_flip (copy_location scope k) (place_of true Held j)
-      (own_older (copy_name k) (copy_location scope k) (place_of true Held j) refl (stand.held_older kind))
+      (own_older (copy_name k) (copy_location scope k) (place_of true Held j) refl (stand.held_older j var there is kind))
   copy_by j k var there activity Given kind is =
       own_own (variable_name j) (copy_name k) (place_of activity Given j) (copy_location scope k) refl refl refl
   copy_by j k var there activity Lent kind is =
@@ -160,7 +160,7 @@ module _ (site : Site) (copied : ℕ → Bool) (scope : Scope) (stand : Pointers
       → is_activity site.kind ≡ activity → home_at site k ≡ x →
       is_live scope.depth (place_of activity x k).root ≡ true
   live_by k var there false Held kind is = number_itself scope.depth
-  live_by k var there true Held kind is = older_live scope.depth (remembered_at scope).root (stand.held_older kind)
+  live_by k var there true Held kind is = older_live scope.depth (remembered_at scope).root (stand.held_older k var there is kind)
   live_by k var there activity Given kind is = number_itself scope.depth
   live_by k var there activity Lent kind is = older_live scope.depth (lent_at scope k).root (stand.lent_older k var there is)
 

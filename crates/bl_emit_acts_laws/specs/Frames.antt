@@ -5,7 +5,7 @@ use Rattle.bl_tree.specs.Program.{is_input}
 use Rattle.bl_tree.specs.Typing.{Site, is_activity, var_at}
 use Rattle.bl_cmeaning.specs.Meaning.{Scope, start_of}
 use Rattle.bl_cmeaning.specs.Memory.{Location, Root, variable}
-use Rattle.bl_emit_acts.specs.declared.home.Home.TheVariants.{Lent}
+use Rattle.bl_emit_acts.specs.declared.home.Home.TheVariants.{Held, Lent}
 use Rattle.bl_emit_acts.specs.Types.{variable_name}
 use Rattle.bl_emit_acts_laws.specs.Acts.{CopiesApart}
 use Rattle.bl_emit_acts_laws.specs.Holds.{VariablesApart, VariablesLive, are_apart, home_at}
@@ -23,12 +23,13 @@ lent_at scope k = start_of scope true (variable_name k)
 abbrev pub remembered_at : Scope → Location
 remembered_at scope = start_of scope true (codes "m")
 
--- The pointers of a unit lead to what was there before it began. Where one leads that is written through has nothing in common with where any other
--- leads
+-- The pointers of a unit lead to what was there before it began; of these the one to what an activity remembers matters only where it remembers a
+-- variable. Where one leads that is written through has nothing in common with where any other leads
 pub record PointersStand (site : Site) (scope : Scope) : Type 0 where
   pub few : length site.vars ≤ 2 ^ 64
   pub lent_older : (k : ℕ) (var : Var) → var_at site k ≡ Some var → home_at site k ≡ Lent → is_older scope.depth (lent_at scope k).root ≡ true
-  pub held_older : is_activity site.kind ≡ true → is_older scope.depth (remembered_at scope).root ≡ true
+  pub held_older : (k : ℕ) (var : Var) → var_at site k ≡ Some var → home_at site k ≡ Held → is_activity site.kind ≡ true →
+      is_older scope.depth (remembered_at scope).root ≡ true
   pub lent_apart : (j k : ℕ) (a b : Var) → var_at site j ≡ Some a → var_at site k ≡ Some b → home_at site j ≡ Lent → home_at site k ≡ Lent →
       is_input a.role ≡ false → nat_eq j k ≡ false → are_apart (lent_at scope j) (lent_at scope k) ≡ true
   pub held_apart : is_activity site.kind ≡ true → (k : ℕ) (var : Var) → var_at site k ≡ Some var → home_at site k ≡ Lent →

@@ -252,7 +252,7 @@ module _ (structs : List StructDef) (earlier : List UnitDef) (unit : UnitDef) (s
   pointers = record {
     few = few;
     lent_older = λ j var there is. lent_older j var is (where_is j var there);
-    held_older = λ activity. absurd (no_such (sym activity ∙ no_activity));
+    held_older = λ k var there held activity. absurd (no_such (sym activity ∙ no_activity));
     lent_apart = λ i j a b there other is at writable differ.
         lent_apart i j a b there is at writable differ (where_is i a there) (where_is j b other);
     held_apart = λ activity. absurd (no_such (sym activity ∙ no_activity));

@@ -17,27 +17,8 @@ use Rattle.bl_tree.specs.declared.tree.StructDef.{StructDef}
 use Rattle.bl_tree.specs.declared.tree.Unit.{Unit as UnitDef}
 use Rattle.bl_tree.specs.Program.{parameters_of}
 use Rattle.bl_tree.specs.Typing.{site_of}
-use Rattle.bl_nodes.specs.Nodes.{EnterAt, Node, are_instant, entry, is_instant, nodes_in}
-use Rattle.bl_nodes.specs.Plain.{
-  Act,
-  Again,
-  Await,
-  Block,
-  Bodies,
-  Body as BodyOf,
-  Cobegin,
-  Done,
-  If,
-  Last,
-  Plain,
-  Repeat,
-  Run as RunOf,
-  Then,
-  Until,
-  When,
-  While,
-  plain_body,
-}
+use Rattle.bl_nodes.specs.Nodes.{EnterAt, Node, entry}
+use Rattle.bl_nodes.specs.Plain.{Block, Done, Then, plain_body}
 use Rattle.bl_machine.specs.Blocks.{up_to}
 use Rattle.bl_machine.specs.Uses.{Slots}
 use Rattle.bl_tree.specs.Reduce.{joined}
@@ -46,13 +27,13 @@ use Rattle.bl_emit_acts.specs.Trees.{c_read, c_two, nowhere}
 use Rattle.bl_emit_acts.specs.Types.{c_scalar, copy_name, unit_name}
 use Rattle.bl_emit_acts.specs.Expressions.{scalar_at}
 use Rattle.bl_emit_functions.specs.Functions.{members_of, memory_name, params_from, struct_of}
-use Rattle.bl_pass.specs.Numbered.{position_where, same_node}
 use Rattle.bl_pass.specs.Rules.{Asked, Change, Rule}
 use Rattle.bl_pass.specs.Rules.{Ended, Flagged, Marks, Rested, RestedIn, rules}
+pub use Rattle.bl_pass_listed.specs.Callees.{callees_in, number_in}
 use Rattle.bl_emit_pass.specs.Blocks.{Sizes, View, blocks_code, counter_type, counter_value, name_in}
 use Rattle.bl_emit_pass.specs.Names.{callee_name, counter_name, counter_place, ended_name, flag_name, flag_place, frame_name}
 use Rattle.bl_emit_pass.specs.Names.{given_name, mark_name, rested_name, rested_place}
-use Rattle.bl_emit_pass.specs.Prevs.{prevs_of}
+use Rattle.bl_prevs.specs.Prevs.{prevs_of}
 
 -- ---- runs
 
@@ -60,41 +41,6 @@ use Rattle.bl_emit_pass.specs.Prevs.{prevs_of}
 pub record RunAt : Type 0 where
   pub number : ℕ
   pub unit : ℕ
-
--- no activity, for a node that is there where the test is true
-abbrev pub zero_where : Bool → List ℕ
-zero_where true = 0 ∷ []
-zero_where false = []
-
-abbrev mutual
-  -- for each node of a statement, in their order, the activity that it calls; 0 for those that call none
-  pub callees_of : Plain → List ℕ
-  callees_of (Act l s) = 0 ∷ []
-  callees_of (Await l at e) = 0 ∷ 0 ∷ []
-  callees_of (RunOf l at target a inputs outputs) = a ∷ a ∷ []
-  callees_of (If l at e body other) = 0 ∷ (callees_in body ++ callees_in other)
-  callees_of (Cobegin l at bodies) = 0 ∷ (zero_where (is_instant (Cobegin l at bodies)) ++ 0 ∷ callees_in_each bodies)
-  callees_of (When l at guard e body) = 0 ∷ (zero_where (are_instant body) ++ 0 ∷ 0 ∷ callees_in body)
-  callees_of (Repeat l at body) = 0 ∷ callees_in body
-  callees_of (Until l at body e) = 0 ∷ 0 ∷ callees_in body
-  callees_of (While l at e body) = 0 ∷ callees_in body
-  callees_of (Again l at body e) = 0 ∷ 0 ∷ callees_in body
-
-  -- of a block
-  pub callees_in : Block → List ℕ
-  callees_in Done = []
-  callees_in (Then s rest) = callees_of s ++ callees_in rest
-
-  -- of branches
-  pub callees_in_each : Bodies → List ℕ
-  callees_in_each Last = []
-  callees_in_each (BodyOf weak body rest) = callees_in body ++ callees_in_each rest
-
--- ---- numbers of nodes
-
--- the number of a node in C names: where it stands in the order of the blocks, which has the positions of nodes in the body
-abbrev pub number_in : List ℕ → Block → Node → ℕ
-number_in order body n = position_where (nat_eq (position_where (same_node n) (nodes_in body))) order
 
 -- ---- an activity
 

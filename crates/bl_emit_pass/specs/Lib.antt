@@ -1,5 +1,4 @@
 pub mod Activities
 pub mod Blocks
 pub mod Names
-pub mod Prevs
 pub mod Programs

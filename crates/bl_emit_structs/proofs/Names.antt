@@ -1,5 +1,6 @@
 -- Names that are taken, as a set and as a list.
-use Rattle.std.proofs.Common.{◌≡◌, ℕ, Bool, true, false, not, if◌then◌else◌, ◌||◌, List, [], ◌∷◌, ◌++◌, map, refl, sym, ap, ◌∙◌}
+use Rattle.std.proofs.Common.{◌≡◌, ℕ, Bool, true, false, not, if◌then◌else◌, ◌||◌, List, [], ◌∷◌}
+use Rattle.std.proofs.Common.{◌++◌, map, refl, sym, ap, ◌∙◌}
 use Rattle.std.specs.Prelude.{bytes_eq, string_bytes, string_eq}
 use Rattle.std.specs.List.{list_any}
 use Rattle.std.specs.Prelude.{String}

@@ -76,7 +76,8 @@ pub known_more : (xs ys : List Text) (ty : CType) → Within xs ys → is_known 
 known_more xs ys (OfScalar s) within h = refl
 known_more xs ys (OfStruct name) within h = within name h
 
-pub all_more : {A : Type 0} (p q : A → Bool) → ((x : A) → p x ≡ true → q x ≡ true) → (xs : List A) → list_all p xs ≡ true → list_all q xs ≡ true
+pub all_more : {A : Type 0} (p q : A → Bool) → ((x : A) → p x ≡ true → q x ≡ true) → (xs : List A) → list_all p xs ≡ true →
+    list_all q xs ≡ true
 all_more p q more [] h = refl
 all_more p q more (x ∷ xs) h =
     both (q x) (list_all q xs) (more x (and_left (p x) (list_all p xs) h)) (all_more p q more xs (and_right (p x) (list_all p xs) h))

@@ -1,5 +1,6 @@
 -- What a program's types need uses only what stands before it.
-use Rattle.std.proofs.Common.{◌≡◌, ℕ, ◌+◌, suc, ◌<◌, ◌≤◌, Bool, true, ◌&&◌, List, [], ◌∷◌, ◌++◌, map, length, Some, refl, sym, ap, subst, ◌∙◌, arith, inl, inr}
+use Rattle.std.proofs.Common.{◌≡◌, ℕ, ◌+◌, suc, ◌<◌, ◌≤◌, Bool, true, ◌&&◌, List, [], ◌∷◌, ◌++◌, map, length, Some}
+use Rattle.std.proofs.Common.{refl, sym, ap, subst, ◌∙◌, arith, inl, inr}
 use Rattle.std.proofs.lemmas.Bool.{cases_lt}
 use Rattle.std.proofs.lemmas.Bool.Decides.{nat_tests}
 use Rattle.std.proofs.lemmas.List.{append_assoc, map-append}
@@ -56,7 +57,8 @@ module _ {X : Type 0} (needs : X → List CStruct) (ok : X → Bool) (fine : Lis
       let ends : after ++ names_of rest ≡ names ++ names_of (needs x ++ rest) = seam names (needs x) rest in (
         known_append names (needs x) rest own.0 later.0,
         both (fine (names ++ names_of (needs x ++ rest)) x) (list_all (fine (names ++ names_of (needs x ++ rest))) xs)
-            (subst (λ l. fine l x ≡ true) ends (fine_more after (after ++ names_of rest) (λ name there. has_front name after (names_of rest) there) x own.1))
+            (subst (λ l. fine l x ≡ true) ends
+            (fine_more after (after ++ names_of rest) (λ name there. has_front name after (names_of rest) there) x own.1))
             (subst (λ l. list_all (fine l) xs ≡ true) ends later.1),
       )
 
@@ -76,7 +78,8 @@ module _ (structs : List StructDef) where
   pub name_at : (ty : Ty) (layer : Ty-F Ty) → out-Ty ty ≡ layer → type_name structs ty ≡ name_level structs (map-Ty Ty Text (type_name structs) layer)
   name_at ty layer is = fold_out-Ty Text (name_level structs) ty ∙ ap (λ l. name_level structs (map-Ty Ty Text (type_name structs) l)) is
 
-  pub stands_at : (k : ℕ) (ty : Ty) (layer : Ty-F Ty) → out-Ty ty ≡ layer → type_stands k ty ≡ type_stands_level k (map-Ty Ty Bool (type_stands k) layer)
+  pub stands_at : (k : ℕ) (ty : Ty) (layer : Ty-F Ty) → out-Ty ty ≡ layer → type_stands k ty
+      ≡ type_stands_level k (map-Ty Ty Bool (type_stands k) layer)
   stands_at k ty layer is = fold_out-Ty Bool (type_stands_level k) ty ∙ ap (λ l. type_stands_level k (map-Ty Ty Bool (type_stands k) l)) is
 
   abbrev inner : Ty → Ty → List CStruct
@@ -139,7 +142,8 @@ module _ (structs : List StructDef) where
       (are_known names (arrays_of structs field.ty) ≡ true) × (known_in (names ++ names_of (arrays_of structs field.ty)) field.ty ≡ true)
   field_declares k field names known h = declares k names known field.ty h
 
-  definition_known : (k : ℕ) (def : StructDef) (names : List Text) → Known k names → list_all (λ (field : Field). type_stands k field.ty) def.fields ≡ true
+  definition_known : (k : ℕ) (def : StructDef) (names : List Text) → Known k names →
+      list_all (λ (field : Field). type_stands k field.ty) def.fields ≡ true
       → are_known names (structs_for_definition structs def) ≡ true
   definition_known k def names known h =
       let needs : Field → List CStruct = λ field. arrays_of structs field.ty in
@@ -208,7 +212,8 @@ module _ (structs : List StructDef) where
   unit_known : (unit : UnitDef) (names : List Text) → Known (length structs) names → vars_stand unit ≡ true →
       (are_known names (structs_for_unit structs unit) ≡ true) × (vars_known (names ++ names_of (structs_for_unit structs unit)) unit ≡ true)
   unit_known unit names known h =
-      each (λ (var : Var). arrays_of structs var.ty) (λ var. type_stands (length structs) var.ty) (λ names var. known_in names var.ty) (Known (length structs))
+      each (λ (var : Var). arrays_of structs var.ty) (λ var. type_stands (length structs) var.ty) (λ names var. known_in names var.ty)
+      (Known (length structs))
       (λ xs ys within var. known_more xs ys (c_type structs var.ty) within) (known_within (length structs))
       (λ var names known h. declares (length structs) names known var.ty h) unit.vars names known h
 

@@ -67,7 +67,8 @@ once_has name taken (s ∷ rest) h =
         ∙ new (ap (λ b. b || has name (names_of rest)) pushed ∙ sym (moved (has name taken) (bytes_eq name s.name) (has name (names_of rest))) ∙ h)
 
 -- none of the structs that are kept has a name that is taken
-pub once_new : (name : Text) (taken : List Text) (structs : List CStruct) → has name taken ≡ true → has name (names_of (each_once taken structs)) ≡ false
+pub once_new : (name : Text) (taken : List Text) (structs : List CStruct) → has name taken ≡ true → has name (names_of (each_once taken structs))
+    ≡ false
 once_new name taken [] there = refl
 once_new name taken (s ∷ rest) there =
     by (has s.name taken) (once_new name taken rest there) (once_new name (taken ++ s.name ∷ []) rest (has_front name taken (s.name ∷ []) there)) refl

@@ -49,7 +49,8 @@ UsesEarlier structs units entry = Keeps structs units entry → are_known [] (ea
 abbrev pub TypesDeclared : List StructDef → List UnitDef → ℕ → Type 0
 TypesDeclared structs units entry =
     Keeps structs units entry
-    → list_all (λ (unit : UnitDef). list_all (λ var. is_known (names_of (each_once [] (structs_for structs units))) (c_type structs var.ty)) unit.vars) units
+    → list_all (λ (unit : UnitDef). list_all
+    (λ var. is_known (names_of (each_once [] (structs_for structs units))) (c_type structs var.ty)) unit.vars) units
     ≡ true
 
 -- types of a typed program that have one name are one type

@@ -1,5 +1,6 @@
 -- Structs in which no clause fails, one after another.
-use Rattle.std.proofs.Common.{◌≡◌, ℕ, suc, ◌+◌, ◌≤◌, Bool, true, false, not, ◌&&◌, ◌||◌, List, [], ◌∷◌, ◌++◌, map, length, Option, Some, None}
+use Rattle.std.proofs.Common.{◌≡◌, ℕ, suc, ◌+◌, ◌≤◌, Bool, true, false, not, ◌&&◌, ◌||◌, List, []}
+use Rattle.std.proofs.Common.{◌∷◌, ◌++◌, map, length, Option, Some, None}
 use Rattle.std.proofs.Common.{refl, sym, ap, ◌∙◌, subst, arith}
 use Rattle.std.proofs.lemmas.Bool.Decides.{nat_tests}
 use Rattle.std.proofs.lemmas.List.Folds.{list_any-append}
@@ -138,7 +139,8 @@ module _ (structs : List StructDef) where
   pub deep_nothing : Deep no_entries
   deep_nothing ty stands = omega arith
 
-  level_deep : (depths : Table ℕ) (name : Text) (n : ℕ) (layer : Ty-F Ty) → entry_or 0 depths name ≤ n → depth_of_type depths (type_level name layer) ≤ n
+  level_deep : (depths : Table ℕ) (name : Text) (n : ℕ) (layer : Ty-F Ty) → entry_or 0 depths name ≤ n →
+      depth_of_type depths (type_level name layer) ≤ n
   level_deep depths name n (Ty-F.Scalar s) le = omega arith
   level_deep depths name n (Ty-F.Struct k) le = le
   level_deep depths name n (Ty-F.Array m element) le = le
@@ -189,7 +191,8 @@ module _ (structs : List StructDef) where
   deep_more : (depths : Table ℕ) (s : CStruct) → Deep depths → Fine s → Deep (with_entry depths s.name (depth_of_struct depths s))
   deep_more depths s deep fine ty stands = by (depths (type_name structs ty)) (bytes_eq s.name (type_name structs ty)) refl refl (deep ty stands)
     where
-      by : (o : Option ℕ) (b : Bool) → depths (type_name structs ty) ≡ o → bytes_eq s.name (type_name structs ty) ≡ b → unwrap_or o 0 ≤ nesting structs ty →
+      by : (o : Option ℕ) (b : Bool) → depths (type_name structs ty) ≡ o → bytes_eq s.name (type_name structs ty) ≡ b →
+          unwrap_or o 0 ≤ nesting structs ty →
           unwrap_or (option_or o (if b then Some (depth_of_struct depths s) else None)) 0 ≤ nesting structs ty
       by (Some n) b is same le = le
       by None true is same le = named_deep depths s deep fine ty stands (sym ((bytes_eq-Decides s.name (type_name structs ty)).0 same))
@@ -218,7 +221,8 @@ module _ (structs : List StructDef) where
   at_most n le = grind (arith, nat_tests)
 
   struct_sound : (s : CStruct) (names : List Text) (table : Table (Table CMember)) (depths : Table ℕ) → Has table names → Deep depths →
-      not (has s.name names) ≡ true → list_all (λ (m : CMember). is_known names m.ty) s.members ≡ true → are_distinct (member_names s) ≡ true → Fine s →
+      not (has s.name names) ≡ true → list_all (λ (m : CMember). is_known names m.ty) s.members ≡ true → are_distinct (member_names s)
+      ≡ true → Fine s →
       faults_in_struct table depths s ≡ []
   struct_sound s names table depths are deep new known differ fine =
       let few : longest depths s ≤ 299 = few_deep depths s deep fine in

@@ -15,7 +15,8 @@ use Rattle.bl_measures.specs.Types.{fields_nesting, level_nesting, nesting, nest
 use Rattle.bl_measures.proofs.TableLemmas.{answer_at}
 use Rattle.bl_eval.proofs.PassLemmas.{and_left, and_right, both}
 
-pub stands_at : (k : ℕ) (ty : Ty) (layer : Ty-F Ty) → out-Ty ty ≡ layer → type_stands k ty ≡ type_stands_level k (map-Ty Ty Bool (type_stands k) layer)
+pub stands_at : (k : ℕ) (ty : Ty) (layer : Ty-F Ty) → out-Ty ty ≡ layer → type_stands k ty
+    ≡ type_stands_level k (map-Ty Ty Bool (type_stands k) layer)
 stands_at k ty layer is = fold_out-Ty Bool (type_stands_level k) ty ∙ ap (λ l. type_stands_level k (map-Ty Ty Bool (type_stands k) l)) is
 
 pub nesting_at : (known : List ℕ) (ty : Ty) (layer : Ty-F Ty) → out-Ty ty ≡ layer →
@@ -105,7 +106,8 @@ module _ (structs : List StructDef) where
       let one : nesting_by (take k (struct_nestings structs)) field.ty
       ≤ greatest (map (λ (field : Field). nesting_by (take k (struct_nestings structs)) field.ty) def.fields) =
       greatest_has (λ (field : Field). nesting_by (take k (struct_nestings structs)) field.ty) def.fields j field has in
-      let same : nesting_by (take k (struct_nestings structs)) field.ty ≡ nesting structs field.ty = same_before (struct_nestings structs) k field.ty stands in
+      let same : nesting_by (take k (struct_nestings structs)) field.ty
+      ≡ nesting structs field.ty = same_before (struct_nestings structs) k field.ty stands in
       omega (arith, whole, one, same)
 
   pub struct_some : (k : ℕ) (def : StructDef) → slice_get structs k ≡ Some def → 1 ≤ slice_index (struct_nestings structs) k

@@ -1,5 +1,6 @@
 -- Which type of a program each of its C structs is.
-use Rattle.std.proofs.Common.{◌≡◌, ℕ, zero, suc, ◌+◌, ◌<◌, ◌≤◌, true, ◌&&◌, List, [], ◌∷◌, map, length, Option, Some, None, ◌⊎◌}
+use Rattle.std.proofs.Common.{◌≡◌, ℕ, zero, suc, ◌+◌, ◌<◌, ◌≤◌, true, ◌&&◌, List, [], ◌∷◌}
+use Rattle.std.proofs.Common.{map, length, Option, Some, None, ◌⊎◌}
 use Rattle.std.proofs.Common.{refl, sym, ap, ◌∙◌, subst, arith, ⊎_elim}
 use Rattle.std.proofs.lemmas.List.Elements.{Contains-append_cases, Contains-push_cases}
 use Rattle.std.proofs.lemmas.Option.{slice_get_within}
@@ -139,7 +140,8 @@ module _ (structs : List StructDef) (most : ℕ) where
   none_has xs x none has = let lt = subst (λ l. has.0 < length l) none has.1 in omega arith
 
   abbrev ArraysAre : Ty → Type 0
-  ArraysAre ty = type_stands n_structs ty ≡ true → nesting structs ty ≤ most → (s : CStruct) → Contains (arrays_of structs ty) s → StructOf structs most s
+  ArraysAre ty = type_stands n_structs ty ≡ true → nesting structs ty ≤ most → (s : CStruct) → Contains (arrays_of structs ty) s →
+      StructOf structs most s
 
   arrays_by : (layer : Ty-F ((ty : Ty) × ArraysAre ty)) → ArraysAre (roll-Ty (map-Ty ((ty : Ty) × ArraysAre ty) Ty (λ e. e.0) layer))
   arrays_by (Ty-F.Scalar t) stands few s has =

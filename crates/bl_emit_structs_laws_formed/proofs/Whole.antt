@@ -1,5 +1,6 @@
 -- The structs of a whole program, and those of variables behind them.
-use Rattle.std.proofs.Common.{◌≡◌, ℕ, zero, suc, ◌+◌, ◌<◌, ◌≤◌, Bool, true, false, not, ◌||◌, List, [], ◌∷◌, ◌++◌, map, length, Option, Some}
+use Rattle.std.proofs.Common.{◌≡◌, ℕ, zero, suc, ◌+◌, ◌<◌, ◌≤◌, Bool, true, false, not, ◌||◌, List}
+use Rattle.std.proofs.Common.{[], ◌∷◌, ◌++◌, map, length, Option, Some}
 use Rattle.std.proofs.Common.{refl, sym, ap, ◌∙◌, subst, arith, codes, ⊎_elim}
 use Rattle.std.proofs.lemmas.List.{append-nil, append_assoc}
 use Rattle.std.proofs.lemmas.List.Elements.{Contains-append_cases}
@@ -243,7 +244,8 @@ bearer : (xs : List CStruct) (name : Text) → has name (names_of xs) ≡ true �
 bearer [] name h = absurd (cc)
 bearer (x ∷ xs) name h = by (bytes_eq name x.name) refl h (bearer xs name)
   where
-    by : (b : Bool) → bytes_eq name x.name ≡ b → (b || has name (names_of xs)) ≡ true → (has name (names_of xs) ≡ true → Bearer xs name) → Bearer (x ∷ xs) name
+    by : (b : Bool) → bytes_eq name x.name ≡ b → (b || has name (names_of xs)) ≡ true →
+        (has name (names_of xs) ≡ true → Bearer xs name) → Bearer (x ∷ xs) name
     by true is h rest = record { struct = x; has = (0, omega arith, refl); named = (bytes_eq-Decides name x.name).0 is }
     by false is h rest =
         let b = rest h in record { struct = b.struct; has = (suc b.has.0, (let lt = b.has.1 in omega arith), b.has.2); named = b.named }
@@ -274,7 +276,8 @@ module _ (structs : List StructDef) (units : List UnitDef) (entry : ℕ) (keeps 
   begins ty (Ty-F.Array n element) is some =
       ap begins_type (name_at structs ty (Ty-F.Array n element) is) ∙ array_begins n (type_name structs element)
 
-  plain_type : (s : CStruct) (ty : Ty) (layer : Ty-F Ty) → out-Ty ty ≡ layer → s.name ≡ type_name structs ty → 1 ≤ nesting structs ty → interface_fits s ≡ true
+  plain_type : (s : CStruct) (ty : Ty) (layer : Ty-F Ty) → out-Ty ty ≡ layer → s.name ≡ type_name structs ty → 1 ≤ nesting structs ty →
+      interface_fits s ≡ true
   plain_type s ty (Ty-F.Scalar t) is named some =
       absurd (let none : nesting structs ty ≡ 0 = nesting_at (struct_nestings structs) ty (Ty-F.Scalar t) is in omega (arith, some, none))
   plain_type s ty (Ty-F.Struct k) is named some =
@@ -409,7 +412,8 @@ module _ (structs : List StructDef) (units : List UnitDef) (entry : ℕ) (keeps 
           let same : one.ty ≡ other.ty = apart one.ty other.ty keeps one.stands other.stands (sym one.named ∙ named ∙ other.named) in
           one.made ∙ ap (λ ty. struct_level structs (out-Ty ty)) same ∙ sym other.made
 
-pub structs_formed : (structs : List StructDef) (units : List UnitDef) (entry : ℕ) → MembersDiffer structs units entry → UsesEarlier structs units entry →
+pub structs_formed : (structs : List StructDef) (units : List UnitDef) (entry : ℕ) → MembersDiffer structs units entry →
+    UsesEarlier structs units entry →
     TypesDeclared structs units entry → TypesApart structs units entry → StructsFormed structs units entry
 structs_formed structs units entry differ earlier declared apart memories keeps nests are =
     formed structs units entry keeps apart differ earlier declared memories nests are

@@ -1,5 +1,6 @@
 -- How many points of a listing may act, and which is the n-th.
-use Rattle.std.proofs.Common.{◌≡◌, ℕ, zero, suc, ◌+◌, ◌<◌, ◌≤◌, List, [], ◌∷◌, map, drop, length, refl, sym, ap, ◌∙◌, ◌≢◌, slice_index_or, arith}
+use Rattle.std.proofs.Common.{◌≡◌, ℕ, zero, suc, ◌+◌, ◌<◌, ◌≤◌, List, [], ◌∷◌, map, drop, length}
+use Rattle.std.proofs.Common.{refl, sym, ap, ◌∙◌, ◌≢◌, slice_index_or, arith}
 use Rattle.std.specs.Prelude.{Bool, Some, slice_get}
 use Rattle.std.proofs.lemmas.List.{length-append}
 use Rattle.std.proofs.lemmas.Option.{slice_get-get_or}
@@ -109,7 +110,8 @@ module _ (l : Shown) (right : IsRight l) where
     spots_within : k < length l.spots
     spots_within = omega (arith, free_within, ap length right.free, flags_many l.homes 0 l.spots)
 
-    pub read_more : (next total more all : ℕ) → next ≡ suc k → more ≡ total + slice_index_or items k 0 → total + length (enabled_past l k) ≡ all →
+    pub read_more : (next total more all : ℕ) → next ≡ suc k → more ≡ total + slice_index_or items k 0 → total + length (enabled_past l k)
+        ≡ all →
         more + length (enabled_past l next) ≡ all
     read_more next total more all is_next is_more before =
         ap (λ n. more + length (enabled_past l n)) is_next

@@ -151,7 +151,8 @@ get_behind (x ∷ xs) ys zero m is = absurd (omega (arith, is))
 get_behind (x ∷ xs) ys (suc n) m is = get_behind xs ys n m (omega (arith, is))
 
 -- one more flag that is true or false
-pub flagged_here : {A : Type 0} (bs : List Bool) (xs : List A) (k n m : ℕ) (x : A) → slice_get bs k ≡ Some true → slice_get xs k ≡ Some x → n ≡ suc m
+pub flagged_here : {A : Type 0} (bs : List Bool) (xs : List A) (k n m : ℕ) (x : A) → slice_get bs k ≡ Some true → slice_get xs k ≡ Some x →
+    n ≡ suc m
     → slice_get (flagged (drop k bs) (drop k xs)) n ≡ slice_get (flagged (drop (suc k) bs) (drop (suc k) xs)) m
 flagged_here bs xs k n m x flag here is =
     (λ i. slice_get (flagged (drop_here bs k true flag i) (drop_here xs k x here i)) (is i))

@@ -146,7 +146,8 @@ module _ (w : Setting) (i : ℕ) (all : List Seen) where
   none_taken [] = refl
   none_taken (x ∷ xs) = refl
 
-  pub enabled_all : map (spot_below w []) (branch_points w i (branches_of all)) ≡ all_flagged (flags_from known 0 (spots_from w i 0 all)) (spots_from w i 0 all)
+  pub enabled_all : map (spot_below w []) (branch_points w i (branches_of all))
+      ≡ all_flagged (flags_from known 0 (spots_from w i 0 all)) (spots_from w i 0 all)
   enabled_all =
       sym (branches_start w i [] all)
       ∙ ap (λ front. filter (is_free front) (map (spot_from w [] 0) (branch_points w i (branches_of all)))) (sym (none_taken known))
@@ -173,7 +174,8 @@ settled_branches still w i (branch weak c others) e =
     ap (λ ps. map (in_first (λ c. branch weak c others)) (free_of (any_meets w i others) ps)
     ++ map (in_later (branch weak c)) (free_of (meets w i c) (branch_points w i others)))
     (still w i c (and-left (is_settled c) (are_settled others) e))
-    ∙ ap (λ ps. map (in_later (branch weak c)) (free_of (meets w i c) ps)) (settled_branches still w i others (and-right (is_settled c) (are_settled others) e))
+    ∙ ap (λ ps. map (in_later (branch weak c)) (free_of (meets w i c) ps))
+    (settled_branches still w i others (and-right (is_settled c) (are_settled others) e))
 
 no_joining : SettledIsStill → (w : Setting) (i : ℕ) (s : Located) (bs : Branches) (b : Bool) → (are_settled bs && are_done bs) ≡ b →
     branch_points w i bs ≢ [] → (if b then sure i s Silent Nil else []) ≡ []

@@ -10,7 +10,8 @@ use Rattle.bl_ctree.specs.Nodes.{Seen, branch_seen, branches_of, control_of, loc
 use Rattle.bl_listing.specs.Listing.{each_branch}
 use Rattle.bl_listing.specs.Spots.{moved}
 
-pub control_of_par : (s : At) (stood : Bool) (all : List BranchNode) → control_of (ParNode s stood all) ≡ Par (located s) stood (branches_of (map seen_of all))
+pub control_of_par : (s : At) (stood : Bool) (all : List BranchNode) → control_of (ParNode s stood all)
+    ≡ Par (located s) stood (branches_of (map seen_of all))
 control_of_par s stood all = search (rules, the_lemmas)
 
 pub par_is : (node : Node) (s : At) (stood : Bool) (all : List BranchNode) → node ≡ ParNode s stood all →

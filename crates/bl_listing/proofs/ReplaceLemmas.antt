@@ -1,5 +1,6 @@
 -- The flags of a listing in which one branch is replaced, and those that are asked again.
-use Rattle.std.proofs.Common.{◌≡◌, ℕ, zero, suc, ◌+◌, ◌<◌, ◌≤◌, Bool, false, List, [], ◌∷◌, ◌++◌, map, take, drop, length, refl, sym, ap, ◌∙◌, arith}
+use Rattle.std.proofs.Common.{◌≡◌, ℕ, zero, suc, ◌+◌, ◌<◌, ◌≤◌, Bool, false, List, [], ◌∷◌, ◌++◌, map}
+use Rattle.std.proofs.Common.{take, drop, length, refl, sym, ap, ◌∙◌, arith}
 use Rattle.std.specs.Prelude.{Some, option_map, slice_get, slice_set}
 use Rattle.bl_ctree.specs.Store.{Location}
 use Rattle.bl_listing.specs.Listing.{IsRight, Shown, flags_from, flags_of, touches, trues}
@@ -29,7 +30,8 @@ module _ (hs : List (List Location)) (k : ℕ) (before : List Location) (j : ℕ
       ∙ mixed_more now was m b many (map_get (is_free_of hs j) spots m ∙ ap (option_map (is_free_of hs j)) here ∙ ap Some (sym is_b))
 
   -- a flag that is as it was
-  pub flag_left : (m : ℕ) (spot : Spot) (free : List Bool) → slice_get spots m ≡ Some spot → touches before spot.reads ≡ false → Off hs k before spot.reads →
+  pub flag_left : (m : ℕ) (spot : Spot) (free : List Bool) → slice_get spots m ≡ Some spot → touches before spot.reads ≡ false →
+      Off hs k before spot.reads →
       free ≡ take m now ++ drop m was → free ≡ take (suc m) now ++ drop (suc m) was
   flag_left m spot free here off too before_it =
       before_it
@@ -37,7 +39,8 @@ module _ (hs : List (List Location)) (k : ℕ) (before : List Location) (j : ℕ
       (map_get (is_free_of (slice_set hs k before) j) spots m ∙ ap (option_map (is_free_of (slice_set hs k before) j)) here
       ∙ ap Some (flag_same hs k j before spot off too))
 
-  pub flags_next : (m next : ℕ) (free : List Bool) → next ≡ suc m → free ≡ take (suc m) now ++ drop (suc m) was → free ≡ take next now ++ drop next was
+  pub flags_next : (m next : ℕ) (free : List Bool) → next ≡ suc m → free ≡ take (suc m) now ++ drop (suc m) was → free
+      ≡ take next now ++ drop next was
   flags_next m next free is_next is = is ∙ ap (λ n. take n now ++ drop n was) (sym is_next)
 
   pub flags_end : (m : ℕ) (free : List Bool) → length spots ≤ m → free ≡ take m now ++ drop m was → free ≡ now
@@ -113,7 +116,8 @@ pub flags_by_same : (hs : List (List Location)) (ms : List (List Spot)) (free : 
 flags_by_same hs ms free k h h' same is =
     is ∙ ap (λ hs. flags_from hs 0 ms) (ap (slice_set (slice_set hs k h') k) same ∙ set_twice hs k h' h')
 
-pub counts_set : (fs : List (List Bool)) (cs : List ℕ) (k : ℕ) (f : List Bool) → cs ≡ map trues fs → slice_set cs k (trues f) ≡ map trues (slice_set fs k f)
+pub counts_set : (fs : List (List Bool)) (cs : List ℕ) (k : ℕ) (f : List Bool) → cs ≡ map trues fs → slice_set cs k (trues f)
+    ≡ map trues (slice_set fs k f)
 counts_set fs cs k f is = ap (λ cs. slice_set cs k (trues f)) is ∙ sym (set_map trues fs k f)
 
 -- ---- a listing in which one branch is replaced

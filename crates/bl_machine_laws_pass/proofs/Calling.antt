@@ -1,5 +1,6 @@
 -- Steps of a called instance are the lowest of its caller too, where the caller's node is the first that waits.
-use Rattle.std.proofs.Common.{◌≡◌, ◌⊎◌, inl, inr, ℕ, ◌≤◌, Bool, true, false, not, ◌&&◌, List, [], ◌∷◌, ◌++◌, Some, refl, ap, ◌∙◌, subst, arith}
+use Rattle.std.proofs.Common.{◌≡◌, ◌⊎◌, inl, inr, ℕ, ◌≤◌, Bool, true, false, not, ◌&&◌, List, [], ◌∷◌}
+use Rattle.std.proofs.Common.{◌++◌, Some, refl, ap, ◌∙◌, subst, arith}
 use Rattle.std.specs.Prelude.{unwrap_or}
 use Rattle.bl_nodes.specs.Nodes.{Node, place_of_node}
 use Rattle.bl_nodes.specs.Steps.{Gives, Here, Inside, StepLabel, run_node}
@@ -93,7 +94,8 @@ pub record Beyond (rank : ℕ → Node → ℕ) (i k : ℕ) (m : StepLabel) : Ty
   pub is : m ≡ Here node
   pub most : k ≤ rank i node
 
-module _ (moving : MovingIsUnsettled) (w : Setting) (rank : ℕ → Node → ℕ) (i : ℕ) (h : Hole) (other : Tree) (unended : is_nil other ≡ false) (s : Call)
+module _ (moving : MovingIsUnsettled) (w : Setting) (rank : ℕ → Node → ℕ) (i : ℕ) (h : Hole) (other : Tree)
+    (unended : is_nil other ≡ false) (s : Call)
     (callee : ℕ) (stood : Bool) (called : callee_of w i s.place ≡ Some callee)
     (beyond : (m : StepLabel) → Has w i (fill h other) m → Beyond rank i (rank i (run_node stood s.label s.place s.arguments)) m) where
   abbrev here : Node

@@ -1,5 +1,6 @@
 -- What waits first can act: where it stands in its tree.
-use Rattle.std.proofs.Common.{◌≡◌, inl, inr, ℕ, ◌<◌, ◌≤◌, Bool, true, false, not, ◌&&◌, ◌||◌, List, Option, Some, None, refl, sym, ap, ◌∙◌, subst, arith}
+use Rattle.std.proofs.Common.{◌≡◌, inl, inr, ℕ, ◌<◌, ◌≤◌, Bool, true, false, not, ◌&&◌, ◌||◌, List, Option}
+use Rattle.std.proofs.Common.{Some, None, refl, sym, ap, ◌∙◌, subst, arith}
 use Rattle.bl_tree.specs.declared.place.Place.{Place as Source}
 use Rattle.bl_tree.specs.declared.tree.Expr.{Expr}
 use Rattle.bl_tree.specs.declared.tree.Path.{Path}
@@ -184,7 +185,8 @@ weak_edge true weak body rest l at instant n instantly there is = inr (inr (inr 
 weak_edge false weak body rest l at instant n instantly there is = inr (inr (inl ((there, inl is), (instantly refl, refl))))
 
 late_first : (w : Setting) (i : ℕ) (g : Place) (stood instant weak : Bool) (c : Tree) (branches : Trees) (weak' : Bool) (body : Block)
-    (rest : Bodies) (l : Label) (at : Source) → (stood ≡ false → instant ≡ true) → Lives w i (beside weak c branches) (BodyOf weak' body rest) stood g →
+    (rest : Bodies) (l : Label) (at : Source) → (stood ≡ false → instant ≡ true) →
+    Lives w i (beside weak c branches) (BodyOf weak' body rest) stood g →
     Steady c → (weak || is_nil c) ≡ true → (is_settled c ≡ true → Late branches (EdgeEach rest l at instant) (join_node stood l at)) →
     Late (beside weak c branches) (EdgeEach (BodyOf weak' body rest) l at instant) (join_node stood l at)
 late_first w i g stood instant weak c branches weak' body rest l at instantly live steady ended others = by_first (is_settled c) refl

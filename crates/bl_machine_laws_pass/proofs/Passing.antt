@@ -141,7 +141,8 @@ module _ (moving : MovingIsUnsettled) (w : Setting) (rank : ℕ → Node → ℕ
         LowSteps w rank i (fill h t) store (did a true) (fill h t') left
     copied store left performs = on (lift_moves h t t' unended move) lowest performs stay
 
-    copy_turn : (store : Store) → (done_by w a store ≡ None → Breaks w rank i t store n) → ((p : Performed) → done_by w a store ≡ Some p → p.answer ≡ true) →
+    copy_turn : (store : Store) → (done_by w a store ≡ None → Breaks w rank i t store n) →
+        ((p : Performed) → done_by w a store ≡ Some p → p.answer ≡ true) →
         ((left : Store) → done_by w a store ≡ Some (record { answer = true; store = left }) → TurnOrTrap w rank i (fill h t) store n) →
         TurnOrTrap w rank i (fill h t) store n
     copy_turn store breaks plain more = by_answer (done_by w a store) refl
@@ -248,7 +249,8 @@ module _ (moving : MovingIsUnsettled) (shrinks : EndsShrink) (lists : TurnsAreWa
       lowest : Lowest w rank i (fill h t) (Here n)
       lowest = first_lowest moving w rank i (fill h t) n steady first
 
-      made : (left : Store) → done_by w copy store ≡ Some (record { answer = true; store = left }) → (done : List Answered) (tree : Tree) (left' : Store) →
+      made : (left : Store) → done_by w copy store ≡ Some (record { answer = true; store = left }) →
+          (done : List Answered) (tree : Tree) (left' : Store) →
           Passes w rank callee 0 c done tree → LowSteps w rank callee c left done tree left' → Follows w rank callee 0 c left tree left' →
           (b : Bool) → is_nil tree ≡ b →
           TurnOrTrap w rank i (fill h t) store n
@@ -401,7 +403,8 @@ module _ (moving : MovingIsUnsettled) (shrinks : EndsShrink) (lists : TurnsAreWa
     W = setting_of structs units entry
 
     pass_all : (limit i k : ℕ) (unit : UnitDef) (stood : Bool) (c : Tree) (store : Store) → length W.instances ≤ limit + i → Paces W →
-        AllCallable W → Orders W rank → unit_at W i ≡ Some unit → Live W i c (whole stood (plain_body unit.body)) → Steady c → WaitsFrom rank i k c →
+        AllCallable W → Orders W rank → unit_at W i ≡ Some unit → Live W i c (whole stood (plain_body unit.body)) → Steady c →
+        WaitsFrom rank i k c →
         PassOrTrap W rank i k c store
     pass_all zero i k unit stood c store enough paces callable orders is live steady from =
         let within : i < length W.instances = there W i unit is in absurd (omega arith)

@@ -63,7 +63,8 @@ mapped_true make None p e = absurd cc
 mapped_true make (Some v) p e = done_true (make v) p e
 
 -- then the answer is true
-pub plain_answer : (w : Setting) (a : Deed) (store : Store) (p : Performed) → is_plain a.effect ≡ true → done_by w a store ≡ Some p → p.answer ≡ true
+pub plain_answer : (w : Setting) (a : Deed) (store : Store) (p : Performed) → is_plain a.effect ≡ true → done_by w a store ≡ Some p →
+    p.answer ≡ true
 plain_answer w a store p plain e = by_effect a.effect plain e
   where
     by_effect : (effect : Effect) → is_plain effect ≡ true → effect_on w a.instance effect store ≡ Some p → p.answer ≡ true

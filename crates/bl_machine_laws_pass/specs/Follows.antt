@@ -97,7 +97,8 @@ mutual
     point_traps : {i : ℕ} {c : Tree} {store : Store} {d : Bool} {a : Deed} {n : Node} {c' : Tree} →
         Point w i c d a n c' → done_by w a store ≡ None → Breaks w rank i c store n
     -- the inputs of a `run` that begins trap, or a deed in what it calls
-    inputs_trap : {i : ℕ} {l : Label} {at : Place} {target : Option Path} {a : ℕ} {inputs : List Expr} {outputs : List Path} {callee : ℕ} {store : Store} →
+    inputs_trap : {i : ℕ} {l : Label} {at : Place} {target : Option Path} {a : ℕ} {inputs : List Expr}
+        {outputs : List Path} {callee : ℕ} {store : Store} →
         callee_of w i at ≡ Some callee → done_by w (deed i at (Copies callee inputs)) store ≡ None →
         Breaks w rank i (Do (RunOf l at target a inputs outputs)) store (entry (RunOf l at target a inputs outputs))
     run_traps : {i : ℕ} {l : Label} {at : Place} {target : Option Path} {a : ℕ} {inputs : List Expr} {outputs : List Path} {callee : ℕ} {unit : UnitDef}
@@ -127,7 +128,8 @@ mutual
 
   -- Fails w rank i k c store: such turns lead to one that traps
   pub data Fails (w : Setting) (rank : ℕ → Node → ℕ) : ℕ → ℕ → Tree → Store → Type 0 where
-    breaks : {i k : ℕ} {c : Tree} {store : Store} {n : Node} → k ≤ rank i n → First rank i c n → Breaks w rank i c store n → Fails w rank i k c store
+    breaks : {i k : ℕ} {c : Tree} {store : Store} {n : Node} → k ≤ rank i n → First rank i c n → Breaks w rank i c store n →
+        Fails w rank i k c store
     goes_on : {i k : ℕ} {c : Tree} {store : Store} {n : Node} {c' : Tree} {between : Store} →
         k ≤ rank i n → First rank i c n → Takes w rank i c store n c' between → Fails w rank i (suc (rank i n)) c' between →
         Fails w rank i k c store

@@ -176,7 +176,8 @@ activity_there units machine are at unit is activity =
 -- ---- orders
 
 module _ (within : (body : Block) → StaysWithin body) (w : Setting) (machine : List Activity) (are : AreActivitiesOf w.units machine)
-    (active : (i : ℕ) (unit : UnitDef) → unit_at w i ≡ Some unit → is_activity unit.kind ≡ true) (rank : ℕ → Node → ℕ) (go_by : GoBy w machine rank) where
+    (active : (i : ℕ) (unit : UnitDef) → unit_at w i ≡ Some unit → is_activity unit.kind ≡ true) (rank : ℕ → Node → ℕ)
+    (go_by : GoBy w machine rank) where
   record Stands (i : ℕ) (unit : UnitDef) : Type 0 where
     instance : InstanceThere w i unit
     activity : ActivityThere w.units machine instance.instance.unit unit

@@ -113,7 +113,8 @@ module _ (lowest : ReachedLowestMayAct) (complete : PlainStepsAreSteps) (sound :
   ended : (after : Control) (left : Store) → control.is_nil after ≡ true → outcome_at (Rests after left) ≡ Ended
   ended after left e = ap (λ nil. resting_outcome nil (control.is_settled after)) e
 
-  paused : (after : Control) (left : Store) → control.is_nil after ≡ false → control.is_settled after ≡ true → outcome_at (Rests after left) ≡ Paused
+  paused : (after : Control) (left : Store) → control.is_nil after ≡ false → control.is_settled after ≡ true → outcome_at (Rests after left)
+      ≡ Paused
   paused after left e settled =
       ap (λ nil. resting_outcome nil (control.is_settled after)) e ∙ ap (λ settled. resting_outcome false settled) settled
 
@@ -123,7 +124,8 @@ module _ (lowest : ReachedLowestMayAct) (complete : PlainStepsAreSteps) (sound :
   goes_on row rows c store after left rest tick waits more = means.goes_on tick waits more
 
   -- what a run of passes shows is allowed
-  allowed : {rows : List (List ℤ)} {t : Tree} {store : Store} {trace : Trace} → PassRun W rank rows t store trace → (before : List (List ℤ)) (c : Control) →
+  allowed : {rows : List (List ℤ)} {t : Tree} {store : Store} {trace : Trace} → PassRun W rank rows t store trace →
+      (before : List (List ℤ)) (c : Control) →
       plain_tree c ≡ t → Reaches W before c store → Allows W rows c store (shown trace)
   allowed runs.stays_open before c eq reached = means.stays_open
   allowed (runs.traps {row = row} {c = t} {store = store} trap) before c eq reached =
@@ -145,7 +147,8 @@ module _ (lowest : ReachedLowestMayAct) (complete : PlainStepsAreSteps) (sound :
   abbrev FromAll : List (List ℤ) → Type 0
   FromAll rows = (before : List (List ℤ)) (c : Control) (store : Store) → Reaches W before c store → Made rows c store
 
-  by_end : (rows : List (List ℤ)) → FromAll rows → (before : List (List ℤ)) (row : List ℤ) (c : Control) (store : Store) → Reaches W before c store →
+  by_end : (rows : List (List ℤ)) → FromAll rows → (before : List (List ℤ)) (row : List ℤ) (c : Control) (store : Store) →
+      Reaches W before c store →
       (one : TickPasses W rank row c store) (nil : Bool) → is_nil one.pass.tree ≡ nil → Made (row ∷ rows) c store
   by_end rows further before row c store reached one true e =
       record { trace = row_before (outputs_row W one.pass.left) (no_row HasEnded); made = runs.ends one.pass e }
@@ -158,7 +161,8 @@ module _ (lowest : ReachedLowestMayAct) (complete : PlainStepsAreSteps) (sound :
         made = runs.goes_on one.pass e (subst (λ (t : Tree). PassRun W rank rows t one.pass.left more.trace) one.is more.made);
       }
 
-  by_tick : (rows : List (List ℤ)) → FromAll rows → (before : List (List ℤ)) (row : List ℤ) (c : Control) (store : Store) → Reaches W before c store →
+  by_tick : (rows : List (List ℤ)) → FromAll rows → (before : List (List ℤ)) (row : List ℤ) (c : Control) (store : Store) →
+      Reaches W before c store →
       TickPasses W rank row c store ⊎ TickTraps W rank row c store → Made (row ∷ rows) c store
   by_tick rows further before row c store reached (inl one) = by_end rows further before row c store reached one (is_nil one.pass.tree) refl
   by_tick rows further before row c store reached (inr trap) = record { trace = no_row HasTrapped; made = runs.traps trap.trap }
@@ -184,7 +188,8 @@ module _ (lowest : ReachedLowestMayAct) (complete : PlainStepsAreSteps) (sound :
             (at_most structs units entry rows (shown other) (shown one.trace) keeps passes (meant rows other run) allows);
       }
 
-pub runs_are_meant : ReachedLowestMayAct → PlainStepsAreSteps → StepsArePlain → MayIsCould → MovingIsUnsettled → AnswersArePlain → ReachedInsideIsProper →
+pub runs_are_meant : ReachedLowestMayAct → PlainStepsAreSteps → StepsArePlain → MayIsCould → MovingIsUnsettled → AnswersArePlain →
+    ReachedInsideIsProper →
     ReachedIsProper → ReachedIsArmed → StepsFollow → WakingIsPlain → AcceptedIsOrderly → TicksArePasses → AcceptedTracesAreOne → RunsAreMeant
 runs_are_meant lowest complete sound could moving answers inside between armed follow waking orderly have at_most = record {
   meant = λ structs units entry rank keeps passes orders rows trace run.

@@ -1,3 +1,2 @@
-pub mod Keys
 pub mod Positions
 pub mod Runs

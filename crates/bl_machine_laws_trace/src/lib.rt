@@ -3,10 +3,9 @@
 //! that a pass can go by them, and there are such numbers for each machine of an accepted program (`specs/Positions.antt`). A run
 //! each tick of which is one pass shows what the parallel meaning allows, whichever passes it makes. In an accepted program there
 //! is such a run over all rows of inputs, in the machine's own order and with no further premise; the meaning allows its trace and
-//! nothing else (`specs/Runs.antt`, `MachinesHaveOneTrace`). Label and sort tell the nodes of a body apart (`specs/Keys.antt`).
+//! nothing else (`specs/Runs.antt`, `MachinesHaveOneTrace`).
 #![tactic(auto)]
 
-ghost use Rattle.bl_machine_laws_trace.specs.Keys.{NodesHaveKeys};
 ghost use Rattle.bl_machine_laws_trace.specs.Positions.{MachinesGiveOrders};
 ghost use Rattle.bl_machine_laws_trace.specs.Runs.{MachinesHaveOneTrace, RunsAreMeant};
 
@@ -20,11 +19,6 @@ use bl_ctree_laws_ready::reached_lowest_may_act;
 use bl_graph::graphs_stay_within;
 use bl_machine_laws_pass::{graphs_give_orders, ticks_are_passes};
 use bl_rules_laws::accepted_programs_are_ordered;
-
-/// Label and sort tell the nodes of a body apart. It speaks of bodies alone, and could stand with the laws of nodes.
-pub fn nodes_have_keys()
-    ensures { NodesHaveKeys }
-{}
 
 /// Positions in the blocks of a machine rise along all edges of the tick graphs and tell the nodes of each body apart.
 pub fn machines_give_orders()

@@ -177,7 +177,8 @@ guard_stirs s stood c next left inner = by_end (is_settled c) refl
     by_end false e = record { node = (inner e).node; waits = (inner e).waits }
 
 -- one of the branches has something waiting
-first_stirs : (weak : Bool) (c : Tree) (branches : Trees) → (is_settled c && are_settled branches) ≡ false → (is_settled c ≡ false → Some_at c None) →
+first_stirs : (weak : Bool) (c : Tree) (branches : Trees) → (is_settled c && are_settled branches) ≡ false →
+    (is_settled c ≡ false → Some_at c None) →
     (are_settled branches ≡ false → Some_in branches) → Some_in (beside weak c branches)
 first_stirs weak c branches left inner others = by_first (is_settled c) refl
   where
@@ -316,7 +317,8 @@ mutual
   in_part w i g (Run s callee Body stood c) next n live closed follows h = absurd h
   in_part w i g (Run s callee Check stood c) next n live closed follows h = subst g.now (sym h) live.2.now
 
-  pub each_in_part : (w : Setting) (i : ℕ) (g : Place) (stood : Bool) (branches : Trees) (bodies : Bodies) (n : Node) → Lives w i branches bodies stood g →
+  pub each_in_part : (w : Setting) (i : ℕ) (g : Place) (stood : Bool) (branches : Trees) (bodies : Bodies) (n : Node) →
+      Lives w i branches bodies stood g →
       SomeWaits branches n → InEach stood bodies n
   each_in_part w i g stood no_tree bodies n live h = absurd h
   each_in_part w i g stood (beside weak c branches) Last n live h = absurd live

@@ -1,5 +1,6 @@
 -- What waits in a woken tree, and its numbers.
-use Rattle.std.proofs.Common.{◌≡◌, ℕ, suc, Bool, true, false, not, ◌&&◌, ◌||◌, if◌then◌else◌, Option, Some, None, inl, inr, refl, sym, ap, ◌∙◌}
+use Rattle.std.proofs.Common.{◌≡◌, ℕ, suc, Bool, true, false, not, ◌&&◌, ◌||◌, if◌then◌else◌, Option, Some}
+use Rattle.std.proofs.Common.{None, inl, inr, refl, sym, ap, ◌∙◌}
 use Rattle.bl_nodes.specs.Nodes.{Node, entry}
 use Rattle.bl_nodes.specs.Plain.{Bodies, Body as BodyOf, Done, Label, Last, Then}
 use Rattle.bl_nodes.specs.Steps.{end_node}
@@ -82,7 +83,8 @@ woken_done w i g stood branches bodies live =
 -- ---- what waits in a woken tree rested between ticks
 
 -- of a whole branch or body, also where it has ended
-either_rested : (c : Tree) (n : Node) → (is_nil c ≡ false → Waits (woken c) None n → Sleeps (woken c) n) → Waits (woken c) None n → Sleeps (woken c) n
+either_rested : (c : Tree) (n : Node) → (is_nil c ≡ false → Waits (woken c) None n → Sleeps (woken c) n) → Waits (woken c) None n →
+    Sleeps (woken c) n
 either_rested Nil n rested h = h
 either_rested (Wait s) n rested h = rested refl h
 either_rested (Test s) n rested h = rested refl h

@@ -75,6 +75,7 @@ WaitsInPart =
 -- rise along control edges no node waits again after its own turn
 abbrev pub TurnsLeadOn : Type 0
 TurnsLeadOn =
-    (w : Setting) (rank : ℕ → Node → ℕ) (i : ℕ) (stood : Bool) (unit : UnitDef) (c : Tree) (done : List Answered) (n : Node) (c' : Tree) (y : Node) →
+    (w : Setting) (rank : ℕ → Node → ℕ) (i : ℕ) (stood : Bool) (unit : UnitDef) (c : Tree) (done : List Answered) (n : Node) (c' : Tree)
+    (y : Node) →
     Paces w → Live w i c (whole stood (plain_body unit.body)) → Turns w rank i c done n c' → Waits c' None y →
     (Waits c None y × (y ≡ n → ⊥)) ⊎ After (EdgeAll (plain_body unit.body)) n y

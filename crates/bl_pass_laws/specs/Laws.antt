@@ -72,7 +72,8 @@ pub record Turning (w : Setting) (rank : ℕ → Node → ℕ) (i : ℕ) (slots 
 -- where counters tell the numbers of the tree before a turn they do after it, and so does whether the body has ended
 abbrev pub TurnsChangeNumbers : Type 0
 TurnsChangeNumbers =
-    (w : Setting) (rank : ℕ → Node → ℕ) (i : ℕ) (slots : Slots) (unit : UnitDef) (stood : Bool) (c : Tree) (done : List Answered) (n : Node) (c' : Tree)
+    (w : Setting) (rank : ℕ → Node → ℕ) (i : ℕ) (slots : Slots) (unit : UnitDef) (stood : Bool) (c : Tree) (done : List Answered) (n : Node)
+    (c' : Tree)
     (rule : Rule) (r : Registers) (turn : Turns w rank i c done n c') → Turning w rank i slots unit stood c n rule →
     ((j : ℕ) → r.counters j ≡ numbers_of slots c Over j) → r.over ≡ is_nil c →
     let r' = after_rule (rank i) rule (answer_of turn) r in
@@ -89,4 +90,5 @@ entry_flag number (Then s rest) k = nat_eq k (number (entry s))
 abbrev pub FirstCounterTells : Type 0
 FirstCounterTells =
     (w : Setting) (i : ℕ) (slots : Slots) (unit : UnitDef) (stood : Bool) (c : Tree) → Live w i c (whole stood (plain_body unit.body)) →
-    Laid slots (plain_body unit.body) → Placed slots (plain_body unit.body) c → is_settled c ≡ true → is_nil c ≡ false → numbers_of slots c Over 0 ≡ 0 → ⊥
+    Laid slots (plain_body unit.body) → Placed slots (plain_body unit.body) c → is_settled c ≡ true → is_nil c ≡ false →
+    numbers_of slots c Over 0 ≡ 0 → ⊥

@@ -22,5 +22,6 @@ module _ {w : Setting} {rank : ℕ → Node → ℕ} {i : ℕ} where
 
   -- a node has its turn, whose number is at least this one
   pub then : {k : ℕ} {c : Tree} {done : List Answered} {n : Node} {c' : Tree} {others : List Answered} {c'' : Tree} →
-      Turns w rank i c done n c' → nat_le k (rank i n) ≡ true → Passes w rank i (suc (rank i n)) c' others c'' → Passes w rank i k c (done ++ others) c''
+      Turns w rank i c done n c' → nat_le k (rank i n) ≡ true → Passes w rank i (suc (rank i n)) c' others c'' →
+      Passes w rank i k c (done ++ others) c''
   then turn low rest = turns.goes (at_most _ _ low) turn rest

@@ -10,13 +10,14 @@ use Rattle.bl_ctree_laws.specs.Pending.{Deed, deed}
 use Rattle.bl_ctree_laws.specs.Trees.{Tree}
 use Rattle.bl_machine_laws.specs.Turns as turns
 use Rattle.bl_machine_laws.specs.Turns.{Point}
-use Rattle.bl_pass_laws_executes.specs.Executes.{IsPoint, deed_at}
+use Rattle.bl_pass_executes.specs.Executes.{IsPoint, deed_at}
 
 end_of : (i : ℕ) (stood : Bool) (l : Label) (at : Place) → (deed i at Silent ≡ deed_at i (end_node stood l at)) × IsPoint (end_node stood l at)
 end_of i true l at = (refl, tt)
 end_of i false l at = (refl, tt)
 
-join_of : (i : ℕ) (stood : Bool) (l : Label) (at : Place) → (deed i at Silent ≡ deed_at i (join_node stood l at)) × IsPoint (join_node stood l at)
+join_of : (i : ℕ) (stood : Bool) (l : Label) (at : Place) → (deed i at Silent ≡ deed_at i (join_node stood l at))
+    × IsPoint (join_node stood l at)
 join_of i true l at = (refl, tt)
 join_of i false l at = (refl, tt)
 

@@ -1,3 +1,2 @@
-pub mod Executes
 pub mod Laws
 pub mod Standing

@@ -1,8 +1,8 @@
 //! A pass as the text of one call makes it: node by node in the order of their numbers, each where its rule is due
-//! (`specs/Executes.antt`). There is no code here. Laws, as contracts of functions that do nothing (`specs/Laws.antt`): the deed of a
+//! (`bl_pass_executes`). There is no code here. Laws, as contracts of functions that do nothing (`specs/Laws.antt`): the deed of a
 //! point is told by its node (`PointsAreOfNodes`); and where all turns of an instance can be performed, such a pass leaves the store
-//! that turns lead to, with counters and frames that hold the tree that is left, and traps where they lead to a trap
-//! (`PassesExecute`). That turns can be performed, with all that is called, is a premise.
+//! that turns lead to, with counters and frames that hold the tree that is left, and copies that hold what its nodes ask for, and
+//! traps where they lead to a trap (`PassesExecute`). That turns can be performed, with all that is called, is a premise.
 #![tactic(auto)]
 
 ghost use Rattle.bl_pass_laws_executes.specs.Laws.{PassesExecute, PointsAreOfNodes};
@@ -10,6 +10,7 @@ ghost use Rattle.bl_pass_laws_executes.specs.Laws.{PassesExecute, PointsAreOfNod
 use bl_graph::graphs_stay_within;
 use bl_machine_laws::turns_wait;
 use bl_machine_laws_waiting::{settled_is_quiet, waits_in_part};
+use bl_pass_laws_fresh::trees_ask;
 use bl_pass_laws_numbers::trees_stay_placed;
 use bl_pass_laws_turns::{due_waits, numbers_pass, trees_stand, turns_keep};
 
@@ -31,4 +32,5 @@ pub fn passes_execute()
     numbers_pass();
     trees_stand();
     turns_keep();
+    trees_ask();
 }

@@ -177,14 +177,16 @@ module _ (structs : List StructDef) (units : List UnitDef) (entry_at : ℕ) (nes
       let one = nest.later i call.callee call.place call.runs in
       let two = nest.inside call.callee k call.inside in omega (arith, one, two)
 
-  pub own : (slots : ℕ → Slots) (frames : Frames) (i : ℕ) (c : Tree) (g : Place) (counters : ℕ → ℕ) → Live W i c g → CallsHold slots frames c →
+  pub own : (slots : ℕ → Slots) (frames : Frames) (i : ℕ) (c : Tree) (g : Place) (counters : ℕ → ℕ) → Live W i c g →
+      CallsHold slots frames c →
       CallsHold slots (with_at i counters frames) c
   own slots frames i c g counters live =
       others slots frames (with_at i counters frames) c
       (λ k there. at_another i k counters frames (greater i k (called W i k c g live there)))
 
   pub apart : (slots : ℕ → Slots) (frames frames' : Frames) (i one two : ℕ) (place other : Source) (c : Tree) (g : Place) →
-      callee_of W i place ≡ Some one → callee_of W i other ≡ Some two → (one ≡ two → ⊥) → Live W two c g → ChangeOnly (Inside W one) frames frames' →
+      callee_of W i place ≡ Some one → callee_of W i other ≡ Some two → (one ≡ two → ⊥) → Live W two c g →
+      ChangeOnly (Inside W one) frames frames' →
       FramesHold slots frames two c → FramesHold slots frames' two c
   apart slots frames frames' i one two place other c g runs runs' differ live change hold = (
     λ j. same two itself j ∙ hold.0 j,

@@ -305,7 +305,8 @@ later_end slots counters l k weak body rest it = record {
   held = it.held;
 }
 
-some_end : (slots : Slots) (counters : ℕ → ℕ) (l : Label) (k : ℕ) (bodies : Bodies) → list_any (is_at counters) (endings slots l k bodies) ≡ true →
+some_end : (slots : Slots) (counters : ℕ → ℕ) (l : Label) (k : ℕ) (bodies : Bodies) → list_any (is_at counters) (endings slots l k bodies)
+    ≡ true →
     EndHeld slots counters l k bodies
 some_end slots counters l k Last e = differ false e refl
 some_end slots counters l k (BodyOf weak body rest) e =
@@ -403,7 +404,8 @@ is_own slots l k body =
 
 -- the ends of a `cobegin` at a place, where no other with its label stands in its branches
 module _ (slots : Slots) (R : Spot → Type 0) (l : Label) (at : Place) (counters : ℕ → ℕ)
-    (alone : (p q : Spot) → R p → R q → slot_at slots p ≡ slot_at slots q → p ≡ q) (counted : (p : Spot) → R p → (slot_at slots p).value ≡ 0 → ⊥) where
+    (alone : (p q : Spot) → R p → R q → slot_at slots p ≡ slot_at slots q → p ≡ q)
+    (counted : (p : Spot) → R p → (slot_at slots p).value ≡ 0 → ⊥) where
   nested : (body : Block) (c : Tree) → ((n : Node) → Member (nodes_in body) n → Same (DepthJoinAt l at) n → ⊥) →
       StandsAs l c → Stems R (Member (nodes_in body)) c → ⊥
   nested body c apart it own =
@@ -414,7 +416,8 @@ module _ (slots : Slots) (R : Spot → Type 0) (l : Label) (at : Place) (counter
 
   tells : (k : ℕ) (bodies : Bodies) (branches : Trees) → ((n : Node) → Member (nodes_in_each bodies) n → Same (DepthJoinAt l at) n → ⊥) →
       ((p : Spot) → Member (spots_in_each l k bodies) p → R p) → StemEach R bodies branches → LaidEach slots l k bodies →
-      ((j : ℕ) → uses_in_each slots l k bodies j ≡ true → counters j ≡ numbers_in slots l k bodies branches j) → EndsTell slots counters l k branches
+      ((j : ℕ) → uses_in_each slots l k bodies j ≡ true → counters j ≡ numbers_in slots l k bodies branches j) →
+      EndsTell slots counters l k branches
   tells k bodies no_tree apart spots own laid held = tt
   tells k Last (beside weak c branches) apart spots own laid held = absurd own
   tells k (BodyOf weak body rest) (beside weak' c branches) apart spots own laid held = (

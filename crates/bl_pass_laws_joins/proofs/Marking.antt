@@ -241,7 +241,8 @@ mutual
   )
   same_marks number marks marks' R P (Run s callee phase stood c) own same m = tt
 
-  same_each : (number : Node → ℕ) (marks marks' : ℕ → Bool) (R : Spot → Type 0) (bodies : Bodies) (branches : Trees) → StemEach R bodies branches →
+  same_each : (number : Node → ℕ) (marks marks' : ℕ → Bool) (R : Spot → Type 0) (bodies : Bodies) (branches : Trees) →
+      StemEach R bodies branches →
       SameMarks number marks marks' (Member (nodes_in_each bodies)) → MarkEach number marks branches → MarkEach number marks' branches
   same_each number marks marks' R bodies no_tree own same m = tt
   same_each number marks marks' R Last (beside weak c branches) own same m = absurd own
@@ -342,8 +343,10 @@ module _ (number : Node → ℕ) (All : Node → Type 0) (R : Spot → Type 0) (
     )
 
     mark_one : {w : Setting} {rank : ℕ → Node → ℕ} {i : ℕ} {branches : Trees} {done : List Answered} {n : Node} {branches' : Trees}
-        (P : Node → Type 0) (l : Label) (k : ℕ) (bodies : Bodies) → ((m : Node) → Member (nodes_in_each bodies) m → P m) → ((m : Node) → P m → All m) →
-        Differ (nodes_in_each bodies) → Acts number All ruled rule r n → (t : OneTurns w rank i branches done n branches') → StemEach R bodies branches →
+        (P : Node → Type 0) (l : Label) (k : ℕ) (bodies : Bodies) → ((m : Node) → Member (nodes_in_each bodies) m → P m) →
+        ((m : Node) → P m → All m) →
+        Differ (nodes_in_each bodies) → Acts number All ruled rule r n → (t : OneTurns w rank i branches done n branches') →
+        StemEach R bodies branches →
         SitEach slots ruled l k bodies branches → MarkEach number r.marks branches →
         MarkEach number (after_rule number rule (one_answer_of t) r).marks branches'
     mark_one P l k Last within sub differ acts (turns.first t) own sits m = absurd own
@@ -367,7 +370,8 @@ module _ (number : Node → ℕ) (All : Node → Type 0) (R : Spot → Type 0) (
 
 -- ---- the law
 
-acts_so : (w : Setting) (rank : ℕ → Node → ℕ) (i : ℕ) (slots : Slots) (unit : UnitDef) (stood : Bool) (c : Tree) (n : Node) (rule : Rule) (r : Registers) →
+acts_so : (w : Setting) (rank : ℕ → Node → ℕ) (i : ℕ) (slots : Slots) (unit : UnitDef) (stood : Bool) (c : Tree) (n : Node) (rule : Rule)
+    (r : Registers) →
     StaysPlaced → Turning w rank i slots unit stood c n rule →
     Acts (rank i) (Contains (nodes_in (plain_body unit.body))) (rules slots (plain_body unit.body)) rule r n
 acts_so w rank i slots unit stood c n rule r placed turning = record {

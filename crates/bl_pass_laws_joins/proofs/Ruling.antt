@@ -347,7 +347,8 @@ change_grows number (Ends start surface depth) r k e =
     either_flag (r.marks (number start)) (number surface) (number depth) k r ∙ e
 change_grows number Finishes r k e = e
 
-changes_grow : (number : Node → ℕ) (changes : List Change) (r : Registers) (k : ℕ) → r.marks k ≡ true → (all_changed number changes r).marks k ≡ true
+changes_grow : (number : Node → ℕ) (changes : List Change) (r : Registers) (k : ℕ) → r.marks k ≡ true →
+    (all_changed number changes r).marks k ≡ true
 changes_grow number [] r k e = e
 changes_grow number (change ∷ rest) r k e = changes_grow number rest (changed number change r) k (change_grows number change r k e)
 

@@ -268,7 +268,8 @@ mutual
   mark_fork number marks (in_par there) m = mark_in number marks there m.1
   mark_fork number marks (in_guard there) m = mark_fork number marks there m.1
 
-  mark_in : {s : Fork} {stood : Bool} {branches : Trees} {others : Trees} (number : Node → ℕ) (marks : ℕ → Bool) → StandsIn s stood branches others →
+  mark_in : {s : Fork} {stood : Bool} {branches : Trees} {others : Trees} (number : Node → ℕ) (marks : ℕ → Bool) →
+      StandsIn s stood branches others →
       MarkEach number marks others → MarkOf number marks s stood
   mark_in number marks (first there) m = mark_fork number marks there m.0
   mark_in number marks (later there) m = mark_in number marks there m.1
@@ -366,7 +367,8 @@ mutual
       numbers_fork slots R (Member (nodes_in outer.body)) low (uses_in slots outer.body) Over j there own.1 lies.1 only.1 e
 
   numbers_each : {s : Fork} {stood : Bool} {branches : Trees} {others : Trees} (slots : Slots) (R : Spot → Type 0) (l : Label) (k : ℕ)
-      (bodies : Bodies) (j : ℕ) → StandsIn s stood branches others → StemEach R bodies others → LaidEach slots l k bodies → LieEach slots l k others →
+      (bodies : Bodies) (j : ℕ) → StandsIn s stood branches others → StemEach R bodies others → LaidEach slots l k bodies →
+      LieEach slots l k others →
       UseEach slots l k bodies others → uses slots (fork_stmt s) j ≡ true →
       numbers_in slots l k bodies others j ≡ numbers_in slots s.label 0 s.bodies branches j
   numbers_each slots R l k Last j (first there) own laid lies only e = absurd own

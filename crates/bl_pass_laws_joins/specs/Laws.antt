@@ -31,7 +31,8 @@ pub record MarksBegin : Type 0 where
 -- where marks tell what has begun in this tick before a turn they do after it
 abbrev pub TurnsKeepMarks : Type 0
 TurnsKeepMarks =
-    (w : Setting) (rank : ℕ → Node → ℕ) (i : ℕ) (slots : Slots) (unit : UnitDef) (stood : Bool) (c : Tree) (done : List Answered) (n : Node) (c' : Tree)
+    (w : Setting) (rank : ℕ → Node → ℕ) (i : ℕ) (slots : Slots) (unit : UnitDef) (stood : Bool) (c : Tree) (done : List Answered) (n : Node)
+    (c' : Tree)
     (rule : Rule) (r : Registers) (turn : Turns w rank i c done n c') → StaysPlaced → Turning w rank i slots unit stood c n rule →
     Stemmed (plain_body unit.body) c → Marked (rank i) r.marks c → Marked (rank i) (after_rule (rank i) rule (answer_of turn) r).marks c'
 

@@ -99,7 +99,8 @@ module _ (orderly : AcceptedIsOrderly) (give : MachinesGiveOrders) (laid : Numbe
       ap (λ found. slots_in found (activity_of units machine (slice_get W.instances i))) of_unit
       ∙ (ap (λ found. slots_in (Some unit) (activity_of units machine found)) is ∙ ap (λ found. slots_in (Some unit) found) is_active)
 
-  pub each : (rank : ℕ → Node → ℕ) (i : ℕ) (unit : UnitDef) → GoBy W machine rank → unit_at W i ≡ Some unit → Given W rank i (slots_at W machine i) unit
+  pub each : (rank : ℕ → Node → ℕ) (i : ℕ) (unit : UnitDef) → GoBy W machine rank → unit_at W i ≡ Some unit →
+      Given W rank i (slots_at W machine i) unit
   each rank i unit go_by of_unit =
       let own = has i unit of_unit in
       subst (λ (slots : Slots). Given W rank i slots unit) (sym (slots_are i own.instance unit own.activity of_unit own.there own.is_activity))

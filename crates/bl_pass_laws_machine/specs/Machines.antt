@@ -51,7 +51,8 @@ pub record MachinesAreGiven : Type 0 where
       slice_get units instance.unit ≡ Some unit → slice_get machine (graph_position units instance.unit) ≡ Some activity →
       Given w rank i (slots_of (plain_body unit.body) activity.slots) unit
   -- the same, where the numbers are told by instance
-  pub each : (structs : List StructDef) (units : List UnitDef) (entry : ℕ) (machine : List Activity) (rank : ℕ → Node → ℕ) (i : ℕ) (unit : UnitDef) →
+  pub each : (structs : List StructDef) (units : List UnitDef) (entry : ℕ) (machine : List Activity) (rank : ℕ → Node → ℕ) (i : ℕ)
+      (unit : UnitDef) →
       let w = setting_of structs units entry in
       Keeps structs units entry → Passes units → AreActivitiesOf units machine → GoBy w machine rank → unit_at w i ≡ Some unit →
       Given w rank i (slots_at w machine i) unit

@@ -420,7 +420,8 @@ module _ (slots : Slots) (all : List Rule) (number : Node → ℕ) where
               within.0 (λ j. refl) inner.leads;
         }
 
-    one_acts : {w : Setting} {rank : ℕ → Node → ℕ} {i : ℕ} {branches : Trees} {done : List Answered} {n : Node} {branches' : Trees} (l : Label) (k : ℕ)
+    one_acts : {w : Setting} {rank : ℕ → Node → ℕ} {i : ℕ} {branches : Trees} {done : List Answered} {n : Node} {branches' : Trees}
+        (l : Label) (k : ℕ)
         (bodies : Bodies) (stood : Bool) (g : Place) (t : OneTurns w rank i branches done n branches') → Lives w i branches bodies stood g →
         SitEach slots all l k bodies branches → LaidEach slots l k bodies → LieEach slots l k branches → UseEach slots l k bodies branches →
         ActsEach slots all number l k bodies branches n (one_answer_of t) branches'

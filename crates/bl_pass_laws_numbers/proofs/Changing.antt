@@ -1,5 +1,6 @@
 -- What changes do to counters, and to whether the body has ended.
-use Rattle.std.proofs.Common.{◌≡◌, ℕ, suc, Bool, true, false, ◌||◌, List, [], ◌∷◌, ◌++◌, map, if◌then◌else◌, nat_eq, refl, sym, ap, ◌∙◌}
+use Rattle.std.proofs.Common.{◌≡◌, ℕ, suc, Bool, true, false, ◌||◌, List, [], ◌∷◌, ◌++◌, map}
+use Rattle.std.proofs.Common.{if◌then◌else◌, nat_eq, refl, sym, ap, ◌∙◌}
 use Rattle.std.specs.List.{list_any}
 use Rattle.std.proofs.lemmas.List.Folds.{list_any-append}
 use Rattle.bl_tree.specs.declared.place.Place.{Place}
@@ -65,7 +66,8 @@ last_false Done = refl
 last_false (Then s rest) = refl
 
 -- a value that is set at a counter
-pub set_keeps : (used : ℕ → Bool) (k v : ℕ) (counters : ℕ → ℕ) (j : ℕ) → used k ≡ true → used j ≡ false → with_at k v counters j ≡ counters j
+pub set_keeps : (used : ℕ → Bool) (k v : ℕ) (counters : ℕ → ℕ) (j : ℕ) → used k ≡ true → used j ≡ false →
+    with_at k v counters j ≡ counters j
 set_keeps used k v counters j there off =
     if_false (nat_eq j k) v (counters j) (unless (nat_eq j k) (used j) (λ e. ap used (is_same j k e) ∙ there) off)
 

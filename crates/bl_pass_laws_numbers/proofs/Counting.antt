@@ -180,7 +180,8 @@ module _ (slots : Slots) where
         inner spots some p there = some p (further (EndOf l k) spots p there)
 
   -- the node of each rule is
-  counted_rule : (all : List Rule) → AllCounted slots (map (λ (rule : Rule). rule.node) all) → (rule : Rule) → Contains all rule → Counted slots rule.node
+  counted_rule : (all : List Rule) → AllCounted slots (map (λ (rule : Rule). rule.node) all) → (rule : Rule) → Contains all rule →
+      Counted slots rule.node
   counted_rule [] counted rule (k, below, is) = absurd (omega arith)
   counted_rule (x ∷ rest) counted rule (zero, below, is) = subst (λ (y : Rule). Counted slots y.node) is counted.0
   counted_rule (x ∷ rest) counted rule (suc k, below, is) = counted_rule rest counted.1 rule (k, omega arith, is)

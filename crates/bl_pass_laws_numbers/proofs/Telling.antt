@@ -1,5 +1,6 @@
 -- Counters follow the turns of a pass: the rule of the node is the one that acts.
-use Rattle.std.proofs.Common.{◌≡◌, ℕ, Bool, true, false, List, [], Some, Contains, map, option_map, slice_get, unwrap_or, refl, sym, ap, subst, ◌∙◌}
+use Rattle.std.proofs.Common.{◌≡◌, ℕ, Bool, true, false, List, [], Some, Contains, map, option_map, slice_get}
+use Rattle.std.proofs.Common.{unwrap_or, refl, sym, ap, subst, ◌∙◌}
 use Rattle.std.proofs.lemmas.Option.{slice_get-get_or, slice_get-map}
 use Rattle.bl_tree.specs.declared.tree.Unit.{Unit as UnitDef}
 use Rattle.bl_nodes.specs.Laws.{EachOnce, NodesDiffer}
@@ -26,7 +27,8 @@ use Rattle.bl_pass_laws_numbers.proofs.Changing.{finishes_go}
 member_at : {A : Type 0} (xs : List A) (x : A) (h : Contains xs x) → slice_get xs h.0 ≡ Some x
 member_at xs x h = slice_get-get_or xs h.0 x h.1 ∙ ap Some h.2
 
-rules_once : (all : List Rule) (nodes : List Node) → map (λ (rule : Rule). rule.node) all ≡ nodes → EachOnce nodes → (x y : Rule) → Contains all x →
+rules_once : (all : List Rule) (nodes : List Node) → map (λ (rule : Rule). rule.node) all ≡ nodes → EachOnce nodes → (x y : Rule) →
+    Contains all x →
     Contains all y → x.node ≡ y.node → x ≡ y
 rules_once all nodes are once x y hx hy same =
     ap (λ found. unwrap_or found x)

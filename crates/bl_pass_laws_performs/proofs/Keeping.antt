@@ -169,21 +169,24 @@ point_kept {w} {c = c} (turns.resets {s = s} {c = inner} is) slots frames holds 
   runs = λ place there. by_part place there;
 }
   where
-    by_part : (place : Place) → SomeIn (RunsAt place) s.body ⊎ RunsIn place (do_block s.body) → SomeIn (RunsAt place) s.body ⊎ RunsIn place inner
+    by_part : (place : Place) → SomeIn (RunsAt place) s.body ⊎ RunsIn place (do_block s.body) → SomeIn (RunsAt place) s.body
+        ⊎ RunsIn place inner
     by_part place (inl h) = inl h
     by_part place (inr h) = inl (block_runs s.body place h)
 point_kept {w} {c = c} turns.guard_ends slots frames holds rests apart = ended w slots frames c
 point_kept {w} {c = c} (turns.joins settled done) slots frames holds rests apart = ended w slots frames c
 
 -- before what follows
-pub seq_kept : (w : Setting) (slots : ℕ → Slots) (frames : Frames) (c c' : Tree) (s : Plain) (rest : Block) → EachForkIn RunApart (Then s rest) →
+pub seq_kept : (w : Setting) (slots : ℕ → Slots) (frames : Frames) (c c' : Tree) (s : Plain) (rest : Block) →
+    EachForkIn RunApart (Then s rest) →
     Kept w slots frames c c' → Kept w slots frames (Seq c (Then s rest)) (seq c' (Then s rest))
 seq_kept w slots frames c c' s rest forks kept = by_tree c' kept
   where
     still : (t : Tree) → Kept w slots frames c t → Kept w slots frames (Seq c (Then s rest)) (Seq t (Then s rest))
     still t k = record { holds = k.holds; rests = k.rests; apart = (k.apart, forks); runs = λ place there. by_part place there }
       where
-        by_part : (place : Place) → RunsIn place t ⊎ SomeIn (RunsAt place) (Then s rest) → RunsIn place c ⊎ SomeIn (RunsAt place) (Then s rest)
+        by_part : (place : Place) → RunsIn place t ⊎ SomeIn (RunsAt place) (Then s rest) → RunsIn place c
+            ⊎ SomeIn (RunsAt place) (Then s rest)
         by_part place (inl h) = inl (k.runs place h)
         by_part place (inr h) = inr h
 

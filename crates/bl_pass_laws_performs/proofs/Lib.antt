@@ -1,3 +1,6 @@
+pub mod Copying
 pub mod Keeping
 pub mod Performing
+pub mod Storing
+pub mod Touching
 pub mod Turning

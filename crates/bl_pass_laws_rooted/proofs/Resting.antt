@@ -174,7 +174,8 @@ module _ (slots : Slots) where
   module _ (w : Setting) (i : ℕ) where
     mutual
       -- what a counter holds that isn't 0 is the number of a place at which the tree rests
-      pub shown_by : (c : Tree) (g : Place) → Live w i c g → is_nil c ≡ false → (next : Next) (j : ℕ) → (numbers_of slots c next j ≡ 0 → ⊥) →
+      pub shown_by : (c : Tree) (g : Place) → Live w i c g → is_nil c ≡ false → (next : Next) (j : ℕ) →
+          (numbers_of slots c next j ≡ 0 → ⊥) →
           Shows (resting c) j (numbers_of slots c next j)
       shown_by Nil g live unended next j left = absurd cc
       shown_by (Wait s) g live unended next j left = slot_shows (RestOf s.label) j left
@@ -286,7 +287,8 @@ module _ (slots : Slots) where
       ap (λ b. if b then numbers_of slots c (Rests (slots.ending l k)) (slot_at slots p).counter
       else numbers_in slots l (suc k) rest branches (slot_at slots p).counter) (not_used (uses_in_branch slots l k body (slot_at slots p).counter) refl) ∙ is
     where
-      not_used : (b : Bool) → uses_in_branch slots l k body (slot_at slots p).counter ≡ b → uses_in_branch slots l k body (slot_at slots p).counter ≡ false
+      not_used : (b : Bool) → uses_in_branch slots l k body (slot_at slots p).counter ≡ b →
+          uses_in_branch slots l k body (slot_at slots p).counter ≡ false
       not_used true e = let none = apart e in absurd (cc (later, none))
       not_used false e = e
 

@@ -209,7 +209,8 @@ module _ (slots : Slots) where
     past_one r rules none one a b slot (inr h) (inl is) asked asked' = absurd (none slot (other_asked b r slot is asked'))
     past_one r rules none one a b slot (inr h) (inr h') asked asked' = one a b slot h h' asked asked'
 
-    past_some : (test : Bool) (r : Rule) (rules : List Rule) → ((slot : Slot) → r.asked ≡ Rested slot → ⊥) → One rules → One (rule_where test r ++ rules)
+    past_some : (test : Bool) (r : Rule) (rules : List Rule) → ((slot : Slot) → r.asked ≡ Rested slot → ⊥) → One rules →
+        One (rule_where test r ++ rules)
     past_some true r rules none one = past_one r rules none one
     past_some false r rules none one = one
 
@@ -270,14 +271,16 @@ module _ (slots : Slots) where
       one_of (Repeat l at body) next differ inside = past_one _ _ (λ slot asked. cc) (one_in body _ differ inside)
       one_of (Until l at body e) next differ inside =
           past_one (flagged (HeadAt l at) (enter body (Flags (TestAt l at e)) ∷ []))
-          (record { node = TestAt l at e; asked = Flagged; so = next ∷ []; otherwise = Flags (HeadAt l at) ∷ [] } ∷ rules_in slots body (Flags (TestAt l at e)))
+          (record { node = TestAt l at e; asked = Flagged; so = next ∷ []; otherwise = Flags (HeadAt l at) ∷ [] } ∷ rules_in slots body
+          (Flags (TestAt l at e)))
           (λ slot asked. cc)
           (past_one (record { node = TestAt l at e; asked = Flagged; so = next ∷ []; otherwise = Flags (HeadAt l at) ∷ [] })
           (rules_in slots body (Flags (TestAt l at e))) (λ slot asked. cc) (one_in body (Flags (TestAt l at e)) differ inside))
       one_of (While l at e body) next differ inside = past_one _ _ (λ slot asked. cc) (one_in body _ differ inside)
       one_of (Again l at body e) next differ inside =
           past_one (flagged (HeadAt l at) (enter body (Flags (TestAt l at e)) ∷ []))
-          (record { node = TestAt l at e; asked = Flagged; so = next ∷ []; otherwise = Flags (HeadAt l at) ∷ [] } ∷ rules_in slots body (Flags (TestAt l at e)))
+          (record { node = TestAt l at e; asked = Flagged; so = next ∷ []; otherwise = Flags (HeadAt l at) ∷ [] } ∷ rules_in slots body
+          (Flags (TestAt l at e)))
           (λ slot asked. cc)
           (past_one (record { node = TestAt l at e; asked = Flagged; so = next ∷ []; otherwise = Flags (HeadAt l at) ∷ [] })
           (rules_in slots body (Flags (TestAt l at e))) (λ slot asked. cc) (one_in body (Flags (TestAt l at e)) differ inside))
@@ -374,7 +377,8 @@ node_at (r ∷ all) zero rule is = ap (λ x. Some x.node) (some_is r rule is)
 node_at (r ∷ all) (suc k) rule is = node_at all k rule is
 
 -- rules of one node are one
-one_rule : (all : List Rule) → EachOnce (map (λ rule. rule.node) all) → (one two : Rule) → In one all → In two all → one.node ≡ two.node → one ≡ two
+one_rule : (all : List Rule) → EachOnce (map (λ rule. rule.node) all) → (one two : Rule) → In one all → In two all → one.node
+    ≡ two.node → one ≡ two
 one_rule all once one two a b same =
     let first = at_index all one a in let second = at_index all two b in
     let k : first.index ≡ second.index =
@@ -407,7 +411,8 @@ some_holds counters (slot ∷ rest) h =
     holding_by counters slot rest (is_at counters slot) refl
     (λ e. some_holds counters rest (ap (λ b. b || list_any (is_at counters) rest) (sym e) ∙ h))
 
-holds_some : (counters : ℕ → ℕ) (slots : List Slot) (slot : Slot) → In slot slots → is_at counters slot ≡ true → list_any (is_at counters) slots ≡ true
+holds_some : (counters : ℕ → ℕ) (slots : List Slot) (slot : Slot) → In slot slots → is_at counters slot ≡ true →
+    list_any (is_at counters) slots ≡ true
 holds_some counters [] slot h e = absurd h
 holds_some counters (x ∷ rest) slot (inl is) e = ap (λ b. b || list_any (is_at counters) rest) (ap (is_at counters) (sym is) ∙ e)
 holds_some counters (x ∷ rest) slot (inr h) e = or_true (is_at counters x) (list_any (is_at counters) rest) (holds_some counters rest slot h e)

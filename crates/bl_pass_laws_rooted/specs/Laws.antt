@@ -21,16 +21,19 @@ use Rattle.bl_pass_laws.specs.Rooted.{Rooted, in_none}
 -- once the tree is woken
 abbrev pub ResumesBegin : Type 0
 ResumesBegin =
-    (w : Setting) (number : Node → ℕ) (i : ℕ) (slots : Slots) (unit : UnitDef) (stood : Bool) (c : Tree) (counters : ℕ → ℕ) (flags : ℕ → Bool) →
+    (w : Setting) (number : Node → ℕ) (i : ℕ) (slots : Slots) (unit : UnitDef) (stood : Bool) (c : Tree) (counters : ℕ → ℕ)
+    (flags : ℕ → Bool) →
     Live w i c (whole stood (plain_body unit.body)) → Laid slots (plain_body unit.body) → Placed slots (plain_body unit.body) c →
     Rooted slots (rules slots (plain_body unit.body)) (in_none (plain_body unit.body)) c → is_settled c ≡ true → is_nil c ≡ false →
-    ((j : ℕ) → counters j ≡ numbers_of slots c Over j) → (rule : Rule) → Contains (rules slots (plain_body unit.body)) rule → IsResume rule.asked →
+    ((j : ℕ) → counters j ≡ numbers_of slots c Over j) → (rule : Rule) → Contains (rules slots (plain_body unit.body)) rule →
+    IsResume rule.asked →
     Exactly (is_due number rule (started counters flags)) (Waits (woken c) None rule.node)
 
 -- and nothing waits at other nodes
 abbrev pub OnlyResumesBegin : Type 0
 OnlyResumesBegin =
-    (w : Setting) (number : Node → ℕ) (i : ℕ) (slots : Slots) (unit : UnitDef) (stood : Bool) (c : Tree) (counters : ℕ → ℕ) (flags : ℕ → Bool) →
+    (w : Setting) (number : Node → ℕ) (i : ℕ) (slots : Slots) (unit : UnitDef) (stood : Bool) (c : Tree) (counters : ℕ → ℕ)
+    (flags : ℕ → Bool) →
     Live w i c (whole stood (plain_body unit.body)) → Laid slots (plain_body unit.body) → Placed slots (plain_body unit.body) c →
     Rooted slots (rules slots (plain_body unit.body)) (in_none (plain_body unit.body)) c → is_settled c ≡ true → is_nil c ≡ false →
     ((j : ℕ) → counters j ≡ numbers_of slots c Over j) → (rule : Rule) → Contains (rules slots (plain_body unit.body)) rule →

@@ -182,7 +182,8 @@ module _ (w : Setting) (i : ℕ) where
     some_one s c inner (inl is) settled = unsettled c (Do s) is refl settled
     some_one s c inner (inr left) settled = inner left
 
-    some_body : (body : Block) (c : Tree) → (LeftIn w i body Done c → Found (resting c)) → (c ≡ Nil) ⊎ LeftIn w i body Done c → is_nil c ≡ false →
+    some_body : (body : Block) (c : Tree) → (LeftIn w i body Done c → Found (resting c)) → (c ≡ Nil) ⊎ LeftIn w i body Done c → is_nil c
+        ≡ false →
         Found (resting c)
     some_body body c inner (inl is) unended =
         let both : true ≡ false = sym (ap is_nil is) ∙ unended in
@@ -218,7 +219,8 @@ module _ (w : Setting) (i : ℕ) where
       some_within low (Again l at body e) c laid (inl left) settled = some_in low body (Then (Again l at body e) Done) c laid left settled
       some_within low (Again l at body e) c laid (inr is) settled = unsettled c (Do (Until l at body e)) is refl settled
 
-      pub some_in : (low : ℕ) (body after : Block) (c : Tree) → LaidIn slots low body → LeftIn w i body after c → is_settled c ≡ true → Found (resting c)
+      pub some_in : (low : ℕ) (body after : Block) (c : Tree) → LaidIn slots low body → LeftIn w i body after c → is_settled c ≡ true →
+          Found (resting c)
       some_in low Done after c laid left settled = absurd left
       some_in low (Then s rest) after c laid (inl left) settled =
           let block : Block = before rest after in

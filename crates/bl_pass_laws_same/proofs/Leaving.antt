@@ -82,7 +82,8 @@ Turned w rank i done n (Guard s phase stood c) c' =
     ⊎ ((d : Tree) × Turns w rank i c done n d × (c' ≡ Guard s Body stood d))))
 Turned w rank i done n (Run s callee phase stood c) c' = (c' ≡ Nil) ⊎ ((d : Tree) × (c' ≡ Run s callee Body stood d))
 
-point_turned : {w : Setting} {i : ℕ} {c : Tree} {d : Bool} {a : Deed} {n : Node} {c' : Tree} (rank : ℕ → Node → ℕ) (done : List Answered) (m : Node) →
+point_turned : {w : Setting} {i : ℕ} {c : Tree} {d : Bool} {a : Deed} {n : Node} {c' : Tree} (rank : ℕ → Node → ℕ) (done : List Answered)
+    (m : Node) →
     Point w i c d a n c' → Turned w rank i done m c c'
 point_turned rank done m turns.acts = refl
 point_turned rank done m turns.takes = inl refl
@@ -346,7 +347,8 @@ module _ (w : Setting) (i : ℕ) where
           ]
 
       -- where the statement ends, the rest of the block begins
-      turn_in : (body after : Block) (c c' : Tree) → LeftIn w i body after c → Turns w rank i c done n c' → (c' ≡ do_block after) ⊎ LeftIn w i body after c'
+      turn_in : (body after : Block) (c c' : Tree) → LeftIn w i body after c → Turns w rank i c done n c' → (c' ≡ do_block after)
+          ⊎ LeftIn w i body after c'
       turn_in Done after c c' h t = absurd h
       turn_in (Then s rest) after c c' (inl h) t =
           let block : Block = before rest after in

@@ -1,5 +1,6 @@
 -- Trees of one body that rest at the same places go on as one.
-use Rattle.std.proofs.Common.{◌≡◌, ◌⊎◌, inl, inr, ℕ, suc, Bool, true, false, not, List, [], ◌∷◌, ◌++◌, Option, Some, refl, ap, sym, ◌∙◌, subst}
+use Rattle.std.proofs.Common.{◌≡◌, ◌⊎◌, inl, inr, ℕ, suc, Bool, true, false, not, List, [], ◌∷◌, ◌++◌}
+use Rattle.std.proofs.Common.{Option, Some, refl, ap, sym, ◌∙◌, subst}
 use Rattle.bl_tree.specs.declared.place.Place.{Place}
 use Rattle.bl_tree.specs.declared.tree.Expr.{Expr}
 use Rattle.bl_tree.specs.declared.tree.Path.{Path}
@@ -159,7 +160,8 @@ module _ (w : Setting) (i : ℕ) (slots : Slots) where
       ∙ ap (λ y. Run (call l at target a inputs outputs) left'.0 Check true y) (parts.calls l left.3 left'.3 (refl, refl) (refl, refl)))
 
   -- a statement that is to begin doesn't rest
-  same_one : (s : Plain) (c c' : Tree) → (Within w i s c → Within w i s c' → woken c ≡ woken c') → LeftOf w i s c → LeftOf w i s c' → Twin c c' →
+  same_one : (s : Plain) (c c' : Tree) → (Within w i s c → Within w i s c' → woken c ≡ woken c') → LeftOf w i s c → LeftOf w i s c' →
+      Twin c c' →
       woken c ≡ woken c'
   same_one s c c' inner (inl is) left' twin = unsettled c (Do s) is refl twin.settled
   same_one s c c' inner (inr left) (inl is) twin = unsettled c' (Do s) is refl twin.settled'
@@ -167,7 +169,8 @@ module _ (w : Setting) (i : ℕ) (slots : Slots) where
 
   -- nor has what rests ended
   same_part : (body : Block) (c c' : Tree) → (LeftIn w i body Done c → LeftIn w i body Done c' → woken c ≡ woken c') →
-      (c ≡ Nil) ⊎ LeftIn w i body Done c → (c' ≡ Nil) ⊎ LeftIn w i body Done c' → is_nil c ≡ false → is_nil c' ≡ false → woken c ≡ woken c'
+      (c ≡ Nil) ⊎ LeftIn w i body Done c → (c' ≡ Nil) ⊎ LeftIn w i body Done c' → is_nil c ≡ false → is_nil c' ≡ false → woken c
+      ≡ woken c'
   same_part body c c' inner (inl is) left' unended unended' =
       let both : true ≡ false = sym (ap is_nil is) ∙ unended in
       absurd (cc both)

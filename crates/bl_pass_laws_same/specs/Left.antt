@@ -66,7 +66,8 @@ abbrev mutual
   -- it and what follows the block
   pub LeftIn : Setting → ℕ → Block → Block → Tree → Type 0
   LeftIn w i Done after c = ⊥
-  LeftIn w i (Then s rest) after c = ((part : Tree) × ((part ≡ Do s) ⊎ Within w i s part) × (c ≡ followed part (before rest after))) ⊎ LeftIn w i rest after c
+  LeftIn w i (Then s rest) after c = ((part : Tree) × ((part ≡ Do s) ⊎ Within w i s part) × (c ≡ followed part (before rest after)))
+      ⊎ LeftIn w i rest after c
 
   -- each branch has ended, or is left of its body
   pub LeftEach : Setting → ℕ → Bodies → Trees → Type 0

@@ -1,5 +1,6 @@
 -- In typed bodies each `cobegin` has a branch.
-use Rattle.std.proofs.Common.{◌≡◌, ℕ, zero, suc, Bool, true, false, ◌&&◌, List, [], ◌∷◌, ◌++◌, map, length, Some, refl, sym, subst, ◌∙◌}
+use Rattle.std.proofs.Common.{◌≡◌, ℕ, zero, suc, Bool, true, false, ◌&&◌, List, [], ◌∷◌, ◌++◌}
+use Rattle.std.proofs.Common.{map, length, Some, refl, sym, subst, ◌∙◌}
 use Rattle.std.specs.List.{list_all}
 use Rattle.std.specs.Prelude.{slice_get}
 use Rattle.std.proofs.lemmas.List.Elements.{All-head, All-tail}
@@ -54,7 +55,8 @@ module _ (site : Site) where
   abbrev Branched : Stmt → Type 0
   Branched s = fits site s ≡ true → (at : Position) → BranchesOf (plain s at)
 
-  block_branched : (body : List Stmt) (k : ℕ) (block : Position) → Each Branched body → Fit site body → EachBranches (block_from (map plain body) k block)
+  block_branched : (body : List Stmt) (k : ℕ) (block : Position) → Each Branched body → Fit site body →
+      EachBranches (block_from (map plain body) k block)
   block_branched [] k block each fit = tt
   block_branched (s ∷ rest) k block each fit = (
     All-head Branched s rest each (fit_first site s rest fit) (block ++ k ∷ []),
@@ -64,7 +66,8 @@ module _ (site : Site) where
   inner : (body : List Stmt) (l : Label) (k : ℕ) → Each Branched body → Fit site body → EachBranches (plain_block body (inside l k))
   inner body l k each fit = block_branched body 0 (inside l k) each fit
 
-  arms_branched : (l : Label) (arms : List Arm) (other : List Stmt) → EachArm Branched arms → ArmsFit site arms → Each Branched other → Fit site other →
+  arms_branched : (l : Label) (arms : List Arm) (other : List Stmt) → EachArm Branched arms → ArmsFit site arms → Each Branched other →
+      Fit site other →
       EachBranches (else_at l (map plain_arm arms) (plain_block other))
   arms_branched l [] other each fit others fit_other = inner other l l.passed others fit_other
   arms_branched l (arm ∷ rest) other each fit others fit_other = (
@@ -182,7 +185,8 @@ body_typed structs earlier unit stands =
     (and_second types (fit && (unit_returns unit && (flat && apart)))
     (and_second (roles_stand unit && named) (types && (fit && (unit_returns unit && (flat && apart)))) stands)))
 
-pub unit_branched : (structs : List StructDef) (earlier units : List UnitDef) (k : ℕ) (unit : UnitDef) → units_stand_after structs earlier units ≡ true →
+pub unit_branched : (structs : List StructDef) (earlier units : List UnitDef) (k : ℕ) (unit : UnitDef) → units_stand_after structs earlier units
+    ≡ true →
     slice_get units k ≡ Some unit → EachBranches (plain_body unit.body)
 unit_branched structs earlier [] k unit stand there = absurd cc
 unit_branched structs earlier (first ∷ units) zero unit stand there =

@@ -89,7 +89,8 @@ window_right all first next xs ys start window m k p at is =
 -- ---- counters by labels
 
 module _ (list : List Slot) (all : List Spot) (differ : Differ all) (slots : Slots)
-    (rest : (l : Label) → slots.rest l ≡ slot_for list all (RestOf l)) (ending : (l : Label) (k : ℕ) → slots.ending l k ≡ slot_for list all (EndOf l k))
+    (rest : (l : Label) → slots.rest l ≡ slot_for list all (RestOf l))
+    (ending : (l : Label) (k : ℕ) → slots.ending l k ≡ slot_for list all (EndOf l k))
   where
     -- the counters in source order
     abbrev counter : ℕ → ℕ
@@ -169,7 +170,8 @@ module _ (list : List Slot) (all : List Spot) (differ : Differ all) (slots : Slo
       used_of first (While l at e body) j window on = used_in first body j window on
       used_of first (Again l at body e) j window on = used_in first body j window on
 
-      used_in : (first : ℕ) (body : Block) (j : ℕ) → Window all first (spots_in body) → uses_in slots body j ≡ true → Used first (first + places_in body) j
+      used_in : (first : ℕ) (body : Block) (j : ℕ) → Window all first (spots_in body) → uses_in slots body j ≡ true →
+          Used first (first + places_in body) j
       used_in first Done j window on = absurd cc
       used_in first (Then s rest) j window on =
           let many = spots_many s in

@@ -56,7 +56,8 @@ once_after before (counter ∷ rest) zero (suc j) x one two = absurd (later_diff
 once_after before (counter ∷ rest) (suc i) zero x one two = absurd (later_differs before rest counter i x (first_is _ x two) one)
 once_after before (counter ∷ rest) (suc i) (suc j) x one two = ap suc (once_after (before ++ counter ∷ []) rest i j x one two)
 
-pub numbered_once : (counters : List ℕ) (i j : ℕ) (x : Slot) → slice_get (numbered counters) i ≡ Some x → slice_get (numbered counters) j ≡ Some x → i ≡ j
+pub numbered_once : (counters : List ℕ) (i j : ℕ) (x : Slot) → slice_get (numbered counters) i ≡ Some x → slice_get (numbered counters) j
+    ≡ Some x → i ≡ j
 numbered_once counters i j x one two = once_after [] counters i j x one two
 
 pub numbered_counted : (counters : List ℕ) (i : ℕ) (x : Slot) → slice_get (numbered counters) i ≡ Some x → x.value ≡ 0 → ⊥

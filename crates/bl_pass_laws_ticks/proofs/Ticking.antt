@@ -1,5 +1,5 @@
 -- What rests between ticks stands in the next one.
-use Rattle.std.proofs.Common.{◌≡◌, inl, inr, ℕ, Bool, true, false, not, List, Option, Some, refl, sym, ◌∙◌, subst}
+use Rattle.std.proofs.Common.{◌≡◌, inl, inr, ℕ, Bool, true, false, not, List, Option, Some, [], refl, sym, ◌∙◌, subst}
 use Rattle.bl_tree.specs.declared.place.Place.{Place as Source}
 use Rattle.bl_tree.specs.declared.tree.StructDef.{StructDef}
 use Rattle.bl_tree.specs.declared.tree.Unit.{Unit as UnitDef}
@@ -9,7 +9,8 @@ use Rattle.bl_nodes.specs.Nodes.{Node, are_instant, entry}
 use Rattle.bl_nodes.specs.Plain.{Block, Bodies, Body as BodyOf, Done, Last, Then, plain_body}
 use Rattle.bl_ctree.specs.Control.{Body, Check}
 use Rattle.bl_ctree.specs.Instances.{Setting, setting_of, unit_at}
-use Rattle.bl_ctree.specs.Store.{Store}
+use Rattle.bl_prevs.specs.Declared.{FromText}
+use Rattle.bl_ctree.specs.Store.{Store, view_at}
 use Rattle.bl_ctree_laws.specs.Trees.{
   Tree,
   Trees,
@@ -44,12 +45,18 @@ use Rattle.bl_machine_laws_pass.specs.Follows as follows
 use Rattle.bl_machine_laws_pass.specs.Follows.{Fails, Follows}
 use Rattle.bl_pass.specs.Registers.{Registers}
 use Rattle.bl_pass_laws.specs.Keeps.{Keeps}
+use Rattle.bl_pass_laws.specs.Laws.{FirstCounterTells}
 use Rattle.bl_pass_laws_turns.specs.Laws.{PassesBegin, Stands, TreesStand}
 use Rattle.bl_pass_laws_frames.specs.Frames.{AllFramesNest, Frames}
-use Rattle.bl_pass_laws_executes.specs.Executes.{IsCut, begun_registers, resumed_registers}
+use Rattle.bl_pass_laws_fresh.specs.Fresh.{Framed, Fresh, locals}
+use Rattle.bl_pass_laws_fresh.specs.Laws.{BodiesAsk, OwnIsSeen, TreesAsk}
+use Rattle.bl_pass_laws_fresh.specs.Senses.{Senses}
+use Rattle.bl_pass_laws_fresh.proofs.Lists.{none_among}
+use Rattle.bl_pass_executes.specs.Executes.{ClearsInside, IsCut, begun_registers, resumed_registers}
 use Rattle.bl_pass_laws_executes.specs.Laws.{PassesExecute}
 use Rattle.bl_pass_laws_executes.specs.Standing.{AllCallsRest, CallsRest, EachRunsApart, OneRunsIn, RunsApart, RunsIn, Standing}
 use Rattle.bl_pass_laws_performs.specs.Laws.{AllGiven, AllTurnsPerform}
+use Rattle.bl_pass_laws_performs.proofs.Copying.{view_length}
 use Rattle.bl_pass_laws_performs.proofs.Keeping.{block_apart, block_holds, block_rests}
 use Rattle.bl_pass_laws_ticks.specs.Laws.{Resting, TickExecuted, TicksExecute}
 
@@ -107,7 +114,8 @@ mutual
       (λ place h. each.0 place (wake_runs c place h), wake_apart c each.1, each_wakes_apart rest branches each.2)
 
 mutual
-  wake_rests : (w : Setting) (slots : ℕ → Slots) (i : ℕ) (c : Tree) (g : Place) → Live w i c g → is_settled c ≡ true → CallsRest w slots c →
+  wake_rests : (w : Setting) (slots : ℕ → Slots) (i : ℕ) (c : Tree) (g : Place) → Live w i c g → is_settled c ≡ true →
+      CallsRest w slots c →
       CallsRest w slots (woken c)
   wake_rests w slots i Nil g live settled rests = tt
   wake_rests w slots i (Wait s) g live settled rests = tt
@@ -143,7 +151,8 @@ mutual
       )
 
   each_wakes_rests : (w : Setting) (slots : ℕ → Slots) (i : ℕ) (branches : Trees) (bodies : Bodies) (stood : Bool) (g : Place) →
-      Lives w i branches bodies stood g → are_settled branches ≡ true → AllCallsRest w slots branches → AllCallsRest w slots (all_woken branches)
+      Lives w i branches bodies stood g → are_settled branches ≡ true → AllCallsRest w slots branches →
+      AllCallsRest w slots (all_woken branches)
   each_wakes_rests w slots i no_tree bodies stood g live settled rests = tt
   each_wakes_rests w slots i (beside weak c branches) Last stood g live settled rests = absurd live
   each_wakes_rests w slots i (beside weak c branches) (BodyOf weak' body rest) stood g live settled rests = (
@@ -160,8 +169,10 @@ settles (follows.goes least first takes more) = settles more
 
 module _ (runs_apart : AcceptedRunsApart) (begin_live : BodiesBeginLive) (all_callable : ProgramsAreCallable) (wake_live : WakingKeepsLive)
     (execute : PassesExecute) (frames_nest : AllFramesNest) (perform : AllTurnsPerform) (begin : PassesBegin) (trees : TreesStand)
-    (structs : List StructDef) (units : List UnitDef) (program : ℕ) (rank : ℕ → Node → ℕ) (slots : ℕ → Slots) (typed : Typed structs units program)
-    (passes : Passes units) (given : AllGiven (setting_of structs units program) rank slots) (i : ℕ) (unit : UnitDef)
+    (own_seen : OwnIsSeen) (ask : TreesAsk) (bodies_ask : BodiesAsk) (structs : List StructDef) (units : List UnitDef) (program : ℕ)
+    (rank : ℕ → Node → ℕ) (slots : ℕ → Slots) (clear : ℕ → Frames → Frames) (typed : Typed structs units program)
+    (passes : Passes units) (from : FromText units) (given : AllGiven (setting_of structs units program) rank slots)
+    (clears : ClearsInside (setting_of structs units program) clear) (i : ℕ) (unit : UnitDef)
     (is : unit_at (setting_of structs units program) i ≡ Some unit) where
   abbrev W : Setting
   W = setting_of structs units program
@@ -198,11 +209,35 @@ module _ (runs_apart : AcceptedRunsApart) (begin_live : BodiesBeginLive) (all_ca
         };
       }
 
-  pub tick : (stood : Bool) (frames : Frames) (c : Tree) (r : Registers) → Ready stood frames c r → (store : Store) (c' : Tree) (left : Store) →
-      Follows W rank i 0 c store c' left → TickExecuted W rank slots i unit frames store r c' left
-  tick stood frames c r ready store c' left follow =
-      let one = execute.follows W rank slots i unit stood 0 frames c store r c' left (given i unit is)
-      (perform structs units program rank slots i unit stood typed passes given is) follow ready.stands ready.keeps ready.standing in record {
+  begun_senses : (store : Store) → Framed W store → Senses W i unit [] store (view_at W store i).now (do_block (plain_body unit.body))
+  begun_senses store framed = record {
+    framed = framed;
+    behind = λ x at. absurd (none_among x at);
+    hold = λ x at. absurd (none_among x at);
+    long = view_length W store i;
+    asks = ask.begins W i unit [] (plain_body unit.body) (bodies_ask structs units program i unit typed from is);
+    fresh = λ j h. absurd (ask.none_due W (plain_body unit.body) j h);
+  }
+
+  resumed_senses : (frames : Frames) (c : Tree) (store : Store) → Framed W store → ((j : ℕ) → Fresh W store j) →
+      Resting W slots i unit frames c →
+      Senses W i unit (locals unit) store (view_at W store i).now (woken c)
+  resumed_senses frames c store framed fresh resting = record {
+    framed = framed;
+    behind = λ x at. at;
+    hold = λ x at. own_seen.fresh W i x unit store is (fresh i) at;
+    long = view_length W store i;
+    asks = ask.wakes W i unit (locals unit) c resting.asks;
+    fresh = λ j h. fresh j;
+  }
+
+  pub tick : (stood : Bool) (frames : Frames) (c : Tree) (r : Registers) → Ready stood frames c r → (store : Store) (known : List ℕ) →
+      Senses W i unit known store (view_at W store i).now c → (c' : Tree) (left : Store) → Follows W rank i 0 c store c' left →
+      TickExecuted W rank slots clear i unit frames store r c' left
+  tick stood frames c r ready store known senses c' left follow =
+      let one = execute.follows W rank slots clear i unit stood 0 frames c store known (view_at W store i).now r c' left (given i unit is)
+      (perform structs units program rank slots clear i unit stood typed passes from given clears is) follow ready.stands ready.keeps ready.standing
+      senses in record {
         inner = one.inner;
         registers = one.registers;
         executes = one.executes;
@@ -213,46 +248,69 @@ module _ (runs_apart : AcceptedRunsApart) (begin_live : BodiesBeginLive) (all_ca
               one.standing.lives one.standing.holds one.counters;
           rests = one.standing.rests;
           apart = one.standing.apart;
+          asks = one.asks;
         };
+        framed = one.framed;
       }
 
-  pub trap : (stood : Bool) (frames : Frames) (c : Tree) (r : Registers) → Ready stood frames c r → (store : Store) → Fails W rank i 0 c store →
-      IsCut W rank slots i 0 frames store r
-  trap stood frames c r ready store fail =
-      execute.fails W rank slots i unit stood 0 frames c store r (given i unit is)
-      (perform structs units program rank slots i unit stood typed passes given is) fail ready.stands ready.keeps ready.standing
+  pub trap : (stood : Bool) (frames : Frames) (c : Tree) (r : Registers) → Ready stood frames c r → (store : Store) (known : List ℕ) →
+      Senses W i unit known store (view_at W store i).now c → Fails W rank i 0 c store →
+      IsCut W rank slots clear i 0 frames store (view_at W store i).now r
+  trap stood frames c r ready store known senses fail =
+      execute.fails W rank slots clear i unit stood 0 frames c store known (view_at W store i).now r (given i unit is)
+      (perform structs units program rank slots clear i unit stood typed passes from given clears is) fail ready.stands ready.keeps ready.standing
+      senses
 
-  pub first_tick : (frames : Frames) (store : Store) (c' : Tree) (left : Store) → Follows W rank i 0 (do_block (plain_body unit.body)) store c' left →
-      TickExecuted W rank slots i unit frames store (begun_registers rank i unit) c' left
-  first_tick frames store c' left follow =
-      tick false frames (do_block (plain_body unit.body)) (begun_registers rank i unit) (begun frames) store c' left follow
+  pub first_tick : (frames : Frames) (store : Store) (c' : Tree) (left : Store) → Framed W store →
+      Follows W rank i 0 (do_block (plain_body unit.body)) store c' left →
+      TickExecuted W rank slots clear i unit frames store (begun_registers rank i unit) c' left
+  first_tick frames store c' left framed follow =
+      tick false frames (do_block (plain_body unit.body)) (begun_registers rank i unit) (begun frames) store [] (begun_senses store framed) c' left
+      follow
 
-  pub next_tick : (frames : Frames) (c : Tree) (store : Store) (c' : Tree) (left : Store) → Resting W slots i unit frames c →
-      Follows W rank i 0 (woken c) store c' left → TickExecuted W rank slots i unit frames store (resumed_registers frames i) c' left
-  next_tick frames c store c' left resting follow =
-      tick true frames (woken c) (resumed_registers frames i) (resumed frames c resting) store c' left follow
+  pub next_tick : (frames : Frames) (c : Tree) (store : Store) (c' : Tree) (left : Store) → Framed W store → ((j : ℕ) → Fresh W store j) →
+      Resting W slots i unit frames c → Follows W rank i 0 (woken c) store c' left →
+      TickExecuted W rank slots clear i unit frames store (resumed_registers frames i) c' left
+  next_tick frames c store c' left framed fresh resting follow =
+      tick true frames (woken c) (resumed_registers frames i) (resumed frames c resting) store (locals unit)
+      (resumed_senses frames c store framed fresh resting) c' left follow
 
-  pub first_trap : (frames : Frames) (store : Store) → Fails W rank i 0 (do_block (plain_body unit.body)) store →
-      IsCut W rank slots i 0 frames store (begun_registers rank i unit)
-  first_trap frames store fail = trap false frames (do_block (plain_body unit.body)) (begun_registers rank i unit) (begun frames) store fail
+  pub first_trap : (frames : Frames) (store : Store) → Framed W store → Fails W rank i 0 (do_block (plain_body unit.body)) store →
+      IsCut W rank slots clear i 0 frames store (view_at W store i).now (begun_registers rank i unit)
+  first_trap frames store framed fail =
+      trap false frames (do_block (plain_body unit.body)) (begun_registers rank i unit) (begun frames) store [] (begun_senses store framed) fail
 
-  pub next_trap : (frames : Frames) (c : Tree) (store : Store) → Resting W slots i unit frames c → Fails W rank i 0 (woken c) store →
-      IsCut W rank slots i 0 frames store (resumed_registers frames i)
-  next_trap frames c store resting fail = trap true frames (woken c) (resumed_registers frames i) (resumed frames c resting) store fail
+  pub next_trap : (frames : Frames) (c : Tree) (store : Store) → Framed W store → ((j : ℕ) → Fresh W store j) →
+      Resting W slots i unit frames c →
+      Fails W rank i 0 (woken c) store → IsCut W rank slots clear i 0 frames store (view_at W store i).now (resumed_registers frames i)
+  next_trap frames c store framed fresh resting fail =
+      trap true frames (woken c) (resumed_registers frames i) (resumed frames c resting) store (locals unit)
+      (resumed_senses frames c store framed fresh resting) fail
 
-pub ticks_execute : AcceptedRunsApart → BodiesBeginLive → ProgramsAreCallable → WakingKeepsLive → PassesExecute → AllFramesNest → AllTurnsPerform →
-    PassesBegin → TreesStand → TicksExecute
-ticks_execute apart live callable wake execute frames_nest perform begin trees = record {
-  begins = λ structs units program rank slots i unit frames store c' left typed passes given is follow.
-      first_tick apart live callable wake execute frames_nest perform begin trees structs units program rank slots typed passes given i unit is frames
-      store c' left follow;
-  resumes = λ structs units program rank slots i unit frames c store c' left typed passes given is resting follow.
-      next_tick apart live callable wake execute frames_nest perform begin trees structs units program rank slots typed passes given i unit is frames
-      c store c' left resting follow;
-  begun_fails = λ structs units program rank slots i unit frames store typed passes given is fail.
-      first_trap apart live callable wake execute frames_nest perform begin trees structs units program rank slots typed passes given i unit is frames
-      store fail;
-  resumed_fails = λ structs units program rank slots i unit frames c store typed passes given is resting fail.
-      next_trap apart live callable wake execute frames_nest perform begin trees structs units program rank slots typed passes given i unit is frames
-      c store resting fail;
+-- what goes on has a first counter that isn't 0
+counts : FirstCounterTells → (w : Setting) (rank : ℕ → Node → ℕ) (slots : ℕ → Slots) (i : ℕ) (unit : UnitDef) (frames : Frames)
+    (c : Tree) →
+    AllGiven w rank slots → unit_at w i ≡ Some unit → Resting w slots i unit frames c → frames i 0 ≡ 0 → ⊥
+counts tells w rank slots i unit frames c given is resting zero =
+    let old = resting.rested in
+    tells w i (slots i) unit old.stood c old.lives (given i unit is).laid old.stands.placed old.settled old.unended
+    (sym (resting.holds.0 0) ∙ zero)
+
+pub ticks_execute : AcceptedRunsApart → BodiesBeginLive → ProgramsAreCallable → WakingKeepsLive → PassesExecute → AllFramesNest →
+    AllTurnsPerform → PassesBegin → TreesStand → OwnIsSeen → TreesAsk → BodiesAsk → FirstCounterTells → TicksExecute
+ticks_execute apart live callable wake execute frames_nest perform begin trees own_seen ask bodies_ask tells = record {
+  begins = λ structs units program rank slots clear i unit frames store c' left typed passes from given clears is framed follow.
+      first_tick apart live callable wake execute frames_nest perform begin trees own_seen ask bodies_ask structs units program rank slots clear typed
+      passes from given clears i unit is frames store c' left framed follow;
+  resumes = λ structs units program rank slots clear i unit frames c store c' left typed passes from given clears is framed fresh resting follow.
+      next_tick apart live callable wake execute frames_nest perform begin trees own_seen ask bodies_ask structs units program rank slots clear typed
+      passes from given clears i unit is frames c store c' left framed fresh resting follow;
+  counts = λ structs units program rank slots i unit frames c given is resting.
+      counts tells (setting_of structs units program) rank slots i unit frames c given is resting;
+  begun_fails = λ structs units program rank slots clear i unit frames store typed passes from given clears is framed fail.
+      first_trap apart live callable wake execute frames_nest perform begin trees own_seen ask bodies_ask structs units program rank slots clear typed
+      passes from given clears i unit is frames store framed fail;
+  resumed_fails = λ structs units program rank slots clear i unit frames c store typed passes from given clears is framed fresh resting fail.
+      next_trap apart live callable wake execute frames_nest perform begin trees own_seen ask bodies_ask structs units program rank slots clear typed
+      passes from given clears i unit is frames c store framed fresh resting fail;
 }

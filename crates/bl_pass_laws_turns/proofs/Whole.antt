@@ -46,7 +46,8 @@ trees_stand placed dozing rooted stemmed = record {
 
 -- ---- the start
 
-woken_open : (w : Setting) (i : ℕ) (c : Tree) (stood : Bool) (body : Block) → Live w i c (whole stood body) → is_nil c ≡ false → is_nil (woken c) ≡ false
+woken_open : (w : Setting) (i : ℕ) (c : Tree) (stood : Bool) (body : Block) → Live w i c (whole stood body) → is_nil c ≡ false →
+    is_nil (woken c) ≡ false
 woken_open w i Nil stood body live unended = unended
 woken_open w i (Wait s) stood body live unended = refl
 woken_open w i (Test s) stood body live unended = refl
@@ -58,7 +59,8 @@ woken_open w i (Guard s phase old c) stood body live unended = refl
 woken_open w i (Run s callee phase old c) stood body live unended = refl
 
 -- no flag is set yet, and no node that asks for one waits
-unflagged : (number : Node → ℕ) (counters : ℕ → ℕ) (rule : Rule) (There : Type 0) → (There → IsResume rule.asked) → (asked : Asked) → rule.asked ≡ asked →
+unflagged : (number : Node → ℕ) (counters : ℕ → ℕ) (rule : Rule) (There : Type 0) → (There → IsResume rule.asked) → (asked : Asked) →
+    rule.asked ≡ asked →
     IsFlagged asked → Exactly (due_by number (started counters (λ k. false)) rule.node asked) There
 unflagged number counters rule There resumes Flagged is flagged = (λ set. absurd cc, λ there. absurd (subst IsResume is (resumes there)))
 unflagged number counters rule There resumes (Rested slot) is flagged = absurd flagged

@@ -38,7 +38,8 @@ pub record TreesStand : Type 0 where
   pub begins : (slots : Slots) (unit : UnitDef) → Laid slots (plain_body unit.body) → Stands slots (plain_body unit.body) (do_block (plain_body unit.body))
   pub wakes : (w : Setting) (i : ℕ) (stood : Bool) (slots : Slots) (unit : UnitDef) (c : Tree) → Live w i c (whole stood (plain_body unit.body)) →
       is_settled c ≡ true → Stands slots (plain_body unit.body) c → Stands slots (plain_body unit.body) (woken c)
-  pub turns : (w : Setting) (rank : ℕ → Node → ℕ) (i : ℕ) (slots : Slots) (unit : UnitDef) (c : Tree) (done : List Answered) (n : Node) (c' : Tree) →
+  pub turns : (w : Setting) (rank : ℕ → Node → ℕ) (i : ℕ) (slots : Slots) (unit : UnitDef) (c : Tree) (done : List Answered) (n : Node)
+      (c' : Tree) →
       Laid slots (plain_body unit.body) → Turns w rank i c done n c' → Stands slots (plain_body unit.body) c →
       Stands slots (plain_body unit.body) c'
 
@@ -67,7 +68,8 @@ pub record PassesBegin : Type 0 where
 -- where the registers tell how the tree stands before the turn of a node they do after it, from the next number on
 abbrev pub TurnsKeep : Type 0
 TurnsKeep =
-    (w : Setting) (rank : ℕ → Node → ℕ) (i : ℕ) (slots : Slots) (unit : UnitDef) (stood : Bool) (c : Tree) (done : List Answered) (n : Node) (c' : Tree)
+    (w : Setting) (rank : ℕ → Node → ℕ) (i : ℕ) (slots : Slots) (unit : UnitDef) (stood : Bool) (c : Tree) (done : List Answered) (n : Node)
+    (c' : Tree)
     (rule : Rule) (r : Registers) (turn : Turns w rank i c done n c') → Given w rank i slots unit → Live w i c (whole stood (plain_body unit.body)) →
     Stands slots (plain_body unit.body) c → Contains (rules slots (plain_body unit.body)) rule → rule.node ≡ n →
     Keeps slots (rank i) (plain_body unit.body) (rank i n) c r →
@@ -76,7 +78,8 @@ TurnsKeep =
 -- and they do from the number of the first node that waits on
 abbrev pub NumbersPass : Type 0
 NumbersPass =
-    (rank : ℕ → Node → ℕ) (i : ℕ) (slots : Slots) (body : Block) (k : ℕ) (c : Tree) (n : Node) (r : Registers) → k ≤ rank i n → First rank i c n →
+    (rank : ℕ → Node → ℕ) (i : ℕ) (slots : Slots) (body : Block) (k : ℕ) (c : Tree) (n : Node) (r : Registers) → k ≤ rank i n →
+    First rank i c n →
     Keeps slots (rank i) body k c r → Keeps slots (rank i) body (rank i n) c r
 
 -- whatever a rule asks, it is due exactly where something waits at its node, where that is still to have its turn

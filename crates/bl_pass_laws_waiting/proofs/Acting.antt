@@ -163,7 +163,8 @@ Dropped all changes y = RuleAt all y (λ asked. IsResume asked × ((slot : Slot)
 abbrev pub Spared : List Rule → List Change → Node → Type 0
 Spared all changes y = RuleAt all y (λ asked. (slot : Slot) → AsksFor asked slot → AllForget changes slot.counter → ⊥)
 
-pub record Acted (all : List Rule) (number : Node → ℕ) (marks used : ℕ → Bool) (n : Node) (answer : Bool) (Before After Sleeping : Node → Type 0) : Type 0 where
+pub record Acted (all : List Rule) (number : Node → ℕ) (marks used : ℕ → Bool) (n : Node) (answer : Bool)
+    (Before After Sleeping : Node → Type 0) : Type 0 where
   pub rule : Rule
   pub there : Contains all rule
   pub of_node : rule.node ≡ n
@@ -227,7 +228,8 @@ lift {all} {number} {marks} {used} {used'} {n} {answer} {Before} {After} {Sleepi
 -- one node alone waited: it acts, and what it leads to waits
 simple : {all : List Rule} {number : Node → ℕ} {marks used : ℕ → Bool} {n : Node} {answer : Bool} {Before After Sleeping : Node → Type 0} →
     (rule : Rule) → Contains all rule → rule.node ≡ n → (next : Option Node) → SetsAs number marks (taken rule answer) next →
-    Forgetless (taken rule answer) → ((y : Node) → Before y → y ≡ n) → ((y : Node) → After y → Is next y) → ((y : Node) → Is next y → After y) →
+    Forgetless (taken rule answer) → ((y : Node) → Before y → y ≡ n) → ((y : Node) → After y → Is next y) →
+    ((y : Node) → Is next y → After y) →
     ((y : Node) → Sleeping y → ⊥) → Acted all number marks used n answer Before After Sleeping
 simple rule there of_node next sets forgets before into from awake = record {
   rule = rule;
@@ -380,7 +382,8 @@ module _ {w : Setting} {i : ℕ} (slots : Slots) (all : List Rule) (number : Nod
       }
 
   fires_acted : {After Sleeping : Node → Type 0} (nx fx : Option Node) → IsNext (fires s.guard s.label s.place s.body next) →
-      flagged_by number marks (fires s.guard s.label s.place s.body next) ≡ fx → ((y : Node) → After y → Is fx y) → ((y : Node) → Is fx y → After y) →
+      flagged_by number marks (fires s.guard s.label s.place s.body next) ≡ fx → ((y : Node) → After y → Is fx y) →
+      ((y : Node) → Is fx y → After y) →
       ((y : Node) → Sleeping y → ⊥) → Acted all number marks used (check_of s) true (Waits (Guard s Check stood c) nx) After Sleeping
   fires_acted nx fx is_next agrees into from awake =
       let sets : SetsAs number marks gone fx =
@@ -560,7 +563,8 @@ module _ {w : Setting} (slots : Slots) (all : List Rule) (number : Node → ℕ)
 
   mutual
     pub turn_acted : {i : ℕ} {c : Tree} {done : List Answered} {n : Node} {c' : Tree} (g : Place) (next : Change) (nx : Option Node) (used : ℕ → Bool)
-        (low : ℕ) → Live w i c g → Sits slots all c next → UsesOnly slots used c → Lies slots low c → Marked number marks c → Dozes c → IsNext next →
+        (low : ℕ) → Live w i c g → Sits slots all c next → UsesOnly slots used c → Lies slots low c → Marked number marks c → Dozes c →
+        IsNext next →
         (is_nil c' ≡ true → flagged_by number marks next ≡ nx) → (t : Turns w rank i c done n c') →
         Acted all number marks used n (answer_of t) (Waits c nx) (Waits c' nx) (Sleeps c')
     turn_acted g next nx used low live sits uses lies ages dozes is_next agree (turns.point p) =

@@ -36,7 +36,8 @@ block_marked number marks (Then s (Then t rest)) = tt
 
 -- the entry's flag alone is set, and the entry alone waits
 entry_waits : (number : Node → ℕ) (body : Block) → StaysWithin body →
-    ((n m : Node) → Contains (nodes_in body) n → Contains (nodes_in body) m → number n ≡ number m → n ≡ m) → (y : Node) → Contains (nodes_in body) y →
+    ((n m : Node) → Contains (nodes_in body) n → Contains (nodes_in body) m → number n ≡ number m → n ≡ m) → (y : Node) →
+    Contains (nodes_in body) y →
     entry_flag number body (number y) ≡ true → Waits (do_block body) None y
 entry_waits number Done within apart y there e = absurd cc
 entry_waits number (Then s rest) within apart y there e =

@@ -84,7 +84,8 @@ taken rule answer = if answer then rule.so else rule.otherwise
 pub here_is : {X : Type 0} (k : ℕ) (x : X) (f : ℕ → X) → with_at k x f k ≡ x
 here_is k x f = ap (λ b. if b then x else f k) (eq-eqb k k refl)
 
-at_test : {X : Type 0} (k j : ℕ) (x : X) (f : ℕ → X) (b : Bool) → nat_eq j k ≡ b → (with_at k x f j ≡ x) × (j ≡ k) ⊎ (with_at k x f j ≡ f j)
+at_test : {X : Type 0} (k j : ℕ) (x : X) (f : ℕ → X) (b : Bool) → nat_eq j k ≡ b → (with_at k x f j ≡ x) × (j ≡ k)
+    ⊎ (with_at k x f j ≡ f j)
 at_test k j x f true e = inl (ap (λ b. if b then x else f j) e, eqb-true j k e)
 at_test k j x f false e = inr (ap (λ b. if b then x else f j) e)
 
@@ -117,7 +118,8 @@ pub data FlagFrom (number : Node → ℕ) (Set : Node → Type 0) (before : Bool
 with_flag_set : (number : Node → ℕ) (y : Node) (r : Registers) (k : ℕ) → (with_flag (number y) r).flags k ≡ true →
     FlagFrom number (λ z. z ≡ y) (r.flags k) k
 with_flag_set number y r k e =
-    ⊎_elim (λ is. is_of y refl is.1) (λ (is : with_at (number y) true r.flags k ≡ r.flags k). was_set (sym is ∙ e)) (at_either (number y) k true r.flags)
+    ⊎_elim (λ is. is_of y refl is.1) (λ (is : with_at (number y) true r.flags k ≡ r.flags k). was_set (sym is ∙ e))
+    (at_either (number y) k true r.flags)
 
 ends_flag_set : (number : Node → ℕ) (surface depth : Node) (r : Registers) (k : ℕ) (b : Bool) →
     (if b then with_flag (number surface) r else with_flag (number depth) r).flags k ≡ true →
@@ -166,7 +168,8 @@ one_kept number (Marks n) r k e = e
 one_kept number (Ends start surface depth) r k e = ends_flag_kept (number surface) (number depth) r k (r.marks (number start)) e
 one_kept number Finishes r k e = e
 
-pub all_kept : (number : Node → ℕ) (changes : List Change) (r : Registers) (k : ℕ) → r.flags k ≡ true → (all_changed number changes r).flags k ≡ true
+pub all_kept : (number : Node → ℕ) (changes : List Change) (r : Registers) (k : ℕ) → r.flags k ≡ true →
+    (all_changed number changes r).flags k ≡ true
 all_kept number [] r k e = e
 all_kept number (change ∷ rest) r k e = all_kept number rest (changed number change r) k (one_kept number change r k e)
 
@@ -203,11 +206,13 @@ ends_rested i j r true = refl
 ends_rested i j r false = refl
 
 -- a counter that is not forgotten holds what it held
-one_spared : (number : Node → ℕ) (change : Change) (r : Registers) (j : ℕ) → (Forget change j → ⊥) → (changed number change r).rested j ≡ r.rested j
+one_spared : (number : Node → ℕ) (change : Change) (r : Registers) (j : ℕ) → (Forget change j → ⊥) → (changed number change r).rested j
+    ≡ r.rested j
 one_spared number (Flags n) r j spared = refl
 one_spared number (Holds slot) r j spared = refl
 one_spared number (Frees k) r j spared = refl
-one_spared number (Forgets k) r j spared = ⊎_elim (λ is. absurd (spared is.1)) (λ (is : with_at k 0 r.rested j ≡ r.rested j). is) (at_either k j 0 r.rested)
+one_spared number (Forgets k) r j spared = ⊎_elim (λ is. absurd (spared is.1)) (λ (is : with_at k 0 r.rested j ≡ r.rested j). is)
+    (at_either k j 0 r.rested)
 one_spared number (Marks n) r j spared = refl
 one_spared number (Ends start surface depth) r j spared =
     ap (λ rested. rested j) (ends_rested (number surface) (number depth) r (r.marks (number start)))
@@ -257,7 +262,8 @@ still_none : (number : Node → ℕ) (changes : List Change) (r : Registers) (j 
 still_none number changes r j e =
     ⊎_elim (λ is. is) (λ (is : (all_changed number changes r).rested j ≡ r.rested j). is ∙ e) (all_either number changes r j)
 
-pub all_forget : (number : Node → ℕ) (changes : List Change) (r : Registers) (j : ℕ) → AllForget changes j → (all_changed number changes r).rested j ≡ 0
+pub all_forget : (number : Node → ℕ) (changes : List Change) (r : Registers) (j : ℕ) → AllForget changes j →
+    (all_changed number changes r).rested j ≡ 0
 all_forget number [] r j is = absurd is
 all_forget number (change ∷ rest) r j (inl is) = still_none number rest (changed number change r) j (one_forgets number change r j is)
 all_forget number (change ∷ rest) r j (inr is) = all_forget number rest (changed number change r) j is

@@ -90,7 +90,8 @@ pub rule_known : (slots : Slots) (body : Block) (a : Rule) → Contains (rules s
 rule_known slots body a one = each_of (Known slots (spots_in body)) (rules slots body) a (known_in slots (spots_in body) body Finishes (λ p there. there)) one
 
 -- it asks for no number with value 0
-pub asks_counted : (slots : Slots) (body : Block) (a : Rule) → Laid slots body → Contains (rules slots body) a → (slot : Slot) → AsksFor a.asked slot →
+pub asks_counted : (slots : Slots) (body : Block) (a : Rule) → Laid slots body → Contains (rules slots body) a → (slot : Slot) →
+    AsksFor a.asked slot →
     slot.value ≡ 0 → ⊥
 asks_counted slots body a laid one slot asks none =
     let spot = (rule_known slots body a one).1 slot asks in laid.counted spot.0 spot.1 (ap (λ other. other.value) spot.2 ∙ none)

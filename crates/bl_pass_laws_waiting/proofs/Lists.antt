@@ -63,7 +63,8 @@ contains_split (y ∷ xs) ys x h =
 stands_at : {X : Type 0} (xs : List X) (x : X) → Contains xs x → (k : ℕ) × (slice_get xs k ≡ Some x)
 stands_at [] x there = absurd (contains_none x there)
 stands_at (y ∷ xs) x there =
-    ⊎_elim (λ (is : y ≡ x). (0, ap Some is)) (λ (later : Contains xs x). let rest = stands_at xs x later in (suc rest.0, rest.1)) (contains_cons y xs x there)
+    ⊎_elim (λ (is : y ≡ x). (0, ap Some is)) (λ (later : Contains xs x). let rest = stands_at xs x later in (suc rest.0, rest.1))
+    (contains_cons y xs x there)
 
 mapped_at : {X Y : Type 0} (f : X → Y) (xs : List X) (k : ℕ) (x : X) → slice_get xs k ≡ Some x → slice_get (map f xs) k ≡ Some (f x)
 mapped_at f [] k x e = absurd cc
@@ -77,7 +78,8 @@ contains_map f (y ∷ xs) x there =
     (λ (later : Contains xs x). contains_tail (f y) (map f xs) (f x) (contains_map f xs x later)) (contains_cons y xs x there)
 
 -- where no node stands twice, what has one node is one
-pub one_of_node : {X Y : Type 0} (f : X → Y) (xs : List X) → ((i j : ℕ) (y : Y) → slice_get (map f xs) i ≡ Some y → slice_get (map f xs) j ≡ Some y → i ≡ j) →
+pub one_of_node : {X Y : Type 0} (f : X → Y) (xs : List X) →
+    ((i j : ℕ) (y : Y) → slice_get (map f xs) i ≡ Some y → slice_get (map f xs) j ≡ Some y → i ≡ j) →
     (a b : X) → Contains xs a → Contains xs b → f a ≡ f b → a ≡ b
 one_of_node f xs once a b one other same =
     let first = stands_at xs a one in

@@ -1,5 +1,6 @@
 -- The rules of a body: what they ask at which nodes, and which counters.
-use Rattle.std.proofs.Common.{◌≡◌, ◌⊎◌, ⊎_elim, ℕ, suc, Bool, true, false, ◌||◌, List, [], ◌∷◌, ◌++◌, refl, sym, ap, subst, eqb-true, eq-eqb}
+use Rattle.std.proofs.Common.{◌≡◌, ◌⊎◌, ⊎_elim, ℕ, suc, Bool, true, false, ◌||◌, List, [], ◌∷◌}
+use Rattle.std.proofs.Common.{◌++◌, refl, sym, ap, subst, eqb-true, eq-eqb}
 use Rattle.std.specs.Prelude.{⊤, Contains}
 use Rattle.bl_nodes.specs.Nodes.{DepthEndAt, DepthJoinAt, Node, SurfaceEndAt, SurfaceJoinAt, are_instant, entry, is_instant}
 use Rattle.bl_nodes.specs.Plain.{
@@ -218,7 +219,8 @@ mutual
   counters_used slots (Await l at e') j e = used_one (slots.rest l) j e
   counters_used slots (RunOf l at target a inputs outputs) j e = used_one (slots.rest l) j e
   counters_used slots (If l at e' body other) j e =
-      ⊎_elim (λ (one : uses_in slots body j ≡ true). contains_left (counters_in slots body) (counters_in slots other) j (counters_used_in slots body j one))
+      ⊎_elim (λ (one : uses_in slots body j ≡ true). contains_left (counters_in slots body) (counters_in slots other) j
+      (counters_used_in slots body j one))
       (λ (one : uses_in slots other j ≡ true). contains_right (counters_in slots body) (counters_in slots other) j (counters_used_in slots other j one))
       (or_either (uses_in slots body j) (uses_in slots other j) e)
   counters_used slots (Cobegin l at bodies) j e = counters_used_each slots l 0 bodies j e

@@ -206,7 +206,8 @@ pub asleep_within : (all : List Rule) (used used' : ℕ → Bool) (y : Node) →
 asleep_within all used used' y within one =
     record { rule = one.rule; there = one.there; of_node = one.of_node; is = (one.is.0, λ slot asks. within slot.counter (one.is.1 slot asks)) }
 
-rest_asleep : (all : List Rule) (used : ℕ → Bool) (y : Node) (rule : Rule) (slot : Slot) → Contains all rule → rule.node ≡ y → rule.asked ≡ Rested slot →
+rest_asleep : (all : List Rule) (used : ℕ → Bool) (y : Node) (rule : Rule) (slot : Slot) → Contains all rule → rule.node ≡ y → rule.asked
+    ≡ Rested slot →
     used slot.counter ≡ true → Asleep all used y
 rest_asleep all used y rule slot there of_node asked uses = record {
   rule = rule;
@@ -218,7 +219,8 @@ rest_asleep all used y rule slot there of_node asked uses = record {
 
 module _ (w : Setting) (i : ℕ) (slots : Slots) (all : List Rule) where
   mutual
-    pub asleep : (used : ℕ → Bool) (g : Place) (next : Change) (c : Tree) (y : Node) → Live w i c g → Sits slots all c next → UsesOnly slots used c →
+    pub asleep : (used : ℕ → Bool) (g : Place) (next : Change) (c : Tree) (y : Node) → Live w i c g → Sits slots all c next →
+        UsesOnly slots used c →
         Sleeps c y → Asleep all used y
     asleep used g next Nil y live sits uses h = absurd h
     asleep used g next (Wait s) y live sits uses h = absurd h

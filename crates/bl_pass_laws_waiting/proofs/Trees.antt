@@ -70,7 +70,8 @@ turn_first (Then s rest) next nx = refl
 -- ---- what follows
 
 -- what holds of a block that begins, and of a tree before it, holds of the tree that it follows
-pub seq_by : (P : Tree → Tree → Type 0) (s : Plain) (rest : Block) → P Nil (do_block (Then s rest)) → ((c : Tree) → P c (Seq c (Then s rest))) → (c : Tree) →
+pub seq_by : (P : Tree → Tree → Type 0) (s : Plain) (rest : Block) → P Nil (do_block (Then s rest)) →
+    ((c : Tree) → P c (Seq c (Then s rest))) → (c : Tree) →
     P c (seq c (Then s rest))
 seq_by P s rest begins stands Nil = begins
 seq_by P s rest begins stands (Wait p) = stands (Wait p)
@@ -96,7 +97,8 @@ seq_sleeps c s rest y h = seq_by (λ t d. Sleeps d y → Sleeps t y) s rest (λ 
 -- ---- what has not ended
 
 -- it waits for nothing of what follows
-pub unended_waits : (w : Setting) (i : ℕ) (g : Place) (c : Tree) (nx other : Option Node) (y : Node) → Live w i c g → is_nil c ≡ false → Waits c nx y →
+pub unended_waits : (w : Setting) (i : ℕ) (g : Place) (c : Tree) (nx other : Option Node) (y : Node) → Live w i c g → is_nil c ≡ false →
+    Waits c nx y →
     Waits c other y
 unended_waits w i g Nil nx other y live unended h = differ true refl unended
 unended_waits w i g (Wait s) nx other y live unended h = h
@@ -112,7 +114,8 @@ unended_waits w i g (Run s callee Body stood c) nx other y live unended h = h
 unended_waits w i g (Run s callee Check stood c) nx other y live unended h = h
 
 -- branches that are settled wait for nothing
-pub branches_quiet : (w : Setting) (i : ℕ) (g : Place) (stood : Bool) (branches : Trees) (bodies : Bodies) (y : Node) → Lives w i branches bodies stood g →
+pub branches_quiet : (w : Setting) (i : ℕ) (g : Place) (stood : Bool) (branches : Trees) (bodies : Bodies) (y : Node) →
+    Lives w i branches bodies stood g →
     are_settled branches ≡ true → SomeWaits branches y → ⊥
 branches_quiet w i g stood no_tree bodies y live settled h = h
 branches_quiet w i g stood (beside weak c branches) Last y live settled h = live

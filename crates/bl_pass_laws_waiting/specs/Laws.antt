@@ -18,7 +18,8 @@ use Rattle.bl_pass_laws.specs.Laws.{StaysPlaced, Turning, answer_of, entry_flag}
 -- after a turn each rule that asks so, of a node that is still to have its turn, is due exactly where something waits at its node
 abbrev pub KeepsDue : (Asked → Type 0) → Type 0
 KeepsDue Asks =
-    (w : Setting) (rank : ℕ → Node → ℕ) (i : ℕ) (slots : Slots) (unit : UnitDef) (stood : Bool) (c : Tree) (done : List Answered) (n : Node) (c' : Tree)
+    (w : Setting) (rank : ℕ → Node → ℕ) (i : ℕ) (slots : Slots) (unit : UnitDef) (stood : Bool) (c : Tree) (done : List Answered) (n : Node)
+    (c' : Tree)
     (rule : Rule) (r : Registers) (turn : Turns w rank i c done n c') → Turning w rank i slots unit stood c n rule →
     Keeps slots (rank i) (plain_body unit.body) (rank i n) c r → (other : Rule) → Contains (rules slots (plain_body unit.body)) other →
     Asks other.asked → suc (rank i n) ≤ rank i other.node →
@@ -27,7 +28,8 @@ KeepsDue Asks =
 -- after the turn of the node with the least number that waits all that waits has a greater one
 abbrev pub TurnsLeaveMore : Type 0
 TurnsLeaveMore =
-    (w : Setting) (rank : ℕ → Node → ℕ) (i : ℕ) (slots : Slots) (unit : UnitDef) (stood : Bool) (c : Tree) (done : List Answered) (n : Node) (c' : Tree)
+    (w : Setting) (rank : ℕ → Node → ℕ) (i : ℕ) (slots : Slots) (unit : UnitDef) (stood : Bool) (c : Tree) (done : List Answered) (n : Node)
+    (c' : Tree)
     (rule : Rule) (r : Registers) → Turns w rank i c done n c' → Turning w rank i slots unit stood c n rule →
     Keeps slots (rank i) (plain_body unit.body) (rank i n) c r → (m : Node) → Waits c' None m → suc (rank i n) ≤ rank i m
 

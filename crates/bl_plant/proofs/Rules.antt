@@ -60,7 +60,8 @@ pub level-more : (first drain : ℤ) (told : List (List ℤ)) (outs : List ℤ) 
     level_after first drain (told ++ outs ∷ []) ≡ level_then drain (level_after first drain told) outs
 level-more first drain told outs = fold-snoc (level_then drain) first told outs
 
-pub ramp-more : (first step : ℤ) (given : List (List ℤ)) (row : List ℤ) → ramp_at first step (given ++ row ∷ []) ≡ ramp_then step (ramp_at first step given)
+pub ramp-more : (first step : ℤ) (given : List (List ℤ)) (row : List ℤ) → ramp_at first step (given ++ row ∷ [])
+    ≡ ramp_then step (ramp_at first step given)
 ramp-more first step given row = fold-snoc (λ number (row : List ℤ). ramp_then step number) first given row
 
 -- ---- what gives
@@ -156,7 +157,8 @@ rows-given (turn.Fail ∷ turns) zero row is = cc
 rows-given (turn.Give x ∷ turns) (suc k) row is = ap suc (rows-given turns k row is)
 rows-given (turn.Fail ∷ turns) (suc k) row is = rows-given turns k row is
 
-pub rows-failed : (turns : List Turn) (k : ℕ) → slice_get turns k ≡ Some turn.Fail → length (rows_in (take (suc k) turns)) ≡ length (rows_in (take k turns))
+pub rows-failed : (turns : List Turn) (k : ℕ) → slice_get turns k ≡ Some turn.Fail → length (rows_in (take (suc k) turns))
+    ≡ length (rows_in (take k turns))
 rows-failed [] k is = cc
 rows-failed (turn.Give x ∷ turns) zero is = cc
 rows-failed (turn.Fail ∷ turns) zero is = refl
@@ -164,6 +166,7 @@ rows-failed (turn.Give x ∷ turns) (suc k) is = ap suc (rows-failed turns k is)
 rows-failed (turn.Fail ∷ turns) (suc k) is = rows-failed turns k is
 
 -- the turn at a place
-pub turn-is : (turns seen : List Turn) (k : ℕ) (t u : Turn) → seen ≡ turns → k < length turns → t ≡ get_or seen k t → t ≡ u → slice_get turns k ≡ Some u
+pub turn-is : (turns seen : List Turn) (k : ℕ) (t u : Turn) → seen ≡ turns → k < length turns → t ≡ get_or seen k t → t ≡ u →
+    slice_get turns k ≡ Some u
 turn-is turns seen k t u same low at is =
     slice_get_read turns (length turns) k t refl low (at ∙ ap (λ z. get_or z k t) same) ∙ ap Some is

@@ -1,5 +1,6 @@
 -- The plants of this crate: what they show when they are made, and their rules.
-use Rattle.std.specs.Prelude.{◌≡◌, ℕ, ℤ, pos, neg_ℤ, ◌+ℤ◌, ◌-ℤ◌, ◌^◌, ◌-◌, List, [], ◌∷◌, length, fold, nat_lt, if◌then◌else◌, slice_get}
+use Rattle.std.specs.Prelude.{◌≡◌, ℕ, ℤ, pos, neg_ℤ, ◌+ℤ◌, ◌-ℤ◌, ◌^◌, ◌-◌, List, []}
+use Rattle.std.specs.Prelude.{◌∷◌, length, fold, nat_lt, if◌then◌else◌, slice_get}
 use Rattle.std.specs.Prelude.{slice_index_or, Option, Some, None}
 use Rattle.std.specs.Int.{int_max, int_min}
 use Rattle.bl_plant.specs.Plants.{Shown}

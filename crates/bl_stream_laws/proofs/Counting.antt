@@ -1,5 +1,6 @@
 -- The lines of a counted run are those of its counts.
-use Rattle.std.proofs.Common.{◌≡◌, ◌∙◌, ℕ, ◌+◌, ◌-◌, ℤ, Bool, true, false, List, [], ◌∷◌, ◌++◌, refl, sym, ap, subst, append-nil, append_assoc, codes}
+use Rattle.std.proofs.Common.{◌≡◌, ◌∙◌, ℕ, ◌+◌, ◌-◌, ℤ, Bool, true, false, List, [], ◌∷◌, ◌++◌}
+use Rattle.std.proofs.Common.{refl, sym, ap, subst, append-nil, append_assoc, codes}
 use Rattle.bl_bound_laws.specs.Counts.{counts_after, counts_from, counts_if}
 use Rattle.bl_cmeaning.specs.Cells.{inputs_of}
 use Rattle.bl_cmeaning.specs.Parts.{Parts}

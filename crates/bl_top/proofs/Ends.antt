@@ -10,6 +10,7 @@ use Rattle.bl_top.specs.Calls.{Call, HasRisen, Output}
 use Rattle.bl_top.specs.Check.{CheckEnds, accepted, accepted_line, stopped as check_ends}
 use Rattle.bl_top.specs.Bound.{BoundEnds}
 use Rattle.bl_top.specs.Count.{CountEnds}
+use Rattle.bl_top.specs.Drive.{Plants}
 use Rattle.bl_top.specs.Exec.{ExecEnds}
 use Rattle.bl_top.specs.Gen.{GenEnds}
 use Rattle.bl_top.specs.Save.{ResumeEnds, SaveEnds, SaveFromEnds}
@@ -100,61 +101,61 @@ run_stops c source rows ended line stops kept = run_stopped stops kept
 
 -- ---- the job
 
-pub answers_check : (c : Call) (job : Option JobSpec) (source : Word) (ended : Status) (line : List ℕ) → job ≡ Some (check source) →
-    CheckEnds c source ended line → Answers c job ended line
-answers_check c job source ended line asked ends = rw asked (checks ends)
+pub answers_check : (c : Call) (plants : Plants) (job : Option JobSpec) (source : Word) (ended : Status) (line : List ℕ) → job ≡ Some (check source) →
+    CheckEnds c source ended line → Answers c plants job ended line
+answers_check c plants job source ended line asked ends = rw asked (checks ends)
 
-pub answers_build : (c : Call) (job : Option JobSpec) (source : Word) (ended : Status) (line : List ℕ) → job ≡ Some (build source) →
-    BuildEnds c source ended line → Answers c job ended line
-answers_build c job source ended line asked ends = rw asked (builds ends)
+pub answers_build : (c : Call) (plants : Plants) (job : Option JobSpec) (source : Word) (ended : Status) (line : List ℕ) → job ≡ Some (build source) →
+    BuildEnds c source ended line → Answers c plants job ended line
+answers_build c plants job source ended line asked ends = rw asked (builds ends)
 
-pub answers_run : (c : Call) (job : Option JobSpec) (source rows : Word) (ended : Status) (line : List ℕ) →
-    job ≡ Some (run source rows) → RunEnds c source rows ended line → Answers c job ended line
-answers_run c job source rows ended line asked ends = rw asked (runs ends)
+pub answers_run : (c : Call) (plants : Plants) (job : Option JobSpec) (source rows : Word) (ended : Status) (line : List ℕ) →
+    job ≡ Some (run source rows) → RunEnds c source rows ended line → Answers c plants job ended line
+answers_run c plants job source rows ended line asked ends = rw asked (runs ends)
 
-pub answers_exec : (c : Call) (job : Option JobSpec) (text rows : Word) (ended : Status) (line : List ℕ) →
-    job ≡ Some (exec text rows) → ExecEnds c text rows ended line → Answers c job ended line
-answers_exec c job text rows ended line asked ends = rw asked (execs ends)
+pub answers_exec : (c : Call) (plants : Plants) (job : Option JobSpec) (text rows : Word) (ended : Status) (line : List ℕ) →
+    job ≡ Some (exec text rows) → ExecEnds c text rows ended line → Answers c plants job ended line
+answers_exec c plants job text rows ended line asked ends = rw asked (execs ends)
 
-pub answers_gen : (c : Call) (job : Option JobSpec) (stages : ℕ) (ended : Status) (line : List ℕ) → job ≡ Some (gen stages) →
-    GenEnds c stages ended line → Answers c job ended line
-answers_gen c job stages ended line asked ends = rw asked (gens ends)
+pub answers_gen : (c : Call) (plants : Plants) (job : Option JobSpec) (stages : ℕ) (ended : Status) (line : List ℕ) → job ≡ Some (gen stages) →
+    GenEnds c stages ended line → Answers c plants job ended line
+answers_gen c plants job stages ended line asked ends = rw asked (gens ends)
 
-pub answers_bound : (c : Call) (job : Option JobSpec) (text : Word) (ended : Status) (line : List ℕ) → job ≡ Some (bound text) →
-    BoundEnds c text ended line → Answers c job ended line
-answers_bound c job text ended line asked ends = rw asked (bounds ends)
+pub answers_bound : (c : Call) (plants : Plants) (job : Option JobSpec) (text : Word) (ended : Status) (line : List ℕ) → job ≡ Some (bound text) →
+    BoundEnds c text ended line → Answers c plants job ended line
+answers_bound c plants job text ended line asked ends = rw asked (bounds ends)
 
-pub answers_count : (c : Call) (job : Option JobSpec) (text rows : Word) (ended : Status) (line : List ℕ) →
-    job ≡ Some (count text rows) → CountEnds c text rows ended line → Answers c job ended line
-answers_count c job text rows ended line asked ends = rw asked (counts ends)
+pub answers_count : (c : Call) (plants : Plants) (job : Option JobSpec) (text rows : Word) (ended : Status) (line : List ℕ) →
+    job ≡ Some (count text rows) → CountEnds c text rows ended line → Answers c plants job ended line
+answers_count c plants job text rows ended line asked ends = rw asked (counts ends)
 
-pub answers_save : (c : Call) (job : Option JobSpec) (text rows : Word) (ended : Status) (line : List ℕ) →
-    job ≡ Some (save text rows) → SaveEnds c text rows ended line → Answers c job ended line
-answers_save c job text rows ended line asked ends = rw asked (saves ends)
+pub answers_save : (c : Call) (plants : Plants) (job : Option JobSpec) (text rows : Word) (ended : Status) (line : List ℕ) →
+    job ≡ Some (save text rows) → SaveEnds c text rows ended line → Answers c plants job ended line
+answers_save c plants job text rows ended line asked ends = rw asked (saves ends)
 
-pub answers_save_from : (c : Call) (job : Option JobSpec) (text state rows : Word) (ended : Status) (line : List ℕ) →
-    job ≡ Some (save_from text state rows) → SaveFromEnds c text state rows ended line → Answers c job ended line
-answers_save_from c job text state rows ended line asked ends = rw asked (saves_from ends)
+pub answers_save_from : (c : Call) (plants : Plants) (job : Option JobSpec) (text state rows : Word) (ended : Status) (line : List ℕ) →
+    job ≡ Some (save_from text state rows) → SaveFromEnds c text state rows ended line → Answers c plants job ended line
+answers_save_from c plants job text state rows ended line asked ends = rw asked (saves_from ends)
 
-pub answers_resume : (c : Call) (job : Option JobSpec) (text state rows : Word) (ended : Status) (line : List ℕ) →
-    job ≡ Some (resume text state rows) → ResumeEnds c text state rows ended line → Answers c job ended line
-answers_resume c job text state rows ended line asked ends = rw asked (resumes ends)
+pub answers_resume : (c : Call) (plants : Plants) (job : Option JobSpec) (text state rows : Word) (ended : Status) (line : List ℕ) →
+    job ≡ Some (resume text state rows) → ResumeEnds c text state rows ended line → Answers c plants job ended line
+answers_resume c plants job text state rows ended line asked ends = rw asked (resumes ends)
 
-pub answers_walk : (c : Call) (job : Option JobSpec) (source rows : Word) (seed : ℕ) (ended : Status) (lines : List ℕ) →
-    job ≡ Some (walk source rows seed) → WalkEnds c source rows seed ended lines → Answers c job ended lines
-answers_walk c job source rows seed ended lines asked ends = rw asked (walks ends)
+pub answers_walk : (c : Call) (plants : Plants) (job : Option JobSpec) (source rows : Word) (seed : ℕ) (ended : Status) (lines : List ℕ) →
+    job ≡ Some (walk source rows seed) → WalkEnds c source rows seed ended lines → Answers c plants job ended lines
+answers_walk c plants job source rows seed ended lines asked ends = rw asked (walks ends)
 
 -- an answer that is an outcome alone
-pub answers_alone : (c : Call) (job : Option JobSpec) (answer : Answer) (outcome : Outcome) → answer.outcome ≡ outcome →
-    lines_in answer ≡ line_in outcome → Answers c job outcome.status (line_in outcome) → Answers c job answer.outcome.status (lines_in answer)
-answers_alone c job answer outcome same lines answers =
-    subst (λ ls. Answers c job answer.outcome.status ls) (sym lines)
-    (subst (λ (o : Outcome). Answers c job o.status (line_in outcome)) (sym same) answers)
+pub answers_alone : (c : Call) (plants : Plants) (job : Option JobSpec) (answer : Answer) (outcome : Outcome) → answer.outcome ≡ outcome →
+    lines_in answer ≡ line_in outcome → Answers c plants job outcome.status (line_in outcome) → Answers c plants job answer.outcome.status (lines_in answer)
+answers_alone c plants job answer outcome same lines answers =
+    subst (λ ls. Answers c plants job answer.outcome.status ls) (sym lines)
+    (subst (λ (o : Outcome). Answers c plants job o.status (line_in outcome)) (sym same) answers)
 
-pub answers_none : (c : Call) (job : Option JobSpec) (ended : Status) (own : List ℕ) → job ≡ None → ended ≡ status.Usage →
-    IsKept c.out.before c.out.after → Answers c job ended (chosen_line ended own)
-answers_none c job ended own none e kept = rw (none, e) (no_job kept)
+pub answers_none : (c : Call) (plants : Plants) (job : Option JobSpec) (ended : Status) (own : List ℕ) → job ≡ None → ended ≡ status.Usage →
+    IsKept c.out.before c.out.after → Answers c plants job ended (chosen_line ended own)
+answers_none c plants job ended own none e kept = rw (none, e) (no_job kept)
 
-pub answers_short : (c : Call) (job : Option JobSpec) (ended : Status) (own : List ℕ) → ended ≡ status.NoMemory →
-    IsKept c.out.before c.out.after → Answers c job ended (chosen_line ended own)
-answers_short c job ended own e kept = rw e (short kept)
+pub answers_short : (c : Call) (plants : Plants) (job : Option JobSpec) (ended : Status) (own : List ℕ) → ended ≡ status.NoMemory →
+    IsKept c.out.before c.out.after → plants.after ≡ plants.before → Answers c plants job ended (chosen_line ended own)
+answers_short c plants job ended own e kept same = rw e (short kept same)

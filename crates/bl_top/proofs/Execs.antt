@@ -85,7 +85,8 @@ text_rejected text (refusal.NotSubset at) outcome fits none inside behind is =
     (no_file at fits (record { none = none; inside = inside; behind = λ rest e. behind rest e none }))
 text_rejected text refusal.NoMemory outcome fits none inside behind is = rw is no_memory
 
-abbrev has_file : (text : List ℕ) (file : CFile) → length text ≤ longest_text → SpellsC file text → HasPlaces text file → HasFile text (parts_of file)
+abbrev has_file : (text : List ℕ) (file : CFile) → length text ≤ longest_text → SpellsC file text → HasPlaces text file →
+    HasFile text (parts_of file)
 has_file text file fits spells placed = record { short = fits; spelled = file; spells = spells; placed = placed; parts = refl }
 
 abbrev file_loads : (text : List ℕ) (file : CFile) → IsFileIn text file → EachBounded file → Runs (parts_of file) →
@@ -186,7 +187,8 @@ pub text_stopped : (c : Call) (text rows : Word) (course : Behaviour → Course)
     TextStops (c.left text) (c.file text) ended line → IsKept c.out.before c.out.after → TextEnds c text rows course ended line
 text_stopped c text rows course ended line stops kept = stopped stops kept
 
-bounds_written : (text : List ℕ) (out : Output) (ended : Status) (written : List ℕ) → TellsBounds text written → Writes (λ w. w ≡ written) out ended →
+bounds_written : (text : List ℕ) (out : Output) (ended : Status) (written : List ℕ) → TellsBounds text written →
+    Writes (λ w. w ≡ written) out ended →
     Writes (TellsBounds text) out ended
 bounds_written text out ended written tells writes =
     writes_as (λ w. w ≡ written) (TellsBounds text) out ended (λ w same. subst (TellsBounds text) (sym same) tells) writes

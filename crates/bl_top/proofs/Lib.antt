@@ -2,6 +2,7 @@ pub mod Alike
 pub mod Builds
 pub mod Courses
 pub mod Cuts
+pub mod Driven
 pub mod Ends
 pub mod Execs
 pub mod Fronts

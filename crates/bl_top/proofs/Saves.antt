@@ -110,7 +110,8 @@ abbrev made : Parts → List ℤ → Bool → Bool → Running
 made parts cells ready live = record { parts = parts; cells = cells; ready = ready; live = live }
 
 -- a runner that was just loaded, and then set to the numbers of a state
-pub stands_at : (left : Option (List ℕ)) (before : Running) (got : List ℕ) (after : Option (List ℕ)) (now : Running) → before ≡ loaded before.parts →
+pub stands_at : (left : Option (List ℕ)) (before : Running) (got : List ℕ) (after : Option (List ℕ)) (now : Running) → before
+    ≡ loaded before.parts →
     GivesUpTo state_limit left got after → HasRestored before got now → StandsAt left before.parts now
 stands_at left before got after now fresh read restored = record {
   numbers = restored.numbers;
@@ -189,7 +190,8 @@ module _ (file : Parts) (numbers : List ℤ) (left rest : Option (List ℕ)) (ro
   saves_ended _ silent_no_memory e live ended own is kept = absurd (cc)
 
   -- one that was stopped
-  pub saves_stopped : (how : Finish) (outcome : Outcome) → RunsSilently file numbers left rest now how → (how ≡ finish.Done → ⊥) → IsEndOf how outcome →
+  pub saves_stopped : (how : Finish) (outcome : Outcome) → RunsSilently file numbers left rest now how → (how ≡ finish.Done → ⊥) →
+      IsEndOf how outcome →
       (how ≡ finish.ReadFault → HasRisen rows) → IsKept out.before out.after →
       SavesOver file numbers left rest rows out outcome.status (line_in outcome)
   saves_stopped _ outcome (goes_on leaves) other e risen kept = absurd (other refl)

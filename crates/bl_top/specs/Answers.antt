@@ -1,11 +1,12 @@
 -- How the job that words ask for ends, and so a call.
-use Rattle.std.specs.Prelude.{ℕ, List, Option, Some, None}
+use Rattle.std.specs.Prelude.{◌≡◌, ℕ, List, Option, Some, None}
 use Rattle.bl_io.specs.Left.{IsKept}
 use Rattle.bl_top.specs.Bound.{BoundEnds}
 use Rattle.bl_top.specs.Build.{BuildEnds}
 use Rattle.bl_top.specs.Calls.{Call}
 use Rattle.bl_top.specs.Check.{CheckEnds}
 use Rattle.bl_top.specs.Count.{CountEnds}
+use Rattle.bl_top.specs.Drive.{DriveEnds, Plants}
 use Rattle.bl_top.specs.Exec.{ExecEnds}
 use Rattle.bl_top.specs.Gen.{GenEnds}
 use Rattle.bl_top.specs.Notes.{Written, line_of}
@@ -14,33 +15,40 @@ use Rattle.bl_top.specs.Save.{ResumeEnds, SaveEnds, SaveFromEnds}
 use Rattle.bl_top.specs.declared.status.Status.{Status}
 use Rattle.bl_top.specs.declared.status.Status.TheVariants as status
 use Rattle.bl_top.specs.Walk.{WalkEnds}
-use Rattle.bl_words.specs.Jobs.{JobSpec, Word, bound, build, check, count, exec, gen, job_of, resume, run, save, save_from, walk}
+use Rattle.bl_words.specs.Jobs.{JobSpec, Word, bound, build, check, count, drive, exec, gen, job_of, resume, run, save, save_from, walk}
 
 -- the status with which a job ends, with its whole cause and with what grew on `out`, and all lines that it has for `notes`, that of
 -- the status last
-pub data Answers (c : Call) : Option JobSpec → Status → List ℕ → Type 0 where
-  checks : {source : Word} {ended : Status} {lines : List ℕ} → CheckEnds c source ended lines → Answers c (Some (check source)) ended lines
-  builds : {source : Word} {ended : Status} {lines : List ℕ} → BuildEnds c source ended lines → Answers c (Some (build source)) ended lines
-  runs : {source rows : Word} {ended : Status} {lines : List ℕ} → RunEnds c source rows ended lines → Answers c (Some (run source rows)) ended lines
+pub data Answers (c : Call) (plants : Plants) : Option JobSpec → Status → List ℕ → Type 0 where
+  checks : {source : Word} {ended : Status} {lines : List ℕ} → CheckEnds c source ended lines → Answers c plants (Some (check source)) ended lines
+  builds : {source : Word} {ended : Status} {lines : List ℕ} → BuildEnds c source ended lines → Answers c plants (Some (build source)) ended lines
+  runs : {source rows : Word} {ended : Status} {lines : List ℕ} → RunEnds c source rows ended lines → Answers c plants (Some (run source rows)) ended lines
   walks : {source rows : Word} {seed : ℕ} {ended : Status} {lines : List ℕ} → WalkEnds c source rows seed ended lines →
-      Answers c (Some (walk source rows seed)) ended lines
-  execs : {text rows : Word} {ended : Status} {lines : List ℕ} → ExecEnds c text rows ended lines → Answers c (Some (exec text rows)) ended lines
-  gens : {stages : ℕ} {ended : Status} {lines : List ℕ} → GenEnds c stages ended lines → Answers c (Some (gen stages)) ended lines
-  bounds : {text : Word} {ended : Status} {lines : List ℕ} → BoundEnds c text ended lines → Answers c (Some (bound text)) ended lines
-  counts : {text rows : Word} {ended : Status} {lines : List ℕ} → CountEnds c text rows ended lines → Answers c (Some (count text rows)) ended lines
-  saves : {text rows : Word} {ended : Status} {lines : List ℕ} → SaveEnds c text rows ended lines → Answers c (Some (save text rows)) ended lines
+      Answers c plants (Some (walk source rows seed)) ended lines
+  execs : {text rows : Word} {ended : Status} {lines : List ℕ} → ExecEnds c text rows ended lines → Answers c plants (Some (exec text rows)) ended lines
+  drives : {source : Word} {ticks : ℕ} {names : List ℕ} {ended : Status} {lines : List ℕ} → DriveEnds c plants source ticks names ended lines →
+      Answers c plants (Some (drive source ticks names)) ended lines
+  gens : {stages : ℕ} {ended : Status} {lines : List ℕ} → GenEnds c stages ended lines → Answers c plants (Some (gen stages)) ended lines
+  bounds : {text : Word} {ended : Status} {lines : List ℕ} → BoundEnds c text ended lines → Answers c plants (Some (bound text)) ended lines
+  counts : {text rows : Word} {ended : Status} {lines : List ℕ} → CountEnds c text rows ended lines → Answers c plants (Some (count text rows)) ended lines
+  saves : {text rows : Word} {ended : Status} {lines : List ℕ} → SaveEnds c text rows ended lines → Answers c plants (Some (save text rows)) ended lines
   saves_from : {text state rows : Word} {ended : Status} {lines : List ℕ} → SaveFromEnds c text state rows ended lines →
-      Answers c (Some (save_from text state rows)) ended lines
+      Answers c plants (Some (save_from text state rows)) ended lines
   resumes : {text state rows : Word} {ended : Status} {lines : List ℕ} → ResumeEnds c text state rows ended lines →
-      Answers c (Some (resume text state rows)) ended lines
+      Answers c plants (Some (resume text state rows)) ended lines
   -- the words ask for no job
-  no_job : IsKept c.out.before c.out.after → Answers c None status.Usage (line_of status.Usage)
+  no_job : IsKept c.out.before c.out.after → Answers c plants None status.Usage (line_of status.Usage)
   -- memory was refused before they were read
-  short : {job : Option JobSpec} → IsKept c.out.before c.out.after → Answers c job status.NoMemory (line_of status.NoMemory)
+  short : {job : Option JobSpec} → IsKept c.out.before c.out.after → plants.after ≡ plants.before → Answers c plants job status.NoMemory (line_of status.NoMemory)
+
+-- every command but `drive` keeps the plants
+abbrev pub KeepsPlants : Option JobSpec → Plants → Type 0
+KeepsPlants (Some (drive source ticks names)) plants = Unit {0}
+KeepsPlants job plants = plants.after ≡ plants.before
 
 -- a call of these words ends with the status of their job, whose lines grew on `notes`, or with that of the write of these lines
-pub record Answered (words : List Word) (c : Call) (ended : Status) : Type 0 where
+pub record Answered (words : List Word) (c : Call) (plants : Plants) (ended : Status) : Type 0 where
   pub meant : Status
   pub lines : List ℕ
-  pub answers : Answers c (job_of words) meant lines
+  pub answers : Answers c plants (job_of words) meant lines
   pub written : Written c.notes lines meant ended

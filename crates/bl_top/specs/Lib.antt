@@ -5,6 +5,7 @@ pub mod Built
 pub mod Calls
 pub mod Check
 pub mod Count
+pub mod Drive
 pub mod Exec
 pub mod Gen
 pub mod inner

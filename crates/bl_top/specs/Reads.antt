@@ -2,7 +2,7 @@
 use Rattle.std.specs.Prelude.{◌≡◌, ℕ, List, [], ◌∷◌, drop, Option, Some, None, IfSome}
 use Rattle.bl_io.specs.Left.{IsKept, KeepsOthers, StandsFurther}
 use Rattle.bl_stream.specs.Streams.{ReadsLines}
-use Rattle.bl_words.specs.Jobs.{JobSpec, Word, bound, build, check, count, exec, gen, resume, run, save, save_from, walk}
+use Rattle.bl_words.specs.Jobs.{JobSpec, Word, bound, build, check, count, drive, exec, gen, resume, run, save, save_from, walk}
 
 -- how far a source is read: one byte past the 1,048,576 bytes that it may have
 abbrev pub source_limit : ℕ
@@ -65,6 +65,7 @@ files_read (Some (build source)) = source_file source ∷ []
 files_read (Some (run source rows)) = source_file source ∷ rows_file rows ∷ []
 files_read (Some (walk source rows seed)) = source_file source ∷ rows_file rows ∷ []
 files_read (Some (exec text rows)) = text_file text ∷ rows_file rows ∷ []
+files_read (Some (drive source ticks plants)) = source_file source ∷ []
 files_read (Some (gen stages)) = []
 files_read (Some (bound text)) = text_file text ∷ []
 files_read (Some (count text rows)) = text_file text ∷ rows_file rows ∷ []

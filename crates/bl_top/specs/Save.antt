@@ -37,7 +37,8 @@ pub record HoldsState (file : Parts) (left : Option (List ℕ)) (numbers : List 
 -- why a job stops at its saved state, with the status and the line
 pub data StateStops (file : Parts) (left : Option (List ℕ)) (state : Count) : Status → List ℕ → Type 0 where
   -- the bytes are none, and show it here. A file whose start traps has none, which shows at once
-  bad_state : (bytes : List ℕ) (at : ℕ) → AreRead left bytes → ShowsBadState file bytes at → StateStops file left state status.BadState (bad_state_line at)
+  bad_state : (bytes : List ℕ) (at : ℕ) → AreRead left bytes → ShowsBadState file bytes at →
+      StateStops file left state status.BadState (bad_state_line at)
   state_unread : HasRisen state → StateStops file left state status.ReadFault (line_of status.ReadFault)
   state_want : StateStops file left state status.NoMemory (line_of status.NoMemory)
 

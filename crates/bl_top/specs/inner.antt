@@ -1,3 +1,4 @@
+pub mod Driven
 pub mod Outcomes
 pub mod Programs
 pub mod Texts

@@ -2,7 +2,7 @@
 
 ghost use Rattle.std.specs.Prelude.{◌≤◌, map, string_bytes};
 ghost use Rattle.bl_io.specs.Count.{NeverFell};
-ghost use Rattle.bl_top.specs.Answers.{Answered, Answers};
+ghost use Rattle.bl_top.specs.Answers.{Answered, Answers, KeepsPlants};
 ghost use Rattle.bl_top.specs.Calls.{Output};
 ghost use Rattle.bl_top.specs.inner.Outcomes.{lines_in};
 ghost use Rattle.bl_top.specs.Reads.{Reads, files_read};
@@ -13,6 +13,7 @@ use crate::bound::bound;
 use crate::build::build;
 use crate::check::check;
 use crate::count::count;
+use crate::drive::drive;
 use crate::exec::exec;
 use crate::generate::generate;
 use crate::notes::with_notes;
@@ -23,18 +24,20 @@ use crate::save::{save, save_from};
 use crate::status::Status;
 use crate::walk::walk;
 use bl_io::{Files, Sink};
+use bl_plant::Plant;
 use bl_words::{Job, programs_have_stages};
 use std::alloc::Global;
 
 /// Does the job that the words after the program's name ask for: writes its result on `out`, and on `notes` the lines of
 /// the job, last the one that goes with its status (docs/FORMATS.md, "Notes"). Files are read by the names in the words
-/// alone.
+/// alone, and plants are asked by the names in the words alone.
 pub fn blechc<F: Files, O: Sink, N: Sink>(
     alloc: Global,
     words: &[String],
     files: &mut F,
     out: &mut O,
     notes: &mut N,
+    plants: &mut Vec<Box<dyn Plant>>,
 ) -> Status
     ensures answered { Answered (map string_bytes words.now)
         (record {
@@ -51,18 +54,27 @@ pub fn blechc<F: Files, O: Sink, N: Sink>(
             before = N.held notes.old;
             after = N.held notes.new;
           };
-        }) result }
+        })
+        (record { before = map (λ b. shown b) plants.old.items; after = map (λ b. shown b) plants.new.items }) result }
+    ensures plants { KeepsPlants (job_of (map string_bytes words.now))
+        (record { before = map (λ b. shown b) plants.old.items; after = map (λ b. shown b) plants.new.items }) }
     ensures reads { Reads (files_read (job_of (map string_bytes words.now))) (F.left files.old) (F.left files.new) }
     ensures file_counts { NeverFell (F.faults files.old) (F.faults files.new) }
     ensures out_count { O.faults out.old ≤ O.faults out.new }
     ensures notes_count { N.faults notes.old ≤ N.faults notes.new }
 {
-    let done = answer(alloc, words, files, out);
+    let done = answer(alloc, words, files, out, plants);
     with_notes(&done, notes)
 }
 
 /// The end of the job itself, before its lines are written.
-fn answer<F: Files, O: Sink>(alloc: Global, words: &[String], files: &mut F, out: &mut O) -> Answer
+fn answer<F: Files, O: Sink>(
+    alloc: Global,
+    words: &[String],
+    files: &mut F,
+    out: &mut O,
+    plants: &mut Vec<Box<dyn Plant>>,
+) -> Answer
     ensures answers { (notes : Output) → Answers (record {
       left = F.left files.old;
       rest = F.left files.new;
@@ -73,7 +85,10 @@ fn answer<F: Files, O: Sink>(alloc: Global, words: &[String], files: &mut F, out
         after = O.held out.new;
       };
       notes = notes;
-    }) (job_of (map string_bytes words.now)) result.outcome.status (lines_in result) }
+    }) (record { before = map (λ b. shown b) plants.old.items; after = map (λ b. shown b) plants.new.items })
+        (job_of (map string_bytes words.now)) result.outcome.status (lines_in result) }
+    ensures plants { KeepsPlants (job_of (map string_bytes words.now))
+        (record { before = map (λ b. shown b) plants.old.items; after = map (λ b. shown b) plants.new.items }) }
     ensures reads { Reads (files_read (job_of (map string_bytes words.now))) (F.left files.old) (F.left files.new) }
     ensures file_counts { NeverFell (F.faults files.old) (F.faults files.new) }
     ensures out_count { O.faults out.old ≤ O.faults out.new }
@@ -91,6 +106,15 @@ fn answer<F: Files, O: Sink>(alloc: Global, words: &[String], files: &mut F, out
             alloc,
             exec(alloc, text, rows, files, out),
         ),
+        Ok(
+            Some(
+                Job::Drive {
+                    source,
+                    ticks,
+                    plants: names,
+                },
+            ),
+        ) => drive(alloc, source, ticks, &names, files, out, plants),
         Ok(Some(Job::Gen { stages })) => Answer::alone(alloc, generate(alloc, stages, out)),
         Ok(Some(Job::Bound { text })) => Answer::alone(alloc, bound(alloc, text, files, out)),
         Ok(Some(Job::Count { text, rows })) => Answer::alone(

@@ -1,8 +1,8 @@
 //! The one call that the program makes. `blechc` ends with the status of the job that its words ask for, and the lines
 //! of the job grew on `notes`, that of the status last (`specs/Answers.antt`, `Answered`). Each way in which a job ends
 //! comes with its whole cause and with what grew on `out`: `specs/Check.antt`, `specs/Build.antt`, `specs/Run.antt`,
-//! `specs/Walk.antt`, `specs/Exec.antt`, `specs/Gen.antt`, `specs/Bound.antt`, `specs/Count.antt` and `specs/Save.antt` (`save` and
-//! `resume`). At a source that isn't accepted nothing grew on `out`, and a refusal names the first rule that fails for
+//! `specs/Walk.antt`, `specs/Exec.antt`, `specs/Drive.antt`, `specs/Gen.antt`, `specs/Bound.antt`, `specs/Count.antt` and
+//! `specs/Save.antt` (`save` and `resume`). At a source that isn't accepted nothing grew on `out`, and a refusal names the first rule that fails for
 //! its bytes (`specs/Refusals.antt`, `Stops`). The bytes that `build` writes have the one trace of the source's
 //! program, and what `run` and `walk` show is the text of it (`specs/Traces.antt`, `OneTrace` and `HasCourse`). No file
 //! is read but those that the words name, each within its limit (`specs/Reads.antt`, `Reads`). docs/THEOREM.md leads
@@ -18,6 +18,7 @@ mod build;
 mod call;
 mod check;
 mod count;
+mod drive;
 mod emitted;
 mod exec;
 mod generate;

@@ -56,6 +56,8 @@ fn line_of(outcome: &Outcome) -> &[u8]
         Status::Refused
         | Status::BadRows
         | Status::NotSubset
+        | Status::PlantFault
+        | Status::PlantShape
         | Status::TooLarge
         | Status::BadState => &outcome.line,
         status => fixed_line(status).as_bytes(),

@@ -1,6 +1,7 @@
 //! The command `run P ROWS`.
 
 ghost use Rattle.std.specs.Prelude.{◌≡◌, ◌≤◌, true, IfOk, Some};
+ghost use Rattle.bl_cmeaning_laws_places.specs.Behaviour.{behaviour_of};
 ghost use Rattle.bl_crun.specs.Running.{loaded};
 ghost use Rattle.bl_early.specs.Form.{is_early};
 ghost use Rattle.bl_io.specs.Count.{NeverFell};
@@ -9,7 +10,7 @@ ghost use Rattle.bl_top.specs.Calls.{Output};
 ghost use Rattle.bl_top.specs.inner.Outcomes.{line_in};
 ghost use Rattle.bl_top.specs.Reads.{Reads, files_read};
 ghost use Rattle.bl_top.specs.Run.{RunEnds};
-ghost use Rattle.bl_top.specs.Traces.{HasCourse};
+ghost use Rattle.bl_top.specs.Traces.{HasCourse, OneTrace};
 ghost use Rattle.bl_words.specs.Jobs.{run};
 
 use crate::emitted::c_file;
@@ -57,8 +58,9 @@ pub fn run<F: Files, O: Sink>(
 }
 
 /// The C file of a program of the form, loaded.
-fn runner_of(alloc: Global, program: &Program) -> Result<Runner, NoMemory>
+pub fn runner_of(alloc: Global, program: &Program) -> Result<Runner, NoMemory>
     requires { is_early program.now.structs program.now.units ≡ true }
+    ensures one_trace { IfOk result (λ runner. OneTrace program.now.structs program.now.units program.now.entry (behaviour_of runner.parts)) }
     ensures course { IfOk result (λ runner. HasCourse program.now.structs program.now.units program.now.entry (course_of runner.parts)) }
     ensures fresh { IfOk result (λ runner. runner ≡ loaded runner.parts) }
 {

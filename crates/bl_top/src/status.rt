@@ -22,6 +22,11 @@ pub enum Status {
     NoMemory,
     /// The text spells no C file of the subset, or one that isn't well formed (docs/C_SUBSET.md).
     NotSubset,
+    /// A plant that the words name has failed.
+    PlantFault,
+    /// A plant that the words name isn't there or was named before, the plants have more or fewer columns than the
+    /// source has inputs, or a number of theirs is outside its type.
+    PlantShape,
     /// The C text is too long, its file needs too many cells, or a program would have too many stages.
     TooLarge,
     /// The source isn't in a form that is built today.
@@ -47,6 +52,8 @@ impl Status {
             Status::Trapped => 6,
             Status::NoMemory => 7,
             Status::NotSubset => 8,
+            Status::PlantFault => 9,
+            Status::PlantShape => 10,
             Status::TooLarge => 11,
             Status::Unbuilt => 12,
             Status::SaveEnded => 14,

@@ -1,6 +1,7 @@
 //! One call of the program over memory.
 
 use bl_io::{MemFiles, MemSink};
+use bl_plant::Plant;
 use bl_top::blechc;
 use std::alloc::Global;
 use std::test::Fail;
@@ -113,7 +114,8 @@ fn status_of(
     out: &mut MemSink,
     notes: &mut MemSink,
 ) -> u8 {
-    blechc(alloc, words, files, out, notes).code()
+    let mut plants: Vec<Box<dyn Plant>> = Vec::new(alloc);
+    blechc(alloc, words, files, out, notes, &mut plants).code()
 }
 
 /// Calls the program.

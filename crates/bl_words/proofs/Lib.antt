@@ -1,3 +1,4 @@
+pub mod DriveWords
 pub mod Matches
 pub mod Program
 pub mod Reading

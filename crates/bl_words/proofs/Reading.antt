@@ -18,6 +18,7 @@ use Rattle.std.proofs.Common.{
   codes,
   find,
   if◌then◌else◌,
+  true≢false,
 }
 use Rattle.std.specs.List.{list_all}
 use Rattle.std.specs.Str.{bytes_eq}
@@ -30,8 +31,9 @@ use Rattle.clap.specs.Walk.{Text, answers_to}
 use Rattle.clap.specs.declared.error.Error.{Error}
 use Rattle.clap.specs.declared.error.kind.ErrorKind.TheVariants.{OutOfMemory}
 use Rattle.clap.proofs.OnLiterals.{clap_on_literals}
+use Rattle.bl_words.specs.inner.DriveWords.{behind_first, name_drive}
 use Rattle.bl_words.specs.inner.CommandLine.{command_line, job_read, named_read, one_if_read, one_read, three_read, two_or_three_read, two_read}
-use Rattle.bl_words.specs.Jobs.{JobSpec, Word, bound, build, check, command_job, count, exec, is_plain_word, job_of, of_one, of_one_if, of_three, of_two}
+use Rattle.bl_words.specs.Jobs.{JobSpec, Word, bound, build, check, count, driven, exec, is_plain_word, job_of, of_one, of_one_if, of_three, of_two, other_job}
 use Rattle.bl_words.specs.Jobs.{of_two_or_three, resumed, run, save, save_from, seeded, staged}
 use Rattle.bl_words.proofs.Program.{ReadsAs, commands, name_refused, others_plain, program, takes_reads}
 use Rattle.bl_words.proofs.Values.{one, one_if_taken, one_taken, three, three_taken, two, two_or_three, two_or_three_taken, two_taken}
@@ -92,7 +94,7 @@ either_reads label job further read named is own values plain =
     takes_reads label (two_or_three label) named is own (of_two_or_three job further values) values
     (two_or_three_taken label job further read values plain)
 
-command_reads : (name : Text) (values : List Text) → list_all is_plain_word (name ∷ values) ≡ true → ReadsAs (command_job name values) (name ∷ values)
+command_reads : (name : Text) (values : List Text) → list_all is_plain_word (name ∷ values) ≡ true → ReadsAs (other_job name values) (name ∷ values)
 command_reads name values plain =
     let others = others_plain name values plain in
     trying (codes "check") name values _ _ (one_reads (codes "check") check (λ f s t. refl) refl refl refl values others) (λ not_check.
@@ -110,24 +112,24 @@ command_reads name values plain =
       refl,
     )))))))))))
 
-reads : (words : List Text) → list_all is_plain_word words ≡ true → ReadsAs (job_of words) words
+reads : (words : List Text) → list_all is_plain_word words ≡ true → name_drive words ≡ false → ReadsAs (job_of words) words
 unfolding clap_on_literals
-reads [] plain = inr (λ none. cc, refl)
-reads (name ∷ values) plain = rw plain (command_reads name values plain)
+reads [] plain other = inr (λ none. cc, refl)
+reads (name ∷ values) plain other = rw (plain, other) (command_reads name values plain)
 
 -- where the parse has a result, it is the job
-pub result_is : (words : List Text) → list_all is_plain_word words ≡ true → fault_of command_line words ≡ [] →
+pub result_is : (words : List Text) → list_all is_plain_word words ≡ true → name_drive words ≡ false → fault_of command_line words ≡ [] →
     job_read (subcommand_of command_line words) ≡ job_of words
-result_is words plain taken = go (reads words plain)
+result_is words plain other taken = go (reads words plain other)
   where
     go : ReadsAs (job_of words) words → job_read (subcommand_of command_line words) ≡ job_of words
     go (inl h) = h.1
     go (inr h) = absurd (h.0 taken)
 
 -- where it refuses the words, there is no job
-pub refusal_is : (words : List Text) (error : Error) → list_all is_plain_word words ≡ true → HasKind (fault_of command_line words) error →
-    (kind_of error ≡ OutOfMemory → ⊥) → None ≡ job_of words
-refusal_is words error plain kinds memory = go (reads words plain) kinds
+pub refusal_is : (words : List Text) (error : Error) → list_all is_plain_word words ≡ true → name_drive words ≡ false →
+    HasKind (fault_of command_line words) error → (kind_of error ≡ OutOfMemory → ⊥) → None ≡ job_of words
+refusal_is words error plain other kinds memory = go (reads words plain other) kinds
   where
     go : ReadsAs (job_of words) words → HasKind (fault_of command_line words) error → None ≡ job_of words
     go (inr h) k = sym h.1
@@ -137,3 +139,8 @@ refusal_is words error plain kinds memory = go (reads words plain) kinds
 pub none_plain : (words : List Text) → list_all is_plain_word words ≡ false → None ≡ job_of words
 none_plain [] e = refl
 none_plain (name ∷ values) e = rw e refl
+
+-- words whose first is `drive` ask for what the others do
+pub drive_is : (words : List Text) → list_all is_plain_word words ≡ true → name_drive words ≡ true → driven (behind_first words) ≡ job_of words
+drive_is [] plain e = absurd (true≢false (sym e))
+drive_is (name ∷ values) plain e = rw (plain, e) refl

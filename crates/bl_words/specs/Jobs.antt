@@ -1,5 +1,6 @@
 -- The job that the words of a command line ask for.
-use Rattle.std.specs.Prelude.{◌==◌, ◌≤◌, ℕ, ◌^◌, nat_lt, Bool, false, not, ◌&&◌, List, [], ◌∷◌, length, Option, Some, None, option_map, option_and_then}
+use Rattle.std.specs.Prelude.{◌==◌, ◌≤◌, ℕ, ◌^◌, nat_lt, Bool, false, not, ◌&&◌, List, [], ◌∷◌}
+use Rattle.std.specs.Prelude.{length, Option, Some, None, option_map, option_and_then}
 use Rattle.std.specs.Prelude.{if◌then◌else◌, codes}
 use Rattle.std.specs.List.{list_all}
 use Rattle.std.specs.Str.{all_ascii_digits, bytes_eq}
@@ -23,6 +24,8 @@ pub data JobSpec : Type 0 where
   walk : Word → Word → ℕ → JobSpec
   -- run the C text of the first name over the file of rows of the second
   exec : Word → Word → JobSpec
+  -- run the source file of this name against the plants of these names, for so many ticks
+  drive : Word → ℕ → List ℕ → JobSpec
   -- make the program of so many stages, run it, and tell its outputs
   gen : ℕ → JobSpec
   -- say how many C statements each function of the C text of this name can execute
@@ -43,6 +46,7 @@ files_of (build source) = source ∷ []
 files_of (run source rows) = source ∷ rows ∷ []
 files_of (walk source rows seed) = source ∷ rows ∷ []
 files_of (exec text rows) = text ∷ rows ∷ []
+files_of (drive source ticks plants) = source ∷ []
 files_of (gen stages) = []
 files_of (bound text) = text ∷ []
 files_of (count text rows) = text ∷ rows ∷ []
@@ -106,9 +110,37 @@ seeded source rows word = option_map (walk source rows) (seed_of word)
 abbrev pub resumed : Word → Word → Word → Option JobSpec
 resumed text state rows = Some (resume text state rows)
 
--- the job of the command with this name, on the words after the name
-abbrev pub command_job : Word → List Word → Option JobSpec
-command_job name values = if bytes_eq (codes "check") name then of_one check values
+-- a number of ticks is at most 1,000,000
+abbrev pub ticks_in : ℕ → Option ℕ
+ticks_in number = if nat_lt number 1000001 then Some number else None
+
+-- the number of ticks that decimal digits write, of which there is one or more
+abbrev pub ticks_of : Word → Option ℕ
+ticks_of word = option_and_then ticks_in (seed_of word)
+
+-- the number of a plant is below 2 to the 32
+abbrev pub plant_in : ℕ → Option ℕ
+plant_in number = if nat_lt number (2 ^ 32) then Some number else None
+
+-- the number of the plant that a word names: the tank is plant 1, the ramp plant 2, and decimal digits write the number of any plant
+abbrev pub plant_of : Word → Option ℕ
+plant_of word = if bytes_eq (codes "tank") word then Some 1
+    else (if bytes_eq (codes "ramp") word then Some 2 else option_and_then plant_in (seed_of word))
+
+-- the numbers of the plants that words name, where each names one
+abbrev pub plants_of : List Word → Option (List ℕ)
+plants_of [] = Some []
+plants_of (word ∷ words) = option_and_then (λ plant. option_map (λ plants. plant ∷ plants) (plants_of words)) (plant_of word)
+
+-- a run of a source against plants, where the second word is a number of ticks and each of the others, of which there is one or
+-- more, names a plant
+abbrev pub driven : List Word → Option JobSpec
+driven (source ∷ ticks ∷ first ∷ more) = option_and_then (λ count. option_map (drive source count) (plants_of (first ∷ more))) (ticks_of ticks)
+driven _ = None
+
+-- the job of the command with this name, on the words after the name, where it is another command than `drive`
+abbrev pub other_job : Word → List Word → Option JobSpec
+other_job name values = if bytes_eq (codes "check") name then of_one check values
     else (if bytes_eq (codes "build") name then of_one build values
     else (if bytes_eq (codes "run") name then of_two run values
     else (if bytes_eq (codes "walk") name then of_three seeded values
@@ -118,6 +150,10 @@ command_job name values = if bytes_eq (codes "check") name then of_one check val
     else (if bytes_eq (codes "count") name then of_two count values
     else (if bytes_eq (codes "save") name then of_two_or_three save save_from values
     else (if bytes_eq (codes "resume") name then of_three resumed values else None)))))))))
+
+-- the job of the command with this name, on the words after the name
+abbrev pub command_job : Word → List Word → Option JobSpec
+command_job name values = if bytes_eq (codes "drive") name then driven values else other_job name values
 
 -- the first word names the command, and no word is empty or begins with a hyphen
 abbrev pub job_of : List Word → Option JobSpec
@@ -137,6 +173,7 @@ spec_of (job.Build source) = build source.now
 spec_of (job.Run source rows) = run source.now rows.now
 spec_of (job.Walk source rows seed) = walk source.now rows.now seed
 spec_of (job.Exec text rows) = exec text.now rows.now
+spec_of (job.Drive source ticks plants) = drive source.now ticks plants.items
 spec_of (job.Gen stages) = gen stages
 spec_of (job.Bound text) = bound text.now
 spec_of (job.Count text rows) = count text.now rows.now

@@ -2,7 +2,8 @@
 ghost use Rattle.std.specs.Prelude.{◌≡◌, IfOk, codes, false, option_map};
 ghost use Rattle.clap.specs.Words.{app_of, first_value, found_of, subcommand_rows_of};
 ghost use Rattle.clap.specs.declared.builder.command.Command.TheViews.{out-Command};
-ghost use Rattle.bl_words.specs.inner.CommandLine.{command_line, job_read, one_command, one_if_read, one_read, three_command, three_read, two_command, two_read};
+ghost use Rattle.bl_words.specs.inner.CommandLine.{command_line, job_read, one_command, one_if_read, one_read, three_command};
+ghost use Rattle.bl_words.specs.inner.CommandLine.{three_read, two_command, two_read};
 ghost use Rattle.bl_words.specs.inner.CommandLine.{two_or_three_command, two_or_three_read};
 ghost use Rattle.bl_words.specs.Jobs.{bound, build, check, count, exec, resumed, run, save, save_from, seeded, spec_of, staged};
 

@@ -1,15 +1,17 @@
 //! The jobs, and how words ask for them.
-ghost use Rattle.std.specs.Prelude.{◌≡◌, IfOk, IfSome, map, option_map, string_bytes, true};
+ghost use Rattle.std.specs.Prelude.{◌≡◌, false, IfOk, IfSome, map, option_map, string_bytes, true};
 ghost use Rattle.std.specs.List.{list_all};
+ghost use Rattle.bl_words.specs.inner.DriveWords.{name_drive};
 ghost use Rattle.bl_words.specs.Jobs.{HasStages, files_of, is_plain_word, job_of, spec_of};
 
 use crate::command_line::{command_line, job_read};
+use crate::driven::{driven_by, name_drive};
 use clap::error::ErrorKind;
 use std::alloc::{AllocError, Global};
 use thiserror::Error;
 
 /// What the program is to do. File names are as they were given.
-#[derive(Clone, Copy, Debug, PartialEq, Eq)]
+#[derive(Drop)]
 pub enum Job<'a> {
     /// Judge a source file by the rules.
     Check {
@@ -43,6 +45,15 @@ pub enum Job<'a> {
         text: &'a str,
         /// The name of the file of rows.
         rows: &'a str,
+    },
+    /// Run a source file against plants.
+    Drive {
+        /// The name of the source file.
+        source: &'a str,
+        /// How many ticks are run.
+        ticks: u32,
+        /// The names of the plants, as numbers.
+        plants: Vec<u32>,
     },
     /// Make a program of so many stages, run it, and tell its outputs.
     Gen {
@@ -101,9 +112,11 @@ impl From<AllocError> for NoMemory {
 
 /// The job that `words` ask for, those after the program's name; `None` where they ask for none. The first word is
 /// a command's name, exactly as it is written, and the command says how many words follow it; after `save` a word
-/// between the C text and the rows names a saved state and may be left out. A seed is one or more decimal digits that
-/// write a number below 2 to the 64, and a number of stages is one from 1 to 2 to the 32 less 1. No word may be empty or begin with `-`. There is no command `help`; a file may
-/// have that name or a command's.
+/// between the C text and the rows names a saved state and may be left out, and after `drive` one or more words name
+/// plants. A seed is one or more decimal digits that write a number below 2 to the 64; a number of stages is one from 1
+/// to 2 to the 32 less 1, and a number of ticks one up to 1,000,000. A plant is `tank` (1), `ramp` (2) or a number below
+/// 2 to the 32. No word may be empty or begin with `-`. There is no command `help`; a file may have that name or a
+/// command's.
 pub fn job_of<'a>(alloc: Global, words: &'a [String]) -> Result<Option<Job<'a>>, NoMemory>
     ensures { IfOk result (λ job. option_map spec_of job
         ≡ job_of (map string_bytes words.entry.now)) }
@@ -111,6 +124,19 @@ pub fn job_of<'a>(alloc: Global, words: &'a [String]) -> Result<Option<Job<'a>>,
     if !are_plain(words) {
         return Ok(None);
     }
+    if name_drive(words) {
+        return driven_by(alloc, words);
+    }
+    other_job(alloc, words)
+}
+
+/// The job that plain words ask for whose first isn't `drive`.
+fn other_job<'a>(alloc: Global, words: &'a [String]) -> Result<Option<Job<'a>>, NoMemory>
+    requires plain { list_all is_plain_word (map string_bytes words.now) ≡ true }
+    requires other { name_drive (map string_bytes words.now) ≡ false }
+    ensures { IfOk result (λ job. option_map spec_of job
+        ≡ job_of (map string_bytes words.entry.now)) }
+{
     let command = command_line(alloc)?;
     match command.try_get_matches_from(words) {
         Ok(matches) => Ok(job_read(&matches)),

@@ -1,5 +1,6 @@
 -- Where a drive stands between its ticks, and within one once all plants were asked.
-use Rattle.std.specs.Prelude.{◌≡◌, ℕ, suc, ◌<◌, ◌^◌, ℤ, true, List, [], ◌∷◌, ◌++◌, length, map, replicate, pos, false, Result, Ok, Err}
+use Rattle.std.specs.Prelude.{◌≡◌, ℕ, suc, ◌<◌, ◌^◌, ℤ, true, List, [], ◌∷◌, ◌++◌, length}
+use Rattle.std.specs.Prelude.{map, replicate, pos, false, Result, Ok, Err}
 use Rattle.std.specs.List.{AllByRecursion}
 use Rattle.bl_crun.specs.Running.{Running, after_tick, answer_of, outputs_after, reply_at}
 use Rattle.bl_crun.specs.declared.tick.Tick.{Tick}

@@ -22,6 +22,8 @@ abbrev pub chosen_line : Status → List ℕ → List ℕ
 chosen_line status.Refused own = own
 chosen_line status.BadRows own = own
 chosen_line status.NotSubset own = own
+chosen_line status.PlantFault own = own
+chosen_line status.PlantShape own = own
 chosen_line status.TooLarge own = own
 chosen_line status.BadState own = own
 chosen_line ended own = line_of ended

@@ -70,7 +70,8 @@ abbrev pub three_read : (Text → Text → Text → Option JobSpec) → Option T
 three_read job first second third = option_and_then (λ a. option_and_then (λ b. option_and_then (job a b) third) second) first
 
 -- the job of two values that were read, or the other one where a third was
-abbrev pub two_or_three_read : (Text → Text → JobSpec) → (Text → Text → Text → JobSpec) → Option Text → Option Text → Option Text → Option JobSpec
+abbrev pub two_or_three_read : (Text → Text → JobSpec) → (Text → Text → Text → JobSpec) → Option Text → Option Text → Option Text →
+    Option JobSpec
 two_or_three_read job further first second None = two_read job first second
 two_or_three_read job further first second (Some third) = two_read (λ a b. further a b third) first second
 

@@ -8,7 +8,8 @@ use Rattle.bl_emit_structs.proofs.program.add_units.Goals as goal
 pub loop-unit-preserved : goal.loop-unit-preserved
 loop-unit-preserved c =
     let step : c.add_variables.new.collected ≡ after c.loop-unit.collected (structs_for_unit c.args.structs.now c.unit-item.result) =
-    c.in_ok-add_variables.ensures ∙ ap (λ vars. after c.loop-unit.collected (joined (map (λ var. arrays_of c.args.structs.now var.ty) vars))) c.deref.ensures in
+    c.in_ok-add_variables.ensures
+    ∙ ap (λ vars. after c.loop-unit.collected (joined (map (λ var. arrays_of c.args.structs.now var.ty) vars))) c.deref.ensures in
     rw step
     (after-next (structs_for_unit c.args.structs.now) _ _ c.unit-item.result c.loop-unit.collected _
     (next_of c.args.units.now c.loop-unit.unit-index c.unit-item.result c.loop-unit-test.true c.unit-item.is) c.loop-unit.invariant)

@@ -29,7 +29,8 @@ within : (level inflow drain change result : ℤ) → change ≡ (inflow -ℤ dr
     inflow <ℤ ((pos 1000 +ℤ drain) -ℤ level) → result ≡ int_max (pos 0) (int_min (pos 1000) ((level +ℤ inflow) -ℤ drain))
 within level inflow drain change result change_is result_is low high = omega (arith, ints, clamps, change_is, result_is, low, high)
 
-low-of : (level inflow drain change result : ℤ) → change ≡ (inflow -ℤ drain) → result ≡ (level +ℤ change) → (drain -ℤ level) <ℤ inflow → pos 0 ≤ℤ result
+low-of : (level inflow drain change result : ℤ) → change ≡ (inflow -ℤ drain) → result ≡ (level +ℤ change) →
+    (drain -ℤ level) <ℤ inflow → pos 0 ≤ℤ result
 low-of level inflow drain change result change_is result_is low = omega (arith, ints, change_is, result_is, low)
 
 high-of : (level inflow drain change result : ℤ) → change ≡ (inflow -ℤ drain) → result ≡ (level +ℤ change) →

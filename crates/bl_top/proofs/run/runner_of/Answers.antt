@@ -1,6 +1,7 @@
 -- The file is loaded, unless memory is wanting, and has the program's trace.
 use Rattle.bl_cmeaning.specs.Parts.{parts_of}
 use Rattle.bl_top.proofs.Courses.{course_of_parts, loaded_fresh, loaded_parts, wants_memory}
+use Rattle.bl_top.proofs.Driven.{one_trace_of}
 use Rattle.bl_top.proofs.run.runner_of.Goals as goal
 
 pub returns-in-Ok-clause-course : goal.returns-in-Ok-clause-course
@@ -8,6 +9,11 @@ returns-in-Ok-clause-course c =
     course_of_parts c.args.program.now.structs c.args.program.now.units c.args.program.now.entry c.in_ok-file.file c.in-Ok.runner.parts
     (loaded_parts c.in-Ok.runner (parts_of c.in_ok-file.file) c.in-Ok.ensures.loaded) c.in_ok-file.ensures
     c.rows_of_bytes_fit.ensures c.rows_of_lines_fit.ensures
+
+pub returns-in-Ok-clause-one_trace : goal.returns-in-Ok-clause-one_trace
+returns-in-Ok-clause-one_trace c =
+    one_trace_of c.args.program.now.structs c.args.program.now.units c.args.program.now.entry (parts_of c.in_ok-file.file) c.in-Ok.runner.parts
+    (loaded_parts c.in-Ok.runner (parts_of c.in_ok-file.file) c.in-Ok.ensures.loaded) c.in_ok-file.ensures.one_trace
 
 pub returns-in-Ok-clause-fresh : goal.returns-in-Ok-clause-fresh
 returns-in-Ok-clause-fresh c = loaded_fresh c.in-Ok.runner (parts_of c.in_ok-file.file) c.in-Ok.ensures.loaded

@@ -21,8 +21,8 @@ use Rattle.std.proofs.Common.{
 use Rattle.std.specs.List.{list_all}
 use Rattle.std.specs.Str.{bytes_eq}
 use Rattle.bl_words.specs.Jobs.{JobSpec, Word, bound, build, check, command_job, count}
-use Rattle.bl_words.specs.Jobs.{exec, files_of, is_plain_word, job_of, of_one, of_one_if, of_three, of_two, of_two_or_three}
-use Rattle.bl_words.specs.Jobs.{resumed, run, save, save_from, seed_of, seeded, staged, stages_of}
+use Rattle.bl_words.specs.Jobs.{driven, exec, files_of, is_plain_word, job_of, of_one, of_one_if, of_three, of_two, of_two_or_three}
+use Rattle.bl_words.specs.Jobs.{other_job, plants_of, resumed, run, save, save_from, seed_of, seeded, staged, stages_of, ticks_of}
 use Rattle.bl_words.proofs.Program.{others_plain}
 use Rattle.bl_words.proofs.job.files_have_plain_names.Goals as goal
 
@@ -63,6 +63,10 @@ gen_plain [] = tt
 gen_plain (first ∷ []) = staged_plain first
 gen_plain (first ∷ second ∷ more) = tt
 
+one_of : (a b : Bool) → (a && b) ≡ true → (a && true) ≡ true
+one_of true b e = refl
+one_of false b e = e
+
 two_of_three : (a b c : Bool) → (a && (b && (c && true))) ≡ true → (a && (b && true)) ≡ true
 two_of_three true true c e = refl
 two_of_three true false c e = e
@@ -96,8 +100,21 @@ trying : (b : Bool) (job others : Option JobSpec) → IfSome job HasPlainFiles �
 trying true job others holds other = holds
 trying false job others holds other = other
 
-command_plain : (name : Word) (values : List Word) → list_all is_plain_word values ≡ true → IfSome (command_job name values) HasPlainFiles
-command_plain name values plain =
+-- a job against plants is of its source
+driven_plain : (values : List Word) → list_all is_plain_word values ≡ true → IfSome (driven values) HasPlainFiles
+driven_plain [] plain = tt
+driven_plain (source ∷ []) plain = tt
+driven_plain (source ∷ ticks ∷ []) plain = tt
+driven_plain (source ∷ ticks ∷ first ∷ more) plain = go (ticks_of ticks) (plants_of (first ∷ more)) refl refl
+  where
+    go : (count : Option ℕ) (plants : Option (List ℕ)) → ticks_of ticks ≡ count → plants_of (first ∷ more) ≡ plants →
+        IfSome (driven (source ∷ ticks ∷ first ∷ more)) HasPlainFiles
+    go (Some n) (Some ks) e f = rw (e, f) (one_of (is_plain_word source) _ plain)
+    go (Some n) None e f = rw (e, f) tt
+    go None plants e f = rw e tt
+
+other_plain : (name : Word) (values : List Word) → list_all is_plain_word values ≡ true → IfSome (other_job name values) HasPlainFiles
+other_plain name values plain =
     trying (bytes_eq (codes "check") name) _ _ (one_plain check (λ first. refl) values plain) (
     trying (bytes_eq (codes "build") name) _ _ (one_plain build (λ first. refl) values plain) (
     trying (bytes_eq (codes "run") name) _ _ (two_plain run (λ first second. refl) values plain) (
@@ -108,6 +125,9 @@ command_plain name values plain =
     trying (bytes_eq (codes "count") name) _ _ (two_plain count (λ first second. refl) values plain) (
     trying (bytes_eq (codes "save") name) _ _ (two_or_three_plain values plain) (
     trying (bytes_eq (codes "resume") name) _ _ (resume_plain values plain) tt)))))))))
+
+command_plain : (name : Word) (values : List Word) → list_all is_plain_word values ≡ true → IfSome (command_job name values) HasPlainFiles
+command_plain name values plain = trying (bytes_eq (codes "drive") name) _ _ (driven_plain values plain) (other_plain name values plain)
 
 job_plain : (words : List Word) → IfSome (job_of words) HasPlainFiles
 job_plain [] = tt

@@ -1,12 +1,14 @@
 -- Of all commands one alone makes a program.
-use Rattle.std.proofs.Common.{◌≡◌, ◌≤◌, ◌^◌, ℕ, Bool, IfSome, Some, None, false, true, refl, List, [], ◌∷◌, Option, arith, codes, if◌then◌else◌}
+use Rattle.std.proofs.Common.{◌≡◌, ◌≤◌, ◌^◌, ℕ, Bool, IfSome, Some, None, false, true, refl, List}
+use Rattle.std.proofs.Common.{[], ◌∷◌, Option, arith, codes, if◌then◌else◌}
 use Rattle.std.proofs.Common.{map, string_bytes}
 use Rattle.std.proofs.lemmas.Bool.Decides.{nat_tests}
 use Rattle.std.specs.List.{list_all}
 use Rattle.std.specs.Prelude.{◌&&◌, nat_lt}
 use Rattle.std.specs.Str.{bytes_eq}
-use Rattle.bl_words.specs.Jobs.{HasStages, JobSpec, Word, bound, build, check, command_job, count, exec, is_plain_word, job_of, of_one}
-use Rattle.bl_words.specs.Jobs.{of_one_if, of_three, of_two, of_two_or_three, resumed, run, save, save_from, seed_of, seeded, staged, stages_in}
+use Rattle.bl_words.specs.Jobs.{HasStages, JobSpec, Word, bound, build, check, command_job, count, driven, exec, is_plain_word, job_of, of_one}
+use Rattle.bl_words.specs.Jobs.{of_one_if, of_three, of_two, of_two_or_three, other_job, plants_of, resumed, run, save, save_from, seed_of, seeded, staged, stages_in}
+use Rattle.bl_words.specs.Jobs.{ticks_of}
 use Rattle.bl_words.proofs.job.programs_have_stages.Goals as goal
 
 -- a job that makes no program has none without a stage
@@ -73,8 +75,20 @@ trying : (b : Bool) (job others : Option JobSpec) → IfSome job HasStages → I
 trying true job others holds other = holds
 trying false job others holds other = other
 
-command_has : (name : Word) (values : List Word) → IfSome (command_job name values) HasStages
-command_has name values =
+driven_has : (values : List Word) → IfSome (driven values) HasStages
+driven_has [] = tt
+driven_has (source ∷ []) = tt
+driven_has (source ∷ ticks ∷ []) = tt
+driven_has (source ∷ ticks ∷ first ∷ more) = go (ticks_of ticks) (plants_of (first ∷ more)) refl refl
+  where
+    go : (count : Option ℕ) (plants : Option (List ℕ)) → ticks_of ticks ≡ count → plants_of (first ∷ more) ≡ plants →
+        IfSome (driven (source ∷ ticks ∷ first ∷ more)) HasStages
+    go (Some n) (Some ks) e f = rw (e, f) tt
+    go (Some n) None e f = rw (e, f) tt
+    go None plants e f = rw e tt
+
+other_has : (name : Word) (values : List Word) → IfSome (other_job name values) HasStages
+other_has name values =
     trying (bytes_eq (codes "check") name) _ _ (of_one_has check (λ first. tt) values) (
     trying (bytes_eq (codes "build") name) _ _ (of_one_has build (λ first. tt) values) (
     trying (bytes_eq (codes "run") name) _ _ (of_two_has run (λ first second. tt) values) (
@@ -85,6 +99,9 @@ command_has name values =
     trying (bytes_eq (codes "count") name) _ _ (of_two_has count (λ first second. tt) values) (
     trying (bytes_eq (codes "save") name) _ _ (either_has values) (
     trying (bytes_eq (codes "resume") name) _ _ (of_three_has resumed (λ first second third. tt) values) tt)))))))))
+
+command_has : (name : Word) (values : List Word) → IfSome (command_job name values) HasStages
+command_has name values = trying (bytes_eq (codes "drive") name) _ _ (driven_has values) (other_has name values)
 
 job_has : (words : List Word) → IfSome (job_of words) HasStages
 job_has [] = tt

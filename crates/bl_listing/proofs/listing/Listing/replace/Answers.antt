@@ -19,7 +19,8 @@ ask_all-requires-clause-was c =
     let k = c.args.k in
     let found = c.args.found in
     let here = map_get (map location_of) old.homes k ∙ ap (option_map (map location_of)) c.put-before.ensures.before in
-    let homes = ap (map (map location_of)) (c.deref-then-not-same-2.ensures ∙ c.put-before.ensures.now) ∙ set_map (map location_of) old.homes k found.homes in
+    let homes = ap (map (map location_of)) (c.deref-then-not-same-2.ensures ∙ c.put-before.ensures.now)
+    ∙ set_map (map location_of) old.homes k found.homes in
     let spots = ap (map (map spot_of)) (c.deref-then-not-same.ensures ∙ c.set.ensures) ∙ set_map (map spot_of) old.points k found.points in
     let had : c.deref-then-not-same-3.result.now ≡ c.put-before.result = c.deref-then-not-same-3.ensures in
     c.set-3.ensures

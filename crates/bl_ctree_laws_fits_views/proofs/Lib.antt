@@ -1,0 +1,4 @@
+pub mod Along
+pub mod Paths
+pub mod Running
+pub mod Typed

@@ -1,0 +1,4 @@
+mod MemberLemmas
+mod PartLemmas
+mod RuleLemmas
+mod ViewLemmas

@@ -1,0 +1,7 @@
+use Rattle.std.proofs.Common.{◌≡◌, ◌++◌, drop, map}
+use Rattle.bl_pass_listed.specs.Told.{rule_in}
+use Rattle.bl_emit_tables.specs.Told.{flags_told}
+use Rattle.bl_emit.proofs.registers.add_flags.Given as goal
+
+abbrev pub invariant-loop-rule : goal.invariant-loop-rule
+invariant-loop-rule l = l.locals ++ flags_told (map rule_in (drop l.rule-index l.rules)) ≡ l.initial.locals ++ flags_told (map rule_in l.rules)

@@ -1,0 +1,180 @@
+-- The C of an activity, by the list of its rules, where nodes are told by their numbers.
+use Rattle.std.specs.Prelude.{ℕ, Bool, true, false, List, [], ◌∷◌, ◌++◌, map, Option, Some, None, if◌then◌else◌}
+use Rattle.std.specs.Prelude.{codes, length, nat_lt, filter, option_and_then, slice_get, unwrap_or}
+use Rattle.bl_tree.specs.declared.text.Text.{Text}
+use Rattle.bl_tree.specs.declared.c.CFunc.{CFunc}
+use Rattle.bl_tree.specs.declared.c.CLocal.{CLocal}
+use Rattle.bl_tree.specs.declared.c.CMember.{CMember}
+use Rattle.bl_tree.specs.declared.c.CParam.{CParam}
+use Rattle.bl_tree.specs.declared.c.CStmt.{CStmt}
+use Rattle.bl_tree.specs.declared.c.CStruct.{CStruct}
+use Rattle.bl_tree.specs.declared.scalar.Scalar.TheVariants.{Bool as OfBool}
+use Rattle.bl_tree.specs.declared.tree.StructDef.{StructDef}
+use Rattle.bl_tree.specs.declared.tree.Unit.{Unit as UnitDef}
+use Rattle.bl_tree.specs.declared.scalar.Op.TheVariants.{Eq}
+use Rattle.bl_tree.specs.Program.{parameters_of}
+use Rattle.bl_tree.specs.Reduce.{joined}
+use Rattle.bl_tree.specs.Typing.{site_of}
+use Rattle.bl_machine.specs.Blocks.{up_to}
+use Rattle.bl_emit_acts.specs.Acts.{c_copied, c_set, is_copied}
+use Rattle.bl_emit_acts.specs.Expressions.{scalar_at}
+use Rattle.bl_emit_acts.specs.Trees.{c_read, c_two, nowhere}
+use Rattle.bl_emit_acts.specs.Types.{c_scalar, copy_name, unit_name}
+use Rattle.bl_emit_functions.specs.Functions.{members_of, memory_name, params_from, struct_of}
+use Rattle.bl_pass_listed.specs.Told.{Rule}
+use Rattle.bl_emit_pass.specs.Blocks.{Sizes, View, counter_value, name_in}
+use Rattle.bl_emit_pass.specs.Names.{callee_name, counter_place, ended_name, flag_place, frame_name}
+use Rattle.bl_emit_pass.specs.Activities.{RunAt, copies_of, counter_member, given_local, over_param, picked, pointer_param, rested_code, rested_local}
+use Rattle.bl_emit_pass.specs.Activities.{result_params, scalar_local, struct_member}
+use Rattle.bl_emit_blocks.specs.Numbered.{numbered_block}
+use Rattle.bl_emit_tables.specs.Told.{flags_told, marks_told, read_told, runs_told}
+
+-- what C is made of: a unit with the structs and units before it, its rules in source order, and the order of their blocks
+pub record Told : Type 0 where
+  pub structs : List StructDef
+  pub earlier : List UnitDef
+  pub unit : UnitDef
+  pub order : List ℕ
+  pub rules : List Rule
+  -- how many values each counter has
+  pub sizes : Sizes
+  -- which of the units before it remember variables
+  pub remember : List Bool
+
+-- the activity as its blocks see it. They don't ask for the numbers of nodes
+abbrev pub view_told : Told → View
+view_told a = record {
+  site = site_of a.structs a.earlier a.unit;
+  copies = copies_of a.unit;
+  number = λ n. 0;
+  sizes = a.sizes;
+  is_read = read_told a.rules;
+  remembers = λ k. unwrap_or (slice_get a.remember k) false;
+}
+
+-- ---- structs
+
+-- where the activity that a `run` calls rests
+abbrev pub frame_member_told : List UnitDef → RunAt → CMember
+frame_member_told earlier run = struct_member (callee_name run.number) (frame_name (name_in (slice_get earlier run.unit)))
+
+-- where an activity of this name rests: its counters, and where what it runs rests
+abbrev pub frame_by : List UnitDef → Text → Sizes → List RunAt → CStruct
+frame_by earlier name sizes runs = record {
+  place = nowhere;
+  name = frame_name name;
+  members = map (counter_member sizes) (up_to (length sizes)) ++ map (frame_member_told earlier) runs;
+}
+
+-- where the activity rests
+abbrev pub frame_told : Told → CStruct
+frame_told a = frame_by a.earlier a.unit.name a.sizes (runs_told a.rules)
+
+-- what the activity that a `run` calls remembers, where that is anything
+abbrev pub memory_member_told : List UnitDef → List Bool → RunAt → List CMember
+memory_member_told earlier remember run =
+    if unwrap_or (slice_get remember run.unit) false
+    then struct_member (callee_name run.number) (memory_name (name_in (slice_get earlier run.unit))) ∷ []
+    else []
+
+-- what an activity with these `run`s remembers: its variables, and what the activities that it runs remember
+abbrev pub remembered_by : List StructDef → List UnitDef → List Bool → UnitDef → List RunAt → List CMember
+remembered_by structs earlier remember unit runs = members_of structs earlier unit ++ joined (map (memory_member_told earlier remember) runs)
+
+-- what the activity remembers
+abbrev pub remembered_told : Told → List CMember
+remembered_told a = remembered_by a.structs a.earlier a.remember a.unit (runs_told a.rules)
+
+-- the struct of that, where it is anything
+abbrev pub remembered_struct_told : Told → List CStruct
+remembered_struct_told a = struct_of a.unit.name (remembered_told a)
+
+-- whether it is
+abbrev pub remembers_told : Told → Bool
+remembers_told a = nat_lt 0 (length (remembered_told a))
+
+-- ---- the function
+
+-- what it remembers
+abbrev pub memory_params_told : Text → Bool → List CParam
+memory_params_told name remembers = if remembers then pointer_param (codes "m") (memory_name name) ∷ [] else []
+
+-- where it rests, what it remembers, its inputs and outputs, its result, and whether it has ended
+abbrev pub params_told : List StructDef → UnitDef → Bool → List CParam
+params_told structs unit remembers =
+    pointer_param (codes "f") (frame_name unit.name)
+    ∷ (memory_params_told unit.name remembers
+    ++ (params_from structs 0 (parameters_of unit) ++ (result_params unit.result ++ over_param ∷ [])))
+
+-- the counters of which some rule asks what they held, in order
+abbrev pub counters_told : Sizes → List Rule → List ℕ
+counters_told sizes rules = filter (read_told rules) (up_to (length sizes))
+
+-- the local for the copy of a variable
+abbrev pub copy_told : UnitDef → ℕ → CLocal
+copy_told unit k = scalar_local (c_scalar (scalar_at (slice_get unit.vars k))) (copy_name k)
+
+-- the positions of the variables that are copied
+abbrev pub copied_told : UnitDef → List ℕ
+copied_told unit = filter (is_copied (copies_of unit)) (up_to (length unit.vars))
+
+-- the locals for a `run`: whether what it calls has ended, and its result
+abbrev pub run_locals_told : List UnitDef → RunAt → List CLocal
+run_locals_told earlier run =
+    scalar_local OfBool (ended_name run.number) ∷ given_local run.number (option_and_then (λ unit. unit.result) (slice_get earlier run.unit))
+
+-- the locals: what these counters held, flags, marks, copies of these variables, and those of each `run`
+abbrev pub locals_by : List UnitDef → UnitDef → Sizes → List Rule → List ℕ → List ℕ → List RunAt → List CLocal
+locals_by earlier unit sizes rules counters copied runs =
+    map (rested_local sizes) counters
+    ++ (flags_told rules ++ (marks_told rules ++ (map (copy_told unit) copied ++ joined (map (run_locals_told earlier) runs))))
+
+-- the locals of the activity
+abbrev pub locals_told : Told → List CLocal
+locals_told a = locals_by a.earlier a.unit a.sizes a.rules (counters_told a.sizes a.rules) (copied_told a.unit) (runs_told a.rules)
+
+-- the node with the number waits where the instance rests nowhere: it is begun
+abbrev pub entry_at : Sizes → ℕ → CStmt
+entry_at sizes number = c_set (flag_place number) (c_two Eq (c_read (counter_place 0)) (counter_value sizes 0 0))
+
+-- the entry, where it may be known
+abbrev pub entry_where : Sizes → Option Rule → List CStmt
+entry_where sizes (Some rule) = entry_at sizes rule.number ∷ []
+entry_where sizes None = []
+
+-- the entry is the first node; a body without statements has none
+abbrev pub entry_told : Sizes → List Rule → List CStmt
+entry_told sizes [] = []
+entry_told sizes (rule ∷ rest) = entry_at sizes rule.number ∷ []
+
+-- the body: copies of what these counters held and of these variables when the tick began, and the blocks in their order
+abbrev pub code_by : View → List Rule → List ℕ → List ℕ → List ℕ → List CStmt
+code_by view rules order counters copied =
+    map rested_code counters
+    ++ (entry_told view.sizes rules ++ (map (c_copied view.site) copied ++ picked (map (numbered_block view) rules) order))
+
+-- the body of the activity
+abbrev pub code_told : Told → List CStmt
+code_told a = code_by (view_told a) a.rules a.order (counters_told a.sizes a.rules) (copied_told a.unit)
+
+-- a C function of an activity
+abbrev pub function_by : List StructDef → UnitDef → Bool → List CLocal → List CStmt → CFunc
+function_by structs unit remembers locals body = record {
+  place = nowhere;
+  fixed = true;
+  result = None;
+  name = unit_name unit.name;
+  params = params_told structs unit remembers;
+  locals = locals;
+  body = body;
+}
+
+-- the C function of the activity
+abbrev pub function_told : Told → CFunc
+function_told a = function_by a.structs a.unit (remembers_told a) (locals_told a) (code_told a)
+
+-- a C function of the activity, as its blocks see it, where these counters are asked for, these variables copied and these are its `run`s
+abbrev pub function_viewed : Told → View → List ℕ → List ℕ → List RunAt → Bool → CFunc
+function_viewed a view counters copied runs remembers =
+    function_by a.structs a.unit remembers (locals_by a.earlier a.unit a.sizes a.rules counters copied runs)
+    (code_by view a.rules a.order counters copied)

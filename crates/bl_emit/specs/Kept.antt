@@ -1,0 +1,34 @@
+-- Runs and parts as the code has them.
+use Rattle.bl_emit_pass.specs.Activities.{RunAt}
+use Rattle.bl_emit_pass.specs.Programs.{Parts, Written}
+use Rattle.bl_emit.specs.declared.runs.RunAt.{RunAt as Kept}
+use Rattle.bl_emit.specs.declared.activity.Parts.{Parts as KeptParts}
+use Rattle.bl_emit.specs.declared.activity.Told.{Told as KeptTold}
+use Rattle.bl_emit.specs.Activities.{Told}
+use Rattle.bl_pass_listed.specs.Told.{rule_in}
+use Rattle.std.specs.Prelude.{map}
+use Rattle.bl_emit.specs.declared.program.Written.{Written as KeptFile}
+
+-- a `run`
+abbrev pub run_in : Kept → RunAt
+run_in run = record { number = run.number; unit = run.unit }
+
+-- parts of units
+abbrev pub parts_in : KeptParts → Parts
+parts_in parts = record { structs = parts.structs; funcs = parts.funcs; remember = parts.remember }
+
+-- a file
+abbrev pub written_in : KeptFile → Written
+written_in made = record { structs = made.structs; funcs = made.funcs }
+
+-- what C of an activity is made of
+abbrev pub told_in : KeptTold → Told
+told_in told = record {
+  structs = told.structs.now;
+  earlier = told.earlier.now;
+  unit = told.unit.now;
+  order = told.order.now;
+  rules = map rule_in told.rules.now;
+  sizes = told.sizes.now;
+  remember = told.remember.now;
+}

@@ -1,0 +1,4 @@
+pub mod Activities
+pub mod Kept
+pub mod Programs
+pub mod inner

@@ -1,0 +1,164 @@
+//! The body of the function of an activity.
+
+ghost use Rattle.std.specs.Prelude.{◌≡◌, ◌++◌, IfOk, OnOk, map, option_map, option_to_list, slice_get};
+ghost use Rattle.bl_emit_acts.specs.Acts.{c_copied};
+ghost use Rattle.bl_emit_blocks.specs.Numbered.{numbered_block};
+ghost use Rattle.bl_emit_blocks.specs.Views.{view_in};
+ghost use Rattle.bl_emit_pass.specs.Activities.{picked, rested_code};
+ghost use Rattle.bl_pass_listed.specs.Told.{rule_in};
+ghost use Rattle.bl_emit.specs.Activities.{code_by, entry_at, entry_told, entry_where};
+
+use crate::names::counter_type;
+use crate::parts::{equal, literal, member_at, numbered, read, set, whole};
+use bl_emit_acts::copied as copy_set;
+use bl_emit_blocks::{View, block};
+use bl_pass_listed::Rule;
+use bl_tree::c::CStmt;
+use bl_tree::slices::element;
+use bl_tree::{List, NoMemory};
+use std::alloc::Global;
+
+/// What a counter holds as the tick begins is copied.
+fn rested(alloc: Global, k: u32) -> Result<CStmt, NoMemory>
+    ensures { IfOk result (λ s. s ≡ rested_code k) }
+{
+    let to = whole(alloc, numbered(alloc, "w", k)?);
+    let from = member_at(alloc, "f", numbered(alloc, "c", k)?)?;
+    set(alloc, to, read(from))
+}
+
+/// So it is for each of the counters.
+fn all_rested(alloc: Global, counters: &[u32]) -> Result<List<CStmt>, NoMemory>
+    ensures { IfOk result (λ made. made ≡ map rested_code counters.now) }
+{
+    let mut made = List::new(alloc);
+    for k in counters {
+        made.push(rested(alloc, *k)?)?;
+    }
+    Ok(made)
+}
+
+/// The node with the number waits where the instance rests nowhere.
+fn entered(alloc: Global, sizes: &[u32], number: u32) -> Result<CStmt, NoMemory>
+    ensures { IfOk result (λ s. s ≡ entry_at sizes.now number) }
+{
+    let at = whole(alloc, numbered(alloc, "g", number)?);
+    let counter = member_at(alloc, "f", numbered(alloc, "c", 0)?)?;
+    let none = literal(counter_type(sizes, 0), 0);
+    set(alloc, at, equal(alloc, read(counter), none)?)
+}
+
+/// Appends that the node of the rule waits where the instance rests nowhere.
+fn add_entered(
+    alloc: Global,
+    sizes: &[u32],
+    rule: Option<&Rule>,
+    code: &mut List<CStmt>,
+) -> Result<(), NoMemory>
+    ensures { OnOk result (code.new ≡ code.old ++ entry_where sizes.now (option_map rule_in (option_map (λ rule. rule.now) rule.entry))) }
+{
+    match rule {
+        Some(rule) => {
+            code.push(entered(alloc, sizes, rule.number)?)?;
+            Ok(())
+        }
+        None => Ok(()),
+    }
+}
+
+/// Appends that the entry waits where the instance rests nowhere.
+#[tactic(auto, using(crate::proofs::RuleLemmas::entry_is))]
+fn add_entry(
+    alloc: Global,
+    sizes: &[u32],
+    rules: &[Rule],
+    code: &mut List<CStmt>,
+) -> Result<(), NoMemory>
+    ensures { OnOk result (code.new ≡ code.old ++ entry_told sizes.now (map rule_in rules.now)) }
+{
+    add_entered(alloc, sizes, element(rules, 0), code)
+}
+
+/// Appends that the copies of the variables become what these are.
+fn add_copies(
+    alloc: Global,
+    view: &View,
+    copied: &[u32],
+    code: &mut List<CStmt>,
+) -> Result<(), NoMemory>
+    ensures { OnOk result (code.new ≡ code.old ++ map (c_copied (view_in view.entry.now).site) copied.now) }
+{
+    for k in copied {
+        code.push(copy_set(alloc, &view.site, *k)?)?;
+    }
+    Ok(())
+}
+
+/// Appends the block of a rule, where there is one.
+fn add_made(
+    alloc: Global,
+    view: &View,
+    rule: Option<&Rule>,
+    code: &mut List<CStmt>,
+) -> Result<(), NoMemory>
+    ensures { OnOk result (code.new ≡ code.old
+        ++ option_to_list (option_map (numbered_block (view_in view.entry.now)) (option_map rule_in (option_map (λ rule. rule.now) rule.entry)))) }
+{
+    match rule {
+        Some(rule) => {
+            code.push(block(alloc, view, rule)?)?;
+            Ok(())
+        }
+        None => Ok(()),
+    }
+}
+
+/// Appends the block of the rule at a position, where there is one.
+#[tactic(auto, using(crate::proofs::RuleLemmas::block_is))]
+fn add_block(
+    alloc: Global,
+    view: &View,
+    rules: &[Rule],
+    k: u32,
+    code: &mut List<CStmt>,
+) -> Result<(), NoMemory>
+    ensures { OnOk result (code.new ≡ code.old
+        ++ option_to_list (slice_get (map (numbered_block (view_in view.entry.now)) (map rule_in rules.now)) k)) }
+{
+    add_made(alloc, view, element(rules, k as usize), code)
+}
+
+/// Appends the blocks in their order.
+fn add_blocks(
+    alloc: Global,
+    view: &View,
+    rules: &[Rule],
+    order: &[u32],
+    code: &mut List<CStmt>,
+) -> Result<(), NoMemory>
+    ensures { OnOk result (code.new ≡ code.old
+        ++ picked (map (numbered_block (view_in view.entry.now)) (map rule_in rules.now)) order.now) }
+{
+    for k in order {
+        add_block(alloc, view, rules, *k, code)?;
+    }
+    Ok(())
+}
+
+/// The body: copies of what the counters held and of the variables when the tick began, and the blocks in their order.
+pub fn code(
+    alloc: Global,
+    view: &View,
+    rules: &[Rule],
+    order: &[u32],
+    counters: &[u32],
+    copied: &[u32],
+) -> Result<List<CStmt>, NoMemory>
+    ensures { IfOk result (λ made. made ≡ code_by (view_in view.entry.now) (map rule_in rules.now) order.now counters.now copied.now) }
+{
+    let mut made = all_rested(alloc, counters)?;
+    add_entry(alloc, view.sizes, rules, &mut made)?;
+    add_copies(alloc, view, copied, &mut made)?;
+    add_blocks(alloc, view, rules, order, &mut made)?;
+    Ok(made)
+}

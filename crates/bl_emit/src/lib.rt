@@ -1,0 +1,20 @@
+//! The C of an activity and of a whole program (docs/C_SUBSET.md, "What `blechc` writes"). `emit` makes exactly the structs and functions
+//! that are defined for a program and its machine (`specs/Programs.antt`, `written_told`); want of memory aside.
+#![tactic(auto)]
+
+mod activity;
+mod chosen;
+mod code;
+mod frames;
+mod interface;
+mod locals;
+mod names;
+mod params;
+mod parts;
+mod program;
+mod registers;
+mod runs;
+mod ticks;
+mod units;
+
+pub use program::{Written, emit};

@@ -1,0 +1,139 @@
+//! The locals of the function of an activity.
+
+ghost use Rattle.std.specs.Prelude.{◌≡◌, ◌++◌, IfOk, OnOk, map, option_and_then, slice_get};
+ghost use Rattle.bl_tree.specs.Reduce.{joined};
+ghost use Rattle.bl_pass_listed.specs.Told.{rule_in};
+ghost use Rattle.bl_emit_pass.specs.Activities.{given_local, rested_local};
+ghost use Rattle.bl_emit.specs.Activities.{copy_told, locals_by, run_locals_told};
+ghost use Rattle.bl_emit.specs.Kept.{run_in};
+
+use crate::names::{counter_type, scalar_in_c, scalar_of_variable};
+use crate::parts::{local, numbered};
+use crate::registers::{add_flags, add_marks};
+use crate::runs::RunAt;
+use bl_pass_listed::Rule;
+use bl_tree::c::CLocal;
+use bl_tree::slices::element;
+use bl_tree::tree::Unit;
+use bl_tree::{List, NoMemory, Scalar};
+use std::alloc::Global;
+
+/// The local of what a counter held when the tick began.
+fn rested(alloc: Global, sizes: &[u32], k: u32) -> Result<CLocal, NoMemory>
+    ensures { IfOk result (λ made. made ≡ rested_local sizes.now k) }
+{
+    let name = numbered(alloc, "w", k)?;
+    Ok(local(counter_type(sizes, k), name))
+}
+
+/// The locals of what the counters held.
+fn all_rested(alloc: Global, sizes: &[u32], counters: &[u32]) -> Result<List<CLocal>, NoMemory>
+    ensures { IfOk result (λ made. made ≡ map (rested_local sizes.now) counters.now) }
+{
+    let mut made = List::new(alloc);
+    for k in counters {
+        made.push(rested(alloc, sizes, *k)?)?;
+    }
+    Ok(made)
+}
+
+/// The local for the copy of a variable.
+fn copy(alloc: Global, unit: &Unit, k: u32) -> Result<CLocal, NoMemory>
+    ensures { IfOk result (λ made. made ≡ copy_told unit.now k) }
+{
+    let name = numbered(alloc, "p", k)?;
+    Ok(local(scalar_in_c(scalar_of_variable(&unit.vars, k)), name))
+}
+
+/// Appends the locals for the copies of the variables.
+fn add_copies(
+    alloc: Global,
+    unit: &Unit,
+    copied: &[u32],
+    locals: &mut List<CLocal>,
+) -> Result<(), NoMemory>
+    ensures { OnOk result (locals.new ≡ locals.old ++ map (copy_told unit.now) copied.now) }
+{
+    for k in copied {
+        locals.push(copy(alloc, unit, *k)?)?;
+    }
+    Ok(())
+}
+
+/// The result of the unit at a position, where it has one.
+fn result_of(units: &[Unit], k: u32) -> Option<Scalar>
+    ensures { result ≡ option_and_then (λ unit. unit.result) (slice_get units.now k) }
+{
+    match element(units, k as usize) {
+        Some(unit) => unit.result,
+        None => None,
+    }
+}
+
+/// Appends the local for a result.
+fn add_given(
+    alloc: Global,
+    number: u32,
+    ty: Option<Scalar>,
+    locals: &mut List<CLocal>,
+) -> Result<(), NoMemory>
+    ensures { OnOk result (locals.new ≡ locals.old ++ given_local number ty) }
+{
+    match ty {
+        Some(s) => {
+            locals.push(local(scalar_in_c(s), numbered(alloc, "r", number)?))?;
+            Ok(())
+        }
+        None => Ok(()),
+    }
+}
+
+/// Appends the locals for a `run`.
+fn add_run(
+    alloc: Global,
+    earlier: &[Unit],
+    run: RunAt,
+    locals: &mut List<CLocal>,
+) -> Result<(), NoMemory>
+    ensures { OnOk result (locals.new ≡ locals.old ++ run_locals_told earlier.now (run_in run)) }
+{
+    locals.push(local(Scalar::Bool, numbered(alloc, "e", run.number)?))?;
+    add_given(alloc, run.number, result_of(earlier, run.unit), locals)
+}
+
+/// Appends the locals for the `run`s.
+fn add_runs(
+    alloc: Global,
+    earlier: &[Unit],
+    runs: &[RunAt],
+    locals: &mut List<CLocal>,
+) -> Result<(), NoMemory>
+    ensures { OnOk result (locals.new ≡ locals.old ++ joined (map (run_locals_told earlier.now) (map run_in runs.now))) }
+{
+    for run in runs {
+        add_run(alloc, earlier, *run, locals)?;
+    }
+    Ok(())
+}
+
+/// The locals of the function of an activity: what the counters held, flags, marks, copies of the variables, and those of each `run`.
+pub fn locals(
+    alloc: Global,
+    earlier: &[Unit],
+    unit: &Unit,
+    sizes: &[u32],
+    rules: &[Rule],
+    counters: &[u32],
+    copied: &[u32],
+    runs: &[RunAt],
+) -> Result<List<CLocal>, NoMemory>
+    ensures { IfOk result (λ made. made ≡ locals_by earlier.now unit.now sizes.now (map rule_in rules.now) counters.now copied.now
+        (map run_in runs.now)) }
+{
+    let mut made = all_rested(alloc, sizes, counters)?;
+    add_flags(alloc, rules, &mut made)?;
+    add_marks(alloc, rules, &mut made)?;
+    add_copies(alloc, unit, copied, &mut made)?;
+    add_runs(alloc, earlier, runs, &mut made)?;
+    Ok(made)
+}

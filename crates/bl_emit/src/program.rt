@@ -1,0 +1,109 @@
+//! The C of a program.
+
+ghost use Rattle.std.specs.Prelude.{◌≡◌, ◌++◌, ◌∷◌, [], IfOk, option_map};
+ghost use Rattle.bl_emit_pass.specs.Programs.{file_at, file_of, init_function, interface_structs, tick_function};
+ghost use Rattle.bl_emit_structs.specs.Structs.{structs_of as structs_needed};
+ghost use Rattle.bl_emit.specs.Kept.{parts_in, written_in};
+ghost use Rattle.bl_emit.specs.Programs.{written_told};
+
+use crate::activity::Parts;
+use crate::chosen::is_set;
+use crate::interface::interface;
+use crate::parts::joined;
+use crate::ticks::{init, tick};
+use crate::units::all_parts;
+use bl_emit_structs::structs_of;
+use bl_emit_tables::needed_units;
+use bl_machine::Machine;
+use bl_tree::c::{CFunc, CStruct};
+use bl_tree::slices::element;
+use bl_tree::tree::Unit;
+use bl_tree::{List, NoMemory, Program};
+use std::alloc::Global;
+
+/// What is written of a program: structs, and then functions.
+#[derive(Drop)]
+pub struct Written {
+    pub structs: List<CStruct>,
+    pub funcs: List<CFunc>,
+}
+
+/// The structs of a program, those of its units, and those of the interface.
+fn all_structs(
+    alloc: Global,
+    program: &Program,
+    structs: List<CStruct>,
+    unit: &Unit,
+    remembers: bool,
+) -> Result<List<CStruct>, NoMemory>
+    ensures { IfOk result (λ made. made ≡ structs_needed program.now ++ (structs ++ interface_structs program.now.structs unit.now remembers)) }
+{
+    let first = structs_of(alloc, program)?;
+    let last = interface(alloc, &program.structs, unit, remembers)?;
+    joined(first, joined(structs, last)?)
+}
+
+/// The functions of units, and those of the interface.
+fn all_funcs(
+    alloc: Global,
+    funcs: List<CFunc>,
+    unit: &Unit,
+    remembers: bool,
+) -> Result<List<CFunc>, NoMemory>
+    ensures { IfOk result (λ made. made ≡ funcs ++ (init_function unit.now.name ∷ tick_function unit.now remembers ∷ [])) }
+{
+    let mut made = funcs;
+    made.push(init(alloc, unit.name.as_str())?)?;
+    made.push(tick(alloc, unit, remembers)?)?;
+    Ok(made)
+}
+
+/// The file of a program with these parts, whose entry is this unit.
+fn file(alloc: Global, program: &Program, parts: Parts, unit: &Unit) -> Result<Written, NoMemory>
+    ensures { IfOk result (λ made. written_in made ≡ file_of program.now (parts_in parts) unit.now) }
+{
+    let remembers = is_set(&parts.remember, program.entry as usize);
+    Ok(Written {
+        structs: all_structs(alloc, program, parts.structs, unit, remembers)?,
+        funcs: all_funcs(alloc, parts.funcs, unit, remembers)?,
+    })
+}
+
+/// The same, where the entry may be known.
+fn file_where(
+    alloc: Global,
+    program: &Program,
+    parts: Parts,
+    unit: Option<&Unit>,
+) -> Result<Written, NoMemory>
+    ensures { IfOk result (λ made. written_in made ≡ file_at program.now (parts_in parts) (option_map (λ unit. unit.now) unit.entry)) }
+{
+    match unit {
+        Some(unit) => file(alloc, program, parts, unit),
+        None => Ok(Written {
+            structs: List::new(alloc),
+            funcs: List::new(alloc),
+        }),
+    }
+}
+
+/// The C of the program of a machine. Fails only for want of memory.
+pub fn emit(alloc: Global, machine: &Machine) -> Result<Written, NoMemory>
+    ensures { IfOk result (λ made. written_in made ≡ written_told machine.now.program machine.now.activities) }
+{
+    let program = machine.program();
+    let needed = needed_units(alloc, &program.units, program.entry)?;
+    let parts = all_parts(
+        alloc,
+        &program.structs,
+        &program.units,
+        &needed,
+        machine.activities(),
+    )?;
+    file_where(
+        alloc,
+        program,
+        parts,
+        element(&program.units, program.entry as usize),
+    )
+}

@@ -1,0 +1,80 @@
+//! The locals for flags and marks.
+
+ghost use Rattle.std.specs.Prelude.{◌≡◌, ◌++◌, OnOk, map};
+ghost use Rattle.bl_tree.specs.Reduce.{joined};
+ghost use Rattle.bl_pass_listed.specs.Told.{rule_in};
+ghost use Rattle.bl_emit_tables.specs.Told.{asks_flag, flag_told, flags_told, mark_told, marks_told};
+
+use crate::parts::{local, numbered};
+use bl_pass_listed::{Asked, Change, Rule};
+use bl_tree::c::CLocal;
+use bl_tree::{List, NoMemory, Scalar};
+use std::alloc::Global;
+
+/// Whether a flag is asked for.
+fn is_flag(asked: &Asked) -> bool
+    ensures { result ≡ asks_flag asked.now }
+{
+    match asked {
+        Asked::Flagged => true,
+        Asked::Rested(_) | Asked::RestedIn(_) | Asked::Ended(_, _) => false,
+    }
+}
+
+/// Appends the local for the flag of a node that waits by one.
+fn add_flag(alloc: Global, rule: &Rule, locals: &mut List<CLocal>) -> Result<(), NoMemory>
+    ensures { OnOk result (locals.new ≡ locals.old ++ flag_told (rule_in rule.now)) }
+{
+    if is_flag(&rule.asked) {
+        locals.push(local(Scalar::Bool, numbered(alloc, "g", rule.number)?))?;
+    }
+    Ok(())
+}
+
+/// Appends the locals for the flags of all nodes.
+pub fn add_flags(alloc: Global, rules: &[Rule], locals: &mut List<CLocal>) -> Result<(), NoMemory>
+    ensures { OnOk result (locals.new ≡ locals.old ++ flags_told (map rule_in rules.now)) }
+{
+    for rule in rules {
+        add_flag(alloc, rule, locals)?;
+    }
+    Ok(())
+}
+
+/// Appends the local for a mark that a change sets.
+fn add_mark(alloc: Global, change: Change, locals: &mut List<CLocal>) -> Result<(), NoMemory>
+    ensures { OnOk result (locals.new ≡ locals.old ++ mark_told change) }
+{
+    match change {
+        Change::Mark(k) => {
+            locals.push(local(Scalar::Bool, numbered(alloc, "u", k)?))?;
+            Ok(())
+        }
+        Change::Flag(_)
+        | Change::Rest(_)
+        | Change::Free(_)
+        | Change::Forget(_)
+        | Change::End(_, _, _)
+        | Change::Finish => Ok(()),
+    }
+}
+
+/// Appends the locals for the marks that changes set.
+fn add_rule_marks(alloc: Global, so: &[Change], locals: &mut List<CLocal>) -> Result<(), NoMemory>
+    ensures { OnOk result (locals.new ≡ locals.old ++ joined (map mark_told so.now)) }
+{
+    for change in so {
+        add_mark(alloc, *change, locals)?;
+    }
+    Ok(())
+}
+
+/// Appends the locals for the marks that all rules set.
+pub fn add_marks(alloc: Global, rules: &[Rule], locals: &mut List<CLocal>) -> Result<(), NoMemory>
+    ensures { OnOk result (locals.new ≡ locals.old ++ marks_told (map rule_in rules.now)) }
+{
+    for rule in rules {
+        add_rule_marks(alloc, &rule.so, locals)?;
+    }
+    Ok(())
+}

@@ -1,0 +1,170 @@
+//! The functions that begin a program and take one tick.
+
+ghost use Rattle.std.specs.Prelude.{◌≡◌, ◌∷◌, ◌++◌, [], IfOk, None, OnOk, Some, codes, if◌then◌else◌, map, true};
+ghost use Rattle.bl_tree.specs.declared.c.CArg.TheVariants.{Address};
+ghost use Rattle.bl_tree.specs.declared.scalar.Scalar.TheVariants.{Nat};
+ghost use Rattle.bl_tree.specs.declared.scalar.Width.TheVariants.{W32};
+ghost use Rattle.bl_emit_acts.specs.Trees.{c_literal, c_place, c_step};
+ghost use Rattle.bl_emit_functions.specs.Trees.{c_if, c_return};
+ghost use Rattle.bl_emit_pass.specs.Activities.{pointer_param};
+ghost use Rattle.bl_emit_pass.specs.Programs as programs;
+
+use crate::interface::{inputs, outputs};
+use crate::parts::{
+    NOWHERE, clear, literal, local, member_at, pointer, prefixed, read, single, statement, whole,
+};
+use bl_tree::c::{CArg, CCall, CExpr, CFunc, CParam, CStmt, CStmtKind};
+use bl_tree::tree::{Unit, Var};
+use bl_tree::{Box, List, NoMemory, Scalar, Text, Width};
+use std::alloc::Global;
+
+/// A pointer to the state of a program, alone.
+fn state_param(alloc: Global) -> Result<CParam, NoMemory>
+    ensures { IfOk result (λ made. made ≡ pointer_param (codes "s") (codes "bl_state")) }
+{
+    pointer(alloc, "s", Text::copy_of(alloc, "bl_state")?)
+}
+
+/// The program begins. Fails only for want of memory.
+pub fn init(alloc: Global, name: &str) -> Result<CFunc, NoMemory>
+    ensures { IfOk result (λ made. made ≡ programs.init_function name.now) }
+{
+    let params = single(alloc, state_param(alloc)?)?;
+    let at = member_at(alloc, "s", Text::copy_of(alloc, "f")?)?;
+    let body = single(alloc, clear(alloc, at, prefixed(alloc, "f_", name)?)?)?;
+    Ok(CFunc {
+        place: NOWHERE,
+        fixed: false,
+        result: None,
+        name: Text::copy_of(alloc, "bl_init")?,
+        params,
+        locals: List::new(alloc),
+        body,
+    })
+}
+
+/// The value of an input.
+fn input(alloc: Global, var: &Var) -> Result<CArg, NoMemory>
+    ensures { IfOk result (λ arg. arg ≡ programs.input_arg var.now) }
+{
+    let name = prefixed(alloc, "i_", var.name.as_str())?;
+    Ok(CArg::Value(read(member_at(alloc, "i", name)?)))
+}
+
+/// The place of an output.
+fn output(alloc: Global, var: &Var) -> Result<CArg, NoMemory>
+    ensures { IfOk result (λ arg. arg ≡ programs.output_arg var.now) }
+{
+    let name = prefixed(alloc, "o_", var.name.as_str())?;
+    Ok(CArg::Address(member_at(alloc, "o", name)?))
+}
+
+/// Appends the values of the inputs.
+fn add_inputs(alloc: Global, vars: &[Var], args: &mut List<CArg>) -> Result<(), NoMemory>
+    ensures { OnOk result (args.new ≡ args.old ++ map programs.input_arg vars.now) }
+{
+    for var in vars {
+        args.push(input(alloc, var)?)?;
+    }
+    Ok(())
+}
+
+/// Appends the places of the outputs.
+fn add_outputs(alloc: Global, vars: &[Var], args: &mut List<CArg>) -> Result<(), NoMemory>
+    ensures { OnOk result (args.new ≡ args.old ++ map programs.output_arg vars.now) }
+{
+    for var in vars {
+        args.push(output(alloc, var)?)?;
+    }
+    Ok(())
+}
+
+/// The place of a member of the state.
+fn state_place(alloc: Global, member: &str) -> Result<CArg, NoMemory>
+    ensures { IfOk result (λ arg. arg ≡ Address (c_place true (codes "s") (c_step member.now ∷ []))) }
+{
+    let name = Text::copy_of(alloc, member)?;
+    Ok(CArg::Address(member_at(alloc, "s", name)?))
+}
+
+/// Appends the place of what the entry remembers.
+fn add_memory(alloc: Global, remembers: bool, args: &mut List<CArg>) -> Result<(), NoMemory>
+    ensures { OnOk result (args.new ≡ args.old
+        ++ (if remembers then Address (c_place true (codes "s") (c_step (codes "m") ∷ [])) ∷ [] else [])) }
+{
+    if remembers {
+        args.push(state_place(alloc, "m")?)?;
+    }
+    Ok(())
+}
+
+/// The arguments with which a tick calls the entry.
+fn args(alloc: Global, unit: &Unit, remembers: bool) -> Result<List<CArg>, NoMemory>
+    ensures { IfOk result (λ args. args ≡ programs.tick_args unit.now remembers) }
+{
+    let mut args = single(alloc, state_place(alloc, "f")?)?;
+    add_memory(alloc, remembers, &mut args)?;
+    add_inputs(alloc, inputs(unit), &mut args)?;
+    add_outputs(alloc, outputs(unit), &mut args)?;
+    args.push(CArg::Address(whole(alloc, Text::copy_of(alloc, "e")?)))?;
+    Ok(args)
+}
+
+/// A tick returns the number.
+fn returned(alloc: Global, n: i128) -> Result<CStmt, NoMemory>
+    ensures { IfOk result (λ s. s ≡ c_return (Some (c_literal (Nat W32) n))) }
+{
+    let value = Box::new(alloc, literal(Scalar::Nat(Width::W32), n))?;
+    Ok(statement(CStmtKind::Return(Some(value))))
+}
+
+/// It returns 1 where the entry has ended.
+fn returned_where(alloc: Global, test: CExpr) -> Result<CStmt, NoMemory>
+    ensures { IfOk result (λ s. s ≡ c_if test (programs.c_returned 1 ∷ []) None) }
+{
+    let test = Box::new(alloc, test)?;
+    let body = single(alloc, returned(alloc, 1)?)?;
+    Ok(statement(CStmtKind::If(test, body, None)))
+}
+
+/// The body of a tick.
+fn body(alloc: Global, unit: &Unit, remembers: bool) -> Result<List<CStmt>, NoMemory>
+    ensures { IfOk result (λ made. made ≡ (programs.tick_function unit.now remembers).body) }
+{
+    let name = prefixed(alloc, "a_", unit.name.as_str())?;
+    let args = args(alloc, unit, remembers)?;
+    let ended = read(whole(alloc, Text::copy_of(alloc, "e")?));
+    let mut made = single(alloc, statement(CStmtKind::Call(CCall { name, args })))?;
+    made.push(returned_where(alloc, ended)?)?;
+    made.push(returned(alloc, 0)?)?;
+    Ok(made)
+}
+
+/// The parameters of a tick.
+fn params(alloc: Global) -> Result<List<CParam>, NoMemory>
+    ensures { IfOk result (λ made. made ≡ pointer_param (codes "s") (codes "bl_state")
+        ∷ pointer_param (codes "i") (codes "bl_in") ∷ pointer_param (codes "o") (codes "bl_out") ∷ []) }
+{
+    let mut made = single(alloc, state_param(alloc)?)?;
+    made.push(pointer(alloc, "i", Text::copy_of(alloc, "bl_in")?)?)?;
+    made.push(pointer(alloc, "o", Text::copy_of(alloc, "bl_out")?)?)?;
+    Ok(made)
+}
+
+/// One tick: 1 where the entry has ended, else 0. Fails only for want of memory.
+pub fn tick(alloc: Global, unit: &Unit, remembers: bool) -> Result<CFunc, NoMemory>
+    ensures { IfOk result (λ made. made ≡ programs.tick_function unit.now remembers) }
+{
+    let params = params(alloc)?;
+    let locals = single(alloc, local(Scalar::Bool, Text::copy_of(alloc, "e")?))?;
+    let body = body(alloc, unit, remembers)?;
+    Ok(CFunc {
+        place: NOWHERE,
+        fixed: false,
+        result: Some(Scalar::Nat(Width::W32)),
+        name: Text::copy_of(alloc, "bl_tick")?,
+        params,
+        locals,
+        body,
+    })
+}

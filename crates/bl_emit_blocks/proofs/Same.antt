@@ -1,0 +1,159 @@
+-- Views that differ at most in the numbers of nodes give the same C of a block.
+use Rattle.std.proofs.Common.{◌≡◌, ◌∙◌, ℕ, Bool, true, false, List, [], ◌∷◌, ◌++◌, Option, Some, None}
+use Rattle.std.proofs.Common.{map, slice_get, refl, ap, if◌then◌else◌}
+use Rattle.bl_tree.specs.declared.c.CArg.TheVariants.{Address}
+use Rattle.bl_tree.specs.declared.c.CExpr.{CExpr}
+use Rattle.bl_tree.specs.declared.tree.Path.{Path}
+use Rattle.bl_tree.specs.declared.tree.Stmt.{Stmt, out-Stmt}
+use Rattle.bl_tree.specs.declared.tree.StmtKind.{out-StmtKind}
+use Rattle.bl_tree.specs.declared.tree.StmtKind.TheOpen.{StmtKind-F}
+use Rattle.bl_tree.specs.Typing.{Site}
+use Rattle.bl_nodes.specs.Nodes.{Arguments, Node}
+use Rattle.bl_machine.specs.declared.slots.Slot.{Slot}
+use Rattle.bl_emit_acts.specs.Acts.{c_calling, c_clear, c_set, call_args, code_made, name_of_callee}
+use Rattle.bl_emit_acts.specs.Trees.{c_call, c_read}
+use Rattle.bl_emit_functions.specs.Statements.{else_code}
+use Rattle.bl_emit_functions.specs.Trees.{c_if, c_truth}
+use Rattle.bl_pass_listed.specs.declared.rule.Asked.{Asked}
+use Rattle.bl_pass_listed.specs.declared.rule.Asked.TheVariants as asked
+use Rattle.bl_pass_listed.specs.declared.rule.Change.{Change}
+use Rattle.bl_pass_listed.specs.declared.rule.Change.TheVariants as change
+use Rattle.bl_pass_listed.specs.Told.{Acts, Enters, Nothing, Resumes, Rule, Task, Tests}
+use Rattle.bl_emit_pass.specs.Blocks.{Sizes, View, acted, all_tests, arg_where, at_slot, forgotten, has_result}
+use Rattle.bl_emit_pass.specs.Blocks.{layer_acted, name_in, rested_in, run_code, some_test, target_code}
+use Rattle.bl_emit_pass.specs.Names.{callee_frame, callee_memory, ended_place, frame_name, given_place}
+use Rattle.bl_emit_blocks.specs.Laws.{BlocksAlike}
+use Rattle.bl_emit_blocks.specs.Numbered.{numbered_aged, numbered_begun, numbered_block, numbered_change, numbered_changes}
+use Rattle.bl_emit_blocks.specs.Numbered.{numbered_guard, numbered_resumed, numbered_task, numbered_tested}
+
+module _ (site : Site) (copies : List Bool) (sizes : Sizes) (number other : Node → ℕ) (read seen held kept : ℕ → Bool)
+    (reads : (k : ℕ) → read k ≡ seen k) (keeps : (k : ℕ) → held k ≡ kept k) where
+  abbrev v : View
+  v = record { site = site; copies = copies; number = number; sizes = sizes; is_read = read; remembers = held }
+
+  abbrev w : View
+  w = record { site = site; copies = copies; number = other; sizes = sizes; is_read = seen; remembers = kept }
+
+  -- ---- guards
+
+  rested_same : (slots : List Slot) → rested_in v slots ≡ rested_in w slots
+  rested_same [] = refl
+  rested_same (slot ∷ []) = refl
+  rested_same (slot ∷ more ∷ rest) = refl
+
+  slots_same : (slots : List Slot) → map (at_slot v) slots ≡ map (at_slot w) slots
+  slots_same [] = refl
+  slots_same (slot ∷ rest) = ap (λ tests. at_slot w slot ∷ tests) (slots_same rest)
+
+  ends_by : (all : Bool) (slots : List Slot) →
+      (if all then all_tests (map (at_slot v) slots) else some_test (map (at_slot v) slots))
+      ≡ (if all then all_tests (map (at_slot w) slots) else some_test (map (at_slot w) slots))
+  ends_by all slots = ap (λ tests. if all then all_tests tests else some_test tests) (slots_same slots)
+
+  guard_same : (k : ℕ) (asked : Asked) → numbered_guard v k asked ≡ numbered_guard w k asked
+  guard_same k asked.Flagged = refl
+  guard_same k (asked.Rested slot) = refl
+  guard_same k (asked.RestedIn slots) = rested_same slots
+  guard_same k (asked.Ended age needed) = ap (numbered_aged age) (ends_by needed.all needed.slots)
+
+  -- ---- changes
+
+  forgotten_same : (k : ℕ) (read : Bool) → forgotten v k read ≡ forgotten w k read
+  forgotten_same k true = refl
+  forgotten_same k false = refl
+
+  change_same : (change : Change) → numbered_change v change ≡ numbered_change w change
+  change_same (change.Flag k) = refl
+  change_same (change.Rest slot) = refl
+  change_same (change.Free k) = refl
+  change_same (change.Forget k) = forgotten_same k (read k) ∙ ap (forgotten w k) (reads k)
+  change_same (change.Mark k) = refl
+  change_same (change.End start surface depth) = refl
+  change_same change.Finish = refl
+
+  changes_same : (changes : List Change) → numbered_changes v changes ≡ numbered_changes w changes
+  changes_same [] = refl
+  changes_same (change ∷ rest) =
+      ap (λ code. code ++ numbered_changes v rest) (change_same change) ∙ ap (λ code. numbered_change w change ++ code) (changes_same rest)
+
+  -- ---- runs
+
+  run_same : (k a : ℕ) (arguments : Arguments) → run_code v k a arguments ≡ run_code w k a arguments
+  run_same k a arguments =
+      ap (λ (remembers : Bool).
+      c_set (ended_place k) (c_truth false)
+      ∷ c_calling (c_call (name_of_callee (slice_get site.earlier a))
+      (Address (callee_frame k)
+      ∷ (arg_where remembers (Address (callee_memory k))
+      ++ (call_args site arguments.inputs arguments.outputs
+      ++ (arg_where (has_result (slice_get site.earlier a)) (Address (given_place k)) ++ Address (ended_place k) ∷ []))))) ∷ [])
+      (keeps a)
+
+  target_same : (k : ℕ) (target : Option Path) → target_code v k target ≡ target_code w k target
+  target_same k (Some path) = refl
+  target_same k None = refl
+
+  begun_same : (k a : ℕ) (arguments : Arguments) (so : List Change) → numbered_begun v k a arguments so ≡ numbered_begun w k a arguments so
+  begun_same k a arguments so =
+      ap (λ code. c_clear (callee_frame k) (frame_name (name_in (slice_get site.earlier a))) ∷ (code ++ numbered_changes v so))
+      (run_same k a arguments)
+      ∙ ap (λ code. c_clear (callee_frame k) (frame_name (name_in (slice_get site.earlier a))) ∷ (run_code w k a arguments ++ code))
+      (changes_same so)
+
+  resumed_same : (k a : ℕ) (arguments : Arguments) (so : List Change) →
+      numbered_resumed v k a arguments so ≡ numbered_resumed w k a arguments so
+  resumed_same k a arguments so =
+      ap (λ code. code ++ c_if (c_read (ended_place k)) (target_code v k arguments.target ++ numbered_changes v so) None ∷ [])
+      (run_same k a arguments)
+      ∙ (ap (λ code. run_code w k a arguments ++ c_if (c_read (ended_place k)) (code ++ numbered_changes v so) None ∷ [])
+      (target_same k arguments.target)
+      ∙ ap (λ code. run_code w k a arguments ++ c_if (c_read (ended_place k)) (target_code w k arguments.target ++ code) None ∷ [])
+      (changes_same so))
+
+  -- ---- blocks
+
+  acted_by : {A B C D : Type 0} (s : Stmt) (kind : StmtKind-F A B C D) → layer_acted v s kind ≡ layer_acted w s kind
+  acted_by s (StmtKind-F.Declare k initial) = refl
+  acted_by s (StmtKind-F.Assign path e) = refl
+  acted_by s (StmtKind-F.Call f inputs outputs) = refl
+  acted_by s (StmtKind-F.Await e) = refl
+  acted_by s (StmtKind-F.Run target a inputs outputs) = refl
+  acted_by s (StmtKind-F.If arms other) = refl
+  acted_by s (StmtKind-F.Cobegin branches) = refl
+  acted_by s (StmtKind-F.When guard e body) = refl
+  acted_by s (StmtKind-F.Repeat body) = refl
+  acted_by s (StmtKind-F.Until body e) = refl
+  acted_by s (StmtKind-F.While e body) = refl
+  acted_by s (StmtKind-F.Return (Some e)) = refl
+  acted_by s (StmtKind-F.Return None) = refl
+
+  acted_same : (s : Stmt) → acted v s ≡ acted w s
+  acted_same s = acted_by s (out-StmtKind (out-Stmt s).what)
+
+  tested_same : (test : CExpr) (rule : Rule) → numbered_tested v test rule ≡ numbered_tested w test rule
+  tested_same test rule =
+      ap (λ so. c_if test so (else_code (numbered_changes v rule.otherwise)) ∷ []) (changes_same rule.so)
+      ∙ ap (λ other. c_if test (numbered_changes w rule.so) (else_code other) ∷ []) (changes_same rule.otherwise)
+
+  task_same : (rule : Rule) (task : Task) → numbered_task v rule task ≡ numbered_task w rule task
+  task_same rule Nothing = changes_same rule.so
+  task_same rule (Acts s) = ap (λ code. code ++ numbered_changes v rule.so) (acted_same s) ∙ ap (λ code. acted w s ++ code) (changes_same rule.so)
+  task_same rule (Tests e) = tested_same (code_made site e) rule
+  task_same rule (Enters k a arguments) = begun_same k a arguments rule.so
+  task_same rule (Resumes k a arguments) = resumed_same k a arguments rule.so
+
+  pub block_same : (rule : Rule) → numbered_block v rule ≡ numbered_block w rule
+  block_same rule =
+      ap (λ test. c_if test (numbered_task v rule rule.task) None) (guard_same rule.number rule.asked)
+      ∙ ap (λ code. c_if (numbered_guard w rule.number rule.asked) code None) (task_same rule rule.task)
+
+-- the same of any two such views
+pub blocks_alike : BlocksAlike
+blocks_alike v w alike rule =
+    block_same v.site v.copies v.sizes v.number w.number v.is_read w.is_read v.remembers w.remembers alike.is_read alike.remembers rule
+    ∙ (ap (λ (site : Site). numbered_block (viewed site v.copies v.sizes) rule) alike.site
+    ∙ (ap (λ (copies : List Bool). numbered_block (viewed w.site copies v.sizes) rule) alike.copies
+    ∙ ap (λ (sizes : Sizes). numbered_block (viewed w.site w.copies sizes) rule) alike.sizes)) where
+      viewed : Site → List Bool → Sizes → View
+      viewed site copies sizes =
+          record { site = site; copies = copies; number = w.number; sizes = sizes; is_read = w.is_read; remembers = w.remembers }

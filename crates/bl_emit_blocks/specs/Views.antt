@@ -1,0 +1,16 @@
+-- What blocks see of an activity, as the code has it.
+use Rattle.std.specs.Prelude.{false, slice_get, unwrap_or}
+use Rattle.bl_emit_acts.specs.Sites.{site_in}
+use Rattle.bl_emit_pass.specs.Blocks.{View}
+use Rattle.bl_emit_blocks.specs.declared.view.View.{View as Kept}
+
+-- an activity as its blocks see it; the C of a block that has numbers doesn't ask which numbers nodes have
+abbrev pub view_in : Kept → View
+view_in view = record {
+  site = site_in view.site;
+  copies = view.copies.now;
+  number = λ n. 0;
+  sizes = view.sizes.now;
+  is_read = λ k. unwrap_or (slice_get view.read.now k) false;
+  remembers = λ k. unwrap_or (slice_get view.remembers.now k) false;
+}

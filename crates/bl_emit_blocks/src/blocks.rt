@@ -1,0 +1,75 @@
+//! Blocks.
+
+ghost use Rattle.std.specs.Prelude.{◌≡◌, ◌∷◌, [], IfOk};
+ghost use Rattle.bl_emit_acts.specs.Acts.{c_set, code_made};
+ghost use Rattle.bl_emit_blocks.specs.Numbered as numbered;
+ghost use Rattle.bl_emit_blocks.specs.Views.{view_in};
+ghost use Rattle.bl_emit_pass.specs.Blocks.{acted};
+ghost use Rattle.bl_emit_pass.specs.Names.{result_place};
+ghost use Rattle.bl_pass_listed.specs.Told.{rule_in, task_in};
+
+use crate::changes::changes;
+use crate::guards::guard;
+use crate::parts::{choice, joined, otherwise, set, single, value};
+use crate::places::returned;
+use crate::runs::{begun, resumed};
+use crate::view::View;
+use bl_emit_acts::act;
+use bl_pass_listed::{Rule, Task};
+use bl_tree::c::CStmt;
+use bl_tree::tree::{Expr, Stmt, StmtKind};
+use bl_tree::{List, NoMemory};
+use std::alloc::Global;
+
+/// A `return` sets the result, where it has one.
+fn result_set(alloc: Global, view: &View, e: &Expr) -> Result<List<CStmt>, NoMemory>
+    ensures { IfOk result (λ code. code ≡ c_set result_place (code_made (view_in view.entry.now).site e.now) ∷ []) }
+{
+    let at = returned(alloc)?;
+    single(alloc, set(alloc, at, value(alloc, &view.site, e)?)?)
+}
+
+/// An act.
+fn acted(alloc: Global, view: &View, s: &Stmt) -> Result<List<CStmt>, NoMemory>
+    ensures { IfOk result (λ code. code ≡ acted (view_in view.entry.now) s.now) }
+{
+    match &s.what {
+        StmtKind::Return(Some(e)) => result_set(alloc, view, e),
+        StmtKind::Return(None) => Ok(List::new(alloc)),
+        _ => act(alloc, &view.site, view.copies, s),
+    }
+}
+
+/// A test: changes where it is true, and others where it is false.
+fn tested(alloc: Global, view: &View, e: &Expr, rule: &Rule) -> Result<List<CStmt>, NoMemory>
+    ensures { IfOk result (λ code. code
+        ≡ numbered.numbered_tested (view_in view.entry.now) (code_made (view_in view.entry.now).site e.now) (rule_in rule.entry.now)) }
+{
+    let test = value(alloc, &view.site, e)?;
+    let so = changes(alloc, view, &rule.so)?;
+    let other = otherwise(changes(alloc, view, &rule.otherwise)?);
+    single(alloc, choice(alloc, test, so, other)?)
+}
+
+/// What a block does.
+fn done(alloc: Global, view: &View, rule: &Rule) -> Result<List<CStmt>, NoMemory>
+    ensures { IfOk result (λ code. code
+        ≡ numbered.numbered_task (view_in view.entry.now) (rule_in rule.entry.now) (task_in rule.entry.now.task)) }
+{
+    match &rule.task {
+        Task::Nothing => changes(alloc, view, &rule.so),
+        Task::Act(s) => joined(acted(alloc, view, s)?, changes(alloc, view, &rule.so)?),
+        Task::Test(e) => tested(alloc, view, e, rule),
+        Task::Enter(run) => begun(alloc, view, run, &rule.so),
+        Task::Resume(run) => resumed(alloc, view, run, &rule.so),
+    }
+}
+
+/// The `if` of a block of a pass, by the rule of its node. Fails only for want of memory.
+pub fn block(alloc: Global, view: &View, rule: &Rule) -> Result<CStmt, NoMemory>
+    ensures { IfOk result (λ made. made ≡ numbered.numbered_block (view_in view.entry.now) (rule_in rule.entry.now)) }
+{
+    let test = guard(alloc, view, rule.number, &rule.asked)?;
+    let code = done(alloc, view, rule)?;
+    choice(alloc, test, code, None)
+}

@@ -1,0 +1,41 @@
+//! What is asked before a node acts.
+
+ghost use Rattle.std.specs.Prelude.{◌≡◌, IfOk};
+ghost use Rattle.bl_emit_blocks.specs.Numbered as numbered;
+ghost use Rattle.bl_emit_blocks.specs.Views.{view_in};
+
+use crate::counters::{rested_at, rested_in};
+use crate::parts::{negated, read, two};
+use crate::places::{flag, mark};
+use crate::tests::ends;
+use crate::view::View;
+use bl_pass_listed::{Age, Asked};
+use bl_tree::c::CExpr;
+use bl_tree::{NoMemory, Op};
+use std::alloc::Global;
+
+/// A test, of a `cobegin` of that age.
+fn aged(alloc: Global, age: Age, ends: CExpr) -> Result<CExpr, NoMemory>
+    ensures { IfOk result (λ e. e ≡ numbered.numbered_aged age ends) }
+{
+    match age {
+        Age::New(k) => two(alloc, Op::And, read(mark(alloc, k)?), ends),
+        Age::Old(k) => {
+            let marked = read(mark(alloc, k)?);
+            two(alloc, Op::And, negated(alloc, marked)?, ends)
+        }
+        Age::Any => Ok(ends),
+    }
+}
+
+/// What is asked before the node with this number acts.
+pub fn guard(alloc: Global, view: &View, number: u32, asked: &Asked) -> Result<CExpr, NoMemory>
+    ensures { IfOk result (λ e. e ≡ numbered.numbered_guard (view_in view.entry.now) number asked.now) }
+{
+    match asked {
+        Asked::Flagged => Ok(read(flag(alloc, number)?)),
+        Asked::Rested(slot) => rested_at(alloc, view, *slot),
+        Asked::RestedIn(slots) => rested_in(alloc, view, slots),
+        Asked::Ended(age, needed) => aged(alloc, *age, ends(alloc, view, needed)?),
+    }
+}

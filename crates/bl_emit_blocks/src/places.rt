@@ -1,0 +1,79 @@
+//! Where the C function of an activity keeps the registers of a pass.
+
+ghost use Rattle.std.specs.Prelude.{◌≡◌, IfOk};
+ghost use Rattle.bl_emit_pass.specs.Names as names;
+
+use crate::parts::{member, numbered, whole};
+use bl_tree::c::CPlace;
+use bl_tree::{NoMemory, Text};
+use std::alloc::Global;
+
+/// A counter.
+pub fn counter(alloc: Global, k: u32) -> Result<CPlace, NoMemory>
+    ensures { IfOk result (λ place. place ≡ names.counter_place k) }
+{
+    member(alloc, "f", numbered(alloc, "c", k)?)
+}
+
+/// What it held when the tick began.
+pub fn rested(alloc: Global, k: u32) -> Result<CPlace, NoMemory>
+    ensures { IfOk result (λ place. place ≡ names.rested_place k) }
+{
+    Ok(whole(alloc, false, numbered(alloc, "w", k)?))
+}
+
+/// The flag of the node with this number.
+pub fn flag(alloc: Global, k: u32) -> Result<CPlace, NoMemory>
+    ensures { IfOk result (λ place. place ≡ names.flag_place k) }
+{
+    Ok(whole(alloc, false, numbered(alloc, "g", k)?))
+}
+
+/// The mark of the `cobegin` or `when` that begins at the node with this number.
+pub fn mark(alloc: Global, k: u32) -> Result<CPlace, NoMemory>
+    ensures { IfOk result (λ place. place ≡ names.mark_place k) }
+{
+    Ok(whole(alloc, false, numbered(alloc, "u", k)?))
+}
+
+/// Whether the body has ended: the caller's variable.
+pub fn over(alloc: Global) -> Result<CPlace, NoMemory>
+    ensures { IfOk result (λ place. place ≡ names.over_place) }
+{
+    Ok(whole(alloc, true, Text::copy_of(alloc, "e")?))
+}
+
+/// The result: the caller's variable.
+pub fn returned(alloc: Global) -> Result<CPlace, NoMemory>
+    ensures { IfOk result (λ place. place ≡ names.result_place) }
+{
+    Ok(whole(alloc, true, Text::copy_of(alloc, "r")?))
+}
+
+/// Whether the body of the activity that a `run` calls has ended, by the number of the node at which the `run` begins.
+pub fn ended(alloc: Global, k: u32) -> Result<CPlace, NoMemory>
+    ensures { IfOk result (λ place. place ≡ names.ended_place k) }
+{
+    Ok(whole(alloc, false, numbered(alloc, "e", k)?))
+}
+
+/// Its result.
+pub fn given(alloc: Global, k: u32) -> Result<CPlace, NoMemory>
+    ensures { IfOk result (λ place. place ≡ names.given_place k) }
+{
+    Ok(whole(alloc, false, numbered(alloc, "r", k)?))
+}
+
+/// Where the activity that a `run` calls rests.
+pub fn callee_frame(alloc: Global, k: u32) -> Result<CPlace, NoMemory>
+    ensures { IfOk result (λ place. place ≡ names.callee_frame k) }
+{
+    member(alloc, "f", numbered(alloc, "x", k)?)
+}
+
+/// What it remembers.
+pub fn callee_memory(alloc: Global, k: u32) -> Result<CPlace, NoMemory>
+    ensures { IfOk result (λ place. place ≡ names.callee_memory k) }
+{
+    member(alloc, "m", numbered(alloc, "x", k)?)
+}

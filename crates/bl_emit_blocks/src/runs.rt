@@ -1,0 +1,215 @@
+//! What a `run` does at a node.
+
+ghost use Rattle.std.specs.Prelude.{◌≡◌, ◌++◌, ◌∷◌, IfOk, map, option_map, slice_get};
+ghost use Rattle.bl_tree.specs.declared.c.CArg.TheVariants.{Address};
+ghost use Rattle.bl_emit_acts.specs.Acts.{c_calling, name_of_callee, output_arg};
+ghost use Rattle.bl_emit_acts.specs.Expressions.{arg_of, made_of};
+ghost use Rattle.bl_emit_acts.specs.Sites.{site_in};
+ghost use Rattle.bl_emit_acts.specs.Trees.{c_call};
+ghost use Rattle.bl_emit_blocks.specs.Numbered as numbered;
+ghost use Rattle.bl_emit_blocks.specs.Views.{view_in};
+ghost use Rattle.bl_emit_pass.specs.Blocks as blocks;
+ghost use Rattle.bl_emit_pass.specs.Names as names;
+ghost use Rattle.bl_pass_listed.specs.Told.{arguments_in};
+
+use crate::changes::changes;
+use crate::parts::{choice, clear, joined, prefixed, read, set, single, statement, truth};
+use crate::places::{callee_frame, callee_memory, ended, given};
+use crate::view::View;
+use bl_emit_acts::{Made, Site, expression, place};
+use bl_pass_listed::{Change, Run};
+use bl_tree::c::{CArg, CCall, CPlace, CStmt, CStmtKind};
+use bl_tree::slices::element;
+use bl_tree::tree::{Expr, Path};
+use bl_tree::{List, NoMemory, Text};
+use std::alloc::Global;
+
+// ---- the activity that is called
+
+/// Whether it has a result.
+fn has_result(view: &View, a: u32) -> bool
+    ensures { result ≡ blocks.has_result (slice_get (view_in view.entry.now).site.earlier a) }
+{
+    match element(view.site.earlier, a as usize) {
+        Some(unit) => unit.result.is_some(),
+        None => false,
+    }
+}
+
+/// Whether it remembers variables.
+fn remembers(view: &View, a: u32) -> bool
+    ensures { result ≡ (view_in view.entry.now).remembers a }
+{
+    match element(view.remembers, a as usize) {
+        Some(remembers) => *remembers,
+        None => false,
+    }
+}
+
+/// The name of its function.
+fn callee(alloc: Global, view: &View, a: u32) -> Result<Text, NoMemory>
+    ensures { IfOk result (λ name. name ≡ name_of_callee (slice_get (view_in view.entry.now).site.earlier a)) }
+{
+    match element(view.site.earlier, a as usize) {
+        Some(unit) => prefixed(alloc, "a_", unit.name.as_str()),
+        None => prefixed(alloc, "a_", ""),
+    }
+}
+
+/// The name of the struct of where it rests.
+fn frame(alloc: Global, view: &View, a: u32) -> Result<Text, NoMemory>
+    ensures { IfOk result (λ name. name ≡ names.frame_name (blocks.name_in (slice_get (view_in view.entry.now).site.earlier a))) }
+{
+    match element(view.site.earlier, a as usize) {
+        Some(unit) => prefixed(alloc, "f_", unit.name.as_str()),
+        None => prefixed(alloc, "f_", ""),
+    }
+}
+
+// ---- arguments
+
+/// Arguments, and behind them that of a place, where the test is true.
+fn with_address(args: List<CArg>, test: bool, place: CPlace) -> Result<List<CArg>, NoMemory>
+    ensures { IfOk result (λ all. all ≡ args ++ blocks.arg_where test (Address place)) }
+{
+    let mut all = args;
+    if test {
+        all.push(CArg::Address(place))?;
+    }
+    Ok(all)
+}
+
+fn argument(made: Made) -> CArg
+    ensures { result ≡ arg_of made }
+{
+    match made {
+        Made::Number(_, code) => CArg::Value(code),
+        Made::Whole(place) => CArg::Address(place),
+    }
+}
+
+/// Arguments, and behind them those for inputs.
+fn with_inputs(
+    alloc: Global,
+    args: List<CArg>,
+    site: &Site,
+    inputs: &[Expr],
+) -> Result<List<CArg>, NoMemory>
+    ensures { IfOk result (λ all. all ≡ args ++ map arg_of (map (made_of (site_in site.entry.now)) inputs.now)) }
+{
+    let mut all = args;
+    for e in inputs {
+        all.push(argument(expression(alloc, site, e)?))?;
+    }
+    Ok(all)
+}
+
+/// Arguments, and behind them those for outputs.
+fn with_outputs(
+    alloc: Global,
+    args: List<CArg>,
+    site: &Site,
+    outputs: &[Path],
+) -> Result<List<CArg>, NoMemory>
+    ensures { IfOk result (λ all. all ≡ args ++ map (output_arg (site_in site.entry.now)) outputs.now) }
+{
+    let mut all = args;
+    for path in outputs {
+        all.push(CArg::Address(place(alloc, site, path)?))?;
+    }
+    Ok(all)
+}
+
+/// Where the activity rests, and what it remembers.
+fn first_args(alloc: Global, view: &View, run: &Run) -> Result<List<CArg>, NoMemory>
+    ensures { IfOk result (λ args. args ≡ Address (names.callee_frame run.entry.now.begins)
+        ∷ blocks.arg_where ((view_in view.entry.now).remembers run.entry.now.unit) (Address (names.callee_memory run.entry.now.begins))) }
+{
+    let mut args = List::new(alloc);
+    args.push(CArg::Address(callee_frame(alloc, run.begins)?))?;
+    let memory = callee_memory(alloc, run.begins)?;
+    with_address(args, remembers(view, run.unit), memory)
+}
+
+/// The arguments of the call of an activity.
+fn run_args(alloc: Global, view: &View, run: &Run) -> Result<List<CArg>, NoMemory>
+    ensures { IfOk result (λ args. args
+        ≡ blocks.run_args (view_in view.entry.now) run.entry.now.begins run.entry.now.unit (arguments_in run.entry.now)) }
+{
+    let args = first_args(alloc, view, run)?;
+    let args = with_inputs(alloc, args, &view.site, run.inputs)?;
+    let args = with_outputs(alloc, args, &view.site, run.outputs)?;
+    let result = given(alloc, run.begins)?;
+    let args = with_address(args, has_result(view, run.unit), result)?;
+    with_address(args, true, ended(alloc, run.begins)?)
+}
+
+// ---- calls
+
+/// The call of an activity.
+fn called(alloc: Global, view: &View, run: &Run) -> Result<CStmt, NoMemory>
+    ensures { IfOk result (λ s. s ≡ c_calling (c_call (name_of_callee (slice_get (view_in view.entry.now).site.earlier run.entry.now.unit))
+        (blocks.run_args (view_in view.entry.now) run.entry.now.begins run.entry.now.unit (arguments_in run.entry.now)))) }
+{
+    let name = callee(alloc, view, run.unit)?;
+    let args = run_args(alloc, view, run)?;
+    Ok(statement(CStmtKind::Call(CCall { name, args })))
+}
+
+/// The call, before which the activity hasn't ended.
+fn run_code(alloc: Global, view: &View, run: &Run) -> Result<List<CStmt>, NoMemory>
+    ensures { IfOk result (λ code. code
+        ≡ blocks.run_code (view_in view.entry.now) run.entry.now.begins run.entry.now.unit (arguments_in run.entry.now)) }
+{
+    let going = set(alloc, ended(alloc, run.begins)?, truth(false))?;
+    let mut code = single(alloc, going)?;
+    code.push(called(alloc, view, run)?)?;
+    Ok(code)
+}
+
+/// The target gets the result.
+fn target_code(
+    alloc: Global,
+    view: &View,
+    k: u32,
+    target: Option<&Path>,
+) -> Result<List<CStmt>, NoMemory>
+    ensures { IfOk result (λ code. code
+        ≡ blocks.target_code (view_in view.entry.now) k (option_map (λ path. path.now) target.entry)) }
+{
+    match target {
+        Some(path) => {
+            let at = place(alloc, &view.site, path)?;
+            single(alloc, set(alloc, at, read(given(alloc, k)?))?)
+        }
+        None => Ok(List::new(alloc)),
+    }
+}
+
+/// What a `run` does where it begins.
+pub fn begun(alloc: Global, view: &View, run: &Run, so: &[Change]) -> Result<List<CStmt>, NoMemory>
+    ensures { IfOk result (λ code. code
+        ≡ numbered.numbered_begun (view_in view.entry.now) run.entry.now.begins run.entry.now.unit (arguments_in run.entry.now) so.now) }
+{
+    let at = callee_frame(alloc, run.begins)?;
+    let start = single(alloc, clear(alloc, at, frame(alloc, view, run.unit)?)?)?;
+    let rest = joined(run_code(alloc, view, run)?, changes(alloc, view, so)?)?;
+    joined(start, rest)
+}
+
+/// What it does where it goes on.
+pub fn resumed(
+    alloc: Global,
+    view: &View,
+    run: &Run,
+    so: &[Change],
+) -> Result<List<CStmt>, NoMemory>
+    ensures { IfOk result (λ code. code
+        ≡ numbered.numbered_resumed (view_in view.entry.now) run.entry.now.begins run.entry.now.unit (arguments_in run.entry.now) so.now) }
+{
+    let call = run_code(alloc, view, run)?;
+    let target = target_code(alloc, view, run.begins, run.target)?;
+    let then = joined(target, changes(alloc, view, so)?)?;
+    let test = read(ended(alloc, run.begins)?);
+    joined(call, single(alloc, choice(alloc, test, then, None)?)?)
+}

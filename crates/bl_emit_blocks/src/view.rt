@@ -1,0 +1,18 @@
+//! What blocks see of an activity.
+
+use bl_emit_acts::Site;
+
+/// An activity as its blocks see it.
+#[derive(Clone, Copy)]
+pub struct View<'a> {
+    /// What its statements see.
+    pub site: Site<'a>,
+    /// Which of its variables have a copy of what they were when the tick began.
+    pub copies: &'a [bool],
+    /// How many values its counters have.
+    pub sizes: &'a [u32],
+    /// Which counters have a copy of what they held when the tick began.
+    pub read: &'a [bool],
+    /// Which units before it, activities, remember variables.
+    pub remembers: &'a [bool],
+}

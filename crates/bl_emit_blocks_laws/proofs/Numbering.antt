@@ -1,0 +1,120 @@
+-- What asks, is done and changes at a node is the same by its number.
+use Rattle.std.proofs.Common.{◌≡◌, ℕ, List, [], ◌∷◌, ◌++◌, None, map, refl, ap, ◌∙◌}
+use Rattle.std.specs.Prelude.{slice_get}
+use Rattle.bl_tree.specs.declared.c.CExpr.{CExpr}
+use Rattle.bl_tree.specs.declared.c.CStmt.{CStmt}
+use Rattle.bl_tree.specs.declared.tree.Expr.{Expr}
+use Rattle.bl_nodes.specs.Nodes.{
+  ActAt,
+  Arguments,
+  CheckAt,
+  DepthEndAt,
+  DepthJoinAt,
+  EnterAt,
+  ForkAt,
+  HeadAt,
+  Node,
+  PauseAt,
+  ResumeAt,
+  StartAt,
+  SurfaceEndAt,
+  SurfaceJoinAt,
+  TestAt,
+}
+use Rattle.bl_nodes.specs.Plain.{plain_body}
+use Rattle.bl_emit_acts.specs.Acts.{c_clear, code_made}
+use Rattle.bl_emit_acts.specs.Trees.{c_read}
+use Rattle.bl_emit_functions.specs.Statements.{else_code}
+use Rattle.bl_emit_functions.specs.Trees.{c_if}
+use Rattle.bl_pass.specs.Rules as nodes
+use Rattle.bl_pass.specs.Rules.{Ended, Ends, Finishes, Flagged, Flags, Forgets, Frees, Holds, IsNew, IsOld, Marks, Rested, RestedIn, Whatever}
+use Rattle.bl_pass.specs.Numbered.{slots_of}
+use Rattle.bl_pass_listed.specs.Callees.{callees_in}
+use Rattle.bl_pass_listed_laws.specs.Laws.{RulesAreListed}
+use Rattle.bl_pass_listed.specs.Told.{all_told, task_at, told, told_asked, told_change}
+use Rattle.bl_emit_pass.specs.Blocks.{View, acted, block_code, blocks_code, change_code, changes_code, guard_of, name_in, node_code, run_code}
+use Rattle.bl_emit_pass.specs.Blocks.{target_code}
+use Rattle.bl_emit_pass.specs.Names.{callee_frame, ended_place, frame_name}
+use Rattle.bl_emit_blocks.specs.Numbered.{numbered_block, numbered_change, numbered_changes, numbered_guard, numbered_task}
+use Rattle.bl_emit_blocks_laws.specs.Laws.{BlocksAreNumbered, BodiesAreNumbered}
+
+module _ (view : View) where
+  change_is : (change : nodes.Change) → change_code view change ≡ numbered_change view (told_change view.number change)
+  change_is (Flags n) = refl
+  change_is (Holds slot) = refl
+  change_is (Frees k) = refl
+  change_is (Forgets k) = refl
+  change_is (Marks n) = refl
+  change_is (Ends start surface depth) = refl
+  change_is Finishes = refl
+
+  changes_are : (changes : List nodes.Change) → changes_code view changes ≡ numbered_changes view (map (told_change view.number) changes)
+  changes_are [] = refl
+  changes_are (change ∷ rest) =
+      ap (λ xs. xs ++ changes_code view rest) (change_is change)
+      ∙ ap (λ xs. numbered_change view (told_change view.number change) ++ xs) (changes_are rest)
+
+  guard_is : (n : Node) (asked : nodes.Asked) → guard_of view n asked ≡ numbered_guard view (view.number n) (told_asked view.number asked)
+  guard_is n Flagged = refl
+  guard_is n (Rested slot) = refl
+  guard_is n (RestedIn slots) = refl
+  guard_is n (Ended (IsNew m) needed) = refl
+  guard_is n (Ended (IsOld m) needed) = refl
+  guard_is n (Ended Whatever needed) = refl
+
+  -- a test, by what changes where it is true and where it is false
+  abbrev test_with : CExpr → List CStmt → List CStmt → List CStmt
+  test_with test so otherwise = c_if test so (else_code otherwise) ∷ []
+
+  test_is : (e : Expr) (so to otherwise other : List CStmt) → so ≡ to → otherwise ≡ other →
+      test_with (code_made view.site e) so otherwise ≡ test_with (code_made view.site e) to other
+  test_is e so to otherwise other one two =
+      ap (λ x. test_with (code_made view.site e) x otherwise) one ∙ ap (λ x. test_with (code_made view.site e) to x) two
+
+  -- a `run` that begins, and one that goes on, by what changes then
+  abbrev begun_with : ℕ → ℕ → Arguments → List CStmt → List CStmt
+  begun_with unit k arguments so =
+      c_clear (callee_frame k) (frame_name (name_in (slice_get view.site.earlier unit))) ∷ (run_code view k unit arguments ++ so)
+
+  abbrev resumed_with : ℕ → ℕ → Arguments → List CStmt → List CStmt
+  resumed_with unit k arguments so =
+      run_code view k unit arguments ++ c_if (c_read (ended_place k)) (target_code view k arguments.target ++ so) None ∷ []
+
+  node_is : (unit : ℕ) (rule : nodes.Rule) (n : Node) →
+      node_code view unit rule n ≡ numbered_task view (told view.number unit rule) (task_at view.number unit n)
+  node_is unit rule (ActAt l s) = ap (λ xs. acted view s ++ xs) (changes_are rule.so)
+  node_is unit rule (TestAt l at e) = test_is e _ _ _ _ (changes_are rule.so) (changes_are rule.otherwise)
+  node_is unit rule (CheckAt l at e) = test_is e _ _ _ _ (changes_are rule.so) (changes_are rule.otherwise)
+  node_is unit rule (EnterAt l at arguments) = ap (begun_with unit (view.number (EnterAt l at arguments)) arguments) (changes_are rule.so)
+  node_is unit rule (ResumeAt l at arguments) = ap (resumed_with unit (view.number (EnterAt l at arguments)) arguments) (changes_are rule.so)
+  node_is unit rule (PauseAt l at) = changes_are rule.so
+  node_is unit rule (HeadAt l at) = changes_are rule.so
+  node_is unit rule (StartAt l at) = changes_are rule.so
+  node_is unit rule (SurfaceEndAt l at) = changes_are rule.so
+  node_is unit rule (DepthEndAt l at) = changes_are rule.so
+  node_is unit rule (ForkAt l at) = changes_are rule.so
+  node_is unit rule (SurfaceJoinAt l at) = changes_are rule.so
+  node_is unit rule (DepthJoinAt l at) = changes_are rule.so
+
+  block_is : (unit : ℕ) (rule : nodes.Rule) → block_code view unit rule ≡ numbered_block view (told view.number unit rule)
+  block_is unit rule =
+      ap (λ guard. c_if guard (node_code view unit rule rule.node) None) (guard_is rule.node rule.asked)
+      ∙ ap (λ body. c_if (numbered_guard view (view.number rule.node) (told_asked view.number rule.asked)) body None) (node_is unit rule rule.node)
+
+  blocks_are : (units : List ℕ) (rules : List nodes.Rule) →
+      blocks_code view units rules ≡ map (numbered_block view) (all_told view.number units rules)
+  blocks_are [] rules = refl
+  blocks_are (unit ∷ units) [] = refl
+  blocks_are (unit ∷ units) (rule ∷ rules) =
+      ap (λ x. x ∷ blocks_code view units rules) (block_is unit rule)
+      ∙ ap (λ xs. numbered_block view (told view.number unit rule) ∷ xs) (blocks_are units rules)
+
+pub blocks_are_numbered : BlocksAreNumbered
+blocks_are_numbered = record { one = block_is; all = blocks_are }
+
+pub bodies_are_numbered : BlocksAreNumbered → RulesAreListed → BodiesAreNumbered
+bodies_are_numbered blocks listed view body order list number =
+    blocks.all view (callees_in (plain_body body)) (nodes.rules (slots_of (plain_body body) list) (plain_body body))
+    ∙ ap (λ (of : Node → ℕ). map (numbered_block view)
+    (all_told of (callees_in (plain_body body)) (nodes.rules (slots_of (plain_body body) list) (plain_body body)))) number
+    ∙ ap (map (numbered_block view)) (listed.told body order list)

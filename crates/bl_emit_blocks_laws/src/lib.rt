@@ -1,0 +1,20 @@
+//! The C of blocks by numbers is that of the nodes that have these numbers (`specs/Laws.antt`, `BlocksAreNumbered`); so the blocks of a
+//! body are those of its list of rules (`BodiesAreNumbered`). There is no code here.
+#![tactic(auto)]
+
+ghost use Rattle.bl_emit_blocks_laws.specs.Laws.{BlocksAreNumbered, BodiesAreNumbered};
+
+use bl_pass_listed_laws::rules_are_listed;
+
+/// The C of a rule by numbers is that of the rule of a node which tells it.
+pub fn blocks_are_numbered()
+    ensures { BlocksAreNumbered }
+{}
+
+/// The blocks of a body are those of its list of rules.
+pub fn bodies_are_numbered()
+    ensures { BodiesAreNumbered }
+{
+    blocks_are_numbered();
+    rules_are_listed();
+}

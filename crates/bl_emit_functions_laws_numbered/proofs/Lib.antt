@@ -1,0 +1,3 @@
+pub mod Counts
+pub mod Scalars
+pub mod Whole

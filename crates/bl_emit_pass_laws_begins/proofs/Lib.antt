@@ -1,0 +1,17 @@
+pub mod Begins
+pub mod Callees
+pub mod Cells
+pub mod Evaluated
+pub mod Given
+pub mod Holders
+pub mod Homes
+pub mod Lists
+pub mod Members
+pub mod Params
+pub mod Places
+pub mod Pointers
+pub mod Setting
+pub mod Standing
+pub mod Start
+pub mod Statements
+pub mod Variables

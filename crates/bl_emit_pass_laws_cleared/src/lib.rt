@@ -1,0 +1,12 @@
+//! What the start of a `run` clears. There is no code here. The law, as the contract of a function that does nothing
+//! (`specs/Laws.antt`): in every program each instance that a `run` began is what its caller finds at the place of the `run`, since no
+//! two instances have both one caller and one place; so what is cleared as an instance begins lies inside that instance
+//! (`ClearingIsInside`).
+#![tactic(auto)]
+
+ghost use Rattle.bl_emit_pass_laws_cleared.specs.Laws.{ClearingIsInside};
+
+/// What is cleared as an instance begins lies inside it.
+pub fn clearing_is_inside()
+    ensures { ClearingIsInside }
+{}

@@ -1,0 +1,3 @@
+pub mod Injective
+pub mod Marks
+pub mod Whole

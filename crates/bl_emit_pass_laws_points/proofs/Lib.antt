@@ -1,0 +1,17 @@
+mod ActBlocks
+mod ActNodes
+mod Apart
+mod Besides
+mod Bodies
+mod Cells
+mod Changes
+mod Choices
+mod Foreign
+mod Points
+mod Quiet
+mod Results
+mod ReturnBlocks
+mod Returned
+mod Sets
+mod Silent
+mod Tests

@@ -1,0 +1,4 @@
+pub mod Acts
+pub mod Laws
+pub mod Nodes
+pub mod Points

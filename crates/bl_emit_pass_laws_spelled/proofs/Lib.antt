@@ -1,0 +1,3 @@
+pub mod Guards
+pub mod Nodes
+pub mod Whole

@@ -1,0 +1,3 @@
+mod Leaving
+mod Outputs
+mod Remembered

@@ -1,0 +1,2 @@
+mod GrowLemmas
+mod SetLemmas

@@ -1,0 +1,5 @@
+mod ExprMade
+mod Only
+mod ExprRoots
+mod Statements
+mod Program

@@ -1,0 +1,56 @@
+-- What a part of a body declares for those that follow it, and whether each variable that it names is declared before: in its block
+-- or in one around it.
+use Rattle.std.specs.Prelude.{ℕ, suc, zero, Bool, true, ◌&&◌, nat_eq, List, [], ◌∷◌, ◌++◌}
+use Rattle.std.specs.List.{list_all, list_any}
+use Rattle.bl_tree.specs.Apart.{Roots}
+
+-- whether a variable is among the known ones
+abbrev pub is_known : Roots → ℕ → Bool
+is_known known k = list_any (nat_eq k) known
+
+-- whether all of these variables are
+abbrev pub are_known : Roots → Roots → Bool
+are_known known ks = list_all (is_known known) ks
+
+-- so many variables, from the first on
+abbrev pub first_ones : ℕ → Roots
+first_ones zero = []
+first_ones (suc n) = n ∷ first_ones n
+
+-- the variables that a part declares for what follows it, and whether it names known ones alone, where these are known before it
+pub record Scoped : Type 0 where
+  pub declared : Roots
+  pub stands : Roots → Bool
+
+-- whether parts one after another name known variables alone: each knows what those before it declare
+abbrev pub in_turn : List Scoped → Roots → Bool
+in_turn [] known = true
+in_turn (part ∷ rest) known = part.stands known && in_turn rest (part.declared ++ known)
+
+-- whether each of these parts does, where none knows what another declares
+abbrev pub every : List Scoped → Roots → Bool
+every parts known = list_all (λ (part : Scoped). part.stands known) parts
+
+-- what declares nothing and names these variables
+abbrev pub naming : Roots → Scoped
+naming roots = record { declared = []; stands = λ known. are_known known roots }
+
+-- the declaration of a variable, whose initial value names these
+abbrev pub declaring : ℕ → Roots → Scoped
+declaring k roots = record { declared = k ∷ []; stands = λ known. are_known known roots }
+
+-- a block
+abbrev pub block : List Scoped → Scoped
+block body = record { declared = []; stands = in_turn body }
+
+-- a block, and an expression beside it that names these variables: it knows what is around the block
+abbrev pub beside : Roots → List Scoped → Scoped
+beside roots body = record { declared = []; stands = λ known. are_known known roots && in_turn body known }
+
+-- branches beside one another
+abbrev pub branches : List Scoped → Scoped
+branches parts = record { declared = []; stands = every parts }
+
+-- the arms of an `if` and its `else` block
+abbrev pub choice : List Scoped → List Scoped → Scoped
+choice arms other = record { declared = []; stands = λ known. every arms known && in_turn other known }

@@ -1,0 +1,4 @@
+pub mod Asks
+pub mod Fresh
+pub mod Laws
+pub mod Senses

@@ -1,0 +1,7 @@
+pub mod Listing
+pub mod Loops
+pub mod Once
+pub mod Ranking
+pub mod Seen
+pub mod Statements
+pub mod Whole

@@ -1,0 +1,4 @@
+pub mod Callees
+pub mod Listed
+pub mod Told
+pub mod inner

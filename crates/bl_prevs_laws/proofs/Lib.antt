@@ -1,0 +1,4 @@
+mod Alone
+mod Expressions
+mod Statements
+mod Program

@@ -1,0 +1,46 @@
+-- A drive before anything of it is written, and then what was written of it.
+use Rattle.std.specs.Prelude.{◌≡◌, ◌⊎◌, ℕ, [], List, Result}
+use Rattle.bl_cmeaning.specs.Cells.{outputs_of}
+use Rattle.bl_cmeaning.specs.Parts.{Parts}
+use Rattle.bl_cmeaning_laws_places.specs.Behaviour.{behaviour_of}
+use Rattle.bl_drive.specs.declared.driven.Driven.{Driven}
+use Rattle.bl_drive.specs.declared.fault.DriveFault.{DriveFault}
+use Rattle.bl_drive_run.specs.Reports.{IsDriven, IsReportOf}
+use Rattle.bl_drive_run.specs.declared.report.Report.{Report}
+use Rattle.bl_io.specs.Held.{Appends, AppendsPart}
+use Rattle.bl_top.specs.Calls.{HasRisen, Output}
+use Rattle.bl_top.specs.Drive.{Plants, setting_of, status_at}
+use Rattle.bl_top.specs.Traces.{OneTrace}
+use Rattle.bl_top.specs.declared.answer.Answer.{Answer}
+use Rattle.bl_top.specs.declared.status.Status.TheVariants as status
+use Rattle.bl_tree.specs.declared.tree.StructDef.{StructDef}
+use Rattle.bl_tree.specs.declared.tree.Unit.{Unit as UnitDef}
+
+-- a C file with the one trace of a program was driven against the plants
+pub record Drives (structs : List StructDef) (units : List UnitDef) (entry : ℕ) (plants : Plants) (ticks : ℕ) (names : List ℕ)
+    (parts : Parts) (driven : Driven) (how : Result (Unit {0}) DriveFault) : Type 0 where
+  pub one_trace : OneTrace structs units entry (behaviour_of parts)
+  pub is_driven : IsDriven (setting_of parts plants.before ticks names) plants.after driven how
+
+-- and this is told of it
+pub record TellsReport (structs : List StructDef) (units : List UnitDef) (entry : ℕ) (plants : Plants) (ticks : ℕ) (names : List ℕ)
+    (report : Report) : Type 0 where
+  pub parts : Parts
+  pub driven : Driven
+  pub how : Result (Unit {0}) DriveFault
+  pub drives : Drives structs units entry plants ticks names parts driven how
+  pub tells : IsReportOf (outputs_of parts) driven how report
+
+-- it was driven, or the plants were kept
+abbrev pub MayHaveDriven : List StructDef → List UnitDef → ℕ → Plants → ℕ → List ℕ → Type 0
+MayHaveDriven structs units entry plants ticks names = (plants.after ≡ plants.before)
+    ⊎ ((parts : Parts) × ((driven : Driven) × ((how : Result (Unit {0}) DriveFault) × Drives structs units entry plants ticks names parts driven how)))
+
+-- what was written of what is told, and the answer
+pub data WritesReport (report : Report) (out : Output) (answer : Answer) : Type 0 where
+  wrote : Appends out.before report.text.items out.after → answer.told.items ≡ report.told.items →
+      answer.outcome.status ≡ status_at report.end → answer.outcome.line.items ≡ report.line.items → WritesReport report out answer
+  failed : AppendsPart out.before report.text.items out.after → HasRisen out.faults → answer.told.items ≡ [] →
+      answer.outcome.status ≡ status.WriteFault → WritesReport report out answer
+  refused : AppendsPart out.before report.text.items out.after → answer.told.items ≡ [] → answer.outcome.status ≡ status.NoMemory →
+      WritesReport report out answer

@@ -1,0 +1,115 @@
+//! The command `drive P TICKS PLANT..`.
+
+ghost use Rattle.std.specs.Prelude.{◌≡◌, ◌≤◌, map, true, IfErr, IfOk, Some};
+ghost use Rattle.bl_early.specs.Form.{is_early};
+ghost use Rattle.bl_io.specs.Count.{NeverFell};
+ghost use Rattle.bl_top.specs.Calls.{Output};
+ghost use Rattle.bl_top.specs.Drive.{DriveEnds, status_at};
+ghost use Rattle.bl_top.specs.inner.Driven.{MayHaveDriven, TellsReport, WritesReport};
+ghost use Rattle.bl_top.specs.inner.Outcomes.{lines_in};
+ghost use Rattle.bl_top.specs.Reads.{Reads, files_read};
+ghost use Rattle.bl_words.specs.Jobs.{drive};
+
+use crate::answer::Answer;
+use crate::outcome::Outcome;
+use crate::run::runner_of;
+use crate::source::program_of;
+use crate::status::Status;
+use bl_drive_run::{End, Report, run};
+use bl_io::{Files, IoFault, Sink, write_all};
+use bl_plant::Plant;
+use bl_tree::{NoMemory, Program};
+use std::alloc::Global;
+
+/// Drives the source file of this name against the plants that the numbers name, for so many ticks, and writes the trace. What
+/// it shows is written once it was driven.
+pub fn drive<F: Files, O: Sink>(
+    alloc: Global,
+    source: &str,
+    ticks: u32,
+    names: &[u32],
+    files: &mut F,
+    out: &mut O,
+    plants: &mut Vec<Box<dyn Plant>>,
+) -> Answer
+    ensures ends { (notes : Output) → DriveEnds (record {
+      left = F.left files.old;
+      rest = F.left files.new;
+      file = λ name. record { before = F.faults files.old name; after = F.faults files.new name };
+      out = record {
+        faults = record { before = O.faults out.old; after = O.faults out.new };
+        before = O.held out.old;
+        after = O.held out.new;
+      };
+      notes = notes;
+    }) (record { before = map (λ b. shown b) plants.old.items; after = map (λ b. shown b) plants.new.items })
+        source.now ticks names.now result.outcome.status (lines_in result) }
+    ensures reads { Reads (files_read (Some (drive source.now ticks names.now))) (F.left files.old) (F.left files.new) }
+    ensures file_counts { NeverFell (F.faults files.old) (F.faults files.new) }
+    ensures out_count { O.faults out.old ≤ O.faults out.new }
+{
+    let accepted = match program_of(alloc, source, files) {
+        Ok(accepted) => accepted,
+        Err(outcome) => return Answer::alone(alloc, outcome),
+    };
+    match report_of(alloc, accepted.program(), ticks, names, plants) {
+        Ok(report) => write_report(alloc, report, out),
+        Err(_) => Answer::alone(alloc, Outcome::plain(alloc, Status::NoMemory)),
+    }
+}
+
+/// Drives the C file of a program of the form, and tells what came of it.
+fn report_of(
+    alloc: Global,
+    program: &Program,
+    ticks: u32,
+    names: &[u32],
+    plants: &mut Vec<Box<dyn Plant>>,
+) -> Result<Report, NoMemory>
+    requires { is_early program.now.structs program.now.units ≡ true }
+    ensures report { IfOk result (TellsReport program.now.structs program.now.units program.now.entry
+        (record { before = map (λ b. shown b) plants.old.items; after = map (λ b. shown b) plants.new.items }) ticks names.now) }
+    ensures left { IfErr result (λ e. MayHaveDriven program.now.structs program.now.units program.now.entry
+        (record { before = map (λ b. shown b) plants.old.items; after = map (λ b. shown b) plants.new.items }) ticks names.now) }
+{
+    match runner_of(alloc, program) {
+        Ok(runner) => run(alloc, runner, plants, names, ticks),
+        Err(error) => Err(error),
+    }
+}
+
+/// Writes what a drive shows. The lines of the plants that have finished are for `notes`.
+fn write_report<O: Sink>(alloc: Global, report: Report, out: &mut O) -> Answer
+    ensures writes { WritesReport report
+        (record {
+          faults = record { before = O.faults out.old; after = O.faults out.new };
+          before = O.held out.old;
+          after = O.held out.new;
+        }) result }
+    ensures out_count { O.faults out.old ≤ O.faults out.new }
+{
+    match write_all(out, report.text.as_slice()) {
+        Ok(()) => Answer {
+            outcome: Outcome {
+                status: status_at(report.end),
+                line: report.line,
+            },
+            told: report.told,
+        },
+        Err(IoFault::Failed) => Answer::alone(alloc, Outcome::plain(alloc, Status::WriteFault)),
+        Err(IoFault::NoMemory) => Answer::alone(alloc, Outcome::plain(alloc, Status::NoMemory)),
+    }
+}
+
+/// The status of a drive that ended so.
+fn status_at(end: End) -> Status
+    ensures { result ≡ status_at end }
+{
+    match end {
+        End::Done => Status::Ok,
+        End::Trapped => Status::Trapped,
+        End::PlantFault => Status::PlantFault,
+        End::PlantShape => Status::PlantShape,
+        End::NoMemory => Status::NoMemory,
+    }
+}

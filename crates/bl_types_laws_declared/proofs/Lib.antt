@@ -1,0 +1,4 @@
+mod Leaves
+mod Statements
+mod Units
+mod Program
