@@ -38,7 +38,6 @@ use Rattle.bl_eval.specs.Values.{value_at}
 use Rattle.bl_eval.proofs.OperatorFits.{scalar_alone, some_found, where_holds}
 use Rattle.bl_eval.proofs.PassLemmas.{and_left, and_right, both, get_front, get_seam}
 use Rattle.bl_cmeaning.specs.Memory.{CValue, Location, Memory}
-use Rattle.bl_cmeaning.specs.Memory as memory
 use Rattle.bl_cmeaning.specs.Meaning.{Passed, Scope, by_address, by_value, location_c, value_c}
 use Rattle.bl_emit_acts.specs.declared.made.Made.{Made}
 use Rattle.bl_emit_acts.specs.declared.made.Made.TheVariants.{Number, Whole}

@@ -1,5 +1,5 @@
-mod Arguments
-mod Evaluated
+pub mod Arguments
+pub mod Evaluated
 mod Expressions
 mod Names
 mod Numbers
@@ -24,3 +24,4 @@ mod Outputs
 mod WholeActs
 mod Frames
 mod Begun
+pub mod Passing

@@ -1,4 +1,5 @@
 pub mod Acts
+pub mod Arguments
 pub mod Frames
 pub mod Holds
 pub mod Laws

@@ -5,13 +5,15 @@
 //! what the program's put leaves (`specs/Laws.antt`, `WritesHold`). Where no output of a call overlaps another or an
 //! aggregate input, the C of an act traps exactly where the act traps; else it goes on, the memory after it has the values
 //! after the act, and all numbers are as they were that belong to no variable that may be written and to no copy of one
-//! (`specs/Acts.antt`, `Comes` and `LeftIn`; `specs/Laws.antt`, `ActsCome`). The C that sets copies as a tick begins leaves
-//! in each what its variable has (`CopiesBegin`). The laws ask that earlier functions do in C what they do in the program
-//! (`FunctionsAgree`, `ProceduresAgree`), and that what may be written has nothing in common with other variables and copies
-//! (`VariablesApart`, `CopiesApart`), which holds where the unit's pointers lead to what keeps apart (`specs/Frames.antt`,
-//! `PointersStand`; `FramesApart`).
+//! (`specs/Acts.antt`, `Comes` and `LeftIn`; `specs/Laws.antt`, `ActsCome`). The arguments of a call, whichever function it
+//! calls, pass its inputs' values and the places to which its outputs' paths lead, which keep apart (`specs/Arguments.antt`,
+//! `ArgumentsPass`). The C that sets copies as a tick begins leaves in each what its variable has (`CopiesBegin`). The laws
+//! ask that earlier functions do in C what they do in the program (`FunctionsAgree`, `ProceduresAgree`), and that what may be
+//! written has nothing in common with other variables and copies (`VariablesApart`, `CopiesApart`), which holds where the
+//! unit's pointers lead to what keeps apart (`specs/Frames.antt`, `PointersStand`; `FramesApart`).
 #![tactic(auto)]
 
+ghost use Rattle.bl_emit_acts_laws.specs.Arguments.{ArgumentsPass};
 ghost use Rattle.bl_emit_acts_laws.specs.Laws.{ActsCome, CopiesBegin, ExpressionsShow, FramesApart, PlacesLead, WritesHold};
 
 use bl_tree::Program;
@@ -34,6 +36,11 @@ pub fn writes_hold(_program: &Program)
 /// The C of an assignment, a declaration or a call of a typed program does in memory what the act does to the variables.
 pub fn acts_come(_program: &Program)
     ensures { ActsCome _program.now.structs _program.now.units _program.now.entry }
+{}
+
+/// The arguments of a call of a typed program trap in C exactly where an input does; else they pass what a function is to be given.
+pub fn arguments_pass(_program: &Program)
+    ensures { ArgumentsPass _program.now.structs _program.now.units _program.now.entry }
 {}
 
 /// The variables of a unit that may be written, and the copies, keep apart where the pointers that it was given lead to what

@@ -101,7 +101,7 @@ act_nodes_come stand choose apart keep structs units entry come machine activiti
       let changed =
       stand structs units entry machine activities i unit scope frames left after_copies r mid rule.so midway.compiled midway.function
       midway.is_there
-      remembering stood (own.so k unit rule there_unit midway.function.active there) told in
+      remembering stood (own.so i unit rule midway.is_there there) told in
       let alike = append_goes scope act_c changes_c here goes in
       let whole = block_c (act_c ++ changes_c) scope here in
       let comes : PartComes w activities i unit scope frames left after_copies (all_changed number rule.so r) here whole = record {

@@ -15,7 +15,7 @@ use Rattle.bl_emit_pass.specs.Activities.{view_of}
 use Rattle.bl_emit_pass.specs.Blocks.{guard_of, node_code}
 use Rattle.bl_emit_pass_laws.specs.Laws.{GuardsShow}
 use Rattle.bl_ctree.specs.Instances.{setting_of}
-use Rattle.bl_emit_pass_laws_calls.specs.Built.{activity_at, registered, unit_number}
+use Rattle.bl_emit_pass_laws_calls.specs.Built.{activity_at, registered}
 use Rattle.bl_emit_pass_laws_points.specs.Laws.{BlocksChoose, SkipsCome}
 
 -- two outcomes that differ at most in their counts
@@ -124,7 +124,7 @@ pub skips_come : GuardsShow → SkipsCome
 skips_come show structs units entry machine activities own i unit scope frames store copies r rule u here midway there due =
     let w = setting_of structs units entry in
     let a = activity_at w activities i in
-    let asks = own.asks (unit_number w i) unit rule midway.function.is_there midway.function.active there in
+    let asks = own.asks i unit rule midway.is_there there in
     let shown = show (view_of a) (registered a) scope rule.node rule.asked r here midway.stands.registers asks in
     if_block scope here (λ e m. (e ≡ goes_on) × (m ≡ here)) (guard_of (view_of a) rule.node rule.asked)
     (node_code (view_of a) u rule rule.node) None
@@ -134,7 +134,7 @@ pub choose : GuardsShow → BlocksChoose
 choose show structs units entry machine activities own i unit scope frames store copies r rule u here midway there due =
     let w = setting_of structs units entry in
     let a = activity_at w activities i in
-    let asks = own.asks (unit_number w i) unit rule midway.function.is_there midway.function.active there in
+    let asks = own.asks i unit rule midway.is_there there in
     let shown = show (view_of a) (registered a) scope rule.node rule.asked r here midway.stands.registers asks in
     let o = block_c (node_code (view_of a) u rule rule.node) scope here in
     if_block scope here (λ e m. (e ≡ o.end) × (m ≡ o.memory)) (guard_of (view_of a) rule.node rule.asked)

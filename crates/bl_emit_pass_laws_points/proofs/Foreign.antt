@@ -46,7 +46,7 @@ module _ (site : Site) (unit : UnitDef) (remembers : Bool) (scope : Scope) (plac
   place_of activity home k = further (start_in scope activity home k) (lead_in home k ++ [])
 
   -- no variable has anything in common with an older place that is apart from what the pointers lead to
-  variable_apart : (place : Location) → is_older scope.depth place.root ≡ true →
+  pub variable_apart : (place : Location) → is_older scope.depth place.root ≡ true →
       ((k : ℕ) (var : Var) → var_at site k ≡ Some var → home_at site k ≡ Lent → are_apart place (lent_at scope k) ≡ true) →
       ((k : ℕ) (var : Var) → var_at site k ≡ Some var → home_at site k ≡ Held →
       are_apart (further (remembered_at scope) (member (variable_name k) ∷ [])) place ≡ true) →

@@ -1,17 +1,17 @@
-mod ActBlocks
-mod ActNodes
-mod Apart
-mod Besides
-mod Bodies
-mod Cells
-mod Changes
-mod Choices
-mod Foreign
-mod Points
-mod Quiet
-mod Results
-mod ReturnBlocks
-mod Returned
-mod Sets
-mod Silent
-mod Tests
+pub mod ActBlocks
+pub mod ActNodes
+pub mod Apart
+pub mod Besides
+pub mod Bodies
+pub mod Cells
+pub mod Changes
+pub mod Choices
+pub mod Foreign
+pub mod Points
+pub mod Quiet
+pub mod Results
+pub mod ReturnBlocks
+pub mod Returned
+pub mod Sets
+pub mod Silent
+pub mod Tests

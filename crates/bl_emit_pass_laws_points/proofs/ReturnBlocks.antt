@@ -196,7 +196,8 @@ result_none site (Some s) is h one = absurd (cc)
 
 module _ (stand : ChangesStand) (choose : BlocksChoose) (frames_apart : FramesApart) (structs : List StructDef) (units : List UnitDef) (entry : ℕ)
     (keeps : Keeps structs units entry) (show : ExpressionsShow structs units entry) (machine : List InMachine) (activities : Activities)
-    (own : RulesOwn units activities) (remembering : Remembering (setting_of structs units entry) activities) (nodes : NodesStand structs units)
+    (own : RulesOwn (setting_of structs units entry) activities) (remembering : Remembering (setting_of structs units entry) activities)
+    (nodes : NodesStand structs units)
     (views : ViewsFit structs units entry) (agree : PrevsAgree) (i : ℕ) (unit : UnitDef) (scope : Scope) (frames : Frames) (store : Store)
     (copies : List Value) (r : Registers) (rule : Rule) (u : ℕ) (here : Memory)
     (midway : Midway structs units entry machine activities i unit scope frames store copies r here)
@@ -227,7 +228,7 @@ module _ (stand : ChangesStand) (choose : BlocksChoose) (frames_apart : FramesAp
   then_changes code left mid goes is stood kept told =
       let changed =
       stand structs units entry machine activities i unit scope frames left copies r mid rule.so midway.compiled midway.function midway.is_there
-      remembering stood (own.so k unit rule midway.function.is_there midway.function.active there) told in
+      remembering stood (own.so i unit rule midway.is_there there) told in
       let alike = append_goes scope code (changes_code view rule.so) here goes in
       let end = alike.0 ∙ ap (λ (m : Memory). (block_c (changes_code view rule.so) scope m).end) is in
       let memory = alike.1 ∙ ap (λ (m : Memory). (block_c (changes_code view rule.so) scope m).memory) is in

@@ -235,7 +235,7 @@ silent_comes stand choose structs units entry machine activities own ends rememb
       let o = block_c (changes_code (view_of a) rule.so) scope here in
       let comes : PartComes w activities i unit scope frames store copies after_r here o =
       stand structs units entry machine activities i unit scope frames store copies r here rule.so midway.compiled midway.function midway.is_there
-      remembering midway.stands (own.so k unit rule midway.function.is_there midway.function.active there) told in
+      remembering midway.stands (own.so i unit rule midway.is_there there) told in
       let done = block_done w activities i u rule scope here in
       let all : PartComes w activities i unit scope frames store copies after_r here done =
       let chosen = choose structs units entry machine activities own i unit scope frames store copies r rule u here midway there due in

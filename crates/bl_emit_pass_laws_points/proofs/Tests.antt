@@ -200,7 +200,8 @@ as_left w activities i unit scope r rule here o frames frames' store left copies
 
 module _ (stand : ChangesStand) (choose : BlocksChoose) (frames_apart : FramesApart) (structs : List StructDef) (units : List UnitDef) (entry : ℕ)
     (keeps : Keeps structs units entry) (show : ExpressionsShow structs units entry) (machine : List InMachine) (activities : Activities)
-    (own : RulesOwn units activities) (ends : ReturnsEnd units activities) (remembering : Remembering (setting_of structs units entry) activities)
+    (own : RulesOwn (setting_of structs units entry) activities) (ends : ReturnsEnd units activities)
+    (remembering : Remembering (setting_of structs units entry) activities)
     (nodes : NodesStand structs units) (views : ViewsFit structs units entry) (agree : PrevsAgree) where
   abbrev w : Setting
   w = setting_of structs units entry
@@ -284,12 +285,12 @@ module _ (stand : ChangesStand) (choose : BlocksChoose) (frames_apart : FramesAp
     chosen_by : (b : Bool) → Chosen scope here (λ end m. Left b (ending end m)) so_code (else_code other_code) (Some b)
     chosen_by true =
         as_ending true (block_c so_code scope here)
-        (changes_come rule.so (own.so k unit rule midway.function.is_there midway.function.active there)
+        (changes_come rule.so (own.so i unit rule midway.is_there there)
         (λ ending one. ends.so k unit rule midway.function.is_there midway.function.active one there ending))
     chosen_by false =
         subst (λ code. Left false (ending (block_c code scope here).end (block_c code scope here).memory)) (sym (else_same other_code))
         (as_ending false (block_c other_code scope here)
-        (changes_come rule.otherwise (own.otherwise k unit rule midway.function.is_there midway.function.active there)
+        (changes_come rule.otherwise (own.otherwise i unit rule midway.is_there there)
         (λ ending one. ends.otherwise k unit rule midway.function.is_there midway.function.active one there ending)))
 
     abbrev code : List CStmt

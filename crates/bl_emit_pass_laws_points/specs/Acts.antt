@@ -65,13 +65,14 @@ IsActNode _ = ⊥
 -- the blocks of such nodes do what a pass by rules does there
 abbrev pub ActNodesCome : List StructDef → List UnitDef → ℕ → Type 0
 ActNodesCome structs units entry =
-    (machine : List InMachine) (activities : Activities) → Keeps structs units entry → RulesOwn units activities → ReturnsEnd units activities →
+    (machine : List InMachine) (activities : Activities) → Keeps structs units entry → RulesOwn (setting_of structs units entry) activities →
+    ReturnsEnd units activities →
     Remembering (setting_of structs units entry) activities → NodesStand structs units → ViewsFit structs units entry → PrevsAgree →
     NodesApart units → ActsSeen (setting_of structs units entry) activities → BlocksCome structs units entry machine activities IsActNode
 
 -- the blocks of nodes at which a `return` is done do what a pass by rules does there
 abbrev pub ReturnNodesCome : List StructDef → List UnitDef → ℕ → Type 0
 ReturnNodesCome structs units entry =
-    (machine : List InMachine) (activities : Activities) → Keeps structs units entry → RulesOwn units activities →
+    (machine : List InMachine) (activities : Activities) → Keeps structs units entry → RulesOwn (setting_of structs units entry) activities →
     Remembering (setting_of structs units entry) activities → NodesStand structs units → ViewsFit structs units entry → PrevsAgree →
     BlocksCome structs units entry machine activities (λ n. is_return_node n ≡ true)

@@ -44,17 +44,14 @@ use Rattle.bl_emit_pass_laws_calls.specs.Standing.{FunctionStands, PassStands, r
 
 -- ---- what is asked of rules
 
--- all that rules of an activity ask and change are registers that its function has
-pub record RulesOwn (units : List UnitDef) (activities : Activities) : Type 0 where
-  pub asks : (k : ℕ) (unit : UnitDef) (rule : Rule) → slice_get units k ≡ Some unit → is_activity unit.kind ≡ true →
-      Contains (rules (activities k).slots (plain_body unit.body)) rule →
-      asks_its_own (view_of (activities k)) (registered (activities k)) rule.node rule.asked ≡ true
-  pub so : (k : ℕ) (unit : UnitDef) (rule : Rule) → slice_get units k ≡ Some unit → is_activity unit.kind ≡ true →
-      Contains (rules (activities k).slots (plain_body unit.body)) rule →
-      list_all (changes_its_own (view_of (activities k)).number (registered (activities k))) rule.so ≡ true
-  pub otherwise : (k : ℕ) (unit : UnitDef) (rule : Rule) → slice_get units k ≡ Some unit → is_activity unit.kind ≡ true →
-      Contains (rules (activities k).slots (plain_body unit.body)) rule →
-      list_all (changes_its_own (view_of (activities k)).number (registered (activities k))) rule.otherwise ≡ true
+-- all that rules of an instance's activity ask and change are registers that its function has
+pub record RulesOwn (w : Setting) (activities : Activities) : Type 0 where
+  pub asks : (i : ℕ) (unit : UnitDef) (rule : Rule) → unit_at w i ≡ Some unit → HasRule (slots_by w activities) i unit rule →
+      asks_its_own (view_of (activity_at w activities i)) (registered (activity_at w activities i)) rule.node rule.asked ≡ true
+  pub so : (i : ℕ) (unit : UnitDef) (rule : Rule) → unit_at w i ≡ Some unit → HasRule (slots_by w activities) i unit rule →
+      list_all (changes_its_own (rank_by w activities i) (registered (activity_at w activities i))) rule.so ≡ true
+  pub otherwise : (i : ℕ) (unit : UnitDef) (rule : Rule) → unit_at w i ≡ Some unit → HasRule (slots_by w activities) i unit rule →
+      list_all (changes_its_own (rank_by w activities i) (registered (activity_at w activities i))) rule.otherwise ≡ true
 
 -- whether a change ends the body
 abbrev pub ends_body : Change → Bool
@@ -110,13 +107,15 @@ ChangesStand =
 -- a block whose rule isn't due does nothing
 abbrev pub SkipsCome : Type 0
 SkipsCome =
-    (structs : List StructDef) (units : List UnitDef) (entry : ℕ) (machine : List InMachine) (activities : Activities) → RulesOwn units activities →
+    (structs : List StructDef) (units : List UnitDef) (entry : ℕ) (machine : List InMachine) (activities : Activities) →
+    RulesOwn (setting_of structs units entry) activities →
     BlocksSkip structs units entry machine activities
 
 -- A block whose rule is due ends as the C of its node ends, and leaves what that leaves
 abbrev pub BlocksChoose : Type 0
 BlocksChoose =
-    (structs : List StructDef) (units : List UnitDef) (entry : ℕ) (machine : List InMachine) (activities : Activities) → RulesOwn units activities →
+    (structs : List StructDef) (units : List UnitDef) (entry : ℕ) (machine : List InMachine) (activities : Activities) →
+    RulesOwn (setting_of structs units entry) activities →
     (i : ℕ) (unit : UnitDef) (scope : Scope) (frames : Frames) (store : Store) (copies : List Value) (r : Registers) (rule : Rule) (u : ℕ)
     (here : Memory) → let w = setting_of structs units entry in
     Midway structs units entry machine activities i unit scope frames store copies r here → HasRule (slots_by w activities) i unit rule →
@@ -139,6 +138,7 @@ IsSilent _ = ⊥
 -- the blocks of such nodes do what a pass by rules does there
 abbrev pub SilentCome : Type 0
 SilentCome =
-    (structs : List StructDef) (units : List UnitDef) (entry : ℕ) (machine : List InMachine) (activities : Activities) → RulesOwn units activities →
+    (structs : List StructDef) (units : List UnitDef) (entry : ℕ) (machine : List InMachine) (activities : Activities) →
+    RulesOwn (setting_of structs units entry) activities →
     ReturnsEnd units activities → Remembering (setting_of structs units entry) activities → BlocksCome structs units entry machine activities
     IsSilent

@@ -91,6 +91,7 @@ IsTest _ = ⊥
 -- the blocks of such nodes do what a pass by rules does there
 abbrev pub TestsCome : List StructDef → List UnitDef → ℕ → Type 0
 TestsCome structs units entry =
-    (machine : List InMachine) (activities : Activities) → Keeps structs units entry → RulesOwn units activities → ReturnsEnd units activities →
+    (machine : List InMachine) (activities : Activities) → Keeps structs units entry → RulesOwn (setting_of structs units entry) activities →
+    ReturnsEnd units activities →
     Remembering (setting_of structs units entry) activities → NodesStand structs units → ViewsFit structs units entry → PrevsAgree →
     BlocksCome structs units entry machine activities IsTest

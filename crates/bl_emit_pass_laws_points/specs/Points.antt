@@ -18,7 +18,7 @@ BodiesEnd structs units entry = (activities : Activities) → Keeps structs unit
 
 -- what is asked of a program, beside what its C is made of
 pub record PointsStand (structs : List StructDef) (units : List UnitDef) (entry : ℕ) (activities : Activities) : Type 0 where
-  pub own : RulesOwn units activities
+  pub own : RulesOwn (setting_of structs units entry) activities
   pub remembering : Remembering (setting_of structs units entry) activities
   pub nodes : NodesStand structs units
   pub apart : NodesApart units

@@ -49,7 +49,7 @@ use Rattle.bl_emit_pass_laws_views.proofs.Outputs.{held_inside}
 
 -- ---- numbers
 
-number_flip : (j k : ℕ) → nat_eq j k ≡ nat_eq k j
+pub number_flip : (j k : ℕ) → nat_eq j k ≡ nat_eq k j
 number_flip j k = by (nat_eq j k) (nat_eq k j) refl refl
   where
     no_such : true ≡ false → ⊥
@@ -61,14 +61,14 @@ number_flip j k = by (nat_eq j k) (nat_eq k j) refl refl
     by true false h i = absurd (no_such (sym (eq-eqb k j (sym (eqb-true j k h))) ∙ i))
     by false true h i = absurd (no_such (sym (eq-eqb j k (sym (eqb-true k j i))) ∙ h))
 
-range_at : (first count k j : ℕ) → slice_get (range_with_len first count) k ≡ Some j → j ≡ first + k
+pub range_at : (first count k j : ℕ) → slice_get (range_with_len first count) k ≡ Some j → j ≡ first + k
 range_at first zero zero j e = absurd cc
 range_at first zero (suc k) j e = absurd cc
 range_at first (suc count) zero j e = let is : first ≡ j = cc in omega arith
 range_at first (suc count) (suc k) j e = let is : j ≡ (first + 1) + k = range_at (first + 1) count k j e in omega arith
 
 -- functions that are alike at a position
-same_mapped : {X : Type 0} (f g : ℕ → X) (count x : ℕ) → f x ≡ g x →
+pub same_mapped : {X : Type 0} (f g : ℕ → X) (count x : ℕ) → f x ≡ g x →
     slice_get (map f (range_with_len 0 count)) x ≡ slice_get (map g (range_with_len 0 count)) x
 same_mapped f g count x same =
     slice_get-map f (range_with_len 0 count) x
@@ -113,9 +113,9 @@ module _ (puts : PutsKeepOthers) (w : Setting) (i : ℕ) (values : List Value) w
 -- ---- acts
 
 -- what an act makes of the store, from what it leaves of the variables
-record Leaves (w : Setting) (i : ℕ) (left store : Store) : Type 0 where
-  result : result_at left i ≡ result_at store i
-  now : (b : Location) → ((path : Static) → overlap (home w (record { instance = i; path = path })) b ≡ false) →
+pub record Leaves (w : Setting) (i : ℕ) (left store : Store) : Type 0 where
+  pub result : result_at left i ≡ result_at store i
+  pub now : (b : Location) → ((path : Static) → overlap (home w (record { instance = i; path = path })) b ≡ false) →
       value_among now_of left b ≡ value_among now_of store b
 
 module _ (puts : PutsKeepOthers) (remembers : RememberingKeepsOthers) (w : Setting) (i : ℕ) (s : Stmt) (store : Store) where
@@ -167,14 +167,14 @@ inside_more : (w : Setting) (i j k : ℕ) (at : Place) → callee_of w i at ≡ 
 inside_more w i j k at called nesting.itself = nesting.deeper i at nesting.itself called
 inside_more w i j k at called (nesting.deeper p place deep more) = nesting.deeper p place (inside_more w i j p at called deep) more
 
-nests_inside : (w : Setting) (activities : Activities) (i k : ℕ) (f m f' m' : CLocation) → Nests w activities i f m k f' m' → Inside w i k
+pub nests_inside : (w : Setting) (activities : Activities) (i k : ℕ) (f m f' m' : CLocation) → Nests w activities i f m k f' m' → Inside w i k
 nests_inside w activities i k f m f' m' memories.here = nesting.itself
 nests_inside w activities i k f m f' m' (memories.inside {j = j} {l = l} {at = at} {arguments = arguments} there node called deeper) =
     let n = rank_by w activities i (EnterAt l at arguments) in
     inside_more w i j k at called (nests_inside w activities j k (inner f n) (inner m n) f' m' deeper)
 
 -- the home of a variable that is no output is itself
-own_home : (w : Setting) (k x : ℕ) → led w (whole_of k x) ≡ None → home w (whole_of k x) ≡ whole_of k x
+pub own_home : (w : Setting) (k x : ℕ) → led w (whole_of k x) ≡ None → home w (whole_of k x) ≡ whole_of k x
 own_home w k x none = by (depth_at w k)
   where
     by : (depth : ℕ) → home_within w depth (whole_of k x) ≡ whole_of k x
@@ -201,7 +201,7 @@ module _ (structs : List StructDef) (units : List UnitDef) (entry : ℕ) (machin
         (sym (ap (home_of (site_at w activities k)) known) ∙ held)
 
     -- so it leads to no caller
-    held_led : led w (whole_of k x) ≡ None
+    pub held_led : led w (whole_of k x) ≡ None
     held_led = by_instance (slice_get w.instances k) refl
       where
         by_unit : (instance : Instance) → slice_get w.instances k ≡ Some instance → (origin : Origin) (o : Option UnitDef) →
@@ -226,7 +226,7 @@ module _ (structs : List StructDef) (units : List UnitDef) (entry : ℕ) (machin
         by_instance (Some instance) is = by_origin instance is instance.origin
 
     -- an act of an instance that calls what it is inside of leaves it
-    kept_inside : (nest : InstancesNest structs units entry) (i j : ℕ) (at : Place) (store left : Store) → callee_of w i at ≡ Some j →
+    pub kept_inside : (nest : InstancesNest structs units entry) (i j : ℕ) (at : Place) (store left : Store) → callee_of w i at ≡ Some j →
         Inside w j k →
         Leaves w i left store → slice_get (view_at w left k).now x ≡ slice_get (view_at w store k).now x
     kept_inside nest i j at store left called inside leaves =

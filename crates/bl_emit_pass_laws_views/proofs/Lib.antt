@@ -1,3 +1,3 @@
-mod Leaving
+pub mod Leaving
 mod Outputs
 mod Remembered

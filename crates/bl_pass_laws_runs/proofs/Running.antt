@@ -113,7 +113,8 @@ module _ (plain : StatementsArePlain) (begin_live : BodiesBeginLive) (callable :
       record {
         trace = row_before (outputs_row W pass.left) more.trace;
         passed = passes_run.goes_on pass e more.passed;
-        ruled = rules_run.lasts starts tick.executes (tick.over ∙ e) more.ruled;
+        ruled = rules_run.lasts starts tick.executes (tick.over ∙ e)
+            (λ zero. ticks.counts structs units entry rank slots 0 unit next pass.tree given is (tick.rests e) zero) more.ruled;
       }
 
   by_pass : (row : List ℤ) (rows : List (List ℤ)) → FromAll rows → (c : Tree) (frames : Frames) (store : Store) → Ready c frames →

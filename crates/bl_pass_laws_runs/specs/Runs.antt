@@ -36,8 +36,8 @@ pub data TickStarts (rank : ℕ → Node → ℕ) (unit : UnitDef) (frames : Fra
   goes_on : (frames 0 0 ≡ 0 → ⊥) → TickStarts rank unit frames (resumed_registers frames 0)
 
 -- RuleRun w rank slots clear unit rows frames store trace: from the frames and the store between ticks a run over the rows shows the trace, and
--- each of its ticks is one pass by rules over the entry, which leaves its counters in the frames. It stops at the end of the rows, of the
--- program, or at a trap
+-- each of its ticks is one pass by rules over the entry, which leaves its counters in the frames, the first of them not 0 where the body hasn't
+-- ended. It stops at the end of the rows, of the program, or at a trap
 pub data RuleRun (w : Setting) (rank : ℕ → Node → ℕ) (slots : ℕ → Slots) (clear : ℕ → Frames → Frames) (unit : UnitDef) :
     List (List ℤ) → Frames → Store → Trace → Type 0 where
   stays_open : {frames : Frames} {store : Store} → RuleRun w rank slots clear unit [] frames store (no_row Open)
@@ -51,7 +51,7 @@ pub data RuleRun (w : Setting) (rank : ℕ → Node → ℕ) (slots : ℕ → Sl
   lasts : {row : List ℤ} {rows : List (List ℤ)} {frames : Frames} {store : Store} {r : Registers} {inner : Frames} {left : Store}
       {r' : Registers} {rest : Trace} → TickStarts rank unit frames r →
       Executes w rank slots clear 0 0 frames (woken_store row store) (view_at w (woken_store row store) 0).now r inner left r' →
-      r'.over ≡ false → RuleRun w rank slots clear unit rows (with_at 0 r'.counters inner) left rest →
+      r'.over ≡ false → (r'.counters 0 ≡ 0 → ⊥) → RuleRun w rank slots clear unit rows (with_at 0 r'.counters inner) left rest →
       RuleRun w rank slots clear unit (row ∷ rows) frames store (row_before (outputs_row w left) rest)
 
 -- ---- traces

@@ -1,0 +1,13 @@
+pub mod Asking
+pub mod Blocks
+pub mod Calls
+pub mod Clearing
+pub mod Entered
+pub mod Inner
+pub mod Numbering
+pub mod Placing
+pub mod Plain
+pub mod Running
+pub mod Statements
+pub mod Targets
+pub mod Written

@@ -1,0 +1,10 @@
+mod Arguing
+mod Keeping
+mod Leading
+mod Lists
+mod Roles
+mod Running
+mod Stored
+mod Values
+mod Whole
+mod Writing

@@ -1,0 +1,10 @@
+mod Fitted
+mod Homes
+mod Kept
+mod Leaving
+mod Numbers
+mod Outputs
+mod Seen
+mod Types
+mod Variables
+mod Ways

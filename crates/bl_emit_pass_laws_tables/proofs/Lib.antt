@@ -1,0 +1,4 @@
+mod Lists
+mod Built
+mod Known
+mod Kept

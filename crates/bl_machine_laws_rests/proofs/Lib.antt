@@ -1,0 +1,2 @@
+mod Rests
+mod Whole
