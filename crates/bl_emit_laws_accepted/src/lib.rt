@@ -1,0 +1,19 @@
+//! The C file of an accepted program is well formed. A law, as the contract of a function that does nothing: where no rule fails, no clause of a
+//! well-formed file fails in what is written of a program with a plain machine of it (`specs/Laws.antt`, `ProgramsFormed`).
+#![tactic(auto)]
+
+ghost use Rattle.bl_emit_laws_accepted.specs.Laws.{ProgramsFormed};
+
+use bl_emit_laws_formed::files_formed;
+use bl_emit_pass_laws_forms::all_form;
+use bl_emit_pass_laws_structs::files_declare;
+use bl_tree::Program;
+
+/// No clause fails in the C file that is written of an accepted program with a plain machine.
+pub fn programs_formed(program: &Program)
+    ensures { ProgramsFormed program.now }
+{
+    all_form(program);
+    files_declare(program);
+    files_formed(program);
+}

@@ -1,0 +1,10 @@
+mod Counters
+mod Interface
+mod Names
+mod Needing
+mod Numbers
+mod Reaching
+mod Sizing
+mod Tables
+mod Walk
+mod Whole

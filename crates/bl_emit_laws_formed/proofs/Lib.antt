@@ -1,0 +1,3 @@
+mod Interface
+mod Ports
+mod Whole

@@ -1,0 +1,17 @@
+//! Laws of the C file that is written of a program with its machine. None of these functions does anything: the contract is the law. No
+//! clause of a well-formed file fails in it (`specs/Laws.antt`, `FilesFormed`).
+#![tactic(auto)]
+
+ghost use Rattle.bl_emit_laws_formed.specs.Laws.{FilesFormed};
+
+use bl_emit_pass_laws_closed::needed_closed;
+use bl_emit_pass_laws_lists::parts_formed;
+use bl_tree::Program;
+
+/// Nothing fails in the C file of a program with its machine.
+pub fn files_formed(program: &Program)
+    ensures { FilesFormed program.now }
+{
+    needed_closed(program);
+    parts_formed(program);
+}

@@ -1,0 +1,6 @@
+pub mod Callees
+pub mod Entering
+pub mod Held
+pub mod Locals
+pub mod Running
+pub mod Whole

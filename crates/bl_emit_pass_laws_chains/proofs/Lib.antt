@@ -1,0 +1,4 @@
+pub mod Called
+pub mod Chains
+pub mod Growing
+pub mod Nodes

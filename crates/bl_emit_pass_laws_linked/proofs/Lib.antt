@@ -1,0 +1,5 @@
+mod Spared
+mod Units
+mod Linked
+mod Coming
+mod Entered

@@ -1,0 +1,2 @@
+mod Head
+pub mod Turns

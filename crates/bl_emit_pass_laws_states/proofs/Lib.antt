@@ -1,0 +1,5 @@
+pub mod Declared
+pub mod Keeping
+pub mod Kept
+pub mod Nested
+pub mod Types
