@@ -14,8 +14,8 @@ use Rattle.bl_rows.specs.Reading.{begun, rows_in, rows_of}
 use Rattle.bl_rows.specs.Text.{text_of}
 use Rattle.bl_stream.specs.Streams.{Course, course_of}
 use Rattle.bl_program.specs.Programs.{typed_of}
-use Rattle.bl_top.proofs.Fronts.{tree_built, tree_of_program}
-use Rattle.bl_top.specs.inner.Programs.{HasOneTrace, IsBuilt, IsProgram}
+use Rattle.bl_top.proofs.Fronts.{tree_of_program}
+use Rattle.bl_top.specs.inner.Programs.{HasOneTrace, IsProgram}
 use Rattle.bl_top.specs.Sources.{RunsAs}
 use Rattle.bl_top.specs.Traces.{HasCourse, OneTrace, course_by}
 use Rattle.bl_tree.specs.Ports.{RowsFit, input_columns}
@@ -77,17 +77,6 @@ runs_as_program left program course is has =
     record {
       raw = made.raw;
       tree = tree_of_program left program is;
-      has = course_of_tree course program.structs (typed_of made.raw).structs program.units (typed_of made.raw).units program.entry
-          (typed_of made.raw).entry made.is.structs made.is.units made.is.entry has;
-    }
-
-pub runs_as : (left : Option (List ℕ)) (program : Program) (course : Course) → IsBuilt left program →
-    HasCourse program.structs program.units program.entry course → RunsAs left course
-runs_as left program course built has =
-    let made = built.has in
-    record {
-      raw = made.raw;
-      tree = tree_built left program built;
       has = course_of_tree course program.structs (typed_of made.raw).structs program.units (typed_of made.raw).units program.entry
           (typed_of made.raw).entry made.is.structs made.is.units made.is.entry has;
     }

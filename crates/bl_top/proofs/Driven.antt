@@ -14,16 +14,16 @@ use Rattle.bl_drive_run.specs.Reports.{IsDriven, IsReport, IsReportOf, LeavesPla
 use Rattle.bl_drive_run.specs.declared.report.Report.{Report}
 use Rattle.bl_io.specs.Left.{IsKept}
 use Rattle.bl_program.specs.Programs.{typed_of}
-use Rattle.bl_top.proofs.Fronts.{tree_built}
+use Rattle.bl_top.proofs.Fronts.{tree_of_program}
 use Rattle.bl_top.specs.Answers.{Answers, drives}
 use Rattle.bl_top.specs.Calls.{Call, Output}
 use Rattle.bl_top.specs.Drive.{DriveEnds, HasDriven, LeavesPlants, Plants, Tells, drove, kept, line_at, setting_of, short, status_at, stopped}
 use Rattle.bl_top.specs.Drive.{unwritten, want, was_driven, whole}
 use Rattle.bl_top.specs.inner.Driven.{Drives, MayHaveDriven, TellsReport, WritesReport, failed, refused, wrote}
 use Rattle.bl_top.specs.inner.Outcomes.{chosen_line, line_in, lines_in}
-use Rattle.bl_top.specs.inner.Programs.{HasOneTrace, IsBuilt}
+use Rattle.bl_top.specs.inner.Programs.{IsProgram}
 use Rattle.bl_top.specs.Notes.{line_of}
-use Rattle.bl_top.specs.Refusals.{Stops}
+use Rattle.bl_top.specs.Refusals.{IsNotAccepted}
 use Rattle.bl_top.specs.Traces.{OneTrace}
 use Rattle.bl_top.specs.declared.answer.Answer.{Answer}
 use Rattle.bl_top.specs.declared.outcome.Outcome.{Outcome}
@@ -91,7 +91,7 @@ trace_of_tree behaviour structs structs' units units' entry entry' s u e one =
     subst (λ n. OneTrace structs' units' n behaviour) e (subst (λ us. OneTrace structs' us entry behaviour) u
     (subst (λ ss. OneTrace ss units entry behaviour) s one))
 
-module _ (left : Option (List ℕ)) (program : Program) (built : IsBuilt left program) (plants : Plants) (ticks : ℕ) (names : List ℕ)
+module _ (left : Option (List ℕ)) (program : Program) (built : IsProgram left program) (plants : Plants) (ticks : ℕ) (names : List ℕ)
     (parts : Parts) (driven : Record) (how : Result (Unit {0}) DriveFault)
     (drives : Drives program.structs program.units program.entry plants ticks names parts driven how) where
   one_of_tree : OneTrace (typed_of built.has.raw).structs (typed_of built.has.raw).units (typed_of built.has.raw).entry (behaviour_of parts)
@@ -103,7 +103,7 @@ module _ (left : Option (List ℕ)) (program : Program) (built : IsBuilt left pr
       HasDriven left plants ticks names driven how text
   source_driven text shows = record {
     raw = built.has.raw;
-    tree = tree_built left program built;
+    tree = tree_of_program left program built;
     parts = parts;
     one_trace = one_of_tree;
     is_driven = drives.is_driven;
@@ -150,14 +150,14 @@ report_written outs out driven how report answer is (refused grew none e) =
 -- ---- the command
 
 pub drive_drove : (c : Call) (plants : Plants) (source : Word) (ticks : ℕ) (names : List ℕ) (program : Program) (report : Report)
-    (answer : Answer) → IsBuilt (c.left source) program → TellsReport program.structs program.units program.entry plants ticks names report →
+    (answer : Answer) → IsProgram (c.left source) program → TellsReport program.structs program.units program.entry plants ticks names report →
     WritesReport report c.out answer → DriveEnds c plants source ticks names answer.outcome.status (lines_in answer)
 drive_drove c plants source ticks names program report answer built told writes =
     drove told.driven told.how report.text.items
     (source_driven (c.left source) program built plants ticks names told.parts told.driven told.how told.drives report.text.items told.tells.text)
     (report_written (outputs_of told.parts) c.out told.driven told.how report answer told.tells writes)
 
-plants_left : (left : Option (List ℕ)) (plants : Plants) (ticks : ℕ) (names : List ℕ) (program : Program) → IsBuilt left program →
+plants_left : (left : Option (List ℕ)) (plants : Plants) (ticks : ℕ) (names : List ℕ) (program : Program) → IsProgram left program →
     MayHaveDriven program.structs program.units program.entry plants ticks names → LeavesPlants left plants ticks names
 plants_left left plants ticks names program built (inl same) = kept same
 plants_left left plants ticks names program built (inr h) =
@@ -165,14 +165,14 @@ plants_left left plants ticks names program built (inr h) =
     (source_driven left program built plants ticks names h.0 h.1.0 h.1.1.0 h.1.1.1 _ refl)
 
 pub drive_short : (c : Call) (plants : Plants) (source : Word) (ticks : ℕ) (names : List ℕ) (program : Program) (answer : Answer) →
-    IsBuilt (c.left source) program → MayHaveDriven program.structs program.units program.entry plants ticks names →
+    IsProgram (c.left source) program → MayHaveDriven program.structs program.units program.entry plants ticks names →
     answer.outcome.status ≡ status.NoMemory → answer.told.items ≡ [] → IsKept c.out.before c.out.after →
     DriveEnds c plants source ticks names answer.outcome.status (lines_in answer)
 drive_short c plants source ticks names program answer built may e none same =
     rw (none, e) (short (plants_left (c.left source) plants ticks names program built may) same)
 
 pub drive_stopped : (c : Call) (plants : Plants) (source : Word) (ticks : ℕ) (names : List ℕ) (answer : Answer) (outcome : Outcome) →
-    answer.outcome ≡ outcome → lines_in answer ≡ line_in outcome → Stops (c.left source) (c.file source) outcome.status (line_in outcome) →
+    answer.outcome ≡ outcome → lines_in answer ≡ line_in outcome → IsNotAccepted (c.left source) (c.file source) outcome.status (line_in outcome) →
     IsKept c.out.before c.out.after → plants.after ≡ plants.before →
     DriveEnds c plants source ticks names answer.outcome.status (lines_in answer)
 drive_stopped c plants source ticks names answer outcome same lines why held unchanged =

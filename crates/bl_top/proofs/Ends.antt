@@ -15,10 +15,10 @@ use Rattle.bl_top.specs.Exec.{ExecEnds}
 use Rattle.bl_top.specs.Gen.{GenEnds}
 use Rattle.bl_top.specs.Save.{ResumeEnds, SaveEnds, SaveFromEnds}
 use Rattle.bl_top.specs.inner.Outcomes.{chosen_line, line_in, lines_in}
-use Rattle.bl_top.specs.inner.Programs.{IsBuilt, IsProgram}
+use Rattle.bl_top.specs.inner.Programs.{IsProgram}
 use Rattle.bl_top.specs.Notes.{line_of}
 use Rattle.bl_top.specs.Reads.{LeftBehind, source_limit}
-use Rattle.bl_top.specs.Refusals.{IsNotAccepted, Stops}
+use Rattle.bl_top.specs.Refusals.{IsNotAccepted}
 use Rattle.bl_top.specs.Rows.{Streams}
 use Rattle.bl_top.specs.Run.{RunEnds, ran, stopped as run_stopped}
 use Rattle.bl_top.specs.Sources.{IsTextOf, IsTextOfParts}
@@ -28,7 +28,7 @@ use Rattle.bl_top.specs.declared.answer.Answer.{Answer}
 use Rattle.bl_top.specs.declared.outcome.Outcome.{Outcome}
 use Rattle.bl_top.specs.declared.status.Status.{Status}
 use Rattle.bl_top.specs.declared.status.Status.TheVariants as status
-use Rattle.bl_top.proofs.Courses.{runs_as}
+use Rattle.bl_top.proofs.Courses.{runs_as_program}
 use Rattle.bl_top.proofs.Fronts.{text_of_source, tree_of_program}
 use Rattle.bl_top.proofs.Streams.{streams_from}
 use Rattle.bl_tree.specs.declared.program.Program.{Program}
@@ -74,29 +74,29 @@ check_stopped c source ended line stops kept = check_ends stops kept
 
 -- ---- `build`
 
-pub build_written : (c : Call) (source : Word) (program : Program) (ended : Status) (line : List ℕ) → IsBuilt (c.left source) program →
+pub build_written : (c : Call) (source : Word) (program : Program) (ended : Status) (line : List ℕ) → IsProgram (c.left source) program →
     Writes (IsTextOfParts program.structs program.units program.entry) c.out ended → line ≡ line_of ended → BuildEnds c source ended line
 build_written c source program ended line built writes told =
     rw told (written (writes_as (IsTextOfParts program.structs program.units program.entry) (IsTextOf (c.left source)) c.out ended
     (λ text is. text_of_source (c.left source) program text built is) writes))
 
-pub build_stopped : (c : Call) (source : Word) (ended : Status) (line : List ℕ) → Stops (c.left source) (c.file source) ended line →
+pub build_stopped : (c : Call) (source : Word) (ended : Status) (line : List ℕ) → IsNotAccepted (c.left source) (c.file source) ended line →
     IsKept c.out.before c.out.after → BuildEnds c source ended line
 build_stopped c source ended line stops kept = stopped stops kept
 
 -- ---- `run`
 
 pub run_ran : (c : Call) (source rows : Word) (program : Program) (course : Course) (between : Word → Option (List ℕ)) (second : ℕ)
-    (ended : Status) (line : List ℕ) → IsBuilt (c.left source) program →
+    (ended : Status) (line : List ℕ) → IsProgram (c.left source) program →
     HasCourse program.structs program.units program.entry course → LeftBehind source_limit source c.left between → (c.file rows).before ≤ second →
     Streams course (between rows) (c.rest rows) (record { before = second; after = (c.file rows).after }) c.out ended line →
     RunEnds c source rows ended line
 run_ran c source rows program course between second ended line built has behind below streams =
-    ran course (runs_as (c.left source) program course built has) between behind
+    ran course (runs_as_program (c.left source) program course built has) between behind
     (streams_from course (between rows) (c.rest rows) (c.file rows).before second (c.file rows).after c.out ended line below streams)
 
 pub run_stops : (c : Call) (source rows : Word) (ended : Status) (line : List ℕ) →
-    Stops (c.left source) (c.file source) ended line → IsKept c.out.before c.out.after → RunEnds c source rows ended line
+    IsNotAccepted (c.left source) (c.file source) ended line → IsKept c.out.before c.out.after → RunEnds c source rows ended line
 run_stops c source rows ended line stops kept = run_stopped stops kept
 
 -- ---- the job

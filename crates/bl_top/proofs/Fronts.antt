@@ -1,8 +1,7 @@
 -- A source is read one byte past the longest that is accepted: what is judged of that front holds of the whole.
-use Rattle.std.proofs.Common.{◌≡◌, ℕ, ◌<◌, ◌≤◌, Bool, true, false, List, [], take, length, refl, sym, subst, inl, inr, arith}
+use Rattle.std.proofs.Common.{◌≡◌, ℕ, ◌<◌, ◌≤◌, List, [], take, length, refl, sym, subst, inl, inr, arith}
 use Rattle.std.specs.Prelude.{◌⊎◌, Option, Some, None}
 use Rattle.bl_io.specs.Left.{GivesUpTo}
-use Rattle.bl_early.specs.Form.{is_early}
 use Rattle.bl_program.specs.Programs.{typed_of}
 use Rattle.bl_rules.specs.Accepted.{HasProgram}
 use Rattle.bl_rules.specs.Rules.{Fails, FirstFailing, Passes, in_bytes, in_tokens, in_tree}
@@ -22,17 +21,14 @@ use Rattle.bl_top.proofs.Cuts.{whole_or_long}
 use Rattle.bl_top.specs.Refusals.{
   IsNotAccepted,
   RefusedText,
-  Stops,
   refusal_line,
-  not_accepted,
   refused as stopped,
   short as no_memory,
-  unbuilt as unformed,
   unread,
 }
 use Rattle.bl_top.specs.inner.Outcomes.{IsRefusedBy, chosen_line, line_in}
-use Rattle.bl_top.specs.inner.Programs.{IsBuilt, IsProgram}
-use Rattle.bl_top.specs.Sources.{IsOfNoForm, IsTextOf, IsTextOfParts, IsTreeOf}
+use Rattle.bl_top.specs.inner.Programs.{IsOfText, IsProgram}
+use Rattle.bl_top.specs.Sources.{IsTextOf, IsTextOfParts, IsTreeOf}
 use Rattle.bl_tree.specs.declared.tree.StructDef.{StructDef}
 use Rattle.bl_tree.specs.declared.tree.Unit.{Unit as UnitDef}
 
@@ -62,30 +58,11 @@ is_program None got after program read made = record { source = got; of_source =
 is_program (Some whole) got after program read made =
     record { source = got; of_source = whole_of_passing whole got read.front made.has.passes; has = made }
 
-pub is_built : (left : Option (List ℕ)) (program : Program) → IsProgram left program → is_early program.structs program.units ≡ true →
-    IsBuilt left program
-is_built left program is form = record { source = is.source; of_source = is.of_source; has = is.has; form = form }
+pub is_of_text : (left : Option (List ℕ)) (program : Program) → IsProgram left program → IsOfText program
+is_of_text left program is = record { text = is.source; has = is.has }
 
 pub tree_of_program : (left : Option (List ℕ)) (program : Program) (is : IsProgram left program) → IsTreeOf left is.has.raw
 tree_of_program left program is = record { source = is.source; of_source = is.of_source; has = is.has.has }
-
-pub tree_built : (left : Option (List ℕ)) (program : Program) (built : IsBuilt left program) → IsTreeOf left built.has.raw
-tree_built left program built = record { source = built.source; of_source = built.of_source; has = built.has.has }
-
--- the form of a program is that of its structs and units
-form_of : (b : Bool) (structs structs' : List StructDef) (units units' : List UnitDef) → structs ≡ structs' → units ≡ units' →
-    is_early structs units ≡ b → is_early structs' units' ≡ b
-form_of b structs structs' units units' s u form = subst (λ us. is_early structs' us ≡ b) u (subst (λ ss. is_early ss units ≡ b) s form)
-
-pub unbuilt_text : (left : Option (List ℕ)) (program : Program) → IsProgram left program → is_early program.structs program.units ≡ false →
-    IsOfNoForm left
-unbuilt_text left program is none =
-    let made = is.has in
-    record {
-      raw = made.raw;
-      tree = tree_of_program left program is;
-      none = form_of false program.structs (typed_of made.raw).structs program.units (typed_of made.raw).units made.is.structs made.is.units none;
-    }
 
 -- what is written for the program is written for the tree
 text_of_tree : (text : List ℕ) (structs structs' : List StructDef) (units units' : List UnitDef) (entry entry' : ℕ) →
@@ -96,13 +73,13 @@ text_of_tree text structs structs' units units' entry entry' s u e is =
     (subst (λ us. IsTextOfParts structs' us entry text) u (subst (λ ss. IsTextOfParts ss units entry text) s is))
 
 -- and so for the source
-pub text_of_source : (left : Option (List ℕ)) (program : Program) (text : List ℕ) → IsBuilt left program →
+pub text_of_source : (left : Option (List ℕ)) (program : Program) (text : List ℕ) → IsProgram left program →
     IsTextOfParts program.structs program.units program.entry text → IsTextOf left text
-text_of_source left program text built is =
-    let made = built.has in
+text_of_source left program text made_of is =
+    let made = made_of.has in
     record {
       raw = made.raw;
-      tree = tree_built left program built;
+      tree = tree_of_program left program made_of;
       is = text_of_tree text program.structs (typed_of made.raw).structs program.units (typed_of made.raw).units program.entry
           (typed_of made.raw).entry made.is.structs made.is.units made.is.entry is;
     }
@@ -184,12 +161,3 @@ stops_refused before got after file refusal.NoMemory outcome read is none = stop
 pub stops_unread : (before : Option (List ℕ)) (file : Count) (ended : Status) (own : List ℕ) → ended ≡ status.ReadFault →
     HasRisen file → IsNotAccepted before file ended (chosen_line ended own)
 stops_unread before file ended own e risen = rw e (unread risen)
-
--- a job that was to build stops for that too
-pub stops_before : (before : Option (List ℕ)) (file : Count) (ended : Status) (line : List ℕ) → IsNotAccepted before file ended line →
-    Stops before file ended line
-stops_before before file ended line why = not_accepted why
-
-pub stops_unbuilt : (left : Option (List ℕ)) (file : Count) (program : Program) (ended : Status) (own : List ℕ) → IsProgram left program →
-    is_early program.structs program.units ≡ false → ended ≡ status.Unbuilt → Stops left file ended (chosen_line ended own)
-stops_unbuilt left file program ended own is none e = rw e (unformed (unbuilt_text left program is none))

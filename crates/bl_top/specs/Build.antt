@@ -4,7 +4,7 @@ use Rattle.bl_io.specs.Held.{Appends, AppendsPart}
 use Rattle.bl_io.specs.Left.{IsKept}
 use Rattle.bl_top.specs.Calls.{Call, HasRisen, Output}
 use Rattle.bl_top.specs.Notes.{line_of}
-use Rattle.bl_top.specs.Refusals.{Stops}
+use Rattle.bl_top.specs.Refusals.{IsNotAccepted}
 use Rattle.bl_top.specs.Sources.{IsTextOf}
 use Rattle.bl_top.specs.declared.status.Status.{Status}
 use Rattle.bl_top.specs.declared.status.Status.TheVariants as status
@@ -21,5 +21,5 @@ pub data Writes (IsResult : List ℕ → Type 0) (out : Output) : Status → Typ
 -- the status with which a C text of a source is built, and the lines for `notes`
 pub data BuildEnds (c : Call) (source : Word) : Status → List ℕ → Type 0 where
   written : {ended : Status} → Writes (IsTextOf (c.left source)) c.out ended → BuildEnds c source ended (line_of ended)
-  stopped : {ended : Status} {line : List ℕ} → Stops (c.left source) (c.file source) ended line → IsKept c.out.before c.out.after →
+  stopped : {ended : Status} {line : List ℕ} → IsNotAccepted (c.left source) (c.file source) ended line → IsKept c.out.before c.out.after →
       BuildEnds c source ended line

@@ -19,7 +19,7 @@ use Rattle.bl_program.specs.Programs.{typed_of}
 use Rattle.bl_raw.specs.declared.raw.Raw.{Raw}
 use Rattle.bl_top.specs.Calls.{Call, HasRisen, Output}
 use Rattle.bl_top.specs.Notes.{line_of}
-use Rattle.bl_top.specs.Refusals.{Stops}
+use Rattle.bl_top.specs.Refusals.{IsNotAccepted}
 use Rattle.bl_top.specs.Sources.{IsTreeOf}
 use Rattle.bl_top.specs.Traces.{OneTrace}
 use Rattle.bl_top.specs.declared.status.Status.{Status}
@@ -84,5 +84,5 @@ pub data DriveEnds (c : Call) (plants : Plants) (source : Word) (ticks : ℕ) (n
   -- memory was refused before anything was written
   short : LeavesPlants (c.left source) plants ticks names → IsKept c.out.before c.out.after →
       DriveEnds c plants source ticks names status.NoMemory (line_of status.NoMemory)
-  stopped : {ended : Status} {line : List ℕ} → Stops (c.left source) (c.file source) ended line → IsKept c.out.before c.out.after →
+  stopped : {ended : Status} {line : List ℕ} → IsNotAccepted (c.left source) (c.file source) ended line → IsKept c.out.before c.out.after →
       plants.after ≡ plants.before → DriveEnds c plants source ticks names ended line

@@ -20,7 +20,6 @@ code_of status.NotSubset = 8
 code_of status.PlantFault = 9
 code_of status.PlantShape = 10
 code_of status.TooLarge = 11
-code_of status.Unbuilt = 12
 code_of status.SaveEnded = 14
 code_of status.BadState = 15
 
@@ -40,7 +39,6 @@ line_of status.NotSubset = []
 line_of status.PlantFault = []
 line_of status.PlantShape = []
 line_of status.TooLarge = []
-line_of status.Unbuilt = codes "not built" ++ 10 ∷ []
 line_of status.SaveEnded = codes "ended" ++ 10 ∷ []
 line_of status.BadState = []
 

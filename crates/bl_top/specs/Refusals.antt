@@ -7,7 +7,7 @@ use Rattle.bl_tree.specs.Reduce.{joined}
 use Rattle.bl_tree.specs.Rules.{name_of, number_of}
 use Rattle.bl_top.specs.Calls.{Count, HasRisen}
 use Rattle.bl_top.specs.Notes.{line_of}
-use Rattle.bl_top.specs.Sources.{IsOfNoForm, IsSource}
+use Rattle.bl_top.specs.Sources.{IsSource}
 use Rattle.bl_top.specs.declared.status.Status.{Status}
 use Rattle.bl_top.specs.declared.status.Status.TheVariants as status
 
@@ -39,9 +39,3 @@ pub data IsNotAccepted (left : Option (List ℕ)) (file : Count) : Status → Li
   refused : {line : List ℕ} → RefusedText left line → IsNotAccepted left file status.Refused line
   unread : HasRisen file → IsNotAccepted left file status.ReadFault (line_of status.ReadFault)
   short : IsNotAccepted left file status.NoMemory (line_of status.NoMemory)
-
--- why a job of a program that is to be built stops at its source
-pub data Stops (left : Option (List ℕ)) (file : Count) : Status → List ℕ → Type 0 where
-  not_accepted : {ended : Status} {line : List ℕ} → IsNotAccepted left file ended line → Stops left file ended line
-  -- no rule fails, and the program is in no form that is built
-  unbuilt : IsOfNoForm left → Stops left file status.Unbuilt (line_of status.Unbuilt)

@@ -4,7 +4,7 @@ use Rattle.bl_io.specs.Left.{IsKept}
 use Rattle.bl_stream.specs.Streams.{Course}
 use Rattle.bl_top.specs.Calls.{Call}
 use Rattle.bl_top.specs.Reads.{LeftBehind, source_limit}
-use Rattle.bl_top.specs.Refusals.{Stops}
+use Rattle.bl_top.specs.Refusals.{IsNotAccepted}
 use Rattle.bl_top.specs.Rows.{Streams}
 use Rattle.bl_top.specs.Sources.{RunsAs}
 use Rattle.bl_top.specs.declared.status.Status.{Status}
@@ -16,5 +16,5 @@ pub data RunEnds (c : Call) (source rows : Word) : Status → List ℕ → Type 
   ran : {ended : Status} {line : List ℕ} (course : Course) → RunsAs (c.left source) course →
       (between : Word → Option (List ℕ)) → LeftBehind source_limit source c.left between →
       Streams course (between rows) (c.rest rows) (c.file rows) c.out ended line → RunEnds c source rows ended line
-  stopped : {ended : Status} {line : List ℕ} → Stops (c.left source) (c.file source) ended line → IsKept c.out.before c.out.after →
+  stopped : {ended : Status} {line : List ℕ} → IsNotAccepted (c.left source) (c.file source) ended line → IsKept c.out.before c.out.after →
       RunEnds c source rows ended line

@@ -1,8 +1,7 @@
 -- What is known of the source of a job: its tree, its program, and what is written for it.
-use Rattle.std.specs.Prelude.{◌≡◌, ℕ, false, List, Option, IfSome}
+use Rattle.std.specs.Prelude.{◌≡◌, ℕ, List, Option, IfSome}
 use Rattle.bl_cmeaning_laws_places.specs.Behaviour.{Behaviour}
 use Rattle.bl_cmeaning_laws_places.specs.Bytes.{Behaves}
-use Rattle.bl_early.specs.Form.{is_early}
 use Rattle.bl_program.specs.Programs.{typed_of}
 use Rattle.bl_raw.specs.declared.raw.Raw.{Raw}
 use Rattle.bl_rules.specs.Accepted.{HasTree}
@@ -39,9 +38,3 @@ pub record RunsAs (left : Option (List ℕ)) (course : Course) : Type 0 where
   pub raw : Raw
   pub tree : IsTreeOf left raw
   pub has : HasCourse (typed_of raw).structs (typed_of raw).units (typed_of raw).entry course
-
--- no rule fails for a source, and its program is in no form that is built
-pub record IsOfNoForm (left : Option (List ℕ)) : Type 0 where
-  pub raw : Raw
-  pub tree : IsTreeOf left raw
-  pub none : is_early (typed_of raw).structs (typed_of raw).units ≡ false

@@ -1,24 +1,25 @@
 //! The command `drive P TICKS PLANT..`.
 
-ghost use Rattle.std.specs.Prelude.{◌≡◌, ◌≤◌, map, true, IfErr, IfOk, Some};
-ghost use Rattle.bl_early.specs.Form.{is_early};
+ghost use Rattle.std.specs.Prelude.{◌≡◌, ◌≤◌, map, IfErr, IfOk, Some};
 ghost use Rattle.bl_io.specs.Count.{NeverFell};
 ghost use Rattle.bl_top.specs.Calls.{Output};
 ghost use Rattle.bl_top.specs.Drive.{DriveEnds, status_at};
 ghost use Rattle.bl_top.specs.inner.Driven.{MayHaveDriven, TellsReport, WritesReport};
 ghost use Rattle.bl_top.specs.inner.Outcomes.{lines_in};
+ghost use Rattle.bl_top.specs.inner.Programs.{IsOfText};
 ghost use Rattle.bl_top.specs.Reads.{Reads, files_read};
 ghost use Rattle.bl_words.specs.Jobs.{drive};
 
 use crate::answer::Answer;
 use crate::outcome::Outcome;
 use crate::run::runner_of;
-use crate::source::program_of;
+use crate::source::accepted_of;
 use crate::status::Status;
 use bl_drive_run::{End, Report, run};
 use bl_io::{Files, IoFault, Sink, write_all};
 use bl_plant::Plant;
-use bl_tree::{NoMemory, Program};
+use bl_rules::Accepted;
+use bl_tree::NoMemory;
 use std::alloc::Global;
 
 /// Drives the source file of this name against the plants that the numbers name, for so many ticks, and writes the trace. What
@@ -48,31 +49,31 @@ pub fn drive<F: Files, O: Sink>(
     ensures file_counts { NeverFell (F.faults files.old) (F.faults files.new) }
     ensures out_count { O.faults out.old ≤ O.faults out.new }
 {
-    let accepted = match program_of(alloc, source, files) {
+    let accepted = match accepted_of(alloc, source, files) {
         Ok(accepted) => accepted,
         Err(outcome) => return Answer::alone(alloc, outcome),
     };
-    match report_of(alloc, accepted.program(), ticks, names, plants) {
+    match report_of(alloc, &accepted, ticks, names, plants) {
         Ok(report) => write_report(alloc, report, out),
         Err(_) => Answer::alone(alloc, Outcome::plain(alloc, Status::NoMemory)),
     }
 }
 
-/// Drives the C file of a program of the form, and tells what came of it.
+/// Drives the C file of the accepted program of a text, and tells what came of it.
 fn report_of(
     alloc: Global,
-    program: &Program,
+    accepted: &Accepted,
     ticks: u32,
     names: &[u32],
     plants: &mut Vec<Box<dyn Plant>>,
 ) -> Result<Report, NoMemory>
-    requires { is_early program.now.structs program.now.units ≡ true }
-    ensures report { IfOk result (TellsReport program.now.structs program.now.units program.now.entry
+    requires { IsOfText accepted.now.program }
+    ensures report { IfOk result (TellsReport accepted.now.program.structs accepted.now.program.units accepted.now.program.entry
         (record { before = map (λ b. shown b) plants.old.items; after = map (λ b. shown b) plants.new.items }) ticks names.now) }
-    ensures left { IfErr result (λ e. MayHaveDriven program.now.structs program.now.units program.now.entry
+    ensures left { IfErr result (λ e. MayHaveDriven accepted.now.program.structs accepted.now.program.units accepted.now.program.entry
         (record { before = map (λ b. shown b) plants.old.items; after = map (λ b. shown b) plants.new.items }) ticks names.now) }
 {
-    match runner_of(alloc, program) {
+    match runner_of(alloc, accepted) {
         Ok(runner) => run(alloc, runner, plants, names, ticks),
         Err(error) => Err(error),
     }

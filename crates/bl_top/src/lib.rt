@@ -3,7 +3,7 @@
 //! comes with its whole cause and with what grew on `out`: `specs/Check.antt`, `specs/Build.antt`, `specs/Run.antt`,
 //! `specs/Walk.antt`, `specs/Exec.antt`, `specs/Drive.antt`, `specs/Gen.antt`, `specs/Bound.antt`, `specs/Count.antt` and
 //! `specs/Save.antt` (`save` and `resume`). At a source that isn't accepted nothing grew on `out`, and a refusal names the first rule that fails for
-//! its bytes (`specs/Refusals.antt`, `Stops`). The bytes that `build` writes have the one trace of the source's
+//! its bytes (`specs/Refusals.antt`, `IsNotAccepted`). The bytes that `build` writes have the one trace of the source's
 //! program, and what `run` and `walk` show is the text of it (`specs/Traces.antt`, `OneTrace` and `HasCourse`). No file
 //! is read but those that the words name, each within its limit (`specs/Reads.antt`, `Reads`). docs/THEOREM.md leads
 //! through it.

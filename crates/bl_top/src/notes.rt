@@ -72,7 +72,6 @@ fn fixed_line(status: Status) -> &'static str
         Status::Usage => bl_words::usage(),
         Status::ReadFault => "read fault\n",
         Status::NoMemory => "no memory\n",
-        Status::Unbuilt => "not built\n",
         Status::SaveEnded => "ended\n",
         _ => "",
     }

@@ -1,13 +1,13 @@
 //! The command `run P ROWS`.
 
-ghost use Rattle.std.specs.Prelude.{◌≡◌, ◌≤◌, true, IfOk, Some};
+ghost use Rattle.std.specs.Prelude.{◌≡◌, ◌≤◌, IfOk, Some};
 ghost use Rattle.bl_cmeaning_laws_places.specs.Behaviour.{behaviour_of};
 ghost use Rattle.bl_crun.specs.Running.{loaded};
-ghost use Rattle.bl_early.specs.Form.{is_early};
 ghost use Rattle.bl_io.specs.Count.{NeverFell};
 ghost use Rattle.bl_stream.specs.Streams.{course_of};
 ghost use Rattle.bl_top.specs.Calls.{Output};
 ghost use Rattle.bl_top.specs.inner.Outcomes.{line_in};
+ghost use Rattle.bl_top.specs.inner.Programs.{IsOfText};
 ghost use Rattle.bl_top.specs.Reads.{Reads, files_read};
 ghost use Rattle.bl_top.specs.Run.{RunEnds};
 ghost use Rattle.bl_top.specs.Traces.{HasCourse, OneTrace};
@@ -16,12 +16,13 @@ ghost use Rattle.bl_words.specs.Jobs.{run};
 use crate::emitted::c_file;
 use crate::outcome::Outcome;
 use crate::rows::run_over;
-use crate::source::program_of;
+use crate::source::accepted_of;
 use crate::status::Status;
 use bl_crun::{LoadFault, Runner};
 use bl_io::{Files, Sink};
+use bl_rules::Accepted;
 use bl_stream::laws::{rows_of_bytes_fit, rows_of_lines_fit};
-use bl_tree::{NoMemory, Program};
+use bl_tree::NoMemory;
 use std::alloc::Global;
 
 /// Runs the source file of this name over a file of rows.
@@ -47,26 +48,28 @@ pub fn run<F: Files, O: Sink>(
     ensures file_counts { NeverFell (F.faults files.old) (F.faults files.new) }
     ensures out_count { O.faults out.old ≤ O.faults out.new }
 {
-    let accepted = match program_of(alloc, source, files) {
+    let accepted = match accepted_of(alloc, source, files) {
         Ok(accepted) => accepted,
         Err(outcome) => return outcome,
     };
-    match runner_of(alloc, accepted.program()) {
+    match runner_of(alloc, &accepted) {
         Ok(runner) => run_over(alloc, runner, rows, files, out),
         Err(_) => Outcome::plain(alloc, Status::NoMemory),
     }
 }
 
-/// The C file of a program of the form, loaded.
-pub fn runner_of(alloc: Global, program: &Program) -> Result<Runner, NoMemory>
-    requires { is_early program.now.structs program.now.units ≡ true }
-    ensures one_trace { IfOk result (λ runner. OneTrace program.now.structs program.now.units program.now.entry (behaviour_of runner.parts)) }
-    ensures course { IfOk result (λ runner. HasCourse program.now.structs program.now.units program.now.entry (course_of runner.parts)) }
+/// The C file of the accepted program of a text, loaded.
+pub fn runner_of(alloc: Global, accepted: &Accepted) -> Result<Runner, NoMemory>
+    requires { IsOfText accepted.now.program }
+    ensures one_trace { IfOk result (λ runner. OneTrace accepted.now.program.structs accepted.now.program.units accepted.now.program.entry
+        (behaviour_of runner.parts)) }
+    ensures course { IfOk result (λ runner. HasCourse accepted.now.program.structs accepted.now.program.units accepted.now.program.entry
+        (course_of runner.parts)) }
     ensures fresh { IfOk result (λ runner. runner ≡ loaded runner.parts) }
 {
     rows_of_bytes_fit();
     rows_of_lines_fit();
-    let file = c_file(alloc, program)?;
+    let file = c_file(alloc, accepted)?;
     match Runner::load(alloc, file) {
         Ok(runner) => Ok(runner),
         Err((_, fault)) => Err(wanting(fault)),

@@ -4,14 +4,13 @@ ghost use Rattle.std.specs.Prelude.{IfErr, IfOk, OnOk};
 ghost use Rattle.bl_io.specs.Count.{NeverFell};
 ghost use Rattle.bl_io.specs.Left.{KeepsOthers, StandsFurther};
 ghost use Rattle.bl_top.specs.inner.Outcomes.{IsRefusedBy, line_in};
-ghost use Rattle.bl_top.specs.inner.Programs.{IsBuilt, IsProgram};
+ghost use Rattle.bl_top.specs.inner.Programs.{IsProgram};
 ghost use Rattle.bl_top.specs.Reads.{LeftBehind, source_limit};
-ghost use Rattle.bl_top.specs.Refusals.{IsNotAccepted, Stops};
+ghost use Rattle.bl_top.specs.Refusals.{IsNotAccepted};
 
 use crate::outcome::Outcome;
 use crate::refusal::line;
 use crate::status::Status;
-use bl_early::is_early;
 use bl_io::{Files, IoFault, read_up_to};
 use bl_rules::{Accepted, accept};
 use bl_tree::Refusal;
@@ -19,26 +18,6 @@ use std::alloc::Global;
 
 /// How far a source is read: one byte past the longest that is accepted.
 const LIMIT: usize = 1_048_577;
-
-/// The program of a source that no rule refuses and that is of the form which is built, or how the job ends.
-pub fn program_of<F: Files>(alloc: Global, source: &str, files: &mut F) -> Result<Accepted, Outcome>
-    ensures program { IfOk result (λ accepted. IsBuilt (F.left files.old source.now) accepted.program) }
-    ensures behind { OnOk result (LeftBehind source_limit source.now (F.left files.old) (F.left files.new)) }
-    ensures stopped { IfErr result (λ outcome. Stops (F.left files.old source.now)
-        (record { before = F.faults files.old source.now; after = F.faults files.new source.now }) outcome.status (line_in outcome)) }
-    ensures further { StandsFurther source_limit (F.left files.old source.now) (F.left files.new source.now) }
-    ensures others { KeepsOthers source.now (F.left files.old) (F.left files.new) }
-    ensures file_counts { NeverFell (F.faults files.old) (F.faults files.new) }
-{
-    let accepted = match accepted_of(alloc, source, files) {
-        Ok(accepted) => accepted,
-        Err(outcome) => return Err(outcome),
-    };
-    if is_early(accepted.program()) {
-        return Ok(accepted);
-    }
-    Err(Outcome::plain(alloc, Status::Unbuilt))
-}
 
 /// The program of a source that no rule refuses, or how the job ends.
 pub fn accepted_of<F: Files>(

@@ -29,8 +29,6 @@ pub enum Status {
     PlantShape,
     /// The C text is too long, its file needs too many cells, or a program would have too many stages.
     TooLarge,
-    /// The source isn't in a form that is built today.
-    Unbuilt,
     /// A run whose state was to be saved has ended, so it has none to go on from.
     SaveEnded,
     /// A file holds no saved state of the C text (docs/FORMATS.md, "Saved states").
@@ -55,7 +53,6 @@ impl Status {
             Status::PlantFault => 9,
             Status::PlantShape => 10,
             Status::TooLarge => 11,
-            Status::Unbuilt => 12,
             Status::SaveEnded => 14,
             Status::BadState => 15,
         }

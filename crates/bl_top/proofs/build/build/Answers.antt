@@ -1,25 +1,28 @@
 -- How the command ends, and what is left of its file.
-use Rattle.std.proofs.Common.{[], sym, subst}
-use Rattle.bl_top.specs.inner.Programs.{IsBuilt}
+use Rattle.std.proofs.Common.{[]}
 use Rattle.bl_top.specs.Reads.{source_file}
 use Rattle.bl_top.proofs.Cuts.{kept_same, reads_first}
 use Rattle.bl_top.proofs.Ends.{build_stopped, build_written}
+use Rattle.bl_top.proofs.Fronts.{is_of_text}
 use Rattle.bl_top.proofs.build.build.Goals as goal
+
+pub write_c-requires : goal.write_c-requires
+write_c-requires g c = is_of_text _ c.in-Ok.accepted.program c.in-Ok.ensures.program
 
 pub returns-in-Ok-clause-ends : goal.returns-in-Ok-clause-ends
 returns-in-Ok-clause-ends g c = λ notes.
-    build_written _ _ c.program.result.now _ _ (subst (IsBuilt _) (sym c.program.ensures) c.in-Ok.ensures.program)
+    build_written _ _ c.in-Ok.accepted.program _ _ c.in-Ok.ensures.program
     c.write_c.ensures.writes c.write_c.ensures.line
 
 pub returns-in-Ok-clause-reads : goal.returns-in-Ok-clause-reads
 returns-in-Ok-clause-reads g c =
-    reads_first (source_file c.args.source.now) [] (g.F.Files.left c.args.files.now) (g.F.Files.left c.program_of.new.files)
-    c.program_of.ensures.further c.program_of.ensures.others
+    reads_first (source_file c.args.source.now) [] (g.F.Files.left c.args.files.now) (g.F.Files.left c.accepted_of.new.files)
+    c.accepted_of.ensures.further c.accepted_of.ensures.others
 
 pub returns-in-Err-clause-ends : goal.returns-in-Err-clause-ends
 returns-in-Err-clause-ends g c = λ notes. build_stopped _ _ _ _ c.in-Err.ensures.stopped (kept_same _)
 
 pub returns-in-Err-clause-reads : goal.returns-in-Err-clause-reads
 returns-in-Err-clause-reads g c =
-    reads_first (source_file c.args.source.now) [] (g.F.Files.left c.args.files.now) (g.F.Files.left c.program_of.new.files)
-    c.program_of.ensures.further c.program_of.ensures.others
+    reads_first (source_file c.args.source.now) [] (g.F.Files.left c.args.files.now) (g.F.Files.left c.accepted_of.new.files)
+    c.accepted_of.ensures.further c.accepted_of.ensures.others

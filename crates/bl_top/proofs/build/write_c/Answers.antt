@@ -10,7 +10,8 @@ returns-in-Err-clause-writes g c = wrote_nothing _ _ _ c.plain.ensures (kept_sam
 
 pub returns-clause-writes : goal.returns-clause-writes
 returns-clause-writes g c =
-    writes_as _ (IsTextOfParts c.args.program.now.structs c.args.program.now.units c.args.program.now.entry) _ _
+    let program = c.args.accepted.now.program in
+    writes_as _ (IsTextOfParts program.structs program.units program.entry) _ _
     (λ text is.
-    subst (IsTextOfParts c.args.program.now.structs c.args.program.now.units c.args.program.now.entry) (sym (is ∙ c.deref.ensures.value)) c.in-Ok.ensures)
+    subst (IsTextOfParts program.structs program.units program.entry) (sym (is ∙ c.deref.ensures.value)) c.in-Ok.ensures)
     c.write_result.ensures.writes

@@ -1,11 +1,14 @@
 -- How the command ends, and what is left of its file.
-use Rattle.std.proofs.Common.{[], ◌∙◌, ap, refl, sym, subst}
+use Rattle.std.proofs.Common.{[], ◌∙◌, ap, refl}
 use Rattle.bl_top.specs.declared.outcome.Outcome.{Outcome}
-use Rattle.bl_top.specs.inner.Programs.{IsBuilt}
 use Rattle.bl_top.specs.Reads.{source_file}
 use Rattle.bl_top.proofs.Cuts.{kept_same, reads_first}
 use Rattle.bl_top.proofs.Driven.{drive_drove, drive_short, drive_stopped}
+use Rattle.bl_top.proofs.Fronts.{is_of_text}
 use Rattle.bl_top.proofs.drive.drive.Goals as goal
+
+pub report_of-requires : goal.report_of-requires
+report_of-requires g c = is_of_text _ c.in-Ok.accepted.program c.in-Ok.ensures.program
 
 pub returns-in-Err-clause-ends : goal.returns-in-Err-clause-ends
 returns-in-Err-clause-ends g c = λ notes.
@@ -14,27 +17,27 @@ returns-in-Err-clause-ends g c = λ notes.
 
 pub returns-in-Err-clause-reads : goal.returns-in-Err-clause-reads
 returns-in-Err-clause-reads g c =
-    reads_first (source_file c.args.source.now) [] (g.F.Files.left c.args.files.now) (g.F.Files.left c.program_of.new.files)
-    c.program_of.ensures.further c.program_of.ensures.others
+    reads_first (source_file c.args.source.now) [] (g.F.Files.left c.args.files.now) (g.F.Files.left c.accepted_of.new.files)
+    c.accepted_of.ensures.further c.accepted_of.ensures.others
 
 pub returns-in-Ok-report_of-clause-ends : goal.returns-in-Ok-report_of-clause-ends
 returns-in-Ok-report_of-clause-ends g c = λ notes.
-    drive_drove _ _ _ _ _ c.program.result.now c.in-Ok-report_of.report c.write_report.result
-    (subst (IsBuilt _) (sym c.program.ensures) c.in-Ok.ensures.program) c.in-Ok-report_of.ensures.report c.write_report.ensures.writes
+    drive_drove _ _ _ _ _ c.in-Ok.accepted.program c.in-Ok-report_of.report c.write_report.result
+    c.in-Ok.ensures.program c.in-Ok-report_of.ensures.report c.write_report.ensures.writes
 
 pub returns-in-Ok-report_of-clause-reads : goal.returns-in-Ok-report_of-clause-reads
 returns-in-Ok-report_of-clause-reads g c =
-    reads_first (source_file c.args.source.now) [] (g.F.Files.left c.args.files.now) (g.F.Files.left c.program_of.new.files)
-    c.program_of.ensures.further c.program_of.ensures.others
+    reads_first (source_file c.args.source.now) [] (g.F.Files.left c.args.files.now) (g.F.Files.left c.accepted_of.new.files)
+    c.accepted_of.ensures.further c.accepted_of.ensures.others
 
 pub returns-clause-ends : goal.returns-clause-ends
 returns-clause-ends g c = λ notes.
-    drive_short _ _ _ _ _ c.program.result.now c.alone-in-Err-report_of.result
-    (subst (IsBuilt _) (sym c.program.ensures) c.in-Ok.ensures.program) c.in-Err-report_of.ensures.left
+    drive_short _ _ _ _ _ c.in-Ok.accepted.program c.alone-in-Err-report_of.result
+    c.in-Ok.ensures.program c.in-Err-report_of.ensures.left
     (ap (λ (o : Outcome). o.status) c.alone-in-Err-report_of.ensures.outcome ∙ c.plain.ensures) c.alone-in-Err-report_of.ensures.told
     (kept_same _)
 
 pub returns-clause-reads : goal.returns-clause-reads
 returns-clause-reads g c =
-    reads_first (source_file c.args.source.now) [] (g.F.Files.left c.args.files.now) (g.F.Files.left c.program_of.new.files)
-    c.program_of.ensures.further c.program_of.ensures.others
+    reads_first (source_file c.args.source.now) [] (g.F.Files.left c.args.files.now) (g.F.Files.left c.accepted_of.new.files)
+    c.accepted_of.ensures.further c.accepted_of.ensures.others

@@ -1,38 +1,40 @@
 -- How the command ends, and what is left of its files.
-use Rattle.std.proofs.Common.{[], ◌∷◌, sym, subst}
+use Rattle.std.proofs.Common.{[], ◌∷◌}
 use Rattle.bl_stream.specs.Streams.{course_of}
-use Rattle.bl_top.specs.inner.Programs.{IsBuilt}
 use Rattle.bl_top.specs.Reads.{rows_file, source_file}
 use Rattle.bl_top.proofs.Cuts.{kept_same, reads_both, reads_first}
 use Rattle.bl_top.proofs.Ends.{run_ran, run_stops}
-use Rattle.bl_top.proofs.Fronts.{stops_before, stops_short}
+use Rattle.bl_top.proofs.Fronts.{is_of_text, stops_short}
 use Rattle.bl_top.proofs.run.run.Goals as goal
+
+pub runner_of-requires : goal.runner_of-requires
+runner_of-requires g c = is_of_text _ c.in-Ok.accepted.program c.in-Ok.ensures.program
 
 pub returns-in-Err-clause-ends : goal.returns-in-Err-clause-ends
 returns-in-Err-clause-ends g c = λ notes. run_stops _ _ _ _ _ c.in-Err.ensures.stopped (kept_same _)
 
 pub returns-in-Err-clause-reads : goal.returns-in-Err-clause-reads
 returns-in-Err-clause-reads g c =
-    reads_first (source_file c.args.source.now) (rows_file c.args.rows.now ∷ []) (g.F.Files.left c.args.files.now) (g.F.Files.left c.program_of.new.files)
-    c.program_of.ensures.further c.program_of.ensures.others
+    reads_first (source_file c.args.source.now) (rows_file c.args.rows.now ∷ []) (g.F.Files.left c.args.files.now) (g.F.Files.left c.accepted_of.new.files)
+    c.accepted_of.ensures.further c.accepted_of.ensures.others
 
 pub returns-in-Ok-runner_of-clause-ends : goal.returns-in-Ok-runner_of-clause-ends
 returns-in-Ok-runner_of-clause-ends g c = λ notes.
-    run_ran _ _ _ c.program.result.now (course_of c.in-Ok-runner_of.runner.parts)
-    (g.F.Files.left c.program_of.new.files) _ _ _
-    (subst (IsBuilt _) (sym c.program.ensures) c.in-Ok.ensures.program) c.in-Ok-runner_of.ensures.course
-    c.in-Ok.ensures.behind (c.program_of.ensures.file_counts _) c.run_over.ensures.streams
+    run_ran _ _ _ c.in-Ok.accepted.program (course_of c.in-Ok-runner_of.runner.parts)
+    (g.F.Files.left c.accepted_of.new.files) _ _ _
+    c.in-Ok.ensures.program c.in-Ok-runner_of.ensures.course
+    c.in-Ok.ensures.behind (c.accepted_of.ensures.file_counts _) c.run_over.ensures.streams
 
 pub returns-in-Ok-runner_of-clause-reads : goal.returns-in-Ok-runner_of-clause-reads
 returns-in-Ok-runner_of-clause-reads g c =
-    reads_both (source_file c.args.source.now) (rows_file c.args.rows.now) (g.F.Files.left c.args.files.now) (g.F.Files.left c.program_of.new.files)
-    (g.F.Files.left c.run_over.new.files) c.program_of.ensures.further c.program_of.ensures.others
+    reads_both (source_file c.args.source.now) (rows_file c.args.rows.now) (g.F.Files.left c.args.files.now) (g.F.Files.left c.accepted_of.new.files)
+    (g.F.Files.left c.run_over.new.files) c.accepted_of.ensures.further c.accepted_of.ensures.others
     c.run_over.ensures.reads c.run_over.ensures.others
 
 pub returns-clause-ends : goal.returns-clause-ends
-returns-clause-ends g c = λ notes. run_stops _ _ _ _ _ (stops_before _ _ _ _ (stops_short _ _ _ _ c.plain.ensures)) (kept_same _)
+returns-clause-ends g c = λ notes. run_stops _ _ _ _ _ (stops_short _ _ _ _ c.plain.ensures) (kept_same _)
 
 pub returns-clause-reads : goal.returns-clause-reads
 returns-clause-reads g c =
-    reads_first (source_file c.args.source.now) (rows_file c.args.rows.now ∷ []) (g.F.Files.left c.args.files.now) (g.F.Files.left c.program_of.new.files)
-    c.program_of.ensures.further c.program_of.ensures.others
+    reads_first (source_file c.args.source.now) (rows_file c.args.rows.now ∷ []) (g.F.Files.left c.args.files.now) (g.F.Files.left c.accepted_of.new.files)
+    c.accepted_of.ensures.further c.accepted_of.ensures.others

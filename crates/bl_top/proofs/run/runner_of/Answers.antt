@@ -6,13 +6,15 @@ use Rattle.bl_top.proofs.run.runner_of.Goals as goal
 
 pub returns-in-Ok-clause-course : goal.returns-in-Ok-clause-course
 returns-in-Ok-clause-course c =
-    course_of_parts c.args.program.now.structs c.args.program.now.units c.args.program.now.entry c.in_ok-file.file c.in-Ok.runner.parts
+    let program = c.args.accepted.now.program in
+    course_of_parts program.structs program.units program.entry c.in_ok-file.file c.in-Ok.runner.parts
     (loaded_parts c.in-Ok.runner (parts_of c.in_ok-file.file) c.in-Ok.ensures.loaded) c.in_ok-file.ensures
     c.rows_of_bytes_fit.ensures c.rows_of_lines_fit.ensures
 
 pub returns-in-Ok-clause-one_trace : goal.returns-in-Ok-clause-one_trace
 returns-in-Ok-clause-one_trace c =
-    one_trace_of c.args.program.now.structs c.args.program.now.units c.args.program.now.entry (parts_of c.in_ok-file.file) c.in-Ok.runner.parts
+    let program = c.args.accepted.now.program in
+    one_trace_of program.structs program.units program.entry (parts_of c.in_ok-file.file) c.in-Ok.runner.parts
     (loaded_parts c.in-Ok.runner (parts_of c.in_ok-file.file) c.in-Ok.ensures.loaded) c.in_ok-file.ensures.one_trace
 
 pub returns-in-Ok-clause-fresh : goal.returns-in-Ok-clause-fresh
@@ -20,5 +22,6 @@ returns-in-Ok-clause-fresh c = loaded_fresh c.in-Ok.runner (parts_of c.in_ok-fil
 
 pub wanting-requires : goal.wanting-requires
 wanting-requires c =
-    wants_memory c.in_ok-file.file c.args.program.now.structs c.args.program.now.units c.args.program.now.entry c.in-Err.fault
+    let program = c.args.accepted.now.program in
+    wants_memory c.in_ok-file.file program.structs program.units program.entry c.in-Err.fault
     c.in_ok-file.ensures c.in-Err.ensures.fault

@@ -1,4 +1,0 @@
-pub mod Emitted
-pub mod Form
-pub mod Run
-pub mod inner

@@ -1,5 +1,0 @@
-use Rattle.bl_early_laws.proofs.WrittenTraces.{law}
-use Rattle.bl_early_laws.proofs.written.written_trace.Goals as goal
-
-pub returns : goal.returns
-returns c = law c.args._program.now.structs c.args._program.now.units c.args._program.now.entry c.args._program.now.keeps c.requires

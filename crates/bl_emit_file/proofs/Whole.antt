@@ -1,0 +1,136 @@
+-- The laws of the C of a program's parts together.
+use Rattle.std.proofs.Common.{◌≡◌, ◌↔◌, ℕ, ℤ, suc, ◌+◌, true, List, [], ◌∷◌, Option, None, Some, refl, sym, ap, subst, ◌∙◌, arith}
+use Rattle.std.specs.Prelude.{option_and_then, option_map, slice_get, unwrap_or}
+use Rattle.bl_tree.specs.declared.program.Program.{Program}
+use Rattle.bl_tree.specs.declared.rule.Rule.TheVariants as rule
+use Rattle.bl_tree.specs.declared.tree.StructDef.{StructDef}
+use Rattle.bl_tree.specs.declared.tree.Unit.{Unit as UnitDef}
+use Rattle.bl_tree.specs.Ports.{RowsFit, input_columns}
+use Rattle.bl_tree.specs.Program.{is_entry}
+use Rattle.bl_ctree.specs.declared.instance.Instance.{Instance}
+use Rattle.bl_ctree.specs.Instances.{Setting, expanded, instances_below, runs_of, setting_of, unit_at, unit_of}
+use Rattle.bl_ctree.specs.Means.{Means, Shown, shown}
+use Rattle.bl_cmeaning.specs.Faults.{WellFormed}
+use Rattle.bl_cmeaning.specs.Parts.{Parts, parts_from}
+use Rattle.bl_cmeaning.specs.Trace.{c_trace}
+use Rattle.bl_machine.specs.declared.machine.Activity.{Activity as InMachine}
+use Rattle.bl_pass_laws_runs.specs.Runs.{RunByRules}
+use Rattle.bl_emit_functions_laws_units.specs.Laws.{NoneOverlaps}
+use Rattle.bl_emit_pass.specs.Programs.{Written, written}
+use Rattle.bl_emit_pass_laws_calls.specs.Built.{Activities, cleared, rank_by, slots_by}
+use Rattle.bl_emit_pass_laws_calls.specs.Laws.{Compiled}
+use Rattle.bl_emit_pass_laws_come.specs.Laws.{AllCome}
+use Rattle.bl_emit_pass_laws_compiled.specs.Laws.{ProgramsCompile}
+use Rattle.bl_emit_pass_laws_entry.specs.Laws.{EntryRuns}
+use Rattle.bl_emit_pass_laws_files.specs.Laws.{FileShows, RowsSuffice}
+use Rattle.bl_emit_pass_laws_tables.specs.Laws.{ActivitiesBuilt}
+use Rattle.bl_emit_laws_accepted.specs.Laws.{ProgramsFormed}
+use Rattle.bl_emit_laws_cells.specs.Laws.{FilesSmall}
+use Rattle.bl_emit_laws_kept.specs.Laws.{activities_in, written_file}
+use Rattle.bl_emit_laws_shows.specs.Laws.{WrittenShows}
+use Rattle.bl_emit_file.specs.Laws.{Known, ProgramsShow}
+use Rattle.bl_emit_file.specs.Shows.{ShowsProgram}
+
+-- ---- the entry
+
+entry_there : (o : Option UnitDef) → is_entry o ≡ true → (unit : UnitDef) × (o ≡ Some unit)
+entry_there None h = absurd (cc)
+entry_there (Some unit) h = (unit, refl)
+
+abbrev root : ℕ → Instance
+root entry = record { unit = entry; depth = 0; origin = None }
+
+-- the entry is the unit of the first instance
+entry_is : (structs : List StructDef) (units : List UnitDef) (entry : ℕ) (unit : UnitDef) → slice_get units entry ≡ Some unit →
+    unit_at (setting_of structs units entry) 0 ≡ Some unit
+entry_is structs units entry unit there =
+    let one : entry + 1 ≡ suc entry = omega arith in
+    let first : slice_get (setting_of structs units entry).instances 0 ≡ Some (root entry) =
+    ap (λ n. slice_get (expanded units n entry) 0) one
+    ∙ ap (λ (o : Option UnitDef). slice_get (unwrap_or (option_map (λ (unit : UnitDef). root entry
+    ∷ instances_below (expanded units entry) 1 (runs_of unit)) o) []) 0) there in
+    ap (option_and_then (unit_of (setting_of structs units entry))) first ∙ there
+
+-- ---- the file
+
+-- what the laws of its parts give
+pub record Laws (program : Program) : Type 0 where
+  pub built : ActivitiesBuilt
+  pub compile : ProgramsCompile program.structs program.units program.entry
+  pub come : AllCome program.structs program.units program.entry
+  pub rows : RowsSuffice
+  pub runs : EntryRuns
+  pub shows : WrittenShows program
+  pub formed : ProgramsFormed program
+  pub small : FilesSmall program
+
+module _ (program : Program) (machine : List InMachine) (laws : Laws program) (known : Known program machine) where
+  abbrev structs : List StructDef
+  structs = program.structs
+
+  abbrev units : List UnitDef
+  units = program.units
+
+  abbrev entry : ℕ
+  entry = program.entry
+
+  abbrev W : Setting
+  W = setting_of structs units entry
+
+  abbrev activities : Activities
+  activities = activities_in program machine
+
+  abbrev file : Parts
+  file = written_file program machine
+
+  compiled : Compiled structs units entry machine activities
+  compiled =
+      laws.compile machine activities known.keeps known.passes known.text known.agrees known.plain (laws.built structs units machine known.agrees)
+      known.countable
+
+  none_overlap : NoneOverlaps units
+  none_overlap at also fails = known.passes rule.Alias at also fails
+
+  module _ (unit : UnitDef) (there : slice_get units entry ≡ Some unit) where
+    formed : WellFormed file
+    formed = laws.formed machine known.keeps known.passes known.limits known.agrees known.plain
+
+    shows : FileShows W activities unit file
+    shows = laws.shows machine unit compiled there none_overlap (laws.come machine activities known.limits compiled) formed
+
+    by_rules : (rows : List (List ℤ)) → RowsFit (input_columns unit) rows →
+        RunByRules structs units entry (rank_by W activities) (slots_by W activities) (cleared W) unit rows (λ i c. 0)
+    by_rules rows fit =
+        laws.runs structs units entry machine activities unit rows (λ i c. 0) compiled (entry_is structs units entry unit there)
+        (laws.rows structs units entry unit rows known.keeps there fit) refl
+
+    traced : (rows : List (List ℤ)) (seen : Shown) → RowsFit (input_columns unit) rows →
+        Means structs units entry rows seen ↔ (seen ≡ shown (c_trace file rows))
+    traced rows seen fit =
+        let run = by_rules rows fit in
+        let same : c_trace file rows ≡ run.one.trace = shows.trace rows (λ i c. 0) run.one.trace fit (λ i c. refl) run.run in (
+          λ means. run.one.only seen means ∙ ap shown (sym same),
+          λ is. subst (Means structs units entry rows) (sym (is ∙ ap shown same)) run.one.means,
+        )
+
+    shown_whole : ShowsProgram structs units entry file
+    shown_whole = record {
+      unit = unit;
+      is_entry = there;
+      well_formed = formed;
+      small = laws.small machine known.keeps known.passes known.limits known.agrees known.plain unit there;
+      inputs = shows.inputs;
+      outputs = shows.outputs;
+      trace = traced;
+    }
+
+  pub shows_program : ShowsProgram structs units entry file
+  shows_program = let found = entry_there (slice_get units entry) known.keeps.entry_stands in shown_whole found.0 found.1
+
+-- what is written of an accepted program's machine shows the program
+pub file_shows : (program : Program) (machine : List InMachine) (made : Written) → ProgramsShow program →
+    Known program machine → made ≡ written program machine →
+    ShowsProgram program.structs program.units program.entry (parts_from made.structs made.funcs)
+file_shows program machine made show known same =
+    subst (λ (it : Written). ShowsProgram program.structs program.units program.entry (parts_from it.structs it.funcs)) (sym same)
+    (show machine known)

@@ -1,0 +1,28 @@
+-- What is known of a program for which no rule fails, and what the C that is written of it shows.
+use Rattle.std.specs.Prelude.{List}
+use Rattle.bl_tree.specs.declared.program.Program.{Program}
+use Rattle.bl_tree.specs.Program.{Keeps}
+use Rattle.bl_effects.specs.Rules.{Passes}
+use Rattle.bl_limits.specs.Rules.{Passes as KeepsLimits}
+use Rattle.bl_prevs.specs.Declared.{FromText}
+use Rattle.bl_machine.specs.declared.machine.Activity.{Activity as InMachine}
+use Rattle.bl_machine.specs.Machines.{AreActivitiesOf}
+use Rattle.bl_emit_laws_kept.specs.Laws.{written_file}
+use Rattle.bl_emit_pass_laws_compiled.specs.Laws.{AreCountable, IsPlain}
+use Rattle.bl_emit_file.specs.Shows.{ShowsProgram}
+
+-- no rule fails for a program that is made of a text, its machine is plain, and 64 bits count the variables and statements of its units
+pub record Known (program : Program) (machine : List InMachine) : Type 0 where
+  pub keeps : Keeps program.structs program.units program.entry
+  pub passes : Passes program.units
+  pub limits : KeepsLimits program.structs program.units program.entry
+  pub text : FromText program.units
+  pub agrees : AreActivitiesOf program.units machine
+  pub plain : IsPlain program.units machine
+  pub countable : AreCountable program.units
+
+-- what is written of such a program shows what it means
+abbrev pub ProgramsShow : Program → Type 0
+ProgramsShow program =
+    (machine : List InMachine) → Known program machine →
+    ShowsProgram program.structs program.units program.entry (written_file program machine)

@@ -1,0 +1,25 @@
+-- What the C file of a program is, seen from outside.
+use Rattle.std.specs.Prelude.{◌≡◌, ◌↔◌, ◌≤◌, ℕ, ℤ, List, Some, slice_get}
+use Rattle.bl_tree.specs.declared.tree.StructDef.{StructDef}
+use Rattle.bl_tree.specs.declared.tree.Unit.{Unit as UnitDef}
+use Rattle.bl_tree.specs.Ports.{RowsFit, input_columns, output_columns}
+use Rattle.bl_ctree.specs.Means.{Means, Shown, shown}
+use Rattle.bl_cmeaning.specs.Cells.{inputs_of, outputs_of}
+use Rattle.bl_cmeaning.specs.Faults.{WellFormed}
+use Rattle.bl_cmeaning.specs.Parts.{Parts}
+use Rattle.bl_cmeaning.specs.Sizes.{cells_needed}
+use Rattle.bl_cmeaning.specs.Trace.{c_trace}
+
+-- the C file of the program with these structs, these units and this entry
+pub record ShowsProgram (structs : List StructDef) (units : List UnitDef) (entry : ℕ) (file : Parts) : Type 0 where
+  pub unit : UnitDef
+  pub is_entry : slice_get units entry ≡ Some unit
+  -- no clause of a well-formed file fails in it
+  pub well_formed : WellFormed file
+  -- it needs no more cells than can be loaded, and its inputs and outputs are those of the entry
+  pub small : cells_needed file ≤ 1000000
+  pub inputs : inputs_of file ≡ input_columns unit
+  pub outputs : outputs_of file ≡ output_columns unit
+  -- over all rows that fit its inputs the parallel meaning allows its trace, and no other
+  pub trace : (rows : List (List ℤ)) (shows : Shown) → RowsFit (input_columns unit) rows →
+      Means structs units entry rows shows ↔ (shows ≡ shown (c_trace file rows))

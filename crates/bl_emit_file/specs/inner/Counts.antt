@@ -1,0 +1,11 @@
+-- What is counted of a unit.
+use Rattle.std.specs.Prelude.{ℕ, ◌^◌, Bool, length, nat_le}
+use Rattle.bl_tree.specs.declared.tree.Unit.{Unit as UnitDef}
+
+-- whether so many are few enough for 64 bits, with what stands at them
+abbrev pub is_few : ℕ → Bool
+is_few n = nat_le n (2 ^ 62)
+
+-- whether the unit has so few variables
+abbrev pub has_few : UnitDef → Bool
+has_few unit = is_few (length unit.vars)

@@ -1,0 +1,27 @@
+//! The laws of the C of a program's parts, put together.
+
+ghost use Rattle.bl_emit_file.specs.Laws.{ProgramsShow};
+
+use bl_emit_laws_accepted::programs_formed;
+use bl_emit_laws_cells::files_small;
+use bl_emit_laws_shows::written_shows;
+use bl_emit_pass_laws_come::all_come;
+use bl_emit_pass_laws_compiled::programs_compile;
+use bl_emit_pass_laws_entry::entry_runs;
+use bl_emit_pass_laws_files::rows_suffice;
+use bl_emit_pass_laws_tables::activities_built;
+use bl_tree::Program;
+
+/// What is written of a program for which no rule fails shows what the program means.
+pub fn programs_show(program: &Program)
+    ensures { ProgramsShow program.now }
+{
+    activities_built();
+    programs_compile(program);
+    all_come(program);
+    rows_suffice();
+    entry_runs();
+    written_shows(program);
+    programs_formed(program);
+    files_small(program);
+}

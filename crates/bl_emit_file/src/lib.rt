@@ -1,0 +1,44 @@
+//! The C file of an accepted program. `c_file` makes it: it has a spelling, is well formed, has the columns of the program's entry and needs at most
+//! 1,000,000 cells; over all rows that fit it has the one trace that the meaning of the program allows, and no other (`specs/Shows.antt`,
+//! `ShowsProgram`). The program has to be made of a source text (`FromText` of `bl_prevs`). A law, as the contract of a function that does nothing,
+//! puts those of the parts together (`specs/Laws.antt`, `ProgramsShow`).
+#![tactic(auto)]
+
+mod counts;
+mod laws;
+
+ghost use Rattle.std.specs.Prelude.{IfOk};
+ghost use Rattle.bl_cmeaning.specs.Parts.{parts_of};
+ghost use Rattle.bl_prevs.specs.Declared.{FromText};
+ghost use Rattle.bl_emit_file.specs.Shows.{ShowsProgram};
+
+use crate::counts::counted;
+use crate::laws::programs_show;
+use bl_cause::Accepted;
+use bl_ctext::CFile;
+use bl_emit::emit;
+use bl_emit_laws::written_is_told;
+use bl_emit_laws_spelled::programs_spelled;
+use bl_machine::Machine;
+use bl_tree::NoMemory;
+use std::alloc::Global;
+
+/// The C file of an accepted program. Fails only for want of memory.
+pub fn c_file(alloc: Global, accepted: &Accepted) -> Result<CFile, NoMemory>
+    requires { FromText accepted.now.tree.units }
+    ensures { IfOk result (λ file. ShowsProgram accepted.now.tree.structs accepted.now.tree.units accepted.now.tree.entry (parts_of file)) }
+{
+    let program = accepted.tree();
+    accepted.is_accepted();
+    programs_show(program);
+    programs_spelled(program);
+    written_is_told();
+    counted(alloc, program)?;
+    let machine = Machine::of(alloc, accepted)?;
+    machine.is_machine();
+    let made = emit(alloc, &machine)?;
+    Ok(CFile {
+        structs: made.structs,
+        funcs: made.funcs,
+    })
+}
