@@ -1,0 +1,77 @@
+"""The instances of activities: their variables, and what is done to them."""
+import copy
+
+import tree
+from effects import part_of, read_by
+from functions import Evaluator, call
+from values import part, store, type_of_place, zero
+
+
+class Instance:
+    """An activity that the entry or a `run` has, with its variables now and when the tick began."""
+
+    def __init__(self, unit, caller=None, statement=None):
+        self.unit, self.caller, self.statement, self.result = unit, caller, statement, None
+        self.now = {it: zero(it.type) for it in unit.variables}
+        self.before = {it: zero(it.type) for it in unit.variables}
+        # the instance of each `run` that has begun
+        self.called = {}
+        self.evaluator = Evaluator(self.get, lambda variable: self.before[variable])
+
+    def home(self, place):
+        """Whose variable a part is: an output is a part of a variable of the caller."""
+        variable, names = place
+        if self.caller and variable in self.unit.outputs:
+            outer, front = part_of(self.statement.outputs[self.unit.outputs.index(variable)])
+            return self.caller.home((outer, front + names))
+        return self, variable, names
+
+    def homes(self, places):
+        return [self.home(it) for it in places]
+
+    def get(self, variable, path):
+        owner, whole, names = self.home((variable, ()))
+        return part(owner.now[whole], [*names, *path])
+
+    def put(self, variable, path, value):
+        owner, whole, names = self.home((variable, ()))
+        store(owner.now, whole, [*names, *path], value)
+
+    def holds(self, condition):
+        return self.evaluator.value(condition, "bool")
+
+    def read_by(self, expression):
+        return self.homes(read_by(expression))
+
+    def callee(self, statement):
+        """The instance of a `run`, which keeps its variables where the `run` begins again."""
+        if statement not in self.called:
+            self.called[statement] = Instance(statement.activity, self, statement)
+        return self.called[statement]
+
+    def copy_inputs(self, statement):
+        """Sets the inputs of what is run."""
+        inputs = self.evaluator.inputs(statement.inputs, statement.activity)
+        self.callee(statement).now.update(zip(statement.activity.inputs, inputs))
+
+    def begin_tick(self):
+        """Keeps what the variables are now, for `prev`."""
+        self.before = {variable: copy.deepcopy(value) for variable, value in self.now.items()}
+        for it in self.called.values():
+            it.begin_tick()
+
+    def act(self, statement):
+        """Does a statement that ends at once and has no statements in it."""
+        if isinstance(statement, tree.Declare):
+            kind = statement.variable.type
+            value = self.evaluator.value(statement.value, kind) if statement.value else zero(kind)
+            self.now[statement.variable] = value
+            # a declaration sets what `prev` gives, too
+            self.before[statement.variable] = copy.deepcopy(value)
+        elif isinstance(statement, tree.Assign):
+            value = self.evaluator.value(statement.value, type_of_place(statement.place))
+            self.put(statement.place.variable, self.evaluator.path(statement.place), value)
+        elif isinstance(statement, tree.CallStatement):
+            call(self, self.evaluator, statement)
+        elif statement.value:
+            self.result = self.evaluator.value(statement.value, self.unit.result)

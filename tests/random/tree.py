@@ -1,0 +1,226 @@
+"""The tree of a program: its types, expressions, statements and units.
+
+A basic type is its name, as `int32`. Trees are compared by identity, since the same text may stand at two places.
+"""
+import dataclasses
+from typing import Any
+
+node = dataclasses.dataclass(eq=False)
+
+
+# ---- types
+
+
+@node
+class Array:
+    """An array type."""
+
+    length: int
+    element: Any
+
+
+@node
+class Struct:
+    """A struct type, with the type of each field."""
+
+    name: str
+    fields: dict
+
+
+# ---- expressions
+
+
+@node
+class Variable:
+    """A variable, an input or an output of a unit."""
+
+    name: str
+    type: Any
+
+
+@node
+class Number:
+    """A number without a type of its own."""
+
+    value: int
+
+
+@node
+class Constant:
+    """A value with its type: `true`, `false`, or what a name of a constant stands for."""
+
+    value: Any
+    type: Any
+
+
+@node
+class Field:
+    """A step of a place into a struct."""
+
+    name: str
+
+
+@node
+class Index:
+    """A step of a place into an array."""
+
+    value: Any
+
+
+@node
+class Place:
+    """A variable, or a part of one."""
+
+    variable: Variable
+    steps: list
+
+
+@node
+class Previous:
+    """`prev` of a variable."""
+
+    variable: Variable
+
+
+@node
+class Conversion:
+    """`operand as type`."""
+
+    type: str
+    operand: Any
+
+
+@node
+class Call:
+    """A call of a function, as an expression."""
+
+    function: Any
+    arguments: list
+
+
+@node
+class Unary:
+    """An operator with one operand."""
+
+    operator: str
+    operand: Any
+
+
+@node
+class Binary:
+    """An operator with two operands."""
+
+    operator: str
+    left: Any
+    right: Any
+
+
+# ---- statements
+
+
+@node
+class Declare:
+    """`var` or `let`, with the value or without."""
+
+    variable: Variable
+    value: Any
+
+
+@node
+class Assign:
+    """An assignment."""
+
+    place: Place
+    value: Any
+
+
+@node
+class CallStatement:
+    """A call of a function, as a statement."""
+
+    function: Any
+    inputs: list
+    outputs: list
+
+
+@node
+class Return:
+    """`return`, with the value or without."""
+
+    value: Any
+
+
+@node
+class Await:
+    """`await`."""
+
+    condition: Any
+
+
+@node
+class Run:
+    """`run` of an activity, with the place of its result or without."""
+
+    target: Any
+    activity: Any
+    inputs: list
+    outputs: list
+
+
+@node
+class Cobegin:
+    """`cobegin`: of each branch whether it is weak, and its statements."""
+
+    branches: list
+
+
+@node
+class When:
+    """`when`: the keyword is `abort` or `reset`."""
+
+    keyword: str
+    condition: Any
+    body: list
+
+
+@node
+class Repeat:
+    """`repeat` without an end."""
+
+    body: list
+
+
+@node
+class Until:
+    """`repeat .. until`."""
+
+    condition: Any
+    body: list
+
+
+@node
+class While:
+    """`while`."""
+
+    condition: Any
+    body: list
+
+
+@node
+class If:
+    """`if`: of each arm its condition and its statements, and the statements behind `else`."""
+
+    arms: list
+    other: list
+
+
+@node
+class Unit:
+    """A function or an activity. Its variables are all that are declared in it, with its inputs and outputs."""
+
+    name: str
+    inputs: list
+    outputs: list
+    result: Any
+    variables: list
+    body: list
