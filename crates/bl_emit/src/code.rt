@@ -9,8 +9,9 @@ ghost use Rattle.bl_pass_listed.specs.Told.{rule_in};
 ghost use Rattle.bl_emit.specs.Activities.{code_by, entry_at, entry_told, entry_where};
 
 use crate::names::counter_type;
-use crate::parts::{equal, literal, member_at, numbered, read, set, whole};
+use crate::parts::equal;
 use bl_emit_acts::copied as copy_set;
+use bl_emit_acts::parts::{literal, member_at, numbered, read, set, whole};
 use bl_emit_blocks::{View, block};
 use bl_pass_listed::Rule;
 use bl_tree::c::CStmt;
@@ -22,8 +23,8 @@ use std::alloc::Global;
 fn rested(alloc: Global, k: u32) -> Result<CStmt, NoMemory>
     ensures { IfOk result (λ s. s ≡ rested_code k) }
 {
-    let to = whole(alloc, numbered(alloc, "w", k)?);
-    let from = member_at(alloc, "f", numbered(alloc, "c", k)?)?;
+    let to = whole(alloc, false, numbered(alloc, "w", u64::from(k))?);
+    let from = member_at(alloc, "f", numbered(alloc, "c", u64::from(k))?)?;
     set(alloc, to, read(from))
 }
 
@@ -42,7 +43,7 @@ fn all_rested(alloc: Global, counters: &[u32]) -> Result<List<CStmt>, NoMemory>
 fn entered(alloc: Global, sizes: &[u32], number: u32) -> Result<CStmt, NoMemory>
     ensures { IfOk result (λ s. s ≡ entry_at sizes.now number) }
 {
-    let at = whole(alloc, numbered(alloc, "g", number)?);
+    let at = whole(alloc, false, numbered(alloc, "g", u64::from(number))?);
     let counter = member_at(alloc, "f", numbered(alloc, "c", 0)?)?;
     let none = literal(counter_type(sizes, 0), 0);
     set(alloc, at, equal(alloc, read(counter), none)?)

@@ -11,8 +11,9 @@ ghost use Rattle.bl_emit.specs.inner.Members.{members_within};
 
 use crate::chosen::{count_of, is_set};
 use crate::names::{counter_type, name_of};
-use crate::parts::{NOWHERE, member, numbered, prefixed};
+use crate::parts::member;
 use crate::runs::RunAt;
+use bl_emit_acts::parts::{NOWHERE, numbered, prefixed};
 use bl_emit_functions::memory;
 use bl_tree::c::{CMember, CStruct, CType};
 use bl_tree::tree::{StructDef, Unit};
@@ -23,7 +24,7 @@ use std::alloc::Global;
 fn counter(alloc: Global, sizes: &[u32], k: u32) -> Result<CMember, NoMemory>
     ensures { IfOk result (λ made. made ≡ counter_member sizes.now k) }
 {
-    let name = numbered(alloc, "c", k)?;
+    let name = numbered(alloc, "c", u64::from(k))?;
     Ok(CMember {
         ty: CType::Scalar(counter_type(sizes, k)),
         name,
@@ -46,7 +47,7 @@ fn counters(alloc: Global, sizes: &[u32], count: u32) -> Result<List<CMember>, N
 fn callee_frame(alloc: Global, earlier: &[Unit], run: RunAt) -> Result<CMember, NoMemory>
     ensures { IfOk result (λ made. made ≡ frame_member_told earlier.now (run_in run)) }
 {
-    let name = numbered(alloc, "x", run.number)?;
+    let name = numbered(alloc, "x", u64::from(run.number))?;
     let of = prefixed(alloc, "f_", name_of(earlier, run.unit))?;
     Ok(member(name, of))
 }
@@ -96,7 +97,7 @@ fn add_memory(
     ensures { OnOk result (members.new ≡ members.old ++ memory_member_told earlier.now remember.now (run_in run)) }
 {
     if is_set(remember, run.unit as usize) {
-        let name = numbered(alloc, "x", run.number)?;
+        let name = numbered(alloc, "x", u64::from(run.number))?;
         let of = prefixed(alloc, "m_", name_of(earlier, run.unit))?;
         members.push(member(name, of))?;
     }

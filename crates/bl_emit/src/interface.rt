@@ -5,8 +5,9 @@ ghost use Rattle.bl_tree.specs.Typing.{inputs_of, outputs_of};
 ghost use Rattle.bl_emit_pass.specs.Programs as programs;
 ghost use Rattle.bl_emit.specs.inner.Members.{pad_member};
 
-use crate::parts::{NOWHERE, member, prefixed, single};
+use crate::parts::member;
 use bl_emit_acts::c_type;
+use bl_emit_acts::parts::{NOWHERE, prefixed, single};
 use bl_tree::c::{CMember, CStruct, CType};
 use bl_tree::tree::{StructDef, Unit, Var};
 use bl_tree::{List, NoMemory, Scalar, Text, Width};

@@ -7,10 +7,12 @@ ghost use Rattle.bl_emit_pass.specs.Activities.{given_local, rested_local};
 ghost use Rattle.bl_emit.specs.Activities.{copy_told, locals_by, run_locals_told};
 ghost use Rattle.bl_emit.specs.Kept.{run_in};
 
-use crate::names::{counter_type, scalar_in_c, scalar_of_variable};
-use crate::parts::{local, numbered};
+use crate::names::{counter_type, scalar_of_variable};
+use crate::parts::local;
 use crate::registers::{add_flags, add_marks};
 use crate::runs::RunAt;
+use bl_emit_acts::parts::numbered;
+use bl_emit_acts::scalar_in_c;
 use bl_pass_listed::Rule;
 use bl_tree::c::CLocal;
 use bl_tree::slices::element;
@@ -22,7 +24,7 @@ use std::alloc::Global;
 fn rested(alloc: Global, sizes: &[u32], k: u32) -> Result<CLocal, NoMemory>
     ensures { IfOk result (λ made. made ≡ rested_local sizes.now k) }
 {
-    let name = numbered(alloc, "w", k)?;
+    let name = numbered(alloc, "w", u64::from(k))?;
     Ok(local(counter_type(sizes, k), name))
 }
 
@@ -41,7 +43,7 @@ fn all_rested(alloc: Global, sizes: &[u32], counters: &[u32]) -> Result<List<CLo
 fn copy(alloc: Global, unit: &Unit, k: u32) -> Result<CLocal, NoMemory>
     ensures { IfOk result (λ made. made ≡ copy_told unit.now k) }
 {
-    let name = numbered(alloc, "p", k)?;
+    let name = numbered(alloc, "p", u64::from(k))?;
     Ok(local(scalar_in_c(scalar_of_variable(&unit.vars, k)), name))
 }
 
@@ -81,7 +83,8 @@ fn add_given(
 {
     match ty {
         Some(s) => {
-            locals.push(local(scalar_in_c(s), numbered(alloc, "r", number)?))?;
+            let name = numbered(alloc, "r", u64::from(number))?;
+            locals.push(local(scalar_in_c(s), name))?;
             Ok(())
         }
         None => Ok(()),
@@ -97,7 +100,8 @@ fn add_run(
 ) -> Result<(), NoMemory>
     ensures { OnOk result (locals.new ≡ locals.old ++ run_locals_told earlier.now (run_in run)) }
 {
-    locals.push(local(Scalar::Bool, numbered(alloc, "e", run.number)?))?;
+    let name = numbered(alloc, "e", u64::from(run.number))?;
+    locals.push(local(Scalar::Bool, name))?;
     add_given(alloc, run.number, result_of(earlier, run.unit), locals)
 }
 

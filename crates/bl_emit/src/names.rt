@@ -1,13 +1,12 @@
 //! Types of counters and of scalars.
 
 ghost use Rattle.std.specs.Prelude.{◌≡◌, slice_get, Some};
-ghost use Rattle.bl_tree.specs.Types as types;
 ghost use Rattle.bl_emit_acts.specs.Expressions.{scalar_at};
-ghost use Rattle.bl_emit_acts.specs.Types.{c_scalar};
 ghost use Rattle.bl_emit_pass.specs.Blocks as blocks;
 
+use bl_emit_acts::scalar_in;
 use bl_tree::slices::element;
-use bl_tree::tree::{Ty, Unit, Var};
+use bl_tree::tree::{Unit, Var};
 use bl_tree::{Scalar, Width};
 
 /// The narrowest unsigned type for a counter of so many values beside 0.
@@ -30,26 +29,6 @@ pub fn counter_type(sizes: &[u32], k: u32) -> Scalar
     match element(sizes, k as usize) {
         Some(count) => type_for(*count),
         None => type_for(0),
-    }
-}
-
-/// The scalar that a type is.
-pub fn scalar_in(ty: &Ty) -> Option<Scalar>
-    ensures { result ≡ types.scalar_in ty.now }
-{
-    match ty {
-        Ty::Scalar(s) => Some(*s),
-        Ty::Struct(_) | Ty::Array(_, _) => None,
-    }
-}
-
-/// The type that a scalar has in C.
-pub fn scalar_in_c(s: Scalar) -> Scalar
-    ensures { result ≡ c_scalar s }
-{
-    match s {
-        Scalar::Bits(width) => Scalar::Nat(width),
-        _ => s,
     }
 }
 

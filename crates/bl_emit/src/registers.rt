@@ -5,7 +5,8 @@ ghost use Rattle.bl_tree.specs.Reduce.{joined};
 ghost use Rattle.bl_pass_listed.specs.Told.{rule_in};
 ghost use Rattle.bl_emit_tables.specs.Told.{asks_flag, flag_told, flags_told, mark_told, marks_told};
 
-use crate::parts::{local, numbered};
+use crate::parts::local;
+use bl_emit_acts::parts::numbered;
 use bl_pass_listed::{Asked, Change, Rule};
 use bl_tree::c::CLocal;
 use bl_tree::{List, NoMemory, Scalar};
@@ -26,7 +27,8 @@ fn add_flag(alloc: Global, rule: &Rule, locals: &mut List<CLocal>) -> Result<(),
     ensures { OnOk result (locals.new ≡ locals.old ++ flag_told (rule_in rule.now)) }
 {
     if is_flag(&rule.asked) {
-        locals.push(local(Scalar::Bool, numbered(alloc, "g", rule.number)?))?;
+        let name = numbered(alloc, "g", u64::from(rule.number))?;
+        locals.push(local(Scalar::Bool, name))?;
     }
     Ok(())
 }
@@ -47,7 +49,8 @@ fn add_mark(alloc: Global, change: Change, locals: &mut List<CLocal>) -> Result<
 {
     match change {
         Change::Mark(k) => {
-            locals.push(local(Scalar::Bool, numbered(alloc, "u", k)?))?;
+            let name = numbered(alloc, "u", u64::from(k))?;
+            locals.push(local(Scalar::Bool, name))?;
             Ok(())
         }
         Change::Flag(_)

@@ -10,12 +10,14 @@ ghost use Rattle.bl_emit_pass.specs.Activities.{pointer_param};
 ghost use Rattle.bl_emit_pass.specs.Programs as programs;
 
 use crate::interface::{inputs, outputs};
-use crate::parts::{
-    NOWHERE, clear, literal, local, member_at, pointer, prefixed, read, single, statement, whole,
+use crate::parts::{local, pointer};
+use bl_emit_acts::parts::{
+    NOWHERE, clear, literal, member_at, prefixed, read, single, statement, whole,
 };
+use bl_emit_functions::parts::{choice, returning};
 use bl_tree::c::{CArg, CCall, CExpr, CFunc, CParam, CStmt, CStmtKind};
 use bl_tree::tree::{Unit, Var};
-use bl_tree::{Box, List, NoMemory, Scalar, Text, Width};
+use bl_tree::{List, NoMemory, Scalar, Text, Width};
 use std::alloc::Global;
 
 /// A pointer to the state of a program, alone.
@@ -106,7 +108,7 @@ fn args(alloc: Global, unit: &Unit, remembers: bool) -> Result<List<CArg>, NoMem
     add_memory(alloc, remembers, &mut args)?;
     add_inputs(alloc, inputs(unit), &mut args)?;
     add_outputs(alloc, outputs(unit), &mut args)?;
-    args.push(CArg::Address(whole(alloc, Text::copy_of(alloc, "e")?)))?;
+    args.push(CArg::Address(whole(alloc, false, Text::copy_of(alloc, "e")?)))?;
     Ok(args)
 }
 
@@ -114,17 +116,15 @@ fn args(alloc: Global, unit: &Unit, remembers: bool) -> Result<List<CArg>, NoMem
 fn returned(alloc: Global, n: i128) -> Result<CStmt, NoMemory>
     ensures { IfOk result (λ s. s ≡ c_return (Some (c_literal (Nat W32) n))) }
 {
-    let value = Box::new(alloc, literal(Scalar::Nat(Width::W32), n))?;
-    Ok(statement(CStmtKind::Return(Some(value))))
+    returning(alloc, Some(literal(Scalar::Nat(Width::W32), n)))
 }
 
 /// It returns 1 where the entry has ended.
 fn returned_where(alloc: Global, test: CExpr) -> Result<CStmt, NoMemory>
     ensures { IfOk result (λ s. s ≡ c_if test (programs.c_returned 1 ∷ []) None) }
 {
-    let test = Box::new(alloc, test)?;
     let body = single(alloc, returned(alloc, 1)?)?;
-    Ok(statement(CStmtKind::If(test, body, None)))
+    choice(alloc, test, body, None)
 }
 
 /// The body of a tick.
@@ -133,7 +133,7 @@ fn body(alloc: Global, unit: &Unit, remembers: bool) -> Result<List<CStmt>, NoMe
 {
     let name = prefixed(alloc, "a_", unit.name.as_str())?;
     let args = args(alloc, unit, remembers)?;
-    let ended = read(whole(alloc, Text::copy_of(alloc, "e")?));
+    let ended = read(whole(alloc, false, Text::copy_of(alloc, "e")?));
     let mut made = single(alloc, statement(CStmtKind::Call(CCall { name, args })))?;
     made.push(returned_where(alloc, ended)?)?;
     made.push(returned(alloc, 0)?)?;

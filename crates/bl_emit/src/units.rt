@@ -8,7 +8,7 @@ ghost use Rattle.bl_emit.specs.Kept.{parts_in};
 ghost use Rattle.bl_emit.specs.Programs.{next_told, parts_told, told_of, unit_told, units_told};
 
 use crate::activity::{Parts, Told, activity_parts};
-use crate::parts::joined;
+use bl_emit_acts::parts::joined;
 use bl_emit_functions::{function, memory};
 use bl_emit_tables::sizes_of;
 use bl_machine::Activity;

@@ -1,44 +1,21 @@
 //! Acts: assignments, declarations, and calls of functions without a result.
 
-ghost use Rattle.std.specs.Prelude.{◌≡◌, [], ◌∷◌, IfOk, option_map, slice_get};
+ghost use Rattle.std.specs.Prelude.{◌≡◌, IfOk, option_map, slice_get};
 ghost use Rattle.bl_tree.specs.Types as types;
 ghost use Rattle.bl_emit_acts.specs.Acts as acts;
 ghost use Rattle.bl_emit_acts.specs.Sites.{site_in};
 
 use crate::expressions::{arguments, expression, place};
 use crate::operators::code;
-use crate::parts::{NOWHERE, literal, numbered, prefixed, read, target};
+use crate::parts::{clear, literal, numbered, prefixed, read, set, single, statement, whole};
 use crate::places::{type_of_variable, variable};
 use crate::site::Site;
 use crate::types::{name_of_type, scalar_in, scalar_in_c};
-use bl_tree::c::{CArg, CCall, CExpr, CPlace, CStmt, CStmtKind};
+use bl_tree::c::{CArg, CCall, CPlace, CStmt, CStmtKind};
 use bl_tree::slices::element;
 use bl_tree::tree::{Expr, Path, Stmt, StmtKind, StructDef, Ty};
-use bl_tree::{Box, List, NoMemory, Text};
+use bl_tree::{List, NoMemory, Text};
 use std::alloc::Global;
-
-fn statement(what: CStmtKind) -> CStmt
-    ensures { result ≡ acts.c_stmt what }
-{
-    CStmt {
-        place: NOWHERE,
-        what,
-    }
-}
-
-fn set(alloc: Global, at: CPlace, value: CExpr) -> Result<CStmt, NoMemory>
-    ensures { IfOk result (λ s. s ≡ acts.c_set at value) }
-{
-    let value = Box::new(alloc, value)?;
-    Ok(statement(CStmtKind::Set(at, value)))
-}
-
-fn clear(alloc: Global, at: CPlace, name: Text) -> Result<CStmt, NoMemory>
-    ensures { IfOk result (λ s. s ≡ acts.c_clear at name) }
-{
-    let at = Box::new(alloc, at)?;
-    Ok(statement(CStmtKind::Clear(at, name)))
-}
 
 /// Sets a place of a type to 0 or false everywhere.
 fn zero_set(alloc: Global, structs: &[StructDef], at: CPlace, ty: &Ty) -> Result<CStmt, NoMemory>
@@ -85,20 +62,12 @@ fn initial(alloc: Global, site: &Site, k: u32, e: &Option<Expr>) -> Result<List<
     }
 }
 
-fn single(alloc: Global, s: CStmt) -> Result<List<CStmt>, NoMemory>
-    ensures { IfOk result (λ code. code ≡ s ∷ []) }
-{
-    let mut made = List::new(alloc);
-    made.push(s)?;
-    Ok(made)
-}
-
 /// The statement that sets the copy of the variable at a position to what the variable is, as a tick begins. Fails only for
 /// want of memory.
 pub fn copied(alloc: Global, site: &Site, k: u32) -> Result<CStmt, NoMemory>
     ensures { IfOk result (λ s. s ≡ acts.c_copied (site_in site.entry.now) k) }
 {
-    let copy = target(false, numbered(alloc, "p", k)?, List::new(alloc));
+    let copy = whole(alloc, false, numbered(alloc, "p", u64::from(k))?);
     let from = variable(alloc, site, k, List::new(alloc))?;
     set(alloc, copy, read(from))
 }

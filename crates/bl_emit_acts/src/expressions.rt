@@ -10,7 +10,7 @@ ghost use Rattle.bl_emit_acts.specs.Types.{copy_name, field_name};
 
 use crate::made::Made;
 use crate::operators::{argument, both, call, cast, code, one, standing, type_made};
-use crate::parts::{element, literal, numbered, prefixed, read, step, target};
+use crate::parts::{element, literal, numbered, prefixed, read, step, whole};
 use crate::places::{element_type, field, length, scalar_of_variable, type_of_variable, variable};
 use crate::site::Site;
 use crate::types::{is_int, scalar_in, scalar_in_c};
@@ -151,6 +151,6 @@ fn previous(alloc: Global, site: &Site, k: u32) -> Result<Made, NoMemory>
     ensures { IfOk result (λ made. made
         ≡ Number (scalar_at (var_at (site_in site.entry.now) k)) (c_read (c_place false (copy_name k) []))) }
 {
-    let at = target(false, numbered(alloc, "p", k)?, List::new(alloc));
+    let at = whole(alloc, false, numbered(alloc, "p", u64::from(k))?);
     Ok(Made::Number(scalar_of_variable(site, k), read(at)))
 }

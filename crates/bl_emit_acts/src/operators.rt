@@ -1,11 +1,10 @@
 //! Operators, casts and calls.
 
-ghost use Rattle.std.specs.Prelude.{◌≡◌, [], ◌∷◌, Some, IfOk, slice_get};
-ghost use Rattle.bl_tree.specs.declared.c.CArg.TheVariants.{Value};
+ghost use Rattle.std.specs.Prelude.{◌≡◌, Some, IfOk, slice_get};
 ghost use Rattle.bl_emit_acts.specs.Expressions as expressions;
 
 use crate::made::Made;
-use crate::parts::{called, literal, negated, prefixed, read, two};
+use crate::parts::{called, literal, negated, prefixed, read, single, two};
 use crate::site::Site;
 use crate::types::{is_int, word_of};
 use bl_tree::c::{CArg, CExpr, CExprKind, CPlace};
@@ -86,15 +85,6 @@ fn function(alloc: Global, word: &str, t: Scalar) -> Result<Text, NoMemory>
     Ok(Text::from_string(name))
 }
 
-/// One argument by value.
-fn single(alloc: Global, code: CExpr) -> Result<List<CArg>, NoMemory>
-    ensures { IfOk result (λ args. args ≡ Value code ∷ []) }
-{
-    let mut args = List::new(alloc);
-    args.push(CArg::Value(code))?;
-    Ok(args)
-}
-
 /// The word of the cast from a signed (true) or an unsigned type.
 fn cast_word(signed: bool) -> &'static str
     ensures { result.now ≡ expressions.cast_word signed }
@@ -107,7 +97,7 @@ pub fn cast(alloc: Global, from: Scalar, to: Scalar, code: CExpr) -> Result<CExp
     ensures { IfOk result (λ e. e ≡ expressions.c_cast from to code) }
 {
     let name = function(alloc, cast_word(is_int(from)), to)?;
-    Ok(called(name, single(alloc, code)?))
+    Ok(called(name, single(alloc, CArg::Value(code))?))
 }
 
 /// A side of a comparison, which a compiler can't see through.
@@ -159,7 +149,7 @@ pub fn one(alloc: Global, op: Op, s: Scalar, a: CExpr) -> Result<Made, NoMemory>
 {
     match op {
         Op::Not => Ok(Made::Number(Scalar::Bool, negated(alloc, a)?)),
-        _ => by_function(alloc, op, s, single(alloc, a)?),
+        _ => by_function(alloc, op, s, single(alloc, CArg::Value(a))?),
     }
 }
 
@@ -185,7 +175,7 @@ pub fn both(alloc: Global, op: Op, s: Scalar, a: CExpr, b: CExpr) -> Result<Made
             Ok(Made::Number(Scalar::Bool, code))
         }
         _ => {
-            let mut args = single(alloc, a)?;
+            let mut args = single(alloc, CArg::Value(a))?;
             args.push(CArg::Value(b))?;
             by_function(alloc, op, s, args)
         }

@@ -1,16 +1,19 @@
 //! Small parts of C trees. What is made has no place in a text.
 
-ghost use Rattle.std.specs.Prelude.{◌≡◌, ◌++◌, IfOk};
+ghost use Rattle.std.specs.Prelude.{◌≡◌, ◌∷◌, ◌++◌, [], IfOk, true};
 ghost use Rattle.std.specs.Fmt.{decimal};
+ghost use Rattle.bl_emit_acts.specs.Acts.{c_clear, c_set, c_stmt};
 ghost use Rattle.bl_emit_acts.specs.Trees.{c_called, c_element, c_index, c_literal, c_not, c_place, c_read, c_step, c_two};
 
-use bl_tree::c::{CArg, CCall, CExpr, CExprKind, CIndex, CPlace, CStep};
+use bl_tree::c::{CArg, CCall, CExpr, CExprKind, CIndex, CPlace, CStep, CStmt, CStmtKind};
 use bl_tree::{Box, List, NoMemory, Op, Place, Scalar, Text};
 use itoa::Buffer;
 use std::alloc::Global;
 
 /// The place of all that stands in no text.
 pub const NOWHERE: Place = Place { start: 0, end: 0 };
+
+// ---- names and places
 
 /// A prefix that keeps a name of the source apart from the names of C.
 pub fn prefixed(alloc: Global, prefix: &str, name: &str) -> Result<Text, NoMemory>
@@ -22,7 +25,7 @@ pub fn prefixed(alloc: Global, prefix: &str, name: &str) -> Result<Text, NoMemor
 }
 
 /// A prefix and a number.
-pub fn numbered(alloc: Global, prefix: &str, number: u32) -> Result<Text, NoMemory>
+pub fn numbered(alloc: Global, prefix: &str, number: u64) -> Result<Text, NoMemory>
     ensures { IfOk result (λ text. text ≡ prefix.now ++ decimal number) }
 {
     let mut buffer = Buffer::new();
@@ -65,6 +68,24 @@ pub fn target(through: bool, name: Text, steps: List<CStep>) -> CPlace
         steps,
     }
 }
+
+/// A variable, or what a pointer leads to, without a step into it.
+pub fn whole(alloc: Global, through: bool, name: Text) -> CPlace
+    ensures { result ≡ c_place through name [] }
+{
+    target(through, name, List::new(alloc))
+}
+
+/// A member of what a pointer leads to.
+pub fn member_at(alloc: Global, pointer: &str, member: Text) -> Result<CPlace, NoMemory>
+    ensures { IfOk result (λ place. place ≡ c_place true pointer.now (c_step member ∷ [])) }
+{
+    let name = Text::copy_of(alloc, pointer)?;
+    let steps = single(alloc, step(member))?;
+    Ok(target(true, name, steps))
+}
+
+// ---- expressions
 
 pub fn read(place: CPlace) -> CExpr
     ensures { result ≡ c_read place }
@@ -113,4 +134,52 @@ pub fn called(name: Text, args: List<CArg>) -> CExpr
         place: NOWHERE,
         what: CExprKind::Call(CCall { name, args }),
     }
+}
+
+// ---- statements
+
+pub fn statement(what: CStmtKind) -> CStmt
+    ensures { result ≡ c_stmt what }
+{
+    CStmt {
+        place: NOWHERE,
+        what,
+    }
+}
+
+pub fn set(alloc: Global, at: CPlace, value: CExpr) -> Result<CStmt, NoMemory>
+    ensures { IfOk result (λ s. s ≡ c_set at value) }
+{
+    let value = Box::new(alloc, value)?;
+    Ok(statement(CStmtKind::Set(at, value)))
+}
+
+/// Sets a struct of this name to 0 or false everywhere.
+pub fn clear(alloc: Global, at: CPlace, name: Text) -> Result<CStmt, NoMemory>
+    ensures { IfOk result (λ s. s ≡ c_clear at name) }
+{
+    let at = Box::new(alloc, at)?;
+    Ok(statement(CStmtKind::Clear(at, name)))
+}
+
+// ---- lists
+
+/// One thing, alone.
+pub fn single<T: Drop>(alloc: Global, one: T) -> Result<List<T>, NoMemory>
+    ensures { IfOk result (λ list. list ≡ one ∷ []) }
+{
+    let mut list = List::new(alloc);
+    list.push(one)?;
+    Ok(list)
+}
+
+/// Some things, and others behind them.
+pub fn joined<T: Drop>(first: List<T>, rest: List<T>) -> Result<List<T>, NoMemory>
+    ensures { IfOk result (λ all. all ≡ first ++ rest) }
+{
+    let mut all = first;
+    for one in rest.into_vec() {
+        all.push(one)?;
+    }
+    Ok(all)
 }

@@ -74,7 +74,7 @@ fn home(site: &Site, k: u32) -> Home
 pub fn variable(alloc: Global, site: &Site, k: u32, steps: List<CStep>) -> Result<CPlace, NoMemory>
     ensures { IfOk result (λ place. place ≡ homes.place_in (site_in site.entry.now) k steps) }
 {
-    let name = numbered(alloc, "v", k)?;
+    let name = numbered(alloc, "v", u64::from(k))?;
     match home(site, k) {
         Home::Held => held(alloc, is_activity(site.kind), name, steps),
         Home::Given => Ok(target(false, name, steps)),

@@ -10,11 +10,13 @@ ghost use Rattle.bl_pass_listed.specs.Told.{rule_in, task_in};
 
 use crate::changes::changes;
 use crate::guards::guard;
-use crate::parts::{choice, joined, otherwise, set, single, value};
+use crate::parts::{otherwise, value};
 use crate::places::returned;
 use crate::runs::{begun, resumed};
 use crate::view::View;
 use bl_emit_acts::act;
+use bl_emit_acts::parts::{joined, set, single};
+use bl_emit_functions::parts::choice;
 use bl_pass_listed::{Rule, Task};
 use bl_tree::c::CStmt;
 use bl_tree::tree::{Expr, Stmt, StmtKind};

@@ -10,9 +10,10 @@ ghost use Rattle.bl_emit_pass.specs.Blocks as blocks;
 ghost use Rattle.bl_emit_pass.specs.Names.{counter_place, mark_place};
 
 use crate::counters::value_of;
-use crate::parts::{choice, joined, read, set, single, truth};
 use crate::places::{counter, flag, mark, over, rested};
 use crate::view::View;
+use bl_emit_acts::parts::{joined, read, set, single};
+use bl_emit_functions::parts::{choice, truth};
 use bl_pass_listed::Change;
 use bl_tree::c::CStmt;
 use bl_tree::slices::element;

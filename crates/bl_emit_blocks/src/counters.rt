@@ -7,13 +7,14 @@ ghost use Rattle.bl_emit_acts.specs.Trees.{c_literal, c_read};
 ghost use Rattle.bl_emit_blocks.specs.Views.{view_in};
 ghost use Rattle.bl_emit_pass.specs.Blocks as blocks;
 
-use crate::parts::{literal, read, truth, two};
 use crate::places::{counter, rested};
 use crate::view::View;
+use bl_emit_acts::parts::{called, literal, read, single, two};
+use bl_emit_functions::parts::truth;
 use bl_machine::Slot;
-use bl_tree::c::{CArg, CCall, CExpr, CExprKind, CPlace};
+use bl_tree::c::{CArg, CExpr, CPlace};
 use bl_tree::slices::element;
-use bl_tree::{List, NoMemory, Op, Place, Scalar, Text, Width};
+use bl_tree::{NoMemory, Op, Scalar, Text, Width};
 use std::alloc::Global;
 
 /// The width of the narrowest unsigned type for a counter of so many values beside 0.
@@ -78,13 +79,9 @@ fn cast_name(width: Width) -> &'static str
 fn cast(alloc: Global, width: Width, code: CExpr) -> Result<CExpr, NoMemory>
     ensures { IfOk result (λ e. e ≡ c_cast (Nat width) (Nat width) code) }
 {
-    let mut args = List::new(alloc);
-    args.push(CArg::Value(code))?;
+    let args = single(alloc, CArg::Value(code))?;
     let name = Text::copy_of(alloc, cast_name(width))?;
-    Ok(CExpr {
-        place: Place { start: 0, end: 0 },
-        what: CExprKind::Call(CCall { name, args }),
-    })
+    Ok(called(name, args))
 }
 
 /// A comparison of what stands at a place with a number, which a compiler can't see through.

@@ -5,10 +5,10 @@ ghost use Rattle.bl_emit_blocks.specs.Numbered as numbered;
 ghost use Rattle.bl_emit_blocks.specs.Views.{view_in};
 
 use crate::counters::{rested_at, rested_in};
-use crate::parts::{negated, read, two};
 use crate::places::{flag, mark};
 use crate::tests::ends;
 use crate::view::View;
+use bl_emit_acts::parts::{negated, read, two};
 use bl_pass_listed::{Age, Asked};
 use bl_tree::c::CExpr;
 use bl_tree::{NoMemory, Op};

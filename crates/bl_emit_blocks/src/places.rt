@@ -3,7 +3,7 @@
 ghost use Rattle.std.specs.Prelude.{◌≡◌, IfOk};
 ghost use Rattle.bl_emit_pass.specs.Names as names;
 
-use crate::parts::{member, numbered, whole};
+use bl_emit_acts::parts::{member_at, numbered, whole};
 use bl_tree::c::CPlace;
 use bl_tree::{NoMemory, Text};
 use std::alloc::Global;
@@ -12,28 +12,28 @@ use std::alloc::Global;
 pub fn counter(alloc: Global, k: u32) -> Result<CPlace, NoMemory>
     ensures { IfOk result (λ place. place ≡ names.counter_place k) }
 {
-    member(alloc, "f", numbered(alloc, "c", k)?)
+    member_at(alloc, "f", numbered(alloc, "c", u64::from(k))?)
 }
 
 /// What it held when the tick began.
 pub fn rested(alloc: Global, k: u32) -> Result<CPlace, NoMemory>
     ensures { IfOk result (λ place. place ≡ names.rested_place k) }
 {
-    Ok(whole(alloc, false, numbered(alloc, "w", k)?))
+    Ok(whole(alloc, false, numbered(alloc, "w", u64::from(k))?))
 }
 
 /// The flag of the node with this number.
 pub fn flag(alloc: Global, k: u32) -> Result<CPlace, NoMemory>
     ensures { IfOk result (λ place. place ≡ names.flag_place k) }
 {
-    Ok(whole(alloc, false, numbered(alloc, "g", k)?))
+    Ok(whole(alloc, false, numbered(alloc, "g", u64::from(k))?))
 }
 
 /// The mark of the `cobegin` or `when` that begins at the node with this number.
 pub fn mark(alloc: Global, k: u32) -> Result<CPlace, NoMemory>
     ensures { IfOk result (λ place. place ≡ names.mark_place k) }
 {
-    Ok(whole(alloc, false, numbered(alloc, "u", k)?))
+    Ok(whole(alloc, false, numbered(alloc, "u", u64::from(k))?))
 }
 
 /// Whether the body has ended: the caller's variable.
@@ -54,26 +54,26 @@ pub fn returned(alloc: Global) -> Result<CPlace, NoMemory>
 pub fn ended(alloc: Global, k: u32) -> Result<CPlace, NoMemory>
     ensures { IfOk result (λ place. place ≡ names.ended_place k) }
 {
-    Ok(whole(alloc, false, numbered(alloc, "e", k)?))
+    Ok(whole(alloc, false, numbered(alloc, "e", u64::from(k))?))
 }
 
 /// Its result.
 pub fn given(alloc: Global, k: u32) -> Result<CPlace, NoMemory>
     ensures { IfOk result (λ place. place ≡ names.given_place k) }
 {
-    Ok(whole(alloc, false, numbered(alloc, "r", k)?))
+    Ok(whole(alloc, false, numbered(alloc, "r", u64::from(k))?))
 }
 
 /// Where the activity that a `run` calls rests.
 pub fn callee_frame(alloc: Global, k: u32) -> Result<CPlace, NoMemory>
     ensures { IfOk result (λ place. place ≡ names.callee_frame k) }
 {
-    member(alloc, "f", numbered(alloc, "x", k)?)
+    member_at(alloc, "f", numbered(alloc, "x", u64::from(k))?)
 }
 
 /// What it remembers.
 pub fn callee_memory(alloc: Global, k: u32) -> Result<CPlace, NoMemory>
     ensures { IfOk result (λ place. place ≡ names.callee_memory k) }
 {
-    member(alloc, "m", numbered(alloc, "x", k)?)
+    member_at(alloc, "m", numbered(alloc, "x", u64::from(k))?)
 }

@@ -13,10 +13,11 @@ ghost use Rattle.bl_emit_pass.specs.Names as names;
 ghost use Rattle.bl_pass_listed.specs.Told.{arguments_in};
 
 use crate::changes::changes;
-use crate::parts::{choice, clear, joined, prefixed, read, set, single, statement, truth};
 use crate::places::{callee_frame, callee_memory, ended, given};
 use crate::view::View;
-use bl_emit_acts::{Made, Site, expression, place};
+use bl_emit_acts::parts::{clear, joined, prefixed, read, set, single, statement};
+use bl_emit_acts::{Site, argument, expression, place};
+use bl_emit_functions::parts::{choice, truth};
 use bl_pass_listed::{Change, Run};
 use bl_tree::c::{CArg, CCall, CPlace, CStmt, CStmtKind};
 use bl_tree::slices::element;
@@ -77,15 +78,6 @@ fn with_address(args: List<CArg>, test: bool, place: CPlace) -> Result<List<CArg
         all.push(CArg::Address(place))?;
     }
     Ok(all)
-}
-
-fn argument(made: Made) -> CArg
-    ensures { result ≡ arg_of made }
-{
-    match made {
-        Made::Number(_, code) => CArg::Value(code),
-        Made::Whole(place) => CArg::Address(place),
-    }
 }
 
 /// Arguments, and behind them those for inputs.

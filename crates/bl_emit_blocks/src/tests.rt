@@ -8,8 +8,9 @@ ghost use Rattle.bl_emit_pass.specs.Blocks as blocks;
 
 use crate::counters::at_slot;
 use crate::pairs::Pairs;
-use crate::parts::{truth, two};
 use crate::view::View;
+use bl_emit_acts::parts::two;
+use bl_emit_functions::parts::truth;
 use bl_machine::Slot;
 use bl_pass_listed::Needed;
 use bl_tree::c::CExpr;

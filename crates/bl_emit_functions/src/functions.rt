@@ -11,12 +11,11 @@ ghost use Rattle.bl_emit_functions.specs.Functions as functions;
 ghost use Rattle.bl_emit_functions.specs.Trees.{c_return_zero};
 
 use crate::coded::{Coded, Free};
-use crate::homes::{home_of_var, scalar_in, scalar_in_c};
-use crate::parts::{
-    NOWHERE, joined, literal, numbered, prefixed, read, returning, set, single, whole,
-};
+use crate::homes::home_of_var;
+use crate::parts::returning;
 use crate::statements::block;
-use bl_emit_acts::{Home, Site, c_type, variable};
+use bl_emit_acts::parts::{NOWHERE, joined, literal, numbered, prefixed, read, set, single, whole};
+use bl_emit_acts::{Home, Site, c_type, scalar_in, scalar_in_c, variable};
 use bl_tree::c::{CFunc, CLocal, CMember, CParam, CStmt, CStruct, CType};
 use bl_tree::tree::{Role, Stmt, StmtKind, StructDef, Unit, Var};
 use bl_tree::{List, NoMemory, Scalar, Text};
@@ -103,7 +102,8 @@ fn param(alloc: Global, structs: &[StructDef], k: u64, var: &Var) -> Result<CPar
     })
 }
 
-fn params(alloc: Global, structs: &[StructDef], unit: &Unit) -> Result<List<CParam>, NoMemory>
+/// The parameters of a unit's function for its inputs and outputs. Fails only for want of memory.
+pub fn params(alloc: Global, structs: &[StructDef], unit: &Unit) -> Result<List<CParam>, NoMemory>
     ensures { IfOk result (λ made. made ≡ functions.params_from structs.now 0 (parameters_of unit.now)) }
 {
     let count = unit.inputs as usize + unit.outputs as usize;
@@ -283,7 +283,7 @@ fn copy(alloc: Global, site: &Site, k: u32) -> Result<CStmt, NoMemory>
     ensures { IfOk result (λ s. s ≡ functions.c_input_copied (site_in site.entry.now) k) }
 {
     let to = variable(alloc, site, k, List::new(alloc))?;
-    let from = whole(alloc, true, numbered(alloc, "v", k as u64)?);
+    let from = whole(alloc, true, numbered(alloc, "v", u64::from(k))?);
     set(alloc, to, read(from))
 }
 

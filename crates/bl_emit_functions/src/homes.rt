@@ -1,35 +1,12 @@
 //! Where the variables of a function stand.
 
 ghost use Rattle.std.specs.Prelude.{◌≡◌, Some};
-ghost use Rattle.bl_tree.specs.Types as types;
 ghost use Rattle.bl_tree.specs.Typing as typing;
 ghost use Rattle.bl_emit_acts.specs.Places as homes;
 ghost use Rattle.bl_emit_acts.specs.Sites.{site_in};
-ghost use Rattle.bl_emit_acts.specs.Types.{c_scalar};
 
-use bl_emit_acts::{Home, Site};
-use bl_tree::Scalar;
-use bl_tree::tree::{Role, Ty, UnitKind, Var};
-
-/// The scalar that a type is.
-pub fn scalar_in(ty: &Ty) -> Option<Scalar>
-    ensures { result ≡ types.scalar_in ty.now }
-{
-    match ty {
-        Ty::Scalar(s) => Some(*s),
-        Ty::Struct(_) | Ty::Array(_, _) => None,
-    }
-}
-
-/// The type that a scalar has in C.
-pub fn scalar_in_c(s: Scalar) -> Scalar
-    ensures { result ≡ c_scalar s }
-{
-    match s {
-        Scalar::Bits(width) => Scalar::Nat(width),
-        _ => s,
-    }
-}
+use bl_emit_acts::{Home, Site, scalar_in};
+use bl_tree::tree::{Role, UnitKind, Var};
 
 fn is_function(kind: UnitKind) -> bool
     ensures { result ≡ typing.is_function kind }

@@ -1,14 +1,15 @@
 //! The C of functions (docs/C_SUBSET.md, "What `blechc` writes"). `function` makes exactly the defined C function of a
 //! function (`specs/Functions.antt`, `function_code`), and `memory` the struct of its variables, where it holds any
 //! (`memory_struct`); want of memory aside. `specs/Statements.antt` says what C is made of each statement (`codes_of`).
-//! What the C means is `bl_emit_functions_laws`.
+//! `params` makes the parameters of a unit's function for its inputs and outputs, and `parts` tests, loops and returns
+//! (`specs/Trees.antt`), for the crates above. What the C means is `bl_emit_functions_laws`.
 #![tactic(auto)]
 
 mod coded;
 mod functions;
 mod homes;
-mod parts;
+pub mod parts;
 mod statements;
 
 pub use coded::{Coded, Free};
-pub use functions::{function, memory};
+pub use functions::{function, memory, params};

@@ -7,11 +7,9 @@ ghost use Rattle.bl_emit_functions.specs.Statements as codes;
 ghost use Rattle.bl_emit_functions.specs.Trees.{c_return, c_truth};
 
 use crate::coded::{Coded, Free};
-use crate::parts::{
-    both, choice, code, flag as flag_at, joined, looping, read, returning, set_flag, single,
-    statement as stated, truth,
-};
-use bl_emit_acts::{Site, act, expression};
+use crate::parts::{both, choice, flag as flag_at, looping, returning, set_flag, truth};
+use bl_emit_acts::parts::{joined, read, single, statement as stated};
+use bl_emit_acts::{Site, act, code, expression};
 use bl_tree::c::{CExpr, CStmt, CStmtKind};
 use bl_tree::tree::{Arm, Expr, Stmt, StmtKind};
 use bl_tree::{List, NoMemory};
