@@ -1,7 +1,10 @@
+pub mod AskLemmas
 pub mod BranchLemmas
+pub mod ChangeLemmas
 pub mod CountLemmas
 pub mod FlagLemmas
 pub mod ListLemmas
 pub mod ListingLemmas
 pub mod NodeLemmas
 pub mod ReplaceLemmas
+pub mod TableLemmas

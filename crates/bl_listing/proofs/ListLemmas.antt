@@ -1,6 +1,7 @@
 -- Lists of which one element is set, and those elements that are flagged.
 use Rattle.std.proofs.Common.{
   ◌≡◌,
+  ◌≢◌,
   ℕ,
   zero,
   suc,
@@ -58,6 +59,28 @@ pub map_get : {A B : Type 0} (f : A → B) (xs : List A) (k : ℕ) → slice_get
 map_get f [] k = refl
 map_get f (x ∷ xs) zero = refl
 map_get f (x ∷ xs) (suc k) = map_get f xs k
+
+pub set_get : {A : Type 0} (xs : List A) (k : ℕ) (x y : A) → slice_get (slice_set xs k x) k ≡ Some y → x ≡ y
+set_get [] k x y is = absurd cc
+set_get (z ∷ xs) zero x y is = cc
+set_get (z ∷ xs) (suc k) x y is = set_get xs k x y is
+
+pub set_other : {A : Type 0} (xs : List A) (k j : ℕ) (x : A) → j ≢ k → slice_get (slice_set xs k x) j ≡ slice_get xs j
+set_other [] k j x other = refl
+set_other (y ∷ xs) zero zero x other = absurd (other refl)
+set_other (y ∷ xs) zero (suc j) x other = refl
+set_other (y ∷ xs) (suc k) zero x other = refl
+set_other (y ∷ xs) (suc k) (suc j) x other = set_other xs k j x (λ same. other (ap suc same))
+
+pub set_here : {A : Type 0} (xs : List A) (k : ℕ) (x : A) → k < length xs → slice_get (slice_set xs k x) k ≡ Some x
+set_here [] k x within = absurd (omega (arith, within))
+set_here (y ∷ xs) zero x within = refl
+set_here (y ∷ xs) (suc k) x within = set_here xs k x (omega (arith, within))
+
+pub get_within : {A : Type 0} (xs : List A) (k : ℕ) (x : A) → slice_get xs k ≡ Some x → k < length xs
+get_within [] k x is = absurd cc
+get_within (y ∷ xs) zero x is = omega arith
+get_within (y ∷ xs) (suc k) x is = let rest = get_within xs k x is in omega (arith, rest)
 
 pub get_here : {A : Type 0} (xs : List A) (k : ℕ) (x : A) → k < length xs → x ≡ get_or xs k x → slice_get xs k ≡ Some x
 get_here [] k x within is = absurd (omega arith)
@@ -234,7 +257,7 @@ flagged_past bs xs k past = ap (flagged (drop k bs)) (past_all xs k past) ∙ no
 
 -- ---- the list with a number
 
-list_past : {A : Type 0} (lists : List (List A)) (k : ℕ) → length lists ≤ k → list_at lists k ≡ []
+pub list_past : {A : Type 0} (lists : List (List A)) (k : ℕ) → length lists ≤ k → list_at lists k ≡ []
 list_past [] k past = refl
 list_past (xs ∷ lists) zero past = absurd (omega arith)
 list_past (xs ∷ lists) (suc k) past = list_past lists k (omega arith)

@@ -1,3 +1,4 @@
 pub mod Laws
 pub mod Listing
 pub mod Spots
+pub mod inner

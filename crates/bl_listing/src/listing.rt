@@ -1,12 +1,15 @@
 //! The points of the branches of a `cobegin`, kept from one step to the next.
 
-ghost use Rattle.std.specs.Prelude.{◌≡◌, ◌≢◌, ◌+◌, [], IfOk, IsTrue, length, map, option_map, slice_get};
+ghost use Rattle.std.specs.Prelude.{map};
 ghost use Rattle.bl_store.specs.Seen.{location_of};
-ghost use Rattle.bl_listing.specs.Listing.{IsRight, enabled, flagged, flags_of, kept_of, list_at, shown, trues};
 ghost use Rattle.bl_listing.specs.Spots.{spot_of};
+ghost use Rattle.bl_listing.specs.inner.Tables.{AllNoted, reads_in};
 
 use crate::beside::flags;
+use crate::counting::{nth, sum, trues};
 use crate::point::Point;
+use crate::table::Table;
+use crate::tables::{readers_of, writers_of};
 use bl_store::Home;
 use bl_tree::{List, NoMemory};
 use std::alloc::Global;
@@ -22,6 +25,12 @@ pub struct Listing<'a> {
     pub free: List<List<bool>>,
     /// How many these are.
     pub counts: List<usize>,
+    /// By variable, all branches that may still write to it, and maybe some that could.
+    pub(crate) writers: Table,
+    /// By variable, all branches that have a point that reads it, and maybe some that had one.
+    pub(crate) readers: Table,
+    ghost writers_noted: { AllNoted writers (map (map location_of) homes) },
+    ghost readers_noted: { AllNoted readers (map reads_in (map (map spot_of) points)) },
 }
 
 /// What is found of one branch.
@@ -31,48 +40,10 @@ pub struct Found<'a> {
     pub points: List<Point<'a>>,
 }
 
-/// How many are true.
-pub fn trues(flags: &[bool]) -> usize
-    ensures { result ≡ trues flags.now }
-{
-    let mut count = 0;
-    for k in 0..flags.len() {
-        if flags[k] {
-            count += 1;
-        }
-    }
-    count
-}
-
-/// The point with number n of those whose flag is true.
-fn nth<'b, 'a>(points: &'b [Point<'a>], flags: &[bool], n: usize) -> Option<&'b Point<'a>>
-    ensures { option_map (λ point. spot_of point.now) result ≡ slice_get (flagged flags.now (map spot_of points.now)) n }
-{
-    let mut left = n;
-    for k in 0..points.len() {
-        if k >= flags.len() {
-            return None;
-        }
-        if flags[k] {
-            if left == 0 {
-                return Some(&points[k]);
-            }
-            left -= 1;
-        }
-    }
-    None
-}
-
-fn sum(a: usize, b: usize) -> Result<usize, NoMemory>
-    ensures { IfOk result (λ n. n ≡ a + b) }
-{
-    match a.checked_add(b) {
-        Some(n) => Ok(n),
-        None => Err(NoMemory),
-    }
-}
-
 impl<'a> Listing<'a> {
+    ghost use Rattle.std.specs.Prelude.{◌≡◌, ◌≢◌, [], IfOk, IsTrue, length, option_map, slice_get};
+    ghost use Rattle.bl_listing.specs.Listing.{IsRight, enabled, flagged, flags_of, kept_of, list_at, shown};
+
     /// Of branches that may still write to these homes, and have these points each by itself. Fails only for want of memory.
     pub fn of(
         alloc: Global,
@@ -81,10 +52,12 @@ impl<'a> Listing<'a> {
     ) -> Result<Listing<'a>, NoMemory>
         ensures { IfOk result (λ made. shown made ≡ kept_of (map (map location_of) homes) (map (map spot_of) points.entry)) }
     {
+        let writers = writers_of(alloc, &homes)?;
+        let readers = readers_of(alloc, &points)?;
         let mut free = List::new(alloc);
         let mut counts = List::new(alloc);
         for k in 0..points.len() {
-            let flags = flags(alloc, &points[k], &homes, k)?;
+            let flags = flags(alloc, &points[k], &homes, &writers, k)?;
             counts.push(trues(&flags))?;
             free.push(flags)?;
         }
@@ -93,6 +66,8 @@ impl<'a> Listing<'a> {
             points,
             free,
             counts,
+            writers,
+            readers,
         })
     }
 
@@ -100,7 +75,7 @@ impl<'a> Listing<'a> {
     pub fn flags(&self, alloc: Global, points: &[Point], k: usize) -> Result<List<bool>, NoMemory>
         ensures { IfOk result (λ made. made ≡ flags_of (shown self.now).homes k (map spot_of points.now)) }
     {
-        flags(alloc, points, &self.homes, k)
+        flags(alloc, points, &self.homes, &self.writers, k)
     }
 
     /// How many points may act. Fails only where the number is too large for memory.

@@ -84,7 +84,8 @@ use Rattle.bl_ctree.specs.Points.{
   within,
 }
 use Rattle.bl_ctree.specs.Positions.{Located, kind_of}
-use Rattle.bl_steps.specs.inner.Spots.{after_by, after_in, first_after, moved}
+use Rattle.bl_listing.specs.Spots.{moved}
+use Rattle.bl_steps.specs.inner.Spots.{after_by, after_in, first_after}
 use Rattle.bl_steps.proofs.OwnLemmas.{Own, no_point, one_point, own_giving, own_is}
 
 abbrev pub Leads : Setting → ℕ → Control → Bool → Point Control → Type 0

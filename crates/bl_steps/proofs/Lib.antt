@@ -1,8 +1,10 @@
 pub mod AfterLemmas
 pub mod BeginLemmas
 pub mod BranchLemmas
+pub mod ListedLemmas
 pub mod NodeLemmas
 pub mod OutputLemmas
 pub mod OwnLemmas
+pub mod SpineLemmas
 pub mod TreeLemmas
 pub mod WriterLemmas

@@ -31,10 +31,11 @@ use Rattle.std.proofs.Common.{
   arith,
   ◌&&◌,
 }
-use Rattle.std.specs.Prelude.{nat_le, option_and_then, option_map, slice_get, slice_set, unwrap_or}
+use Rattle.std.specs.Prelude.{Result, Ok, Err, nat_le, option_and_then, option_map, slice_get, slice_set, unwrap_or}
 use Rattle.std.proofs.lemmas.Bool.{leb-true}
 use Rattle.std.proofs.lemmas.List.{length-append, length-drop, length-map, length-take}
 use Rattle.std.proofs.lemmas.Option.{slice_get-map}
+use Rattle.bl_tree.specs.declared.memory.NoMemory.{NoMemory}
 use Rattle.bl_tree.specs.declared.tree.Arm.{Arm}
 use Rattle.bl_tree.specs.declared.tree.Branch.{Branch}
 use Rattle.bl_tree.specs.declared.tree.Stmt.{Stmt}
@@ -45,6 +46,8 @@ use Rattle.bl_tree.specs.declared.tree.Unit.{Unit as UnitDef}
 use Rattle.bl_tree.specs.declared.value.Value.{Value}
 use Rattle.bl_tree.specs.declared.value.Value.TheVariants.{Number}
 use Rattle.bl_tree.specs.Program.{roles_stand, unit_stands, units_stand_after}
+use Rattle.bl_eval.specs.declared.values.Did.{Did}
+use Rattle.bl_eval.specs.declared.values.Did.TheVariants.{Done, Trap}
 use Rattle.bl_eval.specs.Values.{put_at, with_value_at}
 use Rattle.bl_ctree.specs.Actions.{acted_kind, given_to, outcome_there, result_at, value_there, values_there, with_result}
 use Rattle.bl_ctree.specs.declared.instance.Instance.{Instance}
@@ -75,7 +78,7 @@ use Rattle.bl_tree.specs.declared.static_path.Static.{Static}
 use Rattle.bl_tree.specs.Effects.{writes}
 use Rattle.bl_store.specs.declared.perform.Deed.{Deed}
 use Rattle.bl_store.specs.declared.perform.Deed.TheVariants.{Silent, Acts, Copies, Gives}
-use Rattle.bl_store.specs.Deeds.{deed_on}
+use Rattle.bl_store.specs.Deeds.{Carried, deed_on}
 use Rattle.bl_steps.specs.Outputs.{HasOutputs, count_of_outputs, outputs_of_unit}
 
 -- the second frame has no fewer variables
@@ -266,6 +269,13 @@ row_keeps (Some unit) (no_fewer {f} {g} more) has =
 -- a store with a value for each output still has one when it has grown
 pub outputs_keep : (w : Setting) (old new : Store) → Grows old new → HasOutputs w old → HasOutputs w new
 outputs_keep w old new grows has = row_keeps (unit_at w 0) (grows.at 0) has
+
+-- however it went
+pub outputs_carried : (w : Setting) (i : ℕ) (deed : Deed) (old new : Store) (r : Result Did NoMemory) → Carried (deed_on w i deed old) old new r →
+    HasOutputs w old → HasOutputs w new
+outputs_carried w i deed old new (Ok Done) carried has = outputs_keep w old new (deed_grows w i deed old new carried) has
+outputs_carried w i deed old new (Ok Trap) carried has = subst (λ (store : Store). HasOutputs w store) (sym carried.1) has
+outputs_carried w i deed old new (Err e) carried has = subst (λ (store : Store). HasOutputs w store) (sym carried) has
 
 -- ---- at the start
 

@@ -36,7 +36,8 @@ use Rattle.bl_ctree.specs.Instances.{Setting, callee_of, unit_at}
 use Rattle.bl_ctree.specs.Points.{Point, begins, branch_points, checks, copying, giving, joining, or_nothing, points, run_begins, sure, tests, turns_on, within}
 use Rattle.bl_ctree.specs.Positions.{Located, kind_of, place_of}
 use Rattle.bl_ctree.specs.Store.{homes}
-use Rattle.bl_steps.specs.inner.Spots.{Spot, Told, effect_paths, own, spot_below, spot_told, told_point}
+use Rattle.bl_listing.specs.Spots.{Spot, spot_below}
+use Rattle.bl_steps.specs.inner.Spots.{Told, effect_paths, own, spot_told, told_point}
 
 -- no point, or one to which no branch leads
 pub data Own : List (Point Control) → Type 0 where

@@ -52,7 +52,7 @@ use Rattle.bl_store.specs.declared.home.Home.{Home}
 use Rattle.bl_store.specs.Seen.{location_of}
 use Rattle.bl_store.proofs.KeyLemmas.{both_equal, both_true, nat_same}
 use Rattle.bl_steps.specs.declared.writers.Write.{Write as WriteNode}
-use Rattle.bl_steps.specs.inner.Spots.{Spot, homes_seen, is_free_of, meets_one, taken}
+use Rattle.bl_listing.specs.Spots.{Spot, homes_seen, is_free_of, meets_one, taken}
 use Rattle.bl_steps.specs.inner.Writers.{
   Write,
   all_writes,
@@ -68,7 +68,8 @@ use Rattle.bl_steps.specs.inner.Writers.{
   writes_by,
   writes_from,
 }
-use Rattle.bl_steps.proofs.BranchLemmas.{any_or, any_same, drop_all, map-append, none_left, not_or}
+use Rattle.bl_listing.proofs.BranchLemmas.{any_or, any_same, map-append, not_or}
+use Rattle.bl_steps.proofs.BranchLemmas.{drop_all, none_left}
 
 -- ---- as it is kept
 

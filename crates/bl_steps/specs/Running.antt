@@ -12,7 +12,8 @@ use Rattle.bl_ctree.specs.Store.{Store}
 use Rattle.bl_store.specs.Seen.{setting_in, store_of}
 use Rattle.bl_steps.specs.declared.action.Action.{Action}
 use Rattle.bl_steps.specs.declared.tree.Tree.{Tree}
-use Rattle.bl_steps.specs.inner.Spots.{Spot, after_by}
+use Rattle.bl_listing.specs.Spots.{Spot}
+use Rattle.bl_steps.specs.inner.Spots.{after_by}
 
 -- a control tree and a store
 pub record State : Type 0 where

@@ -1,2 +1,3 @@
+pub mod Spines
 pub mod Spots
 pub mod Writers

@@ -2,9 +2,9 @@
 
 ghost use Rattle.std.specs.Prelude.{◌≡◌, map, IfOk};
 ghost use Rattle.bl_steps.specs.Running.{action_at};
-ghost use Rattle.bl_steps.specs.inner.Spots.{spot_of};
+ghost use Rattle.bl_listing.specs.Spots.{spot_of};
 
-use crate::point::Point;
+use bl_listing::Point;
 use bl_tree::{List, NoMemory, Place};
 use std::alloc::Global;
 

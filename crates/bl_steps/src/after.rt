@@ -4,7 +4,8 @@ ghost use Rattle.std.specs.Prelude.{◌≡◌, ◌<◌, ◌++◌, ◌∷◌, [],
 ghost use Rattle.bl_ctree.specs.Control.{Body, Guard, Nil, Run, is_nil};
 ghost use Rattle.bl_ctree.specs.Nodes.{control_of, located, seen_of};
 ghost use Rattle.bl_store.specs.Seen.{setting_in};
-ghost use Rattle.bl_steps.specs.inner.Spots.{after_by, moved};
+ghost use Rattle.bl_listing.specs.Spots.{moved};
+ghost use Rattle.bl_steps.specs.inner.Spots.{after_by};
 
 use crate::begin::{begins, checks, copying, further, tests, turns_on};
 use bl_ctree::copying::{at, rest, tree};

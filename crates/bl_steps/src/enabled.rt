@@ -3,11 +3,11 @@
 ghost use Rattle.std.specs.Prelude.{◌≡◌, ◌++◌, map, filter, OnOk};
 ghost use Rattle.std.specs.List.{list_any};
 ghost use Rattle.bl_store.specs.Seen.{location_of};
-ghost use Rattle.bl_steps.specs.inner.Spots.{spot_of};
+ghost use Rattle.bl_listing.specs.Spots.{spot_of};
 ghost use Rattle.bl_steps.specs.inner.Writers.{is_beside, is_free, write_of};
 
-use crate::point::Point;
 use crate::writers::{Write, Writers};
+use bl_listing::Point;
 use bl_store::Home;
 use bl_store::home::overlap;
 use bl_tree::{List, NoMemory};

@@ -10,26 +10,21 @@ ghost use Rattle.bl_ctree.specs.Points.{begins, checks, copying, giving, joining
 ghost use Rattle.bl_ctree.specs.Positions.{kind_of};
 ghost use Rattle.bl_store.specs.Deeds.{effect_of};
 ghost use Rattle.bl_store.specs.Seen.{setting_in};
-ghost use Rattle.bl_steps.specs.inner.Spots.{own, spot_of, spot_told, told_all, told_point, told_run, telling};
+ghost use Rattle.bl_listing.specs.Spots.{spot_of};
+ghost use Rattle.bl_steps.specs.inner.Spots.{own, spot_told, told_all, told_point, told_run, telling};
 
 use bl_ctree::copying::position;
 use bl_ctree::node::{At, Branch, Node, Phase};
 use bl_ctree::settle::{are_done, are_settled, is_nil};
 use bl_effects::mentions::{arguments, expr, exprs, indices, optional};
 use bl_effects::sets::set_of;
+use bl_listing::{Effect, Point};
 use bl_store::callee::begun_by;
 use bl_store::home::append_homes;
-use bl_store::{Deed, Home, Setting};
+use bl_store::{Deed, Setting};
 use bl_tree::tree::{Expr, Stmt, StmtKind};
 use bl_tree::{List, NoMemory, Place, Static};
 use std::alloc::Global;
-
-/// What an action does: a test, or something that tests nothing.
-#[derive(Clone, Copy)]
-pub enum Effect<'a> {
-    Asks(&'a Expr),
-    Does(Deed<'a>),
-}
 
 /// What a node of a tree can do itself.
 #[derive(Drop)]
@@ -40,19 +35,6 @@ pub struct Act<'a> {
     pub effect: Effect<'a>,
     /// What it reads.
     pub reads: List<Static>,
-}
-
-/// A point that may act.
-#[derive(Drop)]
-pub struct Point<'a> {
-    /// That of its statement.
-    pub place: Place,
-    pub instance: u32,
-    pub effect: Effect<'a>,
-    /// The homes of what it reads.
-    pub reads: List<Home>,
-    /// The numbers of the branches that lead to it, from the outermost `cobegin` inwards.
-    pub path: List<usize>,
 }
 
 fn asks<'a>(alloc: Global, i: u32, place: Place, e: &'a Expr) -> Result<Option<Act<'a>>, NoMemory>

@@ -4,13 +4,14 @@ ghost use Rattle.std.specs.Prelude.{◌≡◌, ◌++◌, map, OnOk};
 ghost use Rattle.bl_ctree.specs.Nodes.{branches_of, control_of, seen_of};
 ghost use Rattle.bl_ctree.specs.Points.{branch_points, points};
 ghost use Rattle.bl_store.specs.Seen.{setting_in};
-ghost use Rattle.bl_steps.specs.inner.Spots.{spot_below, spot_of};
+ghost use Rattle.bl_listing.specs.Spots.{spot_below, spot_of};
 
 use crate::enabled::append_free;
-use crate::point::{Point, own, push};
+use crate::point::{own, push};
 use crate::writers::Writers;
 use bl_ctree::copying::inside;
 use bl_ctree::node::{Branch, Node, Phase};
+use bl_listing::Point;
 use bl_store::Setting;
 use bl_tree::{List, NoMemory};
 use std::alloc::Global;

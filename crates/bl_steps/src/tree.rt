@@ -1,17 +1,28 @@
 //! A program that runs.
 
+ghost use Rattle.std.specs.Coded.{codes};
+ghost use Rattle.std.proofs.Props.{props};
+ghost use Rattle.bl_tree.specs.contracts.tree.Expr as an_expr;
+ghost use Rattle.bl_tree.specs.contracts.tree.Path as a_path;
+ghost use Rattle.bl_tree.specs.contracts.tree.Stmt as a_stmt;
+ghost use Rattle.bl_ctree.specs.Nodes.{control_of};
 ghost use Rattle.bl_store.specs.Seen.{setting_in, store_of};
 ghost use Rattle.bl_steps.specs.Outputs.{HasOutputs};
+ghost use Rattle.bl_steps.specs.inner.Spines.{ListsEnd, listed_by};
 
 use crate::action::{Action, told};
 use crate::after::after;
-use crate::point::{Effect, Point};
+use crate::chosen::chosen;
+use crate::listed::{Kept, Next, change, listed};
 use crate::points::points;
+use crate::spine;
 use crate::start::idle;
 use bl_ctree::node::Node;
 use bl_ctree::settle::{is_nil, is_settled};
 use bl_ctree::waking::woken;
 use bl_eval::Did;
+use bl_listing::laws::{listings_tell_points, replaced_branches_are_listed};
+use bl_listing::{Effect, Listing, Point};
 use bl_store::expansion::setting_of;
 use bl_store::{Deed, Frame, Setting, asks, carry_out, ticks};
 use bl_tree::tree::Expr;
@@ -24,12 +35,15 @@ pub struct Tree<'a> {
     alloc: Global,
     setting: Setting<'a>,
     node: Node<'a>,
+    /// The branches at the end of its spine, where they are listed.
+    listing: Option<Listing<'a>>,
     frames: Vec<Frame>,
+    ghost lists: { ListsEnd (setting_in setting) (control_of node) (listed_by listing) } by { Prim.hlevel (props, codes, an_expr.the_row.coded, a_path.the_row.coded, a_stmt.the_row.coded) },
     ghost outputs: { HasOutputs (setting_in setting) (store_of frames.items) },
 }
 
 impl<'a> Tree<'a> {
-    ghost use Rattle.std.specs.Prelude.{◌≡◌, ◌<◌, ◌^◌, [], length, map, slice_get, IfOk, OnOk, OnErr};
+    ghost use Rattle.std.specs.Prelude.{◌≡◌, ◌<◌, ◌^◌, [], length, map, option_map, slice_get, Some, IfOk, IfSome, OnOk, OnErr};
     ghost use Rattle.bl_ctree.specs.Actions.{Asks};
     ghost use Rattle.bl_ctree.specs.Control.{Idle, is_nil, is_settled, woken};
     ghost use Rattle.bl_ctree.specs.Instances.{instances_of, setting_of};
@@ -39,7 +53,9 @@ impl<'a> Tree<'a> {
     ghost use Rattle.bl_store.specs.Deeds.{effect_of};
     ghost use Rattle.bl_steps.specs.Outputs.{count_of_outputs, outputs_of_unit};
     ghost use Rattle.bl_steps.specs.Running.{Acted, acted_at, action_of, setting, state, stepped};
-    ghost use Rattle.bl_steps.specs.inner.Spots.{spot_below, spot_of};
+    ghost use Rattle.bl_listing.specs.Spots.{spot_below, spot_of};
+    ghost use Rattle.bl_steps.specs.inner.Spines.{FitsAny, FitsListed, led, with_fork};
+    ghost use Rattle.bl_steps.specs.inner.Spots.{after_by, unread};
 
     /// The program before its first tick. Fails only for want of memory, as all that follows.
     pub fn start(alloc: Global, program: &'a Program) -> Result<Tree<'a>, NoMemory>
@@ -55,6 +71,7 @@ impl<'a> Tree<'a> {
             alloc,
             setting,
             node,
+            listing: None,
             frames,
         })
     }
@@ -69,6 +86,7 @@ impl<'a> Tree<'a> {
         let node = woken(self.alloc, &self.node)?;
         let frames = ticks::woken(self.alloc, self.frames.as_slice(), row)?;
         self.node = node;
+        self.listing = None;
         self.frames = frames;
         Ok(())
     }
@@ -89,14 +107,100 @@ impl<'a> Tree<'a> {
         told(self.alloc, &found)
     }
 
+    /// How many actions may be done next. Whatever it answers, the tree is as before.
+    pub fn count(&mut self) -> Result<usize, NoMemory>
+        ensures setting { setting self.new ≡ setting self.old }
+        ensures state { state self.new ≡ state self.old }
+        ensures count { IfOk result (λ count. count ≡ length (points (setting self.old) 0 (state self.old).control)) }
+    {
+        self.list()?;
+        self.counted()
+    }
+
+    /// Lists the branches at the end of the spine, where none are listed.
+    fn list(&mut self) -> Result<(), NoMemory>
+        ensures setting { setting self.new ≡ setting self.old }
+        ensures state { state self.new ≡ state self.old }
+    {
+        if self.listing.is_some() {
+            return Ok(());
+        }
+        self.listing = listed(self.alloc, &self.setting, &self.node)?;
+        Ok(())
+    }
+
+    fn counted(&self) -> Result<usize, NoMemory>
+        ensures { IfOk result (λ count. count ≡ length (points (setting self.now) 0 (state self.now).control)) }
+    {
+        match self.listed_count()? {
+            Some(count) => Ok(count),
+            None => Ok(self.points()?.len()),
+        }
+    }
+
+    /// How many of the points that are listed may act; none where none may.
+    fn listed_count(&self) -> Result<Option<usize>, NoMemory>
+        ensures { IfOk result (λ found. IfSome found (λ count. count ≡ length (points (setting self.now) 0 (state self.now).control))) }
+    {
+        listings_tell_points();
+        match &self.listing {
+            None => Ok(None),
+            Some(listing) => {
+                if listing.has_enabled() {
+                    Ok(Some(listing.count()?))
+                } else {
+                    Ok(None)
+                }
+            }
+        }
+    }
+
+    /// The point with number n of those that are listed and may act.
+    fn listed_point(&self, n: usize) -> Option<&Point<'a>>
+        ensures { IfSome result (λ point. slice_get (map (spot_below (setting self.now) []) (points (setting self.now) 0 (state self.now).control)) n
+            ≡ Some (spot_of point.now)) }
+    {
+        listings_tell_points();
+        match &self.listing {
+            None => None,
+            Some(listing) => listing.choose(n),
+        }
+    }
+
+    /// The point with number n, without what it reads.
+    fn chosen(&self, n: usize) -> Result<Point<'a>, NoMemory>
+        requires { n < length (points (setting self.now) 0 (state self.now).control) }
+        ensures { IfOk result (λ point. option_map unread (slice_get (map (spot_below (setting self.now) [])
+            (points (setting self.now) 0 (state self.now).control)) n) ≡ Some (spot_of point)) }
+    {
+        match self.listed_point(n) {
+            Some(point) => chosen(self.alloc, point),
+            None => {
+                let found = self.points()?;
+                chosen(self.alloc, &found[n])
+            }
+        }
+    }
+
+    /// The action with number n of those that may be done next.
+    pub fn action(&self, n: u32) -> Result<Action, NoMemory>
+        requires { n < length (points (setting self.now) 0 (state self.now).control) }
+        ensures { IfOk result (λ action. option_map action_of (slice_get (points (setting self.now) 0 (state self.now).control) n) ≡ Some action) }
+    {
+        let point = self.chosen(n as usize)?;
+        Ok(Action {
+            place: point.place,
+            instance: point.instance,
+        })
+    }
+
     /// Does the action with number n of those that may be done next. After `Trap` and after want of memory the tree is as before.
     pub fn act(&mut self, n: u32) -> Result<Did, NoMemory>
         requires { n < length (points (setting self.old) 0 (state self.old).control) }
         ensures setting { setting self.new ≡ setting self.old }
         ensures step { Acted (stepped (setting self.old) (state self.old) n) (state self.old) (state self.new) result }
     {
-        let found = self.points()?;
-        let point = &found[n as usize];
+        let point = self.chosen(n as usize)?;
         match point.effect {
             Effect::Asks(e) => self.ask(point.instance, &point.path, e),
             Effect::Does(deed) => self.carry(point.instance, &point.path, deed),
@@ -110,7 +214,8 @@ impl<'a> Tree<'a> {
         match asks(self.alloc, &self.setting, self.frames.as_slice(), i, e)? {
             None => Ok(Did::Trap),
             Some(answer) => {
-                self.node = after(self.alloc, &self.setting, 0, &self.node, path, answer)?;
+                let next = self.next(path, answer)?;
+                self.go(next);
                 Ok(Did::Done)
             }
         }
@@ -120,13 +225,77 @@ impl<'a> Tree<'a> {
         ensures setting { setting self.new ≡ setting self.old }
         ensures step { Acted (acted_at (setting self.old) (state self.old) i (effect_of deed.entry) path.now) (state self.old) (state self.new) result }
     {
-        let node = after(self.alloc, &self.setting, 0, &self.node, path, true)?;
+        let next = self.next(path, true)?;
         match carry_out(self.alloc, &self.setting, &mut self.frames, i, deed)? {
             Did::Trap => Ok(Did::Trap),
             Did::Done => {
-                self.node = node;
+                self.go(next);
                 Ok(Did::Done)
             }
+        }
+    }
+
+    /// What an answer of the point to which these branches lead makes of one of those that are listed.
+    fn change(&self, path: &[usize], answer: bool) -> Result<Option<Next<'a>>, NoMemory>
+        ensures fits { IfOk result (λ found. IfSome found (FitsListed (setting self.now) (state self.now).control (listed_by self.now.listing))) }
+        ensures leads { IfOk result (λ found. IfSome found (λ next. led (state self.now).control next
+            ≡ after_by (setting self.now) 0 (state self.now).control path.now answer)) }
+    {
+        match &self.listing {
+            None => Ok(None),
+            Some(listing) => change(self.alloc, &self.setting, &self.node, listing, path, answer),
+        }
+    }
+
+    /// To what an answer of the point to which these branches lead leads.
+    fn next(&self, path: &[usize], answer: bool) -> Result<Next<'a>, NoMemory>
+        ensures fits { IfOk result (FitsListed (setting self.now) (state self.now).control (listed_by self.now.listing)) }
+        ensures leads { IfOk result (λ next. led (state self.now).control next ≡ after_by (setting self.now) 0 (state self.now).control path.now answer) }
+    {
+        match self.change(path, answer)? {
+            Some(next) => Ok(next),
+            None => Ok(Next {
+                tree: after(self.alloc, &self.setting, 0, &self.node, path, answer)?,
+                kept: None,
+            }),
+        }
+    }
+
+    fn go(&mut self, next: Next<'a>)
+        requires { FitsListed (setting self.old) (state self.old).control (listed_by self.old.listing) next }
+        ensures setting { setting self.new ≡ setting self.old }
+        ensures state { state self.new ≡ record { control = led (state self.old).control next.entry; store = (state self.old).store } }
+    {
+        let Next { tree, kept } = next;
+        match kept {
+            None => {
+                self.node = tree;
+                self.listing = None;
+            }
+            Some(kept) => self.put(tree, kept),
+        }
+    }
+
+    fn put(&mut self, tree: Node<'a>, kept: Kept<'a>)
+        requires { FitsAny (setting self.old) (state self.old).control (listed_by self.old.listing) (control_of tree) (Some kept) }
+        ensures setting { setting self.new ≡ setting self.old }
+        ensures state { state self.new
+            ≡ record { control = with_fork (state self.old).control kept.entry.branch (control_of tree.entry); store = (state self.old).store } }
+    {
+        listings_tell_points();
+        replaced_branches_are_listed();
+        let Kept {
+            branch,
+            found,
+            free,
+        } = kept;
+        spine::put(&mut self.node, branch, tree);
+        match &mut self.listing {
+            None => {}
+            Some(listing) => match listing.replace(branch, found, free) {
+                Ok(()) => {}
+                Err(_) => self.listing = None,
+            },
         }
     }
 

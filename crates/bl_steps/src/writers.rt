@@ -6,7 +6,7 @@ ghost use Rattle.std.specs.Map.{lookup};
 ghost use Rattle.bl_ctree.specs.Nodes.{seen_of};
 ghost use Rattle.bl_ctree.specs.Store.{Location};
 ghost use Rattle.bl_store.specs.Seen.{location_of, setting_in};
-ghost use Rattle.bl_steps.specs.inner.Spots.{homes_seen};
+ghost use Rattle.bl_listing.specs.Spots.{homes_seen};
 ghost use Rattle.bl_steps.specs.inner.Writers.{all_writes, key_cmp, kept, of_variable, write_of, writes_by};
 
 use bl_ctree::node::Branch;

@@ -61,11 +61,12 @@ fn tick(tree: &mut Tree, order: Order, steps: &mut List<u32>) -> Result<Stand, N
     ensures { setting tree.new ≡ setting tree.old }
 {
     for turn in 0..1000u32 {
-        let actions = tree.actions()?;
-        if actions.is_empty() {
+        let count = tree.count()?;
+        if count == 0 {
             return Ok(standing(tree));
         }
-        let n = chosen(order, turn, actions.len());
+        let n = chosen(order, turn, count);
+        let actions = tree.actions()?;
         steps.push(actions[n as usize].place.start)?;
         match tree.act(n)? {
             Did::Trap => return Ok(Stand::Trap),

@@ -17,7 +17,6 @@ use Rattle.std.proofs.Common.{
   ◌++◌,
   length,
   map,
-  get_or,
   refl,
   sym,
   ap,
@@ -26,7 +25,6 @@ use Rattle.std.proofs.Common.{
   arith,
 }
 use Rattle.std.proofs.lemmas.List.{length-append, length-map, map-append}
-use Rattle.std.proofs.lemmas.Option.{get_or_from_slice_get, slice_get-map}
 use Rattle.std.specs.Prelude.{Option, Some, None, Result, Ok, Err, IfOk, option_and_then, option_map, slice_get, if◌then◌else◌}
 use Rattle.bl_tree.specs.declared.memory.NoMemory.{NoMemory}
 use Rattle.bl_tree.specs.declared.place.Place.{Place}
@@ -105,23 +103,27 @@ took w choice s t old new point is grew (Ok Done) acted = goes point is acted gr
 took w choice s t old new point is grew (Ok Trap) acted = fails point is acted.0 grew
 took w choice s t old new point is grew (Err e) acted = tt
 
--- the action that was picked of those that were told is done
-pub took_by : (w : Setting) (choice : Choice) (s t : State) (old new : List Place) (acts : List Told) (blank : Told) (at number : ℕ)
-    (result : Result Did NoMemory) → acts ≡ map action_of (points w 0 s.control) → at ≡ picked choice (length acts) → at < length acts →
-    number ≡ at →
-    new ≡ old ++ (get_or acts at blank).place ∷ [] → Acted (stepped w s number) s t result → IfOk result (Took w choice s t old new)
-took_by w choice s t old new acts blank at number result are pick low same grew acted =
+-- the action that was picked is done
+pub took_by : (w : Setting) (choice : Choice) (s t : State) (old new : List Place) (count : ℕ) (action : Told) (at number : ℕ)
+    (result : Result Did NoMemory) → count ≡ length (points w 0 s.control) → at ≡ picked choice count → at < count → number ≡ at
+    → option_map action_of (slice_get (points w 0 s.control) number) ≡ Some action → new ≡ old ++ action.place ∷ []
+    → Acted (stepped w s number) s t result → IfOk result (Took w choice s t old new)
+took_by w choice s t old new count action at number result size pick low same told grew acted =
     let all = points w 0 s.control in
-    let size : length acts ≡ length all = ap length are ∙ length-map all action_of in
     let one = nth all at (omega (arith, low, size)) in
-    let told : get_or acts at blank ≡ action_of one.element =
-    get_or_from_slice_get acts at (action_of one.element) blank
-    (ap (λ xs. slice_get xs at) are ∙ slice_get-map action_of all at ∙ ap (option_map action_of) one.is) in
+    let here : slice_get all number ≡ Some one.element = ap (slice_get all) same ∙ one.is in
+    let both : Some (action_of one.element) ≡ Some action = sym (ap (option_map action_of) here) ∙ told in
+    let acts : action_of one.element ≡ action = cc in
     let is : IsPicked w choice s.control one.element = ap (slice_get all) (sym (pick ∙ ap (picked choice) size)) ∙ one.is in
-    let outcome : stepped w s number ≡ stepped_by w s one.element =
-    ap (λ n. option_and_then (stepped_by w s) (slice_get all n)) same ∙ ap (option_and_then (stepped_by w s)) one.is in
-    took w choice s t old new one.element is (grew ∙ ap (λ (a : Told). old ++ a.place ∷ []) told) result
+    let outcome : stepped w s number ≡ stepped_by w s one.element = ap (option_and_then (stepped_by w s)) here in
+    took w choice s t old new one.element is (grew ∙ ap (λ (a : Told). old ++ a.place ∷ []) (sym acts)) result
     (subst (λ o. Acted o s t result) outcome acted)
+
+-- as many as they were counted in the same state
+pub left_by : (w w' : Setting) (s s' : State) (left : ℕ) → w' ≡ w → s' ≡ s → left ≡ length (points w 0 s.control) →
+    left ≡ length (points w' 0 s'.control)
+left_by w w' s s' left is_w is_s counted =
+    counted ∙ (λ j. length (points (sym is_w j) 0 (sym is_s j).control))
 
 -- ---- lists of steps
 
@@ -180,16 +182,18 @@ module _ (w : Setting) (s : State) where
       let same : length places ≡ length stands.actions = ap length stands.told ∙ length-map stands.actions (λ (a : Action). a.place) in
       omega (arith, few, same)
 
-  -- something may act as long as something is left to do
-  pub some_points : Steady w → Begun w s → PicksAreSteps → StillIsUnlisted → (choice now : Choice) (t : State) (places : List Place) →
-      Stands w choice s now t places → is_settled t.control ≡ false → points w 0 t.control ≡ [] → ⊥
-  some_points steady begun are_steps still choice now t places stands left none =
-      let settled : is_settled t.control ≡ true =
+  -- where no point may act nothing is left to do
+  pub settled_there : Steady w → Begun w s → PicksAreSteps → StillIsUnlisted → (choice now : Choice) (t : State) (places : List Place) →
+      Stands w choice s now t places → points w 0 t.control ≡ [] → is_settled t.control ≡ true
+  settled_there steady begun are_steps still choice now t places stands none =
       steady.never_stuck begun.rows begun.row stands.actions t.control t.store
       (reaches begun stands.actions (Rests t.control t.store)
       (are_steps w choice now s.control s.store stands.actions (Rests t.control t.store) stands.picks))
-      ((still w t.control).1 none) in
-      cc
+      ((still w t.control).1 none)
+
+pub none_of : {A : Type 0} (xs : List A) (count : ℕ) → count ≡ length xs → count ≡ 0 → xs ≡ []
+none_of [] count size is = refl
+none_of (x ∷ xs) count size is = absurd (omega (arith, size, is))
 
 -- a step makes the list of places longer
 pub one_place_more : (w : Setting) (choice : Choice) (s t : State) (old new : List Place) → Took w choice s t old new Done →

@@ -1,6 +1,6 @@
 //! Ticks of a walk, and their steps.
 
-ghost use Rattle.std.specs.Prelude.{◌≡◌, ◌≢◌, [], if◌then◌else◌, IfOk, OnOk};
+ghost use Rattle.std.specs.Prelude.{◌≡◌, ◌<◌, [], length, if◌then◌else◌, IfOk, OnOk};
 ghost use Rattle.bl_ctree.specs.Control.{is_nil};
 ghost use Rattle.bl_ctree.specs.Points.{points};
 ghost use Rattle.bl_ctree.specs.Store.{outputs_row};
@@ -51,7 +51,7 @@ pub fn tick(
     }
 }
 
-// Does steps until nothing is left to do, or one traps.
+// Does steps until none may be done, or one traps. Then nothing is left to do, since no tick is stuck.
 fn react(tree: &mut Tree, choice: &mut Choice, places: &mut List<Place>) -> Result<Did, NoMemory>
     requires steady { Steady (setting tree.old) }
     requires begun { Begun (setting tree.old) (state tree.old) }
@@ -61,30 +61,38 @@ fn react(tree: &mut Tree, choice: &mut Choice, places: &mut List<Place>) -> Resu
 {
     points_are_steps();
     picked_lists_are_steps();
-    'steps: while !tree.settled() {
-        let did = step(tree, choice, places)?;
+    let mut left = tree.count()?;
+    'steps: while left > 0 {
+        let did = step(tree, choice, left, places)?;
         match did {
             Did::Trap => return Ok(did),
             Did::Done => {}
         }
+        left = tree.count()?;
     }
     Ok(Did::Done)
 }
 
-// Does the step that is picked.
-fn step(tree: &mut Tree, choice: &mut Choice, places: &mut List<Place>) -> Result<Did, NoMemory>
-    requires { points (setting tree.old) 0 (state tree.old).control ≢ [] }
+// Does the step that is picked of so many.
+fn step(
+    tree: &mut Tree,
+    choice: &mut Choice,
+    count: usize,
+    places: &mut List<Place>,
+) -> Result<Did, NoMemory>
+    requires some { 0 < count }
+    requires count { count ≡ length (points (setting tree.old) 0 (state tree.old).control) }
     ensures setting { setting tree.new ≡ setting tree.old }
     ensures choice { OnOk result (choice.new ≡ moved choice.old) }
     ensures took { IfOk result (Took (setting tree.old) choice.new (state tree.old) (state tree.new) places.old places.new) }
 {
-    let actions = tree.actions()?;
     *choice = choice.next();
-    let at = choice.index(actions.len());
+    let at = choice.index(count);
     let Ok(number) = u32::try_from(at) else {
         return Err(NoMemory);
     };
-    places.push(actions[at].place)?;
+    let action = tree.action(number)?;
+    places.push(action.place)?;
     tree.act(number)
 }
 

@@ -3,18 +3,13 @@ use Rattle.std.specs.Prelude.{
   ℕ,
   zero,
   suc,
-  ◌+◌,
   Bool,
   false,
-  not,
-  ◌&&◌,
   List,
   [],
   ◌∷◌,
   ◌++◌,
   map,
-  take,
-  drop,
   Option,
   Some,
   None,
@@ -22,7 +17,6 @@ use Rattle.std.specs.Prelude.{
   option_map,
   if◌then◌else◌,
 }
-use Rattle.std.specs.List.{list_any}
 use Rattle.bl_tree.specs.Reduce.{joined}
 use Rattle.bl_tree.specs.declared.place.Place.{Place}
 use Rattle.bl_tree.specs.declared.tree.Arm.{Arm}
@@ -32,7 +26,7 @@ use Rattle.bl_tree.specs.declared.tree.Stmt.{Stmt}
 use Rattle.bl_tree.specs.declared.static_path.Static.{Static}
 use Rattle.bl_tree.specs.Effects.{reads}
 use Rattle.bl_tree.specs.Static.{mentions}
-use Rattle.bl_ctree.specs.Actions.{Effect, Silent, Acts, Asks, Copies, Gives, reads_of}
+use Rattle.bl_ctree.specs.Actions.{Effect, Silent, Acts, Asks, Copies, Gives}
 use Rattle.bl_ctree.specs.Control.{
   Control,
   Branches,
@@ -59,44 +53,10 @@ use Rattle.bl_ctree.specs.Nodes.{Seen}
 use Rattle.bl_ctree.specs.Points.{Point, or_nothing, begins, checks, copying, giving, joining, passing, sure, tests, turns_on}
 use Rattle.bl_ctree.specs.Positions.{Located, Position, body_items, items_from, kind_of, place_of}
 use Rattle.bl_ctree.specs.Steps.{arm_items}
-use Rattle.bl_ctree.specs.Store.{Location, homes, overlap}
-use Rattle.bl_store.specs.Deeds.{effect_of}
-use Rattle.bl_store.specs.Seen.{Called, called_at, location_of}
+use Rattle.bl_ctree.specs.Store.{homes}
+use Rattle.bl_store.specs.Seen.{Called, called_at}
 use Rattle.bl_steps.specs.declared.point.Act.{Act}
-use Rattle.bl_steps.specs.declared.point.Effect.{Effect as EffectNode}
-use Rattle.bl_steps.specs.declared.point.Effect.TheVariants.{Asks as IsAsked, Does as IsDone}
-use Rattle.bl_steps.specs.declared.point.Point.{Point as PointNode}
-use Rattle.bl_pending.specs.Writes.{write_paths}
-
--- ---- points
-
--- what is told of a point: the place of its statement, its instance, its effect, the homes of what it reads, and the branches
--- that lead to it
-pub record Spot : Type 0 where
-  pub place : Place
-  pub instance : ℕ
-  pub effect : Effect
-  pub reads : List Location
-  pub path : List ℕ
-
--- the effect of an action of the code
-abbrev pub effect_in : EffectNode → Effect
-effect_in (IsAsked e) = Asks e.now
-effect_in (IsDone deed) = effect_of deed
-
--- what a point of the code tells
-abbrev pub spot_of : PointNode → Spot
-spot_of p = record { place = p.place; instance = p.instance; effect = effect_in p.effect; reads = map location_of p.reads; path = p.path }
-
--- a point of a part of a tree to which these branches lead
-abbrev pub spot_below : {A : Type 0} → Setting → List ℕ → Point A → Spot
-spot_below w path p = record {
-  place = p.action.place;
-  instance = p.action.instance;
-  effect = p.action.effect;
-  reads = reads_of w p.action;
-  path = path ++ p.path;
-}
+use Rattle.bl_listing.specs.Spots.{Spot, effect_in}
 
 -- ---- the point of a node itself
 
@@ -156,23 +116,9 @@ own w i (Guard s Body stood c) = if is_nil c then sure i s Silent Nil else []
 own w i (Run s callee Check stood c) = copying i s callee stood c (kind_of s)
 own w i (Run s callee Body stood c) = if is_nil c then giving i s callee (kind_of s) else []
 
--- ---- branches
-
--- what a branch may still write
-abbrev pub homes_seen : Setting → ℕ → Seen → List Location
-homes_seen w i b = homes w i (write_paths b.tree)
-
--- whether one of the lists of homes overlaps the home
-abbrev pub meets_one : List (List Location) → Location → Bool
-meets_one others at = list_any (λ homes. list_any (overlap at) homes) others
-
--- whether one of the lists of homes overlaps one of those that are read
-abbrev pub taken : List (List Location) → List Location → Bool
-taken others reads = list_any (meets_one others) reads
-
--- whether the point of the branch with number k reads nothing that the other branches may still write
-abbrev pub is_free_of : List (List Location) → ℕ → Spot → Bool
-is_free_of all k spot = not (taken (take k all) spot.reads) && not (taken (drop (k + 1) all) spot.reads)
+-- what is told of a point but for what it reads
+abbrev pub unread : Spot → Spot
+unread spot = record spot { reads = [] }
 
 -- ---- the tree after a point
 
@@ -200,12 +146,6 @@ abbrev pub seen_begun : Position → ℕ → List BranchOf → List Seen
 seen_begun position k [] = []
 seen_begun position k (b ∷ rest) =
     record { weak = (out-Branch b).weak; tree = do_all (items_from (position ++ k ∷ []) 0 (out-Branch b).body) } ∷ seen_begun position (suc k) rest
-
--- the branches of which the one with number k becomes another tree
-abbrev pub moved : List Seen → ℕ → (Control → Control) → List Seen
-moved [] k f = []
-moved (b ∷ rest) zero f = record { weak = b.weak; tree = f b.tree } ∷ rest
-moved (b ∷ rest) (suc k) f = b ∷ moved rest k f
 
 abbrev mutual
   -- what the tree becomes by an answer of the point to which these branches lead

@@ -8,7 +8,7 @@ use Rattle.std.specs.Ordering.{nat_cmp, ordering_then}
 use Rattle.bl_ctree.specs.Store.{Location, overlap}
 use Rattle.bl_store.specs.Seen.{location_of}
 use Rattle.bl_steps.specs.declared.writers.Write.{Write as WriteNode}
-use Rattle.bl_steps.specs.inner.Spots.{Spot}
+use Rattle.bl_listing.specs.Spots.{Spot}
 
 -- something that the branch with this number may still write
 pub record Write : Type 0 where

@@ -1,6 +1,6 @@
 use Rattle.std.proofs.Common.{◌≡◌, ◌++◌, map, drop}
 use Rattle.bl_steps.specs.Running.{action_at}
-use Rattle.bl_steps.specs.inner.Spots.{spot_of}
+use Rattle.bl_listing.specs.Spots.{spot_of}
 use Rattle.bl_steps.proofs.action.told.Given as goal
 
 abbrev pub invariant-loop-point : goal.invariant-loop-point

@@ -1,5 +1,5 @@
 use Rattle.std.proofs.Common.{◌≡◌, ◌++◌, map, filter}
-use Rattle.bl_steps.specs.inner.Spots.{spot_of}
+use Rattle.bl_listing.specs.Spots.{spot_of}
 use Rattle.bl_steps.specs.inner.Writers.{is_free}
 use Rattle.bl_steps.proofs.enabled.append_free.Given as goal
 

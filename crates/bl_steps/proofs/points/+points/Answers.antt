@@ -3,7 +3,8 @@ use Rattle.bl_ctree.specs.Nodes.{branches_of, control_of, items_of, located, see
 use Rattle.bl_ctree.specs.Control.{Body, Guard, Par, Run, Seq}
 use Rattle.bl_ctree.specs.Points.{branch_points, points}
 use Rattle.bl_store.specs.Seen.{setting_in}
-use Rattle.bl_steps.specs.inner.Spots.{homes_seen, own, spot_below, spot_of, spot_told, told_all, told_point}
+use Rattle.bl_listing.specs.Spots.{homes_seen, spot_below, spot_of}
+use Rattle.bl_steps.specs.inner.Spots.{own, spot_told, told_all, told_point}
 use Rattle.bl_steps.proofs.AfterLemmas.{seen_out}
 use Rattle.bl_steps.proofs.BranchLemmas.{branch_here, loop_goes_on, loop_starts}
 use Rattle.bl_steps.proofs.NodeLemmas.{guard_is, par_is, run_is, seq_is}

@@ -2,8 +2,8 @@ use Rattle.std.proofs.Common.{◌≡◌, ◌++◌, map, filter, take, drop}
 use Rattle.bl_ctree.specs.Nodes.{branches_of, seen_of}
 use Rattle.bl_ctree.specs.Points.{branch_points}
 use Rattle.bl_store.specs.Seen.{setting_in}
-use Rattle.bl_steps.proofs.BranchLemmas.{is_free, spot_from}
-use Rattle.bl_steps.specs.inner.Spots.{homes_seen, spot_below, spot_of}
+use Rattle.bl_listing.proofs.BranchLemmas.{is_free, spot_from}
+use Rattle.bl_listing.specs.Spots.{homes_seen, spot_below, spot_of}
 use Rattle.bl_steps.proofs.points.+points.Given as goal
 
 abbrev pub invariant-branch_points-loop-k : goal.invariant-branch_points-loop-k

@@ -1,22 +1,19 @@
-use Rattle.std.proofs.Common.{refl, sym, ◌∙◌, subst, arith, ◌≡◌, []}
+use Rattle.std.proofs.Common.{refl, sym, ◌∙◌, subst, arith, ◌≡◌, length}
 use Rattle.bl_ctree.specs.Points.{points}
-use Rattle.bl_steps.specs.Running.{setting, state}
-use Rattle.bl_walk.specs.inner.Ticks.{rests}
-use Rattle.bl_walk.proofs.Ticking.{few_steps, longer_by, reacted_by, some_points, stands_by, stands_first}
+use Rattle.bl_steps.specs.Running.{State, setting, state}
+use Rattle.bl_walk.specs.inner.Ticks.{Stands, rests}
+use Rattle.bl_walk.proofs.Ticking.{few_steps, left_by, longer_by, none_of, reacted_by, settled_there, stands_by, stands_first}
 use Rattle.bl_walk.proofs.tick.react.Goals as goal
 
 pub steps-init : goal.steps-init
 steps-init c = record {
-  same = refl;
-  stands = stands_first (setting c.args.tree.now) (state c.args.tree.now) c.args.choice.now c.args.places.now c.requires.none;
+  same = c.count.ensures.setting;
+  stands = subst (λ (s : State). Stands (setting c.args.tree.now) c.args.choice.now (state c.args.tree.now) c.args.choice.now s c.args.places.now)
+      (sym c.count.ensures.state)
+      (stands_first (setting c.args.tree.now) (state c.args.tree.now) c.args.choice.now c.args.places.now c.requires.none);
+  left = left_by (setting c.args.tree.now) (setting c.count.new.self) (state c.args.tree.now) (state c.count.new.self)
+      c.in_ok-left.left c.count.ensures.setting c.count.ensures.state c.in_ok-left.ensures.count;
 }
-
-pub step-requires : goal.step-requires
-step-requires c = λ none.
-    some_points (setting c.args.tree.now) (state c.args.tree.now) c.requires.steady c.requires.begun c.picked_lists_are_steps.ensures
-    c.points_are_steps.ensures.still c.args.choice.now c.steps.choice (state c.steps.tree) c.steps.places c.steps.invariant.stands
-    (sym c.settled.ensures ∙ c.steps-test.true)
-    (subst (λ w. points w 0 (state c.steps.tree).control ≡ []) c.steps.invariant.same none)
 
 pub returns-in-Trap-clause-reacted : goal.returns-in-Trap-clause-reacted
 returns-in-Trap-clause-reacted c =
@@ -38,11 +35,23 @@ steps-smaller c =
 
 pub steps-preserved : goal.steps-preserved
 steps-preserved c = record {
-  same = c.step.ensures.setting ∙ c.steps.invariant.same;
-  stands = stands_by (setting c.args.tree.now) (setting c.steps.tree) c.steps.invariant.same c.args.choice.now (state c.args.tree.now) c.steps.choice
+  same = c.count-in-steps.ensures.setting ∙ c.step.ensures.setting ∙ c.steps.invariant.same;
+  stands = subst (λ (s : State). Stands (setting c.args.tree.now) c.args.choice.now (state c.args.tree.now) c.step.new.choice s c.step.new.places)
+      (sym c.count-in-steps.ensures.state)
+      (stands_by (setting c.args.tree.now) (setting c.steps.tree) c.steps.invariant.same c.args.choice.now (state c.args.tree.now) c.steps.choice
       c.step.new.choice c.in_ok-did.ensures.choice (state c.steps.tree) (state c.step.new.tree) c.steps.places c.step.new.places
-      c.steps.invariant.stands c.in_ok-did.did c.in-Done.is c.in_ok-did.ensures.took;
+      c.steps.invariant.stands c.in_ok-did.did c.in-Done.is c.in_ok-did.ensures.took);
+  left = left_by (setting c.step.new.tree) (setting c.count-in-steps.new.self) (state c.step.new.tree) (state c.count-in-steps.new.self)
+      _ c.count-in-steps.ensures.setting c.count-in-steps.ensures.state c.in_ok-left-2.ensures.count;
 }
 
 pub returns-clause-reacted : goal.returns-clause-reacted
-returns-clause-reacted c = rests c.steps.invariant.stands (sym c.settled.ensures ∙ c.steps-test.false)
+returns-clause-reacted c =
+    let w = setting c.args.tree.now in
+    let s = state c.steps.tree in
+    let counted : c.steps.left ≡ length (points w 0 s.control) =
+    left_by (setting c.steps.tree) w s s c.steps.left (sym c.steps.invariant.same) refl c.steps.invariant.left in
+    rests c.steps.invariant.stands
+    (settled_there w (state c.args.tree.now) c.requires.steady c.requires.begun c.picked_lists_are_steps.ensures c.points_are_steps.ensures.still
+    c.args.choice.now c.steps.choice s c.steps.places c.steps.invariant.stands
+    (none_of (points w 0 s.control) c.steps.left counted (omega (arith, c.steps-test.false))))

@@ -1,7 +1,7 @@
 use Rattle.std.proofs.Common.{ap, ◌∙◌, map}
 use Rattle.bl_ctree.specs.Points.{points}
 use Rattle.bl_steps.specs.Running.{setting, state}
-use Rattle.bl_steps.specs.inner.Spots.{spot_of}
+use Rattle.bl_listing.specs.Spots.{spot_of}
 use Rattle.bl_steps.proofs.TreeLemmas.{told_actions}
 use Rattle.bl_steps.proofs.tree.Tree.actions.Goals as goal
 

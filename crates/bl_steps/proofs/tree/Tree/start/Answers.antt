@@ -1,4 +1,4 @@
-use Rattle.std.proofs.Common.{◌≡◌, true, [], ap, sym, ◌∙◌, subst}
+use Rattle.std.proofs.Common.{◌≡◌, true, [], refl, ap, sym, ◌∙◌, subst}
 use Rattle.bl_tree.specs.Program.{units_stand_after}
 use Rattle.bl_ctree.specs.Instances.{Setting}
 use Rattle.bl_ctree.specs.Store.{Store}
@@ -14,6 +14,7 @@ invariant_of-result c =
     subst (λ (w : Setting). units_stand_after w.structs [] w.units ≡ true) (sym c.in_ok-setting.ensures) c.args.program.now.keeps.units_stand
     in
     record {
+      lists = refl;
       outputs = subst (λ (store : Store). HasOutputs w store)
           (sym (ap store_of c.into_vec-frames.ensures ∙ c.in_ok-first_frames.ensures)) (outputs_start w stands);
     }

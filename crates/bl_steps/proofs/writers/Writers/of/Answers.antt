@@ -1,7 +1,7 @@
 use Rattle.std.proofs.Common.{◌≡◌, ◌+◌, arith, map, suc}
 use Rattle.bl_ctree.specs.Nodes.{seen_of}
 use Rattle.bl_store.specs.Seen.{setting_in}
-use Rattle.bl_steps.specs.inner.Spots.{homes_seen}
+use Rattle.bl_listing.specs.Spots.{homes_seen}
 use Rattle.bl_steps.specs.inner.Writers.{all_writes, kept, of_variable}
 use Rattle.bl_steps.proofs.BranchLemmas.{branch_here}
 use Rattle.bl_steps.proofs.WriterLemmas.{branch_noted}

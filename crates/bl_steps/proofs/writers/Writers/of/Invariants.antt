@@ -2,7 +2,7 @@ use Rattle.std.proofs.Common.{◌≡◌, ◌++◌, map, drop}
 use Rattle.bl_ctree.specs.Nodes.{seen_of}
 use Rattle.bl_ctree.specs.Store.{Location}
 use Rattle.bl_store.specs.Seen.{setting_in}
-use Rattle.bl_steps.specs.inner.Spots.{homes_seen}
+use Rattle.bl_listing.specs.Spots.{homes_seen}
 use Rattle.bl_steps.specs.inner.Writers.{all_writes, kept, of_variable, writes_from}
 use Rattle.bl_steps.proofs.writers.Writers.of.Given as goal
 

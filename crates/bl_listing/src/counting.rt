@@ -1,0 +1,50 @@
+//! Points whose flags are true.
+
+ghost use Rattle.std.specs.Prelude.{◌≡◌, ◌+◌, IfOk, map, option_map, slice_get};
+ghost use Rattle.bl_listing.specs.Listing.{flagged, trues};
+ghost use Rattle.bl_listing.specs.Spots.{spot_of};
+
+use crate::point::Point;
+use bl_tree::NoMemory;
+
+/// How many are true.
+pub fn trues(flags: &[bool]) -> usize
+    ensures { result ≡ trues flags.now }
+{
+    let mut count = 0;
+    for k in 0..flags.len() {
+        if flags[k] {
+            count += 1;
+        }
+    }
+    count
+}
+
+/// The point with number n of those whose flag is true.
+pub fn nth<'b, 'a>(points: &'b [Point<'a>], flags: &[bool], n: usize) -> Option<&'b Point<'a>>
+    ensures { option_map (λ point. spot_of point.now) result ≡ slice_get (flagged flags.now (map spot_of points.now)) n }
+{
+    let mut left = n;
+    for k in 0..points.len() {
+        if k >= flags.len() {
+            return None;
+        }
+        if flags[k] {
+            if left == 0 {
+                return Some(&points[k]);
+            }
+            left -= 1;
+        }
+    }
+    None
+}
+
+/// Fails only where the sum is too large for memory.
+pub fn sum(a: usize, b: usize) -> Result<usize, NoMemory>
+    ensures { IfOk result (λ n. n ≡ a + b) }
+{
+    match a.checked_add(b) {
+        Some(n) => Ok(n),
+        None => Err(NoMemory),
+    }
+}
