@@ -26,8 +26,10 @@ use Rattle.bl_emit_pass_laws_files.specs.Laws.{FileShows, RowsSuffice}
 use Rattle.bl_emit_pass_laws_tables.specs.Laws.{ActivitiesBuilt}
 use Rattle.bl_emit_laws_accepted.specs.Laws.{ProgramsFormed}
 use Rattle.bl_emit_laws_cells.specs.Laws.{FilesSmall}
+use Rattle.bl_emit_laws_counters.specs.Laws.{FilesOwn}
 use Rattle.bl_emit_laws_kept.specs.Laws.{activities_in, written_file}
 use Rattle.bl_emit_laws_shows.specs.Laws.{WrittenShows}
+use Rattle.bl_emit_laws_width.specs.Laws.{FramesHaveWidth}
 use Rattle.bl_emit_file.specs.Laws.{Known, ProgramsShow}
 use Rattle.bl_emit_file.specs.Shows.{ShowsProgram}
 
@@ -63,6 +65,8 @@ pub record Laws (program : Program) : Type 0 where
   pub shows : WrittenShows program
   pub formed : ProgramsFormed program
   pub small : FilesSmall program
+  pub own : FilesOwn program
+  pub wide : FramesHaveWidth program
 
 module _ (program : Program) (machine : List InMachine) (laws : Laws program) (known : Known program machine) where
   abbrev structs : List StructDef
@@ -121,6 +125,8 @@ module _ (program : Program) (machine : List InMachine) (laws : Laws program) (k
       small = laws.small machine known.keeps known.passes known.limits known.agrees known.plain unit there;
       inputs = shows.inputs;
       outputs = shows.outputs;
+      functions = laws.own machine unit known.keeps known.passes known.agrees there formed;
+      frames = laws.wide machine compiled known.plain;
       trace = traced;
     }
 

@@ -9,6 +9,8 @@ use Rattle.bl_cmeaning.specs.Faults.{WellFormed}
 use Rattle.bl_cmeaning.specs.Parts.{Parts}
 use Rattle.bl_cmeaning.specs.Sizes.{cells_needed}
 use Rattle.bl_cmeaning.specs.Trace.{c_trace}
+use Rattle.bl_emit_laws_counters.specs.Own.{FunctionsOwn}
+use Rattle.bl_emit_laws_width.specs.Laws.{EachFrameHasWidth}
 
 -- the C file of the program with these structs, these units and this entry
 pub record ShowsProgram (structs : List StructDef) (units : List UnitDef) (entry : ℕ) (file : Parts) : Type 0 where
@@ -20,6 +22,10 @@ pub record ShowsProgram (structs : List StructDef) (units : List UnitDef) (entry
   pub small : cells_needed file ≤ 1000000
   pub inputs : inputs_of file ≡ input_columns unit
   pub outputs : outputs_of file ≡ output_columns unit
+  -- each activity that has an instance has one function and one struct in it, and no other function names its counters
+  pub functions : FunctionsOwn structs units entry file
+  -- and that struct has as many counters as the activity's width: the most places of it that can rest at once
+  pub frames : EachFrameHasWidth structs units entry file
   -- over all rows that fit its inputs the parallel meaning allows its trace, and no other
   pub trace : (rows : List (List ℤ)) (shows : Shown) → RowsFit (input_columns unit) rows →
       Means structs units entry rows shows ↔ (shows ≡ shown (c_trace file rows))

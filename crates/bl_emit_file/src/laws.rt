@@ -4,7 +4,9 @@ ghost use Rattle.bl_emit_file.specs.Laws.{ProgramsShow};
 
 use bl_emit_laws_accepted::programs_formed;
 use bl_emit_laws_cells::files_small;
+use bl_emit_laws_counters::files_own;
 use bl_emit_laws_shows::written_shows;
+use bl_emit_laws_width::frames_have_width;
 use bl_emit_pass_laws_come::all_come;
 use bl_emit_pass_laws_compiled::programs_compile;
 use bl_emit_pass_laws_entry::entry_runs;
@@ -24,4 +26,6 @@ pub fn programs_show(program: &Program)
     written_shows(program);
     programs_formed(program);
     files_small(program);
+    files_own(program);
+    frames_have_width(program);
 }

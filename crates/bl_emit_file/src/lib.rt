@@ -1,7 +1,8 @@
 //! The C file of an accepted program. `c_file` makes it: it has a spelling, is well formed, has the columns of the program's entry and needs at most
-//! 1,000,000 cells; over all rows that fit it has the one trace that the meaning of the program allows, and no other (`specs/Shows.antt`,
-//! `ShowsProgram`). The program has to be made of a source text (`FromText` of `bl_prevs`). A law, as the contract of a function that does nothing,
-//! puts those of the parts together (`specs/Laws.antt`, `ProgramsShow`).
+//! 1,000,000 cells; each activity that has an instance has one function, which alone names its counters, and as many counters as its width; over all rows
+//! that fit it has the one trace that the meaning of the program allows, and no other (`specs/Shows.antt`, `ShowsProgram`). The program has to be made of
+//! a source text (`FromText` of `bl_prevs`). A law, as the contract of a function that does nothing, puts those of the parts together (`specs/Laws.antt`,
+//! `ProgramsShow`).
 #![tactic(auto)]
 
 mod counts;

@@ -12,4 +12,6 @@ returns c machine known =
       shows = c.written_shows.ensures;
       formed = c.programs_formed.ensures;
       small = c.files_small.ensures;
+      own = c.files_own.ensures;
+      wide = c.frames_have_width.ensures;
     }) known

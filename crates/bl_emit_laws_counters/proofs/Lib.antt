@@ -1,0 +1,10 @@
+mod Activities
+mod Expressions
+mod Fine
+mod Functions
+mod Guards
+mod Lists
+mod Once
+mod Shapes
+mod Statements
+mod Whole
