@@ -1,5 +1,5 @@
 -- Saved states, and traces that go on from them.
-use Rattle.std.proofs.Common.{◌≡◌, ◌∙◌, refl, sym, ap, arith, ℕ, ◌<◌, inl, inr, ℤ, Bool}
+use Rattle.std.proofs.Common.{◌≡◌, ◌∙◌, refl, sym, ap, subst, arith, ℕ, ◌<◌, inl, inr, ℤ, Bool}
 use Rattle.std.proofs.Common.{true, false, suc, List, [], ◌∷◌, ◌++◌, length}
 use Rattle.std.specs.Prelude.{◌&&◌}
 use Rattle.std.proofs.lemmas.Bool.{cases_lt}
@@ -10,30 +10,42 @@ use Rattle.bl_tree.specs.Ports.{in_ranges}
 use Rattle.bl_tree.specs.Scalar.{in_range}
 use Rattle.bl_tree.specs.declared.scalar.Scalar.{Scalar}
 use Rattle.bl_cmeaning.specs.Cells.{cells_of}
-use Rattle.bl_cmeaning.specs.Laws.{GoesOn}
 use Rattle.bl_cmeaning.specs.Parts.{Parts}
+use Rattle.bl_cmeaning.proofs.TraceLemmas.{goes-on}
 use Rattle.bl_cmeaning.specs.Trace.{c_trace, c_trace_from, cells_after, cells_if, start_cells, starts, tick_c, trace_after, trace_then}
 use Rattle.bl_cinterface.specs.Layout.{kinds_of}
 use Rattle.bl_crun.specs.Running.{tick_if}
-use Rattle.bl_save.specs.States.{OneMemory, ShowsBadState}
-use Rattle.bl_save_laws.specs.Laws.{OnePlace, OneState, StateGoesOn, StaysReady, TraceGoesOn}
+use Rattle.bl_save.specs.States.{OneMemory, SavedState, ShowsBadState}
+use Rattle.bl_save_laws.specs.Laws.{OnePlace, OneState, StateGoesOn, StatesJoin, StaysReady, TraceGoesOn}
 
 -- a trace of a file whose start doesn't trap goes on from what the start leaves
 started-trace : (file : Parts) (rows : List (List ℤ)) → starts file ≡ true → c_trace file rows ≡ c_trace_from file rows (start_cells file)
 started-trace file rows starts = ap (λ (b : Bool). trace_after file (cells_if b (start_cells file)) rows) starts
 
-pub trace-goes_on : (file : Parts) → GoesOn file → TraceGoesOn file
-trace-goes_on file law first rest starts running =
+pub trace-goes_on : (file : Parts) → TraceGoesOn file
+trace-goes_on file first rest starts running =
     let from : c_trace file first ≡ c_trace_from file first (start_cells file) = started-trace file first starts in
     let from_start : (c_trace_from file first (start_cells file)).last ≡ Open = ap (λ (t : Trace). t.last) (sym from) ∙ running in
-    started-trace file (first ++ rest) starts ∙ law first rest (start_cells file) from_start
+    started-trace file (first ++ rest) starts ∙ goes-on file first rest (start_cells file) from_start
     ∙ ap (λ (t : Trace). trace_then t (c_trace_from file rest (cells_after file first (start_cells file)))) (sym from)
 
 -- and from what their saved state stands for
-pub state-goes_on : (file : Parts) → OneMemory file → GoesOn file → StateGoesOn file
-state-goes_on file one law first rest bytes numbers running saved read =
+pub state-goes_on : (file : Parts) → OneMemory file → StateGoesOn file
+state-goes_on file one first rest bytes numbers running saved read =
     let same = one (cells_after file first (start_cells file)) numbers bytes saved read in
-    trace-goes_on file law first rest saved.starts running ∙ ap (λ (ns : List ℤ). trace_then (c_trace file first) (c_trace_from file rest ns)) same
+    trace-goes_on file first rest saved.starts running ∙ ap (λ (ns : List ℤ). trace_then (c_trace file first) (c_trace_from file rest ns)) same
+
+-- cells after rows and then others
+cells-join : (file : Parts) (first rest : List (List ℤ)) (cells : List ℤ) →
+    cells_after file rest (cells_after file first cells) ≡ cells_after file (first ++ rest) cells
+cells-join file [] rest cells = refl
+cells-join file (ins ∷ first) rest cells = cells-join file first rest (tick_c file cells ins).cells
+
+pub states-join : (file : Parts) → OneMemory file → StatesJoin file
+states-join file one first rest bytes further numbers saved read again =
+    subst (λ cells. SavedState file cells further)
+    (ap (cells_after file rest) (one numbers (cells_after file first (start_cells file)) bytes read saved) ∙ cells-join file first rest (start_cells file))
+    again
 
 -- places: the earlier of two can't be one
 not-before : (file : Parts) (bytes : List ℕ) (here there : ℕ) → ShowsBadState file bytes here → ShowsBadState file bytes there → here < there →

@@ -1,7 +1,9 @@
 -- What holds of saved states, and of runs that go on from them.
-use Rattle.std.specs.Prelude.{◌≡◌, ℕ, ℤ, true, List, ◌++◌}
+use Rattle.std.specs.Prelude.{◌≡◌, ℕ, ◌+◌, ◌*◌, ◌≤◌, ℤ, true, List, ◌++◌, length}
 use Rattle.bl_tree.specs.declared.row.Last.TheVariants.{Open}
+use Rattle.bl_cmeaning.specs.Faults.{WellFormed}
 use Rattle.bl_cmeaning.specs.Parts.{Parts}
+use Rattle.bl_cmeaning.specs.Sizes.{cells_needed}
 use Rattle.bl_cmeaning.specs.Trace.{c_trace, c_trace_from, cells_after, start_cells, starts, trace_then}
 use Rattle.bl_crun.specs.Running.{Running, after_tick, loaded}
 use Rattle.bl_save.specs.States.{IsReady, SavedState, ShowsBadState, with_numbers}
@@ -10,9 +12,13 @@ use Rattle.bl_save.specs.States.{IsReady, SavedState, ShowsBadState, with_number
 abbrev pub OneState : Parts → Type 0
 OneState file = (numbers : List ℤ) (bytes others : List ℕ) → SavedState file numbers bytes → SavedState file numbers others → bytes ≡ others
 
--- bytes that are no saved state show it at one place
+-- bytes show at no two places that they are no saved state
 abbrev pub OnePlace : Parts → Type 0
 OnePlace file = (bytes : List ℕ) (here there : ℕ) → ShowsBadState file bytes here → ShowsBadState file bytes there → here ≡ there
+
+-- a saved state has at most eight bytes for each cell that the file needs, behind ten others
+abbrev pub ShortStates : Parts → Type 0
+ShortStates file = WellFormed file → (numbers : List ℤ) (bytes : List ℕ) → SavedState file numbers bytes → length bytes ≤ 8 * cells_needed file + 10
 
 -- a run of a file whose start doesn't trap may be stopped while it is open, and gone on with later: the trace over all rows is that of the
 -- first, and then the one over the others that goes on from the cells that they leave
@@ -25,6 +31,12 @@ abbrev pub StateGoesOn : Parts → Type 0
 StateGoesOn file = (first rest : List (List ℤ)) (bytes : List ℕ) (numbers : List ℤ) → (c_trace file first).last ≡ Open →
     SavedState file (cells_after file first (start_cells file)) bytes → SavedState file numbers bytes →
     c_trace file (first ++ rest) ≡ trace_then (c_trace file first) (c_trace_from file rest numbers)
+
+-- and a state that is saved then is that after all rows
+abbrev pub StatesJoin : Parts → Type 0
+StatesJoin file = (first rest : List (List ℤ)) (bytes further : List ℕ) (numbers : List ℤ) →
+    SavedState file (cells_after file first (start_cells file)) bytes → SavedState file numbers bytes →
+    SavedState file (cells_after file rest numbers) further → SavedState file (cells_after file (first ++ rest) (start_cells file)) further
 
 -- a runner that was just loaded is ready where the start of its file doesn't trap, and is so after ticks and where its cells have the
 -- numbers of a saved state

@@ -1,6 +1,11 @@
 -- The courses that run a source end alike and show the same.
 use Rattle.std.proofs.Common.{◌≡◌, ◌∙◌, ℕ, ℤ, List, refl, sym, ap, subst}
 use Rattle.std.specs.Prelude.{Option, Some, None, unwrap_or}
+use Rattle.bl_commands.specs.Calls.{Count, Output}
+use Rattle.bl_commands.specs.Rows.{Ran, RanInPart, Streams, bad_rows, done, no_memory, trapped, unread, unwritten}
+use Rattle.bl_commands.specs.Sources.{IsTreeOf, RunsAs}
+use Rattle.bl_commands.specs.Traces.{HasCourse}
+use Rattle.bl_commands.specs.declared.status.Status.{Status}
 use Rattle.bl_ctree.specs.Means.{Shown, shown}
 use Rattle.bl_io.specs.Held.{Appends}
 use Rattle.bl_program.specs.Programs.{typed_of}
@@ -19,11 +24,6 @@ use Rattle.bl_stream.specs.Streams.{
   text_so_far,
 }
 use Rattle.bl_stream.specs.declared.finish.Finish.{Finish}
-use Rattle.bl_top.specs.Calls.{Count, Output}
-use Rattle.bl_top.specs.Rows.{Ran, RanInPart, Streams, bad_rows, done, no_memory, trapped, unread, unwritten}
-use Rattle.bl_top.specs.Sources.{IsTreeOf, RunsAs}
-use Rattle.bl_top.specs.Traces.{HasCourse}
-use Rattle.bl_top.specs.declared.status.Status.{Status}
 use Rattle.bl_tree.specs.Ports.{RowsFit, input_columns, output_columns}
 use Rattle.bl_tree.specs.declared.row.Last.{Last}
 use Rattle.bl_tree.specs.declared.row.Trace.{Trace}

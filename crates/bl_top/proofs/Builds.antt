@@ -6,14 +6,8 @@ use Rattle.bl_cmeaning.specs.Parts.{Parts, parts_of}
 use Rattle.bl_cmeaning.specs.Sizes.{cells_needed}
 use Rattle.bl_cmeaning_laws_places.specs.Behaviour.{Behaviour, behaviour_of}
 use Rattle.bl_cmeaning_laws_places.specs.Bytes.{Behaves}
-use Rattle.bl_ctext.specs.SpellsC.{SpellsC}
-use Rattle.bl_ctext.specs.declared.file.CFile.{CFile}
-use Rattle.bl_io.specs.Left.{IsKept}
-use Rattle.bl_program.specs.Programs.{typed_of}
-use Rattle.bl_top.proofs.Courses.{BytesFit, LinesFit, course_of_behaviour, faultless, not_large}
-use Rattle.bl_top.specs.Built.{BuiltEnds, ran as built_ran, unread as built_unread, want as built_want}
-use Rattle.bl_top.specs.Calls.{Call}
-use Rattle.bl_top.specs.Exec.{
+use Rattle.bl_commands.specs.Calls.{Call}
+use Rattle.bl_commands.specs.Exec.{
   ExecEnds,
   HasFile,
   Rejects,
@@ -29,24 +23,35 @@ use Rattle.bl_top.specs.Exec.{
   unread,
   want,
 }
-use Rattle.bl_top.specs.inner.Programs.{HasOneTrace}
-use Rattle.bl_top.specs.Notes.{line_of}
-use Rattle.bl_top.specs.Reads.{longest_text}
-use Rattle.bl_top.specs.Sources.{IsSource, IsTextOf, IsTextOfParts, RunsAs}
-use Rattle.bl_top.specs.Traces.{HasCourse, course_by}
-use Rattle.bl_top.specs.declared.status.Status.{Status}
-use Rattle.bl_top.specs.declared.status.Status.TheVariants as status
+use Rattle.bl_commands.specs.Notes.{line_of}
+use Rattle.bl_commands.specs.Reads.{longest_text}
+use Rattle.bl_commands.specs.Sources.{IsSource, IsTextOf, IsTextOfProgram, RunsAs}
+use Rattle.bl_commands.specs.Traces.{HasCourse, course_by}
+use Rattle.bl_commands.specs.declared.status.Status.{Status}
+use Rattle.bl_commands.specs.declared.status.Status.TheVariants as status
+use Rattle.bl_ctext.specs.SpellsC.{SpellsC}
+use Rattle.bl_ctext.specs.declared.file.CFile.{CFile}
+use Rattle.bl_io.specs.Left.{IsKept}
+use Rattle.bl_program.specs.Programs.{typed_of}
+use Rattle.bl_top.specs.Build.{IsBuiltOfProgram}
+use Rattle.bl_top.specs.Built.{BuiltEnds, ran as built_ran, unread as built_unread, want as built_want}
+use Rattle.bl_top.specs.inner.Programs.{IsFileOf}
 use Rattle.bl_tree.specs.declared.tree.StructDef.{StructDef}
 use Rattle.bl_tree.specs.declared.tree.Unit.{Unit as UnitDef}
 use Rattle.bl_words.specs.Jobs.{Word}
+use Rattle.bl_top.proofs.Courses.{BytesFit, LinesFit, course_of_behaviour, faultless, not_large}
 
--- what spells the file of a program is a text of it
+-- what spells the file of a program is built of it
 pub text_of_file : (structs : List StructDef) (units : List UnitDef) (entry : ℕ) (file : CFile) (text : List ℕ) → SpellsC file text →
-    HasOneTrace structs units entry file → IsTextOfParts structs units entry text
+    IsFileOf structs units entry file → IsBuiltOfProgram structs units entry text
 text_of_file structs units entry file text spells has = record {
-  behaviour = behaviour_of (parts_of file);
-  behaves = record { file = file; spells = spells; well_formed = has.well_formed; is = refl };
-  one_trace = has.one_trace;
+  is = record {
+    behaviour = behaviour_of (parts_of file);
+    behaves = record { file = file; spells = spells; well_formed = has.well_formed; is = refl };
+    one_trace = has.one_trace;
+  };
+  functions = has.functions;
+  frames = has.frames;
 }
 
 -- ---- what is run
@@ -61,7 +66,7 @@ EachBehaves = (file : CFile) (bytes : List ℕ) (behaviour : Behaviour) → Spel
     Behaves bytes behaviour ↔ (WellFormed (parts_of file) × (behaviour ≡ behaviour_of (parts_of file)))
 
 pub built_course : OneBehaviour → BytesFit → LinesFit → (structs : List StructDef) (units : List UnitDef) (entry : ℕ) (text : List ℕ)
-    (behaviour : Behaviour) → IsTextOfParts structs units entry text → Behaves text behaviour →
+    (behaviour : Behaviour) → IsTextOfProgram structs units entry text → Behaves text behaviour →
     HasCourse structs units entry (course_by behaviour)
 built_course one fit so_far structs units entry text behaviour is behaves =
     subst (λ (b : Behaviour). HasCourse structs units entry (course_by b)) (one text is.behaviour behaviour is.behaves behaves)
@@ -78,7 +83,7 @@ built_runs one fit so_far left text behaviour is behaves = record {
 -- ---- what isn't
 
 module _ (each : EachBehaves) (structs : List StructDef) (units : List UnitDef) (entry : ℕ) (text : List ℕ)
-    (is : IsTextOfParts structs units entry text) (file : Parts) (has : HasFile text file) where
+    (is : IsTextOfProgram structs units entry text) (file : Parts) (has : HasFile text file) where
   file_behaves : WellFormed (parts_of has.spelled) × (is.behaviour ≡ behaviour_of (parts_of has.spelled))
   file_behaves = (each has.spelled text is.behaviour has.spells).0 is.behaves
 
@@ -90,7 +95,7 @@ module _ (each : EachBehaves) (structs : List StructDef) (units : List UnitDef) 
       (subst (λ (b : Behaviour). b.needed ≤ 1000000) file_behaves.1 is.one_trace.small)
 
 pub built_rejected : EachBehaves → (structs : List StructDef) (units : List UnitDef) (entry : ℕ) (text : List ℕ) (ended : Status) (line : List ℕ) →
-    IsTextOfParts structs units entry text → Rejects text ended line →
+    IsTextOfProgram structs units entry text → Rejects text ended line →
     (longest_text < length text) ⊎ ((ended ≡ status.NoMemory) × (line ≡ line_of status.NoMemory))
 built_rejected each structs units entry text _ _ is (too_long long) = inl long
 built_rejected each structs units entry text _ _ is (no_file at fits shows) = absurd (shows.none is.behaves.file is.behaves.spells)

@@ -5,6 +5,7 @@ use Rattle.bl_cmeaning.specs.Faults.{WellFormed, first_fault, first_place}
 use Rattle.bl_cmeaning.specs.Parts.{Parts, parts_of}
 use Rattle.bl_cmeaning.specs.Sizes.{cells_needed}
 use Rattle.bl_cmeaning_laws_places.specs.Behaviour.{Behaviour, behaviour_of}
+use Rattle.bl_commands.specs.Traces.{HasCourse, OneTrace, course_by}
 use Rattle.bl_crun.specs.Cause.{IsCause}
 use Rattle.bl_crun.specs.Running.{Running, loaded}
 use Rattle.bl_crun.specs.declared.fault.LoadFault.{LoadFault}
@@ -12,15 +13,10 @@ use Rattle.bl_crun.specs.declared.fault.LoadFault.TheVariants as load
 use Rattle.bl_ctext.specs.declared.file.CFile.{CFile}
 use Rattle.bl_rows.specs.Reading.{begun, rows_in, rows_of}
 use Rattle.bl_rows.specs.Text.{text_of}
-use Rattle.bl_stream.specs.Streams.{Course, course_of}
-use Rattle.bl_program.specs.Programs.{typed_of}
-use Rattle.bl_top.proofs.Fronts.{tree_of_program}
-use Rattle.bl_top.specs.inner.Programs.{HasOneTrace, IsProgram}
-use Rattle.bl_top.specs.Sources.{RunsAs}
-use Rattle.bl_top.specs.Traces.{HasCourse, OneTrace, course_by}
+use Rattle.bl_stream.specs.Streams.{course_of}
+use Rattle.bl_top.specs.inner.Programs.{IsFileOf}
 use Rattle.bl_tree.specs.Ports.{RowsFit, input_columns}
 use Rattle.bl_tree.specs.declared.place.Place.{Place}
-use Rattle.bl_tree.specs.declared.program.Program.{Program}
 use Rattle.bl_tree.specs.declared.row.Column.{Column}
 use Rattle.bl_tree.specs.declared.tree.StructDef.{StructDef}
 use Rattle.bl_tree.specs.declared.tree.Unit.{Unit as UnitDef}
@@ -57,29 +53,10 @@ course_of_behaviour structs units entry behaviour is fit so_far = record {
 }
 
 pub course_of_parts : (structs : List StructDef) (units : List UnitDef) (entry : ℕ) (file : CFile) (ready : Parts) →
-    ready ≡ parts_of file → HasOneTrace structs units entry file → BytesFit → LinesFit → HasCourse structs units entry (course_of ready)
+    ready ≡ parts_of file → IsFileOf structs units entry file → BytesFit → LinesFit → HasCourse structs units entry (course_of ready)
 course_of_parts structs units entry file ready same is fit so_far =
     subst (λ parts. HasCourse structs units entry (course_of parts)) (sym same)
     (course_of_behaviour structs units entry (behaviour_of (parts_of file)) is.one_trace fit so_far)
-
--- the course of the program of a tree
-course_of_tree : (course : Course) (structs structs' : List StructDef) (units units' : List UnitDef) (entry entry' : ℕ) →
-    structs ≡ structs' → units ≡ units' → entry ≡ entry' →
-    HasCourse structs units entry course → HasCourse structs' units' entry' course
-course_of_tree course structs structs' units units' entry entry' s u e has =
-    subst (λ n. HasCourse structs' units' n course) e (subst (λ us. HasCourse structs' us entry course) u
-    (subst (λ ss. HasCourse ss units entry course) s has))
-
-pub runs_as_program : (left : Option (List ℕ)) (program : Program) (course : Course) → IsProgram left program →
-    HasCourse program.structs program.units program.entry course → RunsAs left course
-runs_as_program left program course is has =
-    let made = is.has in
-    record {
-      raw = made.raw;
-      tree = tree_of_program left program is;
-      has = course_of_tree course program.structs (typed_of made.raw).structs program.units (typed_of made.raw).units program.entry
-          (typed_of made.raw).entry made.is.structs made.is.units made.is.entry has;
-    }
 
 -- ---- it is loaded, unless memory is wanting
 
@@ -94,7 +71,7 @@ pub not_large : (cells : ℕ) → 1000000 < cells → cells ≤ 1000000 → ⊥
 not_large cells large small = omega (arith, large, small)
 
 pub wants_memory : (file : CFile) (structs : List StructDef) (units : List UnitDef) (entry : ℕ) (fault : LoadFault) →
-    HasOneTrace structs units entry file → IsCause (parts_of file) fault →
+    IsFileOf structs units entry file → IsCause (parts_of file) fault →
     fault ≡ load.NoMemory
 wants_memory file structs units entry (load.IllFormed at) is cause = absurd (faultless (parts_of file) at is.well_formed cause)
 wants_memory file structs units entry (load.TooLarge cells) is cause = absurd (not_large (cells_needed (parts_of file)) cause.large is.one_trace.small)

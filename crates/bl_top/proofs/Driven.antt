@@ -4,6 +4,16 @@ use Rattle.std.specs.Prelude.{◌⊎◌, ◌↔◌, Option, Some, None, Result, 
 use Rattle.bl_cmeaning.specs.Cells.{outputs_of}
 use Rattle.bl_cmeaning.specs.Parts.{Parts}
 use Rattle.bl_cmeaning_laws_places.specs.Behaviour.{Behaviour, behaviour_of}
+use Rattle.bl_commands.specs.Calls.{Call, Output}
+use Rattle.bl_commands.specs.inner.Outcomes.{chosen_line, line_in, lines_in}
+use Rattle.bl_commands.specs.Notes.{line_of}
+use Rattle.bl_commands.specs.Refusals.{IsNotAccepted}
+use Rattle.bl_commands.specs.Sources.{IsProgram}
+use Rattle.bl_commands.specs.declared.answer.Answer.{Answer}
+use Rattle.bl_commands.specs.declared.outcome.Outcome.{Outcome}
+use Rattle.bl_commands.specs.declared.status.Status.{Status}
+use Rattle.bl_commands.specs.declared.status.Status.TheVariants as status
+use Rattle.bl_commands.specs.Traces.{OneTrace}
 use Rattle.bl_crun.specs.Running.{Running, loaded}
 use Rattle.bl_ctree.specs.Means.{Means, Shown as Shows, shown}
 use Rattle.bl_drive.specs.declared.driven.Driven.{Driven as Record}
@@ -14,21 +24,10 @@ use Rattle.bl_drive_run.specs.Reports.{IsDriven, IsReport, IsReportOf, LeavesPla
 use Rattle.bl_drive_run.specs.declared.report.Report.{Report}
 use Rattle.bl_io.specs.Left.{IsKept}
 use Rattle.bl_program.specs.Programs.{typed_of}
-use Rattle.bl_top.proofs.Fronts.{tree_of_program}
 use Rattle.bl_top.specs.Answers.{Answers, drives}
-use Rattle.bl_top.specs.Calls.{Call, Output}
 use Rattle.bl_top.specs.Drive.{DriveEnds, HasDriven, LeavesPlants, Plants, Tells, drove, kept, line_at, setting_of, short, status_at, stopped}
 use Rattle.bl_top.specs.Drive.{unwritten, want, was_driven, whole}
 use Rattle.bl_top.specs.inner.Driven.{Drives, MayHaveDriven, TellsReport, WritesReport, failed, refused, wrote}
-use Rattle.bl_top.specs.inner.Outcomes.{chosen_line, line_in, lines_in}
-use Rattle.bl_top.specs.inner.Programs.{IsProgram}
-use Rattle.bl_top.specs.Notes.{line_of}
-use Rattle.bl_top.specs.Refusals.{IsNotAccepted}
-use Rattle.bl_top.specs.Traces.{OneTrace}
-use Rattle.bl_top.specs.declared.answer.Answer.{Answer}
-use Rattle.bl_top.specs.declared.outcome.Outcome.{Outcome}
-use Rattle.bl_top.specs.declared.status.Status.{Status}
-use Rattle.bl_top.specs.declared.status.Status.TheVariants as status
 use Rattle.bl_tree.specs.Ports.{RowsFit, input_columns}
 use Rattle.bl_tree.specs.declared.program.Program.{Program}
 use Rattle.bl_tree.specs.declared.row.Column.{Column}
@@ -38,6 +37,7 @@ use Rattle.bl_tree.specs.declared.row.Trace.{Trace}
 use Rattle.bl_tree.specs.declared.tree.StructDef.{StructDef}
 use Rattle.bl_tree.specs.declared.tree.Unit.{Unit as UnitDef}
 use Rattle.bl_words.specs.Jobs.{JobSpec, Word, drive}
+use Rattle.bl_top.proofs.Programs.{tree_of_program}
 
 -- ---- the drive of a program
 

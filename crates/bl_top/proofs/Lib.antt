@@ -4,11 +4,5 @@ pub mod Courses
 pub mod Cuts
 pub mod Driven
 pub mod Ends
-pub mod Execs
-pub mod Fronts
-pub mod Generated
-pub mod Lines
-pub mod Saves
-pub mod Streams
+pub mod Programs
 pub mod Texts
-pub mod Walks

@@ -1,4 +1,4 @@
--- The C file of an accepted program of a text has the one trace of the program.
+-- The C file of an accepted program of a text.
 use Rattle.std.proofs.Common.{◌≡◌, ℕ, List, subst, sym}
 use Rattle.bl_cause.specs.Accepted.{AcceptedProgram, IsAccepted}
 use Rattle.bl_cmeaning.specs.Parts.{parts_of}
@@ -7,14 +7,14 @@ use Rattle.bl_ctree_laws_traces.specs.OneTrace.{HasOneTrace as MeansOneTrace}
 use Rattle.bl_emit_file.specs.Shows.{ShowsProgram}
 use Rattle.bl_prevs.specs.Declared.{FromText}
 use Rattle.bl_rules.specs.Accepted.{HasProgram}
-use Rattle.bl_top.specs.inner.Programs.{HasOneTrace, IsOfText}
+use Rattle.bl_top.specs.inner.Programs.{IsFileOf, IsOfText}
 use Rattle.bl_tree.specs.declared.program.Program.{Program}
 use Rattle.bl_tree.specs.declared.tree.StructDef.{StructDef}
 use Rattle.bl_tree.specs.declared.tree.Unit.{Unit as UnitDef}
 
--- a file that shows a program, every tick of which ends, has its one trace
+-- a file that shows a program, every tick of which ends, is one of it
 file_shows : (structs : List StructDef) (units : List UnitDef) (entry : ℕ) (file : CFile) → MeansOneTrace structs units entry →
-    ShowsProgram structs units entry (parts_of file) → HasOneTrace structs units entry file
+    ShowsProgram structs units entry (parts_of file) → IsFileOf structs units entry file
 file_shows structs units entry file one shows = record {
   well_formed = shows.well_formed;
   one_trace = record {
@@ -27,6 +27,8 @@ file_shows structs units entry file one shows = record {
     bounded = one.bounded;
     never_stuck = one.never_stuck;
   };
+  functions = shows.functions;
+  frames = shows.frames;
 }
 
 -- the tree of an accepted program is the program
@@ -42,7 +44,7 @@ tree_of_text accepted is of_text declare =
 pub file_of_tree : (accepted : AcceptedProgram) (file : CFile) → IsAccepted accepted → IsOfText accepted.program →
     ((text : List ℕ) (program : Program) → HasProgram text program → MeansOneTrace program.structs program.units program.entry) →
     ShowsProgram accepted.tree.structs accepted.tree.units accepted.tree.entry (parts_of file) →
-    HasOneTrace accepted.program.structs accepted.program.units accepted.program.entry file
+    IsFileOf accepted.program.structs accepted.program.units accepted.program.entry file
 file_of_tree accepted file is of_text one shows =
     file_shows accepted.program.structs accepted.program.units accepted.program.entry file (one of_text.text accepted.program of_text.has)
     (subst (λ (p : Program). ShowsProgram p.structs p.units p.entry (parts_of file)) (tree_is accepted is) shows)

@@ -1,25 +1,36 @@
 -- How `build` ends.
-use Rattle.std.specs.Prelude.{ℕ, List}
-use Rattle.bl_io.specs.Held.{Appends, AppendsPart}
+use Rattle.std.specs.Prelude.{ℕ, List, Option}
+use Rattle.bl_cmeaning.specs.Parts.{parts_of}
+use Rattle.bl_commands.specs.Calls.{Call}
+use Rattle.bl_commands.specs.Notes.{line_of}
+use Rattle.bl_commands.specs.Refusals.{IsNotAccepted}
+use Rattle.bl_commands.specs.Results.{Writes}
+use Rattle.bl_commands.specs.declared.status.Status.{Status}
+use Rattle.bl_commands.specs.Sources.{IsTextOfProgram, IsTreeOf}
+use Rattle.bl_emit_laws_counters.specs.Own.{FunctionsOwn}
+use Rattle.bl_emit_laws_width.specs.Laws.{EachFrameHasWidth}
 use Rattle.bl_io.specs.Left.{IsKept}
-use Rattle.bl_top.specs.Calls.{Call, HasRisen, Output}
-use Rattle.bl_top.specs.Notes.{line_of}
-use Rattle.bl_top.specs.Refusals.{IsNotAccepted}
-use Rattle.bl_top.specs.Sources.{IsTextOf}
-use Rattle.bl_top.specs.declared.status.Status.{Status}
-use Rattle.bl_top.specs.declared.status.Status.TheVariants as status
+use Rattle.bl_program.specs.Programs.{typed_of}
+use Rattle.bl_raw.specs.declared.raw.Raw.{Raw}
+use Rattle.bl_tree.specs.declared.tree.StructDef.{StructDef}
+use Rattle.bl_tree.specs.declared.tree.Unit.{Unit as UnitDef}
 use Rattle.bl_words.specs.Jobs.{Word}
 
--- a result was to be written: the whole of it grew, or a write of it failed or wanted memory behind a front of it, or memory was
--- refused before
-pub data Writes (IsResult : List ℕ → Type 0) (out : Output) : Status → Type 0 where
-  whole : (text : List ℕ) → IsResult text → Appends out.before text out.after → Writes IsResult out status.Ok
-  fault : (text : List ℕ) → IsResult text → AppendsPart out.before text out.after → HasRisen out.faults → Writes IsResult out status.WriteFault
-  want : (text : List ℕ) → IsResult text → AppendsPart out.before text out.after → Writes IsResult out status.NoMemory
-  nothing : IsKept out.before out.after → Writes IsResult out status.NoMemory
+-- the bytes are a C text of the program with these structs, these units and this entry. In the file that they spell each activity that has an
+-- instance has one function, which alone names its counters, and as many of these as its width
+pub record IsBuiltOfProgram (structs : List StructDef) (units : List UnitDef) (entry : ℕ) (text : List ℕ) : Type 0 where
+  pub is : IsTextOfProgram structs units entry text
+  pub functions : FunctionsOwn structs units entry (parts_of is.behaves.file)
+  pub frames : EachFrameHasWidth structs units entry (parts_of is.behaves.file)
+
+-- so they are of the program of a source
+pub record IsBuiltOf (left : Option (List ℕ)) (text : List ℕ) : Type 0 where
+  pub raw : Raw
+  pub tree : IsTreeOf left raw
+  pub is : IsBuiltOfProgram (typed_of raw).structs (typed_of raw).units (typed_of raw).entry text
 
 -- the status with which a C text of a source is built, and the lines for `notes`
 pub data BuildEnds (c : Call) (source : Word) : Status → List ℕ → Type 0 where
-  written : {ended : Status} → Writes (IsTextOf (c.left source)) c.out ended → BuildEnds c source ended (line_of ended)
+  written : {ended : Status} → Writes (IsBuiltOf (c.left source)) c.out ended → BuildEnds c source ended (line_of ended)
   stopped : {ended : Status} {line : List ℕ} → IsNotAccepted (c.left source) (c.file source) ended line → IsKept c.out.before c.out.after →
       BuildEnds c source ended line

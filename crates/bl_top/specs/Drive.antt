@@ -2,6 +2,13 @@
 use Rattle.std.specs.Prelude.{◌≡◌, ◌↔◌, ◌⊎◌, ℕ, List, [], ◌++◌, Option, Result, Ok, Err}
 use Rattle.bl_cmeaning.specs.Parts.{Parts}
 use Rattle.bl_cmeaning_laws_places.specs.Behaviour.{behaviour_of}
+use Rattle.bl_commands.specs.Calls.{Call, HasRisen, Output}
+use Rattle.bl_commands.specs.Notes.{line_of}
+use Rattle.bl_commands.specs.Refusals.{IsNotAccepted}
+use Rattle.bl_commands.specs.Sources.{IsTreeOf}
+use Rattle.bl_commands.specs.declared.status.Status.{Status}
+use Rattle.bl_commands.specs.declared.status.Status.TheVariants as status
+use Rattle.bl_commands.specs.Traces.{OneTrace}
 use Rattle.bl_crun.specs.Running.{loaded}
 use Rattle.bl_ctree.specs.Means.{Means, Shown as Shows, shown}
 use Rattle.bl_drive.specs.Drives.{Setting}
@@ -17,13 +24,6 @@ use Rattle.bl_io.specs.Left.{IsKept}
 use Rattle.bl_plant.specs.Plants.{Shown}
 use Rattle.bl_program.specs.Programs.{typed_of}
 use Rattle.bl_raw.specs.declared.raw.Raw.{Raw}
-use Rattle.bl_top.specs.Calls.{Call, HasRisen, Output}
-use Rattle.bl_top.specs.Notes.{line_of}
-use Rattle.bl_top.specs.Refusals.{IsNotAccepted}
-use Rattle.bl_top.specs.Sources.{IsTreeOf}
-use Rattle.bl_top.specs.Traces.{OneTrace}
-use Rattle.bl_top.specs.declared.status.Status.{Status}
-use Rattle.bl_top.specs.declared.status.Status.TheVariants as status
 use Rattle.bl_tree.specs.Ports.{output_columns}
 use Rattle.bl_words.specs.Jobs.{Word}
 

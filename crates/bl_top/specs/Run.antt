@@ -1,13 +1,13 @@
 -- How `run` ends.
 use Rattle.std.specs.Prelude.{ℕ, List, Option}
+use Rattle.bl_commands.specs.Calls.{Call}
+use Rattle.bl_commands.specs.Reads.{LeftBehind, source_limit}
+use Rattle.bl_commands.specs.Refusals.{IsNotAccepted}
+use Rattle.bl_commands.specs.Rows.{Streams}
+use Rattle.bl_commands.specs.Sources.{RunsAs}
+use Rattle.bl_commands.specs.declared.status.Status.{Status}
 use Rattle.bl_io.specs.Left.{IsKept}
 use Rattle.bl_stream.specs.Streams.{Course}
-use Rattle.bl_top.specs.Calls.{Call}
-use Rattle.bl_top.specs.Reads.{LeftBehind, source_limit}
-use Rattle.bl_top.specs.Refusals.{IsNotAccepted}
-use Rattle.bl_top.specs.Rows.{Streams}
-use Rattle.bl_top.specs.Sources.{RunsAs}
-use Rattle.bl_top.specs.declared.status.Status.{Status}
 use Rattle.bl_words.specs.Jobs.{Word}
 
 -- the status with which a source is run over a file of rows, and the lines for `notes`

@@ -1,21 +1,21 @@
 //! The command `build P`.
 
 ghost use Rattle.std.specs.Prelude.{◌≡◌, ◌≤◌, IfOk, Some};
+ghost use Rattle.bl_commands.specs.Calls.{Output};
+ghost use Rattle.bl_commands.specs.inner.Outcomes.{line_in};
+ghost use Rattle.bl_commands.specs.Notes.{line_of};
+ghost use Rattle.bl_commands.specs.Reads.{Reads, files_read};
+ghost use Rattle.bl_commands.specs.Results.{Writes};
 ghost use Rattle.bl_io.specs.Count.{NeverFell};
-ghost use Rattle.bl_top.specs.Build.{BuildEnds, Writes};
-ghost use Rattle.bl_top.specs.Calls.{Output};
-ghost use Rattle.bl_top.specs.inner.Outcomes.{line_in};
+ghost use Rattle.bl_top.specs.Build.{BuildEnds, IsBuiltOfProgram};
 ghost use Rattle.bl_top.specs.inner.Programs.{IsOfText};
-ghost use Rattle.bl_top.specs.Notes.{line_of};
-ghost use Rattle.bl_top.specs.Reads.{Reads, files_read};
-ghost use Rattle.bl_top.specs.Sources.{IsTextOfParts};
 ghost use Rattle.bl_words.specs.Jobs.{build};
 
 use crate::emitted::c_file;
-use crate::outcome::Outcome;
-use crate::source::accepted_of;
-use crate::status::Status;
-use crate::write::write_result;
+use bl_commands::outcome::Outcome;
+use bl_commands::source::accepted_of;
+use bl_commands::status::Status;
+use bl_commands::write::write_result;
 use bl_io::{Files, Sink};
 use bl_rules::Accepted;
 use bl_tree::NoMemory;
@@ -47,7 +47,7 @@ pub fn build<F: Files, O: Sink>(alloc: Global, source: &str, files: &mut F, out:
 /// Writes the C text of the accepted program of a text.
 fn write_c<O: Sink>(alloc: Global, accepted: &Accepted, out: &mut O) -> Outcome
     requires { IsOfText accepted.now.program }
-    ensures writes { Writes (IsTextOfParts accepted.now.program.structs accepted.now.program.units accepted.now.program.entry)
+    ensures writes { Writes (IsBuiltOfProgram accepted.now.program.structs accepted.now.program.units accepted.now.program.entry)
         (record {
           faults = record { before = O.faults out.old; after = O.faults out.new };
           before = O.held out.old;
@@ -66,7 +66,7 @@ fn write_c<O: Sink>(alloc: Global, accepted: &Accepted, out: &mut O) -> Outcome
 /// The C text of it.
 fn c_text(alloc: Global, accepted: &Accepted) -> Result<Vec<u8>, NoMemory>
     requires { IsOfText accepted.now.program }
-    ensures { IfOk result (λ text. IsTextOfParts accepted.now.program.structs accepted.now.program.units accepted.now.program.entry text.items) }
+    ensures { IfOk result (λ text. IsBuiltOfProgram accepted.now.program.structs accepted.now.program.units accepted.now.program.entry text.items) }
 {
     let file = c_file(alloc, accepted)?;
     match bl_ctext::print(alloc, &file) {

@@ -1,28 +1,29 @@
 //! The one call: the job that words ask for, done.
 
 ghost use Rattle.std.specs.Prelude.{◌≤◌, map, string_bytes};
+ghost use Rattle.bl_commands.specs.Calls.{Output};
+ghost use Rattle.bl_commands.specs.inner.Outcomes.{lines_in};
+ghost use Rattle.bl_commands.specs.Reads.{Reads, files_read};
 ghost use Rattle.bl_io.specs.Count.{NeverFell};
 ghost use Rattle.bl_top.specs.Answers.{Answered, Answers, KeepsPlants};
-ghost use Rattle.bl_top.specs.Calls.{Output};
-ghost use Rattle.bl_top.specs.inner.Outcomes.{lines_in};
-ghost use Rattle.bl_top.specs.Reads.{Reads, files_read};
 ghost use Rattle.bl_words.specs.Jobs.{job_of};
 
-use crate::answer::Answer;
-use crate::bound::bound;
 use crate::build::build;
-use crate::check::check;
-use crate::count::count;
 use crate::drive::drive;
-use crate::exec::exec;
-use crate::generate::generate;
-use crate::notes::with_notes;
-use crate::outcome::Outcome;
-use crate::resume::resume;
 use crate::run::run;
-use crate::save::{save, save_from};
-use crate::status::Status;
-use crate::walk::walk;
+use bl_commands::answer::Answer;
+use bl_commands::bound::bound;
+use bl_commands::check::check;
+use bl_commands::count::count;
+use bl_commands::exec::exec;
+use bl_commands::generate::generate;
+use bl_commands::laws::kept_files_are_within_limits;
+use bl_commands::notes::with_notes;
+use bl_commands::outcome::Outcome;
+use bl_commands::resume::resume;
+use bl_commands::save::{save, save_from};
+use bl_commands::status::Status;
+use bl_commands::walk::walk;
 use bl_io::{Files, Sink};
 use bl_plant::Plant;
 use bl_words::{Job, programs_have_stages};
@@ -94,6 +95,7 @@ fn answer<F: Files, O: Sink>(
     ensures out_count { O.faults out.old ≤ O.faults out.new }
 {
     programs_have_stages(words);
+    kept_files_are_within_limits();
     match bl_words::job_of(alloc, words) {
         Ok(Some(Job::Check { source })) => Answer::alone(alloc, check(alloc, source, files, out)),
         Ok(Some(Job::Build { source })) => Answer::alone(alloc, build(alloc, source, files, out)),

@@ -1,20 +1,20 @@
 //! The command `drive P TICKS PLANT..`.
 
 ghost use Rattle.std.specs.Prelude.{◌≡◌, ◌≤◌, map, IfErr, IfOk, Some};
+ghost use Rattle.bl_commands.specs.Calls.{Output};
+ghost use Rattle.bl_commands.specs.inner.Outcomes.{lines_in};
+ghost use Rattle.bl_commands.specs.Reads.{Reads, files_read};
 ghost use Rattle.bl_io.specs.Count.{NeverFell};
-ghost use Rattle.bl_top.specs.Calls.{Output};
 ghost use Rattle.bl_top.specs.Drive.{DriveEnds, status_at};
 ghost use Rattle.bl_top.specs.inner.Driven.{MayHaveDriven, TellsReport, WritesReport};
-ghost use Rattle.bl_top.specs.inner.Outcomes.{lines_in};
 ghost use Rattle.bl_top.specs.inner.Programs.{IsOfText};
-ghost use Rattle.bl_top.specs.Reads.{Reads, files_read};
 ghost use Rattle.bl_words.specs.Jobs.{drive};
 
-use crate::answer::Answer;
-use crate::outcome::Outcome;
 use crate::run::runner_of;
-use crate::source::accepted_of;
-use crate::status::Status;
+use bl_commands::answer::Answer;
+use bl_commands::outcome::Outcome;
+use bl_commands::source::accepted_of;
+use bl_commands::status::Status;
 use bl_drive_run::{End, Report, run};
 use bl_io::{Files, IoFault, Sink, write_all};
 use bl_plant::Plant;

@@ -1,7 +1,7 @@
 //! The C file that is written for a program.
 
 ghost use Rattle.std.specs.Prelude.{IfOk};
-ghost use Rattle.bl_top.specs.inner.Programs.{HasOneTrace, IsOfText};
+ghost use Rattle.bl_top.specs.inner.Programs.{IsFileOf, IsOfText};
 
 use bl_ctext::CFile;
 use bl_rules::Accepted;
@@ -13,7 +13,7 @@ use std::alloc::Global;
 /// The C file of the accepted program of a text.
 pub fn c_file(alloc: Global, accepted: &Accepted) -> Result<CFile, NoMemory>
     requires { IsOfText accepted.now.program }
-    ensures { IfOk result (HasOneTrace accepted.now.program.structs accepted.now.program.units accepted.now.program.entry) }
+    ensures { IfOk result (IsFileOf accepted.now.program.structs accepted.now.program.units accepted.now.program.entry) }
 {
     accepted_texts_have_one_trace();
     accepted_texts_declare();

@@ -2,22 +2,25 @@
 
 ghost use Rattle.std.specs.Prelude.{◌≡◌, ◌≤◌, IfOk, Some};
 ghost use Rattle.bl_cmeaning_laws_places.specs.Behaviour.{behaviour_of};
+ghost use Rattle.bl_commands.specs.Calls.{Output};
+ghost use Rattle.bl_commands.specs.inner.Outcomes.{line_in};
+ghost use Rattle.bl_commands.specs.Reads.{Reads, files_read};
+ghost use Rattle.bl_commands.specs.Traces.{HasCourse, OneTrace};
 ghost use Rattle.bl_crun.specs.Running.{loaded};
 ghost use Rattle.bl_io.specs.Count.{NeverFell};
 ghost use Rattle.bl_stream.specs.Streams.{course_of};
-ghost use Rattle.bl_top.specs.Calls.{Output};
-ghost use Rattle.bl_top.specs.inner.Outcomes.{line_in};
 ghost use Rattle.bl_top.specs.inner.Programs.{IsOfText};
-ghost use Rattle.bl_top.specs.Reads.{Reads, files_read};
 ghost use Rattle.bl_top.specs.Run.{RunEnds};
-ghost use Rattle.bl_top.specs.Traces.{HasCourse, OneTrace};
 ghost use Rattle.bl_words.specs.Jobs.{run};
 
 use crate::emitted::c_file;
-use crate::outcome::Outcome;
-use crate::rows::run_over;
-use crate::source::accepted_of;
-use crate::status::Status;
+use bl_commands::laws::{
+    faults_count_from_before, kept_files_are_within_limits, programs_run_as_their_source,
+};
+use bl_commands::outcome::Outcome;
+use bl_commands::rows::run_over;
+use bl_commands::source::accepted_of;
+use bl_commands::status::Status;
 use bl_crun::{LoadFault, Runner};
 use bl_io::{Files, Sink};
 use bl_rules::Accepted;
@@ -48,6 +51,9 @@ pub fn run<F: Files, O: Sink>(
     ensures file_counts { NeverFell (F.faults files.old) (F.faults files.new) }
     ensures out_count { O.faults out.old ≤ O.faults out.new }
 {
+    faults_count_from_before();
+    kept_files_are_within_limits();
+    programs_run_as_their_source();
     let accepted = match accepted_of(alloc, source, files) {
         Ok(accepted) => accepted,
         Err(outcome) => return outcome,

@@ -1,6 +1,5 @@
-use Rattle.bl_cmeaning.specs.Parts.{parts_of}
 use Rattle.bl_save_laws.proofs.StateLaws.{trace-goes_on}
 use Rattle.bl_save_laws.proofs.trace_goes_on.Goals as goal
 
 pub returns : goal.returns
-returns c = trace-goes_on (parts_of c.args.file.now) c.goes_on.ensures
+returns c = trace-goes_on

@@ -3,16 +3,16 @@ use Rattle.std.specs.Prelude.{◌≡◌, ◌⊎◌, ℕ, [], List, Result}
 use Rattle.bl_cmeaning.specs.Cells.{outputs_of}
 use Rattle.bl_cmeaning.specs.Parts.{Parts}
 use Rattle.bl_cmeaning_laws_places.specs.Behaviour.{behaviour_of}
+use Rattle.bl_commands.specs.Calls.{HasRisen, Output}
+use Rattle.bl_commands.specs.declared.answer.Answer.{Answer}
+use Rattle.bl_commands.specs.declared.status.Status.TheVariants as status
+use Rattle.bl_commands.specs.Traces.{OneTrace}
 use Rattle.bl_drive.specs.declared.driven.Driven.{Driven}
 use Rattle.bl_drive.specs.declared.fault.DriveFault.{DriveFault}
 use Rattle.bl_drive_run.specs.Reports.{IsDriven, IsReportOf}
 use Rattle.bl_drive_run.specs.declared.report.Report.{Report}
 use Rattle.bl_io.specs.Held.{Appends, AppendsPart}
-use Rattle.bl_top.specs.Calls.{HasRisen, Output}
 use Rattle.bl_top.specs.Drive.{Plants, setting_of, status_at}
-use Rattle.bl_top.specs.Traces.{OneTrace}
-use Rattle.bl_top.specs.declared.answer.Answer.{Answer}
-use Rattle.bl_top.specs.declared.status.Status.TheVariants as status
 use Rattle.bl_tree.specs.declared.tree.StructDef.{StructDef}
 use Rattle.bl_tree.specs.declared.tree.Unit.{Unit as UnitDef}
 

@@ -1,9 +1,8 @@
 -- How the command ends, and what is left of its file.
-use Rattle.std.proofs.Common.{[]}
-use Rattle.bl_top.specs.Reads.{source_file}
-use Rattle.bl_top.proofs.Cuts.{kept_same, reads_first}
+use Rattle.bl_commands.specs.Reads.{source_file}
+use Rattle.bl_top.proofs.Cuts.{kept_same, reads_one}
 use Rattle.bl_top.proofs.Ends.{build_stopped, build_written}
-use Rattle.bl_top.proofs.Fronts.{is_of_text}
+use Rattle.bl_top.proofs.Programs.{is_of_text}
 use Rattle.bl_top.proofs.build.build.Goals as goal
 
 pub write_c-requires : goal.write_c-requires
@@ -16,7 +15,7 @@ returns-in-Ok-clause-ends g c = λ notes.
 
 pub returns-in-Ok-clause-reads : goal.returns-in-Ok-clause-reads
 returns-in-Ok-clause-reads g c =
-    reads_first (source_file c.args.source.now) [] (g.F.Files.left c.args.files.now) (g.F.Files.left c.accepted_of.new.files)
+    reads_one (source_file c.args.source.now) (g.F.Files.left c.args.files.now) (g.F.Files.left c.accepted_of.new.files)
     c.accepted_of.ensures.further c.accepted_of.ensures.others
 
 pub returns-in-Err-clause-ends : goal.returns-in-Err-clause-ends
@@ -24,5 +23,5 @@ returns-in-Err-clause-ends g c = λ notes. build_stopped _ _ _ _ c.in-Err.ensure
 
 pub returns-in-Err-clause-reads : goal.returns-in-Err-clause-reads
 returns-in-Err-clause-reads g c =
-    reads_first (source_file c.args.source.now) [] (g.F.Files.left c.args.files.now) (g.F.Files.left c.accepted_of.new.files)
+    reads_one (source_file c.args.source.now) (g.F.Files.left c.args.files.now) (g.F.Files.left c.accepted_of.new.files)
     c.accepted_of.ensures.further c.accepted_of.ensures.others

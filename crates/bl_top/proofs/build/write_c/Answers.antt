@@ -1,6 +1,6 @@
 -- What stands on `out` at each end.
 use Rattle.std.proofs.Common.{sym, subst, ◌∙◌}
-use Rattle.bl_top.specs.Sources.{IsTextOfParts}
+use Rattle.bl_top.specs.Build.{IsBuiltOfProgram}
 use Rattle.bl_top.proofs.Cuts.{kept_same}
 use Rattle.bl_top.proofs.Ends.{writes_as, wrote_nothing}
 use Rattle.bl_top.proofs.build.write_c.Goals as goal
@@ -11,7 +11,7 @@ returns-in-Err-clause-writes g c = wrote_nothing _ _ _ c.plain.ensures (kept_sam
 pub returns-clause-writes : goal.returns-clause-writes
 returns-clause-writes g c =
     let program = c.args.accepted.now.program in
-    writes_as _ (IsTextOfParts program.structs program.units program.entry) _ _
+    writes_as _ (IsBuiltOfProgram program.structs program.units program.entry) _ _
     (λ text is.
-    subst (IsTextOfParts program.structs program.units program.entry) (sym (is ∙ c.deref.ensures.value)) c.in-Ok.ensures)
+    subst (IsBuiltOfProgram program.structs program.units program.entry) (sym (is ∙ c.deref.ensures.value)) c.in-Ok.ensures)
     c.write_result.ensures.writes

@@ -1,12 +1,12 @@
 -- Each command's end is that of the job; where there is none nothing is written.
 use Rattle.std.proofs.Common.{◌≡◌, Some, map, refl, rules, string_bytes}
-use Rattle.bl_top.proofs.Cuts.{kept_same, reads_nothing}
+use Rattle.bl_words.specs.Jobs.{gen, job_of}
+use Rattle.bl_top.proofs.Cuts.{kept_same}
 use Rattle.bl_top.proofs.Ends.{answers_alone, answers_bound, answers_build, answers_check, answers_count, answers_exec, answers_gen, answers_none}
 use Rattle.bl_top.proofs.Ends.{answers_resume}
 use Rattle.bl_top.proofs.Ends.{answers_run, answers_save, answers_save_from, answers_short, answers_walk}
 use Rattle.bl_top.proofs.Driven.{answers_drive}
-use Rattle.bl_top.proofs.Generated.{stages_asked}
-use Rattle.bl_words.specs.Jobs.{gen, job_of}
+use Rattle.bl_top.proofs.Ends.{stages_asked}
 use Rattle.bl_top.proofs.call.answer.Goals as goal
 
 pub returns-in-Ok-Some-Check-clause-answers : goal.returns-in-Ok-Some-Check-clause-answers
@@ -46,7 +46,7 @@ returns-in-Ok-Some-Gen-clause-answers g c = λ notes.
     (answers_gen _ _ _ _ _ _ (search rules) (c.generate.ensures.ends _ _ _ notes))
 
 pub returns-in-Ok-Some-Gen-clause-reads : goal.returns-in-Ok-Some-Gen-clause-reads
-returns-in-Ok-Some-Gen-clause-reads g c = reads_nothing _ _
+returns-in-Ok-Some-Gen-clause-reads g c = c.kept_files_are_within_limits.ensures _ _
 
 pub returns-in-Ok-Some-Bound-clause-answers : goal.returns-in-Ok-Some-Bound-clause-answers
 returns-in-Ok-Some-Bound-clause-answers g c = λ notes.
@@ -80,7 +80,7 @@ returns-in-Ok-None-clause-answers g c = λ notes.
     (answers_none _ _ _ _ _ (search rules) c.plain.ensures (kept_same _))
 
 pub returns-in-Ok-None-clause-reads : goal.returns-in-Ok-None-clause-reads
-returns-in-Ok-None-clause-reads g c = reads_nothing _ _
+returns-in-Ok-None-clause-reads g c = c.kept_files_are_within_limits.ensures _ _
 
 pub returns-in-Err-clause-answers : goal.returns-in-Err-clause-answers
 returns-in-Err-clause-answers g c = λ notes.
@@ -88,4 +88,4 @@ returns-in-Err-clause-answers g c = λ notes.
     (answers_short _ _ _ _ _ c.plain-in-Err.ensures (kept_same _) refl)
 
 pub returns-in-Err-clause-reads : goal.returns-in-Err-clause-reads
-returns-in-Err-clause-reads g c = reads_nothing _ _
+returns-in-Err-clause-reads g c = c.kept_files_are_within_limits.ensures _ _

@@ -1,10 +1,10 @@
 -- How the command ends, and what is left of its file.
-use Rattle.std.proofs.Common.{[], ◌∙◌, ap, refl}
-use Rattle.bl_top.specs.declared.outcome.Outcome.{Outcome}
-use Rattle.bl_top.specs.Reads.{source_file}
-use Rattle.bl_top.proofs.Cuts.{kept_same, reads_first}
+use Rattle.std.proofs.Common.{◌∙◌, ap, refl}
+use Rattle.bl_commands.specs.declared.outcome.Outcome.{Outcome}
+use Rattle.bl_commands.specs.Reads.{source_file}
+use Rattle.bl_top.proofs.Cuts.{kept_same, reads_one}
 use Rattle.bl_top.proofs.Driven.{drive_drove, drive_short, drive_stopped}
-use Rattle.bl_top.proofs.Fronts.{is_of_text}
+use Rattle.bl_top.proofs.Programs.{is_of_text}
 use Rattle.bl_top.proofs.drive.drive.Goals as goal
 
 pub report_of-requires : goal.report_of-requires
@@ -17,7 +17,7 @@ returns-in-Err-clause-ends g c = λ notes.
 
 pub returns-in-Err-clause-reads : goal.returns-in-Err-clause-reads
 returns-in-Err-clause-reads g c =
-    reads_first (source_file c.args.source.now) [] (g.F.Files.left c.args.files.now) (g.F.Files.left c.accepted_of.new.files)
+    reads_one (source_file c.args.source.now) (g.F.Files.left c.args.files.now) (g.F.Files.left c.accepted_of.new.files)
     c.accepted_of.ensures.further c.accepted_of.ensures.others
 
 pub returns-in-Ok-report_of-clause-ends : goal.returns-in-Ok-report_of-clause-ends
@@ -27,7 +27,7 @@ returns-in-Ok-report_of-clause-ends g c = λ notes.
 
 pub returns-in-Ok-report_of-clause-reads : goal.returns-in-Ok-report_of-clause-reads
 returns-in-Ok-report_of-clause-reads g c =
-    reads_first (source_file c.args.source.now) [] (g.F.Files.left c.args.files.now) (g.F.Files.left c.accepted_of.new.files)
+    reads_one (source_file c.args.source.now) (g.F.Files.left c.args.files.now) (g.F.Files.left c.accepted_of.new.files)
     c.accepted_of.ensures.further c.accepted_of.ensures.others
 
 pub returns-clause-ends : goal.returns-clause-ends
@@ -39,5 +39,5 @@ returns-clause-ends g c = λ notes.
 
 pub returns-clause-reads : goal.returns-clause-reads
 returns-clause-reads g c =
-    reads_first (source_file c.args.source.now) [] (g.F.Files.left c.args.files.now) (g.F.Files.left c.accepted_of.new.files)
+    reads_one (source_file c.args.source.now) (g.F.Files.left c.args.files.now) (g.F.Files.left c.accepted_of.new.files)
     c.accepted_of.ensures.further c.accepted_of.ensures.others

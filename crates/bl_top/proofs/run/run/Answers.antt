@@ -1,10 +1,10 @@
 -- How the command ends, and what is left of its files.
 use Rattle.std.proofs.Common.{[], ◌∷◌}
+use Rattle.bl_commands.specs.Reads.{rows_file, source_file}
 use Rattle.bl_stream.specs.Streams.{course_of}
-use Rattle.bl_top.specs.Reads.{rows_file, source_file}
 use Rattle.bl_top.proofs.Cuts.{kept_same, reads_both, reads_first}
-use Rattle.bl_top.proofs.Ends.{run_ran, run_stops}
-use Rattle.bl_top.proofs.Fronts.{is_of_text, stops_short}
+use Rattle.bl_top.proofs.Ends.{run_ran, run_stops, stops_short}
+use Rattle.bl_top.proofs.Programs.{is_of_text}
 use Rattle.bl_top.proofs.run.run.Goals as goal
 
 pub runner_of-requires : goal.runner_of-requires
@@ -15,12 +15,12 @@ returns-in-Err-clause-ends g c = λ notes. run_stops _ _ _ _ _ c.in-Err.ensures.
 
 pub returns-in-Err-clause-reads : goal.returns-in-Err-clause-reads
 returns-in-Err-clause-reads g c =
-    reads_first (source_file c.args.source.now) (rows_file c.args.rows.now ∷ []) (g.F.Files.left c.args.files.now) (g.F.Files.left c.accepted_of.new.files)
-    c.accepted_of.ensures.further c.accepted_of.ensures.others
+    reads_first c.kept_files_are_within_limits.ensures (source_file c.args.source.now) (rows_file c.args.rows.now ∷ [])
+    (g.F.Files.left c.args.files.now) (g.F.Files.left c.accepted_of.new.files) c.accepted_of.ensures.further c.accepted_of.ensures.others
 
 pub returns-in-Ok-runner_of-clause-ends : goal.returns-in-Ok-runner_of-clause-ends
 returns-in-Ok-runner_of-clause-ends g c = λ notes.
-    run_ran _ _ _ c.in-Ok.accepted.program (course_of c.in-Ok-runner_of.runner.parts)
+    run_ran c.programs_run_as_their_source.ensures c.faults_count_from_before.ensures _ _ _ c.in-Ok.accepted.program (course_of c.in-Ok-runner_of.runner.parts)
     (g.F.Files.left c.accepted_of.new.files) _ _ _
     c.in-Ok.ensures.program c.in-Ok-runner_of.ensures.course
     c.in-Ok.ensures.behind (c.accepted_of.ensures.file_counts _) c.run_over.ensures.streams
@@ -36,5 +36,5 @@ returns-clause-ends g c = λ notes. run_stops _ _ _ _ _ (stops_short _ _ _ _ c.p
 
 pub returns-clause-reads : goal.returns-clause-reads
 returns-clause-reads g c =
-    reads_first (source_file c.args.source.now) (rows_file c.args.rows.now ∷ []) (g.F.Files.left c.args.files.now) (g.F.Files.left c.accepted_of.new.files)
-    c.accepted_of.ensures.further c.accepted_of.ensures.others
+    reads_first c.kept_files_are_within_limits.ensures (source_file c.args.source.now) (rows_file c.args.rows.now ∷ [])
+    (g.F.Files.left c.args.files.now) (g.F.Files.left c.accepted_of.new.files) c.accepted_of.ensures.further c.accepted_of.ensures.others

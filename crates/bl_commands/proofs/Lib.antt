@@ -1,0 +1,14 @@
+pub mod Courses
+pub mod Cuts
+pub mod Ends
+pub mod Execs
+pub mod Fronts
+pub mod Generated
+pub mod GoesOn
+pub mod Lines
+pub mod Resumes
+pub mod SameFiles
+pub mod Saves
+pub mod Streams
+pub mod Taken
+pub mod Walks

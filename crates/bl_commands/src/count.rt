@@ -1,0 +1,44 @@
+//! The command `count C ROWS`.
+
+ghost use Rattle.std.specs.Prelude.{◌≤◌, Some};
+ghost use Rattle.bl_commands.specs.Calls.{Output};
+ghost use Rattle.bl_commands.specs.Count.{CountEnds};
+ghost use Rattle.bl_commands.specs.inner.Outcomes.{line_in};
+ghost use Rattle.bl_commands.specs.Reads.{Reads, files_read};
+ghost use Rattle.bl_io.specs.Count.{NeverFell};
+ghost use Rattle.bl_words.specs.Jobs.{count};
+
+use crate::outcome::Outcome;
+use crate::rows::count_over;
+use crate::text::runner_of;
+use bl_io::{Files, Sink};
+use std::alloc::Global;
+
+/// Runs the C text of the file of this name over a file of rows, and tells how many statements each tick executed.
+pub fn count<F: Files, O: Sink>(
+    alloc: Global,
+    text: &str,
+    rows: &str,
+    files: &mut F,
+    out: &mut O,
+) -> Outcome
+    ensures ends { (notes : Output) → CountEnds (record {
+      left = F.left files.old;
+      rest = F.left files.new;
+      file = λ name. record { before = F.faults files.old name; after = F.faults files.new name };
+      out = record {
+        faults = record { before = O.faults out.old; after = O.faults out.new };
+        before = O.held out.old;
+        after = O.held out.new;
+      };
+      notes = notes;
+    }) text.now rows.now result.status (line_in result) }
+    ensures reads { Reads (files_read (Some (count text.now rows.now))) (F.left files.old) (F.left files.new) }
+    ensures file_counts { NeverFell (F.faults files.old) (F.faults files.new) }
+    ensures out_count { O.faults out.old ≤ O.faults out.new }
+{
+    match runner_of(alloc, text, files) {
+        Ok(runner) => count_over(alloc, runner, rows, files, out),
+        Err(outcome) => outcome,
+    }
+}
