@@ -13,6 +13,8 @@ pub enum Command {
     Run,
     /// By seed 0.
     Walk,
+    /// By all these words.
+    Drive(&'static [&'static str]),
 }
 
 impl Command {
@@ -21,6 +23,7 @@ impl Command {
             Command::Build => &["build", "text"],
             Command::Run => &["run", "text", "rows"],
             Command::Walk => &["walk", "text", "rows", "0"],
+            Command::Drive(words) => words,
         }
     }
 }
@@ -113,17 +116,27 @@ fn status_of(
     files: &mut MemFiles,
     out: &mut MemSink,
     notes: &mut MemSink,
+    plants: &mut Vec<Box<dyn Plant>>,
 ) -> u8 {
-    let mut plants: Vec<Box<dyn Plant>> = Vec::new(alloc);
-    blechc(alloc, words, files, out, notes, &mut plants).code()
+    blechc(alloc, words, files, out, notes, plants).code()
 }
 
-/// Calls the program.
+/// Calls the program with no plants.
 pub fn answer_of(alloc: Global, case: &Case) -> Result<Answer, Fail> {
+    let mut plants: Vec<Box<dyn Plant>> = Vec::new(alloc);
+    answer_among(alloc, case, &mut plants)
+}
+
+/// Calls the program with these plants.
+pub fn answer_among(
+    alloc: Global,
+    case: &Case,
+    plants: &mut Vec<Box<dyn Plant>>,
+) -> Result<Answer, Fail> {
     let words = words_of(alloc, case.command)?;
     let mut files = files_of(alloc, case)?;
     let mut out = sink_of(alloc, case.writes)?;
     let mut notes = sink_of(alloc, case.notes)?;
-    let status = status_of(alloc, &words, &mut files, &mut out, &mut notes);
+    let status = status_of(alloc, &words, &mut files, &mut out, &mut notes, plants);
     Ok(Answer { status, notes, out })
 }

@@ -5,7 +5,7 @@ use std::alloc::Global;
 use std::test::Fail;
 
 /// The status, the line on `notes` and all that stands on `out`.
-#[derive(Drop)]
+#[derive(Clone, Copy)]
 pub struct End {
     pub status: u8,
     pub line: &'static str,
@@ -13,7 +13,7 @@ pub struct End {
 }
 
 impl End {
-    fn is_end_of(&self, answer: &Answer) -> bool {
+    pub fn is_end_of(&self, answer: &Answer) -> bool {
         answer.status == self.status
             && answer.notes.held() == self.line.as_bytes()
             && answer.out.held() == self.out.as_bytes()
