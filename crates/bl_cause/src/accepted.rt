@@ -103,12 +103,4 @@ impl Accepted {
     {
         let _ = &self.program;
     }
-
-    /// No first turn of a loop is copied yet, so the tree is the program. Who cites this has to be looked at again once
-    /// it isn't.
-    pub fn no_turn_is_copied(&self)
-        ensures { self.now.tree ≡ self.now.program }
-    {
-        let _ = &self.program;
-    }
 }
